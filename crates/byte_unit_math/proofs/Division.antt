@@ -1,0 +1,151 @@
+-- Long division, a digit a step.
+use Rattle.std.proofs.Common.{◌≡◌, ℕ, ◌+◌, ◌-◌, ◌*◌, ◌/◌, ◌%◌, ◌^◌, ◌<◌, ◌≤◌, ⊎_elim, inl, inr, arith, sym, ap, ◌∙◌, subst, Option, Some, None, SomeIff, IfSome, IfNone}
+use Rattle.std.proofs.Math.Nat.{pow-succ', mul-add-mod_self_right, mod-eq_of_lt, mul-mod_left, div-le_self, div-add-mod', mul-le-mul_right, eq_of_mul-eq-mul_right}
+use Rattle.std.proofs.lemmas.Nat.{pow-add, div_below, mod_below}
+use Rattle.std.proofs.lemmas.Bool.{cases_lt}
+use Rattle.std.proofs.Math.Numerals.{add-one}
+use Rattle.byte_unit_math.specs.Decimal.{IsStatedBy}
+use Rattle.byte_unit_math.specs.Exact.{IsExactAt, IsQuotient, IsFirstExact}
+use Rattle.byte_unit_math.proofs.Scales.{power_bounds, power_parts}
+
+-- the size is so many digits of the quotient, and a rest, with none before it being exact
+pub record Dividing (size unit most rest fraction digits : ℕ) : Type 0 where
+  pub few : digits ≤ most
+  pub product : size * 10 ^ digits ≡ (size / unit * 10 ^ digits + fraction) * unit + rest
+  pub small : rest < unit
+  pub below : fraction < 10 ^ digits
+  pub first : (fewer : ℕ) → IsExactAt size unit fewer → digits ≤ fewer
+
+pub Dividing-none : (size unit most : ℕ) → 1 ≤ unit → Dividing size unit most (size % unit) 0 0
+Dividing-none size unit most some =
+    record {
+      few = omega arith;
+      product = let e = div-add-mod' size unit in omega (arith, e);
+      small = mod_below size unit (omega arith);
+      below = omega arith;
+      first = λ fewer e. omega arith;
+    }
+
+-- exact, so no rest
+pub no_rest : (size unit digits Q rest : ℕ) → size * 10 ^ digits ≡ Q * unit + rest → rest < unit → IsExactAt size unit digits → rest ≡ 0
+no_rest size unit digits Q rest product small e =
+    sym (mod-eq_of_lt small) ∙ (sym (mul-add-mod_self_right Q unit rest) ∙ (ap (λ n. n % unit) (sym product ∙ e.1) ∙ mul-mod_left e.0 unit))
+
+next_product : (size unit W T f r k r' : ℕ) → size * T ≡ (W * T + f) * unit + r → k * unit + r' ≡ r * 10 → size * (10 * T) ≡ (W * (10 * T) + (f * 10 + k)) * unit + r'
+next_product size unit W T f r k r' h e = omega (arith, ap (λ n. n * 10) h)
+
+pub Dividing-more : (size unit most rest fraction digits : ℕ) → 1 ≤ unit → 0 < rest → digits < most → Dividing size unit most rest fraction digits → Dividing size unit most (rest * 10 % unit) (fraction * 10 + rest * 10 / unit) (digits + 1)
+Dividing-more size unit most rest fraction digits some left room h =
+    let scale : 10 ^ (digits + 1) ≡ 10 * 10 ^ digits = rw add-one (pow-succ' 10 digits) in
+    let digit : rest * 10 / unit < 10 = div_below (rest * 10) unit 10 (omega arith) (omega (arith, h.small)) in
+    let below = h.below in
+    record {
+      few = omega arith;
+      product = rw scale (next_product size unit (size / unit) (10 ^ digits) fraction rest (rest * 10 / unit) (rest * 10 % unit) h.product (div-add-mod' (rest * 10) unit));
+      small = mod_below (rest * 10) unit (omega arith);
+      below = rw scale (omega arith);
+      first = λ fewer e.
+          ⊎_elim (λ l. omega (arith, l)) (λ g.
+          let same : fewer ≡ digits = omega (arith, g, h.first fewer e) in
+          let P : ℕ → Type 0 = λ n. IsExactAt size unit n in
+          let z = no_rest size unit digits (size / unit * 10 ^ digits + fraction) rest h.product h.small (subst P same e) in
+          absurd (omega (arith, z, left))) (cases_lt digits fewer);
+    }
+
+pub IsFirstExact-rest : (size unit most rest fraction digits : ℕ) → Dividing size unit most rest fraction digits → rest ≡ 0 → IsFirstExact size unit most digits
+IsFirstExact-rest size unit most rest fraction digits h e =
+    record { few = h.few; first = h.first; ends = inl (size / unit * 10 ^ digits + fraction, omega (arith, h.product, e)) }
+
+pub IsFirstExact-all : (size unit most rest fraction digits : ℕ) → Dividing size unit most rest fraction digits → most ≤ digits → IsFirstExact size unit most digits
+IsFirstExact-all size unit most rest fraction digits h e = record { few = h.few; first = h.first; ends = inr (omega (arith, h.few, e)) }
+
+pub not_exact : (size unit most rest fraction digits : ℕ) → Dividing size unit most rest fraction digits → most ≤ digits → 0 < rest → IsExactAt size unit most → ⊥
+not_exact size unit most rest fraction digits h all left e =
+    let same : most ≡ digits = omega (arith, h.few, all) in
+    let P : ℕ → Type 0 = λ n. IsExactAt size unit n in
+    let z = no_rest size unit digits (size / unit * 10 ^ digits + fraction) rest h.product h.small (subst P same e) in
+    omega (arith, z, left)
+
+split_power : (a b c : ℕ) → a ≤ b → b ≤ c → 10 ^ (c - a) ≡ 10 ^ (b - a) * 10 ^ (c - b)
+split_power a b c h k = let e : c - a ≡ (b - a) + (c - b) = omega arith in ap (λ n. 10 ^ n) e ∙ pow-add 10 (b - a) (c - b)
+
+pub raise_power : (a b : ℕ) → a ≤ b → 10 ^ b ≡ 10 ^ a * 10 ^ (b - a)
+raise_power a b h = let e : b ≡ a + (b - a) = omega arith in ap (λ n. 10 ^ n) e ∙ pow-add 10 a (b - a)
+
+-- exact at some places, so at more
+pub IsExactAt-more : (size unit a b : ℕ) → a ≤ b → IsExactAt size unit a → IsExactAt size unit b
+IsExactAt-more size unit a b h e =
+    let p = ap (λ n. size * n) (raise_power a b h) in
+    let q = ap (λ n. n * 10 ^ (b - a)) e.1 in
+    (e.0 * 10 ^ (b - a), p ∙ omega (arith, q))
+
+pub IsQuotient-digits : (size unit most rest fraction digits : ℕ) → most ≤ 28 → Dividing size unit most rest fraction digits → rest ≡ 0 → IsQuotient size unit most (size / unit * 10 ^ 28 + fraction * 10 ^ (28 - digits))
+IsQuotient-digits size unit most rest fraction digits room h e =
+    let raised = ap (λ n. size * n) (raise_power digits most h.few) in
+    let product : size * 10 ^ digits ≡ (size / unit * 10 ^ digits + fraction) * unit = omega (arith, h.product, e) in
+    let q = ap (λ n. n * 10 ^ (most - digits)) product in
+    let parts = ap (λ n. size / unit * n) (power_parts digits (omega (arith, h.few))) in
+    let split = ap (λ n. (size / unit * 10 ^ digits + fraction) * n) (split_power digits most 28 h.few room) in
+    record {
+      whole = (size / unit * 10 ^ digits + fraction) * 10 ^ (most - digits);
+      exact = raised ∙ omega (arith, q);
+      number = omega (arith, parts, split);
+    }
+
+-- a digit's part stays below one
+pub part_below : (fraction digits : ℕ) → digits ≤ 28 → fraction < 10 ^ digits → fraction * 10 ^ (28 - digits) < 10 ^ 28
+part_below fraction digits room small =
+    let bound = power_bounds (28 - digits) (omega arith) in
+    let product = mul-le-mul_right {m = fraction + 1} {n = 10 ^ digits} (10 ^ (28 - digits)) (omega arith) in
+    omega (arith, product, power_parts digits room, bound.0)
+
+pub IfSome-made : (o : Option ℕ) (C : Type 0) (v : ℕ) (P : ℕ → Type 0) → SomeIff o C v → P v → IfSome o P
+IfSome-made None C v P h p = tt
+IfSome-made (Some x) C v P h p = subst P (sym h.1) p
+
+pub IfNone-made : (o : Option ℕ) (C Q : Type 0) (v : ℕ) → SomeIff o C v → C → IfNone o Q
+IfNone-made None C Q v h c = absurd (h c)
+IfNone-made (Some x) C Q v h c = tt
+
+-- the digits fit their places
+pub digits_fit : (size unit most rest fraction digits : ℕ) → most ≤ 28 → Dividing size unit most rest fraction digits → fraction < 10 ^ 28
+digits_fit size unit most rest fraction digits room h = omega (arith, h.below, power_bounds digits (omega (arith, h.few)))
+
+pub next_fits : (size unit most rest fraction digits : ℕ) → 1 ≤ unit → 0 < rest → digits < most → most ≤ 28 → Dividing size unit most rest fraction digits → fraction * 10 + rest * 10 / unit < 10 ^ 28
+next_fits size unit most rest fraction digits some left room last h =
+    digits_fit size unit most (rest * 10 % unit) (fraction * 10 + rest * 10 / unit) (digits + 1) last (Dividing-more size unit most rest fraction digits some left room h)
+
+whole_fits : (size unit : ℕ) → size < 2 ^ 96 → size / unit < 2 ^ 96
+whole_fits size unit h = let e = div-le_self size unit in omega (arith, e)
+
+pub quotient_made : (o : Option ℕ) (size unit places most rest fraction digits power : ℕ) → most ≡ places → most ≤ 28 → power ≡ 10 ^ (28 - digits) → rest ≡ 0 → Dividing size unit most rest fraction digits → SomeIff o ((size / unit < 2 ^ 96) × (fraction * power < 10 ^ 28)) (size / unit * 10 ^ 28 + fraction * power) → IfSome o (IsQuotient size unit places)
+quotient_made o size unit places most rest fraction digits power m last p done h made =
+    let P : ℕ → Type 0 = λ n. SomeIff o ((size / unit < 2 ^ 96) × (fraction * n < 10 ^ 28)) (size / unit * 10 ^ 28 + fraction * n) in
+    let Q : ℕ → Type 0 = λ n. IfSome o (IsQuotient size unit n) in
+    subst Q m (IfSome-made o _ _ (IsQuotient size unit most) (subst P p made) (IsQuotient-digits size unit most rest fraction digits last h done))
+
+pub always_made : (o : Option ℕ) (Q : Type 0) (size unit most rest fraction digits power : ℕ) → size < 2 ^ 96 → most ≤ 28 → power ≡ 10 ^ (28 - digits) → Dividing size unit most rest fraction digits → SomeIff o ((size / unit < 2 ^ 96) × (fraction * power < 10 ^ 28)) (size / unit * 10 ^ 28 + fraction * power) → IfNone o Q
+always_made o Q size unit most rest fraction digits power small last p h made =
+    let P : ℕ → Type 0 = λ n. SomeIff o ((size / unit < 2 ^ 96) × (fraction * n < 10 ^ 28)) (size / unit * 10 ^ 28 + fraction * n) in
+    IfNone-made o _ Q _ (subst P p made) (whole_fits size unit small, part_below fraction digits (omega (arith, h.few)) h.below)
+
+-- the number times the unit is the size
+pub IsQuotient-product : (size unit places N : ℕ) → places ≤ 28 → IsQuotient size unit places N → N * unit ≡ size * 10 ^ 28
+IsQuotient-product size unit places N room h =
+    let n = ap (λ x. x * unit) h.number in
+    let e = ap (λ x. x * 10 ^ (28 - places)) h.exact in
+    let p = ap (λ x. size * x) (power_parts places room) in
+    n ∙ omega (arith, e, p)
+
+-- the places that state the number are those at which the size is exact
+pub stated_of_exact : (size unit N j : ℕ) → 1 ≤ unit → N * unit ≡ size * 10 ^ 28 → IsExactAt size unit j → IsStatedBy N j
+stated_of_exact size unit N j some product e =
+    let p = ap (λ x. x * 10 ^ j) product in
+    let q = ap (λ x. x * 10 ^ 28) e.1 in
+    (e.0, eq_of_mul-eq-mul_right unit (omega (arith, some)) (N * 10 ^ j) (e.0 * 10 ^ 28) (omega (arith, p, q)))
+
+pub exact_of_stated : (size unit N j : ℕ) → N * unit ≡ size * 10 ^ 28 → IsStatedBy N j → IsExactAt size unit j
+exact_of_stated size unit N j product s =
+    let p = ap (λ x. x * 10 ^ j) product in
+    let q = ap (λ x. x * unit) s.1 in
+    (s.0, eq_of_mul-eq-mul_right (10 ^ 28) (omega arith) (size * 10 ^ j) (s.0 * unit) (omega (arith, p, q)))

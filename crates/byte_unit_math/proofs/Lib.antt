@@ -1,0 +1,4 @@
+pub mod Scales
+pub mod Places
+pub mod Rounding
+pub mod Division

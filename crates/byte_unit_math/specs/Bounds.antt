@@ -1,0 +1,30 @@
+-- The bounds of numbers. Each is named here, and nowhere else.
+use Rattle.std.specs.Prelude.{ℕ, ◌*◌, ◌^◌}
+
+-- the digits after the point of a decimal
+abbrev pub places_of_decimal : ℕ
+places_of_decimal = 28
+
+-- one, counted in last places of a decimal
+abbrev pub one : ℕ
+one = 10 ^ places_of_decimal
+
+-- the whole part of a decimal is below it
+abbrev pub whole_limit : ℕ
+whole_limit = 2 ^ 96
+
+-- a size in bytes is below it
+abbrev pub size_limit : ℕ
+size_limit = 10 ^ 27
+
+-- a size in bits is below it
+abbrev pub bits_limit : ℕ
+bits_limit = 8 * size_limit
+
+-- no unit has more bits
+abbrev pub unit_limit : ℕ
+unit_limit = 2 ^ 83
+
+-- no size in a unit has more digits after the point
+abbrev pub expansion_places : ℕ
+expansion_places = 83

@@ -1,0 +1,207 @@
+//! Exact decimals of 28 places.
+ghost use Rattle.std.specs.Prelude.{◌≡◌, ℕ, ◌+◌, ◌*◌, ◌-◌, ◌^◌, ◌/◌, ◌%◌, ◌<◌, ◌≤◌, nat_eq, SomeIff};
+ghost use Rattle.std.specs.Cmp.{partial_order_from_own_ties, partial_equiv_from_equiv};
+ghost use Rattle.std.specs.Cmp.Rules.{comparing};
+ghost use Rattle.std.specs.Ordering.{nat_cmp, as_partial_cmp};
+ghost use Rattle.std.proofs.Common.{rules};
+ghost use Rattle.byte_unit_math.specs.Bounds.{one, places_of_decimal, whole_limit};
+ghost use Rattle.byte_unit_math.specs.Decimal.{IsStatedBy};
+
+use std::cmp::Ordering;
+use std::marker::Model;
+
+/// The digits after the point.
+pub(crate) const PLACES: u32 = 28;
+
+/// One, counted in last places.
+pub(crate) const ONE: u128 = 10_000_000_000_000_000_000_000_000_000;
+
+/// Whole parts are below this, 2^96.
+const WHOLE_LIMIT: u128 = 79_228_162_514_264_337_593_543_950_336;
+
+/// A number with 28 digits after the point, never negative. Its whole part is below 2^96.
+///
+/// A contract sees it as the number of its last places: `1.5` is 15 * 10^27. Equality, order and hash are those of the
+/// numbers.
+#[derive(Clone, Copy, Debug, Hash)]
+pub struct Decimal {
+    whole: u128,
+    fraction: u128,
+}
+
+impl Model for Decimal {
+    ghost use Rattle.std.specs.Prelude.{◌≡◌, ℕ, ◌+◌, ◌*◌, ◌/◌, ◌%◌, ◌<◌};
+    ghost use Rattle.byte_unit_math.specs.Bounds.{one, whole_limit};
+
+    ghost Value = { ℕ };
+
+    ghost view = { λ d. d.whole * one + d.fraction };
+
+    ghost invariant = { λ d. (d.whole < whole_limit) × (d.fraction < one) };
+
+    ghost inverse = { λ n. record { whole = n / one; fraction = n % one } };
+}
+
+impl Decimal {
+    /// Zero.
+    pub const ZERO: Decimal = Decimal {
+        whole: 0,
+        fraction: 0,
+    };
+
+    /// `whole + fraction / 10^28`. None exactly where the whole part is 2^96 or more, or the fraction 10^28 or more.
+    pub fn new(whole: u128, fraction: u128) -> Option<Decimal>
+        ensures { SomeIff result ((whole < whole_limit) × (fraction < one)) (whole * one + fraction) }
+    {
+        if whole < WHOLE_LIMIT && fraction < ONE {
+            Some(Decimal { whole, fraction })
+        } else {
+            None
+        }
+    }
+
+    /// A whole number. None exactly where it is 2^96 or more.
+    pub fn from_u128(n: u128) -> Option<Decimal>
+        ensures { SomeIff result (n < whole_limit) (n * one) }
+    {
+        Decimal::new(n, 0)
+    }
+
+    /// `mantissa / 10^scale`. None exactly where the scale is above 28, or the whole part 2^96 or more.
+    ///
+    /// ```text
+    /// from_u128_with_scale(5084, 2)    50.84
+    /// from_u128_with_scale(1, 29)      None
+    /// ```
+    pub fn from_u128_with_scale(mantissa: u128, scale: u32) -> Option<Decimal>
+        ensures { SomeIff result
+            ((scale ≤ places_of_decimal) × (mantissa / 10 ^ scale < whole_limit))
+            (mantissa * 10 ^ (places_of_decimal - scale)) }
+    {
+        if scale > PLACES {
+            return None;
+        }
+        let unit = 10u128.pow(scale);
+        Decimal::new(
+            mantissa / unit,
+            mantissa % unit * 10u128.pow(PLACES - scale),
+        )
+    }
+
+    /// The part before the point, below 2^96.
+    pub fn whole(self) -> u128
+        ensures value { result ≡ self / one }
+        ensures bound { result < whole_limit }
+    {
+        self.whole
+    }
+
+    /// The part after the point, in last places: below 10^28.
+    pub fn fraction(self) -> u128
+        ensures value { result ≡ self % one }
+        ensures bound { result < one }
+    {
+        self.fraction
+    }
+
+    /// The least number of places that state it, 0 to 28.
+    pub fn places(self) -> u32
+        ensures bound { result ≤ places_of_decimal }
+        ensures states { IsStatedBy self result }
+        ensures least { (p : ℕ) → IsStatedBy self p → result ≤ p }
+    {
+        let mut rest = self.fraction();
+        let mut places = PLACES;
+        while places > 0 && rest % 10 == 0 {
+            rest /= 10;
+            places -= 1;
+        }
+        places
+    }
+}
+
+impl From<u8> for Decimal {
+    ghost from_gives = { λ n d. d ≡ n * one };
+
+    fn from(n: u8) -> Decimal {
+        Decimal::from(u64::from(n))
+    }
+}
+
+impl From<u16> for Decimal {
+    ghost from_gives = { λ n d. d ≡ n * one };
+
+    fn from(n: u16) -> Decimal {
+        Decimal::from(u64::from(n))
+    }
+}
+
+impl From<u32> for Decimal {
+    ghost from_gives = { λ n d. d ≡ n * one };
+
+    fn from(n: u32) -> Decimal {
+        Decimal::from(u64::from(n))
+    }
+}
+
+impl From<u64> for Decimal {
+    ghost from_gives = { λ n d. d ≡ n * one };
+
+    fn from(n: u64) -> Decimal {
+        Decimal {
+            whole: u128::from(n),
+            fraction: 0,
+        }
+    }
+}
+
+impl Default for Decimal {
+    ghost is_default = { λ d. d ≡ 0 };
+
+    fn default() -> Decimal {
+        Decimal::ZERO
+    }
+}
+
+impl PartialEq for Decimal {
+    ghost eq = { nat_eq };
+
+    ghost laws = { partial_equiv_from_equiv (Prim.search (comparing, rules)) };
+
+    fn eq(&self, other: &Decimal) -> bool {
+        self.whole == other.whole && self.fraction == other.fraction
+    }
+}
+
+impl Eq for Decimal {
+    ghost laws = { Prim.search (comparing, rules) };
+}
+
+impl Ord for Decimal {
+    ghost cmp = { nat_cmp };
+
+    ghost total = { Prim.search (comparing, rules) };
+
+    ghost matches_partial_cmp = { Prim.search (comparing, rules) };
+
+    ghost matches_eq = { Prim.search (comparing, rules) };
+
+    fn cmp(&self, other: &Decimal) -> Ordering {
+        self.whole
+            .cmp(&other.whole)
+            .then(self.fraction.cmp(&other.fraction))
+    }
+}
+
+impl PartialOrd for Decimal {
+    ghost partial_cmp = { as_partial_cmp nat_cmp };
+
+    ghost laws = { partial_order_from_own_ties (Prim.search (comparing, rules)) (Prim.search (comparing, rules)) };
+
+    fn partial_cmp(&self, other: &Decimal) -> Option<Ordering> {
+        Some(self.cmp(other))
+    }
+}
+
+#[cfg(test)]
+mod tests;

@@ -1,0 +1,70 @@
+//! Exact quotients by long division.
+ghost use Rattle.std.specs.Prelude.{◌≡◌, ℕ, ◌-◌, ◌^◌, ◌<◌, ◌≤◌, min, IfSome, IfNone};
+ghost use Rattle.byte_unit_math.specs.Bounds.{places_of_decimal, unit_limit, whole_limit};
+ghost use Rattle.byte_unit_math.specs.Steps.{raised};
+ghost use Rattle.byte_unit_math.specs.Exact.{IsExactAt, IsQuotient, IsFirstExact};
+
+use crate::decimal::{Decimal, PLACES};
+use crate::steps::Steps;
+
+/// `size / unit`, where that is a decimal of at most so many places, else None. More than 28 places count as 28.
+///
+/// The caller owes a unit from 1 to 2^83 and a size below 2^96.
+///
+/// Long division takes one tick for each digit after the point, so at most 28. It stops at the first number of places at
+/// which the quotient is exact; where there is none, it takes all the places that were asked for.
+///
+/// ```text
+/// exact_quotient(1, 8, 3, &mut steps)    0.125, in 3 ticks
+/// exact_quotient(1, 8, 2, &mut steps)    None, in 2 ticks
+/// ```
+pub fn exact_quotient(size: u128, unit: u128, places: u32, steps: &mut Steps) -> Option<Decimal>
+    requires some_unit { 1 ≤ unit }
+    requires small_unit { unit ≤ unit_limit }
+    requires small_size { size < whole_limit }
+    ensures quotient { IfSome result (IsQuotient size unit (min places places_of_decimal)) }
+    ensures none { IfNone result (IsExactAt size unit (min places places_of_decimal) → ⊥) }
+    ensures ticks { (digits : ℕ) × IsFirstExact size unit (min places places_of_decimal) digits × (steps.new ≡ raised steps.old digits) }
+{
+    let most = places.min(PLACES);
+    let mut rest = size % unit;
+    let mut fraction = 0;
+    let mut digits = 0;
+    while rest > 0 && digits < most {
+        steps.tick();
+        fraction = fraction * 10 + rest * 10 / unit;
+        rest = rest * 10 % unit;
+        digits += 1;
+    }
+    if rest > 0 {
+        return None;
+    }
+    Decimal::new(size / unit, fraction * 10u128.pow(PLACES - digits))
+}
+
+#[cfg(test)]
+mod tests {
+    use super::*;
+    use std::test::Fail;
+
+    #[test]
+    fn quotients_with_their_ticks(rt: HostRuntime) -> Result<(), Fail> {
+        let eighth = Decimal::from_u128_with_scale(125, 3).ok_or("a decimal")?;
+        let power = Decimal::new(0, 37_252_902_984_619_140_625).ok_or("a decimal")?;
+        let two_to_28 = 268_435_456;
+        for (size, unit, places, quotient, ticks) in [
+            (1, 8, 3, Some(eighth), 3),
+            (1, 8, 2, None, 2),
+            (1, 3, 28, None, 28),
+            (0, 7, 0, Some(Decimal::ZERO), 0),
+            (1, two_to_28, 28, Some(power), 28),
+            (1, two_to_28, 99, Some(power), 28),
+            (1, 2 * two_to_28, 99, None, 28),
+        ] {
+            let mut steps = Steps::new();
+            assert_eq!(rt; exact_quotient(size, unit, places, &mut steps), quotient);
+            assert_eq!(rt; steps.count(), ticks, "at {size} and {unit}");
+        }
+        Ok(())
+    }
+}
