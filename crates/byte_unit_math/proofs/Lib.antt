@@ -2,3 +2,5 @@ pub mod Scales
 pub mod Places
 pub mod Rounding
 pub mod Division
+pub mod Digits
+pub mod Shown

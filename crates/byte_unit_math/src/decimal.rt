@@ -1,13 +1,16 @@
 //! Exact decimals of 28 places.
-ghost use Rattle.std.specs.Prelude.{◌≡◌, ℕ, ◌+◌, ◌*◌, ◌-◌, ◌^◌, ◌/◌, ◌%◌, ◌<◌, ◌≤◌, nat_eq, SomeIff};
+ghost use Rattle.std.specs.Prelude.{◌≡◌, ℕ, ◌+◌, ◌*◌, ◌-◌, ◌^◌, ◌/◌, ◌%◌, ◌<◌, ◌≤◌, nat_eq, Some, SomeIff};
 ghost use Rattle.std.specs.Cmp.{partial_order_from_own_ties, partial_equiv_from_equiv};
 ghost use Rattle.std.specs.Cmp.Rules.{comparing};
+ghost use Rattle.std.specs.Fmt.{DisplaysOnOk};
 ghost use Rattle.std.specs.Ordering.{nat_cmp, as_partial_cmp};
 ghost use Rattle.std.proofs.Common.{rules};
 ghost use Rattle.byte_unit_math.specs.Bounds.{one, places_of_decimal, whole_limit};
 ghost use Rattle.byte_unit_math.specs.Decimal.{IsStatedBy};
+ghost use Rattle.byte_unit_math.specs.Numeral.{glyphs, last_digits, short, without_zeros};
 
 use std::cmp::Ordering;
+use std::fmt;
 use std::marker::Model;
 
 /// The digits after the point.
@@ -201,6 +204,36 @@ impl PartialOrd for Decimal {
     fn partial_cmp(&self, other: &Decimal) -> Option<Ordering> {
         Some(self.cmp(other))
     }
+}
+
+/// The whole part, and where the fraction is not zero a point and its digits without the zeros at the end.
+impl fmt::Display for Decimal {
+    ghost output = { λ d. Some (short d places_of_decimal) };
+
+    fn fmt<W: fmt::Write>(&self, f: &mut fmt::Formatter<W>) -> fmt::Result {
+        write!(f, "{}", self.whole)?;
+        if self.fraction > 0 {
+            f.write_str(".")?;
+            write_digits(self.fraction, f)?;
+        }
+        Ok(())
+    }
+}
+
+/// The digits of a fraction, without the zeros at the end.
+fn write_digits<W: fmt::Write>(fraction: u128, f: &mut fmt::Formatter<W>) -> fmt::Result
+    requires { fraction < one }
+    ensures { DisplaysOnOk W.write_str_gives f.old result (Some (glyphs (without_zeros (last_digits places_of_decimal fraction)))) f.new }
+{
+    let mut rest = fraction;
+    let mut unit = ONE;
+    while rest > 0 {
+        unit /= 10;
+        let digit = (rest / unit) as u8;
+        write!(f, "{digit}")?;
+        rest %= unit;
+    }
+    Ok(())
 }
 
 #[cfg(test)]

@@ -1,6 +1,7 @@
 use super::*;
 use std::hash::{DefaultHasher, Hash, Hasher};
 use std::process::Abort;
+use std::string::ToString;
 use std::test::Fail;
 
 #[test]
@@ -41,6 +42,22 @@ fn the_greatest_parts(rt: HostRuntime) -> Result<(), Fail> {
         Decimal::from_u128(79_228_162_514_264_337_593_543_950_336),
         None
     );
+    Ok(())
+}
+
+#[test]
+fn printed(rt: HostRuntime) -> Result<(), Fail> {
+    for (mantissa, scale, text) in [
+        (5084, 2, "50.84"),
+        (1000, 2, "10"),
+        (0, 0, "0"),
+        (1, 28, "0.0000000000000000000000000001"),
+        (90, 2, "0.9"),
+        (1_000_000_001, 9, "1.000000001"),
+    ] {
+        let d = Decimal::from_u128_with_scale(mantissa, scale).ok_or("a decimal")?;
+        assert_eq!(rt; d.to_string(rt.alloc())?.as_str(), text);
+    }
     Ok(())
 }
 
