@@ -1,0 +1,10 @@
+pub mod Lists
+pub mod Trim
+pub mod Scales
+pub mod UnitLoop
+pub mod UnitLaws
+pub mod UnitReads
+pub mod SizeSteps
+pub mod SizeLaws
+pub mod SizeReads
+pub mod SizeAnswers

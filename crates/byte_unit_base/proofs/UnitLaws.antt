@@ -1,0 +1,170 @@
+-- The scan of a spelling and the spellings are one: what the scan has read, and what it reads.
+use Rattle.std.proofs.Common.{◌≡◌, ℕ, ◌-◌, inl, inr, List, [], ◌∷◌, ◌++◌, Option, Some, None, option_and_then, sym, refl, ap, subst, ◌∙◌, arith, Bool, true, false, cond, eqb, append_assoc, append-nil}
+use Rattle.std.specs.Prelude.{slice_index, codes}
+use Rattle.std.specs.Option.{option_map}
+use Rattle.std.specs.Char.{to_ascii_lowercase, to_ascii_uppercase}
+use Rattle.std.specs.Str.{str_to_ascii_lowercase}
+use Rattle.std.proofs.lemmas.Bool.Decides.{nat_tests}
+use Rattle.byte_unit_base.specs.Shape.{Shape}
+use Rattle.byte_unit_base.specs.Edition.{current}
+use Rattle.byte_unit_base.specs.Spelling.{Flags, IsPrefixLetter, SpellsCount, Spells}
+use Rattle.byte_unit_base.specs.UnitScan.{unit_step, unit_run, unit_of, start, scan_of, power_of, prefix_at, is_i, multiple_step, word_step, or_word, count_of, multiple_shape}
+use Rattle.byte_unit_base.specs.declared.unit.scan.Prefix.{Prefix}
+use Rattle.byte_unit_base.specs.declared.unit.scan.Prefix.TheVariants.{Kilo, Mega, Giga, Tera, Peta, Exa, Zetta, Yotta}
+use Rattle.byte_unit_base.specs.declared.unit.scan.Word.{Word}
+use Rattle.byte_unit_base.specs.declared.unit.scan.Word.TheVariants.{Empty, UpperB, LowerB, Bi, Bit, Bits}
+use Rattle.byte_unit_base.specs.declared.unit.scan.Multiple.{Multiple}
+use Rattle.byte_unit_base.specs.declared.unit.scan.Multiple.TheVariants.{One, Decimal, Binary}
+use Rattle.byte_unit_base.specs.declared.unit.scan.UnitScan.{UnitScan}
+
+-- ---- the scan of two texts, one after the other
+
+run_on : (cs ys : List ℕ) → ((t : UnitScan) → unit_run t (cs ++ ys) ≡ option_and_then (λ u. unit_run u ys) (unit_run t cs)) → (o : Option UnitScan) → option_and_then (λ t. unit_run t (cs ++ ys)) o ≡ option_and_then (λ t. unit_run t ys) (option_and_then (λ t. unit_run t cs) o)
+run_on cs ys more None = refl
+run_on cs ys more (Some t) = more t
+
+pub unit_run_append : (s : UnitScan) (xs ys : List ℕ) → unit_run s (xs ++ ys) ≡ option_and_then (λ t. unit_run t ys) (unit_run s xs)
+unit_run_append s [] ys = refl
+unit_run_append s (c ∷ cs) ys = run_on cs ys (λ t. unit_run_append t cs ys) (unit_step s c)
+
+pub run_through : (s t : UnitScan) (xs ys : List ℕ) → unit_run s xs ≡ Some t → unit_run s (xs ++ ys) ≡ unit_run t ys
+run_through s t xs ys e = unit_run_append s xs ys ∙ ap (option_and_then (λ u. unit_run u ys)) e
+
+pub run_step : (s t : UnitScan) (c : ℕ) (cs : List ℕ) → unit_step s c ≡ Some t → unit_run s (c ∷ cs) ≡ unit_run t cs
+run_step s t c cs e = ap (option_and_then (λ u. unit_run u cs)) e
+
+-- ---- what has been read at a state of the scan
+
+abbrev pub IsMultipleText : Multiple → List ℕ → Type 0
+IsMultipleText One text = text ≡ []
+IsMultipleText (Decimal p) text = (letter : ℕ) × (text ≡ letter ∷ []) × IsPrefixLetter current (power_of p) letter
+IsMultipleText (Binary p) text = (letter : ℕ) × (i : ℕ) × (text ≡ letter ∷ i ∷ []) × IsPrefixLetter current (power_of p) letter × (to_ascii_lowercase i ≡ 105)
+
+abbrev pub IsWordText : Word → List ℕ → Type 0
+IsWordText Empty text = text ≡ []
+IsWordText UpperB text = text ≡ codes "B"
+IsWordText LowerB text = text ≡ codes "b"
+IsWordText Bi text = str_to_ascii_lowercase text ≡ codes "bi"
+IsWordText Bit text = str_to_ascii_lowercase text ≡ codes "bit"
+IsWordText Bits text = str_to_ascii_lowercase text ≡ codes "bits"
+
+pub record Reached (s : UnitScan) (text : List ℕ) : Type 0 where
+  pub front : List ℕ
+  pub word : List ℕ
+  pub text_is : text ≡ front ++ word
+  pub front_is : IsMultipleText s.multiple front
+  pub word_is : IsWordText s.word word
+
+-- a test of one letter after another
+letter_found : (u : ℕ) (p : Prefix) → cond (eqb u 75) (Some Kilo) (cond (eqb u 77) (Some Mega) (cond (eqb u 71) (Some Giga) (cond (eqb u 84) (Some Tera) (cond (eqb u 80) (Some Peta) (cond (eqb u 69) (Some Exa) (cond (eqb u 90) (Some Zetta) (cond (eqb u 89) (Some Yotta) None))))))) ≡ Some p → u ≡ slice_index (codes "KMGTPEZY") (power_of p - 1)
+letter_found u Kilo e = grind (arith, nat_tests)
+letter_found u Mega e = grind (arith, nat_tests)
+letter_found u Giga e = grind (arith, nat_tests)
+letter_found u Tera e = grind (arith, nat_tests)
+letter_found u Peta e = grind (arith, nat_tests)
+letter_found u Exa e = grind (arith, nat_tests)
+letter_found u Zetta e = grind (arith, nat_tests)
+letter_found u Yotta e = grind (arith, nat_tests)
+
+pub prefix_found : (c : ℕ) (p : Prefix) → prefix_at c ≡ Some p → IsPrefixLetter current (power_of p) c
+prefix_found c Kilo e = (omega arith, omega arith, letter_found (to_ascii_uppercase c) Kilo e)
+prefix_found c Mega e = (omega arith, omega arith, letter_found (to_ascii_uppercase c) Mega e)
+prefix_found c Giga e = (omega arith, omega arith, letter_found (to_ascii_uppercase c) Giga e)
+prefix_found c Tera e = (omega arith, omega arith, letter_found (to_ascii_uppercase c) Tera e)
+prefix_found c Peta e = (omega arith, omega arith, letter_found (to_ascii_uppercase c) Peta e)
+prefix_found c Exa e = (omega arith, omega arith, letter_found (to_ascii_uppercase c) Exa e)
+prefix_found c Zetta e = (omega arith, omega arith, letter_found (to_ascii_uppercase c) Zetta e)
+prefix_found c Yotta e = (omega arith, omega arith, letter_found (to_ascii_uppercase c) Yotta e)
+
+pub guard_some : {X : Type 0} (t : Bool) (x y : X) → cond t (Some x) None ≡ Some y → (t ≡ true) × (x ≡ y)
+guard_some true x y e = (refl, cc)
+guard_some false x y e = absurd (let h : ⊥ = cc in h)
+
+pub is_true : (a b : ℕ) → eqb a b ≡ true → a ≡ b
+is_true a b e = grind (arith, nat_tests)
+
+-- one character more of the prefix
+multiple_grows_from_one : (c : ℕ) (n : Multiple) (o : Option Prefix) → prefix_at c ≡ o → option_map Decimal o ≡ Some n → IsMultipleText n (c ∷ [])
+multiple_grows_from_one c n None e h = absurd (let k : ⊥ = cc in k)
+multiple_grows_from_one c n (Some p) e h = let s : Decimal p ≡ n = cc in subst (λ m. IsMultipleText m (c ∷ [])) s (c, refl, prefix_found c p e)
+
+multiple_grows : (m n : Multiple) (c : ℕ) (text : List ℕ) → multiple_step m c ≡ Some n → IsMultipleText m text → IsMultipleText n (text ++ c ∷ [])
+multiple_grows One n c text e h = rw h (multiple_grows_from_one c n (prefix_at c) refl e)
+multiple_grows (Decimal p) n c text e h =
+    let g = guard_some (is_i c) (Binary p) n e in
+    rw h.1 (subst (λ m. IsMultipleText m (h.0 ∷ c ∷ [])) g.1 (h.0, c, refl, h.2, is_true _ _ g.0))
+multiple_grows (Binary p) n c text e h = absurd (let k : ⊥ = cc in k)
+
+-- one character more of the word
+lower_push : (text : List ℕ) (c : ℕ) → str_to_ascii_lowercase (text ++ c ∷ []) ≡ str_to_ascii_lowercase text ++ to_ascii_lowercase c ∷ []
+lower_push [] c = refl
+lower_push (x ∷ xs) c = ap (λ t. to_ascii_lowercase x ∷ t) (lower_push xs c)
+
+first_grows : (v : Word) (c : ℕ) → cond (eqb c 66) (Some UpperB) (cond (eqb c 98) (Some LowerB) None) ≡ Some v → IsWordText v (c ∷ [])
+first_grows Empty c e = grind (arith, nat_tests)
+first_grows UpperB c e = let k : c ≡ 66 = grind (arith, nat_tests) in ap (λ x. x ∷ []) k
+first_grows LowerB c e = let k : c ≡ 98 = grind (arith, nat_tests) in ap (λ x. x ∷ []) k
+first_grows Bi c e = grind (arith, nat_tests)
+first_grows Bit c e = grind (arith, nat_tests)
+first_grows Bits c e = grind (arith, nat_tests)
+
+word_grows : (w v : Word) (c : ℕ) (text : List ℕ) → word_step w c ≡ Some v → IsWordText w text → IsWordText v (text ++ c ∷ [])
+word_grows Empty v c text e h = rw h (first_grows v c e)
+word_grows UpperB v c text e h = let g = guard_some (is_i c) Bi v e in rw h (subst (λ w. IsWordText w (66 ∷ c ∷ [])) g.1 (ap (λ x. 98 ∷ x ∷ []) (is_true _ _ g.0)))
+word_grows LowerB v c text e h = let g = guard_some (is_i c) Bi v e in rw h (subst (λ w. IsWordText w (98 ∷ c ∷ [])) g.1 (ap (λ x. 98 ∷ x ∷ []) (is_true _ _ g.0)))
+word_grows Bi v c text e h = let g = guard_some (eqb (to_ascii_lowercase c) 116) Bit v e in subst (λ w. IsWordText w (text ++ c ∷ [])) g.1 (lower_push text c ∙ (ap (λ t. t ++ to_ascii_lowercase c ∷ []) h ∙ ap (λ x. 98 ∷ 105 ∷ x ∷ []) (is_true _ _ g.0)))
+word_grows Bit v c text e h = let g = guard_some (eqb (to_ascii_lowercase c) 115) Bits v e in subst (λ w. IsWordText w (text ++ c ∷ [])) g.1 (lower_push text c ∙ (ap (λ t. t ++ to_ascii_lowercase c ∷ []) h ∙ ap (λ x. 98 ∷ 105 ∷ 116 ∷ x ∷ []) (is_true _ _ g.0)))
+word_grows Bits v c text e h = absurd (let k : ⊥ = cc in k)
+
+-- one character more of the scan
+append_push : (text front word : List ℕ) (c : ℕ) → text ≡ front ++ word → text ++ c ∷ [] ≡ front ++ (word ++ c ∷ [])
+append_push text front word c e = ap (λ t. t ++ c ∷ []) e ∙ append_assoc front word (c ∷ [])
+
+by_word : (m : Multiple) (w : Word) (t : UnitScan) (c : ℕ) (text : List ℕ) (o : Option Word) → word_step w c ≡ o → option_map (scan_of m) o ≡ Some t → Reached (scan_of m w) text → Reached t (text ++ c ∷ [])
+by_word m w t c text None e h r = absurd (let k : ⊥ = cc in k)
+by_word m w t c text (Some v) e h r =
+    let s : scan_of m v ≡ t = cc in
+    subst (λ u. Reached u (text ++ c ∷ [])) s (record { front = r.front; word = r.word ++ c ∷ []; text_is = append_push text r.front r.word c r.text_is; front_is = r.front_is; word_is = word_grows w v c r.word e r.word_is })
+
+by_prefix : (m : Multiple) (t : UnitScan) (c : ℕ) (text : List ℕ) (o : Option Multiple) → multiple_step m c ≡ o → or_word m o (word_step Empty c) ≡ Some t → Reached (scan_of m Empty) text → Reached t (text ++ c ∷ [])
+by_prefix m t c text None e h r = by_word m Empty t c text (word_step Empty c) refl h r
+by_prefix m t c text (Some n) e h r =
+    let s : scan_of n Empty ≡ t = cc in
+    let whole : text ≡ r.front = r.text_is ∙ (ap (λ w. r.front ++ w) r.word_is ∙ append-nil r.front) in
+    subst (λ u. Reached u (text ++ c ∷ [])) s (record { front = r.front ++ c ∷ []; word = []; text_is = ap (λ x. x ++ c ∷ []) whole ∙ sym (append-nil (r.front ++ c ∷ [])); front_is = multiple_grows m n c r.front e r.front_is; word_is = refl })
+
+pub Reached-step : (m : Multiple) (w : Word) (t : UnitScan) (c : ℕ) (text : List ℕ) → unit_step (scan_of m w) c ≡ Some t → Reached (scan_of m w) text → Reached t (text ++ c ∷ [])
+unfolding unit_step
+Reached-step m Empty t c text h r = by_prefix m t c text (multiple_step m c) refl h r
+Reached-step m UpperB t c text h r = by_word m UpperB t c text (word_step UpperB c) refl h r
+Reached-step m LowerB t c text h r = by_word m LowerB t c text (word_step LowerB c) refl h r
+Reached-step m Bi t c text h r = by_word m Bi t c text (word_step Bi c) refl h r
+Reached-step m Bit t c text h r = by_word m Bit t c text (word_step Bit c) refl h r
+Reached-step m Bits t c text h r = by_word m Bits t c text (word_step Bits c) refl h r
+
+pub Reached-start : Reached start []
+Reached-start = record { front = []; word = []; text_is = refl; front_is = refl; word_is = refl }
+
+-- ---- what stands at the end of a scan
+
+count_spelled : (flags : Flags) (w : Word) (text : List ℕ) (bit : Bool) → count_of flags w ≡ Some bit → IsWordText w text → SpellsCount flags text bit
+count_spelled flags Empty text bit e h = inl (h, cc)
+count_spelled flags UpperB text bit e h = inr (inl (h, cc))
+count_spelled flags LowerB text bit e h = inr (inr (inl (h, cc)))
+count_spelled flags Bi text bit e h = absurd (let k : ⊥ = cc in k)
+count_spelled flags Bit text bit e h = inr (inr (inr (inl (h, cc))))
+count_spelled flags Bits text bit e h = inr (inr (inr (inr (h, cc))))
+
+spelled : (flags : Flags) (m : Multiple) (front word : List ℕ) (bit : Bool) → IsMultipleText m front → SpellsCount flags word bit → Spells current flags (front ++ word) (multiple_shape m bit)
+spelled flags One front word bit h k = rw h (inl (record { count_is = k; power_is = refl; binary_is = refl }))
+spelled flags (Decimal p) front word bit h k = inr (record { letter = h.0; infix_part = []; count_part = word; text_is = ap (λ t. t ++ word) h.1; letter_is = h.2; infix_is = inl (refl, refl); count_is = k })
+spelled flags (Binary p) front word bit h k = inr (record { letter = h.0; infix_part = h.1 ∷ []; count_part = word; text_is = ap (λ t. t ++ word) h.2; letter_is = h.3; infix_is = inr (ap (λ x. x ∷ []) h.4, refl); count_is = k })
+
+by_count : (flags : Flags) (m : Multiple) (w : Word) (text : List ℕ) (s : Shape) (o : Option Bool) → count_of flags w ≡ o → option_map (multiple_shape m) o ≡ Some s → Reached (scan_of m w) text → Spells current flags text s
+by_count flags m w text s None e h r = absurd (let k : ⊥ = cc in k)
+by_count flags m w text s (Some bit) e h r =
+    let same : multiple_shape m bit ≡ s = cc in
+    subst (λ x. Spells current flags text x) same (subst (λ x. Spells current flags x (multiple_shape m bit)) (sym r.text_is) (spelled flags m r.front r.word bit r.front_is (count_spelled flags w r.word bit e r.word_is)))
+
+pub Spells-reached : (flags : Flags) (m : Multiple) (w : Word) (text : List ℕ) (s : Shape) → unit_of flags (scan_of m w) ≡ Some s → Reached (scan_of m w) text → Spells current flags text s
+Spells-reached flags m w text s e r = by_count flags m w text s (count_of flags w) refl e r

@@ -1,0 +1,21 @@
+-- The errors of the crate as faults.
+use Rattle.std.specs.Prelude.{ℕ}
+use Rattle.byte_unit_base.specs.Fault.{Fault, bad_unit, not_number, no_value, too_long, exceeded}
+use Rattle.byte_unit_base.specs.declared.errors.UnitParseError.{UnitParseError}
+use Rattle.byte_unit_base.specs.declared.errors.ValueParseError.{ValueParseError}
+use Rattle.byte_unit_base.specs.declared.errors.ValueParseError.TheVariants.{ExceededBounds, NotNumber, NoValue, NumberTooLong}
+use Rattle.byte_unit_base.specs.declared.errors.ParseError.{ParseError}
+use Rattle.byte_unit_base.specs.declared.errors.ParseError.TheVariants.{Value, Unit as UnitError}
+
+abbrev pub unit_fault : UnitParseError → Fault
+unit_fault e = bad_unit e.character e.expected_characters.now e.also_expect_no_character
+
+abbrev pub value_fault : ValueParseError → Fault
+value_fault (ExceededBounds n) = exceeded n
+value_fault (NotNumber c) = not_number c
+value_fault NoValue = no_value
+value_fault NumberTooLong = too_long
+
+abbrev pub size_fault : ParseError → Fault
+size_fault (Value e) = value_fault e
+size_fault (UnitError e) = unit_fault e

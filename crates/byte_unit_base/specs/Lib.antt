@@ -1,0 +1,13 @@
+pub mod Shape
+pub mod Edition
+pub mod Units
+pub mod Spelling
+pub mod Number
+pub mod SizeText
+pub mod Front
+pub mod Fault
+pub mod FaultText
+pub mod Errors
+pub mod Readings
+pub mod UnitScan
+pub mod SizeScan

@@ -1,0 +1,38 @@
+-- The text of a number. A text is the list of its characters, and a number is how many last places of a decimal it has.
+use Rattle.std.specs.Prelude.{◌≡◌, ℕ, ◌+◌, ◌-◌, ◌*◌, ◌^◌, ◌<◌, ◌≤◌, ◌⊎◌, List, [], ◌∷◌, ◌++◌, length}
+use Rattle.std.specs.Str.Parse.{IsNumeral, digits_value}
+use Rattle.byte_unit_math.specs.Bounds.{one, places_of_decimal}
+use Rattle.byte_unit_base.specs.Edition.{Edition}
+
+-- the character `.`
+abbrev pub point : ℕ
+point = 46
+
+-- the text is the digits of a whole part of this value
+abbrev pub IsWhole : Edition → List ℕ → ℕ → Type 0
+IsWhole edition text value = IsNumeral 10 text × (value ≡ digits_value 10 text) × (value < edition.whole_limit)
+
+-- the text is the digits after a point, no more than a decimal has places, which add this many last places
+abbrev pub IsFraction : List ℕ → ℕ → Type 0
+IsFraction text n = IsNumeral 10 text × (length text ≤ places_of_decimal) × (n ≡ digits_value 10 text * 10 ^ (places_of_decimal - length text))
+
+-- the text is a whole part and a point
+pub record IsPointed (edition : Edition) (text : List ℕ) (value : ℕ) : Type 0 where
+  pub whole : List ℕ
+  pub text_is : text ≡ whole ++ point ∷ []
+  pub whole_is : IsWhole edition whole value
+
+-- the text is a whole part, a point and a fraction, together n last places
+pub record IsPrecise (edition : Edition) (text : List ℕ) (n : ℕ) : Type 0 where
+  pub whole : List ℕ
+  pub fraction : List ℕ
+  pub value : ℕ
+  pub part : ℕ
+  pub text_is : text ≡ whole ++ point ∷ fraction
+  pub whole_is : IsWhole edition whole value
+  pub fraction_is : IsFraction fraction part
+  pub number_is : n ≡ value * one + part
+
+-- the text is a number of n last places, with a fraction or without
+abbrev pub NumberText : Edition → List ℕ → ℕ → Type 0
+NumberText edition text n = ((value : ℕ) × IsWhole edition text value × (n ≡ value * one)) ⊎ IsPrecise edition text n

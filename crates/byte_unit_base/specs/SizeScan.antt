@@ -1,0 +1,81 @@
+-- Private: how the reader goes over a number and a unit, one step a character. No public contract cites this file; that
+-- what it comes to is the texts and faults of the other files is proved.
+use Rattle.std.specs.Prelude.{◌≢◌, ℕ, ◌+◌, ◌-◌, ◌*◌, ◌^◌, ◌<◌, ◌≤◌, ⊤, Bool, true, if◌then◌else◌, ◌==◌, nat_lt, List, [], ◌∷◌, Option, Some, None, Result, Ok, Err, option_and_then}
+use Rattle.std.specs.Option.{option_map}
+use Rattle.std.specs.Char.{digit_value}
+use Rattle.byte_unit_math.specs.Bounds.{one, places_of_decimal, whole_limit}
+use Rattle.byte_unit_base.specs.Shape.{Shape}
+use Rattle.byte_unit_base.specs.Edition.{current}
+use Rattle.byte_unit_base.specs.Units.{shape_of}
+use Rattle.byte_unit_base.specs.Errors.{size_fault}
+use Rattle.byte_unit_base.specs.Number.{point}
+use Rattle.byte_unit_base.specs.SizeText.{space}
+use Rattle.byte_unit_base.specs.declared.unit.Unit.{Unit as UnitName}
+use Rattle.byte_unit_base.specs.declared.errors.ParseError.{ParseError}
+use Rattle.byte_unit_base.specs.Spelling.{Flags}
+use Rattle.byte_unit_base.specs.Front.{Place, beginning, in_whole, after_point, in_fraction, in_gap}
+use Rattle.byte_unit_base.specs.Fault.{Fault, not_number, no_value, stops_at_bi, fault_at}
+use Rattle.byte_unit_base.specs.UnitScan.{unit_step, unit_of, place_of, start as unit_start}
+use Rattle.byte_unit_base.specs.declared.read.scan.SizeScan.{SizeScan}
+use Rattle.byte_unit_base.specs.declared.read.scan.SizeScan.TheVariants.{Beginning, Whole, Point, Fraction, Gap, Unit as UnitAt}
+
+-- the numbers of a scan are those of texts
+abbrev pub IsScan : SizeScan → Type 0
+IsScan (Whole w) = w < whole_limit
+IsScan (Point w) = w < whole_limit
+IsScan (Fraction w f j) = (w < whole_limit) × (f < 10 ^ j) × (j ≤ places_of_decimal)
+IsScan (UnitAt n s) = place_of s ≢ beginning
+IsScan _ = ⊤
+
+abbrev pub is_digit : ℕ → Bool
+is_digit c = nat_lt (digit_value c) 10
+
+-- a space, or the beginning of a unit, after a number of n last places
+abbrev pub after_number : ℕ → ℕ → Option SizeScan
+after_number n c = if c == space then Some (Gap n) else option_map (UnitAt n) (unit_step unit_start c)
+
+abbrev pub precise : ℕ → ℕ → ℕ → ℕ
+precise w f j = w * one + f * 10 ^ (places_of_decimal - j)
+
+unfoldable pub size_step : SizeScan → ℕ → Option SizeScan
+size_step Beginning c = if is_digit c then Some (Whole (digit_value c)) else None
+size_step (Whole w) c = if is_digit c then (if nat_lt (w * 10 + digit_value c) whole_limit then Some (Whole (w * 10 + digit_value c)) else None) else (if c == point then Some (Point w) else after_number (w * one) c)
+size_step (Point w) c = if is_digit c then Some (Fraction w (digit_value c) 1) else None
+size_step (Fraction w f j) c = if is_digit c then (if nat_lt j places_of_decimal then Some (Fraction w (f * 10 + digit_value c) (j + 1)) else None) else after_number (precise w f j) c
+size_step (Gap n) c = after_number n c
+size_step (UnitAt n s) c = option_map (UnitAt n) (unit_step s c)
+
+abbrev pub size_run : SizeScan → List ℕ → Option SizeScan
+size_run s [] = Some s
+size_run s (c ∷ cs) = option_and_then (λ t. size_run t cs) (size_step s c)
+
+abbrev pub size_place : SizeScan → Place
+size_place Beginning = beginning
+size_place (Whole w) = in_whole
+size_place (Point w) = after_point
+size_place (Fraction w f j) = in_fraction
+size_place (Gap n) = in_gap
+size_place (UnitAt n s) = place_of s
+
+-- a number and its unit at the end of a text
+abbrev pub sized : ℕ → Option Shape → Result (ℕ × Shape) Fault
+sized n (Some s) = Ok (n, s)
+sized n None = Err stops_at_bi
+
+abbrev pub size_at_end : Flags → SizeScan → Result (ℕ × Shape) Fault
+size_at_end flags Beginning = Err no_value
+size_at_end flags (Whole w) = sized (w * one) (unit_of flags unit_start)
+size_at_end flags (Point w) = Err (not_number point)
+size_at_end flags (Fraction w f j) = sized (precise w f j) (unit_of flags unit_start)
+size_at_end flags (Gap n) = sized n (unit_of flags unit_start)
+size_at_end flags (UnitAt n s) = sized n (unit_of flags s)
+
+-- what a scan makes of the rest of a text
+abbrev pub size_read : Flags → SizeScan → List ℕ → Result (ℕ × Shape) Fault
+size_read flags s [] = size_at_end flags s
+size_read flags s (c ∷ cs) = elim (size_step s c) [ Some t ↦ size_read flags t cs | None ↦ Err (fault_at current flags (size_place s) c) ]
+
+-- the answer of the code
+abbrev pub size_seen : Result (ℕ × UnitName) ParseError → Result (ℕ × Shape) Fault
+size_seen (Ok r) = Ok (r.0, shape_of r.1)
+size_seen (Err e) = Err (size_fault e)

@@ -1,0 +1,126 @@
+-- Private: how the reader goes over a spelling, one step a character. No public contract cites this file; that what it
+-- comes to is the spellings and faults of the other files is proved.
+use Rattle.std.specs.Prelude.{ℕ, Bool, true, false, not, if◌then◌else◌, ◌==◌, List, [], ◌∷◌, Option, Some, None, Result, Ok, Err, option_and_then}
+use Rattle.byte_unit_base.specs.Fault.{Fault, stops_at_bi, unit_fault_at}
+use Rattle.std.specs.Option.{option_map}
+use Rattle.std.specs.Char.{to_ascii_uppercase, to_ascii_lowercase}
+use Rattle.byte_unit_base.specs.Shape.{Shape, shape}
+use Rattle.byte_unit_base.specs.Edition.{current}
+use Rattle.byte_unit_base.specs.Units.{shape_of}
+use Rattle.byte_unit_base.specs.Errors.{unit_fault}
+use Rattle.byte_unit_base.specs.Spelling.{Flags}
+use Rattle.byte_unit_base.specs.declared.unit.Unit.{Unit as UnitName}
+use Rattle.byte_unit_base.specs.declared.unit.scan.Flags.{Flags as ReadFlags}
+use Rattle.byte_unit_base.specs.declared.errors.UnitParseError.{UnitParseError}
+use Rattle.byte_unit_base.specs.Front.{Place, beginning, after_prefix, after_b, after_bi, after_bit, after_bits}
+use Rattle.byte_unit_base.specs.declared.unit.scan.Prefix.{Prefix}
+use Rattle.byte_unit_base.specs.declared.unit.scan.Prefix.TheVariants.{Kilo, Mega, Giga, Tera, Peta, Exa, Zetta, Yotta}
+use Rattle.byte_unit_base.specs.declared.unit.scan.Word.{Word}
+use Rattle.byte_unit_base.specs.declared.unit.scan.Word.TheVariants.{Empty, UpperB, LowerB, Bi, Bit, Bits}
+use Rattle.byte_unit_base.specs.declared.unit.scan.Multiple.{Multiple}
+use Rattle.byte_unit_base.specs.declared.unit.scan.Multiple.TheVariants.{One, Decimal, Binary}
+use Rattle.byte_unit_base.specs.declared.unit.scan.UnitScan.{UnitScan}
+
+abbrev pub power_of : Prefix → ℕ
+power_of Kilo = 1
+power_of Mega = 2
+power_of Giga = 3
+power_of Tera = 4
+power_of Peta = 5
+power_of Exa = 6
+power_of Zetta = 7
+power_of Yotta = 8
+
+-- the prefix of a letter
+abbrev pub prefix_at : ℕ → Option Prefix
+prefix_at c =
+    let u = to_ascii_uppercase c in
+    if u == 75 then Some Kilo else (if u == 77 then Some Mega else (if u == 71 then Some Giga else (if u == 84 then Some Tera else (if u == 80 then Some Peta else (if u == 69 then Some Exa else (if u == 90 then Some Zetta else (if u == 89 then Some Yotta else None)))))))
+
+abbrev pub is_i : ℕ → Bool
+is_i c = to_ascii_lowercase c == 105
+
+abbrev pub multiple_step : Multiple → ℕ → Option Multiple
+multiple_step One c = option_map Decimal (prefix_at c)
+multiple_step (Decimal p) c = if is_i c then Some (Binary p) else None
+multiple_step (Binary p) c = None
+
+abbrev pub word_step : Word → ℕ → Option Word
+word_step Empty c = if c == 66 then Some UpperB else (if c == 98 then Some LowerB else None)
+word_step UpperB c = if is_i c then Some Bi else None
+word_step LowerB c = if is_i c then Some Bi else None
+word_step Bi c = if to_ascii_lowercase c == 116 then Some Bit else None
+word_step Bit c = if to_ascii_lowercase c == 115 then Some Bits else None
+word_step Bits c = None
+
+abbrev pub scan_of : Multiple → Word → UnitScan
+scan_of m w = record { multiple = m; word = w }
+
+-- a character of the prefix, or else of the word
+abbrev pub or_word : Multiple → Option Multiple → Option Word → Option UnitScan
+or_word m (Some n) w = Some (scan_of n Empty)
+or_word m None w = option_map (scan_of m) w
+
+abbrev pub prefix_step : Multiple → Word → ℕ → Option Multiple
+prefix_step m Empty c = multiple_step m c
+prefix_step m _ c = None
+
+unfoldable pub unit_step : UnitScan → ℕ → Option UnitScan
+unit_step s c = or_word s.multiple (prefix_step s.multiple s.word c) (word_step s.word c)
+
+-- a scan over a whole text
+abbrev pub unit_run : UnitScan → List ℕ → Option UnitScan
+unit_run s [] = Some s
+unit_run s (c ∷ cs) = option_and_then (λ t. unit_run t cs) (unit_step s c)
+
+abbrev pub start : UnitScan
+start = scan_of One Empty
+
+-- whether a word says bits; it may stop within the word
+abbrev pub count_of : Flags → Word → Option Bool
+count_of flags Empty = Some (not flags.prefer_byte)
+count_of flags UpperB = Some false
+count_of flags LowerB = Some (not flags.ignore_case)
+count_of flags Bi = None
+count_of flags Bit = Some true
+count_of flags Bits = Some true
+
+abbrev pub multiple_shape : Multiple → Bool → Shape
+multiple_shape One bit = shape 0 (not bit) bit
+multiple_shape (Decimal p) bit = shape (power_of p) false bit
+multiple_shape (Binary p) bit = shape (power_of p) true bit
+
+abbrev pub unit_of : Flags → UnitScan → Option Shape
+unit_of flags s = option_map (multiple_shape s.multiple) (count_of flags s.word)
+
+abbrev pub empty_place : Multiple → Place
+empty_place One = beginning
+empty_place _ = after_prefix
+
+abbrev pub word_place : Multiple → Word → Place
+word_place m Empty = empty_place m
+word_place m UpperB = after_b
+word_place m LowerB = after_b
+word_place m Bi = after_bi
+word_place m Bit = after_bit
+word_place m Bits = after_bits
+
+abbrev pub place_of : UnitScan → Place
+place_of s = word_place s.multiple s.word
+
+-- what a scan makes of the rest of a text
+abbrev pub unit_at_end : Option Shape → Result Shape Fault
+unit_at_end (Some s) = Ok s
+unit_at_end None = Err stops_at_bi
+
+abbrev pub unit_read : Flags → UnitScan → List ℕ → Result Shape Fault
+unit_read flags s [] = unit_at_end (unit_of flags s)
+unit_read flags s (c ∷ cs) = elim (unit_step s c) [ Some t ↦ unit_read flags t cs | None ↦ Err (unit_fault_at current flags (place_of s) c) ]
+
+-- the flags and the answer of the code
+abbrev pub flags_of : ReadFlags → Flags
+flags_of f = record { ignore_case = f.ignore_case; prefer_byte = f.prefer_byte }
+
+abbrev pub unit_seen : Result UnitName UnitParseError → Result Shape Fault
+unit_seen (Ok u) = Ok (shape_of u)
+unit_seen (Err e) = Err (unit_fault e)

@@ -1,0 +1,145 @@
+//! The errors of the readers, and that of a number which fits no size.
+
+use byte_unit_math::Decimal;
+use std::error::Error;
+use std::fmt;
+
+/// A number is negative, or too large for a size.
+#[derive(Clone, Copy, Debug, PartialEq, Eq)]
+pub struct ExceededBoundsError;
+
+/// Why the number of a text is refused.
+#[derive(Clone, Copy, Debug)]
+pub enum ValueParseError {
+    /// The text states a size that is too large: its number as it was written, without its unit. `read_size` never
+    /// answers it.
+    ExceededBounds(Decimal),
+    /// A digit has to stand where this character is, or after it where the text ends in a point.
+    NotNumber(char),
+    /// The text is empty.
+    NoValue,
+    /// The whole part is above 2^96 - 1, or more than 28 digits follow the point.
+    NumberTooLong,
+}
+
+/// Why the spelling of a unit is refused.
+#[derive(Clone, Copy, Debug)]
+pub struct UnitParseError {
+    /// The first character that goes on with no spelling; an `i` where the text stops after `bi`.
+    pub character: char,
+    /// What could stand in its place.
+    pub expected_characters: &'static [char],
+    /// Whether the text could end in its place.
+    pub also_expect_no_character: bool,
+}
+
+/// Why the text of a number and a unit is refused: the first fault from the left.
+#[derive(Clone, Copy, Debug)]
+pub enum ParseError {
+    /// The number is refused.
+    Value(ValueParseError),
+    /// The unit is refused.
+    Unit(UnitParseError),
+}
+
+impl UnitParseError {
+    /// The error of a spelling that stops after the `bi` of a b-part: it could have stopped before that `i`.
+    pub(crate) const STOPS_AT_BI: UnitParseError = UnitParseError {
+        character: 'i',
+        expected_characters: &[],
+        also_expect_no_character: true,
+    };
+}
+
+impl fmt::Display for ExceededBoundsError {
+    ghost use Rattle.byte_unit_base.specs.FaultText.{exceeded_text};
+
+    ghost output = { exceeded_text };
+
+    fn fmt<W: fmt::Write>(&self, f: &mut fmt::Formatter<W>) -> fmt::Result {
+        f.write_str("value exceeds the valid range")
+    }
+}
+
+impl Error for ExceededBoundsError {}
+
+impl fmt::Display for ValueParseError {
+    ghost use Rattle.byte_unit_base.specs.FaultText.{value_text};
+
+    ghost output = { value_text };
+
+    fn fmt<W: fmt::Write>(&self, f: &mut fmt::Formatter<W>) -> fmt::Result {
+        match self {
+            ValueParseError::ExceededBounds(value) => {
+                write!(f, "the value {value} exceeds the valid range")
+            }
+            ValueParseError::NotNumber(c) => write!(f, "the character {c:?} is not a number"),
+            ValueParseError::NoValue => f.write_str("no value can be found"),
+            ValueParseError::NumberTooLong => f.write_str("value number is too long"),
+        }
+    }
+}
+
+impl Error for ValueParseError {}
+
+impl fmt::Display for UnitParseError {
+    fn fmt<W: fmt::Write>(&self, f: &mut fmt::Formatter<W>) -> fmt::Result {
+        write!(f, "the character {:?} is incorrect", self.character)?;
+        let [first, others @ ..] = self.expected_characters else {
+            return f.write_str(" (no character is expected)");
+        };
+        write!(f, " ({first:?}")?;
+        if let [middle @ .., last] = others {
+            for c in middle {
+                write!(f, ", {c:?}")?;
+            }
+            write!(f, " or {last:?}")?;
+        }
+        if self.also_expect_no_character {
+            f.write_str(" or no character")?;
+        }
+        f.write_str(" is expected)")
+    }
+}
+
+impl Error for UnitParseError {}
+
+impl From<ValueParseError> for ParseError {
+    ghost use Rattle.std.specs.Prelude.{◌≡◌};
+    ghost use Rattle.byte_unit_base.specs.declared.errors.ParseError.TheVariants.{Value};
+
+    ghost from_gives = { λ error result. result ≡ Value error };
+
+    fn from(error: ValueParseError) -> Self {
+        Self::Value(error)
+    }
+}
+
+impl From<UnitParseError> for ParseError {
+    ghost use Rattle.std.specs.Prelude.{◌≡◌};
+    ghost use Rattle.byte_unit_base.specs.declared.errors.ParseError.TheVariants.{Unit as UnitError};
+
+    ghost from_gives = { λ error result. result ≡ UnitError error };
+
+    fn from(error: UnitParseError) -> Self {
+        Self::Unit(error)
+    }
+}
+
+impl fmt::Display for ParseError {
+    ghost use Rattle.byte_unit_base.specs.FaultText.{parse_text};
+
+    ghost output = { parse_text };
+
+    fn fmt<W: fmt::Write>(&self, f: &mut fmt::Formatter<W>) -> fmt::Result {
+        match self {
+            ParseError::Value(error) => fmt::Display::fmt(error, f),
+            ParseError::Unit(error) => fmt::Display::fmt(error, f),
+        }
+    }
+}
+
+impl Error for ParseError {}
+
+#[cfg(test)]
+pub mod tests;

@@ -1,0 +1,61 @@
+//! The reader of a number and a unit.
+
+ghost use Rattle.std.specs.Prelude.{◌≡◌};
+ghost use Rattle.std.specs.Str.{chars};
+ghost use Rattle.byte_unit_base.specs.Readings.{IsNumberReading};
+ghost use Rattle.byte_unit_base.specs.UnitScan.{flags_of};
+ghost use Rattle.byte_unit_base.specs.SizeScan.{size_seen, size_read};
+
+use crate::errors::ParseError;
+use crate::read::scan::SizeScan;
+use crate::unit::Unit;
+use crate::unit::scan::Flags;
+use byte_unit_math::Decimal;
+
+mod scan;
+
+/// The number and the unit that the text states, without the white space at its ends.
+///
+/// The text is a whole part of ASCII digits, at most 2^96 - 1, with any number of leading zeros; optionally a point and
+/// 1 to 28 digits; any number of the character space; and the spelling of a unit, as `Unit::parse_str` reads it but
+/// without another trim. Every digit is kept, and nothing is rounded.
+///
+/// Every other text is refused by its first fault from the left: `NoValue` where it is empty, `NotNumber` where a digit
+/// has to stand and none does, `NumberTooLong` at the digit that makes the number too long, and `Unit` at the first
+/// character that goes on with no unit. Bounds of sizes are not looked at, so `ExceededBounds` is never answered.
+///
+/// ```text
+/// read_size("1.5 KiB", false, true) is Ok of 1.5 and Unit::KiB
+/// read_size("1.", false, true) is Err of NotNumber('.')
+/// read_size("1 x", false, true) is refused by 'x', where a unit could begin or the text could end
+/// ```
+pub fn read_size(
+    s: &str,
+    ignore_case: bool,
+    prefer_byte: bool,
+) -> Result<(Decimal, Unit), ParseError>
+    ensures { IsNumberReading ignore_case prefer_byte s.now result }
+{
+    let flags = Flags {
+        ignore_case,
+        prefer_byte,
+    };
+    read_number_and_unit(s.trim(), flags)
+}
+
+/// The number and the unit that the whole text states.
+fn read_number_and_unit(text: &str, flags: Flags) -> Result<(Decimal, Unit), ParseError>
+    ensures { size_seen result ≡ size_read (flags_of flags) SizeScan.Beginning (chars text.now) }
+{
+    let mut scan = SizeScan::Beginning;
+    for c in text.chars() {
+        match scan.step(c) {
+            Some(next) => scan = next,
+            None => return Err(scan.fault(flags, c)),
+        }
+    }
+    scan.finish(flags)
+}
+
+#[cfg(test)]
+mod tests;

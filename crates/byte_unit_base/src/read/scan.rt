@@ -1,0 +1,165 @@
+//! The scan of a number and a unit: one step a character.
+
+ghost use Rattle.std.specs.Prelude.{◌≡◌, ◌+◌, ◌*◌, ◌^◌, ◌<◌, ◌≤◌, nat_lt, if◌then◌else◌};
+ghost use Rattle.byte_unit_math.specs.Bounds.{one, places_of_decimal, whole_limit};
+ghost use Rattle.byte_unit_base.specs.Edition.{current};
+ghost use Rattle.byte_unit_base.specs.Fault.{fault_at};
+ghost use Rattle.byte_unit_base.specs.Errors.{size_fault};
+ghost use Rattle.byte_unit_base.specs.UnitScan.{unit_of, flags_of};
+ghost use Rattle.byte_unit_base.specs.SizeScan.{after_number, precise, sized, size_seen};
+
+use crate::errors::{ParseError, UnitParseError, ValueParseError};
+use crate::unit::Unit;
+use crate::unit::scan::{Flags, UnitScan};
+use byte_unit_math::Decimal;
+
+/// How far a size is read.
+#[derive(Clone, Copy)]
+pub enum SizeScan {
+    Beginning,
+    Whole(u128),
+    Point(u128),
+    /// The whole part, the digits after the point as a number, and how many they are.
+    Fraction(u128, u128, u32),
+    Gap(Decimal),
+    Unit(Decimal, UnitScan),
+}
+
+/// Whole parts are below this.
+const WHOLE_LIMIT: u128 = 79_228_162_514_264_337_593_543_950_336;
+
+/// The most digits of a fraction.
+const PLACES: u32 = 28;
+
+impl SizeScan {
+    ghost use Rattle.byte_unit_base.specs.SizeScan.{IsScan, size_step, size_place, size_at_end};
+
+    #[tactic(auto, unfolding(crate::specs::SizeScan::size_step))]
+    pub fn step(&self, c: char) -> Option<SizeScan>
+        requires { IsScan self.now }
+        ensures { result ≡ size_step self.now c }
+    {
+        match *self {
+            SizeScan::Beginning => match c.to_digit(10) {
+                Some(digit) => Some(SizeScan::Whole(u128::from(digit))),
+                None => None,
+            },
+            SizeScan::Whole(whole) => match c.to_digit(10) {
+                Some(digit) => more_whole(whole, digit),
+                None if c == '.' => Some(SizeScan::Point(whole)),
+                None => after_number(whole_decimal(whole), c),
+            },
+            SizeScan::Point(whole) => match c.to_digit(10) {
+                Some(digit) => Some(SizeScan::Fraction(whole, u128::from(digit), 1)),
+                None => None,
+            },
+            SizeScan::Fraction(whole, digits, places) => match c.to_digit(10) {
+                Some(digit) => more_fraction(whole, digits, places, digit),
+                None => after_number(precise_decimal(whole, digits, places), c),
+            },
+            SizeScan::Gap(number) => after_number(number, c),
+            SizeScan::Unit(number, scan) => match scan.step(c) {
+                Some(next) => Some(SizeScan::Unit(number, next)),
+                None => None,
+            },
+        }
+    }
+
+    /// The fault of a character that goes on with no size.
+    pub fn fault(&self, flags: Flags, c: char) -> ParseError
+        requires { IsScan self.now }
+        ensures { size_fault result ≡ fault_at current (flags_of flags) (size_place self.now) c }
+    {
+        match *self {
+            SizeScan::Beginning | SizeScan::Point(_) => {
+                ParseError::Value(ValueParseError::NotNumber(c))
+            }
+            SizeScan::Whole(_) | SizeScan::Fraction(_, _, _) => match c.to_digit(10) {
+                Some(_) => ParseError::Value(ValueParseError::NumberTooLong),
+                None => ParseError::Unit(UnitScan::START.fault(flags, c)),
+            },
+            SizeScan::Gap(_) => ParseError::Unit(UnitScan::START.fault(flags, c)),
+            SizeScan::Unit(_, scan) => ParseError::Unit(scan.fault(flags, c)),
+        }
+    }
+
+    /// The number and the unit of a text that ends here.
+    pub fn finish(&self, flags: Flags) -> Result<(Decimal, Unit), ParseError>
+        requires { IsScan self.now }
+        ensures { size_seen result ≡ size_at_end (flags_of flags) self.now }
+    {
+        match *self {
+            SizeScan::Beginning => Err(ParseError::Value(ValueParseError::NoValue)),
+            SizeScan::Point(_) => Err(ParseError::Value(ValueParseError::NotNumber('.'))),
+            SizeScan::Whole(whole) => sized(whole_decimal(whole), UnitScan::START, flags),
+            SizeScan::Fraction(whole, digits, places) => {
+                sized(
+                    precise_decimal(whole, digits, places),
+                    UnitScan::START,
+                    flags,
+                )
+            }
+            SizeScan::Gap(number) => sized(number, UnitScan::START, flags),
+            SizeScan::Unit(number, scan) => sized(number, scan, flags),
+        }
+    }
+}
+
+fn more_whole(whole: u128, digit: u32) -> Option<SizeScan>
+    requires whole { whole < whole_limit }
+    requires digit { digit < 10 }
+    ensures { result ≡ (if nat_lt (whole * 10 + digit) (whole_limit) then Some (SizeScan.Whole (whole * 10 + digit)) else None) }
+{
+    let more = whole * 10 + u128::from(digit);
+    (more < WHOLE_LIMIT).then_some(SizeScan::Whole(more))
+}
+
+fn more_fraction(whole: u128, digits: u128, places: u32, digit: u32) -> Option<SizeScan>
+    requires digits { digits < 10 ^ places }
+    requires places { places ≤ places_of_decimal }
+    requires digit { digit < 10 }
+    ensures { result ≡ (if nat_lt places places_of_decimal then Some (SizeScan.Fraction whole (digits * 10 + digit) (places + 1)) else None) }
+{
+    if places < PLACES {
+        Some(SizeScan::Fraction(whole, digits * 10 + u128::from(digit), places + 1))
+    } else {
+        None
+    }
+}
+
+fn whole_decimal(whole: u128) -> Decimal
+    requires { whole < whole_limit }
+    ensures { result ≡ whole * one }
+{
+    Decimal::from_u128(whole).unwrap()
+}
+
+fn precise_decimal(whole: u128, digits: u128, places: u32) -> Decimal
+    requires whole { whole < whole_limit }
+    requires digits { digits < 10 ^ places }
+    requires places { places ≤ places_of_decimal }
+    ensures { result ≡ precise whole digits places }
+{
+    Decimal::new(whole, digits * 10u128.pow(PLACES - places)).unwrap()
+}
+
+fn after_number(number: Decimal, c: char) -> Option<SizeScan>
+    ensures { result ≡ after_number number c }
+{
+    if c == ' ' {
+        return Some(SizeScan::Gap(number));
+    }
+    match UnitScan::START.step(c) {
+        Some(scan) => Some(SizeScan::Unit(number, scan)),
+        None => None,
+    }
+}
+
+fn sized(number: Decimal, scan: UnitScan, flags: Flags) -> Result<(Decimal, Unit), ParseError>
+    ensures { size_seen result ≡ sized number (unit_of (flags_of flags) scan) }
+{
+    match scan.unit(flags) {
+        Some(unit) => Ok((number, unit)),
+        None => Err(ParseError::Unit(UnitParseError::STOPS_AT_BI)),
+    }
+}

@@ -1,0 +1,230 @@
+//! The scan of a unit's spelling: one step a character.
+
+ghost use Rattle.std.specs.Prelude.{◌≡◌};
+ghost use Rattle.std.specs.Option.{option_map};
+ghost use Rattle.byte_unit_base.specs.UnitScan.{is_i, flags_of};
+ghost use Rattle.byte_unit_base.specs.Fault.{expected_after_prefix};
+
+use crate::errors::UnitParseError;
+use crate::unit::Unit;
+
+#[derive(Clone, Copy)]
+pub enum Prefix {
+    Kilo,
+    Mega,
+    Giga,
+    Tera,
+    Peta,
+    Exa,
+    Zetta,
+    Yotta,
+}
+
+/// The prefix so far, and whether an `i` came after it.
+#[derive(Clone, Copy)]
+pub enum Multiple {
+    One,
+    Decimal(Prefix),
+    Binary(Prefix),
+}
+
+/// What stands so far of `b`, `bit` or `bits`.
+#[derive(Clone, Copy)]
+pub enum Word {
+    Empty,
+    UpperB,
+    LowerB,
+    Bi,
+    Bit,
+    Bits,
+}
+
+/// How far a unit's spelling is read.
+#[derive(Clone, Copy)]
+pub struct UnitScan {
+    pub multiple: Multiple,
+    pub word: Word,
+}
+
+/// How a text is read.
+#[derive(Clone, Copy)]
+pub struct Flags {
+    pub ignore_case: bool,
+    pub prefer_byte: bool,
+}
+
+impl Prefix {
+    ghost use Rattle.byte_unit_base.specs.UnitScan.{prefix_at, power_of};
+    ghost use Rattle.byte_unit_base.specs.Shape.{shape};
+    ghost use Rattle.byte_unit_base.specs.Units.{shape_of};
+
+    fn from_char(c: char) -> Option<Prefix>
+        ensures { result ≡ prefix_at c }
+    {
+        match c.to_ascii_uppercase() {
+            'K' => Some(Prefix::Kilo),
+            'M' => Some(Prefix::Mega),
+            'G' => Some(Prefix::Giga),
+            'T' => Some(Prefix::Tera),
+            'P' => Some(Prefix::Peta),
+            'E' => Some(Prefix::Exa),
+            'Z' => Some(Prefix::Zetta),
+            'Y' => Some(Prefix::Yotta),
+            _ => None,
+        }
+    }
+
+    /// The unit with this prefix.
+    fn unit(self, binary: bool, bit: bool) -> Unit
+        ensures { shape_of result ≡ shape (power_of self) binary bit }
+    {
+        let [decimal_bit, binary_bit, decimal_byte, binary_byte] = match self {
+            Prefix::Kilo => [Unit::Kbit, Unit::Kibit, Unit::KB, Unit::KiB],
+            Prefix::Mega => [Unit::Mbit, Unit::Mibit, Unit::MB, Unit::MiB],
+            Prefix::Giga => [Unit::Gbit, Unit::Gibit, Unit::GB, Unit::GiB],
+            Prefix::Tera => [Unit::Tbit, Unit::Tibit, Unit::TB, Unit::TiB],
+            Prefix::Peta => [Unit::Pbit, Unit::Pibit, Unit::PB, Unit::PiB],
+            Prefix::Exa => [Unit::Ebit, Unit::Eibit, Unit::EB, Unit::EiB],
+            Prefix::Zetta => [Unit::Zbit, Unit::Zibit, Unit::ZB, Unit::ZiB],
+            Prefix::Yotta => [Unit::Ybit, Unit::Yibit, Unit::YB, Unit::YiB],
+        };
+        match (binary, bit) {
+            (false, true) => decimal_bit,
+            (true, true) => binary_bit,
+            (false, false) => decimal_byte,
+            (true, false) => binary_byte,
+        }
+    }
+}
+
+impl Multiple {
+    ghost use Rattle.byte_unit_base.specs.UnitScan.{multiple_step, multiple_shape};
+    ghost use Rattle.byte_unit_base.specs.Units.{shape_of};
+
+    fn step(self, c: char) -> Option<Multiple>
+        ensures { result ≡ multiple_step self c }
+    {
+        match self {
+            Multiple::One => Prefix::from_char(c).map(Multiple::Decimal),
+            Multiple::Decimal(prefix) => is_i(c).then_some(Multiple::Binary(prefix)),
+            Multiple::Binary(_) => None,
+        }
+    }
+
+    fn unit(self, bit: bool) -> Unit
+        ensures { shape_of result ≡ multiple_shape self bit }
+    {
+        match self {
+            Multiple::One => { if bit { Unit::Bit } else { Unit::B } }
+            Multiple::Decimal(prefix) => prefix.unit(false, bit),
+            Multiple::Binary(prefix) => prefix.unit(true, bit),
+        }
+    }
+}
+
+impl Word {
+    ghost use Rattle.byte_unit_base.specs.UnitScan.{word_step};
+
+    fn step(self, c: char) -> Option<Word>
+        ensures { result ≡ word_step self c }
+    {
+        match self {
+            Word::Empty => match c {
+                'B' => Some(Word::UpperB),
+                'b' => Some(Word::LowerB),
+                _ => None,
+            },
+            Word::UpperB | Word::LowerB => is_i(c).then_some(Word::Bi),
+            Word::Bi => (c.to_ascii_lowercase() == 't').then_some(Word::Bit),
+            Word::Bit => (c.to_ascii_lowercase() == 's').then_some(Word::Bits),
+            Word::Bits => None,
+        }
+    }
+}
+
+fn is_i(c: char) -> bool
+    ensures { result ≡ is_i c }
+{
+    c.to_ascii_lowercase() == 'i'
+}
+
+impl UnitScan {
+    ghost use Rattle.byte_unit_base.specs.UnitScan.{start, unit_step, unit_of, place_of, count_of};
+    ghost use Rattle.byte_unit_base.specs.Units.{shape_of};
+    ghost use Rattle.byte_unit_base.specs.Edition.{current};
+    ghost use Rattle.byte_unit_base.specs.Fault.{unit_fault_at};
+    ghost use Rattle.byte_unit_base.specs.Errors.{unit_fault};
+
+    pub const START: UnitScan = UnitScan {
+        multiple: Multiple::One,
+        word: Word::Empty,
+    };
+
+    #[tactic(auto, unfolding(crate::specs::UnitScan::unit_step))]
+    pub fn step(self, c: char) -> Option<UnitScan>
+        ensures { result ≡ unit_step self c }
+    {
+        if let Word::Empty = self.word {
+            if let Some(multiple) = self.multiple.step(c) {
+                return Some(UnitScan {
+                    multiple,
+                    word: Word::Empty,
+                });
+            }
+        }
+        match self.word.step(c) {
+            Some(word) => Some(UnitScan {
+                multiple: self.multiple,
+                word,
+            }),
+            None => None,
+        }
+    }
+
+    /// The unit, where the spelling may end here.
+    pub fn unit(self, flags: Flags) -> Option<Unit>
+        ensures { option_map shape_of result ≡ unit_of (flags_of flags) self }
+    {
+        let bit = match self.word {
+            Word::Empty => !flags.prefer_byte,
+            Word::UpperB => false,
+            Word::LowerB => !flags.ignore_case,
+            Word::Bi => return None,
+            Word::Bit | Word::Bits => true,
+        };
+        Some(self.multiple.unit(bit))
+    }
+
+    /// The fault of a character that goes on with no spelling.
+    pub fn fault(self, flags: Flags, character: char) -> UnitParseError
+        ensures { unit_fault result ≡ unit_fault_at current (flags_of flags) (place_of self) character }
+    {
+        let (expected_characters, also_expect_no_character) = match self.word {
+            Word::Empty => match self.multiple {
+                Multiple::One => (&BEGINNINGS as &'static [char], true),
+                _ => (after_prefix(flags), true),
+            },
+            Word::UpperB | Word::LowerB => (&['i'] as &'static [char], true),
+            Word::Bi => (&['t'] as &'static [char], false),
+            Word::Bit => (&['s'] as &'static [char], true),
+            Word::Bits => (&[] as &'static [char], true),
+        };
+        UnitParseError {
+            character,
+            expected_characters,
+            also_expect_no_character,
+        }
+    }
+}
+
+static BEGINNINGS: [char; 9] = ['B', 'K', 'M', 'G', 'T', 'P', 'E', 'Z', 'Y'];
+
+fn after_prefix(flags: Flags) -> &'static [char]
+    ensures { result.now ≡ expected_after_prefix (flags_of flags) }
+{
+    match (flags.ignore_case, flags.prefer_byte) {
+        (false, _) => &['B', 'b'],
+        (true, true) => &['B'],
+        (true, false) => &['b'],
+    }
+}

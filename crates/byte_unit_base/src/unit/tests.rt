@@ -1,0 +1,212 @@
+use super::*;
+use crate::errors::tests::is_unit_error;
+use std::alloc::{AllocError, Global};
+use std::process::Abort;
+
+/// What can begin a unit.
+const NINE: [char; 9] = ['B', 'K', 'M', 'G', 'T', 'P', 'E', 'Z', 'Y'];
+
+/// The four units of each prefix: bits and bytes by powers of ten, bits and bytes by powers of two.
+const UNITS: [[Unit; 4]; 8] = [
+    [Unit::Kbit, Unit::KB, Unit::Kibit, Unit::KiB],
+    [Unit::Mbit, Unit::MB, Unit::Mibit, Unit::MiB],
+    [Unit::Gbit, Unit::GB, Unit::Gibit, Unit::GiB],
+    [Unit::Tbit, Unit::TB, Unit::Tibit, Unit::TiB],
+    [Unit::Pbit, Unit::PB, Unit::Pibit, Unit::PiB],
+    [Unit::Ebit, Unit::EB, Unit::Eibit, Unit::EiB],
+    [Unit::Zbit, Unit::ZB, Unit::Zibit, Unit::ZiB],
+    [Unit::Ybit, Unit::YB, Unit::Yibit, Unit::YiB],
+];
+
+fn number<T: Into<u128>>(value: T) -> u128 {
+    value.into()
+}
+
+#[test]
+fn binary_units_as_written_numbers(rt: HostRuntime) {
+    let powers = [
+        (1024, 8192),
+        (1_048_576, 8_388_608),
+        (1_073_741_824, 8_589_934_592),
+        (1_099_511_627_776, 8_796_093_022_208),
+        (1_125_899_906_842_624, 9_007_199_254_740_992),
+        (1_152_921_504_606_846_976, 9_223_372_036_854_775_808),
+        (1_180_591_620_717_411_303_424, 9_444_732_965_739_290_427_392),
+        (
+            1_208_925_819_614_629_174_706_176,
+            9_671_406_556_917_033_397_649_408u128,
+        ),
+    ];
+    for ([_, _, bits, bytes], (bits_in, bits_in_bytes)) in UNITS.iter().zip(powers) {
+        assert_eq!(rt; number(*bits), bits_in);
+        assert_eq!(rt; number(*bytes), bits_in_bytes);
+    }
+}
+
+#[test]
+fn tables_of_units(rt: HostRuntime) -> Result<(), AllocError> {
+    for (unit, bits, name, is_bit, is_binary, powers) in [
+        (Unit::Bit, 1, "b", true, false, (0, 0)),
+        (Unit::B, 8, "B", false, true, (3, 0)),
+        (Unit::Kbit, 1000, "Kb", true, false, (3, 3)),
+        (Unit::Mibit, 1_048_576, "Mib", true, true, (20, 0)),
+        (Unit::GB, 8_000_000_000, "GB", false, false, (12, 9)),
+        (
+            Unit::YiB,
+            9_671_406_556_917_033_397_649_408u128,
+            "YiB",
+            false,
+            true,
+            (83, 0),
+        ),
+    ] {
+        assert_eq!(rt; unit.as_bits_u128(), bits);
+        assert_eq!(rt; unit.as_str(), name);
+        let text = format!(in rt.alloc(); "{unit}")?;
+        assert_eq!(rt; text.as_str(), name);
+        assert_eq!(rt; unit.is_bit(), is_bit);
+        assert_eq!(rt; unit.is_binary_multiples(), is_binary);
+        assert_eq!(rt; unit.powers(), powers);
+    }
+    Ok(())
+}
+
+#[test]
+fn units_read(rt: HostRuntime) {
+    for (text, ignore_case, prefer_byte, want) in [
+        ("Kb", true, true, Unit::KB),
+        ("K", true, false, Unit::Kbit),
+        ("Kb", false, true, Unit::Kbit),
+        ("Kbit", true, true, Unit::Kbit),
+        ("b", true, false, Unit::B),
+        ("", false, false, Unit::Bit),
+        ("", true, true, Unit::B),
+        ("Bit", false, true, Unit::Bit),
+        ("BITS", true, true, Unit::Bit),
+        ("k", false, true, Unit::KB),
+        ("KI", true, false, Unit::Kibit),
+        ("mB", false, false, Unit::MB),
+        ("Mib", false, true, Unit::Mibit),
+        ("Mib", true, true, Unit::MiB),
+        ("Gibits", true, true, Unit::Gibit),
+        ("  YiB  ", false, false, Unit::YiB),
+        ("\tKiB\u{2028}", false, false, Unit::KiB),
+    ] {
+        match Unit::parse_str(text, ignore_case, prefer_byte) {
+            Ok(unit) => assert_eq!(rt; unit, want, "{text}"),
+            Err(_) => panic!(rt; "refused {text}"),
+        }
+    }
+    assert!(rt; matches!("Kb".parse::<Unit>(), Ok(Unit::Kbit)));
+    assert!(rt; matches!("K".parse::<Unit>(), Ok(Unit::KB)));
+}
+
+fn assert_refused(
+    rt: &impl Abort,
+    text: &str,
+    flags: (bool, bool),
+    character: char,
+    expected: &[char],
+    also_no_character: bool,
+) {
+    match Unit::parse_str(text, flags.0, flags.1) {
+        Ok(_) => panic!(rt; "read {text}"),
+        Err(error) => {
+            assert!(rt;
+                is_unit_error(error, character, expected, also_no_character),
+                "{text}"
+            );
+        }
+    }
+}
+
+#[test]
+fn units_refused(rt: HostRuntime) {
+    assert_refused(&rt, "K b", (false, true), ' ', &['B', 'b'], true);
+    assert_refused(&rt, "Kix", (true, false), 'x', &['b'], true);
+    assert_refused(&rt, "Kix", (true, true), 'x', &['B'], true);
+    for flags in [(false, false), (false, true), (true, false), (true, true)] {
+        assert_refused(&rt, "x", flags, 'x', &NINE, true);
+        assert_refused(&rt, "bx", flags, 'x', &['i'], true);
+        assert_refused(&rt, "biX", flags, 'X', &['t'], false);
+        assert_refused(&rt, "bita", flags, 'a', &['s'], true);
+        assert_refused(&rt, "bitsé", flags, 'é', &[], true);
+        assert_refused(&rt, "bi", flags, 'i', &[], true);
+        assert_refused(&rt, "GBI", flags, 'i', &[], true);
+        assert_refused(&rt, "\u{212A}", flags, '\u{212A}', &NINE, true);
+        assert_refused(&rt, "bit\u{17F}", flags, '\u{17F}', &['s'], true);
+        assert_refused(&rt, "\u{1F600}", flags, '\u{1F600}', &NINE, true);
+    }
+}
+
+const LETTERS: [[&str; 2]; 8] = [
+    ["K", "k"],
+    ["M", "m"],
+    ["G", "g"],
+    ["T", "t"],
+    ["P", "p"],
+    ["E", "e"],
+    ["Z", "z"],
+    ["Y", "y"],
+];
+
+/// All that may follow a prefix and its `i`, or stand alone.
+const B_PARTS: [&str; 27] = [
+    "", "B", "b", "bit", "biT", "bIt", "bIT", "Bit", "BiT", "BIt", "BIT", "bits", "bitS", "biTs",
+    "biTS", "bIts", "bItS", "bITs", "bITS", "Bits", "BitS", "BiTs", "BiTS", "BIts", "BItS", "BITs",
+    "BITS",
+];
+
+fn assert_read(rt: &impl Abort, text: &str, ignore_case: bool, prefer_byte: bool, want: Unit) {
+    match Unit::parse_str(text, ignore_case, prefer_byte) {
+        Ok(unit) => assert_eq!(rt; unit, want, "{text}"),
+        Err(_) => panic!(rt; "refused {text}"),
+    }
+}
+
+/// Reads every text that ends in this b-part, and returns how many they are.
+fn read_all_before(
+    rt: &impl Abort,
+    alloc: Global,
+    b_part: &str,
+    ignore_case: bool,
+    prefer_byte: bool,
+) -> Result<u32, AllocError> {
+    let is_byte = match b_part {
+        "" => prefer_byte,
+        "B" => true,
+        "b" => ignore_case,
+        _ => false,
+    };
+    let plain = if is_byte { Unit::B } else { Unit::Bit };
+    assert_read(rt, b_part, ignore_case, prefer_byte, plain);
+    let mut texts = 1u32;
+    for (letters, [bits, bytes, binary_bits, binary_bytes]) in LETTERS.iter().zip(UNITS) {
+        for letter in letters {
+            for (infix, bits, bytes) in [
+                ("", bits, bytes),
+                ("i", binary_bits, binary_bytes),
+                ("I", binary_bits, binary_bytes),
+            ] {
+                let text = format!(in alloc; "{letter}{infix}{b_part}")?;
+                let want = if is_byte { bytes } else { bits };
+                assert_read(rt, text.as_str(), ignore_case, prefer_byte, want);
+                texts = texts.saturating_add(1);
+            }
+        }
+    }
+    Ok(texts)
+}
+
+#[test]
+fn every_spelling(rt: HostRuntime) -> Result<(), AllocError> {
+    let mut texts = 0u32;
+    for (ignore_case, prefer_byte) in [(false, false), (false, true), (true, false), (true, true)] {
+        for b_part in B_PARTS {
+            let read = read_all_before(&rt, rt.alloc(), b_part, ignore_case, prefer_byte)?;
+            texts = texts.saturating_add(read);
+        }
+    }
+    assert_eq!(rt; texts, 5292);
+    Ok(())
+}
