@@ -8,3 +8,5 @@ pub mod SizeSteps
 pub mod SizeLaws
 pub mod SizeReads
 pub mod SizeAnswers
+pub mod Rounding
+pub mod SizeOfText

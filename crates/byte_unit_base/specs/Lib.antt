@@ -9,5 +9,11 @@ pub mod Fault
 pub mod FaultText
 pub mod Errors
 pub mod Readings
+pub mod Kinds
+pub mod LeastOfKind
+pub mod SizeOrNone
+pub mod Accepted
+pub mod SizeReading
+pub mod SizeLaws
 pub mod UnitScan
 pub mod SizeScan

@@ -2,9 +2,12 @@
 #![tactic(auto)]
 
 pub use crate::errors::{ExceededBoundsError, ParseError, UnitParseError, ValueParseError};
+pub use crate::kind::Kind;
 pub use crate::read::read_size;
 pub use crate::unit::Unit;
 
 mod errors;
+mod kind;
 mod read;
+pub mod size;
 mod unit;

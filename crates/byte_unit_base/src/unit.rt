@@ -1,6 +1,7 @@
 //! The units of bits and bytes, and their tables.
 
-ghost use Rattle.std.specs.Prelude.{◌≡◌};
+ghost use Rattle.std.specs.Prelude.{◌≡◌, ◌≤◌};
+ghost use Rattle.byte_unit_math.specs.Bounds.{unit_limit};
 ghost use Rattle.byte_unit_base.specs.Shape.{bits, twos, fives};
 ghost use Rattle.byte_unit_base.specs.Edition.{name, current};
 
@@ -94,7 +95,9 @@ impl Unit {
     /// Unit::KiB.as_bits_u128() == 8192
     /// ```
     pub fn as_bits_u128(self) -> u128
-        ensures { result ≡ bits (shape_of self) }
+        ensures bits { result ≡ bits (shape_of self) }
+        ensures some { 1 ≤ result }
+        ensures small { result ≤ unit_limit }
     {
         match self {
             Unit::Bit => 1,

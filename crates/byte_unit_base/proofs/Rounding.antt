@@ -1,0 +1,67 @@
+-- The least size of a kind, by way of the least number of bits.
+use Rattle.std.proofs.Common.{◌≡◌, ℕ, ◌+◌, ◌-◌, ◌*◌, ◌/◌, ◌%◌, ◌^◌, ◌<◌, ◌≤◌, arith, Option, Some, None, ⊎_elim}
+use Rattle.std.proofs.lemmas.Bool.{cases_lt}
+use Rattle.std.proofs.Math.Nat.{mul-le-mul_right}
+use Rattle.byte_unit_math.specs.Bounds.{one}
+use Rattle.byte_unit_math.specs.Least.{IsLeastSize, Reaches}
+use Rattle.byte_unit_base.specs.Shape.{Shape, bits}
+use Rattle.byte_unit_base.specs.Edition.{current}
+use Rattle.byte_unit_base.specs.declared.kind.Kind.{Kind}
+use Rattle.byte_unit_base.specs.declared.kind.Kind.TheVariants.{Byte, Bit}
+use Rattle.byte_unit_base.specs.Kinds.{bits_in}
+use Rattle.byte_unit_base.specs.LeastOfKind.{IsLeastOf, Covers}
+
+-- there is a least number of bits
+pub least_bits : (N unit : ℕ) → (b : ℕ) × IsLeastSize N unit b
+least_bits N unit =
+    let b = (N * unit + (one - 1)) / one in
+    (b, record { reaches = omega arith; least = λ m r. omega (arith, r) })
+
+-- the kind's least number that holds them
+pub least_holding : (kind : Kind) (N : ℕ) (unit : Shape) (b n : ℕ) → IsLeastSize N (bits unit) b → b ≤ n * bits_in kind → n * bits_in kind < b + bits_in kind → IsLeastOf kind N unit n
+least_holding Byte N unit b n h holds low = record {
+  covers = omega (arith, h.reaches, mul-le-mul_right one holds);
+  least = λ m r. omega (arith, h.least (m * 8) r, low);
+}
+least_holding Bit N unit b n h holds low = record {
+  covers = omega (arith, h.reaches, mul-le-mul_right one holds);
+  least = λ m r. omega (arith, h.least (m * 1) r, low);
+}
+
+-- where the least bits reach the limit, the least number of the kind does
+pub least_above : (kind : Kind) (N : ℕ) (unit : Shape) (limit in_bits n : ℕ) → 1 ≤ limit → in_bits ≡ (limit - 1) * bits_in kind + 1 → ((b : ℕ) → IsLeastSize N (bits unit) b → in_bits ≤ b) → IsLeastOf kind N unit n → limit ≤ n
+least_above Byte N unit limit in_bits n some e none h =
+    let least = least_bits N (bits unit) in
+    let enough = least.1.least (n * 8) h.covers in
+    omega (arith, enough, e, none least.0 least.1, some)
+least_above Bit N unit limit in_bits n some e none h =
+    let least = least_bits N (bits unit) in
+    let enough = least.1.least (n * 1) h.covers in
+    omega (arith, enough, e, none least.0 least.1, some)
+
+pub least_below : (kind : Kind) (limit b n : ℕ) → b < (limit - 1) * bits_in kind + 1 → n * bits_in kind < b + bits_in kind → 1 ≤ limit → n < limit
+least_below Byte limit b n small low some = omega (arith, small, low, some)
+least_below Bit limit b n small low some = omega (arith, small, low, some)
+
+-- a least number is one
+pub least_is_one : (kind : Kind) (N : ℕ) (unit : Shape) (m n : ℕ) → IsLeastOf kind N unit m → IsLeastOf kind N unit n → m ≡ n
+least_is_one kind N unit m n a b =
+    let up = a.least n b.covers in
+    let down = b.least m a.covers in
+    omega (arith, up, down)
+
+-- there is one
+pub least_of : (kind : Kind) (N : ℕ) (unit : Shape) → (n : ℕ) × IsLeastOf kind N unit n
+least_of Byte N unit =
+    let b = least_bits N (bits unit) in
+    let n = (b.0 + 7) / 8 in
+    (n, least_holding Byte N unit b.0 n b.1 (omega arith) (omega arith))
+least_of Bit N unit =
+    let b = least_bits N (bits unit) in
+    (b.0, least_holding Bit N unit b.0 b.0 b.1 (omega arith) (omega arith))
+
+-- what covers more covers less
+pub more_covers_more : (kind : Kind) (unit : Shape) (few many small large : ℕ) → few ≤ many → IsLeastOf kind few unit small → IsLeastOf kind many unit large → small ≤ large
+more_covers_more kind unit few many small large more a b =
+    let covers : Covers kind few unit large = omega (arith, mul-le-mul_right (bits unit) more, b.covers) in
+    a.least large covers

@@ -1,0 +1,71 @@
+-- What the reader of a size answers, by what the reader of its number and unit answers.
+use Rattle.std.proofs.Common.{◌≡◌, ℕ, ◌<◌, ◌≤◌, Bool, List, Option, Some, None, Result, Ok, Err, IfErr, sym, ap, subst, arith, inl, inr, ◌⊎◌, refl}
+use Rattle.byte_unit_base.specs.Shape.{Shape}
+use Rattle.byte_unit_base.specs.Edition.{current}
+use Rattle.byte_unit_base.specs.Units.{shape_of}
+use Rattle.byte_unit_base.specs.Errors.{size_fault}
+use Rattle.byte_unit_base.specs.Fault.{Fault, exceeded}
+use Rattle.byte_unit_base.specs.declared.unit.Unit.{Unit as UnitName}
+use Rattle.byte_unit_base.specs.declared.errors.ParseError.{ParseError}
+use Rattle.byte_unit_base.specs.declared.errors.ParseError.TheVariants.{Value}
+use Rattle.byte_unit_base.specs.declared.errors.ValueParseError.TheVariants.{ExceededBounds}
+use Rattle.byte_unit_base.specs.declared.kind.Kind.{Kind}
+use Rattle.byte_unit_base.specs.Kinds.{flags_for}
+use Rattle.byte_unit_base.specs.LeastOfKind.{IsLeastOf}
+use Rattle.byte_unit_base.specs.SizeOrNone.{IsSizeOrNone}
+use Rattle.byte_unit_base.specs.SizeReading.{IsNumberOf}
+use Rattle.byte_unit_base.specs.Accepted.{IsRead, Accepted, Exceeds, IsRefused}
+use Rattle.byte_unit_base.specs.SizeReading.{IsSizeReading}
+use Rattle.byte_unit_base.proofs.Rounding.{least_is_one}
+
+-- a text that is read has the number and the unit that the reader answers
+of_read : (kind : Kind) (ignore_case : Bool) (bytes : List ℕ) (found : ℕ × UnitName) (number n : ℕ) → IsNumberOf kind ignore_case bytes (Ok found) → IsRead current kind ignore_case bytes number n → (found.0 ≡ number) × IsLeastOf kind found.0 (shape_of found.1) n
+of_read kind ignore_case bytes found number n reading read =
+    let same = reading.reads number read.unit read.is_size in
+    let P : ℕ → Type 0 = λ m. IsLeastOf kind m (shape_of found.1) n in
+    let Q : Shape → Type 0 = λ s. IsLeastOf kind number s n in
+    (same.0, subst P (sym same.0) (subst Q (sym same.1) read.is_least))
+
+-- the answer where the number and the unit give a size
+pub reading_of_size : (kind : Kind) (ignore_case : Bool) (bytes : List ℕ) (found : ℕ × UnitName) (n : ℕ) → IsNumberOf kind ignore_case bytes (Ok found) → IsSizeOrNone current (IsLeastOf kind found.0 (shape_of found.1)) (Some n) → IsSizeReading kind ignore_case bytes (Ok n)
+reading_of_size kind ignore_case bytes found n reading size = record {
+  found = record {
+    number = found.0;
+    is_read = record { unit = shape_of found.1; is_size = reading.found; is_least = size.0 };
+    below = size.1;
+  };
+  reads = λ m a. let other = of_read kind ignore_case bytes found a.number m reading a.is_read in
+      ap (λ k. Ok k) (least_is_one kind found.0 (shape_of found.1) n m size.0 other.1);
+  exceeds = λ number e. let other = of_read kind ignore_case bytes found number e.size reading e.is_read in
+      let same = least_is_one kind found.0 (shape_of found.1) n e.size size.0 other.1 in
+      absurd (omega (arith, same, size.1, e.above));
+  fault = tt;
+}
+
+-- the answer where the size of the number and the unit reaches the bound
+pub reading_of_excess : (kind : Kind) (ignore_case : Bool) (bytes : List ℕ) (found : ℕ × UnitName) → ((n : ℕ) × IsLeastOf kind found.0 (shape_of found.1) n) → IsNumberOf kind ignore_case bytes (Ok found) → IsSizeOrNone current (IsLeastOf kind found.0 (shape_of found.1)) None → IsSizeReading kind ignore_case bytes (Err (Value (ExceededBounds found.0)))
+reading_of_excess kind ignore_case bytes found least reading none = record {
+  found = tt;
+  reads = λ m a. let other = of_read kind ignore_case bytes found a.number m reading a.is_read in
+      absurd (omega (arith, none m other.1, a.below));
+  exceeds = λ number e. let other = of_read kind ignore_case bytes found number e.size reading e.is_read in
+      ap exceeded other.0;
+  fault = inl (
+    found.0,
+    refl,
+    record {
+      size = least.0;
+      is_read = record { unit = shape_of found.1; is_size = reading.found; is_least = least.1 };
+      above = none least.0 least.1;
+    },
+  );
+}
+
+-- the answer where there is no number and unit
+pub reading_of_fault : (kind : Kind) (ignore_case : Bool) (bytes : List ℕ) (error : ParseError) → IsNumberOf kind ignore_case bytes (Err error) → IsSizeReading kind ignore_case bytes (Err error)
+reading_of_fault kind ignore_case bytes error reading = record {
+  found = tt;
+  reads = λ m a. absurd (reading.reads a.number a.is_read.unit a.is_read.is_size);
+  exceeds = λ number e. absurd (reading.reads number e.is_read.unit e.is_read.is_size);
+  fault = inr reading.fault;
+}

@@ -1,0 +1,15 @@
+-- Rounding up to a whole number of bytes or of bits.
+use Rattle.std.specs.Prelude.{ℕ, ◌*◌, ◌≤◌}
+use Rattle.byte_unit_math.specs.Least.{Reaches}
+use Rattle.byte_unit_base.specs.Shape.{Shape, bits}
+use Rattle.byte_unit_base.specs.declared.kind.Kind.{Kind}
+use Rattle.byte_unit_base.specs.Kinds.{bits_in}
+
+-- n bytes or bits aren't below N / 10^28 of the unit; both sides in bits
+abbrev pub Covers : Kind → ℕ → Shape → ℕ → Type 0
+Covers kind N unit n = Reaches N (bits unit) (n * bits_in kind)
+
+-- n is the least such number
+pub record IsLeastOf (kind : Kind) (N : ℕ) (unit : Shape) (n : ℕ) : Type 0 where
+  pub covers : Covers kind N unit n
+  pub least : (m : ℕ) → Covers kind N unit m → n ≤ m

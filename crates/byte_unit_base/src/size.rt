@@ -1,0 +1,174 @@
+//! Sizes of either kind as numbers below their bound: what the size types share.
+
+ghost use Rattle.std.specs.Prelude.{◌≡◌, ℕ, ◌+◌, ◌-◌, ◌*◌, ◌/◌, ◌^◌, ◌<◌, ◌≤◌, SomeIff, IfSome, IfOk, min};
+ghost use Rattle.byte_unit_math.specs.Bounds.{one};
+ghost use Rattle.byte_unit_base.specs.Shape.{bits};
+ghost use Rattle.byte_unit_base.specs.Edition.{current};
+ghost use Rattle.byte_unit_base.specs.Units.{shape_of};
+ghost use Rattle.byte_unit_base.specs.Kinds.{bits_in};
+ghost use Rattle.byte_unit_base.specs.SizeReading.{IsNumberOf, IsSizeReading};
+ghost use Rattle.byte_unit_base.specs.LeastOfKind.{IsLeastOf};
+ghost use Rattle.byte_unit_base.specs.SizeOrNone.{IsSizeOrNone, OfSigned};
+
+use crate::errors::{ParseError, ValueParseError};
+use crate::kind::Kind;
+use crate::read::read_size;
+use crate::unit::Unit;
+use byte_unit_math::{Decimal, least_size};
+
+/// Sizes are below this: 10^27.
+const SIZE_LIMIT: u128 = 1_000_000_000_000_000_000_000_000_000;
+
+/// The number, where it is a size.
+pub fn bounded(size: u128) -> Option<u128>
+    ensures size { SomeIff result (size < current.size_limit) size }
+    ensures small { IfSome result (λ n. n < current.size_limit) }
+{
+    if size < SIZE_LIMIT { Some(size) } else { None }
+}
+
+/// The number, where it is a size; a negative one is none.
+pub fn from_signed(size: i128) -> Option<u128>
+    ensures size { OfSigned (λ n answer. SomeIff answer (n < current.size_limit) n) size result }
+    ensures small { IfSome result (λ n. n < current.size_limit) }
+{
+    bounded(natural(size)?)
+}
+
+/// The number, where it is not negative.
+fn natural(size: i128) -> Option<u128>
+    ensures { OfSigned (λ n answer. answer ≡ Some n) size result }
+{
+    if size < 0 { None } else { Some(size as u128) }
+}
+
+/// The least number of the kind that holds so many bits.
+fn holding(in_bits: u128, kind: Kind) -> u128
+    ensures holds { in_bits ≤ result * bits_in kind }
+    ensures least { result * bits_in kind < in_bits + bits_in kind }
+{
+    match kind {
+        Kind::Byte => in_bits.div_ceil(8),
+        Kind::Bit => in_bits,
+    }
+}
+
+/// So many of the unit, rounded up to a whole number of the kind, where that is a size.
+pub fn with_unit(size: u128, unit: Unit, kind: Kind) -> Option<u128>
+    ensures size { IsSizeOrNone current (IsLeastOf kind (size * one) (shape_of unit)) result }
+    ensures small { IfSome result (λ n. n < current.size_limit) }
+{
+    let in_bits = size.checked_mul(unit.as_bits_u128())?;
+    bounded(holding(in_bits, kind))
+}
+
+/// The same of a signed number; a negative one is none.
+pub fn signed_with_unit(size: i128, unit: Unit, kind: Kind) -> Option<u128>
+    ensures size { OfSigned (λ n answer. IsSizeOrNone current (IsLeastOf kind (n * one) (shape_of unit)) answer) size result }
+    ensures small { IfSome result (λ n. n < current.size_limit) }
+{
+    with_unit(natural(size)?, unit, kind)
+}
+
+/// The least number of bits that no size of the kind holds.
+fn bit_limit(kind: Kind) -> u128
+    ensures { result ≡ (current.size_limit - 1) * bits_in kind + 1 }
+{
+    match kind {
+        Kind::Byte => 8 * SIZE_LIMIT - 7,
+        Kind::Bit => SIZE_LIMIT,
+    }
+}
+
+/// The number times the unit exactly, rounded up to a whole number of the kind, where that is a size.
+pub fn from_decimal(number: Decimal, unit: Unit, kind: Kind) -> Option<u128>
+    ensures size { IsSizeOrNone current (IsLeastOf kind number (shape_of unit)) result }
+    ensures small { IfSome result (λ n. n < current.size_limit) }
+{
+    match least_size(number, unit.as_bits_u128(), bit_limit(kind)) {
+        Some(in_bits) => Some(holding(in_bits, kind)),
+        None => None,
+    }
+}
+
+/// The number and the unit that a text of the kind states. A text of bits is always case sensitive.
+fn read(s: &str, ignore_case: bool, kind: Kind) -> Result<(Decimal, Unit), ParseError>
+    ensures { IsNumberOf kind ignore_case s.now result }
+{
+    match kind {
+        Kind::Byte => read_size(s, ignore_case, true),
+        Kind::Bit => read_size(s, false, false),
+    }
+}
+
+/// The size that the text states, rounded up to a whole number of the kind.
+pub fn parse(s: &str, ignore_case: bool, kind: Kind) -> Result<u128, ParseError>
+    ensures reading { IsSizeReading kind ignore_case s.now result }
+    ensures small { IfOk result (λ n. n < current.size_limit) }
+{
+    match read(s, ignore_case, kind) {
+        Ok(found) => match from_decimal(found.0, found.1, kind) {
+            Some(size) => Ok(size),
+            None => Err(ParseError::Value(ValueParseError::ExceededBounds(found.0))),
+        },
+        Err(error) => Err(error),
+    }
+}
+
+/// The sum, where it is a size.
+pub fn sum(left: u128, right: u128) -> Option<u128>
+    requires left { left < current.size_limit }
+    requires right { right < current.size_limit }
+    ensures sum { SomeIff result (left + right < current.size_limit) (left + right) }
+    ensures small { IfSome result (λ n. n < current.size_limit) }
+{
+    bounded(left + right)
+}
+
+/// The product, where it is a size.
+pub fn product(size: u128, factor: u128) -> Option<u128>
+    ensures product { SomeIff result (size * factor < current.size_limit) (size * factor) }
+    ensures small { IfSome result (λ n. n < current.size_limit) }
+{
+    bounded(size.checked_mul(factor)?)
+}
+
+/// The difference, where it is not negative.
+pub fn difference(size: u128, less: u128) -> Option<u128>
+    requires { size < current.size_limit }
+    ensures difference { SomeIff result (less ≤ size) (size - less) }
+    ensures small { IfSome result (λ n. n < current.size_limit) }
+{
+    size.checked_sub(less)
+}
+
+/// The quotient, rounded down; none where the divisor is zero.
+pub fn quotient(size: u128, divisor: u128) -> Option<u128>
+    requires { size < current.size_limit }
+    ensures quotient { SomeIff result (0 < divisor) (size / divisor) }
+    ensures small { IfSome result (λ n. n < current.size_limit) }
+{
+    size.checked_div(divisor)
+}
+
+/// The number as a `u64`, which is the greatest one for larger numbers.
+pub fn saturated(size: u128) -> u64
+    ensures { result ≡ min size (2 ^ 64 - 1) }
+{
+    if size < 1 << 64 {
+        size as u64
+    } else {
+        u64::MAX
+    }
+}
+
+/// The number as a `u64`, where it fits.
+pub fn fitting(size: u128) -> Option<u64>
+    ensures { SomeIff result (size < 2 ^ 64) size }
+{
+    if size < 1 << 64 {
+        Some(size as u64)
+    } else {
+        None
+    }
+}

@@ -1,0 +1,33 @@
+//! Sizes in bits from decimals.
+
+ghost use Rattle.byte_unit_base.specs.Edition.{current};
+ghost use Rattle.byte_unit_base.specs.Units.{shape_of};
+ghost use Rattle.byte_unit_base.specs.SizeOrNone.{IsSizeOrNone};
+ghost use Rattle.byte_unit_base.specs.Kinds.{own_unit};
+ghost use Rattle.byte_unit_base.specs.LeastOfKind.{IsLeastOf};
+ghost use Rattle.byte_unit_base.specs.declared.kind.Kind.TheVariants.{Bit as InBits};
+
+use super::Bit;
+use byte_unit_base::Unit;
+use byte_unit_math::Decimal;
+use byte_unit_base::{Kind, size};
+
+impl Bit {
+    /// So many bits, rounded up. `None` where that is 10^27 or more.
+    pub fn from_decimal(size: Decimal) -> Option<Bit>
+        ensures { IsSizeOrNone current (IsLeastOf InBits size (own_unit InBits)) result }
+    {
+        Bit::from_decimal_with_unit(size, Unit::Bit)
+    }
+
+    /// So many of the unit: the exact product, rounded up to a whole bit. `None` where that is 10^27 or more.
+    ///
+    /// ```text
+    /// Bit::from_decimal_with_unit(1.5, Unit::KiB)     // 12,288 bits
+    /// ```
+    pub fn from_decimal_with_unit(size: Decimal, unit: Unit) -> Option<Bit>
+        ensures { IsSizeOrNone current (IsLeastOf InBits size (shape_of unit)) result }
+    {
+        Bit::of(size::from_decimal(size, unit, Kind::Bit))
+    }
+}

@@ -1,0 +1,242 @@
+use super::*;
+use byte_unit_base::{ExceededBoundsError, ParseError, ValueParseError};
+use byte_unit_math::Decimal;
+use std::alloc::{AllocError, Global};
+use std::collections::HashSet;
+use std::fmt::Display;
+use std::hash::Hash;
+use std::num::TryFromIntError;
+use std::process::Abort;
+use std::str::FromStr;
+use std::test::Fail;
+
+/// A size below its bound, from a literal.
+fn bits(rt: &impl Abort, size: u128) -> Bit {
+    Bit::from_u128(size).expect(rt, "a size")
+}
+
+/// Nothing here is handed an allocator or the runtime, so nothing here can ask for memory.
+fn read_without_memory(text: &str) -> Option<u128> {
+    match Bit::parse_str(text) {
+        Ok(size) => Some(size.as_u128()),
+        Err(_) => None,
+    }
+}
+
+#[test]
+fn texts_are_read_exactly_and_rounded_up(rt: HostRuntime) {
+    for (text, size) in [
+        ("1KiB", 8192),
+        ("1K", 1000),
+        ("1 B", 8),
+        ("0.1 b", 1),
+        ("123Kib", 125_952),
+        ("124.999999999999999999999999 YB", 999_999_999_999_999_999_999_999_992),
+        ("999999999999999999999999999", 999_999_999_999_999_999_999_999_999),
+        ("12", 12),
+    ] {
+        assert_eq!(rt; read_without_memory(text), Some(size), "{text}");
+    }
+}
+
+#[test]
+fn sizes_out_of_range_are_refused_with_their_number(rt: HostRuntime) {
+    for (text, whole, fraction) in [
+        (
+            "124.9999999999999999999999999 YB",
+            124,
+            9_999_999_999_999_999_999_999_999_000,
+        ),
+        ("125 YB", 125, 0),
+        ("1000000000000000000000000000", 1_000_000_000_000_000_000_000_000_000, 0),
+    ] {
+        match Bit::parse_str(text) {
+            Err(ParseError::Value(ValueParseError::ExceededBounds(number))) => {
+                assert_eq!(rt; number.whole(), whole, "{text}");
+                assert_eq!(rt; number.fraction(), fraction, "{text}");
+            }
+            _ => panic!(rt; "{text}"),
+        }
+    }
+}
+
+#[test]
+fn long_numbers_are_refused(rt: HostRuntime) {
+    for text in [
+        "9.00000000000000000000000000001",
+        "1.00000000000000000000000000000",
+        "79228162514264337593543950336",
+    ] {
+        assert!(rt;
+            matches!(
+                Bit::parse_str(text),
+                Err(ParseError::Value(ValueParseError::NumberTooLong))
+            )
+        );
+    }
+}
+
+#[test]
+fn numbers_of_a_unit_are_rounded_up(rt: HostRuntime) {
+    for (size, unit, wanted) in [
+        (17, Unit::Bit, Some(17)),
+        (3, Unit::B, Some(24)),
+        (124, Unit::YB, Some(992_000_000_000_000_000_000_000_000)),
+        (125, Unit::YB, None),
+        (u128::MAX, Unit::Bit, None),
+        (999, Unit::Ybit, Some(999_000_000_000_000_000_000_000_000)),
+    ] {
+        assert_eq!(rt; Bit::from_u128_with_unit(size, unit).map(Bit::as_u128), wanted);
+    }
+    assert_eq!(rt; Bit::from_u64_with_unit(15, Unit::Kbit), Some(Bit::from_u64(15_000)));
+    assert_eq!(rt; Bit::from_i128_with_unit(15, Unit::Kbit), Some(Bit::from_u64(15_000)));
+    assert_eq!(rt; Bit::from_i64_with_unit(15, Unit::Kbit), Some(Bit::from_u64(15_000)));
+    assert_eq!(rt; Bit::from_i64_with_unit(-1, Unit::Kbit), None);
+}
+
+#[test]
+fn decimals_are_rounded_up(rt: HostRuntime) -> Result<(), Fail> {
+    let nines = Decimal::new(0, 9_999_999_999_999_999_999_999_999_999).ok_or("a decimal")?;
+    let least = Decimal::new(0, 1).ok_or("a decimal")?;
+    let price = Decimal::from_u128_with_scale(5084, 2).ok_or("a decimal")?;
+    assert_eq!(rt;
+        Bit::from_decimal_with_unit(nines, Unit::YiB),
+        Some(bits(&rt, 9_671_406_556_917_033_397_649_408))
+    );
+    assert_eq!(rt; Bit::from_decimal_with_unit(least, Unit::YiB), Some(Bit::BIT));
+    assert_eq!(rt; Bit::from_decimal(price), Some(Bit::from_u64(51)));
+    Ok(())
+}
+
+#[test]
+fn numbers_in_and_out(rt: HostRuntime) {
+    assert_eq!(rt; Bit::from_i64(5), Some(Bit::from_u64(5)));
+    assert_eq!(rt; Bit::from_i128(i128::MIN), None);
+    assert_eq!(rt; Bit::from_u128_unsafe(7).as_u128(), 7);
+    let greatest = bits(&rt, 18_446_744_073_709_551_615);
+    let larger = bits(&rt, 18_446_744_073_709_551_616);
+    assert_eq!(rt; greatest.as_u64_checked(), Some(18_446_744_073_709_551_615));
+    assert_eq!(rt; larger.as_u64(), 18_446_744_073_709_551_615);
+    assert_eq!(rt; larger.as_u64_checked(), None);
+    assert_eq!(rt; Bit::ZETTABYTE.as_u64(), 18_446_744_073_709_551_615);
+    assert_eq!(rt; Bit::ZETTABYTE.as_u64_checked(), None);
+}
+
+#[test]
+fn arithmetic_stays_in_range(rt: HostRuntime) {
+    let size = Bit::from_u64(15_500);
+    assert_eq!(rt; size.add(Bit::from_u64(500)), Some(Bit::from_u64(16_000)));
+    assert_eq!(rt; size.subtract(Bit::from_u64(500)), Some(Bit::from_u64(15_000)));
+    assert_eq!(rt; size.multiply(2), Some(Bit::from_u64(31_000)));
+    assert_eq!(rt; size.divide(5), Some(Bit::from_u64(3100)));
+    assert_eq!(rt; size.divide(0), None);
+    assert_eq!(rt; Bit::MAX.add(Bit::BIT), None);
+    assert_eq!(rt; Bit::MIN.subtract(Bit::BIT), None);
+    assert_eq!(rt; bits(&rt, 1 << 65).multiply(1 << 63), None);
+}
+
+#[test]
+fn comparisons_with_numbers(rt: HostRuntime) {
+    let size = Bit::from_u64(1024);
+    assert!(rt; size.eq_u64(1024));
+    assert!(rt; !size.eq_u128(1025));
+    assert_eq!(rt; size.cmp_u64(1000), Ordering::Greater);
+    assert_eq!(rt; size.cmp_u128(u128::MAX), Ordering::Less);
+}
+
+#[test]
+fn constants_of_the_table(rt: HostRuntime) {
+    for (constant, size) in [
+        (Bit::KILOBIT, 1_000),
+        (Bit::KIBIBIT, 1_024),
+        (Bit::KILOBYTE, 8_000),
+        (Bit::KIBIBYTE, 8_192),
+        (Bit::YOTTABYTE, 8_000_000_000_000_000_000_000_000),
+        (Bit::YOBIBIT, 1_208_925_819_614_629_174_706_176),
+        (Bit::YOBIBYTE, 9_671_406_556_917_033_397_649_408),
+    ] {
+        assert_eq!(rt; constant.as_u128(), size);
+    }
+    assert_eq!(rt; crate::laws::bit_constant(Unit::GiB), Some(Bit::GIBIBYTE));
+    assert_eq!(rt; crate::laws::bit_bounds(), (Bit::MIN, Bit::MAX));
+}
+
+/// Each conversion through its bound alone.
+fn made<N, S: From<N>>(number: N) -> S {
+    S::from(number)
+}
+
+fn tried<N, S: TryFrom<N>>(number: N) -> Result<S, S::Error> {
+    S::try_from(number)
+}
+
+fn parsed<S: FromStr>(text: &str) -> Result<S, S::Err> {
+    S::from_str(text)
+}
+
+fn shown<S: Display>(alloc: Global, size: &S) -> Result<String, AllocError> {
+    size.to_string(alloc)
+}
+
+fn first<S: Default>() -> S {
+    S::default()
+}
+
+fn greater<S: Ord + Copy>(left: S, right: S) -> S {
+    left.max(right)
+}
+
+fn are_distinct<S: Hash + Eq + Drop>(alloc: Global, left: S, right: S) -> Result<bool, AllocError> {
+    let mut seen = HashSet::new(alloc);
+    seen.insert(left)?;
+    Ok(seen.insert(right)?)
+}
+
+#[test]
+fn numbers_become_sizes(rt: HostRuntime) {
+    let five = Bit::from_u64(5);
+    assert_eq!(rt; made::<u8, Bit>(5), five);
+    assert_eq!(rt; made::<u16, Bit>(5), five);
+    assert_eq!(rt; made::<u32, Bit>(5), five);
+    assert_eq!(rt; made::<u64, Bit>(5), five);
+    assert_eq!(rt; made::<usize, Bit>(5), five);
+    assert_eq!(rt; tried::<i8, Bit>(5), Ok(five));
+    assert_eq!(rt; tried::<i16, Bit>(5), Ok(five));
+    assert_eq!(rt; tried::<i32, Bit>(5), Ok(five));
+    assert_eq!(rt; tried::<isize, Bit>(5), Ok(five));
+    assert_eq!(rt; tried::<i128, Bit>(5), Ok(five));
+    assert_eq!(rt; tried::<i64, Bit>(-1), Err(ExceededBoundsError));
+    assert_eq!(rt;
+        tried::<u128, Bit>(1_000_000_000_000_000_000_000_000_000),
+        Err(ExceededBoundsError)
+    );
+}
+
+fn refuses<S: TryFrom<Bit, Error = TryFromIntError> + Drop>(size: Bit) -> bool {
+    S::try_from(size).is_err()
+}
+
+#[test]
+fn sizes_become_numbers(rt: HostRuntime) {
+    assert_eq!(rt; made::<Bit, u128>(Bit::MAX), 999_999_999_999_999_999_999_999_999);
+    assert_eq!(rt; made::<Bit, u64>(Bit::MAX), u64::MAX);
+    assert!(rt; refuses::<u8>(Bit::from_u64(300)));
+    assert!(rt; !refuses::<u16>(Bit::from_u64(300)));
+    assert!(rt; !refuses::<u32>(Bit::from_u64(4_294_967_295)));
+    assert!(rt; refuses::<u32>(Bit::from_u64(4_294_967_296)));
+    assert!(rt; refuses::<usize>(Bit::MAX));
+}
+
+#[test]
+fn traits_of_std(rt: HostRuntime) -> Result<(), Fail> {
+    assert_eq!(rt; shown(rt.alloc(), &Bit::from_u64(1_555_000))?.as_str(), "1555000");
+    assert_eq!(rt; first::<Bit>(), Bit::MIN);
+    assert_eq!(rt; greater(Bit::KILOBIT, Bit::KIBIBIT), Bit::KIBIBIT);
+    assert!(rt; are_distinct(rt.alloc(), Bit::KILOBIT, Bit::KIBIBIT)?);
+    assert!(rt; !are_distinct(rt.alloc(), Bit::KILOBIT, Bit::from_u64(1000))?);
+    match parsed::<Bit>("10 B") {
+        Ok(size) => assert_eq!(rt; size, Bit::from_u64(80)),
+        Err(_) => panic!(rt; "a size"),
+    }
+    Ok(())
+}

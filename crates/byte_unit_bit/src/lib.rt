@@ -1,0 +1,7 @@
+//! Sizes in bits: [`Bit`], a whole number of bits below 10^27.
+#![tactic(auto)]
+
+mod bit;
+pub mod laws;
+
+pub use bit::Bit;

@@ -1,0 +1,233 @@
+//! `Byte`, a size in bytes: what makes one, what it gives back, and its arithmetic.
+
+ghost use Rattle.std.specs.Prelude.{◌≡◌, ◌+◌, ◌-◌, ◌*◌, ◌/◌, ◌^◌, ◌<◌, ◌≤◌, ◌↔◌, IsTrue, SomeIff, min};
+ghost use Rattle.std.specs.Option.{ForSome};
+ghost use Rattle.std.specs.Ordering.{nat_cmp};
+ghost use Rattle.byte_unit_math.specs.Bounds.{one};
+ghost use Rattle.byte_unit_base.specs.Edition.{current};
+ghost use Rattle.byte_unit_base.specs.Units.{shape_of};
+ghost use Rattle.byte_unit_base.specs.LeastOfKind.{IsLeastOf};
+ghost use Rattle.byte_unit_base.specs.SizeOrNone.{IsSizeOrNone, OfSigned};
+ghost use Rattle.byte_unit_base.specs.declared.kind.Kind.TheVariants.{Byte as InBytes};
+
+use byte_unit_base::Unit;
+use byte_unit_base::{Kind, size};
+use std::cmp::Ordering;
+use std::marker::Model;
+
+mod built_in_traits;
+mod constants;
+mod decimal;
+mod parse;
+#[cfg(test)]
+mod tests;
+
+/// A size in bytes: a whole number below 10^27. A contract sees it as that number.
+///
+/// ```text
+/// let limit = Byte::parse_str("1.5 GiB", false)?;
+/// let used = Byte::from_u64_with_unit(900, Unit::MB)?;
+/// limit.subtract(used)        // Some(710612736 bytes)
+/// ```
+#[derive(Debug, Clone, Copy, PartialEq, Eq, PartialOrd, Ord, Hash)]
+pub struct Byte {
+    size: u128,
+}
+
+impl Model for Byte {
+    ghost use Rattle.std.specs.Prelude.{ℕ, ◌<◌};
+    ghost use Rattle.byte_unit_base.specs.Edition.{current};
+
+    ghost Value = { ℕ };
+
+    ghost view = { λ b. b.size };
+
+    ghost invariant = { λ b. b.size < current.size_limit };
+
+    ghost inverse = { λ n. record { size = n } };
+}
+
+/// What makes a size in bytes.
+impl Byte {
+    /// The size of a number that is one.
+    fn of(size: Option<u128>) -> Option<Byte>
+        requires { ForSome size (λ n. n < current.size_limit) }
+        ensures { result ≡ size }
+    {
+        match size {
+            Some(size) => Some(Byte { size }),
+            None => None,
+        }
+    }
+
+    /// So many bytes. `None` from 10^27 on.
+    ///
+    /// ```text
+    /// Byte::from_u128(15_000_000)     // 15 MB
+    /// ```
+    pub fn from_u128(size: u128) -> Option<Byte>
+        ensures { SomeIff result (size < current.size_limit) size }
+    {
+        Byte::of(size::bounded(size))
+    }
+
+    /// So many bytes. The caller owes a size below 10^27.
+    pub fn from_u128_unsafe(size: u128) -> Byte
+        requires { size < current.size_limit }
+        ensures { result ≡ size }
+    {
+        Byte { size }
+    }
+
+    /// So many bytes.
+    pub fn from_u64(size: u64) -> Byte
+        ensures { result ≡ size }
+    {
+        Byte {
+            size: u128::from(size),
+        }
+    }
+
+    /// So many bytes. `None` where the number is negative, and from 10^27 on.
+    pub fn from_i128(size: i128) -> Option<Byte>
+        ensures { OfSigned (λ n answer. SomeIff answer (n < current.size_limit) n) size result }
+    {
+        Byte::of(size::from_signed(size))
+    }
+
+    /// So many bytes. `None` where the number is negative.
+    pub fn from_i64(size: i64) -> Option<Byte>
+        ensures { OfSigned (λ n answer. SomeIff answer (n < current.size_limit) n) size result }
+    {
+        Byte::from_i128(i128::from(size))
+    }
+}
+
+/// What makes a size in bytes from a number of a unit.
+impl Byte {
+    /// So many of the unit, rounded up to a whole byte. `None` where that is 10^27 or more.
+    ///
+    /// ```text
+    /// Byte::from_u128_with_unit(15, Unit::MB)      // 15,000,000 bytes
+    /// Byte::from_u128_with_unit(17, Unit::Bit)     // 3 bytes
+    /// ```
+    pub fn from_u128_with_unit(size: u128, unit: Unit) -> Option<Byte>
+        ensures { IsSizeOrNone current (IsLeastOf InBytes (size * one) (shape_of unit)) result }
+    {
+        Byte::of(size::with_unit(size, unit, Kind::Byte))
+    }
+
+    /// So many of the unit, rounded up to a whole byte. `None` where that is 10^27 or more.
+    pub fn from_u64_with_unit(size: u64, unit: Unit) -> Option<Byte>
+        ensures { IsSizeOrNone current (IsLeastOf InBytes (size * one) (shape_of unit)) result }
+    {
+        Byte::from_u128_with_unit(u128::from(size), unit)
+    }
+
+    /// So many of the unit, rounded up to a whole byte. `None` where the number is negative, and where the size is
+    /// 10^27 or more.
+    pub fn from_i128_with_unit(size: i128, unit: Unit) -> Option<Byte>
+        ensures { OfSigned (λ n answer. IsSizeOrNone current (IsLeastOf InBytes (n * one) (shape_of unit)) answer) size result }
+    {
+        Byte::of(size::signed_with_unit(size, unit, Kind::Byte))
+    }
+
+    /// So many of the unit, rounded up to a whole byte. `None` where the number is negative, and where the size is
+    /// 10^27 or more.
+    pub fn from_i64_with_unit(size: i64, unit: Unit) -> Option<Byte>
+        ensures { OfSigned (λ n answer. IsSizeOrNone current (IsLeastOf InBytes (n * one) (shape_of unit)) answer) size result }
+    {
+        Byte::from_i128_with_unit(i128::from(size), unit)
+    }
+}
+
+/// What a size gives back.
+impl Byte {
+    /// The number of bytes, below 10^27.
+    pub fn as_u128(self) -> u128
+        ensures number { result ≡ self }
+        ensures small { result < current.size_limit }
+    {
+        self.size
+    }
+
+    /// The number of bytes, or 2^64 - 1 where it is larger.
+    pub fn as_u64(self) -> u64
+        ensures { result ≡ min self (2 ^ 64 - 1) }
+    {
+        size::saturated(self.size)
+    }
+
+    /// The number of bytes. `None` where it is larger than 2^64 - 1.
+    pub fn as_u64_checked(self) -> Option<u64>
+        ensures { SomeIff result (self < 2 ^ 64) self }
+    {
+        size::fitting(self.size)
+    }
+}
+
+/// Comparison with numbers of bytes.
+impl Byte {
+    /// Whether it is so many bytes.
+    pub fn eq_u64(self, other: u64) -> bool
+        ensures { IsTrue result ↔ (self ≡ other) }
+    {
+        self.size == u128::from(other)
+    }
+
+    /// Whether it is so many bytes.
+    pub fn eq_u128(self, other: u128) -> bool
+        ensures { IsTrue result ↔ (self ≡ other) }
+    {
+        self.size == other
+    }
+
+    /// How it compares with so many bytes.
+    pub fn cmp_u64(self, other: u64) -> Ordering
+        ensures { result ≡ nat_cmp self other }
+    {
+        self.size.cmp(&u128::from(other))
+    }
+
+    /// How it compares with so many bytes.
+    pub fn cmp_u128(self, other: u128) -> Ordering
+        ensures { result ≡ nat_cmp self other }
+    {
+        self.size.cmp(&other)
+    }
+}
+
+/// Arithmetic. No call overflows, wraps or panics.
+impl Byte {
+    /// The sum. `None` from 10^27 on.
+    ///
+    /// ```text
+    /// Byte::from_u64(15_500).add(Byte::from_u64(500))     // 16,000 bytes
+    /// ```
+    pub fn add(self, rhs: Byte) -> Option<Byte>
+        ensures { SomeIff result (self + rhs < current.size_limit) (self + rhs) }
+    {
+        Byte::of(size::sum(self.size, rhs.size))
+    }
+
+    /// The difference. `None` where it would be negative.
+    pub fn subtract(self, rhs: Byte) -> Option<Byte>
+        ensures { SomeIff result (rhs ≤ self) (self - rhs) }
+    {
+        Byte::of(size::difference(self.size, rhs.size))
+    }
+
+    /// The product. `None` from 10^27 on.
+    pub fn multiply(self, rhs: usize) -> Option<Byte>
+        ensures { SomeIff result (self * rhs < current.size_limit) (self * rhs) }
+    {
+        Byte::of(size::product(self.size, rhs as u128))
+    }
+
+    /// The quotient, rounded down. `None` where `rhs` is zero.
+    pub fn divide(self, rhs: usize) -> Option<Byte>
+        ensures { SomeIff result (0 < rhs) (self / rhs) }
+    {
+        Byte::of(size::quotient(self.size, rhs as u128))
+    }
+}

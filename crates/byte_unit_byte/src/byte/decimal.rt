@@ -1,0 +1,33 @@
+//! Sizes in bytes from decimals.
+
+ghost use Rattle.byte_unit_base.specs.Edition.{current};
+ghost use Rattle.byte_unit_base.specs.Units.{shape_of};
+ghost use Rattle.byte_unit_base.specs.SizeOrNone.{IsSizeOrNone};
+ghost use Rattle.byte_unit_base.specs.Kinds.{own_unit};
+ghost use Rattle.byte_unit_base.specs.LeastOfKind.{IsLeastOf};
+ghost use Rattle.byte_unit_base.specs.declared.kind.Kind.TheVariants.{Byte as InBytes};
+
+use super::Byte;
+use byte_unit_base::Unit;
+use byte_unit_math::Decimal;
+use byte_unit_base::{Kind, size};
+
+impl Byte {
+    /// So many bytes, rounded up. `None` where that is 10^27 or more.
+    pub fn from_decimal(size: Decimal) -> Option<Byte>
+        ensures { IsSizeOrNone current (IsLeastOf InBytes size (own_unit InBytes)) result }
+    {
+        Byte::from_decimal_with_unit(size, Unit::B)
+    }
+
+    /// So many of the unit: the exact product, rounded up to a whole byte. `None` where that is 10^27 or more.
+    ///
+    /// ```text
+    /// Byte::from_decimal_with_unit(1.5, Unit::KiB)     // 1536 bytes
+    /// ```
+    pub fn from_decimal_with_unit(size: Decimal, unit: Unit) -> Option<Byte>
+        ensures { IsSizeOrNone current (IsLeastOf InBytes size (shape_of unit)) result }
+    {
+        Byte::of(size::from_decimal(size, unit, Kind::Byte))
+    }
+}

@@ -1,0 +1,248 @@
+use super::*;
+use byte_unit_base::{ExceededBoundsError, ParseError, ValueParseError};
+use byte_unit_math::Decimal;
+use std::alloc::{AllocError, Global};
+use std::collections::HashSet;
+use std::fmt::Display;
+use std::hash::Hash;
+use std::num::TryFromIntError;
+use std::process::Abort;
+use std::str::FromStr;
+use std::test::Fail;
+
+/// A size below its bound, from a literal.
+fn bytes(rt: &impl Abort, size: u128) -> Byte {
+    Byte::from_u128(size).expect(rt, "a size")
+}
+
+/// Nothing here is handed an allocator or the runtime, so nothing here can ask for memory.
+fn read_without_memory(text: &str, ignore_case: bool) -> Option<u128> {
+    match Byte::parse_str(text, ignore_case) {
+        Ok(size) => Some(size.as_u128()),
+        Err(_) => None,
+    }
+}
+
+#[test]
+fn texts_are_read_exactly_and_rounded_up(rt: HostRuntime) {
+    for (text, ignore_case, size) in [
+        ("50.84 MB", true, 50_840_000),
+        ("9.0000000000000000000000000001", true, 10),
+        ("999999999999999999999999999", false, 999_999_999_999_999_999_999_999_999),
+        ("0001", false, 1),
+        ("9 b", false, 2),
+        ("9 b", true, 9),
+        ("12 bits", true, 2),
+        ("1.5 KiB", false, 1536),
+        ("1.5 KiB", true, 1536),
+        ("1kb", false, 125),
+        ("1 K", false, 1000),
+        ("1zb", false, 125_000_000_000_000_000_000),
+        ("\u{3000}1KB\u{a0}", false, 1000),
+        ("\u{b}\u{c}1KB\u{85}\u{2028}\u{2029}", false, 1000),
+    ] {
+        assert_eq!(rt; read_without_memory(text, ignore_case), Some(size), "{text}");
+    }
+}
+
+#[test]
+fn sizes_out_of_range_are_refused_with_their_number(rt: HostRuntime) {
+    let nines = 999_999_999_999_999_999_999_999_999;
+    for (text, whole, fraction) in [
+        ("999999999999999999999999999.0000000000000000000000000001", nines, 1),
+        ("1000000000000000000000000000", nines + 1, 0),
+        ("79228162514264337593543950335", (1 << 96) - 1, 0),
+        ("1000 YB", 1000, 0),
+    ] {
+        match Byte::parse_str(text, false) {
+            Err(ParseError::Value(ValueParseError::ExceededBounds(number))) => {
+                assert_eq!(rt; number.whole(), whole, "{text}");
+                assert_eq!(rt; number.fraction(), fraction, "{text}");
+            }
+            _ => panic!(rt; "{text}"),
+        }
+    }
+}
+
+#[test]
+fn long_numbers_are_refused(rt: HostRuntime) {
+    for text in [
+        "9.00000000000000000000000000001",
+        "1.00000000000000000000000000000",
+        "79228162514264337593543950336",
+    ] {
+        assert!(rt;
+            matches!(
+                Byte::parse_str(text, false),
+                Err(ParseError::Value(ValueParseError::NumberTooLong))
+            )
+        );
+    }
+}
+
+#[test]
+fn numbers_of_a_unit_are_rounded_up(rt: HostRuntime) {
+    for (size, unit, wanted) in [
+        (17, Unit::Bit, Some(3)),
+        (7_999_999_999_999_999_999_999_999_992, Unit::Bit, Some(Byte::MAX.as_u128())),
+        (7_999_999_999_999_999_999_999_999_993, Unit::Bit, None),
+        (u128::MAX, Unit::B, None),
+        (999, Unit::YB, Some(999_000_000_000_000_000_000_000_000)),
+        (1000, Unit::YB, None),
+        (827, Unit::YiB, Some(999_781_652_821_298_327_482_007_552)),
+        (828, Unit::YiB, None),
+    ] {
+        assert_eq!(rt; Byte::from_u128_with_unit(size, unit).map(Byte::as_u128), wanted);
+    }
+    assert_eq!(rt; Byte::from_u64_with_unit(15, Unit::KB), Some(Byte::from_u64(15_000)));
+    assert_eq!(rt; Byte::from_i128_with_unit(15, Unit::KB), Some(Byte::from_u64(15_000)));
+    assert_eq!(rt; Byte::from_i64_with_unit(15, Unit::KB), Some(Byte::from_u64(15_000)));
+    assert_eq!(rt; Byte::from_i64_with_unit(-1, Unit::KB), None);
+}
+
+#[test]
+fn decimals_are_rounded_up(rt: HostRuntime) -> Result<(), Fail> {
+    let nines = Decimal::new(0, 9_999_999_999_999_999_999_999_999_999).ok_or("a decimal")?;
+    let least = Decimal::new(0, 1).ok_or("a decimal")?;
+    let price = Decimal::from_u128_with_scale(5084, 2).ok_or("a decimal")?;
+    assert_eq!(rt;
+        Byte::from_decimal_with_unit(nines, Unit::YiB),
+        Some(bytes(&rt, 1_208_925_819_614_629_174_706_176))
+    );
+    assert_eq!(rt; Byte::from_decimal_with_unit(least, Unit::YiB), Some(Byte::BYTE));
+    assert_eq!(rt; Byte::from_decimal(price), Some(Byte::from_u64(51)));
+    Ok(())
+}
+
+#[test]
+fn numbers_in_and_out(rt: HostRuntime) {
+    assert_eq!(rt; Byte::from_i64(5), Some(Byte::from_u64(5)));
+    assert_eq!(rt; Byte::from_i128(i128::MIN), None);
+    assert_eq!(rt; Byte::from_u128_unsafe(7).as_u128(), 7);
+    let greatest = bytes(&rt, 18_446_744_073_709_551_615);
+    let larger = bytes(&rt, 18_446_744_073_709_551_616);
+    assert_eq!(rt; greatest.as_u64_checked(), Some(18_446_744_073_709_551_615));
+    assert_eq!(rt; larger.as_u64(), 18_446_744_073_709_551_615);
+    assert_eq!(rt; larger.as_u64_checked(), None);
+    assert_eq!(rt; Byte::ZETTABIT.as_u64(), 18_446_744_073_709_551_615);
+    assert_eq!(rt; Byte::ZETTABIT.as_u64_checked(), None);
+}
+
+#[test]
+fn arithmetic_stays_in_range(rt: HostRuntime) {
+    let size = Byte::from_u64(15_500);
+    assert_eq!(rt; size.add(Byte::from_u64(500)), Some(Byte::from_u64(16_000)));
+    assert_eq!(rt; size.subtract(Byte::from_u64(500)), Some(Byte::from_u64(15_000)));
+    assert_eq!(rt; size.multiply(2), Some(Byte::from_u64(31_000)));
+    assert_eq!(rt; size.divide(5), Some(Byte::from_u64(3100)));
+    assert_eq!(rt; size.divide(0), None);
+    assert_eq!(rt; Byte::MAX.add(Byte::BYTE), None);
+    assert_eq!(rt; Byte::MIN.subtract(Byte::BYTE), None);
+    assert_eq!(rt; bytes(&rt, 1 << 65).multiply(1 << 63), None);
+}
+
+#[test]
+fn comparisons_with_numbers(rt: HostRuntime) {
+    let size = Byte::from_u64(1024);
+    assert!(rt; size.eq_u64(1024));
+    assert!(rt; !size.eq_u128(1025));
+    assert_eq!(rt; size.cmp_u64(1000), Ordering::Greater);
+    assert_eq!(rt; size.cmp_u128(u128::MAX), Ordering::Less);
+}
+
+#[test]
+fn constants_of_the_table(rt: HostRuntime) {
+    for (constant, size) in [
+        (Byte::KILOBYTE, 1_000),
+        (Byte::KIBIBYTE, 1_024),
+        (Byte::KILOBIT, 125),
+        (Byte::KIBIBIT, 128),
+        (Byte::YOTTABIT, 125_000_000_000_000_000_000_000),
+        (Byte::YOBIBIT, 151_115_727_451_828_646_838_272),
+        (Byte::YOBIBYTE, 1_208_925_819_614_629_174_706_176),
+    ] {
+        assert_eq!(rt; constant.as_u128(), size);
+    }
+    assert_eq!(rt; crate::laws::byte_constant(Unit::GiB), Some(Byte::GIBIBYTE));
+    assert_eq!(rt; crate::laws::byte_bounds(), (Byte::MIN, Byte::MAX));
+}
+
+/// Each conversion through its bound alone.
+fn made<N, S: From<N>>(number: N) -> S {
+    S::from(number)
+}
+
+fn tried<N, S: TryFrom<N>>(number: N) -> Result<S, S::Error> {
+    S::try_from(number)
+}
+
+fn parsed<S: FromStr>(text: &str) -> Result<S, S::Err> {
+    S::from_str(text)
+}
+
+fn shown<S: Display>(alloc: Global, size: &S) -> Result<String, AllocError> {
+    size.to_string(alloc)
+}
+
+fn first<S: Default>() -> S {
+    S::default()
+}
+
+fn greater<S: Ord + Copy>(left: S, right: S) -> S {
+    left.max(right)
+}
+
+fn are_distinct<S: Hash + Eq + Drop>(alloc: Global, left: S, right: S) -> Result<bool, AllocError> {
+    let mut seen = HashSet::new(alloc);
+    seen.insert(left)?;
+    Ok(seen.insert(right)?)
+}
+
+#[test]
+fn numbers_become_sizes(rt: HostRuntime) {
+    let five = Byte::from_u64(5);
+    assert_eq!(rt; made::<u8, Byte>(5), five);
+    assert_eq!(rt; made::<u16, Byte>(5), five);
+    assert_eq!(rt; made::<u32, Byte>(5), five);
+    assert_eq!(rt; made::<u64, Byte>(5), five);
+    assert_eq!(rt; made::<usize, Byte>(5), five);
+    assert_eq!(rt; tried::<i8, Byte>(5), Ok(five));
+    assert_eq!(rt; tried::<i16, Byte>(5), Ok(five));
+    assert_eq!(rt; tried::<i32, Byte>(5), Ok(five));
+    assert_eq!(rt; tried::<isize, Byte>(5), Ok(five));
+    assert_eq!(rt; tried::<i128, Byte>(5), Ok(five));
+    assert_eq!(rt; tried::<i64, Byte>(-1), Err(ExceededBoundsError));
+    assert_eq!(rt;
+        tried::<u128, Byte>(1_000_000_000_000_000_000_000_000_000),
+        Err(ExceededBoundsError)
+    );
+}
+
+fn refuses<S: TryFrom<Byte, Error = TryFromIntError> + Drop>(size: Byte) -> bool {
+    S::try_from(size).is_err()
+}
+
+#[test]
+fn sizes_become_numbers(rt: HostRuntime) {
+    assert_eq!(rt; made::<Byte, u128>(Byte::MAX), 999_999_999_999_999_999_999_999_999);
+    assert_eq!(rt; made::<Byte, u64>(Byte::MAX), u64::MAX);
+    assert!(rt; refuses::<u8>(Byte::from_u64(300)));
+    assert!(rt; !refuses::<u16>(Byte::from_u64(300)));
+    assert!(rt; !refuses::<u32>(Byte::from_u64(4_294_967_295)));
+    assert!(rt; refuses::<u32>(Byte::from_u64(4_294_967_296)));
+    assert!(rt; refuses::<usize>(Byte::MAX));
+}
+
+#[test]
+fn traits_of_std(rt: HostRuntime) -> Result<(), Fail> {
+    assert_eq!(rt; shown(rt.alloc(), &Byte::from_u64(1_555_000))?.as_str(), "1555000");
+    assert_eq!(rt; first::<Byte>(), Byte::MIN);
+    assert_eq!(rt; greater(Byte::KILOBYTE, Byte::KIBIBYTE), Byte::KIBIBYTE);
+    assert!(rt; are_distinct(rt.alloc(), Byte::KILOBYTE, Byte::KIBIBYTE)?);
+    assert!(rt; !are_distinct(rt.alloc(), Byte::KILOBYTE, Byte::from_u64(1000))?);
+    match parsed::<Byte>("10 b") {
+        Ok(size) => assert_eq!(rt; size, Byte::from_u64(2)),
+        Err(_) => panic!(rt; "case sensitive"),
+    }
+    Ok(())
+}

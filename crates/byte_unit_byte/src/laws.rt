@@ -1,0 +1,62 @@
+//! What the constants of `Byte` are.
+
+ghost use Rattle.std.specs.Prelude.{◌≡◌, ◌*◌, ◌+◌, MatchOption};
+ghost use Rattle.byte_unit_base.specs.Shape.{bits};
+ghost use Rattle.byte_unit_base.specs.Edition.{current};
+ghost use Rattle.byte_unit_base.specs.Units.{shape_of};
+ghost use Rattle.byte_unit_base.specs.Kinds.{bits_in};
+ghost use Rattle.byte_unit_base.specs.declared.kind.Kind.TheVariants.{Byte as InBytes};
+
+use crate::Byte;
+use byte_unit_base::Unit;
+
+/// The constant of `Byte` that is named after the unit: it has the unit's bits. None is named after `Bit`, which is
+/// less than a byte.
+pub fn byte_constant(unit: Unit) -> Option<Byte>
+    ensures { MatchOption result (unit ≡ Unit.Bit) (λ size. size * bits_in InBytes ≡ bits (shape_of unit)) }
+{
+    match unit {
+        Unit::Bit => None,
+        Unit::B => Some(Byte::BYTE),
+        Unit::Kbit => Some(Byte::KILOBIT),
+        Unit::Kibit => Some(Byte::KIBIBIT),
+        Unit::KB => Some(Byte::KILOBYTE),
+        Unit::KiB => Some(Byte::KIBIBYTE),
+        Unit::Mbit => Some(Byte::MEGABIT),
+        Unit::Mibit => Some(Byte::MEBIBIT),
+        Unit::MB => Some(Byte::MEGABYTE),
+        Unit::MiB => Some(Byte::MEBIBYTE),
+        Unit::Gbit => Some(Byte::GIGABIT),
+        Unit::Gibit => Some(Byte::GIBIBIT),
+        Unit::GB => Some(Byte::GIGABYTE),
+        Unit::GiB => Some(Byte::GIBIBYTE),
+        Unit::Tbit => Some(Byte::TERABIT),
+        Unit::Tibit => Some(Byte::TEBIBIT),
+        Unit::TB => Some(Byte::TERABYTE),
+        Unit::TiB => Some(Byte::TEBIBYTE),
+        Unit::Pbit => Some(Byte::PETABIT),
+        Unit::Pibit => Some(Byte::PEBIBIT),
+        Unit::PB => Some(Byte::PETABYTE),
+        Unit::PiB => Some(Byte::PEBIBYTE),
+        Unit::Ebit => Some(Byte::EXABIT),
+        Unit::Eibit => Some(Byte::EXBIBIT),
+        Unit::EB => Some(Byte::EXABYTE),
+        Unit::EiB => Some(Byte::EXBIBYTE),
+        Unit::Zbit => Some(Byte::ZETTABIT),
+        Unit::Zibit => Some(Byte::ZEBIBIT),
+        Unit::ZB => Some(Byte::ZETTABYTE),
+        Unit::ZiB => Some(Byte::ZEBIBYTE),
+        Unit::Ybit => Some(Byte::YOTTABIT),
+        Unit::Yibit => Some(Byte::YOBIBIT),
+        Unit::YB => Some(Byte::YOTTABYTE),
+        Unit::YiB => Some(Byte::YOBIBYTE),
+    }
+}
+
+/// The least and the greatest size: `Byte::MIN` and `Byte::MAX`.
+pub fn byte_bounds() -> (Byte, Byte)
+    ensures least { result.0 ≡ 0 }
+    ensures greatest { result.1 + 1 ≡ current.size_limit }
+{
+    (Byte::MIN, Byte::MAX)
+}

@@ -1,0 +1,7 @@
+//! Sizes in bytes: [`Byte`], a whole number of bytes below 10^27.
+#![tactic(auto)]
+
+mod byte;
+pub mod laws;
+
+pub use byte::Byte;
