@@ -4,8 +4,7 @@ ghost use Rattle.byte_unit_base.specs.SizeReading.{IsSizeReading};
 ghost use Rattle.byte_unit_base.specs.declared.kind.Kind.TheVariants.{Byte as InBytes};
 
 use super::Byte;
-use byte_unit_base::ParseError;
-use byte_unit_base::{Kind, size};
+use byte_unit_base::{Kind, ParseError, size};
 
 impl Byte {
     /// The size that the text states, rounded up to a whole byte.
