@@ -10,8 +10,7 @@ ghost use Rattle.byte_unit_base.specs.LeastOfKind.{IsLeastOf};
 ghost use Rattle.byte_unit_base.specs.SizeOrNone.{IsSizeOrNone, OfSigned};
 ghost use Rattle.byte_unit_base.specs.declared.kind.Kind.TheVariants.{Bit as InBits};
 
-use byte_unit_base::Unit;
-use byte_unit_base::{Kind, size};
+use byte_unit_base::{Kind, Unit, size};
 use std::cmp::Ordering;
 use std::marker::Model;
 

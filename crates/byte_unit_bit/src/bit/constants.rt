@@ -11,68 +11,116 @@ impl Bit {
     /// 1 Mbit is 10^6 bits.
     pub const MEGABIT: Bit = Bit { size: 1_000_000 };
     /// 1 Gbit is 10^9 bits.
-    pub const GIGABIT: Bit = Bit { size: 1_000_000_000 };
+    pub const GIGABIT: Bit = Bit {
+        size: 1_000_000_000,
+    };
     /// 1 Tbit is 10^12 bits.
-    pub const TERABIT: Bit = Bit { size: 1_000_000_000_000 };
+    pub const TERABIT: Bit = Bit {
+        size: 1_000_000_000_000,
+    };
     /// 1 Pbit is 10^15 bits.
-    pub const PETABIT: Bit = Bit { size: 1_000_000_000_000_000 };
+    pub const PETABIT: Bit = Bit {
+        size: 1_000_000_000_000_000,
+    };
     /// 1 Ebit is 10^18 bits.
-    pub const EXABIT: Bit = Bit { size: 1_000_000_000_000_000_000 };
+    pub const EXABIT: Bit = Bit {
+        size: 1_000_000_000_000_000_000,
+    };
     /// 1 Zbit is 10^21 bits.
-    pub const ZETTABIT: Bit = Bit { size: 1_000_000_000_000_000_000_000 };
+    pub const ZETTABIT: Bit = Bit {
+        size: 1_000_000_000_000_000_000_000,
+    };
     /// 1 Ybit is 10^24 bits.
-    pub const YOTTABIT: Bit = Bit { size: 1_000_000_000_000_000_000_000_000 };
+    pub const YOTTABIT: Bit = Bit {
+        size: 1_000_000_000_000_000_000_000_000,
+    };
 
     /// 1 Kibit is 2^10 bits.
     pub const KIBIBIT: Bit = Bit { size: 1_024 };
     /// 1 Mibit is 2^20 bits.
     pub const MEBIBIT: Bit = Bit { size: 1_048_576 };
     /// 1 Gibit is 2^30 bits.
-    pub const GIBIBIT: Bit = Bit { size: 1_073_741_824 };
+    pub const GIBIBIT: Bit = Bit {
+        size: 1_073_741_824,
+    };
     /// 1 Tibit is 2^40 bits.
-    pub const TEBIBIT: Bit = Bit { size: 1_099_511_627_776 };
+    pub const TEBIBIT: Bit = Bit {
+        size: 1_099_511_627_776,
+    };
     /// 1 Pibit is 2^50 bits.
-    pub const PEBIBIT: Bit = Bit { size: 1_125_899_906_842_624 };
+    pub const PEBIBIT: Bit = Bit {
+        size: 1_125_899_906_842_624,
+    };
     /// 1 Eibit is 2^60 bits.
-    pub const EXBIBIT: Bit = Bit { size: 1_152_921_504_606_846_976 };
+    pub const EXBIBIT: Bit = Bit {
+        size: 1_152_921_504_606_846_976,
+    };
     /// 1 Zibit is 2^70 bits.
-    pub const ZEBIBIT: Bit = Bit { size: 1_180_591_620_717_411_303_424 };
+    pub const ZEBIBIT: Bit = Bit {
+        size: 1_180_591_620_717_411_303_424,
+    };
     /// 1 Yibit is 2^80 bits.
-    pub const YOBIBIT: Bit = Bit { size: 1_208_925_819_614_629_174_706_176 };
+    pub const YOBIBIT: Bit = Bit {
+        size: 1_208_925_819_614_629_174_706_176,
+    };
 
     /// 1 KB is 8 * 10^3 bits.
     pub const KILOBYTE: Bit = Bit { size: 8_000 };
     /// 1 MB is 8 * 10^6 bits.
     pub const MEGABYTE: Bit = Bit { size: 8_000_000 };
     /// 1 GB is 8 * 10^9 bits.
-    pub const GIGABYTE: Bit = Bit { size: 8_000_000_000 };
+    pub const GIGABYTE: Bit = Bit {
+        size: 8_000_000_000,
+    };
     /// 1 TB is 8 * 10^12 bits.
-    pub const TERABYTE: Bit = Bit { size: 8_000_000_000_000 };
+    pub const TERABYTE: Bit = Bit {
+        size: 8_000_000_000_000,
+    };
     /// 1 PB is 8 * 10^15 bits.
-    pub const PETABYTE: Bit = Bit { size: 8_000_000_000_000_000 };
+    pub const PETABYTE: Bit = Bit {
+        size: 8_000_000_000_000_000,
+    };
     /// 1 EB is 8 * 10^18 bits.
-    pub const EXABYTE: Bit = Bit { size: 8_000_000_000_000_000_000 };
+    pub const EXABYTE: Bit = Bit {
+        size: 8_000_000_000_000_000_000,
+    };
     /// 1 ZB is 8 * 10^21 bits.
-    pub const ZETTABYTE: Bit = Bit { size: 8_000_000_000_000_000_000_000 };
+    pub const ZETTABYTE: Bit = Bit {
+        size: 8_000_000_000_000_000_000_000,
+    };
     /// 1 YB is 8 * 10^24 bits.
-    pub const YOTTABYTE: Bit = Bit { size: 8_000_000_000_000_000_000_000_000 };
+    pub const YOTTABYTE: Bit = Bit {
+        size: 8_000_000_000_000_000_000_000_000,
+    };
 
     /// 1 KiB is 2^13 bits.
     pub const KIBIBYTE: Bit = Bit { size: 8_192 };
     /// 1 MiB is 2^23 bits.
     pub const MEBIBYTE: Bit = Bit { size: 8_388_608 };
     /// 1 GiB is 2^33 bits.
-    pub const GIBIBYTE: Bit = Bit { size: 8_589_934_592 };
+    pub const GIBIBYTE: Bit = Bit {
+        size: 8_589_934_592,
+    };
     /// 1 TiB is 2^43 bits.
-    pub const TEBIBYTE: Bit = Bit { size: 8_796_093_022_208 };
+    pub const TEBIBYTE: Bit = Bit {
+        size: 8_796_093_022_208,
+    };
     /// 1 PiB is 2^53 bits.
-    pub const PEBIBYTE: Bit = Bit { size: 9_007_199_254_740_992 };
+    pub const PEBIBYTE: Bit = Bit {
+        size: 9_007_199_254_740_992,
+    };
     /// 1 EiB is 2^63 bits.
-    pub const EXBIBYTE: Bit = Bit { size: 9_223_372_036_854_775_808 };
+    pub const EXBIBYTE: Bit = Bit {
+        size: 9_223_372_036_854_775_808,
+    };
     /// 1 ZiB is 2^73 bits.
-    pub const ZEBIBYTE: Bit = Bit { size: 9_444_732_965_739_290_427_392 };
+    pub const ZEBIBYTE: Bit = Bit {
+        size: 9_444_732_965_739_290_427_392,
+    };
     /// 1 YiB is 2^83 bits.
-    pub const YOBIBYTE: Bit = Bit { size: 9_671_406_556_917_033_397_649_408 };
+    pub const YOBIBYTE: Bit = Bit {
+        size: 9_671_406_556_917_033_397_649_408,
+    };
 
     /// No bit: the least size.
     pub const MIN: Bit = Bit { size: 0 };

@@ -8,9 +8,8 @@ ghost use Rattle.byte_unit_base.specs.LeastOfKind.{IsLeastOf};
 ghost use Rattle.byte_unit_base.specs.declared.kind.Kind.TheVariants.{Bit as InBits};
 
 use super::Bit;
-use byte_unit_base::Unit;
+use byte_unit_base::{Kind, Unit, size};
 use byte_unit_math::Decimal;
-use byte_unit_base::{Kind, size};
 
 impl Bit {
     /// So many bits, rounded up. `None` where that is 10^27 or more.

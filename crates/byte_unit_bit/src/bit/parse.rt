@@ -5,8 +5,7 @@ ghost use Rattle.byte_unit_base.specs.SizeReading.{IsSizeReading};
 ghost use Rattle.byte_unit_base.specs.declared.kind.Kind.TheVariants.{Bit as InBits};
 
 use super::Bit;
-use byte_unit_base::ParseError;
-use byte_unit_base::{Kind, size};
+use byte_unit_base::{Kind, ParseError, size};
 
 impl Bit {
     /// The size that the text states, rounded up to a whole bit.

@@ -31,8 +31,14 @@ fn texts_are_read_exactly_and_rounded_up(rt: HostRuntime) {
         ("1 B", 8),
         ("0.1 b", 1),
         ("123Kib", 125_952),
-        ("124.999999999999999999999999 YB", 999_999_999_999_999_999_999_999_992),
-        ("999999999999999999999999999", 999_999_999_999_999_999_999_999_999),
+        (
+            "124.999999999999999999999999 YB",
+            999_999_999_999_999_999_999_999_992,
+        ),
+        (
+            "999999999999999999999999999",
+            999_999_999_999_999_999_999_999_999,
+        ),
         ("12", 12),
     ] {
         assert_eq!(rt; read_without_memory(text), Some(size), "{text}");
@@ -42,9 +48,15 @@ fn texts_are_read_exactly_and_rounded_up(rt: HostRuntime) {
 #[test]
 fn sizes_out_of_range_are_refused_with_their_number(rt: HostRuntime) -> Result<(), Fail> {
     for (text, number) in [
-        ("124.9999999999999999999999999 YB", "124.9999999999999999999999999"),
+        (
+            "124.9999999999999999999999999 YB",
+            "124.9999999999999999999999999",
+        ),
         ("125 YB", "125"),
-        ("1000000000000000000000000000", "1000000000000000000000000000"),
+        (
+            "1000000000000000000000000000",
+            "1000000000000000000000000000",
+        ),
     ] {
         let wanted = format!(in rt.alloc(); "the value {number} exceeds the valid range")?;
         match Bit::parse_str(text) {
@@ -81,11 +93,23 @@ fn numbers_of_a_unit_are_rounded_up(rt: HostRuntime) {
         (u128::MAX, Unit::Bit, None),
         (999, Unit::Ybit, Some(999_000_000_000_000_000_000_000_000)),
     ] {
-        assert_eq!(rt; Bit::from_u128_with_unit(size, unit).map(Bit::as_u128), wanted);
+        assert_eq!(rt;
+            Bit::from_u128_with_unit(size, unit).map(Bit::as_u128),
+            wanted
+        );
     }
-    assert_eq!(rt; Bit::from_u64_with_unit(15, Unit::Kbit), Some(Bit::from_u64(15_000)));
-    assert_eq!(rt; Bit::from_i128_with_unit(15, Unit::Kbit), Some(Bit::from_u64(15_000)));
-    assert_eq!(rt; Bit::from_i64_with_unit(15, Unit::Kbit), Some(Bit::from_u64(15_000)));
+    assert_eq!(rt;
+        Bit::from_u64_with_unit(15, Unit::Kbit),
+        Some(Bit::from_u64(15_000))
+    );
+    assert_eq!(rt;
+        Bit::from_i128_with_unit(15, Unit::Kbit),
+        Some(Bit::from_u64(15_000))
+    );
+    assert_eq!(rt;
+        Bit::from_i64_with_unit(15, Unit::Kbit),
+        Some(Bit::from_u64(15_000))
+    );
     assert_eq!(rt; Bit::from_i64_with_unit(-1, Unit::Kbit), None);
 }
 
@@ -98,7 +122,10 @@ fn decimals_are_rounded_up(rt: HostRuntime) -> Result<(), Fail> {
         Bit::from_decimal_with_unit(nines, Unit::YiB),
         Some(bits(&rt, 9_671_406_556_917_033_397_649_408))
     );
-    assert_eq!(rt; Bit::from_decimal_with_unit(least, Unit::YiB), Some(Bit::BIT));
+    assert_eq!(rt;
+        Bit::from_decimal_with_unit(least, Unit::YiB),
+        Some(Bit::BIT)
+    );
     assert_eq!(rt; Bit::from_decimal(price), Some(Bit::from_u64(51)));
     Ok(())
 }
@@ -121,7 +148,10 @@ fn numbers_in_and_out(rt: HostRuntime) {
 fn arithmetic_stays_in_range(rt: HostRuntime) {
     let size = Bit::from_u64(15_500);
     assert_eq!(rt; size.add(Bit::from_u64(500)), Some(Bit::from_u64(16_000)));
-    assert_eq!(rt; size.subtract(Bit::from_u64(500)), Some(Bit::from_u64(15_000)));
+    assert_eq!(rt;
+        size.subtract(Bit::from_u64(500)),
+        Some(Bit::from_u64(15_000))
+    );
     assert_eq!(rt; size.multiply(2), Some(Bit::from_u64(31_000)));
     assert_eq!(rt; size.divide(5), Some(Bit::from_u64(3100)));
     assert_eq!(rt; size.divide(0), None);
@@ -213,7 +243,10 @@ fn refuses<S: TryFrom<Bit, Error = TryFromIntError> + Drop>(size: Bit) -> bool {
 
 #[test]
 fn sizes_become_numbers(rt: HostRuntime) {
-    assert_eq!(rt; made::<Bit, u128>(Bit::MAX), 999_999_999_999_999_999_999_999_999);
+    assert_eq!(rt;
+        made::<Bit, u128>(Bit::MAX),
+        999_999_999_999_999_999_999_999_999
+    );
     assert_eq!(rt; made::<Bit, u64>(Bit::MAX), u64::MAX);
     assert!(rt; refuses::<u8>(Bit::from_u64(300)));
     assert!(rt; !refuses::<u16>(Bit::from_u64(300)));
@@ -224,7 +257,10 @@ fn sizes_become_numbers(rt: HostRuntime) {
 
 #[test]
 fn traits_of_std(rt: HostRuntime) -> Result<(), Fail> {
-    assert_eq!(rt; shown(rt.alloc(), &Bit::from_u64(1_555_000))?.as_str(), "1555000");
+    assert_eq!(rt;
+        shown(rt.alloc(), &Bit::from_u64(1_555_000))?.as_str(),
+        "1555000"
+    );
     assert_eq!(rt; first::<Bit>(), Bit::MIN);
     assert_eq!(rt; greater(Bit::KILOBIT, Bit::KIBIBIT), Bit::KIBIBIT);
     assert!(rt; are_distinct(rt.alloc(), Bit::KILOBIT, Bit::KIBIBIT)?);
