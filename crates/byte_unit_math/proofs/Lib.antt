@@ -4,3 +4,8 @@ pub mod Rounding
 pub mod Division
 pub mod Digits
 pub mod Shown
+pub mod Expanding
+pub mod Nearest
+pub mod Rounded
+pub mod Powers
+pub mod Texts

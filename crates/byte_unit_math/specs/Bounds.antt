@@ -21,10 +21,10 @@ size_limit = 10 ^ 27
 abbrev pub bits_limit : ℕ
 bits_limit = 8 * size_limit
 
--- no unit has more bits
-abbrev pub unit_limit : ℕ
-unit_limit = 2 ^ 83
-
--- no size in a unit has more digits after the point
+-- the most digits after the point that a size in a unit takes: the greatest unit is two to this power
 abbrev pub expansion_places : ℕ
 expansion_places = 83
+
+-- no unit has more bits
+abbrev pub unit_limit : ℕ
+unit_limit = 2 ^ expansion_places

@@ -6,3 +6,6 @@ pub mod Steps
 pub mod Exact
 pub mod Finite
 pub mod Numeral
+pub mod Nearest
+pub mod Powers
+pub mod Stored

@@ -1,12 +1,16 @@
-//! Numbers of sizes: exact decimals, products rounded up, and exact quotients with counted steps.
+//! Numbers of sizes: exact decimals, products rounded up, exact quotients with counted steps, and decimals digit by digit.
 #![tactic(auto)]
 
 pub use crate::decimal::Decimal;
+pub use crate::expansion::{Expansion, Ties};
+pub use crate::laws::{exact_by_powers, places_by_powers};
 pub use crate::least::least_size;
 pub use crate::quotient::exact_quotient;
 pub use crate::steps::Steps;
 
 mod decimal;
+mod expansion;
+mod laws;
 mod least;
 mod quotient;
 mod steps;

@@ -1,0 +1,91 @@
+-- How many places a fraction over powers of two and five takes.
+use Rattle.std.proofs.Common.{◌≡◌, ◌≢◌, ◌+◌, ◌-◌, ◌*◌, ◌^◌, ◌%◌, ◌<◌, ◌≤◌, ⊎_elim, ℕ, zero, suc, max, arith, ap, sym, ◌∙◌}
+use Rattle.std.proofs.lemmas.Bool.{cases_lt}
+use Rattle.std.proofs.lemmas.Nat.{pow-add, mul-pow}
+use Rattle.std.proofs.Math.Nat.{pow-succ', eq_of_mul-eq-mul_right, one-le-pow}
+use Rattle.byte_unit_math.specs.Exact.{IsExactAt}
+use Rattle.byte_unit_math.specs.Powers.{IsTwoFive, IsLeastPlaces, ExactByPowers, PlacesByPowers}
+
+odd_times : (u n : ℕ) → u % 2 ≢ 0 → (u * 5 ^ n) % 2 ≢ 0
+odd_times u zero h = λ k. h (omega (arith, k))
+odd_times u (suc n) h = λ k. odd_times u n h (let e : u * 5 ^ suc n ≡ 5 * (u * 5 ^ n) = rw (pow-succ' 5 n) (omega arith) in omega (arith, k, e))
+
+five_times : (u n : ℕ) → u % 5 ≢ 0 → (u * 2 ^ n) % 5 ≢ 0
+five_times u zero h = λ k. h (omega (arith, k))
+five_times u (suc n) h = λ k. five_times u n h (let e : u * 2 ^ suc n ≡ 2 * (u * 2 ^ n) = rw (pow-succ' 2 n) (omega arith) in omega (arith, k, e))
+
+next_power : (base m a : ℕ) → m < a → base ^ a ≡ base ^ m * (base * base ^ (a - m - 1))
+next_power base m a l =
+    let total : a ≡ m + suc (a - m - 1) = omega (arith, l) in
+    ap (λ n. base ^ n) total ∙ (pow-add base m (suc (a - m - 1)) ∙ ap (λ n. base ^ m * n) (pow-succ' base (a - m - 1)))
+
+-- the number of tens joined to both
+joined : (num twos fives p : ℕ) (h : IsTwoFive num twos fives) → num * 10 ^ p ≡ h.left * (2 ^ (twos + p) * 5 ^ (fives + p))
+joined num twos fives p h =
+    let ten : 10 ^ p ≡ 2 ^ p * 5 ^ p = mul-pow 2 5 p in
+    let a = ap (λ n. n * 10 ^ p) h.product in
+    let b = ap (λ n. h.left * (2 ^ twos * 5 ^ fives) * n) ten in
+    rw (pow-add 2 twos p, pow-add 5 fives p) (omega (arith, a, b))
+
+enough : (num a b twos fives p : ℕ) → IsTwoFive num twos fives → a ≤ twos + p → b ≤ fives + p → IsExactAt num (2 ^ a * 5 ^ b) p
+enough num a b twos fives p h k l =
+    let x : 2 ^ (twos + p) ≡ 2 ^ (twos + p - a) * 2 ^ a = ap (λ n. 2 ^ n) (let e : twos + p ≡ (twos + p - a) + a = omega (arith, k) in e) ∙ pow-add 2 (twos + p - a) a in
+    let y : 5 ^ (fives + p) ≡ 5 ^ (fives + p - b) * 5 ^ b = ap (λ n. 5 ^ n) (let e : fives + p ≡ (fives + p - b) + b = omega (arith, l) in e) ∙ pow-add 5 (fives + p - b) b in
+    let c = ap (λ n. h.left * (n * 5 ^ (fives + p))) x in
+    let d = ap (λ n. h.left * (2 ^ (twos + p - a) * 2 ^ a * n)) y in
+    (h.left * (2 ^ (twos + p - a) * 5 ^ (fives + p - b)), joined num twos fives p h ∙ (c ∙ (d ∙ omega arith)))
+
+-- of u * T * F = q * (T * (2 * K)) * B no T is left
+cancel_two : (u T F q K B : ℕ) → 0 < T → u * (T * F) ≡ q * (T * (2 * K) * B) → (u * F) % 2 ≡ 0
+cancel_two u T F q K B some e =
+    let same : u * F ≡ 2 * (q * K * B) = eq_of_mul-eq-mul_right T some (u * F) (2 * (q * K * B)) (omega (arith, e)) in
+    omega (arith, same)
+
+cancel_five : (u T F q K B : ℕ) → 0 < F → u * (T * F) ≡ q * (B * (F * (5 * K))) → (u * T) % 5 ≡ 0
+cancel_five u T F q K B some e =
+    let same : u * T ≡ 5 * (q * K * B) = eq_of_mul-eq-mul_right F some (u * T) (5 * (q * K * B)) (omega (arith, e)) in
+    omega (arith, same)
+
+needs_twos : (num a b twos fives p : ℕ) → IsTwoFive num twos fives → IsExactAt num (2 ^ a * 5 ^ b) p → a ≤ twos + p
+needs_twos num a b twos fives p h e = ⊎_elim
+    (λ l. let T = 2 ^ (twos + p) in
+    let K = 2 ^ (a - (twos + p) - 1) in
+    let f = sym (joined num twos fives p h) ∙ (e.1 ∙ ap (λ n. e.0 * (n * 5 ^ b)) (next_power 2 (twos + p) a l)) in
+    absurd (odd_times h.left (fives + p) h.odd (cancel_two h.left T (5 ^ (fives + p)) e.0 K (5 ^ b) (omega (arith, one-le-pow (twos + p) 2 (omega arith))) f)))
+    (λ k. k) (cases_lt (twos + p) a)
+
+needs_fives : (num a b twos fives p : ℕ) → IsTwoFive num twos fives → IsExactAt num (2 ^ a * 5 ^ b) p → b ≤ fives + p
+needs_fives num a b twos fives p h e = ⊎_elim
+    (λ l. let F = 5 ^ (fives + p) in
+    let K = 5 ^ (b - (fives + p) - 1) in
+    let f = sym (joined num twos fives p h) ∙ (e.1 ∙ ap (λ n. e.0 * (2 ^ a * n)) (next_power 5 (fives + p) b l)) in
+    absurd (five_times h.left (twos + p) h.no_five (cancel_five h.left (2 ^ (twos + p)) F e.0 K (2 ^ a) (omega (arith, one-le-pow (fives + p) 5 (omega arith))) f)))
+    (λ k. k) (cases_lt (fives + p) b)
+
+pub exact_by_powers : (num a b : ℕ) → ExactByPowers num a b
+exact_by_powers num a b twos fives p h = (λ e. (needs_twos num a b twos fives p h e, needs_fives num a b twos fives p h e), λ k. enough num a b twos fives p h k.0 k.1)
+
+pub places_by_powers : (num a b : ℕ) → PlacesByPowers num a b
+places_by_powers num a b twos fives h = record {
+  exact = enough num a b twos fives (max (a - twos) (b - fives)) h (omega arith) (omega arith);
+  least = λ p e. let x = needs_twos num a b twos fives p h e in let y = needs_fives num a b twos fives p h e in omega (arith, x, y);
+}
+
+pub no_places : (den : ℕ) → IsLeastPlaces 0 den 0
+no_places den = record { exact = (0, omega arith); least = λ p e. omega arith }
+
+-- a number is one product of powers of two and five
+product_counts : (a b : ℕ) → IsTwoFive (2 ^ a * 5 ^ b) a b
+product_counts a b = record { left = 1; product = omega arith; odd = λ h. absurd (omega (arith, h)); no_five = λ h. absurd (omega (arith, h)) }
+
+pub one_product : (a b c d : ℕ) → 2 ^ a * 5 ^ b ≡ 2 ^ c * 5 ^ d → (a ≡ c) × (b ≡ d)
+one_product a b c d e =
+    let h = product_counts a b in
+    let k = product_counts c d in
+    let there : IsExactAt (2 ^ a * 5 ^ b) (2 ^ c * 5 ^ d) 0 = (1, omega (arith, e)) in
+    let back : IsExactAt (2 ^ c * 5 ^ d) (2 ^ a * 5 ^ b) 0 = (1, omega (arith, e)) in
+    let w = needs_twos (2 ^ a * 5 ^ b) c d a b 0 h there in
+    let x = needs_fives (2 ^ a * 5 ^ b) c d a b 0 h there in
+    let y = needs_twos (2 ^ c * 5 ^ d) a b c d 0 k back in
+    let z = needs_fives (2 ^ c * 5 ^ d) a b c d 0 k back in
+    (omega (arith, w, y), omega (arith, x, z))

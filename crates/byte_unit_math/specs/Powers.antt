@@ -1,0 +1,23 @@
+-- How often two and five divide a number, and the places that follow from it.
+use Rattle.std.specs.Prelude.{◌≡◌, ◌≢◌, ◌↔◌, ℕ, ◌+◌, ◌-◌, ◌*◌, ◌%◌, ◌^◌, ◌≤◌, max}
+use Rattle.byte_unit_math.specs.Exact.{IsExactAt}
+
+-- two divides n so often, five so often, and neither divides what is left: so n is not zero
+pub record IsTwoFive (n twos fives : ℕ) : Type 0 where
+  pub left : ℕ
+  pub product : n ≡ left * (2 ^ twos * 5 ^ fives)
+  pub odd : left % 2 ≢ 0
+  pub no_five : left % 5 ≢ 0
+
+-- p is the least number of places at which num / den is exact
+pub record IsLeastPlaces (num den p : ℕ) : Type 0 where
+  pub exact : IsExactAt num den p
+  pub least : (other : ℕ) → IsExactAt num den other → p ≤ other
+
+-- exact at p places where neither exponent is greater than what num * 10^p has of it
+abbrev pub ExactByPowers : ℕ → ℕ → ℕ → Type 0
+ExactByPowers num a b = (twos fives p : ℕ) → IsTwoFive num twos fives → IsExactAt num (2 ^ a * 5 ^ b) p ↔ ((a ≤ twos + p) × (b ≤ fives + p))
+
+-- the places are what the number lacks of twos or of fives, whichever is more
+abbrev pub PlacesByPowers : ℕ → ℕ → ℕ → Type 0
+PlacesByPowers num a b = (twos fives : ℕ) → IsTwoFive num twos fives → IsLeastPlaces num (2 ^ a * 5 ^ b) (max (a - twos) (b - fives))

@@ -1,0 +1,264 @@
+//! Finite decimals, digit by digit: a whole part and at most 83 digits after the point.
+ghost use Rattle.std.specs.Prelude.{◌≡◌, ◌≢◌, ◌+◌, ◌-◌, ◌*◌, ◌%◌, ◌^◌, ◌≤◌, ◌<◌, ◌++◌, ℕ, length, take, drop, replicate, slice_index};
+ghost use Rattle.std.specs.List.{All};
+ghost use Rattle.std.specs.Bool.{MatchBool};
+ghost use Rattle.byte_unit_math.specs.Bounds.{bits_limit, expansion_places, one, unit_limit, whole_limit};
+ghost use Rattle.byte_unit_math.specs.Exact.{IsExactAt};
+ghost use Rattle.byte_unit_math.specs.Finite.{IsExpansion, scaled, first};
+ghost use Rattle.byte_unit_math.specs.Nearest.{IsNearest};
+
+use crate::decimal::{Decimal, ONE};
+use std::marker::Model;
+
+/// The most digits after the point.
+const PLACES: usize = 83;
+
+/// Which of two equally near decimals is taken.
+#[derive(Debug, Clone, Copy, PartialEq, Eq)]
+pub enum Ties {
+    /// The one whose last digit is even.
+    Even,
+    /// The greater one.
+    Up,
+}
+
+/// A number with at most 83 digits after the point, the last of which is not 0.
+///
+/// A contract sees it as its whole part and its digits.
+#[derive(Debug, Clone, Copy)]
+pub struct Expansion {
+    whole: u128,
+    digits: [u8; PLACES],
+    places: u32,
+}
+
+impl Model for Expansion {
+    ghost use Rattle.byte_unit_math.specs.Finite.{Finite, finite_code};
+    ghost use Rattle.byte_unit_math.specs.Stored.{view_of, IsStored, fields_of, fields_of-view_of};
+
+    ghost Value = { Finite };
+
+    ghost coded = { finite_code };
+
+    ghost view = { view_of };
+
+    ghost invariant = { IsStored };
+
+    ghost inverse = { fields_of };
+
+    ghost inverse_ok = { fields_of-view_of };
+}
+
+impl Expansion {
+    /// `numerator / (2^twos * 5^fives)`.
+    ///
+    /// The caller owes a numerator below 8 * 10^27, and a product of the powers of at most 2^83.
+    ///
+    /// ```text
+    /// Expansion::new(13, 3, 0)    1.625
+    /// ```
+    #[tactic(auto, using(crate::proofs::Expanding::powers_small, crate::proofs::Expanding::powers_some, crate::proofs::Expanding::powers_end))]
+    pub fn new(numerator: u128, twos: u32, fives: u32) -> Expansion
+        requires small { numerator < bits_limit }
+        requires den { 2 ^ twos * 5 ^ fives ≤ unit_limit }
+        ensures { IsExpansion numerator (2 ^ twos * 5 ^ fives) result }
+    {
+        let den = power(2, twos) * power(5, fives);
+        divide(numerator / den, numerator % den, den)
+    }
+
+    /// The same number.
+    pub fn from_decimal(d: Decimal) -> Expansion
+        ensures { IsExpansion d one result }
+    {
+        divide(d.whole(), d.fraction(), ONE)
+    }
+
+    /// The part before the point.
+    pub fn whole(&self) -> u128
+        ensures { result ≡ self.now.whole }
+    {
+        self.whole
+    }
+
+    /// The digits after the point: the least number of places that state it, at most 83.
+    pub fn places(&self) -> u32
+        ensures exact { result ≡ length self.now.digits }
+        ensures few { result ≤ expansion_places }
+    {
+        self.places
+    }
+
+    /// The i-th digit after the point, counted from 1. Past the last it is 0.
+    ///
+    /// The caller owes an i of at least 1.
+    pub fn digit(&self, i: u32) -> u8
+        requires { 1 ≤ i }
+        ensures exact { result ≡ slice_index self.now.digits (i - 1) }
+        ensures small { result < 10 }
+    {
+        if i <= self.places {
+            self.digits[i as usize - 1]
+        } else {
+            0
+        }
+    }
+
+    /// The nearest decimal with at most so many places; where two are equally near, the one that `ties` says.
+    ///
+    /// ```text
+    /// 9.996 at 2 places    10
+    /// 1.005 at 2 places    1 by Even, 1.01 by Up
+    /// ```
+    pub fn rounded(&self, places: u32, ties: Ties) -> Expansion
+        ensures { (q : ℕ)
+            × IsNearest (scaled self.now) (10 ^ length self.now.digits) places ties q
+            × IsExpansion q (10 ^ places) result }
+    {
+        if self.places <= places {
+            *self
+        } else if self.rounds_up(places, ties) {
+            self.next_at(places)
+        } else {
+            self.cut(places)
+        }
+    }
+
+    /// Whether the decimal with so many places above this one is the nearest.
+    fn rounds_up(&self, places: u32, ties: Ties) -> bool
+        requires { places < length self.now.digits }
+        ensures { MatchBool result
+            (IsNearest (scaled self.now) (10 ^ length self.now.digits) places ties (scaled (first places self.now) + 1))
+            (IsNearest (scaled self.now) (10 ^ length self.now.digits) places ties (scaled (first places self.now))) }
+    {
+        let count = self.places;
+        let next = self.digit(places + 1);
+        if next != 5 {
+            next > 5
+        } else if count > places + 1 {
+            // More than half: the last digit is not 0.
+            true
+        } else {
+            match ties {
+                Ties::Up => true,
+                Ties::Even => self.is_odd_at(places),
+            }
+        }
+    }
+
+    /// Whether the number cut after so many digits is odd, in units of its last place.
+    fn is_odd_at(&self, places: u32) -> bool
+        requires { places < length self.now.digits }
+        ensures { MatchBool result (scaled (first places self.now) % 2 ≡ 1) (scaled (first places self.now) % 2 ≡ 0) }
+    {
+        if places == 0 {
+            self.whole % 2 == 1
+        } else {
+            self.digit(places) % 2 == 1
+        }
+    }
+
+    /// How many of the first digits are left, where those at their end that are this one are taken off.
+    fn without(&self, places: u32, last: u8) -> u32
+        requires { places ≤ length self.now.digits }
+        ensures few { result ≤ places }
+        ensures same { take places self.now.digits ≡ take result self.now.digits ++ replicate (places - result) last }
+        ensures stops { 0 < result → slice_index self.now.digits (result - 1) ≢ last }
+    {
+        let mut kept = places;
+        while kept > 0 && self.digit(kept) == last {
+            kept -= 1;
+        }
+        kept
+    }
+
+    /// So many digits, and then zeros.
+    fn front(&self, places: u32) -> [u8; PLACES]
+        requires { places ≤ length self.now.digits }
+        ensures size { length result ≡ expansion_places }
+        ensures front { take places result ≡ take places self.now.digits }
+        ensures rest { drop places result ≡ replicate (expansion_places - places) 0 }
+        ensures small { All (λ d. d < 10) result }
+    {
+        let count = self.places();
+        prove!(places <= count);
+        let mut digits = [0u8; PLACES];
+        for i in 0..places {
+            digits[i as usize] = self.digit(i + 1);
+        }
+        digits
+    }
+
+    /// The number cut after so many digits.
+    fn cut(&self, places: u32) -> Expansion
+        requires { places ≤ length self.now.digits }
+        ensures { IsExpansion (scaled (first places self.now)) (10 ^ places) result }
+    {
+        let kept = self.without(places, 0);
+        Expansion {
+            whole: self.whole,
+            digits: self.front(kept),
+            places: kept,
+        }
+    }
+
+    /// The next number with so many places above the one that is cut.
+    fn next_at(&self, places: u32) -> Expansion
+        requires { places < length self.now.digits }
+        ensures { IsExpansion (scaled (first places self.now) + 1) (10 ^ places) result }
+    {
+        // Nines at the end become zeros, and the digit before them one more.
+        let kept = self.without(places, 9);
+        let mut digits = self.front(kept);
+        if kept == 0 {
+            Expansion {
+                whole: self.whole + 1,
+                digits,
+                places: 0,
+            }
+        } else {
+            digits[kept as usize - 1] += 1;
+            Expansion {
+                whole: self.whole,
+                digits,
+                places: kept,
+            }
+        }
+    }
+}
+
+/// A power that is no greater than a unit.
+fn power(base: u128, exponent: u32) -> u128
+    requires { base ^ exponent ≤ unit_limit }
+    ensures { result ≡ base ^ exponent }
+{
+    base.pow(exponent)
+}
+
+/// `whole + remainder / den`, by long division to its end.
+fn divide(whole: u128, remainder: u128, den: u128) -> Expansion
+    requires whole { whole < whole_limit }
+    requires below { remainder < den }
+    // A digit's dividend fits.
+    requires small { den * 10 < 2 ^ 128 }
+    requires ends { IsExactAt (whole * den + remainder) den expansion_places }
+    ensures { IsExpansion (whole * den + remainder) den result }
+{
+    let mut rest = remainder;
+    let mut digits = [0u8; PLACES];
+    let mut places: u32 = 0;
+    while rest != 0 {
+        let next = rest * 10;
+        digits[places as usize] = (next / den) as u8;
+        rest = next % den;
+        places += 1;
+    }
+    Expansion {
+        whole,
+        digits,
+        places,
+    }
+}
+
+#[cfg(test)]
+mod tests;

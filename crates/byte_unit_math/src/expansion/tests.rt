@@ -1,0 +1,105 @@
+ghost use Rattle.std.specs.Prelude.{◌<◌, ◌≤◌};
+ghost use Rattle.byte_unit_math.specs.Bounds.{expansion_places};
+
+use super::*;
+use std::test::Fail;
+
+#[test]
+fn digits_of_decimals(rt: HostRuntime) -> Result<(), Fail> {
+    for (mantissa, scale, whole, places, last) in [
+        (0, 0, 0, 0, 0),
+        (1000, 2, 10, 0, 0),
+        (5084, 2, 50, 2, 4),
+        (1, 28, 0, 28, 1),
+        (99_990, 5, 0, 4, 9),
+    ] {
+        let d = Decimal::from_u128_with_scale(mantissa, scale).ok_or("a decimal")?;
+        let e = Expansion::from_decimal(d);
+        assert_eq!(rt; e.whole(), whole);
+        assert_eq!(rt; e.places(), places);
+        assert_eq!(rt; e.digit(places.max(1)), last);
+        // Past the last digit.
+        assert_eq!(rt; e.digit(places + 1), 0);
+        assert_eq!(rt; e.digit(u32::MAX), 0);
+    }
+    Ok(())
+}
+
+#[test]
+fn one_over_the_greatest_unit(rt: HostRuntime) {
+    let e = Expansion::new(1, 83, 0);
+    assert_eq!(rt; e.whole(), 0);
+    assert_eq!(rt; e.places(), 83);
+    for i in 1..25u32 {
+        assert_eq!(rt; e.digit(i), 0);
+    }
+    // 5^83 begins with 10339 and ends with 328125.
+    assert_eq!(rt; five_digits(&e, 25), [1, 0, 3, 3, 9]);
+    assert_eq!(rt; five_digits(&e, 78), [3, 2, 8, 1, 2]);
+    assert_eq!(rt; e.digit(83), 5);
+}
+
+/// The digits from this place on.
+fn five_digits(e: &Expansion, from: u32) -> [u8; 5]
+    requires first { 1 ≤ from }
+    requires last { from < expansion_places }
+{
+    [
+        e.digit(from),
+        e.digit(from + 1),
+        e.digit(from + 2),
+        e.digit(from + 3),
+        e.digit(from + 4),
+    ]
+}
+
+#[test]
+fn fractions_over_twos_and_fives(rt: HostRuntime) {
+    for (numerator, twos, fives, whole, places, first) in [
+        (13, 3, 0, 1, 3, 6),
+        (7, 1, 1, 0, 1, 7),
+        (6, 0, 1, 1, 1, 2),
+        (1024, 10, 0, 1, 0, 0),
+        (
+            7_999_999_999_999_999_999_999_999_999,
+            0,
+            0,
+            7_999_999_999_999_999_999_999_999_999,
+            0,
+            0,
+        ),
+    ] {
+        let e = Expansion::new(numerator, twos, fives);
+        assert_eq!(rt; e.whole(), whole);
+        assert_eq!(rt; e.places(), places);
+        assert_eq!(rt; e.digit(1), first);
+    }
+}
+
+#[test]
+fn rounded_to_even_and_up(rt: HostRuntime) -> Result<(), Fail> {
+    for (mantissa, scale, places, even, up) in [
+        (9996, 3, 2, (10, 0, 0, 0), (10, 0, 0, 0)),
+        (1005, 3, 2, (1, 0, 0, 0), (1, 2, 0, 1)),
+        (1015, 3, 2, (1, 2, 0, 2), (1, 2, 0, 2)),
+        (5, 1, 0, (0, 0, 0, 0), (1, 0, 0, 0)),
+        (15, 1, 0, (2, 0, 0, 0), (2, 0, 0, 0)),
+        (9999, 4, 3, (1, 0, 0, 0), (1, 0, 0, 0)),
+        // More places than it has.
+        (50, 2, 65_535, (0, 1, 5, 0), (0, 1, 5, 0)),
+    ] {
+        let d = Decimal::from_u128_with_scale(mantissa, scale).ok_or("a decimal")?;
+        let e = Expansion::from_decimal(d);
+        for (ties, (whole, left, first, second)) in [(Ties::Even, even), (Ties::Up, up)] {
+            let r = e.rounded(places, ties);
+            assert_eq!(rt; r.whole(), whole, "{mantissa} {ties:?}");
+            assert_eq!(rt; r.places(), left, "{mantissa} {ties:?}");
+            assert_eq!(rt;
+                (r.digit(1), r.digit(2)),
+                (first, second),
+                "{mantissa} {ties:?}"
+            );
+        }
+    }
+    Ok(())
+}
