@@ -10,4 +10,5 @@ mod errors;
 mod kind;
 mod read;
 pub mod size;
+pub mod size_laws;
 mod unit;
