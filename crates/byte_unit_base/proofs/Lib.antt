@@ -8,3 +8,7 @@ pub mod SizeSteps
 pub mod SizeLaws
 pub mod SizeReads
 pub mod SizeAnswers
+pub mod UnitLaw
+pub mod SizeLaw
+pub mod Names
+pub mod Beginnings

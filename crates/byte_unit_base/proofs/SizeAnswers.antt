@@ -46,7 +46,7 @@ unit_at n m Bi text r = sized_at n _ after_bi text r (front_reached m Bi r.unit_
 unit_at n m Bit text r = sized_at n _ after_bit text r (front_reached m Bit r.unit_part r.reached)
 unit_at n m Bits text r = sized_at n _ after_bits text r (front_reached m Bits r.unit_part r.reached)
 
-front_at : (s : SizeScan) (text : List ℕ) → SizeReached s text → IsSizeFront current (size_place s) text
+pub front_at : (s : SizeScan) (text : List ℕ) → SizeReached s text → IsSizeFront current (size_place s) text
 front_at Beginning text r = r
 front_at (Whole w) text r = (w, r)
 front_at (Point w) text r = (w, r)

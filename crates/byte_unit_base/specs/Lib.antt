@@ -11,3 +11,4 @@ pub mod Errors
 pub mod Readings
 pub mod UnitScan
 pub mod SizeScan
+pub mod Laws

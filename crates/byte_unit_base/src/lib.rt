@@ -6,5 +6,6 @@ pub use crate::read::read_size;
 pub use crate::unit::Unit;
 
 mod errors;
+pub mod laws;
 mod read;
 mod unit;
