@@ -1,11 +1,9 @@
 -- The least size of a kind, by way of the least number of bits.
-use Rattle.std.proofs.Common.{◌≡◌, ℕ, ◌+◌, ◌-◌, ◌*◌, ◌/◌, ◌%◌, ◌^◌, ◌<◌, ◌≤◌, arith, Option, Some, None, ⊎_elim}
-use Rattle.std.proofs.lemmas.Bool.{cases_lt}
+use Rattle.std.proofs.Common.{◌≡◌, ℕ, ◌+◌, ◌-◌, ◌*◌, ◌/◌, ◌<◌, ◌≤◌, arith}
 use Rattle.std.proofs.Math.Nat.{mul-le-mul_right}
 use Rattle.byte_unit_math.specs.Bounds.{one}
-use Rattle.byte_unit_math.specs.Least.{IsLeastSize, Reaches}
+use Rattle.byte_unit_math.specs.Least.{IsLeastSize}
 use Rattle.byte_unit_base.specs.Shape.{Shape, bits}
-use Rattle.byte_unit_base.specs.Edition.{current}
 use Rattle.byte_unit_base.specs.declared.kind.Kind.{Kind}
 use Rattle.byte_unit_base.specs.declared.kind.Kind.TheVariants.{Byte, Bit}
 use Rattle.byte_unit_base.specs.Kinds.{bits_in}

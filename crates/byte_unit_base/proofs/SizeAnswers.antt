@@ -1,5 +1,5 @@
 -- The first fault of a text that is no size text, and the clauses of the reader's callers.
-use Rattle.std.proofs.Common.{◌≡◌, ◌≢◌, ℕ, Bool, false, cond, ◌*◌, ◌^◌, inl, inr, List, [], ◌∷◌, ◌++◌, Option, Some, None, Result, Ok, Err, IfOk, IfErr, option_and_then, replicate, sym, refl, ap, subst, ◌∙◌, true, append-nil}
+use Rattle.std.proofs.Common.{◌≡◌, ◌≢◌, ℕ, Bool, false, cond, ◌*◌, inl, inr, List, [], ◌∷◌, ◌++◌, Option, Some, None, Result, Ok, Err, IfOk, IfErr, option_and_then, replicate, sym, refl, ap, subst, ◌∙◌, true, append-nil}
 use Rattle.std.specs.Prelude.{IsOkAnd}
 use Rattle.byte_unit_math.specs.Bounds.{one}
 use Rattle.byte_unit_base.specs.Shape.{Shape}
@@ -46,7 +46,7 @@ unit_at n m Bi text r = sized_at n _ after_bi text r (front_reached m Bi r.unit_
 unit_at n m Bit text r = sized_at n _ after_bit text r (front_reached m Bit r.unit_part r.reached)
 unit_at n m Bits text r = sized_at n _ after_bits text r (front_reached m Bits r.unit_part r.reached)
 
-front_at : (s : SizeScan) (text : List ℕ) → SizeReached s text → IsSizeFront current (size_place s) text
+pub front_at : (s : SizeScan) (text : List ℕ) → SizeReached s text → IsSizeFront current (size_place s) text
 front_at Beginning text r = r
 front_at (Whole w) text r = (w, r)
 front_at (Point w) text r = (w, r)

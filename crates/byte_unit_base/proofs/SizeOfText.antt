@@ -1,20 +1,18 @@
 -- What the reader of a size answers, by what the reader of its number and unit answers.
-use Rattle.std.proofs.Common.{◌≡◌, ℕ, ◌<◌, ◌≤◌, Bool, List, Option, Some, None, Result, Ok, Err, IfErr, sym, ap, subst, arith, inl, inr, ◌⊎◌, refl}
+use Rattle.std.proofs.Common.{◌≡◌, ℕ, Bool, List, Some, None, Ok, Err, sym, ap, subst, arith, inl, inr, refl}
 use Rattle.byte_unit_base.specs.Shape.{Shape}
 use Rattle.byte_unit_base.specs.Edition.{current}
 use Rattle.byte_unit_base.specs.Units.{shape_of}
-use Rattle.byte_unit_base.specs.Errors.{size_fault}
-use Rattle.byte_unit_base.specs.Fault.{Fault, exceeded}
+use Rattle.byte_unit_base.specs.Fault.{exceeded}
 use Rattle.byte_unit_base.specs.declared.unit.Unit.{Unit as UnitName}
 use Rattle.byte_unit_base.specs.declared.errors.ParseError.{ParseError}
 use Rattle.byte_unit_base.specs.declared.errors.ParseError.TheVariants.{Value}
 use Rattle.byte_unit_base.specs.declared.errors.ValueParseError.TheVariants.{ExceededBounds}
 use Rattle.byte_unit_base.specs.declared.kind.Kind.{Kind}
-use Rattle.byte_unit_base.specs.Kinds.{flags_for}
 use Rattle.byte_unit_base.specs.LeastOfKind.{IsLeastOf}
 use Rattle.byte_unit_base.specs.SizeOrNone.{IsSizeOrNone}
 use Rattle.byte_unit_base.specs.SizeReading.{IsNumberOf}
-use Rattle.byte_unit_base.specs.Accepted.{IsRead, Accepted, Exceeds, IsRefused}
+use Rattle.byte_unit_base.specs.Accepted.{IsRead}
 use Rattle.byte_unit_base.specs.SizeReading.{IsSizeReading}
 use Rattle.byte_unit_base.proofs.Rounding.{least_is_one}
 

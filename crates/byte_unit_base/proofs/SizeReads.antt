@@ -31,7 +31,7 @@ run_on : (cs ys : List ℕ) → ((t : SizeScan) → size_run t (cs ++ ys) ≡ op
 run_on cs ys more None = refl
 run_on cs ys more (Some t) = more t
 
-size_run_append : (s : SizeScan) (xs ys : List ℕ) → size_run s (xs ++ ys) ≡ option_and_then (λ t. size_run t ys) (size_run s xs)
+pub size_run_append : (s : SizeScan) (xs ys : List ℕ) → size_run s (xs ++ ys) ≡ option_and_then (λ t. size_run t ys) (size_run s xs)
 size_run_append s [] ys = refl
 size_run_append s (c ∷ cs) ys = run_on cs ys (λ t. size_run_append t cs ys) (size_step s c)
 
@@ -258,12 +258,15 @@ read_through flags t (c ∷ cs) ys s h = read_on flags t s c cs ys (λ u. read_t
 read_run : (flags : Flags) (t : SizeScan) (cs : List ℕ) (s : SizeScan) → size_run s cs ≡ Some t → size_read flags s cs ≡ size_at_end flags t
 read_run flags t cs s h = ap (size_read flags s) (sym (append-nil cs)) ∙ read_through flags t cs [] s h
 
--- what is a size text is read as its number and unit
-pub reads_size : (flags : Flags) (text : List ℕ) (n : ℕ) (s : Shape) → SizeText current flags text n s → size_read flags Beginning text ≡ Ok (n, s)
-reads_size flags text n s h =
+pub size_text_runs : (flags : Flags) (text : List ℕ) (n : ℕ) (s : Shape) → SizeText current flags text n s → RunsTo (λ t. size_at_end flags t ≡ Ok (n, s)) Beginning text
+size_text_runs flags text n s h =
     let u = spelling_runs flags h.unit_part s h.unit_is in
     let r = run_sized n h.spaces (scan_of u.multiple u.word) text h.number_part h.unit_part h.text_is h.number_is u.run in
-    read_run flags r.state text Beginning r.run ∙ (r.holds.ends flags ∙ ap (sized n) u.unit)
+    record { state = r.state; run = r.run; holds = r.holds.ends flags ∙ ap (sized n) u.unit }
+
+-- what is a size text is read as its number and unit
+pub reads_size : (flags : Flags) (text : List ℕ) (n : ℕ) (s : Shape) → SizeText current flags text n s → size_read flags Beginning text ≡ Ok (n, s)
+reads_size flags text n s h = let r = size_text_runs flags text n s h in read_run flags r.state text Beginning r.run ∙ r.holds
 
 -- ---- a front is scanned to its end
 

@@ -1,6 +1,11 @@
--- The texts of errors that quote no character and no decimal. Nothing is said here of the others.
-use Rattle.std.specs.Prelude.{ℕ, List, Option, Some, None, codes}
+-- The texts of errors. A character is quoted as std quotes it for programmers; std says nothing of that past ASCII, and
+-- then nothing is said here of the text.
+use Rattle.std.specs.Prelude.{ℕ, Bool, if◌then◌else◌, ◌==◌, length, List, [], ◌∷◌, ◌++◌, Option, Some, codes}
+use Rattle.std.specs.Fmt.{debug_char, ◌++?◌}
+use Rattle.byte_unit_math.specs.Bounds.{places_of_decimal}
+use Rattle.byte_unit_math.specs.Numeral.{short}
 use Rattle.byte_unit_base.specs.declared.errors.ExceededBoundsError.{ExceededBoundsError}
+use Rattle.byte_unit_base.specs.declared.errors.UnitParseError.{UnitParseError}
 use Rattle.byte_unit_base.specs.declared.errors.ValueParseError.{ValueParseError}
 use Rattle.byte_unit_base.specs.declared.errors.ValueParseError.TheVariants.{ExceededBounds, NotNumber, NoValue, NumberTooLong}
 use Rattle.byte_unit_base.specs.declared.errors.ParseError.{ParseError}
@@ -10,11 +15,24 @@ abbrev pub exceeded_text : ExceededBoundsError → Option (List ℕ)
 exceeded_text e = Some (codes "value exceeds the valid range")
 
 abbrev pub value_text : ValueParseError → Option (List ℕ)
-value_text (ExceededBounds n) = None
-value_text (NotNumber c) = None
+value_text (ExceededBounds n) = Some (codes "the value " ++ short n places_of_decimal ++ codes " exceeds the valid range")
+value_text (NotNumber c) = Some (codes "the character ") ++? debug_char c ++? Some (codes " is not a number")
 value_text NoValue = Some (codes "no value can be found")
 value_text NumberTooLong = Some (codes "value number is too long")
 
+-- the expected characters after the first: ` or ` before the last, and `, ` before each other
+abbrev pub others_text : List ℕ → Option (List ℕ)
+others_text [] = Some []
+others_text (c ∷ cs) = Some (if length cs == 0 then codes " or " else codes ", ") ++? debug_char c ++? others_text cs
+
+-- what is expected: these characters, or also none
+abbrev pub expected_text : List ℕ → Bool → Option (List ℕ)
+expected_text [] none = Some (codes " (no character is expected)")
+expected_text (c ∷ cs) none = Some (codes " (") ++? debug_char c ++? others_text cs ++? Some (if none then codes " or no character" else []) ++? Some (codes " is expected)")
+
+abbrev pub unit_text : UnitParseError → Option (List ℕ)
+unit_text e = Some (codes "the character ") ++? debug_char e.character ++? Some (codes " is incorrect") ++? expected_text e.expected_characters.now e.also_expect_no_character
+
 abbrev pub parse_text : ParseError → Option (List ℕ)
 parse_text (Value e) = value_text e
-parse_text (UnitError e) = None
+parse_text (UnitError e) = unit_text e

@@ -1,5 +1,8 @@
 //! The errors of the readers, and that of a number which fits no size.
 
+ghost use Rattle.std.specs.Fmt.{DisplaysOnOk};
+ghost use Rattle.byte_unit_base.specs.FaultText.{others_text};
+
 use byte_unit_math::Decimal;
 use std::error::Error;
 use std::fmt;
@@ -83,22 +86,23 @@ impl fmt::Display for ValueParseError {
 impl Error for ValueParseError {}
 
 impl fmt::Display for UnitParseError {
+    ghost use Rattle.byte_unit_base.specs.FaultText.{unit_text};
+
+    ghost output = { unit_text };
+
     fn fmt<W: fmt::Write>(&self, f: &mut fmt::Formatter<W>) -> fmt::Result {
         write!(f, "the character {:?} is incorrect", self.character)?;
-        let [first, others @ ..] = self.expected_characters else {
-            return f.write_str(" (no character is expected)");
-        };
-        write!(f, " ({first:?}")?;
-        if let [middle @ .., last] = others {
-            for c in middle {
-                write!(f, ", {c:?}")?;
+        match self.expected_characters {
+            [] => f.write_str(" (no character is expected)"),
+            [first, others @ ..] => {
+                write!(f, " ({first:?}")?;
+                write_others(others, f)?;
+                if self.also_expect_no_character {
+                    f.write_str(" or no character")?;
+                }
+                f.write_str(" is expected)")
             }
-            write!(f, " or {last:?}")?;
         }
-        if self.also_expect_no_character {
-            f.write_str(" or no character")?;
-        }
-        f.write_str(" is expected)")
     }
 }
 
@@ -140,6 +144,18 @@ impl fmt::Display for ParseError {
 }
 
 impl Error for ParseError {}
+
+/// Writes the expected characters after the first.
+fn write_others<W: fmt::Write>(others: &[char], f: &mut fmt::Formatter<W>) -> fmt::Result
+    ensures { DisplaysOnOk W.write_str_gives f.old result (others_text others.now) f.new }
+{
+    let [c, rest @ ..] = others else {
+        return Ok(());
+    };
+    let before = if rest.is_empty() { " or " } else { ", " };
+    write!(f, "{before}{c:?}")?;
+    write_others(rest, f)
+}
 
 #[cfg(test)]
 pub mod tests;

@@ -1,14 +1,26 @@
-//! Units of bits and bytes, and the readers of units and sizes.
+//! Units of bits and bytes, the readers of units and sizes, the choice of a unit for a size, and the texts of sizes.
+//!
+//! What sizes in bytes and in bits share stands here once, over their [`Kind`].
 #![tactic(auto)]
 
+pub use crate::choice::{choose_unit, largest_unit};
 pub use crate::errors::{ExceededBoundsError, ParseError, UnitParseError, ValueParseError};
+pub use crate::format::{
+    Align, FormatSpec, Sign, append_layout, append_plain, layout_len, plain_len,
+};
 pub use crate::kind::Kind;
 pub use crate::read::read_size;
+pub use crate::recover::{exact_unit, recoverable_unit};
 pub use crate::unit::Unit;
+pub use crate::unit::family::Family;
+pub use crate::unit::unit_type::UnitType;
 
+mod choice;
 mod errors;
+pub mod format;
 mod kind;
+pub mod laws;
 mod read;
+mod recover;
 pub mod size;
-pub mod size_laws;
 mod unit;

@@ -1,0 +1,269 @@
+-- What a form says is read as the size that it was made of.
+use Rattle.std.proofs.Common.{◌≡◌, ◌≢◌, ℕ, zero, suc, ◌+◌, ◌-◌, ◌*◌, ◌/◌, ◌^◌, ◌<◌, ◌≤◌, inl, inr, List, [], ◌∷◌, ◌++◌, length, refl, sym, ap, subst, ◌∙◌, arith, Bool, true, false, append-nil, append_assoc, Option, None, Some}
+use Rattle.std.specs.Prelude.{codes, slice_index, if◌then◌else◌, nat_lt, ◌&&◌}
+use Rattle.std.specs.List.{All}
+use Rattle.std.specs.Char.{is_whitespace, to_ascii_uppercase}
+use Rattle.std.specs.Fmt.{decimal}
+use Rattle.std.specs.Str.{IsAscii}
+use Rattle.std.specs.Str.Parse.{AllDigits}
+use Rattle.std.proofs.lemmas.Nat.{pow-add, mul-le}
+use Rattle.std.proofs.lemmas.Bool.Decides.{nat_tests}
+use Rattle.std.proofs.lemmas.List.{replicate-append-replicate}
+use Rattle.std.proofs.lemmas.Str.{IsAscii-append}
+use Rattle.std.proofs.lemmas.Str.Ascii.{IsAscii-nil, IsAscii-cons}
+use Rattle.byte_unit_math.specs.Bounds.{one, places_of_decimal, whole_limit, bits_limit}
+use Rattle.byte_unit_base.specs.Shape.{Shape, bits}
+use Rattle.byte_unit_base.specs.Edition.{current, name}
+use Rattle.byte_unit_base.specs.Spelling.{SpellsCount, SpellsBinary, Spells}
+use Rattle.byte_unit_base.specs.SizeText.{trimmed}
+use Rattle.byte_unit_math.specs.Finite.{value_of}
+use Rattle.byte_unit_math.specs.Numeral.{fraction_text, at_places, shortened}
+use Rattle.byte_unit_math.proofs.Digits.{short_of}
+use Rattle.byte_unit_base.specs.declared.kind.Kind.{Kind}
+use Rattle.byte_unit_base.specs.declared.kind.Kind.TheVariants.{Byte, Bit}
+use Rattle.byte_unit_base.specs.declared.format.spec.FormatSpec.{FormatSpec}
+use Rattle.byte_unit_base.specs.declared.format.spec.Sign.{Sign}
+use Rattle.byte_unit_base.specs.declared.format.spec.Sign.TheVariants.{Unset, Plus, Minus}
+use Rattle.byte_unit_base.proofs.Quotients.{number_times_unit}
+use Rattle.byte_unit_base.specs.declared.unit.family.Family.{Family}
+use Rattle.byte_unit_base.specs.Family.{InFamily, IsKind}
+use Rattle.byte_unit_base.specs.Choice.{IsRecovered}
+use Rattle.byte_unit_base.proofs.Choosing.{some_bits}
+use Rattle.byte_unit_base.specs.Kinds.{bits_in, counts_bits, own_unit, own_family, flags_for}
+use Rattle.byte_unit_base.specs.LeastOfKind.{IsLeastOf}
+use Rattle.byte_unit_base.specs.Accepted.{Accepted}
+use Rattle.byte_unit_base.specs.Layout.{layout, layout_padding, before_layout, gap_of}
+use Rattle.byte_unit_base.specs.Plain.{spaces, plus_of, plain, plain_padding, before_plain}
+use Rattle.byte_unit_base.specs.Forms.{places_of}
+use Rattle.byte_unit_base.specs.FormLaws.{ReadsBack, PlainReadsBack}
+use Rattle.byte_unit_base.proofs.NumberTexts.{number_of, number_text, number_start, number_ascii, decimal_ascii, whole_text, StartsWithDigit, not_white, first_digit}
+use Rattle.byte_unit_base.proofs.TrimmedTexts.{trim_between, spaces_ascii}
+
+-- names
+
+abbrev letter_at : ℕ → ℕ
+letter_at power = slice_index current.letters (power - 1)
+
+abbrev IsLetter : ℕ → Type 0
+IsLetter c = (to_ascii_uppercase c ≡ c) × (c < 128)
+
+letter_found : (power : ℕ) → 0 < power → power ≤ 8 → IsLetter (letter_at power)
+letter_found zero h k = absurd (omega (arith, h))
+letter_found (suc zero) h k = (refl, omega arith)
+letter_found (suc (suc zero)) h k = (refl, omega arith)
+letter_found (suc (suc (suc zero))) h k = (refl, omega arith)
+letter_found (suc (suc (suc (suc zero)))) h k = (refl, omega arith)
+letter_found (suc (suc (suc (suc (suc zero))))) h k = (refl, omega arith)
+letter_found (suc (suc (suc (suc (suc (suc zero)))))) h k = (refl, omega arith)
+letter_found (suc (suc (suc (suc (suc (suc (suc zero))))))) h k = (refl, omega arith)
+letter_found (suc (suc (suc (suc (suc (suc (suc (suc zero)))))))) h k = (refl, omega arith)
+letter_found (suc (suc (suc (suc (suc (suc (suc (suc (suc n))))))))) h k = absurd (omega (arith, k))
+
+abbrev infix_of : Bool → List ℕ
+infix_of binary = if binary then codes "i" else []
+
+abbrev count_of : Bool → List ℕ
+count_of bit = if bit then codes "b" else codes "B"
+
+infix_spells : (binary : Bool) → SpellsBinary (infix_of binary) binary
+infix_spells true = inr (refl, refl)
+infix_spells false = inl (refl, refl)
+
+count_spells : (kind : Kind) (ignore_case : Bool) → SpellsCount (flags_for kind ignore_case) (count_of (counts_bits kind)) (counts_bits kind)
+count_spells Byte ignore_case = inr (inl (refl, refl))
+count_spells Bit ignore_case = inr (inr (inl (refl, refl)))
+
+infix_ascii : (binary : Bool) → IsAscii (infix_of binary)
+infix_ascii true = IsAscii-cons 105 [] (omega arith) IsAscii-nil
+infix_ascii false = IsAscii-nil
+
+count_ascii : (bit : Bool) → IsAscii (count_of bit)
+count_ascii true = IsAscii-cons 98 [] (omega arith) IsAscii-nil
+count_ascii false = IsAscii-cons 66 [] (omega arith) IsAscii-nil
+
+-- a name is read as its unit, and ends in no white space
+record IsGoodName (kind : Kind) (ignore_case : Bool) (s : Shape) : Type 0 where
+  front : List ℕ
+  last : ℕ
+  name_is : name current s ≡ front ++ last ∷ []
+  last_is : is_whitespace last ≡ false
+  ascii : IsAscii (name current s)
+  spells : Spells current (flags_for kind ignore_case) (name current s) s
+
+count_end : (bit : Bool) → (last : ℕ) × (count_of bit ≡ last ∷ []) × (is_whitespace last ≡ false)
+count_end true = (98, refl, refl)
+count_end false = (66, refl, refl)
+
+name_parts : (s : Shape) → 0 < s.power → name current s ≡ letter_at s.power ∷ (infix_of s.binary ++ count_of s.bit)
+name_parts s h =
+    let some : nat_lt 0 s.power ≡ true = grind (arith, nat_tests) in
+    ap (λ b. (if b then letter_at s.power ∷ [] else []) ++ (if b && s.binary then codes "i" else []) ++ count_of s.bit) some
+
+kind_bit : (kind : Kind) (bit : Bool) → IsKind (own_family kind) bit → bit ≡ counts_bits kind
+kind_bit Byte bit h = h
+kind_bit Bit bit h = h
+
+multiple_name : (kind : Kind) (ignore_case : Bool) (s : Shape) → InFamily current (own_family kind) s → IsGoodName kind ignore_case s
+multiple_name kind ignore_case s h =
+    let letter = letter_found s.power h.prefix.some h.prefix.known in
+    let parts = name_parts s h.prefix.some in
+    let end = count_end s.bit in
+    let P : Bool → Type 0 = λ bit. SpellsCount (flags_for kind ignore_case) (count_of bit) bit in
+    record {
+      front = letter_at s.power ∷ infix_of s.binary;
+      last = end.0;
+      name_is = parts ∙ ap (λ t. letter_at s.power ∷ (infix_of s.binary ++ t)) end.1;
+      last_is = end.2;
+      ascii = subst IsAscii (sym parts) (IsAscii-cons (letter_at s.power) (infix_of s.binary ++ count_of s.bit) letter.1 (IsAscii-append (infix_of s.binary) (count_of s.bit) (infix_ascii s.binary) (count_ascii s.bit)));
+      spells = inr record {
+        letter = letter_at s.power;
+        infix_part = infix_of s.binary;
+        count_part = count_of s.bit;
+        text_is = parts;
+        letter_is = (h.prefix.some, h.prefix.known, letter.0);
+        infix_is = infix_spells s.binary;
+        count_is = subst P (sym (kind_bit kind s.bit h.kind)) (count_spells kind ignore_case);
+      };
+    }
+
+own_name : (kind : Kind) (ignore_case : Bool) → IsGoodName kind ignore_case (own_unit kind)
+own_name Byte ignore_case = record { front = []; last = 66; name_is = refl; last_is = refl; ascii = count_ascii false; spells = inl record { count_is = count_spells Byte ignore_case; power_is = refl; binary_is = refl } }
+own_name Bit ignore_case = record { front = []; last = 98; name_is = refl; last_is = refl; ascii = count_ascii true; spells = inl record { count_is = count_spells Bit ignore_case; power_is = refl; binary_is = refl } }
+
+-- the least size
+
+least_size : (kind : Kind) (N size : ℕ) (s : Shape) → N * bits s ≡ size * bits_in kind * one → IsLeastOf kind N s size
+least_size Byte N size s e = record { covers = omega (arith, e); least = λ m h. omega (arith, e, h) }
+least_size Bit N size s e = record { covers = omega (arith, e); least = λ m h. omega (arith, e, h) }
+
+-- a layout is accepted
+
+regroup : (a m g : ℕ) (number unit : List ℕ) → (((spaces a ++ number) ++ spaces m) ++ spaces g) ++ unit ≡ spaces a ++ ((number ++ (spaces (m + g) ++ unit)) ++ spaces 0)
+regroup a m g number unit =
+    rw (← replicate-append-replicate {A = ℕ} m g 32) (simp (append_assoc {A = ℕ}, append-nil {A = ℕ}))
+
+trim_layout : (a k : ℕ) (number unit front : List ℕ) (last : ℕ) → StartsWithDigit number → IsAscii number → IsAscii unit → unit ≡ front ++ last ∷ [] → is_whitespace last ≡ false → trimmed (spaces a ++ ((number ++ (spaces k ++ unit)) ++ spaces 0)) ≡ number ++ (spaces k ++ unit)
+trim_layout a k number unit front last start number_ascii unit_ascii unit_is last_is =
+    let rest = spaces k ++ unit in
+    let all : IsAscii (number ++ rest) = IsAscii-append number rest number_ascii (IsAscii-append (spaces k) unit (spaces_ascii k) unit_ascii) in
+    let begins : number ++ rest ≡ start.head ∷ (start.tail ++ rest) = ap (λ t. t ++ rest) start.text_is in
+    let ends : number ++ rest ≡ (number ++ (spaces k ++ front)) ++ last ∷ [] = rw unit_is (simp (append_assoc {A = ℕ})) in
+    let P : List ℕ → Type 0 = λ t. trimmed (spaces a ++ (t ++ spaces 0)) ≡ t in
+    subst P (sym begins) (trim_between a 0 start.head last (start.tail ++ rest) (number ++ (spaces k ++ front)) start.digit last_is (subst IsAscii begins all) (sym begins ∙ ends))
+
+layout_accepted : (kind : Kind) (ignore_case : Bool) (size : ℕ) (spec : FormatSpec) (w : ℕ) (ds : List ℕ) (s : Shape) → All (λ d. d < 10) ds → length ds ≤ places_of_decimal → w < whole_limit → IsGoodName kind ignore_case s → number_of w ds * bits s ≡ size * bits_in kind * one → size < current.size_limit → Accepted current kind ignore_case (layout (decimal w ++ fraction_text ds) (name current s) spec) size
+layout_accepted kind ignore_case size spec w ds s small few bound good exact below =
+    let number = decimal w ++ fraction_text ds in
+    let unit = name current s in
+    let pad = layout_padding number unit spec in
+    let a = before_layout spec.align pad in
+    let g = gap_of spec.sign unit in
+    let k = (pad - a) + g in
+    let trims : trimmed (layout number unit spec) ≡ number ++ (spaces k ++ unit) =
+    ap trimmed (regroup a (pad - a) g number unit) ∙ trim_layout a k number unit good.front good.last (number_start w (fraction_text ds) bound) (number_ascii w ds small bound) good.ascii good.name_is good.last_is in
+    record {
+      number = number_of w ds;
+      is_read = record { unit = s; is_size = record { number_part = number; spaces = k; unit_part = unit; text_is = trims; number_is = number_text w ds small few bound; unit_is = good.spells }; is_least = least_size kind (number_of w ds) size s exact };
+      below = below;
+    }
+
+-- the numbers of the two forms
+
+few_places : (precision : Option ℕ) → places_of precision ≤ places_of_decimal
+few_places None = omega arith
+few_places (Some p) = omega arith
+
+-- a number that is cut at the point and has no zeros at its end, in last places again
+number_scaled : (w v number len : ℕ) → len ≤ places_of_decimal → number ≡ (w * 10 ^ len + v) * 10 ^ (places_of_decimal - len) → w * one + v * 10 ^ (places_of_decimal - len) ≡ number
+number_scaled w v number len few e =
+    let a : one ≡ 10 ^ len * 10 ^ (places_of_decimal - len) = ap (λ n. 10 ^ n) (let k : places_of_decimal ≡ len + (places_of_decimal - len) = omega arith in k) ∙ pow-add 10 len (places_of_decimal - len) in
+    let x = ap (λ n. w * n) a in
+    omega (arith, x, e)
+
+bits_bound : (kind : Kind) (size : ℕ) → size < current.size_limit → size * bits_in kind < bits_limit
+bits_bound Byte size h = omega (arith, h)
+bits_bound Bit size h = omega (arith, h)
+
+-- the size form
+
+own_bits : (kind : Kind) → bits (own_unit kind) ≡ bits_in kind
+own_bits Byte = refl
+own_bits Bit = refl
+
+-- the number times the unit is the size
+recovered_product : (kind : Kind) (family : Family) (size places : ℕ) (unit : Shape) (number : ℕ) → places ≤ places_of_decimal → IsRecovered current kind family size places unit number → number * bits unit ≡ size * bits_in kind * one
+recovered_product kind family size places unit number few (inl h) = number_times_unit (size * bits_in kind) (bits unit) places number few h.number_is
+recovered_product kind family size places unit number few (inr h) =
+    let e = ap (λ s. number * bits s) h.unit_is ∙ (ap (λ n. number * n) (own_bits kind) ∙ ap (λ n. n * bits_in kind) h.number_is) in
+    e ∙ omega arith
+
+-- and its unit's name is read as the unit
+recovered_name : (kind : Kind) (ignore_case : Bool) (size places : ℕ) (unit : Shape) (number : ℕ) → IsRecovered current kind (own_family kind) size places unit number → IsGoodName kind ignore_case unit
+recovered_name kind ignore_case size places unit number (inl h) = multiple_name kind ignore_case unit h.unit_is.has.member
+recovered_name kind ignore_case size places unit number (inr h) = subst (IsGoodName kind ignore_case) (sym h.unit_is) (own_name kind ignore_case)
+
+whole_bound : (kind : Kind) (size number unit : ℕ) → size < current.size_limit → 1 ≤ unit → number * unit ≡ size * bits_in kind * one → number / one < whole_limit
+whole_bound kind size number unit small some e =
+    let most : size * bits_in kind < bits_limit = bits_bound kind size small in
+    let more : number ≤ number * unit = omega (arith, mul-le number 1 number unit (omega arith) some) in
+    omega (arith, most, more, e)
+
+pub size_form_back : (kind : Kind) (size : ℕ) (spec : FormatSpec) (ignore_case : Bool) → ReadsBack current kind size spec ignore_case
+size_form_back kind size spec ignore_case text below h =
+    let p = places_of spec.precision in
+    let e = shortened (at_places places_of_decimal h.number) in
+    let k = short_of h.number places_of_decimal in
+    let product = recovered_product kind (own_family kind) size p h.unit h.number (few_places spec.precision) h.is_recovered in
+    let bound = whole_bound kind size h.number (bits h.unit) below (some_bits h.unit) product in
+    let number = number_scaled e.whole (value_of e.digits) h.number (length e.digits) k.few k.scaled_is in
+    let x = ap (λ n. n * bits h.unit) number in
+    let exact : number_of e.whole e.digits * bits h.unit ≡ size * bits_in kind * one = x ∙ product in
+    let P : List ℕ → Type 0 = λ t. Accepted current kind ignore_case t size in
+    subst P (sym h.text_is) (layout_accepted kind ignore_case size spec e.whole e.digits h.unit k.small k.few bound (recovered_name kind ignore_case size p h.unit h.number h.is_recovered) exact below)
+
+-- the plain form
+
+no_plus : (sign : Sign) → sign ≢ Plus → plus_of sign ≡ []
+no_plus Unset h = refl
+no_plus Minus h = refl
+no_plus Plus h = absurd (h refl)
+
+record EndsWithDigit (text : List ℕ) : Type 0 where
+  front : List ℕ
+  last : ℕ
+  text_is : text ≡ front ++ last ∷ []
+  digit : is_whitespace last ≡ false
+
+last_digit : (c : ℕ) (cs : List ℕ) → AllDigits 10 (c ∷ cs) → EndsWithDigit (c ∷ cs)
+last_digit c [] h = record { front = []; last = c; text_is = refl; digit = not_white c h.0 }
+last_digit c (d ∷ ds) h =
+    let k = last_digit d ds h.1 in
+    record { front = c ∷ k.front; last = k.last; text_is = ap (λ t. c ∷ t) k.text_is; digit = k.digit }
+
+no_unit : (kind : Kind) (ignore_case : Bool) → Spells current (flags_for kind ignore_case) [] (own_unit kind)
+no_unit Byte ignore_case = inl record { count_is = inl (refl, refl); power_is = refl; binary_is = refl }
+no_unit Bit ignore_case = inl record { count_is = inl (refl, refl); power_is = refl; binary_is = refl }
+
+number_start_alone : (w : ℕ) → w < whole_limit → StartsWithDigit (decimal w)
+number_start_alone w bound = first_digit (decimal w) (whole_text w bound).0
+
+trim_number : (a b w : ℕ) → w < whole_limit → trimmed ((spaces a ++ decimal w) ++ spaces b) ≡ decimal w
+trim_number a b w bound =
+    let start = number_start_alone w bound in
+    let digits = (whole_text w bound).0.1 in
+    let end = last_digit start.head start.tail (subst (AllDigits 10) start.text_is digits) in
+    let P : List ℕ → Type 0 = λ t. trimmed (spaces a ++ (t ++ spaces b)) ≡ t in
+    ap trimmed (append_assoc (spaces a) (decimal w) (spaces b)) ∙ subst P (sym start.text_is) (trim_between a b start.head end.last start.tail end.front start.digit end.digit (subst IsAscii start.text_is (decimal_ascii w bound)) end.text_is)
+
+pub plain_back : (kind : Kind) (size : ℕ) (spec : FormatSpec) (ignore_case : Bool) → PlainReadsBack current kind size spec ignore_case
+plain_back kind size spec ignore_case below sign =
+    let bound : size < whole_limit = omega (arith, below) in
+    let pad = plain_padding size spec in
+    let a = before_plain spec.align pad in
+    let trims : trimmed (plain size spec) ≡ decimal size = ap (λ t. trimmed ((spaces a ++ (t ++ decimal size)) ++ spaces (pad - a))) (no_plus spec.sign sign) ∙ trim_number a (pad - a) size bound in
+    let e = ap (λ n. (size * one) * n) (own_bits kind) in
+    record {
+      number = size * one;
+      is_read = record { unit = own_unit kind; is_size = record { number_part = decimal size; spaces = 0; unit_part = []; text_is = trims ∙ sym (append-nil (decimal size)); number_is = inl (size, whole_text size bound, refl); unit_is = no_unit kind ignore_case }; is_least = least_size kind (size * one) size (own_unit kind) (omega (arith, e)) };
+      below = below;
+    }

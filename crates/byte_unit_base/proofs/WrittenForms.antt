@@ -1,0 +1,92 @@
+-- The texts that the code writes are those of the definitions.
+use Rattle.std.specs.Fmt.{decimal}
+use Rattle.std.specs.Prelude.{MatchBool}
+use Rattle.std.proofs.Common.{◌≡◌, ◌+◌, ◌-◌, ◌<◌, ℕ, zero, suc, Bool, true, List, [], ◌∷◌, ◌++◌, length, take, replicate, arith, ap, sym, refl, subst, ◌∙◌, Result, Ok, Err, OnOk, OnErr}
+use Rattle.std.proofs.lemmas.List.{length-take, map-append, length-append, length-replicate}
+use Rattle.byte_unit_math.specs.Bounds.{one, places_of_decimal}
+use Rattle.byte_unit_math.specs.Finite.{Finite, IsExpansion}
+use Rattle.byte_unit_math.specs.Numeral.{glyphs, fraction_text, text_of, padded}
+use Rattle.byte_unit_math.proofs.Texts.{short_text, own_places}
+use Rattle.byte_unit_base.specs.Shape.{Shape}
+use Rattle.byte_unit_base.specs.Edition.{current, name}
+use Rattle.byte_unit_base.specs.Choice.{IsRecovered}
+use Rattle.byte_unit_base.specs.declared.kind.Kind.{Kind}
+use Rattle.byte_unit_base.specs.declared.format.spec.FormatSpec.{FormatSpec}
+use Rattle.byte_unit_base.specs.Kinds.{own_family}
+use Rattle.byte_unit_base.specs.Layout.{layout}
+use Rattle.byte_unit_base.specs.Plain.{plain}
+use Rattle.byte_unit_base.specs.Forms.{IsSizeForm, IsText, places_of}
+use Rattle.byte_unit_base.specs.Shown.{shown_fraction, numeral_of}
+use Rattle.byte_unit_base.proofs.OneForm.{one_form}
+
+zeros : (n : ℕ) → glyphs (replicate n 0) ≡ replicate n 48
+zeros zero = refl
+zeros (suc n) = ap (λ l. 48 ∷ l) (zeros n)
+
+pub text_none : (ds : List ℕ) → length ds ≡ 0 → fraction_text ds ≡ []
+text_none [] h = refl
+text_none (d ∷ ds) h = absurd (omega (arith, h))
+
+pub text_some : (ds : List ℕ) → 0 < length ds → fraction_text ds ≡ 46 ∷ glyphs ds
+text_some [] h = absurd (omega (arith, h))
+text_some (d ∷ ds) h = refl
+
+-- what is written is the decimal with so many places
+fraction_same : (places : ℕ) (digits : List ℕ) → shown_fraction places digits ≡ fraction_text (take places digits ++ replicate (places - length digits) 0)
+fraction_same zero digits = sym (text_none (take 0 digits ++ replicate (0 - length digits) 0) (omega (arith, length-append {A = ℕ} (take 0 digits) (replicate (0 - length digits) 0), length-replicate {A = ℕ} (0 - length digits) 0)))
+fraction_same (suc n) digits =
+    let front = take (suc n) digits in
+    let back = replicate (suc n - length digits) 0 in
+    let some : 0 < length (front ++ back) = omega (arith, length-append {A = ℕ} front back, length-replicate {A = ℕ} (suc n - length digits) 0, length-take {A = ℕ} (suc n) digits) in
+    sym (text_some (front ++ back) some ∙ ap (λ l. 46 ∷ l) (map-append (λ d. 48 + d) front back ∙ ap (λ l. glyphs front ++ l) (zeros (suc n - length digits))))
+
+pub numeral_is : (e : Finite) (places : ℕ) → numeral_of e places ≡ text_of (padded places e)
+numeral_is e places = ap (λ t. decimal e.whole ++ t) (fraction_same places e.digits)
+
+-- with its own places it is the decimal
+pub all_places : (e : Finite) (places : ℕ) → places ≡ length e.digits → text_of (padded places e) ≡ text_of e
+all_places e places count = ap (λ n. text_of (padded n e)) count ∙ ap text_of (own_places e)
+
+pub OnErr-map : {T E : Type 0} (r : Result T E) (P Q : Type 0) → (P → Q) → OnErr r P → OnErr r Q
+OnErr-map (Ok x) P Q f h = h
+OnErr-map (Err e) P Q f h = f h
+
+pub OnOk-map : {T E : Type 0} (r : Result T E) (P Q : Type 0) → (P → Q) → OnOk r P → OnOk r Q
+OnOk-map (Ok x) P Q f h = f h
+OnOk-map (Err e) P Q f h = h
+
+-- the form of a size
+
+-- all digits of the number are its form
+pub stated_form : (kind : Kind) (size : ℕ) (spec : FormatSpec) (unit : Shape) (number : ℕ) (e : Finite) (places : ℕ) → places ≡ places_of spec.precision → IsRecovered current kind (own_family kind) size places unit number → IsExpansion number one e → IsSizeForm current kind size spec (layout (text_of e) (name current unit) spec)
+stated_form kind size spec unit number e places at recovered h =
+    let P : ℕ → Type 0 = λ p. IsRecovered current kind (own_family kind) size p unit number in
+    record { unit = unit; number = number; is_recovered = subst P at recovered; text_is = ap (λ t. layout t (name current unit) spec) (short_text number places_of_decimal e h) }
+
+is_text_form : (kind : Kind) (size : ℕ) (spec : FormatSpec) (text : List ℕ) → spec.alternate ≡ true → IsSizeForm current kind size spec text → IsText current kind size spec text
+is_text_form kind size spec text alternate h =
+    let P : Bool → Type 0 = λ b. MatchBool b (IsSizeForm current kind size spec text) (text ≡ plain size spec) in
+    subst P (sym alternate) h
+
+-- each text under the alternate form is this one
+one_text : (kind : Kind) (size : ℕ) (spec : FormatSpec) (text other : List ℕ) → spec.alternate ≡ true → IsSizeForm current kind size spec text → IsText current kind size spec other → other ≡ text
+one_text kind size spec text other alternate h k =
+    let P : Bool → Type 0 = λ b. MatchBool b (IsSizeForm current kind size spec other) (other ≡ plain size spec) in
+    one_form kind size spec other text (subst P alternate k) h
+
+-- the layout of a decimal with so many places
+abbrev pub shown : Finite → ℕ → Shape → FormatSpec → List ℕ
+shown e places unit spec = layout (text_of (padded places e)) (name current unit) spec
+
+own_shown : (e : Finite) (places : ℕ) (unit : Shape) (spec : FormatSpec) → places ≡ length e.digits → shown e places unit spec ≡ layout (text_of e) (name current unit) spec
+own_shown e places unit spec count = ap (λ t. layout t (name current unit) spec) (all_places e places count)
+
+-- it is the text, where all its places are shown
+pub shown_text : (kind : Kind) (size : ℕ) (spec : FormatSpec) (unit : Shape) (e : Finite) (places : ℕ) → places ≡ length e.digits → spec.alternate ≡ true → IsSizeForm current kind size spec (layout (text_of e) (name current unit) spec) → IsText current kind size spec (shown e places unit spec)
+shown_text kind size spec unit e places count alternate h =
+    is_text_form kind size spec (shown e places unit spec) alternate (subst (IsSizeForm current kind size spec) (sym (own_shown e places unit spec count)) h)
+
+-- and each text of the size is as long
+pub shown_length : (kind : Kind) (size : ℕ) (spec : FormatSpec) (unit : Shape) (e : Finite) (places : ℕ) → places ≡ length e.digits → spec.alternate ≡ true → IsSizeForm current kind size spec (layout (text_of e) (name current unit) spec) → (form : List ℕ) → IsText current kind size spec form → length form ≡ length (shown e places unit spec)
+shown_length kind size spec unit e places count alternate h form k =
+    ap length (one_text kind size spec (layout (text_of e) (name current unit) spec) form alternate h k ∙ sym (own_shown e places unit spec count))

@@ -1,0 +1,14 @@
+use Rattle.std.proofs.Common.{◌≡◌, ◌+◌, ◌≤◌, ◌++◌, length, drop}
+use Rattle.std.specs.Fmt.{decimal}
+use Rattle.byte_unit_base.proofs.format.digits.Digits.of.Given as goal
+
+abbrev pub invariant-loop-rest : goal.invariant-loop-rest
+invariant-loop-rest l = record {
+  within : l.start ≤ 40;
+  size : length l.bytes ≡ 40;
+  place : l.start + length (decimal l.n) ≡ 40 + length (decimal l.rest);
+  digits : decimal l.rest ++ drop l.start l.bytes ≡ decimal l.n;
+}
+
+abbrev pub decreases-loop-rest : goal.decreases-loop-rest
+decreases-loop-rest l = l.rest

@@ -1,0 +1,11 @@
+use Rattle.std.proofs.Common.{◌≡◌, take, length}
+use Rattle.std.specs.Str.{IsAscii}
+use Rattle.byte_unit_math.specs.Numeral.{glyphs}
+use Rattle.byte_unit_base.proofs.format.layout.glyphs_of.Given as goal
+
+abbrev pub invariant-loop-i : goal.invariant-loop-i
+invariant-loop-i l = record {
+  size : length l.glyphs ≡ 83;
+  ascii : IsAscii l.glyphs;
+  front : take l.i l.glyphs ≡ glyphs (take l.i l.e.digits);
+}

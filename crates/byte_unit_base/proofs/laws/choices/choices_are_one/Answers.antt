@@ -1,0 +1,5 @@
+use Rattle.byte_unit_base.proofs.OneChoice.{one_choice}
+use Rattle.byte_unit_base.proofs.laws.choices.choices_are_one.Goals as goal
+
+pub returns : goal.returns
+returns c = one_choice

@@ -1,0 +1,5 @@
+use Rattle.byte_unit_base.proofs.SomeChoice.{choice_or_none}
+use Rattle.byte_unit_base.proofs.laws.choices.each_size_has_a_choice_or_none.Goals as goal
+
+pub returns : goal.returns
+returns c = choice_or_none

@@ -1,0 +1,5 @@
+use Rattle.byte_unit_base.proofs.Beginnings.{size_fronts_are_beginnings}
+use Rattle.byte_unit_base.proofs.laws.readers.size_fronts_are_beginnings.Goals as goal
+
+pub returns : goal.returns
+returns c = size_fronts_are_beginnings

@@ -1,0 +1,5 @@
+use Rattle.byte_unit_base.proofs.UnitLaw.{unit_texts_have_one_answer}
+use Rattle.byte_unit_base.proofs.laws.readers.unit_texts_have_one_answer.Goals as goal
+
+pub returns : goal.returns
+returns c = unit_texts_have_one_answer

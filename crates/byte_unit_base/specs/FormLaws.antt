@@ -1,0 +1,33 @@
+-- Laws of the texts of sizes.
+use Rattle.std.specs.Prelude.{◌≡◌, ◌≢◌, ℕ, ◌<◌, Bool, List}
+use Rattle.byte_unit_base.specs.Shape.{Shape}
+use Rattle.byte_unit_base.specs.Edition.{Edition}
+use Rattle.byte_unit_base.specs.Accepted.{Accepted}
+use Rattle.byte_unit_base.specs.Adjusted.{IsAdjustedForm}
+use Rattle.byte_unit_base.specs.Forms.{IsSizeForm}
+use Rattle.byte_unit_base.specs.Plain.{plain}
+use Rattle.byte_unit_base.specs.declared.kind.Kind.{Kind}
+use Rattle.byte_unit_base.specs.declared.format.spec.FormatSpec.{FormatSpec}
+use Rattle.byte_unit_base.specs.declared.format.spec.Sign.TheVariants.{Plus}
+
+-- each form of the size with a unit is read as the size
+abbrev pub ReadsBack : Edition → Kind → ℕ → FormatSpec → Bool → Type 0
+ReadsBack edition kind size spec ignore_case =
+    (text : List ℕ) → size < edition.size_limit → IsSizeForm edition kind size spec text → Accepted edition kind ignore_case text size
+
+-- so is its plain form, where it has no plus sign
+abbrev pub PlainReadsBack : Edition → Kind → ℕ → FormatSpec → Bool → Type 0
+PlainReadsBack edition kind size spec ignore_case =
+    size < edition.size_limit → spec.sign ≢ Plus → Accepted edition kind ignore_case (plain size spec) size
+
+-- the size has a form with a unit, and one alone
+pub record HasOneForm (edition : Edition) (kind : Kind) (size : ℕ) (spec : FormatSpec) : Type 0 where
+  pub form : List ℕ
+  pub is_form : IsSizeForm edition kind size spec form
+  pub one : (other : List ℕ) → IsSizeForm edition kind size spec other → other ≡ form
+
+-- the size has a form in the unit, and one alone
+pub record HasOneAdjustedForm (edition : Edition) (kind : Kind) (size : ℕ) (unit : Shape) (spec : FormatSpec) : Type 0 where
+  pub form : List ℕ
+  pub is_form : IsAdjustedForm edition kind size unit spec form
+  pub one : (other : List ℕ) → IsAdjustedForm edition kind size unit spec other → other ≡ form

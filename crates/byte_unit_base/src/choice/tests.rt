@@ -1,0 +1,73 @@
+use super::*;
+
+/// Sizes are below this.
+const LIMIT: u128 = 1_000_000_000_000_000_000_000_000_000;
+
+#[test]
+fn no_unit_states_these(rt: HostRuntime) {
+    for (size, family, divisor, places) in [
+        (0, Family::All, 8, 28),
+        (0, Family::Bits, 1, 0),
+        (999, Family::Bytes, 8, 28),
+        (124, Family::All, 8, 28),
+        (16, Family::All, 1, 28),
+        (1001, Family::Bytes, 8, 2),
+        (3_211_776, Family::Bytes, 8, 0),
+    ] {
+        assert!(rt; size < LIMIT && (divisor == 8 || divisor == 1));
+        let choice = choose_unit(size, family, divisor, places, &mut Steps::new());
+        assert_eq!(rt; choice, None, "{size}");
+    }
+}
+
+#[test]
+fn units_above_the_size_take_no_tick(rt: HostRuntime) {
+    let mut steps = Steps::new();
+    for size in [0, 1, 500, 999] {
+        let _ = choose_unit(size, Family::Bytes, 8, 28, &mut steps);
+        assert_eq!(rt; steps.count(), 0, "{size}");
+    }
+}
+
+#[test]
+fn the_count_goes_on_from_where_it_was(rt: HostRuntime) {
+    let mut once = Steps::new();
+    let _ = choose_unit(1088, Family::Bytes, 8, 3, &mut once);
+    let mut twice = once;
+    let _ = choose_unit(1088, Family::Bytes, 8, 3, &mut twice);
+    assert!(rt; once.count() >= 3 && once.count() < 1000);
+    assert_eq!(rt; twice.count(), 2 * once.count());
+}
+
+#[test]
+fn the_largest_unit_is_the_one_not_above_the_size(rt: HostRuntime) {
+    for (size, family, kind, divisor, unit) in [
+        (10_000, Family::Bytes, UnitType::Both, 8, Some(Unit::KiB)),
+        (1000, Family::Bytes, UnitType::Both, 8, Some(Unit::KB)),
+        (1023, Family::Bytes, UnitType::Both, 8, Some(Unit::KB)),
+        (0, Family::Bytes, UnitType::Both, 8, None),
+        (10_000, Family::Bytes, UnitType::Binary, 8, Some(Unit::KiB)),
+        (10_000, Family::Bytes, UnitType::Decimal, 8, Some(Unit::KB)),
+        (
+            1_048_575,
+            Family::Bytes,
+            UnitType::Binary,
+            8,
+            Some(Unit::KiB),
+        ),
+        (
+            1_500_000,
+            Family::Bytes,
+            UnitType::Binary,
+            8,
+            Some(Unit::MiB),
+        ),
+        (1000, Family::Bits, UnitType::Binary, 1, None),
+        (1030, Family::Bits, UnitType::Decimal, 1, Some(Unit::Kbit)),
+        (125, Family::All, UnitType::Both, 8, Some(Unit::Kbit)),
+        (u128::MAX, Family::All, UnitType::Both, 8, Some(Unit::YiB)),
+    ] {
+        assert!(rt; divisor == 8 || divisor == 1);
+        assert_eq!(rt; largest_unit(size, family, kind, divisor), unit, "{size}");
+    }
+}

@@ -1,0 +1,17 @@
+//! Texts of sizes.
+
+mod adjusted;
+mod digits;
+mod forms;
+mod layout;
+mod plain;
+mod room;
+mod spec;
+#[cfg(test)]
+mod tests;
+
+pub use adjusted::{adjusted_len, append_adjusted};
+pub use forms::{append_text, text_len};
+pub use layout::{append_layout, layout_len};
+pub use plain::{append_plain, plain_len};
+pub use spec::{Align, FormatSpec, Sign};

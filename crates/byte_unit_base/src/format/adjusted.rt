@@ -1,0 +1,138 @@
+//! The text of a size in a given unit.
+
+ghost use Rattle.std.specs.Prelude.{◌≡◌, ℕ, ◌+◌, ◌*◌, ◌^◌, ◌<◌, ◌≤◌, ◌++◌, List, length, OnOk, OnErr};
+ghost use Rattle.std.specs.String.{string_bytes};
+ghost use Rattle.byte_unit_math.specs.Bounds.{bits_limit};
+ghost use Rattle.byte_unit_math.specs.Finite.{IsExpansion};
+ghost use Rattle.byte_unit_math.specs.Nearest.{IsNearest};
+ghost use Rattle.byte_unit_math.specs.Numeral.{text_of, padded};
+ghost use Rattle.byte_unit_base.specs.Shape.{bits};
+ghost use Rattle.byte_unit_base.specs.Edition.{current};
+ghost use Rattle.byte_unit_base.specs.Units.{shape_of};
+ghost use Rattle.byte_unit_base.specs.Kinds.{bits_in};
+ghost use Rattle.byte_unit_base.specs.Room.{spare};
+ghost use Rattle.byte_unit_base.specs.Forms.{text_limit};
+ghost use Rattle.byte_unit_base.specs.Adjusted.{IsAdjustedNumeral, IsAdjustedForm, is_single};
+
+use crate::format::layout::{append_layout, layout_len};
+use crate::format::spec::FormatSpec;
+use crate::kind::Kind;
+use crate::unit::Unit;
+use byte_unit_math::{Expansion, Ties};
+use std::alloc::{AllocError, Allocator};
+
+/// The most places of the alternate form.
+const ALTERNATE_PLACES: u16 = 16;
+
+/// A decimal, and how many of its places are shown.
+#[derive(Clone, Copy)]
+struct Shown {
+    decimal: Expansion,
+    places: u32,
+}
+
+/// How long the text of a size in a unit is. It takes no memory.
+pub fn adjusted_len(size: u128, kind: Kind, unit: Unit, spec: FormatSpec) -> usize
+    requires { size < current.size_limit }
+    ensures exact { (form : List ℕ) → IsAdjustedForm current kind size (shape_of unit) spec form → result ≡ length form }
+    ensures small { result < text_limit }
+{
+    let shown = number_in(size, kind, unit, spec);
+    layout_len(&shown.decimal, shown.places, unit, spec)
+}
+
+/// Adds the text of a size in a unit: all its digits where no precision is set or the unit has no prefix, else the nearest
+/// decimal with exactly so many places, to the even digit where two are as near. In the alternate form a precision always
+/// counts, as 16 at most; of two that are as near the greater is taken, and zeros at the end are left out.
+///
+/// It asks for memory once at most, before it writes. `AllocError` comes only where the room that the text has left
+/// is less than `adjusted_len`, and leaves the text as it was.
+///
+/// ```text
+/// let two = FormatSpec { precision: Some(2), ..FormatSpec::PLAIN };
+/// append_adjusted(1005, Kind::Byte, Unit::KB, two, &mut text)?;  // "1.00 KB"
+/// ```
+pub fn append_adjusted<A: Allocator>(
+    size: u128,
+    kind: Kind,
+    unit: Unit,
+    spec: FormatSpec,
+    text: &mut String<A>,
+) -> Result<(), AllocError>
+    requires { size < current.size_limit }
+    ensures ok { OnOk result ((form : List ℕ) × IsAdjustedForm current kind size (shape_of unit) spec form × (string_bytes text.new ≡ string_bytes text.old ++ form)) }
+    ensures spare { OnOk result ((form : List ℕ) → IsAdjustedForm current kind size (shape_of unit) spec form → spare text.old ≤ spare text.new + length form) }
+    ensures err { OnErr result (string_bytes text.new ≡ string_bytes text.old) }
+    ensures room { OnErr result ((form : List ℕ) × IsAdjustedForm current kind size (shape_of unit) spec form × (spare text.old < length form)) }
+{
+    let shown = number_in(size, kind, unit, spec);
+    append_layout(&shown.decimal, shown.places, unit, spec, text)
+}
+
+/// The digits that are shown of the size in the unit.
+fn number_in(size: u128, kind: Kind, unit: Unit, spec: FormatSpec) -> Shown
+    requires { size < current.size_limit }
+    ensures number { IsAdjustedNumeral spec.precision spec.alternate (is_single (shape_of unit)) (size * bits_in kind) (bits (shape_of unit)) (text_of (padded result.places result.decimal)) }
+    ensures few { result.places ≤ u16.MAX }
+{
+    match spec.precision {
+        None => all_places(exact(size, kind, unit)),
+        Some(precision) => {
+            if spec.alternate {
+                let places = u32::from(precision.min(ALTERNATE_PLACES));
+                all_places(nearest(size, kind, unit, places, Ties::Up))
+            } else if is_single(unit) {
+                all_places(exact(size, kind, unit))
+            } else {
+                let places = u32::from(precision);
+                Shown {
+                    decimal: nearest(size, kind, unit, places, Ties::Even),
+                    places,
+                }
+            }
+        }
+    }
+}
+
+/// A decimal with all its places.
+fn all_places(decimal: Expansion) -> Shown
+    ensures decimal { result.decimal ≡ decimal }
+    ensures places { result.places ≡ length decimal.digits }
+    ensures few { result.places ≤ u16.MAX }
+{
+    let places = decimal.places();
+    Shown { decimal, places }
+}
+
+/// The size in the unit, to so many places.
+fn nearest(size: u128, kind: Kind, unit: Unit, places: u32, ties: Ties) -> Expansion
+    requires { size < current.size_limit }
+    ensures { (q : ℕ) × IsNearest (size * bits_in kind) (bits (shape_of unit)) places ties q × IsExpansion q (10 ^ places) result }
+{
+    exact(size, kind, unit).rounded(places, ties)
+}
+
+/// The size in the unit, with all its digits.
+#[tactic(auto)]
+fn exact(size: u128, kind: Kind, unit: Unit) -> Expansion
+    requires { size < current.size_limit }
+    ensures { IsExpansion (size * bits_in kind) (bits (shape_of unit)) result }
+{
+    let (twos, fives) = unit.powers();
+    Expansion::new(size_in_bits(size, kind), twos, fives)
+}
+
+fn size_in_bits(size: u128, kind: Kind) -> u128
+    requires { size < current.size_limit }
+    ensures value { result ≡ size * bits_in kind }
+    ensures small { result < bits_limit }
+{
+    size * kind.bits()
+}
+
+/// Whether the unit has no prefix.
+fn is_single(unit: Unit) -> bool
+    ensures { result ≡ is_single (shape_of unit) }
+{
+    matches!(unit, Unit::Bit | Unit::B)
+}

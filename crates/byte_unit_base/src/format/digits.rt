@@ -1,0 +1,79 @@
+//! The decimal digits of a number.
+
+ghost use Rattle.std.specs.Prelude.{◌≡◌, ◌+◌, ◌≤◌, ◌<◌, ◌++◌, length, drop, IsAscii};
+ghost use Rattle.std.specs.Fmt.{decimal};
+
+use std::marker::Model;
+
+/// More than the digits of the greatest number.
+const ROOM: usize = 40;
+
+/// So many digits are taken off at once where a number is above 64 bits: 18 of them.
+const GROUP: u128 = 1_000_000_000_000_000_000;
+
+/// The digits of a number, at the end of an array.
+#[derive(Drop)]
+pub(crate) struct Digits {
+    bytes: [u8; ROOM],
+    start: usize,
+}
+
+impl Model for Digits {
+    ghost use Rattle.std.specs.Prelude.{ℕ, List, drop, ◌≤◌, ◌≡◌, length};
+
+    ghost Value = { List ℕ };
+
+    ghost view = { λ d. drop d.start d.bytes };
+
+    ghost invariant = { λ d. (d.start ≤ 40) × (length d.bytes ≡ 40) };
+}
+
+impl Digits {
+    pub(crate) fn of(n: u128) -> Digits
+        ensures digits { result ≡ decimal n }
+        ensures ascii { IsAscii result }
+        ensures few { length result ≤ 39 }
+    {
+        let mut bytes = [b'0'; ROOM];
+        let mut start = ROOM;
+        let mut rest = n;
+        while rest > u128::from(u64::MAX) {
+            // A one before the group keeps the zeros it begins with; the next digits are written over it.
+            let group = (GROUP + rest % GROUP) as u64;
+            start = write_digits(group, &mut bytes, start) + 1;
+            rest /= GROUP;
+        }
+        start = write_digits(rest as u64, &mut bytes, start);
+        Digits { bytes, start }
+    }
+
+    pub(crate) fn len(&self) -> usize
+        ensures { result ≡ length self.now }
+    {
+        ROOM - self.start
+    }
+
+    pub(crate) fn as_slice(&self) -> &[u8]
+        ensures { result.now ≡ self.now }
+    {
+        &self.bytes[self.start..]
+    }
+}
+
+/// Writes digits that end before this place, and answers where they begin.
+fn write_digits(n: u64, bytes: &mut [u8; ROOM], end: usize) -> usize
+    requires room { length (decimal n) ≤ end }
+    requires within { end ≤ 40 }
+    ensures begins { result + length (decimal n) ≡ end }
+    ensures digits { drop result bytes.new ≡ decimal n ++ drop end bytes.old }
+{
+    let mut start = end - 1;
+    let mut rest = n;
+    while rest >= 10 {
+        bytes[start] = b'0' + (rest % 10) as u8;
+        rest /= 10;
+        start -= 1;
+    }
+    bytes[start] = b'0' + rest as u8;
+    start
+}

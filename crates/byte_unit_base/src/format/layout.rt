@@ -1,0 +1,176 @@
+//! A number with its unit.
+
+ghost use Rattle.std.specs.Prelude.{◌≡◌, ℕ, ◌+◌, ◌<◌, ◌≤◌, ◌++◌, List, length, take, max, OnOk, OnErr, IsAscii};
+ghost use Rattle.std.specs.Fmt.{decimal};
+ghost use Rattle.std.specs.String.{string_bytes};
+ghost use Rattle.byte_unit_base.specs.Edition.{name, current};
+ghost use Rattle.byte_unit_base.specs.Units.{shape_of};
+ghost use Rattle.byte_unit_math.specs.Numeral.{glyphs, text_of, padded};
+ghost use Rattle.byte_unit_base.specs.Room.{spare};
+ghost use Rattle.byte_unit_base.specs.Layout.{layout, before_layout, gap_of};
+ghost use Rattle.byte_unit_base.specs.Shown.{numeral_of, shown_fraction};
+
+use crate::format::digits::Digits;
+use crate::format::plain::padding;
+use crate::format::room::{push, push_ascii, push_run, reserve};
+use crate::format::spec::{Align, FormatSpec, Sign};
+use crate::unit::Unit;
+use byte_unit_math::Expansion;
+use std::alloc::{AllocError, Allocator};
+
+/// The most digits of an expansion.
+const MOST: usize = 83;
+
+/// How long a decimal of so many places is with its unit. It takes no memory.
+///
+/// ```text
+/// layout_len(&Expansion::new(10, 0, 0), 0, Unit::KB, FormatSpec::ALTERNATE)  // 5: "10 KB"
+/// ```
+pub fn layout_len(e: &Expansion, places: u32, unit: Unit, spec: FormatSpec) -> usize
+    ensures exact { result ≡ length (layout (text_of (padded places e.now)) (name current (shape_of unit)) spec) }
+    // A whole part, the point, and the unit with its spaces take no more than 44 columns.
+    ensures small { result ≤ max u16.MAX (places + 44) }
+{
+    columns(e, places, unit, spec)
+}
+
+/// Adds a decimal with exactly so many places, and its unit. Where a width is set the number is padded with spaces
+/// to the columns that the unit leaves: before it where it is aligned to the right, and else after it.
+/// Between number and unit stand as many spaces as the sign says; a sign is never printed.
+///
+/// It asks for memory once at most, before it writes. `AllocError` comes only where the room that the text has left
+/// is less than `layout_len`, and leaves the text as it was.
+///
+/// ```text
+/// let ten = FormatSpec { width: Some(10), ..FormatSpec::ALTERNATE };
+/// append_layout(&Expansion::new(10, 0, 0), 0, Unit::KiB, ten, &mut text)?;  // "10     KiB"
+/// ```
+pub fn append_layout<A: Allocator>(
+    e: &Expansion,
+    places: u32,
+    unit: Unit,
+    spec: FormatSpec,
+    text: &mut String<A>,
+) -> Result<(), AllocError>
+    ensures ok { OnOk result (string_bytes text.new ≡ string_bytes text.old ++ layout (text_of (padded places e.now)) (name current (shape_of unit)) spec) }
+    ensures spare { OnOk result (spare text.old ≤ spare text.new + length (layout (text_of (padded places e.now)) (name current (shape_of unit)) spec)) }
+    ensures err { OnErr result (string_bytes text.new ≡ string_bytes text.old) }
+    ensures room { OnErr result (spare text.old < length (layout (text_of (padded places e.now)) (name current (shape_of unit)) spec)) }
+{
+    write(e, places, unit, spec, text)
+}
+
+/// The length of what `write` adds.
+fn columns(e: &Expansion, places: u32, unit: Unit, spec: FormatSpec) -> usize
+    ensures exact { result ≡ length (layout (numeral_of e.now places) (name current (shape_of unit)) spec) }
+    ensures small { result ≤ max u16.MAX (places + 44) }
+{
+    let number = Digits::of(e.whole()).len() + fraction_len(places);
+    let len = number + gap(unit, spec.sign) + name_len(unit);
+    len + padding(len, spec.width)
+}
+
+/// Adds the digits that are shown of a decimal, and its unit.
+fn write<A: Allocator>(
+    e: &Expansion,
+    places: u32,
+    unit: Unit,
+    spec: FormatSpec,
+    text: &mut String<A>,
+) -> Result<(), AllocError>
+    ensures ok { OnOk result (string_bytes text.new ≡ string_bytes text.old ++ layout (numeral_of e.now places) (name current (shape_of unit)) spec) }
+    ensures spare { OnOk result (spare text.old ≤ spare text.new + length (layout (numeral_of e.now places) (name current (shape_of unit)) spec)) }
+    ensures err { OnErr result (string_bytes text.new ≡ string_bytes text.old) }
+    ensures room { OnErr result (spare text.old < length (layout (numeral_of e.now places) (name current (shape_of unit)) spec)) }
+{
+    let whole = Digits::of(e.whole());
+    let gap = gap(unit, spec.sign);
+    let len = whole.len() + fraction_len(places) + gap + name_len(unit);
+    let pad = padding(len, spec.width);
+    reserve(text, len + pad)?;
+    let before = before(spec.align, pad);
+    push_run(text, b' ', before);
+    push_numeral(text, &whole, e, places);
+    push_run(text, b' ', pad - before);
+    push_run(text, b' ', gap);
+    text.push_str(unit.as_str()).unwrap();
+    Ok(())
+}
+
+/// How many of the spaces stand before the number.
+fn before(align: Option<Align>, pad: usize) -> usize
+    ensures exact { result ≡ before_layout align pad }
+    ensures small { result ≤ pad }
+{
+    match align {
+        Some(Align::Right) => pad,
+        Some(Align::Left) | Some(Align::Center) | None => 0,
+    }
+}
+
+#[tactic(auto, using(crate::proofs::UnitNames::name_short))]
+fn name_len(unit: Unit) -> usize
+    ensures exact { result ≡ length (name current (shape_of unit)) }
+    ensures some { 1 ≤ result }
+    ensures small { result ≤ 3 }
+{
+    unit.as_str().len()
+}
+
+/// The spaces between number and unit.
+fn gap(unit: Unit, sign: Sign) -> usize
+    ensures exact { result ≡ gap_of sign (name current (shape_of unit)) }
+    ensures small { result + length (name current (shape_of unit)) ≤ 4 }
+{
+    match sign {
+        Sign::Unset => 1,
+        Sign::Plus => 4 - name_len(unit),
+        Sign::Minus => 0,
+    }
+}
+
+/// How many columns the point and so many digits take.
+fn fraction_len(places: u32) -> usize
+    ensures exact { (digits : List ℕ) → result ≡ length (shown_fraction places digits) }
+    ensures small { result ≤ places + 1 }
+{
+    if places == 0 { 0 } else { 1 + places as usize }
+}
+
+/// Adds a decimal with exactly so many places.
+fn push_numeral<A: Allocator>(text: &mut String<A>, whole: &Digits, e: &Expansion, places: u32)
+    requires whole { whole.now ≡ decimal e.now.whole }
+    requires ascii { IsAscii whole.now }
+    requires room { length (numeral_of e.now places) ≤ spare text.old }
+    ensures bytes { string_bytes text.new ≡ string_bytes text.old ++ numeral_of e.now places }
+    ensures spare { spare text.old ≤ spare text.new + length (numeral_of e.now places) }
+{
+    push_ascii(text, whole.as_slice());
+    push_fraction(text, e, places);
+}
+
+/// Adds the point and exactly so many digits, or nothing where there are to be none.
+fn push_fraction<A: Allocator>(text: &mut String<A>, e: &Expansion, places: u32)
+    requires room { length (shown_fraction places e.now.digits) ≤ spare text.old }
+    ensures bytes { string_bytes text.new ≡ string_bytes text.old ++ shown_fraction places e.now.digits }
+    ensures spare { spare text.old ≤ spare text.new + length (shown_fraction places e.now.digits) }
+{
+    if places > 0 {
+        let shown = places.min(e.places()) as usize;
+        push(text, '.');
+        push_ascii(text, &glyphs_of(e)[..shown]);
+        push_run(text, b'0', places as usize - shown);
+    }
+}
+
+/// The digits of an expansion as characters, and zeros behind them.
+fn glyphs_of(e: &Expansion) -> [u8; MOST]
+    ensures front { take (length e.now.digits) result ≡ glyphs e.now.digits }
+    ensures ascii { IsAscii result }
+{
+    let mut glyphs = [b'0'; MOST];
+    for i in 0..e.places() {
+        glyphs[i as usize] = b'0' + e.digit(i + 1);
+    }
+    glyphs
+}

@@ -1,0 +1,6 @@
+//! Laws over the definitions. Each function does nothing: its contract is the law.
+
+pub mod choices;
+pub mod readers;
+pub mod sizes;
+pub mod texts;

@@ -1,0 +1,29 @@
+//! Laws of the texts of sizes.
+
+ghost use Rattle.byte_unit_base.specs.Edition.{current};
+ghost use Rattle.byte_unit_base.specs.Units.{shape_of};
+ghost use Rattle.byte_unit_base.specs.FormLaws.{ReadsBack, PlainReadsBack, HasOneForm, HasOneAdjustedForm};
+
+use crate::format::FormatSpec;
+use crate::kind::Kind;
+use crate::unit::Unit;
+
+/// What the form of a size with a unit says is read as that size.
+pub fn size_form_reads_back(kind: Kind, size: u128, spec: FormatSpec, ignore_case: bool)
+    ensures { ReadsBack current kind size spec ignore_case }
+{}
+
+/// So is what its plain form says, where no plus sign is asked for.
+pub fn plain_form_reads_back(kind: Kind, size: u128, spec: FormatSpec, ignore_case: bool)
+    ensures { PlainReadsBack current kind size spec ignore_case }
+{}
+
+/// A size has one form with a unit under each spec.
+pub fn size_has_one_form(kind: Kind, size: u128, spec: FormatSpec)
+    ensures { HasOneForm current kind size spec }
+{}
+
+/// A size has one form in each unit under each spec.
+pub fn size_has_one_adjusted_form(kind: Kind, size: u128, unit: Unit, spec: FormatSpec)
+    ensures { HasOneAdjustedForm current kind size (shape_of unit) spec }
+{}

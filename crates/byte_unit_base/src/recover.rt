@@ -1,0 +1,82 @@
+//! A size in the unit that states it best, or in its own.
+
+ghost use Rattle.std.specs.Prelude.{◌≡◌, ℕ, ◌*◌, ◌<◌, ◌≤◌, min};
+ghost use Rattle.byte_unit_math.specs.Bounds.{places_of_decimal, one};
+ghost use Rattle.byte_unit_math.specs.Steps.{raised};
+ghost use Rattle.byte_unit_base.specs.Shape.{bits};
+ghost use Rattle.byte_unit_base.specs.Edition.{current};
+ghost use Rattle.byte_unit_base.specs.Kinds.{bits_in};
+ghost use Rattle.byte_unit_base.specs.Units.{shape_of};
+ghost use Rattle.byte_unit_base.specs.Family.{units_in};
+ghost use Rattle.byte_unit_base.specs.Choice.{IsRecovered, CountsDigits, family_for};
+
+use crate::choice::choose_unit;
+use crate::kind::Kind;
+use crate::unit::Unit;
+use crate::unit::family::Family;
+use byte_unit_math::{Decimal, Steps};
+
+/// The largest unit, not above the size, that states it exactly within the precision, with its
+/// number; where there is none, the size itself in `B` or `Bit`.
+///
+/// The unit is of the size's own kind, or of either where `allow` is set. The size is below 10^27. A
+/// precision above 28 counts as 28. `steps` rises as by `choose_unit`.
+///
+/// ```text
+/// recoverable_unit(50_840_000, Kind::Byte, false, 2, steps)   50.84 MB
+/// recoverable_unit(437_500, Kind::Byte, true, 3, steps)       3.5 Mbit
+/// recoverable_unit(500, Kind::Byte, false, 3, steps)          500 B
+/// ```
+pub fn recoverable_unit(
+    size: u128,
+    kind: Kind,
+    allow: bool,
+    precision: usize,
+    steps: &mut Steps,
+) -> (Decimal, Unit)
+    requires { size < current.size_limit }
+    ensures recovered { IsRecovered current kind (family_for kind allow) size (min precision places_of_decimal) (shape_of result.1) result.0 }
+    ensures exact { result.0 * bits (shape_of result.1) ≡ size * bits_in kind * one }
+    ensures ticks { (ticks : ℕ) × (ticks ≤ places_of_decimal * units_in current (family_for kind allow)) × (steps.new ≡ raised steps.old ticks) }
+    ensures counted { CountsDigits result.0 steps.old steps.new }
+    ensures no_ticks { precision ≡ 0 → steps.new ≡ steps.old }
+{
+    let family = family_for(kind, allow);
+    match choose_unit(size, family, kind.bits(), precision, steps) {
+        Some(chosen) => chosen,
+        None => (Decimal::from_u128(size).unwrap(), kind.unit()),
+    }
+}
+
+/// The largest unit that divides the size, with the whole number of them; where there is none, the
+/// size itself in `B` or `Bit`.
+///
+/// The unit is of the size's own kind, or of either where `allow` is set. The size is below 10^27.
+///
+/// ```text
+/// exact_unit(50_840_000, Kind::Byte, false)    50840 KB
+/// exact_unit(24_000_000, Kind::Bit, true)      3 MB
+/// exact_unit(16, Kind::Bit, true)              16 Bit
+/// ```
+pub fn exact_unit(size: u128, kind: Kind, allow: bool) -> (u128, Unit)
+    requires { size < current.size_limit }
+    ensures recovered { IsRecovered current kind (family_for kind allow) size 0 (shape_of result.1) (result.0 * one) }
+    ensures exact { result.0 * bits (shape_of result.1) ≡ size * bits_in kind }
+{
+    let (number, unit) = recoverable_unit(size, kind, allow, 0, &mut Steps::new());
+    (number.whole(), unit)
+}
+
+/// The multiples that a size of the kind may stand in.
+fn family_for(kind: Kind, allow: bool) -> Family
+    ensures { result ≡ family_for kind allow }
+{
+    match (kind, allow) {
+        (_, true) => Family::All,
+        (Kind::Byte, false) => Family::Bytes,
+        (Kind::Bit, false) => Family::Bits,
+    }
+}
+
+#[cfg(test)]
+mod tests;
