@@ -2,13 +2,13 @@ pub mod Lists
 pub mod Trim
 pub mod Scales
 pub mod UnitLoop
-pub mod UnitLaws
+pub mod UnitReached
 pub mod UnitReads
 pub mod SizeSteps
-pub mod SizeLaws
+pub mod SizeReached
 pub mod SizeReads
+pub mod SizeFaults
+pub mod UnitAnswers
 pub mod SizeAnswers
-pub mod UnitLaw
-pub mod SizeLaw
 pub mod Names
 pub mod Beginnings

@@ -1,5 +1,4 @@
 -- The errors of the crate as faults.
-use Rattle.std.specs.Prelude.{ℕ}
 use Rattle.byte_unit_base.specs.Fault.{Fault, bad_unit, not_number, no_value, too_long, exceeded}
 use Rattle.byte_unit_base.specs.declared.errors.UnitParseError.{UnitParseError}
 use Rattle.byte_unit_base.specs.declared.errors.ValueParseError.{ValueParseError}

@@ -1,6 +1,6 @@
 -- Private: how the reader goes over a number and a unit, one step a character. No public contract cites this file; that
 -- what it comes to is the texts and faults of the other files is proved.
-use Rattle.std.specs.Prelude.{◌≢◌, ℕ, ◌+◌, ◌-◌, ◌*◌, ◌^◌, ◌<◌, ◌≤◌, ⊤, Bool, true, if◌then◌else◌, ◌==◌, nat_lt, List, [], ◌∷◌, Option, Some, None, Result, Ok, Err, option_and_then}
+use Rattle.std.specs.Prelude.{◌≢◌, ℕ, ◌+◌, ◌-◌, ◌*◌, ◌^◌, ◌<◌, ◌≤◌, ⊤, Bool, if◌then◌else◌, ◌==◌, nat_lt, List, [], ◌∷◌, Option, Some, None, Result, Ok, Err, option_and_then}
 use Rattle.std.specs.Option.{option_map}
 use Rattle.std.specs.Char.{digit_value}
 use Rattle.byte_unit_math.specs.Bounds.{one, places_of_decimal, whole_limit}

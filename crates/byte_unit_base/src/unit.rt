@@ -7,7 +7,7 @@ ghost use Rattle.byte_unit_base.specs.Edition.{name, current};
 use std::fmt;
 
 mod parse;
-pub mod scan;
+pub(crate) mod scan;
 
 /// A unit of bits or bytes, with one of the prefixes of the SI or of the IEC or with none.
 ///
