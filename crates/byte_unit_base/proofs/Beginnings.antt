@@ -14,19 +14,19 @@ use Rattle.byte_unit_base.specs.declared.unit.scan.Multiple.{Multiple}
 use Rattle.byte_unit_base.specs.declared.unit.scan.UnitScan.{UnitScan}
 use Rattle.byte_unit_base.specs.declared.read.scan.SizeScan.{SizeScan}
 use Rattle.byte_unit_base.specs.declared.read.scan.SizeScan.TheVariants.{Beginning, Whole, Point, Fraction, Gap, Unit as UnitAt}
-use Rattle.byte_unit_base.proofs.UnitLaws.{unit_run_append, Reached-start}
+use Rattle.byte_unit_base.proofs.UnitReached.{unit_run_append, Reached-start}
 use Rattle.byte_unit_base.proofs.UnitReads
-use Rattle.byte_unit_base.proofs.UnitLaw
+use Rattle.byte_unit_base.proofs.UnitAnswers
 use Rattle.byte_unit_base.proofs.SizeReads
+use Rattle.byte_unit_base.proofs.SizeFaults
 use Rattle.byte_unit_base.proofs.SizeAnswers
-use Rattle.byte_unit_base.proofs.SizeLaw
 
 -- what is scanned to its end is scanned at each beginning
 some_before : {S : Type 0} (next : S → Option S) (o : Option S) (u : S) → option_and_then next o ≡ Some u → (t : S) × (o ≡ Some t)
 some_before next None u e = absurd (let k : ⊥ = cc in k)
 some_before next (Some t) u e = (t, refl)
 
--- ---- units
+-- units
 
 -- at each state something more makes a spelling
 record UnitGoesOn (flags : Flags) (s : UnitScan) : Type 0 where
@@ -54,12 +54,12 @@ unit_beginning_is_front : (flags : Flags) (text more : List ℕ) (s : Shape) →
 unit_beginning_is_front flags text more s h =
     let r = UnitReads.spelling_runs flags (text ++ more) s h in
     let t = some_before (λ u. unit_run u more) (unit_run start text) (scan_of r.multiple r.word) (sym (unit_run_append start text more) ∙ r.run) in
-    (place_of t.0, UnitReads.front_reached t.0.multiple t.0.word text (UnitLaw.reached_run text [] start t.0 t.1 Reached-start))
+    (place_of t.0, UnitReads.front_reached t.0.multiple t.0.word text (UnitAnswers.reached_run text [] start t.0 t.1 Reached-start))
 
 pub unit_fronts_are_beginnings : UnitFrontsAreBeginnings
 unit_fronts_are_beginnings flags text = (λ f. unit_front_begins flags text f.0 f.1, λ b. unit_beginning_is_front flags text b.0 b.1 b.2)
 
--- ---- numbers and units
+-- numbers and units
 
 record SizeGoesOn (flags : Flags) (s : SizeScan) : Type 0 where
   more : List ℕ
@@ -90,13 +90,13 @@ size_front_begins flags text place h =
     let r = SizeReads.scan_front place text h in
     let m = size_goes_on flags r.0 in
     let e = SizeReads.read_through flags r.0 text m.more Beginning r.1 ∙ m.ends in
-    (m.more, m.number, m.shape, subst (SizeAnswers.SizeResult flags (text ++ m.more)) e (SizeAnswers.reads_rightly flags (text ++ m.more)))
+    (m.more, m.number, m.shape, subst (SizeFaults.SizeResult flags (text ++ m.more)) e (SizeFaults.reads_rightly flags (text ++ m.more)))
 
 size_beginning_is_front : (flags : Flags) (text more : List ℕ) (n : ℕ) (s : Shape) → SizeText current flags (text ++ more) n s → (place : Place) × IsSizeFront current place text
 size_beginning_is_front flags text more n s h =
     let r = SizeReads.size_text_runs flags (text ++ more) n s h in
     let t = some_before (λ u. size_run u more) (size_run Beginning text) r.state (sym (SizeReads.size_run_append Beginning text more) ∙ r.run) in
-    (size_place t.0, SizeAnswers.front_at t.0 text (SizeLaw.reached_run text [] Beginning t.0 t.1 refl))
+    (size_place t.0, SizeFaults.front_at t.0 text (SizeAnswers.reached_run text [] Beginning t.0 t.1 refl))
 
 pub size_fronts_are_beginnings : SizeFrontsAreBeginnings
 size_fronts_are_beginnings flags text = (λ f. size_front_begins flags text f.0 f.1, λ b. size_beginning_is_front flags text b.0 b.1 b.2 b.3)

@@ -4,7 +4,7 @@ use Rattle.std.proofs.Math.Nat.{pow-le-pow_right, one-le-pow, mul-le-mul_right}
 use Rattle.std.proofs.lemmas.Nat.{pow-add}
 use Rattle.byte_unit_math.specs.Bounds.{one, places_of_decimal}
 
-pub power_bounds : (k : ℕ) → k ≤ places_of_decimal → (1 ≤ 10 ^ k) × (10 ^ k ≤ one)
+power_bounds : (k : ℕ) → k ≤ places_of_decimal → (1 ≤ 10 ^ k) × (10 ^ k ≤ one)
 power_bounds k h = (one-le-pow k 10 (omega arith), pow-le-pow_right {n = 10} (omega arith) h)
 
 power_parts : (k : ℕ) → k ≤ places_of_decimal → 10 ^ k * 10 ^ (places_of_decimal - k) ≡ one

@@ -1,177 +1,85 @@
--- The first fault of a text that is no size text, and the clauses of the reader's callers.
-use Rattle.std.proofs.Common.{◌≡◌, ◌≢◌, ℕ, Bool, false, cond, ◌*◌, inl, inr, List, [], ◌∷◌, ◌++◌, Option, Some, None, Result, Ok, Err, IfOk, IfErr, option_and_then, replicate, sym, refl, ap, subst, ◌∙◌, true, append-nil}
-use Rattle.std.specs.Prelude.{IsOkAnd}
-use Rattle.byte_unit_math.specs.Bounds.{one}
+-- Each text of a number and a unit has one answer: all that is said of it is said by the scan.
+use Rattle.std.proofs.Common.{◌≡◌, ℕ, ◌⊎◌, inl, inr, List, [], ◌∷◌, ◌++◌, Option, Some, None, Result, Ok, Err, option_and_then, sym, refl, ap, subst, ◌∙◌, append-nil}
 use Rattle.byte_unit_base.specs.Shape.{Shape}
 use Rattle.byte_unit_base.specs.Edition.{current}
-use Rattle.byte_unit_base.specs.Units.{shape_of}
-use Rattle.byte_unit_base.specs.Spelling.{Flags, reading}
-use Rattle.byte_unit_base.specs.Number.{NumberText}
-use Rattle.byte_unit_base.specs.SizeText.{trimmed, SizeText}
-use Rattle.byte_unit_base.specs.Readings.{IsNumberReading}
-use Rattle.byte_unit_base.specs.Front.{Place, beginning, in_whole, after_point, in_fraction, in_gap, after_prefix, after_b, after_bi, after_bit, after_bits, IsUnitFront, IsSizedFront, IsSizeFront}
-use Rattle.byte_unit_base.specs.Fault.{Fault, SizeFault, FaultAfter, fault_at, fault_at_end, no_unit, too_long, exceeded, stops_at_bi, no_value, not_number}
-use Rattle.byte_unit_base.specs.Errors.{size_fault}
-use Rattle.byte_unit_base.specs.SizeScan.{size_seen}
-use Rattle.byte_unit_base.specs.UnitScan.{unit_of, word_place, scan_of, start as unit_start}
-use Rattle.byte_unit_base.specs.SizeScan.{is_digit, size_step, size_run, size_read, size_at_end, size_place, sized, precise}
-use Rattle.byte_unit_base.specs.declared.unit.Unit.{Unit as UnitName}
-use Rattle.byte_unit_base.specs.declared.errors.ParseError.{ParseError}
-use Rattle.byte_unit_base.specs.declared.unit.scan.UnitScan.{UnitScan}
-use Rattle.byte_unit_base.specs.declared.unit.scan.Multiple.{Multiple}
-use Rattle.byte_unit_base.specs.declared.unit.scan.Multiple.TheVariants.{One, Decimal, Binary}
+use Rattle.byte_unit_base.specs.Spelling.{Flags}
+use Rattle.byte_unit_base.specs.SizeText.{SizeText}
+use Rattle.byte_unit_base.specs.Front.{Place, IsSizeFront}
+use Rattle.byte_unit_base.specs.Fault.{Fault, SizeFault, FaultAfter, fault_at, fault_at_end}
+use Rattle.byte_unit_base.specs.Laws.{SizeTextsHaveOneAnswer}
+use Rattle.byte_unit_base.specs.UnitScan.{scan_of}
+use Rattle.byte_unit_base.specs.SizeScan.{size_step, size_run, size_read, size_at_end, size_place}
 use Rattle.byte_unit_base.specs.declared.unit.scan.Word.{Word}
 use Rattle.byte_unit_base.specs.declared.unit.scan.Word.TheVariants.{Empty, UpperB, LowerB, Bi, Bit, Bits}
+use Rattle.byte_unit_base.specs.declared.unit.scan.Multiple.{Multiple}
+use Rattle.byte_unit_base.specs.declared.unit.scan.Multiple.TheVariants.{One, Decimal, Binary}
 use Rattle.byte_unit_base.specs.declared.read.scan.SizeScan.{SizeScan}
 use Rattle.byte_unit_base.specs.declared.read.scan.SizeScan.TheVariants.{Beginning, Whole, Point, Fraction, Gap, Unit as UnitAt}
 use Rattle.byte_unit_base.proofs.Lists.{push_append}
-use Rattle.byte_unit_base.proofs.UnitLaws.{Reached-start, Spells-reached}
-use Rattle.byte_unit_base.proofs.UnitReads.{front_reached}
-use Rattle.byte_unit_base.proofs.SizeSteps.{step_is, size_read_some, size_read_none}
-use Rattle.byte_unit_base.proofs.SizeLaws.{SizeReached, SizeReached-step, UnitReached, fraction_number}
-use Rattle.byte_unit_base.proofs.SizeReads.{size_through, size_run_step, scan_front, reads_size}
+use Rattle.byte_unit_base.proofs.SizeSteps.{step_is, size_read_none}
+use Rattle.byte_unit_base.proofs.SizeReached.{SizeReached, SizeReached-step, UnitReached}
+use Rattle.byte_unit_base.proofs.SizeReads.{scan_front, read_through, reads_size}
+use Rattle.byte_unit_base.proofs.SizeFaults.{front_at, reads_rightly, SizeResult}
 
--- ---- the front that has been read
+-- what a scan has read is a front
+reached_on : (c : ℕ) (cs front : List ℕ) (s t : SizeScan) → ((u : SizeScan) → size_run u cs ≡ Some t → SizeReached u (front ++ c ∷ []) → SizeReached t ((front ++ c ∷ []) ++ cs)) → (o : Option SizeScan) → size_step s c ≡ o → option_and_then (λ u. size_run u cs) o ≡ Some t → SizeReached s front → SizeReached t (front ++ (c ∷ cs))
+reached_on c cs front s t more None e h r = absurd (let k : ⊥ = cc in k)
+reached_on c cs front s t more (Some u) e h r = subst (SizeReached t) (push_append front cs c) (more u h (SizeReached-step s u c front (step_is s u c e) r))
 
-sized_at : (n : ℕ) (s : UnitScan) (place : Place) (text : List ℕ) (r : UnitReached n s text) → IsUnitFront current place r.unit_part → IsSizedFront current place text
-sized_at n s place text r h = record { number_part = r.number_part; n = n; spaces = r.spaces; unit_part = r.unit_part; text_is = r.text_is; number_is = r.number_is; unit_is = h }
+pub reached_run : (cs front : List ℕ) (s t : SizeScan) → size_run s cs ≡ Some t → SizeReached s front → SizeReached t (front ++ cs)
+reached_run [] front s t e r = let k : s ≡ t = cc in subst (λ u. SizeReached u (front ++ [])) k (subst (SizeReached s) (sym (append-nil front)) r)
+reached_run (c ∷ cs) front s t e r = reached_on c cs front s t (λ u h k. reached_run cs (front ++ c ∷ []) u t h k) (size_step s c) refl e r
 
-unit_at : (n : ℕ) (m : Multiple) (w : Word) (text : List ℕ) → UnitReached n (scan_of m w) text → IsSizeFront current (word_place m w) text
-unit_at n One Empty text r = absurd (r.moved refl)
-unit_at n (Decimal p) Empty text r = sized_at n _ after_prefix text r (front_reached (Decimal p) Empty r.unit_part r.reached)
-unit_at n (Binary p) Empty text r = sized_at n _ after_prefix text r (front_reached (Binary p) Empty r.unit_part r.reached)
-unit_at n m UpperB text r = sized_at n _ after_b text r (front_reached m UpperB r.unit_part r.reached)
-unit_at n m LowerB text r = sized_at n _ after_b text r (front_reached m LowerB r.unit_part r.reached)
-unit_at n m Bi text r = sized_at n _ after_bi text r (front_reached m Bi r.unit_part r.reached)
-unit_at n m Bit text r = sized_at n _ after_bit text r (front_reached m Bit r.unit_part r.reached)
-unit_at n m Bits text r = sized_at n _ after_bits text r (front_reached m Bits r.unit_part r.reached)
+-- the fault of a text that stops there
+stops_in_unit : (flags : Flags) (n : ℕ) (m : Multiple) (w : Word) (text : List ℕ) (fault : Fault) → UnitReached n (scan_of m w) text → fault_at_end (size_place (UnitAt n (scan_of m w))) ≡ Some fault → size_at_end flags (UnitAt n (scan_of m w)) ≡ Err fault
+stops_in_unit flags n One Empty text fault r e = absurd (r.moved refl)
+stops_in_unit flags n (Decimal p) Empty text fault r e = absurd (let k : ⊥ = cc in k)
+stops_in_unit flags n (Binary p) Empty text fault r e = absurd (let k : ⊥ = cc in k)
+stops_in_unit flags n m UpperB text fault r e = absurd (let k : ⊥ = cc in k)
+stops_in_unit flags n m LowerB text fault r e = absurd (let k : ⊥ = cc in k)
+stops_in_unit flags n m Bi text fault r e = cc
+stops_in_unit flags n m Bit text fault r e = absurd (let k : ⊥ = cc in k)
+stops_in_unit flags n m Bits text fault r e = absurd (let k : ⊥ = cc in k)
 
-pub front_at : (s : SizeScan) (text : List ℕ) → SizeReached s text → IsSizeFront current (size_place s) text
-front_at Beginning text r = r
-front_at (Whole w) text r = (w, r)
-front_at (Point w) text r = (w, r)
-front_at (Fraction w f j) text r = (precise w f j, fraction_number w f j text r)
-front_at (Gap n) text r = (r.number_part, n, r.spaces, r.some, r.text_is, r.number_is)
-front_at (UnitAt n s) text r = unit_at n s.multiple s.word text r
+stops : (flags : Flags) (s : SizeScan) (text : List ℕ) (fault : Fault) → SizeReached s text → fault_at_end (size_place s) ≡ Some fault → size_at_end flags s ≡ Err fault
+stops flags Beginning text fault r e = cc
+stops flags (Whole w) text fault r e = absurd (let k : ⊥ = cc in k)
+stops flags (Point w) text fault r e = cc
+stops flags (Fraction w f j) text fault r e = absurd (let k : ⊥ = cc in k)
+stops flags (Gap n) text fault r e = absurd (let k : ⊥ = cc in k)
+stops flags (UnitAt n s) text fault r e = stops_in_unit flags n s.multiple s.word text fault r e
 
--- no front goes past a character that is no step
-no_farther : (s : SizeScan) (front : List ℕ) (c : ℕ) (cs : List ℕ) → size_run Beginning front ≡ Some s → size_step s c ≡ None → (farther : Place) (more others : List ℕ) → c ∷ cs ≡ more ++ others → IsSizeFront current farther (front ++ more) → more ≡ []
-no_farther s front c cs run stop farther [] others e f = refl
-no_farther s front c cs run stop farther (x ∷ xs) others e f =
-    let r = scan_front farther (front ++ x ∷ xs) f in
-    let same : c ≡ x = cc in
-    let none : size_step s x ≡ None = ap (size_step s) (sym same) ∙ stop in
-    let gone : size_run s (x ∷ xs) ≡ None = ap (option_and_then (λ u. size_run u xs)) none in
-    let both : Some r.0 ≡ None = sym r.1 ∙ (size_through Beginning s front (x ∷ xs) run ∙ gone) in
+-- no longer text is a front
+abbrev pub NoFarther : List ℕ → List ℕ → Type 0
+NoFarther front rest = (farther : Place) (more others : List ℕ) → rest ≡ more ++ others → IsSizeFront current farther (front ++ more) → more ≡ []
+
+-- the fault of the next character
+goes_on : (flags : Flags) (s : SizeScan) (front cs : List ℕ) (c : ℕ) (fault : Fault) → SizeReached s front → NoFarther front (c ∷ cs) → fault ≡ fault_at current flags (size_place s) c → (o : Option SizeScan) → size_step s c ≡ o → size_read flags s (c ∷ cs) ≡ Err fault
+goes_on flags s front cs c fault r longest h None e = size_read_none flags s c cs e ∙ ap Err (sym h)
+goes_on flags s front cs c fault r longest h (Some t) e =
+    let more = SizeReached-step s t c front (step_is s t c e) r in
+    let none : c ∷ [] ≡ [] = longest (size_place t) (c ∷ []) cs refl (front_at t (front ++ c ∷ []) more) in
     absurd (let k : ⊥ = cc in k)
 
-no_more : (farther : Place) (front more others : List ℕ) → [] ≡ more ++ others → IsSizeFront current farther (front ++ more) → more ≡ []
-no_more farther front [] others e f = refl
-no_more farther front (x ∷ xs) others e f = absurd (let k : ⊥ = cc in k)
+fault_at_rest : (flags : Flags) (s : SizeScan) (front rest : List ℕ) (fault : Fault) → SizeReached s front → NoFarther front rest → FaultAfter current flags (size_place s) rest fault → size_read flags s rest ≡ Err fault
+fault_at_rest flags s front [] fault r longest h = stops flags s front fault r h
+fault_at_rest flags s front (c ∷ cs) fault r longest h = goes_on flags s front cs c fault r longest h (size_step s c) refl
 
--- ---- what the reader answers
+-- a text with a fault is read as that fault
+reads_fault : (flags : Flags) (text : List ℕ) (fault : Fault) → SizeFault current flags text fault → size_read flags Beginning text ≡ Err fault
+reads_fault flags text fault h =
+    let r = scan_front h.place h.front h.longest.is_front in
+    let P : Place → Type 0 = λ place. FaultAfter current flags place h.rest fault in
+    ap (size_read flags Beginning) h.longest.text_is ∙ (read_through flags r.0 h.front h.rest Beginning r.1 ∙ fault_at_rest flags r.0 h.front h.rest fault (reached_run h.front [] Beginning r.0 r.1 refl) h.longest.longest (subst P (sym r.2) h.fault_is))
 
-abbrev pub SizeResult : Flags → List ℕ → Result (ℕ × Shape) Fault → Type 0
-SizeResult flags text (Ok r) = SizeText current flags text r.0 r.1
-SizeResult flags text (Err fault) = SizeFault current flags text fault
+answer : (flags : Flags) (text : List ℕ) (o : Result (ℕ × Shape) Fault) → SizeResult flags text o → ((r : ℕ × Shape) × SizeText current flags text r.0 r.1) ⊎ ((fault : Fault) × SizeFault current flags text fault)
+answer flags text (Ok r) h = inl (r, h)
+answer flags text (Err fault) h = inr (fault, h)
 
-end_fault : (flags : Flags) (s : SizeScan) (text : List ℕ) (fault : Fault) → SizeReached s text → fault_at_end (size_place s) ≡ Some fault → SizeFault current flags text fault
-end_fault flags s text fault r e = record { place = size_place s; front = text; rest = []; longest = record { text_is = sym (append-nil text); is_front = front_at s text r; longest = λ farther more others x f. no_more farther text more others x f }; fault_is = e }
-
-number_only : (flags : Flags) (n : ℕ) (text number : List ℕ) (k : ℕ) → text ≡ number ++ replicate k 32 → NumberText current number n → SizeResult flags text (sized n (unit_of flags unit_start))
-number_only flags n text number k e h = record { number_part = number; spaces = k; unit_part = []; text_is = e ∙ ap (λ g. number ++ g) (sym (append-nil (replicate k 32))); number_is = h; unit_is = Spells-reached flags _ _ [] _ refl Reached-start }
-
-unit_result : (flags : Flags) (n : ℕ) (s : UnitScan) (text : List ℕ) (shape : Shape) → unit_of flags s ≡ Some shape → UnitReached n s text → SizeText current flags text n shape
-unit_result flags n s text shape e r = record { number_part = r.number_part; spaces = r.spaces; unit_part = r.unit_part; text_is = r.text_is; number_is = r.number_is; unit_is = Spells-reached flags s.multiple s.word r.unit_part shape e r.reached }
-
-unit_end : (flags : Flags) (n : ℕ) (m : Multiple) (w : Word) (text : List ℕ) → UnitReached n (scan_of m w) text → SizeResult flags text (sized n (unit_of flags (scan_of m w)))
-unit_end flags n m Empty text r = unit_result flags n (scan_of m Empty) text _ refl r
-unit_end flags n m UpperB text r = unit_result flags n (scan_of m UpperB) text _ refl r
-unit_end flags n m LowerB text r = unit_result flags n (scan_of m LowerB) text _ refl r
-unit_end flags n m Bi text r = end_fault flags (UnitAt n (scan_of m Bi)) text (stops_at_bi) r refl
-unit_end flags n m Bit text r = unit_result flags n (scan_of m Bit) text _ refl r
-unit_end flags n m Bits text r = unit_result flags n (scan_of m Bits) text _ refl r
-
-at_end : (flags : Flags) (s : SizeScan) (text : List ℕ) → SizeReached s text → SizeResult flags text (size_at_end flags s)
-at_end flags Beginning text r = end_fault flags Beginning text no_value r refl
-at_end flags (Whole w) text r = number_only flags (w * one) text text 0 (sym (append-nil text)) (inl (w, r, refl))
-at_end flags (Point w) text r = end_fault flags (Point w) text (not_number 46) r refl
-at_end flags (Fraction w f j) text r = number_only flags (precise w f j) text text 0 (sym (append-nil text)) (inr (fraction_number w f j text r))
-at_end flags (Gap n) text r = number_only flags n text r.number_part r.spaces r.text_is r.number_is
-at_end flags (UnitAt n s) text r = unit_end flags n s.multiple s.word text r
-
-by_step : (flags : Flags) (s : SizeScan) (front : List ℕ) (c : ℕ) (cs : List ℕ) → SizeReached s front → size_run Beginning front ≡ Some s → ((t : SizeScan) → SizeReached t (front ++ c ∷ []) → size_run Beginning (front ++ c ∷ []) ≡ Some t → SizeResult flags ((front ++ c ∷ []) ++ cs) (size_read flags t cs)) → (o : Option SizeScan) → size_step s c ≡ o → SizeResult flags (front ++ (c ∷ cs)) (size_read flags s (c ∷ cs))
-by_step flags s front c cs r run more None e =
-    subst (SizeResult flags (front ++ (c ∷ cs))) (sym (size_read_none flags s c cs e))
-    (record { place = size_place s; front = front; rest = c ∷ cs; longest = record { text_is = refl; is_front = front_at s front r; longest = no_farther s front c cs run e }; fault_is = refl })
-by_step flags s front c cs r run more (Some t) e =
-    let next = more t (SizeReached-step s t c front (step_is s t c e) r) (size_through Beginning s front (c ∷ []) run ∙ size_run_step s t c [] e) in
-    let P : List ℕ → Type 0 = λ x. SizeResult flags x (size_read flags t cs) in
-    subst (SizeResult flags (front ++ (c ∷ cs))) (sym (size_read_some flags s t c cs e)) (subst P (push_append front cs c) next)
-
-reads_from : (flags : Flags) (cs front : List ℕ) (s : SizeScan) → SizeReached s front → size_run Beginning front ≡ Some s → SizeResult flags (front ++ cs) (size_read flags s cs)
-reads_from flags [] front s r run = let P : List ℕ → Type 0 = λ x. SizeResult flags x (size_at_end flags s) in subst P (sym (append-nil front)) (at_end flags s front r)
-reads_from flags (c ∷ cs) front s r run = by_step flags s front c cs r run (λ t r' run'. reads_from flags cs (front ++ c ∷ []) t r' run') (size_step s c) refl
-
--- a text that is read is a size text of that number and unit, and one that is refused has that fault
-pub reads_rightly : (flags : Flags) (text : List ℕ) → SizeResult flags text (size_read flags Beginning text)
-reads_rightly flags text = reads_from flags text [] Beginning refl refl
-
--- ---- the clauses of the reader's callers
-
-read_found : (flags : Flags) (text : List ℕ) (r : Result (ℕ × UnitName) ParseError) → size_seen r ≡ size_read flags Beginning text → IfOk r (λ x. SizeText current flags text x.0 (shape_of x.1))
-read_found flags text (Ok x) e = subst (SizeResult flags text) (sym e) (reads_rightly flags text)
-read_found flags text (Err x) e = tt
-
-read_fault : (flags : Flags) (text : List ℕ) (r : Result (ℕ × UnitName) ParseError) → size_seen r ≡ size_read flags Beginning text → IfErr r (λ error. SizeFault current flags text (size_fault error))
-read_fault flags text (Ok x) e = tt
-read_fault flags text (Err x) e = subst (SizeResult flags text) (sym e) (reads_rightly flags text)
-
-read_text : (flags : Flags) (text : List ℕ) (n : ℕ) (s : Shape) (r : Result (ℕ × UnitName) ParseError) → size_seen r ≡ size_read flags Beginning text → SizeText current flags text n s → IsOkAnd r (λ x. (x.0 ≡ n) × (shape_of x.1 ≡ s))
-read_text flags text n s (Ok x) e h = let k = e ∙ reads_size flags text n s h in let p : ◌≡◌ {A = ℕ × Shape} (x.0, shape_of x.1) (n, s) = cc in (ap (λ q. q.0) p, ap (λ q. q.1) p)
-read_text flags text n s (Err x) e h = let k = e ∙ reads_size flags text n s h in absurd (let z : ⊥ = cc in z)
-
--- no place has the fault of a size that is too large
-digit_bounds : (t : Bool) (c n : ℕ) → cond t too_long (no_unit current c) ≢ exceeded n
-digit_bounds true c n = λ e. cc
-digit_bounds false c n = λ e. cc
-
-no_bounds_at : (flags : Flags) (place : Place) (c n : ℕ) → fault_at current flags place c ≢ exceeded n
-no_bounds_at flags beginning c n = λ e. cc
-no_bounds_at flags in_whole c n = digit_bounds (is_digit c) c n
-no_bounds_at flags after_point c n = λ e. cc
-no_bounds_at flags in_fraction c n = digit_bounds (is_digit c) c n
-no_bounds_at flags in_gap c n = λ e. cc
-no_bounds_at flags after_prefix c n = λ e. cc
-no_bounds_at flags after_b c n = λ e. cc
-no_bounds_at flags after_bi c n = λ e. cc
-no_bounds_at flags after_bit c n = λ e. cc
-no_bounds_at flags after_bits c n = λ e. cc
-
-no_bounds_at_end : (place : Place) (n : ℕ) → fault_at_end place ≢ Some (exceeded n)
-no_bounds_at_end beginning n = λ e. cc
-no_bounds_at_end in_whole n = λ e. cc
-no_bounds_at_end after_point n = λ e. cc
-no_bounds_at_end in_fraction n = λ e. cc
-no_bounds_at_end in_gap n = λ e. cc
-no_bounds_at_end after_prefix n = λ e. cc
-no_bounds_at_end after_b n = λ e. cc
-no_bounds_at_end after_bi n = λ e. cc
-no_bounds_at_end after_bit n = λ e. cc
-no_bounds_at_end after_bits n = λ e. cc
-
-no_bounds_after : (flags : Flags) (place : Place) (rest : List ℕ) (fault : Fault) (n : ℕ) → FaultAfter current flags place rest fault → fault ≢ exceeded n
-no_bounds_after flags place [] fault n h = λ e. no_bounds_at_end place n (h ∙ ap Some e)
-no_bounds_after flags place (c ∷ cs) fault n h = λ e. no_bounds_at flags place c n (sym h ∙ e)
-
-read_no_bounds : (flags : Flags) (text : List ℕ) (r : Result (ℕ × UnitName) ParseError) → size_seen r ≡ size_read flags Beginning text → IfErr r (λ error. (n : ℕ) → size_fault error ≢ exceeded n)
-read_no_bounds flags text (Ok x) e = tt
-read_no_bounds flags text (Err x) e = λ n. let f = read_fault flags text (Err x) e in no_bounds_after flags f.place f.rest (size_fault x) n f.fault_is
-
-pub number_reading : (ignore_case prefer_byte : Bool) (bytes : List ℕ) (r : Result (ℕ × UnitName) ParseError) → size_seen r ≡ size_read (reading ignore_case prefer_byte) Beginning (trimmed bytes) → IsNumberReading ignore_case prefer_byte bytes r
-number_reading ignore_case prefer_byte bytes r e = record {
-  found = read_found (reading ignore_case prefer_byte) (trimmed bytes) r e;
-  reads = λ n s h. read_text (reading ignore_case prefer_byte) (trimmed bytes) n s r e h;
-  fault = read_fault (reading ignore_case prefer_byte) (trimmed bytes) r e;
-  no_bounds = read_no_bounds (reading ignore_case prefer_byte) (trimmed bytes) r e;
+pub size_texts_have_one_answer : SizeTextsHaveOneAnswer
+size_texts_have_one_answer flags text = record {
+  some = answer flags text (size_read flags Beginning text) (reads_rightly flags text);
+  one_meaning = λ r t h k. let e = sym (reads_size flags text r.0 r.1 h) ∙ reads_size flags text t.0 t.1 k in cc;
+  one_fault = λ f g h k. let e = sym (reads_fault flags text f h) ∙ reads_fault flags text g k in cc;
+  not_both = λ r f h k. let e = sym (reads_size flags text r.0 r.1 h) ∙ reads_fault flags text f k in absurd (let z : ⊥ = cc in z);
 }

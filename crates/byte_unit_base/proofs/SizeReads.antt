@@ -21,11 +21,11 @@ use Rattle.byte_unit_base.specs.declared.unit.scan.Word.{Word}
 use Rattle.byte_unit_base.specs.declared.unit.scan.Word.TheVariants.{Empty, UpperB, LowerB}
 use Rattle.byte_unit_base.specs.declared.read.scan.SizeScan.{SizeScan}
 use Rattle.byte_unit_base.specs.declared.read.scan.SizeScan.TheVariants.{Beginning, Whole, Point, Fraction, Gap, Unit as UnitAt}
-use Rattle.byte_unit_base.proofs.UnitLaws.{prefix_found}
+use Rattle.byte_unit_base.proofs.UnitReached.{prefix_found}
 use Rattle.byte_unit_base.proofs.UnitReads.{spelling_runs, run_front}
 use Rattle.byte_unit_base.proofs.SizeSteps.{size_read_some}
 
--- ---- the scan of two texts, one after the other
+-- the scan of two texts, one after the other
 
 run_on : (cs ys : List ℕ) → ((t : SizeScan) → size_run t (cs ++ ys) ≡ option_and_then (λ u. size_run u ys) (size_run t cs)) → (o : Option SizeScan) → option_and_then (λ t. size_run t (cs ++ ys)) o ≡ option_and_then (λ t. size_run t ys) (option_and_then (λ t. size_run t cs) o)
 run_on cs ys more None = refl
@@ -41,7 +41,7 @@ size_through s t xs ys e = size_run_append s xs ys ∙ ap (option_and_then (λ u
 pub size_run_step : (s t : SizeScan) (c : ℕ) (cs : List ℕ) → size_step s c ≡ Some t → size_run s (c ∷ cs) ≡ size_run t cs
 size_run_step s t c cs e = ap (option_and_then (λ u. size_run u cs)) e
 
--- ---- digits
+-- digits
 
 step_first : (c : ℕ) → digit_value c < 10 → size_step Beginning c ≡ Some (Whole (digit_value c))
 unfolding size_step
@@ -96,7 +96,7 @@ run_places (c ∷ cs) w h l =
     let r = run_more_places cs w (digit_value c) 1 h.1.1 (omega arith) in
     (r.0, size_run_step (Point w) (Fraction w (digit_value c) 1) c cs (step_pointed w c h.1.0) ∙ (r.1 ∙ ap (λ v. Some (Fraction w (digits_value_after 10 v cs) r.0)) first), omega (arith, r.2))
 
--- ---- a number, spaces, and a unit
+-- a number, spaces, and a unit
 
 abbrev pub AtNumber : ℕ → SizeScan → Type 0
 AtNumber n (Whole w) = w * one ≡ n
@@ -167,7 +167,7 @@ no_number c u h =
     let l = from_upper c k.0 in
     record { digit = grind (arith, nat_tests); point = grind (arith, nat_tests); space = grind (arith, nat_tests) }
 
--- ---- from a number on
+-- from a number on
 
 step_space : (n : ℕ) (s : SizeScan) → AtNumber n s → size_step s 32 ≡ Some (Gap n)
 unfolding size_step
@@ -245,7 +245,7 @@ run_sized n k u text number unit e h r =
     let c = run_unit n u b.state unit b.holds r in
     record { state = c.state; run = ap (size_run Beginning) e ∙ (size_through Beginning a.state number (replicate k space ++ unit) a.run ∙ (size_through a.state b.state (replicate k space) unit b.run ∙ c.run)); holds = c.holds }
 
--- ---- a size text is read to its end
+-- a size text is read to its end
 
 read_on : (flags : Flags) (t s : SizeScan) (c : ℕ) (cs ys : List ℕ) → ((u : SizeScan) → size_run u cs ≡ Some t → size_read flags u (cs ++ ys) ≡ size_read flags t ys) → (o : Option SizeScan) → size_step s c ≡ o → option_and_then (λ u. size_run u cs) o ≡ Some t → size_read flags s (c ∷ (cs ++ ys)) ≡ size_read flags t ys
 read_on flags t s c cs ys more None e h = absurd (let k : ⊥ = cc in k)
@@ -268,7 +268,7 @@ size_text_runs flags text n s h =
 pub reads_size : (flags : Flags) (text : List ℕ) (n : ℕ) (s : Shape) → SizeText current flags text n s → size_read flags Beginning text ≡ Ok (n, s)
 reads_size flags text n s h = let r = size_text_runs flags text n s h in read_run flags r.state text Beginning r.run ∙ r.holds
 
--- ---- a front is scanned to its end
+-- a front is scanned to its end
 
 abbrev pub IsScanned : Place → List ℕ → Type 0
 IsScanned place text = (s : SizeScan) × (size_run Beginning text ≡ Some s) × (size_place s ≡ place)

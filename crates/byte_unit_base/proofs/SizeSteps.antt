@@ -21,9 +21,9 @@ use Rattle.byte_unit_base.specs.declared.unit.scan.Multiple.{Multiple}
 use Rattle.byte_unit_base.specs.declared.unit.scan.Multiple.TheVariants.{One, Decimal, Binary}
 use Rattle.byte_unit_base.specs.declared.read.scan.SizeScan.{SizeScan}
 use Rattle.byte_unit_base.specs.declared.read.scan.SizeScan.TheVariants.{Beginning, Whole, Point, Fraction, Gap, Unit as UnitAt}
-use Rattle.byte_unit_base.proofs.UnitLaws.{guard_some, is_true}
+use Rattle.byte_unit_base.proofs.UnitReached.{guard_some, is_true}
 
--- ---- a step by cases
+-- a step by cases
 
 abbrev pub UnitStep : ℕ → UnitScan → ℕ → SizeScan → Type 0
 UnitStep n s c t = (u : UnitScan) × (unit_step s c ≡ Some u) × (UnitAt n u ≡ t)
@@ -68,7 +68,7 @@ step_is (Fraction w f j) t c e =
 step_is (Gap n) t c e = after_number_is n c t e
 step_is (UnitAt n s) t c e = unit_step_is n c s t (unit_step s c) refl e
 
--- ---- a step of a unit leaves the beginning
+-- a step of a unit leaves the beginning
 
 leaves_word : (m : Multiple) (w : Word) (u : UnitScan) (c : ℕ) (o : Option Word) → word_step w c ≡ o → option_map (scan_of m) o ≡ Some u → place_of u ≢ beginning
 leaves_word m w u c None e h = absurd (let k : ⊥ = cc in k)
@@ -113,7 +113,7 @@ step_leaves m Bi u c h = leaves_word m Bi u c (word_step Bi c) refl h
 step_leaves m Bit u c h = leaves_word m Bit u c (word_step Bit c) refl h
 step_leaves m Bits u c h = leaves_word m Bits u c (word_step Bits c) refl h
 
--- ---- a step keeps the bounds of a scan
+-- a step keeps the bounds of a scan
 
 unit_keeps : (n c : ℕ) (s : UnitScan) (t : SizeScan) → UnitStep n s c t → IsScan t
 unit_keeps n c s t h = subst IsScan h.2 (step_leaves s.multiple s.word h.0 c h.1)
@@ -136,7 +136,7 @@ step_keeps (Fraction w f j) t c h (inr k) = number_keeps (precise w f j) c t k
 step_keeps (Gap n) t c h k = number_keeps n c t k
 step_keeps (UnitAt n s) t c h k = unit_keeps n c s t k
 
--- ---- the reader's loop: one character more, and the end
+-- the reader's loop: one character more, and the end
 
 head_is : {X : Type 0} (f : List ℕ → X) (cs : List ℕ) (n c : ℕ) → (n < length cs) × (c ≡ get_or cs n c) → f (drop n cs) ≡ f (c ∷ drop (n + 1) cs)
 head_is f cs n c h = at_drop_more f cs n c h.0 ∙ ap (λ x. f (x ∷ drop (n + 1) cs)) (sym h.1)

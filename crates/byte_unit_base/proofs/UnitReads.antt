@@ -26,9 +26,9 @@ use Rattle.byte_unit_base.specs.declared.unit.scan.Multiple.TheVariants.{One, De
 use Rattle.byte_unit_base.specs.declared.unit.scan.UnitScan.{UnitScan}
 use Rattle.byte_unit_base.proofs.Lists.{push_append, from_lowercase, lower_cons, lower_nil}
 use Rattle.byte_unit_base.proofs.UnitLoop.{unit_read_some, unit_read_none}
-use Rattle.byte_unit_base.proofs.UnitLaws.{run_through, run_step, Reached, Reached-step, Reached-start, Spells-reached, IsMultipleText}
+use Rattle.byte_unit_base.proofs.UnitReached.{run_through, run_step, Reached, Reached-step, Reached-start, Spells-reached, IsMultipleText}
 
--- ---- the steps that a spelling takes
+-- the steps that a spelling takes
 
 at_upper : (m : Multiple) → unit_step (scan_of m Empty) 66 ≡ Some (scan_of m UpperB)
 unfolding unit_step
@@ -134,7 +134,7 @@ run_infix p text binary (inr h) =
     let t : text ≡ l.head ∷ [] = l.text_is ∙ ap (λ r. l.head ∷ r) (lower_nil l.tail l.tail_is) in
     (Binary p, ap (unit_run (scan_of (Decimal p) Empty)) t ∙ run_step (scan_of (Decimal p) Empty) (scan_of (Binary p) Empty) l.head [] (step_infix p l.head l.head_is), λ bit. ap (λ x. shape (power_of p) x bit) (sym h.1), refl)
 
--- ---- a spelling is read to its end
+-- a spelling is read to its end
 
 pub record Runs (flags : Flags) (text : List ℕ) (s : Shape) : Type 0 where
   pub multiple : Multiple
@@ -180,7 +180,7 @@ pub reads_spelling : (flags : Flags) (text : List ℕ) (s : Shape) → Spells cu
 reads_spelling flags text s (inl h) = read_runs flags text s (run_plain flags text s h)
 reads_spelling flags text s (inr h) = read_runs flags text s (run_multiple flags text s h)
 
--- ---- a front is scanned to its end
+-- a front is scanned to its end
 
 run_prefix : (text : List ℕ) → IsPrefix current text → (m : Multiple) × (unit_run start text ≡ Some (scan_of m Empty)) × (empty_place m ≡ after_prefix)
 run_prefix text h =
@@ -223,7 +223,7 @@ run_front after_bi text h = run_worded after_bi text h
 run_front after_bit text h = run_worded after_bit text h
 run_front after_bits text h = run_worded after_bits text h
 
--- ---- the first fault
+-- the first fault
 
 prefix_text : (m : Multiple) (text : List ℕ) → (empty_place m ≡ after_prefix) → IsMultipleText m text → IsPrefix current text
 prefix_text One text e h = absurd (let k : ⊥ = cc in k)
@@ -275,7 +275,7 @@ no_more : (farther : Place) (front more others : List ℕ) → [] ≡ more ++ ot
 no_more farther front [] others e f = refl
 no_more farther front (x ∷ xs) others e f = absurd (let k : ⊥ = cc in k)
 
--- ---- what the reader answers
+-- what the reader answers
 
 abbrev pub UnitResult : Flags → List ℕ → Result Shape Fault → Type 0
 UnitResult flags text (Ok s) = Spells current flags text s

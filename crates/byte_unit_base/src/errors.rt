@@ -158,4 +158,4 @@ fn write_others<W: fmt::Write>(others: &[char], f: &mut fmt::Formatter<W>) -> fm
 }
 
 #[cfg(test)]
-pub mod tests;
+pub(crate) mod tests;

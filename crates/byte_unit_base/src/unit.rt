@@ -9,7 +9,7 @@ use std::fmt;
 
 pub(crate) mod family;
 mod parse;
-pub mod scan;
+pub(crate) mod scan;
 pub(crate) mod unit_type;
 
 /// A unit of bits or bytes, with one of the prefixes of the SI or of the IEC or with none.

@@ -13,15 +13,19 @@ use crate::unit::Unit;
 use crate::unit::scan::{Flags, UnitScan};
 use byte_unit_math::Decimal;
 
-/// How far a size is read.
+/// How far a number and a unit are read.
 #[derive(Clone, Copy)]
 pub enum SizeScan {
     Beginning,
+    /// The whole part so far.
     Whole(u128),
+    /// The whole part, and a point after it.
     Point(u128),
     /// The whole part, the digits after the point as a number, and how many they are.
     Fraction(u128, u128, u32),
+    /// The number, and spaces after it.
     Gap(Decimal),
+    /// The number, and how far the unit is read, which is not empty.
     Unit(Decimal, UnitScan),
 }
 
@@ -34,6 +38,7 @@ const PLACES: u32 = 28;
 impl SizeScan {
     ghost use Rattle.byte_unit_base.specs.SizeScan.{IsScan, size_step, size_place, size_at_end};
 
+    /// What has been read with one character more, or `None` where that goes on with no number and unit.
     #[tactic(auto, unfolding(crate::specs::SizeScan::size_step))]
     pub fn step(&self, c: char) -> Option<SizeScan>
         requires { IsScan self.now }
@@ -105,15 +110,17 @@ impl SizeScan {
     }
 }
 
+/// One digit more of a whole part, or `None` where it would reach the limit.
 fn more_whole(whole: u128, digit: u32) -> Option<SizeScan>
     requires whole { whole < whole_limit }
     requires digit { digit < 10 }
-    ensures { result ≡ (if nat_lt (whole * 10 + digit) (whole_limit) then Some (SizeScan.Whole (whole * 10 + digit)) else None) }
+    ensures { result ≡ (if nat_lt (whole * 10 + digit) whole_limit then Some (SizeScan.Whole (whole * 10 + digit)) else None) }
 {
     let more = whole * 10 + u128::from(digit);
     (more < WHOLE_LIMIT).then_some(SizeScan::Whole(more))
 }
 
+/// One digit more of a fraction, or `None` where it has all its places.
 fn more_fraction(whole: u128, digits: u128, places: u32, digit: u32) -> Option<SizeScan>
     requires digits { digits < 10 ^ places }
     requires places { places ≤ places_of_decimal }
@@ -134,15 +141,56 @@ fn whole_decimal(whole: u128) -> Decimal
     Decimal::from_u128(whole).unwrap()
 }
 
+/// The whole part, and so many digits after the point as a number.
 fn precise_decimal(whole: u128, digits: u128, places: u32) -> Decimal
     requires whole { whole < whole_limit }
     requires digits { digits < 10 ^ places }
     requires places { places ≤ places_of_decimal }
     ensures { result ≡ precise whole digits places }
 {
-    Decimal::new(whole, digits * 10u128.pow(PLACES - places)).unwrap()
+    Decimal::new(whole, digits * power_of_ten(PLACES - places)).unwrap()
 }
 
+/// Ten to this power. It is a table, since to work a power out takes longer than to read a short text.
+fn power_of_ten(places: u32) -> u128
+    requires { places ≤ places_of_decimal }
+    ensures { result ≡ 10 ^ places }
+{
+    match places {
+        0 => 1,
+        1 => 10,
+        2 => 100,
+        3 => 1_000,
+        4 => 10_000,
+        5 => 100_000,
+        6 => 1_000_000,
+        7 => 10_000_000,
+        8 => 100_000_000,
+        9 => 1_000_000_000,
+        10 => 10_000_000_000,
+        11 => 100_000_000_000,
+        12 => 1_000_000_000_000,
+        13 => 10_000_000_000_000,
+        14 => 100_000_000_000_000,
+        15 => 1_000_000_000_000_000,
+        16 => 10_000_000_000_000_000,
+        17 => 100_000_000_000_000_000,
+        18 => 1_000_000_000_000_000_000,
+        19 => 10_000_000_000_000_000_000,
+        20 => 100_000_000_000_000_000_000,
+        21 => 1_000_000_000_000_000_000_000,
+        22 => 10_000_000_000_000_000_000_000,
+        23 => 100_000_000_000_000_000_000_000,
+        24 => 1_000_000_000_000_000_000_000_000,
+        25 => 10_000_000_000_000_000_000_000_000,
+        26 => 100_000_000_000_000_000_000_000_000,
+        27 => 1_000_000_000_000_000_000_000_000_000,
+        28 => 10_000_000_000_000_000_000_000_000_000,
+        _ => unreachable!(),
+    }
+}
+
+/// A space or the beginning of a unit, after a number.
 fn after_number(number: Decimal, c: char) -> Option<SizeScan>
     ensures { result ≡ after_number number c }
 {
@@ -155,6 +203,7 @@ fn after_number(number: Decimal, c: char) -> Option<SizeScan>
     }
 }
 
+/// The number and its unit at the end of a text.
 fn sized(number: Decimal, scan: UnitScan, flags: Flags) -> Result<(Decimal, Unit), ParseError>
     ensures { size_seen result ≡ sized number (unit_of (flags_of flags) scan) }
 {

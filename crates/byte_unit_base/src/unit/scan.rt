@@ -8,6 +8,7 @@ ghost use Rattle.byte_unit_base.specs.Fault.{expected_after_prefix};
 use crate::errors::UnitParseError;
 use crate::unit::Unit;
 
+/// A prefix, of the powers of ten or of two.
 #[derive(Clone, Copy)]
 pub enum Prefix {
     Kilo,
@@ -58,6 +59,7 @@ impl Prefix {
     ghost use Rattle.byte_unit_base.specs.Shape.{shape};
     ghost use Rattle.byte_unit_base.specs.Units.{shape_of};
 
+    /// The prefix of a letter in either case.
     fn from_char(c: char) -> Option<Prefix>
         ensures { result ≡ prefix_at c }
     {
@@ -155,11 +157,13 @@ impl UnitScan {
     ghost use Rattle.byte_unit_base.specs.Fault.{unit_fault_at};
     ghost use Rattle.byte_unit_base.specs.Errors.{unit_fault};
 
+    /// Nothing is read.
     pub const START: UnitScan = UnitScan {
         multiple: Multiple::One,
         word: Word::Empty,
     };
 
+    /// What has been read with one character more, or `None` where that goes on with no spelling.
     #[tactic(auto, unfolding(crate::specs::UnitScan::unit_step))]
     pub fn step(self, c: char) -> Option<UnitScan>
         ensures { result ≡ unit_step self c }
@@ -217,8 +221,10 @@ impl UnitScan {
     }
 }
 
+/// The characters that begin a unit.
 static BEGINNINGS: [char; 9] = ['B', 'K', 'M', 'G', 'T', 'P', 'E', 'Z', 'Y'];
 
+/// The characters that may say bits or bytes after a prefix, where they change what is meant.
 fn after_prefix(flags: Flags) -> &'static [char]
     ensures { result.now ≡ expected_after_prefix (flags_of flags) }
 {

@@ -4,7 +4,7 @@ use Rattle.byte_unit_base.specs.Spelling.{reading}
 use Rattle.byte_unit_base.specs.SizeScan.{size_read}
 use Rattle.byte_unit_base.specs.declared.read.scan.SizeScan.TheVariants.{Beginning}
 use Rattle.byte_unit_base.proofs.Trim.{chars-trim}
-use Rattle.byte_unit_base.proofs.SizeAnswers.{number_reading}
+use Rattle.byte_unit_base.proofs.SizeFaults.{number_reading}
 use Rattle.byte_unit_base.proofs.read.read_size.Goals as goal
 
 pub returns : goal.returns

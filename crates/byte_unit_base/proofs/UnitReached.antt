@@ -17,7 +17,7 @@ use Rattle.byte_unit_base.specs.declared.unit.scan.Multiple.{Multiple}
 use Rattle.byte_unit_base.specs.declared.unit.scan.Multiple.TheVariants.{One, Decimal, Binary}
 use Rattle.byte_unit_base.specs.declared.unit.scan.UnitScan.{UnitScan}
 
--- ---- the scan of two texts, one after the other
+-- the scan of two texts, one after the other
 
 run_on : (cs ys : List ℕ) → ((t : UnitScan) → unit_run t (cs ++ ys) ≡ option_and_then (λ u. unit_run u ys) (unit_run t cs)) → (o : Option UnitScan) → option_and_then (λ t. unit_run t (cs ++ ys)) o ≡ option_and_then (λ t. unit_run t ys) (option_and_then (λ t. unit_run t cs) o)
 run_on cs ys more None = refl
@@ -33,7 +33,7 @@ run_through s t xs ys e = unit_run_append s xs ys ∙ ap (option_and_then (λ u.
 pub run_step : (s t : UnitScan) (c : ℕ) (cs : List ℕ) → unit_step s c ≡ Some t → unit_run s (c ∷ cs) ≡ unit_run t cs
 run_step s t c cs e = ap (option_and_then (λ u. unit_run u cs)) e
 
--- ---- what has been read at a state of the scan
+-- what has been read at a state of the scan
 
 abbrev pub IsMultipleText : Multiple → List ℕ → Type 0
 IsMultipleText One text = text ≡ []
@@ -145,7 +145,7 @@ Reached-step m Bits t c text h r = by_word m Bits t c text (word_step Bits c) re
 pub Reached-start : Reached start []
 Reached-start = record { front = []; word = []; text_is = refl; front_is = refl; word_is = refl }
 
--- ---- what stands at the end of a scan
+-- what stands at the end of a scan
 
 count_spelled : (flags : Flags) (w : Word) (text : List ℕ) (bit : Bool) → count_of flags w ≡ Some bit → IsWordText w text → SpellsCount flags text bit
 count_spelled flags Empty text bit e h = inl (h, cc)

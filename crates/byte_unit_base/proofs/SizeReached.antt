@@ -12,10 +12,10 @@ use Rattle.byte_unit_base.specs.SizeScan.{precise}
 use Rattle.byte_unit_base.specs.declared.unit.scan.UnitScan.{UnitScan}
 use Rattle.byte_unit_base.specs.declared.read.scan.SizeScan.{SizeScan}
 use Rattle.byte_unit_base.specs.declared.read.scan.SizeScan.TheVariants.{Beginning, Whole, Point, Fraction, Gap, Unit as UnitAt}
-use Rattle.byte_unit_base.proofs.UnitLaws.{Reached, Reached-step, Reached-start}
+use Rattle.byte_unit_base.proofs.UnitReached.{Reached, Reached-step, Reached-start}
 use Rattle.byte_unit_base.proofs.SizeSteps.{UnitStep, AfterNumber, StepOf, step_leaves}
 
--- ---- what has been read at a state of the scan
+-- what has been read at a state of the scan
 
 pub record FractionReached (w f j : ℕ) (text : List ℕ) : Type 0 where
   pub whole : List ℕ

@@ -14,7 +14,7 @@ use Rattle.byte_unit_base.specs.declared.unit.scan.Multiple.TheVariants.{One, De
 use Rattle.byte_unit_base.specs.declared.unit.scan.UnitScan.{UnitScan}
 use Rattle.byte_unit_base.proofs.Lists.{push_append}
 use Rattle.byte_unit_base.proofs.UnitLoop.{unit_read_none}
-use Rattle.byte_unit_base.proofs.UnitLaws.{Reached, Reached-step, Reached-start}
+use Rattle.byte_unit_base.proofs.UnitReached.{Reached, Reached-step, Reached-start}
 use Rattle.byte_unit_base.proofs.UnitReads.{run_front, front_reached, read_through, reads_spelling, reads_rightly, UnitResult}
 
 -- what a scan has read is a front
