@@ -1,5 +1,18 @@
 //! Laws over the definitions. Each is a public function whose contract is the law; none does anything.
 
-pub use byte_unit_base::size_laws::greater_numbers_give_no_smaller_sizes;
+pub use byte_unit_base::laws::choices::{
+    choices_are_one, choices_at_no_places_are_whole, each_size_has_a_choice_or_none,
+    more_places_give_no_smaller_unit, number_times_unit_is_size,
+};
+pub use byte_unit_base::laws::readers::{
+    names_spell_their_units, size_fronts_are_beginnings, size_texts_have_one_answer,
+    unit_fronts_are_beginnings, unit_texts_have_one_answer,
+};
+pub use byte_unit_base::laws::sizes::{
+    greater_numbers_give_no_smaller_sizes, texts_are_accepted_or_refused,
+};
+pub use byte_unit_base::laws::texts::{
+    plain_form_reads_back, size_form_reads_back, size_has_one_adjusted_form, size_has_one_form,
+};
 pub use byte_unit_bit::laws::{bit_bounds, bit_constant};
 pub use byte_unit_byte::laws::{byte_bounds, byte_constant};

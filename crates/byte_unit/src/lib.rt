@@ -1,4 +1,4 @@
-//! Exact sizes in bytes and in bits: read, calculated and put into units.
+//! Exact sizes in bytes and in bits: read, calculated, put into units and printed.
 #![tactic(auto)]
 
 pub mod decimal;
@@ -7,9 +7,11 @@ pub mod laws;
 mod tests;
 
 pub use byte_unit_base::{
-    ExceededBoundsError, Kind, ParseError, Unit, UnitParseError, ValueParseError, read_size,
+    Align, ExceededBoundsError, Family, FormatSpec, Kind, ParseError, Sign, Unit, UnitParseError,
+    UnitType, ValueParseError, append_layout, append_plain, choose_unit, largest_unit, layout_len,
+    plain_len, read_size,
 };
 pub use byte_unit_bit::Bit;
 pub use byte_unit_byte::Byte;
-pub use byte_unit_math::{Decimal, Steps, exact_quotient, least_size};
+pub use byte_unit_math::{Decimal, Expansion, Steps, Ties, exact_quotient, least_size};
 pub use std::num::TryFromIntError;

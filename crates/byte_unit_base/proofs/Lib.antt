@@ -14,6 +14,7 @@ pub mod Names
 pub mod Beginnings
 pub mod Rounding
 pub mod SizeOfText
+pub mod SizeOrFault
 pub mod Quotients
 pub mod Falling
 pub mod Choosing

@@ -18,6 +18,8 @@ mod built_in_traits;
 mod constants;
 mod decimal;
 mod parse;
+mod text;
+mod units;
 #[cfg(test)]
 mod tests;
 

@@ -1,0 +1,66 @@
+//! The units in which a size in bits is stated exactly.
+
+ghost use Rattle.std.specs.Prelude.{◌≡◌, ◌*◌, ◌≤◌, ℕ, min};
+ghost use Rattle.byte_unit_math.specs.Bounds.{one, places_of_decimal};
+ghost use Rattle.byte_unit_math.specs.Steps.{raised};
+ghost use Rattle.byte_unit_base.specs.Shape.{bits};
+ghost use Rattle.byte_unit_base.specs.Edition.{current};
+ghost use Rattle.byte_unit_base.specs.Units.{shape_of};
+ghost use Rattle.byte_unit_base.specs.Kinds.{bits_in};
+ghost use Rattle.byte_unit_base.specs.Family.{units_in};
+ghost use Rattle.byte_unit_base.specs.Choice.{IsRecovered, CountsDigits, family_for};
+ghost use Rattle.byte_unit_base.specs.declared.kind.Kind.TheVariants.{Bit as InBits};
+
+use super::Bit;
+use byte_unit_base::{Kind, Unit, exact_unit, recoverable_unit};
+use byte_unit_math::{Decimal, Steps};
+
+impl Bit {
+    /// The largest unit that divides the size, with how many of it the size is. Where there is none, the size in `Bit`.
+    ///
+    /// The unit is a multiple of bits, or with `allow_in_bytes` of bits or of bytes.
+    ///
+    /// ```text
+    /// Bit::from_u64(24_000_000).get_exact_unit(true)      // (3, Unit::MB)
+    /// ```
+    pub fn get_exact_unit(self, allow_in_bytes: bool) -> (u128, Unit)
+        ensures recovered { IsRecovered current InBits (family_for InBits allow_in_bytes) self 0 (shape_of result.1) (result.0 * one) }
+        ensures exact { result.0 * bits (shape_of result.1) ≡ self * bits_in InBits }
+    {
+        exact_unit(self.size, Kind::Bit, allow_in_bytes)
+    }
+
+    /// The largest unit, not above the size, in which the size is a decimal of at most so many places, with that
+    /// decimal: number times unit is the size, exactly. Where there is none, the size in `Bit`.
+    ///
+    /// The unit is a multiple of bits, or with `allow_in_bytes` of bits or of bytes. A precision above 28 counts as 28;
+    /// 3 is the usual one.
+    ///
+    /// ```text
+    /// Bit::from_u64(50_840_000).get_recoverable_unit(false, 2)     // (50.84, Unit::Mbit)
+    /// Bit::from_u64(28_000_000).get_recoverable_unit(true, 3)      // (3.5, Unit::MB)
+    /// ```
+    pub fn get_recoverable_unit(self, allow_in_bytes: bool, precision: usize) -> (Decimal, Unit)
+        ensures recovered { IsRecovered current InBits (family_for InBits allow_in_bytes) self (min precision places_of_decimal) (shape_of result.1) result.0 }
+        ensures exact { result.0 * bits (shape_of result.1) ≡ self * bits_in InBits * one }
+    {
+        self.get_recoverable_unit_counted(allow_in_bytes, precision, &mut Steps::new())
+    }
+
+    /// What `get_recoverable_unit` answers, and its work: `steps` rises by one for each digit after the point that a
+    /// division works out, at most 28 for each unit that is tried. The count stays at its greatest value.
+    pub fn get_recoverable_unit_counted(
+        self,
+        allow_in_bytes: bool,
+        precision: usize,
+        steps: &mut Steps,
+    ) -> (Decimal, Unit)
+        ensures recovered { IsRecovered current InBits (family_for InBits allow_in_bytes) self (min precision places_of_decimal) (shape_of result.1) result.0 }
+        ensures exact { result.0 * bits (shape_of result.1) ≡ self * bits_in InBits * one }
+        ensures ticks { (ticks : ℕ) × (ticks ≤ places_of_decimal * units_in current (family_for InBits allow_in_bytes)) × (steps.new ≡ raised steps.old ticks) }
+        ensures counted { CountsDigits result.0 steps.old steps.new }
+        ensures no_ticks { precision ≡ 0 → steps.new ≡ steps.old }
+    {
+        recoverable_unit(self.size, Kind::Bit, allow_in_bytes, precision, steps)
+    }
+}

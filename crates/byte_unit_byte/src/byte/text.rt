@@ -1,0 +1,68 @@
+//! Sizes in bytes as texts.
+
+ghost use Rattle.std.specs.Prelude.{◌≡◌, ◌<◌, ◌++◌, ℕ, List, length, IfOk, OnOk, OnErr};
+ghost use Rattle.std.specs.String.{string_bytes};
+ghost use Rattle.byte_unit_base.specs.Edition.{current};
+ghost use Rattle.byte_unit_base.specs.Forms.{IsText, text_limit};
+ghost use Rattle.byte_unit_base.specs.Room.{spare};
+ghost use Rattle.byte_unit_base.specs.declared.kind.Kind.TheVariants.{Byte as InBytes};
+
+use super::Byte;
+use byte_unit_base::{FormatSpec, Kind, format};
+use std::alloc::{AllocError, Allocator, Global};
+
+impl Byte {
+    /// How many bytes the text of the size has under the spec: below 65,600. It asks for no memory.
+    pub fn text_len(self, spec: FormatSpec) -> usize
+        ensures exact { (form : List ℕ) → IsText current InBytes self spec form → result ≡ length form }
+        ensures small { result < text_limit }
+    {
+        format::text_len(self.size, Kind::Byte, spec)
+    }
+
+    /// Adds the text of the size: with `alternate` the size in the largest unit of bytes that states it exactly within the
+    /// precision (three places where none is set), else its digits.
+    ///
+    /// It asks for memory once at most, before it writes. `AllocError` comes only where the spare room of the text is less
+    /// than `text_len`, and leaves the text as it was.
+    ///
+    /// ```text
+    /// Byte::from_u64(3_211_776).append_text(FormatSpec::ALTERNATE, &mut text)?;   // "3136.5 KiB"
+    /// ```
+    pub fn append_text<A: Allocator>(
+        self,
+        spec: FormatSpec,
+        text: &mut String<A>,
+    ) -> Result<(), AllocError>
+        ensures ok { OnOk result ((form : List ℕ) × IsText current InBytes self spec form × (string_bytes text.new ≡ string_bytes text.old ++ form)) }
+        ensures err { OnErr result (string_bytes text.new ≡ string_bytes text.old) }
+        ensures room { OnErr result ((form : List ℕ) × IsText current InBytes self spec form × (spare text.old < length form)) }
+    {
+        format::append_text(self.size, Kind::Byte, spec, text)
+    }
+
+    /// The text of the size, as `append_text` adds it. `AllocError` where memory for it was refused.
+    ///
+    /// ```text
+    /// Byte::from_u64(1536).to_text(alloc, FormatSpec::ALTERNATE)?      // "1.5 KiB"
+    /// Byte::from_u64(1536).to_text(alloc, FormatSpec::PLAIN)?          // "1536"
+    /// ```
+    pub fn to_text(self, alloc: Global, spec: FormatSpec) -> Result<String, AllocError>
+        ensures { IfOk result (λ text. IsText current InBytes self spec (string_bytes text)) }
+    {
+        self.to_text_in(alloc, spec)
+    }
+
+    /// The text of the size, in memory of any allocator.
+    pub fn to_text_in<A: Allocator>(
+        self,
+        alloc: A,
+        spec: FormatSpec,
+    ) -> Result<String<A>, AllocError>
+        ensures { IfOk result (λ text. IsText current InBytes self spec (string_bytes text)) }
+    {
+        let mut text = String::new(alloc);
+        self.append_text(spec, &mut text)?;
+        Ok(text)
+    }
+}
