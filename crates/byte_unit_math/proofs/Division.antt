@@ -4,6 +4,7 @@ use Rattle.std.proofs.Math.Nat.{pow-succ', mul-add-mod_self_right, mod-eq_of_lt,
 use Rattle.std.proofs.lemmas.Nat.{pow-add, div_below, mod_below}
 use Rattle.std.proofs.lemmas.Bool.{cases_lt}
 use Rattle.std.proofs.Math.Numerals.{add-one}
+use Rattle.byte_unit_math.specs.Bounds.{one, places_of_decimal, whole_limit}
 use Rattle.byte_unit_math.specs.Decimal.{IsStatedBy}
 use Rattle.byte_unit_math.specs.Exact.{IsExactAt, IsQuotient, IsFirstExact}
 use Rattle.byte_unit_math.proofs.Scales.{power_bounds, power_parts}
@@ -79,13 +80,13 @@ IsExactAt-more size unit a b h e =
     let q = ap (λ n. n * 10 ^ (b - a)) e.1 in
     (e.0 * 10 ^ (b - a), p ∙ omega (arith, q))
 
-pub IsQuotient-digits : (size unit most rest fraction digits : ℕ) → most ≤ 28 → Dividing size unit most rest fraction digits → rest ≡ 0 → IsQuotient size unit most (size / unit * 10 ^ 28 + fraction * 10 ^ (28 - digits))
+pub IsQuotient-digits : (size unit most rest fraction digits : ℕ) → most ≤ places_of_decimal → Dividing size unit most rest fraction digits → rest ≡ 0 → IsQuotient size unit most (size / unit * one + fraction * 10 ^ (places_of_decimal - digits))
 IsQuotient-digits size unit most rest fraction digits room h e =
     let raised = ap (λ n. size * n) (raise_power digits most h.few) in
     let product : size * 10 ^ digits ≡ (size / unit * 10 ^ digits + fraction) * unit = omega (arith, h.product, e) in
     let q = ap (λ n. n * 10 ^ (most - digits)) product in
     let parts = ap (λ n. size / unit * n) (power_parts digits (omega (arith, h.few))) in
-    let split = ap (λ n. (size / unit * 10 ^ digits + fraction) * n) (split_power digits most 28 h.few room) in
+    let split = ap (λ n. (size / unit * 10 ^ digits + fraction) * n) (split_power digits most places_of_decimal h.few room) in
     record {
       whole = (size / unit * 10 ^ digits + fraction) * 10 ^ (most - digits);
       exact = raised ∙ omega (arith, q);
@@ -93,10 +94,10 @@ IsQuotient-digits size unit most rest fraction digits room h e =
     }
 
 -- a digit's part stays below one
-pub part_below : (fraction digits : ℕ) → digits ≤ 28 → fraction < 10 ^ digits → fraction * 10 ^ (28 - digits) < 10 ^ 28
+pub part_below : (fraction digits : ℕ) → digits ≤ places_of_decimal → fraction < 10 ^ digits → fraction * 10 ^ (places_of_decimal - digits) < one
 part_below fraction digits room small =
-    let bound = power_bounds (28 - digits) (omega arith) in
-    let product = mul-le-mul_right {m = fraction + 1} {n = 10 ^ digits} (10 ^ (28 - digits)) (omega arith) in
+    let bound = power_bounds (places_of_decimal - digits) (omega arith) in
+    let product = mul-le-mul_right {m = fraction + 1} {n = 10 ^ digits} (10 ^ (places_of_decimal - digits)) (omega arith) in
     omega (arith, product, power_parts digits room, bound.0)
 
 pub IfSome-made : (o : Option ℕ) (C : Type 0) (v : ℕ) (P : ℕ → Type 0) → SomeIff o C v → P v → IfSome o P
@@ -108,44 +109,44 @@ IfNone-made None C Q v h c = absurd (h c)
 IfNone-made (Some x) C Q v h c = tt
 
 -- the digits fit their places
-pub digits_fit : (size unit most rest fraction digits : ℕ) → most ≤ 28 → Dividing size unit most rest fraction digits → fraction < 10 ^ 28
+pub digits_fit : (size unit most rest fraction digits : ℕ) → most ≤ places_of_decimal → Dividing size unit most rest fraction digits → fraction < one
 digits_fit size unit most rest fraction digits room h = omega (arith, h.below, power_bounds digits (omega (arith, h.few)))
 
-pub next_fits : (size unit most rest fraction digits : ℕ) → 1 ≤ unit → 0 < rest → digits < most → most ≤ 28 → Dividing size unit most rest fraction digits → fraction * 10 + rest * 10 / unit < 10 ^ 28
+pub next_fits : (size unit most rest fraction digits : ℕ) → 1 ≤ unit → 0 < rest → digits < most → most ≤ places_of_decimal → Dividing size unit most rest fraction digits → fraction * 10 + rest * 10 / unit < one
 next_fits size unit most rest fraction digits some left room last h =
     digits_fit size unit most (rest * 10 % unit) (fraction * 10 + rest * 10 / unit) (digits + 1) last (Dividing-more size unit most rest fraction digits some left room h)
 
-whole_fits : (size unit : ℕ) → size < 2 ^ 96 → size / unit < 2 ^ 96
+whole_fits : (size unit : ℕ) → size < whole_limit → size / unit < whole_limit
 whole_fits size unit h = let e = div-le_self size unit in omega (arith, e)
 
-pub quotient_made : (o : Option ℕ) (size unit places most rest fraction digits power : ℕ) → most ≡ places → most ≤ 28 → power ≡ 10 ^ (28 - digits) → rest ≡ 0 → Dividing size unit most rest fraction digits → SomeIff o ((size / unit < 2 ^ 96) × (fraction * power < 10 ^ 28)) (size / unit * 10 ^ 28 + fraction * power) → IfSome o (IsQuotient size unit places)
+pub quotient_made : (o : Option ℕ) (size unit places most rest fraction digits power : ℕ) → most ≡ places → most ≤ places_of_decimal → power ≡ 10 ^ (places_of_decimal - digits) → rest ≡ 0 → Dividing size unit most rest fraction digits → SomeIff o ((size / unit < whole_limit) × (fraction * power < one)) (size / unit * one + fraction * power) → IfSome o (IsQuotient size unit places)
 quotient_made o size unit places most rest fraction digits power m last p done h made =
-    let P : ℕ → Type 0 = λ n. SomeIff o ((size / unit < 2 ^ 96) × (fraction * n < 10 ^ 28)) (size / unit * 10 ^ 28 + fraction * n) in
+    let P : ℕ → Type 0 = λ n. SomeIff o ((size / unit < whole_limit) × (fraction * n < one)) (size / unit * one + fraction * n) in
     let Q : ℕ → Type 0 = λ n. IfSome o (IsQuotient size unit n) in
     subst Q m (IfSome-made o _ _ (IsQuotient size unit most) (subst P p made) (IsQuotient-digits size unit most rest fraction digits last h done))
 
-pub always_made : (o : Option ℕ) (Q : Type 0) (size unit most rest fraction digits power : ℕ) → size < 2 ^ 96 → most ≤ 28 → power ≡ 10 ^ (28 - digits) → Dividing size unit most rest fraction digits → SomeIff o ((size / unit < 2 ^ 96) × (fraction * power < 10 ^ 28)) (size / unit * 10 ^ 28 + fraction * power) → IfNone o Q
+pub always_made : (o : Option ℕ) (Q : Type 0) (size unit most rest fraction digits power : ℕ) → size < whole_limit → most ≤ places_of_decimal → power ≡ 10 ^ (places_of_decimal - digits) → Dividing size unit most rest fraction digits → SomeIff o ((size / unit < whole_limit) × (fraction * power < one)) (size / unit * one + fraction * power) → IfNone o Q
 always_made o Q size unit most rest fraction digits power small last p h made =
-    let P : ℕ → Type 0 = λ n. SomeIff o ((size / unit < 2 ^ 96) × (fraction * n < 10 ^ 28)) (size / unit * 10 ^ 28 + fraction * n) in
+    let P : ℕ → Type 0 = λ n. SomeIff o ((size / unit < whole_limit) × (fraction * n < one)) (size / unit * one + fraction * n) in
     IfNone-made o _ Q _ (subst P p made) (whole_fits size unit small, part_below fraction digits (omega (arith, h.few)) h.below)
 
 -- the number times the unit is the size
-pub IsQuotient-product : (size unit places N : ℕ) → places ≤ 28 → IsQuotient size unit places N → N * unit ≡ size * 10 ^ 28
+pub IsQuotient-product : (size unit places N : ℕ) → places ≤ places_of_decimal → IsQuotient size unit places N → N * unit ≡ size * one
 IsQuotient-product size unit places N room h =
     let n = ap (λ x. x * unit) h.number in
-    let e = ap (λ x. x * 10 ^ (28 - places)) h.exact in
+    let e = ap (λ x. x * 10 ^ (places_of_decimal - places)) h.exact in
     let p = ap (λ x. size * x) (power_parts places room) in
     n ∙ omega (arith, e, p)
 
 -- the places that state the number are those at which the size is exact
-pub stated_of_exact : (size unit N j : ℕ) → 1 ≤ unit → N * unit ≡ size * 10 ^ 28 → IsExactAt size unit j → IsStatedBy N j
+pub stated_of_exact : (size unit N j : ℕ) → 1 ≤ unit → N * unit ≡ size * one → IsExactAt size unit j → IsStatedBy N j
 stated_of_exact size unit N j some product e =
     let p = ap (λ x. x * 10 ^ j) product in
-    let q = ap (λ x. x * 10 ^ 28) e.1 in
-    (e.0, eq_of_mul-eq-mul_right unit (omega (arith, some)) (N * 10 ^ j) (e.0 * 10 ^ 28) (omega (arith, p, q)))
+    let q = ap (λ x. x * one) e.1 in
+    (e.0, eq_of_mul-eq-mul_right unit (omega (arith, some)) (N * 10 ^ j) (e.0 * one) (omega (arith, p, q)))
 
-pub exact_of_stated : (size unit N j : ℕ) → N * unit ≡ size * 10 ^ 28 → IsStatedBy N j → IsExactAt size unit j
+pub exact_of_stated : (size unit N j : ℕ) → N * unit ≡ size * one → IsStatedBy N j → IsExactAt size unit j
 exact_of_stated size unit N j product s =
     let p = ap (λ x. x * 10 ^ j) product in
     let q = ap (λ x. x * unit) s.1 in
-    (s.0, eq_of_mul-eq-mul_right (10 ^ 28) (omega arith) (size * 10 ^ j) (s.0 * unit) (omega (arith, p, q)))
+    (s.0, eq_of_mul-eq-mul_right one (omega arith) (size * 10 ^ j) (s.0 * unit) (omega (arith, p, q)))

@@ -11,6 +11,13 @@ use Rattle.byte_unit_math.specs.Bounds.{expansion_places, one, places_of_decimal
 use Rattle.byte_unit_math.specs.Exact.{IsExactAt}
 use Rattle.byte_unit_math.specs.Finite.{value_of, IsExpansion}
 
+-- zeros stay behind a digit that is set
+pub zeros_behind_set : (n i d : ℕ) (ds : List ℕ) → drop i ds ≡ replicate (n - i) 0 → drop (i + 1) (set ds i d) ≡ replicate (n - (i + 1)) 0
+zeros_behind_set n i d ds h =
+    let fewer : n - i - 1 ≡ n - (i + 1) = omega arith in
+    let behind : drop (i + 1) ds ≡ replicate (n - i - 1) 0 = sym (drop-drop 1 i ds) ∙ (ap (drop 1) h ∙ drop-replicate 1 (n - i) 0) in
+    drop-set-lt (i + 1) ds i d (omega arith) ∙ (behind ∙ ap (λ k. replicate k 0) fewer)
+
 -- the digits so far, and what is left
 pub record IsDividing (numerator den whole rest places : ℕ) (digits : List ℕ) : Type 0 where
   pub few : places ≤ expansion_places
@@ -65,8 +72,7 @@ module _ (numerator den whole rest places : ℕ) (digits : List ℕ) (inv : IsDi
         few = omega (arith, room);
         size = length-set digits places digit ∙ inv.size;
         small = All-set (λ d. d < 10) digits places digit next_small inv.small;
-        zeros = drop-set-lt (places + 1) digits places digit (omega arith) ∙ sym (drop-drop 1 places digits) ∙ ap (drop 1) inv.zeros ∙ drop-replicate 1 (expansion_places - places) 0
-            ∙ ap (λ n. replicate n 0) (let n : expansion_places - places - 1 ≡ expansion_places - (places + 1) = omega arith in n);
+        zeros = zeros_behind_set expansion_places places digit digits inv.zeros;
         below = omega arith;
         exact = rw (power, value) (step_exact whole (10 ^ places) (value_of (take places digits)) den rest digit (rest * 10 % den) numerator inv.exact split);
         last = λ z p. subst (λ n. 0 < n) (sym at) (some_digit rest den digit (rest * 10 % den) some split z);

@@ -1,11 +1,11 @@
 pub mod Scales
 pub mod Places
-pub mod Rounding
+pub mod RoundedUp
 pub mod Division
 pub mod Digits
 pub mod Shown
 pub mod Expanding
 pub mod Nearest
-pub mod Rounded
+pub mod Cut
 pub mod Powers
 pub mod Texts

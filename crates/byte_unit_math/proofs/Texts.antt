@@ -14,7 +14,7 @@ use Rattle.byte_unit_math.specs.Finite.{Finite, value_of, scaled, IsExpansion}
 use Rattle.byte_unit_math.specs.Numeral.{last_digits, at_places, before, without_zeros, shortened, text_of, numeral, short, padded}
 use Rattle.byte_unit_math.proofs.Digits.{ten, value_cons, value_more, length_last, small_last, scaled_places, short_of}
 use Rattle.byte_unit_math.proofs.Expanding.{from_last}
-use Rattle.byte_unit_math.proofs.Rounded.{small_value}
+use Rattle.byte_unit_math.proofs.Cut.{small_value}
 
 -- one decimal
 

@@ -1,7 +1,7 @@
 pub mod Bounds
 pub mod Decimal
 pub mod Least
-pub mod Rounded
+pub mod RoundedUp
 pub mod Steps
 pub mod Exact
 pub mod Finite

@@ -8,6 +8,7 @@ ghost use Rattle.byte_unit_math.specs.Finite.{IsExpansion, scaled, first};
 ghost use Rattle.byte_unit_math.specs.Nearest.{IsNearest};
 
 use crate::decimal::{Decimal, ONE};
+use crate::dividing::divided;
 use std::marker::Model;
 
 /// The most digits after the point.
@@ -64,7 +65,8 @@ impl Expansion {
         ensures { IsExpansion numerator (2 ^ twos * 5 ^ fives) result }
     {
         let den = power(2, twos) * power(5, fives);
-        divide(numerator / den, numerator % den, den)
+        let (whole, rest) = divided(numerator, den);
+        divide(whole, rest, den)
     }
 
     /// The same number.
@@ -248,9 +250,9 @@ fn divide(whole: u128, remainder: u128, den: u128) -> Expansion
     let mut digits = [0u8; PLACES];
     let mut places: u32 = 0;
     while rest != 0 {
-        let next = rest * 10;
-        digits[places as usize] = (next / den) as u8;
-        rest = next % den;
+        let (digit, left) = divided(rest * 10, den);
+        digits[places as usize] = digit as u8;
+        rest = left;
         places += 1;
     }
     Expansion {

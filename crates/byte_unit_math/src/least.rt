@@ -2,14 +2,15 @@
 ghost use Rattle.std.specs.Prelude.{ℕ, ◌+◌, ◌*◌, ◌^◌, ◌<◌, ◌≤◌, IfSome, IfNone};
 ghost use Rattle.byte_unit_math.specs.Bounds.{bits_limit, one, unit_limit};
 ghost use Rattle.byte_unit_math.specs.Least.{IsLeastSize};
-ghost use Rattle.byte_unit_math.specs.Rounded.{IsRoundedUp};
+ghost use Rattle.byte_unit_math.specs.RoundedUp.{half, IsRoundedUp};
 
-use crate::decimal::Decimal;
+use crate::decimal::{Decimal, PLACES};
+use crate::dividing::divided;
 
-/// Half the digits of a fraction fit a `u64`.
-const HALF_PLACES: u32 = 14;
+/// Half the places of a fraction: so many digits fit a `u64`.
+const HALF_PLACES: u32 = PLACES / 2;
 
-/// Ten to the half of the places.
+/// One, counted in units of the place in the middle.
 const HALF: u128 = 100_000_000_000_000;
 
 /// The least whole number that is not below `d * unit_size`. None exactly where that number reaches the limit.
@@ -45,18 +46,19 @@ fn rounded_up(fraction: u128, unit_size: u128) -> u128
     if fraction == 0 {
         return 0;
     }
-    let part = over_digits((fraction % HALF) as u64, unit_size, 0);
-    over_digits((fraction / HALF) as u64, unit_size, part)
+    let (high, low) = divided(fraction, HALF);
+    let part = over_digits(low as u64, unit_size, 0);
+    over_digits(high as u64, unit_size, part)
 }
 
 /// The product of half the digits and the unit's size, and what the digits behind came to, rounded up a digit at a time
 /// from the last.
 fn over_digits(digits: u64, unit_size: u128, behind: u128) -> u128
-    requires digits { digits < 10 ^ 14 }
+    requires digits { digits < half }
     requires some_unit { 1 ≤ unit_size }
     requires small_unit { unit_size ≤ unit_limit }
     requires behind { behind ≤ unit_size }
-    ensures rounded { IsRoundedUp (digits * unit_size + behind) (10 ^ 14) result }
+    ensures rounded { IsRoundedUp (digits * unit_size + behind) half result }
     ensures bound { result ≤ unit_size }
 {
     let mut rest = digits;

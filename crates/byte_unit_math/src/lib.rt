@@ -9,6 +9,7 @@ pub use crate::quotient::exact_quotient;
 pub use crate::steps::Steps;
 
 mod decimal;
+mod dividing;
 mod expansion;
 mod laws;
 mod least;

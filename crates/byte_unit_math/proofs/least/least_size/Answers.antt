@@ -1,6 +1,6 @@
 use Rattle.std.proofs.Common.{ℕ, ◌≤◌, arith, refl}
 use Rattle.byte_unit_math.specs.Least.{IsLeastSize}
-use Rattle.byte_unit_math.proofs.Rounding.{IsLeastSize-parts, IfNone-always}
+use Rattle.byte_unit_math.proofs.RoundedUp.{IsLeastSize-parts, IfNone-always}
 use Rattle.byte_unit_math.proofs.least.least_size.Goals as goal
 
 pub returns-in_err-checked_mul-clause-none : goal.returns-in_err-checked_mul-clause-none

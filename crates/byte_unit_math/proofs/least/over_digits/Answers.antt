@@ -1,4 +1,4 @@
-use Rattle.byte_unit_math.proofs.Rounding.{RoundsSoFar-more}
+use Rattle.byte_unit_math.proofs.RoundedUp.{RoundsSoFar-more}
 use Rattle.byte_unit_math.proofs.least.over_digits.Goals as goal
 
 pub loop-preserved : goal.loop-preserved

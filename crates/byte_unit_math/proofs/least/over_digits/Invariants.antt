@@ -1,4 +1,4 @@
-use Rattle.byte_unit_math.proofs.Rounding.{RoundsSoFar}
+use Rattle.byte_unit_math.proofs.RoundedUp.{RoundsSoFar}
 use Rattle.byte_unit_math.proofs.least.over_digits.Given as goal
 
 abbrev pub invariant-loop : goal.invariant-loop

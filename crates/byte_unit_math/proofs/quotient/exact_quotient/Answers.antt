@@ -1,4 +1,5 @@
 use Rattle.std.proofs.Common.{ℕ, ◌-◌, arith, subst, sym}
+use Rattle.byte_unit_math.specs.Bounds.{places_of_decimal}
 use Rattle.byte_unit_math.specs.Exact.{IsExactAt}
 use Rattle.byte_unit_math.proofs.quotient.exact_quotient.Goals.{then-loop-rest-test+else-digits-most, else-loop-rest-test}
 use Rattle.byte_unit_math.proofs.Scales.{power_bounds}
@@ -17,7 +18,7 @@ overflow_add-fraction c =
 
 pub loop-rest-preserved : goal.loop-rest-preserved
 loop-rest-preserved c = record {
-  divides = Dividing-more _ _ _ _ _ _ (omega arith) (omega arith) (omega arith) c.loop-rest.invariant.divides;
+  divides = rw (c.divided-digit.ensures.quotient, c.divided-digit.ensures.rest) (Dividing-more _ _ _ c.loop-rest.rest c.loop-rest.fraction c.loop-rest.digits (omega arith) (omega arith) (omega arith) c.loop-rest.invariant.divides);
   ticks = omega (arith, c.tick.ensures, c.loop-rest.invariant.ticks);
 }
 
@@ -27,13 +28,13 @@ returns-then-rest-gt0-clause-none c = λ e.
     elim c.loop-rest-test.branch [ then-loop-rest-test+else-digits-most w ↦ not_exact _ _ _ _ _ _ c.loop-rest.invariant.divides (omega arith) c.if-rest-gt0.true (subst P (sym c.min-most.ensures) e) | else-loop-rest-test w ↦ absurd (omega arith) ]
 
 pub pow-requires : goal.pow-requires
-pow-requires c = omega (arith, power_bounds (28 - c.loop-rest.digits) (omega arith))
+pow-requires c = omega (arith, power_bounds (places_of_decimal - c.loop-rest.digits) (omega arith))
 
 pub overflow_mul-fraction-2 : goal.overflow_mul-fraction-2
 overflow_mul-fraction-2 c = rw c.pow.ensures (omega (arith, part_below c.loop-rest.fraction c.loop-rest.digits (omega (arith, c.loop-rest.invariant.divides.few)) c.loop-rest.invariant.divides.below))
 
 pub returns-clause-quotient : goal.returns-clause-quotient
-returns-clause-quotient c = quotient_made _ _ _ _ _ _ _ _ _ c.min-most.ensures (omega arith) c.pow.ensures (omega arith) c.loop-rest.invariant.divides c.new.ensures
+returns-clause-quotient c = quotient_made _ _ _ _ _ _ _ _ _ c.min-most.ensures (omega arith) c.pow.ensures (omega arith) c.loop-rest.invariant.divides (rw c.divided-whole.ensures.quotient at c.new.ensures)
 
 pub returns-clause-none : goal.returns-clause-none
-returns-clause-none c = always_made _ _ c.args.size c.args.unit c.min-most.result c.loop-rest.rest c.loop-rest.fraction c.loop-rest.digits c.pow.result c.requires.small_size (omega arith) c.pow.ensures c.loop-rest.invariant.divides c.new.ensures
+returns-clause-none c = always_made _ _ c.args.size c.args.unit c.min-most.result c.loop-rest.rest c.loop-rest.fraction c.loop-rest.digits c.pow.result c.requires.small_size (omega arith) c.pow.ensures c.loop-rest.invariant.divides (rw c.divided-whole.ensures.quotient at c.new.ensures)

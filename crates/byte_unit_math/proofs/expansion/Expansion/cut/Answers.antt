@@ -1,5 +1,5 @@
 use Rattle.std.proofs.Common.{ap, ◌≡◌}
-use Rattle.byte_unit_math.proofs.Rounded.{shown_by, cut_is}
+use Rattle.byte_unit_math.proofs.Cut.{shown_by, cut_is}
 use Rattle.byte_unit_math.proofs.expansion.Expansion.cut.Goals as goal
 
 pub returns : goal.returns

@@ -1,5 +1,5 @@
 use Rattle.std.proofs.Common.{arith}
-use Rattle.byte_unit_math.proofs.Rounded.{none_copied, one_copied}
+use Rattle.byte_unit_math.proofs.Cut.{none_copied, one_copied}
 use Rattle.byte_unit_math.proofs.expansion.Expansion.front.Goals as goal
 
 pub loop-i-init : goal.loop-i-init

@@ -1,6 +1,6 @@
 use Rattle.std.proofs.Common.{arith, ◌%◌, ap, sym, ◌∙◌}
 use Rattle.byte_unit_math.specs.Finite.{scaled, first}
-use Rattle.byte_unit_math.proofs.Rounded.{odd_last, odd_answer}
+use Rattle.byte_unit_math.proofs.Cut.{odd_last, odd_answer}
 use Rattle.byte_unit_math.proofs.expansion.Expansion.is_odd_at.Goals as goal
 
 pub returns-else-places-eq0 : goal.returns-else-places-eq0

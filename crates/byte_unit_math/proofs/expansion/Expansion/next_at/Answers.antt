@@ -1,5 +1,5 @@
 use Rattle.std.proofs.Common.{arith, ap, ◌≡◌, ◌<◌}
-use Rattle.byte_unit_math.proofs.Rounded.{shown_by, next_whole, next_digit}
+use Rattle.byte_unit_math.proofs.Cut.{shown_by, next_whole, next_digit}
 use Rattle.byte_unit_math.proofs.expansion.Expansion.next_at.Goals as goal
 
 pub returns-then-kept-eq0 : goal.returns-then-kept-eq0

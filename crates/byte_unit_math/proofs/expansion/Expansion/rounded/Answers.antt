@@ -1,6 +1,6 @@
 use Rattle.std.proofs.Common.{arith, subst, sym, ◌^◌}
 use Rattle.byte_unit_math.specs.Finite.{Finite, IsExpansion}
-use Rattle.byte_unit_math.proofs.Rounded.{shown_by, length_by, same_rounded}
+use Rattle.byte_unit_math.proofs.Cut.{shown_by, length_by, same_rounded}
 use Rattle.byte_unit_math.proofs.expansion.Expansion.rounded.Goals as goal
 
 pub returns-then-self-places : goal.returns-then-self-places

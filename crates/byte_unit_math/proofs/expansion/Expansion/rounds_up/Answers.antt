@@ -1,5 +1,5 @@
 use Rattle.std.proofs.Common.{arith, sym, ◌∙◌}
-use Rattle.byte_unit_math.proofs.Rounded.{shown_by, digit_at, length_by, not_half, past_half, half_up, half_even}
+use Rattle.byte_unit_math.proofs.Cut.{shown_by, digit_at, length_by, not_half, past_half, half_up, half_even}
 use Rattle.byte_unit_math.proofs.expansion.Expansion.rounds_up.Goals as goal
 
 pub returns-then-next-ne5 : goal.returns-then-next-ne5

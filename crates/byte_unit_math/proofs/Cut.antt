@@ -1,8 +1,8 @@
--- Rounding to fewer digits.
+-- Decimals that are cut after some digits, and carried up where they are rounded.
 use Rattle.std.proofs.Common.{◌≢◌, ◌≡◌, ◌+◌, ◌-◌, ◌*◌, ◌^◌, ◌%◌, ◌<◌, ◌≤◌, ⊎_elim, ℕ, zero, suc, List, [], ◌∷◌, ◌++◌, length, take, drop, set, get_or, replicate, arith, ap, sym, refl, subst, ◌∙◌, add-one, length-take-le, take-append-drop, length-drop, drop-cons}
 use Rattle.std.specs.List.{All, fold}
 use Rattle.std.proofs.lemmas.Bool.{cases_lt}
-use Rattle.std.proofs.lemmas.List.{take_more, take_more_set, drop-set-lt, drop-drop, drop-replicate, length-set, length-replicate, get_or-take, get_or-drop, get_or-set_same}
+use Rattle.std.proofs.lemmas.List.{take_more, take_more_set, length-set, length-replicate, get_or-take, get_or-drop, get_or-set_same}
 use Rattle.std.proofs.lemmas.List.Elements.{All-nil, All-replicate, All-set, All-take, All-get_or, All-drop}
 use Rattle.std.proofs.lemmas.List.Sums.{fold-append}
 use Rattle.std.proofs.lemmas.Nat.{pow-add}
@@ -19,7 +19,7 @@ use Rattle.std.specs.Bool.{MatchBool}
 use Rattle.std.proofs.Common.{Bool, true, false, ltb, nat_eq}
 use Rattle.std.proofs.lemmas.Bool.Decides.{nat_tests}
 use Rattle.byte_unit_math.proofs.Nearest.{nearest_down, nearest_up, tie_up, tie_even_next, tie_even_this}
-use Rattle.byte_unit_math.proofs.Expanding.{from_last, stored, last_value}
+use Rattle.byte_unit_math.proofs.Expanding.{from_last, stored, last_value, zeros_behind_set}
 
 pub small_value : (ds : List ℕ) → All (λ d. d < 10) ds → value_of ds < 10 ^ length ds
 small_value [] h = omega arith
@@ -272,7 +272,7 @@ one_copied ds es i d h l m e small =
     record {
       size = length-set ds i d ∙ h.size;
       front = take_more_set ds i d fits ∙ (ap (λ l. l ++ d ∷ []) h.front ∙ (ap (λ x. take i es ++ x ∷ []) same ∙ sym (take_more es i 0 l)));
-      rest = drop-set-lt (i + 1) ds i d (omega arith) ∙ sym (drop-drop 1 i ds) ∙ ap (drop 1) h.rest ∙ drop-replicate 1 (expansion_places - i) 0 ∙ ap (λ n. replicate n 0) (let n : expansion_places - i - 1 ≡ expansion_places - (i + 1) = omega arith in n);
+      rest = zeros_behind_set expansion_places i d ds h.rest;
       small = All-set (λ d. d < 10) ds i d small h.small;
     }
 

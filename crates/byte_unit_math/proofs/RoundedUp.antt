@@ -5,7 +5,7 @@ use Rattle.std.proofs.Math.Nat.{mul-le-mul_right, pow-succ'}
 use Rattle.std.proofs.Math.Numerals.{add-one}
 use Rattle.byte_unit_math.specs.Bounds.{one}
 use Rattle.byte_unit_math.specs.Least.{IsLeastSize}
-use Rattle.byte_unit_math.specs.Rounded.{IsRoundedUp}
+use Rattle.byte_unit_math.specs.RoundedUp.{half, half_places, IsRoundedUp}
 
 -- the digits are rest above so many last places, which are low, and size is the product of low and what was behind, rounded up
 pub record RoundsSoFar (digits unit behind rest places size : ℕ) : Type 0 where
@@ -40,23 +40,23 @@ RoundsSoFar-more digits unit behind rest places size size' h step =
       bound = omega (arith, product, h.bound, step.close);
     }
 
-pub IsRoundedUp-all : (digits unit behind rest places size : ℕ) → digits < 10 ^ 14 → places ≡ 14 → RoundsSoFar digits unit behind rest places size → IsRoundedUp (digits * unit + behind) (10 ^ 14) size
+pub IsRoundedUp-all : (digits unit behind rest places size : ℕ) → digits < half → places ≡ half_places → RoundsSoFar digits unit behind rest places size → IsRoundedUp (digits * unit + behind) half size
 IsRoundedUp-all digits unit behind rest places size small e h =
     let Q : ℕ → Type 0 = λ p. RoundsSoFar digits unit behind rest p size in
     let k = subst Q e h in
     let all : k.low ≡ digits = omega (arith, k.split) in
-    let P : ℕ → Type 0 = λ p. (p * unit + behind ≤ size * 10 ^ 14) × (size * 10 ^ 14 < p * unit + behind + 10 ^ 14) in
+    let P : ℕ → Type 0 = λ p. (p * unit + behind ≤ size * half) × (size * half < p * unit + behind + half) in
     let s = subst P all (k.enough, k.close) in
     record { enough = s.0; close = s.1 }
 
 -- the two halves of a fraction
-pub IsLeastSize-halves : (fraction unit part size : ℕ) → IsRoundedUp (fraction % 10 ^ 14 * unit + 0) (10 ^ 14) part → IsRoundedUp (fraction / 10 ^ 14 * unit + part) (10 ^ 14) size → IsLeastSize fraction unit size
-IsLeastSize-halves fraction unit part size low high =
-    let parts : 10 ^ 14 * (fraction / 10 ^ 14) + fraction % 10 ^ 14 ≡ fraction = omega arith in
+pub IsLeastSize-halves : (fraction high low unit part size : ℕ) → high ≡ fraction / half → low ≡ fraction % half → IsRoundedUp (low * unit + 0) half part → IsRoundedUp (high * unit + part) half size → IsLeastSize fraction unit size
+IsLeastSize-halves fraction high low unit part size h l behind all =
+    let parts : half * high + low ≡ fraction = omega arith in
     let product = ap (λ n. n * unit) parts in
     record {
-      reaches = omega (arith, product, low.enough, low.close, high.enough, high.close);
-      least = λ m r. omega (arith, product, low.enough, low.close, high.enough, high.close, r);
+      reaches = omega (arith, product, behind.enough, behind.close, all.enough, all.close);
+      least = λ m r. omega (arith, product, behind.enough, behind.close, all.enough, all.close, r);
     }
 
 -- the whole part's product beside the fraction's least size
