@@ -58,3 +58,9 @@ IsRecovered edition kind family size places unit number =
 -- a count that rises by no less than the digits of this number after the point
 abbrev pub CountsDigits : ℕ → ℕ → ℕ → Type 0
 CountsDigits number old new = (digits : ℕ) × IsStatedBy number digits × (raised old digits ≤ new)
+
+-- the unit that a size of this kind is shown in by a type: the largest that suits it, or its kind's own where none does
+abbrev pub IsAppropriate : Edition → Kind → UnitType → ℕ → Shape → Type 0
+IsAppropriate edition kind unit_type size unit =
+    IsLargest (Suits edition (own_family kind) unit_type (size * bits_in kind)) unit
+    ⊎ ((other : Shape) → Suits edition (own_family kind) unit_type (size * bits_in kind) other → ⊥) × (unit ≡ own_unit kind)

@@ -10,7 +10,7 @@ pub use crate::format::{
 };
 pub use crate::kind::Kind;
 pub use crate::read::read_size;
-pub use crate::recover::{exact_unit, recoverable_unit};
+pub use crate::recover::{appropriate_unit, exact_unit, recoverable_unit};
 pub use crate::unit::Unit;
 pub use crate::unit::family::Family;
 pub use crate::unit::unit_type::UnitType;

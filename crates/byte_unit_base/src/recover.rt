@@ -1,4 +1,4 @@
-//! A size in the unit that states it best, or in its own.
+//! The unit of a size: the one that states it best or suits it best, or its own.
 
 ghost use Rattle.std.specs.Prelude.{◌≡◌, ℕ, ◌*◌, ◌<◌, ◌≤◌, min};
 ghost use Rattle.byte_unit_math.specs.Bounds.{places_of_decimal, one};
@@ -8,12 +8,13 @@ ghost use Rattle.byte_unit_base.specs.Edition.{current};
 ghost use Rattle.byte_unit_base.specs.Kinds.{bits_in};
 ghost use Rattle.byte_unit_base.specs.Units.{shape_of};
 ghost use Rattle.byte_unit_base.specs.Family.{units_in};
-ghost use Rattle.byte_unit_base.specs.Choice.{IsRecovered, CountsDigits, family_for};
+ghost use Rattle.byte_unit_base.specs.Choice.{IsRecovered, IsAppropriate, CountsDigits, family_for};
 
-use crate::choice::choose_unit;
+use crate::choice::{choose_unit, largest_unit};
 use crate::kind::Kind;
 use crate::unit::Unit;
 use crate::unit::family::Family;
+use crate::unit::unit_type::UnitType;
 use byte_unit_math::{Decimal, Steps};
 
 /// The largest unit, not above the size, that states it exactly within the precision, with its
@@ -65,6 +66,21 @@ pub fn exact_unit(size: u128, kind: Kind, allow: bool) -> (u128, Unit)
 {
     let (number, unit) = recoverable_unit(size, kind, allow, 0, &mut Steps::new());
     (number.whole(), unit)
+}
+
+/// The largest unit of the size's own kind and of the type that is not above the size; where there is none, `B` or `Bit`.
+///
+/// ```text
+/// appropriate_unit(10_000, Kind::Byte, UnitType::Both)      KiB
+/// appropriate_unit(1000, Kind::Byte, UnitType::Binary)      B
+/// ```
+pub fn appropriate_unit(size: u128, kind: Kind, unit_type: UnitType) -> Unit
+    ensures { IsAppropriate current kind unit_type size (shape_of result) }
+{
+    match largest_unit(size, family_for(kind, false), unit_type, kind.bits()) {
+        Some(unit) => unit,
+        None => kind.unit(),
+    }
 }
 
 /// The multiples that a size of the kind may stand in.

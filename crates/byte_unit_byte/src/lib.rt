@@ -4,4 +4,4 @@
 mod byte;
 pub mod laws;
 
-pub use byte::Byte;
+pub use byte::{AdjustedByte, Byte};

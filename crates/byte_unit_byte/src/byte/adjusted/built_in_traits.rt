@@ -1,0 +1,113 @@
+//! The traits of std that `AdjustedByte` has.
+
+ghost use Rattle.std.specs.Prelude.{◌≡◌, nat_eq};
+ghost use Rattle.std.specs.Cmp.{partial_order_from_own_ties, partial_equiv_from_equiv};
+ghost use Rattle.std.specs.Cmp.Rules.{comparing};
+ghost use Rattle.std.specs.Ordering.{nat_cmp, as_partial_cmp};
+ghost use Rattle.std.proofs.Common.{rules};
+ghost use Rattle.byte_unit_base.specs.Edition.{current};
+ghost use Rattle.byte_unit_base.specs.Units.{shape_of};
+ghost use Rattle.byte_unit_base.specs.Choice.{IsAppropriate};
+ghost use Rattle.byte_unit_base.specs.declared.kind.Kind.TheVariants.{Byte as InBytes};
+ghost use Rattle.byte_unit_base.specs.declared.unit.unit_type.UnitType.TheVariants.{Both};
+
+use super::AdjustedByte;
+use crate::byte::Byte;
+use byte_unit_base::{ParseError, Unit, UnitType};
+use std::cmp::Ordering;
+use std::str::FromStr;
+
+/// Whether the sizes are equal, whatever the units.
+impl PartialEq for AdjustedByte {
+    ghost use Rattle.byte_unit_byte.specs.AdjustedByte.{size_of};
+
+    ghost eq = { λ a b. nat_eq (size_of a) (size_of b) };
+
+    ghost laws = { partial_equiv_from_equiv (Prim.search (comparing, rules)) };
+
+    fn eq(&self, other: &AdjustedByte) -> bool {
+        self.get_byte() == other.get_byte()
+    }
+}
+
+impl Eq for AdjustedByte {
+    ghost laws = { Prim.search (comparing, rules) };
+}
+
+/// The order of the sizes, whatever the units.
+impl Ord for AdjustedByte {
+    ghost use Rattle.byte_unit_byte.specs.AdjustedByte.{size_of};
+
+    ghost cmp = { λ a b. nat_cmp (size_of a) (size_of b) };
+
+    ghost total = { Prim.search (comparing, rules) };
+
+    ghost matches_partial_cmp = { Prim.search (comparing, rules) };
+
+    ghost matches_eq = { Prim.search (comparing, rules) };
+
+    fn cmp(&self, other: &AdjustedByte) -> Ordering {
+        self.get_byte().cmp(&other.get_byte())
+    }
+}
+
+impl PartialOrd for AdjustedByte {
+    ghost use Rattle.byte_unit_byte.specs.AdjustedByte.{size_of};
+
+    ghost partial_cmp = { λ a b. as_partial_cmp nat_cmp (size_of a) (size_of b) };
+
+    ghost laws = { partial_order_from_own_ties (Prim.search (comparing, rules)) (Prim.search (comparing, rules)) };
+
+    fn partial_cmp(&self, other: &AdjustedByte) -> Option<Ordering> {
+        Some(self.cmp(other))
+    }
+}
+
+/// The size, to be shown in the largest unit of bytes that is not above it.
+impl From<Byte> for AdjustedByte {
+    ghost use Rattle.byte_unit_byte.specs.AdjustedByte.{size_of, unit_of};
+
+    ghost from_gives = { λ size a. (size_of a ≡ size) × IsAppropriate current InBytes Both size (shape_of (unit_of a)) };
+
+    fn from(size: Byte) -> AdjustedByte {
+        size.get_appropriate_unit(UnitType::Both)
+    }
+}
+
+/// The size that was adjusted.
+impl From<AdjustedByte> for Byte {
+    ghost use Rattle.byte_unit_byte.specs.AdjustedByte.{size_of};
+
+    ghost from_gives = { λ a size. size ≡ size_of a };
+
+    fn from(adjusted: AdjustedByte) -> Byte {
+        adjusted.get_byte()
+    }
+}
+
+/// The unit.
+impl From<AdjustedByte> for Unit {
+    ghost use Rattle.byte_unit_byte.specs.AdjustedByte.{unit_of};
+
+    ghost from_gives = { λ a unit. unit ≡ unit_of a };
+
+    fn from(adjusted: AdjustedByte) -> Unit {
+        adjusted.get_unit()
+    }
+}
+
+/// The size that the text states, as [`Byte`] reads it, to be shown in the largest unit of bytes that is not above it.
+impl FromStr for AdjustedByte {
+    type Err = ParseError;
+
+    ghost use Rattle.byte_unit_byte.specs.AdjustedByte.{IsAdjustedReading};
+
+    ghost from_str_gives = { IsAdjustedReading };
+
+    fn from_str(s: &str) -> Result<AdjustedByte, ParseError> {
+        match s.parse::<Byte>() {
+            Ok(size) => Ok(AdjustedByte::from(size)),
+            Err(error) => Err(error),
+        }
+    }
+}
