@@ -10,6 +10,8 @@ use Rattle.byte_unit_base.specs.declared.errors.ValueParseError.{ValueParseError
 use Rattle.byte_unit_base.specs.declared.errors.ValueParseError.TheVariants.{ExceededBounds, NotNumber, NoValue, NumberTooLong}
 use Rattle.byte_unit_base.specs.declared.errors.ParseError.{ParseError}
 use Rattle.byte_unit_base.specs.declared.errors.ParseError.TheVariants.{Value, Unit as UnitError}
+use Rattle.byte_unit_base.specs.declared.errors.JsonSizeError.{JsonSizeError}
+use Rattle.byte_unit_base.specs.declared.errors.JsonSizeError.TheVariants.{NotString, Parse}
 
 abbrev pub exceeded_text : ExceededBoundsError → Option (List ℕ)
 exceeded_text e = Some (codes "value exceeds the valid range")
@@ -36,3 +38,7 @@ unit_text e = Some (codes "the character ") ++? debug_char e.character ++? Some 
 abbrev pub parse_text : ParseError → Option (List ℕ)
 parse_text (Value e) = value_text e
 parse_text (UnitError e) = unit_text e
+
+abbrev pub json_text : JsonSizeError → Option (List ℕ)
+json_text NotString = Some (codes "not a JSON string")
+json_text (Parse e) = parse_text e

@@ -14,6 +14,7 @@ pub mod LeastOfKind
 pub mod SizeOrNone
 pub mod Accepted
 pub mod SizeReading
+pub mod JsonReading
 pub mod Family
 pub mod Choice
 pub mod Plain

@@ -45,6 +45,15 @@ pub enum ParseError {
     Unit(UnitParseError),
 }
 
+/// Why a JSON value is no size.
+#[derive(Clone, Copy, Debug)]
+pub enum JsonSizeError {
+    /// The value is no string.
+    NotString,
+    /// The string is refused.
+    Parse(ParseError),
+}
+
 impl UnitParseError {
     /// The error of a spelling that stops after the `bi` of a b-part: it could have stopped before that `i`.
     pub(crate) const STOPS_AT_BI: UnitParseError = UnitParseError {
@@ -156,6 +165,21 @@ fn write_others<W: fmt::Write>(others: &[char], f: &mut fmt::Formatter<W>) -> fm
     write!(f, "{before}{c:?}")?;
     write_others(rest, f)
 }
+
+impl fmt::Display for JsonSizeError {
+    ghost use Rattle.byte_unit_base.specs.FaultText.{json_text};
+
+    ghost output = { json_text };
+
+    fn fmt<W: fmt::Write>(&self, f: &mut fmt::Formatter<W>) -> fmt::Result {
+        match self {
+            JsonSizeError::NotString => f.write_str("not a JSON string"),
+            JsonSizeError::Parse(error) => fmt::Display::fmt(error, f),
+        }
+    }
+}
+
+impl Error for JsonSizeError {}
 
 #[cfg(test)]
 pub(crate) mod tests;

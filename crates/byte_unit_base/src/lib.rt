@@ -4,7 +4,9 @@
 #![tactic(auto)]
 
 pub use crate::choice::{choose_unit, largest_unit};
-pub use crate::errors::{ExceededBoundsError, ParseError, UnitParseError, ValueParseError};
+pub use crate::errors::{
+    ExceededBoundsError, JsonSizeError, ParseError, UnitParseError, ValueParseError,
+};
 pub use crate::format::{
     Align, FormatSpec, Sign, append_layout, append_plain, layout_len, plain_len,
 };

@@ -18,6 +18,7 @@ mod adjusted;
 mod built_in_traits;
 mod constants;
 mod decimal;
+mod json;
 mod parse;
 mod text;
 mod units;
