@@ -14,12 +14,17 @@ use byte_unit_base::{Kind, Unit, size};
 use std::cmp::Ordering;
 use std::marker::Model;
 
+mod adjusted;
 mod built_in_traits;
 mod constants;
 mod decimal;
+mod json;
 mod parse;
 mod text;
 mod units;
+
+pub use adjusted::AdjustedBit;
+
 #[cfg(test)]
 mod tests;
 

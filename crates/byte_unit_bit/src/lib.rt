@@ -4,4 +4,4 @@
 mod bit;
 pub mod laws;
 
-pub use bit::Bit;
+pub use bit::{AdjustedBit, Bit};

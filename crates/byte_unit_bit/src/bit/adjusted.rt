@@ -1,0 +1,138 @@
+//! `AdjustedBit`, a size in bits with the unit that it is shown in.
+
+ghost use Rattle.std.specs.Prelude.{◌≡◌, ◌*◌, ◌<◌, ◌++◌, ℕ, List, length, IfOk, OnOk, OnErr};
+ghost use Rattle.std.specs.String.{string_bytes};
+ghost use Rattle.byte_unit_base.specs.Shape.{bits};
+ghost use Rattle.byte_unit_base.specs.Edition.{current};
+ghost use Rattle.byte_unit_base.specs.Units.{shape_of};
+ghost use Rattle.byte_unit_base.specs.Kinds.{bits_in};
+ghost use Rattle.byte_unit_base.specs.Choice.{IsAppropriate};
+ghost use Rattle.byte_unit_base.specs.Forms.{text_limit};
+ghost use Rattle.byte_unit_base.specs.Adjusted.{IsAdjustedForm};
+ghost use Rattle.byte_unit_base.specs.Room.{spare};
+ghost use Rattle.byte_unit_base.specs.declared.kind.Kind.TheVariants.{Bit as InBits};
+
+use super::Bit;
+use byte_unit_base::{FormatSpec, Kind, Unit, UnitType, appropriate_unit, format};
+use std::alloc::{AllocError, Allocator, Global};
+
+mod built_in_traits;
+
+/// A size in bits, and the unit that it is shown in. Equality and order are those of the sizes, whatever the units.
+///
+/// ```text
+/// let adjusted = Bit::from_u64(123_456).get_adjusted_unit(Unit::Kbit);
+/// adjusted.to_text(alloc, FormatSpec::PLAIN)?      // "123.456 Kb"
+/// ```
+#[derive(Debug, Clone, Copy)]
+pub struct AdjustedBit {
+    size: Bit,
+    unit: Unit,
+}
+
+impl AdjustedBit {
+    ghost use Rattle.byte_unit_bit.specs.AdjustedBit.{size_of, unit_of};
+
+    /// The size in its unit, as a fraction that is not reduced: its bits over the bits of the unit.
+    ///
+    /// ```text
+    /// Bit::from_u64(24).get_adjusted_unit(Unit::B).get_value()      // (24, 8)
+    /// ```
+    pub fn get_value(&self) -> (u128, u128)
+        ensures numerator { result.0 ≡ size_of self.now * bits_in InBits }
+        ensures denominator { result.1 ≡ bits (shape_of (unit_of self.now)) }
+    {
+        (
+            self.size.as_u128() * Kind::Bit.bits(),
+            self.unit.as_bits_u128(),
+        )
+    }
+
+    /// The unit.
+    pub fn get_unit(&self) -> Unit
+        ensures { result ≡ unit_of self.now }
+    {
+        self.unit
+    }
+
+    /// The size that was adjusted, exactly.
+    pub fn get_bit(&self) -> Bit
+        ensures { result ≡ size_of self.now }
+    {
+        self.size
+    }
+
+    /// How many bytes the text has under the spec: below 65,600. It asks for no memory.
+    pub fn text_len(self, spec: FormatSpec) -> usize
+        ensures exact { (form : List ℕ) → IsAdjustedForm current InBits (size_of self) (shape_of (unit_of self)) spec form → result ≡ length form }
+        ensures small { result < text_limit }
+    {
+        format::adjusted_len(self.size.as_u128(), Kind::Bit, self.unit, spec)
+    }
+
+    /// Adds the text of the size in its unit.
+    ///
+    /// With no precision, and for `Bit` and `B` without `alternate`, it has all digits. With a precision it is the nearest
+    /// decimal of exactly so many places, to the even digit of two that are as near; with `alternate` the nearest of at
+    /// most 16 places, the greater of two that are as near, without zeros at its end.
+    ///
+    /// It asks for memory once at most, before it writes. `AllocError` comes only where the spare room of the text is less
+    /// than `text_len`, and leaves the text as it was.
+    pub fn append_text<A: Allocator>(
+        self,
+        spec: FormatSpec,
+        text: &mut String<A>,
+    ) -> Result<(), AllocError>
+        ensures ok { OnOk result ((form : List ℕ) × IsAdjustedForm current InBits (size_of self) (shape_of (unit_of self)) spec form × (string_bytes text.new ≡ string_bytes text.old ++ form)) }
+        ensures err { OnErr result (string_bytes text.new ≡ string_bytes text.old) }
+        ensures room { OnErr result ((form : List ℕ) × IsAdjustedForm current InBits (size_of self) (shape_of (unit_of self)) spec form × (spare text.old < length form)) }
+    {
+        format::append_adjusted(self.size.as_u128(), Kind::Bit, self.unit, spec, text)
+    }
+
+    /// The text of the size in its unit, as `append_text` adds it. `AllocError` where memory for it was refused.
+    pub fn to_text(self, alloc: Global, spec: FormatSpec) -> Result<String, AllocError>
+        ensures { IfOk result (λ text. IsAdjustedForm current InBits (size_of self) (shape_of (unit_of self)) spec (string_bytes text)) }
+    {
+        self.to_text_in(alloc, spec)
+    }
+
+    /// The text of the size in its unit, in memory of any allocator.
+    pub fn to_text_in<A: Allocator>(
+        self,
+        alloc: A,
+        spec: FormatSpec,
+    ) -> Result<String<A>, AllocError>
+        ensures { IfOk result (λ text. IsAdjustedForm current InBits (size_of self) (shape_of (unit_of self)) spec (string_bytes text)) }
+    {
+        let mut text = String::new(alloc);
+        self.append_text(spec, &mut text)?;
+        Ok(text)
+    }
+}
+
+impl Bit {
+    ghost use Rattle.byte_unit_bit.specs.AdjustedBit.{size_of, unit_of};
+
+    /// This size, to be shown in the unit.
+    pub fn get_adjusted_unit(self, unit: Unit) -> AdjustedBit
+        ensures size { size_of result ≡ self }
+        ensures unit { unit_of result ≡ unit }
+    {
+        AdjustedBit { size: self, unit }
+    }
+
+    /// This size, to be shown in the largest unit of bits of the type that is not above it; in `Bit` where there is none.
+    ///
+    /// ```text
+    /// Bit::from_u64(10_000).get_appropriate_unit(UnitType::Both)        // 9.765625 Kib
+    /// Bit::from_u64(10_000).get_appropriate_unit(UnitType::Decimal)     // 10 Kb
+    /// ```
+    pub fn get_appropriate_unit(&self, unit_type: UnitType) -> AdjustedBit
+        ensures size { size_of result ≡ self.now }
+        ensures unit { IsAppropriate current InBits unit_type self.now (shape_of (unit_of result)) }
+    {
+        let unit = appropriate_unit(self.size, Kind::Bit, unit_type);
+        self.get_adjusted_unit(unit)
+    }
+}

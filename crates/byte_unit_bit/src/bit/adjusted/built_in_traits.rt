@@ -1,0 +1,113 @@
+//! The traits of std that `AdjustedBit` has.
+
+ghost use Rattle.std.specs.Prelude.{◌≡◌, nat_eq};
+ghost use Rattle.std.specs.Cmp.{partial_order_from_own_ties, partial_equiv_from_equiv};
+ghost use Rattle.std.specs.Cmp.Rules.{comparing};
+ghost use Rattle.std.specs.Ordering.{nat_cmp, as_partial_cmp};
+ghost use Rattle.std.proofs.Common.{rules};
+ghost use Rattle.byte_unit_base.specs.Edition.{current};
+ghost use Rattle.byte_unit_base.specs.Units.{shape_of};
+ghost use Rattle.byte_unit_base.specs.Choice.{IsAppropriate};
+ghost use Rattle.byte_unit_base.specs.declared.kind.Kind.TheVariants.{Bit as InBits};
+ghost use Rattle.byte_unit_base.specs.declared.unit.unit_type.UnitType.TheVariants.{Both};
+
+use super::AdjustedBit;
+use crate::bit::Bit;
+use byte_unit_base::{ParseError, Unit, UnitType};
+use std::cmp::Ordering;
+use std::str::FromStr;
+
+/// Whether the sizes are equal, whatever the units.
+impl PartialEq for AdjustedBit {
+    ghost use Rattle.byte_unit_bit.specs.AdjustedBit.{size_of};
+
+    ghost eq = { λ a b. nat_eq (size_of a) (size_of b) };
+
+    ghost laws = { partial_equiv_from_equiv (Prim.search (comparing, rules)) };
+
+    fn eq(&self, other: &AdjustedBit) -> bool {
+        self.get_bit() == other.get_bit()
+    }
+}
+
+impl Eq for AdjustedBit {
+    ghost laws = { Prim.search (comparing, rules) };
+}
+
+/// The order of the sizes, whatever the units.
+impl Ord for AdjustedBit {
+    ghost use Rattle.byte_unit_bit.specs.AdjustedBit.{size_of};
+
+    ghost cmp = { λ a b. nat_cmp (size_of a) (size_of b) };
+
+    ghost total = { Prim.search (comparing, rules) };
+
+    ghost matches_partial_cmp = { Prim.search (comparing, rules) };
+
+    ghost matches_eq = { Prim.search (comparing, rules) };
+
+    fn cmp(&self, other: &AdjustedBit) -> Ordering {
+        self.get_bit().cmp(&other.get_bit())
+    }
+}
+
+impl PartialOrd for AdjustedBit {
+    ghost use Rattle.byte_unit_bit.specs.AdjustedBit.{size_of};
+
+    ghost partial_cmp = { λ a b. as_partial_cmp nat_cmp (size_of a) (size_of b) };
+
+    ghost laws = { partial_order_from_own_ties (Prim.search (comparing, rules)) (Prim.search (comparing, rules)) };
+
+    fn partial_cmp(&self, other: &AdjustedBit) -> Option<Ordering> {
+        Some(self.cmp(other))
+    }
+}
+
+/// The size, to be shown in the largest unit of bits that is not above it.
+impl From<Bit> for AdjustedBit {
+    ghost use Rattle.byte_unit_bit.specs.AdjustedBit.{size_of, unit_of};
+
+    ghost from_gives = { λ size a. (size_of a ≡ size) × IsAppropriate current InBits Both size (shape_of (unit_of a)) };
+
+    fn from(size: Bit) -> AdjustedBit {
+        size.get_appropriate_unit(UnitType::Both)
+    }
+}
+
+/// The size that was adjusted.
+impl From<AdjustedBit> for Bit {
+    ghost use Rattle.byte_unit_bit.specs.AdjustedBit.{size_of};
+
+    ghost from_gives = { λ a size. size ≡ size_of a };
+
+    fn from(adjusted: AdjustedBit) -> Bit {
+        adjusted.get_bit()
+    }
+}
+
+/// The unit.
+impl From<AdjustedBit> for Unit {
+    ghost use Rattle.byte_unit_bit.specs.AdjustedBit.{unit_of};
+
+    ghost from_gives = { λ a unit. unit ≡ unit_of a };
+
+    fn from(adjusted: AdjustedBit) -> Unit {
+        adjusted.get_unit()
+    }
+}
+
+/// The size that the text states, as [`Bit`] reads it, to be shown in the largest unit of bits that is not above it.
+impl FromStr for AdjustedBit {
+    type Err = ParseError;
+
+    ghost use Rattle.byte_unit_bit.specs.AdjustedBit.{IsAdjustedReading};
+
+    ghost from_str_gives = { IsAdjustedReading };
+
+    fn from_str(s: &str) -> Result<AdjustedBit, ParseError> {
+        match s.parse::<Bit>() {
+            Ok(size) => Ok(AdjustedBit::from(size)),
+            Err(error) => Err(error),
+        }
+    }
+}
