@@ -23,6 +23,7 @@ pub use Rattle.byte_unit_base.specs.LeastOfKind
 pub use Rattle.byte_unit_base.specs.SizeOrNone
 pub use Rattle.byte_unit_base.specs.Accepted
 pub use Rattle.byte_unit_base.specs.SizeReading
+pub use Rattle.byte_unit_base.specs.JsonReading
 pub use Rattle.byte_unit_base.specs.Family
 pub use Rattle.byte_unit_base.specs.Choice
 pub use Rattle.byte_unit_base.specs.Plain
@@ -34,3 +35,6 @@ pub use Rattle.byte_unit_base.specs.Laws
 pub use Rattle.byte_unit_base.specs.ChoiceLaws
 pub use Rattle.byte_unit_base.specs.SizeLaws
 pub use Rattle.byte_unit_base.specs.FormLaws
+pub use Rattle.byte_unit_byte.specs.AdjustedByte
+pub use Rattle.byte_unit_bit.specs.AdjustedBit
+pub mod UnitJson

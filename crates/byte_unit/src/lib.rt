@@ -1,17 +1,19 @@
-//! Exact sizes in bytes and in bits: read, calculated, put into units and printed.
+//! Exact sizes in bytes and in bits: read, calculated, put into units, printed and stored.
 #![tactic(auto)]
 
 pub mod decimal;
 pub mod laws;
 #[cfg(test)]
 mod tests;
+mod unit_json;
 
 pub use byte_unit_base::{
-    Align, ExceededBoundsError, Family, FormatSpec, Kind, ParseError, Sign, Unit, UnitParseError,
-    UnitType, ValueParseError, append_layout, append_plain, choose_unit, largest_unit, layout_len,
-    plain_len, read_size,
+    Align, ExceededBoundsError, Family, FormatSpec, JsonSizeError, Kind, ParseError, Sign, Unit,
+    UnitParseError, UnitType, ValueParseError, append_layout, append_plain, choose_unit,
+    largest_unit, layout_len, plain_len, read_size,
 };
-pub use byte_unit_bit::Bit;
-pub use byte_unit_byte::Byte;
+pub use byte_unit_bit::{AdjustedBit, Bit};
+pub use byte_unit_byte::{AdjustedByte, Byte};
 pub use byte_unit_math::{Decimal, Expansion, Steps, Ties, exact_quotient, least_size};
 pub use std::num::TryFromIntError;
+pub use unit_json::{JsonUnitError, unit_from_json, unit_to_json};

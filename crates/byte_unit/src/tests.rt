@@ -1,6 +1,36 @@
-use crate::{Bit, Byte};
+//! The worked cases that cross crates, as tables.
 
-#[test]
-fn kinds(rt: HostRuntime) {
-    assert_eq!(rt; Byte::from_u64(8).as_u64(), Bit::from_u64(8).as_u64());
+mod adjusted;
+mod json;
+mod texts;
+mod tour;
+mod units;
+
+use crate::{Align, FormatSpec, Sign};
+
+/// A spec with these fields.
+fn spec(
+    alternate: bool,
+    sign: Sign,
+    precision: Option<u16>,
+    width: Option<u16>,
+    align: Option<Align>,
+) -> FormatSpec {
+    FormatSpec {
+        alternate,
+        sign,
+        precision,
+        width,
+        align,
+    }
+}
+
+/// The alternate form with this precision.
+fn precise(precision: u16) -> FormatSpec {
+    spec(true, Sign::Unset, Some(precision), None, None)
+}
+
+/// The plain form with this precision.
+fn places(precision: u16) -> FormatSpec {
+    spec(false, Sign::Unset, Some(precision), None, None)
 }

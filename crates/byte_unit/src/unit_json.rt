@@ -1,0 +1,53 @@
+//! Units as JSON strings.
+
+ghost use Rattle.std.specs.Prelude.{◌≡◌, IfOk};
+ghost use Rattle.serde_json.specs.Data.{string};
+ghost use Rattle.serde_json.specs.Find.{as_str};
+ghost use Rattle.serde_json.specs.View.{view};
+ghost use Rattle.byte_unit_base.specs.Edition.{current, name};
+ghost use Rattle.byte_unit_base.specs.Units.{shape_of};
+
+use byte_unit_base::{Unit, UnitParseError};
+use serde_json::Value;
+use std::alloc::{AllocError, Global};
+use std::error::Error;
+use std::fmt;
+
+/// Why a JSON value is no unit.
+#[derive(Clone, Copy, Debug)]
+pub enum JsonUnitError {
+    /// The value is no string.
+    NotString,
+    /// The string is refused.
+    Unit(UnitParseError),
+}
+
+impl fmt::Display for JsonUnitError {
+    ghost use Rattle.byte_unit.specs.UnitJson.{error_text};
+
+    ghost output = { error_text };
+
+    fn fmt<W: fmt::Write>(&self, f: &mut fmt::Formatter<W>) -> fmt::Result {
+        match self {
+            JsonUnitError::NotString => f.write_str("not a JSON string"),
+            JsonUnitError::Unit(error) => fmt::Display::fmt(error, f),
+        }
+    }
+}
+
+impl Error for JsonUnitError {}
+
+/// The JSON string of the unit: its name. It reads back as the unit. `AllocError` where memory for it was refused.
+///
+/// ```text
+/// unit_to_json(alloc, Unit::Kbit)?      // the string "Kb"
+/// ```
+pub fn unit_to_json(alloc: Global, unit: Unit) -> Result<Value, AllocError>
+    ensures { IfOk result (λ value. view value ≡ string (name current (shape_of unit))) }
+{
+    Ok(Value::String(String::from_str(alloc, unit.as_str())?))
+}
+
+mod reading;
+
+pub use reading::unit_from_json;
