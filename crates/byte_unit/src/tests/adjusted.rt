@@ -18,16 +18,36 @@ fn bytes_in_a_unit(rt: HostRuntime) -> Result<(), Fail> {
         (1500, Unit::KB, places(0), "2 KB"),
         (999_999, Unit::MB, places(3), "1.000 MB"),
         (999_999, Unit::MB, precise(3), "1 MB"),
-        (1, Unit::MiB, FormatSpec::PLAIN, "0.00000095367431640625 MiB"),
-        (1, Unit::GiB, FormatSpec::PLAIN, "0.000000000931322574615478515625 GiB"),
+        (
+            1,
+            Unit::MiB,
+            FormatSpec::PLAIN,
+            "0.00000095367431640625 MiB",
+        ),
+        (
+            1,
+            Unit::GiB,
+            FormatSpec::PLAIN,
+            "0.000000000931322574615478515625 GiB",
+        ),
         (1, Unit::MiB, precise(20), "0.0000009536743164 MiB"),
         (1, Unit::MiB, places(18), "0.000000953674316406 MiB"),
         (1, Unit::MiB, places(19), "0.0000009536743164062 MiB"),
         (3, Unit::Bit, places(2), "24 b"),
         (10_000, Unit::KiB, wide, "  9.77 KiB"),
         (10_000, Unit::KB, wide, " 10.00  KB"),
-        (10_000, Unit::KiB, spec(false, Sign::Minus, None, None, None), "9.765625KiB"),
-        (50_840_000, Unit::MiB, FormatSpec::PLAIN, "48.48480224609375 MiB"),
+        (
+            10_000,
+            Unit::KiB,
+            spec(false, Sign::Minus, None, None, None),
+            "9.765625KiB",
+        ),
+        (
+            50_840_000,
+            Unit::MiB,
+            FormatSpec::PLAIN,
+            "48.48480224609375 MiB",
+        ),
         (125_952, Unit::KB, FormatSpec::PLAIN, "125.952 KB"),
         (125_952, Unit::KB, places(2), "125.95 KB"),
         (1_500_000, Unit::MiB, places(2), "1.43 MiB"),
@@ -43,10 +63,12 @@ fn bytes_in_a_unit(rt: HostRuntime) -> Result<(), Fail> {
 }
 
 /// 24 zeros and the 56 digits of 5^80.
-const ONE_BYTE_IN_YIB: &str = "0.00000000000000000000000082718061255302767487140869206996285356581211090087890625 YiB";
+const ONE_BYTE_IN_YIB: &str =
+    "0.00000000000000000000000082718061255302767487140869206996285356581211090087890625 YiB";
 
 /// 24 zeros and the 59 digits of 5^83.
-const ONE_BIT_IN_YIB: &str = "0.00000000000000000000000010339757656912845935892608650874535669572651386260986328125 YiB";
+const ONE_BIT_IN_YIB: &str =
+    "0.00000000000000000000000010339757656912845935892608650874535669572651386260986328125 YiB";
 
 #[test]
 fn bits_in_a_unit(rt: HostRuntime) -> Result<(), Fail> {
@@ -60,7 +82,9 @@ fn bits_in_a_unit(rt: HostRuntime) -> Result<(), Fail> {
         let adjusted = Bit::from_u64(size).get_adjusted_unit(unit);
         assert_eq!(rt; adjusted.to_text(rt.alloc(), spec)?.as_str(), text);
     }
-    let longer = Bit::from_u64(1).get_adjusted_unit(Unit::YiB).to_text(rt.alloc(), places(84))?;
+    let longer = Bit::from_u64(1)
+        .get_adjusted_unit(Unit::YiB)
+        .to_text(rt.alloc(), places(84))?;
     assert_eq!(rt; longer.len(), ONE_BIT_IN_YIB.len() + 1);
     assert!(rt; longer.as_str().ends_with("3281250 YiB"));
     Ok(())
@@ -68,7 +92,9 @@ fn bits_in_a_unit(rt: HostRuntime) -> Result<(), Fail> {
 
 #[test]
 fn the_greatest_precision(rt: HostRuntime) -> Result<(), Fail> {
-    let text = Byte::from_u64(10_000).get_adjusted_unit(Unit::KB).to_text(rt.alloc(), places(65_535))?;
+    let text = Byte::from_u64(10_000)
+        .get_adjusted_unit(Unit::KB)
+        .to_text(rt.alloc(), places(65_535))?;
     assert_eq!(rt; text.len(), 65_541);
     assert!(rt; text.as_str().starts_with("10.000"));
     assert!(rt; text.as_str().ends_with("000 KB"));
@@ -86,14 +112,20 @@ fn appropriate_units(rt: HostRuntime) -> Result<(), Fail> {
         (10_000, UnitType::Decimal, "10 KB"),
     ] {
         let adjusted = Byte::from_u64(size).get_appropriate_unit(unit_type);
-        assert_eq!(rt; adjusted.to_text(rt.alloc(), FormatSpec::PLAIN)?.as_str(), text);
+        assert_eq!(rt;
+            adjusted.to_text(rt.alloc(), FormatSpec::PLAIN)?.as_str(),
+            text
+        );
     }
     for (size, unit_type, text) in [
         (1000, UnitType::Binary, "1000 b"),
         (1030, UnitType::Decimal, "1.03 Kb"),
     ] {
         let adjusted = Bit::from_u64(size).get_appropriate_unit(unit_type);
-        assert_eq!(rt; adjusted.to_text(rt.alloc(), FormatSpec::PLAIN)?.as_str(), text);
+        assert_eq!(rt;
+            adjusted.to_text(rt.alloc(), FormatSpec::PLAIN)?.as_str(),
+            text
+        );
     }
     Ok(())
 }
@@ -104,15 +136,24 @@ fn sizes_whatever_the_units(rt: HostRuntime) -> Result<(), Fail> {
     let binary = size.get_adjusted_unit(Unit::KiB);
     let decimal = size.get_adjusted_unit(Unit::GB);
     assert!(rt; binary == decimal);
-    assert_eq!(rt; binary.cmp(&Byte::from_u64(1025).get_adjusted_unit(Unit::YB)), Ordering::Less);
+    assert_eq!(rt;
+        binary.cmp(&Byte::from_u64(1025).get_adjusted_unit(Unit::YB)),
+        Ordering::Less
+    );
     assert_eq!(rt; binary.get_value(), (8192, 8192));
-    assert_eq!(rt; Byte::from_u64(3).get_adjusted_unit(Unit::Bit).get_value(), (24, 1));
+    assert_eq!(rt;
+        Byte::from_u64(3).get_adjusted_unit(Unit::Bit).get_value(),
+        (24, 1)
+    );
     assert_eq!(rt; binary.get_byte(), size);
     assert_eq!(rt; Byte::from(decimal), size);
     assert_eq!(rt; Unit::from(decimal), Unit::GB);
     assert_eq!(rt; AdjustedByte::from(size).get_unit(), Unit::KiB);
     match "50.84 MB".parse::<AdjustedByte>() {
-        Ok(read) => assert_eq!(rt; (read.get_byte(), read.get_unit()), (Byte::from_u64(50_840_000), Unit::MB)),
+        Ok(read) => assert_eq!(rt;
+            (read.get_byte(), read.get_unit()),
+            (Byte::from_u64(50_840_000), Unit::MiB)
+        ),
         Err(_) => panic!(rt; "refused"),
     }
     Ok(())

@@ -14,8 +14,14 @@ fn string(alloc: Global, text: &str) -> Result<Value, AllocError> {
 
 #[test]
 fn sizes_and_units_as_strings(rt: HostRuntime) -> Result<(), Fail> {
-    assert_eq!(rt; Byte::from_u64(15_500).to_json(rt.alloc())?.as_str(), Some("15.5 KB"));
-    assert_eq!(rt; Bit::from_u64(15_500).to_json(rt.alloc())?.as_str(), Some("15.5 Kb"));
+    assert_eq!(rt;
+        Byte::from_u64(15_500).to_json(rt.alloc())?.as_str(),
+        Some("15.5 KB")
+    );
+    assert_eq!(rt;
+        Bit::from_u64(15_500).to_json(rt.alloc())?.as_str(),
+        Some("15.5 Kb")
+    );
     assert_eq!(rt; unit_to_json(rt.alloc(), Unit::Kbit)?.as_str(), Some("Kb"));
     Ok(())
 }
@@ -52,9 +58,15 @@ fn other_values_are_refused(rt: HostRuntime) -> Result<(), Fail> {
     assert!(rt; matches!(Byte::from_json(&number), Err(JsonSizeError::NotString)));
     assert!(rt; matches!(Bit::from_json(&null), Err(JsonSizeError::NotString)));
     assert!(rt; matches!(unit_from_json(&list), Err(JsonUnitError::NotString)));
-    assert_eq!(rt; refusal(&rt, rt.alloc(), &null)?.as_str(), "not a JSON string");
+    assert_eq!(rt;
+        refusal(&rt, rt.alloc(), &null)?.as_str(),
+        "not a JSON string"
+    );
     let power = refusal(&rt, rt.alloc(), &string(rt.alloc(), "1e3")?)?;
-    assert_eq!(rt; power.as_str(), "the character '3' is incorrect ('B' or 'b' or no character is expected)");
+    assert_eq!(rt;
+        power.as_str(),
+        "the character '3' is incorrect ('B' or 'b' or no character is expected)"
+    );
     let long = string(rt.alloc(), "0.00000000000000000000000000001 GiB")?;
     assert!(rt;
         matches!(

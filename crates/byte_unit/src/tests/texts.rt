@@ -7,7 +7,11 @@ fn sizes_in_bytes(rt: HostRuntime) -> Result<(), Fail> {
     let wide = spec(true, Sign::Unset, None, Some(10), None);
     let wide_right = spec(true, Sign::Plus, None, Some(10), Some(Align::Right));
     for (size, spec, text) in [
-        (Byte::MAX, FormatSpec::ALTERNATE, "999999999999999999999999.999 KB"),
+        (
+            Byte::MAX,
+            FormatSpec::ALTERNATE,
+            "999999999999999999999999.999 KB",
+        ),
         (Byte::MAX, precise(9), "999999999999999999.999999999 GB"),
         (Byte::MAX, precise(28), "999.999999999999999999999999 YB"),
         (Byte::from_u64(500), FormatSpec::ALTERNATE, "500 B"),
@@ -15,25 +19,77 @@ fn sizes_in_bytes(rt: HostRuntime) -> Result<(), Fail> {
         (Byte::MIN, spec(false, Sign::Plus, None, None, None), "+0"),
         (Byte::from_u64(10_000), wide_right, "    10  KB"),
         (Byte::from_u64(10_240), wide, "10     KiB"),
-        (Byte::from_u64(10_240), spec(true, Sign::Unset, None, Some(10), Some(Align::Center)), "10     KiB"),
-        (Byte::from_u64(10_240), spec(true, Sign::Unset, None, Some(10), Some(Align::Left)), "10     KiB"),
-        (Byte::from_u64(10_240), spec(false, Sign::Unset, None, Some(8), Some(Align::Center)), " 10240  "),
-        (Byte::from_u64(10_240), spec(false, Sign::Plus, None, Some(8), None), "  +10240"),
-        (Byte::from_u64(10_000), spec(true, Sign::Minus, None, None, None), "10KB"),
-        (Byte::from_u64(500), spec(true, Sign::Plus, None, None, None), "500   B"),
-        (Byte::from_u64(10_000), spec(true, Sign::Unset, None, Some(0), None), "10 KB"),
-        (Byte::from_u64(10_000), spec(false, Sign::Unset, Some(65_535), None, None), "10000"),
-        (Byte::from_u64(3_211_776), FormatSpec::ALTERNATE, "3136.5 KiB"),
+        (
+            Byte::from_u64(10_240),
+            spec(true, Sign::Unset, None, Some(10), Some(Align::Center)),
+            "10     KiB",
+        ),
+        (
+            Byte::from_u64(10_240),
+            spec(true, Sign::Unset, None, Some(10), Some(Align::Left)),
+            "10     KiB",
+        ),
+        (
+            Byte::from_u64(10_240),
+            spec(false, Sign::Unset, None, Some(8), Some(Align::Center)),
+            " 10240  ",
+        ),
+        (
+            Byte::from_u64(10_240),
+            spec(false, Sign::Plus, None, Some(8), None),
+            "  +10240",
+        ),
+        (
+            Byte::from_u64(10_000),
+            spec(true, Sign::Minus, None, None, None),
+            "10KB",
+        ),
+        (
+            Byte::from_u64(500),
+            spec(true, Sign::Plus, None, None, None),
+            "500   B",
+        ),
+        (
+            Byte::from_u64(10_000),
+            spec(true, Sign::Unset, None, Some(0), None),
+            "10 KB",
+        ),
+        (
+            Byte::from_u64(10_000),
+            spec(false, Sign::Unset, Some(65_535), None, None),
+            "10000",
+        ),
+        (
+            Byte::from_u64(3_211_776),
+            FormatSpec::ALTERNATE,
+            "3136.5 KiB",
+        ),
         (Byte::from_u64(3_211_776), precise(6), "3.211776 MB"),
         (Byte::from_u64(3_211_776), precise(0), "3211776 B"),
-        (Byte::MIN, spec(true, Sign::Unset, None, Some(5), Some(Align::Right)), "  0 B"),
+        (
+            Byte::MIN,
+            spec(true, Sign::Unset, None, Some(5), Some(Align::Right)),
+            "  0 B",
+        ),
         (Byte::from_u64(1023), FormatSpec::ALTERNATE, "1.023 KB"),
         (Byte::from_u64(1536), FormatSpec::ALTERNATE, "1.5 KiB"),
         (Byte::from_u64(1088), FormatSpec::ALTERNATE, "1.088 KB"),
         (Byte::from_u64(1088), precise(4), "1.0625 KiB"),
-        (Byte::from_u64(12), spec(false, Sign::Minus, None, None, None), "12"),
-        (Byte::from_u64(12), spec(false, Sign::Unset, None, Some(5), Some(Align::Left)), "12   "),
-        (Byte::from_u64(12), spec(false, Sign::Unset, None, Some(5), Some(Align::Right)), "   12"),
+        (
+            Byte::from_u64(12),
+            spec(false, Sign::Minus, None, None, None),
+            "12",
+        ),
+        (
+            Byte::from_u64(12),
+            spec(false, Sign::Unset, None, Some(5), Some(Align::Left)),
+            "12   ",
+        ),
+        (
+            Byte::from_u64(12),
+            spec(false, Sign::Unset, None, Some(5), Some(Align::Right)),
+            "   12",
+        ),
         (Byte::from_u64(15_500), FormatSpec::PLAIN, "15500"),
         (Byte::from_u64(15_500), FormatSpec::ALTERNATE, "15.5 KB"),
         (Byte::from_u64(15_500), precise(0), "15500 B"),
@@ -43,7 +99,10 @@ fn sizes_in_bytes(rt: HostRuntime) -> Result<(), Fail> {
         assert_eq!(rt; size.text_len(spec), text.len(), "{text}");
     }
     let near = Byte::from_u128((1 << 80) + (1 << 51)).ok_or("a size")?;
-    assert_eq!(rt; near.to_text(rt.alloc(), precise(29))?.as_str(), "1.208925821866428988391424 YB");
+    assert_eq!(rt;
+        near.to_text(rt.alloc(), precise(29))?.as_str(),
+        "1.208925821866428988391424 YB"
+    );
     Ok(())
 }
 
@@ -52,7 +111,11 @@ fn sizes_in_bits(rt: HostRuntime) -> Result<(), Fail> {
     let wide_right = spec(true, Sign::Plus, None, Some(10), Some(Align::Right));
     for (size, spec, text) in [
         (Bit::from_u64(10_000), wide_right, "    10  Kb"),
-        (Bit::from_u64(3_211_776), FormatSpec::ALTERNATE, "3136.5 Kib"),
+        (
+            Bit::from_u64(3_211_776),
+            FormatSpec::ALTERNATE,
+            "3136.5 Kib",
+        ),
         (Bit::from_u64(15_500), FormatSpec::PLAIN, "15500"),
         (Bit::MIN, FormatSpec::ALTERNATE, "0 b"),
     ] {
@@ -66,7 +129,12 @@ fn sizes_in_bits(rt: HostRuntime) -> Result<(), Fail> {
 #[test]
 fn forms_with_a_unit_read_back(rt: HostRuntime) -> Result<(), Fail> {
     for size in [0, 1, 500, 1023, 1088, 10_000, 3_211_776, 999_999_999_999] {
-        for spec in [FormatSpec::ALTERNATE, precise(0), precise(28), spec(true, Sign::Plus, None, Some(40), Some(Align::Right))] {
+        for spec in [
+            FormatSpec::ALTERNATE,
+            precise(0),
+            precise(28),
+            spec(true, Sign::Plus, None, Some(40), Some(Align::Right)),
+        ] {
             let size = Byte::from_u64(size);
             let text = size.to_text(rt.alloc(), spec)?;
             match Byte::parse_str(text.as_str(), true) {

@@ -32,10 +32,19 @@ fn calculating(rt: HostRuntime) {
 #[test]
 fn printing(rt: HostRuntime) -> Result<(), Fail> {
     let size = Byte::from_u64(123_456);
-    assert_eq!(rt; size.to_text(rt.alloc(), FormatSpec::PLAIN)?.as_str(), "123456");
-    assert_eq!(rt; size.to_text(rt.alloc(), FormatSpec::ALTERNATE)?.as_str(), "123.456 KB");
+    assert_eq!(rt;
+        size.to_text(rt.alloc(), FormatSpec::PLAIN)?.as_str(),
+        "123456"
+    );
+    assert_eq!(rt;
+        size.to_text(rt.alloc(), FormatSpec::ALTERNATE)?.as_str(),
+        "123.456 KB"
+    );
     let adjusted = size.get_adjusted_unit(Unit::KiB);
-    assert_eq!(rt; adjusted.to_text(rt.alloc(), FormatSpec::PLAIN)?.as_str(), "120.5625 KiB");
+    assert_eq!(rt;
+        adjusted.to_text(rt.alloc(), FormatSpec::PLAIN)?.as_str(),
+        "120.5625 KiB"
+    );
     let appropriate = size.get_appropriate_unit(UnitType::Decimal);
     assert_eq!(rt; appropriate.get_unit(), Unit::KB);
     Ok(())

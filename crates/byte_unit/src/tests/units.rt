@@ -3,8 +3,14 @@ use std::test::Fail;
 
 #[test]
 fn exact_units(rt: HostRuntime) {
-    assert_eq!(rt; Byte::from_u64(50_840_000).get_exact_unit(false), (50_840, Unit::KB));
-    assert_eq!(rt; Bit::from_u64(24_000_000).get_exact_unit(true), (3, Unit::MB));
+    assert_eq!(rt;
+        Byte::from_u64(50_840_000).get_exact_unit(false),
+        (50_840, Unit::KB)
+    );
+    assert_eq!(rt;
+        Bit::from_u64(24_000_000).get_exact_unit(true),
+        (3, Unit::MB)
+    );
     assert_eq!(rt; Bit::from_u64(16).get_exact_unit(true), (16, Unit::Bit));
     assert_eq!(rt; Byte::MIN.get_exact_unit(true), (0, Unit::B));
     assert_eq!(rt; Bit::MIN.get_exact_unit(true), (0, Unit::Bit));
@@ -20,7 +26,10 @@ fn recoverable_units(rt: HostRuntime) -> Result<(), Fail> {
         (500, true, 3, 4, 0, Unit::Kbit),
     ] {
         let number = Decimal::from_u128_with_scale(mantissa, scale).ok_or("a decimal")?;
-        assert_eq!(rt; Byte::from_u64(size).get_recoverable_unit(allow, precision), (number, unit));
+        assert_eq!(rt;
+            Byte::from_u64(size).get_recoverable_unit(allow, precision),
+            (number, unit)
+        );
     }
     Ok(())
 }
@@ -29,7 +38,10 @@ fn recoverable_units(rt: HostRuntime) -> Result<(), Fail> {
 fn the_greatest_size_with_its_steps(rt: HostRuntime) -> Result<(), Fail> {
     for (precision, scale, unit) in [(3, 3, Unit::KB), (10, 9, Unit::GB), (28, 24, Unit::YB)] {
         let number = Decimal::from_u128_with_scale(Byte::MAX.as_u128(), scale).ok_or("a decimal")?;
-        assert_eq!(rt; Byte::MAX.get_recoverable_unit(true, precision), (number, unit));
+        assert_eq!(rt;
+            Byte::MAX.get_recoverable_unit(true, precision),
+            (number, unit)
+        );
     }
     for (allow, precision, most) in [(false, 28, 448), (true, 28, 896), (true, 0, 0)] {
         let mut steps = Steps::new();
