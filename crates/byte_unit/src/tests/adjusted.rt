@@ -1,7 +1,22 @@
 use super::{places, precise, spec};
 use crate::{AdjustedByte, Align, Bit, Byte, FormatSpec, Sign, Unit, UnitType};
+use std::alloc::{AllocError, Global};
 use std::cmp::Ordering;
 use std::test::Fail;
+
+/// The text of so many bytes in the unit.
+fn in_bytes(alloc: Global, size: u64, unit: Unit, spec: FormatSpec) -> Result<String, AllocError> {
+    Byte::from_u64(size)
+        .get_adjusted_unit(unit)
+        .to_text(alloc, spec)
+}
+
+/// The text of so many bits in the unit.
+fn in_bits(alloc: Global, size: u64, unit: Unit, spec: FormatSpec) -> Result<String, AllocError> {
+    Bit::from_u64(size)
+        .get_adjusted_unit(unit)
+        .to_text(alloc, spec)
+}
 
 #[test]
 fn bytes_in_a_unit(rt: HostRuntime) -> Result<(), Fail> {
@@ -54,10 +69,10 @@ fn bytes_in_a_unit(rt: HostRuntime) -> Result<(), Fail> {
         (10_000, Unit::KB, FormatSpec::PLAIN, "10 KB"),
         (1, Unit::YiB, FormatSpec::PLAIN, ONE_BYTE_IN_YIB),
     ] {
-        let adjusted = Byte::from_u64(size).get_adjusted_unit(unit);
-        let made = adjusted.to_text(rt.alloc(), spec)?;
+        let made = in_bytes(rt.alloc(), size, unit, spec)?;
         assert_eq!(rt; made.as_str(), text);
-        assert_eq!(rt; adjusted.text_len(spec), text.len(), "{text}");
+        let len = Byte::from_u64(size).get_adjusted_unit(unit).text_len(spec);
+        assert_eq!(rt; len, text.len(), "{text}");
     }
     Ok(())
 }
@@ -79,12 +94,10 @@ fn bits_in_a_unit(rt: HostRuntime) -> Result<(), Fail> {
         (10_000, Unit::Kbit, FormatSpec::PLAIN, "10 Kb"),
         (1, Unit::YiB, FormatSpec::PLAIN, ONE_BIT_IN_YIB),
     ] {
-        let adjusted = Bit::from_u64(size).get_adjusted_unit(unit);
-        assert_eq!(rt; adjusted.to_text(rt.alloc(), spec)?.as_str(), text);
+        let made = in_bits(rt.alloc(), size, unit, spec)?;
+        assert_eq!(rt; made.as_str(), text);
     }
-    let longer = Bit::from_u64(1)
-        .get_adjusted_unit(Unit::YiB)
-        .to_text(rt.alloc(), places(84))?;
+    let longer = in_bits(rt.alloc(), 1, Unit::YiB, places(84))?;
     assert_eq!(rt; longer.len(), ONE_BIT_IN_YIB.len() + 1);
     assert!(rt; longer.as_str().ends_with("3281250 YiB"));
     Ok(())
