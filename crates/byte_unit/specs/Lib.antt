@@ -30,6 +30,7 @@ pub use Rattle.byte_unit_base.specs.Plain
 pub use Rattle.byte_unit_base.specs.Layout
 pub use Rattle.byte_unit_base.specs.Forms
 pub use Rattle.byte_unit_base.specs.Adjusted
+pub use Rattle.byte_unit_base.specs.AdjustedString
 pub use Rattle.byte_unit_base.specs.Room
 pub use Rattle.byte_unit_base.specs.Laws
 pub use Rattle.byte_unit_base.specs.ChoiceLaws

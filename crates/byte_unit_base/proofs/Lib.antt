@@ -32,3 +32,4 @@ pub mod WrittenForms
 pub mod SomeForm
 pub mod ReadBack
 pub mod AdjustedForms
+pub mod AdjustedStrings

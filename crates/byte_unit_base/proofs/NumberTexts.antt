@@ -18,7 +18,7 @@ use Rattle.byte_unit_base.specs.Number.{IsWhole, NumberText}
 use Rattle.byte_unit_math.specs.Finite.{value_of}
 use Rattle.byte_unit_math.specs.Numeral.{glyphs, fraction_text}
 
-glyph_value : (d : ℕ) → d < 10 → digit_value (48 + d) ≡ d
+pub glyph_value : (d : ℕ) → d < 10 → digit_value (48 + d) ≡ d
 glyph_value d h = grind (arith, nat_tests)
 
 pub glyph_digits : (ds : List ℕ) → All (λ d. d < 10) ds → AllDigits 10 (glyphs ds)

@@ -1,5 +1,5 @@
 -- What a form says is read as the size that it was made of.
-use Rattle.std.proofs.Common.{◌≡◌, ◌≢◌, ℕ, zero, suc, ◌+◌, ◌-◌, ◌*◌, ◌/◌, ◌^◌, ◌<◌, ◌≤◌, inl, inr, List, [], ◌∷◌, ◌++◌, length, refl, sym, ap, subst, ◌∙◌, arith, Bool, true, false, append-nil, append_assoc, Option, None, Some}
+use Rattle.std.proofs.Common.{⊎_elim, ◌≡◌, ◌≢◌, ℕ, zero, suc, ◌+◌, ◌-◌, ◌*◌, ◌/◌, ◌^◌, ◌<◌, ◌≤◌, inl, inr, List, [], ◌∷◌, ◌++◌, length, refl, sym, ap, subst, ◌∙◌, arith, Bool, true, false, append-nil, append_assoc, Option, None, Some}
 use Rattle.std.specs.Prelude.{codes, slice_index, if◌then◌else◌, nat_lt, ◌&&◌}
 use Rattle.std.specs.List.{All}
 use Rattle.std.specs.Char.{is_whitespace, to_ascii_uppercase}
@@ -7,6 +7,7 @@ use Rattle.std.specs.Fmt.{decimal}
 use Rattle.std.specs.Str.{IsAscii}
 use Rattle.std.specs.Str.Parse.{AllDigits}
 use Rattle.std.proofs.lemmas.Nat.{pow-add, mul-le}
+use Rattle.std.proofs.lemmas.Bool.{cases_lt}
 use Rattle.std.proofs.lemmas.Bool.Decides.{nat_tests}
 use Rattle.std.proofs.lemmas.List.{replicate-append-replicate}
 use Rattle.std.proofs.lemmas.Str.{IsAscii-append}
@@ -14,7 +15,8 @@ use Rattle.std.proofs.lemmas.Str.Ascii.{IsAscii-nil, IsAscii-cons}
 use Rattle.byte_unit_math.specs.Bounds.{one, places_of_decimal, whole_limit, bits_limit}
 use Rattle.byte_unit_base.specs.Shape.{Shape, bits}
 use Rattle.byte_unit_base.specs.Edition.{current, name}
-use Rattle.byte_unit_base.specs.Spelling.{SpellsCount, SpellsBinary, Spells}
+use Rattle.byte_unit_base.specs.Units.{shape_of}
+use Rattle.byte_unit_base.specs.Spelling.{Flags, SpellsCount, SpellsBinary, Spells}
 use Rattle.byte_unit_base.specs.SizeText.{trimmed}
 use Rattle.byte_unit_math.specs.Finite.{value_of}
 use Rattle.byte_unit_math.specs.Numeral.{fraction_text, at_places, shortened}
@@ -25,10 +27,12 @@ use Rattle.byte_unit_base.specs.declared.format.spec.FormatSpec.{FormatSpec}
 use Rattle.byte_unit_base.specs.declared.format.spec.Sign.{Sign}
 use Rattle.byte_unit_base.specs.declared.format.spec.Sign.TheVariants.{Unset, Plus, Minus}
 use Rattle.byte_unit_base.proofs.Quotients.{number_times_unit}
+use Rattle.byte_unit_base.specs.declared.unit.Unit.{Unit as UnitName}
 use Rattle.byte_unit_base.specs.declared.unit.family.Family.{Family}
 use Rattle.byte_unit_base.specs.Family.{InFamily, IsKind}
 use Rattle.byte_unit_base.specs.Choice.{IsRecovered}
 use Rattle.byte_unit_base.proofs.Choosing.{some_bits}
+use Rattle.byte_unit_base.proofs.Names.{names_spell_their_units}
 use Rattle.byte_unit_base.specs.Kinds.{bits_in, counts_bits, own_unit, own_family, flags_for}
 use Rattle.byte_unit_base.specs.LeastOfKind.{IsLeastOf}
 use Rattle.byte_unit_base.specs.Accepted.{Accepted}
@@ -82,7 +86,7 @@ count_ascii true = IsAscii-cons 98 [] (omega arith) IsAscii-nil
 count_ascii false = IsAscii-cons 66 [] (omega arith) IsAscii-nil
 
 -- a name is read as its unit, and ends in no white space
-record IsGoodName (kind : Kind) (ignore_case : Bool) (s : Shape) : Type 0 where
+pub record IsGoodName (kind : Kind) (ignore_case : Bool) (s : Shape) : Type 0 where
   front : List ℕ
   last : ℕ
   name_is : name current s ≡ front ++ last ∷ []
@@ -130,6 +134,35 @@ own_name : (kind : Kind) (ignore_case : Bool) → IsGoodName kind ignore_case (o
 own_name Byte ignore_case = record { front = []; last = 66; name_is = refl; last_is = refl; ascii = count_ascii false; spells = inl record { count_is = count_spells Byte ignore_case; power_is = refl; binary_is = refl } }
 own_name Bit ignore_case = record { front = []; last = 98; name_is = refl; last_is = refl; ascii = count_ascii true; spells = inl record { count_is = count_spells Bit ignore_case; power_is = refl; binary_is = refl } }
 
+-- the names of all units are good where case counts
+
+spelled : (kind : Kind) (unit : UnitName) → Spells current (flags_for kind false) (name current (shape_of unit)) (shape_of unit)
+spelled Byte unit = (names_spell_their_units unit true).spells
+spelled Bit unit = (names_spell_their_units unit false).spells
+
+known_power : (flags : Flags) (text : List ℕ) (s : Shape) → Spells current flags text s → s.power ≤ 8
+known_power flags text s (inl h) = omega (arith, h.power_is)
+known_power flags text s (inr h) = omega (arith, h.letter_is.1)
+
+name_alone : (s : Shape) → s.power ≤ 0 → name current s ≡ count_of s.bit
+name_alone s h =
+    let none : nat_lt 0 s.power ≡ false = grind (arith, nat_tests) in
+    ap (λ b. (if b then letter_at s.power ∷ [] else []) ++ (if b && s.binary then codes "i" else []) ++ count_of s.bit) none
+
+name_ascii : (s : Shape) → s.power ≤ 8 → IsAscii (name current s)
+name_ascii s known =
+    ⊎_elim (λ some. subst IsAscii (sym (name_parts s some)) (IsAscii-cons (letter_at s.power) (infix_of s.binary ++ count_of s.bit) (letter_found s.power some known).1 (IsAscii-append (infix_of s.binary) (count_of s.bit) (infix_ascii s.binary) (count_ascii s.bit))))
+    (λ none. subst IsAscii (sym (name_alone s none)) (count_ascii s.bit))
+    (cases_lt 0 s.power)
+
+pub good_name : (kind : Kind) (unit : UnitName) → IsGoodName kind false (shape_of unit)
+good_name kind unit =
+    let s = shape_of unit in
+    let end = count_end s.bit in
+    let front = (if nat_lt 0 s.power then letter_at s.power ∷ [] else []) ++ (if nat_lt 0 s.power && s.binary then codes "i" else []) in
+    let spells = spelled kind unit in
+    record { front = front; last = end.0; name_is = ap (λ t. front ++ t) end.1; last_is = end.2; ascii = name_ascii s (known_power (flags_for kind false) (name current s) s spells); spells = spells }
+
 -- the least size
 
 least_size : (kind : Kind) (N size : ℕ) (s : Shape) → N * bits s ≡ size * bits_in kind * one → IsLeastOf kind N s size
@@ -151,19 +184,30 @@ trim_layout a k number unit front last start number_ascii unit_ascii unit_is las
     let P : List ℕ → Type 0 = λ t. trimmed (spaces a ++ (t ++ spaces 0)) ≡ t in
     subst P (sym begins) (trim_between a 0 start.head last (start.tail ++ rest) (number ++ (spaces k ++ front)) start.digit last_is (subst IsAscii begins all) (sym begins ∙ ends))
 
-layout_accepted : (kind : Kind) (ignore_case : Bool) (size : ℕ) (spec : FormatSpec) (w : ℕ) (ds : List ℕ) (s : Shape) → All (λ d. d < 10) ds → length ds ≤ places_of_decimal → w < whole_limit → IsGoodName kind ignore_case s → number_of w ds * bits s ≡ size * bits_in kind * one → size < current.size_limit → Accepted current kind ignore_case (layout (decimal w ++ fraction_text ds) (name current s) spec) size
-layout_accepted kind ignore_case size spec w ds s small few bound good exact below =
+-- without the spaces at its ends it is number, spaces and unit
+pub record TrimmedLayout (text number unit : List ℕ) : Type 0 where
+  pub spaces_between : ℕ
+  pub trims : trimmed text ≡ number ++ (spaces spaces_between ++ unit)
+
+pub trimmed_layout : (kind : Kind) (ignore_case : Bool) (spec : FormatSpec) (w : ℕ) (ds : List ℕ) (s : Shape) → All (λ d. d < 10) ds → w < whole_limit → IsGoodName kind ignore_case s → TrimmedLayout (layout (decimal w ++ fraction_text ds) (name current s) spec) (decimal w ++ fraction_text ds) (name current s)
+trimmed_layout kind ignore_case spec w ds s small bound good =
     let number = decimal w ++ fraction_text ds in
     let unit = name current s in
     let pad = layout_padding number unit spec in
     let a = before_layout spec.align pad in
     let g = gap_of spec.sign unit in
     let k = (pad - a) + g in
-    let trims : trimmed (layout number unit spec) ≡ number ++ (spaces k ++ unit) =
-    ap trimmed (regroup a (pad - a) g number unit) ∙ trim_layout a k number unit good.front good.last (number_start w (fraction_text ds) bound) (number_ascii w ds small bound) good.ascii good.name_is good.last_is in
+    record {
+      spaces_between = k;
+      trims = ap trimmed (regroup a (pad - a) g number unit) ∙ trim_layout a k number unit good.front good.last (number_start w (fraction_text ds) bound) (number_ascii w ds small bound) good.ascii good.name_is good.last_is;
+    }
+
+pub layout_accepted : (kind : Kind) (ignore_case : Bool) (size : ℕ) (spec : FormatSpec) (w : ℕ) (ds : List ℕ) (s : Shape) → All (λ d. d < 10) ds → length ds ≤ places_of_decimal → w < whole_limit → IsGoodName kind ignore_case s → number_of w ds * bits s ≡ size * bits_in kind * one → size < current.size_limit → Accepted current kind ignore_case (layout (decimal w ++ fraction_text ds) (name current s) spec) size
+layout_accepted kind ignore_case size spec w ds s small few bound good exact below =
+    let t = trimmed_layout kind ignore_case spec w ds s small bound good in
     record {
       number = number_of w ds;
-      is_read = record { unit = s; is_size = record { number_part = number; spaces = k; unit_part = unit; text_is = trims; number_is = number_text w ds small few bound; unit_is = good.spells }; is_least = least_size kind (number_of w ds) size s exact };
+      is_read = record { unit = s; is_size = record { number_part = decimal w ++ fraction_text ds; spaces = t.spaces_between; unit_part = name current s; text_is = t.trims; number_is = number_text w ds small few bound; unit_is = good.spells }; is_least = least_size kind (number_of w ds) size s exact };
       below = below;
     }
 
@@ -174,13 +218,13 @@ few_places None = omega arith
 few_places (Some p) = omega arith
 
 -- a number that is cut at the point and has no zeros at its end, in last places again
-number_scaled : (w v number len : ℕ) → len ≤ places_of_decimal → number ≡ (w * 10 ^ len + v) * 10 ^ (places_of_decimal - len) → w * one + v * 10 ^ (places_of_decimal - len) ≡ number
+pub number_scaled : (w v number len : ℕ) → len ≤ places_of_decimal → number ≡ (w * 10 ^ len + v) * 10 ^ (places_of_decimal - len) → w * one + v * 10 ^ (places_of_decimal - len) ≡ number
 number_scaled w v number len few e =
     let a : one ≡ 10 ^ len * 10 ^ (places_of_decimal - len) = ap (λ n. 10 ^ n) (let k : places_of_decimal ≡ len + (places_of_decimal - len) = omega arith in k) ∙ pow-add 10 len (places_of_decimal - len) in
     let x = ap (λ n. w * n) a in
     omega (arith, x, e)
 
-bits_bound : (kind : Kind) (size : ℕ) → size < current.size_limit → size * bits_in kind < bits_limit
+pub bits_bound : (kind : Kind) (size : ℕ) → size < current.size_limit → size * bits_in kind < bits_limit
 bits_bound Byte size h = omega (arith, h)
 bits_bound Bit size h = omega (arith, h)
 

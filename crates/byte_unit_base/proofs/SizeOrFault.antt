@@ -34,24 +34,24 @@ no_fault kind ignore_case text number n fault a f =
 some_answer : (kind : Kind) (ignore_case : Bool) (text : List ℕ) → ((n : ℕ) × Accepted current kind ignore_case text n) ⊎ ((fault : Fault) × IsRefused current kind ignore_case text fault)
 some_answer kind ignore_case text =
     ⊎_elim (λ read. let least = least_of kind read.0.0 read.0.1 in
-        let is_read : IsRead current kind ignore_case text read.0.0 least.0 = record { unit = read.0.1; is_size = read.1; is_least = least.1 } in
-        ⊎_elim (λ below. inl (least.0, record { number = read.0.0; is_read = is_read; below = below }))
-          (λ above. inr (exceeded read.0.0, inl (read.0.0, refl, record { size = least.0; is_read = is_read; above = above })))
-          (cases_lt least.0 current.size_limit))
-      (λ fault. inr (fault.0, inr fault.1))
-      (size_texts_have_one_answer (flags_for kind ignore_case) (trimmed text)).some
+    let is_read : IsRead current kind ignore_case text read.0.0 least.0 = record { unit = read.0.1; is_size = read.1; is_least = least.1 } in
+    ⊎_elim (λ below. inl (least.0, record { number = read.0.0; is_read = is_read; below = below }))
+    (λ above. inr (exceeded read.0.0, inl (read.0.0, refl, record { size = least.0; is_read = is_read; above = above })))
+    (cases_lt least.0 current.size_limit))
+    (λ fault. inr (fault.0, inr fault.1))
+    (size_texts_have_one_answer (flags_for kind ignore_case) (trimmed text)).some
 
 one_fault : (kind : Kind) (ignore_case : Bool) (text : List ℕ) (fault other : Fault) → IsRefused current kind ignore_case text fault → IsRefused current kind ignore_case text other → fault ≡ other
 one_fault kind ignore_case text fault other a b =
     ⊎_elim (λ x. ⊎_elim (λ y. x.1 ∙ (ap exceeded (same_read kind ignore_case text x.0 y.0 x.2.size y.2.size x.2.is_read y.2.is_read).numbers ∙ sym y.1))
-        (λ f. absurd (no_fault kind ignore_case text x.0 x.2.size other x.2.is_read f)) b)
-      (λ f. ⊎_elim (λ y. absurd (no_fault kind ignore_case text y.0 y.2.size fault y.2.is_read f))
-        (λ g. (size_texts_have_one_answer (flags_for kind ignore_case) (trimmed text)).one_fault fault other f g) b) a
+    (λ f. absurd (no_fault kind ignore_case text x.0 x.2.size other x.2.is_read f)) b)
+    (λ f. ⊎_elim (λ y. absurd (no_fault kind ignore_case text y.0 y.2.size fault y.2.is_read f))
+    (λ g. (size_texts_have_one_answer (flags_for kind ignore_case) (trimmed text)).one_fault fault other f g) b) a
 
 not_both : (kind : Kind) (ignore_case : Bool) (text : List ℕ) (n : ℕ) (fault : Fault) → Accepted current kind ignore_case text n → IsRefused current kind ignore_case text fault → ⊥
 not_both kind ignore_case text n fault a b =
     ⊎_elim (λ y. let same = same_read kind ignore_case text a.number y.0 n y.2.size a.is_read y.2.is_read in omega (arith, same.sizes, a.below, y.2.above))
-      (λ f. no_fault kind ignore_case text a.number n fault a.is_read f) b
+    (λ f. no_fault kind ignore_case text a.number n fault a.is_read f) b
 
 pub accepted_or_refused : (kind : Kind) → TextsAreAcceptedOrRefused kind
 accepted_or_refused kind ignore_case text = record {

@@ -51,7 +51,7 @@ step_whole : (w c : ℕ) → digit_value c < 10 → w * 10 + digit_value c < who
 unfolding size_step
 step_whole w c h k = let e : ltb (digit_value c) 10 ≡ true = grind (arith, nat_tests) in let f : ltb (w * 10 + digit_value c) whole_limit ≡ true = grind (arith, nat_tests) in rw (e, f) refl
 
-step_point : (w : ℕ) → size_step (Whole w) 46 ≡ Some (Point w)
+pub step_point : (w : ℕ) → size_step (Whole w) 46 ≡ Some (Point w)
 unfolding size_step
 step_point w = refl
 
@@ -73,7 +73,7 @@ run_digits (c ∷ cs) v h k =
     let small : v * 10 + digit_value c < whole_limit = omega (arith, value_rises cs (v * 10 + digit_value c), k) in
     size_run_step (Whole v) (Whole (v * 10 + digit_value c)) c cs (step_whole v c h.0 small) ∙ run_digits cs (v * 10 + digit_value c) h.1 k
 
-run_whole : (text : List ℕ) (w : ℕ) → IsWhole current text w → size_run Beginning text ≡ Some (Whole w)
+pub run_whole : (text : List ℕ) (w : ℕ) → IsWhole current text w → size_run Beginning text ≡ Some (Whole w)
 run_whole [] w h = absurd (omega (arith, h.0.0))
 run_whole (c ∷ cs) w h =
     let first : 0 * 10 + digit_value c ≡ digit_value c = omega arith in
@@ -89,7 +89,7 @@ run_more_places (c ∷ cs) w f j h k =
 run_pointed : (text : List ℕ) (w : ℕ) → IsPointed current text w → size_run Beginning text ≡ Some (Point w)
 run_pointed text w h = ap (size_run Beginning) h.text_is ∙ (size_through Beginning (Whole w) h.whole (46 ∷ []) (run_whole h.whole w h.whole_is) ∙ size_run_step (Whole w) (Point w) 46 [] (step_point w))
 
-run_places : (text : List ℕ) (w : ℕ) → IsNumeral 10 text → length text ≤ places_of_decimal → (k : ℕ) × (size_run (Point w) text ≡ Some (Fraction w (digits_value 10 text) k)) × (k ≡ length text)
+pub run_places : (text : List ℕ) (w : ℕ) → IsNumeral 10 text → length text ≤ places_of_decimal → (k : ℕ) × (size_run (Point w) text ≡ Some (Fraction w (digits_value 10 text) k)) × (k ≡ length text)
 run_places [] w h l = absurd (omega (arith, h.0))
 run_places (c ∷ cs) w h l =
     let first : digit_value c ≡ 0 * 10 + digit_value c = omega arith in

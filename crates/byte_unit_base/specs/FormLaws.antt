@@ -1,11 +1,16 @@
 -- Laws of the texts of sizes.
-use Rattle.std.specs.Prelude.{◌≡◌, ◌≢◌, ℕ, ◌<◌, Bool, List}
-use Rattle.byte_unit_base.specs.Shape.{Shape}
+use Rattle.std.specs.Prelude.{◌≡◌, ◌≢◌, ℕ, ◌*◌, ◌<◌, ◌⊎◌, Bool, false, List}
+use Rattle.byte_unit_math.specs.Bounds.{places_of_decimal}
+use Rattle.byte_unit_math.specs.Exact.{IsExactAt}
+use Rattle.byte_unit_base.specs.Shape.{Shape, bits}
 use Rattle.byte_unit_base.specs.Edition.{Edition}
-use Rattle.byte_unit_base.specs.Accepted.{Accepted}
+use Rattle.byte_unit_base.specs.Accepted.{Accepted, IsRefused}
+use Rattle.byte_unit_base.specs.Fault.{too_long}
 use Rattle.byte_unit_base.specs.Adjusted.{IsAdjustedForm}
+use Rattle.byte_unit_base.specs.AdjustedString.{IsAdjustedString, IsGreatest}
 use Rattle.byte_unit_base.specs.Forms.{IsSizeForm}
 use Rattle.byte_unit_base.specs.Plain.{plain}
+use Rattle.byte_unit_base.specs.Kinds.{bits_in}
 use Rattle.byte_unit_base.specs.declared.kind.Kind.{Kind}
 use Rattle.byte_unit_base.specs.declared.format.spec.FormatSpec.{FormatSpec}
 use Rattle.byte_unit_base.specs.declared.format.spec.Sign.TheVariants.{Plus}
@@ -31,3 +36,12 @@ pub record HasOneAdjustedForm (edition : Edition) (kind : Kind) (size : ℕ) (un
   pub form : List ℕ
   pub is_form : IsAdjustedForm edition kind size unit spec form
   pub one : (other : List ℕ) → IsAdjustedForm edition kind size unit spec other → other ≡ form
+
+-- the string of the adjusted size has no more digits after the point than a decimal
+abbrev pub FitsDecimal : Edition → Kind → ℕ → Shape → Type 0
+FitsDecimal edition kind size unit = IsGreatest edition size ⊎ IsExactAt (size * bits_in kind) (bits unit) places_of_decimal
+
+-- the string of the adjusted size is read as the size where a decimal has its digits, and is else refused for a digit too many
+pub record AdjustedReadsBack (edition : Edition) (kind : Kind) (size : ℕ) (unit : Shape) : Type 0 where
+  pub accepted : (text : List ℕ) → size < edition.size_limit → IsAdjustedString edition kind size unit text → FitsDecimal edition kind size unit → Accepted edition kind false text size
+  pub refused : (text : List ℕ) → size < edition.size_limit → IsAdjustedString edition kind size unit text → (FitsDecimal edition kind size unit → ⊥) → IsRefused edition kind false text too_long

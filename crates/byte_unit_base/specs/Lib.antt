@@ -21,6 +21,7 @@ pub mod Plain
 pub mod Layout
 pub mod Forms
 pub mod Adjusted
+pub mod AdjustedString
 pub mod Room
 pub mod Laws
 pub mod ChoiceLaws

@@ -2,7 +2,7 @@
 
 ghost use Rattle.byte_unit_base.specs.Edition.{current};
 ghost use Rattle.byte_unit_base.specs.Units.{shape_of};
-ghost use Rattle.byte_unit_base.specs.FormLaws.{ReadsBack, PlainReadsBack, HasOneForm, HasOneAdjustedForm};
+ghost use Rattle.byte_unit_base.specs.FormLaws.{ReadsBack, PlainReadsBack, HasOneForm, HasOneAdjustedForm, AdjustedReadsBack};
 
 use crate::format::FormatSpec;
 use crate::kind::Kind;
@@ -26,4 +26,10 @@ pub fn size_has_one_form(kind: Kind, size: u128, spec: FormatSpec)
 /// A size has one form in each unit under each spec.
 pub fn size_has_one_adjusted_form(kind: Kind, size: u128, unit: Unit, spec: FormatSpec)
     ensures { HasOneAdjustedForm current kind size (shape_of unit) spec }
+{}
+
+/// What the string of an adjusted size says is read as that size where it has at most 28 digits after the point. Every
+/// other such string is refused for its 29th digit.
+pub fn adjusted_string_reads_back(kind: Kind, size: u128, unit: Unit)
+    ensures { AdjustedReadsBack current kind size (shape_of unit) }
 {}

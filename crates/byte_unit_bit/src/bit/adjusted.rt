@@ -17,6 +17,7 @@ use byte_unit_base::{FormatSpec, Kind, Unit, UnitType, appropriate_unit, format}
 use std::alloc::{AllocError, Allocator, Global};
 
 mod built_in_traits;
+mod json;
 
 /// A size in bits, and the unit that it is shown in. Equality and order are those of the sizes, whatever the units.
 ///

@@ -1,0 +1,160 @@
+-- What the string of an adjusted size is read as.
+use Rattle.std.proofs.Common.{◌≡◌, ℕ, zero, suc, ◌+◌, ◌-◌, ◌*◌, ◌^◌, ◌<◌, ◌≤◌, inl, inr, ⊎_elim, true, false, ltb, List, [], ◌∷◌, ◌++◌, None, Err, length, refl, sym, ap, subst, ◌∙◌, arith, append_assoc}
+use Rattle.std.specs.Prelude.{if◌then◌else◌, nat_lt}
+use Rattle.std.specs.List.{All}
+use Rattle.std.specs.Char.{digit_value}
+use Rattle.std.specs.Fmt.{decimal}
+use Rattle.std.specs.Str.Parse.{digits_value}
+use Rattle.std.proofs.Math.Nat.{le_of_mul-le-mul_right}
+use Rattle.std.proofs.lemmas.Nat.{pow-add, mul-le}
+use Rattle.std.proofs.lemmas.Bool.{cases_lt}
+use Rattle.std.proofs.lemmas.Bool.Decides.{nat_tests}
+use Rattle.std.proofs.lemmas.List.{map-append, length-map}
+use Rattle.std.proofs.lemmas.List.Elements.{All-nil, All-cons, All-head, All-tail}
+use Rattle.byte_unit_math.specs.Bounds.{one, places_of_decimal, whole_limit}
+use Rattle.byte_unit_math.specs.Exact.{IsExactAt}
+use Rattle.byte_unit_math.specs.Finite.{Finite, IsExpansion, value_of, scaled}
+use Rattle.byte_unit_math.specs.Numeral.{glyphs, fraction_text}
+use Rattle.byte_unit_math.proofs.Digits.{ten}
+use Rattle.byte_unit_base.specs.Shape.{bits}
+use Rattle.byte_unit_base.specs.Edition.{current, name}
+use Rattle.byte_unit_base.specs.Units.{shape_of}
+use Rattle.byte_unit_base.specs.Spelling.{Flags}
+use Rattle.byte_unit_base.specs.SizeText.{trimmed}
+use Rattle.byte_unit_base.specs.Fault.{too_long, no_unit, after_digit, SizeFault}
+use Rattle.byte_unit_base.specs.SizeScan.{size_step, size_read}
+use Rattle.byte_unit_base.specs.Kinds.{bits_in, flags_for}
+use Rattle.byte_unit_base.specs.Accepted.{Accepted, IsRefused}
+use Rattle.byte_unit_base.specs.Layout.{layout}
+use Rattle.byte_unit_base.specs.Plain.{spaces}
+use Rattle.byte_unit_base.specs.Adjusted.{IsAdjustedForm}
+use Rattle.byte_unit_base.specs.AdjustedString.{alternate, IsAdjustedString}
+use Rattle.byte_unit_base.specs.FormLaws.{AdjustedReadsBack, FitsDecimal}
+use Rattle.byte_unit_base.specs.declared.kind.Kind.{Kind}
+use Rattle.byte_unit_base.specs.declared.unit.Unit.{Unit as UnitName}
+use Rattle.byte_unit_base.specs.declared.read.scan.SizeScan.TheVariants.{Beginning, Whole, Point, Fraction}
+use Rattle.byte_unit_base.proofs.Choosing.{some_bits}
+use Rattle.byte_unit_base.proofs.NumberTexts.{number_of, glyph_value, glyph_digits, whole_text}
+use Rattle.byte_unit_base.proofs.Quotients.{exact_more}
+use Rattle.byte_unit_base.proofs.ReadBack.{good_name, bits_bound, number_scaled, trimmed_layout, layout_accepted, size_form_back}
+use Rattle.byte_unit_base.proofs.SizeFaults.{reads_rightly, SizeResult}
+use Rattle.byte_unit_base.proofs.SizeReads.{step_point, run_whole, run_places, read_through}
+use Rattle.byte_unit_base.proofs.SizeSteps.{size_read_some, size_read_none}
+
+-- the whole part of an expansion
+
+whole_not_above : (num den : ℕ) (e : Finite) → 1 ≤ den → IsExpansion num den e → e.whole ≤ num
+whole_not_above num den e some h =
+    let more = mul-le (scaled e) 1 (scaled e) den (omega arith) some in
+    let x : e.whole * 10 ^ length e.digits ≤ num * 10 ^ length e.digits = omega (arith, more, h.exact) in
+    le_of_mul-le-mul_right x (let k : 0 < 10 ^ length e.digits = omega (arith, ten (length e.digits)) in k)
+
+-- with no more places than a decimal, it is accepted
+
+expansion_product : (num den : ℕ) (e : Finite) → IsExpansion num den e → length e.digits ≤ places_of_decimal → number_of e.whole e.digits * den ≡ num * one
+expansion_product num den e h few =
+    let len = length e.digits in
+    let R = 10 ^ (places_of_decimal - len) in
+    let power : one ≡ 10 ^ len * R = ap (λ n. 10 ^ n) (let k : places_of_decimal ≡ len + (places_of_decimal - len) = omega arith in k) ∙ pow-add 10 len (places_of_decimal - len) in
+    let number : number_of e.whole e.digits ≡ scaled e * R = number_scaled e.whole (value_of e.digits) (scaled e * R) len few refl in
+    let x = ap (λ n. n * den) number in
+    let y = ap (λ n. n * R) h.exact in
+    let z = ap (λ n. num * n) power in
+    x ∙ omega (arith, y, z)
+
+-- with more, it is refused
+
+record LongDigits (n : ℕ) (ds : List ℕ) : Type 0 where
+  front : List ℕ
+  next : ℕ
+  rest : List ℕ
+  list_is : ds ≡ front ++ (next ∷ rest)
+  length_is : length front ≡ n
+  small : All (λ d. d < 10) front
+  next_small : next < 10
+
+cut : (n : ℕ) (ds : List ℕ) → All (λ d. d < 10) ds → n < length ds → LongDigits n ds
+cut n [] h k = absurd (omega (arith, k))
+cut zero (d ∷ ds) h k = record { front = []; next = d; rest = ds; list_is = refl; length_is = refl; small = All-nil (λ d. d < 10); next_small = All-head (λ d. d < 10) d ds h }
+cut (suc n) (d ∷ ds) h k =
+    let r = cut n ds (All-tail (λ d. d < 10) d ds h) (omega (arith, k)) in
+    record { front = d ∷ r.front; next = r.next; rest = r.rest; list_is = ap (λ l. d ∷ l) r.list_is; length_is = ap suc r.length_is; small = All-cons (λ d. d < 10) d r.front (All-head (λ d. d < 10) d ds h) r.small; next_small = r.next_small }
+
+with_point : (ds : List ℕ) → 0 < length ds → fraction_text ds ≡ 46 ∷ glyphs ds
+with_point [] h = absurd (omega (arith, h))
+with_point (d ∷ ds) h = refl
+
+no_more_places : (w f j c : ℕ) → digit_value c < 10 → j ≡ places_of_decimal → size_step (Fraction w f j) c ≡ None
+unfolding size_step
+no_more_places w f j c h k =
+    let e : ltb (digit_value c) 10 ≡ true = grind (arith, nat_tests) in
+    let g : ltb j places_of_decimal ≡ false = grind (arith, nat_tests) in
+    rw (e, g) refl
+
+digit_fault : (c : ℕ) → digit_value c < 10 → after_digit current c ≡ too_long
+digit_fault c h = let e : nat_lt (digit_value c) 10 ≡ true = grind (arith, nat_tests) in ap (λ b. if b then too_long else no_unit current c) e
+
+-- the scan of a whole part, a point, as many digits as a decimal has, and a digit more
+read_long : (flags : Flags) (w next : ℕ) (front more : List ℕ) → w < whole_limit → All (λ d. d < 10) front → length front ≡ places_of_decimal → next < 10 → size_read flags Beginning (decimal w ++ (46 ∷ (glyphs front ++ ((48 + next) ∷ more)))) ≡ Err too_long
+read_long flags w next front more bound small len next_small =
+    let c = 48 + next in
+    let digit : digit_value c < 10 = omega (arith, glyph_value next next_small, next_small) in
+    let count : length (glyphs front) ≡ places_of_decimal = length-map {A = ℕ} {B = ℕ} front (λ d. 48 + d) ∙ len in
+    let run = run_places (glyphs front) w (omega (arith, count), glyph_digits front small) (omega (arith, count)) in
+    let state = Fraction w (digits_value 10 (glyphs front)) run.0 in
+    let stop = no_more_places w (digits_value 10 (glyphs front)) run.0 c digit (run.2 ∙ count) in
+    read_through flags (Whole w) (decimal w) (46 ∷ (glyphs front ++ (c ∷ more))) Beginning (run_whole (decimal w) w (whole_text w bound))
+    ∙ (size_read_some flags (Whole w) (Point w) 46 (glyphs front ++ (c ∷ more)) (step_point w)
+    ∙ (read_through flags state (glyphs front) (c ∷ more) (Point w) run.1
+    ∙ (size_read_none flags state c more stop ∙ ap Err (digit_fault c digit))))
+
+long_text : (w : ℕ) (ds tail : List ℕ) → 0 < length ds → (k : LongDigits places_of_decimal ds) → (decimal w ++ fraction_text ds) ++ tail ≡ decimal w ++ (46 ∷ (glyphs k.front ++ ((48 + k.next) ∷ (glyphs k.rest ++ tail))))
+long_text w ds tail some k =
+    let split : glyphs ds ≡ glyphs k.front ++ ((48 + k.next) ∷ glyphs k.rest) = ap glyphs k.list_is ∙ map-append (λ d. 48 + d) k.front (k.next ∷ k.rest) in
+    let fraction : fraction_text ds ≡ 46 ∷ (glyphs k.front ++ ((48 + k.next) ∷ glyphs k.rest)) = with_point ds some ∙ ap (λ t. 46 ∷ t) split in
+    ap (λ t. (decimal w ++ t) ++ tail) fraction
+    ∙ (append_assoc (decimal w) (46 ∷ (glyphs k.front ++ ((48 + k.next) ∷ glyphs k.rest))) tail
+    ∙ ap (λ t. decimal w ++ (46 ∷ t)) (append_assoc (glyphs k.front) ((48 + k.next) ∷ glyphs k.rest) tail))
+
+long_fault : (flags : Flags) (w : ℕ) (ds tail text : List ℕ) → w < whole_limit → All (λ d. d < 10) ds → places_of_decimal < length ds → text ≡ (decimal w ++ fraction_text ds) ++ tail → SizeFault current flags text too_long
+long_fault flags w ds tail text bound small long e =
+    let k = cut places_of_decimal ds small long in
+    let read = ap (size_read flags Beginning) (e ∙ long_text w ds tail (omega (arith, long)) k) ∙ read_long flags w k.next k.front (glyphs k.rest ++ tail) bound k.small k.length_is k.next_small in
+    subst (SizeResult flags text) read (reads_rightly flags text)
+
+-- the string
+
+form_accepted : (kind : Kind) (size : ℕ) (unit : UnitName) (text : List ℕ) → size < current.size_limit → IsAdjustedForm current kind size (shape_of unit) alternate text → IsExactAt (size * bits_in kind) (bits (shape_of unit)) places_of_decimal → Accepted current kind false text size
+form_accepted kind size unit text below h exact =
+    let s = shape_of unit in
+    let e = h.number_is.0 in
+    let x = h.number_is.1 in
+    let few = x.least places_of_decimal exact in
+    let bound : e.whole < whole_limit = omega (arith, whole_not_above (size * bits_in kind) (bits s) e (some_bits s) x, bits_bound kind size below) in
+    let P : List ℕ → Type 0 = λ t. Accepted current kind false t size in
+    subst P (sym (h.text_is ∙ ap (λ n. layout n (name current s) alternate) h.number_is.2))
+    (layout_accepted kind false size alternate e.whole e.digits s x.small few bound (good_name kind unit) (expansion_product (size * bits_in kind) (bits s) e x few) below)
+
+form_refused : (kind : Kind) (size : ℕ) (unit : UnitName) (text : List ℕ) → size < current.size_limit → IsAdjustedForm current kind size (shape_of unit) alternate text → (IsExactAt (size * bits_in kind) (bits (shape_of unit)) places_of_decimal → ⊥) → SizeFault current (flags_for kind false) (trimmed text) too_long
+form_refused kind size unit text below h long =
+    let s = shape_of unit in
+    let e = h.number_is.0 in
+    let x = h.number_is.1 in
+    let many : places_of_decimal < length e.digits =
+    ⊎_elim (λ l. l) (λ few. absurd (long (exact_more (size * bits_in kind) (bits s) (length e.digits) places_of_decimal few (scaled e, x.exact)))) (cases_lt places_of_decimal (length e.digits)) in
+    let bound : e.whole < whole_limit = omega (arith, whole_not_above (size * bits_in kind) (bits s) e (some_bits s) x, bits_bound kind size below) in
+    let t = trimmed_layout kind false alternate e.whole e.digits s x.small bound (good_name kind unit) in
+    let text_is = ap trimmed (h.text_is ∙ ap (λ n. layout n (name current s) alternate) h.number_is.2) ∙ t.trims in
+    long_fault (flags_for kind false) e.whole e.digits (spaces t.spaces_between ++ name current s) (trimmed text) bound x.small many text_is
+
+accepted : (kind : Kind) (size : ℕ) (unit : UnitName) (text : List ℕ) → size < current.size_limit → IsAdjustedString current kind size (shape_of unit) text → FitsDecimal current kind size (shape_of unit) → Accepted current kind false text size
+accepted kind size unit text below (inl h) short = size_form_back kind size alternate false text below h.1
+accepted kind size unit text below (inr h) (inl greatest) = absurd (h.0 greatest)
+accepted kind size unit text below (inr h) (inr exact) = form_accepted kind size unit text below h.1 exact
+
+refused : (kind : Kind) (size : ℕ) (unit : UnitName) (text : List ℕ) → size < current.size_limit → IsAdjustedString current kind size (shape_of unit) text → (FitsDecimal current kind size (shape_of unit) → ⊥) → IsRefused current kind false text too_long
+refused kind size unit text below (inl h) long = absurd (long (inl h.0))
+refused kind size unit text below (inr h) long = inr (form_refused kind size unit text below h.1 (λ exact. long (inr exact)))
+
+pub adjusted_string_back : (kind : Kind) (size : ℕ) (unit : UnitName) → AdjustedReadsBack current kind size (shape_of unit)
+adjusted_string_back kind size unit = record { accepted = accepted kind size unit; refused = refused kind size unit }
