@@ -50,13 +50,13 @@ IsRoundedUp-all digits unit behind rest places size small e h =
     record { enough = s.0; close = s.1 }
 
 -- the two halves of a fraction
-pub IsLeastSize-halves : (fraction high low unit part size : ℕ) → high ≡ fraction / half → low ≡ fraction % half → IsRoundedUp (low * unit + 0) half part → IsRoundedUp (high * unit + part) half size → IsLeastSize fraction unit size
-IsLeastSize-halves fraction high low unit part size h l behind all =
-    let parts : half * high + low ≡ fraction = omega arith in
+pub IsLeastSize-halves : (fraction unit part size : ℕ) → IsRoundedUp (fraction % half * unit + 0) half part → IsRoundedUp (fraction / half * unit + part) half size → IsLeastSize fraction unit size
+IsLeastSize-halves fraction unit part size low high =
+    let parts : half * (fraction / half) + fraction % half ≡ fraction = omega arith in
     let product = ap (λ n. n * unit) parts in
     record {
-      reaches = omega (arith, product, behind.enough, behind.close, all.enough, all.close);
-      least = λ m r. omega (arith, product, behind.enough, behind.close, all.enough, all.close, r);
+      reaches = omega (arith, product, low.enough, low.close, high.enough, high.close);
+      least = λ m r. omega (arith, product, low.enough, low.close, high.enough, high.close, r);
     }
 
 -- the whole part's product beside the fraction's least size

@@ -1,12 +1,32 @@
-//! Division with a rest.
-ghost use Rattle.std.specs.Prelude.{◌≡◌, ◌/◌, ◌%◌, ◌≤◌};
+//! A digit of a long division.
+ghost use Rattle.std.specs.Prelude.{◌≡◌, ◌+◌, ◌*◌, ◌/◌, ◌%◌, ◌^◌, ◌<◌, ◌≤◌};
 
-/// The quotient and the rest. A division of 128 bits is slow, so the rest takes none of its own.
-pub(crate) fn divided(dividend: u128, divisor: u128) -> (u128, u128)
-    requires { 1 ≤ divisor }
-    ensures quotient { result.0 ≡ dividend / divisor }
+/// The quotient where it is a digit, and the rest. Four comparisons take less time than a division of 128 bits.
+pub(crate) fn digit_and_rest(dividend: u128, divisor: u128) -> (u128, u128)
+    requires digit { dividend < 10 * divisor }
+    requires small { 10 * divisor < 2 ^ 128 }
+    ensures digit { result.0 ≡ dividend / divisor }
     ensures rest { result.1 ≡ dividend % divisor }
 {
-    let quotient = dividend / divisor;
-    (quotient, dividend - quotient * divisor)
+    let (eights, rest) = taken(dividend, 8, divisor);
+    let (fours, rest) = taken(rest, 4, divisor);
+    let (twos, rest) = taken(rest, 2, divisor);
+    let (ones, rest) = taken(rest, 1, divisor);
+    (eights + fours + twos + ones, rest)
+}
+
+/// So many times the divisor, or none where the dividend is below that; and what is left.
+fn taken(dividend: u128, times: u128, divisor: u128) -> (u128, u128)
+    requires once { dividend < 2 * (times * divisor) }
+    requires small { times * divisor < 2 ^ 128 }
+    ensures few { result.0 ≤ times }
+    ensures parts { result.0 * divisor + result.1 ≡ dividend }
+    ensures below { result.1 < times * divisor }
+{
+    let multiple = times * divisor;
+    if dividend < multiple {
+        (0, dividend)
+    } else {
+        (times, dividend - multiple)
+    }
 }

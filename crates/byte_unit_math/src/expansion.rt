@@ -8,7 +8,7 @@ ghost use Rattle.byte_unit_math.specs.Finite.{IsExpansion, scaled, first};
 ghost use Rattle.byte_unit_math.specs.Nearest.{IsNearest};
 
 use crate::decimal::{Decimal, ONE};
-use crate::dividing::divided;
+use crate::dividing::digit_and_rest;
 use std::marker::Model;
 
 /// The most digits after the point.
@@ -65,8 +65,7 @@ impl Expansion {
         ensures { IsExpansion numerator (2 ^ twos * 5 ^ fives) result }
     {
         let den = power(2, twos) * power(5, fives);
-        let (whole, rest) = divided(numerator, den);
-        divide(whole, rest, den)
+        divide(numerator / den, numerator % den, den)
     }
 
     /// The same number.
@@ -242,7 +241,7 @@ fn divide(whole: u128, remainder: u128, den: u128) -> Expansion
     requires whole { whole < whole_limit }
     requires below { remainder < den }
     // A digit's dividend fits.
-    requires small { den * 10 < 2 ^ 128 }
+    requires small { 10 * den < 2 ^ 128 }
     requires ends { IsExactAt (whole * den + remainder) den expansion_places }
     ensures { IsExpansion (whole * den + remainder) den result }
 {
@@ -250,7 +249,7 @@ fn divide(whole: u128, remainder: u128, den: u128) -> Expansion
     let mut digits = [0u8; PLACES];
     let mut places: u32 = 0;
     while rest != 0 {
-        let (digit, left) = divided(rest * 10, den);
+        let (digit, left) = digit_and_rest(rest * 10, den);
         digits[places as usize] = digit as u8;
         rest = left;
         places += 1;

@@ -5,7 +5,6 @@ ghost use Rattle.byte_unit_math.specs.Least.{IsLeastSize};
 ghost use Rattle.byte_unit_math.specs.RoundedUp.{half, IsRoundedUp};
 
 use crate::decimal::{Decimal, PLACES};
-use crate::dividing::divided;
 
 /// Half the places of a fraction: so many digits fit a `u64`.
 const HALF_PLACES: u32 = PLACES / 2;
@@ -46,9 +45,8 @@ fn rounded_up(fraction: u128, unit_size: u128) -> u128
     if fraction == 0 {
         return 0;
     }
-    let (high, low) = divided(fraction, HALF);
-    let part = over_digits(low as u64, unit_size, 0);
-    over_digits(high as u64, unit_size, part)
+    let part = over_digits((fraction % HALF) as u64, unit_size, 0);
+    over_digits((fraction / HALF) as u64, unit_size, part)
 }
 
 /// The product of half the digits and the unit's size, and what the digits behind came to, rounded up a digit at a time

@@ -5,7 +5,7 @@ ghost use Rattle.byte_unit_math.specs.Steps.{raised};
 ghost use Rattle.byte_unit_math.specs.Exact.{IsExactAt, IsQuotient, IsFirstExact};
 
 use crate::decimal::{Decimal, PLACES};
-use crate::dividing::divided;
+use crate::dividing::digit_and_rest;
 use crate::steps::Steps;
 
 /// `size / unit`, where that is a decimal of at most so many places, else None. More than 28 places count as 28.
@@ -28,12 +28,12 @@ pub fn exact_quotient(size: u128, unit: u128, places: u32, steps: &mut Steps) ->
     ensures ticks { (digits : ℕ) × IsFirstExact size unit (min places places_of_decimal) digits × (steps.new ≡ raised steps.old digits) }
 {
     let most = places.min(PLACES);
-    let (whole, mut rest) = divided(size, unit);
+    let mut rest = size % unit;
     let mut fraction = 0;
     let mut digits = 0;
     while rest > 0 && digits < most {
         steps.tick();
-        let (digit, left) = divided(rest * 10, unit);
+        let (digit, left) = digit_and_rest(rest * 10, unit);
         fraction = fraction * 10 + digit;
         rest = left;
         digits += 1;
@@ -41,7 +41,7 @@ pub fn exact_quotient(size: u128, unit: u128, places: u32, steps: &mut Steps) ->
     if rest > 0 {
         return None;
     }
-    Decimal::new(whole, fraction * 10u128.pow(PLACES - digits))
+    Decimal::new(size / unit, fraction * 10u128.pow(PLACES - digits))
 }
 
 #[cfg(test)]

@@ -15,7 +15,7 @@ loop-rest-smaller c =
 
 pub loop-rest-preserved : goal.loop-rest-preserved
 loop-rest-preserved c =
-    rw (c.divided-digit.ensures.quotient, c.divided-digit.ensures.rest) (step (c.args.whole * c.args.den + c.args.remainder) c.args.den c.args.whole c.loop-rest.rest c.loop-rest.places c.loop-rest.digits c.loop-rest.invariant c.requires.ends c.loop-rest-test.true)
+    rw (c.digit_and_rest-digit.ensures.digit, c.digit_and_rest-digit.ensures.rest) (step (c.args.whole * c.args.den + c.args.remainder) c.args.den c.args.whole c.loop-rest.rest c.loop-rest.places c.loop-rest.digits c.loop-rest.invariant c.requires.ends c.loop-rest-test.true)
 
 pub returns : goal.returns
 returns c = divided (c.args.whole * c.args.den + c.args.remainder) c.args.den c.args.whole c.loop-rest.rest c.loop-rest.places c.loop-rest.digits c.loop-rest.invariant c.loop-rest-test.false

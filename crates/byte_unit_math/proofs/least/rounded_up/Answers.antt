@@ -2,4 +2,4 @@ use Rattle.byte_unit_math.proofs.RoundedUp.{IsLeastSize-halves}
 use Rattle.byte_unit_math.proofs.least.rounded_up.Goals as goal
 
 pub returns-clause-least : goal.returns-clause-least
-returns-clause-least c = IsLeastSize-halves _ _ _ _ _ _ c.divided-high.ensures.quotient c.divided-high.ensures.rest c.over_digits-part.ensures.rounded c.over_digits.ensures.rounded
+returns-clause-least c = IsLeastSize-halves _ _ _ _ c.over_digits-part.ensures.rounded c.over_digits.ensures.rounded

@@ -18,7 +18,7 @@ overflow_add-fraction c =
 
 pub loop-rest-preserved : goal.loop-rest-preserved
 loop-rest-preserved c = record {
-  divides = rw (c.divided-digit.ensures.quotient, c.divided-digit.ensures.rest) (Dividing-more _ _ _ c.loop-rest.rest c.loop-rest.fraction c.loop-rest.digits (omega arith) (omega arith) (omega arith) c.loop-rest.invariant.divides);
+  divides = rw (c.digit_and_rest-digit.ensures.digit, c.digit_and_rest-digit.ensures.rest) (Dividing-more _ _ _ c.loop-rest.rest c.loop-rest.fraction c.loop-rest.digits (omega arith) (omega arith) (omega arith) c.loop-rest.invariant.divides);
   ticks = omega (arith, c.tick.ensures, c.loop-rest.invariant.ticks);
 }
 
@@ -34,7 +34,7 @@ pub overflow_mul-fraction-2 : goal.overflow_mul-fraction-2
 overflow_mul-fraction-2 c = rw c.pow.ensures (omega (arith, part_below c.loop-rest.fraction c.loop-rest.digits (omega (arith, c.loop-rest.invariant.divides.few)) c.loop-rest.invariant.divides.below))
 
 pub returns-clause-quotient : goal.returns-clause-quotient
-returns-clause-quotient c = quotient_made _ _ _ _ _ _ _ _ _ c.min-most.ensures (omega arith) c.pow.ensures (omega arith) c.loop-rest.invariant.divides (rw c.divided-whole.ensures.quotient at c.new.ensures)
+returns-clause-quotient c = quotient_made _ _ _ _ _ _ _ _ _ c.min-most.ensures (omega arith) c.pow.ensures (omega arith) c.loop-rest.invariant.divides c.new.ensures
 
 pub returns-clause-none : goal.returns-clause-none
-returns-clause-none c = always_made _ _ c.args.size c.args.unit c.min-most.result c.loop-rest.rest c.loop-rest.fraction c.loop-rest.digits c.pow.result c.requires.small_size (omega arith) c.pow.ensures c.loop-rest.invariant.divides (rw c.divided-whole.ensures.quotient at c.new.ensures)
+returns-clause-none c = always_made _ _ c.args.size c.args.unit c.min-most.result c.loop-rest.rest c.loop-rest.fraction c.loop-rest.digits c.pow.result c.requires.small_size (omega arith) c.pow.ensures c.loop-rest.invariant.divides c.new.ensures

@@ -2,4 +2,4 @@ use Rattle.byte_unit_math.proofs.Expanding.{new_ends}
 use Rattle.byte_unit_math.proofs.expansion.Expansion.new.Goals as goal
 
 pub divide-requires-clause-ends : goal.divide-requires-clause-ends
-divide-requires-clause-ends c = rw (c.divided-whole.ensures.quotient, c.divided-whole.ensures.rest) (new_ends c.args.numerator c.power.result c.power-2.result c.args.twos c.args.fives c.power.ensures c.power-2.ensures c.requires.den)
+divide-requires-clause-ends c = new_ends c.args.numerator c.power.result c.power-2.result c.args.twos c.args.fives c.power.ensures c.power-2.ensures c.requires.den

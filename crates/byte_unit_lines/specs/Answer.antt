@@ -1,0 +1,29 @@
+-- What is written for one line.
+use Rattle.std.specs.Prelude.{◌≡◌, ℕ, false, List, [], ◌∷◌, ◌++◌, codes}
+use Rattle.std.specs.Fmt.{decimal}
+use Rattle.std.specs.Str.{IsUtf8}
+use Rattle.byte_unit_lines.specs.Lines.{line_end}
+use Rattle.byte_unit.specs.Accepted.{Accepted, IsRefused}
+use Rattle.byte_unit.specs.Edition.{current}
+use Rattle.byte_unit.specs.Fault.{Fault, exceeded, not_number, no_value, too_long, bad_unit}
+pub use Rattle.byte_unit.specs.declared.Kind.{Kind}
+
+-- the words for a fault of a text
+abbrev pub words_of : Fault → List ℕ
+words_of (exceeded _) = codes "out of range"
+words_of (not_number _) = codes "not a number"
+words_of no_value = codes "no value"
+words_of too_long = codes "number too long"
+words_of (bad_unit _ _ _) = codes "bad unit"
+
+-- what is said of a line: that it is no text, the digits of the size that it is read as, or the words for its fault
+pub data IsSaidOf (kind : Kind) (line said : List ℕ) : Type 0 where
+  not_text : ¬ (IsUtf8 line) → said ≡ codes "not text" → IsSaidOf kind line said
+  size : (n : ℕ) → IsUtf8 line → Accepted current kind false line n → said ≡ decimal n → IsSaidOf kind line said
+  refused : (fault : Fault) → IsUtf8 line → IsRefused current kind false line fault → said ≡ words_of fault → IsSaidOf kind line said
+
+-- what is written for a line: that, and a line end
+pub record IsAnswer (kind : Kind) (line out : List ℕ) : Type 0 where
+  pub said : List ℕ
+  pub is_said : IsSaidOf kind line said
+  pub ended : out ≡ said ++ line_end ∷ []

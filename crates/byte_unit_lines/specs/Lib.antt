@@ -1,0 +1,9 @@
+pub mod Answer
+pub mod Arguments
+pub mod FaultWords
+pub mod Laws
+pub mod Lines
+pub mod Outcome
+pub mod Report
+pub mod Steps
+pub mod Streams

@@ -1,0 +1,14 @@
+-- What is written for lines, and for a whole input.
+use Rattle.std.specs.Prelude.{◌≡◌, ℕ, List, [], ◌∷◌, ◌++◌}
+use Rattle.byte_unit_lines.specs.Answer.{Kind, IsAnswer}
+use Rattle.byte_unit_lines.specs.Lines.{lines_of}
+
+-- the answers to these lines, in their order
+abbrev pub AreAnswers : Kind → List (List ℕ) → List ℕ → Type 0
+AreAnswers kind [] out = out ≡ []
+AreAnswers kind (line ∷ lines) out =
+    (first rest : List ℕ) × IsAnswer kind line first × AreAnswers kind lines rest × (out ≡ first ++ rest)
+
+-- what is written for an input
+abbrev pub IsReport : Kind → List ℕ → List ℕ → Type 0
+IsReport kind bytes out = AreAnswers kind (lines_of bytes) out

@@ -1,0 +1,62 @@
+-- How far a run has come, step by step: for the private functions of `run` and `line`, and for no public contract.
+use Rattle.std.specs.Prelude.{◌≡◌, ℕ, ◌+◌, ◌<◌, List, [], ◌∷◌, ◌++◌, length, ◌==◌, if◌then◌else◌, Result, Ok, Err}
+use Rattle.byte_unit_lines.specs.Answer.{Kind, IsAnswer}
+use Rattle.byte_unit_lines.specs.Lines.{line_end}
+use Rattle.byte_unit_lines.specs.Report.{AreAnswers}
+use Rattle.byte_unit_lines.specs.Outcome.{IsBeginning, AnswerFirst}
+use Rattle.byte_unit_lines.specs.declared.run.RunError.{RunError}
+use Rattle.byte_unit_lines.specs.declared.run.RunError.TheVariants.{Memory, Read, Write}
+
+-- the lines that end in these bytes, the first of which began with the given line
+abbrev pub ended_by : List ℕ → List ℕ → List (List ℕ)
+ended_by line [] = []
+ended_by line (b ∷ bs) = if b == line_end then line ∷ ended_by [] bs else ended_by (line ++ b ∷ []) bs
+
+-- the line that has begun after these bytes
+abbrev pub begun_by : List ℕ → List ℕ → List ℕ
+begun_by line [] = line
+begun_by line (b ∷ bs) = if b == line_end then begun_by [] bs else begun_by (line ++ b ∷ []) bs
+
+-- no line ends in these bytes
+abbrev pub IsUnbroken : List ℕ → Type 0
+IsUnbroken bytes = (line : List ℕ) → (ended_by line bytes ≡ []) × (begun_by line bytes ≡ line ++ bytes)
+
+-- the answer to a line was added at the end
+abbrev pub AddsAnswer : Kind → List ℕ → List ℕ → List ℕ → Type 0
+AddsAnswer kind line old new = (answer : List ℕ) × IsAnswer kind line answer × (new ≡ old ++ answer)
+
+-- a list of this length and capacity has no room for the answer to a line
+abbrev pub IsFullFor : Kind → List ℕ → ℕ → ℕ → Type 0
+IsFullFor kind line len capacity = (answer : List ℕ) × IsAnswer kind line answer × (capacity < len + length answer)
+
+-- the answers to these lines were added at the end
+abbrev pub AddsAnswers : Kind → List (List ℕ) → List ℕ → List ℕ → Type 0
+AddsAnswers kind lines old new = (answers : List ℕ) × AreAnswers kind lines answers × (new ≡ old ++ answers)
+
+-- the answers to the first of these lines were added at the end, whole
+abbrev pub AddsFirst : Kind → List (List ℕ) → List ℕ → List ℕ → Type 0
+AddsFirst kind lines old new = (first : List (List ℕ)) × IsBeginning first lines × AddsAnswers kind first old new
+
+-- a beginning of the answers to the first of these lines
+abbrev pub BeginFirst : Kind → List (List ℕ) → List ℕ → Type 0
+BeginFirst kind lines written = (whole : List ℕ) × AnswerFirst kind lines whole × IsBeginning written whole
+
+-- what a part of a run has written that answers these lines and reads nothing
+abbrev pub IsAnsweredAt : Kind → List (List ℕ) → RunError → List ℕ → Type 0
+IsAnsweredAt kind lines Memory written = AnswerFirst kind lines written
+IsAnsweredAt kind lines Read written = ⊥
+IsAnsweredAt kind lines Write written = BeginFirst kind lines written
+
+abbrev pub IsAnswered : {T : Type 0} → Kind → List (List ℕ) → Result T RunError → List ℕ → Type 0
+IsAnswered kind lines (Ok _) written = AreAnswers kind lines written
+IsAnswered kind lines (Err e) written = IsAnsweredAt kind lines e written
+
+-- the same of the last line, of whose answer nothing is written where there is no memory for it
+abbrev pub IsLineAnsweredAt : Kind → List ℕ → RunError → List ℕ → Type 0
+IsLineAnsweredAt kind line Memory written = written ≡ []
+IsLineAnsweredAt kind line Read written = ⊥
+IsLineAnsweredAt kind line Write written = (answer : List ℕ) × IsAnswer kind line answer × IsBeginning written answer
+
+abbrev pub IsLineAnswered : {T : Type 0} → Kind → List ℕ → Result T RunError → List ℕ → Type 0
+IsLineAnswered kind line (Ok _) written = IsAnswer kind line written
+IsLineAnswered kind line (Err e) written = IsLineAnsweredAt kind line e written

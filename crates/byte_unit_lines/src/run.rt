@@ -1,0 +1,243 @@
+//! The program's loop: reads, answers the lines that came, writes the answers.
+
+ghost use Rattle.std.specs.Prelude.{◌≡◌, ◌+◌, ◌^◌, ◌<◌, ℕ, List, [], ◌++◌, IsTrue, IsErrOf, IfErr, OnOk, OnErr, IfSome, IfNone, get_or, take, length};
+ghost use Rattle.std.specs.Io.KnownBytes.{Appends, IsAtEnd};
+ghost use Rattle.byte_unit_lines.specs.Lines.{line_end};
+ghost use Rattle.byte_unit_lines.specs.Outcome.{IsBeginning, IsRun};
+ghost use Rattle.byte_unit_lines.specs.Steps.{ended_by, begun_by, IsUnbroken, AddsAnswer, AddsAnswers, AddsFirst, IsAnswered, IsLineAnswered};
+ghost use Rattle.byte_unit_lines.specs.Streams.{reader_of, reading_failed, writer_of, writing_failed};
+
+use crate::arguments::Kind;
+use crate::laws::each_line_has_an_answer;
+use crate::line::append_answer;
+use crate::reading::Reading;
+use crate::writing::Writing;
+use std::alloc::{AllocError, Allocator, Global};
+use std::io::{Read, Write};
+
+/// The byte that ends a line.
+const LINE_END: u8 = b'\n';
+
+/// How many bytes are searched at once for a line end.
+const BLOCK: usize = 32;
+
+/// How many bytes are asked for at a read.
+const CHUNK: usize = 65536;
+
+/// Why a run ended before its input did.
+#[derive(Debug, Clone, Copy, PartialEq, Eq)]
+pub enum RunError {
+    /// No memory for a line or for the answers.
+    Memory,
+    /// The reader failed.
+    Read,
+    /// The writer failed.
+    Write,
+}
+
+/// Reads all there is, and writes the answer to each line.
+///
+/// On `Ok` the report of all the input is written. On `Read` the answers to the lines that ended
+/// before the failure are, on `Memory` those to the first lines, whole, and on `Write` a beginning of
+/// the report of what was read.
+///
+/// ```rust
+/// let mut reader = Reading::new(b"3 KB\n12\n\n".as_slice());
+/// let mut writer = Writing::new(Vec::new(alloc));
+/// let result = run(alloc, &mut reader, &mut writer, Kind::Byte);
+/// // Ok(()), and the writer has "3000\n12\nno value\n"
+/// ```
+pub fn run<R: Read, W: Write>(
+    alloc: Global,
+    reader: &mut Reading<R>,
+    writer: &mut Writing<W>,
+    kind: Kind,
+) -> Result<(), RunError>
+    ensures run { IsRun kind (R.remaining (reader_of reader.old)) (R.remaining (reader_of reader.new))
+        (W.contents (writer_of writer.old)) (W.contents (writer_of writer.new)) result }
+    ensures end { OnOk result (IsAtEnd (R.remaining (reader_of reader.new))) }
+    ensures read_failed { IsErrOf result RunError.Read → IsTrue (reading_failed reader.new) }
+    ensures write_failed { IsErrOf result RunError.Write → IsTrue (writing_failed writer.new) }
+{
+    run_in(&alloc, reader, writer, kind)
+}
+
+/// [`run`] over any allocator.
+pub fn run_in<A: Allocator, R: Read, W: Write>(
+    alloc: &A,
+    reader: &mut Reading<R>,
+    writer: &mut Writing<W>,
+    kind: Kind,
+) -> Result<(), RunError>
+    ensures run { IsRun kind (R.remaining (reader_of reader.old)) (R.remaining (reader_of reader.new))
+        (W.contents (writer_of writer.old)) (W.contents (writer_of writer.new)) result }
+    ensures end { OnOk result (IsAtEnd (R.remaining (reader_of reader.new))) }
+    ensures read_failed { IsErrOf result RunError.Read → IsTrue (reading_failed reader.new) }
+    ensures write_failed { IsErrOf result RunError.Write → IsTrue (writing_failed writer.new) }
+{
+    let mut buffer = [0u8; CHUNK];
+    run_with(alloc, &mut buffer, reader, writer, kind)
+}
+
+/// [`run`] with reads of at most this buffer's length.
+pub(crate) fn run_with<A: Allocator, R: Read, W: Write>(
+    alloc: &A,
+    buffer: &mut [u8],
+    reader: &mut Reading<R>,
+    writer: &mut Writing<W>,
+    kind: Kind,
+) -> Result<(), RunError>
+    requires { 0 < length buffer.old }
+    ensures run { IsRun kind (R.remaining (reader_of reader.old)) (R.remaining (reader_of reader.new))
+        (W.contents (writer_of writer.old)) (W.contents (writer_of writer.new)) result }
+    ensures end { OnOk result (IsAtEnd (R.remaining (reader_of reader.new))) }
+    ensures read_failed { IsErrOf result RunError.Read → IsTrue (reading_failed reader.new) }
+    ensures write_failed { IsErrOf result RunError.Write → IsTrue (writing_failed writer.new) }
+{
+    // What a failing writer took begins a report, and a report answers the unanswered lines too.
+    each_line_has_an_answer(kind);
+    let mut line = Vec::new(alloc);
+    let mut out = Vec::new(alloc);
+    'reads: loop {
+        match reader.read(buffer) {
+            None => return Err(RunError::Read),
+            Some(0) => break 'reads,
+            Some(n) => match answer_piece(&mut line, &buffer[..n], kind, &mut out, writer) {
+                Ok(()) => {}
+                Err(e) => return Err(e),
+            },
+        }
+    }
+    if line.is_empty() {
+        Ok(())
+    } else {
+        answer_last(&line, kind, &mut out, writer)
+    }
+}
+
+/// Answers the lines that end in these bytes, and writes the answers.
+fn answer_piece<A: Allocator, W: Write>(
+    line: &mut Vec<u8, A>,
+    bytes: &[u8],
+    kind: Kind,
+    out: &mut Vec<u8, A>,
+    writer: &mut Writing<W>,
+) -> Result<(), RunError>
+    requires { out.old.items ≡ [] }
+    ensures written { (written : List ℕ)
+        × Appends (W.contents (writer_of writer.old)) (W.contents (writer_of writer.new)) written
+        × IsAnswered kind (ended_by line.old.items bytes.now) result written }
+    ensures line { OnOk result (line.new.items ≡ begun_by line.old.items bytes.now) }
+    ensures out { OnOk result (out.new.items ≡ []) }
+    ensures failed { IsErrOf result RunError.Write → IsTrue (writing_failed writer.new) }
+{
+    let fed = feed(line, bytes, kind, out);
+    // The answers to the lines before a refusal are written too.
+    write_whole(writer, out)?;
+    out.clear();
+    match fed {
+        Ok(()) => Ok(()),
+        Err(_) => Err(RunError::Memory),
+    }
+}
+
+/// Answers a last line that no line end ends.
+fn answer_last<A: Allocator, W: Write>(
+    line: &[u8],
+    kind: Kind,
+    out: &mut Vec<u8, A>,
+    writer: &mut Writing<W>,
+) -> Result<(), RunError>
+    requires { out.old.items ≡ [] }
+    ensures written { (written : List ℕ)
+        × Appends (W.contents (writer_of writer.old)) (W.contents (writer_of writer.new)) written
+        × IsLineAnswered kind line.now result written }
+    ensures failed { IsErrOf result RunError.Write → IsTrue (writing_failed writer.new) }
+{
+    match append_answer(line, kind, out) {
+        Ok(()) => write_whole(writer, out),
+        Err(_) => Err(RunError::Memory),
+    }
+}
+
+/// Adds the answers to the lines that end in these bytes. `line` is what has come of the first, and
+/// then of the next.
+fn feed<A: Allocator>(
+    line: &mut Vec<u8, A>,
+    bytes: &[u8],
+    kind: Kind,
+    out: &mut Vec<u8, A>,
+) -> Result<(), AllocError>
+    ensures out { AddsFirst kind (ended_by line.old.items bytes.now) out.old.items out.new.items }
+    ensures ok { OnOk result (AddsAnswers kind (ended_by line.old.items bytes.now) out.old.items out.new.items) }
+    ensures line { OnOk result (line.new.items ≡ begun_by line.old.items bytes.now) }
+{
+    let mut rest = bytes;
+    while let Some(n) = end_of(rest) {
+        answer_line(line, &rest[..n], kind, out)?;
+        rest = &rest[n + 1..];
+    }
+    line.extend_from_slice(rest)
+}
+
+/// Adds the answer to the line that ends with these bytes. `line` is what has come of it before.
+fn answer_line<A: Allocator>(
+    line: &mut Vec<u8, A>,
+    bytes: &[u8],
+    kind: Kind,
+    out: &mut Vec<u8, A>,
+) -> Result<(), AllocError>
+    ensures ok { OnOk result (AddsAnswer kind (line.old.items ++ bytes.now) out.old.items out.new.items) }
+    ensures err { OnErr result (out.new.items ≡ out.old.items) }
+    ensures line { OnOk result (line.new.items ≡ []) }
+{
+    if line.is_empty() {
+        return append_answer(bytes, kind, out);
+    }
+    line.extend_from_slice(bytes)?;
+    append_answer(line, kind, out)?;
+    line.clear();
+    Ok(())
+}
+
+/// How many bytes come before the first line end.
+fn end_of(bytes: &[u8]) -> Option<usize>
+    ensures some { IfSome result (λ n. (n < length bytes.now) × (get_or bytes.now n 0 ≡ line_end)
+        × IsUnbroken (take n bytes.now)) }
+    ensures none { IfNone result (IsUnbroken bytes.now) }
+    ensures small { IfSome result (λ n. n + 1 < 2 ^ 64) }
+{
+    let mut i = 0;
+    while bytes.len() - i >= BLOCK {
+        if bytes[i..i + BLOCK].contains(&LINE_END) {
+            break;
+        }
+        i += BLOCK;
+    }
+    while i < bytes.len() {
+        if bytes[i] == LINE_END {
+            return Some(i);
+        }
+        i += 1;
+    }
+    None
+}
+
+/// Writes all the bytes, call by call.
+fn write_whole<W: Write>(writer: &mut Writing<W>, bytes: &[u8]) -> Result<(), RunError>
+    ensures ok { OnOk result (Appends (W.contents (writer_of writer.old)) (W.contents (writer_of writer.new)) bytes.now) }
+    ensures err { OnErr result ((written : List ℕ)
+        × Appends (W.contents (writer_of writer.old)) (W.contents (writer_of writer.new)) written
+        × IsBeginning written bytes.now) }
+    ensures write { IfErr result (λ e. e ≡ RunError.Write) }
+    ensures failed { OnErr result (IsTrue (writing_failed writer.new)) }
+{
+    let mut rest = bytes;
+    while !rest.is_empty() {
+        match writer.write(rest) {
+            None => return Err(RunError::Write),
+            Some(n) => rest = &rest[n..],
+        }
+    }
+    Ok(())
+}

@@ -1,0 +1,22 @@
+//! The program over memory.
+ghost use Rattle.std.specs.Prelude.{IfOk};
+ghost use Rattle.byte_unit_lines.specs.Report.{IsReport};
+
+use super::*;
+use std::alloc::Global;
+
+mod ends;
+mod rows;
+mod streams;
+
+/// What the program writes for an input in memory.
+fn report_of(alloc: Global, input: &[u8], kind: Kind) -> Result<Vec<u8>, RunError>
+    ensures { IfOk result (λ output. IsReport kind input.now output.items) }
+{
+    let mut reader = Reading::new(input);
+    let mut writer = Writing::new(Vec::new(alloc));
+    match run(alloc, &mut reader, &mut writer, kind) {
+        Ok(()) => Ok(writer.into_inner()),
+        Err(error) => Err(error),
+    }
+}

@@ -1,0 +1,227 @@
+//! Inputs in pieces, and streams that fail.
+use super::streams::{MemoryReader, MemoryWriter, Then};
+use super::*;
+use crate::refusing::Refusing;
+use crate::run::{run_in, run_with};
+use std::io::{Read, Write};
+use std::test::Fail;
+
+const INPUT: &[u8] = b"1.5 KiB\n\n1Kbi\nx\n1YB";
+
+const OUTPUT: &[u8] = b"1536\nno value\nbad unit\nnot a number\n1000000000000000000000000\n";
+
+/// A reader that gives all that it is asked for.
+fn whole(input: &[u8]) -> MemoryReader<'_> {
+    MemoryReader {
+        rest: input,
+        step: input.len(),
+        calls: usize::MAX,
+        then: Then::Fail,
+    }
+}
+
+/// A writer that takes all that it is given.
+fn open(alloc: Global) -> MemoryWriter {
+    MemoryWriter {
+        taken: Vec::new(alloc),
+        step: usize::MAX,
+        calls: usize::MAX,
+        then: Then::Fail,
+    }
+}
+
+/// How a run over these streams ended, and what was written.
+fn ran(
+    alloc: Global,
+    reader: MemoryReader<'_>,
+    writer: MemoryWriter,
+) -> (Result<(), RunError>, Vec<u8>) {
+    let mut reader = Reading::new(reader);
+    let mut writer = Writing::new(writer);
+    let result = run(alloc, &mut reader, &mut writer, Kind::Byte);
+    (result, writer.into_inner().into_taken())
+}
+
+#[test]
+fn each_cut_into_reads(rt: HostRuntime) -> Result<(), Fail> {
+    for step in 1..=INPUT.len() {
+        let mut reader = whole(INPUT);
+        reader.step = step;
+        let (result, taken) = ran(rt.alloc(), reader, open(rt.alloc()));
+        assert_eq!(rt; result, Ok(()));
+        assert_eq!(rt; taken.as_slice(), OUTPUT, "at {step} bytes a read");
+    }
+    for calls in 0..10 {
+        let mut reader = whole(INPUT);
+        reader.step = 2;
+        reader.calls = calls;
+        reader.then = Then::ByteByByte;
+        let (result, taken) = ran(rt.alloc(), reader, open(rt.alloc()));
+        assert_eq!(rt; result, Ok(()));
+        assert_eq!(rt;
+            taken.as_slice(),
+            OUTPUT,
+            "byte by byte after {calls} reads"
+        );
+    }
+    Ok(())
+}
+
+#[test]
+fn each_size_of_buffer(rt: HostRuntime) -> Result<(), Fail> {
+    let mut buffer = [0u8; 32];
+    for size in 1..=buffer.len() {
+        let mut reader = Reading::new(INPUT);
+        let mut writer = Writing::new(Vec::new(rt.alloc()));
+        let result = run_with(
+            &rt.alloc(),
+            &mut buffer[..size],
+            &mut reader,
+            &mut writer,
+            Kind::Byte,
+        );
+        assert_eq!(rt; result, Ok(()));
+        assert_eq!(rt; writer.into_inner().as_slice(), OUTPUT, "at {size}");
+    }
+    Ok(())
+}
+
+#[test]
+fn each_step_of_writing(rt: HostRuntime) -> Result<(), Fail> {
+    for step in 1..=OUTPUT.len() {
+        let mut writer = open(rt.alloc());
+        writer.step = step;
+        let (result, taken) = ran(rt.alloc(), whole(INPUT), writer);
+        assert_eq!(rt; result, Ok(()));
+        assert_eq!(rt; taken.as_slice(), OUTPUT, "at {step} bytes a write");
+    }
+    Ok(())
+}
+
+/// How many line ends are in these bytes.
+fn line_ends(bytes: &[u8]) -> usize {
+    bytes.iter().filter(|byte| **byte == b'\n').count()
+}
+
+/// The first lines of the output.
+fn first_lines(count: usize) -> &'static [u8] {
+    let lines: [&'static [u8]; 5] = [
+        b"",
+        b"1536\n",
+        b"1536\nno value\n",
+        b"1536\nno value\nbad unit\n",
+        b"1536\nno value\nbad unit\nnot a number\n",
+    ];
+    match lines.get(count) {
+        Some(first) => *first,
+        None => OUTPUT,
+    }
+}
+
+#[test]
+fn each_failing_read(rt: HostRuntime) -> Result<(), Fail> {
+    for calls in 0..=INPUT.len() {
+        let mut reader = whole(INPUT);
+        reader.step = 1;
+        reader.calls = calls;
+        let (result, taken) = ran(rt.alloc(), reader, open(rt.alloc()));
+        assert_eq!(rt; result, Err(RunError::Read), "after {calls} reads");
+        let finished = first_lines(line_ends(&INPUT[..calls]));
+        assert_eq!(rt; taken.as_slice(), finished, "after {calls} reads");
+    }
+    Ok(())
+}
+
+#[test]
+fn each_failing_write(rt: HostRuntime) -> Result<(), Fail> {
+    for then in [Then::Fail, Then::TakeNothing] {
+        for calls in 0..OUTPUT.len() {
+            let mut writer = open(rt.alloc());
+            writer.step = 1;
+            writer.calls = calls;
+            writer.then = then;
+            let (result, taken) = ran(rt.alloc(), whole(INPUT), writer);
+            assert_eq!(rt; result, Err(RunError::Write), "after {calls} writes");
+            assert_eq!(rt; taken.as_slice(), &OUTPUT[..calls]);
+        }
+    }
+    Ok(())
+}
+
+#[test]
+fn each_refused_request(rt: HostRuntime) -> Result<(), Fail> {
+    // The answers are gathered in 8, 16, 32 and 64 bytes, and then the line that has begun is kept.
+    for number in 1..=5u64 {
+        for last in [number, u64::MAX] {
+            let heap = Refusing::new(rt.alloc(), number, last);
+            let mut reader = Reading::new(INPUT);
+            let mut writer = Writing::new(open(rt.alloc()));
+            let result = run_in(&heap, &mut reader, &mut writer, Kind::Byte);
+            let taken = writer.into_inner().into_taken();
+            assert_eq!(rt; result, Err(RunError::Memory), "at {number}");
+            assert_eq!(rt;
+                taken.as_slice(),
+                first_lines(number as usize - 1),
+                "at {number}"
+            );
+            assert_eq!(rt; heap.asked(), number);
+        }
+    }
+    let heap = Refusing::new(rt.alloc(), 6, u64::MAX);
+    let mut reader = Reading::new(INPUT);
+    let mut writer = Writing::new(open(rt.alloc()));
+    assert_eq!(rt; run_in(&heap, &mut reader, &mut writer, Kind::Byte), Ok(()));
+    assert_eq!(rt; writer.into_inner().into_taken().as_slice(), OUTPUT);
+    assert_eq!(rt; heap.asked(), 5);
+    Ok(())
+}
+
+#[test]
+fn failing_after_a_piece(rt: HostRuntime) -> Result<(), Fail> {
+    let mut reader = whole(b"1KB\n2K");
+    reader.calls = 1;
+    let (result, taken) = ran(rt.alloc(), reader, open(rt.alloc()));
+    assert_eq!(rt; result, Err(RunError::Read));
+    assert_eq!(rt; taken.as_slice(), b"1000\n".as_slice());
+    for then in [Then::Fail, Then::TakeNothing] {
+        let mut writer = open(rt.alloc());
+        writer.step = 3;
+        writer.calls = 1;
+        writer.then = then;
+        let (result, taken) = ran(rt.alloc(), whole(b"1KB"), writer);
+        assert_eq!(rt; result, Err(RunError::Write));
+        assert_eq!(rt; taken.as_slice(), b"100".as_slice());
+    }
+    Ok(())
+}
+
+#[test]
+fn a_failure_is_remembered(rt: HostRuntime) -> Result<(), Fail> {
+    let mut reader = Reading::new(MemoryReader {
+        rest: b"1KB",
+        step: 1,
+        calls: 1,
+        then: Then::Fail,
+    });
+    let mut buffer = [0u8; 8];
+    assert_eq!(rt; reader.read(&mut buffer), Some(1));
+    assert!(rt; !reader.failed());
+    assert_eq!(rt; reader.read(&mut buffer), None);
+    assert!(rt; reader.failed());
+    let mut inner = reader.into_inner();
+    inner.then = Then::ByteByByte;
+    assert_eq!(rt; inner.read(&mut buffer)?, 1);
+
+    let mut writer = open(rt.alloc());
+    writer.calls = 1;
+    let mut writer = Writing::new(writer);
+    assert_eq!(rt; writer.write(b"12"), Some(2));
+    assert!(rt; !writer.failed());
+    assert_eq!(rt; writer.write(b"34"), None);
+    assert!(rt; writer.failed());
+    let mut inner = writer.into_inner();
+    inner.then = Then::ByteByByte;
+    assert_eq!(rt; inner.write(b"56")?, 1);
+    assert_eq!(rt; inner.taken.as_slice(), b"125".as_slice());
+    Ok(())
+}

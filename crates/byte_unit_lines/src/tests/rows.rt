@@ -1,0 +1,126 @@
+//! Lines and their answers.
+use super::*;
+use std::process::Abort;
+use std::str;
+use std::test::Fail;
+
+/// Each input gives its output.
+fn give(rt: &impl Abort, alloc: Global, kind: Kind, rows: &[(&[u8], &str)]) -> Result<(), Fail> {
+    for (input, output) in rows {
+        let report = report_of(alloc, input, kind)?;
+        assert_eq!(rt; str::from_utf8(&report)?, *output);
+    }
+    Ok(())
+}
+
+#[test]
+fn whole_sizes(rt: HostRuntime) -> Result<(), Fail> {
+    let rows: [(&[u8], &str); 4] = [
+        (b"3 KB\n12\n\n", "3000\n12\nno value\n"),
+        (b"9 b\n7 Kb\n  12  \n", "2\n875\n12\n"),
+        (b"1.5 KB\n1 K\n", "1500\n1000\n"),
+        (b"", ""),
+    ];
+    give(&rt, rt.alloc(), Kind::Byte, &rows)
+}
+
+#[test]
+fn fractions(rt: HostRuntime) -> Result<(), Fail> {
+    let rows: [(&[u8], &str); 2] = [
+        (
+            b"1.5 KiB\n1.\n1kb\n1zb\n1 K\n",
+            "1536\nnot a number\n125\n125000000000000000000\n1000\n",
+        ),
+        (
+            b"1.5 KiB\n\n1Kbi\nx\n1YB",
+            "1536\nno value\nbad unit\nnot a number\n1000000000000000000000000\n",
+        ),
+    ];
+    give(&rt, rt.alloc(), Kind::Byte, &rows)
+}
+
+#[test]
+fn bounds(rt: HostRuntime) -> Result<(), Fail> {
+    let rows: [(&[u8], &str); 4] = [
+        (
+            b"999999999999999999999999999\n",
+            "999999999999999999999999999\n",
+        ),
+        (
+            b"999999999999999999999999999.0000000000000000000000000001\n1000 YB\n",
+            "out of range\nout of range\n",
+        ),
+        (
+            b"79228162514264337593543950336\n79228162514264337593543950336 x\n",
+            "number too long\nnumber too long\n",
+        ),
+        (
+            b"18446744073709551615\n18446744073709551616\n",
+            "18446744073709551615\n18446744073709551616\n",
+        ),
+    ];
+    give(&rt, rt.alloc(), Kind::Byte, &rows)
+}
+
+#[test]
+fn faults(rt: HostRuntime) -> Result<(), Fail> {
+    let rows: [(&[u8], &str); 4] = [
+        (
+            b"   \n1\tKB\nx\n-1\n",
+            "no value\nbad unit\nnot a number\nnot a number\n",
+        ),
+        (b"1000 YX\n1KB x\n1 5\n", "bad unit\nbad unit\nbad unit\n"),
+        (b"\xFF\n12\n", "not text\n12\n"),
+        (b"1\xED\xA0\x80\n1\xC0\x80\n", "not text\nnot text\n"),
+    ];
+    give(&rt, rt.alloc(), Kind::Byte, &rows)
+}
+
+#[test]
+fn bits(rt: HostRuntime) -> Result<(), Fail> {
+    let rows: [(&[u8], &str); 1] = [(b"1KiB\n1K\n", "8192\n1000\n")];
+    give(&rt, rt.alloc(), Kind::Bit, &rows)
+}
+
+#[test]
+fn kinds(rt: HostRuntime) -> Result<(), Fail> {
+    let rows: [(&[&str], Option<Kind>); 5] = [
+        (&[], Some(Kind::Byte)),
+        (&["byte"], Some(Kind::Byte)),
+        (&["bit"], Some(Kind::Bit)),
+        (&["bits"], None),
+        (&["bit", "bit"], None),
+    ];
+    for (words, kind) in rows {
+        let mut texts = Vec::new(rt.alloc());
+        for word in words {
+            texts.push(String::from_str(rt.alloc(), word)?)?;
+        }
+        assert_eq!(rt; kind_of(&texts), kind, "for {words:?}");
+    }
+    Ok(())
+}
+
+#[test]
+fn words_of_failures(rt: HostRuntime) {
+    assert_eq!(rt; fault_words(RunError::Read), "read failed");
+    assert_eq!(rt; fault_words(RunError::Write), "write failed");
+    assert_eq!(rt; fault_words(RunError::Memory), "out of memory");
+}
+
+#[test]
+fn many_lines_and_long_lines(rt: HostRuntime) -> Result<(), Fail> {
+    let mut input = Vec::new(rt.alloc());
+    let mut output = String::new(rt.alloc());
+    for _ in 0..1000 {
+        input.extend_from_slice(b"1KB\n")?;
+        output.push_str("1000\n")?;
+    }
+    for _ in 0..10000 {
+        input.push(b'0')?;
+    }
+    input.extend_from_slice(b"1\n")?;
+    output.push_str("1\n")?;
+    let rows: [(&[u8], &str); 1] = [(&input, &output)];
+    give(&rt, rt.alloc(), Kind::Byte, &rows)
+}

@@ -1,0 +1,91 @@
+//! A reader and a writer over memory, which go in steps and change their ways after some calls.
+use std::io::{self, Error, ErrorKind, Read, Write};
+
+/// What a stream does from a call on.
+#[derive(Clone, Copy)]
+pub enum Then {
+    /// It fails.
+    Fail,
+    /// It takes nothing. A reader says that it is at its end.
+    TakeNothing,
+    /// It goes byte by byte.
+    ByteByByte,
+}
+
+/// Gives at most `step` bytes a call, for some calls.
+#[derive(Drop)]
+pub struct MemoryReader<'a> {
+    pub rest: &'a [u8],
+    pub step: usize,
+    pub calls: usize,
+    pub then: Then,
+}
+
+impl<'a> MemoryReader<'a> {
+    fn gives(&mut self) -> io::Result<usize> {
+        if self.calls > 0 {
+            self.calls -= 1;
+            return Ok(self.step);
+        }
+        match self.then {
+            Then::Fail => Err(Error::from(ErrorKind::Other)),
+            Then::TakeNothing => Ok(0),
+            Then::ByteByByte => Ok(1),
+        }
+    }
+}
+
+impl<'a> Read for MemoryReader<'a> {
+    fn read(&mut self, buf: &mut [u8]) -> io::Result<usize> {
+        let n = self.gives()?.min(self.rest.len()).min(buf.len());
+        let (front, rest) = self.rest.split_at(n);
+        buf[..n].copy_from_slice(front);
+        self.rest = rest;
+        Ok(n)
+    }
+}
+
+/// Takes at most `step` bytes a call, for some calls.
+#[derive(Drop)]
+pub struct MemoryWriter {
+    pub taken: Vec<u8>,
+    pub step: usize,
+    pub calls: usize,
+    pub then: Then,
+}
+
+impl MemoryWriter {
+    fn takes(&mut self) -> io::Result<usize> {
+        if self.calls > 0 {
+            self.calls -= 1;
+            return Ok(self.step);
+        }
+        match self.then {
+            Then::Fail => Err(Error::from(ErrorKind::Other)),
+            Then::TakeNothing => Ok(0),
+            Then::ByteByByte => Ok(1),
+        }
+    }
+
+    pub fn into_taken(self) -> Vec<u8> {
+        let MemoryWriter {
+            taken,
+            step: _,
+            calls: _,
+            then: _,
+        } = self;
+        taken
+    }
+}
+
+impl Write for MemoryWriter {
+    fn write(&mut self, bytes: &[u8]) -> io::Result<usize> {
+        let n = self.takes()?.min(bytes.len());
+        self.taken.extend_from_slice(&bytes[..n])?;
+        Ok(n)
+    }
+
+    fn flush(&mut self) -> io::Result<()> {
+        Ok(())
+    }
+}
