@@ -17,7 +17,7 @@ use Rattle.byte_unit_base.proofs.Choosing.{some_bits}
 use Rattle.byte_unit_base.specs.declared.kind.Kind.{Kind}
 use Rattle.byte_unit_base.specs.declared.format.spec.FormatSpec.{FormatSpec}
 use Rattle.byte_unit_base.specs.Kinds.{bits_in}
-use Rattle.byte_unit_base.specs.Layout.{layout}
+use Rattle.byte_unit_base.specs.Layout.{layout, layout_of}
 use Rattle.byte_unit_base.specs.Adjusted.{IsAdjustedNumeral, IsShortNumeral, IsRoundNumeral, IsAdjustedForm, is_single}
 use Rattle.byte_unit_base.specs.FormLaws.{HasOneAdjustedForm}
 use Rattle.byte_unit_base.proofs.WrittenForms.{all_places}
@@ -34,6 +34,11 @@ adjusted_short precision alternate single num den p r n d e ep ea er h de ne =
     let Q : Bool → Type 0 = λ b. IsAdjustedNumeral (Some p) b single num den (text_of (padded n d)) in
     let R : ℕ → Type 0 = λ k. IsShortNumeral num den k (text_of (padded n d)) in
     subst P (sym ep) (subst Q (sym ea) (subst R er (short_case num den r n d e h de ne)))
+
+pub adjusted_unset : (precision : Option ℕ) (alternate single : Bool) (num den n : ℕ) (d e : Finite) → precision ≡ None → IsExpansion num den e → d ≡ e → n ≡ length e.digits → IsAdjustedNumeral precision alternate single num den (text_of (padded n d))
+adjusted_unset precision alternate single num den n d e ep h de ne =
+    let P : Option ℕ → Type 0 = λ o. IsAdjustedNumeral o alternate single num den (text_of (padded n d)) in
+    subst P (sym ep) (e, h, ap (λ x. text_of (padded n x)) de ∙ all_places e n ne)
 
 pub adjusted_whole : (precision : Option ℕ) (alternate single : Bool) (num den p n : ℕ) (d e : Finite) → precision ≡ Some p → alternate ≡ false → single ≡ true → IsExpansion num den e → d ≡ e → n ≡ length e.digits → IsAdjustedNumeral precision alternate single num den (text_of (padded n d))
 adjusted_whole precision alternate single num den p n d e ep ea es h de ne =
@@ -130,13 +135,10 @@ has_one_adjusted_form kind size unit spec =
 
 -- the text that is written
 
-abbrev pub adjusted_text : Finite → ℕ → Shape → FormatSpec → List ℕ
-adjusted_text e places unit spec = layout (text_of (padded places e)) (name current unit) spec
-
-pub adjusted_form : (kind : Kind) (size : ℕ) (unit : Shape) (spec : FormatSpec) (e : Finite) (places : ℕ) → IsAdjustedNumeral spec.precision spec.alternate (is_single unit) (size * bits_in kind) (bits unit) (text_of (padded places e)) → IsAdjustedForm current kind size unit spec (adjusted_text e places unit spec)
+pub adjusted_form : (kind : Kind) (size : ℕ) (unit : Shape) (spec : FormatSpec) (e : Finite) (places : ℕ) → IsAdjustedNumeral spec.precision spec.alternate (is_single unit) (size * bits_in kind) (bits unit) (text_of (padded places e)) → IsAdjustedForm current kind size unit spec (layout_of current e places unit spec)
 adjusted_form kind size unit spec e places h = record { number = text_of (padded places e); number_is = h; text_is = refl }
 
 -- each form is as long
-pub adjusted_length : (kind : Kind) (size : ℕ) (unit : Shape) (spec : FormatSpec) (e : Finite) (places : ℕ) → IsAdjustedNumeral spec.precision spec.alternate (is_single unit) (size * bits_in kind) (bits unit) (text_of (padded places e)) → (form : List ℕ) → IsAdjustedForm current kind size unit spec form → length form ≡ length (adjusted_text e places unit spec)
+pub adjusted_length : (kind : Kind) (size : ℕ) (unit : Shape) (spec : FormatSpec) (e : Finite) (places : ℕ) → IsAdjustedNumeral spec.precision spec.alternate (is_single unit) (size * bits_in kind) (bits unit) (text_of (padded places e)) → (form : List ℕ) → IsAdjustedForm current kind size unit spec form → length form ≡ length (layout_of current e places unit spec)
 adjusted_length kind size unit spec e places h form k =
-    ap length (one_adjusted kind size unit spec form (adjusted_text e places unit spec) k (adjusted_form kind size unit spec e places h))
+    ap length (one_adjusted kind size unit spec form (layout_of current e places unit spec) k (adjusted_form kind size unit spec e places h))

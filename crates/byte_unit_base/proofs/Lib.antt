@@ -32,4 +32,5 @@ pub mod WrittenForms
 pub mod SomeForm
 pub mod ReadBack
 pub mod AdjustedForms
+pub mod ShownForms
 pub mod AdjustedStrings

@@ -13,7 +13,7 @@ use Rattle.byte_unit_base.specs.Choice.{IsRecovered}
 use Rattle.byte_unit_base.specs.declared.kind.Kind.{Kind}
 use Rattle.byte_unit_base.specs.declared.format.spec.FormatSpec.{FormatSpec}
 use Rattle.byte_unit_base.specs.Kinds.{own_family}
-use Rattle.byte_unit_base.specs.Layout.{layout}
+use Rattle.byte_unit_base.specs.Layout.{layout, layout_of}
 use Rattle.byte_unit_base.specs.Plain.{plain}
 use Rattle.byte_unit_base.specs.Forms.{IsSizeForm, IsText, places_of}
 use Rattle.byte_unit_base.specs.Shown.{shown_fraction, numeral_of}
@@ -74,19 +74,15 @@ one_text kind size spec text other alternate h k =
     let P : Bool → Type 0 = λ b. MatchBool b (IsSizeForm current kind size spec other) (other ≡ plain size spec) in
     one_form kind size spec other text (subst P alternate k) h
 
--- the layout of a decimal with so many places
-abbrev pub shown : Finite → ℕ → Shape → FormatSpec → List ℕ
-shown e places unit spec = layout (text_of (padded places e)) (name current unit) spec
-
-own_shown : (e : Finite) (places : ℕ) (unit : Shape) (spec : FormatSpec) → places ≡ length e.digits → shown e places unit spec ≡ layout (text_of e) (name current unit) spec
+own_shown : (e : Finite) (places : ℕ) (unit : Shape) (spec : FormatSpec) → places ≡ length e.digits → layout_of current e places unit spec ≡ layout (text_of e) (name current unit) spec
 own_shown e places unit spec count = ap (λ t. layout t (name current unit) spec) (all_places e places count)
 
 -- it is the text, where all its places are shown
-pub shown_text : (kind : Kind) (size : ℕ) (spec : FormatSpec) (unit : Shape) (e : Finite) (places : ℕ) → places ≡ length e.digits → spec.alternate ≡ true → IsSizeForm current kind size spec (layout (text_of e) (name current unit) spec) → IsText current kind size spec (shown e places unit spec)
+pub shown_text : (kind : Kind) (size : ℕ) (spec : FormatSpec) (unit : Shape) (e : Finite) (places : ℕ) → places ≡ length e.digits → spec.alternate ≡ true → IsSizeForm current kind size spec (layout (text_of e) (name current unit) spec) → IsText current kind size spec (layout_of current e places unit spec)
 shown_text kind size spec unit e places count alternate h =
-    is_text_form kind size spec (shown e places unit spec) alternate (subst (IsSizeForm current kind size spec) (sym (own_shown e places unit spec count)) h)
+    is_text_form kind size spec (layout_of current e places unit spec) alternate (subst (IsSizeForm current kind size spec) (sym (own_shown e places unit spec count)) h)
 
 -- and each text of the size is as long
-pub shown_length : (kind : Kind) (size : ℕ) (spec : FormatSpec) (unit : Shape) (e : Finite) (places : ℕ) → places ≡ length e.digits → spec.alternate ≡ true → IsSizeForm current kind size spec (layout (text_of e) (name current unit) spec) → (form : List ℕ) → IsText current kind size spec form → length form ≡ length (shown e places unit spec)
+pub shown_length : (kind : Kind) (size : ℕ) (spec : FormatSpec) (unit : Shape) (e : Finite) (places : ℕ) → places ≡ length e.digits → spec.alternate ≡ true → IsSizeForm current kind size spec (layout (text_of e) (name current unit) spec) → (form : List ℕ) → IsText current kind size spec form → length form ≡ length (layout_of current e places unit spec)
 shown_length kind size spec unit e places count alternate h form k =
     ap length (one_text kind size spec (layout (text_of e) (name current unit) spec) form alternate h k ∙ sym (own_shown e places unit spec count))

@@ -1,8 +1,8 @@
 -- The text of a size in a given unit.
-use Rattle.std.specs.Prelude.{◌≡◌, ℕ, ◌*◌, min, Bool, true, false, List, Option, None, Some, ◌==◌}
+use Rattle.std.specs.Prelude.{◌≡◌, ℕ, ◌*◌, min, Bool, true, false, List, ◌++◌, codes, Option, None, Some, ◌==◌}
 use Rattle.byte_unit_math.specs.Finite.{Finite, IsExpansion}
 use Rattle.byte_unit_math.specs.Nearest.{IsNearest}
-use Rattle.byte_unit_math.specs.Numeral.{text_of, numeral, short}
+use Rattle.byte_unit_math.specs.Numeral.{expansion_of, text_of, numeral, short}
 use Rattle.byte_unit_math.specs.declared.expansion.Ties.TheVariants.{Even, Up}
 use Rattle.byte_unit_base.specs.Shape.{Shape, bits}
 use Rattle.byte_unit_base.specs.Edition.{Edition, name}
@@ -43,3 +43,7 @@ pub record IsAdjustedForm (edition : Edition) (kind : Kind) (size : ℕ) (unit :
   pub number : List ℕ
   pub number_is : IsAdjustedNumeral spec.precision spec.alternate (is_single unit) (size * bits_in kind) (bits unit) number
   pub text_is : text ≡ layout number (name edition unit) spec
+
+-- what `Display` writes: the number with all its digits, a space, and the unit's name
+abbrev pub adjusted_text : Edition → Kind → ℕ → Shape → List ℕ
+adjusted_text edition kind size unit = text_of (expansion_of (size * bits_in kind) (bits unit)) ++ codes " " ++ name edition unit

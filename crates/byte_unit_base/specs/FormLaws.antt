@@ -6,7 +6,7 @@ use Rattle.byte_unit_base.specs.Shape.{Shape, bits}
 use Rattle.byte_unit_base.specs.Edition.{Edition}
 use Rattle.byte_unit_base.specs.Accepted.{Accepted, IsRefused}
 use Rattle.byte_unit_base.specs.Fault.{too_long}
-use Rattle.byte_unit_base.specs.Adjusted.{IsAdjustedForm}
+use Rattle.byte_unit_base.specs.Adjusted.{IsAdjustedForm, adjusted_text}
 use Rattle.byte_unit_base.specs.AdjustedString.{IsAdjustedString, IsGreatest}
 use Rattle.byte_unit_base.specs.Forms.{IsSizeForm}
 use Rattle.byte_unit_base.specs.Plain.{plain}
@@ -36,6 +36,10 @@ pub record HasOneAdjustedForm (edition : Edition) (kind : Kind) (size : ℕ) (un
   pub form : List ℕ
   pub is_form : IsAdjustedForm edition kind size unit spec form
   pub one : (other : List ℕ) → IsAdjustedForm edition kind size unit spec other → other ≡ form
+
+-- what `Display` writes of the size in the unit is its form by this spec
+abbrev pub IsShownForm : Edition → Kind → ℕ → Shape → FormatSpec → Type 0
+IsShownForm edition kind size unit spec = IsAdjustedForm edition kind size unit spec (adjusted_text edition kind size unit)
 
 -- the string of the adjusted size has no more digits after the point than a decimal
 abbrev pub FitsDecimal : Edition → Kind → ℕ → Shape → Type 0

@@ -1,5 +1,9 @@
 -- A number with its unit.
 use Rattle.std.specs.Prelude.{ℕ, ◌+◌, ◌-◌, List, ◌++◌, length, Option, None, Some}
+use Rattle.byte_unit_math.specs.Finite.{Finite}
+use Rattle.byte_unit_math.specs.Numeral.{text_of, padded}
+use Rattle.byte_unit_base.specs.Shape.{Shape}
+use Rattle.byte_unit_base.specs.Edition.{Edition, name}
 use Rattle.byte_unit_base.specs.Plain.{missing, spaces}
 use Rattle.byte_unit_base.specs.declared.format.spec.Sign.{Sign}
 use Rattle.byte_unit_base.specs.declared.format.spec.Sign.TheVariants.{Unset, Plus, Minus}
@@ -29,3 +33,7 @@ layout number name spec =
     let pad = layout_padding number name spec in
     let before = before_layout spec.align pad in
     spaces before ++ number ++ spaces (pad - before) ++ spaces (gap_of spec.sign name) ++ name
+
+-- a decimal with exactly so many places, and its unit
+abbrev pub layout_of : Edition → Finite → ℕ → Shape → FormatSpec → List ℕ
+layout_of edition e places unit spec = layout (text_of (padded places e)) (name edition unit) spec

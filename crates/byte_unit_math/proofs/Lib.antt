@@ -4,6 +4,7 @@ pub mod RoundedUp
 pub mod Division
 pub mod Digits
 pub mod Shown
+pub mod ShownDigits
 pub mod Expanding
 pub mod Nearest
 pub mod Cut

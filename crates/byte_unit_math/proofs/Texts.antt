@@ -1,19 +1,21 @@
 -- A decimal is known by its number of places and its number, so each form has one text.
-use Rattle.std.proofs.Common.{◌≡◌, ◌+◌, ◌-◌, ◌*◌, ◌^◌, ◌%◌, ◌<◌, ◌≤◌, ⊎_elim, ℕ, zero, suc, List, [], ◌∷◌, ◌++◌, length, take, get_or, replicate, arith, ap, sym, refl, subst, ◌∙◌, length-append, append-nil}
+use Rattle.std.proofs.Common.{◌≡◌, ◌+◌, ◌-◌, ◌*◌, ◌^◌, ◌/◌, ◌%◌, ◌<◌, ◌≤◌, ⊎_elim, ℕ, zero, suc, List, [], ◌∷◌, ◌++◌, length, take, get_or, replicate, arith, ap, sym, refl, subst, ◌∙◌, length-append, append-nil}
 use Rattle.std.specs.Prelude.{⊤}
 use Rattle.std.specs.List.{All}
 use Rattle.std.proofs.lemmas.List.{length-replicate, take_all}
 use Rattle.std.proofs.lemmas.List.Elements.{All-tail, All-append, All-replicate}
-use Rattle.std.proofs.lemmas.Nat.{pow-add, same_from_place}
-use Rattle.std.proofs.Math.Nat.{eq_of_mul-eq-mul_right, mul-le-mul_right, le_of_mul-le-mul_right}
+use Rattle.std.proofs.lemmas.Nat.{pow-add, div-add-mod', same_from_place}
+use Rattle.std.proofs.Math.Nat.{eq_of_mul-eq-mul_right, mul-div_cancel, mul-le-mul_right, le_of_mul-le-mul_right}
 use Rattle.std.proofs.lemmas.Bool.{cases_lt}
+use Rattle.byte_unit_math.specs.Bounds.{expansion_places, unit_limit}
+use Rattle.byte_unit_math.specs.Exact.{IsExactAt}
 use Rattle.byte_unit_math.specs.Nearest.{distance, IsNearest}
 use Rattle.byte_unit_math.specs.declared.expansion.Ties.{Ties}
 use Rattle.byte_unit_math.specs.declared.expansion.Ties.TheVariants.{Even, Up}
 use Rattle.byte_unit_math.specs.Finite.{Finite, value_of, scaled, IsExpansion}
-use Rattle.byte_unit_math.specs.Numeral.{last_digits, at_places, before, without_zeros, shortened, text_of, numeral, short, padded}
+use Rattle.byte_unit_math.specs.Numeral.{last_digits, at_places, before, without_zeros, shortened, expansion_of, text_of, numeral, short, padded}
 use Rattle.byte_unit_math.proofs.Digits.{ten, value_cons, value_more, length_last, small_last, scaled_places, short_of}
-use Rattle.byte_unit_math.proofs.Expanding.{from_last}
+use Rattle.byte_unit_math.proofs.Expanding.{from_last, powers_end, powers_some}
 use Rattle.byte_unit_math.proofs.Cut.{small_value}
 
 -- one decimal
@@ -173,6 +175,41 @@ same_fraction num den num' den' e some some' same h = record {
   exact = same_product num' den' num den (length e.digits) (scaled e) some' (sym same) h.exact some;
   least = λ p k. h.least p (k.0, same_product num den num' den' p k.0 some same k.1 some');
 }
+
+-- the decimal of a fraction, computed
+
+pub expansion_at : (num den p : ℕ) → 0 < den → IsExactAt num den p → IsExpansion num den (shortened (at_places p (num * 10 ^ p / den)))
+expansion_at num den p some h =
+    let quotient : num * 10 ^ p / den ≡ h.0 = ap (λ n. n / den) h.1 ∙ mul-div_cancel h.0 some in
+    let P : ℕ → Type 0 = λ q. IsExpansion num den (shortened (at_places p q)) in
+    subst P (sym quotient) (same_fraction h.0 (10 ^ p) num den (shortened (at_places p h.0)) (omega (arith, ten p)) some (sym h.1) (short_expansion h.0 p))
+
+exact_behind : (num den p : ℕ) (e : Finite) → IsExpansion num den e → length e.digits ≤ p → IsExactAt num den p
+exact_behind num den p e h few =
+    let len = length e.digits in
+    let power : 10 ^ p ≡ 10 ^ (p - len) * 10 ^ len = ap (λ n. 10 ^ n) (let i : p ≡ (p - len) + len = omega (arith, few) in i) ∙ pow-add 10 (p - len) len in
+    let a = ap (λ n. num * n) power in
+    let b = ap (λ n. n * 10 ^ (p - len)) h.exact in
+    (scaled e * 10 ^ (p - len), omega (arith, a, b))
+
+pub expansion_is : (num den : ℕ) (e : Finite) → 0 < den → IsExpansion num den e → length e.digits ≤ expansion_places → e ≡ expansion_of num den
+expansion_is num den e some h few =
+    one_expansion num den e (expansion_of num den) some h (expansion_at num den expansion_places some (exact_behind num den expansion_places e h few))
+
+pub expansion_there : (num den : ℕ) → 0 < den → IsExactAt num den expansion_places → IsExpansion num den (expansion_of num den)
+expansion_there num den some h = expansion_at num den expansion_places some h
+
+-- the decimal of a division by a unit
+pub expansion_of_parts : (num x y a b whole rest : ℕ) (e : Finite) → x ≡ 2 ^ a → y ≡ 5 ^ b → whole ≡ num / (x * y) → rest ≡ num % (x * y) → 2 ^ a * 5 ^ b ≤ unit_limit → IsExpansion (whole * (x * y) + rest) (x * y) e → e ≡ expansion_of num (2 ^ a * 5 ^ b)
+expansion_of_parts num x y a b whole rest e hx hy hw hr limit h =
+    let den = 2 ^ a * 5 ^ b in
+    let some : 0 < den = omega (arith, powers_some a b) in
+    let unit_is : x * y ≡ den = ap (λ n. n * y) hx ∙ ap (λ n. 2 ^ a * n) hy in
+    let parts : whole * (x * y) + rest ≡ num = ap (λ n. n * (x * y) + rest) hw ∙ (ap (λ n. num / (x * y) * (x * y) + n) hr ∙ div-add-mod' num (x * y)) in
+    let P : ℕ → Type 0 = λ n. IsExpansion n (x * y) e in
+    let Q : ℕ → Type 0 = λ n. IsExpansion num n e in
+    let k : IsExpansion num den e = subst Q unit_is (subst P parts h) in
+    expansion_is num den e some k (k.least expansion_places (powers_end num a b limit))
 
 -- one nearest
 

@@ -1,6 +1,7 @@
 -- Decimals as texts.
-use Rattle.std.specs.Prelude.{ℕ, ◌-◌, ◌+◌, ◌/◌, ◌%◌, ◌^◌, List, [], ◌∷◌, ◌++◌, length, map, take, replicate, zero, suc}
+use Rattle.std.specs.Prelude.{ℕ, ◌-◌, ◌+◌, ◌*◌, ◌/◌, ◌%◌, ◌^◌, List, [], ◌∷◌, ◌++◌, length, map, take, replicate, zero, suc}
 use Rattle.std.specs.Fmt.{decimal}
+use Rattle.byte_unit_math.specs.Bounds.{expansion_places}
 use Rattle.byte_unit_math.specs.Finite.{Finite}
 
 -- the last p digits of a number, zeros in front where it has fewer
@@ -25,6 +26,10 @@ without_zeros (d ∷ ds) = before d (without_zeros ds)
 
 abbrev pub shortened : Finite → Finite
 shortened e = record { whole = e.whole; digits = without_zeros e.digits }
+
+-- the decimal of num / den, cut behind the last place that a size in a unit takes, and without zeros at its end
+abbrev pub expansion_of : ℕ → ℕ → Finite
+expansion_of num den = shortened (at_places expansion_places (num * 10 ^ expansion_places / den))
 
 -- digits as characters
 abbrev pub glyphs : List ℕ → List ℕ

@@ -1,14 +1,17 @@
 //! Finite decimals, digit by digit: a whole part and at most 83 digits after the point.
-ghost use Rattle.std.specs.Prelude.{◌≡◌, ◌≢◌, ◌+◌, ◌-◌, ◌*◌, ◌%◌, ◌^◌, ◌≤◌, ◌<◌, ◌++◌, ℕ, length, take, drop, replicate, slice_index};
+ghost use Rattle.std.specs.Prelude.{◌≡◌, ◌≢◌, ◌+◌, ◌-◌, ◌*◌, ◌%◌, ◌^◌, ◌≤◌, ◌<◌, ◌++◌, ℕ, length, take, drop, replicate, slice_index, Some};
 ghost use Rattle.std.specs.List.{All};
 ghost use Rattle.std.specs.Bool.{MatchBool};
+ghost use Rattle.std.specs.Fmt.{DisplaysOnOk};
 ghost use Rattle.byte_unit_math.specs.Bounds.{bits_limit, expansion_places, one, unit_limit, whole_limit};
 ghost use Rattle.byte_unit_math.specs.Exact.{IsExactAt};
 ghost use Rattle.byte_unit_math.specs.Finite.{IsExpansion, scaled, first};
 ghost use Rattle.byte_unit_math.specs.Nearest.{IsNearest};
+ghost use Rattle.byte_unit_math.specs.Numeral.{expansion_of, glyphs, text_of};
 
 use crate::decimal::{Decimal, ONE};
 use crate::dividing::digit_and_rest;
+use std::fmt;
 use std::marker::Model;
 
 /// The most digits after the point.
@@ -62,7 +65,8 @@ impl Expansion {
     pub fn new(numerator: u128, twos: u32, fives: u32) -> Expansion
         requires small { numerator < bits_limit }
         requires den { 2 ^ twos * 5 ^ fives ≤ unit_limit }
-        ensures { IsExpansion numerator (2 ^ twos * 5 ^ fives) result }
+        ensures number { IsExpansion numerator (2 ^ twos * 5 ^ fives) result }
+        ensures one { result ≡ expansion_of numerator (2 ^ twos * 5 ^ fives) }
     {
         let den = power(2, twos) * power(5, fives);
         divide(numerator / den, numerator % den, den)
@@ -226,6 +230,36 @@ impl Expansion {
             }
         }
     }
+}
+
+/// The whole part, and where there are digits after the point a point and them.
+///
+/// ```text
+/// Expansion::new(13, 3, 0)    1.625
+/// Expansion::new(8, 3, 0)     1
+/// ```
+impl fmt::Display for Expansion {
+    ghost output = { λ e. Some (text_of e) };
+
+    fn fmt<W: fmt::Write>(&self, f: &mut fmt::Formatter<W>) -> fmt::Result {
+        write!(f, "{}", self.whole)?;
+        if self.places > 0 {
+            f.write_str(".")?;
+            write_digits(self, f)?;
+        }
+        Ok(())
+    }
+}
+
+/// The digits after the point, from the first on.
+fn write_digits<W: fmt::Write>(e: &Expansion, f: &mut fmt::Formatter<W>) -> fmt::Result
+    ensures { DisplaysOnOk W.write_str_gives f.old result (Some (glyphs e.now.digits)) f.new }
+{
+    for i in 0..e.places() {
+        let digit = e.digit(i + 1);
+        write!(f, "{digit}")?;
+    }
+    Ok(())
 }
 
 /// A power that is no greater than a unit.

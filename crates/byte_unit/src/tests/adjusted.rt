@@ -162,6 +162,7 @@ fn sizes_whatever_the_units(rt: HostRuntime) -> Result<(), Fail> {
     assert_eq!(rt; Byte::from(decimal), size);
     assert_eq!(rt; Unit::from(decimal), Unit::GB);
     assert_eq!(rt; AdjustedByte::from(size).get_unit(), Unit::KiB);
+    assert_eq!(rt; decimal.to_string(rt.alloc())?.as_str(), "0.000001024 GB");
     match "50.84 MB".parse::<AdjustedByte>() {
         Ok(read) => assert_eq!(rt;
             (read.get_byte(), read.get_unit()),

@@ -5,7 +5,7 @@ ghost use Rattle.std.specs.String.{string_bytes};
 ghost use Rattle.byte_unit_math.specs.Bounds.{bits_limit};
 ghost use Rattle.byte_unit_math.specs.Finite.{IsExpansion};
 ghost use Rattle.byte_unit_math.specs.Nearest.{IsNearest};
-ghost use Rattle.byte_unit_math.specs.Numeral.{text_of, padded};
+ghost use Rattle.byte_unit_math.specs.Numeral.{expansion_of, text_of, padded};
 ghost use Rattle.byte_unit_base.specs.Shape.{bits};
 ghost use Rattle.byte_unit_base.specs.Edition.{current};
 ghost use Rattle.byte_unit_base.specs.Units.{shape_of};
@@ -31,7 +31,11 @@ struct Shown {
     places: u32,
 }
 
-/// How long the text of a size in a unit is. It takes no memory.
+/// How long the text of a size in a unit is. The size is below 10^27. It takes no memory.
+///
+/// ```text
+/// adjusted_len(1536, Kind::Byte, Unit::KB, FormatSpec::PLAIN)  // 8: "1.536 KB"
+/// ```
 pub fn adjusted_len(size: u128, kind: Kind, unit: Unit, spec: FormatSpec) -> usize
     requires { size < current.size_limit }
     ensures exact { (form : List ℕ) → IsAdjustedForm current kind size (shape_of unit) spec form → result ≡ length form }
@@ -43,7 +47,8 @@ pub fn adjusted_len(size: u128, kind: Kind, unit: Unit, spec: FormatSpec) -> usi
 
 /// Adds the text of a size in a unit: all its digits where no precision is set or the unit has no prefix, else the nearest
 /// decimal with exactly so many places, to the even digit where two are as near. In the alternate form a precision always
-/// counts, as 16 at most; of two that are as near the greater is taken, and zeros at the end are left out.
+/// counts, as 16 at most; of two that are as near the greater is taken, and zeros at the end are left out. The size is below
+/// 10^27.
 ///
 /// It asks for memory once at most, before it writes. `AllocError` comes only where the room that the text has left
 /// is less than `adjusted_len`, and leaves the text as it was.
@@ -76,13 +81,13 @@ fn number_in(size: u128, kind: Kind, unit: Unit, spec: FormatSpec) -> Shown
     ensures few { result.places ≤ u16.MAX }
 {
     match spec.precision {
-        None => all_places(exact(size, kind, unit)),
+        None => all_places(number_in_unit(size, kind, unit)),
         Some(precision) => {
             if spec.alternate {
                 let places = u32::from(precision.min(ALTERNATE_PLACES));
                 all_places(nearest(size, kind, unit, places, Ties::Up))
             } else if is_single(unit) {
-                all_places(exact(size, kind, unit))
+                all_places(number_in_unit(size, kind, unit))
             } else {
                 let places = u32::from(precision);
                 Shown {
@@ -109,14 +114,22 @@ fn nearest(size: u128, kind: Kind, unit: Unit, places: u32, ties: Ties) -> Expan
     requires { size < current.size_limit }
     ensures { (q : ℕ) × IsNearest (size * bits_in kind) (bits (shape_of unit)) places ties q × IsExpansion q (10 ^ places) result }
 {
-    exact(size, kind, unit).rounded(places, ties)
+    number_in_unit(size, kind, unit).rounded(places, ties)
 }
 
-/// The size in the unit, with all its digits.
+/// The size in the unit, with all its digits: at most 83 after the point.
+///
+/// The caller owes a size below 10^27.
+///
+/// ```text
+/// number_in_unit(1536, Kind::Byte, Unit::KiB)    1.5
+/// number_in_unit(1, Kind::Bit, Unit::KB)         0.000125
+/// ```
 #[tactic(auto)]
-fn exact(size: u128, kind: Kind, unit: Unit) -> Expansion
+pub fn number_in_unit(size: u128, kind: Kind, unit: Unit) -> Expansion
     requires { size < current.size_limit }
-    ensures { IsExpansion (size * bits_in kind) (bits (shape_of unit)) result }
+    ensures number { IsExpansion (size * bits_in kind) (bits (shape_of unit)) result }
+    ensures one { result ≡ expansion_of (size * bits_in kind) (bits (shape_of unit)) }
 {
     let (twos, fives) = unit.powers();
     Expansion::new(size_in_bits(size, kind), twos, fives)

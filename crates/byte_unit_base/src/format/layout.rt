@@ -5,9 +5,9 @@ ghost use Rattle.std.specs.Fmt.{decimal};
 ghost use Rattle.std.specs.String.{string_bytes};
 ghost use Rattle.byte_unit_base.specs.Edition.{name, current};
 ghost use Rattle.byte_unit_base.specs.Units.{shape_of};
-ghost use Rattle.byte_unit_math.specs.Numeral.{glyphs, text_of, padded};
+ghost use Rattle.byte_unit_math.specs.Numeral.{glyphs};
 ghost use Rattle.byte_unit_base.specs.Room.{spare};
-ghost use Rattle.byte_unit_base.specs.Layout.{layout, before_layout, gap_of};
+ghost use Rattle.byte_unit_base.specs.Layout.{layout, layout_of, before_layout, gap_of};
 ghost use Rattle.byte_unit_base.specs.Shown.{numeral_of, shown_fraction};
 
 use crate::format::digits::Digits;
@@ -27,7 +27,7 @@ const MOST: usize = 83;
 /// layout_len(&Expansion::new(10, 0, 0), 0, Unit::KB, FormatSpec::ALTERNATE)  // 5: "10 KB"
 /// ```
 pub fn layout_len(e: &Expansion, places: u32, unit: Unit, spec: FormatSpec) -> usize
-    ensures exact { result ≡ length (layout (text_of (padded places e.now)) (name current (shape_of unit)) spec) }
+    ensures exact { result ≡ length (layout_of current e.now places (shape_of unit) spec) }
     // A whole part, the point, and the unit with its spaces take no more than 44 columns.
     ensures small { result ≤ max u16.MAX (places + 44) }
 {
@@ -52,10 +52,10 @@ pub fn append_layout<A: Allocator>(
     spec: FormatSpec,
     text: &mut String<A>,
 ) -> Result<(), AllocError>
-    ensures ok { OnOk result (string_bytes text.new ≡ string_bytes text.old ++ layout (text_of (padded places e.now)) (name current (shape_of unit)) spec) }
-    ensures spare { OnOk result (spare text.old ≤ spare text.new + length (layout (text_of (padded places e.now)) (name current (shape_of unit)) spec)) }
+    ensures ok { OnOk result (string_bytes text.new ≡ string_bytes text.old ++ layout_of current e.now places (shape_of unit) spec) }
+    ensures spare { OnOk result (spare text.old ≤ spare text.new + length (layout_of current e.now places (shape_of unit) spec)) }
     ensures err { OnErr result (string_bytes text.new ≡ string_bytes text.old) }
-    ensures room { OnErr result (spare text.old < length (layout (text_of (padded places e.now)) (name current (shape_of unit)) spec)) }
+    ensures room { OnErr result (spare text.old < length (layout_of current e.now places (shape_of unit) spec)) }
 {
     write(e, places, unit, spec, text)
 }
@@ -70,7 +70,7 @@ fn columns(e: &Expansion, places: u32, unit: Unit, spec: FormatSpec) -> usize
     len + padding(len, spec.width)
 }
 
-/// Adds the digits that are shown of a decimal, and its unit.
+/// Adds the digits that are shown of a decimal, and its unit; where memory is refused nothing.
 fn write<A: Allocator>(
     e: &Expansion,
     places: u32,

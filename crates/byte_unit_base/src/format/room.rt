@@ -10,7 +10,8 @@ use std::str;
 /// How many of one character are added at once.
 const RUN: usize = 64;
 
-/// The one request for memory, where the room is not there.
+/// Sees that there is room for so many bytes more. It is the one request for memory of an appending call, and asks for
+/// none where the room is there.
 pub(crate) fn reserve<A: Allocator>(text: &mut String<A>, len: usize) -> Result<(), AllocError>
     ensures bytes { string_bytes text.new ≡ string_bytes text.old }
     ensures ok { OnOk result (len ≤ spare text.new) }

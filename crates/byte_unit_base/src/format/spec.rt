@@ -11,11 +11,11 @@ pub enum Sign {
     Minus,
 }
 
-/// On which side of the columns that are asked for a number stands.
+/// On which side of the columns that are asked for the number stands.
 #[derive(Debug, Clone, Copy, PartialEq, Eq)]
 pub enum Align {
     Left,
-    /// In the middle of a plain text, one column to the left of it where the spaces are odd; a number with a unit stands left.
+    /// In the middle of a plain text, an odd space behind it. A number with a unit stands on the left.
     Center,
     Right,
 }

@@ -2,7 +2,7 @@
 
 ghost use Rattle.byte_unit_base.specs.Edition.{current};
 ghost use Rattle.byte_unit_base.specs.Units.{shape_of};
-ghost use Rattle.byte_unit_base.specs.FormLaws.{ReadsBack, PlainReadsBack, HasOneForm, HasOneAdjustedForm, AdjustedReadsBack};
+ghost use Rattle.byte_unit_base.specs.FormLaws.{ReadsBack, PlainReadsBack, HasOneForm, HasOneAdjustedForm, IsShownForm, AdjustedReadsBack};
 
 use crate::format::FormatSpec;
 use crate::kind::Kind;
@@ -26,6 +26,11 @@ pub fn size_has_one_form(kind: Kind, size: u128, spec: FormatSpec)
 /// A size has one form in each unit under each spec.
 pub fn size_has_one_adjusted_form(kind: Kind, size: u128, unit: Unit, spec: FormatSpec)
     ensures { HasOneAdjustedForm current kind size (shape_of unit) spec }
+{}
+
+/// What `Display` writes of a size in a unit is its form under the plain spec.
+pub fn shown_text_is_plain_form(kind: Kind, size: u128, unit: Unit)
+    ensures { IsShownForm current kind size (shape_of unit) FormatSpec.PLAIN }
 {}
 
 /// What the string of an adjusted size says is read as that size where it has at most 28 digits after the point. Every

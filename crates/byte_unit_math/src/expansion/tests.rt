@@ -2,6 +2,7 @@ ghost use Rattle.std.specs.Prelude.{◌<◌, ◌≤◌};
 ghost use Rattle.byte_unit_math.specs.Bounds.{expansion_places};
 
 use super::*;
+use std::string::ToString;
 use std::test::Fail;
 
 #[test]
@@ -100,6 +101,27 @@ fn rounded_to_even_and_up(rt: HostRuntime) -> Result<(), Fail> {
                 "{mantissa} {ties:?}"
             );
         }
+    }
+    Ok(())
+}
+
+#[test]
+fn printed(rt: HostRuntime) -> Result<(), Fail> {
+    for (numerator, twos, fives, text) in [
+        (13, 3, 0, "1.625"),
+        (8, 3, 0, "1"),
+        (0, 3, 0, "0"),
+        (1, 6, 3, "0.000125"),
+        (1005, 2, 2, "10.05"),
+        (
+            1,
+            83,
+            0,
+            "0.00000000000000000000000010339757656912845935892608650874535669572651386260986328125",
+        ),
+    ] {
+        let e = Expansion::new(numerator, twos, fives);
+        assert_eq!(rt; e.to_string(rt.alloc())?.as_str(), text);
     }
     Ok(())
 }

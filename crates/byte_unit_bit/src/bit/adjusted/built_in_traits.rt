@@ -1,21 +1,37 @@
 //! The traits of std that `AdjustedBit` has.
 
-ghost use Rattle.std.specs.Prelude.{◌≡◌, nat_eq};
+ghost use Rattle.std.specs.Prelude.{◌≡◌, nat_eq, Some};
 ghost use Rattle.std.specs.Cmp.{partial_order_from_own_ties, partial_equiv_from_equiv};
 ghost use Rattle.std.specs.Cmp.Rules.{comparing};
 ghost use Rattle.std.specs.Ordering.{nat_cmp, as_partial_cmp};
 ghost use Rattle.std.proofs.Common.{rules};
 ghost use Rattle.byte_unit_base.specs.Edition.{current};
 ghost use Rattle.byte_unit_base.specs.Units.{shape_of};
+ghost use Rattle.byte_unit_base.specs.Adjusted.{adjusted_text};
 ghost use Rattle.byte_unit_base.specs.Choice.{IsAppropriate};
 ghost use Rattle.byte_unit_base.specs.declared.kind.Kind.TheVariants.{Bit as InBits};
 ghost use Rattle.byte_unit_base.specs.declared.unit.unit_type.UnitType.TheVariants.{Both};
 
 use super::AdjustedBit;
 use crate::bit::Bit;
-use byte_unit_base::{ParseError, Unit, UnitType};
+use byte_unit_base::{Kind, ParseError, Unit, UnitType, format};
 use std::cmp::Ordering;
+use std::fmt;
 use std::str::FromStr;
+
+/// The size in its unit with all its digits, a space and the unit's name: the text by `FormatSpec::PLAIN`.
+impl fmt::Display for AdjustedBit {
+    ghost use Rattle.byte_unit_bit.specs.AdjustedBit.{size_of, unit_of};
+
+    ghost output = { λ a. Some (adjusted_text current InBits (size_of a) (shape_of (unit_of a))) };
+
+    fn fmt<W: fmt::Write>(&self, f: &mut fmt::Formatter<W>) -> fmt::Result {
+        let size = self.get_bit().as_u128();
+        let unit = self.get_unit();
+        let number = format::number_in_unit(size, Kind::Bit, unit);
+        write!(f, "{number} {unit}")
+    }
+}
 
 /// Whether the sizes are equal, whatever the units.
 impl PartialEq for AdjustedBit {

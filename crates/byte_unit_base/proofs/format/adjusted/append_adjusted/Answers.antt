@@ -1,7 +1,9 @@
 use Rattle.std.proofs.Common.{arith}
+use Rattle.byte_unit_base.specs.Edition.{current}
 use Rattle.byte_unit_base.specs.Units.{shape_of}
+use Rattle.byte_unit_base.specs.Layout.{layout_of}
 use Rattle.byte_unit_base.proofs.WrittenForms.{OnOk-map, OnErr-map}
-use Rattle.byte_unit_base.proofs.AdjustedForms.{adjusted_text, adjusted_form, adjusted_length}
+use Rattle.byte_unit_base.proofs.AdjustedForms.{adjusted_form, adjusted_length}
 use Rattle.byte_unit_base.proofs.format.adjusted.append_adjusted.Goals as goal
 
 pub returns-clause-spare : goal.returns-clause-spare
@@ -15,4 +17,4 @@ returns-clause-room g c =
     let unit = shape_of c.args.unit in
     let e = c.number_in-shown.result.decimal in
     let places = c.number_in-shown.result.places in
-    OnErr-map c.append_layout.result _ _ (λ h. (adjusted_text e places unit c.args.spec, adjusted_form c.args.kind c.args.size unit c.args.spec e places c.number_in-shown.ensures.number, h)) c.append_layout.ensures.room
+    OnErr-map c.append_layout.result _ _ (λ h. (layout_of current e places unit c.args.spec, adjusted_form c.args.kind c.args.size unit c.args.spec e places c.number_in-shown.ensures.number, h)) c.append_layout.ensures.room

@@ -10,4 +10,4 @@ pub returns : goal.returns
 returns c =
     let r = c.rounded.ensures in
     let den = bits (shape_of c.args.unit) in
-    (r.0, nearest_of (c.args.size * bits_in c.args.kind) den c.exact.result c.args.places c.args.ties r.0 (omega (arith, some_bits (shape_of c.args.unit))) c.exact.ensures.exact r.1, r.2)
+    (r.0, nearest_of (c.args.size * bits_in c.args.kind) den c.number_in_unit.result c.args.places c.args.ties r.0 (omega (arith, some_bits (shape_of c.args.unit))) c.number_in_unit.ensures.number.exact r.1, r.2)

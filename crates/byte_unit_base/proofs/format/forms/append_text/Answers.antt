@@ -1,6 +1,8 @@
 use Rattle.std.proofs.Common.{arith}
+use Rattle.byte_unit_base.specs.Edition.{current}
 use Rattle.byte_unit_base.specs.Units.{shape_of}
-use Rattle.byte_unit_base.proofs.WrittenForms.{OnOk-map, OnErr-map, shown, shown_text, shown_length}
+use Rattle.byte_unit_base.specs.Layout.{layout_of}
+use Rattle.byte_unit_base.proofs.WrittenForms.{OnOk-map, OnErr-map, shown_text, shown_length}
 use Rattle.byte_unit_base.proofs.format.forms.append_text.Goals as goal
 
 pub returns-then-spec-clause-spare : goal.returns-then-spec-clause-spare
@@ -13,10 +15,10 @@ pub returns-then-spec-clause-room : goal.returns-then-spec-clause-room
 returns-then-spec-clause-room g c =
     let unit = shape_of c.stated-number.result.1 in
     let number = c.stated-number.result.0 in
-    OnErr-map c.append_layout.result _ _ (λ h. (shown number c.places.result unit c.args.spec, shown_text c.args.kind c.args.size c.args.spec unit number c.places.result c.places.ensures.exact c.if-spec.true c.stated-number.ensures, h)) c.append_layout.ensures.room
+    OnErr-map c.append_layout.result _ _ (λ h. (layout_of current number c.places.result unit c.args.spec, shown_text c.args.kind c.args.size c.args.spec unit number c.places.result c.places.ensures.exact c.if-spec.true c.stated-number.ensures, h)) c.append_layout.ensures.room
 
 pub returns-then-spec-clause-ok : goal.returns-then-spec-clause-ok
 returns-then-spec-clause-ok g c =
     let unit = shape_of c.stated-number.result.1 in
     let number = c.stated-number.result.0 in
-    OnOk-map c.append_layout.result _ _ (λ h. (shown number c.places.result unit c.args.spec, shown_text c.args.kind c.args.size c.args.spec unit number c.places.result c.places.ensures.exact c.if-spec.true c.stated-number.ensures, h)) c.append_layout.ensures.ok
+    OnOk-map c.append_layout.result _ _ (λ h. (layout_of current number c.places.result unit c.args.spec, shown_text c.args.kind c.args.size c.args.spec unit number c.places.result c.places.ensures.exact c.if-spec.true c.stated-number.ensures, h)) c.append_layout.ensures.ok
