@@ -19,18 +19,41 @@ fn in_bits(alloc: Global, size: u64, unit: Unit, spec: FormatSpec) -> Result<Str
 }
 
 #[test]
-fn bytes_in_a_unit(rt: HostRuntime) -> Result<(), Fail> {
-    let wide = spec(false, Sign::Plus, Some(2), Some(10), Some(Align::Right));
+fn decimals_carried_through_nines(rt: HostRuntime) -> Result<(), Fail> {
     for (size, unit, spec, text) in [
         (9_996_000, Unit::MB, places(2), "10.00 MB"),
         (9_996_000, Unit::MB, precise(2), "10 MB"),
         (1005, Unit::KB, places(2), "1.00 KB"),
         (1005, Unit::KB, precise(2), "1.01 KB"),
         (1015, Unit::KB, places(2), "1.02 KB"),
+    ] {
+        let made = in_bytes(rt.alloc(), size, unit, spec)?;
+        assert_eq!(rt; made.as_str(), text);
+        let len = Byte::from_u64(size).get_adjusted_unit(unit).text_len(spec);
+        assert_eq!(rt; len, text.len());
+    }
+    Ok(())
+}
+
+#[test]
+fn ties_to_even_and_up(rt: HostRuntime) -> Result<(), Fail> {
+    for (size, unit, spec, text) in [
         (1015, Unit::KB, precise(2), "1.02 KB"),
         (500, Unit::KB, places(0), "0 KB"),
         (500, Unit::KB, precise(0), "1 KB"),
         (1500, Unit::KB, places(0), "2 KB"),
+    ] {
+        let made = in_bytes(rt.alloc(), size, unit, spec)?;
+        assert_eq!(rt; made.as_str(), text);
+        let len = Byte::from_u64(size).get_adjusted_unit(unit).text_len(spec);
+        assert_eq!(rt; len, text.len());
+    }
+    Ok(())
+}
+
+#[test]
+fn small_sizes_whole(rt: HostRuntime) -> Result<(), Fail> {
+    for (size, unit, spec, text) in [
         (999_999, Unit::MB, places(3), "1.000 MB"),
         (999_999, Unit::MB, precise(3), "1 MB"),
         (
@@ -46,10 +69,36 @@ fn bytes_in_a_unit(rt: HostRuntime) -> Result<(), Fail> {
             "0.000000000931322574615478515625 GiB",
         ),
         (1, Unit::MiB, precise(20), "0.0000009536743164 MiB"),
+    ] {
+        let made = in_bytes(rt.alloc(), size, unit, spec)?;
+        assert_eq!(rt; made.as_str(), text);
+        let len = Byte::from_u64(size).get_adjusted_unit(unit).text_len(spec);
+        assert_eq!(rt; len, text.len());
+    }
+    Ok(())
+}
+
+#[test]
+fn small_sizes_rounded(rt: HostRuntime) -> Result<(), Fail> {
+    let wide = spec(false, Sign::Plus, Some(2), Some(10), Some(Align::Right));
+    for (size, unit, spec, text) in [
         (1, Unit::MiB, places(18), "0.000000953674316406 MiB"),
         (1, Unit::MiB, places(19), "0.0000009536743164062 MiB"),
         (3, Unit::Bit, places(2), "24 b"),
         (10_000, Unit::KiB, wide, "  9.77 KiB"),
+    ] {
+        let made = in_bytes(rt.alloc(), size, unit, spec)?;
+        assert_eq!(rt; made.as_str(), text);
+        let len = Byte::from_u64(size).get_adjusted_unit(unit).text_len(spec);
+        assert_eq!(rt; len, text.len());
+    }
+    Ok(())
+}
+
+#[test]
+fn whole_expansions(rt: HostRuntime) -> Result<(), Fail> {
+    let wide = spec(false, Sign::Plus, Some(2), Some(10), Some(Align::Right));
+    for (size, unit, spec, text) in [
         (10_000, Unit::KB, wide, " 10.00  KB"),
         (
             10_000,
@@ -65,6 +114,18 @@ fn bytes_in_a_unit(rt: HostRuntime) -> Result<(), Fail> {
         ),
         (125_952, Unit::KB, FormatSpec::PLAIN, "125.952 KB"),
         (125_952, Unit::KB, places(2), "125.95 KB"),
+    ] {
+        let made = in_bytes(rt.alloc(), size, unit, spec)?;
+        assert_eq!(rt; made.as_str(), text);
+        let len = Byte::from_u64(size).get_adjusted_unit(unit).text_len(spec);
+        assert_eq!(rt; len, text.len());
+    }
+    Ok(())
+}
+
+#[test]
+fn expansions_by_precision(rt: HostRuntime) -> Result<(), Fail> {
+    for (size, unit, spec, text) in [
         (1_500_000, Unit::MiB, places(2), "1.43 MiB"),
         (10_000, Unit::KB, FormatSpec::PLAIN, "10 KB"),
         (1, Unit::YiB, FormatSpec::PLAIN, ONE_BYTE_IN_YIB),
@@ -72,7 +133,7 @@ fn bytes_in_a_unit(rt: HostRuntime) -> Result<(), Fail> {
         let made = in_bytes(rt.alloc(), size, unit, spec)?;
         assert_eq!(rt; made.as_str(), text);
         let len = Byte::from_u64(size).get_adjusted_unit(unit).text_len(spec);
-        assert_eq!(rt; len, text.len(), "{text}");
+        assert_eq!(rt; len, text.len());
     }
     Ok(())
 }

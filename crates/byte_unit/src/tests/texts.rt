@@ -3,7 +3,7 @@ use crate::{Align, Bit, Byte, FormatSpec, Sign, append_plain};
 use std::test::Fail;
 
 #[test]
-fn sizes_in_bytes(rt: HostRuntime) -> Result<(), Fail> {
+fn greatest_and_least_sizes(rt: HostRuntime) -> Result<(), Fail> {
     let wide = spec(true, Sign::Unset, None, Some(10), None);
     let wide_right = spec(true, Sign::Plus, None, Some(10), Some(Align::Right));
     for (size, spec, text) in [
@@ -19,6 +19,17 @@ fn sizes_in_bytes(rt: HostRuntime) -> Result<(), Fail> {
         (Byte::MIN, spec(false, Sign::Plus, None, None, None), "+0"),
         (Byte::from_u64(10_000), wide_right, "    10  KB"),
         (Byte::from_u64(10_240), wide, "10     KiB"),
+    ] {
+        let made = size.to_text(rt.alloc(), spec)?;
+        assert_eq!(rt; made.as_str(), text);
+        assert_eq!(rt; size.text_len(spec), text.len(), "{text}");
+    }
+    Ok(())
+}
+
+#[test]
+fn padded_sizes(rt: HostRuntime) -> Result<(), Fail> {
+    for (size, spec, text) in [
         (
             Byte::from_u64(10_240),
             spec(true, Sign::Unset, None, Some(10), Some(Align::Center)),
@@ -59,6 +70,17 @@ fn sizes_in_bytes(rt: HostRuntime) -> Result<(), Fail> {
             spec(false, Sign::Unset, Some(65_535), None, None),
             "10000",
         ),
+    ] {
+        let made = size.to_text(rt.alloc(), spec)?;
+        assert_eq!(rt; made.as_str(), text);
+        assert_eq!(rt; size.text_len(spec), text.len(), "{text}");
+    }
+    Ok(())
+}
+
+#[test]
+fn sizes_by_precision(rt: HostRuntime) -> Result<(), Fail> {
+    for (size, spec, text) in [
         (
             Byte::from_u64(3_211_776),
             FormatSpec::ALTERNATE,
@@ -75,6 +97,17 @@ fn sizes_in_bytes(rt: HostRuntime) -> Result<(), Fail> {
         (Byte::from_u64(1536), FormatSpec::ALTERNATE, "1.5 KiB"),
         (Byte::from_u64(1088), FormatSpec::ALTERNATE, "1.088 KB"),
         (Byte::from_u64(1088), precise(4), "1.0625 KiB"),
+    ] {
+        let made = size.to_text(rt.alloc(), spec)?;
+        assert_eq!(rt; made.as_str(), text);
+        assert_eq!(rt; size.text_len(spec), text.len(), "{text}");
+    }
+    Ok(())
+}
+
+#[test]
+fn plain_sizes(rt: HostRuntime) -> Result<(), Fail> {
+    for (size, spec, text) in [
         (
             Byte::from_u64(12),
             spec(false, Sign::Minus, None, None, None),
