@@ -1,20 +1,22 @@
 -- Each line has one answer.
-use Rattle.std.proofs.Common.{◌≡◌, ℕ, ◌++◌, ◌∷◌, List, [], true, false, true≢false, inl, inr, ◌⊎◌, refl, sym, ap, ◌∙◌, codes}
-use Rattle.std.specs.Fmt.{decimal}
+use Rattle.std.proofs.Common.{◌≡◌, ℕ, ◌++◌, ◌∷◌, List, [], true, false, true≢false, inl, inr, ◌⊎◌, refl, sym, ap, subst, ◌∙◌, codes}
 use Rattle.std.specs.Str.{IsUtf8, is_utf8}
 use Rattle.std.proofs.lemmas.Str.{IsUtf8-from_is_utf8, is_utf8-from_IsUtf8}
-use Rattle.byte_unit_lines.specs.Answer.{Kind, IsSaidOf, IsAnswer, not_text, size, refused, words_of}
+use Rattle.byte_unit_lines.specs.Answer.{Kind, SaysSize, IsSaidOf, IsAnswer, not_text, size, refused, words_of}
 use Rattle.byte_unit_lines.specs.Report.{AreAnswers}
 use Rattle.byte_unit.specs.Accepted.{Accepted, IsRefused}
 use Rattle.byte_unit.specs.Edition.{current}
 use Rattle.byte_unit.specs.Fault.{Fault}
 use Rattle.byte_unit.specs.SizeLaws.{TextsAreAcceptedOrRefused}
+use Rattle.byte_unit.specs.ChoiceLaws.{EachSizeHasAChoiceOrNone, ChoicesAreOne}
+use Rattle.byte_unit_lines.proofs.Sizes.{some_said, one_saying}
 
-module _ (kind : Kind) (texts : TextsAreAcceptedOrRefused kind) where
+-- a line has an answer
+module _ (kind : Kind) (texts : TextsAreAcceptedOrRefused kind) (choices : EachSizeHasAChoiceOrNone) where
   -- what is said of a text
   text_said : (text : List ℕ) → IsUtf8 text → ((n : ℕ) × Accepted current kind false text n) ⊎ ((fault : Fault) × IsRefused current kind false text fault)
       → (said : List ℕ) × IsSaidOf kind text said
-  text_said text is_text (inl (n, accepted)) = (decimal n, size n is_text accepted refl)
+  text_said text is_text (inl (n, accepted)) = let said = some_said kind choices n in (said.0, size n is_text accepted said.1)
   text_said text is_text (inr (fault, is_refused)) = (words_of fault, refused fault is_text is_refused refl)
 
   line_said : (line : List ℕ) → (said : List ℕ) × IsSaidOf kind line said
@@ -29,13 +31,16 @@ module _ (kind : Kind) (texts : TextsAreAcceptedOrRefused kind) where
       let said = line_said line in
       (said.0 ++ 10 ∷ [], record { said = said.0; is_said = said.1; ended = refl })
 
-  -- and nothing else is said
+-- and no other
+module _ (kind : Kind) (texts : TextsAreAcceptedOrRefused kind) (one_choice : ChoicesAreOne) where
   one_said : (line said other : List ℕ) → IsSaidOf kind line said → IsSaidOf kind line other → said ≡ other
   one_said line said other (not_text not e) (not_text _ f) = e ∙ sym f
   one_said line said other (not_text not e) (size n is_text accepted f) = absurd (not is_text)
   one_said line said other (not_text not e) (refused fault is_text is_refused f) = absurd (not is_text)
   one_said line said other (size n is_text accepted e) (not_text not f) = absurd (not is_text)
-  one_said line said other (size n is_text accepted e) (size m _ also f) = e ∙ ap decimal ((texts false line).one_meaning n m accepted also) ∙ sym f
+  one_said line said other (size n is_text accepted e) (size m _ also f) =
+      let same = (texts false line).one_meaning n m accepted also in
+      one_saying kind one_choice m said other (subst (λ k. SaysSize kind k said) same e) f
   one_said line said other (size n is_text accepted e) (refused fault _ is_refused f) = absurd ((texts false line).not_both n fault accepted is_refused)
   one_said line said other (refused fault is_text is_refused e) (not_text not f) = absurd (not is_text)
   one_said line said other (refused fault is_text is_refused e) (size n _ accepted f) = absurd ((texts false line).not_both n fault accepted is_refused)

@@ -15,14 +15,14 @@ use Rattle.byte_unit_lines.proofs.Answering.{answers_after, answers_one, all_hav
 use Rattle.byte_unit_lines.proofs.Lines.{ended_by-append, begun_by-append, finished_lines_is, lines_of_is, if_any}
 
 -- between two reads: the lines that end in what was read are answered, and the next has begun
-pub record HasServed (kind : Kind) (left rest held holds : Option (List ℕ)) (line out : List ℕ) : Type 0 where
+pub record HasServed (kind : Kind) (left rest held holds : Option (List ℕ)) (line answers : List ℕ) : Type 0 where
   pub read : List ℕ
   pub written : List ℕ
   pub gave : Consumes left rest read
   pub took : Appends held holds written
   pub answered : AreAnswers kind (ended_by [] read) written
   pub begun : line ≡ begun_by [] read
-  pub none_kept : out ≡ []
+  pub none_kept : answers ≡ []
 
 -- the lines of what was read and of a piece after it
 pub ended_more : (read piece line : List ℕ) → line ≡ begun_by [] read → ended_by [] read ++ ended_by line piece ≡ ended_by [] (read ++ piece)

@@ -1,12 +1,29 @@
 -- What is written for one line.
-use Rattle.std.specs.Prelude.{◌≡◌, ℕ, false, List, [], ◌∷◌, ◌++◌, codes}
-use Rattle.std.specs.Fmt.{decimal}
+use Rattle.std.specs.Prelude.{◌≡◌, ℕ, true, false, List, [], ◌∷◌, ◌++◌, None, codes}
 use Rattle.std.specs.Str.{IsUtf8}
 use Rattle.byte_unit_lines.specs.Lines.{line_end}
 use Rattle.byte_unit.specs.Accepted.{Accepted, IsRefused}
 use Rattle.byte_unit.specs.Edition.{current}
 use Rattle.byte_unit.specs.Fault.{Fault, exceeded, not_number, no_value, too_long, bad_unit}
+use Rattle.byte_unit.specs.Forms.{IsText}
+use Rattle.byte_unit.specs.declared.FormatSpec.{FormatSpec}
+use Rattle.byte_unit.specs.declared.Sign.TheVariants.{Unset}
 pub use Rattle.byte_unit.specs.declared.Kind.{Kind}
+
+-- a size by its digits, and a size with a unit; nothing else is asked for
+abbrev pub digits_spec : FormatSpec
+digits_spec = record { alternate = false; sign = Unset; precision = None; width = None; align = None }
+
+abbrev pub unit_spec : FormatSpec
+unit_spec = record { alternate = true; sign = Unset; precision = None; width = None; align = None }
+
+-- a size is said by its digits, and then in the largest unit of its kind that states it exactly
+pub record SaysSize (kind : Kind) (size : ℕ) (said : List ℕ) : Type 0 where
+  pub digits : List ℕ
+  pub form : List ℕ
+  pub is_digits : IsText current kind size digits_spec digits
+  pub is_form : IsText current kind size unit_spec form
+  pub said_is : said ≡ digits ++ codes " = " ++ form
 
 -- the words for a fault of a text
 abbrev pub words_of : Fault → List ℕ
@@ -16,10 +33,10 @@ words_of no_value = codes "no value"
 words_of too_long = codes "number too long"
 words_of (bad_unit _ _ _) = codes "bad unit"
 
--- what is said of a line: that it is no text, the digits of the size that it is read as, or the words for its fault
+-- what is said of a line: that it is no text, the size that it is read as, or the words for its fault
 pub data IsSaidOf (kind : Kind) (line said : List ℕ) : Type 0 where
   not_text : ¬ (IsUtf8 line) → said ≡ codes "not text" → IsSaidOf kind line said
-  size : (n : ℕ) → IsUtf8 line → Accepted current kind false line n → said ≡ decimal n → IsSaidOf kind line said
+  size : (n : ℕ) → IsUtf8 line → Accepted current kind false line n → SaysSize kind n said → IsSaidOf kind line said
   refused : (fault : Fault) → IsUtf8 line → IsRefused current kind false line fault → said ≡ words_of fault → IsSaidOf kind line said
 
 -- what is written for a line: that, and a line end

@@ -1,4 +1,5 @@
 pub mod Answer
+pub mod Answers
 pub mod Arguments
 pub mod FaultWords
 pub mod Laws

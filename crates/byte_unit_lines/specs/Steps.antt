@@ -1,6 +1,7 @@
--- How far a run has come, step by step: for the private functions of `run` and `line`, and for no public contract.
-use Rattle.std.specs.Prelude.{◌≡◌, ℕ, ◌+◌, ◌<◌, List, [], ◌∷◌, ◌++◌, length, ◌==◌, if◌then◌else◌, Result, Ok, Err}
-use Rattle.byte_unit_lines.specs.Answer.{Kind, IsAnswer}
+-- How far a run has come, step by step: for the functions of `run`, `answers` and `line` that no other crate calls, and for no
+-- public contract.
+use Rattle.std.specs.Prelude.{◌≡◌, ℕ, List, [], ◌∷◌, ◌++◌, ◌==◌, if◌then◌else◌, Result, Ok, Err}
+use Rattle.byte_unit_lines.specs.Answer.{Kind, IsSaidOf, IsAnswer}
 use Rattle.byte_unit_lines.specs.Lines.{line_end}
 use Rattle.byte_unit_lines.specs.Report.{AreAnswers}
 use Rattle.byte_unit_lines.specs.Outcome.{IsBeginning, AnswerFirst}
@@ -25,9 +26,9 @@ IsUnbroken bytes = (line : List ℕ) → (ended_by line bytes ≡ []) × (begun_
 abbrev pub AddsAnswer : Kind → List ℕ → List ℕ → List ℕ → Type 0
 AddsAnswer kind line old new = (answer : List ℕ) × IsAnswer kind line answer × (new ≡ old ++ answer)
 
--- a list of this length and capacity has no room for the answer to a line
-abbrev pub IsFullFor : Kind → List ℕ → ℕ → ℕ → Type 0
-IsFullFor kind line len capacity = (answer : List ℕ) × IsAnswer kind line answer × (capacity < len + length answer)
+-- what is said of a line was added at the end
+abbrev pub AddsSaid : Kind → List ℕ → List ℕ → List ℕ → Type 0
+AddsSaid kind line old new = (said : List ℕ) × IsSaidOf kind line said × (new ≡ old ++ said)
 
 -- the answers to these lines were added at the end
 abbrev pub AddsAnswers : Kind → List (List ℕ) → List ℕ → List ℕ → Type 0

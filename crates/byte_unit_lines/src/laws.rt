@@ -12,11 +12,14 @@ pub fn each_line_has_an_answer(kind: Kind)
     ensures { (line : List ℕ) → (out : List ℕ) × IsAnswer kind line out }
 {
     laws::texts_are_accepted_or_refused(kind);
+    laws::each_size_has_a_choice_or_none();
 }
 
 /// Each input has one report. So what a run writes on `Ok` is determined by the bytes that it read.
 pub fn each_input_has_one_report(kind: Kind)
     ensures { (bytes : List ℕ) → IsOneReport kind bytes }
 {
+    each_line_has_an_answer(kind);
     laws::texts_are_accepted_or_refused(kind);
+    laws::choices_are_one();
 }

@@ -1,82 +1,84 @@
 //! The answer to one line.
 
-ghost use Rattle.std.specs.Prelude.{◌≡◌, ◌∷◌, [], ◌++◌, false, OnOk, OnErr, vec_len, vec_capacity};
-ghost use Rattle.std.specs.Fmt.{decimal};
-ghost use Rattle.byte_unit_lines.specs.Answer.{IsAnswer, words_of};
-ghost use Rattle.byte_unit_lines.specs.Lines.{line_end};
-ghost use Rattle.byte_unit_lines.specs.Steps.{AddsAnswer, IsFullFor};
+ghost use Rattle.std.specs.Prelude.{◌≡◌, OnOk};
+ghost use Rattle.std.specs.String.{string_bytes};
 ghost use Rattle.byte_unit.specs.Errors.{size_fault};
-ghost use Rattle.byte_unit.specs.SizeReading.{IsSizeReading};
+ghost use Rattle.byte_unit.specs.declared.Kind.TheVariants.{Byte as InBytes, Bit as InBits};
+ghost use Rattle.byte_unit_lines.specs.Answer.{words_of};
+ghost use Rattle.byte_unit_lines.specs.Steps.{AddsAnswer, AddsSaid};
 
 use crate::arguments::Kind;
-use crate::digits::{ROOM, put_digits};
-use byte_unit::{Bit, Byte, ParseError, ValueParseError};
+use byte_unit::{Bit, Byte, FormatSpec, ParseError, ValueParseError};
 use std::alloc::{AllocError, Allocator};
 use std::str;
 
-/// Adds the answer to a line, with its line end: all of it, or nothing where there is no memory.
+/// Adds the answer to a line, with its line end. Where memory is refused, a part of it may be added.
 ///
-/// Memory is asked for once, and only where there is no room for the answer.
+/// ```text
+/// "1.5 KiB"   "1536 = 1.5 KiB"
+/// "1Kbi"      "bad unit"
+/// ```
 pub(crate) fn append_answer<A: Allocator>(
     line: &[u8],
     kind: Kind,
-    out: &mut Vec<u8, A>,
+    out: &mut String<A>,
 ) -> Result<(), AllocError>
-    ensures ok { OnOk result (AddsAnswer kind line.now out.old.items out.new.items) }
-    ensures err { OnErr result (out.new.items ≡ out.old.items) }
-    ensures full { OnErr result (IsFullFor kind line.now (vec_len out.old) (vec_capacity out.old)) }
+    ensures { OnOk result (AddsAnswer kind line.now (string_bytes out.old) (string_bytes out.new)) }
 {
-    let mut room = [0u8; ROOM];
-    out.extend_from_slice(answer_to(line, kind, &mut room))
+    say(line, kind, out)?;
+    out.push('\n')
 }
 
-/// The answer to a line, with its line end. The digits of a size are put into `room`.
-fn answer_to<'a>(line: &[u8], kind: Kind, room: &'a mut [u8; ROOM]) -> &'a [u8]
-    ensures { IsAnswer kind line.now result.now }
+/// Adds what is said of a line.
+fn say<A: Allocator>(line: &[u8], kind: Kind, out: &mut String<A>) -> Result<(), AllocError>
+    ensures { OnOk result (AddsSaid kind line.now (string_bytes out.old) (string_bytes out.new)) }
 {
     match str::from_utf8(line) {
-        Err(_) => b"not text\n",
-        Ok(text) => match size_of(text, kind) {
-            Ok(size) => size_line(size, room),
-            Err(error) => fault_line(&error),
+        Err(_) => out.push_str("not text"),
+        Ok(text) => match kind {
+            Kind::Byte => say_bytes(text, out),
+            Kind::Bit => say_bits(text, out),
         },
     }
 }
 
-/// The size that a text is read as.
-fn size_of(text: &str, kind: Kind) -> Result<u128, ParseError>
-    ensures { IsSizeReading kind false text.now result }
+/// Adds what is said of a text that is read as bytes.
+fn say_bytes<A: Allocator>(text: &str, out: &mut String<A>) -> Result<(), AllocError>
+    ensures { OnOk result (AddsSaid InBytes text.now (string_bytes out.old) (string_bytes out.new)) }
 {
-    match kind {
-        Kind::Byte => match text.parse::<Byte>() {
-            Ok(size) => Ok(size.as_u128()),
-            Err(error) => Err(error),
-        },
-        Kind::Bit => match text.parse::<Bit>() {
-            Ok(size) => Ok(size.as_u128()),
-            Err(error) => Err(error),
-        },
+    match text.parse::<Byte>() {
+        Ok(size) => {
+            size.append_text(FormatSpec::PLAIN, out)?;
+            out.push_str(" = ")?;
+            size.append_text(FormatSpec::ALTERNATE, out)
+        }
+        Err(error) => out.push_str(fault_words_of(&error)),
     }
 }
 
-/// The digits of a size, and a line end.
-fn size_line(size: u128, room: &mut [u8; ROOM]) -> &[u8]
-    ensures { result.now ≡ decimal size ++ line_end ∷ [] }
+/// Adds what is said of a text that is read as bits.
+fn say_bits<A: Allocator>(text: &str, out: &mut String<A>) -> Result<(), AllocError>
+    ensures { OnOk result (AddsSaid InBits text.now (string_bytes out.old) (string_bytes out.new)) }
 {
-    room[ROOM - 1] = b'\n';
-    let start = put_digits(room, size);
-    &room[start..]
+    match text.parse::<Bit>() {
+        Ok(size) => {
+            size.append_text(FormatSpec::PLAIN, out)?;
+            out.push_str(" = ")?;
+            size.append_text(FormatSpec::ALTERNATE, out)
+        }
+        Err(error) => out.push_str(fault_words_of(&error)),
+    }
 }
 
-/// The words for a text that is refused, and a line end.
-fn fault_line(error: &ParseError) -> &'static [u8]
-    ensures { result.now ≡ words_of (size_fault error.now) ++ line_end ∷ [] }
+/// The words for a text that is refused.
+fn fault_words_of(error: &ParseError) -> &'static str
+    ensures { result.now ≡ words_of (size_fault error.now) }
 {
     match error {
-        ParseError::Value(ValueParseError::ExceededBounds(_)) => b"out of range\n",
-        ParseError::Value(ValueParseError::NotNumber(_)) => b"not a number\n",
-        ParseError::Value(ValueParseError::NoValue) => b"no value\n",
-        ParseError::Value(ValueParseError::NumberTooLong) => b"number too long\n",
-        ParseError::Unit(_) => b"bad unit\n",
+        ParseError::Value(ValueParseError::ExceededBounds(_)) => "out of range",
+        ParseError::Value(ValueParseError::NotNumber(_)) => "not a number",
+        ParseError::Value(ValueParseError::NoValue) => "no value",
+        ParseError::Value(ValueParseError::NumberTooLong) => "number too long",
+        ParseError::Unit(_) => "bad unit",
     }
 }

@@ -1,8 +1,8 @@
 //! Reads lines, and writes for each the size that it states, or why it states none.
 #![tactic(auto)]
 
+mod answers;
 mod arguments;
-mod digits;
 mod laws;
 mod line;
 mod reading;

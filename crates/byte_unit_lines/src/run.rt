@@ -2,14 +2,15 @@
 
 ghost use Rattle.std.specs.Prelude.{◌≡◌, ◌+◌, ◌^◌, ◌<◌, ℕ, List, [], ◌++◌, IsTrue, IsErrOf, IfErr, OnOk, OnErr, IfSome, IfNone, get_or, take, length};
 ghost use Rattle.std.specs.Io.KnownBytes.{Appends, IsAtEnd};
+ghost use Rattle.byte_unit_lines.specs.Answers.{whole_of};
 ghost use Rattle.byte_unit_lines.specs.Lines.{line_end};
 ghost use Rattle.byte_unit_lines.specs.Outcome.{IsBeginning, IsRun};
 ghost use Rattle.byte_unit_lines.specs.Steps.{ended_by, begun_by, IsUnbroken, AddsAnswer, AddsAnswers, AddsFirst, IsAnswered, IsLineAnswered};
 ghost use Rattle.byte_unit_lines.specs.Streams.{reader_of, reading_failed, writer_of, writing_failed};
 
+use crate::answers::Answers;
 use crate::arguments::Kind;
 use crate::laws::each_line_has_an_answer;
-use crate::line::append_answer;
 use crate::reading::Reading;
 use crate::writing::Writing;
 use std::alloc::{AllocError, Allocator, Global};
@@ -97,12 +98,12 @@ pub(crate) fn run_with<A: Allocator, R: Read, W: Write>(
     // What a failing writer took begins a report, and a report answers the unanswered lines too.
     each_line_has_an_answer(kind);
     let mut line = Vec::new(alloc);
-    let mut out = Vec::new(alloc);
+    let mut answers = Answers::new(alloc);
     'reads: loop {
         match reader.read(buffer) {
             None => return Err(RunError::Read),
             Some(0) => break 'reads,
-            Some(n) => match answer_piece(&mut line, &buffer[..n], kind, &mut out, writer) {
+            Some(n) => match answer_piece(&mut line, &buffer[..n], kind, &mut answers, writer) {
                 Ok(()) => {}
                 Err(e) => return Err(e),
             },
@@ -111,7 +112,7 @@ pub(crate) fn run_with<A: Allocator, R: Read, W: Write>(
     if line.is_empty() {
         Ok(())
     } else {
-        answer_last(&line, kind, &mut out, writer)
+        answer_last(&line, kind, &mut answers, writer)
     }
 }
 
@@ -120,21 +121,21 @@ fn answer_piece<A: Allocator, W: Write>(
     line: &mut Vec<u8, A>,
     bytes: &[u8],
     kind: Kind,
-    out: &mut Vec<u8, A>,
+    answers: &mut Answers<A>,
     writer: &mut Writing<W>,
 ) -> Result<(), RunError>
-    requires { out.old.items ≡ [] }
+    requires { whole_of answers.old ≡ [] }
     ensures written { (written : List ℕ)
         × Appends (W.contents (writer_of writer.old)) (W.contents (writer_of writer.new)) written
         × IsAnswered kind (ended_by line.old.items bytes.now) result written }
     ensures line { OnOk result (line.new.items ≡ begun_by line.old.items bytes.now) }
-    ensures out { OnOk result (out.new.items ≡ []) }
+    ensures answers { OnOk result (whole_of answers.new ≡ []) }
     ensures failed { IsErrOf result RunError.Write → IsTrue (writing_failed writer.new) }
 {
-    let fed = feed(line, bytes, kind, out);
+    let fed = feed(line, bytes, kind, answers);
     // The answers to the lines before a refusal are written too.
-    write_whole(writer, out)?;
-    out.clear();
+    write_whole(writer, answers.as_bytes())?;
+    answers.clear();
     match fed {
         Ok(()) => Ok(()),
         Err(_) => Err(RunError::Memory),
@@ -145,17 +146,17 @@ fn answer_piece<A: Allocator, W: Write>(
 fn answer_last<A: Allocator, W: Write>(
     line: &[u8],
     kind: Kind,
-    out: &mut Vec<u8, A>,
+    answers: &mut Answers<A>,
     writer: &mut Writing<W>,
 ) -> Result<(), RunError>
-    requires { out.old.items ≡ [] }
+    requires { whole_of answers.old ≡ [] }
     ensures written { (written : List ℕ)
         × Appends (W.contents (writer_of writer.old)) (W.contents (writer_of writer.new)) written
         × IsLineAnswered kind line.now result written }
     ensures failed { IsErrOf result RunError.Write → IsTrue (writing_failed writer.new) }
 {
-    match append_answer(line, kind, out) {
-        Ok(()) => write_whole(writer, out),
+    match answers.add(line, kind) {
+        Ok(()) => write_whole(writer, answers.as_bytes()),
         Err(_) => Err(RunError::Memory),
     }
 }
@@ -166,15 +167,16 @@ fn feed<A: Allocator>(
     line: &mut Vec<u8, A>,
     bytes: &[u8],
     kind: Kind,
-    out: &mut Vec<u8, A>,
+    answers: &mut Answers<A>,
 ) -> Result<(), AllocError>
-    ensures out { AddsFirst kind (ended_by line.old.items bytes.now) out.old.items out.new.items }
-    ensures ok { OnOk result (AddsAnswers kind (ended_by line.old.items bytes.now) out.old.items out.new.items) }
+    ensures added { AddsFirst kind (ended_by line.old.items bytes.now) (whole_of answers.old) (whole_of answers.new) }
+    ensures ok { OnOk result (AddsAnswers kind (ended_by line.old.items bytes.now)
+        (whole_of answers.old) (whole_of answers.new)) }
     ensures line { OnOk result (line.new.items ≡ begun_by line.old.items bytes.now) }
 {
     let mut rest = bytes;
     while let Some(n) = end_of(rest) {
-        answer_line(line, &rest[..n], kind, out)?;
+        answer_line(line, &rest[..n], kind, answers)?;
         rest = &rest[n + 1..];
     }
     line.extend_from_slice(rest)
@@ -185,17 +187,17 @@ fn answer_line<A: Allocator>(
     line: &mut Vec<u8, A>,
     bytes: &[u8],
     kind: Kind,
-    out: &mut Vec<u8, A>,
+    answers: &mut Answers<A>,
 ) -> Result<(), AllocError>
-    ensures ok { OnOk result (AddsAnswer kind (line.old.items ++ bytes.now) out.old.items out.new.items) }
-    ensures err { OnErr result (out.new.items ≡ out.old.items) }
+    ensures ok { OnOk result (AddsAnswer kind (line.old.items ++ bytes.now) (whole_of answers.old) (whole_of answers.new)) }
+    ensures err { OnErr result (whole_of answers.new ≡ whole_of answers.old) }
     ensures line { OnOk result (line.new.items ≡ []) }
 {
     if line.is_empty() {
-        return append_answer(bytes, kind, out);
+        return answers.add(bytes, kind);
     }
     line.extend_from_slice(bytes)?;
-    append_answer(line, kind, out)?;
+    answers.add(line, kind)?;
     line.clear();
     Ok(())
 }

@@ -8,7 +8,8 @@ use std::test::Fail;
 
 const INPUT: &[u8] = b"1.5 KiB\n\n1Kbi\nx\n1YB";
 
-const OUTPUT: &[u8] = b"1536\nno value\nbad unit\nnot a number\n1000000000000000000000000\n";
+const OUTPUT: &[u8] =
+    b"1536 = 1.5 KiB\nno value\nbad unit\nnot a number\n1000000000000000000000000 = 1 YB\n";
 
 /// A reader that gives all that it is asked for.
 fn whole(input: &[u8]) -> MemoryReader<'_> {
@@ -107,10 +108,10 @@ fn line_ends(bytes: &[u8]) -> usize {
 fn first_lines(count: usize) -> &'static [u8] {
     let lines: [&'static [u8]; 5] = [
         b"",
-        b"1536\n",
-        b"1536\nno value\n",
-        b"1536\nno value\nbad unit\n",
-        b"1536\nno value\nbad unit\nnot a number\n",
+        b"1536 = 1.5 KiB\n",
+        b"1536 = 1.5 KiB\nno value\n",
+        b"1536 = 1.5 KiB\nno value\nbad unit\n",
+        b"1536 = 1.5 KiB\nno value\nbad unit\nnot a number\n",
     ];
     match lines.get(count) {
         Some(first) => *first,
@@ -150,8 +151,12 @@ fn each_failing_write(rt: HostRuntime) -> Result<(), Fail> {
 
 #[test]
 fn each_refused_request(rt: HostRuntime) -> Result<(), Fail> {
-    // The answers are gathered in 8, 16, 32 and 64 bytes, and then the line that has begun is kept.
-    for number in 1..=5u64 {
+    // How many lines are written at the first refusal, the second and so on. The first answer is made by four
+    // requests and kept by one, those after it are kept by two more, then the line that has begun is kept, and the
+    // last answer, which is longer, is made by two.
+    let finished = [0, 0, 0, 0, 0, 1, 2, 4, 4, 4];
+    let mut number = 1u64;
+    for lines in finished {
         for last in [number, u64::MAX] {
             let heap = Refusing::new(rt.alloc(), number, last);
             let mut reader = Reading::new(INPUT);
@@ -159,20 +164,16 @@ fn each_refused_request(rt: HostRuntime) -> Result<(), Fail> {
             let result = run_in(&heap, &mut reader, &mut writer, Kind::Byte);
             let taken = writer.into_inner().into_taken();
             assert_eq!(rt; result, Err(RunError::Memory), "at {number}");
-            assert_eq!(rt;
-                taken.as_slice(),
-                first_lines(number as usize - 1),
-                "at {number}"
-            );
+            assert_eq!(rt; taken.as_slice(), first_lines(lines), "at {number}");
             assert_eq!(rt; heap.asked(), number);
         }
+        number = number.saturating_add(1);
     }
-    let heap = Refusing::new(rt.alloc(), 6, u64::MAX);
+    let heap = Refusing::new(rt.alloc(), number, u64::MAX);
     let mut reader = Reading::new(INPUT);
     let mut writer = Writing::new(open(rt.alloc()));
     assert_eq!(rt; run_in(&heap, &mut reader, &mut writer, Kind::Byte), Ok(()));
     assert_eq!(rt; writer.into_inner().into_taken().as_slice(), OUTPUT);
-    assert_eq!(rt; heap.asked(), 5);
     Ok(())
 }
 
@@ -182,15 +183,15 @@ fn failing_after_a_piece(rt: HostRuntime) -> Result<(), Fail> {
     reader.calls = 1;
     let (result, taken) = ran(rt.alloc(), reader, open(rt.alloc()));
     assert_eq!(rt; result, Err(RunError::Read));
-    assert_eq!(rt; taken.as_slice(), b"1000\n".as_slice());
+    assert_eq!(rt; taken.as_slice(), b"1000 = 1 KB\n".as_slice());
     for then in [Then::Fail, Then::TakeNothing] {
         let mut writer = open(rt.alloc());
-        writer.step = 3;
+        writer.step = 5;
         writer.calls = 1;
         writer.then = then;
         let (result, taken) = ran(rt.alloc(), whole(b"1KB"), writer);
         assert_eq!(rt; result, Err(RunError::Write));
-        assert_eq!(rt; taken.as_slice(), b"100".as_slice());
+        assert_eq!(rt; taken.as_slice(), b"1000 ".as_slice());
     }
     Ok(())
 }

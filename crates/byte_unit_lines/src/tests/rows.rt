@@ -16,9 +16,9 @@ fn give(rt: &impl Abort, alloc: Global, kind: Kind, rows: &[(&[u8], &str)]) -> R
 #[test]
 fn whole_sizes(rt: HostRuntime) -> Result<(), Fail> {
     let rows: [(&[u8], &str); 4] = [
-        (b"3 KB\n12\n\n", "3000\n12\nno value\n"),
-        (b"9 b\n7 Kb\n  12  \n", "2\n875\n12\n"),
-        (b"1.5 KB\n1 K\n", "1500\n1000\n"),
+        (b"3 KB\n12\n\n", "3000 = 3 KB\n12 = 12 B\nno value\n"),
+        (b"9 b\n7 Kb\n  12  \n", "2 = 2 B\n875 = 875 B\n12 = 12 B\n"),
+        (b"1.5 KB\n1 K\n", "1500 = 1.5 KB\n1000 = 1 KB\n"),
         (b"", ""),
     ];
     give(&rt, rt.alloc(), Kind::Byte, &rows)
@@ -29,11 +29,11 @@ fn fractions(rt: HostRuntime) -> Result<(), Fail> {
     let rows: [(&[u8], &str); 2] = [
         (
             b"1.5 KiB\n1.\n1kb\n1zb\n1 K\n",
-            "1536\nnot a number\n125\n125000000000000000000\n1000\n",
+            "1536 = 1.5 KiB\nnot a number\n125 = 125 B\n125000000000000000000 = 125 EB\n1000 = 1 KB\n",
         ),
         (
             b"1.5 KiB\n\n1Kbi\nx\n1YB",
-            "1536\nno value\nbad unit\nnot a number\n1000000000000000000000000\n",
+            "1536 = 1.5 KiB\nno value\nbad unit\nnot a number\n1000000000000000000000000 = 1 YB\n",
         ),
     ];
     give(&rt, rt.alloc(), Kind::Byte, &rows)
@@ -44,7 +44,7 @@ fn bounds(rt: HostRuntime) -> Result<(), Fail> {
     let rows: [(&[u8], &str); 4] = [
         (
             b"999999999999999999999999999\n",
-            "999999999999999999999999999\n",
+            "999999999999999999999999999 = 999999999999999999999999.999 KB\n",
         ),
         (
             b"999999999999999999999999999.0000000000000000000000000001\n1000 YB\n",
@@ -56,7 +56,7 @@ fn bounds(rt: HostRuntime) -> Result<(), Fail> {
         ),
         (
             b"18446744073709551615\n18446744073709551616\n",
-            "18446744073709551615\n18446744073709551616\n",
+            "18446744073709551615 = 18446744073709551.615 KB\n18446744073709551616 = 16 EiB\n",
         ),
     ];
     give(&rt, rt.alloc(), Kind::Byte, &rows)
@@ -70,7 +70,7 @@ fn faults(rt: HostRuntime) -> Result<(), Fail> {
             "no value\nbad unit\nnot a number\nnot a number\n",
         ),
         (b"1000 YX\n1KB x\n1 5\n", "bad unit\nbad unit\nbad unit\n"),
-        (b"\xFF\n12\n", "not text\n12\n"),
+        (b"\xFF\n12\n", "not text\n12 = 12 B\n"),
         (b"1\xED\xA0\x80\n1\xC0\x80\n", "not text\nnot text\n"),
     ];
     give(&rt, rt.alloc(), Kind::Byte, &rows)
@@ -78,7 +78,7 @@ fn faults(rt: HostRuntime) -> Result<(), Fail> {
 
 #[test]
 fn bits(rt: HostRuntime) -> Result<(), Fail> {
-    let rows: [(&[u8], &str); 1] = [(b"1KiB\n1K\n", "8192\n1000\n")];
+    let rows: [(&[u8], &str); 1] = [(b"1KiB\n1K\n", "8192 = 8 Kib\n1000 = 1 Kb\n")];
     give(&rt, rt.alloc(), Kind::Bit, &rows)
 }
 
@@ -114,13 +114,13 @@ fn many_lines_and_long_lines(rt: HostRuntime) -> Result<(), Fail> {
     let mut output = String::new(rt.alloc());
     for _ in 0..1000 {
         input.extend_from_slice(b"1KB\n")?;
-        output.push_str("1000\n")?;
+        output.push_str("1000 = 1 KB\n")?;
     }
     for _ in 0..10000 {
         input.push(b'0')?;
     }
     input.extend_from_slice(b"1\n")?;
-    output.push_str("1\n")?;
+    output.push_str("1 = 1 B\n")?;
     let rows: [(&[u8], &str); 1] = [(&input, &output)];
     give(&rt, rt.alloc(), Kind::Byte, &rows)
 }

@@ -28,7 +28,7 @@ reads-preserved g c =
       took = Appends-trans (contents (writer_of c.args.writer.now)) (contents (writer_of c.reads.writer)) (contents (writer_of c.answer_piece.new.writer)) h.written k.0 h.took k.1;
       answered = answers_more c.args.kind h.read piece c.reads.line.items h.begun h.written k.0 h.answered k.2;
       begun = begun_more h.read piece c.reads.line.items c.answer_piece.new.line.items h.begun c.in-Ok.ensures.line;
-      none_kept = c.in-Ok.ensures.out;
+      none_kept = c.in-Ok.ensures.answers;
     }
 
 pub returns-in-Err-clause-run : goal.returns-in-Err-clause-run
