@@ -34,3 +34,4 @@ pub mod ReadBack
 pub mod AdjustedForms
 pub mod ShownForms
 pub mod AdjustedStrings
+pub mod ShortExpansions

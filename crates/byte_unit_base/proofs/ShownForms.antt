@@ -55,7 +55,7 @@ small Yibit = refl
 small YB = refl
 small YiB = refl
 
-exact_in : (num : ℕ) (unit : UnitName) → IsExactAt num (bits (shape_of unit)) expansion_places
+pub exact_in : (num : ℕ) (unit : UnitName) → IsExactAt num (bits (shape_of unit)) expansion_places
 exact_in num unit = powers_end num (twos (shape_of unit)) (fives (shape_of unit)) (leb-true _ _ (small unit))
 
 -- a number and a name with one space between them

@@ -1,14 +1,13 @@
 -- Each text is accepted as one size or refused by one fault.
-use Rattle.std.proofs.Common.{◌≡◌, ℕ, ◌<◌, ◌≤◌, Bool, List, ◌⊎◌, inl, inr, ⊎_elim, sym, ap, subst, arith, ◌∙◌, refl}
+use Rattle.std.proofs.Common.{◌≡◌, ℕ, Bool, List, ◌⊎◌, inl, inr, ⊎_elim, sym, ap, subst, arith, ◌∙◌, refl}
 use Rattle.std.proofs.lemmas.Bool.{cases_lt}
 use Rattle.byte_unit_base.specs.Shape.{Shape}
 use Rattle.byte_unit_base.specs.Edition.{current}
-use Rattle.byte_unit_base.specs.SizeText.{SizeText, trimmed}
+use Rattle.byte_unit_base.specs.SizeText.{trimmed}
 use Rattle.byte_unit_base.specs.Fault.{Fault, exceeded, SizeFault}
 use Rattle.byte_unit_base.specs.Kinds.{flags_for}
 use Rattle.byte_unit_base.specs.LeastOfKind.{IsLeastOf}
-use Rattle.byte_unit_base.specs.Accepted.{IsRead, Accepted, Exceeds, IsRefused}
-use Rattle.byte_unit_base.specs.Laws.{IsOneAnswer}
+use Rattle.byte_unit_base.specs.Accepted.{IsRead, Accepted, IsRefused}
 use Rattle.byte_unit_base.specs.SizeLaws.{TextsAreAcceptedOrRefused}
 use Rattle.byte_unit_base.specs.declared.kind.Kind.{Kind}
 use Rattle.byte_unit_base.proofs.Rounding.{least_of, least_is_one}

@@ -1,7 +1,8 @@
 -- Laws of the texts of sizes.
-use Rattle.std.specs.Prelude.{◌≡◌, ◌≢◌, ℕ, ◌*◌, ◌<◌, ◌⊎◌, Bool, false, List}
-use Rattle.byte_unit_math.specs.Bounds.{places_of_decimal}
+use Rattle.std.specs.Prelude.{◌≡◌, ◌≢◌, ℕ, ◌-◌, ◌*◌, ◌<◌, ◌≤◌, ◌⊎◌, Bool, false, List, length}
+use Rattle.byte_unit_math.specs.Bounds.{places_of_decimal, expansion_places}
 use Rattle.byte_unit_math.specs.Exact.{IsExactAt}
+use Rattle.byte_unit_math.specs.Finite.{Finite, IsExpansion}
 use Rattle.byte_unit_base.specs.Shape.{Shape, bits}
 use Rattle.byte_unit_base.specs.Edition.{Edition}
 use Rattle.byte_unit_base.specs.Accepted.{Accepted, IsRefused}
@@ -12,6 +13,7 @@ use Rattle.byte_unit_base.specs.Forms.{IsSizeForm}
 use Rattle.byte_unit_base.specs.Plain.{plain}
 use Rattle.byte_unit_base.specs.Kinds.{bits_in}
 use Rattle.byte_unit_base.specs.declared.kind.Kind.{Kind}
+use Rattle.byte_unit_base.specs.declared.kind.Kind.TheVariants.{Byte, Bit as OfBits}
 use Rattle.byte_unit_base.specs.declared.format.spec.FormatSpec.{FormatSpec}
 use Rattle.byte_unit_base.specs.declared.format.spec.Sign.TheVariants.{Plus}
 
@@ -49,3 +51,12 @@ FitsDecimal edition kind size unit = IsGreatest edition size ⊎ IsExactAt (size
 pub record AdjustedReadsBack (edition : Edition) (kind : Kind) (size : ℕ) (unit : Shape) : Type 0 where
   pub accepted : (text : List ℕ) → size < edition.size_limit → IsAdjustedString edition kind size unit text → FitsDecimal edition kind size unit → Accepted edition kind false text size
   pub refused : (text : List ℕ) → size < edition.size_limit → IsAdjustedString edition kind size unit text → (FitsDecimal edition kind size unit → ⊥) → IsRefused edition kind false text too_long
+
+-- the most digits after the point that a size of the kind takes in a unit: a byte is eight bits, and so takes three fewer
+abbrev pub most_places : Kind → ℕ
+most_places Byte = expansion_places - 3
+most_places OfBits = expansion_places
+
+-- the size in the unit has no more digits after the point
+abbrev pub EndsWithin : Kind → ℕ → Shape → Type 0
+EndsWithin kind size unit = (e : Finite) → IsExpansion (size * bits_in kind) (bits unit) e → length e.digits ≤ most_places kind

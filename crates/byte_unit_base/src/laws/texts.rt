@@ -2,7 +2,7 @@
 
 ghost use Rattle.byte_unit_base.specs.Edition.{current};
 ghost use Rattle.byte_unit_base.specs.Units.{shape_of};
-ghost use Rattle.byte_unit_base.specs.FormLaws.{ReadsBack, PlainReadsBack, HasOneForm, HasOneAdjustedForm, IsShownForm, AdjustedReadsBack};
+ghost use Rattle.byte_unit_base.specs.FormLaws.{EndsWithin, ReadsBack, PlainReadsBack, HasOneForm, HasOneAdjustedForm, IsShownForm, AdjustedReadsBack};
 
 use crate::format::FormatSpec;
 use crate::kind::Kind;
@@ -37,4 +37,9 @@ pub fn shown_text_is_plain_form(kind: Kind, size: u128, unit: Unit)
 /// other such string is refused for its 29th digit.
 pub fn adjusted_string_reads_back(kind: Kind, size: u128, unit: Unit)
     ensures { AdjustedReadsBack current kind size (shape_of unit) }
+{}
+
+/// A size in a unit ends within 83 places, and a size in bytes within 80.
+pub fn expansions_end(kind: Kind, size: u128, unit: Unit)
+    ensures { EndsWithin kind size (shape_of unit) }
 {}
