@@ -6,6 +6,7 @@ use super::*;
 use std::alloc::Global;
 
 mod ends;
+mod memory;
 mod rows;
 mod streams;
 

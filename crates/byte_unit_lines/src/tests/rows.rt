@@ -64,7 +64,7 @@ fn bounds(rt: HostRuntime) -> Result<(), Fail> {
 
 #[test]
 fn faults(rt: HostRuntime) -> Result<(), Fail> {
-    let rows: [(&[u8], &str); 4] = [
+    let rows: [(&[u8], &str); 5] = [
         (
             b"   \n1\tKB\nx\n-1\n",
             "no value\nbad unit\nnot a number\nnot a number\n",
@@ -72,6 +72,10 @@ fn faults(rt: HostRuntime) -> Result<(), Fail> {
         (b"1000 YX\n1KB x\n1 5\n", "bad unit\nbad unit\nbad unit\n"),
         (b"\xFF\n12\n", "not text\n12 = 12 B\n"),
         (b"1\xED\xA0\x80\n1\xC0\x80\n", "not text\nnot text\n"),
+        (
+            b"1KB\r\n1\xFF\n1\xC3\n1\x00\n",
+            "1000 = 1 KB\nnot text\nnot text\nbad unit\n",
+        ),
     ];
     give(&rt, rt.alloc(), Kind::Byte, &rows)
 }
