@@ -1,6 +1,6 @@
 use crate::{
-    Bit, Byte, JsonSizeError, JsonUnitError, ParseError, Unit, ValueParseError, unit_from_json,
-    unit_to_json,
+    AdjustedByte, Bit, Byte, JsonSizeError, JsonUnitError, ParseError, Unit, ValueParseError,
+    unit_from_json, unit_to_json,
 };
 use serde_json::Value;
 use std::alloc::{AllocError, Global};
@@ -80,6 +80,97 @@ fn other_values_are_refused(rt: HostRuntime) -> Result<(), Fail> {
             error.to_string(rt.alloc())?.as_str(),
             "the character 'x' is incorrect ('B', 'K', 'M', 'G', 'T', 'P', 'E', 'Z' or 'Y' or no character is expected)"
         ),
+    }
+    Ok(())
+}
+
+/// The JSON string of so many bytes in the unit.
+fn adjusted(alloc: Global, size: Byte, unit: Unit) -> Result<Value, AllocError> {
+    size.get_adjusted_unit(unit).to_json(alloc)
+}
+
+#[test]
+fn adjusted_sizes_read_back(rt: HostRuntime) -> Result<(), Fail> {
+    for (size, unit, text) in [
+        (
+            Byte::from_u64(4),
+            Unit::GiB,
+            "0.0000000037252902984619140625 GiB",
+        ),
+        (Byte::from_u64(1), Unit::MiB, "0.00000095367431640625 MiB"),
+        (Byte::MAX, Unit::YiB, "999999999999999999999999.999 KB"),
+    ] {
+        let value = adjusted(rt.alloc(), size, unit)?;
+        assert_eq!(rt; value.as_str(), Some(text));
+        match AdjustedByte::from_json(&value) {
+            Ok(read) => assert_eq!(rt; read.get_byte(), size),
+            Err(_) => panic!(rt; "refused"),
+        }
+    }
+    let before_last = Byte::MAX.subtract(Byte::BYTE).ok_or("a size")?;
+    let value = adjusted(rt.alloc(), before_last, Unit::KB)?;
+    assert_eq!(rt; value.as_str(), Some("999999999999999999999999.998 KB"));
+    let bits = Bit::from_u64(15_500)
+        .get_adjusted_unit(Unit::Kbit)
+        .to_json(rt.alloc())?;
+    assert_eq!(rt; bits.as_str(), Some("15.5 Kb"));
+    let most = Bit::MAX.get_adjusted_unit(Unit::YiB).to_json(rt.alloc())?;
+    assert_eq!(rt; most.as_str(), Some("999999999999999999999999.999 Kb"));
+    Ok(())
+}
+
+#[test]
+fn adjusted_sizes_with_too_many_places(rt: HostRuntime) -> Result<(), Fail> {
+    for size in [1, 2] {
+        let value = adjusted(rt.alloc(), Byte::from_u64(size), Unit::GiB)?;
+        assert!(rt;
+            matches!(
+                AdjustedByte::from_json(&value),
+                Err(JsonSizeError::Parse(ParseError::Value(ValueParseError::NumberTooLong)))
+            )
+        );
+    }
+    let long = adjusted(rt.alloc(), Byte::from_u64(2), Unit::GiB)?;
+    assert_eq!(rt; long.as_str(), Some("0.00000000186264514923095703125 GiB"));
+    Ok(())
+}
+
+/// A member of an object, or null.
+fn member<'a>(settings: &'a Value, name: &str, null: &'a Value) -> &'a Value {
+    match settings.get(name) {
+        Some(value) => value,
+        None => null,
+    }
+}
+
+#[test]
+fn settings_through_their_text(rt: HostRuntime) -> Result<(), Fail> {
+    let cache = Byte::from_u64(1536);
+    let limit = Bit::from_u64(100_000_000);
+    let cache_text = cache.to_json(rt.alloc())?.to_string(rt.alloc())?;
+    let limit_text = limit.to_json(rt.alloc())?.to_string(rt.alloc())?;
+    let unit_text = unit_to_json(rt.alloc(), Unit::MiB)?.to_string(rt.alloc())?;
+    let shown_text = adjusted(rt.alloc(), cache, Unit::MB)?.to_string(rt.alloc())?;
+    let text = format!(in rt.alloc();
+        "{{\"cache\": {cache_text}, \"limit\": {limit_text}, \"unit\": {unit_text}, \"shown\": {shown_text}}}"
+    )?;
+    let settings = Value::from_str(rt.alloc(), text.as_str())?;
+    let null = Value::Null;
+    match Byte::from_json(member(&settings, "cache", &null)) {
+        Ok(read) => assert_eq!(rt; read, cache),
+        Err(_) => panic!(rt; "{text}"),
+    }
+    match Bit::from_json(member(&settings, "limit", &null)) {
+        Ok(read) => assert_eq!(rt; read, limit),
+        Err(_) => panic!(rt; "{text}"),
+    }
+    match unit_from_json(member(&settings, "unit", &null)) {
+        Ok(read) => assert_eq!(rt; read, Unit::MiB),
+        Err(_) => panic!(rt; "{text}"),
+    }
+    match AdjustedByte::from_json(member(&settings, "shown", &null)) {
+        Ok(read) => assert_eq!(rt; read.get_byte(), cache),
+        Err(_) => panic!(rt; "{text}"),
     }
     Ok(())
 }
