@@ -5,7 +5,6 @@ use Rattle.std.proofs.lemmas.Nat.{pow-add, div_below, mod_below}
 use Rattle.std.proofs.lemmas.Bool.{cases_lt}
 use Rattle.std.proofs.Math.Numerals.{add-one}
 use Rattle.byte_unit_math.specs.Bounds.{one, places_of_decimal, whole_limit}
-use Rattle.byte_unit_math.specs.Decimal.{IsStatedBy}
 use Rattle.byte_unit_math.specs.Exact.{IsExactAt, IsQuotient, IsFirstExact}
 use Rattle.byte_unit_math.proofs.Scales.{power_bounds, power_parts}
 
@@ -129,24 +128,3 @@ pub always_made : (o : Option ℕ) (Q : Type 0) (size unit most rest fraction di
 always_made o Q size unit most rest fraction digits power small last p h made =
     let P : ℕ → Type 0 = λ n. SomeIff o ((size / unit < whole_limit) × (fraction * n < one)) (size / unit * one + fraction * n) in
     IfNone-made o _ Q _ (subst P p made) (whole_fits size unit small, part_below fraction digits (omega (arith, h.few)) h.below)
-
--- the number times the unit is the size
-pub IsQuotient-product : (size unit places N : ℕ) → places ≤ places_of_decimal → IsQuotient size unit places N → N * unit ≡ size * one
-IsQuotient-product size unit places N room h =
-    let n = ap (λ x. x * unit) h.number in
-    let e = ap (λ x. x * 10 ^ (places_of_decimal - places)) h.exact in
-    let p = ap (λ x. size * x) (power_parts places room) in
-    n ∙ omega (arith, e, p)
-
--- the places that state the number are those at which the size is exact
-pub stated_of_exact : (size unit N j : ℕ) → 1 ≤ unit → N * unit ≡ size * one → IsExactAt size unit j → IsStatedBy N j
-stated_of_exact size unit N j some product e =
-    let p = ap (λ x. x * 10 ^ j) product in
-    let q = ap (λ x. x * one) e.1 in
-    (e.0, eq_of_mul-eq-mul_right unit (omega (arith, some)) (N * 10 ^ j) (e.0 * one) (omega (arith, p, q)))
-
-pub exact_of_stated : (size unit N j : ℕ) → N * unit ≡ size * one → IsStatedBy N j → IsExactAt size unit j
-exact_of_stated size unit N j product s =
-    let p = ap (λ x. x * 10 ^ j) product in
-    let q = ap (λ x. x * unit) s.1 in
-    (s.0, eq_of_mul-eq-mul_right one (omega arith) (size * 10 ^ j) (s.0 * unit) (omega (arith, p, q)))

@@ -10,6 +10,7 @@ use Rattle.std.proofs.Math.Nat.{pow-succ', eq_of_mul-eq-mul_right, one-le-pow}
 use Rattle.byte_unit_math.specs.Bounds.{expansion_places, one, places_of_decimal, unit_limit}
 use Rattle.byte_unit_math.specs.Exact.{IsExactAt}
 use Rattle.byte_unit_math.specs.Finite.{value_of, IsExpansion}
+use Rattle.byte_unit_math.proofs.Division.{no_rest}
 
 -- zeros stay behind a digit that is set
 pub zeros_behind_set : (n i d : ℕ) (ds : List ℕ) → drop i ds ≡ replicate (n - i) 0 → drop (i + 1) (set ds i d) ≡ replicate (n - (i + 1)) 0
@@ -40,18 +41,11 @@ some_digit : (rest den digit next : ℕ) → rest ≢ 0 → den * digit + next �
 some_digit rest den zero next h e z = absurd (h (omega (arith, e, z)))
 some_digit rest den (suc digit) next h e z = omega arith
 
-exact_rest : (A den rest q : ℕ) → rest < den → A * den + rest ≡ q * den → rest ≡ 0
-exact_rest A den rest q below e =
-    let a = mod-mul-add A den rest below in
-    let b = mod-mul-add q den 0 (omega (arith, below)) in
-    let c : q * den + 0 ≡ A * den + rest = omega (arith, e) in
-    sym a ∙ (ap (λ n. n % den) (sym c) ∙ b)
-
 module _ (numerator den whole rest places : ℕ) (digits : List ℕ) (inv : IsDividing numerator den whole rest places digits) (ends : IsExactAt numerator den expansion_places) (some : rest ≢ 0) where
   pub more : places < expansion_places
   more = ⊎_elim (λ l. l) (λ k. let full : places ≡ expansion_places = omega (arith, k, inv.few) in
       let P : ℕ → Type 0 = λ p. (whole * 10 ^ p + value_of (take p digits)) * den + rest ≡ numerator * 10 ^ p in
-      absurd (some (exact_rest (whole * 10 ^ expansion_places + value_of (take expansion_places digits)) den rest ends.0 inv.below (subst P full inv.exact ∙ ends.1)))) (cases_lt places expansion_places)
+      absurd (some (no_rest numerator den expansion_places (whole * 10 ^ expansion_places + value_of (take expansion_places digits)) rest (sym (subst P full inv.exact)) inv.below ends))) (cases_lt places expansion_places)
 
   pub next_small : rest * 10 / den < 10
   next_small = quotient_small rest den (rest * 10 / den) (rest * 10 % den) inv.below (let positive : 0 < den = omega (arith, inv.below) in omega arith)
@@ -142,12 +136,17 @@ two_below_five : (b : ℕ) → 2 ^ b ≤ 5 ^ b
 two_below_five zero = omega arith
 two_below_five (suc b) = rw (pow-succ' 2 b, pow-succ' 5 b) (omega (arith, two_below_five b))
 
+pub powers_small : (a b : ℕ) → 2 ^ a * 5 ^ b ≤ unit_limit → (2 ^ a ≤ unit_limit) × (5 ^ b ≤ unit_limit)
+powers_small a b h = (
+  omega (arith, h, mul-le (2 ^ a) 1 (2 ^ a) (5 ^ b) (let k : 2 ^ a ≤ 2 ^ a = omega arith in k) (one-le-pow b 5 (omega arith))),
+  omega (arith, h, mul-le 1 (5 ^ b) (2 ^ a) (5 ^ b) (one-le-pow a 2 (omega arith)) (let k : 5 ^ b ≤ 5 ^ b = omega arith in k)),
+)
+
 powers_below : (a b : ℕ) → 2 ^ a * 5 ^ b ≤ unit_limit → (a ≤ expansion_places) × (b ≤ expansion_places)
 powers_below a b h =
-    let x : 2 ^ a ≤ unit_limit = omega (arith, h, mul-le (2 ^ a) 1 (2 ^ a) (5 ^ b) (let k : 2 ^ a ≤ 2 ^ a = omega arith in k) (one-le-pow b 5 (omega arith))) in
-    let y : 5 ^ b ≤ unit_limit = omega (arith, h, mul-le 1 (5 ^ b) (2 ^ a) (5 ^ b) (one-le-pow a 2 (omega arith)) (let k : 5 ^ b ≤ 5 ^ b = omega arith in k)) in
+    let small = powers_small a b h in
     let z = two_below_five b in
-    (⊎_elim (λ l. absurd (omega (arith, x, pow_below expansion_places a l))) (λ k. k) (cases_lt expansion_places a), ⊎_elim (λ l. absurd (omega (arith, y, z, pow_below expansion_places b l))) (λ k. k) (cases_lt expansion_places b))
+    (⊎_elim (λ l. absurd (omega (arith, small.0, pow_below expansion_places a l))) (λ k. k) (cases_lt expansion_places a), ⊎_elim (λ l. absurd (omega (arith, small.1, z, pow_below expansion_places b l))) (λ k. k) (cases_lt expansion_places b))
 
 pub powers_end : (num a b : ℕ) → 2 ^ a * 5 ^ b ≤ unit_limit → IsExactAt num (2 ^ a * 5 ^ b) expansion_places
 powers_end num a b h =
@@ -158,12 +157,6 @@ powers_end num a b h =
     let all : 10 ^ expansion_places ≡ 2 ^ (expansion_places - a) * 2 ^ a * (5 ^ (expansion_places - b) * 5 ^ b) = ten ∙ (ap (λ n. n * 5 ^ expansion_places) twos ∙ ap (λ n. 2 ^ (expansion_places - a) * 2 ^ a * n) fives) in
     let e = ap (λ n. num * n) all in
     (num * (2 ^ (expansion_places - a) * 5 ^ (expansion_places - b)), e ∙ omega arith)
-
-pub powers_small : (a b : ℕ) → 2 ^ a * 5 ^ b ≤ unit_limit → (2 ^ a ≤ unit_limit) × (5 ^ b ≤ unit_limit)
-powers_small a b h = (
-  omega (arith, h, mul-le (2 ^ a) 1 (2 ^ a) (5 ^ b) (let k : 2 ^ a ≤ 2 ^ a = omega arith in k) (one-le-pow b 5 (omega arith))),
-  omega (arith, h, mul-le 1 (5 ^ b) (2 ^ a) (5 ^ b) (one-le-pow a 2 (omega arith)) (let k : 5 ^ b ≤ 5 ^ b = omega arith in k)),
-)
 
 pub powers_some : (a b : ℕ) → 1 ≤ 2 ^ a * 5 ^ b
 powers_some a b = mul-le 1 1 (2 ^ a) (5 ^ b) (one-le-pow a 2 (omega arith)) (one-le-pow b 5 (omega arith))

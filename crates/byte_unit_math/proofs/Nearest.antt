@@ -2,7 +2,8 @@
 use Rattle.std.proofs.Common.{◌≢◌, ◌≡◌, ◌+◌, ◌*◌, ◌^◌, ◌<◌, ◌≤◌, ◌%◌, ⊎_elim, ℕ, arith, subst, refl}
 use Rattle.std.proofs.lemmas.Bool.{cases_lt}
 use Rattle.std.proofs.Math.Nat.{mul-le-mul_right}
-use Rattle.byte_unit_math.specs.Nearest.{distance, WinsTie, IsNearest}
+use Rattle.std.specs.Int.{abs_diff}
+use Rattle.byte_unit_math.specs.Nearest.{WinsTie, IsNearest}
 use Rattle.byte_unit_math.specs.declared.expansion.Ties.{Ties}
 use Rattle.byte_unit_math.specs.declared.expansion.Ties.TheVariants.{Even, Up}
 
@@ -20,7 +21,7 @@ module _ (num den p t low : ℕ) (split : num * 10 ^ p ≡ t * den + low) (below
   cases P lower at next upper o = ⊎_elim (lower o) (λ k. ⊎_elim (λ l. subst P (let e : t ≡ o = omega (arith, k, l) in e) at) (λ m. ⊎_elim (λ l. subst P (let e : t + 1 ≡ o = omega (arith, m, l) in e) next) (λ n. upper o (omega (arith, n))) (cases_lt o (t + 2))) (cases_lt o (t + 1))) (cases_lt o t)
 
   abbrev far : ℕ → ℕ
-  far o = distance (o * den) (num * 10 ^ p)
+  far o = abs_diff (o * den) (num * 10 ^ p)
 
   at_t : far t ≡ low
   at_t = omega (arith, split)

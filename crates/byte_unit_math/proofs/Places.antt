@@ -5,7 +5,7 @@ use Rattle.std.proofs.lemmas.Nat.{pow-add}
 use Rattle.std.proofs.lemmas.Bool.{cases_lt}
 use Rattle.std.proofs.Math.Numerals.{add-one}
 use Rattle.byte_unit_math.specs.Bounds.{one, places_of_decimal}
-use Rattle.byte_unit_math.specs.Decimal.{IsStatedBy}
+use Rattle.byte_unit_math.specs.Exact.{IsExactAt}
 use Rattle.byte_unit_math.proofs.Scales.{power_parts}
 
 -- the fraction of N is rest, with zeros behind these places
@@ -24,8 +24,8 @@ EndsAt-less N rest places h some zero =
     let e = ap (λ r. r * 10 ^ (places_of_decimal - places)) parts in
     record { few = omega (arith, h.few); fraction_is = h.fraction_is ∙ (e ∙ rw scale (omega arith)) }
 
-pub IsStatedBy-places : (N rest places : ℕ) → EndsAt N rest places → IsStatedBy N places
-IsStatedBy-places N rest places h =
+pub stated-places : (N rest places : ℕ) → EndsAt N rest places → IsExactAt N one places
+stated-places N rest places h =
     let whole : N ≡ N / one * one + N % one = omega arith in
     let e = ap (λ n. n * 10 ^ places) (whole ∙ ap (λ f. N / one * one + f) h.fraction_is) in
     let p = ap (λ s. rest * s) (power_parts places h.few) in
@@ -42,7 +42,7 @@ last_zero N W q rest P T u e S s some stated parts unit =
     let f = eq_of_mul-eq-mul_right u some (rest + W * P * (10 * e)) (q * (10 * e)) same in
     omega (arith, f)
 
-fewer : (N rest places p : ℕ) → EndsAt N rest places → p < places → IsStatedBy N p → rest % 10 ≡ 0
+fewer : (N rest places p : ℕ) → EndsAt N rest places → p < places → IsExactAt N one p → rest % 10 ≡ 0
 fewer N rest places p h l s =
     let k : ℕ = places - p - 1 in
     let total : ((places_of_decimal - places) + p) + (k + 1) ≡ places_of_decimal = omega (arith, h.few) in
@@ -51,5 +51,5 @@ fewer N rest places p h l s =
     let whole : N ≡ N / one * one + rest * 10 ^ (places_of_decimal - places) = omega (arith, h.fraction_is) in
     last_zero N (N / one) s.0 rest (10 ^ p) (10 ^ (places_of_decimal - places)) (10 ^ ((places_of_decimal - places) + p)) (10 ^ k) one split (omega (arith, one-le-pow ((places_of_decimal - places) + p) 10 (omega arith))) s.1 whole (sym (pow-add 10 (places_of_decimal - places) p))
 
-pub IsStatedBy-least : (N rest places : ℕ) → EndsAt N rest places → 0 < rest % 10 → (p : ℕ) → IsStatedBy N p → places ≤ p
-IsStatedBy-least N rest places h some p s = ⊎_elim (λ l. let z = fewer N rest places p h l s in absurd (omega (arith, some, z))) (λ k. k) (cases_lt p places)
+pub stated-least : (N rest places : ℕ) → EndsAt N rest places → 0 < rest % 10 → (p : ℕ) → IsExactAt N one p → places ≤ p
+stated-least N rest places h some p s = ⊎_elim (λ l. let z = fewer N rest places p h l s in absurd (omega (arith, some, z))) (λ k. k) (cases_lt p places)

@@ -1,10 +1,10 @@
 -- How many places a fraction over powers of two and five takes.
-use Rattle.std.proofs.Common.{◌≡◌, ◌≢◌, ◌+◌, ◌-◌, ◌*◌, ◌^◌, ◌%◌, ◌<◌, ◌≤◌, ⊎_elim, ℕ, zero, suc, max, arith, ap, sym, ◌∙◌}
+use Rattle.std.proofs.Common.{◌≡◌, ◌≢◌, ◌+◌, ◌-◌, ◌*◌, ◌^◌, ◌/◌, ◌%◌, ◌<◌, ◌≤◌, ⊎_elim, ℕ, zero, suc, max, arith, ap, sym, ◌∙◌}
 use Rattle.std.proofs.lemmas.Bool.{cases_lt}
 use Rattle.std.proofs.lemmas.Nat.{pow-add, mul-pow}
 use Rattle.std.proofs.Math.Nat.{pow-succ', eq_of_mul-eq-mul_right, one-le-pow}
 use Rattle.byte_unit_math.specs.Exact.{IsExactAt}
-use Rattle.byte_unit_math.specs.Powers.{IsTwoFive, IsLeastPlaces, ExactByPowers, PlacesByPowers}
+use Rattle.byte_unit_math.specs.Powers.{IsTwoFive, HasTwoFive, IsLeastPlaces, ExactByPowers, PlacesByPowers}
 
 odd_times : (u n : ℕ) → u % 2 ≢ 0 → (u * 5 ^ n) % 2 ≢ 0
 odd_times u zero h = λ k. h (omega (arith, k))
@@ -74,18 +74,20 @@ places_by_powers num a b twos fives h = record {
 pub no_places : (den : ℕ) → IsLeastPlaces 0 den 0
 no_places den = record { exact = (0, omega arith); least = λ p e. omega arith }
 
--- a number is one product of powers of two and five
-product_counts : (a b : ℕ) → IsTwoFive (2 ^ a * 5 ^ b) a b
-product_counts a b = record { left = 1; product = omega arith; odd = λ h. absurd (omega (arith, h)); no_five = λ h. absurd (omega (arith, h)) }
+nothing_left : (n left twos fives : ℕ) → n ≡ left * (2 ^ twos * 5 ^ fives) → 0 < left % 2 → 0 < left % 5 → HasTwoFive n
+nothing_left n left twos fives e odd no_five = (twos, fives, record { left = left; product = e; odd = λ k. omega (arith, odd, k); no_five = λ k. omega (arith, no_five, k) })
 
-pub one_product : (a b c d : ℕ) → 2 ^ a * 5 ^ b ≡ 2 ^ c * 5 ^ d → (a ≡ c) × (b ≡ d)
-one_product a b c d e =
-    let h = product_counts a b in
-    let k = product_counts c d in
-    let there : IsExactAt (2 ^ a * 5 ^ b) (2 ^ c * 5 ^ d) 0 = (1, omega (arith, e)) in
-    let back : IsExactAt (2 ^ c * 5 ^ d) (2 ^ a * 5 ^ b) 0 = (1, omega (arith, e)) in
-    let w = needs_twos (2 ^ a * 5 ^ b) c d a b 0 h there in
-    let x = needs_fives (2 ^ a * 5 ^ b) c d a b 0 h there in
-    let y = needs_twos (2 ^ c * 5 ^ d) a b c d 0 k back in
-    let z = needs_fives (2 ^ c * 5 ^ d) a b c d 0 k back in
-    (omega (arith, w, y), omega (arith, x, z))
+-- two and five are taken off as long as they divide what is left
+taken_off : (turns n left twos fives : ℕ) → left ≤ turns → 0 < left → n ≡ left * (2 ^ twos * 5 ^ fives) → HasTwoFive n
+taken_off zero n left twos fives few some e = absurd (omega (arith, few, some))
+taken_off (suc turns) n left twos fives few some e =
+    ⊎_elim (λ odd.
+    ⊎_elim (λ no_five. nothing_left n left twos fives e odd no_five)
+    (λ five. taken_off turns n (left / 5) twos (suc fives) (omega (arith, few, some, five)) (omega (arith, some, five)) (rw (pow-succ' 5 fives) (let parts : left ≡ 5 * (left / 5) = omega (arith, five) in let p = ap (λ m. m * (2 ^ twos * 5 ^ fives)) parts in omega (arith, e, p))))
+    (cases_lt 0 (left % 5)))
+    (λ two. taken_off turns n (left / 2) (suc twos) fives (omega (arith, few, some, two)) (omega (arith, some, two)) (rw (pow-succ' 2 twos) (let parts : left ≡ 2 * (left / 2) = omega (arith, two) in let p = ap (λ m. m * (2 ^ twos * 5 ^ fives)) parts in omega (arith, e, p))))
+    (cases_lt 0 (left % 2))
+
+-- a number that is not zero has powers of two and five, and something left
+pub has_two_five : (n : ℕ) → n ≢ 0 → HasTwoFive n
+has_two_five n some = taken_off n n n 0 0 (omega arith) (⊎_elim (λ l. l) (λ k. absurd (some (omega (arith, k)))) (cases_lt 0 n)) (omega arith)

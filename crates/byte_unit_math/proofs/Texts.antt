@@ -9,11 +9,13 @@ use Rattle.std.proofs.Math.Nat.{eq_of_mul-eq-mul_right, mul-div_cancel, mul-le-m
 use Rattle.std.proofs.lemmas.Bool.{cases_lt}
 use Rattle.byte_unit_math.specs.Bounds.{expansion_places, unit_limit}
 use Rattle.byte_unit_math.specs.Exact.{IsExactAt}
-use Rattle.byte_unit_math.specs.Nearest.{distance, IsNearest}
+use Rattle.std.specs.Int.{abs_diff}
+use Rattle.byte_unit_math.specs.Nearest.{IsNearest}
 use Rattle.byte_unit_math.specs.declared.expansion.Ties.{Ties}
 use Rattle.byte_unit_math.specs.declared.expansion.Ties.TheVariants.{Even, Up}
 use Rattle.byte_unit_math.specs.Finite.{Finite, value_of, scaled, IsExpansion}
 use Rattle.byte_unit_math.specs.Numeral.{last_digits, at_places, before, without_zeros, shortened, expansion_of, text_of, numeral, short, padded}
+use Rattle.byte_unit_math.proofs.Division.{IsExactAt-more}
 use Rattle.byte_unit_math.proofs.Digits.{ten, value_cons, value_more, length_last, small_last, scaled_places, short_of}
 use Rattle.byte_unit_math.proofs.Expanding.{from_last, powers_end, powers_some}
 use Rattle.byte_unit_math.proofs.Cut.{small_value}
@@ -130,16 +132,16 @@ own_places e =
 
 -- nearest to the decimal of a fraction is nearest to the fraction
 
-apart : (a d k : ℕ) → distance a (a + d) * k ≡ distance (a * k) ((a + d) * k)
-apart a d k = let e : distance a (a + d) ≡ d = omega arith in ap (λ n. n * k) e ∙ omega arith
+apart : (a d k : ℕ) → abs_diff a (a + d) * k ≡ abs_diff (a * k) ((a + d) * k)
+apart a d k = let e : abs_diff a (a + d) ≡ d = omega arith in ap (λ n. n * k) e ∙ omega arith
 
-turned : (a b : ℕ) → distance a b ≡ distance b a
+turned : (a b : ℕ) → abs_diff a b ≡ abs_diff b a
 turned a b = omega arith
 
-distance_times : (a b k : ℕ) → distance a b * k ≡ distance (a * k) (b * k)
-distance_times a b k =
-    let P : ℕ → Type 0 = λ n. distance a n * k ≡ distance (a * k) (n * k) in
-    let Q : ℕ → Type 0 = λ n. distance b n * k ≡ distance (b * k) (n * k) in
+difference_times : (a b k : ℕ) → abs_diff a b * k ≡ abs_diff (a * k) (b * k)
+difference_times a b k =
+    let P : ℕ → Type 0 = λ n. abs_diff a n * k ≡ abs_diff (a * k) (n * k) in
+    let Q : ℕ → Type 0 = λ n. abs_diff b n * k ≡ abs_diff (b * k) (n * k) in
     ⊎_elim (λ l. subst P (let e : a + (b - a) ≡ b = omega (arith, l) in e) (apart a (b - a) k))
     (λ l. let r = subst Q (let e : b + (a - b) ≡ a = omega (arith, l) in e) (apart b (a - b) k) in
     ap (λ n. n * k) (turned a b) ∙ (r ∙ turned (b * k) (a * k))) (cases_lt a b)
@@ -150,15 +152,15 @@ nearest_of num den e p ties q positive exact h =
     let S = scaled e in
     let some : 0 < T = omega (arith, ten (length e.digits)) in
     let goal_is : S * 10 ^ p * den ≡ num * 10 ^ p * T = let a = ap (λ n. n * 10 ^ p) exact in omega (arith, a) in
-    let same : (o : ℕ) → distance (o * T) (S * 10 ^ p) * den ≡ distance (o * den) (num * 10 ^ p) * T =
+    let same : (o : ℕ) → abs_diff (o * T) (S * 10 ^ p) * den ≡ abs_diff (o * den) (num * 10 ^ p) * T =
     λ o. let sides : o * T * den ≡ o * den * T = omega arith in
-    distance_times (o * T) (S * 10 ^ p) den ∙ (ap (λ n. distance n (S * 10 ^ p * den)) sides ∙ (ap (λ n. distance (o * den * T) n) goal_is ∙ sym (distance_times (o * den) (num * 10 ^ p) T))) in
+    difference_times (o * T) (S * 10 ^ p) den ∙ (ap (λ n. abs_diff n (S * 10 ^ p * den)) sides ∙ (ap (λ n. abs_diff (o * den * T) n) goal_is ∙ sym (difference_times (o * den) (num * 10 ^ p) T))) in
     record {
-      nearest = λ o. let m = mul-le-mul_right {m = distance (q * T) (S * 10 ^ p)} {n = distance (o * T) (S * 10 ^ p)} den (h.nearest o) in
+      nearest = λ o. let m = mul-le-mul_right {m = abs_diff (q * T) (S * 10 ^ p)} {n = abs_diff (o * T) (S * 10 ^ p)} den (h.nearest o) in
           let a = same q in let b = same o in
-          le_of_mul-le-mul_right {m = distance (q * den) (num * 10 ^ p)} {n = distance (o * den) (num * 10 ^ p)} {k = T} (omega (arith, m, a, b)) some;
+          le_of_mul-le-mul_right {m = abs_diff (q * den) (num * 10 ^ p)} {n = abs_diff (o * den) (num * 10 ^ p)} {k = T} (omega (arith, m, a, b)) some;
       tie = λ o n k. h.tie o n (let a = same q in let b = same o in let c = ap (λ x. x * T) k in
-          eq_of_mul-eq-mul_right den positive (distance (o * T) (S * 10 ^ p)) (distance (q * T) (S * 10 ^ p)) (b ∙ (c ∙ sym a)));
+          eq_of_mul-eq-mul_right den positive (abs_diff (o * T) (S * 10 ^ p)) (abs_diff (q * T) (S * 10 ^ p)) (b ∙ (c ∙ sym a)));
     }
 
 -- equal fractions have one decimal
@@ -184,17 +186,9 @@ expansion_at num den p some h =
     let P : ℕ → Type 0 = λ q. IsExpansion num den (shortened (at_places p q)) in
     subst P (sym quotient) (same_fraction h.0 (10 ^ p) num den (shortened (at_places p h.0)) (omega (arith, ten p)) some (sym h.1) (short_expansion h.0 p))
 
-exact_behind : (num den p : ℕ) (e : Finite) → IsExpansion num den e → length e.digits ≤ p → IsExactAt num den p
-exact_behind num den p e h few =
-    let len = length e.digits in
-    let power : 10 ^ p ≡ 10 ^ (p - len) * 10 ^ len = ap (λ n. 10 ^ n) (let i : p ≡ (p - len) + len = omega (arith, few) in i) ∙ pow-add 10 (p - len) len in
-    let a = ap (λ n. num * n) power in
-    let b = ap (λ n. n * 10 ^ (p - len)) h.exact in
-    (scaled e * 10 ^ (p - len), omega (arith, a, b))
-
 pub expansion_is : (num den : ℕ) (e : Finite) → 0 < den → IsExpansion num den e → length e.digits ≤ expansion_places → e ≡ expansion_of num den
 expansion_is num den e some h few =
-    one_expansion num den e (expansion_of num den) some h (expansion_at num den expansion_places some (exact_behind num den expansion_places e h few))
+    one_expansion num den e (expansion_of num den) some h (expansion_at num den expansion_places some (IsExactAt-more num den (length e.digits) expansion_places few (scaled e, h.exact)))
 
 pub expansion_there : (num den : ℕ) → 0 < den → IsExactAt num den expansion_places → IsExpansion num den (expansion_of num den)
 expansion_there num den some h = expansion_at num den expansion_places some h
@@ -213,7 +207,7 @@ expansion_of_parts num x y a b whole rest e hx hy hw hr limit h =
 
 -- one nearest
 
-not_between : (num den p : ℕ) (q r : ℕ) → 0 < den → q + 1 < r → distance (q * den) (num * 10 ^ p) ≡ distance (r * den) (num * 10 ^ p) → distance (q * den) (num * 10 ^ p) ≤ distance ((q + 1) * den) (num * 10 ^ p) → ⊥
+not_between : (num den p : ℕ) (q r : ℕ) → 0 < den → q + 1 < r → abs_diff (q * den) (num * 10 ^ p) ≡ abs_diff (r * den) (num * 10 ^ p) → abs_diff (q * den) (num * 10 ^ p) ≤ abs_diff ((q + 1) * den) (num * 10 ^ p) → ⊥
 not_between num den p q r some l same least =
     let m = mul-le-mul_right {m = q + 2} {n = r} den (omega (arith, l)) in
     absurd (omega (arith, m, same, least, some))
@@ -224,7 +218,7 @@ one_even num den p q r some l even even' h k =
     let b = k.nearest q in
     not_between num den p q r some (omega (arith, l, even, even')) (omega (arith, a, b)) (h.nearest (q + 1))
 
-same_far : (num den p : ℕ) (ties : Ties) (q r : ℕ) → IsNearest num den p ties q → IsNearest num den p ties r → distance (r * den) (num * 10 ^ p) ≡ distance (q * den) (num * 10 ^ p)
+same_far : (num den p : ℕ) (ties : Ties) (q r : ℕ) → IsNearest num den p ties q → IsNearest num den p ties r → abs_diff (r * den) (num * 10 ^ p) ≡ abs_diff (q * den) (num * 10 ^ p)
 same_far num den p ties q r h k = let a = h.nearest r in let b = k.nearest q in omega (arith, a, b)
 
 not_below : (num den p : ℕ) (ties : Ties) (q r : ℕ) → 0 < den → IsNearest num den p ties q → IsNearest num den p ties r → q < r → ⊥

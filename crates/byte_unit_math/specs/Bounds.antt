@@ -1,11 +1,11 @@
--- The bounds of numbers. Each is named here, and nowhere else.
+-- The bounds of decimals, sizes and units.
 use Rattle.std.specs.Prelude.{ℕ, ◌*◌, ◌^◌}
 
 -- the digits after the point of a decimal
 abbrev pub places_of_decimal : ℕ
 places_of_decimal = 28
 
--- one, counted in last places of a decimal
+-- one, counted in last places of a decimal: a decimal N is the number N / 10^28
 abbrev pub one : ℕ
 one = 10 ^ places_of_decimal
 
@@ -13,11 +13,11 @@ one = 10 ^ places_of_decimal
 abbrev pub whole_limit : ℕ
 whole_limit = 2 ^ 96
 
--- a size in bytes is below it
+-- a size is below it, in bytes or in bits as it is counted
 abbrev pub size_limit : ℕ
 size_limit = 10 ^ 27
 
--- a size in bits is below it
+-- a size of bytes, put in bits, is below it
 abbrev pub bits_limit : ℕ
 bits_limit = 8 * size_limit
 

@@ -1,11 +1,8 @@
 -- Rounding to a number of places.
 use Rattle.std.specs.Prelude.{◌≡◌, ◌≢◌, ℕ, ◌+◌, ◌-◌, ◌*◌, ◌%◌, ◌^◌, ◌≤◌}
+use Rattle.std.specs.Int.{abs_diff}
 use Rattle.byte_unit_math.specs.declared.expansion.Ties.{Ties}
 use Rattle.byte_unit_math.specs.declared.expansion.Ties.TheVariants.{Even, Up}
-
--- how far two numbers are apart
-abbrev pub distance : ℕ → ℕ → ℕ
-distance a b = (a - b) + (b - a)
 
 -- of two that are equally near
 abbrev pub WinsTie : Ties → ℕ → ℕ → Type 0
@@ -14,5 +11,5 @@ WinsTie Up q other = other ≤ q
 
 -- q units of the p-th place are nearest to num / den
 pub record IsNearest (num den p : ℕ) (ties : Ties) (q : ℕ) : Type 0 where
-  pub nearest : (other : ℕ) → distance (q * den) (num * 10 ^ p) ≤ distance (other * den) (num * 10 ^ p)
-  pub tie : (other : ℕ) → other ≢ q → distance (other * den) (num * 10 ^ p) ≡ distance (q * den) (num * 10 ^ p) → WinsTie ties q other
+  pub nearest : (other : ℕ) → abs_diff (q * den) (num * 10 ^ p) ≤ abs_diff (other * den) (num * 10 ^ p)
+  pub tie : (other : ℕ) → other ≢ q → abs_diff (other * den) (num * 10 ^ p) ≡ abs_diff (q * den) (num * 10 ^ p) → WinsTie ties q other

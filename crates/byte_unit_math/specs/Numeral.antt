@@ -24,6 +24,7 @@ abbrev pub without_zeros : List ℕ → List ℕ
 without_zeros [] = []
 without_zeros (d ∷ ds) = before d (without_zeros ds)
 
+-- the same decimal without zeros at its end
 abbrev pub shortened : Finite → Finite
 shortened e = record { whole = e.whole; digits = without_zeros e.digits }
 
@@ -40,6 +41,7 @@ abbrev pub fraction_text : List ℕ → List ℕ
 fraction_text [] = []
 fraction_text (d ∷ ds) = 46 ∷ glyphs (d ∷ ds)
 
+-- the whole part, and the digits after the point where there are any
 abbrev pub text_of : Finite → List ℕ
 text_of e = decimal e.whole ++ fraction_text e.digits
 
@@ -51,6 +53,6 @@ numeral q p = text_of (at_places p q)
 abbrev pub short : ℕ → ℕ → List ℕ
 short q p = text_of (shortened (at_places p q))
 
--- with exactly so many places, zeros past those that are there
+-- with exactly so many places: zeros stand past those that are there, and more than these are cut off
 abbrev pub padded : ℕ → Finite → Finite
 padded places e = record { whole = e.whole; digits = take places e.digits ++ replicate (places - length e.digits) 0 }

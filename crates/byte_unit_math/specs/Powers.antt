@@ -9,6 +9,10 @@ pub record IsTwoFive (n twos fives : ℕ) : Type 0 where
   pub odd : left % 2 ≢ 0
   pub no_five : left % 5 ≢ 0
 
+-- the number has such powers
+abbrev pub HasTwoFive : ℕ → Type 0
+HasTwoFive n = (twos : ℕ) × (fives : ℕ) × IsTwoFive n twos fives
+
 -- p is the least number of places at which num / den is exact
 pub record IsLeastPlaces (num den p : ℕ) : Type 0 where
   pub exact : IsExactAt num den p

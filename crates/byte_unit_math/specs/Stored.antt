@@ -1,4 +1,4 @@
--- What the fields of an `Expansion` stand for.
+-- Private: what the fields of an `Expansion` stand for. A contract sees its whole part and its first digits alone.
 use Rattle.std.specs.Prelude.{◌≡◌, ℕ, ◌-◌, ◌<◌, ◌≤◌, List, ◌++◌, length, take, drop, replicate, slice_index}
 use Rattle.std.specs.List.{All}
 use Rattle.std.proofs.Common.{ap, sym, ◌∙◌, length-take-le, take-append-drop, subst}

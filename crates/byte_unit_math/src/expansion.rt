@@ -66,7 +66,7 @@ impl Expansion {
         requires small { numerator < bits_limit }
         requires den { 2 ^ twos * 5 ^ fives ≤ unit_limit }
         ensures number { IsExpansion numerator (2 ^ twos * 5 ^ fives) result }
-        ensures one { result ≡ expansion_of numerator (2 ^ twos * 5 ^ fives) }
+        ensures computed { result ≡ expansion_of numerator (2 ^ twos * 5 ^ fives) }
     {
         let den = power(2, twos) * power(5, fives);
         divide(numerator / den, numerator % den, den)

@@ -3,7 +3,7 @@
 
 pub use crate::decimal::Decimal;
 pub use crate::expansion::{Expansion, Ties};
-pub use crate::laws::{exact_by_powers, places_by_powers};
+pub use crate::laws::{exact_by_powers, numerals_are_exact, places_by_powers};
 pub use crate::least::least_size;
 pub use crate::quotient::exact_quotient;
 pub use crate::steps::Steps;
