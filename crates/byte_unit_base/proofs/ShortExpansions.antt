@@ -4,7 +4,7 @@ use Rattle.byte_unit_math.specs.Exact.{IsExactAt}
 use Rattle.byte_unit_base.specs.Shape.{bits}
 use Rattle.byte_unit_base.specs.Units.{shape_of}
 use Rattle.byte_unit_base.specs.Kinds.{bits_in}
-use Rattle.byte_unit_base.specs.FormLaws.{EndsWithin, most_places}
+use Rattle.byte_unit_base.specs.FormLaws.{EndsWithin}
 use Rattle.byte_unit_base.specs.declared.kind.Kind.{Kind}
 use Rattle.byte_unit_base.specs.declared.kind.Kind.TheVariants.{Byte, Bit as OfBits}
 use Rattle.byte_unit_base.specs.declared.unit.Unit.{Unit as UnitName}
@@ -51,5 +51,5 @@ bytes_in size YB = by_factor size (bits (shape_of YB)) (8 * 10 ^ 80 / bits (shap
 bytes_in size YiB = by_factor size (bits (shape_of YiB)) (8 * 10 ^ 80 / bits (shape_of YiB)) refl
 
 pub ends_within : (kind : Kind) (size : ℕ) (unit : UnitName) → EndsWithin kind size (shape_of unit)
-ends_within Byte size unit e h = h.least 80 (bytes_in size unit)
-ends_within OfBits size unit e h = h.least (most_places OfBits) (exact_in (size * bits_in OfBits) unit)
+ends_within Byte size unit = bytes_in size unit
+ends_within OfBits size unit = exact_in (size * bits_in OfBits) unit

@@ -1,8 +1,7 @@
 -- Laws of the texts of sizes.
-use Rattle.std.specs.Prelude.{◌≡◌, ◌≢◌, ℕ, ◌-◌, ◌*◌, ◌<◌, ◌≤◌, ◌⊎◌, Bool, false, List, length}
+use Rattle.std.specs.Prelude.{◌≡◌, ◌≢◌, ℕ, ◌-◌, ◌*◌, ◌<◌, ◌⊎◌, Bool, false, List}
 use Rattle.byte_unit_math.specs.Bounds.{places_of_decimal, expansion_places}
 use Rattle.byte_unit_math.specs.Exact.{IsExactAt}
-use Rattle.byte_unit_math.specs.Finite.{Finite, IsExpansion}
 use Rattle.byte_unit_base.specs.Shape.{Shape, bits}
 use Rattle.byte_unit_base.specs.Edition.{Edition}
 use Rattle.byte_unit_base.specs.Accepted.{Accepted, IsRefused}
@@ -57,6 +56,6 @@ abbrev pub most_places : Kind → ℕ
 most_places Byte = expansion_places - 3
 most_places OfBits = expansion_places
 
--- the size in the unit has no more digits after the point
+-- the size in the unit is a whole number of units of the last of these places
 abbrev pub EndsWithin : Kind → ℕ → Shape → Type 0
-EndsWithin kind size unit = (e : Finite) → IsExpansion (size * bits_in kind) (bits unit) e → length e.digits ≤ most_places kind
+EndsWithin kind size unit = IsExactAt (size * bits_in kind) (bits unit) (most_places kind)
