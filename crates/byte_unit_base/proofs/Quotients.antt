@@ -3,7 +3,6 @@ use Rattle.std.proofs.Common.{◌≡◌, ℕ, ◌+◌, ◌-◌, ◌*◌, ◌^◌
 use Rattle.std.proofs.lemmas.Nat.{pow-add}
 use Rattle.std.proofs.Math.Nat.{eq_of_mul-eq-mul_right}
 use Rattle.byte_unit_math.specs.Bounds.{places_of_decimal, one}
-use Rattle.byte_unit_math.specs.Decimal.{IsStatedBy}
 use Rattle.byte_unit_math.specs.Steps.{raised}
 use Rattle.byte_unit_math.specs.Exact.{IsExactAt, IsQuotient, IsFirstExact}
 use Rattle.byte_unit_base.specs.Shape.{Shape, bits}
@@ -35,7 +34,7 @@ quotient_here o size places B number unit c made h =
     subst Q c (subst R made h)
 
 -- where the size is exact, its number is stated
-stated_where_exact : (size unit number digits : ℕ) → 1 ≤ unit → number * unit ≡ size * one → IsExactAt size unit digits → IsStatedBy number digits
+stated_where_exact : (size unit number digits : ℕ) → 1 ≤ unit → number * unit ≡ size * one → IsExactAt size unit digits → IsExactAt number one digits
 stated_where_exact size unit number digits some product e =
     let p = ap (λ x. x * 10 ^ digits) product in
     let q = ap (λ x. x * one) e.1 in

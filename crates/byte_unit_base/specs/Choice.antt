@@ -1,7 +1,6 @@
 -- Which unit states a size. A size is given in bits, save where a kind stands beside it.
 use Rattle.std.specs.Prelude.{◌≡◌, ℕ, ◌*◌, ◌≤◌, ◌⊎◌, Bool, true, false}
 use Rattle.byte_unit_math.specs.Bounds.{one}
-use Rattle.byte_unit_math.specs.Decimal.{IsStatedBy}
 use Rattle.byte_unit_math.specs.Steps.{raised}
 use Rattle.byte_unit_math.specs.Exact.{IsExactAt, IsQuotient}
 use Rattle.byte_unit_base.specs.Shape.{Shape, bits}
@@ -57,7 +56,7 @@ IsRecovered edition kind family size places unit number =
 
 -- a count that rises by no less than the digits of this number after the point
 abbrev pub CountsDigits : ℕ → ℕ → ℕ → Type 0
-CountsDigits number old new = (digits : ℕ) × IsStatedBy number digits × (raised old digits ≤ new)
+CountsDigits number old new = (digits : ℕ) × IsExactAt number one digits × (raised old digits ≤ new)
 
 -- the unit that a size of this kind is shown in by a type: the largest that suits it, or its kind's own where none does
 abbrev pub IsAppropriate : Edition → Kind → UnitType → ℕ → Shape → Type 0
