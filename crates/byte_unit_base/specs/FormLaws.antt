@@ -2,13 +2,14 @@
 use Rattle.std.specs.Prelude.{◌≡◌, ◌≢◌, ℕ, ◌-◌, ◌*◌, ◌<◌, ◌⊎◌, Bool, false, List}
 use Rattle.byte_unit_math.specs.Bounds.{places_of_decimal, expansion_places}
 use Rattle.byte_unit_math.specs.Exact.{IsExactAt}
-use Rattle.byte_unit_base.specs.Shape.{Shape, bits}
+use Rattle.byte_unit_math.specs.Powers.{PlacesByPowers}
+use Rattle.byte_unit_base.specs.Shape.{Shape, bits, twos, fives}
 use Rattle.byte_unit_base.specs.Edition.{Edition}
 use Rattle.byte_unit_base.specs.Accepted.{Accepted, IsRefused}
 use Rattle.byte_unit_base.specs.Fault.{too_long}
 use Rattle.byte_unit_base.specs.Adjusted.{IsAdjustedForm, adjusted_text}
-use Rattle.byte_unit_base.specs.AdjustedString.{IsAdjustedString, IsGreatest}
-use Rattle.byte_unit_base.specs.Forms.{IsSizeForm}
+use Rattle.byte_unit_base.specs.AdjustedString.{alternate, IsAdjustedString, IsGreatest}
+use Rattle.byte_unit_base.specs.Forms.{IsSizeForm, IsText}
 use Rattle.byte_unit_base.specs.Plain.{plain}
 use Rattle.byte_unit_base.specs.Kinds.{bits_in}
 use Rattle.byte_unit_base.specs.declared.kind.Kind.{Kind}
@@ -25,6 +26,11 @@ ReadsBack edition kind size spec ignore_case =
 abbrev pub PlainReadsBack : Edition → Kind → ℕ → FormatSpec → Bool → Type 0
 PlainReadsBack edition kind size spec ignore_case =
     size < edition.size_limit → spec.sign ≢ Plus → Accepted edition kind ignore_case (plain size spec) size
+
+-- the string that the size is stored as is read as the size
+abbrev pub StringReadsBack : Edition → Kind → ℕ → Type 0
+StringReadsBack edition kind size =
+    (text : List ℕ) → size < edition.size_limit → IsText edition kind size alternate text → Accepted edition kind false text size
 
 -- the size has a form with a unit, and one alone
 pub record HasOneForm (edition : Edition) (kind : Kind) (size : ℕ) (spec : FormatSpec) : Type 0 where
@@ -50,6 +56,10 @@ FitsDecimal edition kind size unit = IsGreatest edition size ⊎ IsExactAt (size
 pub record AdjustedReadsBack (edition : Edition) (kind : Kind) (size : ℕ) (unit : Shape) : Type 0 where
   pub accepted : (text : List ℕ) → size < edition.size_limit → IsAdjustedString edition kind size unit text → FitsDecimal edition kind size unit → Accepted edition kind false text size
   pub refused : (text : List ℕ) → size < edition.size_limit → IsAdjustedString edition kind size unit text → (FitsDecimal edition kind size unit → ⊥) → IsRefused edition kind false text too_long
+
+-- the places that the size takes in the unit, where it is not zero, are what its bits lack of the unit's twos or of its fives, whichever is more
+abbrev pub PlacesOfSize : Kind → ℕ → Shape → Type 0
+PlacesOfSize kind size unit = PlacesByPowers (size * bits_in kind) (twos unit) (fives unit)
 
 -- the most digits after the point that a size of the kind takes in a unit: a byte is eight bits, and so takes three fewer
 abbrev pub most_places : Kind → ℕ
