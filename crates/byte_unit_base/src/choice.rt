@@ -82,9 +82,8 @@ fn may_state(unit: Unit, family: Family, in_bits: u128, most: u32) -> bool
     ensures suits { IsTrue result → Suits current family UnitType.Both in_bits (shape_of unit) }
     ensures states { States current family in_bits (min most places_of_decimal) (shape_of unit) → IsTrue result }
 {
-    let (twos, _) = unit.powers();
     suits(unit, family, UnitType::Both, in_bits)
-        && twos.saturating_sub(in_bits.trailing_zeros()) <= most
+        && unit.powers().0.saturating_sub(in_bits.trailing_zeros()) <= most
 }
 
 /// The largest unit of the family and of the type that is not above the size. `None` exactly where
@@ -98,22 +97,22 @@ fn may_state(unit: Unit, family: Family, in_bits: u128, most: u32) -> bool
 /// largest_unit(1_048_575, Family::Bytes, UnitType::Binary, 8)   KiB
 /// largest_unit(999, Family::Bytes, UnitType::Both, 8)           None
 /// ```
-pub fn largest_unit(size: u128, family: Family, kind: UnitType, divisor: u128) -> Option<Unit>
+pub fn largest_unit(size: u128, family: Family, unit_type: UnitType, divisor: u128) -> Option<Unit>
     requires { (divisor ≡ 8) ⊎ (divisor ≡ 1) }
-    ensures found { IfSome result (λ unit. IsLargest (Suits current family kind (size * divisor)) (shape_of unit)) }
-    ensures none { IfNone result ((unit : Shape) → Suits current family kind (size * divisor) unit → ⊥) }
+    ensures found { IfSome result (λ unit. IsLargest (Suits current family unit_type (size * divisor)) (shape_of unit)) }
+    ensures none { IfNone result ((unit : Shape) → Suits current family unit_type (size * divisor) unit → ⊥) }
 {
     // No unit is near the greatest u128, so a cut there changes nothing.
-    first_suited(size.saturating_mul(divisor), family, kind)
+    first_suited(size.saturating_mul(divisor), family, unit_type)
 }
 
 /// The first of the multiples that suits the size, which is in bits.
-fn first_suited(in_bits: u128, family: Family, kind: UnitType) -> Option<Unit>
-    ensures found { IfSome result (λ unit. IsLargest (Suits current family kind in_bits) (shape_of unit)) }
-    ensures none { IfNone result ((unit : Shape) → Suits current family kind in_bits unit → ⊥) }
+fn first_suited(in_bits: u128, family: Family, unit_type: UnitType) -> Option<Unit>
+    ensures found { IfSome result (λ unit. IsLargest (Suits current family unit_type in_bits) (shape_of unit)) }
+    ensures none { IfNone result ((unit : Shape) → Suits current family unit_type in_bits unit → ⊥) }
 {
     for unit in multiples() {
-        if suits(*unit, family, kind, in_bits) {
+        if suits(*unit, family, unit_type, in_bits) {
             return Some(*unit);
         }
     }
@@ -122,13 +121,13 @@ fn first_suited(in_bits: u128, family: Family, kind: UnitType) -> Option<Unit>
 
 /// Whether a multiple is of the family and of the type, and not above the size in bits. The size is
 /// compared first, since it rules out most.
-fn suits(unit: Unit, family: Family, kind: UnitType, in_bits: u128) -> bool
+fn suits(unit: Unit, family: Family, unit_type: UnitType, in_bits: u128) -> bool
     requires { HasPrefix current (shape_of unit) }
-    ensures { IsTrue result ↔ Suits current family kind in_bits (shape_of unit) }
+    ensures { IsTrue result ↔ Suits current family unit_type in_bits (shape_of unit) }
 {
     unit.as_bits_u128() <= in_bits
         && family.has_kind(unit.is_bit())
-        && kind.takes(unit.is_binary_multiples())
+        && unit_type.takes(unit.is_binary_multiples())
 }
 
 #[cfg(test)]

@@ -29,6 +29,50 @@ fn units_above_the_size_take_no_tick(rt: HostRuntime) {
     }
 }
 
+/// The whole part and the last places of the number, and the unit.
+fn parts(choice: Option<(Decimal, Unit)>) -> Option<(u128, u128, Unit)> {
+    match choice {
+        Some((number, unit)) => Some((number.whole(), number.fraction(), unit)),
+        None => None,
+    }
+}
+
+#[test]
+fn each_digit_of_a_division_is_one_step(rt: HostRuntime) {
+    let no_unit: Option<(u128, u128, Unit)> = None;
+    for (size, places, choice, count) in [
+        // KiB has four factors of two more than the size, and KB is divided by to two places.
+        (1088, 2, no_unit, 2),
+        // KiB is above the size, and KB has three factors of two more than it.
+        (1001, 2, no_unit, 0),
+        (
+            1088,
+            3,
+            Some((1, 880_000_000_000_000_000_000_000_000, Unit::KB)),
+            3,
+        ),
+        (
+            1088,
+            4,
+            Some((1, 625_000_000_000_000_000_000_000_000, Unit::KiB)),
+            4,
+        ),
+        // MB takes three digits and states nothing, and KiB one.
+        (
+            3_211_776,
+            3,
+            Some((3136, 5_000_000_000_000_000_000_000_000_000u128, Unit::KiB)),
+            4,
+        ),
+    ] {
+        assert!(rt; size < LIMIT);
+        let mut steps = Steps::new();
+        let found = choose_unit(size, Family::Bytes, 8, places, &mut steps);
+        assert_eq!(rt; parts(found), choice, "{size} to {places} places");
+        assert_eq!(rt; steps.count(), count, "{size} to {places} places");
+    }
+}
+
 #[test]
 fn the_count_goes_on_from_where_it_was(rt: HostRuntime) {
     let mut once = Steps::new();

@@ -7,16 +7,16 @@ use Rattle.byte_unit_base.proofs.Falling.{Remain-none, unit_prefix, unit_found, 
 use Rattle.byte_unit_base.proofs.choice.first_suited.Goals as goal
 
 pub loop-unit-init : goal.loop-unit-init
-loop-unit-init c = Remain-none (Suits current c.args.family c.args.kind c.args.in_bits) (map shape_of c.multiples-unit-items.result.now) c.args.family c.multiples-unit-items.ensures (λ unit h. h.member)
+loop-unit-init c = Remain-none (Suits current c.args.family c.args.unit_type c.args.in_bits) (map shape_of c.multiples-unit-items.result.now) c.args.family c.multiples-unit-items.ensures (λ unit h. h.member)
 
 pub suits-requires : goal.suits-requires
 suits-requires c = unit_prefix c.multiples-unit-items.result.now c.loop-unit.unit-index Bit c.multiples-unit-items.ensures c.loop-unit-test.true
 
 pub loop-unit-preserved : goal.loop-unit-preserved
-loop-unit-preserved c = unit_passed (Suits current c.args.family c.args.kind c.args.in_bits) c.multiples-unit-items.result.now c.loop-unit.unit-index Bit c.loop-unit.invariant c.loop-unit-test.true (none_true _ _ c.if-suits.false c.suits.ensures.1)
+loop-unit-preserved c = unit_passed (Suits current c.args.family c.args.unit_type c.args.in_bits) c.multiples-unit-items.result.now c.loop-unit.unit-index Bit c.loop-unit.invariant c.loop-unit-test.true (none_true _ _ c.if-suits.false c.suits.ensures.1)
 
 pub returns-clause-none : goal.returns-clause-none
-returns-clause-none c = none_found (Suits current c.args.family c.args.kind c.args.in_bits) c.multiples-unit-items.result.now c.loop-unit.unit-index c.loop-unit-test.false c.loop-unit.invariant
+returns-clause-none c = none_found (Suits current c.args.family c.args.unit_type c.args.in_bits) c.multiples-unit-items.result.now c.loop-unit.unit-index c.loop-unit-test.false c.loop-unit.invariant
 
 pub returns-then-suits-clause-found : goal.returns-then-suits-clause-found
-returns-then-suits-clause-found c = unit_found (Suits current c.args.family c.args.kind c.args.in_bits) c.multiples-unit-items.result.now c.loop-unit.unit-index Bit c.multiples-unit-items.ensures c.loop-unit.invariant c.loop-unit-test.true (c.suits.ensures.0 c.if-suits.true)
+returns-then-suits-clause-found c = unit_found (Suits current c.args.family c.args.unit_type c.args.in_bits) c.multiples-unit-items.result.now c.loop-unit.unit-index Bit c.multiples-unit-items.ensures c.loop-unit.invariant c.loop-unit-test.true (c.suits.ensures.0 c.if-suits.true)

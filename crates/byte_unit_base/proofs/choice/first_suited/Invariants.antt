@@ -6,4 +6,4 @@ use Rattle.byte_unit_base.proofs.Falling.{Remain}
 use Rattle.byte_unit_base.proofs.choice.first_suited.Given as goal
 
 abbrev pub invariant-loop-unit : goal.invariant-loop-unit
-invariant-loop-unit l = Remain (Suits current l.family l.kind l.in_bits) (drop l.unit-index (map shape_of l.unit-items))
+invariant-loop-unit l = Remain (Suits current l.family l.unit_type l.in_bits) (drop l.unit-index (map shape_of l.unit-items))
