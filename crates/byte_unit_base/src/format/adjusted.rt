@@ -51,7 +51,7 @@ pub fn adjusted_len(size: u128, kind: Kind, unit: Unit, spec: FormatSpec) -> usi
 /// 10^27.
 ///
 /// It asks for memory once at most, before it writes. `AllocError` comes only where the room that the text has left
-/// is less than `adjusted_len`, and leaves the text as it was.
+/// is less than `adjusted_len`, and leaves the text and its room as they were.
 ///
 /// ```text
 /// let two = FormatSpec { precision: Some(2), ..FormatSpec::PLAIN };
@@ -68,6 +68,7 @@ pub fn append_adjusted<A: Allocator>(
     ensures ok { OnOk result ((form : List ℕ) × IsAdjustedForm current kind size (shape_of unit) spec form × (string_bytes text.new ≡ string_bytes text.old ++ form)) }
     ensures spare { OnOk result ((form : List ℕ) → IsAdjustedForm current kind size (shape_of unit) spec form → spare text.old ≤ spare text.new + length form) }
     ensures err { OnErr result (string_bytes text.new ≡ string_bytes text.old) }
+    ensures kept { OnErr result (spare text.new ≡ spare text.old) }
     ensures room { OnErr result ((form : List ℕ) × IsAdjustedForm current kind size (shape_of unit) spec form × (spare text.old < length form)) }
 {
     let shown = number_in(size, kind, unit, spec);
@@ -129,7 +130,7 @@ fn nearest(size: u128, kind: Kind, unit: Unit, places: u32, ties: Ties) -> Expan
 pub fn number_in_unit(size: u128, kind: Kind, unit: Unit) -> Expansion
     requires { size < current.size_limit }
     ensures number { IsExpansion (size * bits_in kind) (bits (shape_of unit)) result }
-    ensures one { result ≡ expansion_of (size * bits_in kind) (bits (shape_of unit)) }
+    ensures computed { result ≡ expansion_of (size * bits_in kind) (bits (shape_of unit)) }
 {
     let (twos, fives) = unit.powers();
     Expansion::new(size_in_bits(size, kind), twos, fives)

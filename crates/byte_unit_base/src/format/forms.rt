@@ -45,7 +45,7 @@ pub fn text_len(size: u128, kind: Kind, spec: FormatSpec) -> usize
 /// stands in `B` or `Bit`. It is below 10^27.
 ///
 /// It asks for memory once at most, before it writes. `AllocError` comes only where the room that the text has left
-/// is less than `text_len`, and leaves the text as it was.
+/// is less than `text_len`, and leaves the text and its room as they were.
 ///
 /// ```text
 /// append_text(1536, Kind::Byte, FormatSpec::PLAIN, &mut text)?;      // "1536"
@@ -61,6 +61,7 @@ pub fn append_text<A: Allocator>(
     ensures ok { OnOk result ((form : List ℕ) × IsText current kind size spec form × (string_bytes text.new ≡ string_bytes text.old ++ form)) }
     ensures spare { OnOk result ((form : List ℕ) → IsText current kind size spec form → spare text.old ≤ spare text.new + length form) }
     ensures err { OnErr result (string_bytes text.new ≡ string_bytes text.old) }
+    ensures kept { OnErr result (spare text.new ≡ spare text.old) }
     ensures room { OnErr result ((form : List ℕ) × IsText current kind size spec form × (spare text.old < length form)) }
 {
     if spec.alternate {

@@ -39,7 +39,7 @@ pub fn layout_len(e: &Expansion, places: u32, unit: Unit, spec: FormatSpec) -> u
 /// Between number and unit stand as many spaces as the sign says; a sign is never printed.
 ///
 /// It asks for memory once at most, before it writes. `AllocError` comes only where the room that the text has left
-/// is less than `layout_len`, and leaves the text as it was.
+/// is less than `layout_len`, and leaves the text and its room as they were.
 ///
 /// ```text
 /// let ten = FormatSpec { width: Some(10), ..FormatSpec::ALTERNATE };
@@ -55,6 +55,7 @@ pub fn append_layout<A: Allocator>(
     ensures ok { OnOk result (string_bytes text.new ≡ string_bytes text.old ++ layout_of current e.now places (shape_of unit) spec) }
     ensures spare { OnOk result (spare text.old ≤ spare text.new + length (layout_of current e.now places (shape_of unit) spec)) }
     ensures err { OnErr result (string_bytes text.new ≡ string_bytes text.old) }
+    ensures kept { OnErr result (spare text.new ≡ spare text.old) }
     ensures room { OnErr result (spare text.old < length (layout_of current e.now places (shape_of unit) spec)) }
 {
     write(e, places, unit, spec, text)
@@ -81,6 +82,7 @@ fn write<A: Allocator>(
     ensures ok { OnOk result (string_bytes text.new ≡ string_bytes text.old ++ layout (numeral_of e.now places) (name current (shape_of unit)) spec) }
     ensures spare { OnOk result (spare text.old ≤ spare text.new + length (layout (numeral_of e.now places) (name current (shape_of unit)) spec)) }
     ensures err { OnErr result (string_bytes text.new ≡ string_bytes text.old) }
+    ensures kept { OnErr result (spare text.new ≡ spare text.old) }
     ensures room { OnErr result (spare text.old < length (layout (numeral_of e.now places) (name current (shape_of unit)) spec)) }
 {
     let whole = Digits::of(e.whole());
@@ -88,7 +90,7 @@ fn write<A: Allocator>(
     let len = whole.len() + fraction_len(places) + gap + name_len(unit);
     let pad = padding(len, spec.width);
     reserve(text, len + pad)?;
-    let before = before(spec.align, pad);
+    let before = before_layout(spec.align, pad);
     push_run(text, b' ', before);
     push_numeral(text, &whole, e, places);
     push_run(text, b' ', pad - before);
@@ -98,7 +100,7 @@ fn write<A: Allocator>(
 }
 
 /// How many of the spaces stand before the number.
-fn before(align: Option<Align>, pad: usize) -> usize
+fn before_layout(align: Option<Align>, pad: usize) -> usize
     ensures exact { result ≡ before_layout align pad }
     ensures small { result ≤ pad }
 {

@@ -27,7 +27,7 @@ pub fn plain_len(size: u128, spec: FormatSpec) -> usize
 /// They stand before it where no alignment is set.
 ///
 /// It asks for memory once at most, before it writes. `AllocError` comes only where the room that the text has left
-/// is less than `plain_len`, and leaves the text as it was.
+/// is less than `plain_len`, and leaves the text and its room as they were.
 ///
 /// ```text
 /// append_plain(10240, FormatSpec { width: Some(8), ..FormatSpec::PLAIN }, &mut text)?;  // "   10240"
@@ -40,13 +40,14 @@ pub fn append_plain<A: Allocator>(
     ensures ok { OnOk result (string_bytes text.new ≡ string_bytes text.old ++ plain size spec) }
     ensures spare { OnOk result (spare text.old ≤ spare text.new + length (plain size spec)) }
     ensures err { OnErr result (string_bytes text.new ≡ string_bytes text.old) }
+    ensures kept { OnErr result (spare text.new ≡ spare text.old) }
     ensures room { OnErr result (spare text.old < length (plain size spec)) }
 {
     let digits = Digits::of(size);
     let len = signed_len(digits.len(), spec.sign);
     let pad = padding(len, spec.width);
     reserve(text, len + pad)?;
-    let before = before(spec.align, pad);
+    let before = before_plain(spec.align, pad);
     push_run(text, b' ', before);
     push_sign(text, spec.sign);
     push_ascii(text, digits.as_slice());
@@ -78,7 +79,7 @@ pub(crate) fn padding(columns: usize, width: Option<u16>) -> usize
 }
 
 /// How many of the spaces stand before the number.
-fn before(align: Option<Align>, pad: usize) -> usize
+fn before_plain(align: Option<Align>, pad: usize) -> usize
     ensures exact { result ≡ before_plain align pad }
     ensures small { result ≤ pad }
 {

@@ -11,11 +11,12 @@ use std::str;
 const RUN: usize = 64;
 
 /// Sees that there is room for so many bytes more. It is the one request for memory of an appending call, and asks for
-/// none where the room is there.
+/// none where the room is there. `AllocError` leaves the text and its room as they were.
 pub(crate) fn reserve<A: Allocator>(text: &mut String<A>, len: usize) -> Result<(), AllocError>
     ensures bytes { string_bytes text.new ≡ string_bytes text.old }
     ensures ok { OnOk result (len ≤ spare text.new) }
-    ensures kept { OnOk result (spare text.old ≤ spare text.new) }
+    ensures no_less { OnOk result (spare text.old ≤ spare text.new) }
+    ensures kept { OnErr result (spare text.new ≡ spare text.old) }
     ensures full { OnErr result (spare text.old < len) }
 {
     text.try_reserve_exact(len)
@@ -48,6 +49,9 @@ pub(crate) fn push_run<A: Allocator>(text: &mut String<A>, byte: u8, count: usiz
     ensures bytes { string_bytes text.new ≡ string_bytes text.old ++ replicate count byte }
     ensures spare { spare text.old ≤ spare text.new + count }
 {
+    if count == 0 {
+        return;
+    }
     let run = run_of(byte);
     let mut left = count;
     while left > 0 {
