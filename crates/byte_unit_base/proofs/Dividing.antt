@@ -1,7 +1,6 @@
 -- The choice by long division, unit by unit, and what it counts.
 use Rattle.std.proofs.Common.{◌≡◌, ℕ, ◌+◌, ◌*◌, ◌<◌, ◌≤◌, suc, Bool, true, false, List, [], ◌∷◌, length, map, drop, get_or, add-one, drop-cons, arith, refl, sym, ap, ◌∙◌, subst}
 use Rattle.std.proofs.lemmas.List.{get_or-map, length-map}
-use Rattle.std.proofs.Math.Nat.{mul-le-mul_right}
 use Rattle.byte_unit_math.specs.Exact.{IsExactAt, IsQuotient}
 use Rattle.byte_unit_math.specs.Steps.{raised}
 use Rattle.byte_unit_base.specs.Shape.{Shape, bits}
@@ -86,15 +85,3 @@ pub not_exact_here : (family : Family) (size p B : ℕ) (unit : Shape) → B ≡
 not_exact_here family size p B unit b none s =
     let P : ℕ → Type 0 = λ x. IsExactAt size x p in
     none (subst P (sym b) s.exact)
-
--- fewer a unit are fewer in all
-pub fewer_ticks : (each most total old now : ℕ) → each ≤ most → (ticks : ℕ) × (ticks ≤ each * total) × (now ≡ raised old ticks) → (ticks : ℕ) × (ticks ≤ most * total) × (now ≡ raised old ticks)
-fewer_ticks each most total old now room h =
-    let e = mul-le-mul_right {m = each} {n = most} total room in
-    (h.0, omega (arith, e, h.1), h.2)
-
--- none a unit are none in all
-pub no_ticks : (each total old now : ℕ) → each ≡ 0 → (ticks : ℕ) × (ticks ≤ each * total) × (now ≡ raised old ticks) → now ≡ old
-no_ticks each total old now none h =
-    let e = ap (λ n. n * total) none in
-    omega (arith, e, h.1, h.2)

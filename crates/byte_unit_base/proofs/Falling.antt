@@ -1,8 +1,7 @@
 -- The units from the largest, and a search along them.
 use Rattle.std.proofs.Common.{◌≡◌, ℕ, ◌+◌, ◌<◌, ◌≤◌, ◌⊎◌, ⊎_elim, inl, inr, zero, suc, Bool, true, false, List, [], ◌∷◌, ◌++◌, length, map, drop, get_or, ◌&&◌, leb, add-one, drop-cons, arith, sym, ap, ◌∙◌, subst, refl}
 use Rattle.std.proofs.lemmas.List.{drop_all, get_or-map, length-map}
-use Rattle.std.proofs.lemmas.Bool.{cases_lt}
-use Rattle.std.proofs.lemmas.Bool.Decides.{nat_tests}
+use Rattle.std.proofs.lemmas.Bool.{and_parts, cases_lt, leb-true}
 use Rattle.byte_unit_math.specs.Bounds.{unit_limit}
 use Rattle.byte_unit_base.specs.Shape.{Shape, shape, bits}
 use Rattle.byte_unit_base.specs.Edition.{current}
@@ -50,23 +49,13 @@ in_falling (suc n) unit some known =
     let P : ℕ → Type 0 = λ k. IsIn unit (of_prefix k) in
     IsIn-left (of_prefix (suc n)) (falling_from n) unit (subst P same (in_prefix unit.power unit.binary unit.bit))) (cases_lt unit.power (suc n))
 
-and_left : (a b : Bool) → a && b ≡ true → a ≡ true
-and_left true b h = refl
-and_left false b h = h
-
-and_right : (a b : Bool) → a && b ≡ true → b ≡ true
-and_right true b h = h
-and_right false b h = absurd (cc)
-
-leb_is : (a b : ℕ) → leb a b ≡ true → a ≤ b
-leb_is a b h = grind (arith, nat_tests)
-
 -- none is above the bound
 pub le_of_falls : (xs : List Shape) (bound : ℕ) (unit : Shape) → falls bound xs ≡ true → IsIn unit xs → bits unit ≤ bound
 le_of_falls [] bound unit h i = absurd i
 le_of_falls (x ∷ xs) bound unit h i =
-    let first = leb_is (bits x) bound (and_left (leb (bits x) bound) (falls (bits x) xs) h) in
-    ⊎_elim (λ e. let P : Shape → Type 0 = λ s. bits s ≤ bound in subst P e first) (λ k. let below = le_of_falls xs (bits x) unit (and_right (leb (bits x) bound) (falls (bits x) xs) h) k in omega (arith, first, below)) i
+    let parts = and_parts (leb (bits x) bound) (falls (bits x) xs) h in
+    let first = leb-true (bits x) bound parts.0 in
+    ⊎_elim (λ e. let P : Shape → Type 0 = λ s. bits s ≤ bound in subst P e first) (λ k. let below = le_of_falls xs (bits x) unit parts.1 k in omega (arith, first, below)) i
 
 -- so from any place on
 falls_on : (xs : List Shape) (bound i : ℕ) (x : Shape) (rest : List Shape) → falls bound xs ≡ true → drop i xs ≡ x ∷ rest → falls (bits x) rest ≡ true
@@ -77,8 +66,8 @@ falls_on (y ∷ ys) bound zero x rest h e =
     let b : ys ≡ rest = cc in
     let P : Shape → Type 0 = λ s. falls (bits s) rest ≡ true in
     let Q : List Shape → Type 0 = λ l. falls (bits y) l ≡ true in
-    subst P a (subst Q b (and_right (leb (bits y) bound) (falls (bits y) ys) h))
-falls_on (y ∷ ys) bound (suc i) x rest h e = falls_on ys (bits y) i x rest (and_right (leb (bits y) bound) (falls (bits y) ys) h) e
+    subst P a (subst Q b (and_parts (leb (bits y) bound) (falls (bits y) ys) h).1)
+falls_on (y ∷ ys) bound (suc i) x rest h e = falls_on ys (bits y) i x rest (and_parts (leb (bits y) bound) (falls (bits y) ys) h).1 e
 
 -- the units of the current version do
 pub current_falls : falls unit_limit (falling current) ≡ true

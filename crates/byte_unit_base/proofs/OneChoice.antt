@@ -1,7 +1,7 @@
 -- One choice for each size.
 use Rattle.std.proofs.Common.{◌≡◌, ℕ, ◌*◌, ◌^◌, ◌-◌, ◌<◌, ◌≤◌, ⊎_elim, Bool, true, false, List, [], ◌∷◌, ◌&&◌, ltb, length, arith, refl, sym, ap, ◌∙◌, subst}
 use Rattle.std.proofs.Math.Nat.{eq_of_mul-eq-mul_right}
-use Rattle.std.proofs.lemmas.Bool.Decides.{nat_tests}
+use Rattle.std.proofs.lemmas.Bool.{and_parts, ltb-true}
 use Rattle.byte_unit_math.specs.Exact.{IsQuotient}
 use Rattle.byte_unit_math.specs.Bounds.{places_of_decimal}
 use Rattle.byte_unit_base.specs.Shape.{Shape, bits}
@@ -16,25 +16,18 @@ abbrev drops : ℕ → List Shape → Bool
 drops bound [] = true
 drops bound (x ∷ xs) = ltb (bits x) bound && drops (bits x) xs
 
-both : (a b : Bool) → a && b ≡ true → (a ≡ true) × (b ≡ true)
-both true b h = (refl, h)
-both false b h = absurd (let k : ⊥ = cc in k)
-
-ltb_is : (a b : ℕ) → ltb a b ≡ true → a < b
-ltb_is a b h = grind (arith, nat_tests)
-
 lt_of_drops : (xs : List Shape) (bound : ℕ) (unit : Shape) → drops bound xs ≡ true → IsIn unit xs → bits unit < bound
 lt_of_drops [] bound unit h i = absurd i
 lt_of_drops (x ∷ xs) bound unit h i =
-    let t = both (ltb (bits x) bound) (drops (bits x) xs) h in
-    let first = ltb_is (bits x) bound t.0 in
+    let t = and_parts (ltb (bits x) bound) (drops (bits x) xs) h in
+    let first = ltb-true (bits x) bound t.0 in
     let P : Shape → Type 0 = λ s. bits s < bound in
     ⊎_elim (λ e. subst P e first) (λ k. let below = lt_of_drops xs (bits x) unit t.1 k in omega (arith, first, below)) i
 
 same_bits : (xs : List Shape) (bound : ℕ) (a b : Shape) → drops bound xs ≡ true → IsIn a xs → IsIn b xs → bits a ≡ bits b → a ≡ b
 same_bits [] bound a b h i j e = absurd i
 same_bits (x ∷ xs) bound a b h i j e =
-    let t = both (ltb (bits x) bound) (drops (bits x) xs) h in
+    let t = and_parts (ltb (bits x) bound) (drops (bits x) xs) h in
     ⊎_elim (λ p. ⊎_elim (λ q. sym p ∙ q) (λ q. let l = lt_of_drops xs (bits x) b t.1 q in absurd (omega (arith, l, e, ap bits p))) j) (λ p. ⊎_elim (λ q. let l = lt_of_drops xs (bits x) a t.1 p in absurd (omega (arith, l, e, ap bits q))) (λ q. same_bits xs (bits x) a b t.1 p q e) j) i
 
 current_drops : drops (2 ^ 84) (falling current) ≡ true

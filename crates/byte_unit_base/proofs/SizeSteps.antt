@@ -4,8 +4,9 @@ use Rattle.std.specs.Option.{option_map}
 use Rattle.std.specs.Char.{digit_value}
 use Rattle.std.proofs.Math.Nat.{pow-succ'}
 use Rattle.std.proofs.Math.Numerals.{add-one}
+use Rattle.std.proofs.lemmas.Bool.{ltb-true}
 use Rattle.std.proofs.lemmas.Bool.Decides.{nat_tests}
-use Rattle.std.proofs.lemmas.List.{at_drop_more, at_drop_all}
+use Rattle.std.proofs.lemmas.List.{at_drop_all}
 use Rattle.byte_unit_math.specs.Bounds.{one, places_of_decimal, whole_limit}
 use Rattle.byte_unit_base.specs.Edition.{current}
 use Rattle.byte_unit_base.specs.Spelling.{Flags}
@@ -21,6 +22,7 @@ use Rattle.byte_unit_base.specs.declared.unit.scan.Multiple.{Multiple}
 use Rattle.byte_unit_base.specs.declared.unit.scan.Multiple.TheVariants.{One, Decimal, Binary}
 use Rattle.byte_unit_base.specs.declared.read.scan.SizeScan.{SizeScan}
 use Rattle.byte_unit_base.specs.declared.read.scan.SizeScan.TheVariants.{Beginning, Whole, Point, Fraction, Gap, Unit as UnitAt}
+use Rattle.byte_unit_base.proofs.Lists.{at_next}
 use Rattle.byte_unit_base.proofs.UnitReached.{guard_some, is_true}
 
 -- a step by cases
@@ -43,9 +45,6 @@ cond_is : {X : Type 0} (t : Bool) (x y z : X) → cond t x y ≡ z → ((t ≡ t
 cond_is true x y z e = inl (refl, e)
 cond_is false x y z e = inr (refl, e)
 
-below : (a b : ℕ) → ltb a b ≡ true → a < b
-below a b e = grind (arith, nat_tests)
-
 unit_step_is : (n : ℕ) (c : ℕ) (s : UnitScan) (t : SizeScan) (o : Option UnitScan) → unit_step s c ≡ o → option_map (UnitAt n) o ≡ Some t → UnitStep n s c t
 unit_step_is n c s t None e h = absurd (let k : ⊥ = cc in k)
 unit_step_is n c s t (Some u) e h = (u, e, cc)
@@ -55,14 +54,14 @@ after_number_is n c t e = ⊎_elim (λ h. inl (is_true _ _ h.0, cc)) (λ h. inr 
 
 pub step_is : (s t : SizeScan) (c : ℕ) → size_step s c ≡ Some t → StepOf s c t
 unfolding size_step
-step_is Beginning t c e = let g = guard_some (is_digit c) (Whole (digit_value c)) t e in (below _ _ g.0, g.1)
+step_is Beginning t c e = let g = guard_some (is_digit c) (Whole (digit_value c)) t e in (ltb-true _ _ g.0, g.1)
 step_is (Whole w) t c e =
-    ⊎_elim (λ h. let g = guard_some (ltb (w * 10 + digit_value c) whole_limit) (Whole (w * 10 + digit_value c)) t h.1 in inl (below _ _ h.0, below _ _ g.0, g.1))
+    ⊎_elim (λ h. let g = guard_some (ltb (w * 10 + digit_value c) whole_limit) (Whole (w * 10 + digit_value c)) t h.1 in inl (ltb-true _ _ h.0, ltb-true _ _ g.0, g.1))
     (λ h. inr (⊎_elim (λ k. inl (is_true _ _ k.0, cc)) (λ k. inr (after_number_is (w * one) c t k.1)) (cond_is (eqb c 46) (Some (Point w)) (after_number (w * one) c) (Some t) h.1)))
     (cond_is (is_digit c) (cond (ltb (w * 10 + digit_value c) whole_limit) (Some (Whole (w * 10 + digit_value c))) None) (cond (eqb c 46) (Some (Point w)) (after_number (w * one) c)) (Some t) e)
-step_is (Point w) t c e = let g = guard_some (is_digit c) (Fraction w (digit_value c) 1) t e in (below _ _ g.0, g.1)
+step_is (Point w) t c e = let g = guard_some (is_digit c) (Fraction w (digit_value c) 1) t e in (ltb-true _ _ g.0, g.1)
 step_is (Fraction w f j) t c e =
-    ⊎_elim (λ h. let g = guard_some (ltb j places_of_decimal) (Fraction w (f * 10 + digit_value c) (j + 1)) t h.1 in inl (below _ _ h.0, below _ _ g.0, g.1))
+    ⊎_elim (λ h. let g = guard_some (ltb j places_of_decimal) (Fraction w (f * 10 + digit_value c) (j + 1)) t h.1 in inl (ltb-true _ _ h.0, ltb-true _ _ g.0, g.1))
     (λ h. inr (after_number_is (precise w f j) c t h.1))
     (cond_is (is_digit c) (cond (ltb j places_of_decimal) (Some (Fraction w (f * 10 + digit_value c) (j + 1))) None) (after_number (precise w f j) c) (Some t) e)
 step_is (Gap n) t c e = after_number_is n c t e
@@ -138,9 +137,6 @@ step_keeps (UnitAt n s) t c h k = unit_keeps n c s t k
 
 -- the reader's loop: one character more, and the end
 
-head_is : {X : Type 0} (f : List ℕ → X) (cs : List ℕ) (n c : ℕ) → (n < length cs) × (c ≡ get_or cs n c) → f (drop n cs) ≡ f (c ∷ drop (n + 1) cs)
-head_is f cs n c h = at_drop_more f cs n c h.0 ∙ ap (λ x. f (x ∷ drop (n + 1) cs)) (sym h.1)
-
 pub size_read_some : (flags : Flags) (s t : SizeScan) (c : ℕ) (cs : List ℕ) → size_step s c ≡ Some t → size_read flags s (c ∷ cs) ≡ size_read flags t cs
 size_read_some flags s t c cs e = rw (e, size_read) refl
 
@@ -148,10 +144,10 @@ pub size_read_none : (flags : Flags) (s : SizeScan) (c : ℕ) (cs : List ℕ) �
 size_read_none flags s c cs e = rw (e, size_read) refl
 
 pub size_read_more : (flags : Flags) (s t : SizeScan) (cs : List ℕ) (n c : ℕ) → (n < length cs) × (c ≡ get_or cs n c) → size_step s c ≡ Some t → size_read flags t (drop (n + 1) cs) ≡ size_read flags s (drop n cs)
-size_read_more flags s t cs n c h e = sym (head_is (size_read flags s) cs n c h ∙ size_read_some flags s t c (drop (n + 1) cs) e)
+size_read_more flags s t cs n c h e = sym (at_next (size_read flags s) cs n c h ∙ size_read_some flags s t c (drop (n + 1) cs) e)
 
 pub size_read_stop : (flags : Flags) (s : SizeScan) (cs : List ℕ) (n c : ℕ) → (n < length cs) × (c ≡ get_or cs n c) → size_step s c ≡ None → Err (fault_at current flags (size_place s) c) ≡ size_read flags s (drop n cs)
-size_read_stop flags s cs n c h e = sym (head_is (size_read flags s) cs n c h ∙ size_read_none flags s c (drop (n + 1) cs) e)
+size_read_stop flags s cs n c h e = sym (at_next (size_read flags s) cs n c h ∙ size_read_none flags s c (drop (n + 1) cs) e)
 
 pub size_read_end : (flags : Flags) (s : SizeScan) (cs : List ℕ) (n : ℕ) → length cs ≡ n → size_at_end flags s ≡ size_read flags s (drop n cs)
 size_read_end flags s cs n h = sym (at_drop_all (size_read flags s) cs n (omega arith))

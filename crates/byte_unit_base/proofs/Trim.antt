@@ -2,19 +2,9 @@
 use Rattle.std.proofs.Common.{◌≡◌, ℕ, List, [], ◌∷◌, length, refl, ap, ◌∙◌, Bool, true, false, cond, ◌&&◌, nat_eq}
 use Rattle.std.specs.Str.{chars, trim, trim_start, trim_end, skip_leading_whitespace, drop_trailing_whitespace, IsUtf8, all_scalars, encode_utf8_all}
 use Rattle.std.specs.Char.{is_whitespace}
+use Rattle.std.proofs.lemmas.Bool.{and_from, and_parts}
 use Rattle.std.proofs.lemmas.Str.{chars-encodes, scalars-chars}
 use Rattle.byte_unit_base.specs.SizeText.{trimmed}
-
-and_left : (a b : Bool) → (a && b) ≡ true → a ≡ true
-and_left true b e = refl
-and_left false b e = e
-
-and_right : (a b : Bool) → (a && b) ≡ true → b ≡ true
-and_right true b e = e
-and_right false b e = absurd (let h : ⊥ = cc in h)
-
-and_both : (a b : Bool) → a ≡ true → b ≡ true → (a && b) ≡ true
-and_both a b e f = rw (e, f) refl
 
 scalars_cond : (t : Bool) (xs ys : List ℕ) → all_scalars xs ≡ true → all_scalars ys ≡ true → all_scalars (cond t xs ys) ≡ true
 scalars_cond true xs ys e f = e
@@ -22,11 +12,11 @@ scalars_cond false xs ys e f = f
 
 scalars_skip : (cs : List ℕ) → all_scalars cs ≡ true → all_scalars (skip_leading_whitespace cs) ≡ true
 scalars_skip [] e = refl
-scalars_skip (c ∷ cs) e = scalars_cond (is_whitespace c) _ _ (scalars_skip cs (and_right _ _ e)) e
+scalars_skip (c ∷ cs) e = scalars_cond (is_whitespace c) _ _ (scalars_skip cs (and_parts _ _ e).1) e
 
 scalars_drop : (cs : List ℕ) → all_scalars cs ≡ true → all_scalars (drop_trailing_whitespace cs) ≡ true
 scalars_drop [] e = refl
-scalars_drop (c ∷ cs) e = scalars_cond (is_whitespace c && nat_eq (length (drop_trailing_whitespace cs)) 0) [] _ refl (and_both _ _ (and_left _ _ e) (scalars_drop cs (and_right _ _ e)))
+scalars_drop (c ∷ cs) e = scalars_cond (is_whitespace c && nat_eq (length (drop_trailing_whitespace cs)) 0) [] _ refl (and_from _ _ (and_parts _ _ e).0 (scalars_drop cs (and_parts _ _ e).1))
 
 chars-trim_start : (bs : List ℕ) → IsUtf8 bs → chars (trim_start bs) ≡ skip_leading_whitespace (chars bs)
 unfolding trim_start

@@ -1,7 +1,7 @@
 -- The texts that the code writes are those of the definitions.
 use Rattle.std.specs.Fmt.{decimal}
 use Rattle.std.specs.Prelude.{MatchBool}
-use Rattle.std.proofs.Common.{◌≡◌, ◌+◌, ◌-◌, ◌<◌, ℕ, zero, suc, Bool, true, List, [], ◌∷◌, ◌++◌, length, take, replicate, arith, ap, sym, refl, subst, ◌∙◌, Result, Ok, Err, OnOk, OnErr}
+use Rattle.std.proofs.Common.{◌≡◌, ◌+◌, ◌-◌, ◌<◌, ℕ, zero, suc, Bool, true, List, [], ◌∷◌, ◌++◌, length, take, replicate, arith, ap, sym, refl, subst, ◌∙◌}
 use Rattle.std.proofs.lemmas.List.{length-take, map-append, length-append, length-replicate}
 use Rattle.byte_unit_math.specs.Bounds.{one, places_of_decimal}
 use Rattle.byte_unit_math.specs.Finite.{Finite, IsExpansion}
@@ -46,14 +46,6 @@ numeral_is e places = ap (λ t. decimal e.whole ++ t) (fraction_same places e.di
 -- with its own places it is the decimal
 pub all_places : (e : Finite) (places : ℕ) → places ≡ length e.digits → text_of (padded places e) ≡ text_of e
 all_places e places count = ap (λ n. text_of (padded n e)) count ∙ ap text_of (own_places e)
-
-pub OnErr-map : {T E : Type 0} (r : Result T E) (P Q : Type 0) → (P → Q) → OnErr r P → OnErr r Q
-OnErr-map (Ok x) P Q f h = h
-OnErr-map (Err e) P Q f h = f h
-
-pub OnOk-map : {T E : Type 0} (r : Result T E) (P Q : Type 0) → (P → Q) → OnOk r P → OnOk r Q
-OnOk-map (Ok x) P Q f h = f h
-OnOk-map (Err e) P Q f h = h
 
 -- the form of a size
 
