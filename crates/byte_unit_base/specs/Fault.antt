@@ -12,7 +12,8 @@ pub data Fault : Type 0 where
   not_number : ℕ → Fault
   no_value : Fault
   too_long : Fault
-  -- a character, those that could stand in its place in this order, and whether the text could end there
+  -- a character, those that are named to the user in its place in this order, and whether the text could end there; others
+  -- could stand there too, such as the other case of a letter, or an i after a prefix
   bad_unit : ℕ → List ℕ → Bool → Fault
 
 -- a character that begins no unit
@@ -23,7 +24,7 @@ no_unit edition c = bad_unit c (codes "B" ++ edition.letters) true
 abbrev pub after_digit : Edition → ℕ → Fault
 after_digit edition c = if nat_lt (digit_value c) 10 then too_long else no_unit edition c
 
--- what may follow a prefix: the ways to say bits or bytes that change what is meant
+-- what is named after a prefix: both letters where case counts, and else B where bytes are preferred and b where bits are
 abbrev pub expected_after_prefix : Flags → List ℕ
 expected_after_prefix flags = if flags.ignore_case then (if flags.prefer_byte then codes "B" else codes "b") else codes "Bb"
 

@@ -19,7 +19,7 @@ pub enum ValueParseError {
     ExceededBounds(Decimal),
     /// A digit has to stand where this character is, or after it where the text ends in a point.
     NotNumber(char),
-    /// The text is empty.
+    /// The text is empty or white space alone.
     NoValue,
     /// The whole part is above 2^96 - 1, or more than 28 digits follow the point.
     NumberTooLong,
@@ -28,9 +28,11 @@ pub enum ValueParseError {
 /// Why the spelling of a unit is refused.
 #[derive(Clone, Copy, Debug)]
 pub struct UnitParseError {
-    /// The first character that goes on with no spelling; an `i` where the text stops after `bi`.
+    /// The first character that goes on with no spelling; the character `i`, also for an `I`, where the text stops
+    /// after the `bi` of a b-part.
     pub character: char,
-    /// What could stand in its place.
+    /// The characters that are named to the user in its place, in this order. Others could stand there
+    /// too, such as the other case of a letter, or an `i` after a prefix.
     pub expected_characters: &'static [char],
     /// Whether the text could end in its place.
     pub also_expect_no_character: bool,

@@ -18,6 +18,10 @@ impl Kind {
     ghost use Rattle.byte_unit_base.specs.Kinds.{bits_in, own_unit};
 
     /// How many bits one of the kind is: 8 or 1.
+    ///
+    /// ```text
+    /// Kind::Byte.bits() == 8
+    /// ```
     pub fn bits(self) -> u128
         ensures bits { result ≡ bits_in self }
         ensures some { 1 ≤ result }
@@ -30,6 +34,10 @@ impl Kind {
     }
 
     /// The unit that is one of the kind: `B` or `Bit`.
+    ///
+    /// ```text
+    /// Kind::Bit.unit() == Unit::Bit
+    /// ```
     pub fn unit(self) -> Unit
         ensures { shape_of result ≡ own_unit self }
     {

@@ -20,9 +20,10 @@ mod scan;
 /// 1 to 28 digits; any number of the character space; and the spelling of a unit, as `Unit::parse_str` reads it but
 /// without another trim. Every digit is kept, and nothing is rounded.
 ///
-/// Every other text is refused by its first fault from the left: `NoValue` where it is empty, `NotNumber` where a digit
-/// has to stand and none does, `NumberTooLong` at the digit that makes the number too long, and `Unit` at the first
-/// character that goes on with no unit. Bounds of sizes are not looked at, so `ExceededBounds` is never answered.
+/// Every other text is refused by its first fault from the left: `NoValue` where it is empty or white space alone,
+/// `NotNumber` where a digit has to stand and none does, `NumberTooLong` at the digit that makes the number too long, and
+/// `Unit` at the first character that goes on with no unit. Bounds of sizes are not looked at, so `ExceededBounds` is
+/// never answered.
 ///
 /// ```text
 /// read_size("1.5 KiB", false, true) is Ok of 1.5 and Unit::KiB

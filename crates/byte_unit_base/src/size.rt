@@ -19,7 +19,12 @@ use byte_unit_math::{Decimal, least_size};
 /// Sizes are below this: 10^27.
 const SIZE_LIMIT: u128 = 1_000_000_000_000_000_000_000_000_000;
 
-/// The number, where it is a size.
+/// The number, where it is a size: below 10^27. `None` exactly where it is not.
+///
+/// ```text
+/// bounded(1536)         Some(1536)
+/// bounded(u128::MAX)    None
+/// ```
 pub fn bounded(size: u128) -> Option<u128>
     ensures size { SomeIff result (size < current.size_limit) size }
     ensures small { IfSome result (λ n. n < current.size_limit) }
@@ -27,7 +32,11 @@ pub fn bounded(size: u128) -> Option<u128>
     if size < SIZE_LIMIT { Some(size) } else { None }
 }
 
-/// The number, where it is a size; a negative one is none.
+/// The number, where it is a size: from 0 to below 10^27. `None` exactly where it is negative or not below 10^27.
+///
+/// ```text
+/// from_signed(-1)    None
+/// ```
 pub fn from_signed(size: i128) -> Option<u128>
     ensures size { OfSigned (λ n answer. SomeIff answer (n < current.size_limit) n) size result }
     ensures small { IfSome result (λ n. n < current.size_limit) }
@@ -53,7 +62,12 @@ fn holding(in_bits: u128, kind: Kind) -> u128
     }
 }
 
-/// So many of the unit, rounded up to a whole number of the kind, where that is a size.
+/// So many of the unit, rounded up to a whole number of the kind. `None` exactly where that is not below 10^27.
+///
+/// ```text
+/// with_unit(3, Unit::KB, Kind::Byte)    Some(3000)
+/// with_unit(9, Unit::Bit, Kind::Byte)   Some(2)
+/// ```
 pub fn with_unit(size: u128, unit: Unit, kind: Kind) -> Option<u128>
     ensures size { IsSizeOrNone current (IsLeastOf kind (size * one) (shape_of unit)) result }
     ensures small { IfSome result (λ n. n < current.size_limit) }
@@ -62,7 +76,8 @@ pub fn with_unit(size: u128, unit: Unit, kind: Kind) -> Option<u128>
     bounded(holding(in_bits, kind))
 }
 
-/// The same of a signed number; a negative one is none.
+/// So many of the unit, as `with_unit` gives them. `None` exactly where the number is negative or that size is not below
+/// 10^27.
 pub fn signed_with_unit(size: i128, unit: Unit, kind: Kind) -> Option<u128>
     ensures size { OfSigned (λ n answer. IsSizeOrNone current (IsLeastOf kind (n * one) (shape_of unit)) answer) size result }
     ensures small { IfSome result (λ n. n < current.size_limit) }
@@ -80,7 +95,13 @@ fn bit_limit(kind: Kind) -> u128
     }
 }
 
-/// The number times the unit exactly, rounded up to a whole number of the kind, where that is a size.
+/// The number times the unit exactly, rounded up once to a whole number of the kind. `None` exactly where that is not
+/// below 10^27.
+///
+/// ```text
+/// from_decimal(1.5, Unit::KiB, Kind::Byte)    Some(1536)
+/// from_decimal(0.1, Unit::B, Kind::Byte)      Some(1)
+/// ```
 pub fn from_decimal(number: Decimal, unit: Unit, kind: Kind) -> Option<u128>
     ensures size { IsSizeOrNone current (IsLeastOf kind number (shape_of unit)) result }
     ensures small { IfSome result (λ n. n < current.size_limit) }
@@ -101,7 +122,19 @@ fn read(s: &str, ignore_case: bool, kind: Kind) -> Result<(Decimal, Unit), Parse
     }
 }
 
-/// The size that the text states, rounded up to a whole number of the kind.
+/// The size that the text states, rounded up once to a whole number of the kind. It is below 10^27.
+///
+/// The text is one that `read_size` reads. Where it names no unit it states bytes for `Kind::Byte`, and bits for
+/// `Kind::Bit`. With `ignore_case` a `b` means bytes; texts of bits are always case sensitive, so there it does nothing.
+///
+/// Every other text is refused by the error of `read_size`: `NoValue`, `NotNumber` or `NumberTooLong` for the number, or
+/// `Unit`. A text whose size is not below 10^27 is refused by `ExceededBounds`, with its number as it was written.
+///
+/// ```text
+/// parse("1.5 KiB", false, Kind::Byte) is Ok(1536)
+/// parse("9 bits", false, Kind::Byte) is Ok(2)
+/// parse("1.", false, Kind::Byte) is Err of NotNumber('.')
+/// ```
 pub fn parse(s: &str, ignore_case: bool, kind: Kind) -> Result<u128, ParseError>
     ensures reading { IsSizeReading kind ignore_case s.now result }
     ensures small { IfOk result (λ n. n < current.size_limit) }
@@ -115,7 +148,9 @@ pub fn parse(s: &str, ignore_case: bool, kind: Kind) -> Result<u128, ParseError>
     }
 }
 
-/// The sum, where it is a size.
+/// The sum of two sizes. `None` exactly where it is not below 10^27.
+///
+/// The caller owes numbers below 10^27.
 pub fn sum(left: u128, right: u128) -> Option<u128>
     requires left { left < current.size_limit }
     requires right { right < current.size_limit }
@@ -125,7 +160,7 @@ pub fn sum(left: u128, right: u128) -> Option<u128>
     bounded(left + right)
 }
 
-/// The product, where it is a size.
+/// The product of a number and a factor. `None` exactly where it is not below 10^27.
 pub fn product(size: u128, factor: u128) -> Option<u128>
     ensures product { SomeIff result (size * factor < current.size_limit) (size * factor) }
     ensures small { IfSome result (λ n. n < current.size_limit) }
@@ -133,7 +168,9 @@ pub fn product(size: u128, factor: u128) -> Option<u128>
     bounded(size.checked_mul(factor)?)
 }
 
-/// The difference, where it is not negative.
+/// The size less another number. `None` exactly where that is negative.
+///
+/// The caller owes a size below 10^27.
 pub fn difference(size: u128, less: u128) -> Option<u128>
     requires { size < current.size_limit }
     ensures difference { SomeIff result (less ≤ size) (size - less) }
@@ -142,7 +179,9 @@ pub fn difference(size: u128, less: u128) -> Option<u128>
     size.checked_sub(less)
 }
 
-/// The quotient, rounded down; none where the divisor is zero.
+/// The size divided by the divisor, rounded down. `None` exactly where the divisor is zero.
+///
+/// The caller owes a size below 10^27.
 pub fn quotient(size: u128, divisor: u128) -> Option<u128>
     requires { size < current.size_limit }
     ensures quotient { SomeIff result (0 < divisor) (size / divisor) }
@@ -151,7 +190,7 @@ pub fn quotient(size: u128, divisor: u128) -> Option<u128>
     size.checked_div(divisor)
 }
 
-/// The number as a `u64`, which is the greatest one for larger numbers.
+/// The number as a `u64`, or 2^64 - 1 for a larger number.
 pub fn saturated(size: u128) -> u64
     ensures { result ≡ min size (2 ^ 64 - 1) }
 {
@@ -162,7 +201,7 @@ pub fn saturated(size: u128) -> u64
     }
 }
 
-/// The number as a `u64`, where it fits.
+/// The number as a `u64`. `None` exactly where it is not below 2^64.
 pub fn fitting(size: u128) -> Option<u64>
     ensures { SomeIff result (size < 2 ^ 64) size }
 {

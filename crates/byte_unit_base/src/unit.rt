@@ -187,6 +187,10 @@ impl Unit {
     }
 
     /// Whether it counts bits, and not bytes.
+    ///
+    /// ```text
+    /// Unit::Kbit.is_bit() == true
+    /// ```
     pub fn is_bit(self) -> bool
         ensures { result ≡ (shape_of self).bit }
     {
@@ -213,6 +217,10 @@ impl Unit {
     }
 
     /// Whether it goes by powers of two. `B` does, and `Bit` does not.
+    ///
+    /// ```text
+    /// Unit::KiB.is_binary_multiples() == true
+    /// ```
     pub fn is_binary_multiples(self) -> bool
         ensures { result ≡ (shape_of self).binary }
     {

@@ -8,7 +8,7 @@ use std::marker::Model;
 /// More than the digits of the greatest number.
 const ROOM: usize = 40;
 
-/// So many digits are taken off at once where a number is above 64 bits: 18 of them.
+/// Ten to the power of 18: 18 digits are taken off at once where a number is above 64 bits.
 const GROUP: u128 = 1_000_000_000_000_000_000;
 
 /// The digits of a number, at the end of an array.

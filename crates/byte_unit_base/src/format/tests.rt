@@ -1,4 +1,4 @@
-//! Texts of sizes: worked rows.
+//! Texts of sizes: worked cases.
 
 use crate::format::{
     Align, FormatSpec, Sign, adjusted_len, append_adjusted, append_layout, append_plain,

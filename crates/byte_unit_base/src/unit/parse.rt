@@ -18,14 +18,16 @@ impl Unit {
     /// b-part after it. A b-part is `B` for bytes, `b` for bits or, with `ignore_case`, for bytes, or `bit` or `bits` in
     /// any case for bits. Where there is none, bytes are meant with `prefer_byte`, and else bits.
     ///
-    /// Every other text is refused by the first character, from the left, that goes on with no spelling. The error has
-    /// what could stand there instead. A text that stops after the `bi` of a b-part is refused by that `i`.
+    /// Every other text is refused by the first character, from the left, that goes on with no spelling. The error names
+    /// characters that could stand there, though not each one, such as the other case of a letter or an `i` after a prefix,
+    /// and says whether the text could end there. A text that stops after the `bi` of a b-part is refused with the
+    /// character `i`, also for an `I`.
     ///
     /// ```text
     /// Unit::parse_str("Kib", false, true) is Ok(Unit::Kibit)
     /// Unit::parse_str("Kib", true, true) is Ok(Unit::KiB)
     /// Unit::parse_str("K", false, true) is Ok(Unit::KB)
-    /// Unit::parse_str("Kx", false, true) is refused by 'x', where 'B', 'b' or the end could stand
+    /// Unit::parse_str("Kx", false, true) is refused by 'x', and names 'B', 'b' and the end
     /// ```
     pub fn parse_str(s: &str, ignore_case: bool, prefer_byte: bool) -> Result<Unit, UnitParseError>
         ensures { IsUnitReading ignore_case prefer_byte s.now result }

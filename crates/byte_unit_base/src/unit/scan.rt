@@ -221,10 +221,11 @@ impl UnitScan {
     }
 }
 
-/// The characters that begin a unit.
+/// The capital letters that begin a unit.
 static BEGINNINGS: [char; 9] = ['B', 'K', 'M', 'G', 'T', 'P', 'E', 'Z', 'Y'];
 
-/// The characters that may say bits or bytes after a prefix, where they change what is meant.
+/// The letters that are named after a prefix: both where case counts, and else `B` where bytes are preferred and `b`
+/// where bits are.
 fn after_prefix(flags: Flags) -> &'static [char]
     ensures { result.now ≡ expected_after_prefix (flags_of flags) }
 {
