@@ -10,6 +10,10 @@ use std::process::Abort;
 use std::str::FromStr;
 use std::test::Fail;
 
+mod adjusted;
+mod constants;
+mod texts;
+
 /// A size below its bound, from a literal.
 fn bits(rt: &impl Abort, size: u128) -> Bit {
     Bit::from_u128(size).expect(rt, "a size")
@@ -40,6 +44,11 @@ fn texts_are_read_exactly_and_rounded_up(rt: HostRuntime) {
             999_999_999_999_999_999_999_999_999,
         ),
         ("12", 12),
+        ("9 b", 9),
+        ("12 bits", 12),
+        ("50.84 Mb", 50_840_000),
+        ("\u{2028}1KB\u{b}", 8000),
+        ("\u{b}\u{c}1Kb\u{85}\u{2028}\u{2029}", 1000),
     ] {
         assert_eq!(rt; read_without_memory(text), Some(size), "{text}");
     }
@@ -53,6 +62,7 @@ fn sizes_out_of_range_are_refused_with_their_number(rt: HostRuntime) -> Result<(
             "124.9999999999999999999999999",
         ),
         ("125 YB", "125"),
+        ("1000.00 Yb", "1000"),
         (
             "1000000000000000000000000000",
             "1000000000000000000000000000",
@@ -65,6 +75,32 @@ fn sizes_out_of_range_are_refused_with_their_number(rt: HostRuntime) -> Result<(
         }
     }
     Ok(())
+}
+
+#[test]
+fn other_texts_are_refused_by_their_fault(rt: HostRuntime) {
+    for text in ["", "\u{2028} \u{b}"] {
+        assert!(rt;
+            matches!(
+                Bit::parse_str(text),
+                Err(ParseError::Value(ValueParseError::NoValue))
+            )
+        );
+    }
+    for (text, character) in [("x", 'x'), ("1.", '.'), ("1.x", 'x')] {
+        match Bit::parse_str(text) {
+            Err(ParseError::Value(ValueParseError::NotNumber(c))) => {
+                assert_eq!(rt; c, character, "{text}")
+            }
+            _ => panic!(rt; "{text}"),
+        }
+    }
+    for (text, character) in [("1 x", 'x'), ("1 Kx", 'x'), ("1 b2", '2')] {
+        match Bit::parse_str(text) {
+            Err(ParseError::Unit(error)) => assert_eq!(rt; error.character, character, "{text}"),
+            _ => panic!(rt; "{text}"),
+        }
+    }
 }
 
 #[test]
@@ -132,16 +168,35 @@ fn decimals_are_rounded_up(rt: HostRuntime) -> Result<(), Fail> {
 
 #[test]
 fn numbers_in_and_out(rt: HostRuntime) {
-    assert_eq!(rt; Bit::from_i64(5), Some(Bit::from_u64(5)));
+    let five = Bit::from_u64(5);
+    assert_eq!(rt; Bit::from_i64(5), Some(five));
+    assert_eq!(rt; Bit::from_i64(-5), None);
+    assert_eq!(rt; Bit::from_i128(5), Some(five));
     assert_eq!(rt; Bit::from_i128(i128::MIN), None);
+    assert_eq!(rt; Bit::from_u128(5), Some(five));
     assert_eq!(rt; Bit::from_u128_unsafe(7).as_u128(), 7);
+    assert_eq!(rt; five.as_u64(), 5);
+    assert_eq!(rt; five.as_u64_checked(), Some(5));
+}
+
+#[test]
+fn numbers_past_64_bits(rt: HostRuntime) {
     let greatest = bits(&rt, 18_446_744_073_709_551_615);
     let larger = bits(&rt, 18_446_744_073_709_551_616);
+    assert_eq!(rt; greatest.as_u64(), 18_446_744_073_709_551_615);
     assert_eq!(rt; greatest.as_u64_checked(), Some(18_446_744_073_709_551_615));
     assert_eq!(rt; larger.as_u64(), 18_446_744_073_709_551_615);
     assert_eq!(rt; larger.as_u64_checked(), None);
     assert_eq!(rt; Bit::ZETTABYTE.as_u64(), 18_446_744_073_709_551_615);
     assert_eq!(rt; Bit::ZETTABYTE.as_u64_checked(), None);
+    match Bit::parse_str("1zb") {
+        Ok(size) => {
+            assert_eq!(rt; size.as_u128(), 1_000_000_000_000_000_000_000);
+            assert_eq!(rt; size.as_u64(), u64::MAX);
+            assert_eq!(rt; size.as_u64_checked(), None);
+        }
+        Err(_) => panic!(rt; "a size"),
+    }
 }
 
 #[test]
@@ -163,27 +218,17 @@ fn arithmetic_stays_in_range(rt: HostRuntime) {
 #[test]
 fn comparisons_with_numbers(rt: HostRuntime) {
     let size = Bit::from_u64(1024);
-    assert!(rt; size.eq_u64(1024));
-    assert!(rt; !size.eq_u128(1025));
-    assert_eq!(rt; size.cmp_u64(1000), Ordering::Greater);
-    assert_eq!(rt; size.cmp_u128(u128::MAX), Ordering::Less);
-}
-
-#[test]
-fn constants_of_the_table(rt: HostRuntime) {
-    for (constant, size) in [
-        (Bit::KILOBIT, 1_000),
-        (Bit::KIBIBIT, 1_024),
-        (Bit::KILOBYTE, 8_000),
-        (Bit::KIBIBYTE, 8_192),
-        (Bit::YOTTABYTE, 8_000_000_000_000_000_000_000_000),
-        (Bit::YOBIBIT, 1_208_925_819_614_629_174_706_176),
-        (Bit::YOBIBYTE, 9_671_406_556_917_033_397_649_408),
+    for (number, order) in [
+        (1025, Ordering::Less),
+        (1024, Ordering::Equal),
+        (1000, Ordering::Greater),
     ] {
-        assert_eq!(rt; constant.as_u128(), size);
+        assert_eq!(rt; size.cmp_u64(number), order);
+        assert_eq!(rt; size.cmp_u128(u128::from(number)), order);
+        assert_eq!(rt; size.eq_u64(number), order.is_eq());
+        assert_eq!(rt; size.eq_u128(u128::from(number)), order.is_eq());
     }
-    assert_eq!(rt; crate::laws::bit_constant(Unit::GiB), Some(Bit::GIBIBYTE));
-    assert_eq!(rt; crate::laws::bit_bounds(), (Bit::MIN, Bit::MAX));
+    assert_eq!(rt; size.cmp_u128(u128::MAX), Ordering::Less);
 }
 
 /// Each conversion through its bound alone.
@@ -229,7 +274,9 @@ fn numbers_become_sizes(rt: HostRuntime) {
     assert_eq!(rt; tried::<i16, Bit>(5), Ok(five));
     assert_eq!(rt; tried::<i32, Bit>(5), Ok(five));
     assert_eq!(rt; tried::<isize, Bit>(5), Ok(five));
+    assert_eq!(rt; tried::<i64, Bit>(5), Ok(five));
     assert_eq!(rt; tried::<i128, Bit>(5), Ok(five));
+    assert_eq!(rt; tried::<u128, Bit>(5), Ok(five));
     assert_eq!(rt; tried::<i64, Bit>(-1), Err(ExceededBoundsError));
     assert_eq!(rt;
         tried::<u128, Bit>(1_000_000_000_000_000_000_000_000_000),
@@ -248,9 +295,16 @@ fn sizes_become_numbers(rt: HostRuntime) {
         999_999_999_999_999_999_999_999_999
     );
     assert_eq!(rt; made::<Bit, u64>(Bit::MAX), u64::MAX);
+    assert_eq!(rt; made::<Bit, u64>(Bit::KIBIBIT), 1024);
+    assert_eq!(rt; tried::<Bit, u8>(Bit::from_u64(255)), Ok(255));
+    assert_eq!(rt; tried::<Bit, u16>(Bit::from_u64(300)), Ok(300));
+    assert_eq!(rt;
+        tried::<Bit, u32>(Bit::from_u64(4_294_967_295)),
+        Ok(4_294_967_295)
+    );
+    assert_eq!(rt; tried::<Bit, usize>(Bit::KIBIBIT), Ok(1024));
     assert!(rt; refuses::<u8>(Bit::from_u64(300)));
-    assert!(rt; !refuses::<u16>(Bit::from_u64(300)));
-    assert!(rt; !refuses::<u32>(Bit::from_u64(4_294_967_295)));
+    assert!(rt; refuses::<u16>(Bit::from_u64(65_536)));
     assert!(rt; refuses::<u32>(Bit::from_u64(4_294_967_296)));
     assert!(rt; refuses::<usize>(Bit::MAX));
 }
@@ -261,10 +315,16 @@ fn traits_of_std(rt: HostRuntime) -> Result<(), Fail> {
         shown(rt.alloc(), &Bit::from_u64(1_555_000))?.as_str(),
         "1555000"
     );
+    let flagged = format!(in rt.alloc(); "{:>+12.1}", Bit::from_u64(1_555_000))?;
+    assert_eq!(rt; flagged.as_str(), "1555000");
     assert_eq!(rt; first::<Bit>(), Bit::MIN);
     assert_eq!(rt; greater(Bit::KILOBIT, Bit::KIBIBIT), Bit::KIBIBIT);
     assert!(rt; are_distinct(rt.alloc(), Bit::KILOBIT, Bit::KIBIBIT)?);
     assert!(rt; !are_distinct(rt.alloc(), Bit::KILOBIT, Bit::from_u64(1000))?);
+    assert_eq!(rt;
+        Bit::KILOBIT.partial_cmp(&Bit::KIBIBIT),
+        Some(Ordering::Less)
+    );
     match parsed::<Bit>("10 B") {
         Ok(size) => assert_eq!(rt; size, Bit::from_u64(80)),
         Err(_) => panic!(rt; "a size"),

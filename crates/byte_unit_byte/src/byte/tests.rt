@@ -10,6 +10,10 @@ use std::process::Abort;
 use std::str::FromStr;
 use std::test::Fail;
 
+mod adjusted;
+mod constants;
+mod texts;
+
 /// A size below its bound, from a literal.
 fn bytes(rt: &impl Abort, size: u128) -> Byte {
     Byte::from_u128(size).expect(rt, "a size")
@@ -44,6 +48,8 @@ fn texts_are_read_exactly_and_rounded_up(rt: HostRuntime) {
         ("1zb", false, 125_000_000_000_000_000_000),
         ("\u{3000}1KB\u{a0}", false, 1000),
         ("\u{b}\u{c}1KB\u{85}\u{2028}\u{2029}", false, 1000),
+        ("\u{2028}1KB\u{b}", false, 1000),
+        ("1zb", true, 1_000_000_000_000_000_000_000),
     ] {
         assert_eq!(rt;
             read_without_memory(text, ignore_case),
@@ -69,6 +75,7 @@ fn sizes_out_of_range_are_refused_with_their_number(rt: HostRuntime) -> Result<(
             "79228162514264337593543950335",
         ),
         ("1000 YB", "1000"),
+        ("1000.00 YB", "1000"),
     ] {
         let wanted = format!(in rt.alloc(); "the value {number} exceeds the valid range")?;
         match Byte::parse_str(text, false) {
@@ -77,6 +84,32 @@ fn sizes_out_of_range_are_refused_with_their_number(rt: HostRuntime) -> Result<(
         }
     }
     Ok(())
+}
+
+#[test]
+fn other_texts_are_refused_by_their_fault(rt: HostRuntime) {
+    for text in ["", "\u{2028} \u{b}"] {
+        assert!(rt;
+            matches!(
+                Byte::parse_str(text, false),
+                Err(ParseError::Value(ValueParseError::NoValue))
+            )
+        );
+    }
+    for (text, character) in [("x", 'x'), ("1.", '.'), ("1.x", 'x')] {
+        match Byte::parse_str(text, false) {
+            Err(ParseError::Value(ValueParseError::NotNumber(c))) => {
+                assert_eq!(rt; c, character, "{text}")
+            }
+            _ => panic!(rt; "{text}"),
+        }
+    }
+    for (text, character) in [("1 x", 'x'), ("1 Kx", 'x'), ("1 b2", '2')] {
+        match Byte::parse_str(text, false) {
+            Err(ParseError::Unit(error)) => assert_eq!(rt; error.character, character, "{text}"),
+            _ => panic!(rt; "{text}"),
+        }
+    }
 }
 
 #[test]
@@ -150,16 +183,34 @@ fn decimals_are_rounded_up(rt: HostRuntime) -> Result<(), Fail> {
 
 #[test]
 fn numbers_in_and_out(rt: HostRuntime) {
-    assert_eq!(rt; Byte::from_i64(5), Some(Byte::from_u64(5)));
+    let five = Byte::from_u64(5);
+    assert_eq!(rt; Byte::from_i64(5), Some(five));
+    assert_eq!(rt; Byte::from_i64(-5), None);
+    assert_eq!(rt; Byte::from_i128(5), Some(five));
     assert_eq!(rt; Byte::from_i128(i128::MIN), None);
+    assert_eq!(rt; Byte::from_u128(5), Some(five));
     assert_eq!(rt; Byte::from_u128_unsafe(7).as_u128(), 7);
+    assert_eq!(rt; five.as_u64(), 5);
+    assert_eq!(rt; five.as_u64_checked(), Some(5));
+}
+
+#[test]
+fn numbers_past_64_bits(rt: HostRuntime) {
     let greatest = bytes(&rt, 18_446_744_073_709_551_615);
     let larger = bytes(&rt, 18_446_744_073_709_551_616);
+    assert_eq!(rt; greatest.as_u64(), 18_446_744_073_709_551_615);
     assert_eq!(rt; greatest.as_u64_checked(), Some(18_446_744_073_709_551_615));
     assert_eq!(rt; larger.as_u64(), 18_446_744_073_709_551_615);
     assert_eq!(rt; larger.as_u64_checked(), None);
     assert_eq!(rt; Byte::ZETTABIT.as_u64(), 18_446_744_073_709_551_615);
     assert_eq!(rt; Byte::ZETTABIT.as_u64_checked(), None);
+    match Byte::parse_str("1zb", true) {
+        Ok(size) => {
+            assert_eq!(rt; size.as_u64(), u64::MAX);
+            assert_eq!(rt; size.as_u64_checked(), None);
+        }
+        Err(_) => panic!(rt; "a size"),
+    }
 }
 
 #[test]
@@ -181,27 +232,17 @@ fn arithmetic_stays_in_range(rt: HostRuntime) {
 #[test]
 fn comparisons_with_numbers(rt: HostRuntime) {
     let size = Byte::from_u64(1024);
-    assert!(rt; size.eq_u64(1024));
-    assert!(rt; !size.eq_u128(1025));
-    assert_eq!(rt; size.cmp_u64(1000), Ordering::Greater);
-    assert_eq!(rt; size.cmp_u128(u128::MAX), Ordering::Less);
-}
-
-#[test]
-fn constants_of_the_table(rt: HostRuntime) {
-    for (constant, size) in [
-        (Byte::KILOBYTE, 1_000),
-        (Byte::KIBIBYTE, 1_024),
-        (Byte::KILOBIT, 125),
-        (Byte::KIBIBIT, 128),
-        (Byte::YOTTABIT, 125_000_000_000_000_000_000_000),
-        (Byte::YOBIBIT, 151_115_727_451_828_646_838_272),
-        (Byte::YOBIBYTE, 1_208_925_819_614_629_174_706_176),
+    for (number, order) in [
+        (1025, Ordering::Less),
+        (1024, Ordering::Equal),
+        (1000, Ordering::Greater),
     ] {
-        assert_eq!(rt; constant.as_u128(), size);
+        assert_eq!(rt; size.cmp_u64(number), order);
+        assert_eq!(rt; size.cmp_u128(u128::from(number)), order);
+        assert_eq!(rt; size.eq_u64(number), order.is_eq());
+        assert_eq!(rt; size.eq_u128(u128::from(number)), order.is_eq());
     }
-    assert_eq!(rt; crate::laws::byte_constant(Unit::GiB), Some(Byte::GIBIBYTE));
-    assert_eq!(rt; crate::laws::byte_bounds(), (Byte::MIN, Byte::MAX));
+    assert_eq!(rt; size.cmp_u128(u128::MAX), Ordering::Less);
 }
 
 /// Each conversion through its bound alone.
@@ -247,7 +288,9 @@ fn numbers_become_sizes(rt: HostRuntime) {
     assert_eq!(rt; tried::<i16, Byte>(5), Ok(five));
     assert_eq!(rt; tried::<i32, Byte>(5), Ok(five));
     assert_eq!(rt; tried::<isize, Byte>(5), Ok(five));
+    assert_eq!(rt; tried::<i64, Byte>(5), Ok(five));
     assert_eq!(rt; tried::<i128, Byte>(5), Ok(five));
+    assert_eq!(rt; tried::<u128, Byte>(5), Ok(five));
     assert_eq!(rt; tried::<i64, Byte>(-1), Err(ExceededBoundsError));
     assert_eq!(rt;
         tried::<u128, Byte>(1_000_000_000_000_000_000_000_000_000),
@@ -266,9 +309,16 @@ fn sizes_become_numbers(rt: HostRuntime) {
         999_999_999_999_999_999_999_999_999
     );
     assert_eq!(rt; made::<Byte, u64>(Byte::MAX), u64::MAX);
+    assert_eq!(rt; made::<Byte, u64>(Byte::KIBIBYTE), 1024);
+    assert_eq!(rt; tried::<Byte, u8>(Byte::from_u64(255)), Ok(255));
+    assert_eq!(rt; tried::<Byte, u16>(Byte::from_u64(300)), Ok(300));
+    assert_eq!(rt;
+        tried::<Byte, u32>(Byte::from_u64(4_294_967_295)),
+        Ok(4_294_967_295)
+    );
+    assert_eq!(rt; tried::<Byte, usize>(Byte::KIBIBYTE), Ok(1024));
     assert!(rt; refuses::<u8>(Byte::from_u64(300)));
-    assert!(rt; !refuses::<u16>(Byte::from_u64(300)));
-    assert!(rt; !refuses::<u32>(Byte::from_u64(4_294_967_295)));
+    assert!(rt; refuses::<u16>(Byte::from_u64(65_536)));
     assert!(rt; refuses::<u32>(Byte::from_u64(4_294_967_296)));
     assert!(rt; refuses::<usize>(Byte::MAX));
 }
@@ -279,10 +329,16 @@ fn traits_of_std(rt: HostRuntime) -> Result<(), Fail> {
         shown(rt.alloc(), &Byte::from_u64(1_555_000))?.as_str(),
         "1555000"
     );
+    let flagged = format!(in rt.alloc(); "{:>+12.1}", Byte::from_u64(1_555_000))?;
+    assert_eq!(rt; flagged.as_str(), "1555000");
     assert_eq!(rt; first::<Byte>(), Byte::MIN);
     assert_eq!(rt; greater(Byte::KILOBYTE, Byte::KIBIBYTE), Byte::KIBIBYTE);
     assert!(rt; are_distinct(rt.alloc(), Byte::KILOBYTE, Byte::KIBIBYTE)?);
     assert!(rt; !are_distinct(rt.alloc(), Byte::KILOBYTE, Byte::from_u64(1000))?);
+    assert_eq!(rt;
+        Byte::KILOBYTE.partial_cmp(&Byte::KIBIBYTE),
+        Some(Ordering::Less)
+    );
     match parsed::<Byte>("10 b") {
         Ok(size) => assert_eq!(rt; size, Byte::from_u64(2)),
         Err(_) => panic!(rt; "case sensitive"),

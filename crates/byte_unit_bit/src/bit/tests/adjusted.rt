@@ -1,0 +1,137 @@
+//! Sizes with the unit that they are shown in.
+use super::{greater, made, parsed, shown};
+use crate::{AdjustedBit, Bit};
+use byte_unit_base::{FormatSpec, JsonSizeError, Unit, UnitType};
+use serde_json::Value;
+use std::cmp::Ordering;
+use std::test::Fail;
+
+/// The plain form, or that without zeros at the end, at two places.
+fn two_places(alternate: bool) -> FormatSpec {
+    FormatSpec {
+        alternate,
+        precision: Some(2),
+        ..FormatSpec::PLAIN
+    }
+}
+
+#[test]
+fn parts_of_an_adjusted_size(rt: HostRuntime) {
+    let size = Bit::from_u64(1_555_000);
+    let adjusted = size.get_adjusted_unit(Unit::Mbit);
+    assert_eq!(rt; adjusted.get_value(), (1_555_000, 1_000_000));
+    assert_eq!(rt; adjusted.get_unit(), Unit::Mbit);
+    assert_eq!(rt; adjusted.get_bit(), size);
+    assert_eq!(rt;
+        size.get_appropriate_unit(UnitType::Binary).get_unit(),
+        Unit::Mibit
+    );
+    assert_eq!(rt;
+        size.get_appropriate_unit(UnitType::Decimal).get_unit(),
+        Unit::Mbit
+    );
+    assert_eq!(rt;
+        Bit::from_u64(7)
+            .get_appropriate_unit(UnitType::Both)
+            .get_unit(),
+        Unit::Bit
+    );
+    assert_eq!(rt;
+        Bit::from_u64(24).get_adjusted_unit(Unit::B).get_value(),
+        (24, 8)
+    );
+}
+
+#[test]
+fn texts_of_adjusted_sizes(rt: HostRuntime) -> Result<(), Fail> {
+    let mut all = String::new(rt.alloc());
+    for (size, unit, spec, text) in [
+        (10_000, Unit::Kibit, FormatSpec::PLAIN, "9.765625 Kib"),
+        (10_000, Unit::Kibit, two_places(false), "9.77 Kib"),
+        (10_000, Unit::Kbit, two_places(false), "10.00 Kb"),
+        (10_000, Unit::Kbit, two_places(true), "10 Kb"),
+        (13, Unit::B, two_places(false), "1.625 B"),
+    ] {
+        let adjusted = Bit::from_u64(size).get_adjusted_unit(unit);
+        assert_eq!(rt; adjusted.text_len(spec), text.len(), "{text}");
+        assert_eq!(rt; adjusted.to_text(rt.alloc(), spec)?.as_str(), text);
+        assert_eq!(rt; adjusted.to_text_in(rt.alloc(), spec)?.as_str(), text);
+        adjusted.append_text(spec, &mut all)?;
+    }
+    assert_eq!(rt; all.as_str(), "9.765625 Kib9.77 Kib10.00 Kb10 Kb1.625 B");
+    Ok(())
+}
+
+/// Through its bound alone.
+fn are_equal<S: Eq>(left: &S, right: &S) -> bool {
+    left == right
+}
+
+fn order<S: Ord>(left: &S, right: &S) -> Ordering {
+    left.cmp(right)
+}
+
+fn partial_order<S: PartialOrd>(left: &S, right: &S) -> Option<Ordering> {
+    left.partial_cmp(right)
+}
+
+#[test]
+fn adjusted_sizes_compare_as_their_sizes(rt: HostRuntime) {
+    let binary = Bit::KIBIBIT.get_adjusted_unit(Unit::Kibit);
+    let decimal = Bit::KIBIBIT.get_adjusted_unit(Unit::GB);
+    let less = Bit::KILOBIT.get_adjusted_unit(Unit::Bit);
+    assert!(rt; are_equal(&binary, &decimal));
+    assert!(rt; !are_equal(&binary, &less));
+    assert_eq!(rt; order(&less, &binary), Ordering::Less);
+    assert_eq!(rt; order(&binary, &decimal), Ordering::Equal);
+    assert_eq!(rt; order(&binary, &less), Ordering::Greater);
+    assert_eq!(rt; partial_order(&less, &binary), Some(Ordering::Less));
+    assert_eq!(rt; greater(less, decimal).get_unit(), Unit::GB);
+}
+
+#[test]
+fn adjusted_sizes_from_and_into(rt: HostRuntime) -> Result<(), Fail> {
+    let size = Bit::from_u64(10_000);
+    let adjusted: AdjustedBit = made(size);
+    assert_eq!(rt; adjusted.get_unit(), Unit::Kibit);
+    assert_eq!(rt; made::<AdjustedBit, Bit>(adjusted), size);
+    assert_eq!(rt; made::<AdjustedBit, Unit>(adjusted), Unit::Kibit);
+    assert_eq!(rt; shown(rt.alloc(), &adjusted)?.as_str(), "9.765625 Kib");
+    let text = format!(in rt.alloc(); "{:>12.1}", size.get_adjusted_unit(Unit::Mbit))?;
+    assert_eq!(rt; text.as_str(), "0.01 Mb");
+    match parsed::<AdjustedBit>("50.84 Mb") {
+        Ok(read) => {
+            assert_eq!(rt; read.get_bit(), Bit::from_u64(50_840_000));
+            assert_eq!(rt; read.get_unit(), Unit::Mibit);
+        }
+        Err(_) => panic!(rt; "a size"),
+    }
+    Ok(())
+}
+
+#[test]
+fn adjusted_sizes_as_json_strings(rt: HostRuntime) -> Result<(), Fail> {
+    for (size, unit, text) in [
+        (Bit::from_u64(1536), Unit::Mbit, "0.001536 Mb"),
+        (
+            Bit::from_u64(4),
+            Unit::Gibit,
+            "0.0000000037252902984619140625 Gib",
+        ),
+        (Bit::MAX, Unit::YiB, "999999999999999999999999.999 Kb"),
+    ] {
+        let value = size.get_adjusted_unit(unit).to_json(rt.alloc())?;
+        assert_eq!(rt; value.as_str(), Some(text));
+        match AdjustedBit::from_json(&value) {
+            Ok(read) => assert_eq!(rt; read.get_bit(), size),
+            Err(_) => panic!(rt; "{text}"),
+        }
+    }
+    assert!(rt;
+        matches!(
+            AdjustedBit::from_json(&Value::Null),
+            Err(JsonSizeError::NotString)
+        )
+    );
+    Ok(())
+}

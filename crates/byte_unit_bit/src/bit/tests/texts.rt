@@ -1,0 +1,102 @@
+//! Texts of sizes, the units that state a size exactly, and JSON strings.
+use crate::Bit;
+use byte_unit_base::{Align, FormatSpec, JsonSizeError, Sign, Unit};
+use byte_unit_math::{Decimal, Steps};
+use serde_json::Value;
+use std::test::Fail;
+
+/// The form with a unit, at this precision.
+fn precise(precision: u16) -> FormatSpec {
+    FormatSpec {
+        precision: Some(precision),
+        ..FormatSpec::ALTERNATE
+    }
+}
+
+/// The form with a unit, in ten columns on the right, unit and spaces in four.
+const WIDE: FormatSpec = FormatSpec {
+    alternate: true,
+    sign: Sign::Plus,
+    precision: None,
+    width: Some(10),
+    align: Some(Align::Right),
+};
+
+#[test]
+fn texts_and_their_lengths(rt: HostRuntime) -> Result<(), Fail> {
+    let mut all = String::new(rt.alloc());
+    for (size, spec, text) in [
+        (3_211_776, FormatSpec::PLAIN, "3211776"),
+        (3_211_776, FormatSpec::ALTERNATE, "3136.5 Kib"),
+        (3_211_776, precise(6), "3.211776 Mb"),
+        (3_211_776, precise(0), "3211776 b"),
+        (10_240, WIDE, "    10 Kib"),
+        (10_000, WIDE, "    10  Kb"),
+    ] {
+        let size = Bit::from_u64(size);
+        assert_eq!(rt; size.text_len(spec), text.len(), "{text}");
+        assert_eq!(rt; size.to_text(rt.alloc(), spec)?.as_str(), text);
+        assert_eq!(rt; size.to_text_in(rt.alloc(), spec)?.as_str(), text);
+        size.append_text(spec, &mut all)?;
+        assert!(rt; all.as_str().ends_with(text), "{text}");
+    }
+    assert_eq!(rt; all.len(), 7 + 10 + 11 + 9 + 10 + 10);
+    Ok(())
+}
+
+#[test]
+fn forms_with_a_unit_read_back(rt: HostRuntime) -> Result<(), Fail> {
+    for size in [0, 1, 500, 1023, 1088, 10_000, 3_211_776] {
+        let size = Bit::from_u64(size);
+        for spec in [FormatSpec::ALTERNATE, precise(0), precise(28), WIDE] {
+            let text = size.to_text(rt.alloc(), spec)?;
+            match Bit::parse_str(text.as_str()) {
+                Ok(read) => assert_eq!(rt; read, size, "{text}"),
+                Err(_) => panic!(rt; "{text}"),
+            }
+        }
+    }
+    Ok(())
+}
+
+#[test]
+fn units_that_state_a_size(rt: HostRuntime) -> Result<(), Fail> {
+    let size = Bit::from_u64(24_000_000);
+    assert_eq!(rt; size.get_exact_unit(false), (24, Unit::Mbit));
+    assert_eq!(rt; size.get_exact_unit(true), (3, Unit::MB));
+    assert_eq!(rt; Bit::from_u64(16).get_exact_unit(true), (16, Unit::Bit));
+    for (size, allow_in_bytes, mantissa, unit) in [
+        (28_000_000, true, 35, Unit::MB),
+        (3_670_016, false, 35, Unit::Mibit),
+        (437_500, false, 4375, Unit::Kbit),
+    ] {
+        let size = Bit::from_u64(size);
+        let number = Decimal::from_u128_with_scale(mantissa, 1).ok_or("a decimal")?;
+        let mut steps = Steps::new();
+        assert_eq!(rt;
+            size.get_recoverable_unit(allow_in_bytes, 3),
+            (number, unit)
+        );
+        assert_eq!(rt;
+            size.get_recoverable_unit_counted(allow_in_bytes, 3, &mut steps),
+            (number, unit)
+        );
+        assert!(rt; steps.count() >= 1);
+    }
+    Ok(())
+}
+
+#[test]
+fn sizes_as_json_strings(rt: HostRuntime) -> Result<(), Fail> {
+    for (size, text) in [(0, "0 b"), (15_500, "15.5 Kb"), (1536, "1.5 Kib")] {
+        let size = Bit::from_u64(size);
+        let value = size.to_json(rt.alloc())?;
+        assert_eq!(rt; value.as_str(), Some(text));
+        match Bit::from_json(&value) {
+            Ok(read) => assert_eq!(rt; read, size),
+            Err(_) => panic!(rt; "{text}"),
+        }
+    }
+    assert!(rt; matches!(Bit::from_json(&Value::Null), Err(JsonSizeError::NotString)));
+    Ok(())
+}
