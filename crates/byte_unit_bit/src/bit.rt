@@ -32,7 +32,7 @@ mod tests;
 ///
 /// ```text
 /// let line = Bit::parse_str("100 Mbit")?;
-/// line.divide(8)        // Some(12500000 bits)
+/// line.divide(8)        // Some(12,500,000 bits)
 /// ```
 #[derive(Debug, Clone, Copy, PartialEq, Eq, PartialOrd, Ord, Hash)]
 pub struct Bit {
@@ -68,7 +68,7 @@ impl Bit {
     /// So many bits. `None` from 10^27 on.
     ///
     /// ```text
-    /// Bit::from_u128(15_000_000)     // 15 Mbit
+    /// Bit::from_u128(15_000_000)     // Some(15,000,000 bits)
     /// ```
     pub fn from_u128(size: u128) -> Option<Bit>
         ensures { SomeIff result (size < current.size_limit) size }
@@ -85,6 +85,10 @@ impl Bit {
     }
 
     /// So many bits.
+    ///
+    /// ```text
+    /// Bit::from_u64(15_000_000)     // 15,000,000 bits
+    /// ```
     pub fn from_u64(size: u64) -> Bit
         ensures { result ≡ size }
     {
@@ -94,6 +98,11 @@ impl Bit {
     }
 
     /// So many bits. `None` where the number is negative, and from 10^27 on.
+    ///
+    /// ```text
+    /// Bit::from_i128(15_000_000)     // Some(15,000,000 bits)
+    /// Bit::from_i128(-1)             // None
+    /// ```
     pub fn from_i128(size: i128) -> Option<Bit>
         ensures { OfSigned (λ n answer. SomeIff answer (n < current.size_limit) n) size result }
     {
@@ -101,6 +110,11 @@ impl Bit {
     }
 
     /// So many bits. `None` where the number is negative.
+    ///
+    /// ```text
+    /// Bit::from_i64(15_000_000)     // Some(15,000,000 bits)
+    /// Bit::from_i64(-1)             // None
+    /// ```
     pub fn from_i64(size: i64) -> Option<Bit>
         ensures { OfSigned (λ n answer. SomeIff answer (n < current.size_limit) n) size result }
     {
@@ -113,8 +127,8 @@ impl Bit {
     /// So many of the unit, rounded up to a whole bit. `None` where that is 10^27 or more.
     ///
     /// ```text
-    /// Bit::from_u128_with_unit(15, Unit::Mbit)    // 15,000,000 bits
-    /// Bit::from_u128_with_unit(3, Unit::B)        // 24 bits
+    /// Bit::from_u128_with_unit(15, Unit::Mbit)    // Some(15,000,000 bits)
+    /// Bit::from_u128_with_unit(3, Unit::B)        // Some(24 bits)
     /// ```
     pub fn from_u128_with_unit(size: u128, unit: Unit) -> Option<Bit>
         ensures { IsSizeOrNone current (IsLeastOf InBits (size * one) (shape_of unit)) result }
@@ -123,6 +137,10 @@ impl Bit {
     }
 
     /// So many of the unit, rounded up to a whole bit. `None` where that is 10^27 or more.
+    ///
+    /// ```text
+    /// Bit::from_u64_with_unit(15, Unit::Kibit)     // Some(15,360 bits)
+    /// ```
     pub fn from_u64_with_unit(size: u64, unit: Unit) -> Option<Bit>
         ensures { IsSizeOrNone current (IsLeastOf InBits (size * one) (shape_of unit)) result }
     {
@@ -131,6 +149,10 @@ impl Bit {
 
     /// So many of the unit, rounded up to a whole bit. `None` where the number is negative, and where the size is
     /// 10^27 or more.
+    ///
+    /// ```text
+    /// Bit::from_i128_with_unit(15, Unit::Kibit)     // Some(15,360 bits)
+    /// ```
     pub fn from_i128_with_unit(size: i128, unit: Unit) -> Option<Bit>
         ensures { OfSigned (λ n answer. IsSizeOrNone current (IsLeastOf InBits (n * one) (shape_of unit)) answer) size result }
     {
@@ -139,6 +161,10 @@ impl Bit {
 
     /// So many of the unit, rounded up to a whole bit. `None` where the number is negative, and where the size is
     /// 10^27 or more.
+    ///
+    /// ```text
+    /// Bit::from_i64_with_unit(-15, Unit::Kibit)     // None
+    /// ```
     pub fn from_i64_with_unit(size: i64, unit: Unit) -> Option<Bit>
         ensures { OfSigned (λ n answer. IsSizeOrNone current (IsLeastOf InBits (n * one) (shape_of unit)) answer) size result }
     {
@@ -149,6 +175,10 @@ impl Bit {
 /// What a size gives back.
 impl Bit {
     /// The number of bits, below 10^27.
+    ///
+    /// ```text
+    /// Bit::KIBIBIT.as_u128()     // 1024
+    /// ```
     pub fn as_u128(self) -> u128
         ensures number { result ≡ self }
         ensures small { result < current.size_limit }
@@ -157,6 +187,11 @@ impl Bit {
     }
 
     /// The number of bits, or 2^64 - 1 where it is larger.
+    ///
+    /// ```text
+    /// Bit::KIBIBIT.as_u64()      // 1024
+    /// Bit::ZETTABIT.as_u64()     // 18,446,744,073,709,551,615
+    /// ```
     pub fn as_u64(self) -> u64
         ensures { result ≡ min self (2 ^ 64 - 1) }
     {
@@ -164,6 +199,11 @@ impl Bit {
     }
 
     /// The number of bits. `None` where it is larger than 2^64 - 1.
+    ///
+    /// ```text
+    /// Bit::KIBIBIT.as_u64_checked()      // Some(1024)
+    /// Bit::ZETTABIT.as_u64_checked()     // None
+    /// ```
     pub fn as_u64_checked(self) -> Option<u64>
         ensures { SomeIff result (self < 2 ^ 64) self }
     {
@@ -173,28 +213,28 @@ impl Bit {
 
 /// Comparison with numbers of bits.
 impl Bit {
-    /// Whether it is so many bits.
+    /// Whether it is so many bits: `Bit::KILOBIT.eq_u64(1000)` is true.
     pub fn eq_u64(self, other: u64) -> bool
         ensures { IsTrue result ↔ (self ≡ other) }
     {
         self.size == u128::from(other)
     }
 
-    /// Whether it is so many bits.
+    /// Whether it is so many bits: `Bit::KILOBIT.eq_u128(1024)` is false.
     pub fn eq_u128(self, other: u128) -> bool
         ensures { IsTrue result ↔ (self ≡ other) }
     {
         self.size == other
     }
 
-    /// How it compares with so many bits.
+    /// How it compares with so many bits: `Bit::KILOBIT.cmp_u64(1024)` is `Less`.
     pub fn cmp_u64(self, other: u64) -> Ordering
         ensures { result ≡ nat_cmp self other }
     {
         self.size.cmp(&u128::from(other))
     }
 
-    /// How it compares with so many bits.
+    /// How it compares with so many bits: `Bit::KIBIBIT.cmp_u128(1000)` is `Greater`.
     pub fn cmp_u128(self, other: u128) -> Ordering
         ensures { result ≡ nat_cmp self other }
     {
@@ -207,7 +247,7 @@ impl Bit {
     /// The sum. `None` from 10^27 on.
     ///
     /// ```text
-    /// Bit::from_u64(15_500).add(Bit::from_u64(500))     // 16,000 bits
+    /// Bit::from_u64(15_500).add(Bit::from_u64(500))     // Some(16,000 bits)
     /// ```
     pub fn add(self, rhs: Bit) -> Option<Bit>
         ensures { SomeIff result (self + rhs < current.size_limit) (self + rhs) }
@@ -216,6 +256,11 @@ impl Bit {
     }
 
     /// The difference. `None` where it would be negative.
+    ///
+    /// ```text
+    /// Bit::from_u64(15_500).subtract(Bit::from_u64(500))     // Some(15,000 bits)
+    /// Bit::from_u64(500).subtract(Bit::from_u64(15_500))     // None
+    /// ```
     pub fn subtract(self, rhs: Bit) -> Option<Bit>
         ensures { SomeIff result (rhs ≤ self) (self - rhs) }
     {
@@ -223,6 +268,10 @@ impl Bit {
     }
 
     /// The product. `None` from 10^27 on.
+    ///
+    /// ```text
+    /// Bit::from_u64(15_500).multiply(2)     // Some(31,000 bits)
+    /// ```
     pub fn multiply(self, rhs: usize) -> Option<Bit>
         ensures { SomeIff result (self * rhs < current.size_limit) (self * rhs) }
     {
@@ -230,6 +279,11 @@ impl Bit {
     }
 
     /// The quotient, rounded down. `None` where `rhs` is zero.
+    ///
+    /// ```text
+    /// Bit::from_u64(15_500).divide(3)     // Some(5166 bits)
+    /// Bit::from_u64(15_500).divide(0)     // None
+    /// ```
     pub fn divide(self, rhs: usize) -> Option<Bit>
         ensures { SomeIff result (0 < rhs) (self / rhs) }
     {

@@ -32,8 +32,8 @@ mod tests;
 ///
 /// ```text
 /// let limit = Byte::parse_str("1.5 GiB", false)?;
-/// let used = Byte::from_u64_with_unit(900, Unit::MB)?;
-/// limit.subtract(used)        // Some(710612736 bytes)
+/// let used = Byte::from_u64(900_000_000);
+/// limit.subtract(used)        // Some(710,612,736 bytes)
 /// ```
 #[derive(Debug, Clone, Copy, PartialEq, Eq, PartialOrd, Ord, Hash)]
 pub struct Byte {
@@ -69,7 +69,7 @@ impl Byte {
     /// So many bytes. `None` from 10^27 on.
     ///
     /// ```text
-    /// Byte::from_u128(15_000_000)     // 15 MB
+    /// Byte::from_u128(15_000_000)     // Some(15,000,000 bytes)
     /// ```
     pub fn from_u128(size: u128) -> Option<Byte>
         ensures { SomeIff result (size < current.size_limit) size }
@@ -86,6 +86,10 @@ impl Byte {
     }
 
     /// So many bytes.
+    ///
+    /// ```text
+    /// Byte::from_u64(15_000_000)     // 15,000,000 bytes
+    /// ```
     pub fn from_u64(size: u64) -> Byte
         ensures { result ≡ size }
     {
@@ -95,6 +99,11 @@ impl Byte {
     }
 
     /// So many bytes. `None` where the number is negative, and from 10^27 on.
+    ///
+    /// ```text
+    /// Byte::from_i128(15_000_000)     // Some(15,000,000 bytes)
+    /// Byte::from_i128(-1)             // None
+    /// ```
     pub fn from_i128(size: i128) -> Option<Byte>
         ensures { OfSigned (λ n answer. SomeIff answer (n < current.size_limit) n) size result }
     {
@@ -102,6 +111,11 @@ impl Byte {
     }
 
     /// So many bytes. `None` where the number is negative.
+    ///
+    /// ```text
+    /// Byte::from_i64(15_000_000)     // Some(15,000,000 bytes)
+    /// Byte::from_i64(-1)             // None
+    /// ```
     pub fn from_i64(size: i64) -> Option<Byte>
         ensures { OfSigned (λ n answer. SomeIff answer (n < current.size_limit) n) size result }
     {
@@ -114,8 +128,8 @@ impl Byte {
     /// So many of the unit, rounded up to a whole byte. `None` where that is 10^27 or more.
     ///
     /// ```text
-    /// Byte::from_u128_with_unit(15, Unit::MB)      // 15,000,000 bytes
-    /// Byte::from_u128_with_unit(17, Unit::Bit)     // 3 bytes
+    /// Byte::from_u128_with_unit(15, Unit::MB)      // Some(15,000,000 bytes)
+    /// Byte::from_u128_with_unit(17, Unit::Bit)     // Some(3 bytes)
     /// ```
     pub fn from_u128_with_unit(size: u128, unit: Unit) -> Option<Byte>
         ensures { IsSizeOrNone current (IsLeastOf InBytes (size * one) (shape_of unit)) result }
@@ -124,6 +138,10 @@ impl Byte {
     }
 
     /// So many of the unit, rounded up to a whole byte. `None` where that is 10^27 or more.
+    ///
+    /// ```text
+    /// Byte::from_u64_with_unit(15, Unit::KiB)     // Some(15,360 bytes)
+    /// ```
     pub fn from_u64_with_unit(size: u64, unit: Unit) -> Option<Byte>
         ensures { IsSizeOrNone current (IsLeastOf InBytes (size * one) (shape_of unit)) result }
     {
@@ -132,6 +150,10 @@ impl Byte {
 
     /// So many of the unit, rounded up to a whole byte. `None` where the number is negative, and where the size is
     /// 10^27 or more.
+    ///
+    /// ```text
+    /// Byte::from_i128_with_unit(15, Unit::KiB)     // Some(15,360 bytes)
+    /// ```
     pub fn from_i128_with_unit(size: i128, unit: Unit) -> Option<Byte>
         ensures { OfSigned (λ n answer. IsSizeOrNone current (IsLeastOf InBytes (n * one) (shape_of unit)) answer) size result }
     {
@@ -140,6 +162,10 @@ impl Byte {
 
     /// So many of the unit, rounded up to a whole byte. `None` where the number is negative, and where the size is
     /// 10^27 or more.
+    ///
+    /// ```text
+    /// Byte::from_i64_with_unit(-15, Unit::KiB)     // None
+    /// ```
     pub fn from_i64_with_unit(size: i64, unit: Unit) -> Option<Byte>
         ensures { OfSigned (λ n answer. IsSizeOrNone current (IsLeastOf InBytes (n * one) (shape_of unit)) answer) size result }
     {
@@ -150,6 +176,10 @@ impl Byte {
 /// What a size gives back.
 impl Byte {
     /// The number of bytes, below 10^27.
+    ///
+    /// ```text
+    /// Byte::KIBIBYTE.as_u128()     // 1024
+    /// ```
     pub fn as_u128(self) -> u128
         ensures number { result ≡ self }
         ensures small { result < current.size_limit }
@@ -158,6 +188,11 @@ impl Byte {
     }
 
     /// The number of bytes, or 2^64 - 1 where it is larger.
+    ///
+    /// ```text
+    /// Byte::KIBIBYTE.as_u64()      // 1024
+    /// Byte::ZETTABYTE.as_u64()     // 18,446,744,073,709,551,615
+    /// ```
     pub fn as_u64(self) -> u64
         ensures { result ≡ min self (2 ^ 64 - 1) }
     {
@@ -165,6 +200,11 @@ impl Byte {
     }
 
     /// The number of bytes. `None` where it is larger than 2^64 - 1.
+    ///
+    /// ```text
+    /// Byte::KIBIBYTE.as_u64_checked()      // Some(1024)
+    /// Byte::ZETTABYTE.as_u64_checked()     // None
+    /// ```
     pub fn as_u64_checked(self) -> Option<u64>
         ensures { SomeIff result (self < 2 ^ 64) self }
     {
@@ -174,28 +214,28 @@ impl Byte {
 
 /// Comparison with numbers of bytes.
 impl Byte {
-    /// Whether it is so many bytes.
+    /// Whether it is so many bytes: `Byte::KILOBYTE.eq_u64(1000)` is true.
     pub fn eq_u64(self, other: u64) -> bool
         ensures { IsTrue result ↔ (self ≡ other) }
     {
         self.size == u128::from(other)
     }
 
-    /// Whether it is so many bytes.
+    /// Whether it is so many bytes: `Byte::KILOBYTE.eq_u128(1024)` is false.
     pub fn eq_u128(self, other: u128) -> bool
         ensures { IsTrue result ↔ (self ≡ other) }
     {
         self.size == other
     }
 
-    /// How it compares with so many bytes.
+    /// How it compares with so many bytes: `Byte::KILOBYTE.cmp_u64(1024)` is `Less`.
     pub fn cmp_u64(self, other: u64) -> Ordering
         ensures { result ≡ nat_cmp self other }
     {
         self.size.cmp(&u128::from(other))
     }
 
-    /// How it compares with so many bytes.
+    /// How it compares with so many bytes: `Byte::KIBIBYTE.cmp_u128(1000)` is `Greater`.
     pub fn cmp_u128(self, other: u128) -> Ordering
         ensures { result ≡ nat_cmp self other }
     {
@@ -208,7 +248,7 @@ impl Byte {
     /// The sum. `None` from 10^27 on.
     ///
     /// ```text
-    /// Byte::from_u64(15_500).add(Byte::from_u64(500))     // 16,000 bytes
+    /// Byte::from_u64(15_500).add(Byte::from_u64(500))     // Some(16,000 bytes)
     /// ```
     pub fn add(self, rhs: Byte) -> Option<Byte>
         ensures { SomeIff result (self + rhs < current.size_limit) (self + rhs) }
@@ -217,6 +257,11 @@ impl Byte {
     }
 
     /// The difference. `None` where it would be negative.
+    ///
+    /// ```text
+    /// Byte::from_u64(15_500).subtract(Byte::from_u64(500))     // Some(15,000 bytes)
+    /// Byte::from_u64(500).subtract(Byte::from_u64(15_500))     // None
+    /// ```
     pub fn subtract(self, rhs: Byte) -> Option<Byte>
         ensures { SomeIff result (rhs ≤ self) (self - rhs) }
     {
@@ -224,6 +269,10 @@ impl Byte {
     }
 
     /// The product. `None` from 10^27 on.
+    ///
+    /// ```text
+    /// Byte::from_u64(15_500).multiply(2)     // Some(31,000 bytes)
+    /// ```
     pub fn multiply(self, rhs: usize) -> Option<Byte>
         ensures { SomeIff result (self * rhs < current.size_limit) (self * rhs) }
     {
@@ -231,6 +280,11 @@ impl Byte {
     }
 
     /// The quotient, rounded down. `None` where `rhs` is zero.
+    ///
+    /// ```text
+    /// Byte::from_u64(15_500).divide(3)     // Some(5166 bytes)
+    /// Byte::from_u64(15_500).divide(0)     // None
+    /// ```
     pub fn divide(self, rhs: usize) -> Option<Byte>
         ensures { SomeIff result (0 < rhs) (self / rhs) }
     {

@@ -13,6 +13,11 @@ use byte_unit_math::Decimal;
 
 impl Bit {
     /// So many bits, rounded up. `None` where that is 10^27 or more.
+    ///
+    /// ```text
+    /// let number = Decimal::from_u128_with_scale(5084, 2)?;      // 50.84
+    /// Bit::from_decimal(number)      // Some(51 bits)
+    /// ```
     pub fn from_decimal(size: Decimal) -> Option<Bit>
         ensures { IsSizeOrNone current (IsLeastOf InBits size (own_unit InBits)) result }
     {
@@ -22,7 +27,8 @@ impl Bit {
     /// So many of the unit: the exact product, rounded up to a whole bit. `None` where that is 10^27 or more.
     ///
     /// ```text
-    /// Bit::from_decimal_with_unit(1.5, Unit::KiB)     // 12,288 bits
+    /// let number = Decimal::from_u128_with_scale(15, 1)?;      // 1.5
+    /// Bit::from_decimal_with_unit(number, Unit::KiB)      // Some(12,288 bits)
     /// ```
     pub fn from_decimal_with_unit(size: Decimal, unit: Unit) -> Option<Bit>
         ensures { IsSizeOrNone current (IsLeastOf InBits size (shape_of unit)) result }

@@ -28,8 +28,12 @@ impl Bit {
         Ok(Value::String(self.to_text(alloc, FormatSpec::ALTERNATE)?))
     }
 
-    /// The size of a JSON string, as `FromStr` reads its text. Any other value is refused as `NotString`. It asks for no
-    /// memory.
+    /// The size of a JSON string, as `FromStr` reads its text. `NotString` where the value is no string, and `Parse` with
+    /// the fault where the string is refused. It asks for no memory.
+    ///
+    /// ```text
+    /// Bit::from_json(&value)?      // 15,500 bits, where the value is the string "15.5 Kb"
+    /// ```
     pub fn from_json(value: &Value) -> Result<Bit, JsonSizeError>
         ensures { ReadsString (IsSizeReading InBits false) (as_str (view value.now)) result }
     {

@@ -77,6 +77,8 @@ impl AdjustedByte {
     /// decimal of exactly so many places, to the even digit of two that are as near; with `alternate` the nearest of at
     /// most 16 places, the greater of two that are as near, without zeros at its end.
     ///
+    /// Sign, width and alignment lay it out as [`Byte::append_text`] does a number with its unit.
+    ///
     /// It asks for memory once at most, before it writes. `AllocError` comes only where the spare room of the text is less
     /// than `text_len`, and leaves the text as it was.
     pub fn append_text<A: Allocator>(
@@ -98,7 +100,7 @@ impl AdjustedByte {
         self.to_text_in(alloc, spec)
     }
 
-    /// The text of the size in its unit, in memory of any allocator.
+    /// The text of the size in its unit, in memory of any allocator. `AllocError` where that was refused.
     pub fn to_text_in<A: Allocator>(
         self,
         alloc: A,
@@ -116,6 +118,10 @@ impl Byte {
     ghost use Rattle.byte_unit_byte.specs.AdjustedByte.{size_of, unit_of};
 
     /// This size, to be shown in the unit.
+    ///
+    /// ```text
+    /// Byte::from_u64(123_456).get_adjusted_unit(Unit::KB)      // 123.456 KB
+    /// ```
     pub fn get_adjusted_unit(self, unit: Unit) -> AdjustedByte
         ensures size { size_of result ≡ self }
         ensures unit { unit_of result ≡ unit }

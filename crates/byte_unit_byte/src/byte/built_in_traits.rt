@@ -22,7 +22,8 @@ impl Default for Byte {
     }
 }
 
-/// The number of bytes in decimal digits: the plain form without a sign or a width.
+/// The number of bytes in decimal digits: the plain form without a sign or a width. Flags of the formatter change
+/// nothing; [`Byte::to_text`] takes them.
 impl fmt::Display for Byte {
     ghost output = { λ size. Some (decimal size) };
 
@@ -43,6 +44,7 @@ impl FromStr for Byte {
     }
 }
 
+/// So many bytes.
 impl From<u8> for Byte {
     ghost from_gives = { λ n size. size ≡ n };
 
@@ -51,6 +53,7 @@ impl From<u8> for Byte {
     }
 }
 
+/// So many bytes.
 impl From<u16> for Byte {
     ghost from_gives = { λ n size. size ≡ n };
 
@@ -59,6 +62,7 @@ impl From<u16> for Byte {
     }
 }
 
+/// So many bytes.
 impl From<u32> for Byte {
     ghost from_gives = { λ n size. size ≡ n };
 
@@ -67,6 +71,7 @@ impl From<u32> for Byte {
     }
 }
 
+/// So many bytes.
 impl From<u64> for Byte {
     ghost from_gives = { λ n size. size ≡ n };
 
@@ -75,6 +80,7 @@ impl From<u64> for Byte {
     }
 }
 
+/// So many bytes.
 impl From<usize> for Byte {
     ghost from_gives = { λ n size. size ≡ n };
 
@@ -83,6 +89,7 @@ impl From<usize> for Byte {
     }
 }
 
+/// So many bytes. `ExceededBoundsError` from 10^27 on.
 impl TryFrom<u128> for Byte {
     type Error = ExceededBoundsError;
 
@@ -93,6 +100,7 @@ impl TryFrom<u128> for Byte {
     }
 }
 
+/// So many bytes. `ExceededBoundsError` where the number is negative, and from 10^27 on.
 impl TryFrom<i128> for Byte {
     type Error = ExceededBoundsError;
 
@@ -103,6 +111,7 @@ impl TryFrom<i128> for Byte {
     }
 }
 
+/// So many bytes. `ExceededBoundsError` where the number is negative.
 impl TryFrom<i64> for Byte {
     type Error = ExceededBoundsError;
 
@@ -113,6 +122,7 @@ impl TryFrom<i64> for Byte {
     }
 }
 
+/// So many bytes. `ExceededBoundsError` where the number is negative.
 impl TryFrom<i32> for Byte {
     type Error = ExceededBoundsError;
 
@@ -123,6 +133,7 @@ impl TryFrom<i32> for Byte {
     }
 }
 
+/// So many bytes. `ExceededBoundsError` where the number is negative.
 impl TryFrom<i16> for Byte {
     type Error = ExceededBoundsError;
 
@@ -133,6 +144,7 @@ impl TryFrom<i16> for Byte {
     }
 }
 
+/// So many bytes. `ExceededBoundsError` where the number is negative.
 impl TryFrom<i8> for Byte {
     type Error = ExceededBoundsError;
 
@@ -143,6 +155,7 @@ impl TryFrom<i8> for Byte {
     }
 }
 
+/// So many bytes. `ExceededBoundsError` where the number is negative.
 impl TryFrom<isize> for Byte {
     type Error = ExceededBoundsError;
 
@@ -153,6 +166,7 @@ impl TryFrom<isize> for Byte {
     }
 }
 
+/// The number of bytes.
 impl From<Byte> for u128 {
     ghost from_gives = { λ size n. n ≡ size };
 
@@ -170,6 +184,7 @@ impl From<Byte> for u64 {
     }
 }
 
+/// The number of bytes. `TryFromIntError` where it does not fit: from 2^32 on.
 impl TryFrom<Byte> for u32 {
     type Error = TryFromIntError;
 
@@ -180,6 +195,7 @@ impl TryFrom<Byte> for u32 {
     }
 }
 
+/// The number of bytes. `TryFromIntError` where it does not fit: from 2^16 on.
 impl TryFrom<Byte> for u16 {
     type Error = TryFromIntError;
 
@@ -190,6 +206,7 @@ impl TryFrom<Byte> for u16 {
     }
 }
 
+/// The number of bytes. `TryFromIntError` where it does not fit: from 2^8 on.
 impl TryFrom<Byte> for u8 {
     type Error = TryFromIntError;
 
@@ -200,6 +217,7 @@ impl TryFrom<Byte> for u8 {
     }
 }
 
+/// The number of bytes. `TryFromIntError` where it does not fit: from 2^64 on.
 impl TryFrom<Byte> for usize {
     type Error = TryFromIntError;
 

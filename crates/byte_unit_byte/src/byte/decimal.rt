@@ -13,6 +13,11 @@ use byte_unit_math::Decimal;
 
 impl Byte {
     /// So many bytes, rounded up. `None` where that is 10^27 or more.
+    ///
+    /// ```text
+    /// let number = Decimal::from_u128_with_scale(5084, 2)?;      // 50.84
+    /// Byte::from_decimal(number)      // Some(51 bytes)
+    /// ```
     pub fn from_decimal(size: Decimal) -> Option<Byte>
         ensures { IsSizeOrNone current (IsLeastOf InBytes size (own_unit InBytes)) result }
     {
@@ -22,7 +27,8 @@ impl Byte {
     /// So many of the unit: the exact product, rounded up to a whole byte. `None` where that is 10^27 or more.
     ///
     /// ```text
-    /// Byte::from_decimal_with_unit(1.5, Unit::KiB)     // 1536 bytes
+    /// let number = Decimal::from_u128_with_scale(15, 1)?;      // 1.5
+    /// Byte::from_decimal_with_unit(number, Unit::KiB)      // Some(1536 bytes)
     /// ```
     pub fn from_decimal_with_unit(size: Decimal, unit: Unit) -> Option<Byte>
         ensures { IsSizeOrNone current (IsLeastOf InBytes size (shape_of unit)) result }

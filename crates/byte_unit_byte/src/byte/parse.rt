@@ -10,16 +10,23 @@ impl Byte {
     /// The size that the text states, rounded up to a whole byte.
     ///
     /// The text, without white space at its ends, is a number, any number of spaces, and the spelling of a unit; with
-    /// no unit it is of bytes. With `ignore_case` a `b` that stands for itself means bytes, else bits.
+    /// no unit it is of bytes, and with a prefix alone of its multiple of bytes. With `ignore_case` a `b` that does not
+    /// begin `bit` or `bits` means bytes, else bits.
     ///
-    /// A size of 10^27 bytes or more is refused by [`ParseError`]'s `ExceededBounds` with the number as it was
-    /// written, any other text by the fault at its first wrong character. It asks for no memory.
+    /// Any other text is refused by its first fault from the left. The fault is a `Value` of [`ParseError`]: `NoValue`
+    /// where the text is empty or white space, `NotNumber` where a digit must stand and does not, `NumberTooLong` for a
+    /// whole part from 2^96 on or more than 28 digits after the point. Or it is a `Unit`, for a wrong spelling.
+    ///
+    /// Where the size reaches 10^27 bytes the `Value` is `ExceededBounds` with the number that was written: `1000.00 YB`
+    /// reports 1000. It asks for no memory.
     ///
     /// ```text
-    /// Byte::parse_str("50.84 MB", true)      // 50,840,000 bytes
-    /// Byte::parse_str("123Kib", false)       // 15,744 bytes
-    /// Byte::parse_str("9 b", true)           // 9 bytes
-    /// Byte::parse_str("9 b", false)          // 2 bytes
+    /// Byte::parse_str("50.84 MB", true)        // Ok(50,840,000 bytes)
+    /// Byte::parse_str("123Kib", false)         // Ok(15,744 bytes)
+    /// Byte::parse_str("9 b", true)             // Ok(9 bytes)
+    /// Byte::parse_str("9 b", false)            // Ok(2 bytes)
+    /// Byte::parse_str("1.", false)             // Err(Value(NotNumber('.')))
+    /// Byte::parse_str("1000.00 YB", false)     // Err(Value(ExceededBounds(1000)))
     /// ```
     pub fn parse_str(s: &str, ignore_case: bool) -> Result<Byte, ParseError>
         ensures { IsSizeReading InBytes ignore_case s.now result }

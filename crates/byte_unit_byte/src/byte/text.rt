@@ -13,6 +13,10 @@ use std::alloc::{AllocError, Allocator, Global};
 
 impl Byte {
     /// How many bytes the text of the size has under the spec: below 65,600. It asks for no memory.
+    ///
+    /// ```text
+    /// Byte::from_u64(1536).text_len(FormatSpec::ALTERNATE)      // 7, of "1.5 KiB"
+    /// ```
     pub fn text_len(self, spec: FormatSpec) -> usize
         ensures exact { (form : List ℕ) → IsText current InBytes self spec form → result ≡ length form }
         ensures small { result < text_limit }
@@ -20,8 +24,15 @@ impl Byte {
         format::text_len(self.size, Kind::Byte, spec)
     }
 
-    /// Adds the text of the size: with `alternate` the size in the largest unit of bytes that states it exactly within the
-    /// precision (three places where none is set), else its digits.
+    /// Adds the text of the size. Without `alternate` that is its digits, with a `+` before them for the sign `Plus`.
+    ///
+    /// With `alternate` it is the size in the largest unit of bytes, not above it, that states it exactly within the
+    /// precision (three places where none is set, 28 at most), and in `B` where there is none. No sign is printed: one
+    /// space stands between number and unit, for `Plus` as many as make four columns with the unit, for `Minus` none.
+    ///
+    /// Spaces fill the text up to the width. Digits alone stand as the alignment says, an odd space in the middle behind
+    /// them, and on the right where none is set. A number with its unit stands on the right where that is set, with the
+    /// spaces before it; else on the left, with the spaces between number and unit.
     ///
     /// It asks for memory once at most, before it writes. `AllocError` comes only where the spare room of the text is less
     /// than `text_len`, and leaves the text as it was.
@@ -53,7 +64,7 @@ impl Byte {
         self.to_text_in(alloc, spec)
     }
 
-    /// The text of the size, in memory of any allocator.
+    /// The text of the size, in memory of any allocator. `AllocError` where that was refused.
     pub fn to_text_in<A: Allocator>(
         self,
         alloc: A,

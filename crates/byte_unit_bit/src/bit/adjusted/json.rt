@@ -38,8 +38,8 @@ impl AdjustedBit {
         Ok(Value::String(text))
     }
 
-    /// The adjusted size of a JSON string, as `FromStr` reads its text. Any other value is refused as `NotString`. It asks
-    /// for no memory.
+    /// The adjusted size of a JSON string, as `FromStr` reads its text. `NotString` where the value is no string, and
+    /// `Parse` with the fault where the string is refused. It asks for no memory.
     pub fn from_json(value: &Value) -> Result<AdjustedBit, JsonSizeError>
         ensures { ReadsString IsAdjustedReading (as_str (view value.now)) result }
     {

@@ -19,7 +19,8 @@ use std::cmp::Ordering;
 use std::fmt;
 use std::str::FromStr;
 
-/// The size in its unit with all its digits, a space and the unit's name: the text by `FormatSpec::PLAIN`.
+/// The size in its unit with all its digits, a space and the unit's name: the text by `FormatSpec::PLAIN`. Flags of the
+/// formatter change nothing; [`AdjustedByte::to_text`] takes them.
 impl fmt::Display for AdjustedByte {
     ghost use Rattle.byte_unit_byte.specs.AdjustedByte.{size_of, unit_of};
 
