@@ -1,11 +1,13 @@
 //! Units as JSON strings.
 
-ghost use Rattle.std.specs.Prelude.{◌≡◌, IfOk};
+ghost use Rattle.std.specs.Prelude.{◌≡◌, IfOk, true, false};
 ghost use Rattle.serde_json.specs.Data.{string};
 ghost use Rattle.serde_json.specs.Find.{as_str};
 ghost use Rattle.serde_json.specs.View.{view};
 ghost use Rattle.byte_unit_base.specs.Edition.{current, name};
+ghost use Rattle.byte_unit_base.specs.Readings.{IsUnitReading};
 ghost use Rattle.byte_unit_base.specs.Units.{shape_of};
+ghost use Rattle.byte_unit.specs.UnitJson.{error_text, ReadsUnitString};
 
 use byte_unit_base::{Unit, UnitParseError};
 use serde_json::Value;
@@ -23,8 +25,6 @@ pub enum JsonUnitError {
 }
 
 impl fmt::Display for JsonUnitError {
-    ghost use Rattle.byte_unit.specs.UnitJson.{error_text};
-
     ghost output = { error_text };
 
     fn fmt<W: fmt::Write>(&self, f: &mut fmt::Formatter<W>) -> fmt::Result {
@@ -48,6 +48,20 @@ pub fn unit_to_json(alloc: Global, unit: Unit) -> Result<Value, AllocError>
     Ok(Value::String(String::from_str(alloc, unit.as_str())?))
 }
 
-mod reading;
-
-pub use reading::unit_from_json;
+/// The unit of a JSON string, as `FromStr` reads its text: case sensitive, bytes preferred. Any other value is refused as
+/// `NotString`. It asks for no memory.
+///
+/// ```text
+/// unit_from_json(&string)      // Unit::Kbit for the string "Kb"
+/// ```
+pub fn unit_from_json(value: &Value) -> Result<Unit, JsonUnitError>
+    ensures { ReadsUnitString (IsUnitReading false true) (as_str (view value.now)) result }
+{
+    match value.as_str() {
+        None => Err(JsonUnitError::NotString),
+        Some(text) => match text.parse::<Unit>() {
+            Ok(unit) => Ok(unit),
+            Err(error) => Err(JsonUnitError::Unit(error)),
+        },
+    }
+}
