@@ -9,9 +9,6 @@ use Rattle.byte_unit_lines.proofs.Answering.{answers_after, answers_one}
 use Rattle.byte_unit_lines.proofs.Lines.{ended_more, begun_more, ended_same, begun_same, ended_front, begun_front, ended_by-append, begun_by-append}
 
 -- a piece in which no line ends, byte by byte
-pub unbroken_nil : IsUnbroken []
-unbroken_nil line = (refl, sym (append-nil line))
-
 pub unbroken_more : (bytes : List ℕ) (i : ℕ) → i < length bytes → IsUnbroken (take i bytes) → get_or bytes i 0 ≢ 10 → IsUnbroken (take (i + 1) bytes)
 unbroken_more bytes i fits h e line = (
   ended_same line bytes i fits e ∙ (h line).0,

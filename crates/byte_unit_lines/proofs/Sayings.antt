@@ -2,11 +2,12 @@
 use Rattle.std.proofs.Common.{Result, Ok, Err, OnOk, is_ok, if◌then◌else◌, ◌≡◌, ℕ, ◌++◌, ◌∷◌, List, [], false, refl, sym, ap, ◌∙◌, append_assoc, codes}
 use Rattle.std.specs.Str.{IsUtf8}
 use Rattle.byte_unit.specs.Accepted.{Accepted, IsRefused}
+use Rattle.byte_unit.specs.AdjustedString.{alternate}
 use Rattle.byte_unit.specs.Edition.{current}
 use Rattle.byte_unit.specs.Fault.{Fault}
 use Rattle.byte_unit.specs.Forms.{IsText}
 use Rattle.byte_unit.specs.declared.FormatSpec.{FormatSpec}
-use Rattle.byte_unit_lines.specs.Answer.{Kind, digits_spec, unit_spec, words_of, size, refused}
+use Rattle.byte_unit_lines.specs.Answer.{Kind, digits_spec, words_of, size, refused}
 use Rattle.byte_unit_lines.specs.Steps.{AddsAnswer, AddsSaid}
 
 -- a text of a size was added
@@ -18,7 +19,7 @@ regroup a b c d = append_assoc (a ++ b) c d ∙ append_assoc a b (c ++ d) ∙ ap
 
 -- the two texts of a size
 pub size_added : {E : Type 0} (kind : Kind) (text : List ℕ) (n : ℕ) (old first second new : List ℕ) → IsUtf8 text → Accepted current kind false text n
-    → AddsText kind n digits_spec old first → second ≡ first ++ codes " = " → (r : Result (Unit {0}) E) → OnOk r (AddsText kind n unit_spec second new) → OnOk r (AddsSaid kind text old new)
+    → AddsText kind n digits_spec old first → second ≡ first ++ codes " = " → (r : Result (Unit {0}) E) → OnOk r (AddsText kind n alternate second new) → OnOk r (AddsSaid kind text old new)
 size_added kind text n old first second new is_text accepted digits between (Ok _) form = (
   digits.0 ++ codes " = " ++ form.0,
   size n is_text accepted (record { digits = digits.0; form = form.0; is_digits = digits.1; is_form = form.1; said_is = refl }),

@@ -1,5 +1,6 @@
 -- Each size is said in one way.
 use Rattle.std.proofs.Common.{◌≡◌, ℕ, ◌*◌, ◌++◌, List, inl, inr, ◌⊎◌, refl, sym, ap, ◌∙◌, codes}
+use Rattle.byte_unit.specs.AdjustedString.{alternate}
 use Rattle.byte_unit.specs.Bounds.{one, places_of_decimal}
 use Rattle.byte_unit.specs.Choice.{IsChosen, NoneStates, IsRecovered}
 use Rattle.byte_unit.specs.ChoiceLaws.{EachSizeHasAChoiceOrNone, ChoicesAreOne}
@@ -10,18 +11,18 @@ use Rattle.byte_unit.specs.Layout.{layout}
 use Rattle.byte_unit.specs.Numeral.{short}
 use Rattle.byte_unit.specs.Plain.{plain}
 use Rattle.byte_unit.specs.Shape.{Shape}
-use Rattle.byte_unit_lines.specs.Answer.{Kind, SaysSize, digits_spec, unit_spec}
+use Rattle.byte_unit_lines.specs.Answer.{Kind, SaysSize, digits_spec}
 
 abbrev places : ℕ
-places = places_of unit_spec.precision
+places = places_of alternate.precision
 
 abbrev form_of : ℕ → Shape → List ℕ
-form_of number unit = layout (short number places_of_decimal) (name current unit) unit_spec
+form_of number unit = layout (short number places_of_decimal) (name current unit) alternate
 
 -- a size has a form
 module _ (kind : Kind) (choices : EachSizeHasAChoiceOrNone) where
   some_form : (n : ℕ) → ((unit : Shape) × (number : ℕ) × IsChosen current (own_family kind) (n * bits_in kind) places unit number) ⊎ NoneStates current (own_family kind) (n * bits_in kind) places
-      → (form : List ℕ) × IsSizeForm current kind n unit_spec form
+      → (form : List ℕ) × IsSizeForm current kind n alternate form
   some_form n (inl found) = (form_of found.1 found.0, record { unit = found.0; number = found.1; is_recovered = inl found.2; text_is = refl })
   some_form n (inr none) = (
     form_of (n * one) (own_unit kind),
@@ -43,7 +44,7 @@ module _ (kind : Kind) (one_choice : ChoicesAreOne) where
   one_recovered n a b j k (inr p) (inl q) = absurd (p.none b q.unit_is.has)
   one_recovered n a b j k (inr p) (inr q) = (p.unit_is ∙ sym q.unit_is, p.number_is ∙ sym q.number_is)
 
-  one_form : (n : ℕ) (form other : List ℕ) → IsSizeForm current kind n unit_spec form → IsSizeForm current kind n unit_spec other → form ≡ other
+  one_form : (n : ℕ) (form other : List ℕ) → IsSizeForm current kind n alternate form → IsSizeForm current kind n alternate other → form ≡ other
   one_form n form other p q =
       let same = one_recovered n p.unit q.unit p.number q.number p.is_recovered q.is_recovered in
       p.text_is ∙ ap (form_of p.number) same.0 ∙ ap (λ number. form_of number q.unit) same.1 ∙ sym q.text_is
