@@ -1,6 +1,6 @@
 //! A reader that remembers a failure.
 
-ghost use Rattle.std.specs.Prelude.{false, ◌≡◌, ◌+◌, ◌≤◌, ◌<◌, ◌↔◌, take, length, IsTrue, IsNone, IfNone, IfSome, OnSome};
+ghost use Rattle.std.specs.Prelude.{false, ◌≡◌, ◌+◌, ◌-◌, ◌^◌, ◌≤◌, ◌<◌, ◌↔◌, take, length, IsTrue, IsNone, IfNone, IfSome, OnSome};
 ghost use Rattle.std.specs.Io.KnownBytes.{Consumes, IsAtEnd, Keeps};
 ghost use Rattle.byte_unit_lines.specs.Streams.{reader_of, reading_failed, reads_left};
 
@@ -23,6 +23,7 @@ impl<R: Read> Reading<R> {
     pub fn new(inner: R) -> Reading<R>
         ensures inner { reader_of result ≡ inner }
         ensures failed { reading_failed result ≡ false }
+        ensures left { reads_left result ≡ 2 ^ 64 - 1 }
     {
         Reading {
             inner,
@@ -64,6 +65,8 @@ impl<R: Read> Reading<R> {
             (R.remaining (reader_of self.new))) }
         ensures failed { IsTrue (reading_failed self.new) ↔ IsNone result }
         ensures stays { IsTrue (reading_failed self.old)
+            → IsNone result × (reader_of self.new ≡ reader_of self.old) }
+        ensures spent { reads_left self.old ≡ 0
             → IsNone result × (reader_of self.new ≡ reader_of self.old) }
         ensures counted { OnSome result (reads_left self.new + 1 ≡ reads_left self.old) }
     {

@@ -46,7 +46,7 @@ pub enum RunError {
 /// let mut reader = Reading::new(b"3 KB\n12\n\n".as_slice());
 /// let mut writer = Writing::new(Vec::new(alloc));
 /// let result = run(alloc, &mut reader, &mut writer, Kind::Byte);
-/// // Ok(()), and the writer has "3000\n12\nno value\n"
+/// // Ok(()), and the writer has "3000 = 3 KB\n12 = 12 B\nno value\n"
 /// ```
 pub fn run<R: Read, W: Write>(
     alloc: Global,
