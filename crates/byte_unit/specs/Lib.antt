@@ -1,5 +1,4 @@
 pub use Rattle.byte_unit_math.specs.Bounds
-pub use Rattle.byte_unit_math.specs.Decimal
 pub use Rattle.byte_unit_math.specs.Exact
 pub use Rattle.byte_unit_math.specs.Finite
 pub use Rattle.byte_unit_math.specs.Least

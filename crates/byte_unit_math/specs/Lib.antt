@@ -1,5 +1,4 @@
 pub mod Bounds
-pub mod Decimal
 pub mod Least
 pub mod RoundedUp
 pub mod Steps
