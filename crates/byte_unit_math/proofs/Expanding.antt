@@ -5,7 +5,7 @@ use Rattle.std.proofs.lemmas.Bool.{cases_lt}
 use Rattle.std.proofs.lemmas.List.{take_more, take_more_set, drop-set-lt, drop-drop, drop-replicate, length-set, length-replicate, get_or-set_same, get_or-take, take_all}
 use Rattle.std.proofs.lemmas.List.Elements.{All-set, All-replicate, All-take, All-get_or}
 use Rattle.std.proofs.lemmas.List.Sums.{fold-append}
-use Rattle.std.proofs.lemmas.Nat.{mod-mul-add, pow-add, pow_below, mul-le, div-add-mod'}
+use Rattle.std.proofs.lemmas.Nat.{pow-add, pow_below, mul-le, div-add-mod'}
 use Rattle.std.proofs.Math.Nat.{pow-succ', eq_of_mul-eq-mul_right, one-le-pow}
 use Rattle.byte_unit_math.specs.Bounds.{expansion_places, one, places_of_decimal, unit_limit}
 use Rattle.byte_unit_math.specs.Exact.{IsExactAt}
