@@ -1,5 +1,5 @@
 -- The reader's loop over a spelling: one character more, and the end.
-use Rattle.std.proofs.Common.{◌≡◌, ℕ, ◌+◌, ◌<◌, List, ◌∷◌, length, drop, get_or, Some, None, Err, sym, refl, ap, ◌∙◌, arith}
+use Rattle.std.proofs.Common.{◌≡◌, ℕ, ◌+◌, ◌<◌, List, ◌∷◌, length, drop, get_or, Some, None, Err, sym, refl, ◌∙◌, arith}
 use Rattle.std.proofs.lemmas.List.{at_drop_all}
 use Rattle.byte_unit_base.proofs.Lists.{at_next}
 use Rattle.byte_unit_base.specs.Edition.{current}

@@ -11,8 +11,8 @@ use Rattle.std.proofs.lemmas.List.Elements.{All-replicate}
 use Rattle.std.proofs.lemmas.Nat.{mod_below}
 use Rattle.std.proofs.lemmas.Str.{IsUtf8-from_ascii, IsAscii-take}
 use Rattle.std.proofs.lemmas.Str.Ascii.{IsAscii-from_all}
-use Rattle.byte_unit_math.specs.Numeral.{glyphs}
-use Rattle.byte_unit_base.specs.Shown.{shown_fraction}
+use Rattle.byte_unit_math.specs.Numeral.{fraction_text, glyphs}
+use Rattle.byte_unit_base.proofs.WrittenForms.{fraction_some}
 
 pub decimal_one : (n : ℕ) → n < 10 → decimal n ≡ (48 + n) ∷ []
 decimal_one n h = decimal_digit n h
@@ -151,18 +151,17 @@ run_more byte count left next old text new run few is all before pushed =
 pub digits_ascii : (shown : ℕ) (characters : List ℕ) → IsAscii characters → IsAscii (take shown characters)
 digits_ascii shown characters h = IsAscii-take characters shown h
 
-pub fraction_shown : (places shown : ℕ) (digits characters : List ℕ) → 0 < places → shown ≡ min places (length digits) → take (length digits) characters ≡ glyphs digits → 46 ∷ (take shown characters ++ replicate (places - shown) 48) ≡ shown_fraction places digits
-fraction_shown zero shown digits characters some is front = absurd (omega (arith, some))
-fraction_shown (suc n) shown digits characters some is front =
+pub fraction_shown : (places shown : ℕ) (digits characters : List ℕ) → 0 < places → shown ≡ min places (length digits) → take (length digits) characters ≡ glyphs digits → 46 ∷ (take shown characters ++ replicate (places - shown) 48) ≡ fraction_text (take places digits ++ replicate (places - length digits) 0)
+fraction_shown places shown digits characters some is front =
     let few : shown ≤ length digits = omega (arith, is) in
-    let rest : suc n - shown ≡ suc n - length digits = omega (arith, is) in
-    let here : take shown digits ≡ take (suc n) digits =
-    ⊎_elim (λ l. ap (λ k. take k digits) (let e : shown ≡ suc n = omega (arith, is, l) in e)) (λ l. take_all shown digits (omega (arith, is, l)) ∙ sym (take_all (suc n) digits l)) (cases_lt (suc n) (length digits)) in
-    let these : take shown characters ≡ glyphs (take (suc n) digits) =
+    let rest : places - shown ≡ places - length digits = omega (arith, is) in
+    let here : take shown digits ≡ take places digits =
+    ⊎_elim (λ l. ap (λ k. take k digits) (let e : shown ≡ places = omega (arith, is, l) in e)) (λ l. take_all shown digits (omega (arith, is, l)) ∙ sym (take_all places digits l)) (cases_lt places (length digits)) in
+    let these : take shown characters ≡ glyphs (take places digits) =
     sym (take-take shown (length digits) characters few) ∙ (ap (λ l. take shown l) front ∙ (take-map (λ d. 48 + d) shown digits ∙ ap glyphs here)) in
-    ap (λ l. 46 ∷ (l ++ replicate (suc n - shown) 48)) these ∙ ap (λ k. 46 ∷ (glyphs (take (suc n) digits) ++ replicate k 48)) rest
+    ap (λ l. 46 ∷ (l ++ replicate (places - shown) 48)) these ∙ (ap (λ k. 46 ∷ (glyphs (take places digits) ++ replicate k 48)) rest ∙ sym (fraction_some places digits some))
 
-pub pushed_fraction : (places shown : ℕ) (old point front new digits characters : List ℕ) → 0 < places → shown ≡ min places (length digits) → take (length digits) characters ≡ glyphs digits → point ≡ old ++ 46 ∷ [] → front ≡ point ++ take shown characters → new ≡ front ++ replicate (places - shown) 48 → new ≡ old ++ shown_fraction places digits
+pub pushed_fraction : (places shown : ℕ) (old point front new digits characters : List ℕ) → 0 < places → shown ≡ min places (length digits) → take (length digits) characters ≡ glyphs digits → point ≡ old ++ 46 ∷ [] → front ≡ point ++ take shown characters → new ≡ front ++ replicate (places - shown) 48 → new ≡ old ++ fraction_text (take places digits ++ replicate (places - length digits) 0)
 pushed_fraction places shown old point front new digits characters some is same a b c =
     let these = take shown characters in
     let zeros = replicate (places - shown) 48 in

@@ -1,8 +1,8 @@
 -- The texts that the code writes are those of the definitions.
-use Rattle.std.specs.Fmt.{decimal}
 use Rattle.std.specs.Prelude.{MatchBool}
-use Rattle.std.proofs.Common.{◌≡◌, ◌+◌, ◌-◌, ◌<◌, ℕ, zero, suc, Bool, true, List, [], ◌∷◌, ◌++◌, length, take, replicate, arith, ap, sym, refl, subst, ◌∙◌}
-use Rattle.std.proofs.lemmas.List.{length-take, map-append, length-append, length-replicate}
+use Rattle.std.proofs.Common.{◌≡◌, ◌+◌, ◌-◌, ◌<◌, ⊎_elim, min, ℕ, zero, suc, Bool, true, List, [], ◌∷◌, ◌++◌, length, take, replicate, arith, ap, sym, refl, subst, ◌∙◌}
+use Rattle.std.proofs.lemmas.Bool.{cases_lt}
+use Rattle.std.proofs.lemmas.List.{length-take, length-map, map-append, length-append, length-replicate}
 use Rattle.byte_unit_math.specs.Bounds.{one, places_of_decimal}
 use Rattle.byte_unit_math.specs.Finite.{Finite, IsExpansion}
 use Rattle.byte_unit_math.specs.Numeral.{glyphs, fraction_text, text_of, padded}
@@ -16,7 +16,6 @@ use Rattle.byte_unit_base.specs.Kinds.{own_family}
 use Rattle.byte_unit_base.specs.Layout.{layout, layout_of}
 use Rattle.byte_unit_base.specs.Plain.{plain}
 use Rattle.byte_unit_base.specs.Forms.{IsSizeForm, IsText, places_of}
-use Rattle.byte_unit_base.specs.Shown.{shown_fraction, numeral_of}
 use Rattle.byte_unit_base.proofs.OneForm.{one_form}
 
 zeros : (n : ℕ) → glyphs (replicate n 0) ≡ replicate n 48
@@ -31,17 +30,28 @@ pub text_some : (ds : List ℕ) → 0 < length ds → fraction_text ds ≡ 46 �
 text_some [] h = absurd (omega (arith, h))
 text_some (d ∷ ds) h = refl
 
--- what is written is the decimal with so many places
-fraction_same : (places : ℕ) (digits : List ℕ) → shown_fraction places digits ≡ fraction_text (take places digits ++ replicate (places - length digits) 0)
-fraction_same zero digits = sym (text_none (take 0 digits ++ replicate (0 - length digits) 0) (omega (arith, length-append {A = ℕ} (take 0 digits) (replicate (0 - length digits) 0), length-replicate {A = ℕ} (0 - length digits) 0)))
-fraction_same (suc n) digits =
-    let front = take (suc n) digits in
-    let back = replicate (suc n - length digits) 0 in
-    let some : 0 < length (front ++ back) = omega (arith, length-append {A = ℕ} front back, length-replicate {A = ℕ} (suc n - length digits) 0, length-take {A = ℕ} (suc n) digits) in
-    sym (text_some (front ++ back) some ∙ ap (λ l. 46 ∷ l) (map-append (λ d. 48 + d) front back ∙ ap (λ l. glyphs front ++ l) (zeros (suc n - length digits))))
+-- a decimal with no places has no point
+pub fraction_none : (places : ℕ) (digits : List ℕ) → places ≡ 0 → fraction_text (take places digits ++ replicate (places - length digits) 0) ≡ []
+fraction_none zero digits h = text_none (take 0 digits ++ replicate (0 - length digits) 0) (omega (arith, length-append {A = ℕ} (take 0 digits) (replicate (0 - length digits) 0), length-replicate {A = ℕ} (0 - length digits) 0))
+fraction_none (suc n) digits h = absurd (omega (arith, h))
 
-pub numeral_is : (e : Finite) (places : ℕ) → numeral_of e places ≡ text_of (padded places e)
-numeral_is e places = ap (λ t. decimal e.whole ++ t) (fraction_same places e.digits)
+-- and one with places has a point, its digits, and zeros past those that are there
+pub fraction_some : (places : ℕ) (digits : List ℕ) → 0 < places → fraction_text (take places digits ++ replicate (places - length digits) 0) ≡ 46 ∷ (glyphs (take places digits) ++ replicate (places - length digits) 48)
+fraction_some places digits h =
+    let front = take places digits in
+    let back = replicate (places - length digits) 0 in
+    let some : 0 < length (front ++ back) = omega (arith, h, length-append {A = ℕ} front back, length-replicate {A = ℕ} (places - length digits) 0, length-take {A = ℕ} places digits) in
+    text_some (front ++ back) some ∙ ap (λ l. 46 ∷ l) (map-append (λ d. 48 + d) front back ∙ ap (λ l. glyphs front ++ l) (zeros (places - length digits)))
+
+-- the columns of the point and the digits
+pub fraction_length : (places : ℕ) (digits : List ℕ) → length (fraction_text (take places digits ++ replicate (places - length digits) 0)) ≡ places + min 1 places
+fraction_length places digits =
+    ⊎_elim (λ some.
+    let front : List ℕ = glyphs (take places digits) in
+    let back : List ℕ = replicate (places - length digits) 48 in
+    ap length (fraction_some places digits some) ∙ omega (arith, some, length-append {A = ℕ} front back, length-replicate {A = ℕ} (places - length digits) 48, length-map (take places digits) (λ d. 48 + d), length-take {A = ℕ} places digits))
+    (λ none. ap length (fraction_none places digits (omega (arith, none))) ∙ omega (arith, none))
+    (cases_lt 0 places)
 
 -- with its own places it is the decimal
 pub all_places : (e : Finite) (places : ℕ) → places ≡ length e.digits → text_of (padded places e) ≡ text_of e

@@ -30,4 +30,3 @@ pub mod FormLaws
 pub mod UnitScan
 pub mod SizeScan
 pub mod Multiples
-pub mod Shown

@@ -1,14 +1,14 @@
 //! A number with its unit.
 
-ghost use Rattle.std.specs.Prelude.{◌≡◌, ℕ, ◌+◌, ◌<◌, ◌≤◌, ◌++◌, List, length, take, max, OnOk, OnErr, IsAscii};
+ghost use Rattle.std.specs.Prelude.{◌≡◌, ◌+◌, ◌<◌, ◌≤◌, ◌++◌, length, take, max, OnOk, OnErr, IsAscii};
 ghost use Rattle.std.specs.Fmt.{decimal};
 ghost use Rattle.std.specs.String.{string_bytes};
 ghost use Rattle.byte_unit_base.specs.Edition.{name, current};
 ghost use Rattle.byte_unit_base.specs.Units.{shape_of};
-ghost use Rattle.byte_unit_math.specs.Numeral.{glyphs};
+ghost use Rattle.byte_unit_math.specs.Finite.{Finite};
+ghost use Rattle.byte_unit_math.specs.Numeral.{fraction_text, glyphs, padded, text_of};
 ghost use Rattle.byte_unit_base.specs.Room.{spare};
-ghost use Rattle.byte_unit_base.specs.Layout.{layout, layout_of, before_layout, gap_of};
-ghost use Rattle.byte_unit_base.specs.Shown.{numeral_of, shown_fraction};
+ghost use Rattle.byte_unit_base.specs.Layout.{layout_of, before_layout, gap_of};
 
 use crate::format::digits::Digits;
 use crate::format::plain::padding;
@@ -31,7 +31,9 @@ pub fn layout_len(e: &Expansion, places: u32, unit: Unit, spec: FormatSpec) -> u
     // A whole part, the point, and the unit with its spaces take no more than 44 columns.
     ensures small { result ≤ max u16.MAX (places + 44) }
 {
-    columns(e, places, unit, spec)
+    let number = Digits::of(e.whole()).len() + fraction_len(places);
+    let len = number + gap(unit, spec.sign) + name_len(unit);
+    len + padding(len, spec.width)
 }
 
 /// Adds a decimal with exactly so many places, and its unit. Where a width is set the number is padded with spaces
@@ -57,33 +59,6 @@ pub fn append_layout<A: Allocator>(
     ensures err { OnErr result (string_bytes text.new ≡ string_bytes text.old) }
     ensures kept { OnErr result (spare text.new ≡ spare text.old) }
     ensures room { OnErr result (spare text.old < length (layout_of current e.now places (shape_of unit) spec)) }
-{
-    write(e, places, unit, spec, text)
-}
-
-/// The length of what `write` adds.
-fn columns(e: &Expansion, places: u32, unit: Unit, spec: FormatSpec) -> usize
-    ensures exact { result ≡ length (layout (numeral_of e.now places) (name current (shape_of unit)) spec) }
-    ensures small { result ≤ max u16.MAX (places + 44) }
-{
-    let number = Digits::of(e.whole()).len() + fraction_len(places);
-    let len = number + gap(unit, spec.sign) + name_len(unit);
-    len + padding(len, spec.width)
-}
-
-/// Adds the digits that are shown of a decimal, and its unit; where memory is refused nothing.
-fn write<A: Allocator>(
-    e: &Expansion,
-    places: u32,
-    unit: Unit,
-    spec: FormatSpec,
-    text: &mut String<A>,
-) -> Result<(), AllocError>
-    ensures ok { OnOk result (string_bytes text.new ≡ string_bytes text.old ++ layout (numeral_of e.now places) (name current (shape_of unit)) spec) }
-    ensures spare { OnOk result (spare text.old ≤ spare text.new + length (layout (numeral_of e.now places) (name current (shape_of unit)) spec)) }
-    ensures err { OnErr result (string_bytes text.new ≡ string_bytes text.old) }
-    ensures kept { OnErr result (spare text.new ≡ spare text.old) }
-    ensures room { OnErr result (spare text.old < length (layout (numeral_of e.now places) (name current (shape_of unit)) spec)) }
 {
     let whole = Digits::of(e.whole());
     let gap = gap(unit, spec.sign);
@@ -132,8 +107,9 @@ fn gap(unit: Unit, sign: Sign) -> usize
 }
 
 /// How many columns the point and so many digits take.
+#[tactic(auto, using(crate::proofs::WrittenForms::fraction_length))]
 fn fraction_len(places: u32) -> usize
-    ensures exact { (digits : List ℕ) → result ≡ length (shown_fraction places digits) }
+    ensures exact { (e : Finite) → result ≡ length (fraction_text (padded places e).digits) }
     ensures small { result ≤ places + 1 }
 {
     if places == 0 { 0 } else { 1 + places as usize }
@@ -143,19 +119,20 @@ fn fraction_len(places: u32) -> usize
 fn push_numeral<A: Allocator>(text: &mut String<A>, whole: &Digits, e: &Expansion, places: u32)
     requires whole { whole.now ≡ decimal e.now.whole }
     requires ascii { IsAscii whole.now }
-    requires room { length (numeral_of e.now places) ≤ spare text.old }
-    ensures bytes { string_bytes text.new ≡ string_bytes text.old ++ numeral_of e.now places }
-    ensures spare { spare text.old ≤ spare text.new + length (numeral_of e.now places) }
+    requires room { length (text_of (padded places e.now)) ≤ spare text.old }
+    ensures bytes { string_bytes text.new ≡ string_bytes text.old ++ text_of (padded places e.now) }
+    ensures spare { spare text.old ≤ spare text.new + length (text_of (padded places e.now)) }
 {
     push_ascii(text, whole.as_slice());
     push_fraction(text, e, places);
 }
 
 /// Adds the point and exactly so many digits, or nothing where there are to be none.
+#[tactic(auto, using(crate::proofs::WrittenForms::fraction_length))]
 fn push_fraction<A: Allocator>(text: &mut String<A>, e: &Expansion, places: u32)
-    requires room { length (shown_fraction places e.now.digits) ≤ spare text.old }
-    ensures bytes { string_bytes text.new ≡ string_bytes text.old ++ shown_fraction places e.now.digits }
-    ensures spare { spare text.old ≤ spare text.new + length (shown_fraction places e.now.digits) }
+    requires room { length (fraction_text (padded places e.now).digits) ≤ spare text.old }
+    ensures bytes { string_bytes text.new ≡ string_bytes text.old ++ fraction_text (padded places e.now).digits }
+    ensures spare { spare text.old ≤ spare text.new + length (fraction_text (padded places e.now).digits) }
 {
     if places > 0 {
         let shown = places.min(e.places()) as usize;
