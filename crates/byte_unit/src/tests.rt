@@ -2,6 +2,7 @@
 
 mod adjusted;
 mod json;
+mod readings;
 mod texts;
 mod tour;
 mod units;

@@ -146,6 +146,10 @@ const ONE_BYTE_IN_YIB: &str =
 const ONE_BIT_IN_YIB: &str =
     "0.00000000000000000000000010339757656912845935892608650874535669572651386260986328125 YiB";
 
+/// The same, and a zero.
+const ONE_BIT_IN_84_PLACES: &str =
+    "0.000000000000000000000000103397576569128459358926086508745356695726513862609863281250 YiB";
+
 #[test]
 fn bits_in_a_unit(rt: HostRuntime) -> Result<(), Fail> {
     for (size, unit, spec, text) in [
@@ -159,8 +163,7 @@ fn bits_in_a_unit(rt: HostRuntime) -> Result<(), Fail> {
         assert_eq!(rt; made.as_str(), text);
     }
     let longer = in_bits(rt.alloc(), 1, Unit::YiB, places(84))?;
-    assert_eq!(rt; longer.len(), ONE_BIT_IN_YIB.len() + 1);
-    assert!(rt; longer.as_str().ends_with("3281250 YiB"));
+    assert_eq!(rt; longer.as_str(), ONE_BIT_IN_84_PLACES);
     Ok(())
 }
 
@@ -169,38 +172,48 @@ fn the_greatest_precision(rt: HostRuntime) -> Result<(), Fail> {
     let text = Byte::from_u64(10_000)
         .get_adjusted_unit(Unit::KB)
         .to_text(rt.alloc(), places(65_535))?;
-    assert_eq!(rt; text.len(), 65_541);
-    assert!(rt; text.as_str().starts_with("10.000"));
-    assert!(rt; text.as_str().ends_with("000 KB"));
+    let zeros = "0".repeat(rt.alloc(), 65_535)?;
+    let whole = format!(in rt.alloc(); "10.{zeros} KB")?;
+    assert!(rt; text.as_str() == whole.as_str());
     Ok(())
 }
 
 #[test]
 fn appropriate_units(rt: HostRuntime) -> Result<(), Fail> {
-    for (size, unit_type, text) in [
-        (10_000, UnitType::Both, "9.765625 KiB"),
-        (1000, UnitType::Both, "1 KB"),
-        (1023, UnitType::Both, "1.023 KB"),
-        (0, UnitType::Both, "0 B"),
-        (1_048_575, UnitType::Binary, "1023.9990234375 KiB"),
-        (10_000, UnitType::Decimal, "10 KB"),
+    let wide = spec(false, Sign::Plus, Some(2), Some(10), Some(Align::Right));
+    let close = spec(false, Sign::Minus, None, None, None);
+    let plain = FormatSpec::PLAIN;
+    for (size, unit_type, spec, text) in [
+        (10_000, UnitType::Both, plain, "9.765625 KiB"),
+        (1000, UnitType::Both, plain, "1 KB"),
+        (1023, UnitType::Both, plain, "1.023 KB"),
+        (0, UnitType::Both, plain, "0 B"),
+        (1_048_575, UnitType::Binary, plain, "1023.9990234375 KiB"),
+        (10_000, UnitType::Decimal, plain, "10 KB"),
+        (10_000, UnitType::Binary, wide, "  9.77 KiB"),
+        (10_000, UnitType::Decimal, wide, " 10.00  KB"),
+        (10_000, UnitType::Binary, close, "9.765625KiB"),
+        (1_500_000, UnitType::Binary, places(2), "1.43 MiB"),
     ] {
         let adjusted = Byte::from_u64(size).get_appropriate_unit(unit_type);
-        assert_eq!(rt;
-            adjusted.to_text(rt.alloc(), FormatSpec::PLAIN)?.as_str(),
-            text
-        );
+        assert_eq!(rt; adjusted.to_text(rt.alloc(), spec)?.as_str(), text);
     }
     for (size, unit_type, text) in [
         (1000, UnitType::Binary, "1000 b"),
         (1030, UnitType::Decimal, "1.03 Kb"),
     ] {
         let adjusted = Bit::from_u64(size).get_appropriate_unit(unit_type);
-        assert_eq!(rt;
-            adjusted.to_text(rt.alloc(), FormatSpec::PLAIN)?.as_str(),
-            text
-        );
+        assert_eq!(rt; adjusted.to_text(rt.alloc(), plain)?.as_str(), text);
     }
+    Ok(())
+}
+
+#[test]
+fn adjusted_sizes_shown(rt: HostRuntime) -> Result<(), Fail> {
+    let bytes = Byte::from_u64(1536).get_adjusted_unit(Unit::KiB);
+    let bits = Bit::from_u64(13).get_adjusted_unit(Unit::B);
+    let shown = format!(in rt.alloc(); "{bytes}, {bits}")?;
+    assert_eq!(rt; shown.as_str(), "1.5 KiB, 1.625 B");
     Ok(())
 }
 

@@ -2,7 +2,7 @@ use crate::{
     AdjustedByte, Bit, Byte, JsonSizeError, JsonUnitError, ParseError, Unit, ValueParseError,
     unit_from_json, unit_to_json,
 };
-use serde_json::Value;
+use serde_json::{Map, Value};
 use std::alloc::{AllocError, Global};
 use std::process::Abort;
 use std::test::Fail;
@@ -74,13 +74,27 @@ fn other_values_are_refused(rt: HostRuntime) -> Result<(), Fail> {
             Err(JsonSizeError::Parse(ParseError::Value(ValueParseError::NumberTooLong)))
         )
     );
-    match unit_from_json(&string(rt.alloc(), "x")?) {
+    Ok(())
+}
+
+/// The text of the error of a value that is no unit.
+fn unit_refusal(rt: &impl Abort, alloc: Global, value: &Value) -> Result<String, AllocError> {
+    match unit_from_json(value) {
         Ok(_) => panic!(rt; "read"),
-        Err(error) => assert_eq!(rt;
-            error.to_string(rt.alloc())?.as_str(),
-            "the character 'x' is incorrect ('B', 'K', 'M', 'G', 'T', 'P', 'E', 'Z' or 'Y' or no character is expected)"
-        ),
+        Err(error) => error.to_string(alloc),
     }
+}
+
+#[test]
+fn texts_of_errors_of_units(rt: HostRuntime) -> Result<(), Fail> {
+    assert_eq!(rt;
+        unit_refusal(&rt, rt.alloc(), &Value::Null)?.as_str(),
+        "not a JSON string"
+    );
+    assert_eq!(rt;
+        unit_refusal(&rt, rt.alloc(), &string(rt.alloc(), "x")?)?.as_str(),
+        "the character 'x' is incorrect ('B', 'K', 'M', 'G', 'T', 'P', 'E', 'Z' or 'Y' or no character is expected)"
+    );
     Ok(())
 }
 
@@ -144,32 +158,62 @@ fn member<'a>(settings: &'a Value, name: &str, null: &'a Value) -> &'a Value {
 }
 
 #[test]
-fn settings_through_their_text(rt: HostRuntime) -> Result<(), Fail> {
+fn settings_from_their_text(rt: HostRuntime) -> Result<(), Fail> {
+    let text = "{ \"cache\": \"1.5 GiB\", \"upload\": \"20 MB\", \"line\": \"100 Mb\" }";
+    let settings = Value::from_str(rt.alloc(), text)?;
+    let null = Value::Null;
+    for (name, size) in [("cache", 1_610_612_736), ("upload", 20_000_000)] {
+        match Byte::from_json(member(&settings, name, &null)) {
+            Ok(read) => assert_eq!(rt; read, Byte::from_u64(size), "{name}"),
+            Err(_) => panic!(rt; "{name} is refused"),
+        }
+    }
+    match Bit::from_json(member(&settings, "line", &null)) {
+        Ok(read) => assert_eq!(rt; read, Bit::from_u64(100_000_000)),
+        Err(_) => panic!(rt; "the line is refused"),
+    }
+    Ok(())
+}
+
+/// Settings with a value of each type: 1536 bytes, 100,000,000 bits, a unit, and 1536 bytes in a unit.
+fn settings_of_each_type(alloc: Global) -> Result<Value, AllocError> {
     let cache = Byte::from_u64(1536);
     let limit = Bit::from_u64(100_000_000);
-    let cache_text = cache.to_json(rt.alloc())?.to_string(rt.alloc())?;
-    let limit_text = limit.to_json(rt.alloc())?.to_string(rt.alloc())?;
-    let unit_text = unit_to_json(rt.alloc(), Unit::MiB)?.to_string(rt.alloc())?;
-    let shown_text = adjusted(rt.alloc(), cache, Unit::MB)?.to_string(rt.alloc())?;
-    let text = format!(in rt.alloc();
-        "{{\"cache\": {cache_text}, \"limit\": {limit_text}, \"unit\": {unit_text}, \"shown\": {shown_text}}}"
+    let mut settings = Map::new(alloc);
+    settings.insert(String::from_str(alloc, "cache")?, cache.to_json(alloc)?)?;
+    settings.insert(String::from_str(alloc, "limit")?, limit.to_json(alloc)?)?;
+    settings.insert(
+        String::from_str(alloc, "unit")?,
+        unit_to_json(alloc, Unit::MiB)?,
     )?;
+    settings.insert(
+        String::from_str(alloc, "shown")?,
+        adjusted(alloc, cache, Unit::MB)?,
+    )?;
+    Ok(Value::Object(settings))
+}
+
+#[test]
+fn settings_through_their_text(rt: HostRuntime) -> Result<(), Fail> {
+    let text = settings_of_each_type(rt.alloc())?.to_string(rt.alloc())?;
     let settings = Value::from_str(rt.alloc(), text.as_str())?;
     let null = Value::Null;
     match Byte::from_json(member(&settings, "cache", &null)) {
-        Ok(read) => assert_eq!(rt; read, cache),
+        Ok(read) => assert_eq!(rt; read, Byte::from_u64(1536)),
         Err(_) => panic!(rt; "{text}"),
     }
     match Bit::from_json(member(&settings, "limit", &null)) {
-        Ok(read) => assert_eq!(rt; read, limit),
+        Ok(read) => assert_eq!(rt; read, Bit::from_u64(100_000_000)),
         Err(_) => panic!(rt; "{text}"),
     }
     match unit_from_json(member(&settings, "unit", &null)) {
         Ok(read) => assert_eq!(rt; read, Unit::MiB),
         Err(_) => panic!(rt; "{text}"),
     }
-    match AdjustedByte::from_json(member(&settings, "shown", &null)) {
-        Ok(read) => assert_eq!(rt; read.get_byte(), cache),
+    let shown = member(&settings, "shown", &null);
+    assert_eq!(rt; shown.as_str(), Some("0.001536 MB"));
+    match AdjustedByte::from_json(shown) {
+        Ok(read) => assert_eq!(rt; read.get_byte(), Byte::from_u64(1536)),
         Err(_) => panic!(rt; "{text}"),
     }
     Ok(())

@@ -50,6 +50,17 @@ fn padded_sizes(rt: HostRuntime) -> Result<(), Fail> {
             spec(false, Sign::Plus, None, Some(8), None),
             "  +10240",
         ),
+    ] {
+        let made = size.to_text(rt.alloc(), spec)?;
+        assert_eq!(rt; made.as_str(), text);
+        assert_eq!(rt; size.text_len(spec), text.len(), "{text}");
+    }
+    Ok(())
+}
+
+#[test]
+fn sizes_by_sign(rt: HostRuntime) -> Result<(), Fail> {
+    for (size, spec, text) in [
         (
             Byte::from_u64(10_000),
             spec(true, Sign::Minus, None, None, None),
@@ -159,18 +170,54 @@ fn sizes_in_bits(rt: HostRuntime) -> Result<(), Fail> {
     Ok(())
 }
 
+/// Sizes of which each is read from its own text again.
+const SIZES: [u64; 9] = [
+    0,
+    1,
+    500,
+    1023,
+    1088,
+    10_000,
+    10_240,
+    3_211_776,
+    999_999_999_999,
+];
+
+/// Specs of the alternate form, each with a sign, a precision or a width of its own.
+fn alternate_specs() -> [FormatSpec; 7] {
+    [
+        FormatSpec::ALTERNATE,
+        precise(0),
+        precise(28),
+        spec(true, Sign::Minus, None, None, None),
+        spec(true, Sign::Unset, None, Some(5), Some(Align::Right)),
+        spec(true, Sign::Unset, None, Some(10), Some(Align::Center)),
+        spec(true, Sign::Plus, None, Some(40), Some(Align::Right)),
+    ]
+}
+
 #[test]
 fn forms_with_a_unit_read_back(rt: HostRuntime) -> Result<(), Fail> {
-    for size in [0, 1, 500, 1023, 1088, 10_000, 3_211_776, 999_999_999_999] {
-        for spec in [
-            FormatSpec::ALTERNATE,
-            precise(0),
-            precise(28),
-            spec(true, Sign::Plus, None, Some(40), Some(Align::Right)),
-        ] {
-            let size = Byte::from_u64(size);
+    for size in SIZES {
+        let size = Byte::from_u64(size);
+        for spec in alternate_specs() {
             let text = size.to_text(rt.alloc(), spec)?;
             match Byte::parse_str(text.as_str(), true) {
+                Ok(read) => assert_eq!(rt; read, size),
+                Err(_) => panic!(rt; "{text}"),
+            }
+        }
+    }
+    Ok(())
+}
+
+#[test]
+fn forms_in_bits_read_back(rt: HostRuntime) -> Result<(), Fail> {
+    for size in SIZES {
+        let size = Bit::from_u64(size);
+        for spec in alternate_specs() {
+            let text = size.to_text(rt.alloc(), spec)?;
+            match Bit::parse_str(text.as_str()) {
                 Ok(read) => assert_eq!(rt; read, size),
                 Err(_) => panic!(rt; "{text}"),
             }
@@ -186,5 +233,12 @@ fn appended_texts(rt: HostRuntime) -> Result<(), Fail> {
     Bit::from_u64(10_000).append_text(FormatSpec::ALTERNATE, &mut text)?;
     append_plain(10, FormatSpec::PLAIN, &mut text)?;
     assert_eq!(rt; text.as_str(), "ab10 KB10 Kb10");
+
+    let mut text = String::with_capacity(rt.alloc(), 7)?;
+    text.push_str("ab")?;
+    assert_eq!(rt; text.capacity(), 7);
+    Byte::from_u64(10_000).append_text(FormatSpec::ALTERNATE, &mut text)?;
+    assert_eq!(rt; text.as_str(), "ab10 KB");
+    assert_eq!(rt; text.capacity(), 7, "there was room");
     Ok(())
 }
