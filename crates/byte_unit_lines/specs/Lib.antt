@@ -1,6 +1,7 @@
 pub mod Answer
 pub mod Answers
 pub mod Arguments
+pub mod Ending
 pub mod FaultWords
 pub mod Laws
 pub mod Lines

@@ -3,6 +3,7 @@
 
 mod answers;
 mod arguments;
+mod ending;
 mod laws;
 mod line;
 mod reading;
@@ -14,15 +15,12 @@ mod tests;
 mod words;
 mod writing;
 
-use arguments::{Kind, kind_of};
+use ending::{Ending, serve};
 use reading::Reading;
-use run::{RunError, run};
+use run::RunError;
 use std::process::ExitCode;
 use std::{env, io};
-use words::fault_words;
 use writing::Writing;
-
-const USAGE: &str = "usage: byte_unit_lines [byte|bit]";
 
 /// The words after the program's name. An error is a word that is not UTF-8, or want of memory.
 fn words_after_name(rt: &HostRuntime) -> io::Result<Vec<String>> {
@@ -34,38 +32,25 @@ fn words_after_name(rt: &HostRuntime) -> io::Result<Vec<String>> {
 }
 
 /// Answers the lines of standard input on standard output.
-fn serve(rt: &HostRuntime, kind: Kind) -> Result<(), RunError> {
-    let mut reader = Reading::new(rt.reader());
-    let mut writer = Writing::new(io::writer(rt));
-    run(rt.alloc(), &mut reader, &mut writer, kind)
-}
-
-/// Says why a run failed. The status tells it also where nobody reads standard error.
-fn failure(rt: &HostRuntime, error: RunError) -> ExitCode {
-    let words = fault_words(error);
-    let _ = eprintln!(rt; "{words}");
-    ExitCode::from(1)
-}
-
-/// Says how the program is called.
-fn usage(rt: &HostRuntime) -> ExitCode {
-    let _ = eprintln!(rt; "{USAGE}");
-    ExitCode::from(2)
+fn answer(rt: &HostRuntime) -> Ending {
+    match words_after_name(rt) {
+        Ok(words) => {
+            let mut reader = Reading::new(rt.reader());
+            let mut writer = Writing::new(io::writer(rt));
+            serve(rt.alloc(), &words, &mut reader, &mut writer)
+        }
+        Err(error) if error.kind() == io::ErrorKind::OutOfMemory => {
+            Ending::Failed(RunError::Memory)
+        }
+        Err(_) => Ending::Usage,
+    }
 }
 
 fn main(rt: HostRuntime) -> ExitCode {
-    let words = match words_after_name(&rt) {
-        Ok(words) => words,
-        Err(error) if error.kind() == io::ErrorKind::OutOfMemory => {
-            return failure(&rt, RunError::Memory);
-        }
-        Err(_) => return usage(&rt),
-    };
-    let Some(kind) = kind_of(&words) else {
-        return usage(&rt);
-    };
-    match serve(&rt, kind) {
-        Ok(()) => ExitCode::from(0),
-        Err(error) => failure(&rt, error),
+    let ending = answer(&rt);
+    if let Some(line) = ending.line() {
+        // The status tells it also where nobody reads standard error.
+        let _ = eprintln!(rt; "{line}");
     }
+    ExitCode::from(ending.status())
 }

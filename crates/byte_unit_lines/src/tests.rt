@@ -2,11 +2,16 @@
 ghost use Rattle.std.specs.Prelude.{IfOk};
 ghost use Rattle.byte_unit_lines.specs.Report.{IsReport};
 
-use super::*;
+use crate::arguments::{Kind, kind_of};
+use crate::reading::Reading;
+use crate::run::{RunError, run};
+use crate::writing::Writing;
 use std::alloc::Global;
 
+mod endings;
 mod ends;
 mod memory;
+mod order;
 mod rows;
 mod streams;
 

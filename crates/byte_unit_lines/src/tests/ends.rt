@@ -99,6 +99,26 @@ fn each_step_of_writing(rt: HostRuntime) -> Result<(), Fail> {
     Ok(())
 }
 
+#[test]
+fn each_writer_that_slows_down(rt: HostRuntime) -> Result<(), Fail> {
+    for step in [1, 7, OUTPUT.len()] {
+        for calls in 0..10 {
+            let mut writer = open(rt.alloc());
+            writer.step = step;
+            writer.calls = calls;
+            writer.then = Then::ByteByByte;
+            let (result, taken) = ran(rt.alloc(), whole(INPUT), writer);
+            assert_eq!(rt; result, Ok(()));
+            assert_eq!(rt;
+                taken.as_slice(),
+                OUTPUT,
+                "byte by byte after {calls} writes"
+            );
+        }
+    }
+    Ok(())
+}
+
 /// How many line ends are in these bytes.
 fn line_ends(bytes: &[u8]) -> usize {
     bytes.iter().filter(|byte| **byte == b'\n').count()
@@ -117,6 +137,46 @@ fn first_lines(count: usize) -> &'static [u8] {
         Some(first) => *first,
         None => OUTPUT,
     }
+}
+
+/// The answer to the line that has begun after so many bytes of the input, or nothing where none has.
+const LAST: [&[u8]; 20] = [
+    b"",
+    b"1 = 1 B\n",
+    b"not a number\n",
+    b"2 = 2 B\n",
+    b"2 = 2 B\n",
+    b"1500 = 1.5 KB\n",
+    b"1536 = 1.5 KiB\n",
+    b"1536 = 1.5 KiB\n",
+    b"",
+    b"",
+    b"1 = 1 B\n",
+    b"1000 = 1 KB\n",
+    b"125 = 125 B\n",
+    b"bad unit\n",
+    b"",
+    b"not a number\n",
+    b"",
+    b"1 = 1 B\n",
+    b"1000000000000000000000000 = 1 YB\n",
+    b"1000000000000000000000000 = 1 YB\n",
+];
+
+#[test]
+fn each_end_of_the_input(rt: HostRuntime) -> Result<(), Fail> {
+    for calls in 0..=INPUT.len() {
+        let mut reader = whole(INPUT);
+        reader.step = 1;
+        reader.calls = calls;
+        reader.then = Then::TakeNothing;
+        let (result, taken) = ran(rt.alloc(), reader, open(rt.alloc()));
+        assert_eq!(rt; result, Ok(()), "after {calls} reads");
+        let mut report = first_lines(line_ends(&INPUT[..calls])).to_vec(rt.alloc())?;
+        report.extend_from_slice(LAST.get(calls).ok_or("an answer")?)?;
+        assert_eq!(rt; taken.as_slice(), report.as_slice(), "after {calls} reads");
+    }
+    Ok(())
 }
 
 #[test]

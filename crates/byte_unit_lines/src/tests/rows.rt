@@ -106,13 +106,6 @@ fn kinds(rt: HostRuntime) -> Result<(), Fail> {
 }
 
 #[test]
-fn words_of_failures(rt: HostRuntime) {
-    assert_eq!(rt; fault_words(RunError::Read), "read failed");
-    assert_eq!(rt; fault_words(RunError::Write), "write failed");
-    assert_eq!(rt; fault_words(RunError::Memory), "out of memory");
-}
-
-#[test]
 fn many_lines_and_long_lines(rt: HostRuntime) -> Result<(), Fail> {
     let mut input = Vec::new(rt.alloc());
     let mut output = String::new(rt.alloc());
