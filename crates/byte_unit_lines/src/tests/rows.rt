@@ -81,6 +81,37 @@ fn faults(rt: HostRuntime) -> Result<(), Fail> {
 }
 
 #[test]
+fn lines_of_the_readme(rt: HostRuntime) -> Result<(), Fail> {
+    let rows: [(&[u8], &str); 9] = [
+        (
+            b"100 MB\n100mB\n100 M\n",
+            "100000000 = 100 MB\n100000000 = 100 MB\n100000000 = 100 MB\n",
+        ),
+        (b"1 Ki\n1 KiB\n", "1024 = 1 KiB\n1024 = 1 KiB\n"),
+        (
+            b"100 mb\n100 Mbit\n100 mbits\n",
+            "12500000 = 12.5 MB\n12500000 = 12.5 MB\n12500000 = 12.5 MB\n",
+        ),
+        (b"9 b\n", "2 = 2 B\n"),
+        (
+            b"1 byte\n12 bytes\n1 kilobyte\n",
+            "bad unit\nbad unit\nbad unit\n",
+        ),
+        (
+            b"1,000\n1_000\n1e3 KB\n1 KB # note\n1\tKB\n",
+            "bad unit\nbad unit\nbad unit\nbad unit\nbad unit\n",
+        ),
+        (
+            b"-1\n+1\n.5\n# note\n",
+            "not a number\nnot a number\nnot a number\nnot a number\n",
+        ),
+        (b"\n \t\n1 KB\r\n", "no value\nno value\n1000 = 1 KB\n"),
+        (b"123456789\n", "123456789 = 123456.789 KB\n"),
+    ];
+    give(&rt, rt.alloc(), Kind::Byte, &rows)
+}
+
+#[test]
 fn bits(rt: HostRuntime) -> Result<(), Fail> {
     let rows: [(&[u8], &str); 1] = [(b"1KiB\n1K\n", "8192 = 8 Kib\n1000 = 1 Kb\n")];
     give(&rt, rt.alloc(), Kind::Bit, &rows)
