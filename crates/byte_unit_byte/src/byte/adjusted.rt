@@ -80,7 +80,7 @@ impl AdjustedByte {
     /// Sign, width and alignment lay it out as [`Byte::append_text`] does a number with its unit.
     ///
     /// It asks for memory once at most, before it writes. `AllocError` comes only where the spare room of the text is less
-    /// than `text_len`, and leaves the text as it was.
+    /// than `text_len`, and leaves the text and its room as they were.
     pub fn append_text<A: Allocator>(
         self,
         spec: FormatSpec,
@@ -89,6 +89,7 @@ impl AdjustedByte {
         ensures ok { OnOk result ((form : List ℕ) × IsAdjustedForm current InBytes (size_of self) (shape_of (unit_of self)) spec form × (string_bytes text.new ≡ string_bytes text.old ++ form)) }
         ensures err { OnErr result (string_bytes text.new ≡ string_bytes text.old) }
         ensures room { OnErr result ((form : List ℕ) × IsAdjustedForm current InBytes (size_of self) (shape_of (unit_of self)) spec form × (spare text.old < length form)) }
+        ensures kept { OnErr result (spare text.new ≡ spare text.old) }
     {
         format::append_adjusted(self.size.as_u128(), Kind::Byte, self.unit, spec, text)
     }

@@ -35,7 +35,7 @@ impl Byte {
     /// spaces before it; else on the left, with the spaces between number and unit.
     ///
     /// It asks for memory once at most, before it writes. `AllocError` comes only where the spare room of the text is less
-    /// than `text_len`, and leaves the text as it was.
+    /// than `text_len`, and leaves the text and its room as they were.
     ///
     /// ```text
     /// Byte::from_u64(3_211_776).append_text(FormatSpec::ALTERNATE, &mut text)?;   // "3136.5 KiB"
@@ -48,6 +48,7 @@ impl Byte {
         ensures ok { OnOk result ((form : List ℕ) × IsText current InBytes self spec form × (string_bytes text.new ≡ string_bytes text.old ++ form)) }
         ensures err { OnErr result (string_bytes text.new ≡ string_bytes text.old) }
         ensures room { OnErr result ((form : List ℕ) × IsText current InBytes self spec form × (spare text.old < length form)) }
+        ensures kept { OnErr result (spare text.new ≡ spare text.old) }
     {
         format::append_text(self.size, Kind::Byte, spec, text)
     }
