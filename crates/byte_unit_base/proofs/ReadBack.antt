@@ -166,8 +166,8 @@ good_name kind unit =
 -- the least size
 
 least_size : (kind : Kind) (N size : ℕ) (s : Shape) → N * bits s ≡ size * bits_in kind * one → IsLeastOf kind N s size
-least_size Byte N size s e = record { covers = omega (arith, e); least = λ m h. omega (arith, e, h) }
-least_size Bit N size s e = record { covers = omega (arith, e); least = λ m h. omega (arith, e, h) }
+least_size Byte N size s e = record { has = omega (arith, e); least = λ m h. omega (arith, e, h) }
+least_size Bit N size s e = record { has = omega (arith, e); least = λ m h. omega (arith, e, h) }
 
 -- a layout is accepted
 

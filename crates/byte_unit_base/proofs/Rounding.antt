@@ -13,16 +13,16 @@ use Rattle.byte_unit_base.specs.LeastOfKind.{IsLeastOf, Covers}
 pub least_bits : (N unit : ℕ) → (b : ℕ) × IsLeastSize N unit b
 least_bits N unit =
     let b = (N * unit + (one - 1)) / one in
-    (b, record { reaches = omega arith; least = λ m r. omega (arith, r) })
+    (b, record { has = omega arith; least = λ m r. omega (arith, r) })
 
 -- the kind's least number that holds them
 pub least_holding : (kind : Kind) (N : ℕ) (unit : Shape) (b n : ℕ) → IsLeastSize N (bits unit) b → b ≤ n * bits_in kind → n * bits_in kind < b + bits_in kind → IsLeastOf kind N unit n
 least_holding Byte N unit b n h holds low = record {
-  covers = omega (arith, h.reaches, mul-le-mul_right one holds);
+  has = omega (arith, h.has, mul-le-mul_right one holds);
   least = λ m r. omega (arith, h.least (m * 8) r, low);
 }
 least_holding Bit N unit b n h holds low = record {
-  covers = omega (arith, h.reaches, mul-le-mul_right one holds);
+  has = omega (arith, h.has, mul-le-mul_right one holds);
   least = λ m r. omega (arith, h.least (m * 1) r, low);
 }
 
@@ -30,11 +30,11 @@ least_holding Bit N unit b n h holds low = record {
 pub least_above : (kind : Kind) (N : ℕ) (unit : Shape) (limit in_bits n : ℕ) → 1 ≤ limit → in_bits ≡ (limit - 1) * bits_in kind + 1 → ((b : ℕ) → IsLeastSize N (bits unit) b → in_bits ≤ b) → IsLeastOf kind N unit n → limit ≤ n
 least_above Byte N unit limit in_bits n some e none h =
     let least = least_bits N (bits unit) in
-    let enough = least.1.least (n * 8) h.covers in
+    let enough = least.1.least (n * 8) h.has in
     omega (arith, enough, e, none least.0 least.1, some)
 least_above Bit N unit limit in_bits n some e none h =
     let least = least_bits N (bits unit) in
-    let enough = least.1.least (n * 1) h.covers in
+    let enough = least.1.least (n * 1) h.has in
     omega (arith, enough, e, none least.0 least.1, some)
 
 pub least_below : (kind : Kind) (limit b n : ℕ) → b < (limit - 1) * bits_in kind + 1 → n * bits_in kind < b + bits_in kind → 1 ≤ limit → n < limit
@@ -44,8 +44,8 @@ least_below Bit limit b n small low some = omega (arith, small, low, some)
 -- a least number is one
 pub least_is_one : (kind : Kind) (N : ℕ) (unit : Shape) (m n : ℕ) → IsLeastOf kind N unit m → IsLeastOf kind N unit n → m ≡ n
 least_is_one kind N unit m n a b =
-    let up = a.least n b.covers in
-    let down = b.least m a.covers in
+    let up = a.least n b.has in
+    let down = b.least m a.has in
     omega (arith, up, down)
 
 -- there is one
@@ -61,5 +61,5 @@ least_of Bit N unit =
 -- what covers more covers less
 pub more_covers_more : (kind : Kind) (unit : Shape) (few many small large : ℕ) → few ≤ many → IsLeastOf kind few unit small → IsLeastOf kind many unit large → small ≤ large
 more_covers_more kind unit few many small large more a b =
-    let covers : Covers kind few unit large = omega (arith, mul-le-mul_right (bits unit) more, b.covers) in
+    let covers : Covers kind few unit large = omega (arith, mul-le-mul_right (bits unit) more, b.has) in
     a.least large covers

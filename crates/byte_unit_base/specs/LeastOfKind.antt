@@ -1,6 +1,6 @@
 -- Rounding up to a whole number of bytes or of bits.
-use Rattle.std.specs.Prelude.{ℕ, ◌*◌, ◌≤◌}
-use Rattle.byte_unit_math.specs.Least.{Reaches}
+use Rattle.std.specs.Prelude.{ℕ, ◌*◌}
+use Rattle.byte_unit_math.specs.Least.{IsLeast, Reaches}
 use Rattle.byte_unit_base.specs.Shape.{Shape, bits}
 use Rattle.byte_unit_base.specs.declared.kind.Kind.{Kind}
 use Rattle.byte_unit_base.specs.Kinds.{bits_in}
@@ -9,7 +9,6 @@ use Rattle.byte_unit_base.specs.Kinds.{bits_in}
 abbrev pub Covers : Kind → ℕ → Shape → ℕ → Type 0
 Covers kind N unit n = Reaches N (bits unit) (n * bits_in kind)
 
--- n is the least such number
-pub record IsLeastOf (kind : Kind) (N : ℕ) (unit : Shape) (n : ℕ) : Type 0 where
-  pub covers : Covers kind N unit n
-  pub least : (m : ℕ) → Covers kind N unit m → n ≤ m
+-- the least such number
+abbrev pub IsLeastOf : Kind → ℕ → Shape → ℕ → Type 0
+IsLeastOf kind N unit = IsLeast (Covers kind N unit)

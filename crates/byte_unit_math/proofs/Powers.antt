@@ -3,8 +3,8 @@ use Rattle.std.proofs.Common.{◌≡◌, ◌≢◌, ◌+◌, ◌-◌, ◌*◌, �
 use Rattle.std.proofs.lemmas.Bool.{cases_lt}
 use Rattle.std.proofs.lemmas.Nat.{pow-add, mul-pow}
 use Rattle.std.proofs.Math.Nat.{pow-succ', eq_of_mul-eq-mul_right, one-le-pow}
-use Rattle.byte_unit_math.specs.Exact.{IsExactAt}
-use Rattle.byte_unit_math.specs.Powers.{IsTwoFive, HasTwoFive, IsLeastPlaces, ExactByPowers, PlacesByPowers}
+use Rattle.byte_unit_math.specs.Exact.{IsExactAt, IsLeastPlaces}
+use Rattle.byte_unit_math.specs.Powers.{IsTwoFive, HasTwoFive, ExactByPowers, PlacesByPowers}
 
 odd_times : (u n : ℕ) → u % 2 ≢ 0 → (u * 5 ^ n) % 2 ≢ 0
 odd_times u zero h = λ k. h (omega (arith, k))
@@ -67,12 +67,12 @@ exact_by_powers num a b twos fives p h = (λ e. (needs_twos num a b twos fives p
 
 pub places_by_powers : (num a b : ℕ) → PlacesByPowers num a b
 places_by_powers num a b twos fives h = record {
-  exact = enough num a b twos fives (max (a - twos) (b - fives)) h (omega arith) (omega arith);
+  has = enough num a b twos fives (max (a - twos) (b - fives)) h (omega arith) (omega arith);
   least = λ p e. let x = needs_twos num a b twos fives p h e in let y = needs_fives num a b twos fives p h e in omega (arith, x, y);
 }
 
 pub no_places : (den : ℕ) → IsLeastPlaces 0 den 0
-no_places den = record { exact = (0, omega arith); least = λ p e. omega arith }
+no_places den = record { has = (0, omega arith); least = λ p e. omega arith }
 
 nothing_left : (n left twos fives : ℕ) → n ≡ left * (2 ^ twos * 5 ^ fives) → 0 < left % 2 → 0 < left % 5 → HasTwoFive n
 nothing_left n left twos fives e odd no_five = (twos, fives, record { left = left; product = e; odd = λ k. omega (arith, odd, k); no_five = λ k. omega (arith, no_five, k) })

@@ -55,7 +55,7 @@ IsLeastSize-halves fraction unit part size low high =
     let parts : half * (fraction / half) + fraction % half ≡ fraction = omega arith in
     let product = ap (λ n. n * unit) parts in
     record {
-      reaches = omega (arith, product, low.enough, low.close, high.enough, high.close);
+      has = omega (arith, product, low.enough, low.close, high.enough, high.close);
       least = λ m r. omega (arith, product, low.enough, low.close, high.enough, high.close, r);
     }
 
@@ -63,7 +63,7 @@ IsLeastSize-halves fraction unit part size low high =
 pub IsLeastSize-whole : (whole fraction unit part : ℕ) → IsLeastSize fraction unit part → IsLeastSize (whole * one + fraction) unit (whole * unit + part)
 IsLeastSize-whole whole fraction unit part h =
     record {
-      reaches = omega (arith, h.reaches);
+      has = omega (arith, h.has);
       least = λ m r. ⊎_elim (λ below. absurd (omega (arith, below, r))) (λ above. let more = h.least (m - whole * unit) (omega (arith, above, r)) in omega (arith, above, more)) (cases_lt m (whole * unit));
     }
 

@@ -1,10 +1,15 @@
 -- Exact quotients: at which places a number over another is a whole number of units of the place.
 use Rattle.std.specs.Prelude.{◌≡◌, ℕ, ◌*◌, ◌^◌, ◌-◌, ◌≤◌, ◌⊎◌}
 use Rattle.byte_unit_math.specs.Bounds.{places_of_decimal}
+use Rattle.byte_unit_math.specs.Least.{IsLeast}
 
 -- size / unit is a whole number of units of this place
 abbrev pub IsExactAt : ℕ → ℕ → ℕ → Type 0
 IsExactAt size unit places = (whole : ℕ) × (size * 10 ^ places ≡ whole * unit)
+
+-- the least number of places at which it is exact
+abbrev pub IsLeastPlaces : ℕ → ℕ → ℕ → Type 0
+IsLeastPlaces size unit = IsLeast (IsExactAt size unit)
 
 -- the decimal N is size / unit, exact at these places, which are no more than a decimal has
 pub record IsQuotient (size unit places N : ℕ) : Type 0 where

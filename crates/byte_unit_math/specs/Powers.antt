@@ -1,6 +1,6 @@
 -- How often two and five divide a number, and the places that follow from it.
 use Rattle.std.specs.Prelude.{◌≡◌, ◌≢◌, ◌↔◌, ℕ, ◌+◌, ◌-◌, ◌*◌, ◌%◌, ◌^◌, ◌≤◌, max}
-use Rattle.byte_unit_math.specs.Exact.{IsExactAt}
+use Rattle.byte_unit_math.specs.Exact.{IsExactAt, IsLeastPlaces}
 
 -- two divides n so often, five so often, and neither divides what is left: so n is not zero
 pub record IsTwoFive (n twos fives : ℕ) : Type 0 where
@@ -12,11 +12,6 @@ pub record IsTwoFive (n twos fives : ℕ) : Type 0 where
 -- the number has such powers
 abbrev pub HasTwoFive : ℕ → Type 0
 HasTwoFive n = (twos : ℕ) × (fives : ℕ) × IsTwoFive n twos fives
-
--- p is the least number of places at which num / den is exact
-pub record IsLeastPlaces (num den p : ℕ) : Type 0 where
-  pub exact : IsExactAt num den p
-  pub least : (other : ℕ) → IsExactAt num den other → p ≤ other
 
 -- exact at p places where neither exponent is greater than what num * 10^p has of it
 abbrev pub ExactByPowers : ℕ → ℕ → ℕ → Type 0

@@ -6,7 +6,7 @@ ghost use Rattle.std.specs.Fmt.{DisplaysOnOk};
 ghost use Rattle.std.specs.Ordering.{nat_cmp, as_partial_cmp};
 ghost use Rattle.std.proofs.Common.{rules};
 ghost use Rattle.byte_unit_math.specs.Bounds.{one, places_of_decimal, whole_limit};
-ghost use Rattle.byte_unit_math.specs.Exact.{IsExactAt};
+ghost use Rattle.byte_unit_math.specs.Exact.{IsLeastPlaces};
 ghost use Rattle.byte_unit_math.specs.Numeral.{glyphs, last_digits, short, without_zeros};
 
 use std::cmp::Ordering;
@@ -110,8 +110,7 @@ impl Decimal {
     /// The least number of places that state it, 0 to 28.
     pub fn places(self) -> u32
         ensures bound { result ≤ places_of_decimal }
-        ensures states { IsExactAt self one result }
-        ensures least { (p : ℕ) → IsExactAt self one p → result ≤ p }
+        ensures least { IsLeastPlaces self one result }
     {
         let mut rest = self.fraction();
         let mut places = PLACES;

@@ -1,8 +1,9 @@
 //! Laws of fractions over powers of two and five, and of numerals. Each is the contract of a call that does nothing.
 ghost use Rattle.std.specs.Prelude.{◌≡◌, ◌≢◌, ◌*◌, ◌^◌};
+ghost use Rattle.byte_unit_math.specs.Exact.{IsLeastPlaces};
 ghost use Rattle.byte_unit_math.specs.Finite.{IsExpansion, scaled};
 ghost use Rattle.byte_unit_math.specs.Numeral.{at_places, shortened};
-ghost use Rattle.byte_unit_math.specs.Powers.{ExactByPowers, HasTwoFive, IsLeastPlaces, PlacesByPowers};
+ghost use Rattle.byte_unit_math.specs.Powers.{ExactByPowers, HasTwoFive, PlacesByPowers};
 
 /// `numerator / (2^twos * 5^fives)`, where it is not zero, is exact at p places exactly where neither exponent is greater
 /// than p and what the numerator has of it.

@@ -1,6 +1,6 @@
 //! Laws of the texts of sizes.
 
-ghost use Rattle.byte_unit_math.specs.Powers.{IsLeastPlaces};
+ghost use Rattle.byte_unit_math.specs.Exact.{IsLeastPlaces};
 ghost use Rattle.byte_unit_base.specs.Shape.{bits};
 ghost use Rattle.byte_unit_base.specs.Edition.{current};
 ghost use Rattle.byte_unit_base.specs.Units.{shape_of};
