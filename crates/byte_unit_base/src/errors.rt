@@ -39,6 +39,13 @@ pub struct UnitParseError {
 }
 
 /// Why the text of a number and a unit is refused: the first fault from the left.
+///
+/// A reader that answers a size or this is matched where it is called, by `match`, `if let` or `let .. else`: the borrow
+/// checker has no rule yet for `?`, `ok` or `map_err` at a value of a size and a list by reference.
+///
+/// ```text
+/// let Ok(limit) = Byte::parse_str(text, false) else { return Err(SettingsError::Limit) };
+/// ```
 #[derive(Clone, Copy, Debug)]
 pub enum ParseError {
     /// The number is refused.

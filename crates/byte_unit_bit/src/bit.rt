@@ -31,7 +31,7 @@ mod tests;
 /// A size in bits: a whole number below 10^27. A contract sees it as that number.
 ///
 /// ```text
-/// let line = Bit::parse_str("100 Mbit")?;
+/// let Ok(line) = Bit::parse_str("100 Mbit") else { return None };
 /// line.divide(8)        // Some(12,500,000 bits)
 /// ```
 #[derive(Debug, Clone, Copy, PartialEq, Eq, PartialOrd, Ord, Hash)]

@@ -31,7 +31,7 @@ mod tests;
 /// A size in bytes: a whole number below 10^27. A contract sees it as that number.
 ///
 /// ```text
-/// let limit = Byte::parse_str("1.5 GiB", false)?;
+/// let Ok(limit) = Byte::parse_str("1.5 GiB", false) else { return None };
 /// let used = Byte::from_u64(900_000_000);
 /// limit.subtract(used)        // Some(710,612,736 bytes)
 /// ```

@@ -20,6 +20,26 @@ fn reading(rt: HostRuntime) {
     );
 }
 
+/// What can be wrong in the settings of an example.
+#[derive(Debug, PartialEq, Drop)]
+enum SettingsError {
+    Quota,
+}
+
+/// The quota of a setting.
+fn quota_of(text: &str) -> Result<Byte, SettingsError> {
+    let Ok(quota) = Byte::parse_str(text, false) else {
+        return Err(SettingsError::Quota);
+    };
+    Ok(quota)
+}
+
+#[test]
+fn reading_into_an_error_of_the_caller(rt: HostRuntime) {
+    assert_eq!(rt; quota_of("20 GB"), Ok(Byte::from_u64(20_000_000_000)));
+    assert_eq!(rt; quota_of("20 GX"), Err(SettingsError::Quota));
+}
+
 #[test]
 fn calculating(rt: HostRuntime) {
     let quota = Byte::GIBIBYTE;

@@ -32,7 +32,7 @@ impl Bit {
     /// the fault where the string is refused. It asks for no memory.
     ///
     /// ```text
-    /// Bit::from_json(&value)?      // 15,500 bits, where the value is the string "15.5 Kb"
+    /// Bit::from_json(&value)      // Ok: 15,500 bits, where the value is the string "15.5 Kb"
     /// ```
     pub fn from_json(value: &Value) -> Result<Bit, JsonSizeError>
         ensures { ReadsString (IsSizeReading InBits false) (as_str (view value.now)) result }

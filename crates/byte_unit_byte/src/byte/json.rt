@@ -32,7 +32,7 @@ impl Byte {
     /// the fault where the string is refused. It asks for no memory.
     ///
     /// ```text
-    /// Byte::from_json(&value)?      // 15,500 bytes, where the value is the string "15.5 KB"
+    /// Byte::from_json(&value)      // Ok: 15,500 bytes, where the value is the string "15.5 KB"
     /// ```
     pub fn from_json(value: &Value) -> Result<Byte, JsonSizeError>
         ensures { ReadsString (IsSizeReading InBytes false) (as_str (view value.now)) result }
