@@ -31,7 +31,7 @@ pub use Rattle.byte_unit_base.specs.Forms
 pub use Rattle.byte_unit_base.specs.Adjusted
 pub use Rattle.byte_unit_base.specs.AdjustedString
 pub use Rattle.byte_unit_base.specs.Room
-pub use Rattle.byte_unit_base.specs.Laws
+pub use Rattle.byte_unit_base.specs.ReaderLaws
 pub use Rattle.byte_unit_base.specs.ChoiceLaws
 pub use Rattle.byte_unit_base.specs.SizeLaws
 pub use Rattle.byte_unit_base.specs.FormLaws

@@ -21,10 +21,10 @@ use Rattle.byte_unit_base.specs.Edition.{current, name}
 use Rattle.byte_unit_base.specs.Units.{shape_of}
 use Rattle.byte_unit_base.specs.Spelling.{Flags}
 use Rattle.byte_unit_base.specs.SizeText.{trimmed}
-use Rattle.byte_unit_base.specs.Fault.{too_long, no_unit, after_digit, SizeFault}
+use Rattle.byte_unit_base.specs.Fault.{too_long, no_unit, after_digit, IsSizeFault}
 use Rattle.byte_unit_base.specs.SizeScan.{size_step, size_read}
 use Rattle.byte_unit_base.specs.Kinds.{bits_in, flags_for}
-use Rattle.byte_unit_base.specs.Accepted.{Accepted, IsRefused}
+use Rattle.byte_unit_base.specs.Accepted.{IsAccepted, IsRefused}
 use Rattle.byte_unit_base.specs.Layout.{layout}
 use Rattle.byte_unit_base.specs.Plain.{spaces}
 use Rattle.byte_unit_base.specs.Adjusted.{IsAdjustedForm}
@@ -116,7 +116,7 @@ long_text w ds tail some k =
     ∙ (append_assoc (decimal w) (46 ∷ (glyphs k.front ++ ((48 + k.next) ∷ glyphs k.rest))) tail
     ∙ ap (λ t. decimal w ++ (46 ∷ t)) (append_assoc (glyphs k.front) ((48 + k.next) ∷ glyphs k.rest) tail))
 
-long_fault : (flags : Flags) (w : ℕ) (ds tail text : List ℕ) → w < whole_limit → All (λ d. d < 10) ds → places_of_decimal < length ds → text ≡ (decimal w ++ fraction_text ds) ++ tail → SizeFault current flags text too_long
+long_fault : (flags : Flags) (w : ℕ) (ds tail text : List ℕ) → w < whole_limit → All (λ d. d < 10) ds → places_of_decimal < length ds → text ≡ (decimal w ++ fraction_text ds) ++ tail → IsSizeFault current flags text too_long
 long_fault flags w ds tail text bound small long e =
     let k = cut places_of_decimal ds small long in
     let read = ap (size_read flags Beginning) (e ∙ long_text w ds tail (omega (arith, long)) k) ∙ read_long flags w k.next k.front (glyphs k.rest ++ tail) bound k.small k.length_is k.next_small in
@@ -124,18 +124,18 @@ long_fault flags w ds tail text bound small long e =
 
 -- the string
 
-form_accepted : (kind : Kind) (size : ℕ) (unit : UnitName) (text : List ℕ) → size < current.size_limit → IsAdjustedForm current kind size (shape_of unit) alternate text → IsExactAt (size * bits_in kind) (bits (shape_of unit)) places_of_decimal → Accepted current kind false text size
+form_accepted : (kind : Kind) (size : ℕ) (unit : UnitName) (text : List ℕ) → size < current.size_limit → IsAdjustedForm current kind size (shape_of unit) alternate text → IsExactAt (size * bits_in kind) (bits (shape_of unit)) places_of_decimal → IsAccepted current kind false text size
 form_accepted kind size unit text below h exact =
     let s = shape_of unit in
     let e = h.number_is.0 in
     let x = h.number_is.1 in
     let few = x.least places_of_decimal exact in
     let bound : e.whole < whole_limit = omega (arith, whole_not_above (size * bits_in kind) (bits s) e (some_bits s) x, bits_bound kind size below) in
-    let P : List ℕ → Type 0 = λ t. Accepted current kind false t size in
+    let P : List ℕ → Type 0 = λ t. IsAccepted current kind false t size in
     subst P (sym (h.text_is ∙ ap (λ n. layout n (name current s) alternate) h.number_is.2))
     (layout_accepted kind false size alternate e.whole e.digits s x.small few bound (good_name kind unit) (expansion_product (size * bits_in kind) (bits s) e x few) below)
 
-form_refused : (kind : Kind) (size : ℕ) (unit : UnitName) (text : List ℕ) → size < current.size_limit → IsAdjustedForm current kind size (shape_of unit) alternate text → (IsExactAt (size * bits_in kind) (bits (shape_of unit)) places_of_decimal → ⊥) → SizeFault current (flags_for kind false) (trimmed text) too_long
+form_refused : (kind : Kind) (size : ℕ) (unit : UnitName) (text : List ℕ) → size < current.size_limit → IsAdjustedForm current kind size (shape_of unit) alternate text → (IsExactAt (size * bits_in kind) (bits (shape_of unit)) places_of_decimal → ⊥) → IsSizeFault current (flags_for kind false) (trimmed text) too_long
 form_refused kind size unit text below h long =
     let s = shape_of unit in
     let e = h.number_is.0 in
@@ -147,7 +147,7 @@ form_refused kind size unit text below h long =
     let text_is = ap trimmed (h.text_is ∙ ap (λ n. layout n (name current s) alternate) h.number_is.2) ∙ t.trims in
     long_fault (flags_for kind false) e.whole e.digits (spaces t.spaces_between ++ name current s) (trimmed text) bound x.small many text_is
 
-accepted : (kind : Kind) (size : ℕ) (unit : UnitName) (text : List ℕ) → size < current.size_limit → IsAdjustedString current kind size (shape_of unit) text → FitsDecimal current kind size (shape_of unit) → Accepted current kind false text size
+accepted : (kind : Kind) (size : ℕ) (unit : UnitName) (text : List ℕ) → size < current.size_limit → IsAdjustedString current kind size (shape_of unit) text → FitsDecimal current kind size (shape_of unit) → IsAccepted current kind false text size
 accepted kind size unit text below (inl h) short = size_form_back kind size alternate false text below h.1
 accepted kind size unit text below (inr h) (inl greatest) = absurd (h.0 greatest)
 accepted kind size unit text below (inr h) (inr exact) = form_accepted kind size unit text below h.1 exact

@@ -3,9 +3,9 @@ use Rattle.std.proofs.Common.{◌≡◌, ℕ, List, [], ◌∷◌, ◌++◌, Opt
 use Rattle.byte_unit_base.specs.Shape.{Shape}
 use Rattle.byte_unit_base.specs.Edition.{current}
 use Rattle.byte_unit_base.specs.Spelling.{Flags, Spells}
-use Rattle.byte_unit_base.specs.SizeText.{SizeText}
+use Rattle.byte_unit_base.specs.SizeText.{IsSizeText}
 use Rattle.byte_unit_base.specs.Front.{Place, IsUnitFront, IsSizeFront}
-use Rattle.byte_unit_base.specs.Laws.{UnitFrontsAreBeginnings, SizeFrontsAreBeginnings, BeginsUnit, BeginsSize}
+use Rattle.byte_unit_base.specs.ReaderLaws.{UnitFrontsAreBeginnings, SizeFrontsAreBeginnings, BeginsUnit, BeginsSize}
 use Rattle.byte_unit_base.specs.UnitScan.{unit_step, unit_run, unit_read, scan_of, place_of, start}
 use Rattle.byte_unit_base.specs.SizeScan.{size_step, size_run, size_read, size_place}
 use Rattle.byte_unit_base.specs.declared.unit.scan.Word.{Word}
@@ -92,7 +92,7 @@ size_front_begins flags text place h =
     let e = SizeReads.read_through flags r.0 text m.more Beginning r.1 ∙ m.ends in
     (m.more, m.number, m.shape, subst (SizeFaults.SizeResult flags (text ++ m.more)) e (SizeFaults.reads_rightly flags (text ++ m.more)))
 
-size_beginning_is_front : (flags : Flags) (text more : List ℕ) (n : ℕ) (s : Shape) → SizeText current flags (text ++ more) n s → (place : Place) × IsSizeFront current place text
+size_beginning_is_front : (flags : Flags) (text more : List ℕ) (n : ℕ) (s : Shape) → IsSizeText current flags (text ++ more) n s → (place : Place) × IsSizeFront current place text
 size_beginning_is_front flags text more n s h =
     let r = SizeReads.size_text_runs flags (text ++ more) n s h in
     let t = some_before (λ u. size_run u more) (size_run Beginning text) r.state (sym (SizeReads.size_run_append Beginning text more) ∙ r.run) in

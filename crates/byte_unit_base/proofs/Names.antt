@@ -5,7 +5,7 @@ use Rattle.byte_unit_base.specs.Edition.{current, name}
 use Rattle.byte_unit_base.specs.Units.{shape_of}
 use Rattle.byte_unit_base.specs.Spelling.{reading}
 use Rattle.byte_unit_base.specs.SizeText.{trimmed}
-use Rattle.byte_unit_base.specs.Laws.{NamesSpellTheirUnits}
+use Rattle.byte_unit_base.specs.ReaderLaws.{NamesSpellTheirUnits}
 use Rattle.byte_unit_base.specs.UnitScan.{unit_step, unit_read, start}
 use Rattle.byte_unit_base.specs.declared.unit.Unit.{Unit as UnitName}
 use Rattle.byte_unit_base.specs.declared.unit.Unit.TheVariants.{Bit, B, Kbit, Kibit, KB, KiB, Mbit, Mibit, MB, MiB, Gbit, Gibit, GB, GiB, Tbit, Tibit, TB, TiB, Pbit, Pibit, PB, PiB, Ebit, Eibit, EB, EiB, Zbit, Zibit, ZB, ZiB, Ybit, Yibit, YB, YiB}

@@ -14,7 +14,7 @@ use Rattle.std.proofs.lemmas.Str.Parse.{digit_from_value}
 use Rattle.std.proofs.lemmas.List.Elements.{All-head, All-tail}
 use Rattle.byte_unit_math.specs.Bounds.{one, places_of_decimal, whole_limit}
 use Rattle.byte_unit_base.specs.Edition.{current}
-use Rattle.byte_unit_base.specs.Number.{IsWhole, NumberText}
+use Rattle.byte_unit_base.specs.Number.{IsWholePart, IsNumberText}
 use Rattle.byte_unit_math.specs.Finite.{value_of}
 use Rattle.byte_unit_math.specs.Numeral.{glyphs, fraction_text}
 
@@ -31,7 +31,7 @@ pub glyphs_value : (n : ℕ) (ds : List ℕ) → All (λ d. d < 10) ds → digit
 glyphs_value n [] h = refl
 glyphs_value n (d ∷ ds) h = ap (λ x. digits_value_after 10 (n * 10 + x) (glyphs ds)) (glyph_value d (All-head (λ d. d < 10) d ds h)) ∙ (glyphs_value (n * 10 + d) ds (All-tail (λ d. d < 10) d ds h))
 
-pub whole_text : (w : ℕ) → w < whole_limit → IsWhole current (decimal w) w
+pub whole_text : (w : ℕ) → w < whole_limit → IsWholePart current (decimal w) w
 whole_text w h =
     let k = decimal_is_IsNumeral_wide w (omega arith) in
     (k.0, sym k.1, h)
@@ -40,8 +40,8 @@ whole_text w h =
 abbrev pub number_of : ℕ → List ℕ → ℕ
 number_of w ds = w * one + value_of ds * 10 ^ (places_of_decimal - length ds)
 
-pub number_text : (w : ℕ) (ds : List ℕ) → All (λ d. d < 10) ds → length ds ≤ places_of_decimal → w < whole_limit → NumberText current (decimal w ++ fraction_text ds) (number_of w ds)
-number_text w [] small few h = inl (w, subst (λ t. IsWhole current t w) (sym (append-nil (decimal w))) (whole_text w h), omega arith)
+pub number_text : (w : ℕ) (ds : List ℕ) → All (λ d. d < 10) ds → length ds ≤ places_of_decimal → w < whole_limit → IsNumberText current (decimal w ++ fraction_text ds) (number_of w ds)
+number_text w [] small few h = inl (w, subst (λ t. IsWholePart current t w) (sym (append-nil (decimal w))) (whole_text w h), omega arith)
 number_text w (d ∷ ds) small few h = inr record {
   whole = decimal w;
   fraction = glyphs (d ∷ ds);

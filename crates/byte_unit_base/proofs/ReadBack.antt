@@ -35,7 +35,7 @@ use Rattle.byte_unit_base.proofs.Choosing.{some_bits}
 use Rattle.byte_unit_base.proofs.Names.{names_spell_their_units}
 use Rattle.byte_unit_base.specs.Kinds.{bits_in, counts_bits, own_unit, own_family, flags_for}
 use Rattle.byte_unit_base.specs.LeastOfKind.{IsLeastOf}
-use Rattle.byte_unit_base.specs.Accepted.{Accepted}
+use Rattle.byte_unit_base.specs.Accepted.{IsAccepted}
 use Rattle.byte_unit_base.specs.Layout.{layout, layout_padding, before_layout, gap_of}
 use Rattle.byte_unit_base.specs.Plain.{spaces, plus_of, plain, plain_padding, before_plain}
 use Rattle.byte_unit_base.specs.Forms.{places_of}
@@ -202,7 +202,7 @@ trimmed_layout kind ignore_case spec w ds s small bound good =
       trims = ap trimmed (regroup a (pad - a) g number unit) ∙ trim_layout a k number unit good.front good.last (number_start w (fraction_text ds) bound) (number_ascii w ds small bound) good.ascii good.name_is good.last_is;
     }
 
-pub layout_accepted : (kind : Kind) (ignore_case : Bool) (size : ℕ) (spec : FormatSpec) (w : ℕ) (ds : List ℕ) (s : Shape) → All (λ d. d < 10) ds → length ds ≤ places_of_decimal → w < whole_limit → IsGoodName kind ignore_case s → number_of w ds * bits s ≡ size * bits_in kind * one → size < current.size_limit → Accepted current kind ignore_case (layout (decimal w ++ fraction_text ds) (name current s) spec) size
+pub layout_accepted : (kind : Kind) (ignore_case : Bool) (size : ℕ) (spec : FormatSpec) (w : ℕ) (ds : List ℕ) (s : Shape) → All (λ d. d < 10) ds → length ds ≤ places_of_decimal → w < whole_limit → IsGoodName kind ignore_case s → number_of w ds * bits s ≡ size * bits_in kind * one → size < current.size_limit → IsAccepted current kind ignore_case (layout (decimal w ++ fraction_text ds) (name current s) spec) size
 layout_accepted kind ignore_case size spec w ds s small few bound good exact below =
     let t = trimmed_layout kind ignore_case spec w ds s small bound good in
     record {
@@ -262,7 +262,7 @@ size_form_back kind size spec ignore_case text below h =
     let number = number_scaled e.whole (value_of e.digits) h.number (length e.digits) k.few k.scaled_is in
     let x = ap (λ n. n * bits h.unit) number in
     let exact : number_of e.whole e.digits * bits h.unit ≡ size * bits_in kind * one = x ∙ product in
-    let P : List ℕ → Type 0 = λ t. Accepted current kind ignore_case t size in
+    let P : List ℕ → Type 0 = λ t. IsAccepted current kind ignore_case t size in
     subst P (sym h.text_is) (layout_accepted kind ignore_case size spec e.whole e.digits h.unit k.small k.few bound (recovered_name kind ignore_case size p h.unit h.number h.is_recovered) exact below)
 
 -- the plain form

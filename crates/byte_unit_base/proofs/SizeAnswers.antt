@@ -3,10 +3,10 @@ use Rattle.std.proofs.Common.{◌≡◌, ℕ, ◌⊎◌, inl, inr, List, [], ◌
 use Rattle.byte_unit_base.specs.Shape.{Shape}
 use Rattle.byte_unit_base.specs.Edition.{current}
 use Rattle.byte_unit_base.specs.Spelling.{Flags}
-use Rattle.byte_unit_base.specs.SizeText.{SizeText}
+use Rattle.byte_unit_base.specs.SizeText.{IsSizeText}
 use Rattle.byte_unit_base.specs.Front.{Place, IsSizeFront}
-use Rattle.byte_unit_base.specs.Fault.{Fault, SizeFault, FaultAfter, fault_at, fault_at_end}
-use Rattle.byte_unit_base.specs.Laws.{SizeTextsHaveOneAnswer}
+use Rattle.byte_unit_base.specs.Fault.{Fault, IsSizeFault, IsFaultAfter, fault_at, fault_at_end}
+use Rattle.byte_unit_base.specs.ReaderLaws.{SizeTextsHaveOneAnswer}
 use Rattle.byte_unit_base.specs.UnitScan.{scan_of}
 use Rattle.byte_unit_base.specs.SizeScan.{size_step, size_run, size_read, size_at_end, size_place}
 use Rattle.byte_unit_base.specs.declared.unit.scan.Word.{Word}
@@ -61,18 +61,18 @@ goes_on flags s front cs c fault r longest h (Some t) e =
     let none : c ∷ [] ≡ [] = longest (size_place t) (c ∷ []) cs refl (front_at t (front ++ c ∷ []) more) in
     absurd (let k : ⊥ = cc in k)
 
-fault_at_rest : (flags : Flags) (s : SizeScan) (front rest : List ℕ) (fault : Fault) → SizeReached s front → NoFarther front rest → FaultAfter current flags (size_place s) rest fault → size_read flags s rest ≡ Err fault
+fault_at_rest : (flags : Flags) (s : SizeScan) (front rest : List ℕ) (fault : Fault) → SizeReached s front → NoFarther front rest → IsFaultAfter current flags (size_place s) rest fault → size_read flags s rest ≡ Err fault
 fault_at_rest flags s front [] fault r longest h = stops flags s front fault r h
 fault_at_rest flags s front (c ∷ cs) fault r longest h = goes_on flags s front cs c fault r longest h (size_step s c) refl
 
 -- a text with a fault is read as that fault
-reads_fault : (flags : Flags) (text : List ℕ) (fault : Fault) → SizeFault current flags text fault → size_read flags Beginning text ≡ Err fault
+reads_fault : (flags : Flags) (text : List ℕ) (fault : Fault) → IsSizeFault current flags text fault → size_read flags Beginning text ≡ Err fault
 reads_fault flags text fault h =
     let r = scan_front h.place h.front h.longest.is_front in
-    let P : Place → Type 0 = λ place. FaultAfter current flags place h.rest fault in
+    let P : Place → Type 0 = λ place. IsFaultAfter current flags place h.rest fault in
     ap (size_read flags Beginning) h.longest.text_is ∙ (read_through flags r.0 h.front h.rest Beginning r.1 ∙ fault_at_rest flags r.0 h.front h.rest fault (reached_run h.front [] Beginning r.0 r.1 refl) h.longest.longest (subst P (sym r.2) h.fault_is))
 
-answer : (flags : Flags) (text : List ℕ) (o : Result (ℕ × Shape) Fault) → SizeResult flags text o → ((r : ℕ × Shape) × SizeText current flags text r.0 r.1) ⊎ ((fault : Fault) × SizeFault current flags text fault)
+answer : (flags : Flags) (text : List ℕ) (o : Result (ℕ × Shape) Fault) → SizeResult flags text o → ((r : ℕ × Shape) × IsSizeText current flags text r.0 r.1) ⊎ ((fault : Fault) × IsSizeFault current flags text fault)
 answer flags text (Ok r) h = inl (r, h)
 answer flags text (Err fault) h = inr (fault, h)
 

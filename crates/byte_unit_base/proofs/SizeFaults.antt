@@ -6,11 +6,11 @@ use Rattle.byte_unit_base.specs.Shape.{Shape}
 use Rattle.byte_unit_base.specs.Edition.{current}
 use Rattle.byte_unit_base.specs.Units.{shape_of}
 use Rattle.byte_unit_base.specs.Spelling.{Flags, reading}
-use Rattle.byte_unit_base.specs.Number.{NumberText}
-use Rattle.byte_unit_base.specs.SizeText.{trimmed, SizeText}
+use Rattle.byte_unit_base.specs.Number.{IsNumberText}
+use Rattle.byte_unit_base.specs.SizeText.{trimmed, IsSizeText}
 use Rattle.byte_unit_base.specs.Readings.{IsNumberReading}
 use Rattle.byte_unit_base.specs.Front.{Place, beginning, in_whole, after_point, in_fraction, in_gap, after_prefix, after_b, after_bi, after_bit, after_bits, IsUnitFront, IsSizedFront, IsSizeFront}
-use Rattle.byte_unit_base.specs.Fault.{Fault, SizeFault, FaultAfter, fault_at, fault_at_end, no_unit, too_long, exceeded, stops_at_bi, no_value, not_number}
+use Rattle.byte_unit_base.specs.Fault.{Fault, IsSizeFault, IsFaultAfter, fault_at, fault_at_end, no_unit, too_long, exceeded, stops_at_bi, no_value, not_number}
 use Rattle.byte_unit_base.specs.Errors.{size_fault}
 use Rattle.byte_unit_base.specs.SizeScan.{size_seen}
 use Rattle.byte_unit_base.specs.UnitScan.{unit_of, word_place, scan_of, start as unit_start}
@@ -72,16 +72,16 @@ no_more farther front (x ∷ xs) others e f = absurd (let k : ⊥ = cc in k)
 -- what the reader answers
 
 abbrev pub SizeResult : Flags → List ℕ → Result (ℕ × Shape) Fault → Type 0
-SizeResult flags text (Ok r) = SizeText current flags text r.0 r.1
-SizeResult flags text (Err fault) = SizeFault current flags text fault
+SizeResult flags text (Ok r) = IsSizeText current flags text r.0 r.1
+SizeResult flags text (Err fault) = IsSizeFault current flags text fault
 
-end_fault : (flags : Flags) (s : SizeScan) (text : List ℕ) (fault : Fault) → SizeReached s text → fault_at_end (size_place s) ≡ Some fault → SizeFault current flags text fault
+end_fault : (flags : Flags) (s : SizeScan) (text : List ℕ) (fault : Fault) → SizeReached s text → fault_at_end (size_place s) ≡ Some fault → IsSizeFault current flags text fault
 end_fault flags s text fault r e = record { place = size_place s; front = text; rest = []; longest = record { text_is = sym (append-nil text); is_front = front_at s text r; longest = λ farther more others x f. no_more farther text more others x f }; fault_is = e }
 
-number_only : (flags : Flags) (n : ℕ) (text number : List ℕ) (k : ℕ) → text ≡ number ++ replicate k 32 → NumberText current number n → SizeResult flags text (sized n (unit_of flags unit_start))
+number_only : (flags : Flags) (n : ℕ) (text number : List ℕ) (k : ℕ) → text ≡ number ++ replicate k 32 → IsNumberText current number n → SizeResult flags text (sized n (unit_of flags unit_start))
 number_only flags n text number k e h = record { number_part = number; spaces = k; unit_part = []; text_is = e ∙ ap (λ g. number ++ g) (sym (append-nil (replicate k 32))); number_is = h; unit_is = Spells-reached flags _ _ [] _ refl Reached-start }
 
-unit_result : (flags : Flags) (n : ℕ) (s : UnitScan) (text : List ℕ) (shape : Shape) → unit_of flags s ≡ Some shape → UnitReached n s text → SizeText current flags text n shape
+unit_result : (flags : Flags) (n : ℕ) (s : UnitScan) (text : List ℕ) (shape : Shape) → unit_of flags s ≡ Some shape → UnitReached n s text → IsSizeText current flags text n shape
 unit_result flags n s text shape e r = record { number_part = r.number_part; spaces = r.spaces; unit_part = r.unit_part; text_is = r.text_is; number_is = r.number_is; unit_is = Spells-reached flags s.multiple s.word r.unit_part shape e r.reached }
 
 unit_end : (flags : Flags) (n : ℕ) (m : Multiple) (w : Word) (text : List ℕ) → UnitReached n (scan_of m w) text → SizeResult flags text (sized n (unit_of flags (scan_of m w)))
@@ -119,15 +119,15 @@ reads_rightly flags text = reads_from flags text [] Beginning refl refl
 
 -- the clauses of the reader's callers
 
-read_found : (flags : Flags) (text : List ℕ) (r : Result (ℕ × UnitName) ParseError) → size_seen r ≡ size_read flags Beginning text → IfOk r (λ x. SizeText current flags text x.0 (shape_of x.1))
+read_found : (flags : Flags) (text : List ℕ) (r : Result (ℕ × UnitName) ParseError) → size_seen r ≡ size_read flags Beginning text → IfOk r (λ x. IsSizeText current flags text x.0 (shape_of x.1))
 read_found flags text (Ok x) e = subst (SizeResult flags text) (sym e) (reads_rightly flags text)
 read_found flags text (Err x) e = tt
 
-read_fault : (flags : Flags) (text : List ℕ) (r : Result (ℕ × UnitName) ParseError) → size_seen r ≡ size_read flags Beginning text → IfErr r (λ error. SizeFault current flags text (size_fault error))
+read_fault : (flags : Flags) (text : List ℕ) (r : Result (ℕ × UnitName) ParseError) → size_seen r ≡ size_read flags Beginning text → IfErr r (λ error. IsSizeFault current flags text (size_fault error))
 read_fault flags text (Ok x) e = tt
 read_fault flags text (Err x) e = subst (SizeResult flags text) (sym e) (reads_rightly flags text)
 
-read_text : (flags : Flags) (text : List ℕ) (n : ℕ) (s : Shape) (r : Result (ℕ × UnitName) ParseError) → size_seen r ≡ size_read flags Beginning text → SizeText current flags text n s → IsOkAnd r (λ x. (x.0 ≡ n) × (shape_of x.1 ≡ s))
+read_text : (flags : Flags) (text : List ℕ) (n : ℕ) (s : Shape) (r : Result (ℕ × UnitName) ParseError) → size_seen r ≡ size_read flags Beginning text → IsSizeText current flags text n s → IsOkAnd r (λ x. (x.0 ≡ n) × (shape_of x.1 ≡ s))
 read_text flags text n s (Ok x) e h = let k = e ∙ reads_size flags text n s h in let p : ◌≡◌ {A = ℕ × Shape} (x.0, shape_of x.1) (n, s) = cc in (ap (λ q. q.0) p, ap (λ q. q.1) p)
 read_text flags text n s (Err x) e h = let k = e ∙ reads_size flags text n s h in absurd (let z : ⊥ = cc in z)
 
@@ -160,7 +160,7 @@ no_bounds_at_end after_bi n = λ e. cc
 no_bounds_at_end after_bit n = λ e. cc
 no_bounds_at_end after_bits n = λ e. cc
 
-no_bounds_after : (flags : Flags) (place : Place) (rest : List ℕ) (fault : Fault) (n : ℕ) → FaultAfter current flags place rest fault → fault ≢ exceeded n
+no_bounds_after : (flags : Flags) (place : Place) (rest : List ℕ) (fault : Fault) (n : ℕ) → IsFaultAfter current flags place rest fault → fault ≢ exceeded n
 no_bounds_after flags place [] fault n h = λ e. no_bounds_at_end place n (h ∙ ap Some e)
 no_bounds_after flags place (c ∷ cs) fault n h = λ e. no_bounds_at flags place c n (sym h ∙ e)
 

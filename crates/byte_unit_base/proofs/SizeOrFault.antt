@@ -4,10 +4,10 @@ use Rattle.std.proofs.lemmas.Bool.{cases_lt}
 use Rattle.byte_unit_base.specs.Shape.{Shape}
 use Rattle.byte_unit_base.specs.Edition.{current}
 use Rattle.byte_unit_base.specs.SizeText.{trimmed}
-use Rattle.byte_unit_base.specs.Fault.{Fault, exceeded, SizeFault}
+use Rattle.byte_unit_base.specs.Fault.{Fault, exceeded, IsSizeFault}
 use Rattle.byte_unit_base.specs.Kinds.{flags_for}
 use Rattle.byte_unit_base.specs.LeastOfKind.{IsLeastOf}
-use Rattle.byte_unit_base.specs.Accepted.{IsRead, Accepted, IsRefused}
+use Rattle.byte_unit_base.specs.Accepted.{IsRead, IsAccepted, IsRefused}
 use Rattle.byte_unit_base.specs.SizeLaws.{TextsAreAcceptedOrRefused}
 use Rattle.byte_unit_base.specs.declared.kind.Kind.{Kind}
 use Rattle.byte_unit_base.proofs.Rounding.{least_of, least_is_one}
@@ -26,11 +26,11 @@ same_read kind ignore_case text number other n m a b =
     record { numbers = ap (λ r. r.0) same; sizes = least_is_one kind other b.unit n m (subst P same a.is_least) b.is_least }
 
 -- a text that is read has no fault at a place
-no_fault : (kind : Kind) (ignore_case : Bool) (text : List ℕ) (number n : ℕ) (fault : Fault) → IsRead current kind ignore_case text number n → SizeFault current (flags_for kind ignore_case) (trimmed text) fault → ⊥
+no_fault : (kind : Kind) (ignore_case : Bool) (text : List ℕ) (number n : ℕ) (fault : Fault) → IsRead current kind ignore_case text number n → IsSizeFault current (flags_for kind ignore_case) (trimmed text) fault → ⊥
 no_fault kind ignore_case text number n fault a f =
     (size_texts_have_one_answer (flags_for kind ignore_case) (trimmed text)).not_both (number, a.unit) fault a.is_size f
 
-some_answer : (kind : Kind) (ignore_case : Bool) (text : List ℕ) → ((n : ℕ) × Accepted current kind ignore_case text n) ⊎ ((fault : Fault) × IsRefused current kind ignore_case text fault)
+some_answer : (kind : Kind) (ignore_case : Bool) (text : List ℕ) → ((n : ℕ) × IsAccepted current kind ignore_case text n) ⊎ ((fault : Fault) × IsRefused current kind ignore_case text fault)
 some_answer kind ignore_case text =
     ⊎_elim (λ read. let least = least_of kind read.0.0 read.0.1 in
     let is_read : IsRead current kind ignore_case text read.0.0 least.0 = record { unit = read.0.1; is_size = read.1; is_least = least.1 } in
@@ -47,7 +47,7 @@ one_fault kind ignore_case text fault other a b =
     (λ f. ⊎_elim (λ y. absurd (no_fault kind ignore_case text y.0 y.2.size fault y.2.is_read f))
     (λ g. (size_texts_have_one_answer (flags_for kind ignore_case) (trimmed text)).one_fault fault other f g) b) a
 
-not_both : (kind : Kind) (ignore_case : Bool) (text : List ℕ) (n : ℕ) (fault : Fault) → Accepted current kind ignore_case text n → IsRefused current kind ignore_case text fault → ⊥
+not_both : (kind : Kind) (ignore_case : Bool) (text : List ℕ) (n : ℕ) (fault : Fault) → IsAccepted current kind ignore_case text n → IsRefused current kind ignore_case text fault → ⊥
 not_both kind ignore_case text n fault a b =
     ⊎_elim (λ y. let same = same_read kind ignore_case text a.number y.0 n y.2.size a.is_read y.2.is_read in omega (arith, same.sizes, a.below, y.2.above))
     (λ f. no_fault kind ignore_case text a.number n fault a.is_read f) b

@@ -5,7 +5,7 @@ use Rattle.std.specs.Str.Parse.{IsNumeral, digits_value}
 use Rattle.std.proofs.lemmas.Int.Digits.{digits_value_push, digits_push}
 use Rattle.byte_unit_math.specs.Bounds.{one, places_of_decimal}
 use Rattle.byte_unit_base.specs.Edition.{current}
-use Rattle.byte_unit_base.specs.Number.{IsWhole, IsPointed, IsPrecise, NumberText}
+use Rattle.byte_unit_base.specs.Number.{IsWholePart, IsPointed, IsPrecise, IsNumberText}
 use Rattle.byte_unit_base.specs.Front.{beginning}
 use Rattle.byte_unit_base.specs.UnitScan.{place_of, start as unit_start}
 use Rattle.byte_unit_base.specs.SizeScan.{precise}
@@ -21,7 +21,7 @@ pub record FractionReached (w f j : ℕ) (text : List ℕ) : Type 0 where
   pub whole : List ℕ
   pub fraction : List ℕ
   pub text_is : text ≡ whole ++ 46 ∷ fraction
-  pub whole_is : IsWhole current whole w
+  pub whole_is : IsWholePart current whole w
   pub numeral : IsNumeral 10 fraction
   pub value_is : f ≡ digits_value 10 fraction
   pub length_is : length fraction ≡ j
@@ -32,20 +32,20 @@ pub record GapReached (n : ℕ) (text : List ℕ) : Type 0 where
   pub spaces : ℕ
   pub some : 0 < spaces
   pub text_is : text ≡ number_part ++ replicate spaces 32
-  pub number_is : NumberText current number_part n
+  pub number_is : IsNumberText current number_part n
 
 pub record UnitReached (n : ℕ) (s : UnitScan) (text : List ℕ) : Type 0 where
   pub number_part : List ℕ
   pub spaces : ℕ
   pub unit_part : List ℕ
   pub text_is : text ≡ number_part ++ (replicate spaces 32 ++ unit_part)
-  pub number_is : NumberText current number_part n
+  pub number_is : IsNumberText current number_part n
   pub reached : Reached s unit_part
   pub moved : place_of s ≢ beginning
 
 abbrev pub SizeReached : SizeScan → List ℕ → Type 0
 SizeReached Beginning text = text ≡ []
-SizeReached (Whole w) text = IsWhole current text w
+SizeReached (Whole w) text = IsWholePart current text w
 SizeReached (Point w) text = IsPointed current text w
 SizeReached (Fraction w f j) text = FractionReached w f j text
 SizeReached (Gap n) text = GapReached n text
@@ -64,11 +64,11 @@ replicate_push : (n x : ℕ) → replicate n x ++ x ∷ [] ≡ replicate (suc n)
 replicate_push zero x = refl
 replicate_push (suc n) x = ap (λ t. x ∷ t) (replicate_push n x)
 
-unit_goes : (n c : ℕ) (s : UnitScan) (t : SizeScan) (text number unit : List ℕ) (spaces : ℕ) → text ≡ number ++ (replicate spaces 32 ++ unit) → NumberText current number n → Reached s unit → UnitStep n s c t → SizeReached t (text ++ c ∷ [])
+unit_goes : (n c : ℕ) (s : UnitScan) (t : SizeScan) (text number unit : List ℕ) (spaces : ℕ) → text ≡ number ++ (replicate spaces 32 ++ unit) → IsNumberText current number n → Reached s unit → UnitStep n s c t → SizeReached t (text ++ c ∷ [])
 unit_goes n c s t text number unit spaces e h r k =
     subst (λ x. SizeReached x (text ++ c ∷ [])) k.2 (record { number_part = number; spaces = spaces; unit_part = unit ++ c ∷ []; text_is = push3 text number (replicate spaces 32) unit c e; number_is = h; reached = Reached-step s.multiple s.word k.0 c unit k.1 r; moved = step_leaves s.multiple s.word k.0 c k.1 })
 
-number_goes : (n c : ℕ) (t : SizeScan) (text : List ℕ) → NumberText current text n → AfterNumber n c t → SizeReached t (text ++ c ∷ [])
+number_goes : (n c : ℕ) (t : SizeScan) (text : List ℕ) → IsNumberText current text n → AfterNumber n c t → SizeReached t (text ++ c ∷ [])
 number_goes n c t text h (inl k) = subst (λ x. SizeReached x (text ++ c ∷ [])) k.1 (record { number_part = text; spaces = 1; some = omega arith; text_is = ap (λ x. text ++ x ∷ []) k.0; number_is = h })
 number_goes n c t text h (inr k) = unit_goes n c unit_start t text text [] 0 (sym (append-nil text)) h Reached-start k
 
@@ -83,7 +83,7 @@ digits_push_is : (text : List ℕ) (c : ℕ) → IsNumeral 10 text → digit_val
 digits_push_is text c h k = (omega (arith, length-append text (c ∷ [])), digits_push 10 text c h.1 k)
 
 pub SizeReached-step : (s t : SizeScan) (c : ℕ) (text : List ℕ) → StepOf s c t → SizeReached s text → SizeReached t (text ++ c ∷ [])
-SizeReached-step Beginning t c text k r = subst (λ x. SizeReached x (text ++ c ∷ [])) k.1 (subst (λ x. IsWhole current (x ++ c ∷ []) (digit_value c)) (sym r) ((omega arith, (k.0, tt)), sym (one_digit c), omega (arith, k.0)))
+SizeReached-step Beginning t c text k r = subst (λ x. SizeReached x (text ++ c ∷ [])) k.1 (subst (λ x. IsWholePart current (x ++ c ∷ []) (digit_value c)) (sym r) ((omega arith, (k.0, tt)), sym (one_digit c), omega (arith, k.0)))
 SizeReached-step (Whole w) t c text (inl k) r = subst (λ x. SizeReached x (text ++ c ∷ [])) k.2 (digits_push_is text c r.0 k.0, ap (λ x. x * 10 + digit_value c) r.1 ∙ sym (digits_value_push 10 text c), k.1)
 SizeReached-step (Whole w) t c text (inr (inl k)) r = subst (λ x. SizeReached x (text ++ c ∷ [])) k.1 (record { whole = text; text_is = ap (λ x. text ++ x ∷ []) k.0; whole_is = r })
 SizeReached-step (Whole w) t c text (inr (inr k)) r = number_goes (w * one) c t text (inl (w, r, refl)) k

@@ -8,8 +8,8 @@ use Rattle.byte_unit_math.specs.Bounds.{one, places_of_decimal, whole_limit}
 use Rattle.byte_unit_base.specs.Shape.{Shape}
 use Rattle.byte_unit_base.specs.Edition.{current}
 use Rattle.byte_unit_base.specs.Spelling.{Flags}
-use Rattle.byte_unit_base.specs.Number.{IsWhole, IsPointed, IsPrecise, NumberText}
-use Rattle.byte_unit_base.specs.SizeText.{space, SizeText}
+use Rattle.byte_unit_base.specs.Number.{IsWholePart, IsPointed, IsPrecise, IsNumberText}
+use Rattle.byte_unit_base.specs.SizeText.{space, IsSizeText}
 use Rattle.byte_unit_base.specs.Front.{Place, beginning, in_whole, after_point, in_fraction, in_gap, after_prefix, after_b, after_bi, after_bit, after_bits, IsSizedFront, IsSizeFront}
 use Rattle.byte_unit_base.specs.UnitScan.{unit_step, unit_run, scan_of, place_of, unit_of, prefix_at, word_step, or_word, start as unit_start}
 use Rattle.byte_unit_base.specs.SizeScan.{size_step, size_run, size_read, size_at_end, size_place, sized, precise}
@@ -73,7 +73,7 @@ run_digits (c ∷ cs) v h k =
     let small : v * 10 + digit_value c < whole_limit = omega (arith, value_rises cs (v * 10 + digit_value c), k) in
     size_run_step (Whole v) (Whole (v * 10 + digit_value c)) c cs (step_whole v c h.0 small) ∙ run_digits cs (v * 10 + digit_value c) h.1 k
 
-pub run_whole : (text : List ℕ) (w : ℕ) → IsWhole current text w → size_run Beginning text ≡ Some (Whole w)
+pub run_whole : (text : List ℕ) (w : ℕ) → IsWholePart current text w → size_run Beginning text ≡ Some (Whole w)
 run_whole [] w h = absurd (omega (arith, h.0.0))
 run_whole (c ∷ cs) w h =
     let first : 0 * 10 + digit_value c ≡ digit_value c = omega arith in
@@ -119,7 +119,7 @@ run_precise text n h =
       holds = (ap (λ k. h.value * one + digits_value 10 h.fraction * 10 ^ (places_of_decimal - k)) p.2 ∙ (ap (λ x. h.value * one + x) (sym h.fraction_is.2) ∙ sym h.number_is), refl);
     }
 
-run_number : (text : List ℕ) (n : ℕ) → NumberText current text n → RunsTo (AtNumber n) Beginning text
+run_number : (text : List ℕ) (n : ℕ) → IsNumberText current text n → RunsTo (AtNumber n) Beginning text
 run_number text n (inl h) = record { state = Whole h.0; run = run_whole text h.0 h.1; holds = sym h.2 }
 run_number text n (inr h) = let r = run_precise text n h in record { state = r.state; run = r.run; holds = r.holds.0 }
 
@@ -238,7 +238,7 @@ run_unit n u s [] h k = let e : unit_start ≡ u = cc in record { state = s; run
 run_unit n u s (c ∷ cs) h k = unit_first n u s c cs h (unit_step unit_start c) refl k
 
 -- a number, spaces and what can still become a spelling
-run_sized : (n k : ℕ) (u : UnitScan) (text number unit : List ℕ) → text ≡ number ++ (replicate k space ++ unit) → NumberText current number n → unit_run unit_start unit ≡ Some u → RunsTo (EndsAs n u) Beginning text
+run_sized : (n k : ℕ) (u : UnitScan) (text number unit : List ℕ) → text ≡ number ++ (replicate k space ++ unit) → IsNumberText current number n → unit_run unit_start unit ≡ Some u → RunsTo (EndsAs n u) Beginning text
 run_sized n k u text number unit e h r =
     let a = run_number number n h in
     let b = run_spaces n k a.state a.holds in
@@ -258,14 +258,14 @@ read_through flags t (c ∷ cs) ys s h = read_on flags t s c cs ys (λ u. read_t
 read_run : (flags : Flags) (t : SizeScan) (cs : List ℕ) (s : SizeScan) → size_run s cs ≡ Some t → size_read flags s cs ≡ size_at_end flags t
 read_run flags t cs s h = ap (size_read flags s) (sym (append-nil cs)) ∙ read_through flags t cs [] s h
 
-pub size_text_runs : (flags : Flags) (text : List ℕ) (n : ℕ) (s : Shape) → SizeText current flags text n s → RunsTo (λ t. size_at_end flags t ≡ Ok (n, s)) Beginning text
+pub size_text_runs : (flags : Flags) (text : List ℕ) (n : ℕ) (s : Shape) → IsSizeText current flags text n s → RunsTo (λ t. size_at_end flags t ≡ Ok (n, s)) Beginning text
 size_text_runs flags text n s h =
     let u = spelling_runs flags h.unit_part s h.unit_is in
     let r = run_sized n h.spaces (scan_of u.multiple u.word) text h.number_part h.unit_part h.text_is h.number_is u.run in
     record { state = r.state; run = r.run; holds = r.holds.ends flags ∙ ap (sized n) u.unit }
 
 -- what is a size text is read as its number and unit
-pub reads_size : (flags : Flags) (text : List ℕ) (n : ℕ) (s : Shape) → SizeText current flags text n s → size_read flags Beginning text ≡ Ok (n, s)
+pub reads_size : (flags : Flags) (text : List ℕ) (n : ℕ) (s : Shape) → IsSizeText current flags text n s → size_read flags Beginning text ≡ Ok (n, s)
 reads_size flags text n s h = let r = size_text_runs flags text n s h in read_run flags r.state text Beginning r.run ∙ r.holds
 
 -- a front is scanned to its end

@@ -4,8 +4,8 @@ use Rattle.byte_unit_base.specs.Shape.{Shape}
 use Rattle.byte_unit_base.specs.Edition.{current}
 use Rattle.byte_unit_base.specs.Spelling.{Flags, Spells}
 use Rattle.byte_unit_base.specs.Front.{Place, IsUnitFront}
-use Rattle.byte_unit_base.specs.Fault.{Fault, UnitFault, UnitFaultAfter, unit_fault_at, unit_fault_at_end}
-use Rattle.byte_unit_base.specs.Laws.{UnitTextsHaveOneAnswer}
+use Rattle.byte_unit_base.specs.Fault.{Fault, IsUnitFault, UnitFaultAfter, unit_fault_at, unit_fault_at_end}
+use Rattle.byte_unit_base.specs.ReaderLaws.{UnitTextsHaveOneAnswer}
 use Rattle.byte_unit_base.specs.UnitScan.{unit_step, unit_run, unit_read, unit_of, unit_at_end, start, scan_of, place_of, word_place}
 use Rattle.byte_unit_base.specs.declared.unit.scan.Word.{Word}
 use Rattle.byte_unit_base.specs.declared.unit.scan.Word.TheVariants.{Empty, UpperB, LowerB, Bi, Bit, Bits}
@@ -57,13 +57,13 @@ fault_at_rest flags s front [] fault r longest h = stops flags s.multiple s.word
 fault_at_rest flags s front (c ∷ cs) fault r longest h = goes_on flags s front cs c fault r longest h (unit_step s c) refl
 
 -- a text with a fault is read as that fault
-reads_fault : (flags : Flags) (text : List ℕ) (fault : Fault) → UnitFault current flags text fault → unit_read flags start text ≡ Err fault
+reads_fault : (flags : Flags) (text : List ℕ) (fault : Fault) → IsUnitFault current flags text fault → unit_read flags start text ≡ Err fault
 reads_fault flags text fault h =
     let r = run_front h.place h.front h.longest.is_front in
     let P : Place → Type 0 = λ place. UnitFaultAfter current flags place h.rest fault in
     ap (unit_read flags start) h.longest.text_is ∙ (read_through flags r.0 h.front h.rest start r.1 ∙ fault_at_rest flags r.0 h.front h.rest fault (reached_run h.front [] start r.0 r.1 Reached-start) h.longest.longest (subst P (sym r.2) h.fault_is))
 
-answer : (flags : Flags) (text : List ℕ) (o : Result Shape Fault) → UnitResult flags text o → ((s : Shape) × Spells current flags text s) ⊎ ((fault : Fault) × UnitFault current flags text fault)
+answer : (flags : Flags) (text : List ℕ) (o : Result Shape Fault) → UnitResult flags text o → ((s : Shape) × Spells current flags text s) ⊎ ((fault : Fault) × IsUnitFault current flags text fault)
 answer flags text (Ok s) h = inl (s, h)
 answer flags text (Err fault) h = inr (fault, h)
 

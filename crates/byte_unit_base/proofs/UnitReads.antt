@@ -15,7 +15,7 @@ use Rattle.byte_unit_base.specs.SizeText.{trimmed}
 use Rattle.byte_unit_base.specs.Readings.{IsUnitReading}
 use Rattle.byte_unit_base.specs.Spelling.{Flags, reading, IsPrefixLetter, SpellsCount, SpellsBinary, SpellsMultiple, SpellsPlain, Spells}
 use Rattle.byte_unit_base.specs.Front.{Place, beginning, in_whole, after_point, in_fraction, in_gap, after_prefix, after_b, after_bi, after_bit, after_bits, IsWord, IsPrefix, IsUnitFront}
-use Rattle.byte_unit_base.specs.Fault.{Fault, UnitFault, UnitFaultAfter, stops_at_bi, unit_fault_at}
+use Rattle.byte_unit_base.specs.Fault.{Fault, IsUnitFault, UnitFaultAfter, stops_at_bi, unit_fault_at}
 use Rattle.byte_unit_base.specs.UnitScan.{unit_step, unit_run, unit_read, unit_of, unit_at_end, start, scan_of, place_of, power_of, prefix_at, count_of, multiple_shape, word_place, empty_place}
 use Rattle.byte_unit_base.specs.declared.unit.scan.Prefix.{Prefix}
 use Rattle.byte_unit_base.specs.declared.unit.scan.Prefix.TheVariants.{Kilo, Mega, Giga, Tera, Peta, Exa, Zetta, Yotta}
@@ -279,9 +279,9 @@ no_more farther front (x ∷ xs) others e f = absurd (let k : ⊥ = cc in k)
 
 abbrev pub UnitResult : Flags → List ℕ → Result Shape Fault → Type 0
 UnitResult flags text (Ok s) = Spells current flags text s
-UnitResult flags text (Err fault) = UnitFault current flags text fault
+UnitResult flags text (Err fault) = IsUnitFault current flags text fault
 
-at_end_bi : (flags : Flags) (m : Multiple) (text : List ℕ) → Reached (scan_of m Bi) text → UnitFault current flags text (stops_at_bi)
+at_end_bi : (flags : Flags) (m : Multiple) (text : List ℕ) → Reached (scan_of m Bi) text → IsUnitFault current flags text (stops_at_bi)
 at_end_bi flags m text r = record { place = after_bi; front = text; rest = []; longest = record { text_is = sym (append-nil text); is_front = front_reached m Bi text r; longest = λ farther more others e f. no_more farther text more others e f }; fault_is = refl }
 
 at_end : (flags : Flags) (m : Multiple) (w : Word) (text : List ℕ) → Reached (scan_of m w) text → UnitResult flags text (unit_at_end (unit_of flags (scan_of m w)))
@@ -314,7 +314,7 @@ read_found : (flags : Flags) (text : List ℕ) (r : Result UnitName UnitParseErr
 read_found flags text (Ok u) e = subst (UnitResult flags text) (sym e) (reads_rightly flags text)
 read_found flags text (Err x) e = tt
 
-read_fault : (flags : Flags) (text : List ℕ) (r : Result UnitName UnitParseError) → unit_seen r ≡ unit_read flags start text → IfErr r (λ error. UnitFault current flags text (unit_fault error))
+read_fault : (flags : Flags) (text : List ℕ) (r : Result UnitName UnitParseError) → unit_seen r ≡ unit_read flags start text → IfErr r (λ error. IsUnitFault current flags text (unit_fault error))
 read_fault flags text (Ok u) e = tt
 read_fault flags text (Err x) e = subst (UnitResult flags text) (sym e) (reads_rightly flags text)
 

@@ -4,7 +4,7 @@ use Rattle.std.specs.Char.{digit_value}
 use Rattle.byte_unit_base.specs.Edition.{Edition}
 use Rattle.byte_unit_base.specs.Spelling.{Flags}
 use Rattle.byte_unit_base.specs.Number.{point}
-use Rattle.byte_unit_base.specs.Front.{Place, beginning, in_whole, after_point, in_fraction, in_gap, after_prefix, after_b, after_bi, after_bit, after_bits, IsUnitFront, IsSizeFront, LongestFront}
+use Rattle.byte_unit_base.specs.Front.{Place, beginning, in_whole, after_point, in_fraction, in_gap, after_prefix, after_b, after_bi, after_bit, after_bits, IsUnitFront, IsSizeFront, IsLongestFront}
 
 pub data Fault : Type 0 where
   -- the size of a number of so many last places is too large; no reader of a number and a unit answers it
@@ -57,17 +57,17 @@ fault_at_end after_bi = Some stops_at_bi
 fault_at_end _ = None
 
 -- the fault by the place of the longest front, and what follows it
-abbrev pub FaultAfter : Edition → Flags → Place → List ℕ → Fault → Type 0
-FaultAfter edition flags place [] fault = fault_at_end place ≡ Some fault
-FaultAfter edition flags place (c ∷ rest) fault = fault ≡ fault_at edition flags place c
+abbrev pub IsFaultAfter : Edition → Flags → Place → List ℕ → Fault → Type 0
+IsFaultAfter edition flags place [] fault = fault_at_end place ≡ Some fault
+IsFaultAfter edition flags place (c ∷ rest) fault = fault ≡ fault_at edition flags place c
 
 -- the fault of a text that is no number and unit
-pub record SizeFault (edition : Edition) (flags : Flags) (text : List ℕ) (fault : Fault) : Type 0 where
+pub record IsSizeFault (edition : Edition) (flags : Flags) (text : List ℕ) (fault : Fault) : Type 0 where
   pub place : Place
   pub front : List ℕ
   pub rest : List ℕ
-  pub longest : LongestFront (IsSizeFront edition) text place front rest
-  pub fault_is : FaultAfter edition flags place rest fault
+  pub longest : IsLongestFront (IsSizeFront edition) text place front rest
+  pub fault_is : IsFaultAfter edition flags place rest fault
 
 -- the same where a unit stands alone: at the beginning is a character that begins no unit, and the text may end there
 abbrev pub unit_fault_at : Edition → Flags → Place → ℕ → Fault
@@ -83,9 +83,9 @@ UnitFaultAfter edition flags place [] fault = unit_fault_at_end place ≡ Some f
 UnitFaultAfter edition flags place (c ∷ rest) fault = fault ≡ unit_fault_at edition flags place c
 
 -- the fault of a text that spells no unit
-pub record UnitFault (edition : Edition) (flags : Flags) (text : List ℕ) (fault : Fault) : Type 0 where
+pub record IsUnitFault (edition : Edition) (flags : Flags) (text : List ℕ) (fault : Fault) : Type 0 where
   pub place : Place
   pub front : List ℕ
   pub rest : List ℕ
-  pub longest : LongestFront (IsUnitFront edition) text place front rest
+  pub longest : IsLongestFront (IsUnitFront edition) text place front rest
   pub fault_is : UnitFaultAfter edition flags place rest fault

@@ -5,7 +5,7 @@ use Rattle.byte_unit_math.specs.Exact.{IsExactAt}
 use Rattle.byte_unit_math.specs.Powers.{PlacesByPowers}
 use Rattle.byte_unit_base.specs.Shape.{Shape, bits, twos, fives}
 use Rattle.byte_unit_base.specs.Edition.{Edition}
-use Rattle.byte_unit_base.specs.Accepted.{Accepted, IsRefused}
+use Rattle.byte_unit_base.specs.Accepted.{IsAccepted, IsRefused}
 use Rattle.byte_unit_base.specs.Fault.{too_long}
 use Rattle.byte_unit_base.specs.Adjusted.{IsAdjustedForm, adjusted_text}
 use Rattle.byte_unit_base.specs.AdjustedString.{alternate, IsAdjustedString, IsGreatest}
@@ -20,17 +20,17 @@ use Rattle.byte_unit_base.specs.declared.format.spec.Sign.TheVariants.{Plus}
 -- each form of the size with a unit is read as the size
 abbrev pub ReadsBack : Edition → Kind → ℕ → FormatSpec → Bool → Type 0
 ReadsBack edition kind size spec ignore_case =
-    (text : List ℕ) → size < edition.size_limit → IsSizeForm edition kind size spec text → Accepted edition kind ignore_case text size
+    (text : List ℕ) → size < edition.size_limit → IsSizeForm edition kind size spec text → IsAccepted edition kind ignore_case text size
 
 -- so is its plain form, where it has no plus sign
 abbrev pub PlainReadsBack : Edition → Kind → ℕ → FormatSpec → Bool → Type 0
 PlainReadsBack edition kind size spec ignore_case =
-    size < edition.size_limit → spec.sign ≢ Plus → Accepted edition kind ignore_case (plain size spec) size
+    size < edition.size_limit → spec.sign ≢ Plus → IsAccepted edition kind ignore_case (plain size spec) size
 
 -- the string that the size is stored as is read as the size
 abbrev pub StringReadsBack : Edition → Kind → ℕ → Type 0
 StringReadsBack edition kind size =
-    (text : List ℕ) → size < edition.size_limit → IsText edition kind size alternate text → Accepted edition kind false text size
+    (text : List ℕ) → size < edition.size_limit → IsText edition kind size alternate text → IsAccepted edition kind false text size
 
 -- the size has a form with a unit, and one alone
 pub record HasOneForm (edition : Edition) (kind : Kind) (size : ℕ) (spec : FormatSpec) : Type 0 where
@@ -54,7 +54,7 @@ FitsDecimal edition kind size unit = IsGreatest edition size ⊎ IsExactAt (size
 
 -- the string of the adjusted size is read as the size where a decimal has its digits, and is else refused for a digit too many
 pub record AdjustedReadsBack (edition : Edition) (kind : Kind) (size : ℕ) (unit : Shape) : Type 0 where
-  pub accepted : (text : List ℕ) → size < edition.size_limit → IsAdjustedString edition kind size unit text → FitsDecimal edition kind size unit → Accepted edition kind false text size
+  pub accepted : (text : List ℕ) → size < edition.size_limit → IsAdjustedString edition kind size unit text → FitsDecimal edition kind size unit → IsAccepted edition kind false text size
   pub refused : (text : List ℕ) → size < edition.size_limit → IsAdjustedString edition kind size unit text → (FitsDecimal edition kind size unit → ⊥) → IsRefused edition kind false text too_long
 
 -- the places that the size takes in the unit, where it is not zero, are what its bits lack of the unit's twos or of its fives, whichever is more

@@ -3,7 +3,7 @@ use Rattle.std.specs.Prelude.{◌≡◌, ℕ, ◌<◌, ◌⊎◌, List, [], ◌�
 use Rattle.std.specs.Str.{str_to_ascii_lowercase}
 use Rattle.byte_unit_base.specs.Edition.{Edition}
 use Rattle.byte_unit_base.specs.Spelling.{IsPrefixLetter}
-use Rattle.byte_unit_base.specs.Number.{IsWhole, IsPointed, IsPrecise, NumberText}
+use Rattle.byte_unit_base.specs.Number.{IsWholePart, IsPointed, IsPrecise, IsNumberText}
 use Rattle.byte_unit_base.specs.SizeText.{space}
 
 -- where a front ends
@@ -40,20 +40,20 @@ pub record IsSizedFront (edition : Edition) (place : Place) (text : List ℕ) : 
   pub spaces : ℕ
   pub unit_part : List ℕ
   pub text_is : text ≡ number_part ++ (replicate spaces space ++ unit_part)
-  pub number_is : NumberText edition number_part n
+  pub number_is : IsNumberText edition number_part n
   pub unit_is : IsUnitFront edition place unit_part
 
 -- the text can still become a number and a unit
 abbrev pub IsSizeFront : Edition → Place → List ℕ → Type 0
 IsSizeFront edition beginning text = text ≡ []
-IsSizeFront edition in_whole text = (value : ℕ) × IsWhole edition text value
+IsSizeFront edition in_whole text = (value : ℕ) × IsWholePart edition text value
 IsSizeFront edition after_point text = (value : ℕ) × IsPointed edition text value
 IsSizeFront edition in_fraction text = (n : ℕ) × IsPrecise edition text n
-IsSizeFront edition in_gap text = (number : List ℕ) × (n : ℕ) × (spaces : ℕ) × (0 < spaces) × (text ≡ number ++ replicate spaces space) × NumberText edition number n
+IsSizeFront edition in_gap text = (number : List ℕ) × (n : ℕ) × (spaces : ℕ) × (0 < spaces) × (text ≡ number ++ replicate spaces space) × IsNumberText edition number n
 IsSizeFront edition place text = IsSizedFront edition place text
 
 -- the text is front and rest, the front ends at this place, and no longer one is a front
-pub record LongestFront (IsFront : Place → List ℕ → Type 0) (text : List ℕ) (place : Place) (front rest : List ℕ) : Type 0 where
+pub record IsLongestFront (IsFront : Place → List ℕ → Type 0) (text : List ℕ) (place : Place) (front rest : List ℕ) : Type 0 where
   pub text_is : text ≡ front ++ rest
   pub is_front : IsFront place front
   pub longest : (farther : Place) (more others : List ℕ) → rest ≡ more ++ others → IsFront farther (front ++ more) → more ≡ []

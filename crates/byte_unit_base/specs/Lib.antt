@@ -23,7 +23,7 @@ pub mod Forms
 pub mod Adjusted
 pub mod AdjustedString
 pub mod Room
-pub mod Laws
+pub mod ReaderLaws
 pub mod ChoiceLaws
 pub mod SizeLaws
 pub mod FormLaws

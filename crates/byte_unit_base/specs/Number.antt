@@ -9,8 +9,8 @@ abbrev pub point : ℕ
 point = 46
 
 -- the text is the digits of a whole part of this value
-abbrev pub IsWhole : Edition → List ℕ → ℕ → Type 0
-IsWhole edition text value = IsNumeral 10 text × (value ≡ digits_value 10 text) × (value < edition.whole_limit)
+abbrev pub IsWholePart : Edition → List ℕ → ℕ → Type 0
+IsWholePart edition text value = IsNumeral 10 text × (value ≡ digits_value 10 text) × (value < edition.whole_limit)
 
 -- the text is the digits after a point, no more than a decimal has places, which add this many last places
 abbrev pub IsFraction : List ℕ → ℕ → Type 0
@@ -20,7 +20,7 @@ IsFraction text n = IsNumeral 10 text × (length text ≤ places_of_decimal) × 
 pub record IsPointed (edition : Edition) (text : List ℕ) (value : ℕ) : Type 0 where
   pub whole : List ℕ
   pub text_is : text ≡ whole ++ point ∷ []
-  pub whole_is : IsWhole edition whole value
+  pub whole_is : IsWholePart edition whole value
 
 -- the text is a whole part, a point and a fraction, together n last places
 pub record IsPrecise (edition : Edition) (text : List ℕ) (n : ℕ) : Type 0 where
@@ -29,10 +29,10 @@ pub record IsPrecise (edition : Edition) (text : List ℕ) (n : ℕ) : Type 0 wh
   pub value : ℕ
   pub part : ℕ
   pub text_is : text ≡ whole ++ point ∷ fraction
-  pub whole_is : IsWhole edition whole value
+  pub whole_is : IsWholePart edition whole value
   pub fraction_is : IsFraction fraction part
   pub number_is : n ≡ value * one + part
 
 -- the text is a number of n last places, with a fraction or without
-abbrev pub NumberText : Edition → List ℕ → ℕ → Type 0
-NumberText edition text n = ((value : ℕ) × IsWhole edition text value × (n ≡ value * one)) ⊎ IsPrecise edition text n
+abbrev pub IsNumberText : Edition → List ℕ → ℕ → Type 0
+IsNumberText edition text n = ((value : ℕ) × IsWholePart edition text value × (n ≡ value * one)) ⊎ IsPrecise edition text n

@@ -3,8 +3,8 @@ use Rattle.std.specs.Prelude.{ℕ, ◌≤◌, Bool, List}
 use Rattle.byte_unit_base.specs.Shape.{Shape}
 use Rattle.byte_unit_base.specs.Edition.{current}
 use Rattle.byte_unit_base.specs.LeastOfKind.{IsLeastOf}
-use Rattle.byte_unit_base.specs.Accepted.{Accepted, IsRefused}
-use Rattle.byte_unit_base.specs.Laws.{IsOneAnswer}
+use Rattle.byte_unit_base.specs.Accepted.{IsAccepted, IsRefused}
+use Rattle.byte_unit_base.specs.ReaderLaws.{IsOneAnswer}
 use Rattle.byte_unit_base.specs.declared.kind.Kind.{Kind}
 
 -- a greater number never gives a smaller least size in the same unit
@@ -13,4 +13,4 @@ GreaterNumbersGiveNoSmallerSizes = (kind : Kind) (unit : Shape) (few many small 
 
 -- each text is accepted as one size or refused by one fault, and not both
 abbrev pub TextsAreAcceptedOrRefused : Kind → Type 0
-TextsAreAcceptedOrRefused kind = (ignore_case : Bool) (text : List ℕ) → IsOneAnswer ℕ (Accepted current kind ignore_case text) (IsRefused current kind ignore_case text)
+TextsAreAcceptedOrRefused kind = (ignore_case : Bool) (text : List ℕ) → IsOneAnswer ℕ (IsAccepted current kind ignore_case text) (IsRefused current kind ignore_case text)

@@ -4,7 +4,7 @@ use Rattle.std.specs.Str.{chars, skip_leading_whitespace, drop_trailing_whitespa
 use Rattle.byte_unit_base.specs.Shape.{Shape}
 use Rattle.byte_unit_base.specs.Edition.{Edition}
 use Rattle.byte_unit_base.specs.Spelling.{Flags, Spells}
-use Rattle.byte_unit_base.specs.Number.{NumberText}
+use Rattle.byte_unit_base.specs.Number.{IsNumberText}
 
 -- the characters of a text, given as its bytes, without the white space at both its ends
 abbrev pub trimmed : List ℕ → List ℕ
@@ -15,10 +15,10 @@ abbrev pub space : ℕ
 space = 32
 
 -- the text is a number of n last places, any number of spaces, and the spelling of a unit
-pub record SizeText (edition : Edition) (flags : Flags) (text : List ℕ) (n : ℕ) (s : Shape) : Type 0 where
+pub record IsSizeText (edition : Edition) (flags : Flags) (text : List ℕ) (n : ℕ) (s : Shape) : Type 0 where
   pub number_part : List ℕ
   pub spaces : ℕ
   pub unit_part : List ℕ
   pub text_is : text ≡ number_part ++ (replicate spaces space ++ unit_part)
-  pub number_is : NumberText edition number_part n
+  pub number_is : IsNumberText edition number_part n
   pub unit_is : Spells edition flags unit_part s

@@ -4,7 +4,7 @@ use Rattle.std.specs.Str.{IsUtf8, is_utf8}
 use Rattle.std.proofs.lemmas.Str.{IsUtf8-from_is_utf8, is_utf8-from_IsUtf8}
 use Rattle.byte_unit_lines.specs.Answer.{Kind, SaysSize, IsSaidOf, IsAnswer, not_text, size, refused, words_of}
 use Rattle.byte_unit_lines.specs.Report.{AreAnswers}
-use Rattle.byte_unit.specs.Accepted.{Accepted, IsRefused}
+use Rattle.byte_unit.specs.Accepted.{IsAccepted, IsRefused}
 use Rattle.byte_unit.specs.Edition.{current}
 use Rattle.byte_unit.specs.Fault.{Fault}
 use Rattle.byte_unit.specs.SizeLaws.{TextsAreAcceptedOrRefused}
@@ -14,7 +14,7 @@ use Rattle.byte_unit_lines.proofs.Sizes.{some_said, one_saying}
 -- a line has an answer
 module _ (kind : Kind) (texts : TextsAreAcceptedOrRefused kind) (choices : EachSizeHasAChoiceOrNone) where
   -- what is said of a text
-  text_said : (text : List ℕ) → IsUtf8 text → ((n : ℕ) × Accepted current kind false text n) ⊎ ((fault : Fault) × IsRefused current kind false text fault)
+  text_said : (text : List ℕ) → IsUtf8 text → ((n : ℕ) × IsAccepted current kind false text n) ⊎ ((fault : Fault) × IsRefused current kind false text fault)
       → (said : List ℕ) × IsSaidOf kind text said
   text_said text is_text (inl (n, accepted)) = let said = some_said kind choices n in (said.0, size n is_text accepted said.1)
   text_said text is_text (inr (fault, is_refused)) = (words_of fault, refused fault is_text is_refused refl)

@@ -1,7 +1,7 @@
 -- What is added to a text for a line, call by call.
 use Rattle.std.proofs.Common.{Result, Ok, Err, OnOk, is_ok, if◌then◌else◌, ◌≡◌, ℕ, ◌++◌, ◌∷◌, List, [], false, refl, sym, ap, ◌∙◌, append_assoc, codes}
 use Rattle.std.specs.Str.{IsUtf8}
-use Rattle.byte_unit.specs.Accepted.{Accepted, IsRefused}
+use Rattle.byte_unit.specs.Accepted.{IsAccepted, IsRefused}
 use Rattle.byte_unit.specs.AdjustedString.{alternate}
 use Rattle.byte_unit.specs.Edition.{current}
 use Rattle.byte_unit.specs.Fault.{Fault}
@@ -18,7 +18,7 @@ regroup : (a b c d : List ℕ) → ((a ++ b) ++ c) ++ d ≡ a ++ ((b ++ c) ++ d)
 regroup a b c d = append_assoc (a ++ b) c d ∙ append_assoc a b (c ++ d) ∙ ap (λ l. a ++ l) (sym (append_assoc b c d))
 
 -- the two texts of a size
-pub size_added : {E : Type 0} (kind : Kind) (text : List ℕ) (n : ℕ) (old first second new : List ℕ) → IsUtf8 text → Accepted current kind false text n
+pub size_added : {E : Type 0} (kind : Kind) (text : List ℕ) (n : ℕ) (old first second new : List ℕ) → IsUtf8 text → IsAccepted current kind false text n
     → AddsText kind n digits_spec old first → second ≡ first ++ codes " = " → (r : Result (Unit {0}) E) → OnOk r (AddsText kind n alternate second new) → OnOk r (AddsSaid kind text old new)
 size_added kind text n old first second new is_text accepted digits between (Ok _) form = (
   digits.0 ++ codes " = " ++ form.0,

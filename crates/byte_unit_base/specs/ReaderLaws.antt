@@ -4,9 +4,9 @@ use Rattle.byte_unit_base.specs.Shape.{Shape}
 use Rattle.byte_unit_base.specs.Edition.{current, name}
 use Rattle.byte_unit_base.specs.Units.{shape_of}
 use Rattle.byte_unit_base.specs.Spelling.{Flags, reading, Spells}
-use Rattle.byte_unit_base.specs.SizeText.{trimmed, SizeText}
+use Rattle.byte_unit_base.specs.SizeText.{trimmed, IsSizeText}
 use Rattle.byte_unit_base.specs.Front.{Place, IsUnitFront, IsSizeFront}
-use Rattle.byte_unit_base.specs.Fault.{Fault, UnitFault, SizeFault}
+use Rattle.byte_unit_base.specs.Fault.{Fault, IsUnitFault, IsSizeFault}
 use Rattle.byte_unit_base.specs.declared.unit.Unit.{Unit as UnitName}
 
 -- there is one meaning or one fault, and not both
@@ -18,11 +18,11 @@ pub record IsOneAnswer (Meaning : Type 0) (Means : Meaning → Type 0) (Fails : 
 
 -- each text spells one unit or has one fault, and not both
 abbrev pub UnitTextsHaveOneAnswer : Type 0
-UnitTextsHaveOneAnswer = (flags : Flags) (text : List ℕ) → IsOneAnswer Shape (Spells current flags text) (UnitFault current flags text)
+UnitTextsHaveOneAnswer = (flags : Flags) (text : List ℕ) → IsOneAnswer Shape (Spells current flags text) (IsUnitFault current flags text)
 
 -- each text states one number and unit or has one fault, and not both
 abbrev pub SizeTextsHaveOneAnswer : Type 0
-SizeTextsHaveOneAnswer = (flags : Flags) (text : List ℕ) → IsOneAnswer (ℕ × Shape) (λ r. SizeText current flags text r.0 r.1) (SizeFault current flags text)
+SizeTextsHaveOneAnswer = (flags : Flags) (text : List ℕ) → IsOneAnswer (ℕ × Shape) (λ r. IsSizeText current flags text r.0 r.1) (IsSizeFault current flags text)
 
 -- something can follow the text, or nothing, that makes it spell a unit
 abbrev pub BeginsUnit : Flags → List ℕ → Type 0
@@ -34,7 +34,7 @@ UnitFrontsAreBeginnings = (flags : Flags) (text : List ℕ) → ((place : Place)
 
 -- something can follow the text, or nothing, that makes it state a number and a unit
 abbrev pub BeginsSize : Flags → List ℕ → Type 0
-BeginsSize flags text = (more : List ℕ) × (n : ℕ) × (s : Shape) × SizeText current flags (text ++ more) n s
+BeginsSize flags text = (more : List ℕ) × (n : ℕ) × (s : Shape) × IsSizeText current flags (text ++ more) n s
 
 -- the fronts of sizes are exactly the beginnings of their texts
 abbrev pub SizeFrontsAreBeginnings : Type 0
