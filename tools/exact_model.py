@@ -1,0 +1,81 @@
+"""What the program has to answer to a line, said once more and apart from the code: with whole numbers of any length.
+
+It follows docs/DEFINITIONS.md and shares nothing with the crates. `tools/at-scale` compares the built program with it.
+"""
+
+import re
+
+LETTERS = "KMGTPEZY"
+WHOLE_LIMIT = 2**96
+SIZE_LIMIT = 10**27
+FRACTION_PLACES = 28
+FORM_PLACES = 3
+
+# The characters that Unicode calls white space.
+WHITE_SPACE = (
+    "\t\n\v\f\r \x85\xa0\u1680" + "".join(map(chr, range(0x2000, 0x200B))) + "\u2028\u2029\u202f\u205f\u3000"
+)
+
+SPELLING = re.compile(r"(?:([KMGTPEZYkmgtpezy])([Ii]?))?(B|b|[Bb][Ii][Tt][Ss]?)?", re.ASCII)
+
+
+def unit_bits(power, binary, bit):
+    """How many bits a unit has."""
+    one = 1024**power if binary else 1000**power
+    return one if bit else 8 * one
+
+
+def read(text, kind):
+    """The number, in units of its 28th place, and the bits of its unit; or the words for the first fault."""
+    digits = re.match(r"[0-9]*", text).group()
+    if not digits:
+        return "not a number" if text else "no value"
+    if int(digits.lstrip("0")[:40] or "0") >= WHOLE_LIMIT:
+        return "number too long"
+    rest, fraction = text[len(digits) :], ""
+    if rest.startswith("."):
+        fraction = re.match(r"[0-9]*", rest[1:]).group()
+        if not fraction:
+            return "not a number"
+        if len(fraction) > FRACTION_PLACES:
+            return "number too long"
+        rest = rest[1 + len(fraction) :]
+    spelling = SPELLING.fullmatch(rest.lstrip(" "))
+    if not spelling:
+        return "bad unit"
+    letter, infix, word = spelling.groups()
+    bit = kind == "bit" if word is None else word != "B"
+    power = LETTERS.index(letter.upper()) + 1 if letter else 0
+    number = int(digits.lstrip("0") or "0") * 10**FRACTION_PLACES + int(fraction.ljust(FRACTION_PLACES, "0"))
+    return number, unit_bits(power, bool(infix), bit)
+
+
+def form(size, kind):
+    """The size with the largest unit of its kind, not above it, that states it within three places."""
+    bit = kind == "bit"
+    in_bits = size * (1 if bit else 8)
+    end = "b" if bit else "B"
+    for power in range(len(LETTERS), 0, -1):
+        for binary in (True, False):
+            unit = unit_bits(power, binary, bit)
+            scaled = in_bits * 10**FORM_PLACES
+            if unit <= in_bits and scaled % unit == 0:
+                whole, part = divmod(scaled // unit, 10**FORM_PLACES)
+                digits = f".{part:03}".rstrip("0").rstrip(".")
+                return f"{whole}{digits} {LETTERS[power - 1]}{'i' if binary else ''}{end}"
+    return f"{size} {end}"
+
+
+def answer(line, kind):
+    """The answer to a line, given by its bytes, without the line's end."""
+    try:
+        text = line.decode("utf-8")
+    except UnicodeDecodeError:
+        return "not text"
+    found = read(text.strip(WHITE_SPACE), kind)
+    if isinstance(found, str):
+        return found
+    number, bits = found
+    divisor = 10**FRACTION_PLACES * (1 if kind == "bit" else 8)
+    size = -(-number * bits // divisor)
+    return f"{size} = {form(size, kind)}" if size < SIZE_LIMIT else "out of range"
