@@ -9,4 +9,5 @@ pub mod Expanding
 pub mod Nearest
 pub mod Cut
 pub mod Powers
+pub mod TwosFives
 pub mod Texts

@@ -39,7 +39,14 @@ impl Steps {
     pub(crate) fn tick(&mut self)
         ensures { self.new ≡ raised self.old 1 }
     {
-        self.count = self.count.saturating_add(1);
+        self.raise(1);
+    }
+
+    /// So many ticks more.
+    pub(crate) fn raise(&mut self, ticks: u32)
+        ensures { self.new ≡ raised self.old ticks }
+    {
+        self.count = self.count.saturating_add(u64::from(ticks));
     }
 }
 
@@ -55,6 +62,8 @@ mod tests {
         steps.tick();
         assert_eq!(rt; steps.count(), u64::MAX);
         steps.tick();
+        assert_eq!(rt; steps.count(), u64::MAX);
+        steps.raise(u32::MAX);
         assert_eq!(rt; steps.count(), u64::MAX);
     }
 }
