@@ -10,6 +10,7 @@ pub use byte_unit_base::laws::readers::{
     unit_fronts_are_beginnings, unit_texts_have_one_answer,
 };
 pub use byte_unit_base::laws::sizes::{
+    each_number_has_one_least_size, each_text_is_one_of_three,
     greater_numbers_give_no_smaller_sizes, texts_are_accepted_or_refused,
 };
 pub use byte_unit_base::laws::texts::{

@@ -6,6 +6,7 @@ ghost use Rattle.serde_json.specs.Find.{as_str};
 ghost use Rattle.serde_json.specs.View.{view};
 ghost use Rattle.byte_unit_base.specs.Edition.{current, name};
 ghost use Rattle.byte_unit_base.specs.Readings.{IsUnitReading};
+ghost use Rattle.byte_unit_base.specs.Spelling.{reading};
 ghost use Rattle.byte_unit_base.specs.Units.{shape_of};
 ghost use Rattle.byte_unit.specs.UnitJson.{error_text, ReadsUnitString};
 
@@ -55,7 +56,7 @@ pub fn unit_to_json(alloc: Global, unit: Unit) -> Result<Value, AllocError>
 /// unit_from_json(&string)      // Unit::Kbit for the string "Kb"
 /// ```
 pub fn unit_from_json(value: &Value) -> Result<Unit, JsonUnitError>
-    ensures { ReadsUnitString (IsUnitReading false true) (as_str (view value.now)) result }
+    ensures { ReadsUnitString (IsUnitReading (reading false true)) (as_str (view value.now)) result }
 {
     match value.as_str() {
         None => Err(JsonUnitError::NotString),

@@ -5,7 +5,7 @@ use Rattle.byte_unit_base.specs.Edition.{current}
 use Rattle.byte_unit_base.specs.Spelling.{Flags, Spells}
 use Rattle.byte_unit_base.specs.SizeText.{IsSizeText}
 use Rattle.byte_unit_base.specs.Front.{Place, IsUnitFront, IsSizeFront}
-use Rattle.byte_unit_base.specs.ReaderLaws.{UnitFrontsAreBeginnings, SizeFrontsAreBeginnings, BeginsUnit, BeginsSize}
+use Rattle.byte_unit_base.specs.ReaderLaws.{UnitFrontsAreBeginnings, SizeFrontsAreBeginnings, Begins, States}
 use Rattle.byte_unit_base.specs.UnitScan.{unit_step, unit_run, unit_read, scan_of, place_of, start}
 use Rattle.byte_unit_base.specs.SizeScan.{size_step, size_run, size_read, size_place}
 use Rattle.byte_unit_base.specs.declared.unit.scan.Word.{Word}
@@ -43,7 +43,7 @@ unit_goes_on flags m Bi = record { more = 116 ∷ []; shape = _; ends = refl }
 unit_goes_on flags m Bit = record { more = []; shape = _; ends = refl }
 unit_goes_on flags m Bits = record { more = []; shape = _; ends = refl }
 
-unit_front_begins : (flags : Flags) (text : List ℕ) (place : Place) → IsUnitFront current place text → BeginsUnit flags text
+unit_front_begins : (flags : Flags) (text : List ℕ) (place : Place) → IsUnitFront current place text → Begins Shape (Spells current flags) text
 unit_front_begins flags text place h =
     let r = UnitReads.run_front place text h in
     let m = unit_goes_on flags r.0.multiple r.0.word in
@@ -85,12 +85,12 @@ size_goes_on flags (Fraction w f j) = record { more = []; number = _; shape = _;
 size_goes_on flags (Gap n) = record { more = []; number = n; shape = _; ends = refl }
 size_goes_on flags (UnitAt n s) = goes_on_in_unit flags n s.multiple s.word
 
-size_front_begins : (flags : Flags) (text : List ℕ) (place : Place) → IsSizeFront current place text → BeginsSize flags text
+size_front_begins : (flags : Flags) (text : List ℕ) (place : Place) → IsSizeFront current place text → Begins (ℕ × Shape) (States flags) text
 size_front_begins flags text place h =
     let r = SizeReads.scan_front place text h in
     let m = size_goes_on flags r.0 in
     let e = SizeReads.read_through flags r.0 text m.more Beginning r.1 ∙ m.ends in
-    (m.more, m.number, m.shape, subst (SizeFaults.SizeResult flags (text ++ m.more)) e (SizeFaults.reads_rightly flags (text ++ m.more)))
+    (m.more, (m.number, m.shape), subst (SizeFaults.SizeResult flags (text ++ m.more)) e (SizeFaults.reads_rightly flags (text ++ m.more)))
 
 size_beginning_is_front : (flags : Flags) (text more : List ℕ) (n : ℕ) (s : Shape) → IsSizeText current flags (text ++ more) n s → (place : Place) × IsSizeFront current place text
 size_beginning_is_front flags text more n s h =
@@ -99,4 +99,4 @@ size_beginning_is_front flags text more n s h =
     (size_place t.0, SizeFaults.front_at t.0 text (SizeAnswers.reached_run text [] Beginning t.0 t.1 refl))
 
 pub size_fronts_are_beginnings : SizeFrontsAreBeginnings
-size_fronts_are_beginnings flags text = (λ f. size_front_begins flags text f.0 f.1, λ b. size_beginning_is_front flags text b.0 b.1 b.2 b.3)
+size_fronts_are_beginnings flags text = (λ f. size_front_begins flags text f.0 f.1, λ b. size_beginning_is_front flags text b.0 b.1.0 b.1.1 b.2)

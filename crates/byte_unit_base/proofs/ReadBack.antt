@@ -120,12 +120,16 @@ multiple_name kind ignore_case s h =
       last_is = end.2;
       ascii = subst IsAscii (sym parts) (IsAscii-cons (letter_at s.power) (infix_of s.binary ++ count_of s.bit) letter.1 (IsAscii-append (infix_of s.binary) (count_of s.bit) (infix_ascii s.binary) (count_ascii s.bit)));
       spells = inr record {
-        letter = letter_at s.power;
-        infix_part = infix_of s.binary;
+        prefix_part = letter_at s.power ∷ infix_of s.binary;
         count_part = count_of s.bit;
         text_is = parts;
-        letter_is = (h.prefix.some, h.prefix.known, letter.0);
-        infix_is = infix_spells s.binary;
+        prefix_is = record {
+          letter = letter_at s.power;
+          infix_part = infix_of s.binary;
+          text_is = refl;
+          letter_is = (h.prefix.some, h.prefix.known, letter.0);
+          infix_is = infix_spells s.binary;
+        };
         count_is = subst P (sym (kind_bit kind s.bit h.kind)) (count_spells kind ignore_case);
       };
     }
@@ -142,7 +146,7 @@ spelled Bit unit = (names_spell_their_units unit false).spells
 
 known_power : (flags : Flags) (text : List ℕ) (s : Shape) → Spells current flags text s → s.power ≤ 8
 known_power flags text s (inl h) = omega (arith, h.power_is)
-known_power flags text s (inr h) = omega (arith, h.letter_is.1)
+known_power flags text s (inr h) = omega (arith, h.prefix_is.letter_is.1)
 
 name_alone : (s : Shape) → s.power ≤ 0 → name current s ≡ count_of s.bit
 name_alone s h =

@@ -7,6 +7,7 @@ use Rattle.byte_unit_base.specs.Shape.{Shape, bits}
 use Rattle.byte_unit_base.specs.declared.kind.Kind.{Kind}
 use Rattle.byte_unit_base.specs.declared.kind.Kind.TheVariants.{Byte, Bit}
 use Rattle.byte_unit_base.specs.Kinds.{bits_in}
+use Rattle.byte_unit_base.specs.SizeLaws.{EachNumberHasOneLeastSize}
 use Rattle.byte_unit_base.specs.LeastOfKind.{IsLeastOf, Covers}
 
 -- there is a least number of bits
@@ -57,6 +58,11 @@ least_of Byte N unit =
 least_of Bit N unit =
     let b = least_bits N (bits unit) in
     (b.0, least_holding Bit N unit b.0 b.0 b.1 (omega arith) (omega arith))
+
+pub one_least_size : EachNumberHasOneLeastSize
+one_least_size kind number unit =
+    let least = least_of kind number unit in
+    record { size = least.0; is_least = least.1; one = λ other h. least_is_one kind number unit other least.0 h least.1 }
 
 -- what covers more covers less
 pub more_covers_more : (kind : Kind) (unit : Shape) (few many small large : ℕ) → few ≤ many → IsLeastOf kind few unit small → IsLeastOf kind many unit large → small ≤ large

@@ -5,11 +5,11 @@ use Rattle.byte_unit_math.specs.Bounds.{one}
 use Rattle.byte_unit_base.specs.Shape.{Shape}
 use Rattle.byte_unit_base.specs.Edition.{current}
 use Rattle.byte_unit_base.specs.Units.{shape_of}
-use Rattle.byte_unit_base.specs.Spelling.{Flags, reading}
+use Rattle.byte_unit_base.specs.Spelling.{Flags}
 use Rattle.byte_unit_base.specs.Number.{IsNumberText}
 use Rattle.byte_unit_base.specs.SizeText.{trimmed, IsSizeText}
 use Rattle.byte_unit_base.specs.Readings.{IsNumberReading}
-use Rattle.byte_unit_base.specs.Front.{Place, beginning, in_whole, after_point, in_fraction, in_gap, after_prefix, after_b, after_bi, after_bit, after_bits, IsUnitFront, IsSizedFront, IsSizeFront}
+use Rattle.byte_unit_base.specs.Front.{Place, beginning, in_whole, after_point, in_fraction, before_unit, after_prefix, after_b, after_bi, after_bit, after_bits, IsUnitFront, IsSizedFront, IsSizeFront}
 use Rattle.byte_unit_base.specs.Fault.{Fault, IsSizeFault, IsFaultAfter, fault_at, fault_at_end, no_unit, too_long, exceeded, stops_at_bi, no_value, not_number}
 use Rattle.byte_unit_base.specs.Errors.{size_fault}
 use Rattle.byte_unit_base.specs.SizeScan.{size_seen}
@@ -34,7 +34,7 @@ use Rattle.byte_unit_base.proofs.SizeReads.{size_through, size_run_step, scan_fr
 -- the front that has been read
 
 sized_at : (n : ℕ) (s : UnitScan) (place : Place) (text : List ℕ) (r : UnitReached n s text) → IsUnitFront current place r.unit_part → IsSizedFront current place text
-sized_at n s place text r h = record { number_part = r.number_part; n = n; spaces = r.spaces; unit_part = r.unit_part; text_is = r.text_is; number_is = r.number_is; unit_is = h }
+sized_at n s place text r h = record { number_part = r.number_part; number = n; spaces = r.spaces; unit_part = r.unit_part; text_is = r.text_is; number_is = r.number_is; unit_is = h }
 
 unit_at : (n : ℕ) (m : Multiple) (w : Word) (text : List ℕ) → UnitReached n (scan_of m w) text → IsSizeFront current (word_place m w) text
 unit_at n One Empty text r = absurd (r.moved refl)
@@ -51,7 +51,7 @@ front_at Beginning text r = r
 front_at (Whole w) text r = (w, r)
 front_at (Point w) text r = (w, r)
 front_at (Fraction w f j) text r = (precise w f j, fraction_number w f j text r)
-front_at (Gap n) text r = (r.number_part, n, r.spaces, r.some, r.text_is, r.number_is)
+front_at (Gap n) text r = (record { number_part = r.number_part; number = n; spaces = r.spaces; unit_part = []; text_is = r.text_is ∙ ap (λ g. r.number_part ++ g) (sym (append-nil (replicate r.spaces 32))); number_is = r.number_is; unit_is = refl }, r.some)
 front_at (UnitAt n s) text r = unit_at n s.multiple s.word text r
 
 -- no front goes past a character that is no step
@@ -141,7 +141,7 @@ no_bounds_at flags beginning c n = λ e. cc
 no_bounds_at flags in_whole c n = digit_bounds (is_digit c) c n
 no_bounds_at flags after_point c n = λ e. cc
 no_bounds_at flags in_fraction c n = digit_bounds (is_digit c) c n
-no_bounds_at flags in_gap c n = λ e. cc
+no_bounds_at flags before_unit c n = λ e. cc
 no_bounds_at flags after_prefix c n = λ e. cc
 no_bounds_at flags after_b c n = λ e. cc
 no_bounds_at flags after_bi c n = λ e. cc
@@ -153,7 +153,7 @@ no_bounds_at_end beginning n = λ e. cc
 no_bounds_at_end in_whole n = λ e. cc
 no_bounds_at_end after_point n = λ e. cc
 no_bounds_at_end in_fraction n = λ e. cc
-no_bounds_at_end in_gap n = λ e. cc
+no_bounds_at_end before_unit n = λ e. cc
 no_bounds_at_end after_prefix n = λ e. cc
 no_bounds_at_end after_b n = λ e. cc
 no_bounds_at_end after_bi n = λ e. cc
@@ -168,10 +168,10 @@ read_no_bounds : (flags : Flags) (text : List ℕ) (r : Result (ℕ × UnitName)
 read_no_bounds flags text (Ok x) e = tt
 read_no_bounds flags text (Err x) e = λ n. let f = read_fault flags text (Err x) e in no_bounds_after flags f.place f.rest (size_fault x) n f.fault_is
 
-pub number_reading : (ignore_case prefer_byte : Bool) (bytes : List ℕ) (r : Result (ℕ × UnitName) ParseError) → size_seen r ≡ size_read (reading ignore_case prefer_byte) Beginning (trimmed bytes) → IsNumberReading ignore_case prefer_byte bytes r
-number_reading ignore_case prefer_byte bytes r e = record {
-  found = read_found (reading ignore_case prefer_byte) (trimmed bytes) r e;
-  reads = λ n s h. read_text (reading ignore_case prefer_byte) (trimmed bytes) n s r e h;
-  fault = read_fault (reading ignore_case prefer_byte) (trimmed bytes) r e;
-  no_bounds = read_no_bounds (reading ignore_case prefer_byte) (trimmed bytes) r e;
+pub number_reading : (flags : Flags) (bytes : List ℕ) (r : Result (ℕ × UnitName) ParseError) → size_seen r ≡ size_read flags Beginning (trimmed bytes) → IsNumberReading flags bytes r
+number_reading flags bytes r e = record {
+  found = read_found flags (trimmed bytes) r e;
+  reads = λ n s h. read_text flags (trimmed bytes) n s r e h;
+  fault = read_fault flags (trimmed bytes) r e;
+  no_bounds = read_no_bounds flags (trimmed bytes) r e;
 }

@@ -7,8 +7,8 @@ use Rattle.byte_unit_base.specs.SizeText.{trimmed}
 use Rattle.byte_unit_base.specs.Fault.{Fault, exceeded, IsSizeFault}
 use Rattle.byte_unit_base.specs.Kinds.{flags_for}
 use Rattle.byte_unit_base.specs.LeastOfKind.{IsLeastOf}
-use Rattle.byte_unit_base.specs.Accepted.{IsRead, IsAccepted, IsRefused}
-use Rattle.byte_unit_base.specs.SizeLaws.{TextsAreAcceptedOrRefused}
+use Rattle.byte_unit_base.specs.Accepted.{IsRead, IsAccepted, Exceeds, HasFault, IsRefused}
+use Rattle.byte_unit_base.specs.SizeLaws.{EachTextIsOneOfThree, TextsAreAcceptedOrRefused}
 use Rattle.byte_unit_base.specs.declared.kind.Kind.{Kind}
 use Rattle.byte_unit_base.proofs.Rounding.{least_of, least_is_one}
 use Rattle.byte_unit_base.proofs.SizeAnswers.{size_texts_have_one_answer}
@@ -30,32 +30,57 @@ no_fault : (kind : Kind) (ignore_case : Bool) (text : List ℕ) (number n : ℕ)
 no_fault kind ignore_case text number n fault a f =
     (size_texts_have_one_answer (flags_for kind ignore_case) (trimmed text)).not_both (number, a.unit) fault a.is_size f
 
-some_answer : (kind : Kind) (ignore_case : Bool) (text : List ℕ) → ((n : ℕ) × IsAccepted current kind ignore_case text n) ⊎ ((fault : Fault) × IsRefused current kind ignore_case text fault)
-some_answer kind ignore_case text =
+-- a text that is accepted has no number whose size is too large
+no_excess : (kind : Kind) (ignore_case : Bool) (text : List ℕ) (n number : ℕ) → IsAccepted current kind ignore_case text n → ¬ (Exceeds current kind ignore_case text number)
+no_excess kind ignore_case text n number a e =
+    let same = same_read kind ignore_case text a.number number n e.size a.is_read e.is_read in
+    omega (arith, same.sizes, a.below, e.above)
+
+some_of_three : (kind : Kind) (ignore_case : Bool) (text : List ℕ)
+    → ((n : ℕ) × IsAccepted current kind ignore_case text n)
+    ⊎ (((number : ℕ) × Exceeds current kind ignore_case text number) ⊎ ((fault : Fault) × HasFault current kind ignore_case text fault))
+some_of_three kind ignore_case text =
     ⊎_elim (λ read. let least = least_of kind read.0.0 read.0.1 in
     let is_read : IsRead current kind ignore_case text read.0.0 least.0 = record { unit = read.0.1; is_size = read.1; is_least = least.1 } in
     ⊎_elim (λ below. inl (least.0, record { number = read.0.0; is_read = is_read; below = below }))
-    (λ above. inr (exceeded read.0.0, inl (read.0.0, refl, record { size = least.0; is_read = is_read; above = above })))
+    (λ above. inr (inl (read.0.0, record { size = least.0; is_read = is_read; above = above })))
     (cases_lt least.0 current.size_limit))
-    (λ fault. inr (fault.0, inr fault.1))
+    (λ fault. inr (inr fault))
     (size_texts_have_one_answer (flags_for kind ignore_case) (trimmed text)).some
 
-one_fault : (kind : Kind) (ignore_case : Bool) (text : List ℕ) (fault other : Fault) → IsRefused current kind ignore_case text fault → IsRefused current kind ignore_case text other → fault ≡ other
-one_fault kind ignore_case text fault other a b =
-    ⊎_elim (λ x. ⊎_elim (λ y. x.1 ∙ (ap exceeded (same_read kind ignore_case text x.0 y.0 x.2.size y.2.size x.2.is_read y.2.is_read).numbers ∙ sym y.1))
-    (λ f. absurd (no_fault kind ignore_case text x.0 x.2.size other x.2.is_read f)) b)
-    (λ f. ⊎_elim (λ y. absurd (no_fault kind ignore_case text y.0 y.2.size fault y.2.is_read f))
-    (λ g. (size_texts_have_one_answer (flags_for kind ignore_case) (trimmed text)).one_fault fault other f g) b) a
+pub one_of_three : EachTextIsOneOfThree
+one_of_three kind ignore_case text = record {
+  some = some_of_three kind ignore_case text;
+  one_size = λ n other a b. (same_read kind ignore_case text a.number b.number n other a.is_read b.is_read).sizes;
+  one_number = λ number other a b. (same_read kind ignore_case text number other a.size b.size a.is_read b.is_read).numbers;
+  one_fault = (size_texts_have_one_answer (flags_for kind ignore_case) (trimmed text)).one_fault;
+  no_excess = no_excess kind ignore_case text;
+  no_fault = λ n fault a f. no_fault kind ignore_case text a.number n fault a.is_read f;
+  no_fault_of_excess = λ number fault e f. no_fault kind ignore_case text number e.size fault e.is_read f;
+}
 
-not_both : (kind : Kind) (ignore_case : Bool) (text : List ℕ) (n : ℕ) (fault : Fault) → IsAccepted current kind ignore_case text n → IsRefused current kind ignore_case text fault → ⊥
-not_both kind ignore_case text n fault a b =
-    ⊎_elim (λ y. let same = same_read kind ignore_case text a.number y.0 n y.2.size a.is_read y.2.is_read in omega (arith, same.sizes, a.below, y.2.above))
-    (λ f. no_fault kind ignore_case text a.number n fault a.is_read f) b
+-- so each is accepted or refused
+refusal : (kind : Kind) (ignore_case : Bool) (text : List ℕ)
+    → ((number : ℕ) × Exceeds current kind ignore_case text number) ⊎ ((fault : Fault) × HasFault current kind ignore_case text fault)
+    → (fault : Fault) × IsRefused current kind ignore_case text fault
+refusal kind ignore_case text (inl e) = (exceeded e.0, inl (e.0, refl, e.1))
+refusal kind ignore_case text (inr f) = (f.0, inr f.1)
 
-pub accepted_or_refused : (kind : Kind) → TextsAreAcceptedOrRefused kind
+one_refusal : (kind : Kind) (ignore_case : Bool) (text : List ℕ) (fault other : Fault)
+    → IsRefused current kind ignore_case text fault → IsRefused current kind ignore_case text other → fault ≡ other
+one_refusal kind ignore_case text fault other (inl e) (inl x) = e.1 ∙ (ap exceeded ((one_of_three kind ignore_case text).one_number e.0 x.0 e.2 x.2) ∙ sym x.1)
+one_refusal kind ignore_case text fault other (inl e) (inr f) = absurd ((one_of_three kind ignore_case text).no_fault_of_excess e.0 other e.2 f)
+one_refusal kind ignore_case text fault other (inr f) (inl e) = absurd ((one_of_three kind ignore_case text).no_fault_of_excess e.0 fault e.2 f)
+one_refusal kind ignore_case text fault other (inr f) (inr g) = (one_of_three kind ignore_case text).one_fault fault other f g
+
+not_both : (kind : Kind) (ignore_case : Bool) (text : List ℕ) (n : ℕ) (fault : Fault) → IsAccepted current kind ignore_case text n → ¬ (IsRefused current kind ignore_case text fault)
+not_both kind ignore_case text n fault a (inl e) = (one_of_three kind ignore_case text).no_excess n e.0 a e.2
+not_both kind ignore_case text n fault a (inr f) = (one_of_three kind ignore_case text).no_fault n fault a f
+
+pub accepted_or_refused : TextsAreAcceptedOrRefused
 accepted_or_refused kind ignore_case text = record {
-  some = some_answer kind ignore_case text;
-  one_meaning = λ n m a b. (same_read kind ignore_case text a.number b.number n m a.is_read b.is_read).sizes;
-  one_fault = one_fault kind ignore_case text;
+  some = ⊎_elim (λ a. inl a) (λ r. inr (refusal kind ignore_case text r)) (one_of_three kind ignore_case text).some;
+  one_meaning = (one_of_three kind ignore_case text).one_size;
+  one_fault = one_refusal kind ignore_case text;
   not_both = not_both kind ignore_case text;
 }

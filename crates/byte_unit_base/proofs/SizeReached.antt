@@ -6,7 +6,7 @@ use Rattle.std.proofs.lemmas.Int.Digits.{digits_value_push, digits_push}
 use Rattle.byte_unit_math.specs.Bounds.{one, places_of_decimal}
 use Rattle.byte_unit_base.specs.Edition.{current}
 use Rattle.byte_unit_base.specs.Number.{IsWholePart, IsPointed, IsPrecise, IsNumberText}
-use Rattle.byte_unit_base.specs.Front.{beginning}
+use Rattle.byte_unit_base.specs.Front.{before_unit}
 use Rattle.byte_unit_base.specs.UnitScan.{place_of, start as unit_start}
 use Rattle.byte_unit_base.specs.SizeScan.{precise}
 use Rattle.byte_unit_base.specs.declared.unit.scan.UnitScan.{UnitScan}
@@ -41,7 +41,7 @@ pub record UnitReached (n : ℕ) (s : UnitScan) (text : List ℕ) : Type 0 where
   pub text_is : text ≡ number_part ++ (replicate spaces 32 ++ unit_part)
   pub number_is : IsNumberText current number_part n
   pub reached : Reached s unit_part
-  pub moved : place_of s ≢ beginning
+  pub moved : place_of s ≢ before_unit
 
 abbrev pub SizeReached : SizeScan → List ℕ → Type 0
 SizeReached Beginning text = text ≡ []

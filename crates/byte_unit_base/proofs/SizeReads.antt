@@ -10,7 +10,7 @@ use Rattle.byte_unit_base.specs.Edition.{current}
 use Rattle.byte_unit_base.specs.Spelling.{Flags}
 use Rattle.byte_unit_base.specs.Number.{IsWholePart, IsPointed, IsPrecise, IsNumberText}
 use Rattle.byte_unit_base.specs.SizeText.{space, IsSizeText}
-use Rattle.byte_unit_base.specs.Front.{Place, beginning, in_whole, after_point, in_fraction, in_gap, after_prefix, after_b, after_bi, after_bit, after_bits, IsSizedFront, IsSizeFront}
+use Rattle.byte_unit_base.specs.Front.{Place, beginning, in_whole, after_point, in_fraction, before_unit, after_prefix, after_b, after_bi, after_bit, after_bits, IsSizedFront, IsSizeFront}
 use Rattle.byte_unit_base.specs.UnitScan.{unit_step, unit_run, scan_of, place_of, unit_of, prefix_at, word_step, or_word, start as unit_start}
 use Rattle.byte_unit_base.specs.SizeScan.{size_step, size_run, size_read, size_at_end, size_place, sized, precise}
 use Rattle.byte_unit_base.specs.declared.unit.scan.Prefix.{Prefix}
@@ -197,7 +197,7 @@ number_end flags n (UnitAt m s) h = absurd h
 
 -- a state between a number and a unit
 abbrev pub AtGap : ℕ → SizeScan → Type 0
-AtGap n s = AtNumber n s × (size_place s ≡ in_gap)
+AtGap n s = AtNumber n s × (size_place s ≡ before_unit)
 
 run_gap : (n k : ℕ) → RunsTo (AtGap n) (Gap n) (replicate k space)
 run_gap n zero = record { state = Gap n; run = refl; holds = (refl, refl) }
@@ -227,7 +227,7 @@ run_in_unit n u (c ∷ cs) s h = unit_on n u s c cs (λ t k. run_in_unit n u cs 
 -- a state that ends as a number and this unit, at its place if there is more of it than nothing
 pub record EndsAs (n : ℕ) (u : UnitScan) (t : SizeScan) : Type 0 where
   pub ends : (flags : Flags) → size_at_end flags t ≡ sized n (unit_of flags u)
-  pub place : place_of u ≢ beginning → size_place t ≡ place_of u
+  pub place : place_of u ≢ before_unit → size_place t ≡ place_of u
 
 unit_first : (n : ℕ) (u : UnitScan) (s : SizeScan) (c : ℕ) (cs : List ℕ) → AtNumber n s → (o : Option UnitScan) → unit_step unit_start c ≡ o → option_and_then (λ t. unit_run t cs) o ≡ Some u → RunsTo (EndsAs n u) s (c ∷ cs)
 unit_first n u s c cs h None e k = absurd (let x : ⊥ = cc in x)
@@ -273,10 +273,10 @@ reads_size flags text n s h = let r = size_text_runs flags text n s h in read_ru
 abbrev pub IsScanned : Place → List ℕ → Type 0
 IsScanned place text = (s : SizeScan) × (size_run Beginning text ≡ Some s) × (size_place s ≡ place)
 
-sized_front : (place : Place) (text : List ℕ) → place ≢ beginning → IsSizedFront current place text → IsScanned place text
+sized_front : (place : Place) (text : List ℕ) → place ≢ before_unit → IsSizedFront current place text → IsScanned place text
 sized_front place text moved h =
     let u = run_front place h.unit_part h.unit_is in
-    let r = run_sized h.n h.spaces u.0 text h.number_part h.unit_part h.text_is h.number_is u.1 in
+    let r = run_sized h.number h.spaces u.0 text h.number_part h.unit_part h.text_is h.number_is u.1 in
     (r.state, r.run, r.holds.place (λ e. moved (sym u.2 ∙ e)) ∙ u.2)
 
 pub scan_front : (place : Place) (text : List ℕ) → IsSizeFront current place text → IsScanned place text
@@ -284,10 +284,12 @@ scan_front beginning text h = (Beginning, ap (size_run Beginning) h, refl)
 scan_front in_whole text h = (Whole h.0, run_whole text h.0 h.1, refl)
 scan_front after_point text h = (Point h.0, run_pointed text h.0 h.1, refl)
 scan_front in_fraction text h = let r = run_precise text h.0 h.1 in (r.state, r.run, r.holds.1)
-scan_front in_gap text h =
-    let a = run_number h.0 h.1 h.5 in
-    let b = run_some_spaces h.1 h.2 a.state h.3 a.holds in
-    (b.state, ap (size_run Beginning) h.4 ∙ (size_through Beginning a.state h.0 (replicate h.2 space) a.run ∙ b.run), b.holds.1)
+scan_front before_unit text h =
+    let f = h.0 in
+    let a = run_number f.number_part f.number f.number_is in
+    let b = run_some_spaces f.number f.spaces a.state h.1 a.holds in
+    let e : text ≡ f.number_part ++ replicate f.spaces space = f.text_is ∙ ap (λ x. f.number_part ++ x) (ap (λ x. replicate f.spaces space ++ x) f.unit_is ∙ append-nil (replicate f.spaces space)) in
+    (b.state, ap (size_run Beginning) e ∙ (size_through Beginning a.state f.number_part (replicate f.spaces space) a.run ∙ b.run), b.holds.1)
 scan_front after_prefix text h = sized_front after_prefix text (λ e. cc) h
 scan_front after_b text h = sized_front after_b text (λ e. cc) h
 scan_front after_bi text h = sized_front after_bi text (λ e. cc) h

@@ -10,7 +10,7 @@ use Rattle.std.proofs.lemmas.List.{at_drop_all}
 use Rattle.byte_unit_math.specs.Bounds.{one, places_of_decimal, whole_limit}
 use Rattle.byte_unit_base.specs.Edition.{current}
 use Rattle.byte_unit_base.specs.Spelling.{Flags}
-use Rattle.byte_unit_base.specs.Front.{beginning}
+use Rattle.byte_unit_base.specs.Front.{before_unit}
 use Rattle.byte_unit_base.specs.Fault.{fault_at}
 use Rattle.byte_unit_base.specs.UnitScan.{unit_step, place_of, scan_of, multiple_step, word_step, prefix_at, or_word, start as unit_start}
 use Rattle.byte_unit_base.specs.SizeScan.{IsScan, size_step, size_read, size_at_end, size_place, after_number, precise, is_digit}
@@ -69,7 +69,7 @@ step_is (UnitAt n s) t c e = unit_step_is n c s t (unit_step s c) refl e
 
 -- a step of a unit leaves the beginning
 
-leaves_word : (m : Multiple) (w : Word) (u : UnitScan) (c : ℕ) (o : Option Word) → word_step w c ≡ o → option_map (scan_of m) o ≡ Some u → place_of u ≢ beginning
+leaves_word : (m : Multiple) (w : Word) (u : UnitScan) (c : ℕ) (o : Option Word) → word_step w c ≡ o → option_map (scan_of m) o ≡ Some u → place_of u ≢ before_unit
 leaves_word m w u c None e h = absurd (let k : ⊥ = cc in k)
 leaves_word m w u c (Some Empty) e h = absurd (no_empty w c e)
   where
@@ -86,10 +86,10 @@ leaves_word m w u c (Some Bi) e h = λ p. let k : scan_of m Bi ≡ u = cc in let
 leaves_word m w u c (Some Bit) e h = λ p. let k : scan_of m Bit ≡ u = cc in let q = ap place_of k ∙ p in cc
 leaves_word m w u c (Some Bits) e h = λ p. let k : scan_of m Bits ≡ u = cc in let q = ap place_of k ∙ p in cc
 
-multiple_leaves : (m n : Multiple) (c : ℕ) → multiple_step m c ≡ Some n → place_of (scan_of n Empty) ≢ beginning
+multiple_leaves : (m n : Multiple) (c : ℕ) → multiple_step m c ≡ Some n → place_of (scan_of n Empty) ≢ before_unit
 multiple_leaves One n c e = from_prefix n (prefix_at c) e
   where
-    from_prefix : (n : Multiple) (o : Option Prefix) → option_map Decimal o ≡ Some n → place_of (scan_of n Empty) ≢ beginning
+    from_prefix : (n : Multiple) (o : Option Prefix) → option_map Decimal o ≡ Some n → place_of (scan_of n Empty) ≢ before_unit
     from_prefix n None e = absurd (let k : ⊥ = cc in k)
     from_prefix One (Some p) e = absurd (let k : ⊥ = cc in k)
     from_prefix (Decimal q) (Some p) e = λ h. cc
@@ -99,11 +99,11 @@ multiple_leaves (Decimal p) (Decimal q) c e = λ h. cc
 multiple_leaves (Decimal p) (Binary q) c e = λ h. cc
 multiple_leaves (Binary p) n c e = absurd (let k : ⊥ = cc in k)
 
-leaves_prefix : (m : Multiple) (u : UnitScan) (c : ℕ) (o : Option Multiple) → multiple_step m c ≡ o → or_word m o (word_step Empty c) ≡ Some u → place_of u ≢ beginning
+leaves_prefix : (m : Multiple) (u : UnitScan) (c : ℕ) (o : Option Multiple) → multiple_step m c ≡ o → or_word m o (word_step Empty c) ≡ Some u → place_of u ≢ before_unit
 leaves_prefix m u c None e h = leaves_word m Empty u c (word_step Empty c) refl h
 leaves_prefix m u c (Some n) e h = λ p. let k : scan_of n Empty ≡ u = cc in multiple_leaves m n c e (ap place_of k ∙ p)
 
-pub step_leaves : (m : Multiple) (w : Word) (u : UnitScan) (c : ℕ) → unit_step (scan_of m w) c ≡ Some u → place_of u ≢ beginning
+pub step_leaves : (m : Multiple) (w : Word) (u : UnitScan) (c : ℕ) → unit_step (scan_of m w) c ≡ Some u → place_of u ≢ before_unit
 unfolding unit_step
 step_leaves m Empty u c h = leaves_prefix m u c (multiple_step m c) refl h
 step_leaves m UpperB u c h = leaves_word m UpperB u c (word_step UpperB c) refl h

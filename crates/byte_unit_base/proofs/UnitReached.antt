@@ -7,7 +7,7 @@ use Rattle.std.specs.Str.{str_to_ascii_lowercase}
 use Rattle.std.proofs.lemmas.Bool.Decides.{nat_tests}
 use Rattle.byte_unit_base.specs.Shape.{Shape}
 use Rattle.byte_unit_base.specs.Edition.{current}
-use Rattle.byte_unit_base.specs.Spelling.{Flags, IsPrefixLetter, SpellsCount, Spells}
+use Rattle.byte_unit_base.specs.Spelling.{Flags, IsPrefixLetter, SpellsBinary, SpellsPrefix, SpellsCount, Spells}
 use Rattle.byte_unit_base.specs.UnitScan.{unit_step, unit_run, unit_of, start, scan_of, power_of, prefix_at, is_i, multiple_step, word_step, or_word, count_of, multiple_shape}
 use Rattle.byte_unit_base.specs.declared.unit.scan.Prefix.{Prefix}
 use Rattle.byte_unit_base.specs.declared.unit.scan.Prefix.TheVariants.{Kilo, Mega, Giga, Tera, Peta, Exa, Zetta, Yotta}
@@ -37,8 +37,8 @@ run_step s t c cs e = ap (option_and_then (λ u. unit_run u cs)) e
 
 abbrev pub IsMultipleText : Multiple → List ℕ → Type 0
 IsMultipleText One text = text ≡ []
-IsMultipleText (Decimal p) text = (letter : ℕ) × (text ≡ letter ∷ []) × IsPrefixLetter current (power_of p) letter
-IsMultipleText (Binary p) text = (letter : ℕ) × (i : ℕ) × (text ≡ letter ∷ i ∷ []) × IsPrefixLetter current (power_of p) letter × (to_ascii_lowercase i ≡ 105)
+IsMultipleText (Decimal p) text = SpellsPrefix current text (power_of p) false
+IsMultipleText (Binary p) text = SpellsPrefix current text (power_of p) true
 
 abbrev pub IsWordText : Word → List ℕ → Type 0
 IsWordText Empty text = text ≡ []
@@ -86,13 +86,22 @@ is_true a b e = grind (arith, nat_tests)
 -- one character more of the prefix
 multiple_grows_from_one : (c : ℕ) (n : Multiple) (o : Option Prefix) → prefix_at c ≡ o → option_map Decimal o ≡ Some n → IsMultipleText n (c ∷ [])
 multiple_grows_from_one c n None e h = absurd (let k : ⊥ = cc in k)
-multiple_grows_from_one c n (Some p) e h = let s : Decimal p ≡ n = cc in subst (λ m. IsMultipleText m (c ∷ [])) s (c, refl, prefix_found c p e)
+multiple_grows_from_one c n (Some p) e h =
+    let s : Decimal p ≡ n = cc in
+    let one_letter : IsMultipleText (Decimal p) (c ∷ []) = record { letter = c; infix_part = []; text_is = refl; letter_is = prefix_found c p e; infix_is = inl (refl, refl) } in
+    subst (λ m. IsMultipleText m (c ∷ [])) s one_letter
+
+no_infix : (text : List ℕ) → SpellsBinary text false → text ≡ []
+no_infix text (inl h) = h.0
+no_infix text (inr h) = absurd (let k : ⊥ = cc (h.1) in k)
 
 multiple_grows : (m n : Multiple) (c : ℕ) (text : List ℕ) → multiple_step m c ≡ Some n → IsMultipleText m text → IsMultipleText n (text ++ c ∷ [])
 multiple_grows One n c text e h = rw h (multiple_grows_from_one c n (prefix_at c) refl e)
 multiple_grows (Decimal p) n c text e h =
     let g = guard_some (is_i c) (Binary p) n e in
-    rw h.1 (subst (λ m. IsMultipleText m (h.0 ∷ c ∷ [])) g.1 (h.0, c, refl, h.2, is_true _ _ g.0))
+    let whole : text ≡ h.letter ∷ [] = h.text_is ∙ ap (λ x. h.letter ∷ x) (no_infix h.infix_part h.infix_is) in
+    let with_i : IsMultipleText (Binary p) (text ++ c ∷ []) = record { letter = h.letter; infix_part = c ∷ []; text_is = ap (λ x. x ++ c ∷ []) whole; letter_is = h.letter_is; infix_is = inr (ap (λ x. x ∷ []) (is_true _ _ g.0), refl) } in
+    subst (λ m. IsMultipleText m (text ++ c ∷ [])) g.1 with_i
 multiple_grows (Binary p) n c text e h = absurd (let k : ⊥ = cc in k)
 
 -- one character more of the word
@@ -157,8 +166,8 @@ count_spelled flags Bits text bit e h = inr (inr (inr (inr (h, cc))))
 
 spelled : (flags : Flags) (m : Multiple) (front word : List ℕ) (bit : Bool) → IsMultipleText m front → SpellsCount flags word bit → Spells current flags (front ++ word) (multiple_shape m bit)
 spelled flags One front word bit h k = rw h (inl (record { count_is = k; power_is = refl; binary_is = refl }))
-spelled flags (Decimal p) front word bit h k = inr (record { letter = h.0; infix_part = []; count_part = word; text_is = ap (λ t. t ++ word) h.1; letter_is = h.2; infix_is = inl (refl, refl); count_is = k })
-spelled flags (Binary p) front word bit h k = inr (record { letter = h.0; infix_part = h.1 ∷ []; count_part = word; text_is = ap (λ t. t ++ word) h.2; letter_is = h.3; infix_is = inr (ap (λ x. x ∷ []) h.4, refl); count_is = k })
+spelled flags (Decimal p) front word bit h k = inr (record { prefix_part = front; count_part = word; text_is = refl; prefix_is = h; count_is = k })
+spelled flags (Binary p) front word bit h k = inr (record { prefix_part = front; count_part = word; text_is = refl; prefix_is = h; count_is = k })
 
 by_count : (flags : Flags) (m : Multiple) (w : Word) (text : List ℕ) (s : Shape) (o : Option Bool) → count_of flags w ≡ o → option_map (multiple_shape m) o ≡ Some s → Reached (scan_of m w) text → Spells current flags text s
 by_count flags m w text s None e h r = absurd (let k : ⊥ = cc in k)

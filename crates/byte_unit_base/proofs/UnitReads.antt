@@ -1,5 +1,5 @@
 -- What the reader of a spelling answers: the unit of a spelling, and of every other text the first fault.
-use Rattle.std.proofs.Common.{◌≡◌, ℕ, zero, suc, ◌⊎◌, inl, inr, ⊎_elim, List, [], ◌∷◌, ◌++◌, Option, Some, None, Result, Ok, Err, option_and_then, sym, refl, ap, subst, ◌∙◌, arith, Bool, true, append-nil, not}
+use Rattle.std.proofs.Common.{◌≡◌, ℕ, zero, suc, ◌⊎◌, inl, inr, ⊎_elim, List, [], ◌∷◌, ◌++◌, Option, Some, None, Result, Ok, Err, option_and_then, sym, refl, ap, subst, ◌∙◌, arith, Bool, true, false, append-nil, not}
 use Rattle.std.specs.Prelude.{codes, IsOkAnd, IfOk, IfErr}
 use Rattle.byte_unit_base.specs.Units.{shape_of}
 use Rattle.byte_unit_base.specs.Errors.{unit_fault}
@@ -13,9 +13,9 @@ use Rattle.byte_unit_base.specs.Shape.{Shape, shape}
 use Rattle.byte_unit_base.specs.Edition.{current}
 use Rattle.byte_unit_base.specs.SizeText.{trimmed}
 use Rattle.byte_unit_base.specs.Readings.{IsUnitReading}
-use Rattle.byte_unit_base.specs.Spelling.{Flags, reading, IsPrefixLetter, SpellsCount, SpellsBinary, SpellsMultiple, SpellsPlain, Spells}
-use Rattle.byte_unit_base.specs.Front.{Place, beginning, in_whole, after_point, in_fraction, in_gap, after_prefix, after_b, after_bi, after_bit, after_bits, IsWord, IsPrefix, IsUnitFront}
-use Rattle.byte_unit_base.specs.Fault.{Fault, IsUnitFault, UnitFaultAfter, stops_at_bi, unit_fault_at}
+use Rattle.byte_unit_base.specs.Spelling.{Flags, IsPrefixLetter, SpellsCount, SpellsBinary, SpellsPrefix, SpellsMultiple, SpellsPlain, Spells}
+use Rattle.byte_unit_base.specs.Front.{Place, beginning, in_whole, after_point, in_fraction, before_unit, after_prefix, after_b, after_bi, after_bit, after_bits, IsWord, IsPrefix, IsWordFront, IsUnitFront}
+use Rattle.byte_unit_base.specs.Fault.{Fault, IsUnitFault, IsFaultAfter, stops_at_bi, fault_at}
 use Rattle.byte_unit_base.specs.UnitScan.{unit_step, unit_run, unit_read, unit_of, unit_at_end, start, scan_of, place_of, power_of, prefix_at, count_of, multiple_shape, word_place, empty_place}
 use Rattle.byte_unit_base.specs.declared.unit.scan.Prefix.{Prefix}
 use Rattle.byte_unit_base.specs.declared.unit.scan.Prefix.TheVariants.{Kilo, Mega, Giga, Tera, Peta, Exa, Zetta, Yotta}
@@ -134,6 +134,24 @@ run_infix p text binary (inr h) =
     let t : text ≡ l.head ∷ [] = l.text_is ∙ ap (λ r. l.head ∷ r) (lower_nil l.tail l.tail_is) in
     (Binary p, ap (unit_run (scan_of (Decimal p) Empty)) t ∙ run_step (scan_of (Decimal p) Empty) (scan_of (Binary p) Empty) l.head [] (step_infix p l.head l.head_is), λ bit. ap (λ x. shape (power_of p) x bit) (sym h.1), refl)
 
+-- a whole prefix
+pub record RunsToPrefix (text : List ℕ) (power : ℕ) (binary : Bool) : Type 0 where
+  pub multiple : Multiple
+  pub run : unit_run start text ≡ Some (scan_of multiple Empty)
+  pub shape_is : (bit : Bool) → multiple_shape multiple bit ≡ shape power binary bit
+  pub place_is : empty_place multiple ≡ after_prefix
+
+run_prefix : (text : List ℕ) (power : ℕ) (binary : Bool) → SpellsPrefix current text power binary → RunsToPrefix text power binary
+run_prefix text power binary h =
+    let p = letter_prefix h.letter power h.letter_is in
+    let i = run_infix p.0 h.infix_part binary h.infix_is in
+    record {
+      multiple = i.0;
+      run = ap (unit_run start) h.text_is ∙ (run_step start (scan_of (Decimal p.0) Empty) h.letter h.infix_part (step_prefix h.letter p.0 p.1) ∙ i.1);
+      shape_is = λ bit. i.2 bit ∙ ap (λ k. shape k binary bit) p.2;
+      place_is = i.3;
+    }
+
 -- a spelling is read to its end
 
 pub record Runs (flags : Flags) (text : List ℕ) (s : Shape) : Type 0 where
@@ -150,15 +168,13 @@ run_plain flags text s h =
 
 run_multiple : (flags : Flags) (text : List ℕ) (s : Shape) → SpellsMultiple current flags text s → Runs flags text s
 run_multiple flags text s h =
-    let p = letter_prefix h.letter s.power h.letter_is in
-    let i = run_infix p.0 h.infix_part s.binary h.infix_is in
-    let r = run_count flags i.0 h.count_part s.bit h.count_is in
-    let same : shape (power_of p.0) s.binary s.bit ≡ s = ap (λ k. shape k s.binary s.bit) p.2 in
+    let p = run_prefix h.prefix_part s.power s.binary h.prefix_is in
+    let r = run_count flags p.multiple h.count_part s.bit h.count_is in
     record {
-      multiple = i.0;
+      multiple = p.multiple;
       word = r.0;
-      run = ap (unit_run start) h.text_is ∙ (run_step start (scan_of (Decimal p.0) Empty) h.letter (h.infix_part ++ h.count_part) (step_prefix h.letter p.0 p.1) ∙ (run_through (scan_of (Decimal p.0) Empty) (scan_of i.0 Empty) h.infix_part h.count_part i.1 ∙ r.1));
-      unit = ap (option_map (multiple_shape i.0)) r.2 ∙ ap Some (i.2 s.bit ∙ same);
+      run = ap (unit_run start) h.text_is ∙ (run_through start (scan_of p.multiple Empty) h.prefix_part h.count_part p.run ∙ r.1);
+      unit = ap (option_map (multiple_shape p.multiple)) r.2 ∙ ap Some (p.shape_is s.bit);
     }
 
 read_on : (flags : Flags) (t s : UnitScan) (c : ℕ) (cs ys : List ℕ) → ((u : UnitScan) → unit_run u cs ≡ Some t → unit_read flags u (cs ++ ys) ≡ unit_read flags t ys) → (o : Option UnitScan) → unit_step s c ≡ o → option_and_then (λ u. unit_run u cs) o ≡ Some t → unit_read flags s (c ∷ (cs ++ ys)) ≡ unit_read flags t ys
@@ -182,13 +198,6 @@ reads_spelling flags text s (inr h) = read_runs flags text s (run_multiple flags
 
 -- a front is scanned to its end
 
-run_prefix : (text : List ℕ) → IsPrefix current text → (m : Multiple) × (unit_run start text ≡ Some (scan_of m Empty)) × (empty_place m ≡ after_prefix)
-run_prefix text h =
-    let p = letter_prefix h.letter h.power h.letter_is in
-    let go = run_step start (scan_of (Decimal p.0) Empty) h.letter h.infix_part (step_prefix h.letter p.0 p.1) in
-    ⊎_elim (λ k. (Decimal p.0, ap (unit_run start) h.text_is ∙ (go ∙ ap (unit_run (scan_of (Decimal p.0) Empty)) k), refl))
-    (λ k. let i = run_infix p.0 h.infix_part true (inr (k, refl)) in (i.0, ap (unit_run start) h.text_is ∙ (go ∙ i.1), i.3)) h.infix_is
-
 abbrev pub IsScanned : Place → List ℕ → Type 0
 IsScanned place text = (s : UnitScan) × (unit_run start text ≡ Some s) × (place_of s ≡ place)
 
@@ -201,44 +210,45 @@ run_word beginning m text h = absurd h
 run_word in_whole m text h = absurd h
 run_word after_point m text h = absurd h
 run_word in_fraction m text h = absurd h
-run_word in_gap m text h = absurd h
+run_word before_unit m text h = absurd h
 run_word after_prefix m text h = absurd h
 
-run_worded : (place : Place) (text : List ℕ) → IsWord place text ⊎ ((front : List ℕ) × (word : List ℕ) × (text ≡ front ++ word) × IsPrefix current front × IsWord place word) → IsScanned place text
-run_worded place text (inl h) = let r = run_word place One text h in (scan_of One r.0, r.1, r.2)
-run_worded place text (inr h) =
-    let p = run_prefix h.0 h.3 in
-    let r = run_word place p.0 h.1 h.4 in
-    (scan_of p.0 r.0, ap (unit_run start) h.2 ∙ (run_through start (scan_of p.0 Empty) h.0 h.1 p.1 ∙ r.1), r.2)
+run_word_front : (place : Place) (text : List ℕ) → IsWordFront current place text → IsScanned place text
+run_word_front place text h =
+    ⊎_elim
+    (λ none. let r = run_word place One h.word_part h.word_is in
+    (scan_of One r.0, ap (unit_run start) (h.text_is ∙ ap (λ x. x ++ h.word_part) none) ∙ r.1, r.2))
+    (λ is_prefix. let p = run_prefix h.prefix_part is_prefix.0 is_prefix.1 is_prefix.2 in
+    let r = run_word place p.multiple h.word_part h.word_is in
+    (scan_of p.multiple r.0, ap (unit_run start) h.text_is ∙ (run_through start (scan_of p.multiple Empty) h.prefix_part h.word_part p.run ∙ r.1), r.2))
+    h.prefix_is
 
 pub run_front : (place : Place) (text : List ℕ) → IsUnitFront current place text → IsScanned place text
-run_front beginning text h = (start, ap (unit_run start) h, refl)
-run_front after_prefix text h = let p = run_prefix text h in (scan_of p.0 Empty, p.1, p.2)
-run_front in_whole text h = run_worded in_whole text h
-run_front after_point text h = run_worded after_point text h
-run_front in_fraction text h = run_worded in_fraction text h
-run_front in_gap text h = run_worded in_gap text h
-run_front after_b text h = run_worded after_b text h
-run_front after_bi text h = run_worded after_bi text h
-run_front after_bit text h = run_worded after_bit text h
-run_front after_bits text h = run_worded after_bits text h
+run_front before_unit text h = (start, ap (unit_run start) h, refl)
+run_front after_prefix text h = let p = run_prefix text h.0 h.1 h.2 in (scan_of p.multiple Empty, p.run, p.place_is)
+run_front beginning text h = run_word_front beginning text h
+run_front in_whole text h = run_word_front in_whole text h
+run_front after_point text h = run_word_front after_point text h
+run_front in_fraction text h = run_word_front in_fraction text h
+run_front after_b text h = run_word_front after_b text h
+run_front after_bi text h = run_word_front after_bi text h
+run_front after_bit text h = run_word_front after_bit text h
+run_front after_bits text h = run_word_front after_bits text h
 
 -- the first fault
 
-prefix_text : (m : Multiple) (text : List ℕ) → (empty_place m ≡ after_prefix) → IsMultipleText m text → IsPrefix current text
-prefix_text One text e h = absurd (let k : ⊥ = cc in k)
-prefix_text (Decimal p) text e h = record { letter = h.0; power = power_of p; infix_part = []; text_is = h.1; letter_is = h.2; infix_is = inl refl }
-prefix_text (Binary p) text e h = record { letter = h.0; power = power_of p; infix_part = h.1 ∷ []; text_is = h.2; letter_is = h.3; infix_is = inr (ap (λ x. x ∷ []) h.4) }
-
 empty_front : (m : Multiple) (text : List ℕ) → IsMultipleText m text → IsUnitFront current (empty_place m) text
 empty_front One text h = h
-empty_front (Decimal p) text h = prefix_text (Decimal p) text refl h
-empty_front (Binary p) text h = prefix_text (Binary p) text refl h
+empty_front (Decimal p) text h = (power_of p, false, h)
+empty_front (Binary p) text h = (power_of p, true, h)
 
-worded : (place : Place) (m : Multiple) (text front word : List ℕ) → text ≡ front ++ word → IsMultipleText m front → IsWord place word → IsWord place text ⊎ ((f : List ℕ) × (w : List ℕ) × (text ≡ f ++ w) × IsPrefix current f × IsWord place w)
-worded place One text front word e h k = inl (subst (IsWord place) (sym (e ∙ ap (λ f. f ++ word) h)) k)
-worded place (Decimal p) text front word e h k = inr (front, word, e, prefix_text (Decimal p) front refl h, k)
-worded place (Binary p) text front word e h k = inr (front, word, e, prefix_text (Binary p) front refl h, k)
+some_prefix : (m : Multiple) (text : List ℕ) → IsMultipleText m text → (text ≡ []) ⊎ IsPrefix current text
+some_prefix One text h = inl h
+some_prefix (Decimal p) text h = inr (power_of p, false, h)
+some_prefix (Binary p) text h = inr (power_of p, true, h)
+
+worded : (place : Place) (m : Multiple) (text front word : List ℕ) → text ≡ front ++ word → IsMultipleText m front → IsWord place word → IsWordFront current place text
+worded place m text front word e h k = record { prefix_part = front; word_part = word; text_is = e; prefix_is = some_prefix m front h; word_is = k }
 
 pub front_reached : (m : Multiple) (w : Word) (text : List ℕ) → Reached (scan_of m w) text → IsUnitFront current (word_place m w) text
 front_reached m Empty text r = let e : text ≡ r.front = r.text_is ∙ (ap (λ w. r.front ++ w) r.word_is ∙ append-nil r.front) in subst (IsUnitFront current (empty_place m)) (sym e) (empty_front m r.front r.front_is)
@@ -248,12 +258,12 @@ front_reached m Bi text r = worded after_bi m text r.front r.word r.text_is r.fr
 front_reached m Bit text r = worded after_bit m text r.front r.word r.text_is r.front_is r.word_is
 front_reached m Bits text r = worded after_bits m text r.front r.word r.text_is r.front_is r.word_is
 
-fault_after : (flags : Flags) (place : Place) (c : ℕ) (rest : List ℕ) → UnitFaultAfter current flags place (c ∷ rest) (unit_fault_at current flags place c)
+fault_after : (flags : Flags) (place : Place) (c : ℕ) (rest : List ℕ) → IsFaultAfter current flags place (c ∷ rest) (fault_at current flags place c)
 fault_after flags beginning c rest = refl
 fault_after flags in_whole c rest = refl
 fault_after flags after_point c rest = refl
 fault_after flags in_fraction c rest = refl
-fault_after flags in_gap c rest = refl
+fault_after flags before_unit c rest = refl
 fault_after flags after_prefix c rest = refl
 fault_after flags after_b c rest = refl
 fault_after flags after_bi c rest = refl
@@ -322,11 +332,11 @@ read_spelling : (flags : Flags) (text : List ℕ) (s : Shape) (r : Result UnitNa
 read_spelling flags text s (Ok u) e h = let k : Ok (shape_of u) ≡ Ok s = e ∙ reads_spelling flags text s h in cc
 read_spelling flags text s (Err x) e h = let k : Err (unit_fault x) ≡ Ok s = e ∙ reads_spelling flags text s h in absurd (let n : ⊥ = cc in n)
 
-pub unit_reading : (ignore_case prefer_byte : Bool) (bytes : List ℕ) (r : Result UnitName UnitParseError) → unit_seen r ≡ unit_read (reading ignore_case prefer_byte) start (trimmed bytes) → IsUnitReading ignore_case prefer_byte bytes r
-unit_reading ignore_case prefer_byte bytes r e = record {
-  found = read_found (reading ignore_case prefer_byte) (trimmed bytes) r e;
-  reads = λ s h. read_spelling (reading ignore_case prefer_byte) (trimmed bytes) s r e h;
-  fault = read_fault (reading ignore_case prefer_byte) (trimmed bytes) r e;
+pub unit_reading : (flags : Flags) (bytes : List ℕ) (r : Result UnitName UnitParseError) → unit_seen r ≡ unit_read flags start (trimmed bytes) → IsUnitReading flags bytes r
+unit_reading flags bytes r e = record {
+  found = read_found flags (trimmed bytes) r e;
+  reads = λ s h. read_spelling flags (trimmed bytes) s r e h;
+  fault = read_fault flags (trimmed bytes) r e;
 }
 
 pub spelling_runs : (flags : Flags) (text : List ℕ) (s : Shape) → Spells current flags text s → Runs flags text s

@@ -1,14 +1,14 @@
 -- The fronts of a text: what can still become a spelling, or a number and a unit, and where it ends.
-use Rattle.std.specs.Prelude.{◌≡◌, ℕ, ◌<◌, ◌⊎◌, List, [], ◌∷◌, ◌++◌, replicate, codes}
+use Rattle.std.specs.Prelude.{◌≡◌, ℕ, ◌<◌, Bool, ◌⊎◌, List, [], ◌++◌, replicate, codes}
 use Rattle.std.specs.Str.{str_to_ascii_lowercase}
 use Rattle.byte_unit_base.specs.Edition.{Edition}
-use Rattle.byte_unit_base.specs.Spelling.{IsPrefixLetter}
+use Rattle.byte_unit_base.specs.Spelling.{SpellsPrefix}
 use Rattle.byte_unit_base.specs.Number.{IsWholePart, IsPointed, IsPrecise, IsNumberText}
 use Rattle.byte_unit_base.specs.SizeText.{space}
 
--- where a front ends
+-- where a front ends; before a unit is behind spaces, and where a unit stands alone at its beginning
 pub data Place : Type 0 where
-  beginning in_whole after_point in_fraction in_gap after_prefix after_b after_bi after_bit after_bits : Place
+  beginning in_whole after_point in_fraction before_unit after_prefix after_b after_bi after_bit after_bits : Place
 
 -- the text is the letters of `bits` up to such a place
 abbrev pub IsWord : Place → List ℕ → Type 0
@@ -18,29 +18,32 @@ IsWord after_bit word = str_to_ascii_lowercase word ≡ codes "bit"
 IsWord after_bits word = str_to_ascii_lowercase word ≡ codes "bits"
 IsWord _ word = ⊥
 
--- the text is a prefix letter, and an i or none
-pub record IsPrefix (edition : Edition) (text : List ℕ) : Type 0 where
-  pub letter : ℕ
-  pub power : ℕ
-  pub infix_part : List ℕ
-  pub text_is : text ≡ letter ∷ infix_part
-  pub letter_is : IsPrefixLetter edition power letter
-  pub infix_is : (infix_part ≡ []) ⊎ (str_to_ascii_lowercase infix_part ≡ codes "i")
+-- the text is a prefix
+abbrev pub IsPrefix : Edition → List ℕ → Type 0
+IsPrefix edition text = (power : ℕ) × (binary : Bool) × SpellsPrefix edition text power binary
 
--- the text can still become a spelling: it is empty, a prefix, some letters of `bits`, or a prefix and such letters
+-- the text is a prefix or none, and some letters of `bits`
+pub record IsWordFront (edition : Edition) (place : Place) (text : List ℕ) : Type 0 where
+  pub prefix_part : List ℕ
+  pub word_part : List ℕ
+  pub text_is : text ≡ prefix_part ++ word_part
+  pub prefix_is : (prefix_part ≡ []) ⊎ IsPrefix edition prefix_part
+  pub word_is : IsWord place word_part
+
+-- the text can still become a spelling
 abbrev pub IsUnitFront : Edition → Place → List ℕ → Type 0
-IsUnitFront edition beginning text = text ≡ []
+IsUnitFront edition before_unit text = text ≡ []
 IsUnitFront edition after_prefix text = IsPrefix edition text
-IsUnitFront edition place text = IsWord place text ⊎ ((front : List ℕ) × (word : List ℕ) × (text ≡ front ++ word) × IsPrefix edition front × IsWord place word)
+IsUnitFront edition place text = IsWordFront edition place text
 
 -- the text is a number, spaces or none, and what can still become a spelling
 pub record IsSizedFront (edition : Edition) (place : Place) (text : List ℕ) : Type 0 where
   pub number_part : List ℕ
-  pub n : ℕ
+  pub number : ℕ
   pub spaces : ℕ
   pub unit_part : List ℕ
   pub text_is : text ≡ number_part ++ (replicate spaces space ++ unit_part)
-  pub number_is : IsNumberText edition number_part n
+  pub number_is : IsNumberText edition number_part number
   pub unit_is : IsUnitFront edition place unit_part
 
 -- the text can still become a number and a unit
@@ -48,12 +51,14 @@ abbrev pub IsSizeFront : Edition → Place → List ℕ → Type 0
 IsSizeFront edition beginning text = text ≡ []
 IsSizeFront edition in_whole text = (value : ℕ) × IsWholePart edition text value
 IsSizeFront edition after_point text = (value : ℕ) × IsPointed edition text value
-IsSizeFront edition in_fraction text = (n : ℕ) × IsPrecise edition text n
-IsSizeFront edition in_gap text = (number : List ℕ) × (n : ℕ) × (spaces : ℕ) × (0 < spaces) × (text ≡ number ++ replicate spaces space) × IsNumberText edition number n
+IsSizeFront edition in_fraction text = (number : ℕ) × IsPrecise edition text number
+IsSizeFront edition before_unit text = (front : IsSizedFront edition before_unit text) × (0 < front.spaces)
 IsSizeFront edition place text = IsSizedFront edition place text
 
 -- the text is front and rest, the front ends at this place, and no longer one is a front
-pub record IsLongestFront (IsFront : Place → List ℕ → Type 0) (text : List ℕ) (place : Place) (front rest : List ℕ) : Type 0 where
+pub record IsLongestFront
+    (IsFront : Place → List ℕ → Type 0) (text : List ℕ) (place : Place) (front rest : List ℕ) : Type 0 where
   pub text_is : text ≡ front ++ rest
   pub is_front : IsFront place front
-  pub longest : (farther : Place) (more others : List ℕ) → rest ≡ more ++ others → IsFront farther (front ++ more) → more ≡ []
+  pub longest : (farther : Place) (next others : List ℕ)
+      → rest ≡ next ++ others → IsFront farther (front ++ next) → next ≡ []

@@ -14,7 +14,10 @@ IsWholePart edition text value = IsNumeral 10 text × (value ≡ digits_value 10
 
 -- the text is the digits after a point, no more than a decimal has places, which add this many last places
 abbrev pub IsFraction : List ℕ → ℕ → Type 0
-IsFraction text n = IsNumeral 10 text × (length text ≤ places_of_decimal) × (n ≡ digits_value 10 text * 10 ^ (places_of_decimal - length text))
+IsFraction text n =
+    IsNumeral 10 text
+    × (length text ≤ places_of_decimal)
+    × (n ≡ digits_value 10 text * 10 ^ (places_of_decimal - length text))
 
 -- the text is a whole part and a point
 pub record IsPointed (edition : Edition) (text : List ℕ) (value : ℕ) : Type 0 where
@@ -35,4 +38,5 @@ pub record IsPrecise (edition : Edition) (text : List ℕ) (n : ℕ) : Type 0 wh
 
 -- the text is a number of n last places, with a fraction or without
 abbrev pub IsNumberText : Edition → List ℕ → ℕ → Type 0
-IsNumberText edition text n = ((value : ℕ) × IsWholePart edition text value × (n ≡ value * one)) ⊎ IsPrecise edition text n
+IsNumberText edition text n =
+    ((value : ℕ) × IsWholePart edition text value × (n ≡ value * one)) ⊎ IsPrecise edition text n

@@ -11,34 +11,40 @@ use Rattle.byte_unit_base.specs.declared.unit.Unit.{Unit as UnitName}
 
 -- there is one meaning or one fault, and not both
 pub record IsOneAnswer (Meaning : Type 0) (Means : Meaning → Type 0) (Fails : Fault → Type 0) : Type 0 where
-  pub some : ((m : Meaning) × Means m) ⊎ ((fault : Fault) × Fails fault)
-  pub one_meaning : (m other : Meaning) → Means m → Means other → m ≡ other
+  pub some : ((meaning : Meaning) × Means meaning) ⊎ ((fault : Fault) × Fails fault)
+  pub one_meaning : (meaning other : Meaning) → Means meaning → Means other → meaning ≡ other
   pub one_fault : (fault other : Fault) → Fails fault → Fails other → fault ≡ other
-  pub not_both : (m : Meaning) (fault : Fault) → Means m → Fails fault → ⊥
+  pub not_both : (meaning : Meaning) (fault : Fault) → Means meaning → ¬ (Fails fault)
 
 -- each text spells one unit or has one fault, and not both
 abbrev pub UnitTextsHaveOneAnswer : Type 0
-UnitTextsHaveOneAnswer = (flags : Flags) (text : List ℕ) → IsOneAnswer Shape (Spells current flags text) (IsUnitFault current flags text)
+UnitTextsHaveOneAnswer =
+    (flags : Flags) (text : List ℕ) → IsOneAnswer Shape (Spells current flags text) (IsUnitFault current flags text)
+
+-- the text states this number of this unit
+abbrev pub States : Flags → List ℕ → ℕ × Shape → Type 0
+States flags text stated = IsSizeText current flags text stated.0 stated.1
 
 -- each text states one number and unit or has one fault, and not both
 abbrev pub SizeTextsHaveOneAnswer : Type 0
-SizeTextsHaveOneAnswer = (flags : Flags) (text : List ℕ) → IsOneAnswer (ℕ × Shape) (λ r. IsSizeText current flags text r.0 r.1) (IsSizeFault current flags text)
+SizeTextsHaveOneAnswer =
+    (flags : Flags) (text : List ℕ) → IsOneAnswer (ℕ × Shape) (States flags text) (IsSizeFault current flags text)
 
--- something can follow the text, or nothing, that makes it spell a unit
-abbrev pub BeginsUnit : Flags → List ℕ → Type 0
-BeginsUnit flags text = (more : List ℕ) × (s : Shape) × Spells current flags (text ++ more) s
+-- something can follow the text, or nothing, that gives it a meaning
+abbrev pub Begins : (Meaning : Type 0) → (List ℕ → Meaning → Type 0) → List ℕ → Type 0
+Begins Meaning Means text = (rest : List ℕ) × (meaning : Meaning) × Means (text ++ rest) meaning
 
 -- the fronts of units are exactly the beginnings of their spellings
 abbrev pub UnitFrontsAreBeginnings : Type 0
-UnitFrontsAreBeginnings = (flags : Flags) (text : List ℕ) → ((place : Place) × IsUnitFront current place text) ↔ BeginsUnit flags text
-
--- something can follow the text, or nothing, that makes it state a number and a unit
-abbrev pub BeginsSize : Flags → List ℕ → Type 0
-BeginsSize flags text = (more : List ℕ) × (n : ℕ) × (s : Shape) × IsSizeText current flags (text ++ more) n s
+UnitFrontsAreBeginnings =
+    (flags : Flags) (text : List ℕ)
+    → ((place : Place) × IsUnitFront current place text) ↔ Begins Shape (Spells current flags) text
 
 -- the fronts of sizes are exactly the beginnings of their texts
 abbrev pub SizeFrontsAreBeginnings : Type 0
-SizeFrontsAreBeginnings = (flags : Flags) (text : List ℕ) → ((place : Place) × IsSizeFront current place text) ↔ BeginsSize flags text
+SizeFrontsAreBeginnings =
+    (flags : Flags) (text : List ℕ)
+    → ((place : Place) × IsSizeFront current place text) ↔ Begins (ℕ × Shape) (States flags) text
 
 -- the name of a unit spells it where case counts, whatever is preferred, and has no white space at its ends
 pub record IsSpelledByItsName (unit : UnitName) (prefer_byte : Bool) : Type 0 where

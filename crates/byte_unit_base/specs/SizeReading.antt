@@ -5,19 +5,14 @@ use Rattle.byte_unit_base.specs.Fault.{exceeded}
 use Rattle.byte_unit_base.specs.Errors.{size_fault}
 use Rattle.byte_unit_base.specs.declared.errors.ParseError.{ParseError}
 use Rattle.byte_unit_base.specs.declared.kind.Kind.{Kind}
-use Rattle.byte_unit_base.specs.declared.unit.Unit.{Unit as UnitName}
-use Rattle.byte_unit_base.specs.Kinds.{flags_for}
-use Rattle.byte_unit_base.specs.Readings.{IsNumberReading}
 use Rattle.byte_unit_base.specs.Accepted.{IsAccepted, Exceeds, IsRefused}
-
--- the number and the unit of a text of the kind
-abbrev pub IsNumberOf : Kind → Bool → List ℕ → Result (ℕ × UnitName) ParseError → Type 0
-IsNumberOf kind ignore_case bytes result = IsNumberReading (flags_for kind ignore_case).ignore_case (flags_for kind ignore_case).prefer_byte bytes result
 
 -- the size that the text is accepted as, the bounds fault with the number of a text whose size is too large, and of
 -- every other text its fault; both ways
-pub record IsSizeReading (kind : Kind) (ignore_case : Bool) (bytes : List ℕ) (result : Result ℕ ParseError) : Type 0 where
+pub record IsSizeReading
+    (kind : Kind) (ignore_case : Bool) (bytes : List ℕ) (result : Result ℕ ParseError) : Type 0 where
   pub found : IfOk result (IsAccepted current kind ignore_case bytes)
   pub reads : (n : ℕ) → IsAccepted current kind ignore_case bytes n → result ≡ Ok n
-  pub exceeds : (number : ℕ) → Exceeds current kind ignore_case bytes number → IsErrAnd result (λ error. size_fault error ≡ exceeded number)
+  pub exceeds : (number : ℕ) → Exceeds current kind ignore_case bytes number
+      → IsErrAnd result (λ error. size_fault error ≡ exceeded number)
   pub fault : IfErr result (λ error. IsRefused current kind ignore_case bytes (size_fault error))

@@ -13,7 +13,7 @@ use Rattle.byte_unit_base.specs.SizeText.{space}
 use Rattle.byte_unit_base.specs.declared.unit.Unit.{Unit as UnitName}
 use Rattle.byte_unit_base.specs.declared.errors.ParseError.{ParseError}
 use Rattle.byte_unit_base.specs.Spelling.{Flags}
-use Rattle.byte_unit_base.specs.Front.{Place, beginning, in_whole, after_point, in_fraction, in_gap}
+use Rattle.byte_unit_base.specs.Front.{Place, beginning, in_whole, after_point, in_fraction, before_unit}
 use Rattle.byte_unit_base.specs.Fault.{Fault, not_number, no_value, stops_at_bi, fault_at}
 use Rattle.byte_unit_base.specs.UnitScan.{unit_step, unit_of, place_of, start as unit_start}
 use Rattle.byte_unit_base.specs.declared.read.scan.SizeScan.{SizeScan}
@@ -24,7 +24,7 @@ abbrev pub IsScan : SizeScan → Type 0
 IsScan (Whole w) = w < whole_limit
 IsScan (Point w) = w < whole_limit
 IsScan (Fraction w f j) = (w < whole_limit) × (f < 10 ^ j) × (j ≤ places_of_decimal)
-IsScan (UnitAt n s) = place_of s ≢ beginning
+IsScan (UnitAt n s) = place_of s ≢ before_unit
 IsScan _ = ⊤
 
 abbrev pub is_digit : ℕ → Bool
@@ -39,9 +39,13 @@ precise w f j = w * one + f * 10 ^ (places_of_decimal - j)
 
 unfoldable pub size_step : SizeScan → ℕ → Option SizeScan
 size_step Beginning c = if is_digit c then Some (Whole (digit_value c)) else None
-size_step (Whole w) c = if is_digit c then (if nat_lt (w * 10 + digit_value c) whole_limit then Some (Whole (w * 10 + digit_value c)) else None) else (if c == point then Some (Point w) else after_number (w * one) c)
+size_step (Whole w) c =
+    if is_digit c then (if nat_lt (w * 10 + digit_value c) whole_limit then Some (Whole (w * 10 + digit_value c)) else None)
+    else (if c == point then Some (Point w) else after_number (w * one) c)
 size_step (Point w) c = if is_digit c then Some (Fraction w (digit_value c) 1) else None
-size_step (Fraction w f j) c = if is_digit c then (if nat_lt j places_of_decimal then Some (Fraction w (f * 10 + digit_value c) (j + 1)) else None) else after_number (precise w f j) c
+size_step (Fraction w f j) c =
+    if is_digit c then (if nat_lt j places_of_decimal then Some (Fraction w (f * 10 + digit_value c) (j + 1)) else None)
+    else after_number (precise w f j) c
 size_step (Gap n) c = after_number n c
 size_step (UnitAt n s) c = option_map (UnitAt n) (unit_step s c)
 
@@ -54,7 +58,7 @@ size_place Beginning = beginning
 size_place (Whole w) = in_whole
 size_place (Point w) = after_point
 size_place (Fraction w f j) = in_fraction
-size_place (Gap n) = in_gap
+size_place (Gap n) = before_unit
 size_place (UnitAt n s) = place_of s
 
 -- a number and its unit at the end of a text
@@ -73,7 +77,8 @@ size_at_end flags (UnitAt n s) = sized n (unit_of flags s)
 -- what a scan makes of the rest of a text
 abbrev pub size_read : Flags → SizeScan → List ℕ → Result (ℕ × Shape) Fault
 size_read flags s [] = size_at_end flags s
-size_read flags s (c ∷ cs) = elim (size_step s c) [ Some t ↦ size_read flags t cs | None ↦ Err (fault_at current flags (size_place s) c) ]
+size_read flags s (c ∷ cs) =
+    elim (size_step s c) [ Some t ↦ size_read flags t cs | None ↦ Err (fault_at current flags (size_place s) c) ]
 
 -- the answer of the code
 abbrev pub size_seen : Result (ℕ × UnitName) ParseError → Result (ℕ × Shape) Fault

@@ -14,11 +14,11 @@ trimmed bytes = drop_trailing_whitespace (skip_leading_whitespace (chars bytes))
 abbrev pub space : ℕ
 space = 32
 
--- the text is a number of n last places, any number of spaces, and the spelling of a unit
-pub record IsSizeText (edition : Edition) (flags : Flags) (text : List ℕ) (n : ℕ) (s : Shape) : Type 0 where
+-- the text is this number of last places, any number of spaces, and the spelling of a unit
+pub record IsSizeText (edition : Edition) (flags : Flags) (text : List ℕ) (number : ℕ) (unit : Shape) : Type 0 where
   pub number_part : List ℕ
   pub spaces : ℕ
   pub unit_part : List ℕ
   pub text_is : text ≡ number_part ++ (replicate spaces space ++ unit_part)
-  pub number_is : IsNumberText edition number_part n
-  pub unit_is : Spells edition flags unit_part s
+  pub number_is : IsNumberText edition number_part number
+  pub unit_is : Spells edition flags unit_part unit

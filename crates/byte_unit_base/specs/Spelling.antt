@@ -4,18 +4,28 @@ use Rattle.std.specs.Char.{to_ascii_uppercase}
 use Rattle.std.specs.Str.{str_to_ascii_lowercase}
 use Rattle.byte_unit_base.specs.Shape.{Shape}
 use Rattle.byte_unit_base.specs.Edition.{Edition}
+pub use Rattle.byte_unit_base.specs.declared.unit.scan.Flags.{Flags}
 
 -- how a text is read: whether `b` means bytes, and whether bytes are meant where nothing says
-pub record Flags : Type 0 where
-  pub ignore_case : Bool
-  pub prefer_byte : Bool
-
 abbrev pub reading : Bool → Bool → Flags
 reading ignore_case prefer_byte = record { ignore_case = ignore_case; prefer_byte = prefer_byte }
 
 -- c is the letter of the prefix of this power, in either case
 abbrev pub IsPrefixLetter : Edition → ℕ → ℕ → Type 0
-IsPrefixLetter edition power c = (0 < power) × (power ≤ length edition.letters) × (to_ascii_uppercase c ≡ slice_index edition.letters (power - 1))
+IsPrefixLetter edition power c =
+    (0 < power) × (power ≤ length edition.letters) × (to_ascii_uppercase c ≡ slice_index edition.letters (power - 1))
+
+-- the text says powers of two, by an i, or powers of ten
+abbrev pub SpellsBinary : List ℕ → Bool → Type 0
+SpellsBinary text binary = (text ≡ []) × (binary ≡ false) ⊎ (str_to_ascii_lowercase text ≡ codes "i") × (binary ≡ true)
+
+-- the text is a prefix: the letter of its power, and then what says powers of two or of ten
+pub record SpellsPrefix (edition : Edition) (text : List ℕ) (power : ℕ) (binary : Bool) : Type 0 where
+  pub letter : ℕ
+  pub infix_part : List ℕ
+  pub text_is : text ≡ letter ∷ infix_part
+  pub letter_is : IsPrefixLetter edition power letter
+  pub infix_is : SpellsBinary infix_part binary
 
 -- the text says bits or bytes
 abbrev pub SpellsCount : Flags → List ℕ → Bool → Type 0
@@ -26,26 +36,20 @@ SpellsCount flags text bit =
     ⊎ ((str_to_ascii_lowercase text ≡ codes "bit") × (bit ≡ true)
     ⊎ (str_to_ascii_lowercase text ≡ codes "bits") × (bit ≡ true))))
 
--- the text says powers of two, by an i, or powers of ten
-abbrev pub SpellsBinary : List ℕ → Bool → Type 0
-SpellsBinary text binary = (text ≡ []) × (binary ≡ false) ⊎ (str_to_ascii_lowercase text ≡ codes "i") × (binary ≡ true)
-
--- the text is a prefix letter, an i or none, and then says bits or bytes
-pub record SpellsMultiple (edition : Edition) (flags : Flags) (text : List ℕ) (s : Shape) : Type 0 where
-  pub letter : ℕ
-  pub infix_part : List ℕ
-  pub count_part : List ℕ
-  pub text_is : text ≡ letter ∷ (infix_part ++ count_part)
-  pub letter_is : IsPrefixLetter edition s.power letter
-  pub infix_is : SpellsBinary infix_part s.binary
-  pub count_is : SpellsCount flags count_part s.bit
-
 -- the text says bits or bytes, and no more; bytes go by powers of two, and bits do not
-pub record SpellsPlain (flags : Flags) (text : List ℕ) (s : Shape) : Type 0 where
-  pub count_is : SpellsCount flags text s.bit
-  pub power_is : s.power ≡ 0
-  pub binary_is : s.binary ≡ not s.bit
+pub record SpellsPlain (flags : Flags) (text : List ℕ) (unit : Shape) : Type 0 where
+  pub count_is : SpellsCount flags text unit.bit
+  pub power_is : unit.power ≡ 0
+  pub binary_is : unit.binary ≡ not unit.bit
+
+-- the text is a prefix, and then says bits or bytes
+pub record SpellsMultiple (edition : Edition) (flags : Flags) (text : List ℕ) (unit : Shape) : Type 0 where
+  pub prefix_part : List ℕ
+  pub count_part : List ℕ
+  pub text_is : text ≡ prefix_part ++ count_part
+  pub prefix_is : SpellsPrefix edition prefix_part unit.power unit.binary
+  pub count_is : SpellsCount flags count_part unit.bit
 
 -- the text spells the unit
 abbrev pub Spells : Edition → Flags → List ℕ → Shape → Type 0
-Spells edition flags text s = SpellsPlain flags text s ⊎ SpellsMultiple edition flags text s
+Spells edition flags text unit = SpellsPlain flags text unit ⊎ SpellsMultiple edition flags text unit

@@ -1,7 +1,7 @@
 -- Private: how the reader goes over a spelling, one step a character. No public contract cites this file; that what it
 -- comes to is the spellings and faults of the other files is proved.
 use Rattle.std.specs.Prelude.{ℕ, Bool, true, false, not, if◌then◌else◌, ◌==◌, List, [], ◌∷◌, Option, Some, None, Result, Ok, Err, option_and_then}
-use Rattle.byte_unit_base.specs.Fault.{Fault, stops_at_bi, unit_fault_at}
+use Rattle.byte_unit_base.specs.Fault.{Fault, stops_at_bi, fault_at}
 use Rattle.std.specs.Option.{option_map}
 use Rattle.std.specs.Char.{to_ascii_uppercase, to_ascii_lowercase}
 use Rattle.byte_unit_base.specs.Shape.{Shape, shape}
@@ -10,9 +10,8 @@ use Rattle.byte_unit_base.specs.Units.{shape_of}
 use Rattle.byte_unit_base.specs.Errors.{unit_fault}
 use Rattle.byte_unit_base.specs.Spelling.{Flags}
 use Rattle.byte_unit_base.specs.declared.unit.Unit.{Unit as UnitName}
-use Rattle.byte_unit_base.specs.declared.unit.scan.Flags.{Flags as ReadFlags}
 use Rattle.byte_unit_base.specs.declared.errors.UnitParseError.{UnitParseError}
-use Rattle.byte_unit_base.specs.Front.{Place, beginning, after_prefix, after_b, after_bi, after_bit, after_bits}
+use Rattle.byte_unit_base.specs.Front.{Place, before_unit, after_prefix, after_b, after_bi, after_bit, after_bits}
 use Rattle.byte_unit_base.specs.declared.unit.scan.Prefix.{Prefix}
 use Rattle.byte_unit_base.specs.declared.unit.scan.Prefix.TheVariants.{Kilo, Mega, Giga, Tera, Peta, Exa, Zetta, Yotta}
 use Rattle.byte_unit_base.specs.declared.unit.scan.Word.{Word}
@@ -35,7 +34,9 @@ power_of Yotta = 8
 abbrev pub prefix_at : ℕ → Option Prefix
 prefix_at c =
     let u = to_ascii_uppercase c in
-    if u == 75 then Some Kilo else (if u == 77 then Some Mega else (if u == 71 then Some Giga else (if u == 84 then Some Tera else (if u == 80 then Some Peta else (if u == 69 then Some Exa else (if u == 90 then Some Zetta else (if u == 89 then Some Yotta else None)))))))
+    if u == 75 then Some Kilo else (if u == 77 then Some Mega else (if u == 71 then Some Giga
+    else (if u == 84 then Some Tera else (if u == 80 then Some Peta else (if u == 69 then Some Exa
+    else (if u == 90 then Some Zetta else (if u == 89 then Some Yotta else None)))))))
 
 abbrev pub is_i : ℕ → Bool
 is_i c = to_ascii_lowercase c == 105
@@ -94,7 +95,7 @@ abbrev pub unit_of : Flags → UnitScan → Option Shape
 unit_of flags s = option_map (multiple_shape s.multiple) (count_of flags s.word)
 
 abbrev pub empty_place : Multiple → Place
-empty_place One = beginning
+empty_place One = before_unit
 empty_place _ = after_prefix
 
 abbrev pub word_place : Multiple → Word → Place
@@ -115,12 +116,10 @@ unit_at_end None = Err stops_at_bi
 
 abbrev pub unit_read : Flags → UnitScan → List ℕ → Result Shape Fault
 unit_read flags s [] = unit_at_end (unit_of flags s)
-unit_read flags s (c ∷ cs) = elim (unit_step s c) [ Some t ↦ unit_read flags t cs | None ↦ Err (unit_fault_at current flags (place_of s) c) ]
+unit_read flags s (c ∷ cs) =
+    elim (unit_step s c) [ Some t ↦ unit_read flags t cs | None ↦ Err (fault_at current flags (place_of s) c) ]
 
--- the flags and the answer of the code
-abbrev pub flags_of : ReadFlags → Flags
-flags_of f = record { ignore_case = f.ignore_case; prefer_byte = f.prefer_byte }
-
+-- the answer of the code
 abbrev pub unit_seen : Result UnitName UnitParseError → Result Shape Fault
 unit_seen (Ok u) = Ok (shape_of u)
 unit_seen (Err e) = Err (unit_fault e)

@@ -2,8 +2,8 @@
 
 ghost use Rattle.std.specs.Prelude.{◌≡◌};
 ghost use Rattle.std.specs.Str.{chars};
+ghost use Rattle.byte_unit_base.specs.Spelling.{reading};
 ghost use Rattle.byte_unit_base.specs.Readings.{IsNumberReading};
-ghost use Rattle.byte_unit_base.specs.UnitScan.{flags_of};
 ghost use Rattle.byte_unit_base.specs.SizeScan.{size_seen, size_read};
 
 use crate::errors::ParseError;
@@ -21,9 +21,9 @@ mod scan;
 /// without another trim. Every digit is kept, and nothing is rounded.
 ///
 /// Every other text is refused by its first fault from the left: `NoValue` where it is empty or white space alone,
-/// `NotNumber` where a digit has to stand and none does, `NumberTooLong` at the digit that makes the number too long, and
-/// `Unit` at the first character that goes on with no unit. Bounds of sizes are not looked at, so `ExceededBounds` is
-/// never answered.
+/// `NotNumber` where a digit has to stand and none does, `NumberTooLong` at the digit that makes the number too long,
+/// and `Unit` at the first character that goes on with no unit. Bounds of sizes are not looked at, so `ExceededBounds`
+/// is never answered.
 ///
 /// ```text
 /// read_size("1.5 KiB", false, true) is Ok of 1.5 and Unit::KiB
@@ -35,7 +35,7 @@ pub fn read_size(
     ignore_case: bool,
     prefer_byte: bool,
 ) -> Result<(Decimal, Unit), ParseError>
-    ensures { IsNumberReading ignore_case prefer_byte s.now result }
+    ensures { IsNumberReading (reading ignore_case prefer_byte) s.now result }
 {
     let flags = Flags {
         ignore_case,
@@ -46,7 +46,7 @@ pub fn read_size(
 
 /// The number and the unit that the whole text states.
 fn read_number_and_unit(text: &str, flags: Flags) -> Result<(Decimal, Unit), ParseError>
-    ensures { size_seen result ≡ size_read (flags_of flags) SizeScan.Beginning (chars text.now) }
+    ensures { size_seen result ≡ size_read flags SizeScan.Beginning (chars text.now) }
 {
     let mut scan = SizeScan::Beginning;
     for c in text.chars() {

@@ -5,8 +5,9 @@ ghost use Rattle.byte_unit_math.specs.Bounds.{one};
 ghost use Rattle.byte_unit_base.specs.Shape.{bits};
 ghost use Rattle.byte_unit_base.specs.Edition.{current};
 ghost use Rattle.byte_unit_base.specs.Units.{shape_of};
-ghost use Rattle.byte_unit_base.specs.Kinds.{bits_in};
-ghost use Rattle.byte_unit_base.specs.SizeReading.{IsNumberOf, IsSizeReading};
+ghost use Rattle.byte_unit_base.specs.Kinds.{bits_in, flags_for};
+ghost use Rattle.byte_unit_base.specs.Readings.{IsNumberReading};
+ghost use Rattle.byte_unit_base.specs.SizeReading.{IsSizeReading};
 ghost use Rattle.byte_unit_base.specs.LeastOfKind.{IsLeastOf};
 ghost use Rattle.byte_unit_base.specs.SizeOrNone.{IsSizeOrNone, OfSigned};
 
@@ -76,10 +77,13 @@ pub fn with_unit(size: u128, unit: Unit, kind: Kind) -> Option<u128>
     bounded(holding(in_bits, kind))
 }
 
-/// So many of the unit, as `with_unit` gives them. `None` exactly where the number is negative or that size is not below
-/// 10^27.
+/// So many of the unit, as `with_unit` gives them. `None` exactly where the number is negative or that size is not
+/// below 10^27.
 pub fn signed_with_unit(size: i128, unit: Unit, kind: Kind) -> Option<u128>
-    ensures size { OfSigned (λ n answer. IsSizeOrNone current (IsLeastOf kind (n * one) (shape_of unit)) answer) size result }
+    ensures size { OfSigned
+        (λ n answer. IsSizeOrNone current (IsLeastOf kind (n * one) (shape_of unit)) answer)
+        size
+        result }
     ensures small { IfSome result (λ n. n < current.size_limit) }
 {
     with_unit(natural(size)?, unit, kind)
@@ -114,7 +118,7 @@ pub fn from_decimal(number: Decimal, unit: Unit, kind: Kind) -> Option<u128>
 
 /// The number and the unit that a text of the kind states. A text of bits is always case sensitive.
 fn read(s: &str, ignore_case: bool, kind: Kind) -> Result<(Decimal, Unit), ParseError>
-    ensures { IsNumberOf kind ignore_case s.now result }
+    ensures { IsNumberReading (flags_for kind ignore_case) s.now result }
 {
     match kind {
         Kind::Byte => read_size(s, ignore_case, true),
@@ -125,10 +129,11 @@ fn read(s: &str, ignore_case: bool, kind: Kind) -> Result<(Decimal, Unit), Parse
 /// The size that the text states, rounded up once to a whole number of the kind. It is below 10^27.
 ///
 /// The text is one that `read_size` reads. Where it names no unit it states bytes for `Kind::Byte`, and bits for
-/// `Kind::Bit`. With `ignore_case` a `b` means bytes; texts of bits are always case sensitive, so there it does nothing.
+/// `Kind::Bit`. With `ignore_case` a `b` means bytes; texts of bits are always case sensitive, so there it does
+/// nothing.
 ///
-/// Every other text is refused by the error of `read_size`: `NoValue`, `NotNumber` or `NumberTooLong` for the number, or
-/// `Unit`. A text whose size is not below 10^27 is refused by `ExceededBounds`, with its number as it was written.
+/// Every other text is refused by the error of `read_size`: `NoValue`, `NotNumber` or `NumberTooLong` for the number,
+/// or `Unit`. A text whose size is not below 10^27 is refused by `ExceededBounds`, with its number as it was written.
 ///
 /// ```text
 /// parse("1.5 KiB", false, Kind::Byte) is Ok(1536)

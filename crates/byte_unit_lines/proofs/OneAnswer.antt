@@ -12,7 +12,7 @@ use Rattle.byte_unit.specs.ChoiceLaws.{EachSizeHasAChoiceOrNone, ChoicesAreOne}
 use Rattle.byte_unit_lines.proofs.Sizes.{some_said, one_saying}
 
 -- a line has an answer
-module _ (kind : Kind) (texts : TextsAreAcceptedOrRefused kind) (choices : EachSizeHasAChoiceOrNone) where
+module _ (kind : Kind) (texts : TextsAreAcceptedOrRefused) (choices : EachSizeHasAChoiceOrNone) where
   -- what is said of a text
   text_said : (text : List ℕ) → IsUtf8 text → ((n : ℕ) × IsAccepted current kind false text n) ⊎ ((fault : Fault) × IsRefused current kind false text fault)
       → (said : List ℕ) × IsSaidOf kind text said
@@ -22,7 +22,7 @@ module _ (kind : Kind) (texts : TextsAreAcceptedOrRefused kind) (choices : EachS
   line_said : (line : List ℕ) → (said : List ℕ) × IsSaidOf kind line said
   line_said line =
       elim (is_utf8 line) as (λ b. is_utf8 line ≡ b → (said : List ℕ) × IsSaidOf kind line said) [
-        | true ↦ λ e. text_said line (IsUtf8-from_is_utf8 line e) (texts false line).some
+        | true ↦ λ e. text_said line (IsUtf8-from_is_utf8 line e) (texts kind false line).some
         | false ↦ λ e. (codes "not text", not_text (λ is_text. true≢false (sym (is_utf8-from_IsUtf8 line is_text) ∙ e)) refl)
       ] refl
 
@@ -32,19 +32,19 @@ module _ (kind : Kind) (texts : TextsAreAcceptedOrRefused kind) (choices : EachS
       (said.0 ++ 10 ∷ [], record { said = said.0; is_said = said.1; ended = refl })
 
 -- and no other
-module _ (kind : Kind) (texts : TextsAreAcceptedOrRefused kind) (one_choice : ChoicesAreOne) where
+module _ (kind : Kind) (texts : TextsAreAcceptedOrRefused) (one_choice : ChoicesAreOne) where
   one_said : (line said other : List ℕ) → IsSaidOf kind line said → IsSaidOf kind line other → said ≡ other
   one_said line said other (not_text not e) (not_text _ f) = e ∙ sym f
   one_said line said other (not_text not e) (size n is_text accepted f) = absurd (not is_text)
   one_said line said other (not_text not e) (refused fault is_text is_refused f) = absurd (not is_text)
   one_said line said other (size n is_text accepted e) (not_text not f) = absurd (not is_text)
   one_said line said other (size n is_text accepted e) (size m _ also f) =
-      let same = (texts false line).one_meaning n m accepted also in
+      let same = (texts kind false line).one_meaning n m accepted also in
       one_saying kind one_choice m said other (subst (λ k. SaysSize kind k said) same e) f
-  one_said line said other (size n is_text accepted e) (refused fault _ is_refused f) = absurd ((texts false line).not_both n fault accepted is_refused)
+  one_said line said other (size n is_text accepted e) (refused fault _ is_refused f) = absurd ((texts kind false line).not_both n fault accepted is_refused)
   one_said line said other (refused fault is_text is_refused e) (not_text not f) = absurd (not is_text)
-  one_said line said other (refused fault is_text is_refused e) (size n _ accepted f) = absurd ((texts false line).not_both n fault accepted is_refused)
-  one_said line said other (refused fault is_text is_refused e) (refused next _ also f) = e ∙ ap words_of ((texts false line).one_fault fault next is_refused also) ∙ sym f
+  one_said line said other (refused fault is_text is_refused e) (size n _ accepted f) = absurd ((texts kind false line).not_both n fault accepted is_refused)
+  one_said line said other (refused fault is_text is_refused e) (refused next _ also f) = e ∙ ap words_of ((texts kind false line).one_fault fault next is_refused also) ∙ sym f
 
   one_answer : (line out other : List ℕ) → IsAnswer kind line out → IsAnswer kind line other → out ≡ other
   one_answer line out other h k = h.ended ∙ ap (λ said. said ++ 10 ∷ []) (one_said line h.said k.said h.is_said k.is_said) ∙ sym k.ended

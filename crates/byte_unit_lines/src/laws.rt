@@ -11,7 +11,7 @@ use byte_unit::laws;
 pub fn each_line_has_an_answer(kind: Kind)
     ensures { (line : List ℕ) → (out : List ℕ) × IsAnswer kind line out }
 {
-    laws::texts_are_accepted_or_refused(kind);
+    laws::texts_are_accepted_or_refused();
     laws::each_size_has_a_choice_or_none();
 }
 
@@ -20,6 +20,6 @@ pub fn each_input_has_one_report(kind: Kind)
     ensures { (bytes : List ℕ) → IsOneReport kind bytes }
 {
     each_line_has_an_answer(kind);
-    laws::texts_are_accepted_or_refused(kind);
+    laws::texts_are_accepted_or_refused();
     laws::choices_are_one();
 }

@@ -5,7 +5,7 @@ ghost use Rattle.byte_unit_math.specs.Bounds.{one, places_of_decimal, whole_limi
 ghost use Rattle.byte_unit_base.specs.Edition.{current};
 ghost use Rattle.byte_unit_base.specs.Fault.{fault_at};
 ghost use Rattle.byte_unit_base.specs.Errors.{size_fault};
-ghost use Rattle.byte_unit_base.specs.UnitScan.{unit_of, flags_of};
+ghost use Rattle.byte_unit_base.specs.UnitScan.{unit_of};
 ghost use Rattle.byte_unit_base.specs.SizeScan.{after_number, precise, sized, size_seen};
 
 use crate::errors::{ParseError, UnitParseError, ValueParseError};
@@ -73,7 +73,7 @@ impl SizeScan {
     /// The fault of a character that goes on with no size.
     pub fn fault(&self, flags: Flags, c: char) -> ParseError
         requires { IsScan self.now }
-        ensures { size_fault result ≡ fault_at current (flags_of flags) (size_place self.now) c }
+        ensures { size_fault result ≡ fault_at current flags (size_place self.now) c }
     {
         match *self {
             SizeScan::Beginning | SizeScan::Point(_) => {
@@ -91,7 +91,7 @@ impl SizeScan {
     /// The number and the unit of a text that ends here.
     pub fn finish(&self, flags: Flags) -> Result<(Decimal, Unit), ParseError>
         requires { IsScan self.now }
-        ensures { size_seen result ≡ size_at_end (flags_of flags) self.now }
+        ensures { size_seen result ≡ size_at_end flags self.now }
     {
         match *self {
             SizeScan::Beginning => Err(ParseError::Value(ValueParseError::NoValue)),
@@ -114,7 +114,9 @@ impl SizeScan {
 fn more_whole(whole: u128, digit: u32) -> Option<SizeScan>
     requires whole { whole < whole_limit }
     requires digit { digit < 10 }
-    ensures { result ≡ (if nat_lt (whole * 10 + digit) whole_limit then Some (SizeScan.Whole (whole * 10 + digit)) else None) }
+    ensures { result ≡ (if nat_lt (whole * 10 + digit) whole_limit
+        then Some (SizeScan.Whole (whole * 10 + digit))
+        else None) }
 {
     let more = whole * 10 + u128::from(digit);
     (more < WHOLE_LIMIT).then_some(SizeScan::Whole(more))
@@ -125,7 +127,9 @@ fn more_fraction(whole: u128, digits: u128, places: u32, digit: u32) -> Option<S
     requires digits { digits < 10 ^ places }
     requires places { places ≤ places_of_decimal }
     requires digit { digit < 10 }
-    ensures { result ≡ (if nat_lt places places_of_decimal then Some (SizeScan.Fraction whole (digits * 10 + digit) (places + 1)) else None) }
+    ensures { result ≡ (if nat_lt places places_of_decimal
+        then Some (SizeScan.Fraction whole (digits * 10 + digit) (places + 1))
+        else None) }
 {
     if places < PLACES {
         Some(SizeScan::Fraction(whole, digits * 10 + u128::from(digit), places + 1))
@@ -205,7 +209,7 @@ fn after_number(number: Decimal, c: char) -> Option<SizeScan>
 
 /// The number and its unit at the end of a text.
 fn sized(number: Decimal, scan: UnitScan, flags: Flags) -> Result<(Decimal, Unit), ParseError>
-    ensures { size_seen result ≡ sized number (unit_of (flags_of flags) scan) }
+    ensures { size_seen result ≡ sized number (unit_of flags scan) }
 {
     match scan.unit(flags) {
         Some(unit) => Ok((number, unit)),

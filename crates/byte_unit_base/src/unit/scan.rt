@@ -2,7 +2,7 @@
 
 ghost use Rattle.std.specs.Prelude.{◌≡◌};
 ghost use Rattle.std.specs.Option.{option_map};
-ghost use Rattle.byte_unit_base.specs.UnitScan.{is_i, flags_of};
+ghost use Rattle.byte_unit_base.specs.UnitScan.{is_i};
 ghost use Rattle.byte_unit_base.specs.Fault.{expected_after_prefix};
 
 use crate::errors::UnitParseError;
@@ -50,7 +50,9 @@ pub struct UnitScan {
 /// How a text is read.
 #[derive(Clone, Copy)]
 pub struct Flags {
+    /// Whether `b` means bytes.
     pub ignore_case: bool,
+    /// Whether bytes are meant where nothing says.
     pub prefer_byte: bool,
 }
 
@@ -154,7 +156,7 @@ impl UnitScan {
     ghost use Rattle.byte_unit_base.specs.UnitScan.{start, unit_step, unit_of, place_of, count_of};
     ghost use Rattle.byte_unit_base.specs.Units.{shape_of};
     ghost use Rattle.byte_unit_base.specs.Edition.{current};
-    ghost use Rattle.byte_unit_base.specs.Fault.{unit_fault_at};
+    ghost use Rattle.byte_unit_base.specs.Fault.{fault_at};
     ghost use Rattle.byte_unit_base.specs.Errors.{unit_fault};
 
     /// Nothing is read.
@@ -187,7 +189,7 @@ impl UnitScan {
 
     /// The unit, where the spelling may end here.
     pub fn unit(self, flags: Flags) -> Option<Unit>
-        ensures { option_map shape_of result ≡ unit_of (flags_of flags) self }
+        ensures { option_map shape_of result ≡ unit_of flags self }
     {
         let bit = match self.word {
             Word::Empty => !flags.prefer_byte,
@@ -201,7 +203,7 @@ impl UnitScan {
 
     /// The fault of a character that goes on with no spelling.
     pub fn fault(self, flags: Flags, character: char) -> UnitParseError
-        ensures { unit_fault result ≡ unit_fault_at current (flags_of flags) (place_of self) character }
+        ensures { unit_fault result ≡ fault_at current flags (place_of self) character }
     {
         let (expected_characters, also_expect_no_character) = match self.word {
             Word::Empty => match self.multiple {
@@ -227,7 +229,7 @@ static BEGINNINGS: [char; 9] = ['B', 'K', 'M', 'G', 'T', 'P', 'E', 'Z', 'Y'];
 /// The letters that are named after a prefix: both where case counts, and else `B` where bytes are preferred and `b`
 /// where bits are.
 fn after_prefix(flags: Flags) -> &'static [char]
-    ensures { result.now ≡ expected_after_prefix (flags_of flags) }
+    ensures { result.now ≡ expected_after_prefix flags }
 {
     match (flags.ignore_case, flags.prefer_byte) {
         (false, _) => &['B', 'b'],

@@ -2,4 +2,4 @@ use Rattle.byte_unit_base.proofs.SizeOrFault.{accepted_or_refused}
 use Rattle.byte_unit_base.proofs.laws.sizes.texts_are_accepted_or_refused.Goals as goal
 
 pub returns : goal.returns
-returns c = accepted_or_refused c.args.kind
+returns c = accepted_or_refused

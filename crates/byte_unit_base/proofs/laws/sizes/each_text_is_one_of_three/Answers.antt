@@ -1,0 +1,5 @@
+use Rattle.byte_unit_base.proofs.SizeOrFault.{one_of_three}
+use Rattle.byte_unit_base.proofs.laws.sizes.each_text_is_one_of_three.Goals as goal
+
+pub returns : goal.returns
+returns c = one_of_three
