@@ -1,6 +1,7 @@
 //! The worked cases that cross crates, as tables.
 
 mod adjusted;
+mod each_unit;
 mod json;
 mod readings;
 mod texts;

@@ -6,7 +6,7 @@ use Rattle.byte_unit_math.specs.Steps.{raised}
 use Rattle.byte_unit_base.specs.Shape.{Shape, bits}
 use Rattle.byte_unit_base.specs.Edition.{current}
 use Rattle.byte_unit_base.specs.Units.{shape_of}
-use Rattle.byte_unit_base.specs.Family.{IsKind, units_in}
+use Rattle.byte_unit_base.specs.Family.{HasKind, units_in}
 use Rattle.byte_unit_base.specs.Multiples.{falling}
 use Rattle.byte_unit_base.specs.Choice.{States, IsChosen, Suits}
 use Rattle.byte_unit_base.specs.declared.unit.Unit.{Unit as UnitName}
@@ -28,7 +28,7 @@ abbrev pub left : Family → List Shape → ℕ
 left family [] = 0
 left family (x ∷ xs) = taken family x.bit + left family xs
 
-pub taken_kind : (family : Family) (bit : Bool) → IsKind family bit → taken family bit ≡ 1
+pub taken_kind : (family : Family) (bit : Bool) → HasKind family bit → taken family bit ≡ 1
 taken_kind All bit k = refl
 taken_kind Bytes true k = absurd (let b : ⊥ = cc in b)
 taken_kind Bytes false k = refl

@@ -1,92 +1,164 @@
--- The name of each unit spells it: the scan reads it as that unit.
-use Rattle.std.proofs.Common.{◌≡◌, Bool, false, Ok, refl, subst}
-use Rattle.std.specs.Str.{chars}
+-- The name of a unit spells it: its prefix letter, an `i` or none, and a letter for what it counts.
+use Rattle.std.proofs.Common.{◌≡◌, ℕ, ◌-◌, ◌<◌, ◌≤◌, Bool, true, false, not, ◌&&◌, eqb, ltb, List, [], ◌∷◌, ◌++◌, length}
+use Rattle.std.proofs.Common.{⊎_elim, inl, inr, arith, refl, sym, ap, subst}
+use Rattle.std.specs.Prelude.{codes, slice_index, if◌then◌else◌, nat_lt}
+use Rattle.std.specs.List.{list_all}
+use Rattle.std.specs.Char.{is_whitespace, to_ascii_uppercase}
+use Rattle.std.specs.Str.{IsAscii, chars}
+use Rattle.std.proofs.lemmas.Bool.{cases_lt, and_parts, eqb-true, ltb-true}
+use Rattle.std.proofs.lemmas.Bool.Decides.{nat_tests}
+use Rattle.std.proofs.lemmas.List.Elements.{All-get_or}
+use Rattle.std.proofs.lemmas.List.Sums.{AllPass-from_list_all}
+use Rattle.std.proofs.lemmas.Str.{IsAscii-append}
+use Rattle.std.proofs.lemmas.Str.Ascii.{IsAscii-nil, IsAscii-cons}
+use Rattle.byte_unit_base.specs.Shape.{Shape}
 use Rattle.byte_unit_base.specs.Edition.{current, name}
 use Rattle.byte_unit_base.specs.Units.{shape_of}
-use Rattle.byte_unit_base.specs.Spelling.{reading}
+use Rattle.byte_unit_base.specs.Spelling.{Flags, reading, SpellsCount, SpellsBinary, Spells}
 use Rattle.byte_unit_base.specs.SizeText.{trimmed}
 use Rattle.byte_unit_base.specs.ReaderLaws.{NamesSpellTheirUnits}
-use Rattle.byte_unit_base.specs.UnitScan.{unit_step, unit_read, start}
 use Rattle.byte_unit_base.specs.declared.unit.Unit.{Unit as UnitName}
-use Rattle.byte_unit_base.specs.declared.unit.Unit.TheVariants.{Bit, B, Kbit, Kibit, KB, KiB, Mbit, Mibit, MB, MiB, Gbit, Gibit, GB, GiB, Tbit, Tibit, TB, TiB, Pbit, Pibit, PB, PiB, Ebit, Eibit, EB, EiB, Zbit, Zibit, ZB, ZiB, Ybit, Yibit, YB, YiB}
-use Rattle.byte_unit_base.proofs.UnitReads.{reads_rightly, UnitResult}
+use Rattle.byte_unit_base.specs.declared.unit.Unit.TheVariants.{Bit, B}
 
-is_read : (unit : UnitName) (prefer_byte : Bool) → unit_read (reading false prefer_byte) start (name current (shape_of unit)) ≡ Ok (shape_of unit)
-unfolding unit_step
-is_read Bit prefer_byte = refl
-is_read B prefer_byte = refl
-is_read Kbit prefer_byte = refl
-is_read Kibit prefer_byte = refl
-is_read KB prefer_byte = refl
-is_read KiB prefer_byte = refl
-is_read Mbit prefer_byte = refl
-is_read Mibit prefer_byte = refl
-is_read MB prefer_byte = refl
-is_read MiB prefer_byte = refl
-is_read Gbit prefer_byte = refl
-is_read Gibit prefer_byte = refl
-is_read GB prefer_byte = refl
-is_read GiB prefer_byte = refl
-is_read Tbit prefer_byte = refl
-is_read Tibit prefer_byte = refl
-is_read TB prefer_byte = refl
-is_read TiB prefer_byte = refl
-is_read Pbit prefer_byte = refl
-is_read Pibit prefer_byte = refl
-is_read PB prefer_byte = refl
-is_read PiB prefer_byte = refl
-is_read Ebit prefer_byte = refl
-is_read Eibit prefer_byte = refl
-is_read EB prefer_byte = refl
-is_read EiB prefer_byte = refl
-is_read Zbit prefer_byte = refl
-is_read Zibit prefer_byte = refl
-is_read ZB prefer_byte = refl
-is_read ZiB prefer_byte = refl
-is_read Ybit prefer_byte = refl
-is_read Yibit prefer_byte = refl
-is_read YB prefer_byte = refl
-is_read YiB prefer_byte = refl
+-- a known prefix, or a byte or a bit alone
+pub record IsKnown (s : Shape) : Type 0 where
+  pub known : s.power ≤ length current.letters
+  pub alone : s.power ≡ 0 → s.binary ≡ not s.bit
+
+unit_alone : (unit : UnitName) → (shape_of unit).power ≡ 0 → (shape_of unit).binary ≡ not (shape_of unit).bit
+unit_alone Bit h = refl
+unit_alone B h = refl
+unit_alone _ h = absurd (omega (arith, h))
+
+unit_power : (unit : UnitName) → (shape_of unit).power ≤ length current.letters
+unit_power Bit = omega arith
+unit_power _ = omega arith
+
+pub unit_known : (unit : UnitName) → IsKnown (shape_of unit)
+unit_known unit = record { known = unit_power unit; alone = unit_alone unit }
+
+-- the letters
+
+abbrev letter_at : ℕ → ℕ
+letter_at power = slice_index current.letters (power - 1)
+
+abbrev infix_of : Bool → List ℕ
+infix_of binary = if binary then codes "i" else []
+
+abbrev count_of : Bool → List ℕ
+count_of bit = if bit then codes "b" else codes "B"
+
+-- a capital letter of ASCII
+abbrev is_letter : ℕ → Bool
+is_letter c = eqb (to_ascii_uppercase c) c && ltb c 128
+
+are_letters : list_all is_letter current.letters ≡ true
+are_letters = refl
+
+letter_found : (power : ℕ) → 0 < power → power ≤ length current.letters
+    → (to_ascii_uppercase (letter_at power) ≡ letter_at power) × (letter_at power < 128)
+letter_found power some known =
+    let c = letter_at power in
+    let all = AllPass-from_list_all is_letter current.letters are_letters in
+    let P : ℕ → Type 0 = λ x. is_letter x ≡ true in
+    let here = and_parts _ _ (All-get_or P current.letters (power - 1) 0 (omega (arith, some, known)) all) in
+    (eqb-true (to_ascii_uppercase c) c here.0, ltb-true c 128 here.1)
+
+infix_spells : (binary : Bool) → SpellsBinary (infix_of binary) binary
+infix_spells true = inr (refl, refl)
+infix_spells false = inl (refl, refl)
+
+-- `b` says bits where case counts, and `B` always says bytes
+abbrev pub SaysKind : Flags → Bool → Type 0
+SaysKind flags bit = bit ≡ true → flags.ignore_case ≡ false
+
+count_spells : (flags : Flags) (bit : Bool) → SaysKind flags bit → SpellsCount flags (count_of bit) bit
+count_spells flags false h = inr (inl (refl, refl))
+count_spells flags true h = inr (inr (inl (refl, ap not (sym (h refl)))))
+
+infix_ascii : (binary : Bool) → IsAscii (infix_of binary)
+infix_ascii true = IsAscii-cons 105 [] (omega arith) IsAscii-nil
+infix_ascii false = IsAscii-nil
+
+count_ascii : (bit : Bool) → IsAscii (count_of bit)
+count_ascii true = IsAscii-cons 98 [] (omega arith) IsAscii-nil
+count_ascii false = IsAscii-cons 66 [] (omega arith) IsAscii-nil
+
+count_end : (bit : Bool) → (last : ℕ) × (count_of bit ≡ last ∷ []) × (is_whitespace last ≡ false)
+count_end true = (98, refl, refl)
+count_end false = (66, refl, refl)
+
+-- the name, with a prefix and without
+
+with_prefix : (s : Shape) → 0 < s.power → name current s ≡ letter_at s.power ∷ (infix_of s.binary ++ count_of s.bit)
+with_prefix s h =
+    let some : nat_lt 0 s.power ≡ true = grind (arith, nat_tests) in
+    ap (λ b. (if b then letter_at s.power ∷ [] else []) ++ (if b && s.binary then codes "i" else []) ++ count_of s.bit) some
+
+without_prefix : (s : Shape) → s.power ≤ 0 → name current s ≡ count_of s.bit
+without_prefix s h =
+    let none : nat_lt 0 s.power ≡ false = grind (arith, nat_tests) in
+    ap (λ b. (if b then letter_at s.power ∷ [] else []) ++ (if b && s.binary then codes "i" else []) ++ count_of s.bit) none
+
+spells_multiple : (flags : Flags) (s : Shape) → IsKnown s → SaysKind flags s.bit → 0 < s.power → Spells current flags (name current s) s
+spells_multiple flags s h says some = inr record {
+  prefix_part = letter_at s.power ∷ infix_of s.binary;
+  count_part = count_of s.bit;
+  text_is = with_prefix s some;
+  prefix_is = record {
+    letter = letter_at s.power;
+    infix_part = infix_of s.binary;
+    text_is = refl;
+    letter_is = (some, h.known, (letter_found s.power some h.known).0);
+    infix_is = infix_spells s.binary;
+  };
+  count_is = count_spells flags s.bit says;
+}
+
+spells_plain : (flags : Flags) (s : Shape) → IsKnown s → SaysKind flags s.bit → s.power ≤ 0 → Spells current flags (name current s) s
+spells_plain flags s h says none =
+    let P : List ℕ → Type 0 = λ text. SpellsCount flags text s.bit in
+    let zero : s.power ≡ 0 = omega (arith, none) in
+    inl record {
+      count_is = subst P (sym (without_prefix s none)) (count_spells flags s.bit says);
+      power_is = zero;
+      binary_is = h.alone zero;
+    }
+
+pub name_spells : (flags : Flags) (s : Shape) → IsKnown s → SaysKind flags s.bit → Spells current flags (name current s) s
+name_spells flags s h says = ⊎_elim (spells_multiple flags s h says) (spells_plain flags s h says) (cases_lt 0 s.power)
+
+pub name_ascii : (s : Shape) → s.power ≤ length current.letters → IsAscii (name current s)
+name_ascii s known =
+    let rest = infix_of s.binary ++ count_of s.bit in
+    let rest_ascii = IsAscii-append (infix_of s.binary) (count_of s.bit) (infix_ascii s.binary) (count_ascii s.bit) in
+    ⊎_elim
+    (λ some. subst IsAscii (sym (with_prefix s some))
+    (IsAscii-cons (letter_at s.power) rest (letter_found s.power some known).1 rest_ascii))
+    (λ none. subst IsAscii (sym (without_prefix s none)) (count_ascii s.bit))
+    (cases_lt 0 s.power)
+
+-- a name ends in no white space
+pub record EndsInLetter (text : List ℕ) : Type 0 where
+  pub front : List ℕ
+  pub last : ℕ
+  pub text_is : text ≡ front ++ last ∷ []
+  pub last_is : is_whitespace last ≡ false
+
+pub name_end : (s : Shape) → EndsInLetter (name current s)
+name_end s =
+    let end = count_end s.bit in
+    let some = nat_lt 0 s.power in
+    let front = (if some then letter_at s.power ∷ [] else []) ++ (if some && s.binary then codes "i" else []) in
+    record { front = front; last = end.0; text_is = ap (λ t. front ++ t) end.1; last_is = end.2 }
 
 is_trimmed : (unit : UnitName) → trimmed (name current (shape_of unit)) ≡ name current (shape_of unit)
 unfolding chars
 is_trimmed Bit = refl
-is_trimmed B = refl
-is_trimmed Kbit = refl
-is_trimmed Kibit = refl
-is_trimmed KB = refl
-is_trimmed KiB = refl
-is_trimmed Mbit = refl
-is_trimmed Mibit = refl
-is_trimmed MB = refl
-is_trimmed MiB = refl
-is_trimmed Gbit = refl
-is_trimmed Gibit = refl
-is_trimmed GB = refl
-is_trimmed GiB = refl
-is_trimmed Tbit = refl
-is_trimmed Tibit = refl
-is_trimmed TB = refl
-is_trimmed TiB = refl
-is_trimmed Pbit = refl
-is_trimmed Pibit = refl
-is_trimmed PB = refl
-is_trimmed PiB = refl
-is_trimmed Ebit = refl
-is_trimmed Eibit = refl
-is_trimmed EB = refl
-is_trimmed EiB = refl
-is_trimmed Zbit = refl
-is_trimmed Zibit = refl
-is_trimmed ZB = refl
-is_trimmed ZiB = refl
-is_trimmed Ybit = refl
-is_trimmed Yibit = refl
-is_trimmed YB = refl
-is_trimmed YiB = refl
+is_trimmed _ = refl
 
 pub names_spell_their_units : NamesSpellTheirUnits
 names_spell_their_units unit prefer_byte = record {
-  spells = let text = name current (shape_of unit) in subst (UnitResult (reading false prefer_byte) text) (is_read unit prefer_byte) (reads_rightly (reading false prefer_byte) text);
+  spells = name_spells (reading false prefer_byte) (shape_of unit) (unit_known unit) (λ bit. refl);
   trimmed_is = is_trimmed unit;
 }

@@ -1,22 +1,18 @@
 -- What a form says is read as the size that it was made of.
-use Rattle.std.proofs.Common.{⊎_elim, ◌≡◌, ◌≢◌, ℕ, zero, suc, ◌+◌, ◌-◌, ◌*◌, ◌/◌, ◌^◌, ◌<◌, ◌≤◌, inl, inr, List, [], ◌∷◌, ◌++◌, length, refl, sym, ap, subst, ◌∙◌, arith, Bool, true, false, append-nil, append_assoc, Option, None, Some}
-use Rattle.std.specs.Prelude.{codes, slice_index, if◌then◌else◌, nat_lt, ◌&&◌}
+use Rattle.std.proofs.Common.{◌≡◌, ◌≢◌, ℕ, ◌+◌, ◌-◌, ◌*◌, ◌/◌, ◌^◌, ◌<◌, ◌≤◌, inl, inr, List, [], ◌∷◌, ◌++◌, length, refl, sym, ap, subst, ◌∙◌, arith, Bool, false, append-nil, append_assoc, Option, None, Some}
 use Rattle.std.specs.List.{All}
-use Rattle.std.specs.Char.{is_whitespace, to_ascii_uppercase}
+use Rattle.std.specs.Char.{is_whitespace}
 use Rattle.std.specs.Fmt.{decimal}
 use Rattle.std.specs.Str.{IsAscii}
 use Rattle.std.specs.Str.Parse.{AllDigits}
 use Rattle.std.proofs.lemmas.Nat.{pow-add, mul-le}
-use Rattle.std.proofs.lemmas.Bool.{cases_lt}
-use Rattle.std.proofs.lemmas.Bool.Decides.{nat_tests}
 use Rattle.std.proofs.lemmas.List.{replicate-append-replicate}
 use Rattle.std.proofs.lemmas.Str.{IsAscii-append}
-use Rattle.std.proofs.lemmas.Str.Ascii.{IsAscii-nil, IsAscii-cons}
 use Rattle.byte_unit_math.specs.Bounds.{one, places_of_decimal, whole_limit, bits_limit}
 use Rattle.byte_unit_base.specs.Shape.{Shape, bits}
 use Rattle.byte_unit_base.specs.Edition.{current, name}
 use Rattle.byte_unit_base.specs.Units.{shape_of}
-use Rattle.byte_unit_base.specs.Spelling.{Flags, SpellsCount, SpellsBinary, Spells}
+use Rattle.byte_unit_base.specs.Spelling.{Spells}
 use Rattle.byte_unit_base.specs.SizeText.{trimmed}
 use Rattle.byte_unit_math.specs.Finite.{value_of}
 use Rattle.byte_unit_math.specs.Numeral.{fraction_text, at_places, shortened}
@@ -29,10 +25,10 @@ use Rattle.byte_unit_base.specs.declared.format.spec.Sign.TheVariants.{Unset, Pl
 use Rattle.byte_unit_base.proofs.Quotients.{number_times_unit}
 use Rattle.byte_unit_base.specs.declared.unit.Unit.{Unit as UnitName}
 use Rattle.byte_unit_base.specs.declared.unit.family.Family.{Family}
-use Rattle.byte_unit_base.specs.Family.{InFamily, IsKind}
+use Rattle.byte_unit_base.specs.Family.{InFamily, HasKind}
 use Rattle.byte_unit_base.specs.Choice.{IsRecovered}
 use Rattle.byte_unit_base.proofs.Choosing.{some_bits}
-use Rattle.byte_unit_base.proofs.Names.{names_spell_their_units}
+use Rattle.byte_unit_base.proofs.Names.{IsKnown, SaysKind, EndsInLetter, unit_known, name_spells, name_ascii, name_end}
 use Rattle.byte_unit_base.specs.Kinds.{bits_in, counts_bits, own_unit, own_family, flags_for}
 use Rattle.byte_unit_base.specs.LeastOfKind.{IsLeastOf}
 use Rattle.byte_unit_base.specs.Accepted.{IsAccepted}
@@ -45,127 +41,46 @@ use Rattle.byte_unit_base.proofs.TrimmedTexts.{trim_between, spaces_ascii}
 
 -- names
 
-abbrev letter_at : ℕ → ℕ
-letter_at power = slice_index current.letters (power - 1)
-
-abbrev IsLetter : ℕ → Type 0
-IsLetter c = (to_ascii_uppercase c ≡ c) × (c < 128)
-
-letter_found : (power : ℕ) → 0 < power → power ≤ 8 → IsLetter (letter_at power)
-letter_found zero h k = absurd (omega (arith, h))
-letter_found (suc zero) h k = (refl, omega arith)
-letter_found (suc (suc zero)) h k = (refl, omega arith)
-letter_found (suc (suc (suc zero))) h k = (refl, omega arith)
-letter_found (suc (suc (suc (suc zero)))) h k = (refl, omega arith)
-letter_found (suc (suc (suc (suc (suc zero))))) h k = (refl, omega arith)
-letter_found (suc (suc (suc (suc (suc (suc zero)))))) h k = (refl, omega arith)
-letter_found (suc (suc (suc (suc (suc (suc (suc zero))))))) h k = (refl, omega arith)
-letter_found (suc (suc (suc (suc (suc (suc (suc (suc zero)))))))) h k = (refl, omega arith)
-letter_found (suc (suc (suc (suc (suc (suc (suc (suc (suc n))))))))) h k = absurd (omega (arith, k))
-
-abbrev infix_of : Bool → List ℕ
-infix_of binary = if binary then codes "i" else []
-
-abbrev count_of : Bool → List ℕ
-count_of bit = if bit then codes "b" else codes "B"
-
-infix_spells : (binary : Bool) → SpellsBinary (infix_of binary) binary
-infix_spells true = inr (refl, refl)
-infix_spells false = inl (refl, refl)
-
-count_spells : (kind : Kind) (ignore_case : Bool) → SpellsCount (flags_for kind ignore_case) (count_of (counts_bits kind)) (counts_bits kind)
-count_spells Byte ignore_case = inr (inl (refl, refl))
-count_spells Bit ignore_case = inr (inr (inl (refl, refl)))
-
-infix_ascii : (binary : Bool) → IsAscii (infix_of binary)
-infix_ascii true = IsAscii-cons 105 [] (omega arith) IsAscii-nil
-infix_ascii false = IsAscii-nil
-
-count_ascii : (bit : Bool) → IsAscii (count_of bit)
-count_ascii true = IsAscii-cons 98 [] (omega arith) IsAscii-nil
-count_ascii false = IsAscii-cons 66 [] (omega arith) IsAscii-nil
-
 -- a name is read as its unit, and ends in no white space
 pub record IsGoodName (kind : Kind) (ignore_case : Bool) (s : Shape) : Type 0 where
-  front : List ℕ
-  last : ℕ
-  name_is : name current s ≡ front ++ last ∷ []
-  last_is : is_whitespace last ≡ false
+  end : EndsInLetter (name current s)
   ascii : IsAscii (name current s)
   spells : Spells current (flags_for kind ignore_case) (name current s) s
 
-count_end : (bit : Bool) → (last : ℕ) × (count_of bit ≡ last ∷ []) × (is_whitespace last ≡ false)
-count_end true = (98, refl, refl)
-count_end false = (66, refl, refl)
+named : (kind : Kind) (ignore_case : Bool) (s : Shape) → IsKnown s → SaysKind (flags_for kind ignore_case) s.bit
+    → IsGoodName kind ignore_case s
+named kind ignore_case s known says = record {
+  end = name_end s;
+  ascii = name_ascii s known.known;
+  spells = name_spells (flags_for kind ignore_case) s known says;
+}
 
-name_parts : (s : Shape) → 0 < s.power → name current s ≡ letter_at s.power ∷ (infix_of s.binary ++ count_of s.bit)
-name_parts s h =
-    let some : nat_lt 0 s.power ≡ true = grind (arith, nat_tests) in
-    ap (λ b. (if b then letter_at s.power ∷ [] else []) ++ (if b && s.binary then codes "i" else []) ++ count_of s.bit) some
+-- so in a kind's own family, since case counts where bits are read
+own_says : (kind : Kind) (ignore_case bit : Bool) → HasKind (own_family kind) bit → SaysKind (flags_for kind ignore_case) bit
+own_says Byte ignore_case bit h e = absurd (let k : ⊥ = cc in k)
+own_says Bit ignore_case bit h e = refl
 
-kind_bit : (kind : Kind) (bit : Bool) → IsKind (own_family kind) bit → bit ≡ counts_bits kind
-kind_bit Byte bit h = h
-kind_bit Bit bit h = h
+own_kind : (kind : Kind) → HasKind (own_family kind) (counts_bits kind)
+own_kind Byte = refl
+own_kind Bit = refl
 
 multiple_name : (kind : Kind) (ignore_case : Bool) (s : Shape) → InFamily current (own_family kind) s → IsGoodName kind ignore_case s
 multiple_name kind ignore_case s h =
-    let letter = letter_found s.power h.prefix.some h.prefix.known in
-    let parts = name_parts s h.prefix.some in
-    let end = count_end s.bit in
-    let P : Bool → Type 0 = λ bit. SpellsCount (flags_for kind ignore_case) (count_of bit) bit in
-    record {
-      front = letter_at s.power ∷ infix_of s.binary;
-      last = end.0;
-      name_is = parts ∙ ap (λ t. letter_at s.power ∷ (infix_of s.binary ++ t)) end.1;
-      last_is = end.2;
-      ascii = subst IsAscii (sym parts) (IsAscii-cons (letter_at s.power) (infix_of s.binary ++ count_of s.bit) letter.1 (IsAscii-append (infix_of s.binary) (count_of s.bit) (infix_ascii s.binary) (count_ascii s.bit)));
-      spells = inr record {
-        prefix_part = letter_at s.power ∷ infix_of s.binary;
-        count_part = count_of s.bit;
-        text_is = parts;
-        prefix_is = record {
-          letter = letter_at s.power;
-          infix_part = infix_of s.binary;
-          text_is = refl;
-          letter_is = (h.prefix.some, h.prefix.known, letter.0);
-          infix_is = infix_spells s.binary;
-        };
-        count_is = subst P (sym (kind_bit kind s.bit h.kind)) (count_spells kind ignore_case);
-      };
-    }
+    let known : IsKnown s = record { known = h.prefix.known; alone = λ none. absurd (omega (arith, none, h.prefix.some)) } in
+    named kind ignore_case s known (own_says kind ignore_case s.bit h.kind)
 
 own_name : (kind : Kind) (ignore_case : Bool) → IsGoodName kind ignore_case (own_unit kind)
-own_name Byte ignore_case = record { front = []; last = 66; name_is = refl; last_is = refl; ascii = count_ascii false; spells = inl record { count_is = count_spells Byte ignore_case; power_is = refl; binary_is = refl } }
-own_name Bit ignore_case = record { front = []; last = 98; name_is = refl; last_is = refl; ascii = count_ascii true; spells = inl record { count_is = count_spells Bit ignore_case; power_is = refl; binary_is = refl } }
+own_name kind ignore_case =
+    let known : IsKnown (own_unit kind) = record { known = omega arith; alone = λ none. refl } in
+    named kind ignore_case (own_unit kind) known (own_says kind ignore_case (counts_bits kind) (own_kind kind))
+
+case_counts : (kind : Kind) → (flags_for kind false).ignore_case ≡ false
+case_counts Byte = refl
+case_counts Bit = refl
 
 -- the names of all units are good where case counts
-
-spelled : (kind : Kind) (unit : UnitName) → Spells current (flags_for kind false) (name current (shape_of unit)) (shape_of unit)
-spelled Byte unit = (names_spell_their_units unit true).spells
-spelled Bit unit = (names_spell_their_units unit false).spells
-
-known_power : (flags : Flags) (text : List ℕ) (s : Shape) → Spells current flags text s → s.power ≤ 8
-known_power flags text s (inl h) = omega (arith, h.power_is)
-known_power flags text s (inr h) = omega (arith, h.prefix_is.letter_is.1)
-
-name_alone : (s : Shape) → s.power ≤ 0 → name current s ≡ count_of s.bit
-name_alone s h =
-    let none : nat_lt 0 s.power ≡ false = grind (arith, nat_tests) in
-    ap (λ b. (if b then letter_at s.power ∷ [] else []) ++ (if b && s.binary then codes "i" else []) ++ count_of s.bit) none
-
-name_ascii : (s : Shape) → s.power ≤ 8 → IsAscii (name current s)
-name_ascii s known =
-    ⊎_elim (λ some. subst IsAscii (sym (name_parts s some)) (IsAscii-cons (letter_at s.power) (infix_of s.binary ++ count_of s.bit) (letter_found s.power some known).1 (IsAscii-append (infix_of s.binary) (count_of s.bit) (infix_ascii s.binary) (count_ascii s.bit))))
-    (λ none. subst IsAscii (sym (name_alone s none)) (count_ascii s.bit))
-    (cases_lt 0 s.power)
-
 pub good_name : (kind : Kind) (unit : UnitName) → IsGoodName kind false (shape_of unit)
-good_name kind unit =
-    let s = shape_of unit in
-    let end = count_end s.bit in
-    let front = (if nat_lt 0 s.power then letter_at s.power ∷ [] else []) ++ (if nat_lt 0 s.power && s.binary then codes "i" else []) in
-    let spells = spelled kind unit in
-    record { front = front; last = end.0; name_is = ap (λ t. front ++ t) end.1; last_is = end.2; ascii = name_ascii s (known_power (flags_for kind false) (name current s) s spells); spells = spells }
+good_name kind unit = named kind false (shape_of unit) (unit_known unit) (λ bit. case_counts kind)
 
 -- the least size
 
@@ -203,7 +118,7 @@ trimmed_layout kind ignore_case spec w ds s small bound good =
     let k = (pad - a) + g in
     record {
       spaces_between = k;
-      trims = ap trimmed (regroup a (pad - a) g number unit) ∙ trim_layout a k number unit good.front good.last (number_start w (fraction_text ds) bound) (number_ascii w ds small bound) good.ascii good.name_is good.last_is;
+      trims = ap trimmed (regroup a (pad - a) g number unit) ∙ trim_layout a k number unit good.end.front good.end.last (number_start w (fraction_text ds) bound) (number_ascii w ds small bound) good.ascii good.end.text_is good.end.last_is;
     }
 
 pub layout_accepted : (kind : Kind) (ignore_case : Bool) (size : ℕ) (spec : FormatSpec) (w : ℕ) (ds : List ℕ) (s : Shape) → All (λ d. d < 10) ds → length ds ≤ places_of_decimal → w < whole_limit → IsGoodName kind ignore_case s → number_of w ds * bits s ≡ size * bits_in kind * one → size < current.size_limit → IsAccepted current kind ignore_case (layout (decimal w ++ fraction_text ds) (name current s) spec) size

@@ -16,44 +16,12 @@ use Rattle.byte_unit_base.specs.FormLaws.{IsShownForm}
 use Rattle.byte_unit_base.specs.declared.kind.Kind.{Kind}
 use Rattle.byte_unit_base.specs.declared.format.spec.TheConstants.FormatSpec.{PLAIN}
 use Rattle.byte_unit_base.specs.declared.unit.Unit.{Unit as UnitName}
-use Rattle.byte_unit_base.specs.declared.unit.Unit.TheVariants.{Bit, B, Kbit, Kibit, KB, KiB, Mbit, Mibit, MB, MiB, Gbit, Gibit, GB, GiB, Tbit, Tibit, TB, TiB, Pbit, Pibit, PB, PiB, Ebit, Eibit, EB, EiB, Zbit, Zibit, ZB, ZiB, Ybit, Yibit, YB, YiB}
+use Rattle.byte_unit_base.specs.declared.unit.Unit.TheVariants.{Bit}
 use Rattle.byte_unit_base.proofs.Choosing.{some_bits}
 
 small : (unit : UnitName) → leb (bits (shape_of unit)) unit_limit ≡ true
 small Bit = refl
-small B = refl
-small Kbit = refl
-small Kibit = refl
-small KB = refl
-small KiB = refl
-small Mbit = refl
-small Mibit = refl
-small MB = refl
-small MiB = refl
-small Gbit = refl
-small Gibit = refl
-small GB = refl
-small GiB = refl
-small Tbit = refl
-small Tibit = refl
-small TB = refl
-small TiB = refl
-small Pbit = refl
-small Pibit = refl
-small PB = refl
-small PiB = refl
-small Ebit = refl
-small Eibit = refl
-small EB = refl
-small EiB = refl
-small Zbit = refl
-small Zibit = refl
-small ZB = refl
-small ZiB = refl
-small Ybit = refl
-small Yibit = refl
-small YB = refl
-small YiB = refl
+small _ = refl
 
 pub exact_in : (num : ℕ) (unit : UnitName) → IsExactAt num (bits (shape_of unit)) expansion_places
 exact_in num unit = powers_end num (twos (shape_of unit)) (fives (shape_of unit)) (leb-true _ _ (small unit))

@@ -6,7 +6,7 @@ use Rattle.byte_unit_math.specs.Bounds.{places_of_decimal}
 use Rattle.byte_unit_math.specs.Exact.{IsExactAt}
 use Rattle.byte_unit_base.specs.Shape.{Shape, bits}
 use Rattle.byte_unit_base.specs.Edition.{Edition}
-use Rattle.byte_unit_base.specs.Family.{IsKind}
+use Rattle.byte_unit_base.specs.Family.{HasKind}
 use Rattle.byte_unit_base.specs.Multiples.{falling}
 use Rattle.byte_unit_base.specs.Choice.{States}
 use Rattle.byte_unit_base.specs.ChoiceLaws.{EachSizeHasAChoiceOrNone}
@@ -23,7 +23,7 @@ both_decided P Q p q = ⊎_elim (λ a. ⊎_elim (λ b. inl (a, b)) (λ no. inr (
 le_decided : (a b : ℕ) → Decided (a ≤ b)
 le_decided a b = ⊎_elim (λ l. inr (λ h. omega (arith, l, h))) (λ h. inl h) (cases_lt b a)
 
-kind_decided : (family : Family) (bit : Bool) → Decided (IsKind family bit)
+kind_decided : (family : Family) (bit : Bool) → Decided (HasKind family bit)
 kind_decided All bit = inl tt
 kind_decided Bytes true = inr (λ e. let b : ⊥ = cc in b)
 kind_decided Bytes false = inl refl
@@ -39,7 +39,7 @@ exact_decided size unit places =
 states_decided : (edition : Edition) (family : Family) (size places : ℕ) (unit : Shape) → Decided (States edition family size places unit)
 states_decided edition family size places unit =
     let prefix = both_decided (1 ≤ unit.power) (unit.power ≤ length edition.letters) (le_decided 1 unit.power) (le_decided unit.power (length edition.letters)) in
-    let member = both_decided ((1 ≤ unit.power) × (unit.power ≤ length edition.letters)) (IsKind family unit.bit) prefix (kind_decided family unit.bit) in
+    let member = both_decided ((1 ≤ unit.power) × (unit.power ≤ length edition.letters)) (HasKind family unit.bit) prefix (kind_decided family unit.bit) in
     let rest = both_decided (bits unit ≤ size) (IsExactAt size (bits unit) places) (le_decided (bits unit) size) (exact_decided size (bits unit) places) in
     ⊎_elim (λ m. ⊎_elim (λ r. inl (record { member = record { prefix = record { some = m.0.0; known = m.0.1 }; kind = m.1 }; not_above = r.0; exact = r.1 })) (λ no. inr (λ s. no (s.not_above, s.exact))) rest) (λ no. inr (λ s. no ((s.member.prefix.some, s.member.prefix.known), s.member.kind))) member
 

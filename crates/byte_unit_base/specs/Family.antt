@@ -1,5 +1,5 @@
 -- Families of units, and types of units.
-use Rattle.std.specs.Prelude.{◌≡◌, ◌≤◌, ℕ, Bool, true, false, length, ◌*◌}
+use Rattle.std.specs.Prelude.{◌≡◌, ◌≤◌, ℕ, Bool, true, false, length, ◌*◌, ⊤}
 use Rattle.byte_unit_base.specs.Shape.{Shape}
 use Rattle.byte_unit_base.specs.Edition.{Edition}
 use Rattle.byte_unit_base.specs.declared.unit.family.Family.{Family}
@@ -8,16 +8,16 @@ use Rattle.byte_unit_base.specs.declared.unit.unit_type.UnitType.{UnitType}
 use Rattle.byte_unit_base.specs.declared.unit.unit_type.UnitType.TheVariants.{Binary, Decimal, Both}
 
 -- whether units of bits, or of bytes, are in a family
-abbrev pub IsKind : Family → Bool → Type 0
-IsKind All bit = Unit {0}
-IsKind Bytes bit = bit ≡ false
-IsKind Bits bit = bit ≡ true
+abbrev pub HasKind : Family → Bool → Type 0
+HasKind All bit = ⊤
+HasKind Bytes bit = bit ≡ false
+HasKind Bits bit = bit ≡ true
 
 -- whether powers of two, or of ten, are of a type
 abbrev pub IsOfType : UnitType → Bool → Type 0
 IsOfType Binary binary = binary ≡ true
 IsOfType Decimal binary = binary ≡ false
-IsOfType Both binary = Unit {0}
+IsOfType Both binary = ⊤
 
 -- the unit has a prefix that the edition knows
 pub record HasPrefix (edition : Edition) (unit : Shape) : Type 0 where
@@ -27,7 +27,7 @@ pub record HasPrefix (edition : Edition) (unit : Shape) : Type 0 where
 -- the units of a family are those of its kind that have a prefix
 pub record InFamily (edition : Edition) (family : Family) (unit : Shape) : Type 0 where
   pub prefix : HasPrefix edition unit
-  pub kind : IsKind family unit.bit
+  pub kind : HasKind family unit.bit
 
 -- how many units a family has
 abbrev pub units_in : Edition → Family → ℕ

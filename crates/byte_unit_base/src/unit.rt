@@ -88,6 +88,17 @@ pub enum Unit {
     YiB,
 }
 
+/// What a unit is made of.
+#[derive(Clone, Copy)]
+struct Shape {
+    /// The place of its prefix among the letters, from 1 for K, or 0 for none.
+    power: u32,
+    /// Whether it goes by powers of two.
+    binary: bool,
+    /// Whether it counts bits, and not bytes.
+    bit: bool,
+}
+
 impl Unit {
     ghost use Rattle.byte_unit_base.specs.Units.{shape_of};
 
@@ -139,8 +150,8 @@ impl Unit {
         }
     }
 
-    /// Its name, of one to three ASCII letters: the prefix letter, an `i` where that is a power of two, and `b` for bits
-    /// or `B` for bytes.
+    /// Its name, of one to three ASCII letters: the prefix letter, an `i` where that is a power of two, and `b` for
+    /// bits or `B` for bytes.
     ///
     /// ```text
     /// Unit::Kibit.as_str() == "Kib"
@@ -194,26 +205,7 @@ impl Unit {
     pub fn is_bit(self) -> bool
         ensures { result ≡ (shape_of self).bit }
     {
-        matches!(
-            self,
-            Unit::Bit
-                | Unit::Kbit
-                | Unit::Kibit
-                | Unit::Mbit
-                | Unit::Mibit
-                | Unit::Gbit
-                | Unit::Gibit
-                | Unit::Tbit
-                | Unit::Tibit
-                | Unit::Pbit
-                | Unit::Pibit
-                | Unit::Ebit
-                | Unit::Eibit
-                | Unit::Zbit
-                | Unit::Zibit
-                | Unit::Ybit
-                | Unit::Yibit
-        )
+        self.shape().bit
     }
 
     /// Whether it goes by powers of two. `B` does, and `Bit` does not.
@@ -224,26 +216,7 @@ impl Unit {
     pub fn is_binary_multiples(self) -> bool
         ensures { result ≡ (shape_of self).binary }
     {
-        matches!(
-            self,
-            Unit::B
-                | Unit::Kibit
-                | Unit::KiB
-                | Unit::Mibit
-                | Unit::MiB
-                | Unit::Gibit
-                | Unit::GiB
-                | Unit::Tibit
-                | Unit::TiB
-                | Unit::Pibit
-                | Unit::PiB
-                | Unit::Eibit
-                | Unit::EiB
-                | Unit::Zibit
-                | Unit::ZiB
-                | Unit::Yibit
-                | Unit::YiB
-        )
+        self.shape().binary
     }
 
     /// The exponents of two and of five in its bits.
@@ -255,42 +228,58 @@ impl Unit {
         ensures twos { result.0 ≡ twos (shape_of self) }
         ensures fives { result.1 ≡ fives (shape_of self) }
     {
-        match self {
-            Unit::Bit => (0, 0),
-            Unit::B => (3, 0),
-            Unit::Kbit => (3, 3),
-            Unit::Kibit => (10, 0),
-            Unit::KB => (6, 3),
-            Unit::KiB => (13, 0),
-            Unit::Mbit => (6, 6),
-            Unit::Mibit => (20, 0),
-            Unit::MB => (9, 6),
-            Unit::MiB => (23, 0),
-            Unit::Gbit => (9, 9),
-            Unit::Gibit => (30, 0),
-            Unit::GB => (12, 9),
-            Unit::GiB => (33, 0),
-            Unit::Tbit => (12, 12),
-            Unit::Tibit => (40, 0),
-            Unit::TB => (15, 12),
-            Unit::TiB => (43, 0),
-            Unit::Pbit => (15, 15),
-            Unit::Pibit => (50, 0),
-            Unit::PB => (18, 15),
-            Unit::PiB => (53, 0),
-            Unit::Ebit => (18, 18),
-            Unit::Eibit => (60, 0),
-            Unit::EB => (21, 18),
-            Unit::EiB => (63, 0),
-            Unit::Zbit => (21, 21),
-            Unit::Zibit => (70, 0),
-            Unit::ZB => (24, 21),
-            Unit::ZiB => (73, 0),
-            Unit::Ybit => (24, 24),
-            Unit::Yibit => (80, 0),
-            Unit::YB => (27, 24),
-            Unit::YiB => (83, 0),
+        let Shape { power, binary, bit } = self.shape();
+        let byte = if bit { 0 } else { 3 };
+        if binary {
+            (10 * power + byte, 0)
+        } else {
+            (3 * power + byte, 3 * power)
         }
+    }
+
+    /// Its shape. The name, the bits and all else follow from it.
+    fn shape(self) -> Shape
+        ensures power { result.power ≡ (shape_of self).power }
+        ensures binary { result.binary ≡ (shape_of self).binary }
+        ensures bit { result.bit ≡ (shape_of self).bit }
+    {
+        let (power, binary, bit) = match self {
+            Unit::Bit => (0, false, true),
+            Unit::B => (0, true, false),
+            Unit::Kbit => (1, false, true),
+            Unit::Kibit => (1, true, true),
+            Unit::KB => (1, false, false),
+            Unit::KiB => (1, true, false),
+            Unit::Mbit => (2, false, true),
+            Unit::Mibit => (2, true, true),
+            Unit::MB => (2, false, false),
+            Unit::MiB => (2, true, false),
+            Unit::Gbit => (3, false, true),
+            Unit::Gibit => (3, true, true),
+            Unit::GB => (3, false, false),
+            Unit::GiB => (3, true, false),
+            Unit::Tbit => (4, false, true),
+            Unit::Tibit => (4, true, true),
+            Unit::TB => (4, false, false),
+            Unit::TiB => (4, true, false),
+            Unit::Pbit => (5, false, true),
+            Unit::Pibit => (5, true, true),
+            Unit::PB => (5, false, false),
+            Unit::PiB => (5, true, false),
+            Unit::Ebit => (6, false, true),
+            Unit::Eibit => (6, true, true),
+            Unit::EB => (6, false, false),
+            Unit::EiB => (6, true, false),
+            Unit::Zbit => (7, false, true),
+            Unit::Zibit => (7, true, true),
+            Unit::ZB => (7, false, false),
+            Unit::ZiB => (7, true, false),
+            Unit::Ybit => (8, false, true),
+            Unit::Yibit => (8, true, true),
+            Unit::YB => (8, false, false),
+            Unit::YiB => (8, true, false),
+        };
+        Shape { power, binary, bit }
     }
 }
 
@@ -311,6 +300,8 @@ impl fmt::Display for Unit {
     ghost use Rattle.byte_unit_base.specs.Units.{shape_of};
 
     ghost output = { λ unit. Some (name current (shape_of unit)) };
+
+    ghost styled_output = { λ unit spec. Some (name current (shape_of unit)) };
 
     fn fmt<W: fmt::Write>(&self, f: &mut fmt::Formatter<W>) -> fmt::Result {
         f.write_str(self.as_str())

@@ -3,7 +3,7 @@
 ghost use Rattle.std.specs.Prelude.{◌≡◌, ◌↔◌, IsTrue, map};
 ghost use Rattle.byte_unit_base.specs.Edition.{current};
 ghost use Rattle.byte_unit_base.specs.Units.{shape_of};
-ghost use Rattle.byte_unit_base.specs.Family.{IsKind};
+ghost use Rattle.byte_unit_base.specs.Family.{HasKind};
 ghost use Rattle.byte_unit_base.specs.Multiples.{falling};
 
 use crate::unit::Unit;
@@ -22,7 +22,7 @@ pub enum Family {
 impl Family {
     /// Whether it has the units that count bits, or those that count bytes.
     pub(crate) fn has_kind(self, bit: bool) -> bool
-        ensures { IsTrue result ↔ IsKind self bit }
+        ensures { IsTrue result ↔ HasKind self bit }
     {
         match self {
             Family::All => true,

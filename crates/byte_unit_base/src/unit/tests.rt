@@ -18,59 +18,6 @@ const UNITS: [[Unit; 4]; 8] = [
     [Unit::Ybit, Unit::YB, Unit::Yibit, Unit::YiB],
 ];
 
-fn number<T: Into<u128>>(value: T) -> u128 {
-    value.into()
-}
-
-#[test]
-fn binary_units_as_written_numbers(rt: HostRuntime) {
-    let powers = [
-        (1024, 8192),
-        (1_048_576, 8_388_608),
-        (1_073_741_824, 8_589_934_592),
-        (1_099_511_627_776, 8_796_093_022_208),
-        (1_125_899_906_842_624, 9_007_199_254_740_992),
-        (1_152_921_504_606_846_976, 9_223_372_036_854_775_808),
-        (1_180_591_620_717_411_303_424, 9_444_732_965_739_290_427_392),
-        (
-            1_208_925_819_614_629_174_706_176,
-            9_671_406_556_917_033_397_649_408u128,
-        ),
-    ];
-    for ([_, _, bits, bytes], (bits_in, bits_in_bytes)) in UNITS.iter().zip(powers) {
-        assert_eq!(rt; number(*bits), bits_in);
-        assert_eq!(rt; number(*bytes), bits_in_bytes);
-    }
-}
-
-#[test]
-fn tables_of_units(rt: HostRuntime) -> Result<(), AllocError> {
-    for (unit, bits, name, is_bit, is_binary, powers) in [
-        (Unit::Bit, 1, "b", true, false, (0, 0)),
-        (Unit::B, 8, "B", false, true, (3, 0)),
-        (Unit::Kbit, 1000, "Kb", true, false, (3, 3)),
-        (Unit::Mibit, 1_048_576, "Mib", true, true, (20, 0)),
-        (Unit::GB, 8_000_000_000, "GB", false, false, (12, 9)),
-        (
-            Unit::YiB,
-            9_671_406_556_917_033_397_649_408u128,
-            "YiB",
-            false,
-            true,
-            (83, 0),
-        ),
-    ] {
-        assert_eq!(rt; unit.as_bits_u128(), bits);
-        assert_eq!(rt; unit.as_str(), name);
-        let text = format!(in rt.alloc(); "{unit}")?;
-        assert_eq!(rt; text.as_str(), name);
-        assert_eq!(rt; unit.is_bit(), is_bit);
-        assert_eq!(rt; unit.is_binary_multiples(), is_binary);
-        assert_eq!(rt; unit.powers(), powers);
-    }
-    Ok(())
-}
-
 #[test]
 fn units_read(rt: HostRuntime) {
     for (text, ignore_case, prefer_byte, want) in [

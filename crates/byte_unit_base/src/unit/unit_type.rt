@@ -10,7 +10,7 @@ pub enum UnitType {
     Binary,
     /// Powers of ten, as `KB`.
     Decimal,
-    /// Either. The larger unit is the better one, be it binary or decimal.
+    /// Either: the largest not above the size, be it binary or decimal.
     Both,
 }
 

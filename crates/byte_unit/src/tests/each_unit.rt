@@ -1,0 +1,176 @@
+use crate::Unit;
+use std::alloc::AllocError;
+
+/// Each unit: its bits, its name, whether it counts bits, whether it goes by powers of two, and the exponents of two
+/// and of five in its bits.
+const UNITS: [(Unit, u128, &str, bool, bool, (u32, u32)); 34] = [
+    (Unit::Bit, 1, "b", true, false, (0, 0)),
+    (Unit::B, 8, "B", false, true, (3, 0)),
+    (Unit::Kbit, 1000, "Kb", true, false, (3, 3)),
+    (Unit::Kibit, 1024, "Kib", true, true, (10, 0)),
+    (Unit::KB, 8000, "KB", false, false, (6, 3)),
+    (Unit::KiB, 8192, "KiB", false, true, (13, 0)),
+    (Unit::Mbit, 1_000_000, "Mb", true, false, (6, 6)),
+    (Unit::Mibit, 1_048_576, "Mib", true, true, (20, 0)),
+    (Unit::MB, 8_000_000, "MB", false, false, (9, 6)),
+    (Unit::MiB, 8_388_608, "MiB", false, true, (23, 0)),
+    (Unit::Gbit, 1_000_000_000, "Gb", true, false, (9, 9)),
+    (Unit::Gibit, 1_073_741_824, "Gib", true, true, (30, 0)),
+    (Unit::GB, 8_000_000_000, "GB", false, false, (12, 9)),
+    (Unit::GiB, 8_589_934_592, "GiB", false, true, (33, 0)),
+    (Unit::Tbit, 1_000_000_000_000, "Tb", true, false, (12, 12)),
+    (Unit::Tibit, 1_099_511_627_776, "Tib", true, true, (40, 0)),
+    (Unit::TB, 8_000_000_000_000, "TB", false, false, (15, 12)),
+    (Unit::TiB, 8_796_093_022_208, "TiB", false, true, (43, 0)),
+    (
+        Unit::Pbit,
+        1_000_000_000_000_000,
+        "Pb",
+        true,
+        false,
+        (15, 15),
+    ),
+    (
+        Unit::Pibit,
+        1_125_899_906_842_624,
+        "Pib",
+        true,
+        true,
+        (50, 0),
+    ),
+    (
+        Unit::PB,
+        8_000_000_000_000_000,
+        "PB",
+        false,
+        false,
+        (18, 15),
+    ),
+    (
+        Unit::PiB,
+        9_007_199_254_740_992,
+        "PiB",
+        false,
+        true,
+        (53, 0),
+    ),
+    (
+        Unit::Ebit,
+        1_000_000_000_000_000_000,
+        "Eb",
+        true,
+        false,
+        (18, 18),
+    ),
+    (
+        Unit::Eibit,
+        1_152_921_504_606_846_976,
+        "Eib",
+        true,
+        true,
+        (60, 0),
+    ),
+    (
+        Unit::EB,
+        8_000_000_000_000_000_000,
+        "EB",
+        false,
+        false,
+        (21, 18),
+    ),
+    (
+        Unit::EiB,
+        9_223_372_036_854_775_808,
+        "EiB",
+        false,
+        true,
+        (63, 0),
+    ),
+    (
+        Unit::Zbit,
+        1_000_000_000_000_000_000_000,
+        "Zb",
+        true,
+        false,
+        (21, 21),
+    ),
+    (
+        Unit::Zibit,
+        1_180_591_620_717_411_303_424,
+        "Zib",
+        true,
+        true,
+        (70, 0),
+    ),
+    (
+        Unit::ZB,
+        8_000_000_000_000_000_000_000,
+        "ZB",
+        false,
+        false,
+        (24, 21),
+    ),
+    (
+        Unit::ZiB,
+        9_444_732_965_739_290_427_392,
+        "ZiB",
+        false,
+        true,
+        (73, 0),
+    ),
+    (
+        Unit::Ybit,
+        1_000_000_000_000_000_000_000_000,
+        "Yb",
+        true,
+        false,
+        (24, 24),
+    ),
+    (
+        Unit::Yibit,
+        1_208_925_819_614_629_174_706_176,
+        "Yib",
+        true,
+        true,
+        (80, 0),
+    ),
+    (
+        Unit::YB,
+        8_000_000_000_000_000_000_000_000,
+        "YB",
+        false,
+        false,
+        (27, 24),
+    ),
+    (
+        Unit::YiB,
+        9_671_406_556_917_033_397_649_408,
+        "YiB",
+        false,
+        true,
+        (83, 0),
+    ),
+];
+
+#[test]
+fn each_unit_as_written_numbers(rt: HostRuntime) -> Result<(), AllocError> {
+    for (unit, bits, name, is_bit, is_binary_multiples, powers) in UNITS {
+        assert_eq!(rt; unit.as_bits_u128(), bits, "{name}");
+        assert_eq!(rt; u128::from(unit), bits, "{name}");
+        assert_eq!(rt; unit.as_str(), name);
+        assert_eq!(rt; format!(in rt.alloc(); "{unit}")?.as_str(), name);
+        assert_eq!(rt; unit.is_bit(), is_bit, "{name}");
+        assert_eq!(rt; unit.is_binary_multiples(), is_binary_multiples, "{name}");
+        assert_eq!(rt; unit.powers(), powers, "{name}");
+    }
+    Ok(())
+}
+
+#[test]
+fn flags_of_a_formatter_change_nothing(rt: HostRuntime) -> Result<(), AllocError> {
+    let unit = Unit::KiB;
+    assert_eq!(rt; format!(in rt.alloc(); "{unit:>8}")?.as_str(), "KiB");
+    assert_eq!(rt; format!(in rt.alloc(); "{unit:*^+#9.1}")?.as_str(), "KiB");
+    assert_eq!(rt; format!(in rt.alloc(); "{unit:08}")?.as_str(), "KiB");
+    Ok(())
+}
