@@ -22,7 +22,9 @@ use Rattle.byte_unit_base.specs.Units.{shape_of}
 use Rattle.byte_unit_base.specs.Spelling.{Flags}
 use Rattle.byte_unit_base.specs.SizeText.{trimmed}
 use Rattle.byte_unit_base.specs.Fault.{too_long, no_unit, after_digit, IsSizeFault}
-use Rattle.byte_unit_base.specs.SizeScan.{size_step, size_read}
+use Rattle.byte_unit_base.specs.ReaderLaws.{States}
+use Rattle.byte_unit_base.specs.Scan.{read}
+use Rattle.byte_unit_base.specs.SizeScan.{size_step, size_scan}
 use Rattle.byte_unit_base.specs.Kinds.{bits_in, flags_for}
 use Rattle.byte_unit_base.specs.Accepted.{IsAccepted, IsRefused}
 use Rattle.byte_unit_base.specs.Layout.{layout}
@@ -37,9 +39,9 @@ use Rattle.byte_unit_base.proofs.Choosing.{some_bits}
 use Rattle.byte_unit_base.proofs.NumberTexts.{number_of, glyph_value, glyph_digits, whole_text}
 use Rattle.byte_unit_base.proofs.Quotients.{exact_more}
 use Rattle.byte_unit_base.proofs.ReadBack.{good_name, bits_bound, number_scaled, trimmed_layout, layout_accepted, size_form_back}
-use Rattle.byte_unit_base.proofs.SizeFaults.{reads_rightly, SizeResult}
-use Rattle.byte_unit_base.proofs.SizeReads.{step_point, run_whole, run_places, read_through}
-use Rattle.byte_unit_base.proofs.SizeSteps.{size_read_some, size_read_none}
+use Rattle.byte_unit_base.proofs.Scans.{answers, IsAnswer, read_some, read_none, read_through}
+use Rattle.byte_unit_base.proofs.SizeReads.{size_scan_is}
+use Rattle.byte_unit_base.proofs.SizeRuns.{step_point, run_whole, run_places}
 
 -- the whole part of an expansion
 
@@ -95,7 +97,7 @@ digit_fault : (c : ℕ) → digit_value c < 10 → after_digit current c ≡ too
 digit_fault c h = let e : nat_lt (digit_value c) 10 ≡ true = grind (arith, nat_tests) in ap (λ b. if b then too_long else no_unit current c) e
 
 -- the scan of a whole part, a point, as many digits as a decimal has, and a digit more
-read_long : (flags : Flags) (w next : ℕ) (front more : List ℕ) → w < whole_limit → All (λ d. d < 10) front → length front ≡ places_of_decimal → next < 10 → size_read flags Beginning (decimal w ++ (46 ∷ (glyphs front ++ ((48 + next) ∷ more)))) ≡ Err too_long
+read_long : (flags : Flags) (w next : ℕ) (front more : List ℕ) → w < whole_limit → All (λ d. d < 10) front → length front ≡ places_of_decimal → next < 10 → read (size_scan flags) Beginning (decimal w ++ (46 ∷ (glyphs front ++ ((48 + next) ∷ more)))) ≡ Err too_long
 read_long flags w next front more bound small len next_small =
     let c = 48 + next in
     let digit : digit_value c < 10 = omega (arith, glyph_value next next_small, next_small) in
@@ -103,10 +105,10 @@ read_long flags w next front more bound small len next_small =
     let run = run_places (glyphs front) w (omega (arith, count), glyph_digits front small) (omega (arith, count)) in
     let state = Fraction w (digits_value 10 (glyphs front)) run.0 in
     let stop = no_more_places w (digits_value 10 (glyphs front)) run.0 c digit (run.2 ∙ count) in
-    read_through flags (Whole w) (decimal w) (46 ∷ (glyphs front ++ (c ∷ more))) Beginning (run_whole (decimal w) w (whole_text w bound))
-    ∙ (size_read_some flags (Whole w) (Point w) 46 (glyphs front ++ (c ∷ more)) (step_point w)
-    ∙ (read_through flags state (glyphs front) (c ∷ more) (Point w) run.1
-    ∙ (size_read_none flags state c more stop ∙ ap Err (digit_fault c digit))))
+    read_through (size_scan flags) Beginning (Whole w) (decimal w) (46 ∷ (glyphs front ++ (c ∷ more))) (run_whole (decimal w) w (whole_text w bound))
+    ∙ (read_some (size_scan flags) (Whole w) (Point w) 46 (glyphs front ++ (c ∷ more)) (step_point w)
+    ∙ (read_through (size_scan flags) (Point w) state (glyphs front) (c ∷ more) run.1
+    ∙ (read_none (size_scan flags) state c more stop ∙ ap Err (digit_fault c digit))))
 
 long_text : (w : ℕ) (ds tail : List ℕ) → 0 < length ds → (k : LongDigits places_of_decimal ds) → (decimal w ++ fraction_text ds) ++ tail ≡ decimal w ++ (46 ∷ (glyphs k.front ++ ((48 + k.next) ∷ (glyphs k.rest ++ tail))))
 long_text w ds tail some k =
@@ -119,8 +121,8 @@ long_text w ds tail some k =
 long_fault : (flags : Flags) (w : ℕ) (ds tail text : List ℕ) → w < whole_limit → All (λ d. d < 10) ds → places_of_decimal < length ds → text ≡ (decimal w ++ fraction_text ds) ++ tail → IsSizeFault current flags text too_long
 long_fault flags w ds tail text bound small long e =
     let k = cut places_of_decimal ds small long in
-    let read = ap (size_read flags Beginning) (e ∙ long_text w ds tail (omega (arith, long)) k) ∙ read_long flags w k.next k.front (glyphs k.rest ++ tail) bound k.small k.length_is k.next_small in
-    subst (SizeResult flags text) read (reads_rightly flags text)
+    let is_long = ap (read (size_scan flags) Beginning) (e ∙ long_text w ds tail (omega (arith, long)) k) ∙ read_long flags w k.next k.front (glyphs k.rest ++ tail) bound k.small k.length_is k.next_small in
+    subst (IsAnswer (States flags text) (IsSizeFault current flags text)) is_long (answers (size_scan_is flags) text)
 
 -- the string
 

@@ -11,7 +11,7 @@ use Rattle.byte_unit_base.specs.Accepted.{IsRead, IsAccepted, Exceeds, HasFault,
 use Rattle.byte_unit_base.specs.SizeLaws.{EachTextIsOneOfThree, TextsAreAcceptedOrRefused}
 use Rattle.byte_unit_base.specs.declared.kind.Kind.{Kind}
 use Rattle.byte_unit_base.proofs.Rounding.{least_of, least_is_one}
-use Rattle.byte_unit_base.proofs.SizeAnswers.{size_texts_have_one_answer}
+use Rattle.byte_unit_base.proofs.SizeReads.{size_texts_have_one_answer}
 
 -- what is read of a text is one number and one size
 record IsSame (number other n m : ℕ) : Type 0 where

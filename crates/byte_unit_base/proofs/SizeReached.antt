@@ -1,19 +1,18 @@
 -- The scan of a size and the texts of sizes are one: what the scan has read, and what it reads.
-use Rattle.std.proofs.Common.{◌≡◌, ◌≢◌, ℕ, zero, suc, ◌+◌, ◌-◌, ◌*◌, ◌^◌, ◌<◌, ◌≤◌, inl, inr, List, [], ◌∷◌, ◌++◌, length, replicate, sym, refl, ap, subst, ◌∙◌, arith, append_assoc, append-nil, length-append}
+use Rattle.std.proofs.Common.{◌≡◌, ℕ, zero, suc, ◌+◌, ◌-◌, ◌*◌, ◌^◌, ◌<◌, ◌≤◌, inl, inr, List, [], ◌∷◌, ◌++◌, length, replicate, sym, refl, ap, subst, ◌∙◌, arith, append_assoc, append-nil, length-append}
 use Rattle.std.specs.Char.{digit_value}
 use Rattle.std.specs.Str.Parse.{IsNumeral, digits_value}
 use Rattle.std.proofs.lemmas.Int.Digits.{digits_value_push, digits_push}
 use Rattle.byte_unit_math.specs.Bounds.{one, places_of_decimal}
 use Rattle.byte_unit_base.specs.Edition.{current}
 use Rattle.byte_unit_base.specs.Number.{IsWholePart, IsPointed, IsPrecise, IsNumberText}
-use Rattle.byte_unit_base.specs.Front.{before_unit}
-use Rattle.byte_unit_base.specs.UnitScan.{place_of, start as unit_start}
+use Rattle.byte_unit_base.specs.UnitScan.{start as unit_start}
 use Rattle.byte_unit_base.specs.SizeScan.{precise}
 use Rattle.byte_unit_base.specs.declared.unit.scan.UnitScan.{UnitScan}
 use Rattle.byte_unit_base.specs.declared.read.scan.SizeScan.{SizeScan}
 use Rattle.byte_unit_base.specs.declared.read.scan.SizeScan.TheVariants.{Beginning, Whole, Point, Fraction, Gap, Unit as UnitAt}
 use Rattle.byte_unit_base.proofs.UnitReached.{Reached, Reached-step, Reached-start}
-use Rattle.byte_unit_base.proofs.SizeSteps.{UnitStep, AfterNumber, StepOf, step_leaves}
+use Rattle.byte_unit_base.proofs.SizeSteps.{UnitStep, AfterNumber, StepOf}
 
 -- what has been read at a state of the scan
 
@@ -41,7 +40,7 @@ pub record UnitReached (n : ℕ) (s : UnitScan) (text : List ℕ) : Type 0 where
   pub text_is : text ≡ number_part ++ (replicate spaces 32 ++ unit_part)
   pub number_is : IsNumberText current number_part n
   pub reached : Reached s unit_part
-  pub moved : place_of s ≢ before_unit
+  pub some : 0 < length unit_part
 
 abbrev pub SizeReached : SizeScan → List ℕ → Type 0
 SizeReached Beginning text = text ≡ []
@@ -66,7 +65,7 @@ replicate_push (suc n) x = ap (λ t. x ∷ t) (replicate_push n x)
 
 unit_goes : (n c : ℕ) (s : UnitScan) (t : SizeScan) (text number unit : List ℕ) (spaces : ℕ) → text ≡ number ++ (replicate spaces 32 ++ unit) → IsNumberText current number n → Reached s unit → UnitStep n s c t → SizeReached t (text ++ c ∷ [])
 unit_goes n c s t text number unit spaces e h r k =
-    subst (λ x. SizeReached x (text ++ c ∷ [])) k.2 (record { number_part = number; spaces = spaces; unit_part = unit ++ c ∷ []; text_is = push3 text number (replicate spaces 32) unit c e; number_is = h; reached = Reached-step s.multiple s.word k.0 c unit k.1 r; moved = step_leaves s.multiple s.word k.0 c k.1 })
+    subst (λ x. SizeReached x (text ++ c ∷ [])) k.2 (record { number_part = number; spaces = spaces; unit_part = unit ++ c ∷ []; text_is = push3 text number (replicate spaces 32) unit c e; number_is = h; reached = Reached-step s.multiple s.word k.0 c unit k.1 r; some = omega (arith, length-append unit (c ∷ [])) })
 
 number_goes : (n c : ℕ) (t : SizeScan) (text : List ℕ) → IsNumberText current text n → AfterNumber n c t → SizeReached t (text ++ c ∷ [])
 number_goes n c t text h (inl k) = subst (λ x. SizeReached x (text ++ c ∷ [])) k.1 (record { number_part = text; spaces = 1; some = omega arith; text_is = ap (λ x. text ++ x ∷ []) k.0; number_is = h })

@@ -1,297 +1,181 @@
--- What the reader of a size answers: the number and unit of a size text, and of every other text the first fault.
-use Rattle.std.proofs.Common.{◌≡◌, ◌≢◌, ℕ, zero, suc, ◌+◌, ◌-◌, ◌*◌, ◌^◌, ◌<◌, ◌≤◌, inl, inr, List, [], ◌∷◌, ◌++◌, Option, Some, None, Ok, option_and_then, length, replicate, sym, refl, ap, ◌∙◌, arith, true, false, cond, eqb, ltb, append-nil}
-use Rattle.std.specs.Option.{option_map}
-use Rattle.std.specs.Char.{digit_value, to_ascii_uppercase}
-use Rattle.std.specs.Str.Parse.{IsNumeral, AllDigits, digits_value, digits_value_after}
-use Rattle.std.proofs.lemmas.Bool.Decides.{nat_tests}
-use Rattle.byte_unit_math.specs.Bounds.{one, places_of_decimal, whole_limit}
+-- The reader of a number and a unit: its scan is that of their texts, so it answers what a text states, and else the first
+-- fault.
+use Rattle.std.proofs.Common.{◌≡◌, ◌≢◌, ℕ, Bool, true, false, cond, ◌*◌, inl, inr, List, [], ◌∷◌, ◌++◌, Option, Some, None, Result, Ok, Err, IfErr, length, replicate, sym, refl, ap, ◌∙◌, arith, append-nil}
+use Rattle.std.specs.Prelude.{IsOkAnd}
+use Rattle.byte_unit_math.specs.Bounds.{one}
 use Rattle.byte_unit_base.specs.Shape.{Shape}
 use Rattle.byte_unit_base.specs.Edition.{current}
-use Rattle.byte_unit_base.specs.Spelling.{Flags}
-use Rattle.byte_unit_base.specs.Number.{IsWholePart, IsPointed, IsPrecise, IsNumberText}
-use Rattle.byte_unit_base.specs.SizeText.{space, IsSizeText}
-use Rattle.byte_unit_base.specs.Front.{Place, beginning, in_whole, after_point, in_fraction, before_unit, after_prefix, after_b, after_bi, after_bit, after_bits, IsSizedFront, IsSizeFront}
-use Rattle.byte_unit_base.specs.UnitScan.{unit_step, unit_run, scan_of, place_of, unit_of, prefix_at, word_step, or_word, start as unit_start}
-use Rattle.byte_unit_base.specs.SizeScan.{size_step, size_run, size_read, size_at_end, size_place, sized, precise}
-use Rattle.byte_unit_base.specs.declared.unit.scan.Prefix.{Prefix}
-use Rattle.byte_unit_base.specs.declared.unit.scan.Prefix.TheVariants.{Kilo, Mega, Giga, Tera, Peta, Exa, Zetta, Yotta}
+use Rattle.byte_unit_base.specs.Units.{shape_of}
+use Rattle.byte_unit_base.specs.Spelling.{Flags, Spells}
+use Rattle.byte_unit_base.specs.Number.{IsNumberText}
+use Rattle.byte_unit_base.specs.SizeText.{trimmed, IsSizeText}
+use Rattle.byte_unit_base.specs.Readings.{IsNumberReading}
+use Rattle.byte_unit_base.specs.Front.{Place, beginning, in_whole, after_point, in_fraction, after_prefix, after_bi, IsUnitFront, IsSizedFront, IsSizeFront}
+use Rattle.byte_unit_base.specs.Fault.{Fault, IsFaultAfter, fault_at, fault_at_end, no_unit, too_long, exceeded}
+use Rattle.byte_unit_base.specs.Errors.{size_fault}
+use Rattle.byte_unit_base.specs.ReaderLaws.{States, SizeTextsHaveOneAnswer, SizeFrontsAreBeginnings}
+use Rattle.byte_unit_base.specs.Scan.{read}
+use Rattle.byte_unit_base.specs.UnitScan.{unit_step, unit_of, unit_at_end, word_place, scan_of, start as unit_start}
+use Rattle.byte_unit_base.specs.SizeScan.{is_digit, size_step, size_scan, size_seen, stated, size_at_end, size_place, sized, precise}
+use Rattle.byte_unit_base.specs.declared.unit.Unit.{Unit as UnitName}
+use Rattle.byte_unit_base.specs.declared.errors.ParseError.{ParseError}
 use Rattle.byte_unit_base.specs.declared.unit.scan.UnitScan.{UnitScan}
-use Rattle.byte_unit_base.specs.declared.unit.scan.Multiple.TheVariants.{One, Decimal}
+use Rattle.byte_unit_base.specs.declared.unit.scan.Multiple.{Multiple}
+use Rattle.byte_unit_base.specs.declared.unit.scan.Multiple.TheVariants.{One, Decimal, Binary}
 use Rattle.byte_unit_base.specs.declared.unit.scan.Word.{Word}
-use Rattle.byte_unit_base.specs.declared.unit.scan.Word.TheVariants.{Empty, UpperB, LowerB}
+use Rattle.byte_unit_base.specs.declared.unit.scan.Word.TheVariants.{Empty, Bi}
 use Rattle.byte_unit_base.specs.declared.read.scan.SizeScan.{SizeScan}
 use Rattle.byte_unit_base.specs.declared.read.scan.SizeScan.TheVariants.{Beginning, Whole, Point, Fraction, Gap, Unit as UnitAt}
-use Rattle.byte_unit_base.proofs.UnitReached.{prefix_found}
-use Rattle.byte_unit_base.proofs.UnitReads.{spelling_runs, run_front}
-use Rattle.byte_unit_base.proofs.SizeSteps.{size_read_some}
+use Rattle.byte_unit_base.proofs.Scans.{EndsIn, IsScanOf, read_found, read_meant, read_refused, one_answer, fronts_are_beginnings}
+use Rattle.byte_unit_base.proofs.UnitReached.{Reached-start, Spells-reached}
+use Rattle.byte_unit_base.proofs.UnitReads.{unit_front, unit_ends}
+use Rattle.byte_unit_base.proofs.SizeSteps.{step_is}
+use Rattle.byte_unit_base.proofs.SizeReached.{SizeReached, SizeReached-step, UnitReached, fraction_number}
+use Rattle.byte_unit_base.proofs.SizeRuns.{size_text_runs, size_front_runs}
 
--- the scan of two texts, one after the other
+-- what has been read is a front
 
-run_on : (cs ys : List ℕ) → ((t : SizeScan) → size_run t (cs ++ ys) ≡ option_and_then (λ u. size_run u ys) (size_run t cs)) → (o : Option SizeScan) → option_and_then (λ t. size_run t (cs ++ ys)) o ≡ option_and_then (λ t. size_run t ys) (option_and_then (λ t. size_run t cs) o)
-run_on cs ys more None = refl
-run_on cs ys more (Some t) = more t
+front_in_unit : (n : ℕ) (s : UnitScan) (place : Place) (text : List ℕ) (r : UnitReached n s text) → IsUnitFront current place r.unit_part → IsSizedFront current place text
+front_in_unit n s place text r h = record { number_part = r.number_part; number = n; spaces = r.spaces; unit_part = r.unit_part; text_is = r.text_is; number_is = r.number_is; unit_is = h }
 
-pub size_run_append : (s : SizeScan) (xs ys : List ℕ) → size_run s (xs ++ ys) ≡ option_and_then (λ t. size_run t ys) (size_run s xs)
-size_run_append s [] ys = refl
-size_run_append s (c ∷ cs) ys = run_on cs ys (λ t. size_run_append t cs ys) (size_step s c)
+unit_at : (n : ℕ) (m : Multiple) (w : Word) (text : List ℕ) → UnitReached n (scan_of m w) text → IsSizeFront current (word_place m w) text
+unit_at n One Empty text r =
+    let none : r.unit_part ≡ [] = r.reached.text_is ∙ (ap (λ x. x ++ r.reached.word) r.reached.front_is ∙ r.reached.word_is) in
+    absurd (omega (arith, r.some, ap length none))
+unit_at n (Decimal p) Empty text r = front_in_unit n _ after_prefix text r (unit_front (Decimal p) Empty r.unit_part r.reached)
+unit_at n (Binary p) Empty text r = front_in_unit n _ after_prefix text r (unit_front (Binary p) Empty r.unit_part r.reached)
+unit_at n m w text r = front_in_unit n _ (word_place m w) text r (unit_front m w r.unit_part r.reached)
 
-pub size_through : (s t : SizeScan) (xs ys : List ℕ) → size_run s xs ≡ Some t → size_run s (xs ++ ys) ≡ size_run t ys
-size_through s t xs ys e = size_run_append s xs ys ∙ ap (option_and_then (λ u. size_run u ys)) e
+size_front : (s : SizeScan) (text : List ℕ) → SizeReached s text → IsSizeFront current (size_place s) text
+size_front Beginning text r = r
+size_front (Whole w) text r = (w, r)
+size_front (Point w) text r = (w, r)
+size_front (Fraction w f j) text r = (precise w f j, fraction_number w f j text r)
+size_front (Gap n) text r = (
+  record {
+    number_part = r.number_part;
+    number = n;
+    spaces = r.spaces;
+    unit_part = [];
+    text_is = r.text_is ∙ ap (λ g. r.number_part ++ g) (sym (append-nil (replicate r.spaces 32)));
+    number_is = r.number_is;
+    unit_is = refl;
+  },
+  r.some,
+)
+size_front (UnitAt n s) text r = unit_at n s.multiple s.word text r
 
-pub size_run_step : (s t : SizeScan) (c : ℕ) (cs : List ℕ) → size_step s c ≡ Some t → size_run s (c ∷ cs) ≡ size_run t cs
-size_run_step s t c cs e = ap (option_and_then (λ u. size_run u cs)) e
+-- what a text that ends there is read as
 
--- digits
+number_at_end : (flags : Flags) (n : ℕ) (text number : List ℕ) (k : ℕ) → text ≡ number ++ replicate k 32 → IsNumberText current number n
+    → EndsIn (States flags text) None (sized n (unit_of flags unit_start))
+number_at_end flags n text number k e h = (
+  (n, _),
+  record {
+    number_part = number;
+    spaces = k;
+    unit_part = [];
+    text_is = e ∙ ap (λ g. number ++ g) (sym (append-nil (replicate k 32)));
+    number_is = h;
+    unit_is = Spells-reached flags _ _ [] _ refl Reached-start;
+  },
+  refl,
+)
 
-step_first : (c : ℕ) → digit_value c < 10 → size_step Beginning c ≡ Some (Whole (digit_value c))
+-- with its number, a unit ends as it does alone
+unit_at_end_of : (flags : Flags) (n : ℕ) (text unit_part : List ℕ) → ((unit : Shape) → Spells current flags unit_part unit → IsSizeText current flags text n unit)
+    → (fault : Option Fault) (unit : Option Shape) → EndsIn (Spells current flags unit_part) fault (unit_at_end unit) → EndsIn (States flags text) fault (sized n unit)
+unit_at_end_of flags n text unit_part states (Some fault) None e = cc
+unit_at_end_of flags n text unit_part states (Some fault) (Some unit) e = absurd (let k : ⊥ = cc in k)
+unit_at_end_of flags n text unit_part states None None e = absurd (let k : ⊥ = cc (e.2) in k)
+unit_at_end_of flags n text unit_part states None (Some unit) e = let same : unit ≡ e.0 = cc (e.2) in ((n, e.0), states e.0 e.1, ap (λ x. Ok (n, x)) same)
+
+size_ends : (flags : Flags) (s : SizeScan) (text : List ℕ) → SizeReached s text → EndsIn (States flags text) (fault_at_end (size_place s)) (size_at_end flags s)
+size_ends flags Beginning text r = refl
+size_ends flags (Whole w) text r = number_at_end flags (w * one) text text 0 (sym (append-nil text)) (inl (w, r, refl))
+size_ends flags (Point w) text r = refl
+size_ends flags (Fraction w f j) text r = number_at_end flags (precise w f j) text text 0 (sym (append-nil text)) (inr (fraction_number w f j text r))
+size_ends flags (Gap n) text r = number_at_end flags n text r.number_part r.spaces r.text_is r.number_is
+size_ends flags (UnitAt n s) text r =
+    unit_at_end_of flags n text r.unit_part
+    (λ unit h. record { number_part = r.number_part; spaces = r.spaces; unit_part = r.unit_part; text_is = r.text_is; number_is = r.number_is; unit_is = h })
+    (fault_at_end (word_place s.multiple s.word)) (unit_of flags s) (unit_ends flags s.multiple s.word r.unit_part r.reached)
+
+-- a digit makes a number at the beginning and behind the point, a t a unit behind `bi`, and nothing is needed elsewhere
+
+abbrev GoesOn : Flags → SizeScan → Type 0
+GoesOn flags s = (rest : List ℕ) × (found : ℕ × Shape) × (read (size_scan flags) s rest ≡ Ok found)
+
+goes_on_in_unit : (flags : Flags) (n : ℕ) (m : Multiple) (w : Word) → GoesOn flags (UnitAt n (scan_of m w))
+unfolding size_step unit_step
+goes_on_in_unit flags n m Bi = (116 ∷ [], (n, _), refl)
+goes_on_in_unit flags n m w = ([], (n, _), refl)
+
+size_goes_on : (flags : Flags) (s : SizeScan) → GoesOn flags s
 unfolding size_step
-step_first c h = let e : ltb (digit_value c) 10 ≡ true = grind (arith, nat_tests) in rw e refl
+size_goes_on flags Beginning = (48 ∷ [], (_, _), refl)
+size_goes_on flags (Whole w) = ([], (_, _), refl)
+size_goes_on flags (Point w) = (48 ∷ [], (_, _), refl)
+size_goes_on flags (Fraction w f j) = ([], (_, _), refl)
+size_goes_on flags (Gap n) = ([], (n, _), refl)
+size_goes_on flags (UnitAt n s) = goes_on_in_unit flags n s.multiple s.word
 
-step_whole : (w c : ℕ) → digit_value c < 10 → w * 10 + digit_value c < whole_limit → size_step (Whole w) c ≡ Some (Whole (w * 10 + digit_value c))
-unfolding size_step
-step_whole w c h k = let e : ltb (digit_value c) 10 ≡ true = grind (arith, nat_tests) in let f : ltb (w * 10 + digit_value c) whole_limit ≡ true = grind (arith, nat_tests) in rw (e, f) refl
+pub size_scan_is : (flags : Flags) → IsScanOf (size_scan flags) SizeReached (IsSizeFront current) (States flags)
+size_scan_is flags = record {
+  starts = refl;
+  steps = λ s t c text e r. SizeReached-step s t c text (step_is s t c e) r;
+  front = size_front;
+  front_read = size_front_runs flags;
+  ends = size_ends flags;
+  meaning_read = λ text found h. let r = size_text_runs flags text found.0 found.1 h in (r.state, r.run, r.holds);
+  goes_on = size_goes_on flags;
+}
 
-pub step_point : (w : ℕ) → size_step (Whole w) 46 ≡ Some (Point w)
-unfolding size_step
-step_point w = refl
+-- no place has the fault of a size that is too large
+digit_bounds : (t : Bool) (c n : ℕ) → cond t too_long (no_unit current c) ≢ exceeded n
+digit_bounds true c n = λ e. cc
+digit_bounds false c n = λ e. cc
 
-step_pointed : (w c : ℕ) → digit_value c < 10 → size_step (Point w) c ≡ Some (Fraction w (digit_value c) 1)
-unfolding size_step
-step_pointed w c h = let e : ltb (digit_value c) 10 ≡ true = grind (arith, nat_tests) in rw e refl
+no_bounds_at : (flags : Flags) (place : Place) (c n : ℕ) → fault_at current flags place c ≢ exceeded n
+no_bounds_at flags in_whole c n = digit_bounds (is_digit c) c n
+no_bounds_at flags in_fraction c n = digit_bounds (is_digit c) c n
+no_bounds_at flags _ c n = λ e. cc
 
-step_fraction : (w f j c : ℕ) → digit_value c < 10 → j < places_of_decimal → size_step (Fraction w f j) c ≡ Some (Fraction w (f * 10 + digit_value c) (j + 1))
-unfolding size_step
-step_fraction w f j c h k = let e : ltb (digit_value c) 10 ≡ true = grind (arith, nat_tests) in let g : ltb j places_of_decimal ≡ true = grind (arith, nat_tests) in rw (e, g) refl
+no_bounds_at_end : (place : Place) (n : ℕ) → fault_at_end place ≢ Some (exceeded n)
+no_bounds_at_end beginning n = λ e. cc
+no_bounds_at_end after_point n = λ e. cc
+no_bounds_at_end after_bi n = λ e. cc
+no_bounds_at_end _ n = λ e. cc
 
-value_rises : (ds : List ℕ) (v : ℕ) → v ≤ digits_value_after 10 v ds
-value_rises [] v = omega arith
-value_rises (c ∷ cs) v = omega (arith, value_rises cs (v * 10 + digit_value c))
+no_bounds_after : (flags : Flags) (place : Place) (rest : List ℕ) (fault : Fault) (n : ℕ) → IsFaultAfter current flags place rest fault → fault ≢ exceeded n
+no_bounds_after flags place [] fault n h = λ e. no_bounds_at_end place n (h ∙ ap Some e)
+no_bounds_after flags place (c ∷ cs) fault n h = λ e. no_bounds_at flags place c n (sym h ∙ e)
 
-run_digits : (ds : List ℕ) (v : ℕ) → AllDigits 10 ds → digits_value_after 10 v ds < whole_limit → size_run (Whole v) ds ≡ Some (Whole (digits_value_after 10 v ds))
-run_digits [] v h k = refl
-run_digits (c ∷ cs) v h k =
-    let small : v * 10 + digit_value c < whole_limit = omega (arith, value_rises cs (v * 10 + digit_value c), k) in
-    size_run_step (Whole v) (Whole (v * 10 + digit_value c)) c cs (step_whole v c h.0 small) ∙ run_digits cs (v * 10 + digit_value c) h.1 k
+read_no_bounds : (flags : Flags) (text : List ℕ) (r : Result (ℕ × UnitName) ParseError) → size_seen r ≡ read (size_scan flags) Beginning text
+    → IfErr r (λ error. (n : ℕ) → size_fault error ≢ exceeded n)
+read_no_bounds flags text (Ok x) e = tt
+read_no_bounds flags text (Err x) e = λ n.
+    let f = read_refused (size_scan_is flags) stated size_fault text (Err x) e in
+    no_bounds_after flags f.place f.rest (size_fault x) n f.fault_is
 
-pub run_whole : (text : List ℕ) (w : ℕ) → IsWholePart current text w → size_run Beginning text ≡ Some (Whole w)
-run_whole [] w h = absurd (omega (arith, h.0.0))
-run_whole (c ∷ cs) w h =
-    let first : 0 * 10 + digit_value c ≡ digit_value c = omega arith in
-    let value : digits_value_after 10 (digit_value c) cs ≡ w = sym (h.1 ∙ ap (λ v. digits_value_after 10 v cs) first) in
-    size_run_step Beginning (Whole (digit_value c)) c cs (step_first c h.0.1.0) ∙ (run_digits cs (digit_value c) h.0.1.1 (omega (arith, value, h.2)) ∙ ap (λ v. Some (Whole v)) value)
+-- the clauses of the reader's callers, and its laws
 
-run_more_places : (ds : List ℕ) (w f j : ℕ) → AllDigits 10 ds → j + length ds ≤ places_of_decimal → (k : ℕ) × (size_run (Fraction w f j) ds ≡ Some (Fraction w (digits_value_after 10 f ds) k)) × (k ≡ j + length ds)
-run_more_places [] w f j h k = (j, refl, omega arith)
-run_more_places (c ∷ cs) w f j h k =
-    let r = run_more_places cs w (f * 10 + digit_value c) (j + 1) h.1 (omega arith) in
-    (r.0, size_run_step (Fraction w f j) (Fraction w (f * 10 + digit_value c) (j + 1)) c cs (step_fraction w f j c h.0 (omega arith)) ∙ r.1, omega (arith, r.2))
+parts_meant : (r : Result (ℕ × UnitName) ParseError) (n : ℕ) (unit : Shape) → IsOkAnd r (λ found. stated found ≡ (n, unit))
+    → IsOkAnd r (λ found. (found.0 ≡ n) × (shape_of found.1 ≡ unit))
+parts_meant (Ok found) n unit e = (ap (λ x. x.0) e, ap (λ x. x.1) e)
+parts_meant (Err error) n unit e = absurd e
 
-run_pointed : (text : List ℕ) (w : ℕ) → IsPointed current text w → size_run Beginning text ≡ Some (Point w)
-run_pointed text w h = ap (size_run Beginning) h.text_is ∙ (size_through Beginning (Whole w) h.whole (46 ∷ []) (run_whole h.whole w h.whole_is) ∙ size_run_step (Whole w) (Point w) 46 [] (step_point w))
+pub number_reading : (flags : Flags) (bytes : List ℕ) (r : Result (ℕ × UnitName) ParseError) → size_seen r ≡ read (size_scan flags) Beginning (trimmed bytes)
+    → IsNumberReading flags bytes r
+number_reading flags bytes r e = record {
+  found = read_found (size_scan_is flags) stated size_fault (trimmed bytes) r e;
+  reads = λ n unit h. parts_meant r n unit (read_meant (size_scan_is flags) stated size_fault (trimmed bytes) r (n, unit) e h);
+  fault = read_refused (size_scan_is flags) stated size_fault (trimmed bytes) r e;
+  no_bounds = read_no_bounds flags (trimmed bytes) r e;
+}
 
-pub run_places : (text : List ℕ) (w : ℕ) → IsNumeral 10 text → length text ≤ places_of_decimal → (k : ℕ) × (size_run (Point w) text ≡ Some (Fraction w (digits_value 10 text) k)) × (k ≡ length text)
-run_places [] w h l = absurd (omega (arith, h.0))
-run_places (c ∷ cs) w h l =
-    let first : digit_value c ≡ 0 * 10 + digit_value c = omega arith in
-    let r = run_more_places cs w (digit_value c) 1 h.1.1 (omega arith) in
-    (r.0, size_run_step (Point w) (Fraction w (digit_value c) 1) c cs (step_pointed w c h.1.0) ∙ (r.1 ∙ ap (λ v. Some (Fraction w (digits_value_after 10 v cs) r.0)) first), omega (arith, r.2))
+pub size_texts_have_one_answer : SizeTextsHaveOneAnswer
+size_texts_have_one_answer flags text = one_answer (size_scan_is flags) text
 
--- a number, spaces, and a unit
-
-abbrev pub AtNumber : ℕ → SizeScan → Type 0
-AtNumber n (Whole w) = w * one ≡ n
-AtNumber n (Fraction w f j) = precise w f j ≡ n
-AtNumber n (Gap m) = m ≡ n
-AtNumber n _ = ⊥
-
-pub record RunsTo (P : SizeScan → Type 0) (s : SizeScan) (text : List ℕ) : Type 0 where
-  pub state : SizeScan
-  pub run : size_run s text ≡ Some state
-  pub holds : P state
-
-run_precise : (text : List ℕ) (n : ℕ) → IsPrecise current text n → RunsTo (λ s. AtNumber n s × (size_place s ≡ in_fraction)) Beginning text
-run_precise text n h =
-    let p = run_places h.fraction h.value h.fraction_is.0 h.fraction_is.1 in
-    let whole = run_whole h.whole h.value h.whole_is in
-    record {
-      state = Fraction h.value (digits_value 10 h.fraction) p.0;
-      run = ap (size_run Beginning) h.text_is ∙ (size_through Beginning (Whole h.value) h.whole (46 ∷ h.fraction) whole ∙ (size_run_step (Whole h.value) (Point h.value) 46 h.fraction (step_point h.value) ∙ p.1));
-      holds = (ap (λ k. h.value * one + digits_value 10 h.fraction * 10 ^ (places_of_decimal - k)) p.2 ∙ (ap (λ x. h.value * one + x) (sym h.fraction_is.2) ∙ sym h.number_is), refl);
-    }
-
-run_number : (text : List ℕ) (n : ℕ) → IsNumberText current text n → RunsTo (AtNumber n) Beginning text
-run_number text n (inl h) = record { state = Whole h.0; run = run_whole text h.0 h.1; holds = sym h.2 }
-run_number text n (inr h) = let r = run_precise text n h in record { state = r.state; run = r.run; holds = r.holds.0 }
-
--- a letter that begins a unit is no digit, no point and no space
-letter_bounds : (c : ℕ) (p : Prefix) → prefix_at c ≡ Some p → (65 ≤ to_ascii_uppercase c) × (to_ascii_uppercase c ≤ 90)
-letter_bounds c Kilo e = let h = (prefix_found c Kilo e).2 in (omega (arith, h), omega (arith, h))
-letter_bounds c Mega e = let h = (prefix_found c Mega e).2 in (omega (arith, h), omega (arith, h))
-letter_bounds c Giga e = let h = (prefix_found c Giga e).2 in (omega (arith, h), omega (arith, h))
-letter_bounds c Tera e = let h = (prefix_found c Tera e).2 in (omega (arith, h), omega (arith, h))
-letter_bounds c Peta e = let h = (prefix_found c Peta e).2 in (omega (arith, h), omega (arith, h))
-letter_bounds c Exa e = let h = (prefix_found c Exa e).2 in (omega (arith, h), omega (arith, h))
-letter_bounds c Zetta e = let h = (prefix_found c Zetta e).2 in (omega (arith, h), omega (arith, h))
-letter_bounds c Yotta e = let h = (prefix_found c Yotta e).2 in (omega (arith, h), omega (arith, h))
-
-b_bounds : (c : ℕ) (w : Word) → cond (eqb c 66) (Some UpperB) (cond (eqb c 98) (Some LowerB) None) ≡ Some w → (65 ≤ to_ascii_uppercase c) × (to_ascii_uppercase c ≤ 90)
-b_bounds c w e = (grind (arith, nat_tests), grind (arith, nat_tests))
-
-word_bounds : (c : ℕ) (u : UnitScan) (o : Option Word) → word_step Empty c ≡ o → option_map (scan_of One) o ≡ Some u → (65 ≤ to_ascii_uppercase c) × (to_ascii_uppercase c ≤ 90)
-word_bounds c u None e h = absurd (let k : ⊥ = cc in k)
-word_bounds c u (Some w) e h = b_bounds c w e
-
-first_bounds : (c : ℕ) (u : UnitScan) (o : Option Prefix) → prefix_at c ≡ o → or_word One (option_map Decimal o) (word_step Empty c) ≡ Some u → (65 ≤ to_ascii_uppercase c) × (to_ascii_uppercase c ≤ 90)
-first_bounds c u None e h = word_bounds c u (word_step Empty c) refl h
-first_bounds c u (Some p) e h = letter_bounds c p e
-
-unit_bounds : (c : ℕ) (u : UnitScan) → unit_step unit_start c ≡ Some u → (65 ≤ to_ascii_uppercase c) × (to_ascii_uppercase c ≤ 90)
-unfolding unit_step
-unit_bounds c u h = first_bounds c u (prefix_at c) refl h
-
-no_digit : (c : ℕ) → 65 ≤ to_ascii_uppercase c → to_ascii_uppercase c ≤ 90 → 10 ≤ digit_value c
-no_digit c h k = grind (arith, nat_tests)
-
-from_upper : (c : ℕ) → 65 ≤ to_ascii_uppercase c → 65 ≤ c
-from_upper c h = grind (arith, nat_tests)
-
-pub record NoNumber (c : ℕ) : Type 0 where
-  pub digit : ltb (digit_value c) 10 ≡ false
-  pub point : eqb c 46 ≡ false
-  pub space : eqb c 32 ≡ false
-
-no_number : (c : ℕ) (u : UnitScan) → unit_step unit_start c ≡ Some u → NoNumber c
-no_number c u h =
-    let k = unit_bounds c u h in
-    let d = no_digit c k.0 k.1 in
-    let l = from_upper c k.0 in
-    record { digit = grind (arith, nat_tests); point = grind (arith, nat_tests); space = grind (arith, nat_tests) }
-
--- from a number on
-
-step_space : (n : ℕ) (s : SizeScan) → AtNumber n s → size_step s 32 ≡ Some (Gap n)
-unfolding size_step
-step_space n (Whole w) h = ap (λ x. Some (Gap x)) h
-step_space n (Fraction w f j) h = ap (λ x. Some (Gap x)) h
-step_space n (Gap m) h = ap (λ x. Some (Gap x)) h
-step_space n Beginning h = absurd h
-step_space n (Point w) h = absurd h
-step_space n (UnitAt m s) h = absurd h
-
-step_unit : (n c : ℕ) (s : SizeScan) (u : UnitScan) → AtNumber n s → unit_step unit_start c ≡ Some u → size_step s c ≡ Some (UnitAt n u)
-unfolding size_step
-step_unit n c (Whole w) u h e = let k = no_number c u e in rw (k.digit, k.point, k.space, e) (ap (λ x. Some (UnitAt x u)) h)
-step_unit n c (Fraction w f j) u h e = let k = no_number c u e in rw (k.digit, k.space, e) (ap (λ x. Some (UnitAt x u)) h)
-step_unit n c (Gap m) u h e = let k = no_number c u e in rw (k.space, e) (ap (λ x. Some (UnitAt x u)) h)
-step_unit n c Beginning u h e = absurd h
-step_unit n c (Point w) u h e = absurd h
-step_unit n c (UnitAt m s) u h e = absurd h
-
-number_end : (flags : Flags) (n : ℕ) (s : SizeScan) → AtNumber n s → size_at_end flags s ≡ sized n (unit_of flags unit_start)
-number_end flags n (Whole w) h = ap (λ x. sized x (unit_of flags unit_start)) h
-number_end flags n (Fraction w f j) h = ap (λ x. sized x (unit_of flags unit_start)) h
-number_end flags n (Gap m) h = ap (λ x. sized x (unit_of flags unit_start)) h
-number_end flags n Beginning h = absurd h
-number_end flags n (Point w) h = absurd h
-number_end flags n (UnitAt m s) h = absurd h
-
--- a state between a number and a unit
-abbrev pub AtGap : ℕ → SizeScan → Type 0
-AtGap n s = AtNumber n s × (size_place s ≡ before_unit)
-
-run_gap : (n k : ℕ) → RunsTo (AtGap n) (Gap n) (replicate k space)
-run_gap n zero = record { state = Gap n; run = refl; holds = (refl, refl) }
-run_gap n (suc k) =
-    let r = run_gap n k in
-    record { state = r.state; run = size_run_step (Gap n) (Gap n) space (replicate k space) (step_space n (Gap n) refl) ∙ r.run; holds = r.holds }
-
-run_some_spaces : (n k : ℕ) (s : SizeScan) → 0 < k → AtNumber n s → RunsTo (AtGap n) s (replicate k space)
-run_some_spaces n zero s some h = absurd (omega (arith, some))
-run_some_spaces n (suc k) s some h =
-    let r = run_gap n k in
-    record { state = r.state; run = size_run_step s (Gap n) space (replicate k space) (step_space n s h) ∙ r.run; holds = r.holds }
-
-run_spaces : (n k : ℕ) (s : SizeScan) → AtNumber n s → RunsTo (AtNumber n) s (replicate k space)
-run_spaces n zero s h = record { state = s; run = refl; holds = h }
-run_spaces n (suc k) s h = let r = run_some_spaces n (suc k) s (omega arith) h in record { state = r.state; run = r.run; holds = r.holds.0 }
-
-unit_on : (n : ℕ) (u : UnitScan) (s : UnitScan) (c : ℕ) (cs : List ℕ) → ((t : UnitScan) → unit_run t cs ≡ Some u → size_run (UnitAt n t) cs ≡ Some (UnitAt n u)) → (o : Option UnitScan) → unit_step s c ≡ o → option_and_then (λ t. unit_run t cs) o ≡ Some u → size_run (UnitAt n s) (c ∷ cs) ≡ Some (UnitAt n u)
-unfolding size_step
-unit_on n u s c cs more None e h = absurd (let k : ⊥ = cc in k)
-unit_on n u s c cs more (Some t) e h = size_run_step (UnitAt n s) (UnitAt n t) c cs (ap (option_map (UnitAt n)) e) ∙ more t h
-
-run_in_unit : (n : ℕ) (u : UnitScan) (cs : List ℕ) (s : UnitScan) → unit_run s cs ≡ Some u → size_run (UnitAt n s) cs ≡ Some (UnitAt n u)
-run_in_unit n u [] s h = let e : s ≡ u = cc in ap (λ x. Some (UnitAt n x)) e
-run_in_unit n u (c ∷ cs) s h = unit_on n u s c cs (λ t k. run_in_unit n u cs t k) (unit_step s c) refl h
-
--- a state that ends as a number and this unit, at its place if there is more of it than nothing
-pub record EndsAs (n : ℕ) (u : UnitScan) (t : SizeScan) : Type 0 where
-  pub ends : (flags : Flags) → size_at_end flags t ≡ sized n (unit_of flags u)
-  pub place : place_of u ≢ before_unit → size_place t ≡ place_of u
-
-unit_first : (n : ℕ) (u : UnitScan) (s : SizeScan) (c : ℕ) (cs : List ℕ) → AtNumber n s → (o : Option UnitScan) → unit_step unit_start c ≡ o → option_and_then (λ t. unit_run t cs) o ≡ Some u → RunsTo (EndsAs n u) s (c ∷ cs)
-unit_first n u s c cs h None e k = absurd (let x : ⊥ = cc in x)
-unit_first n u s c cs h (Some t) e k = record { state = UnitAt n u; run = size_run_step s (UnitAt n t) c cs (step_unit n c s t h e) ∙ run_in_unit n u cs t k; holds = record { ends = λ flags. refl; place = λ moved. refl } }
-
-run_unit : (n : ℕ) (u : UnitScan) (s : SizeScan) (text : List ℕ) → AtNumber n s → unit_run unit_start text ≡ Some u → RunsTo (EndsAs n u) s text
-run_unit n u s [] h k = let e : unit_start ≡ u = cc in record { state = s; run = refl; holds = record { ends = λ flags. number_end flags n s h ∙ ap (λ x. sized n (unit_of flags x)) e; place = λ moved. absurd (moved (ap place_of (sym e))) } }
-run_unit n u s (c ∷ cs) h k = unit_first n u s c cs h (unit_step unit_start c) refl k
-
--- a number, spaces and what can still become a spelling
-run_sized : (n k : ℕ) (u : UnitScan) (text number unit : List ℕ) → text ≡ number ++ (replicate k space ++ unit) → IsNumberText current number n → unit_run unit_start unit ≡ Some u → RunsTo (EndsAs n u) Beginning text
-run_sized n k u text number unit e h r =
-    let a = run_number number n h in
-    let b = run_spaces n k a.state a.holds in
-    let c = run_unit n u b.state unit b.holds r in
-    record { state = c.state; run = ap (size_run Beginning) e ∙ (size_through Beginning a.state number (replicate k space ++ unit) a.run ∙ (size_through a.state b.state (replicate k space) unit b.run ∙ c.run)); holds = c.holds }
-
--- a size text is read to its end
-
-read_on : (flags : Flags) (t s : SizeScan) (c : ℕ) (cs ys : List ℕ) → ((u : SizeScan) → size_run u cs ≡ Some t → size_read flags u (cs ++ ys) ≡ size_read flags t ys) → (o : Option SizeScan) → size_step s c ≡ o → option_and_then (λ u. size_run u cs) o ≡ Some t → size_read flags s (c ∷ (cs ++ ys)) ≡ size_read flags t ys
-read_on flags t s c cs ys more None e h = absurd (let k : ⊥ = cc in k)
-read_on flags t s c cs ys more (Some u) e h = size_read_some flags s u c (cs ++ ys) e ∙ more u h
-
-pub read_through : (flags : Flags) (t : SizeScan) (cs ys : List ℕ) (s : SizeScan) → size_run s cs ≡ Some t → size_read flags s (cs ++ ys) ≡ size_read flags t ys
-read_through flags t [] ys s h = let e : s ≡ t = cc in ap (λ x. size_read flags x ys) e
-read_through flags t (c ∷ cs) ys s h = read_on flags t s c cs ys (λ u. read_through flags t cs ys u) (size_step s c) refl h
-
-read_run : (flags : Flags) (t : SizeScan) (cs : List ℕ) (s : SizeScan) → size_run s cs ≡ Some t → size_read flags s cs ≡ size_at_end flags t
-read_run flags t cs s h = ap (size_read flags s) (sym (append-nil cs)) ∙ read_through flags t cs [] s h
-
-pub size_text_runs : (flags : Flags) (text : List ℕ) (n : ℕ) (s : Shape) → IsSizeText current flags text n s → RunsTo (λ t. size_at_end flags t ≡ Ok (n, s)) Beginning text
-size_text_runs flags text n s h =
-    let u = spelling_runs flags h.unit_part s h.unit_is in
-    let r = run_sized n h.spaces (scan_of u.multiple u.word) text h.number_part h.unit_part h.text_is h.number_is u.run in
-    record { state = r.state; run = r.run; holds = r.holds.ends flags ∙ ap (sized n) u.unit }
-
--- what is a size text is read as its number and unit
-pub reads_size : (flags : Flags) (text : List ℕ) (n : ℕ) (s : Shape) → IsSizeText current flags text n s → size_read flags Beginning text ≡ Ok (n, s)
-reads_size flags text n s h = let r = size_text_runs flags text n s h in read_run flags r.state text Beginning r.run ∙ r.holds
-
--- a front is scanned to its end
-
-abbrev pub IsScanned : Place → List ℕ → Type 0
-IsScanned place text = (s : SizeScan) × (size_run Beginning text ≡ Some s) × (size_place s ≡ place)
-
-sized_front : (place : Place) (text : List ℕ) → place ≢ before_unit → IsSizedFront current place text → IsScanned place text
-sized_front place text moved h =
-    let u = run_front place h.unit_part h.unit_is in
-    let r = run_sized h.number h.spaces u.0 text h.number_part h.unit_part h.text_is h.number_is u.1 in
-    (r.state, r.run, r.holds.place (λ e. moved (sym u.2 ∙ e)) ∙ u.2)
-
-pub scan_front : (place : Place) (text : List ℕ) → IsSizeFront current place text → IsScanned place text
-scan_front beginning text h = (Beginning, ap (size_run Beginning) h, refl)
-scan_front in_whole text h = (Whole h.0, run_whole text h.0 h.1, refl)
-scan_front after_point text h = (Point h.0, run_pointed text h.0 h.1, refl)
-scan_front in_fraction text h = let r = run_precise text h.0 h.1 in (r.state, r.run, r.holds.1)
-scan_front before_unit text h =
-    let f = h.0 in
-    let a = run_number f.number_part f.number f.number_is in
-    let b = run_some_spaces f.number f.spaces a.state h.1 a.holds in
-    let e : text ≡ f.number_part ++ replicate f.spaces space = f.text_is ∙ ap (λ x. f.number_part ++ x) (ap (λ x. replicate f.spaces space ++ x) f.unit_is ∙ append-nil (replicate f.spaces space)) in
-    (b.state, ap (size_run Beginning) e ∙ (size_through Beginning a.state f.number_part (replicate f.spaces space) a.run ∙ b.run), b.holds.1)
-scan_front after_prefix text h = sized_front after_prefix text (λ e. cc) h
-scan_front after_b text h = sized_front after_b text (λ e. cc) h
-scan_front after_bi text h = sized_front after_bi text (λ e. cc) h
-scan_front after_bit text h = sized_front after_bit text (λ e. cc) h
-scan_front after_bits text h = sized_front after_bits text (λ e. cc) h
+pub size_fronts_are_beginnings : SizeFrontsAreBeginnings
+size_fronts_are_beginnings flags text = fronts_are_beginnings (size_scan_is flags) text

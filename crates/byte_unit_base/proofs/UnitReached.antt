@@ -1,5 +1,5 @@
 -- The scan of a spelling and the spellings are one: what the scan has read, and what it reads.
-use Rattle.std.proofs.Common.{◌≡◌, ℕ, ◌-◌, inl, inr, List, [], ◌∷◌, ◌++◌, Option, Some, None, option_and_then, sym, refl, ap, subst, ◌∙◌, arith, Bool, true, false, cond, eqb, append_assoc, append-nil}
+use Rattle.std.proofs.Common.{◌≡◌, ℕ, ◌-◌, inl, inr, List, [], ◌∷◌, ◌++◌, Option, Some, None, sym, refl, ap, subst, ◌∙◌, arith, Bool, true, false, cond, eqb, append_assoc, append-nil}
 use Rattle.std.specs.Prelude.{slice_index, codes}
 use Rattle.std.specs.Option.{option_map}
 use Rattle.std.specs.Char.{to_ascii_lowercase, to_ascii_uppercase}
@@ -8,7 +8,7 @@ use Rattle.std.proofs.lemmas.Bool.Decides.{nat_tests}
 use Rattle.byte_unit_base.specs.Shape.{Shape}
 use Rattle.byte_unit_base.specs.Edition.{current}
 use Rattle.byte_unit_base.specs.Spelling.{Flags, IsPrefixLetter, SpellsBinary, SpellsPrefix, SpellsCount, Spells}
-use Rattle.byte_unit_base.specs.UnitScan.{unit_step, unit_run, unit_of, start, scan_of, power_of, prefix_at, is_i, multiple_step, word_step, or_word, count_of, multiple_shape}
+use Rattle.byte_unit_base.specs.UnitScan.{unit_step, unit_of, start, scan_of, power_of, prefix_at, is_i, multiple_step, word_step, or_word, count_of, multiple_shape}
 use Rattle.byte_unit_base.specs.declared.unit.scan.Prefix.{Prefix}
 use Rattle.byte_unit_base.specs.declared.unit.scan.Prefix.TheVariants.{Kilo, Mega, Giga, Tera, Peta, Exa, Zetta, Yotta}
 use Rattle.byte_unit_base.specs.declared.unit.scan.Word.{Word}
@@ -16,22 +16,6 @@ use Rattle.byte_unit_base.specs.declared.unit.scan.Word.TheVariants.{Empty, Uppe
 use Rattle.byte_unit_base.specs.declared.unit.scan.Multiple.{Multiple}
 use Rattle.byte_unit_base.specs.declared.unit.scan.Multiple.TheVariants.{One, Decimal, Binary}
 use Rattle.byte_unit_base.specs.declared.unit.scan.UnitScan.{UnitScan}
-
--- the scan of two texts, one after the other
-
-run_on : (cs ys : List ℕ) → ((t : UnitScan) → unit_run t (cs ++ ys) ≡ option_and_then (λ u. unit_run u ys) (unit_run t cs)) → (o : Option UnitScan) → option_and_then (λ t. unit_run t (cs ++ ys)) o ≡ option_and_then (λ t. unit_run t ys) (option_and_then (λ t. unit_run t cs) o)
-run_on cs ys more None = refl
-run_on cs ys more (Some t) = more t
-
-pub unit_run_append : (s : UnitScan) (xs ys : List ℕ) → unit_run s (xs ++ ys) ≡ option_and_then (λ t. unit_run t ys) (unit_run s xs)
-unit_run_append s [] ys = refl
-unit_run_append s (c ∷ cs) ys = run_on cs ys (λ t. unit_run_append t cs ys) (unit_step s c)
-
-pub run_through : (s t : UnitScan) (xs ys : List ℕ) → unit_run s xs ≡ Some t → unit_run s (xs ++ ys) ≡ unit_run t ys
-run_through s t xs ys e = unit_run_append s xs ys ∙ ap (option_and_then (λ u. unit_run u ys)) e
-
-pub run_step : (s t : UnitScan) (c : ℕ) (cs : List ℕ) → unit_step s c ≡ Some t → unit_run s (c ∷ cs) ≡ unit_run t cs
-run_step s t c cs e = ap (option_and_then (λ u. unit_run u cs)) e
 
 -- what has been read at a state of the scan
 

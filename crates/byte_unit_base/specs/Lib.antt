@@ -27,6 +27,7 @@ pub mod ReaderLaws
 pub mod ChoiceLaws
 pub mod SizeLaws
 pub mod FormLaws
+pub mod Scan
 pub mod UnitScan
 pub mod SizeScan
 pub mod Multiples

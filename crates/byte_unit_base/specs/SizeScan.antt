@@ -1,11 +1,10 @@
 -- Private: how the reader goes over a number and a unit, one step a character. No public contract cites this file; that
 -- what it comes to is the texts and faults of the other files is proved.
-use Rattle.std.specs.Prelude.{◌≢◌, ℕ, ◌+◌, ◌-◌, ◌*◌, ◌^◌, ◌<◌, ◌≤◌, ⊤, Bool, if◌then◌else◌, ◌==◌, nat_lt, List, [], ◌∷◌, Option, Some, None, Result, Ok, Err, option_and_then}
+use Rattle.std.specs.Prelude.{ℕ, ◌+◌, ◌-◌, ◌*◌, ◌^◌, ◌<◌, ◌≤◌, ⊤, Bool, if◌then◌else◌, ◌==◌, nat_lt, Option, Some, None, Result, Ok, Err}
 use Rattle.std.specs.Option.{option_map}
 use Rattle.std.specs.Char.{digit_value}
 use Rattle.byte_unit_math.specs.Bounds.{one, places_of_decimal, whole_limit}
 use Rattle.byte_unit_base.specs.Shape.{Shape}
-use Rattle.byte_unit_base.specs.Edition.{current}
 use Rattle.byte_unit_base.specs.Units.{shape_of}
 use Rattle.byte_unit_base.specs.Errors.{size_fault}
 use Rattle.byte_unit_base.specs.Number.{point}
@@ -14,7 +13,8 @@ use Rattle.byte_unit_base.specs.declared.unit.Unit.{Unit as UnitName}
 use Rattle.byte_unit_base.specs.declared.errors.ParseError.{ParseError}
 use Rattle.byte_unit_base.specs.Spelling.{Flags}
 use Rattle.byte_unit_base.specs.Front.{Place, beginning, in_whole, after_point, in_fraction, before_unit}
-use Rattle.byte_unit_base.specs.Fault.{Fault, not_number, no_value, stops_at_bi, fault_at}
+use Rattle.byte_unit_base.specs.Fault.{Fault, not_number, no_value, stops_at_bi}
+use Rattle.byte_unit_base.specs.Scan.{Scan, seen}
 use Rattle.byte_unit_base.specs.UnitScan.{unit_step, unit_of, place_of, start as unit_start}
 use Rattle.byte_unit_base.specs.declared.read.scan.SizeScan.{SizeScan}
 use Rattle.byte_unit_base.specs.declared.read.scan.SizeScan.TheVariants.{Beginning, Whole, Point, Fraction, Gap, Unit as UnitAt}
@@ -24,7 +24,6 @@ abbrev pub IsScan : SizeScan → Type 0
 IsScan (Whole w) = w < whole_limit
 IsScan (Point w) = w < whole_limit
 IsScan (Fraction w f j) = (w < whole_limit) × (f < 10 ^ j) × (j ≤ places_of_decimal)
-IsScan (UnitAt n s) = place_of s ≢ before_unit
 IsScan _ = ⊤
 
 abbrev pub is_digit : ℕ → Bool
@@ -49,10 +48,6 @@ size_step (Fraction w f j) c =
 size_step (Gap n) c = after_number n c
 size_step (UnitAt n s) c = option_map (UnitAt n) (unit_step s c)
 
-abbrev pub size_run : SizeScan → List ℕ → Option SizeScan
-size_run s [] = Some s
-size_run s (c ∷ cs) = option_and_then (λ t. size_run t cs) (size_step s c)
-
 abbrev pub size_place : SizeScan → Place
 size_place Beginning = beginning
 size_place (Whole w) = in_whole
@@ -74,13 +69,18 @@ size_at_end flags (Fraction w f j) = sized (precise w f j) (unit_of flags unit_s
 size_at_end flags (Gap n) = sized n (unit_of flags unit_start)
 size_at_end flags (UnitAt n s) = sized n (unit_of flags s)
 
--- what a scan makes of the rest of a text
-abbrev pub size_read : Flags → SizeScan → List ℕ → Result (ℕ × Shape) Fault
-size_read flags s [] = size_at_end flags s
-size_read flags s (c ∷ cs) =
-    elim (size_step s c) [ Some t ↦ size_read flags t cs | None ↦ Err (fault_at current flags (size_place s) c) ]
+abbrev pub size_scan : Flags → Scan SizeScan (ℕ × Shape)
+size_scan flags = record {
+  flags = flags;
+  start = Beginning;
+  step = size_step;
+  place = size_place;
+  at_end = size_at_end flags;
+}
 
 -- the answer of the code
+abbrev pub stated : ℕ × UnitName → ℕ × Shape
+stated found = (found.0, shape_of found.1)
+
 abbrev pub size_seen : Result (ℕ × UnitName) ParseError → Result (ℕ × Shape) Fault
-size_seen (Ok r) = Ok (r.0, shape_of r.1)
-size_seen (Err e) = Err (size_fault e)
+size_seen = seen stated size_fault

@@ -1,14 +1,14 @@
 -- Private: how the reader goes over a spelling, one step a character. No public contract cites this file; that what it
 -- comes to is the spellings and faults of the other files is proved.
-use Rattle.std.specs.Prelude.{ℕ, Bool, true, false, not, if◌then◌else◌, ◌==◌, List, [], ◌∷◌, Option, Some, None, Result, Ok, Err, option_and_then}
-use Rattle.byte_unit_base.specs.Fault.{Fault, stops_at_bi, fault_at}
+use Rattle.std.specs.Prelude.{ℕ, Bool, true, false, not, if◌then◌else◌, ◌==◌, Option, Some, None, Result, Ok, Err}
+use Rattle.byte_unit_base.specs.Fault.{Fault, stops_at_bi}
 use Rattle.std.specs.Option.{option_map}
 use Rattle.std.specs.Char.{to_ascii_uppercase, to_ascii_lowercase}
 use Rattle.byte_unit_base.specs.Shape.{Shape, shape}
-use Rattle.byte_unit_base.specs.Edition.{current}
 use Rattle.byte_unit_base.specs.Units.{shape_of}
 use Rattle.byte_unit_base.specs.Errors.{unit_fault}
 use Rattle.byte_unit_base.specs.Spelling.{Flags}
+use Rattle.byte_unit_base.specs.Scan.{Scan, seen}
 use Rattle.byte_unit_base.specs.declared.unit.Unit.{Unit as UnitName}
 use Rattle.byte_unit_base.specs.declared.errors.UnitParseError.{UnitParseError}
 use Rattle.byte_unit_base.specs.Front.{Place, before_unit, after_prefix, after_b, after_bi, after_bit, after_bits}
@@ -69,11 +69,6 @@ prefix_step m _ c = None
 unfoldable pub unit_step : UnitScan → ℕ → Option UnitScan
 unit_step s c = or_word s.multiple (prefix_step s.multiple s.word c) (word_step s.word c)
 
--- a scan over a whole text
-abbrev pub unit_run : UnitScan → List ℕ → Option UnitScan
-unit_run s [] = Some s
-unit_run s (c ∷ cs) = option_and_then (λ t. unit_run t cs) (unit_step s c)
-
 abbrev pub start : UnitScan
 start = scan_of One Empty
 
@@ -109,17 +104,20 @@ word_place m Bits = after_bits
 abbrev pub place_of : UnitScan → Place
 place_of s = word_place s.multiple s.word
 
--- what a scan makes of the rest of a text
+-- what a spelling is read as at its end
 abbrev pub unit_at_end : Option Shape → Result Shape Fault
 unit_at_end (Some s) = Ok s
 unit_at_end None = Err stops_at_bi
 
-abbrev pub unit_read : Flags → UnitScan → List ℕ → Result Shape Fault
-unit_read flags s [] = unit_at_end (unit_of flags s)
-unit_read flags s (c ∷ cs) =
-    elim (unit_step s c) [ Some t ↦ unit_read flags t cs | None ↦ Err (fault_at current flags (place_of s) c) ]
+abbrev pub unit_scan : Flags → Scan UnitScan Shape
+unit_scan flags = record {
+  flags = flags;
+  start = start;
+  step = unit_step;
+  place = place_of;
+  at_end = λ s. unit_at_end (unit_of flags s);
+}
 
 -- the answer of the code
 abbrev pub unit_seen : Result UnitName UnitParseError → Result Shape Fault
-unit_seen (Ok u) = Ok (shape_of u)
-unit_seen (Err e) = Err (unit_fault e)
+unit_seen = seen shape_of unit_fault

@@ -4,7 +4,8 @@ ghost use Rattle.std.specs.Prelude.{◌≡◌};
 ghost use Rattle.std.specs.Str.{chars};
 ghost use Rattle.byte_unit_base.specs.Spelling.{reading};
 ghost use Rattle.byte_unit_base.specs.Readings.{IsNumberReading};
-ghost use Rattle.byte_unit_base.specs.SizeScan.{size_seen, size_read};
+ghost use Rattle.byte_unit_base.specs.Scan.{read};
+ghost use Rattle.byte_unit_base.specs.SizeScan.{size_seen, size_scan};
 
 use crate::errors::ParseError;
 use crate::read::scan::SizeScan;
@@ -46,7 +47,7 @@ pub fn read_size(
 
 /// The number and the unit that the whole text states.
 fn read_number_and_unit(text: &str, flags: Flags) -> Result<(Decimal, Unit), ParseError>
-    ensures { size_seen result ≡ size_read flags SizeScan.Beginning (chars text.now) }
+    ensures { size_seen result ≡ read (size_scan flags) SizeScan.Beginning (chars text.now) }
 {
     let mut scan = SizeScan::Beginning;
     for c in text.chars() {

@@ -3,7 +3,8 @@
 ghost use Rattle.std.specs.Prelude.{◌≡◌};
 ghost use Rattle.std.specs.Str.{chars};
 ghost use Rattle.byte_unit_base.specs.Spelling.{reading};
-ghost use Rattle.byte_unit_base.specs.UnitScan.{unit_seen, unit_read, start};
+ghost use Rattle.byte_unit_base.specs.Scan.{read};
+ghost use Rattle.byte_unit_base.specs.UnitScan.{unit_seen, unit_scan, start};
 
 use crate::errors::UnitParseError;
 use crate::unit::Unit;
@@ -57,7 +58,7 @@ impl FromStr for Unit {
 
 /// The unit that the whole text spells.
 fn read_unit(text: &str, flags: Flags) -> Result<Unit, UnitParseError>
-    ensures { unit_seen result ≡ unit_read flags start (chars text.now) }
+    ensures { unit_seen result ≡ read (unit_scan flags) start (chars text.now) }
 {
     let mut scan = UnitScan::START;
     for c in text.chars() {

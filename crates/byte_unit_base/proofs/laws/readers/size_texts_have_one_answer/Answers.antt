@@ -1,4 +1,4 @@
-use Rattle.byte_unit_base.proofs.SizeAnswers.{size_texts_have_one_answer}
+use Rattle.byte_unit_base.proofs.SizeReads.{size_texts_have_one_answer}
 use Rattle.byte_unit_base.proofs.laws.readers.size_texts_have_one_answer.Goals as goal
 
 pub returns : goal.returns

@@ -1,4 +1,4 @@
-use Rattle.byte_unit_base.proofs.Beginnings.{unit_fronts_are_beginnings}
+use Rattle.byte_unit_base.proofs.UnitReads.{unit_fronts_are_beginnings}
 use Rattle.byte_unit_base.proofs.laws.readers.unit_fronts_are_beginnings.Goals as goal
 
 pub returns : goal.returns

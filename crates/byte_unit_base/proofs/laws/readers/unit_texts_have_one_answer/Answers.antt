@@ -1,4 +1,4 @@
-use Rattle.byte_unit_base.proofs.UnitAnswers.{unit_texts_have_one_answer}
+use Rattle.byte_unit_base.proofs.UnitReads.{unit_texts_have_one_answer}
 use Rattle.byte_unit_base.proofs.laws.readers.unit_texts_have_one_answer.Goals as goal
 
 pub returns : goal.returns

@@ -3,27 +3,27 @@ use Rattle.std.proofs.lemmas.Iterator.{YieldsList-from_chars}
 use Rattle.std.proofs.lemmas.Iterator.Consumers.{YieldsList-turn, YieldsList-end}
 use Rattle.std.proofs.lemmas.List.{length_push}
 use Rattle.std.specs.Str.{chars}
-use Rattle.byte_unit_base.specs.UnitScan.{unit_at_end}
-use Rattle.byte_unit_base.proofs.UnitLoop.{unit_read_more, unit_read_stop, unit_read_end}
+use Rattle.byte_unit_base.specs.UnitScan.{unit_scan, unit_at_end}
+use Rattle.byte_unit_base.proofs.Scans.{read_more, read_stop, read_end}
 use Rattle.byte_unit_base.proofs.unit.parse.read_unit.Goals as goal
 
 pub loop-c-preserved : goal.loop-c-preserved
 loop-c-preserved c =
     let t = YieldsList-turn (YieldsList-from_chars c.args.text.now c.utf8.text cc) c.loop-c.yielded _ c.loop-c.yielded_by _ _ c.in-Some.c c.in-Some.is c.next.ensures.steps in
-    let e = unit_read_more c.args.flags c.loop-c.scan c.in-Some-step.next (chars c.args.text.now) _ _ t (sym c.step.ensures ∙ c.in-Some-step.is) in
+    let e = read_more (unit_scan c.args.flags) c.loop-c.scan c.in-Some-step.next (chars c.args.text.now) _ _ t (sym c.step.ensures ∙ c.in-Some-step.is) in
     rw (length_push c.loop-c.yielded c.in-Some.c) (e ∙ c.loop-c.invariant)
 
 pub returns-in-None-step : goal.returns-in-None-step
 returns-in-None-step c =
     let t = YieldsList-turn (YieldsList-from_chars c.args.text.now c.utf8.text cc) c.loop-c.yielded _ c.loop-c.yielded_by _ _ c.in-Some.c c.in-Some.is c.next.ensures.steps in
-    ap Err c.fault.ensures ∙ (unit_read_stop c.args.flags c.loop-c.scan (chars c.args.text.now) _ _ t (sym c.step.ensures ∙ c.in-None-step.is) ∙ c.loop-c.invariant)
+    ap Err c.fault.ensures ∙ (read_stop (unit_scan c.args.flags) c.loop-c.scan (chars c.args.text.now) _ _ t (sym c.step.ensures ∙ c.in-None-step.is) ∙ c.loop-c.invariant)
 
 pub returns-in-Some-unit : goal.returns-in-Some-unit
 returns-in-Some-unit c =
     let t = YieldsList-end (YieldsList-from_chars c.args.text.now c.utf8.text cc) c.loop-c.yielded _ c.loop-c.yielded_by _ _ c.in-None.is c.next.ensures.steps in
-    ap unit_at_end c.in-Some-unit.ensures ∙ (unit_read_end c.args.flags c.loop-c.scan (chars c.args.text.now) _ (omega (arith, t)) ∙ c.loop-c.invariant)
+    ap unit_at_end c.in-Some-unit.ensures ∙ (read_end (unit_scan c.args.flags) c.loop-c.scan (chars c.args.text.now) _ (omega (arith, t)) ∙ c.loop-c.invariant)
 
 pub returns-in-None-unit : goal.returns-in-None-unit
 returns-in-None-unit c =
     let t = YieldsList-end (YieldsList-from_chars c.args.text.now c.utf8.text cc) c.loop-c.yielded _ c.loop-c.yielded_by _ _ c.in-None.is c.next.ensures.steps in
-    ap unit_at_end c.in-None-unit.ensures ∙ (unit_read_end c.args.flags c.loop-c.scan (chars c.args.text.now) _ (omega (arith, t)) ∙ c.loop-c.invariant)
+    ap unit_at_end c.in-None-unit.ensures ∙ (read_end (unit_scan c.args.flags) c.loop-c.scan (chars c.args.text.now) _ (omega (arith, t)) ∙ c.loop-c.invariant)

@@ -1,0 +1,270 @@
+-- A scan that goes over a text one step a character, over any state: what it reads, its longest front and its fault.
+use Rattle.std.proofs.Common.{◌≡◌, ℕ, ◌+◌, ◌<◌, ◌⊎◌, inl, inr, List, [], ◌∷◌, ◌++◌, Option, Some, None, Result, Ok, Err, option_and_then, length, drop, get_or, sym, refl, ap, subst, ◌∙◌, arith, append-nil}
+use Rattle.std.specs.Prelude.{◌↔◌, IfOk, IfErr, IsOkAnd}
+use Rattle.std.proofs.lemmas.List.{at_drop_all}
+use Rattle.byte_unit_base.specs.Edition.{current}
+use Rattle.byte_unit_base.specs.Front.{Place}
+use Rattle.byte_unit_base.specs.Fault.{Fault, fault_at, fault_at_end, IsFaultAfter, IsFirstFault}
+use Rattle.byte_unit_base.specs.ReaderLaws.{IsOneAnswer, Begins}
+use Rattle.byte_unit_base.specs.Scan.{Scan, run, read, seen}
+use Rattle.byte_unit_base.proofs.Lists.{at_next, push_append}
+
+-- the state behind a text
+
+module _ {S : Type 0} (step : S → ℕ → Option S) where
+  run_on : (xs ys : List ℕ) → ((t : S) → run step t (xs ++ ys) ≡ option_and_then (λ u. run step u ys) (run step t xs))
+      → (o : Option S) → option_and_then (λ t. run step t (xs ++ ys)) o ≡ option_and_then (λ u. run step u ys) (option_and_then (λ t. run step t xs) o)
+  run_on xs ys next None = refl
+  run_on xs ys next (Some t) = next t
+
+  -- two texts, one after the other
+  pub run-append : (s : S) (xs ys : List ℕ) → run step s (xs ++ ys) ≡ option_and_then (λ u. run step u ys) (run step s xs)
+  run-append s [] ys = refl
+  run-append s (c ∷ xs) ys = run_on xs ys (λ t. run-append t xs ys) (step s c)
+
+  pub run_through : (s t : S) (xs ys : List ℕ) → run step s xs ≡ Some t → run step s (xs ++ ys) ≡ run step t ys
+  run_through s t xs ys e = run-append s xs ys ∙ ap (option_and_then (λ u. run step u ys)) e
+
+  pub run_step : (s t : S) (c : ℕ) (xs : List ℕ) → step s c ≡ Some t → run step s (c ∷ xs) ≡ run step t xs
+  run_step s t c xs e = ap (option_and_then (λ u. run step u xs)) e
+
+  some_before : (ys : List ℕ) (u : S) (o : Option S) → option_and_then (λ t. run step t ys) o ≡ Some u → (t : S) × (o ≡ Some t)
+  some_before ys u None e = absurd (let k : ⊥ = cc in k)
+  some_before ys u (Some t) e = (t, refl)
+
+  -- there is a state behind the beginning of a text, where there is one behind the text
+  pub run_before : (s u : S) (xs ys : List ℕ) → run step s (xs ++ ys) ≡ Some u → (t : S) × (run step s xs ≡ Some t)
+  run_before s u xs ys e = some_before ys u (run step s xs) (sym (run-append s xs ys) ∙ e)
+
+-- what each step keeps holds behind a text
+module _ {S : Type 0} (step : S → ℕ → Option S) (P : S → List ℕ → Type 0)
+    (keeps : (s t : S) (c : ℕ) (text : List ℕ) → step s c ≡ Some t → P s text → P t (text ++ c ∷ [])) where
+  kept_on : (c : ℕ) (xs front : List ℕ) (s t : S) → ((u : S) → run step u xs ≡ Some t → P u (front ++ c ∷ []) → P t ((front ++ c ∷ []) ++ xs))
+      → (o : Option S) → step s c ≡ o → option_and_then (λ u. run step u xs) o ≡ Some t → P s front → P t (front ++ (c ∷ xs))
+  kept_on c xs front s t next None e h p = absurd (let k : ⊥ = cc in k)
+  kept_on c xs front s t next (Some u) e h p = subst (P t) (push_append front xs c) (next u h (keeps s u c front e p))
+
+  pub run_keeps : (xs front : List ℕ) (s t : S) → run step s xs ≡ Some t → P s front → P t (front ++ xs)
+  run_keeps [] front s t e p = let k : s ≡ t = cc in subst (λ u. P u (front ++ [])) k (subst (P s) (sym (append-nil front)) p)
+  run_keeps (c ∷ xs) front s t e p = kept_on c xs front s t (λ u. run_keeps xs (front ++ c ∷ []) u t) (step s c) refl e p
+
+-- where a scan stops: at the end of the text, or before a character that is no step
+
+module _ {S : Type 0} (step : S → ℕ → Option S) where
+  abbrev pub CannotStep : S → List ℕ → Type 0
+  CannotStep s [] = Unit {0}
+  CannotStep s (c ∷ rest) = step s c ≡ None
+
+  pub record Stop (s : S) (text : List ℕ) : Type 0 where
+    pub front : List ℕ
+    pub rest : List ℕ
+    pub state : S
+    pub text_is : text ≡ front ++ rest
+    pub run_is : run step s front ≡ Some state
+    pub stops : CannotStep state rest
+
+  stop_after : (s : S) (c : ℕ) (cs : List ℕ) → ((t : S) → Stop t cs) → (o : Option S) → step s c ≡ o → Stop s (c ∷ cs)
+  stop_after s c cs next None e = record { front = []; rest = c ∷ cs; state = s; text_is = refl; run_is = refl; stops = e }
+  stop_after s c cs next (Some t) e =
+      let n = next t in
+      record { front = c ∷ n.front; rest = n.rest; state = n.state; text_is = ap (λ x. c ∷ x) n.text_is; run_is = run_step step s t c n.front e ∙ n.run_is; stops = n.stops }
+
+  pub stop_of : (s : S) (text : List ℕ) → Stop s text
+  stop_of s [] = record { front = []; rest = []; state = s; text_is = refl; run_is = refl; stops = tt }
+  stop_of s (c ∷ cs) = stop_after s c cs (λ t. stop_of t cs) (step s c) refl
+
+-- what the rest of a text is read as
+
+module _ {S Meaning : Type 0} (scan : Scan S Meaning) where
+  pub read_some : (s t : S) (c : ℕ) (cs : List ℕ) → scan.step s c ≡ Some t → read scan s (c ∷ cs) ≡ read scan t cs
+  read_some s t c cs e = rw (e, read) refl
+
+  pub read_none : (s : S) (c : ℕ) (cs : List ℕ) → scan.step s c ≡ None → read scan s (c ∷ cs) ≡ Err (fault_at current scan.flags (scan.place s) c)
+  read_none s c cs e = rw (e, read) refl
+
+  read_on : (t s : S) (c : ℕ) (xs ys : List ℕ) → ((u : S) → run scan.step u xs ≡ Some t → read scan u (xs ++ ys) ≡ read scan t ys)
+      → (o : Option S) → scan.step s c ≡ o → option_and_then (λ u. run scan.step u xs) o ≡ Some t → read scan s (c ∷ (xs ++ ys)) ≡ read scan t ys
+  read_on t s c xs ys next None e h = absurd (let k : ⊥ = cc in k)
+  read_on t s c xs ys next (Some u) e h = read_some s u c (xs ++ ys) e ∙ next u h
+
+  pub read_through : (s t : S) (xs ys : List ℕ) → run scan.step s xs ≡ Some t → read scan s (xs ++ ys) ≡ read scan t ys
+  read_through s t [] ys h = let e : s ≡ t = cc in ap (λ u. read scan u ys) e
+  read_through s t (c ∷ xs) ys h = read_on t s c xs ys (λ u. read_through u t xs ys) (scan.step s c) refl h
+
+  -- the reader's loop goes on
+  pub read_more : (s t : S) (cs : List ℕ) (n c : ℕ) → (n < length cs) × (c ≡ get_or cs n c) → scan.step s c ≡ Some t → read scan t (drop (n + 1) cs) ≡ read scan s (drop n cs)
+  read_more s t cs n c h e = sym (at_next (read scan s) cs n c h ∙ read_some s t c (drop (n + 1) cs) e)
+
+  -- it stops
+  pub read_stop : (s : S) (cs : List ℕ) (n c : ℕ) → (n < length cs) × (c ≡ get_or cs n c) → scan.step s c ≡ None
+      → Err (fault_at current scan.flags (scan.place s) c) ≡ read scan s (drop n cs)
+  read_stop s cs n c h e = sym (at_next (read scan s) cs n c h ∙ read_none s c (drop (n + 1) cs) e)
+
+  -- the text ends
+  pub read_end : (s : S) (cs : List ℕ) (n : ℕ) → length cs ≡ n → scan.at_end s ≡ read scan s (drop n cs)
+  read_end s cs n h = sym (at_drop_all (read scan s) cs n (omega arith))
+
+-- what makes a scan that of texts with a meaning
+
+-- a text that ends here has this fault, or it has none and a meaning
+abbrev pub EndsIn : {Meaning : Type 0} → (Meaning → Type 0) → Option Fault → Result Meaning Fault → Type 0
+EndsIn Means (Some fault) answer = answer ≡ Err fault
+EndsIn {Meaning} Means None answer = (meaning : Meaning) × Means meaning × (answer ≡ Ok meaning)
+
+-- the answer is a meaning, or a fault
+abbrev pub IsAnswer : {Meaning : Type 0} → (Meaning → Type 0) → (Fault → Type 0) → Result Meaning Fault → Type 0
+IsAnswer Means Fails (Ok meaning) = Means meaning
+IsAnswer Means Fails (Err fault) = Fails fault
+
+-- behind the text is a state of the scan, at this place
+pub record IsScanned {S Meaning : Type 0} (scan : Scan S Meaning) (place : Place) (text : List ℕ) : Type 0 where
+  pub state : S
+  pub run_is : run scan.step scan.start text ≡ Some state
+  pub place_is : scan.place state ≡ place
+
+pub record IsScanOf {S Meaning : Type 0} (scan : Scan S Meaning) (Reached : S → List ℕ → Type 0) (IsFront : Place → List ℕ → Type 0)
+    (Means : List ℕ → Meaning → Type 0) : Type 0 where
+  -- what has been read at a state: nothing at the first, and one character more behind a step
+  pub starts : Reached scan.start []
+  pub steps : (s t : S) (c : ℕ) (text : List ℕ) → scan.step s c ≡ Some t → Reached s text → Reached t (text ++ c ∷ [])
+  -- that is a front at the place of the state, and each front is read
+  pub front : (s : S) (text : List ℕ) → Reached s text → IsFront (scan.place s) text
+  pub front_read : (place : Place) (text : List ℕ) → IsFront place text → IsScanned scan place text
+  -- at its end a text has the fault of the place, or a meaning
+  pub ends : (s : S) (text : List ℕ) → Reached s text → EndsIn (Means text) (fault_at_end (scan.place s)) (scan.at_end s)
+  -- a text with a meaning is read to it
+  pub meaning_read : (text : List ℕ) (meaning : Meaning) → Means text meaning
+      → (s : S) × (run scan.step scan.start text ≡ Some s) × (scan.at_end s ≡ Ok meaning)
+  -- and from each state something more makes such a text
+  pub goes_on : (s : S) → (rest : List ℕ) × (meaning : Meaning) × (read scan s rest ≡ Ok meaning)
+
+module _ {S Meaning : Type 0} {scan : Scan S Meaning} {Reached : S → List ℕ → Type 0} {IsFront : Place → List ℕ → Type 0}
+    {Means : List ℕ → Meaning → Type 0} (is : IsScanOf scan Reached IsFront Means) where
+  reached : (text : List ℕ) (s : S) → run scan.step scan.start text ≡ Some s → Reached s text
+  reached text s e = run_keeps scan.step Reached is.steps text [] scan.start s e is.starts
+
+  -- no longer text is a front
+  longest : (s : S) (front rest : List ℕ) → run scan.step scan.start front ≡ Some s → CannotStep scan.step s rest
+      → (farther : Place) (next others : List ℕ) → rest ≡ next ++ others → IsFront farther (front ++ next) → next ≡ []
+  longest s front rest e stops farther [] others r f = refl
+  longest s front [] e stops farther (x ∷ xs) others r f = absurd (let k : ⊥ = cc in k)
+  longest s front (c ∷ cs) e stops farther (x ∷ xs) others r f =
+      let g = is.front_read farther (front ++ x ∷ xs) f in
+      let same : c ≡ x = cc in
+      let gone : run scan.step s (x ∷ xs) ≡ None = ap (option_and_then (λ u. run scan.step u xs)) (ap (scan.step s) (sym same) ∙ stops) in
+      let both : Some g.state ≡ None = sym g.run_is ∙ (run_through scan.step scan.start s front (x ∷ xs) e ∙ gone) in
+      absurd (let k : ⊥ = cc in k)
+
+  -- the fault where a scan stops
+  first_fault : (s : S) (text front rest : List ℕ) (fault : Fault) → text ≡ front ++ rest → run scan.step scan.start front ≡ Some s
+      → CannotStep scan.step s rest → IsFaultAfter current scan.flags (scan.place s) rest fault → IsFirstFault IsFront current scan.flags text fault
+  first_fault s text front rest fault t e stops h = record {
+    place = scan.place s;
+    front = front;
+    rest = rest;
+    longest = record { text_is = t; is_front = is.front s front (reached front s e); longest = longest s front rest e stops };
+    fault_is = h;
+  }
+
+  answer_at_end : (s : S) (text : List ℕ) → run scan.step scan.start text ≡ Some s → (o : Option Fault) → fault_at_end (scan.place s) ≡ o
+      → EndsIn (Means text) o (scan.at_end s) → IsAnswer (Means text) (IsFirstFault IsFront current scan.flags text) (scan.at_end s)
+  answer_at_end s text e None at ends = subst (IsAnswer (Means text) (IsFirstFault IsFront current scan.flags text)) (sym ends.2) ends.1
+  answer_at_end s text e (Some fault) at ends =
+      subst (IsAnswer (Means text) (IsFirstFault IsFront current scan.flags text)) (sym ends) (first_fault s text text [] fault (sym (append-nil text)) e tt at)
+
+  answer_where_stopped : (s : S) (text front rest : List ℕ) → text ≡ front ++ rest → run scan.step scan.start front ≡ Some s
+      → CannotStep scan.step s rest → IsAnswer (Means text) (IsFirstFault IsFront current scan.flags text) (read scan s rest)
+  answer_where_stopped s text front [] t e stops =
+      let P : List ℕ → Type 0 = λ x. IsAnswer (Means x) (IsFirstFault IsFront current scan.flags x) (scan.at_end s) in
+      subst P (sym (t ∙ append-nil front)) (answer_at_end s front e (fault_at_end (scan.place s)) refl (is.ends s front (reached front s e)))
+  answer_where_stopped s text front (c ∷ cs) t e stops =
+      let P : Result Meaning Fault → Type 0 = IsAnswer (Means text) (IsFirstFault IsFront current scan.flags text) in
+      subst P (sym (read_none scan s c cs stops)) (first_fault s text front (c ∷ cs) (fault_at current scan.flags (scan.place s) c) t e stops refl)
+
+  -- what a text is read as is its meaning or its fault
+  pub answers : (text : List ℕ) → IsAnswer (Means text) (IsFirstFault IsFront current scan.flags text) (read scan scan.start text)
+  answers text =
+      let stop = stop_of scan.step scan.start text in
+      let P : Result Meaning Fault → Type 0 = IsAnswer (Means text) (IsFirstFault IsFront current scan.flags text) in
+      let same = ap (read scan scan.start) stop.text_is ∙ read_through scan scan.start stop.state stop.front stop.rest stop.run_is in
+      subst P (sym same) (answer_where_stopped stop.state text stop.front stop.rest stop.text_is stop.run_is stop.stops)
+
+  -- a text with a meaning is read as it
+  pub reads_meaning : (text : List ℕ) (meaning : Meaning) → Means text meaning → read scan scan.start text ≡ Ok meaning
+  reads_meaning text meaning h =
+      let r = is.meaning_read text meaning h in
+      ap (read scan scan.start) (sym (append-nil text)) ∙ (read_through scan scan.start r.0 text [] r.1 ∙ r.2)
+
+  fault_of_end : (Means : Meaning → Type 0) (o : Option Fault) (answer : Result Meaning Fault) (fault : Fault) → EndsIn Means o answer → o ≡ Some fault → answer ≡ Err fault
+  fault_of_end Means None answer fault ends e = absurd (let k : ⊥ = cc in k)
+  fault_of_end Means (Some other) answer fault ends e = let same : other ≡ fault = cc in ends ∙ ap Err same
+
+  fault_of_step : (s : S) (front cs : List ℕ) (c : ℕ) (fault : Fault) → Reached s front
+      → ((farther : Place) (next others : List ℕ) → c ∷ cs ≡ next ++ others → IsFront farther (front ++ next) → next ≡ [])
+      → fault ≡ fault_at current scan.flags (scan.place s) c → (o : Option S) → scan.step s c ≡ o → read scan s (c ∷ cs) ≡ Err fault
+  fault_of_step s front cs c fault r longest h None e = read_none scan s c cs e ∙ ap Err (sym h)
+  fault_of_step s front cs c fault r longest h (Some t) e =
+      let none : c ∷ [] ≡ [] = longest (scan.place t) (c ∷ []) cs refl (is.front t (front ++ c ∷ []) (is.steps s t c front e r)) in
+      absurd (let k : ⊥ = cc in k)
+
+  fault_of_rest : (s : S) (front rest : List ℕ) (fault : Fault) → Reached s front
+      → ((farther : Place) (next others : List ℕ) → rest ≡ next ++ others → IsFront farther (front ++ next) → next ≡ [])
+      → IsFaultAfter current scan.flags (scan.place s) rest fault → read scan s rest ≡ Err fault
+  fault_of_rest s front [] fault r longest h = fault_of_end (Means front) (fault_at_end (scan.place s)) (scan.at_end s) fault (is.ends s front r) h
+  fault_of_rest s front (c ∷ cs) fault r longest h = fault_of_step s front cs c fault r longest h (scan.step s c) refl
+
+  -- a text with a fault is read as it
+  pub reads_fault : (text : List ℕ) (fault : Fault) → IsFirstFault IsFront current scan.flags text fault → read scan scan.start text ≡ Err fault
+  reads_fault text fault h =
+      let r = is.front_read h.place h.front h.longest.is_front in
+      let P : Place → Type 0 = λ place. IsFaultAfter current scan.flags place h.rest fault in
+      let rest = fault_of_rest r.state h.front h.rest fault (reached h.front r.state r.run_is) h.longest.longest (subst P (sym r.place_is) h.fault_is) in
+      ap (read scan scan.start) h.longest.text_is ∙ (read_through scan scan.start r.state h.front h.rest r.run_is ∙ rest)
+
+  some_answer : (text : List ℕ) (answer : Result Meaning Fault) → IsAnswer (Means text) (IsFirstFault IsFront current scan.flags text) answer
+      → ((meaning : Meaning) × Means text meaning) ⊎ ((fault : Fault) × IsFirstFault IsFront current scan.flags text fault)
+  some_answer text (Ok meaning) h = inl (meaning, h)
+  some_answer text (Err fault) h = inr (fault, h)
+
+  -- each text has one meaning or one fault
+  pub one_answer : (text : List ℕ) → IsOneAnswer Meaning (Means text) (IsFirstFault IsFront current scan.flags text)
+  one_answer text = record {
+    some = some_answer text (read scan scan.start text) (answers text);
+    one_meaning = λ m n h k. let e = sym (reads_meaning text m h) ∙ reads_meaning text n k in cc;
+    one_fault = λ f g h k. let e = sym (reads_fault text f h) ∙ reads_fault text g k in cc;
+    not_both = λ m f h k. let e = sym (reads_meaning text m h) ∙ reads_fault text f k in absurd (let z : ⊥ = cc in z);
+  }
+
+  front_begins : (text : List ℕ) (place : Place) → IsFront place text → Begins Meaning Means text
+  front_begins text place h =
+      let r = is.front_read place text h in
+      let g = is.goes_on r.state in
+      let whole = text ++ g.0 in
+      let e = read_through scan scan.start r.state text g.0 r.run_is ∙ g.2 in
+      (g.0, g.1, subst (IsAnswer (Means whole) (IsFirstFault IsFront current scan.flags whole)) e (answers whole))
+
+  beginning_is_front : (text rest : List ℕ) (meaning : Meaning) → Means (text ++ rest) meaning → (place : Place) × IsFront place text
+  beginning_is_front text rest meaning h =
+      let r = is.meaning_read (text ++ rest) meaning h in
+      let t = run_before scan.step scan.start r.0 text rest r.1 in
+      (scan.place t.0, is.front t.0 text (reached text t.0 t.1))
+
+  -- the fronts are exactly the beginnings of the texts with a meaning
+  pub fronts_are_beginnings : (text : List ℕ) → ((place : Place) × IsFront place text) ↔ Begins Meaning Means text
+  fronts_are_beginnings text = (λ f. front_begins text f.0 f.1, λ b. beginning_is_front text b.0 b.1 b.2)
+
+  -- the clauses of a reader's callers
+  module _ {R E : Type 0} (meaning : R → Meaning) (fault : E → Fault) (text : List ℕ) where
+    pub read_found : (r : Result R E) → seen meaning fault r ≡ read scan scan.start text → IfOk r (λ value. Means text (meaning value))
+    read_found (Ok value) e = subst (IsAnswer (Means text) (IsFirstFault IsFront current scan.flags text)) (sym e) (answers text)
+    read_found (Err error) e = tt
+
+    pub read_refused : (r : Result R E) → seen meaning fault r ≡ read scan scan.start text
+        → IfErr r (λ error. IsFirstFault IsFront current scan.flags text (fault error))
+    read_refused (Ok value) e = tt
+    read_refused (Err error) e = subst (IsAnswer (Means text) (IsFirstFault IsFront current scan.flags text)) (sym e) (answers text)
+
+    pub read_meant : (r : Result R E) (m : Meaning) → seen meaning fault r ≡ read scan scan.start text → Means text m
+        → IsOkAnd r (λ value. meaning value ≡ m)
+    read_meant (Ok value) m e h = let k : Ok (meaning value) ≡ Ok m = e ∙ reads_meaning text m h in cc
+    read_meant (Err error) m e h = let k : Err (fault error) ≡ Ok m = e ∙ reads_meaning text m h in absurd (let z : ⊥ = cc in z)
