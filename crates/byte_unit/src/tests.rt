@@ -1,12 +1,23 @@
 //! The worked cases that cross crates, as tables.
 
 mod adjusted;
+mod answers;
+mod any_texts;
+mod bounds;
+mod constants;
+mod decimals;
 mod each_unit;
+mod error_texts;
+mod faults;
 mod json;
 mod readings;
+mod stored_faults;
 mod texts;
 mod tour;
+mod unit_texts;
 mod units;
+mod widest;
+mod without_memory;
 
 use crate::{Align, FormatSpec, Sign};
 

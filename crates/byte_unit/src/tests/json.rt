@@ -1,10 +1,9 @@
 use crate::{
-    AdjustedByte, Bit, Byte, JsonSizeError, JsonUnitError, ParseError, Unit, ValueParseError,
-    unit_from_json, unit_to_json,
+    AdjustedByte, Bit, Byte, JsonSizeError, ParseError, Unit, ValueParseError, unit_from_json,
+    unit_to_json,
 };
 use serde_json::{Map, Value};
 use std::alloc::{AllocError, Global};
-use std::process::Abort;
 use std::test::Fail;
 
 /// A JSON string.
@@ -39,62 +38,6 @@ fn strings_read_back(rt: HostRuntime) -> Result<(), Fail> {
         Ok(unit) => assert_eq!(rt; unit, Unit::Kbit),
         Err(_) => panic!(rt; "refused"),
     }
-    Ok(())
-}
-
-/// The text of the error of a value that is no size.
-fn refusal(rt: &impl Abort, alloc: Global, value: &Value) -> Result<String, AllocError> {
-    match Byte::from_json(value) {
-        Ok(_) => panic!(rt; "read"),
-        Err(error) => error.to_string(alloc),
-    }
-}
-
-#[test]
-fn other_values_are_refused(rt: HostRuntime) -> Result<(), Fail> {
-    let number = Value::from_str(rt.alloc(), "15500")?;
-    let null = Value::from_str(rt.alloc(), "null")?;
-    let list = Value::from_str(rt.alloc(), "[]")?;
-    assert!(rt; matches!(Byte::from_json(&number), Err(JsonSizeError::NotString)));
-    assert!(rt; matches!(Bit::from_json(&null), Err(JsonSizeError::NotString)));
-    assert!(rt; matches!(unit_from_json(&list), Err(JsonUnitError::NotString)));
-    assert_eq!(rt;
-        refusal(&rt, rt.alloc(), &null)?.as_str(),
-        "not a JSON string"
-    );
-    let power = refusal(&rt, rt.alloc(), &string(rt.alloc(), "1e3")?)?;
-    assert_eq!(rt;
-        power.as_str(),
-        "the character '3' is incorrect ('B' or 'b' or no character is expected)"
-    );
-    let long = string(rt.alloc(), "0.00000000000000000000000000001 GiB")?;
-    assert!(rt;
-        matches!(
-            Byte::from_json(&long),
-            Err(JsonSizeError::Parse(ParseError::Value(ValueParseError::NumberTooLong)))
-        )
-    );
-    Ok(())
-}
-
-/// The text of the error of a value that is no unit.
-fn unit_refusal(rt: &impl Abort, alloc: Global, value: &Value) -> Result<String, AllocError> {
-    match unit_from_json(value) {
-        Ok(_) => panic!(rt; "read"),
-        Err(error) => error.to_string(alloc),
-    }
-}
-
-#[test]
-fn texts_of_errors_of_units(rt: HostRuntime) -> Result<(), Fail> {
-    assert_eq!(rt;
-        unit_refusal(&rt, rt.alloc(), &Value::Null)?.as_str(),
-        "not a JSON string"
-    );
-    assert_eq!(rt;
-        unit_refusal(&rt, rt.alloc(), &string(rt.alloc(), "x")?)?.as_str(),
-        "the character 'x' is incorrect ('B', 'K', 'M', 'G', 'T', 'P', 'E', 'Z' or 'Y' or no character is expected)"
-    );
     Ok(())
 }
 

@@ -1,5 +1,5 @@
 //! Sizes from texts and from numbers, both kinds in one table.
-use crate::{Bit, Byte, Decimal, Kind, ParseError, TryFromIntError, Unit, ValueParseError};
+use crate::{Bit, Byte, Decimal, Kind, ParseError, TryFromIntError, Unit};
 use std::process::Abort;
 use std::test::Fail;
 
@@ -76,60 +76,6 @@ fn texts_of_great_sizes(rt: HostRuntime) {
         ),
     ];
     state(&rt, &rows);
-}
-
-#[test]
-fn texts_out_of_range(rt: HostRuntime) -> Result<(), Fail> {
-    for (kind, text, number) in [
-        (
-            Kind::Byte,
-            "999999999999999999999999999.0000000000000000000000000001",
-            "999999999999999999999999999.0000000000000000000000000001",
-        ),
-        (
-            Kind::Byte,
-            "79228162514264337593543950335",
-            "79228162514264337593543950335",
-        ),
-        (Kind::Byte, "1000 YB", "1000"),
-        (
-            Kind::Bit,
-            "124.9999999999999999999999999 YB",
-            "124.9999999999999999999999999",
-        ),
-        (Kind::Bit, "125 YB", "125"),
-        (
-            Kind::Bit,
-            "1000000000000000000000000000",
-            "1000000000000000000000000000",
-        ),
-    ] {
-        let wanted = format!(in rt.alloc(); "the value {number} exceeds the valid range")?;
-        match read(kind, text, false) {
-            Ok(_) => panic!(rt; "{text} is read"),
-            Err(error) => assert_eq!(rt; error.to_string(rt.alloc())?.as_str(), wanted.as_str()),
-        }
-    }
-    Ok(())
-}
-
-#[test]
-fn texts_of_long_numbers(rt: HostRuntime) {
-    for kind in [Kind::Byte, Kind::Bit] {
-        for text in [
-            "9.00000000000000000000000000001",
-            "1.00000000000000000000000000000",
-            "79228162514264337593543950336",
-        ] {
-            assert!(rt;
-                matches!(
-                    read(kind, text, false),
-                    Err(ParseError::Value(ValueParseError::NumberTooLong))
-                ),
-                "{text}"
-            );
-        }
-    }
 }
 
 /// So many of the unit, as a size of the kind.

@@ -1,0 +1,140 @@
+//! The constants of both types, as written numbers.
+use crate::{Bit, Byte};
+
+#[test]
+fn constants_without_a_prefix(rt: HostRuntime) {
+    assert_eq!(rt; Byte::BYTE.as_u128(), 1);
+    assert_eq!(rt; Bit::BIT.as_u128(), 1);
+    assert_eq!(rt; Byte::MIN.as_u128(), 0);
+    assert_eq!(rt; Bit::MIN.as_u128(), 0);
+    assert_eq!(rt; Byte::MAX.as_u128(), 999_999_999_999_999_999_999_999_999);
+    assert_eq!(rt; Bit::MAX.as_u128(), 999_999_999_999_999_999_999_999_999);
+}
+
+#[test]
+fn bytes_by_powers_of_ten(rt: HostRuntime) {
+    for (constant, number) in [
+        (Byte::KILOBYTE, 1000),
+        (Byte::MEGABYTE, 1_000_000),
+        (Byte::GIGABYTE, 1_000_000_000),
+        (Byte::TERABYTE, 1_000_000_000_000),
+        (Byte::PETABYTE, 1_000_000_000_000_000),
+        (Byte::EXABYTE, 1_000_000_000_000_000_000),
+        (Byte::ZETTABYTE, 1_000_000_000_000_000_000_000),
+        (Byte::YOTTABYTE, 1_000_000_000_000_000_000_000_000),
+    ] {
+        assert_eq!(rt; constant.as_u128(), number);
+    }
+}
+
+#[test]
+fn bytes_by_powers_of_two(rt: HostRuntime) {
+    for (constant, number) in [
+        (Byte::KIBIBYTE, 1024),
+        (Byte::MEBIBYTE, 1_048_576),
+        (Byte::GIBIBYTE, 1_073_741_824),
+        (Byte::TEBIBYTE, 1_099_511_627_776),
+        (Byte::PEBIBYTE, 1_125_899_906_842_624),
+        (Byte::EXBIBYTE, 1_152_921_504_606_846_976),
+        (Byte::ZEBIBYTE, 1_180_591_620_717_411_303_424),
+        (Byte::YOBIBYTE, 1_208_925_819_614_629_174_706_176),
+    ] {
+        assert_eq!(rt; constant.as_u128(), number);
+    }
+}
+
+#[test]
+fn bits_by_powers_of_ten_in_bytes(rt: HostRuntime) {
+    for (constant, number) in [
+        (Byte::KILOBIT, 125),
+        (Byte::MEGABIT, 125_000),
+        (Byte::GIGABIT, 125_000_000),
+        (Byte::TERABIT, 125_000_000_000),
+        (Byte::PETABIT, 125_000_000_000_000),
+        (Byte::EXABIT, 125_000_000_000_000_000),
+        (Byte::ZETTABIT, 125_000_000_000_000_000_000),
+        (Byte::YOTTABIT, 125_000_000_000_000_000_000_000),
+    ] {
+        assert_eq!(rt; constant.as_u128(), number);
+    }
+}
+
+#[test]
+fn bits_by_powers_of_two_in_bytes(rt: HostRuntime) {
+    for (constant, number) in [
+        (Byte::KIBIBIT, 128),
+        (Byte::MEBIBIT, 131_072),
+        (Byte::GIBIBIT, 134_217_728),
+        (Byte::TEBIBIT, 137_438_953_472),
+        (Byte::PEBIBIT, 140_737_488_355_328),
+        (Byte::EXBIBIT, 144_115_188_075_855_872),
+        (Byte::ZEBIBIT, 147_573_952_589_676_412_928),
+        (Byte::YOBIBIT, 151_115_727_451_828_646_838_272),
+    ] {
+        assert_eq!(rt; constant.as_u128(), number);
+    }
+}
+
+#[test]
+fn bytes_by_powers_of_ten_in_bits(rt: HostRuntime) {
+    for (constant, number) in [
+        (Bit::KILOBYTE, 8000),
+        (Bit::MEGABYTE, 8_000_000),
+        (Bit::GIGABYTE, 8_000_000_000),
+        (Bit::TERABYTE, 8_000_000_000_000),
+        (Bit::PETABYTE, 8_000_000_000_000_000),
+        (Bit::EXABYTE, 8_000_000_000_000_000_000),
+        (Bit::ZETTABYTE, 8_000_000_000_000_000_000_000),
+        (Bit::YOTTABYTE, 8_000_000_000_000_000_000_000_000),
+    ] {
+        assert_eq!(rt; constant.as_u128(), number);
+    }
+}
+
+#[test]
+fn bytes_by_powers_of_two_in_bits(rt: HostRuntime) {
+    for (constant, number) in [
+        (Bit::KIBIBYTE, 8192),
+        (Bit::MEBIBYTE, 8_388_608),
+        (Bit::GIBIBYTE, 8_589_934_592),
+        (Bit::TEBIBYTE, 8_796_093_022_208),
+        (Bit::PEBIBYTE, 9_007_199_254_740_992),
+        (Bit::EXBIBYTE, 9_223_372_036_854_775_808),
+        (Bit::ZEBIBYTE, 9_444_732_965_739_290_427_392),
+        (Bit::YOBIBYTE, 9_671_406_556_917_033_397_649_408),
+    ] {
+        assert_eq!(rt; constant.as_u128(), number);
+    }
+}
+
+#[test]
+fn bits_by_powers_of_ten(rt: HostRuntime) {
+    for (constant, number) in [
+        (Bit::KILOBIT, 1000),
+        (Bit::MEGABIT, 1_000_000),
+        (Bit::GIGABIT, 1_000_000_000),
+        (Bit::TERABIT, 1_000_000_000_000),
+        (Bit::PETABIT, 1_000_000_000_000_000),
+        (Bit::EXABIT, 1_000_000_000_000_000_000),
+        (Bit::ZETTABIT, 1_000_000_000_000_000_000_000),
+        (Bit::YOTTABIT, 1_000_000_000_000_000_000_000_000),
+    ] {
+        assert_eq!(rt; constant.as_u128(), number);
+    }
+}
+
+#[test]
+fn bits_by_powers_of_two(rt: HostRuntime) {
+    for (constant, number) in [
+        (Bit::KIBIBIT, 1024),
+        (Bit::MEBIBIT, 1_048_576),
+        (Bit::GIBIBIT, 1_073_741_824),
+        (Bit::TEBIBIT, 1_099_511_627_776),
+        (Bit::PEBIBIT, 1_125_899_906_842_624),
+        (Bit::EXBIBIT, 1_152_921_504_606_846_976),
+        (Bit::ZEBIBIT, 1_180_591_620_717_411_303_424),
+        (Bit::YOBIBIT, 1_208_925_819_614_629_174_706_176),
+    ] {
+        assert_eq!(rt; constant.as_u128(), number);
+    }
+}

@@ -1,0 +1,86 @@
+//! Why a JSON value is no size and no unit, fault by fault.
+use super::answers::{Answer, NINE, is_fault, is_unit_fault};
+use crate::{AdjustedBit, AdjustedByte, Bit, Byte, JsonSizeError, JsonUnitError, unit_from_json};
+use serde_json::Value;
+use std::process::Abort;
+use std::test::Fail;
+
+/// The value is refused by each type as no string.
+fn assert_no_string(rt: &impl Abort, value: &Value) {
+    assert!(rt; matches!(Byte::from_json(value), Err(JsonSizeError::NotString)));
+    assert!(rt; matches!(Bit::from_json(value), Err(JsonSizeError::NotString)));
+    assert!(rt;
+        matches!(
+            AdjustedByte::from_json(value),
+            Err(JsonSizeError::NotString)
+        )
+    );
+    assert!(rt; matches!(AdjustedBit::from_json(value), Err(JsonSizeError::NotString)));
+    assert!(rt; matches!(unit_from_json(value), Err(JsonUnitError::NotString)));
+}
+
+#[test]
+fn values_that_are_no_strings(rt: HostRuntime) -> Result<(), Fail> {
+    for text in ["15500", "null", "[]", "{}", "true"] {
+        let value = Value::from_str(rt.alloc(), text)?;
+        assert_no_string(&rt, &value);
+    }
+    Ok(())
+}
+
+/// Whether the fault of a JSON string is this one.
+fn is_stored_fault(error: &JsonSizeError, wanted: Answer) -> bool {
+    match error {
+        JsonSizeError::NotString => false,
+        JsonSizeError::Parse(fault) => is_fault(fault, wanted),
+    }
+}
+
+#[test]
+fn strings_that_are_no_sizes(rt: HostRuntime) -> Result<(), Fail> {
+    for (text, wanted) in [
+        ("1e3", Answer::Unit('3', &['B', 'b'], true)),
+        ("", Answer::NoValue),
+        ("x", Answer::NotNumber('x')),
+        ("0.00000000000000000000000000001 GiB", Answer::NumberTooLong),
+        ("1000 YB", Answer::Exceeded(1000, 0)),
+    ] {
+        let value = Value::String(String::from_str(rt.alloc(), text)?);
+        match Byte::from_json(&value) {
+            Ok(_) => panic!(rt; "{text} is read"),
+            Err(error) => assert!(rt; is_stored_fault(&error, wanted), "{text}"),
+        }
+        match AdjustedByte::from_json(&value) {
+            Ok(_) => panic!(rt; "{text} is read"),
+            Err(error) => assert!(rt; is_stored_fault(&error, wanted), "{text}"),
+        }
+        match Bit::from_json(&value) {
+            Ok(_) => panic!(rt; "{text} is read"),
+            Err(error) => assert!(rt; is_stored_fault(&error, wanted), "{text}"),
+        }
+        match AdjustedBit::from_json(&value) {
+            Ok(_) => panic!(rt; "{text} is read"),
+            Err(error) => assert!(rt; is_stored_fault(&error, wanted), "{text}"),
+        }
+    }
+    Ok(())
+}
+
+#[test]
+fn strings_that_are_no_units(rt: HostRuntime) -> Result<(), Fail> {
+    for (text, wanted) in [
+        ("x", Answer::Unit('x', &NINE, true)),
+        ("Kix", Answer::Unit('x', &['B', 'b'], true)),
+        ("GBI", Answer::Unit('i', &[], true)),
+    ] {
+        let value = Value::String(String::from_str(rt.alloc(), text)?);
+        match unit_from_json(&value) {
+            Ok(_) => panic!(rt; "{text} is read"),
+            Err(JsonUnitError::NotString) => panic!(rt; "{text} is a string"),
+            Err(JsonUnitError::Unit(error)) => {
+                assert!(rt; is_unit_fault(&error, wanted), "{text}");
+            }
+        }
+    }
+    Ok(())
+}
