@@ -14,6 +14,7 @@ pub use Rattle.byte_unit_base.specs.Number
 pub use Rattle.byte_unit_base.specs.SizeText
 pub use Rattle.byte_unit_base.specs.Front
 pub use Rattle.byte_unit_base.specs.Fault
+pub use Rattle.byte_unit_base.specs.UnitRefusal
 pub use Rattle.byte_unit_base.specs.FaultText
 pub use Rattle.byte_unit_base.specs.Errors
 pub use Rattle.byte_unit_base.specs.Readings

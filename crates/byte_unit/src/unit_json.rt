@@ -1,6 +1,6 @@
 //! Units as JSON strings.
 
-ghost use Rattle.std.specs.Prelude.{◌≡◌, IfOk, true, false};
+ghost use Rattle.std.specs.Prelude.{◌≡◌, ⊤, IfOk, true, false};
 ghost use Rattle.serde_json.specs.Data.{string};
 ghost use Rattle.serde_json.specs.Find.{as_str};
 ghost use Rattle.serde_json.specs.View.{view};
@@ -17,12 +17,27 @@ use std::error::Error;
 use std::fmt;
 
 /// Why a JSON value is no unit.
-#[derive(Clone, Copy, Debug)]
+#[derive(Copy, Debug)]
 pub enum JsonUnitError {
     /// The value is no string.
     NotString,
     /// The string is refused.
     Unit(UnitParseError),
+}
+
+// Written by hand, as for the errors that it holds: the borrow checker has no rule for a derived `clone` of a type that is
+// `Copy` and holds a reference behind a model.
+impl Clone for JsonUnitError {
+    ghost is_clone = { λ error copy. copy ≡ error };
+
+    ghost is_infallible = { λ _. ⊤ };
+
+    fn clone(&self) -> Result<JsonUnitError, AllocError> {
+        Ok(match self {
+            JsonUnitError::NotString => JsonUnitError::NotString,
+            JsonUnitError::Unit(error) => JsonUnitError::Unit(error.clone()?),
+        })
+    }
 }
 
 impl fmt::Display for JsonUnitError {

@@ -6,6 +6,7 @@ pub mod Number
 pub mod SizeText
 pub mod Front
 pub mod Fault
+pub mod UnitRefusal
 pub mod FaultText
 pub mod Errors
 pub mod Readings

@@ -1,11 +1,14 @@
 //! The errors of the readers, and that of a number which fits no size.
 
+ghost use Rattle.std.specs.Prelude.{◌≡◌, ⊤};
 ghost use Rattle.std.specs.Fmt.{DisplaysOnOk};
-ghost use Rattle.byte_unit_base.specs.FaultText.{others_text};
+ghost use Rattle.byte_unit_base.specs.FaultText.{expected_text, others_text};
 
 use byte_unit_math::Decimal;
+use std::alloc::AllocError;
 use std::error::Error;
 use std::fmt;
+use std::marker::Model;
 
 /// A number is negative, or too large for a size.
 #[derive(Clone, Copy, Debug, PartialEq, Eq)]
@@ -26,7 +29,7 @@ pub enum ValueParseError {
 }
 
 /// Why the spelling of a unit is refused.
-#[derive(Clone, Copy, Debug)]
+#[derive(Copy, Debug)]
 pub struct UnitParseError {
     /// The first character that goes on with no spelling; the character `i`, also for an `I`, where the text stops
     /// after the `bi` of a b-part.
@@ -38,15 +41,34 @@ pub struct UnitParseError {
     pub also_expect_no_character: bool,
 }
 
+/// The record of the fields. A model hides the reference from the borrow checker, which has no rule for passing on an
+/// answer that holds one beside a size.
+impl Model for UnitParseError {
+    ghost use Rattle.byte_unit_base.specs.UnitRefusal.{UnitRefusal};
+
+    ghost Value = { UnitRefusal };
+
+    ghost view = { λ e. record {
+      character = e.character;
+      expected_characters = e.expected_characters;
+      also_expect_no_character = e.also_expect_no_character;
+    } };
+
+    ghost inverse = { λ e. record {
+      character = e.character;
+      expected_characters = e.expected_characters;
+      also_expect_no_character = e.also_expect_no_character;
+    } };
+}
+
 /// Why the text of a number and a unit is refused: the first fault from the left.
 ///
-/// A reader that answers a size or this is matched where it is called, by `match`, `if let` or `let .. else`: the borrow
-/// checker has no rule yet for `?`, `ok` or `map_err` at a value of a size and a list by reference.
-///
 /// ```text
-/// let Ok(limit) = Byte::parse_str(text, false) else { return Err(SettingsError::Limit) };
+/// let limit: Byte = text.parse()?;                                  // in a function that answers this error
+/// let limit = Byte::parse_str(text, false).map_err(SettingsError::Limit)?;
+/// let limit = text.parse().unwrap_or(Byte::GIBIBYTE);
 /// ```
-#[derive(Clone, Copy, Debug)]
+#[derive(Copy, Debug)]
 pub enum ParseError {
     /// The number is refused.
     Value(ValueParseError),
@@ -55,7 +77,7 @@ pub enum ParseError {
 }
 
 /// Why a JSON value is no size.
-#[derive(Clone, Copy, Debug)]
+#[derive(Copy, Debug)]
 pub enum JsonSizeError {
     /// The value is no string.
     NotString,
@@ -70,6 +92,49 @@ impl UnitParseError {
         expected_characters: &[],
         also_expect_no_character: true,
     };
+}
+
+// `Clone` of what holds a reference behind a model is written by hand: a derived `clone` of a type that is `Copy` is a
+// copy, and the borrow checker has no rule for one here.
+
+impl Clone for UnitParseError {
+    ghost is_clone = { λ error copy. copy ≡ error };
+
+    ghost is_infallible = { λ _. ⊤ };
+
+    fn clone(&self) -> Result<UnitParseError, AllocError> {
+        Ok(UnitParseError {
+            character: self.character,
+            expected_characters: self.expected_characters,
+            also_expect_no_character: self.also_expect_no_character,
+        })
+    }
+}
+
+impl Clone for ParseError {
+    ghost is_clone = { λ error copy. copy ≡ error };
+
+    ghost is_infallible = { λ _. ⊤ };
+
+    fn clone(&self) -> Result<ParseError, AllocError> {
+        Ok(match self {
+            ParseError::Value(error) => ParseError::Value(*error),
+            ParseError::Unit(error) => ParseError::Unit(error.clone()?),
+        })
+    }
+}
+
+impl Clone for JsonSizeError {
+    ghost is_clone = { λ error copy. copy ≡ error };
+
+    ghost is_infallible = { λ _. ⊤ };
+
+    fn clone(&self) -> Result<JsonSizeError, AllocError> {
+        Ok(match self {
+            JsonSizeError::NotString => JsonSizeError::NotString,
+            JsonSizeError::Parse(error) => JsonSizeError::Parse(error.clone()?),
+        })
+    }
 }
 
 impl fmt::Display for ExceededBoundsError {
@@ -110,24 +175,13 @@ impl fmt::Display for UnitParseError {
 
     fn fmt<W: fmt::Write>(&self, f: &mut fmt::Formatter<W>) -> fmt::Result {
         write!(f, "the character {:?} is incorrect", self.character)?;
-        match self.expected_characters {
-            [] => f.write_str(" (no character is expected)"),
-            [first, others @ ..] => {
-                write!(f, " ({first:?}")?;
-                write_others(others, f)?;
-                if self.also_expect_no_character {
-                    f.write_str(" or no character")?;
-                }
-                f.write_str(" is expected)")
-            }
-        }
+        write_expected(self.expected_characters, self.also_expect_no_character, f)
     }
 }
 
 impl Error for UnitParseError {}
 
 impl From<ValueParseError> for ParseError {
-    ghost use Rattle.std.specs.Prelude.{◌≡◌};
     ghost use Rattle.byte_unit_base.specs.declared.errors.ParseError.TheVariants.{Value};
 
     ghost from_gives = { λ error result. result ≡ Value error };
@@ -138,7 +192,6 @@ impl From<ValueParseError> for ParseError {
 }
 
 impl From<UnitParseError> for ParseError {
-    ghost use Rattle.std.specs.Prelude.{◌≡◌};
     ghost use Rattle.byte_unit_base.specs.declared.errors.ParseError.TheVariants.{Unit as UnitError};
 
     ghost from_gives = { λ error result. result ≡ UnitError error };
@@ -162,6 +215,27 @@ impl fmt::Display for ParseError {
 }
 
 impl Error for ParseError {}
+
+/// Writes what is expected in the place of a character.
+fn write_expected<W: fmt::Write>(
+    expected: &[char],
+    also_expect_no_character: bool,
+    f: &mut fmt::Formatter<W>,
+) -> fmt::Result
+    ensures { DisplaysOnOk W.write_str_gives f.old result (expected_text expected.now also_expect_no_character) f.new }
+{
+    match expected {
+        [] => f.write_str(" (no character is expected)"),
+        [first, others @ ..] => {
+            write!(f, " ({first:?}")?;
+            write_others(others, f)?;
+            if also_expect_no_character {
+                f.write_str(" or no character")?;
+            }
+            f.write_str(" is expected)")
+        }
+    }
+}
 
 /// Writes the expected characters after the first.
 fn write_others<W: fmt::Write>(others: &[char], f: &mut fmt::Formatter<W>) -> fmt::Result

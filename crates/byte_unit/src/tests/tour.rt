@@ -21,23 +21,29 @@ fn reading(rt: HostRuntime) {
 }
 
 /// What can be wrong in the settings of an example.
-#[derive(Debug, PartialEq, Drop)]
+#[derive(Debug, Drop)]
 enum SettingsError {
-    Quota,
+    Quota(ParseError),
 }
 
 /// The quota of a setting.
 fn quota_of(text: &str) -> Result<Byte, SettingsError> {
-    let Ok(quota) = Byte::parse_str(text, false) else {
-        return Err(SettingsError::Quota);
-    };
+    let quota = Byte::parse_str(text, false).map_err(SettingsError::Quota)?;
     Ok(quota)
 }
 
 #[test]
 fn reading_into_an_error_of_the_caller(rt: HostRuntime) {
-    assert_eq!(rt; quota_of("20 GB"), Ok(Byte::from_u64(20_000_000_000)));
-    assert_eq!(rt; quota_of("20 GX"), Err(SettingsError::Quota));
+    assert_eq!(rt;
+        quota_of("20 GB").ok(),
+        Some(Byte::from_u64(20_000_000_000))
+    );
+    assert!(rt;
+        matches!(
+            quota_of("20 GX"),
+            Err(SettingsError::Quota(ParseError::Unit(_)))
+        )
+    );
 }
 
 #[test]
