@@ -1,5 +1,6 @@
 -- The units from the largest, and a search along them.
-use Rattle.std.proofs.Common.{◌≡◌, ℕ, ◌+◌, ◌<◌, ◌≤◌, ◌⊎◌, ⊎_elim, inl, inr, zero, suc, Bool, true, false, List, [], ◌∷◌, ◌++◌, length, map, drop, get_or, ◌&&◌, leb, add-one, drop-cons, arith, sym, ap, ◌∙◌, subst, refl}
+use Rattle.std.proofs.Common.{◌≡◌, ℕ, ◌+◌, ◌<◌, ◌≤◌, ◌⊎◌, ⊎_elim, inl, inr, zero, suc, Bool, true, false, List, [], ◌∷◌, ◌++◌, length, map}
+use Rattle.std.proofs.Common.{drop, get_or, ◌&&◌, leb, add-one, drop-cons, arith, sym, ap, ◌∙◌, subst, refl}
 use Rattle.std.proofs.lemmas.List.{drop_all, get_or-map, length-map}
 use Rattle.std.proofs.lemmas.Bool.{and_parts, cases_lt, leb-true}
 use Rattle.byte_unit_math.specs.Bounds.{unit_limit}
@@ -10,7 +11,7 @@ use Rattle.byte_unit_base.specs.Multiples.{of_prefix, falling_from, falling}
 use Rattle.byte_unit_base.specs.declared.unit.family.Family.{Family}
 use Rattle.byte_unit_base.specs.declared.unit.Unit.{Unit as UnitName}
 use Rattle.byte_unit_base.specs.Units.{shape_of}
-use Rattle.byte_unit_base.specs.Choice.{IsLargest}
+use Rattle.byte_unit_base.specs.Choice.{IsLargest, NoneHas}
 
 -- the unit is one of these
 abbrev pub IsIn : Shape → List Shape → Type 0
@@ -47,7 +48,8 @@ in_falling (suc n) unit some known =
     ⊎_elim (λ below. IsIn-right (of_prefix (suc n)) (falling_from n) unit (in_falling n unit some (omega (arith, below)))) (λ above.
     let same : unit.power ≡ suc n = omega (arith, above, known) in
     let P : ℕ → Type 0 = λ k. IsIn unit (of_prefix k) in
-    IsIn-left (of_prefix (suc n)) (falling_from n) unit (subst P same (in_prefix unit.power unit.binary unit.bit))) (cases_lt unit.power (suc n))
+    IsIn-left (of_prefix (suc n)) (falling_from n) unit
+    (subst P same (in_prefix unit.power unit.binary unit.bit))) (cases_lt unit.power (suc n))
 
 -- none is above the bound
 pub le_of_falls : (xs : List Shape) (bound : ℕ) (unit : Shape) → falls bound xs ≡ true → IsIn unit xs → bits unit ≤ bound
@@ -55,10 +57,11 @@ le_of_falls [] bound unit h i = absurd i
 le_of_falls (x ∷ xs) bound unit h i =
     let parts = and_parts (leb (bits x) bound) (falls (bits x) xs) h in
     let first = leb-true (bits x) bound parts.0 in
-    ⊎_elim (λ e. let P : Shape → Type 0 = λ s. bits s ≤ bound in subst P e first) (λ k. let below = le_of_falls xs (bits x) unit parts.1 k in omega (arith, first, below)) i
+    ⊎_elim (λ e. omega (arith, ap bits e, first)) (λ k. omega (arith, first, le_of_falls xs (bits x) unit parts.1 k)) i
 
 -- so from any place on
-falls_on : (xs : List Shape) (bound i : ℕ) (x : Shape) (rest : List Shape) → falls bound xs ≡ true → drop i xs ≡ x ∷ rest → falls (bits x) rest ≡ true
+falls_on : (xs : List Shape) (bound i : ℕ) (x : Shape) (rest : List Shape) → falls bound xs ≡ true → drop i xs ≡ x ∷ rest
+    → falls (bits x) rest ≡ true
 falls_on [] bound zero x rest h e = absurd (let k : ⊥ = cc in k)
 falls_on [] bound (suc i) x rest h e = absurd (let k : ⊥ = cc in k)
 falls_on (y ∷ ys) bound zero x rest h e =
@@ -74,7 +77,8 @@ pub current_falls : falls unit_limit (falling current) ≡ true
 current_falls = refl
 
 -- the first with the property is the largest
-pub largest_found : (Has : Shape → Type 0) (units : List Shape) (i : ℕ) (x : Shape) → units ≡ falling current → Remain Has (drop i units) → i < length units → get_or units i x ≡ x → Has x → IsLargest Has x
+pub largest_found : (Has : Shape → Type 0) (units : List Shape) (i : ℕ) (x : Shape) → units ≡ falling current → Remain Has (drop i units)
+    → i < length units → get_or units i x ≡ x → Has x → IsLargest Has x
 largest_found Has units i x all remain more at has =
     let e : drop i units ≡ x ∷ drop (suc i) units = drop-cons units i x more ∙ ap (λ y. y ∷ drop (suc i) units) at in
     let R : List Shape → Type 0 = λ l. falls unit_limit l ≡ true in
@@ -83,26 +87,32 @@ largest_found Has units i x all remain more at has =
       has = has;
       largest = λ unit h.
           let P : List Shape → Type 0 = λ l. IsIn unit l in
-          ⊎_elim (λ same. let Q : Shape → Type 0 = λ s. bits s ≤ bits x in subst Q same (let k : bits x ≤ bits x = omega arith in k)) (λ later. le_of_falls (drop (suc i) units) (bits x) unit (falls_on units unit_limit i x (drop (suc i) units) fall e) later) (subst P e (remain unit h));
+          let rest = drop (suc i) units in
+          ⊎_elim
+          (λ same. omega (arith, ap bits same))
+          (λ later. le_of_falls rest (bits x) unit (falls_on units unit_limit i x rest fall e) later)
+          (subst P e (remain unit h));
     }
 
 -- one without it is left behind
-pub Remain-more : (Has : Shape → Type 0) (units : List Shape) (i : ℕ) (x : Shape) → Remain Has (drop i units) → i < length units → get_or units i x ≡ x → (Has x → ⊥) → Remain Has (drop (i + 1) units)
-Remain-more Has units i x remain more at without = λ unit h.
+pub Remain-behind : (Has : Shape → Type 0) (units : List Shape) (i : ℕ) (x : Shape) → Remain Has (drop i units) → i < length units
+    → get_or units i x ≡ x → ¬ (Has x) → Remain Has (drop (i + 1) units)
+Remain-behind Has units i x remain more at without = λ unit h.
     let e : drop i units ≡ x ∷ drop (suc i) units = drop-cons units i x more ∙ ap (λ y. y ∷ drop (suc i) units) at in
     let P : List Shape → Type 0 = λ l. IsIn unit l in
     rw add-one (⊎_elim (λ same. absurd (without (subst Has (sym same) h))) (λ later. later) (subst P e (remain unit h)))
 
 -- a unit of a family is one of all
-pub Remain-none : (Has : Shape → Type 0) (units : List Shape) (family : Family) → units ≡ falling current → ((unit : Shape) → Has unit → InFamily current family unit) → Remain Has (drop 0 units)
-Remain-none Has units family all member = λ unit h.
+pub Remain-at_start : (Has : Shape → Type 0) (units : List Shape) (family : Family) → units ≡ falling current
+    → ((unit : Shape) → Has unit → InFamily current family unit) → Remain Has (drop 0 units)
+Remain-at_start Has units family all member = λ unit h.
     let m = member unit h in
     let P : List Shape → Type 0 = λ l. IsIn unit l in
     subst P (sym all) (in_falling (length current.letters) unit m.prefix.some m.prefix.known)
 
 -- none is left at the end
-pub Remain-all : (Has : Shape → Type 0) (units : List Shape) (i : ℕ) → length units ≤ i → Remain Has (drop i units) → (unit : Shape) → Has unit → ⊥
-Remain-all Has units i done remain unit h =
+pub Remain-at_end : (Has : Shape → Type 0) (units : List Shape) (i : ℕ) → length units ≤ i → Remain Has (drop i units) → NoneHas Has
+Remain-at_end Has units i done remain unit h =
     let P : List Shape → Type 0 = λ l. IsIn unit l in
     let e : drop i units ≡ [] = drop_all i units done in
     subst P e (remain unit h)
@@ -111,35 +121,55 @@ in_range : (n : ℕ) (unit : Shape) → IsIn unit (falling_from n) → (1 ≤ un
 in_range zero unit h = absurd h
 in_range (suc n) unit h =
     let P : Type 0 = (1 ≤ unit.power) × (unit.power ≤ suc n) in
-    let here = λ (b t : Bool) (e : shape (suc n) b t ≡ unit). let f : suc n ≡ unit.power = ap (λ s. s.power) e in let k : P = (omega arith, omega arith) in k in
-    ⊎_elim {C = P} (here true false) (λ a. ⊎_elim {C = P} (here false false) (λ b. ⊎_elim {C = P} (here true true) (λ c. ⊎_elim {C = P} (here false true) (λ d. let r = in_range n unit d in (r.0, omega (arith, r.1))) c) b) a) h
+    let here =
+    λ (b t : Bool) (e : shape (suc n) b t ≡ unit).
+    let same : suc n ≡ unit.power = ap (λ s. s.power) e in
+    let k : P = (omega arith, omega arith) in
+    k in
+    let later = λ (i : IsIn unit (falling_from n)). let r = in_range n unit i in let k : P = (r.0, omega (arith, r.1)) in k in
+    let last = ⊎_elim {C = P} (here false true) later in
+    let third = ⊎_elim {C = P} (here true true) last in
+    let second = ⊎_elim {C = P} (here false false) third in
+    ⊎_elim {C = P} (here true false) second h
 
 IsIn-at : (xs : List Shape) (i : ℕ) (d : Shape) → i < length xs → IsIn (get_or xs i d) xs
 IsIn-at [] i d h = absurd (omega (arith, h))
 IsIn-at (x ∷ xs) zero d h = inl refl
 IsIn-at (x ∷ xs) (suc i) d h = inr (IsIn-at xs i d (omega (arith, h)))
 
-at_unit : (items : List UnitName) (i : ℕ) (d : UnitName) → i < length items → get_or (map shape_of items) i (shape_of (get_or items i d)) ≡ shape_of (get_or items i d)
+at_unit : (items : List UnitName) (i : ℕ) (d : UnitName) → i < length items
+    → get_or (map shape_of items) i (shape_of (get_or items i d)) ≡ shape_of (get_or items i d)
 at_unit items i d more = get_or-map shape_of items i d (shape_of (get_or items i d)) more
 
 -- each of the units has a prefix
-pub unit_prefix : (items : List UnitName) (i : ℕ) (d : UnitName) → map shape_of items ≡ falling current → i < length items → HasPrefix current (shape_of (get_or items i d))
+pub unit_prefix : (items : List UnitName) (i : ℕ) (d : UnitName) → map shape_of items ≡ falling current → i < length items
+    → HasPrefix current (shape_of (get_or items i d))
 unit_prefix items i d all more =
     let P : Shape → Type 0 = λ s. IsIn s (map shape_of items) in
     let Q : List Shape → Type 0 = λ l. IsIn (shape_of (get_or items i d)) l in
-    let found = subst P (at_unit items i d more) (IsIn-at (map shape_of items) i (shape_of (get_or items i d)) (omega (arith, length-map items shape_of, more))) in
+    let found =
+    let unit = shape_of (get_or items i d) in
+    subst P (at_unit items i d more) (IsIn-at (map shape_of items) i unit (omega (arith, length-map items shape_of, more))) in
     let range = in_range (length current.letters) (shape_of (get_or items i d)) (subst Q all found) in
     record { some = range.0; known = range.1 }
 
 -- the same, of a list of units
-pub unit_found : (Has : Shape → Type 0) (items : List UnitName) (i : ℕ) (d : UnitName) → map shape_of items ≡ falling current → Remain Has (drop i (map shape_of items)) → i < length items → Has (shape_of (get_or items i d)) → IsLargest Has (shape_of (get_or items i d))
-unit_found Has items i d all remain more has = largest_found Has (map shape_of items) i (shape_of (get_or items i d)) all remain (omega (arith, length-map items shape_of, more)) (at_unit items i d more) has
+pub unit_found : (Has : Shape → Type 0) (items : List UnitName) (i : ℕ) (d : UnitName) → map shape_of items ≡ falling current
+    → Remain Has (drop i (map shape_of items)) → i < length items → Has (shape_of (get_or items i d))
+    → IsLargest Has (shape_of (get_or items i d))
+unit_found Has items i d all remain more has =
+    let unit = shape_of (get_or items i d) in
+    largest_found Has (map shape_of items) i unit all remain (omega (arith, length-map items shape_of, more)) (at_unit items i d more) has
 
-pub unit_passed : (Has : Shape → Type 0) (items : List UnitName) (i : ℕ) (d : UnitName) → Remain Has (drop i (map shape_of items)) → i < length items → (Has (shape_of (get_or items i d)) → ⊥) → Remain Has (drop (i + 1) (map shape_of items))
-unit_passed Has items i d remain more without = Remain-more Has (map shape_of items) i (shape_of (get_or items i d)) remain (omega (arith, length-map items shape_of, more)) (at_unit items i d more) without
+pub unit_passed : (Has : Shape → Type 0) (items : List UnitName) (i : ℕ) (d : UnitName) → Remain Has (drop i (map shape_of items))
+    → i < length items → ¬ (Has (shape_of (get_or items i d))) → Remain Has (drop (i + 1) (map shape_of items))
+unit_passed Has items i d remain more without =
+    let unit = shape_of (get_or items i d) in
+    Remain-behind Has (map shape_of items) i unit remain (omega (arith, length-map items shape_of, more)) (at_unit items i d more) without
 
-pub none_found : (Has : Shape → Type 0) (items : List UnitName) (i : ℕ) → length items ≤ i → Remain Has (drop i (map shape_of items)) → (unit : Shape) → Has unit → ⊥
-none_found Has items i done remain = Remain-all Has (map shape_of items) i (omega (arith, length-map items shape_of, done)) remain
+pub none_found : (Has : Shape → Type 0) (items : List UnitName) (i : ℕ) → length items ≤ i → Remain Has (drop i (map shape_of items))
+    → NoneHas Has
+none_found Has items i done remain = Remain-at_end Has (map shape_of items) i (omega (arith, length-map items shape_of, done)) remain
 
-pub none_true : (b : Bool) (P : Type 0) → b ≡ false → (P → b ≡ true) → P → ⊥
+pub none_true : (b : Bool) (P : Type 0) → b ≡ false → (P → b ≡ true) → ¬ P
 none_true b P e h p = let t = h p in let k : ⊥ = cc in k

@@ -1,5 +1,5 @@
 -- Exact quotients at more places, and their product with the unit.
-use Rattle.std.proofs.Common.{◌≡◌, ℕ, ◌+◌, ◌-◌, ◌*◌, ◌^◌, ◌≤◌, ⊎_elim, Option, Some, SomeIff, IfSome, arith, sym, ap, ◌∙◌, subst}
+use Rattle.std.proofs.Common.{◌≡◌, ℕ, ◌+◌, ◌-◌, ◌*◌, ◌/◌, ◌^◌, ◌≤◌, ⊎_elim, Option, Some, SomeIff, IfSome, arith, sym, ap, ◌∙◌, subst}
 use Rattle.std.proofs.lemmas.Nat.{pow-add}
 use Rattle.std.proofs.Math.Nat.{eq_of_mul-eq-mul_right}
 use Rattle.byte_unit_math.specs.Bounds.{places_of_decimal, one}
@@ -19,7 +19,8 @@ exact_more size unit few more h e =
     (e.0 * 10 ^ (more - few), p ∙ omega (arith, q))
 
 -- the number times the unit is the size
-pub number_times_unit : (size unit places number : ℕ) → places ≤ places_of_decimal → IsQuotient size unit places number → number * unit ≡ size * one
+pub number_times_unit : (size unit places number : ℕ) → places ≤ places_of_decimal → IsQuotient size unit places number
+    → number * unit ≡ size * one
 number_times_unit size unit places number room h =
     let n = ap (λ x. x * unit) h.number in
     let e = ap (λ x. x * 10 ^ (places_of_decimal - places)) h.exact in
@@ -27,31 +28,51 @@ number_times_unit size unit places number room h =
     n ∙ omega (arith, e, p)
 
 -- the quotient that was answered, by the unit's shape
-pub quotient_here : (o : Option ℕ) (size places B number : ℕ) (unit : Shape) → B ≡ bits unit → o ≡ Some number → IfSome o (IsQuotient size B places) → IsQuotient size (bits unit) places number
-quotient_here o size places B number unit c made h =
-    let Q : ℕ → Type 0 = λ x. IsQuotient size x places number in
-    let R : Option ℕ → Type 0 = λ q. IfSome q (IsQuotient size B places) in
-    subst Q c (subst R made h)
+pub quotient_here : {answer : Option ℕ} {size places B number : ℕ} (unit : Shape) → B ≡ bits unit → answer ≡ Some number
+    → IfSome answer (IsQuotient size B places) → IsQuotient size (bits unit) places number
+quotient_here {answer} {size} {places} {B} {number} unit same made h =
+    let by_unit : ℕ → Type 0 = λ x. IsQuotient size x places number in
+    let answered : Option ℕ → Type 0 = λ q. IfSome q (IsQuotient size B places) in
+    subst by_unit same (subst answered made h)
 
 -- where the size is exact, its number is stated
-stated_where_exact : (size unit number digits : ℕ) → 1 ≤ unit → number * unit ≡ size * one → IsExactAt size unit digits → IsExactAt number one digits
+stated_where_exact : (size unit number digits : ℕ) → 1 ≤ unit → number * unit ≡ size * one → IsExactAt size unit digits
+    → IsExactAt number one digits
 stated_where_exact size unit number digits some product e =
     let p = ap (λ x. x * 10 ^ digits) product in
     let q = ap (λ x. x * one) e.1 in
     (e.0, eq_of_mul-eq-mul_right unit (omega (arith, some)) (number * 10 ^ digits) (e.0 * one) (omega (arith, p, q)))
 
 -- the digits of a division are those of its number
-pub digits_counted : (o : Option ℕ) (size unit places number old mid new : ℕ) → 1 ≤ unit → places ≤ places_of_decimal → o ≡ Some number → IfSome o (IsQuotient size unit places) → old ≤ mid → (digits : ℕ) × IsFirstExact size unit places digits × (new ≡ raised mid digits) → CountsDigits number old new
-digits_counted o size unit places number old mid new some room made q before d =
-    let R : Option ℕ → Type 0 = λ x. IfSome x (IsQuotient size unit places) in
-    let here = subst R made q in
+pub digits_counted : {answer : Option ℕ} {size unit places number old mid new : ℕ}
+    → 1 ≤ unit
+    → places ≤ places_of_decimal
+    → answer ≡ Some number
+    → IfSome answer (IsQuotient size unit places)
+    → old ≤ mid
+    → (digits : ℕ) × IsFirstExact size unit places digits × (new ≡ raised mid digits)
+    → CountsDigits number old new
+digits_counted {answer} {size} {unit} {places} {number} some room made q before d =
+    let answered : Option ℕ → Type 0 = λ x. IfSome x (IsQuotient size unit places) in
+    let here = subst answered made q in
     let P : ℕ → Type 0 = λ j. IsExactAt size unit j in
     let exact : IsExactAt size unit d.0 = ⊎_elim (λ e. e) (λ e. subst P (sym e) (here.whole, here.exact)) d.1.ends in
-    (d.0, stated_where_exact size unit number d.0 some (number_times_unit size unit places number room here) exact, omega (arith, before, d.2))
+    let product = number_times_unit size unit places number room here in
+    (d.0, stated_where_exact size unit number d.0 some product exact, omega (arith, before, d.2))
 
 -- a whole number has no digits after the point
-pub whole_counts_none : (o : Option ℕ) (P : Type 0) (size number old new : ℕ) → o ≡ Some number → SomeIff o P (size * one) → raised old 0 ≤ new → CountsDigits number old new
-whole_counts_none o P size number old new made whole fits =
-    let R : Option ℕ → Type 0 = λ x. SomeIff x P (size * one) in
-    let value = (subst R made whole).1 in
+pub whole_counts_none : (answer : Option ℕ) (P : Type 0) (size number old new : ℕ) → answer ≡ Some number → SomeIff answer P (size * one)
+    → raised old 0 ≤ new → CountsDigits number old new
+whole_counts_none answer P size number old new made whole fits =
+    let answered : Option ℕ → Type 0 = λ x. SomeIff x P (size * one) in
+    let value = (subst answered made whole).1 in
     (0, (size, omega (arith, value)), fits)
+
+-- a number that states a size at no places is whole
+pub whole_number : (in_bits unit number : ℕ) → 1 ≤ unit → number * unit ≡ in_bits * one → IsExactAt in_bits unit 0
+    → number / one * unit ≡ in_bits
+whole_number in_bits unit number some product e =
+    let p = ap (λ n. n * one) e.1 in
+    let whole : number ≡ e.0 * one = eq_of_mul-eq-mul_right unit (omega (arith, some)) number (e.0 * one) (omega (arith, product, p)) in
+    let parts : number / one ≡ e.0 = omega (arith, whole) in
+    ap (λ n. n * unit) parts ∙ omega (arith, e.1)

@@ -22,12 +22,11 @@ use Rattle.byte_unit_base.specs.declared.kind.Kind.TheVariants.{Byte, Bit}
 use Rattle.byte_unit_base.specs.declared.format.spec.FormatSpec.{FormatSpec}
 use Rattle.byte_unit_base.specs.declared.format.spec.Sign.{Sign}
 use Rattle.byte_unit_base.specs.declared.format.spec.Sign.TheVariants.{Unset, Plus, Minus}
-use Rattle.byte_unit_base.proofs.Quotients.{number_times_unit}
 use Rattle.byte_unit_base.specs.declared.unit.Unit.{Unit as UnitName}
 use Rattle.byte_unit_base.specs.declared.unit.family.Family.{Family}
 use Rattle.byte_unit_base.specs.Family.{InFamily, HasKind}
 use Rattle.byte_unit_base.specs.Choice.{IsRecovered}
-use Rattle.byte_unit_base.proofs.Choosing.{some_bits}
+use Rattle.byte_unit_base.proofs.Choosing.{some_bits, own_bits}
 use Rattle.byte_unit_base.proofs.Names.{IsKnown, SaysKind, EndsInLetter, unit_known, name_spells, name_ascii, name_end}
 use Rattle.byte_unit_base.specs.Kinds.{bits_in, counts_bits, own_unit, own_family, flags_for}
 use Rattle.byte_unit_base.specs.LeastOfKind.{IsLeastOf}
@@ -132,10 +131,6 @@ layout_accepted kind ignore_case size spec w ds s small few bound good exact bel
 
 -- the numbers of the two forms
 
-few_places : (precision : Option ℕ) → places_of precision ≤ places_of_decimal
-few_places None = omega arith
-few_places (Some p) = omega arith
-
 -- a number that is cut at the point and has no zeros at its end, in last places again
 pub number_scaled : (w v number len : ℕ) → len ≤ places_of_decimal → number ≡ (w * 10 ^ len + v) * 10 ^ (places_of_decimal - len) → w * one + v * 10 ^ (places_of_decimal - len) ≡ number
 number_scaled w v number len few e =
@@ -149,21 +144,10 @@ bits_bound Bit size h = omega (arith, h)
 
 -- the size form
 
-own_bits : (kind : Kind) → bits (own_unit kind) ≡ bits_in kind
-own_bits Byte = refl
-own_bits Bit = refl
-
--- the number times the unit is the size
-recovered_product : (kind : Kind) (family : Family) (size places : ℕ) (unit : Shape) (number : ℕ) → places ≤ places_of_decimal → IsRecovered current kind family size places unit number → number * bits unit ≡ size * bits_in kind * one
-recovered_product kind family size places unit number few (inl h) = number_times_unit (size * bits_in kind) (bits unit) places number few h.number_is
-recovered_product kind family size places unit number few (inr h) =
-    let e = ap (λ s. number * bits s) h.unit_is ∙ (ap (λ n. number * n) (own_bits kind) ∙ ap (λ n. n * bits_in kind) h.number_is) in
-    e ∙ omega arith
-
--- and its unit's name is read as the unit
-recovered_name : (kind : Kind) (ignore_case : Bool) (size places : ℕ) (unit : Shape) (number : ℕ) → IsRecovered current kind (own_family kind) size places unit number → IsGoodName kind ignore_case unit
-recovered_name kind ignore_case size places unit number (inl h) = multiple_name kind ignore_case unit h.unit_is.has.member
-recovered_name kind ignore_case size places unit number (inr h) = subst (IsGoodName kind ignore_case) (sym h.unit_is) (own_name kind ignore_case)
+-- the unit's name is read as the unit
+recovered_name : (kind : Kind) (ignore_case : Bool) (size precision : ℕ) (unit : Shape) → IsRecovered current kind false size precision unit → IsGoodName kind ignore_case unit
+recovered_name kind ignore_case size precision unit (inl h) = multiple_name kind ignore_case unit h.has.member
+recovered_name kind ignore_case size precision unit (inr h) = subst (IsGoodName kind ignore_case) (sym h.1) (own_name kind ignore_case)
 
 whole_bound : (kind : Kind) (size number unit : ℕ) → size < current.size_limit → 1 ≤ unit → number * unit ≡ size * bits_in kind * one → number / one < whole_limit
 whole_bound kind size number unit small some e =
@@ -173,16 +157,15 @@ whole_bound kind size number unit small some e =
 
 pub size_form_back : (kind : Kind) (size : ℕ) (spec : FormatSpec) (ignore_case : Bool) → ReadsBack current kind size spec ignore_case
 size_form_back kind size spec ignore_case text below h =
-    let p = places_of spec.precision in
     let e = shortened (at_places places_of_decimal h.number) in
     let k = short_of h.number places_of_decimal in
-    let product = recovered_product kind (own_family kind) size p h.unit h.number (few_places spec.precision) h.is_recovered in
-    let bound = whole_bound kind size h.number (bits h.unit) below (some_bits h.unit) product in
+    let bound = whole_bound kind size h.number (bits h.unit) below (some_bits h.unit) h.number_is in
     let number = number_scaled e.whole (value_of e.digits) h.number (length e.digits) k.few k.scaled_is in
     let x = ap (λ n. n * bits h.unit) number in
-    let exact : number_of e.whole e.digits * bits h.unit ≡ size * bits_in kind * one = x ∙ product in
+    let exact : number_of e.whole e.digits * bits h.unit ≡ size * bits_in kind * one = x ∙ h.number_is in
+    let name = recovered_name kind ignore_case size (places_of spec.precision) h.unit h.is_recovered in
     let P : List ℕ → Type 0 = λ t. IsAccepted current kind ignore_case t size in
-    subst P (sym h.text_is) (layout_accepted kind ignore_case size spec e.whole e.digits h.unit k.small k.few bound (recovered_name kind ignore_case size p h.unit h.number h.is_recovered) exact below)
+    subst P (sym h.text_is) (layout_accepted kind ignore_case size spec e.whole e.digits h.unit k.small k.few bound name exact below)
 
 -- the plain form
 

@@ -1,18 +1,18 @@
 -- The texts that the code writes are those of the definitions.
 use Rattle.std.specs.Prelude.{MatchBool}
-use Rattle.std.proofs.Common.{◌≡◌, ◌+◌, ◌-◌, ◌<◌, ⊎_elim, min, ℕ, zero, suc, Bool, true, List, [], ◌∷◌, ◌++◌, length, take, replicate, arith, ap, sym, refl, subst, ◌∙◌}
+use Rattle.std.proofs.Common.{◌≡◌, ◌+◌, ◌-◌, ◌*◌, ◌<◌, ⊎_elim, min, ℕ, zero, suc, Bool, true, false, List, [], ◌∷◌, ◌++◌, length, take, replicate, arith, ap, sym, refl, subst, ◌∙◌}
 use Rattle.std.proofs.lemmas.Bool.{cases_lt}
 use Rattle.std.proofs.lemmas.List.{length-take, length-map, map-append, length-append, length-replicate}
 use Rattle.byte_unit_math.specs.Bounds.{one, places_of_decimal}
 use Rattle.byte_unit_math.specs.Finite.{Finite, IsExpansion}
 use Rattle.byte_unit_math.specs.Numeral.{glyphs, fraction_text, text_of, padded}
 use Rattle.byte_unit_math.proofs.Texts.{short_text, own_places}
-use Rattle.byte_unit_base.specs.Shape.{Shape}
+use Rattle.byte_unit_base.specs.Shape.{Shape, bits}
 use Rattle.byte_unit_base.specs.Edition.{current, name}
 use Rattle.byte_unit_base.specs.Choice.{IsRecovered}
 use Rattle.byte_unit_base.specs.declared.kind.Kind.{Kind}
 use Rattle.byte_unit_base.specs.declared.format.spec.FormatSpec.{FormatSpec}
-use Rattle.byte_unit_base.specs.Kinds.{own_family}
+use Rattle.byte_unit_base.specs.Kinds.{bits_in}
 use Rattle.byte_unit_base.specs.Layout.{layout, layout_of}
 use Rattle.byte_unit_base.specs.Plain.{plain}
 use Rattle.byte_unit_base.specs.Forms.{IsSizeForm, IsText, places_of}
@@ -60,10 +60,21 @@ all_places e places count = ap (λ n. text_of (padded n e)) count ∙ ap text_of
 -- the form of a size
 
 -- all digits of the number are its form
-pub stated_form : (kind : Kind) (size : ℕ) (spec : FormatSpec) (unit : Shape) (number : ℕ) (e : Finite) (places : ℕ) → places ≡ places_of spec.precision → IsRecovered current kind (own_family kind) size places unit number → IsExpansion number one e → IsSizeForm current kind size spec (layout (text_of e) (name current unit) spec)
-stated_form kind size spec unit number e places at recovered h =
-    let P : ℕ → Type 0 = λ p. IsRecovered current kind (own_family kind) size p unit number in
-    record { unit = unit; number = number; is_recovered = subst P at recovered; text_is = ap (λ t. layout t (name current unit) spec) (short_text number places_of_decimal e h) }
+pub stated_form : (kind : Kind) (size : ℕ) (spec : FormatSpec) {unit : Shape} {number places : ℕ} {e : Finite}
+    → places ≡ places_of spec.precision
+    → IsRecovered current kind false size places unit
+    → number * bits unit ≡ size * bits_in kind * one
+    → IsExpansion number one e
+    → IsSizeForm current kind size spec (layout (text_of e) (name current unit) spec)
+stated_form kind size spec {unit} {number} {places} {e} at recovered product h =
+    let within : ℕ → Type 0 = λ p. IsRecovered current kind false size p unit in
+    record {
+      unit = unit;
+      number = number;
+      is_recovered = subst within at recovered;
+      number_is = product;
+      text_is = ap (λ t. layout t (name current unit) spec) (short_text number places_of_decimal e h);
+    }
 
 is_text_form : (kind : Kind) (size : ℕ) (spec : FormatSpec) (text : List ℕ) → spec.alternate ≡ true → IsSizeForm current kind size spec text → IsText current kind size spec text
 is_text_form kind size spec text alternate h =

@@ -1,6 +1,6 @@
--- Which unit states a size. A size is given in bits, save where a kind stands beside it.
-use Rattle.std.specs.Prelude.{◌≡◌, ℕ, ◌*◌, ◌≤◌, ◌⊎◌, Bool, true, false}
-use Rattle.byte_unit_math.specs.Bounds.{one}
+-- Which unit states a size. A size is put in bits here, save where a kind stands beside it.
+use Rattle.std.specs.Prelude.{◌≡◌, ℕ, ◌*◌, ◌≤◌, ◌⊎◌, min, Bool, true, false}
+use Rattle.byte_unit_math.specs.Bounds.{one, places_of_decimal}
 use Rattle.byte_unit_math.specs.Steps.{raised}
 use Rattle.byte_unit_math.specs.Exact.{IsExactAt, IsQuotient}
 use Rattle.byte_unit_base.specs.Shape.{Shape, bits}
@@ -17,49 +17,52 @@ pub record IsLargest (Has : Shape → Type 0) (unit : Shape) : Type 0 where
   pub has : Has unit
   pub largest : (other : Shape) → Has other → bits other ≤ bits unit
 
--- a unit of the family, not above the size, in which the size is exact at this many places
-pub record States (edition : Edition) (family : Family) (size places : ℕ) (unit : Shape) : Type 0 where
+-- no unit has the property
+abbrev pub NoneHas : (Shape → Type 0) → Type 0
+NoneHas Has = (unit : Shape) → ¬ (Has unit)
+
+-- the largest unit that has the property, or the kind's own where none has it
+abbrev pub IsLargestOrOwn : Kind → (Shape → Type 0) → Shape → Type 0
+IsLargestOrOwn kind Has unit = IsLargest Has unit ⊎ NoneHas Has × (unit ≡ own_unit kind)
+
+-- the places that a number may take within the precision: a decimal has no more than its own
+abbrev pub places_within : ℕ → ℕ
+places_within precision = min precision places_of_decimal
+
+-- a unit of the family, not above the size, in which the size is exact within the precision
+pub record States (edition : Edition) (family : Family) (in_bits precision : ℕ) (unit : Shape) : Type 0 where
   pub member : InFamily edition family unit
-  pub not_above : bits unit ≤ size
-  pub exact : IsExactAt size (bits unit) places
+  pub not_above : bits unit ≤ in_bits
+  pub exact : IsExactAt in_bits (bits unit) (places_within precision)
 
 -- the largest such unit, with the number
-pub record IsChosen (edition : Edition) (family : Family) (size places : ℕ) (unit : Shape) (number : ℕ) : Type 0 where
-  pub unit_is : IsLargest (States edition family size places) unit
-  pub number_is : IsQuotient size (bits unit) places number
-
--- no unit of the family states the size
-abbrev pub NoneStates : Edition → Family → ℕ → ℕ → Type 0
-NoneStates edition family size places = (unit : Shape) → States edition family size places unit → ⊥
+pub record IsChosen (edition : Edition) (family : Family) (in_bits precision : ℕ) (unit : Shape) (number : ℕ)
+    : Type 0 where
+  pub unit_is : IsLargest (States edition family in_bits precision) unit
+  pub number_is : IsQuotient in_bits (bits unit) (places_within precision) number
 
 -- a unit of the family and of the type, not above the size
-pub record Suits (edition : Edition) (family : Family) (unit_type : UnitType) (size : ℕ) (unit : Shape) : Type 0 where
+pub record Suits (edition : Edition) (family : Family) (unit_type : UnitType) (in_bits : ℕ) (unit : Shape)
+    : Type 0 where
   pub member : InFamily edition family unit
   pub of_type : IsOfType unit_type unit.binary
-  pub not_above : bits unit ≤ size
+  pub not_above : bits unit ≤ in_bits
 
 -- the family for a size of a kind: its own, or with leave both kinds' units
 abbrev pub family_for : Kind → Bool → Family
 family_for kind false = own_family kind
 family_for kind true = All
 
--- no unit of the family states the size, and so it stands as it is in its kind's own unit
-pub record IsFallback (edition : Edition) (kind : Kind) (family : Family) (size places : ℕ) (unit : Shape) (number : ℕ) : Type 0 where
-  pub none : NoneStates edition family (size * bits_in kind) places
-  pub unit_is : unit ≡ own_unit kind
-  pub number_is : number ≡ size * one
-
--- a size of this kind is recovered in the chosen unit with its number, or in its own where none is chosen
-abbrev pub IsRecovered : Edition → Kind → Family → ℕ → ℕ → Shape → ℕ → Type 0
-IsRecovered edition kind family size places unit number =
-    IsChosen edition family (size * bits_in kind) places unit number ⊎ IsFallback edition kind family size places unit number
+-- a size of this kind is recovered in the unit: the largest that states it, of its own family or of both, or its own
+abbrev pub IsRecovered : Edition → Kind → Bool → ℕ → ℕ → Shape → Type 0
+IsRecovered edition kind both size precision =
+    IsLargestOrOwn kind (States edition (family_for kind both) (size * bits_in kind) precision)
 
 -- a count that rises by no less than the digits of this number after the point
 abbrev pub CountsDigits : ℕ → ℕ → ℕ → Type 0
 CountsDigits number old new = (digits : ℕ) × IsExactAt number one digits × (raised old digits ≤ new)
 
--- the unit that a size of this kind is shown in by a type: the largest that suits it, or its kind's own where none does
+-- a size of this kind is shown in the unit by a type: the largest of its family that suits it, or its kind's own
 abbrev pub IsAppropriate : Edition → Kind → UnitType → ℕ → Shape → Type 0
-IsAppropriate edition kind unit_type size unit =
-    IsLargest (Suits edition (own_family kind) unit_type (size * bits_in kind)) unit
-    ⊎ ((other : Shape) → Suits edition (own_family kind) unit_type (size * bits_in kind) other → ⊥) × (unit ≡ own_unit kind)
+IsAppropriate edition kind unit_type size =
+    IsLargestOrOwn kind (Suits edition (own_family kind) unit_type (size * bits_in kind))

@@ -1,36 +1,62 @@
--- Laws of the choice of a unit. Sizes are in bits.
+-- Laws of the choice of a unit. Sizes are put in bits.
 use Rattle.std.specs.Prelude.{◌≡◌, ℕ, ◌*◌, ◌<◌, ◌≤◌, ◌⊎◌}
-use Rattle.byte_unit_math.specs.Bounds.{places_of_decimal, one}
+use Rattle.byte_unit_math.specs.Bounds.{one}
 use Rattle.byte_unit_base.specs.Shape.{Shape, bits}
-use Rattle.byte_unit_base.specs.Edition.{Edition, current}
+use Rattle.byte_unit_base.specs.Edition.{Edition}
 use Rattle.byte_unit_base.specs.Family.{InFamily}
-use Rattle.byte_unit_base.specs.Choice.{IsChosen, NoneStates}
+use Rattle.byte_unit_base.specs.Choice.{IsChosen, NoneHas, States}
 use Rattle.byte_unit_base.specs.declared.unit.family.Family.{Family}
 
--- the number at no places is whole, and no larger unit of the family divides the size
-pub record IsWholeChoice (edition : Edition) (family : Family) (size : ℕ) (unit : Shape) (number : ℕ) : Type 0 where
+-- the unit divides the size
+abbrev pub Divides : Shape → ℕ → Type 0
+Divides unit in_bits = (whole : ℕ) × (in_bits ≡ whole * bits unit)
+
+-- the number is whole, and no larger unit of the family divides the size
+pub record IsWholeChoice (edition : Edition) (family : Family) (in_bits : ℕ) (unit : Shape) (number : ℕ)
+    : Type 0 where
   pub whole : (n : ℕ) × (number ≡ n * one)
-  pub no_larger : (other : Shape) → InFamily edition family other → bits unit < bits other → (n : ℕ) → size ≡ n * bits other → ⊥
+  pub no_larger : (other : Shape) → InFamily edition family other → bits unit < bits other → ¬ (Divides other in_bits)
 
+-- what is chosen at no places is a whole choice
 abbrev pub ChoicesAtNoPlacesAreWhole : Type 0
-ChoicesAtNoPlacesAreWhole = (edition : Edition) (family : Family) (size number : ℕ) (unit : Shape) → IsChosen edition family size 0 unit number → IsWholeChoice edition family size unit number
+ChoicesAtNoPlacesAreWhole =
+    (edition : Edition) (family : Family) (in_bits number : ℕ) (unit : Shape)
+    → IsChosen edition family in_bits 0 unit number
+    → IsWholeChoice edition family in_bits unit number
 
--- a unit is chosen at these places too, and each that is chosen is no smaller than this one
-pub record IsNoSmaller (edition : Edition) (family : Family) (size places : ℕ) (unit : Shape) : Type 0 where
-  pub some : (other : Shape) × (number : ℕ) × IsChosen edition family size places other number
-  pub larger : (other : Shape) (number : ℕ) → IsChosen edition family size places other number → bits unit ≤ bits other
+-- a unit is chosen at this precision too, and each that is chosen is no smaller than this one
+pub record IsNoSmaller (edition : Edition) (family : Family) (in_bits precision : ℕ) (unit : Shape) : Type 0 where
+  pub some : (other : Shape) × (number : ℕ) × IsChosen edition family in_bits precision other number
+  pub larger : (other : Shape) (number : ℕ)
+      → IsChosen edition family in_bits precision other number
+      → bits unit ≤ bits other
 
+-- a greater precision chooses no smaller unit, nor none
 abbrev pub MorePlacesGiveNoSmallerUnit : Type 0
-MorePlacesGiveNoSmallerUnit = (edition : Edition) (family : Family) (size few more number : ℕ) (unit : Shape) → few ≤ more → IsChosen edition family size few unit number → IsNoSmaller edition family size more unit
+MorePlacesGiveNoSmallerUnit =
+    (edition : Edition) (family : Family) (in_bits low high number : ℕ) (unit : Shape)
+    → low ≤ high
+    → IsChosen edition family in_bits low unit number
+    → IsNoSmaller edition family in_bits high unit
 
 -- the number times the unit is the size
 abbrev pub NumberTimesUnitIsSize : Type 0
-NumberTimesUnitIsSize = (edition : Edition) (family : Family) (size places number : ℕ) (unit : Shape) → places ≤ places_of_decimal → IsChosen edition family size places unit number → number * bits unit ≡ size * one
+NumberTimesUnitIsSize =
+    (edition : Edition) (family : Family) (in_bits precision number : ℕ) (unit : Shape)
+    → IsChosen edition family in_bits precision unit number
+    → number * bits unit ≡ in_bits * one
 
 -- a size has one chosen unit, with one number
 abbrev pub ChoicesAreOne : Type 0
-ChoicesAreOne = (family : Family) (size places n m : ℕ) (a b : Shape) → IsChosen current family size places a n → IsChosen current family size places b m → (a ≡ b) × (n ≡ m)
+ChoicesAreOne =
+    (edition : Edition) (family : Family) (in_bits precision n m : ℕ) (a b : Shape)
+    → IsChosen edition family in_bits precision a n
+    → IsChosen edition family in_bits precision b m
+    → (a ≡ b) × (n ≡ m)
 
 -- a size has a chosen unit with its number, or no unit states it
 abbrev pub EachSizeHasAChoiceOrNone : Type 0
-EachSizeHasAChoiceOrNone = (edition : Edition) (family : Family) (size places : ℕ) → ((unit : Shape) × (number : ℕ) × IsChosen edition family size places unit number) ⊎ NoneStates edition family size places
+EachSizeHasAChoiceOrNone =
+    (edition : Edition) (family : Family) (in_bits precision : ℕ)
+    → ((unit : Shape) × (number : ℕ) × IsChosen edition family in_bits precision unit number)
+    ⊎ NoneHas (States edition family in_bits precision)

@@ -7,13 +7,13 @@ use Rattle.byte_unit_base.specs.declared.unit.family.Family.TheVariants.{All, By
 use Rattle.byte_unit_base.specs.declared.unit.unit_type.UnitType.{UnitType}
 use Rattle.byte_unit_base.specs.declared.unit.unit_type.UnitType.TheVariants.{Binary, Decimal, Both}
 
--- whether units of bits, or of bytes, are in a family
+-- a family has units of bits, or of bytes
 abbrev pub HasKind : Family → Bool → Type 0
 HasKind All bit = ⊤
 HasKind Bytes bit = bit ≡ false
 HasKind Bits bit = bit ≡ true
 
--- whether powers of two, or of ten, are of a type
+-- powers of two, or of ten, are of a type
 abbrev pub IsOfType : UnitType → Bool → Type 0
 IsOfType Binary binary = binary ≡ true
 IsOfType Decimal binary = binary ≡ false

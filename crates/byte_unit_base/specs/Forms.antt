@@ -1,13 +1,13 @@
 -- The texts of a size.
-use Rattle.std.specs.Prelude.{◌≡◌, ℕ, min, MatchBool, List, Option, None, Some}
-use Rattle.byte_unit_math.specs.Bounds.{places_of_decimal}
+use Rattle.std.specs.Prelude.{◌≡◌, ℕ, ◌*◌, MatchBool, false, List, Option, None, Some}
+use Rattle.byte_unit_math.specs.Bounds.{one, places_of_decimal}
 use Rattle.byte_unit_math.specs.Numeral.{short}
-use Rattle.byte_unit_base.specs.Shape.{Shape}
+use Rattle.byte_unit_base.specs.Shape.{Shape, bits}
 use Rattle.byte_unit_base.specs.Edition.{Edition, name}
 use Rattle.byte_unit_base.specs.Choice.{IsRecovered}
 use Rattle.byte_unit_base.specs.declared.kind.Kind.{Kind}
 use Rattle.byte_unit_base.specs.declared.format.spec.FormatSpec.{FormatSpec}
-use Rattle.byte_unit_base.specs.Kinds.{own_family}
+use Rattle.byte_unit_base.specs.Kinds.{bits_in}
 use Rattle.byte_unit_base.specs.Layout.{layout}
 use Rattle.byte_unit_base.specs.Plain.{plain}
 
@@ -15,22 +15,25 @@ use Rattle.byte_unit_base.specs.Plain.{plain}
 abbrev pub default_precision : ℕ
 default_precision = 3
 
--- the places that it may take: a decimal has no more than its own
+-- the places that it may take
 abbrev pub places_of : Option ℕ → ℕ
 places_of None = default_precision
-places_of (Some precision) = min precision places_of_decimal
+places_of (Some precision) = precision
 
--- the size in the largest unit of its kind that states it within the precision, or else in its own, without zeros at the end
+-- the size in the largest unit of its own family that states it within the precision, or else in its kind's own unit,
+-- without zeros at the end
 pub record IsSizeForm (edition : Edition) (kind : Kind) (size : ℕ) (spec : FormatSpec) (text : List ℕ) : Type 0 where
   pub unit : Shape
   -- in last places of a decimal
   pub number : ℕ
-  pub is_recovered : IsRecovered edition kind (own_family kind) size (places_of spec.precision) unit number
+  pub is_recovered : IsRecovered edition kind false size (places_of spec.precision) unit
+  pub number_is : number * bits unit ≡ size * bits_in kind * one
   pub text_is : text ≡ layout (short number places_of_decimal) (name edition unit) spec
 
 -- the size with a unit where the alternate form is asked for, and else its digits
 abbrev pub IsText : Edition → Kind → ℕ → FormatSpec → List ℕ → Type 0
-IsText edition kind size spec text = MatchBool spec.alternate (IsSizeForm edition kind size spec text) (text ≡ plain size spec)
+IsText edition kind size spec text =
+    MatchBool spec.alternate (IsSizeForm edition kind size spec text) (text ≡ plain size spec)
 
 -- texts are shorter than this many bytes
 abbrev pub text_limit : ℕ

@@ -1,13 +1,13 @@
 //! The choice of a unit for a size.
 
-ghost use Rattle.std.specs.Prelude.{◌≡◌, ℕ, ◌+◌, ◌*◌, ◌<◌, ◌≤◌, ◌⊎◌, ◌↔◌, min, IsTrue, IfSome, IfNone};
+ghost use Rattle.std.specs.Prelude.{◌≡◌, ℕ, ◌+◌, ◌*◌, ◌<◌, ◌≤◌, ◌⊎◌, ◌↔◌, IsTrue, IfSome, IfNone};
 ghost use Rattle.byte_unit_math.specs.Bounds.{places_of_decimal, one, whole_limit};
 ghost use Rattle.byte_unit_math.specs.Steps.{raised};
-ghost use Rattle.byte_unit_base.specs.Shape.{Shape, bits};
+ghost use Rattle.byte_unit_base.specs.Shape.{bits};
 ghost use Rattle.byte_unit_base.specs.Edition.{current};
 ghost use Rattle.byte_unit_base.specs.Units.{shape_of};
 ghost use Rattle.byte_unit_base.specs.Family.{HasPrefix, units_in};
-ghost use Rattle.byte_unit_base.specs.Choice.{IsLargest, States, NoneStates, IsChosen, Suits, CountsDigits};
+ghost use Rattle.byte_unit_base.specs.Choice.{IsLargest, NoneHas, States, IsChosen, Suits, CountsDigits, places_within};
 
 use crate::unit::Unit;
 use crate::unit::family::{Family, multiples};
@@ -39,10 +39,12 @@ pub fn choose_unit(
 ) -> Option<(Decimal, Unit)>
     requires divisor { (divisor ≡ 8) ⊎ (divisor ≡ 1) }
     requires small { size < current.size_limit }
-    ensures chosen { IfSome result (λ c. IsChosen current family (size * divisor) (min places places_of_decimal) (shape_of c.1) c.0) }
-    ensures none { IfNone result (NoneStates current family (size * divisor) (min places places_of_decimal)) }
+    ensures chosen { IfSome result (λ c. IsChosen current family (size * divisor) places (shape_of c.1) c.0) }
+    ensures none { IfNone result (NoneHas (States current family (size * divisor) places)) }
     ensures exact { IfSome result (λ c. c.0 * bits (shape_of c.1) ≡ size * divisor * one) }
-    ensures ticks { (ticks : ℕ) × (ticks ≤ places_of_decimal * units_in current family) × (steps.new ≡ raised steps.old ticks) }
+    ensures ticks { (ticks : ℕ)
+        × (ticks ≤ places_of_decimal * units_in current family)
+        × (steps.new ≡ raised steps.old ticks) }
     // Each digit of the number after the point is counted, and none where none is asked for.
     ensures counted { IfSome result (λ c. CountsDigits c.0 steps.old steps.new) }
     ensures no_ticks { places ≡ 0 → steps.new ≡ steps.old }
@@ -59,16 +61,17 @@ fn first_exact(
     steps: &mut Steps,
 ) -> Option<(Decimal, Unit)>
     requires small { in_bits < whole_limit }
-    ensures chosen { IfSome result (λ c. IsChosen current family in_bits (min most places_of_decimal) (shape_of c.1) c.0) }
-    ensures none { IfNone result (NoneStates current family in_bits (min most places_of_decimal)) }
-    ensures ticks { (ticks : ℕ) × (ticks ≤ min most places_of_decimal * units_in current family) × (steps.new ≡ raised steps.old ticks) }
+    ensures chosen { IfSome result (λ c. IsChosen current family in_bits most (shape_of c.1) c.0) }
+    ensures none { IfNone result (NoneHas (States current family in_bits most)) }
+    ensures ticks { (ticks : ℕ)
+        × (ticks ≤ places_within most * units_in current family)
+        × (steps.new ≡ raised steps.old ticks) }
     ensures counted { IfSome result (λ c. CountsDigits c.0 steps.old steps.new) }
 {
     for unit in multiples() {
         if may_state(*unit, family, in_bits, most) {
-            match exact_quotient(in_bits, unit.as_bits_u128(), most, steps) {
-                Some(number) => return Some((number, *unit)),
-                None => {}
+            if let Some(number) = exact_quotient(in_bits, unit.as_bits_u128(), most, steps) {
+                return Some((number, *unit));
             }
         }
     }
@@ -80,7 +83,7 @@ fn first_exact(
 fn may_state(unit: Unit, family: Family, in_bits: u128, most: u32) -> bool
     requires { HasPrefix current (shape_of unit) }
     ensures suits { IsTrue result → Suits current family UnitType.Both in_bits (shape_of unit) }
-    ensures states { States current family in_bits (min most places_of_decimal) (shape_of unit) → IsTrue result }
+    ensures states { States current family in_bits most (shape_of unit) → IsTrue result }
 {
     suits(unit, family, UnitType::Both, in_bits)
         && unit.powers().0.saturating_sub(in_bits.trailing_zeros()) <= most
@@ -99,8 +102,9 @@ fn may_state(unit: Unit, family: Family, in_bits: u128, most: u32) -> bool
 /// ```
 pub fn largest_unit(size: u128, family: Family, unit_type: UnitType, divisor: u128) -> Option<Unit>
     requires { (divisor ≡ 8) ⊎ (divisor ≡ 1) }
-    ensures found { IfSome result (λ unit. IsLargest (Suits current family unit_type (size * divisor)) (shape_of unit)) }
-    ensures none { IfNone result ((unit : Shape) → Suits current family unit_type (size * divisor) unit → ⊥) }
+    ensures found { IfSome result (λ unit.
+        IsLargest (Suits current family unit_type (size * divisor)) (shape_of unit)) }
+    ensures none { IfNone result (NoneHas (Suits current family unit_type (size * divisor))) }
 {
     // No unit is near the greatest u128, so a cut there changes nothing.
     first_suited(size.saturating_mul(divisor), family, unit_type)
@@ -109,7 +113,7 @@ pub fn largest_unit(size: u128, family: Family, unit_type: UnitType, divisor: u1
 /// The first of the multiples that suits the size, which is in bits.
 fn first_suited(in_bits: u128, family: Family, unit_type: UnitType) -> Option<Unit>
     ensures found { IfSome result (λ unit. IsLargest (Suits current family unit_type in_bits) (shape_of unit)) }
-    ensures none { IfNone result ((unit : Shape) → Suits current family unit_type in_bits unit → ⊥) }
+    ensures none { IfNone result (NoneHas (Suits current family unit_type in_bits)) }
 {
     for unit in multiples() {
         if suits(*unit, family, unit_type, in_bits) {

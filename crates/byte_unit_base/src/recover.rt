@@ -1,6 +1,6 @@
 //! The unit of a size: the one that states it best or suits it best, or its own.
 
-ghost use Rattle.std.specs.Prelude.{◌≡◌, ℕ, ◌*◌, ◌<◌, ◌≤◌, min};
+ghost use Rattle.std.specs.Prelude.{◌≡◌, ℕ, ◌*◌, ◌<◌, ◌≤◌};
 ghost use Rattle.byte_unit_math.specs.Bounds.{places_of_decimal, one};
 ghost use Rattle.byte_unit_math.specs.Steps.{raised};
 ghost use Rattle.byte_unit_base.specs.Shape.{bits};
@@ -36,9 +36,11 @@ pub fn recoverable_unit(
     steps: &mut Steps,
 ) -> (Decimal, Unit)
     requires { size < current.size_limit }
-    ensures recovered { IsRecovered current kind (family_for kind allow) size (min precision places_of_decimal) (shape_of result.1) result.0 }
+    ensures recovered { IsRecovered current kind allow size precision (shape_of result.1) }
     ensures exact { result.0 * bits (shape_of result.1) ≡ size * bits_in kind * one }
-    ensures ticks { (ticks : ℕ) × (ticks ≤ places_of_decimal * units_in current (family_for kind allow)) × (steps.new ≡ raised steps.old ticks) }
+    ensures ticks { (ticks : ℕ)
+        × (ticks ≤ places_of_decimal * units_in current (family_for kind allow))
+        × (steps.new ≡ raised steps.old ticks) }
     ensures counted { CountsDigits result.0 steps.old steps.new }
     ensures no_ticks { precision ≡ 0 → steps.new ≡ steps.old }
 {
@@ -61,14 +63,15 @@ pub fn recoverable_unit(
 /// ```
 pub fn exact_unit(size: u128, kind: Kind, allow: bool) -> (u128, Unit)
     requires { size < current.size_limit }
-    ensures recovered { IsRecovered current kind (family_for kind allow) size 0 (shape_of result.1) (result.0 * one) }
+    ensures recovered { IsRecovered current kind allow size 0 (shape_of result.1) }
     ensures exact { result.0 * bits (shape_of result.1) ≡ size * bits_in kind }
 {
     let (number, unit) = recoverable_unit(size, kind, allow, 0, &mut Steps::new());
     (number.whole(), unit)
 }
 
-/// The largest unit of the size's own kind and of the type that is not above the size; where there is none, `B` or `Bit`.
+/// The largest unit of the size's own kind and of the type that is not above the size; where there is none, `B` or
+/// `Bit`.
 ///
 /// ```text
 /// appropriate_unit(10_000, Kind::Byte, UnitType::Both)      KiB

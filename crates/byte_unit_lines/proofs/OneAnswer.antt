@@ -8,15 +8,15 @@ use Rattle.byte_unit.specs.Accepted.{IsAccepted, IsRefused}
 use Rattle.byte_unit.specs.Edition.{current}
 use Rattle.byte_unit.specs.Fault.{Fault}
 use Rattle.byte_unit.specs.SizeLaws.{TextsAreAcceptedOrRefused}
-use Rattle.byte_unit.specs.ChoiceLaws.{EachSizeHasAChoiceOrNone, ChoicesAreOne}
+use Rattle.byte_unit.specs.ChoiceLaws.{EachSizeHasAChoiceOrNone, NumberTimesUnitIsSize, ChoicesAreOne}
 use Rattle.byte_unit_lines.proofs.Sizes.{some_said, one_saying}
 
 -- a line has an answer
-module _ (kind : Kind) (texts : TextsAreAcceptedOrRefused) (choices : EachSizeHasAChoiceOrNone) where
+module _ (kind : Kind) (texts : TextsAreAcceptedOrRefused) (choices : EachSizeHasAChoiceOrNone) (product : NumberTimesUnitIsSize) where
   -- what is said of a text
   text_said : (text : List ℕ) → IsUtf8 text → ((n : ℕ) × IsAccepted current kind false text n) ⊎ ((fault : Fault) × IsRefused current kind false text fault)
       → (said : List ℕ) × IsSaidOf kind text said
-  text_said text is_text (inl (n, accepted)) = let said = some_said kind choices n in (said.0, size n is_text accepted said.1)
+  text_said text is_text (inl (n, accepted)) = let said = some_said kind choices product n in (said.0, size n is_text accepted said.1)
   text_said text is_text (inr (fault, is_refused)) = (words_of fault, refused fault is_text is_refused refl)
 
   line_said : (line : List ℕ) → (said : List ℕ) × IsSaidOf kind line said

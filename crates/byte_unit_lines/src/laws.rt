@@ -13,6 +13,7 @@ pub fn each_line_has_an_answer(kind: Kind)
 {
     laws::texts_are_accepted_or_refused();
     laws::each_size_has_a_choice_or_none();
+    laws::number_times_unit_is_size();
 }
 
 /// Each input has one report. So what a run writes on `Ok` is determined by the bytes that it read.

@@ -1,8 +1,7 @@
 //! The text of a size: its plain form, or its form with a unit.
 
-ghost use Rattle.std.specs.Prelude.{◌≡◌, ℕ, ◌+◌, ◌*◌, ◌<◌, ◌≤◌, ◌++◌, List, length, min, OnOk, OnErr};
+ghost use Rattle.std.specs.Prelude.{◌≡◌, ℕ, ◌+◌, ◌*◌, ◌<◌, ◌≤◌, ◌++◌, List, length, OnOk, OnErr};
 ghost use Rattle.std.specs.String.{string_bytes};
-ghost use Rattle.byte_unit_math.specs.Bounds.{places_of_decimal};
 ghost use Rattle.byte_unit_math.specs.Numeral.{text_of};
 ghost use Rattle.byte_unit_base.specs.Edition.{current, name};
 ghost use Rattle.byte_unit_base.specs.Units.{shape_of};
@@ -84,7 +83,7 @@ fn stated(size: u128, kind: Kind, spec: FormatSpec) -> (Expansion, Unit)
 
 /// The places that a size may take.
 fn places(precision: Option<u16>) -> usize
-    ensures { min result places_of_decimal ≡ places_of precision }
+    ensures { result ≡ places_of precision }
 {
     match precision {
         Some(precision) => usize::from(precision),

@@ -1,6 +1,6 @@
 //! The units in which a size in bits is stated exactly.
 
-ghost use Rattle.std.specs.Prelude.{◌≡◌, ◌*◌, ◌≤◌, ℕ, min};
+ghost use Rattle.std.specs.Prelude.{◌≡◌, ◌*◌, ◌≤◌, ℕ};
 ghost use Rattle.byte_unit_math.specs.Bounds.{one, places_of_decimal};
 ghost use Rattle.byte_unit_math.specs.Steps.{raised};
 ghost use Rattle.byte_unit_base.specs.Shape.{bits};
@@ -24,7 +24,7 @@ impl Bit {
     /// Bit::from_u64(24_000_000).get_exact_unit(true)      // (3, Unit::MB)
     /// ```
     pub fn get_exact_unit(self, allow_in_bytes: bool) -> (u128, Unit)
-        ensures recovered { IsRecovered current InBits (family_for InBits allow_in_bytes) self 0 (shape_of result.1) (result.0 * one) }
+        ensures recovered { IsRecovered current InBits allow_in_bytes self 0 (shape_of result.1) }
         ensures exact { result.0 * bits (shape_of result.1) ≡ self * bits_in InBits }
     {
         exact_unit(self.size, Kind::Bit, allow_in_bytes)
@@ -41,7 +41,7 @@ impl Bit {
     /// Bit::from_u64(28_000_000).get_recoverable_unit(true, 3)      // (3.5, Unit::MB)
     /// ```
     pub fn get_recoverable_unit(self, allow_in_bytes: bool, precision: usize) -> (Decimal, Unit)
-        ensures recovered { IsRecovered current InBits (family_for InBits allow_in_bytes) self (min precision places_of_decimal) (shape_of result.1) result.0 }
+        ensures recovered { IsRecovered current InBits allow_in_bytes self precision (shape_of result.1) }
         ensures exact { result.0 * bits (shape_of result.1) ≡ self * bits_in InBits * one }
     {
         self.get_recoverable_unit_counted(allow_in_bytes, precision, &mut Steps::new())
@@ -55,9 +55,11 @@ impl Bit {
         precision: usize,
         steps: &mut Steps,
     ) -> (Decimal, Unit)
-        ensures recovered { IsRecovered current InBits (family_for InBits allow_in_bytes) self (min precision places_of_decimal) (shape_of result.1) result.0 }
+        ensures recovered { IsRecovered current InBits allow_in_bytes self precision (shape_of result.1) }
         ensures exact { result.0 * bits (shape_of result.1) ≡ self * bits_in InBits * one }
-        ensures ticks { (ticks : ℕ) × (ticks ≤ places_of_decimal * units_in current (family_for InBits allow_in_bytes)) × (steps.new ≡ raised steps.old ticks) }
+        ensures ticks { (ticks : ℕ)
+            × (ticks ≤ places_of_decimal * units_in current (family_for InBits allow_in_bytes))
+            × (steps.new ≡ raised steps.old ticks) }
         ensures counted { CountsDigits result.0 steps.old steps.new }
         ensures no_ticks { precision ≡ 0 → steps.new ≡ steps.old }
     {

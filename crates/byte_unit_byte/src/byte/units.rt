@@ -1,6 +1,6 @@
 //! The units in which a size in bytes is stated exactly.
 
-ghost use Rattle.std.specs.Prelude.{◌≡◌, ◌*◌, ◌≤◌, ℕ, min};
+ghost use Rattle.std.specs.Prelude.{◌≡◌, ◌*◌, ◌≤◌, ℕ};
 ghost use Rattle.byte_unit_math.specs.Bounds.{one, places_of_decimal};
 ghost use Rattle.byte_unit_math.specs.Steps.{raised};
 ghost use Rattle.byte_unit_base.specs.Shape.{bits};
@@ -24,7 +24,7 @@ impl Byte {
     /// Byte::from_u64(50_840_000).get_exact_unit(false)      // (50840, Unit::KB)
     /// ```
     pub fn get_exact_unit(self, allow_in_bits: bool) -> (u128, Unit)
-        ensures recovered { IsRecovered current InBytes (family_for InBytes allow_in_bits) self 0 (shape_of result.1) (result.0 * one) }
+        ensures recovered { IsRecovered current InBytes allow_in_bits self 0 (shape_of result.1) }
         ensures exact { result.0 * bits (shape_of result.1) ≡ self * bits_in InBytes }
     {
         exact_unit(self.size, Kind::Byte, allow_in_bits)
@@ -42,7 +42,7 @@ impl Byte {
     /// Byte::from_u64(437_500).get_recoverable_unit(false, 3)        // (437.5, Unit::KB)
     /// ```
     pub fn get_recoverable_unit(self, allow_in_bits: bool, precision: usize) -> (Decimal, Unit)
-        ensures recovered { IsRecovered current InBytes (family_for InBytes allow_in_bits) self (min precision places_of_decimal) (shape_of result.1) result.0 }
+        ensures recovered { IsRecovered current InBytes allow_in_bits self precision (shape_of result.1) }
         ensures exact { result.0 * bits (shape_of result.1) ≡ self * bits_in InBytes * one }
     {
         self.get_recoverable_unit_counted(allow_in_bits, precision, &mut Steps::new())
@@ -56,9 +56,11 @@ impl Byte {
         precision: usize,
         steps: &mut Steps,
     ) -> (Decimal, Unit)
-        ensures recovered { IsRecovered current InBytes (family_for InBytes allow_in_bits) self (min precision places_of_decimal) (shape_of result.1) result.0 }
+        ensures recovered { IsRecovered current InBytes allow_in_bits self precision (shape_of result.1) }
         ensures exact { result.0 * bits (shape_of result.1) ≡ self * bits_in InBytes * one }
-        ensures ticks { (ticks : ℕ) × (ticks ≤ places_of_decimal * units_in current (family_for InBytes allow_in_bits)) × (steps.new ≡ raised steps.old ticks) }
+        ensures ticks { (ticks : ℕ)
+            × (ticks ≤ places_of_decimal * units_in current (family_for InBytes allow_in_bits))
+            × (steps.new ≡ raised steps.old ticks) }
         ensures counted { CountsDigits result.0 steps.old steps.new }
         ensures no_ticks { precision ≡ 0 → steps.new ≡ steps.old }
     {

@@ -1,62 +1,90 @@
-use Rattle.std.proofs.Common.{min, map, get_or, arith}
-use Rattle.byte_unit_math.specs.Bounds.{places_of_decimal}
+use Rattle.std.proofs.Common.{◌≤◌, map, get_or, arith}
 use Rattle.byte_unit_base.specs.Shape.{Shape}
 use Rattle.byte_unit_base.specs.Edition.{current}
 use Rattle.byte_unit_base.specs.Units.{shape_of}
-use Rattle.byte_unit_base.specs.Choice.{States}
+use Rattle.byte_unit_base.specs.Choice.{States, places_within}
 use Rattle.byte_unit_base.specs.declared.unit.Unit.TheVariants.{Bit}
-use Rattle.byte_unit_base.proofs.Falling.{Remain-none, unit_prefix, unit_passed, none_found, none_true}
+use Rattle.byte_unit_base.proofs.Falling.{Remain-at_start, unit_found, unit_prefix, unit_passed, none_found, none_true}
 use Rattle.byte_unit_base.proofs.Quotients.{quotient_here, digits_counted}
 use Rattle.byte_unit_base.proofs.Choosing.{some_bits}
-use Rattle.byte_unit_base.proofs.Dividing.{first_states, not_exact_here, left_more, taken_kind, counted_none, counted_same, counted_more, counted_ticks}
+use Rattle.byte_unit_base.proofs.Dividing.{not_exact_here, left_next, left_behind, counted_at_start, counted_passed, counted_divided}
+use Rattle.byte_unit_base.proofs.Dividing.{counted_ticks}
 use Rattle.byte_unit_base.proofs.choice.first_exact.Goals as goal
-use Rattle.byte_unit_base.proofs.choice.first_exact.Goals.{then-may_state+in-None, else-may_state}
+use Rattle.byte_unit_base.proofs.choice.first_exact.Goals.{then-may_state+in_default, else-may_state}
 
 pub loop-unit-init : goal.loop-unit-init
-loop-unit-init c = record {
-  remain = Remain-none (States current c.args.family c.args.in_bits (min c.args.most places_of_decimal)) (map shape_of c.multiples-unit-items.result.now) c.args.family c.multiples-unit-items.ensures (λ unit h. h.member);
-  counted = counted_none (min c.args.most places_of_decimal) c.args.family (map shape_of c.multiples-unit-items.result.now) c.args.steps.now c.multiples-unit-items.ensures;
-}
+loop-unit-init c =
+    let stated = States current c.args.family c.args.in_bits c.args.most in
+    let units = map shape_of c.multiples-unit-items.result.now in
+    let all = c.multiples-unit-items.ensures in
+    record {
+      remain = Remain-at_start stated units c.args.family all (λ unit h. h.member);
+      counted = counted_at_start (places_within c.args.most) c.args.family units c.args.steps.now all;
+    }
 
 pub may_state-requires : goal.may_state-requires
-may_state-requires c = unit_prefix c.multiples-unit-items.result.now c.loop-unit.unit-index Bit c.multiples-unit-items.ensures c.loop-unit-test.true
+may_state-requires c =
+    unit_prefix c.multiples-unit-items.result.now c.loop-unit.unit-index Bit c.multiples-unit-items.ensures c.loop-unit-test.true
 
 pub returns-in-Some-clause-chosen : goal.returns-in-Some-clause-chosen
 returns-in-Some-clause-chosen c =
-    first_states c.args.family c.args.in_bits (min c.args.most places_of_decimal) c.in-Some.number c.multiples-unit-items.result.now c.loop-unit.unit-index Bit c.multiples-unit-items.ensures c.loop-unit.invariant.remain c.loop-unit-test.true (c.may_state.ensures.suits c.if-may_state.true)
-    (quotient_here c.exact_quotient.result c.args.in_bits (min c.args.most places_of_decimal) c.as_bits_u128.result c.in-Some.number _ c.as_bits_u128.ensures.bits c.in-Some.is c.exact_quotient.ensures.quotient)
+    let items = c.multiples-unit-items.result.now in
+    let i = c.loop-unit.unit-index in
+    let unit = shape_of (get_or items i Bit) in
+    let suits = c.may_state.ensures.suits c.if-may_state.true in
+    let quotient = quotient_here unit c.as_bits_u128.ensures.bits c.in-Some.is c.exact_quotient.ensures.quotient in
+    let stated = States current c.args.family c.args.in_bits c.args.most in
+    let has : stated unit =
+    record { member = suits.member; not_above = suits.not_above; exact = (quotient.whole, quotient.exact) } in
+    record {
+      unit_is = unit_found stated items i Bit c.multiples-unit-items.ensures c.loop-unit.invariant.remain c.loop-unit-test.true has;
+      number_is = quotient;
+    }
 
 pub returns-in-Some-clause-ticks : goal.returns-in-Some-clause-ticks
 returns-in-Some-clause-ticks c =
-    let s = c.may_state.ensures.suits c.if-may_state.true in
-    let step = left_more c.args.family c.multiples-unit-items.result.now c.loop-unit.unit-index Bit c.loop-unit-test.true in
-    counted_ticks _ _ _ _ _ (counted_more _ _ _ _ _ _ _ _ _ step (taken_kind c.args.family _ s.member.kind) c.exact_quotient.ensures.ticks.1.few c.exact_quotient.ensures.ticks.2 c.loop-unit.invariant.counted)
+    let suits = c.may_state.ensures.suits c.if-may_state.true in
+    let items = c.multiples-unit-items.result.now in
+    let step = left_behind c.args.family items c.loop-unit.unit-index Bit c.loop-unit-test.true suits.member.kind in
+    let ticks = c.exact_quotient.ensures.ticks in
+    counted_ticks (counted_divided _ _ _ step ticks.1.few ticks.2 c.loop-unit.invariant.counted)
 
 pub returns-in-Some-clause-counted : goal.returns-in-Some-clause-counted
 returns-in-Some-clause-counted c =
     let some = some_bits (shape_of (get_or c.multiples-unit-items.result.now c.loop-unit.unit-index Bit)) in
-    digits_counted _ _ _ _ _ c.args.steps.now _ _ (omega (arith, some, c.as_bits_u128.ensures.bits)) (omega arith) c.in-Some.is c.exact_quotient.ensures.quotient (omega (arith, c.loop-unit.invariant.counted.count)) c.exact_quotient.ensures.ticks
+    let before = c.loop-unit.invariant.counted.count in
+    let quotient = c.exact_quotient.ensures in
+    let unit : 1 ≤ c.as_bits_u128.result = omega (arith, some, c.as_bits_u128.ensures.bits) in
+    digits_counted unit (omega arith) c.in-Some.is quotient.quotient (omega (arith, before)) quotient.ticks
 
 pub loop-unit-preserved : goal.loop-unit-preserved
 loop-unit-preserved c =
-    let step = left_more c.args.family c.multiples-unit-items.result.now c.loop-unit.unit-index Bit c.loop-unit-test.true in
-    let States-here : Shape → Type 0 = States current c.args.family c.args.in_bits (min c.args.most places_of_decimal) in
+    let items = c.multiples-unit-items.result.now in
+    let i = c.loop-unit.unit-index in
+    let stated : Shape → Type 0 = States current c.args.family c.args.in_bits c.args.most in
+    let passed = unit_passed stated items i Bit c.loop-unit.invariant.remain c.loop-unit-test.true in
     elim c.if-may_state.branch [
-      | then-may_state+in-None w ↦
-          let s = c.may_state.ensures.suits w.if-may_state.true in
+      | then-may_state+in_default w ↦
+          let suits = c.may_state.ensures.suits w.if-may_state.true in
+          let bits_are = w.as_bits_u128.ensures.bits in
+          let ticks = w.exact_quotient.ensures.ticks in
+          let step = left_behind c.args.family items i Bit c.loop-unit-test.true suits.member.kind in
           record {
-            remain = unit_passed States-here c.multiples-unit-items.result.now c.loop-unit.unit-index Bit c.loop-unit.invariant.remain c.loop-unit-test.true (not_exact_here c.args.family c.args.in_bits (min c.args.most places_of_decimal) w.as_bits_u128.result _ w.as_bits_u128.ensures.bits w.in-None.ensures.none);
-            counted = counted_more _ _ _ _ _ _ _ _ _ step (taken_kind c.args.family _ s.member.kind) w.exact_quotient.ensures.ticks.1.few (omega (arith, w.steps-is, w.exact_quotient.ensures.ticks.2)) c.loop-unit.invariant.counted;
+            remain = passed (not_exact_here c.args.family c.args.in_bits c.args.most _ _ bits_are w.in_default.ensures.none);
+            counted = counted_divided _ _ _ step ticks.1.few (omega (arith, w.steps-is, ticks.2)) c.loop-unit.invariant.counted;
           }
       | else-may_state w ↦
+          let step = left_next c.args.family items i Bit c.loop-unit-test.true in
           record {
-            remain = unit_passed States-here c.multiples-unit-items.result.now c.loop-unit.unit-index Bit c.loop-unit.invariant.remain c.loop-unit-test.true (none_true _ _ w.if-may_state.false c.may_state.ensures.states);
-            counted = counted_same _ _ _ _ _ _ _ _ step w.steps-is c.loop-unit.invariant.counted;
+            remain = passed (none_true _ _ w.if-may_state.false c.may_state.ensures.states);
+            counted = counted_passed _ _ _ step w.steps-is c.loop-unit.invariant.counted;
           }
     ]
 
 pub returns-clause-none : goal.returns-clause-none
-returns-clause-none c = none_found (States current c.args.family c.args.in_bits (min c.args.most places_of_decimal)) c.multiples-unit-items.result.now c.loop-unit.unit-index c.loop-unit-test.false c.loop-unit.invariant.remain
+returns-clause-none c =
+    let stated = States current c.args.family c.args.in_bits c.args.most in
+    none_found stated c.multiples-unit-items.result.now c.loop-unit.unit-index c.loop-unit-test.false c.loop-unit.invariant.remain
 
 pub returns-clause-ticks : goal.returns-clause-ticks
-returns-clause-ticks c = counted_ticks _ _ _ _ _ c.loop-unit.invariant.counted
+returns-clause-ticks c = counted_ticks c.loop-unit.invariant.counted
