@@ -3,13 +3,13 @@ use Rattle.std.proofs.Common.{ℕ, List, [], ◌∷◌, ◌++◌, refl, sym, ap,
 use Rattle.byte_unit_lines.specs.Answer.{Kind, IsAnswer}
 use Rattle.byte_unit_lines.specs.Report.{AreAnswers}
 use Rattle.byte_unit_lines.specs.Outcome.{IsBeginning, AnswerFirst}
-use Rattle.byte_unit_lines.specs.Steps.{IsAnsweredAt}
+use Rattle.byte_unit_lines.specs.Progress.{IsAnsweredAt}
 use Rattle.byte_unit_lines.specs.declared.run.RunError.{RunError}
 use Rattle.byte_unit_lines.specs.declared.run.RunError.TheVariants.{Memory, Read, Write}
 
 -- the answers to these lines, and then to those
-pub answers_after : (kind : Kind) (before lines : List (List ℕ)) (front back : List ℕ) → AreAnswers kind before front → AreAnswers kind lines back
-    → AreAnswers kind (before ++ lines) (front ++ back)
+pub answers_after : (kind : Kind) (before lines : List (List ℕ)) (front back : List ℕ)
+    → AreAnswers kind before front → AreAnswers kind lines back → AreAnswers kind (before ++ lines) (front ++ back)
 answers_after kind [] lines front back p q =
     let P : List ℕ → Type 0 = λ l. AreAnswers kind lines (l ++ back) in subst P (sym p) q
 answers_after kind (line ∷ before) lines front back p q = (
@@ -25,7 +25,8 @@ pub answers_one : (kind : Kind) (line answer : List ℕ) → IsAnswer kind line 
 answers_one kind line answer h = (answer, [], h, refl, sym (append-nil answer))
 
 -- where each line has an answer, lines have answers
-pub all_have_answers : (kind : Kind) → ((line : List ℕ) → (answer : List ℕ) × IsAnswer kind line answer) → (lines : List (List ℕ)) → (out : List ℕ) × AreAnswers kind lines out
+pub all_have_answers : (kind : Kind) → ((line : List ℕ) → (answer : List ℕ) × IsAnswer kind line answer)
+    → (lines : List (List ℕ)) → (out : List ℕ) × AreAnswers kind lines out
 all_have_answers kind each [] = ([], refl)
 all_have_answers kind each (line ∷ lines) =
     let first = each line in
@@ -40,14 +41,14 @@ pub beginning_longer : {X : Type 0} (front whole more : List X) → IsBeginning 
 beginning_longer front whole more h = (h.0 ++ more, ap (λ l. l ++ more) h.1 ∙ append_assoc front h.0 more)
 
 -- the answers to lines, and then to the first of others
-pub first_after : (kind : Kind) (before lines : List (List ℕ)) (front written : List ℕ) → AreAnswers kind before front → AnswerFirst kind lines written
-    → AnswerFirst kind (before ++ lines) (front ++ written)
+pub first_after : (kind : Kind) (before lines : List (List ℕ)) (front written : List ℕ)
+    → AreAnswers kind before front → AnswerFirst kind lines written → AnswerFirst kind (before ++ lines) (front ++ written)
 first_after kind before lines front written p h =
     (before ++ h.0, beginning_after before h.0 lines h.1, answers_after kind before h.0 front written p h.2)
 
 -- an error after the answers to the lines before
-pub answered_after : (kind : Kind) (before lines : List (List ℕ)) (front : List ℕ) → AreAnswers kind before front → (e : RunError) (written : List ℕ)
-    → IsAnsweredAt kind lines e written → IsAnsweredAt kind (before ++ lines) e (front ++ written)
+pub answered_after : (kind : Kind) (before lines : List (List ℕ)) (front : List ℕ) → AreAnswers kind before front
+    → (e : RunError) (written : List ℕ) → IsAnsweredAt kind lines e written → IsAnsweredAt kind (before ++ lines) e (front ++ written)
 answered_after kind before lines front p Memory written h = first_after kind before lines front written p h
 answered_after kind before lines front p Read written h = h
 answered_after kind before lines front p Write written h =

@@ -1,10 +1,11 @@
 -- Lines that come in pieces.
-use Rattle.std.proofs.Common.{◌≢◌, ◌+◌, ◌<◌, length, take, drop, get_or, take-append-drop, ◌≡◌, ℕ, List, [], ◌∷◌, ◌++◌, true, false, cond, eqb, refl, sym, ap, subst, ◌∙◌, append_assoc, append-nil}
+use Rattle.std.proofs.Common.{◌≡◌, ◌≢◌, ◌+◌, ◌<◌, ℕ, List, [], ◌∷◌, ◌++◌, length, take, drop, get_or, true, false, cond, eqb}
+use Rattle.std.proofs.Common.{refl, sym, ap, subst, ◌∙◌, append_assoc, append-nil, take-append-drop}
 use Rattle.std.proofs.lemmas.List.{take_more}
 use Rattle.std.proofs.lemmas.Bool.{eq-eqb, ne_eqb}
 use Rattle.std.specs.List.{onto_first}
 use Rattle.byte_unit_lines.specs.Lines.{parts, but_last, but_empty_last, lines_of, finished_lines}
-use Rattle.byte_unit_lines.specs.Steps.{ended_by, begun_by}
+use Rattle.byte_unit_lines.specs.Progress.{ended_by, begun_by}
 
 -- the last part
 abbrev last_of : List (List ℕ) → List ℕ
@@ -51,7 +52,8 @@ last_of-onto line ps s = subst (λ ps. last_of (onto line ([] ∷ ps)) ≡ last_
 
 onto-onto_first : (line : List ℕ) (b : ℕ) (ps : List (List ℕ)) → IsSplit ps → onto line (onto_first b ps) ≡ onto (line ++ b ∷ []) ps
 onto-onto_first line b ps s =
-    subst (λ ps. onto line (onto_first b ps) ≡ onto (line ++ b ∷ []) ps) (sym s.2) (ap (λ l. l ∷ s.1) (sym (append_assoc line (b ∷ []) s.0)))
+    subst (λ ps. onto line (onto_first b ps) ≡ onto (line ++ b ∷ []) ps) (sym s.2)
+    (ap (λ l. l ∷ s.1) (sym (append_assoc line (b ∷ []) s.0)))
 
 onto-nil : (ps : List (List ℕ)) → IsSplit ps → onto [] ps ≡ ps
 onto-nil ps s = subst (λ ps. onto [] ps ≡ ps) (sym s.2) refl
@@ -60,15 +62,18 @@ onto-nil ps s = subst (λ ps. onto [] ps ≡ ps) (sym s.2) refl
 ended_is : (line bs : List ℕ) → ended_by line bs ≡ but_last (onto line (parts bs))
 ended_is line [] = refl
 ended_is line (b ∷ bs) =
-    elim (eqb b 10) as (λ t. cond t (line ∷ ended_by [] bs) (ended_by (line ++ b ∷ []) bs) ≡ but_last (onto line (cond t ([] ∷ parts bs) (onto_first b (parts bs))))) [
-      | true ↦ ap (λ ls. line ∷ ls) (ended_is [] bs ∙ ap but_last (onto-nil (parts bs) (parts_split bs))) ∙ sym (but_last-onto line (parts bs) (parts_split bs))
+    elim (eqb b 10) as (λ t. cond t (line ∷ ended_by [] bs) (ended_by (line ++ b ∷ []) bs)
+    ≡ but_last (onto line (cond t ([] ∷ parts bs) (onto_first b (parts bs))))) [
+      | true ↦ ap (λ ls. line ∷ ls) (ended_is [] bs ∙ ap but_last (onto-nil (parts bs) (parts_split bs)))
+          ∙ sym (but_last-onto line (parts bs) (parts_split bs))
       | false ↦ ended_is (line ++ b ∷ []) bs ∙ ap but_last (sym (onto-onto_first line b (parts bs) (parts_split bs)))
     ]
 
 begun_is : (line bs : List ℕ) → begun_by line bs ≡ last_of (onto line (parts bs))
 begun_is line [] = sym (append-nil line)
 begun_is line (b ∷ bs) =
-    elim (eqb b 10) as (λ t. cond t (begun_by [] bs) (begun_by (line ++ b ∷ []) bs) ≡ last_of (onto line (cond t ([] ∷ parts bs) (onto_first b (parts bs))))) [
+    elim (eqb b 10) as (λ t. cond t (begun_by [] bs) (begun_by (line ++ b ∷ []) bs)
+    ≡ last_of (onto line (cond t ([] ∷ parts bs) (onto_first b (parts bs))))) [
       | true ↦ begun_is [] bs ∙ ap last_of (onto-nil (parts bs) (parts_split bs)) ∙ sym (last_of-onto line (parts bs) (parts_split bs))
       | false ↦ begun_is (line ++ b ∷ []) bs ∙ ap last_of (sym (onto-onto_first line b (parts bs) (parts_split bs)))
     ]
@@ -105,14 +110,17 @@ begun_at line seen b e =
 
 ended_past : (line seen : List ℕ) (b : ℕ) → b ≢ 10 → ended_by line (seen ++ b ∷ []) ≡ ended_by line seen
 ended_past line seen b e =
-    ended_by-append line seen (b ∷ []) ∙ ap (λ t. ended_by line seen ++ cond t (begun_by line seen ∷ []) []) (ne_eqb b 10 e) ∙ append-nil (ended_by line seen)
+    ended_by-append line seen (b ∷ [])
+    ∙ ap (λ t. ended_by line seen ++ cond t (begun_by line seen ∷ []) []) (ne_eqb b 10 e)
+    ∙ append-nil (ended_by line seen)
 
 begun_past : (line seen : List ℕ) (b : ℕ) → b ≢ 10 → begun_by line (seen ++ b ∷ []) ≡ begun_by line seen ++ b ∷ []
 begun_past line seen b e =
     begun_by-append line seen (b ∷ []) ∙ ap (λ t. cond t [] (begun_by line seen ++ b ∷ [])) (ne_eqb b 10 e)
 
 module _ (line bytes : List ℕ) (i : ℕ) (fits : i < length bytes) where
-  pub ended_more : get_or bytes i 0 ≡ 10 → ended_by line (take (i + 1) bytes) ≡ ended_by line (take i bytes) ++ begun_by line (take i bytes) ∷ []
+  pub ended_more : get_or bytes i 0 ≡ 10
+      → ended_by line (take (i + 1) bytes) ≡ ended_by line (take i bytes) ++ begun_by line (take i bytes) ∷ []
   ended_more e = ap (ended_by line) (take_more bytes i 0 fits) ∙ ended_at line (take i bytes) (get_or bytes i 0) e
 
   pub begun_more : get_or bytes i 0 ≡ 10 → begun_by line (take (i + 1) bytes) ≡ []
@@ -125,7 +133,8 @@ module _ (line bytes : List ℕ) (i : ℕ) (fits : i < length bytes) where
   begun_same e = ap (begun_by line) (take_more bytes i 0 fits) ∙ begun_past line (take i bytes) (get_or bytes i 0) e
 
 -- the lines that end so far are the first of them all
-pub ended_front : (line bytes : List ℕ) (i : ℕ) → ended_by line bytes ≡ ended_by line (take i bytes) ++ ended_by (begun_by line (take i bytes)) (drop i bytes)
+pub ended_front : (line bytes : List ℕ) (i : ℕ)
+    → ended_by line bytes ≡ ended_by line (take i bytes) ++ ended_by (begun_by line (take i bytes)) (drop i bytes)
 ended_front line bytes i = ap (ended_by line) (sym (take-append-drop i bytes)) ∙ ended_by-append line (take i bytes) (drop i bytes)
 
 pub begun_front : (line bytes : List ℕ) (i : ℕ) → begun_by line bytes ≡ begun_by (begun_by line (take i bytes)) (drop i bytes)

@@ -14,7 +14,8 @@ use Rattle.byte_unit_lines.proofs.Sizes.{some_said, one_saying}
 -- a line has an answer
 module _ (kind : Kind) (texts : TextsAreAcceptedOrRefused) (choices : EachSizeHasAChoiceOrNone) (product : NumberTimesUnitIsSize) where
   -- what is said of a text
-  text_said : (text : List ℕ) → IsUtf8 text → ((n : ℕ) × IsAccepted current kind false text n) ⊎ ((fault : Fault) × IsRefused current kind false text fault)
+  text_said : (text : List ℕ) → IsUtf8 text
+      → ((n : ℕ) × IsAccepted current kind false text n) ⊎ ((fault : Fault) × IsRefused current kind false text fault)
       → (said : List ℕ) × IsSaidOf kind text said
   text_said text is_text (inl (n, accepted)) = let said = some_said kind choices product n in (said.0, size n is_text accepted said.1)
   text_said text is_text (inr (fault, is_refused)) = (words_of fault, refused fault is_text is_refused refl)
@@ -41,15 +42,19 @@ module _ (kind : Kind) (texts : TextsAreAcceptedOrRefused) (one_choice : Choices
   one_said line said other (size n is_text accepted e) (size m _ also f) =
       let same = (texts kind false line).one_meaning n m accepted also in
       one_saying kind one_choice m said other (subst (λ k. SaysSize kind k said) same e) f
-  one_said line said other (size n is_text accepted e) (refused fault _ is_refused f) = absurd ((texts kind false line).not_both n fault accepted is_refused)
+  one_said line said other (size n is_text accepted e) (refused fault _ is_refused f) =
+      absurd ((texts kind false line).not_both n fault accepted is_refused)
   one_said line said other (refused fault is_text is_refused e) (not_text not f) = absurd (not is_text)
-  one_said line said other (refused fault is_text is_refused e) (size n _ accepted f) = absurd ((texts kind false line).not_both n fault accepted is_refused)
-  one_said line said other (refused fault is_text is_refused e) (refused next _ also f) = e ∙ ap words_of ((texts kind false line).one_fault fault next is_refused also) ∙ sym f
+  one_said line said other (refused fault is_text is_refused e) (size n _ accepted f) =
+      absurd ((texts kind false line).not_both n fault accepted is_refused)
+  one_said line said other (refused fault is_text is_refused e) (refused next _ also f) =
+      e ∙ ap words_of ((texts kind false line).one_fault fault next is_refused also) ∙ sym f
 
   one_answer : (line out other : List ℕ) → IsAnswer kind line out → IsAnswer kind line other → out ≡ other
   one_answer line out other h k = h.ended ∙ ap (λ said. said ++ 10 ∷ []) (one_said line h.said k.said h.is_said k.is_said) ∙ sym k.ended
 
-  pub one_list_of_answers : (lines : List (List ℕ)) (out other : List ℕ) → AreAnswers kind lines out → AreAnswers kind lines other → out ≡ other
+  pub one_list_of_answers : (lines : List (List ℕ)) (out other : List ℕ)
+      → AreAnswers kind lines out → AreAnswers kind lines other → out ≡ other
   one_list_of_answers [] out other h k = h ∙ sym k
   one_list_of_answers (line ∷ lines) out other h k =
       h.4 ∙ ap (λ l. l ++ h.1) (one_answer line h.0 k.0 h.2 k.2) ∙ ap (λ l. k.0 ++ l) (one_list_of_answers lines h.1 k.1 h.3 k.3) ∙ sym k.4

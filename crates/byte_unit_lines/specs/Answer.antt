@@ -3,10 +3,10 @@ use Rattle.std.specs.Prelude.{◌≡◌, ℕ, false, List, [], ◌∷◌, ◌++�
 use Rattle.std.specs.Str.{IsUtf8}
 use Rattle.byte_unit_lines.specs.Lines.{line_end}
 use Rattle.byte_unit.specs.Accepted.{IsAccepted, IsRefused}
-use Rattle.byte_unit.specs.AdjustedString.{alternate}
 use Rattle.byte_unit.specs.Edition.{current}
 use Rattle.byte_unit.specs.Fault.{Fault, exceeded, not_number, no_value, too_long, bad_unit}
 use Rattle.byte_unit.specs.Forms.{IsText}
+use Rattle.byte_unit.specs.AdjustedString.{alternate}
 use Rattle.byte_unit.specs.declared.FormatSpec.{FormatSpec}
 use Rattle.byte_unit.specs.declared.Sign.TheVariants.{Unset}
 pub use Rattle.byte_unit.specs.declared.Kind.{Kind}
@@ -33,9 +33,10 @@ words_of (bad_unit _ _ _) = codes "bad unit"
 
 -- what is said of a line: that it is no text, the size that it is read as, or the words for its fault
 pub data IsSaidOf (kind : Kind) (line said : List ℕ) : Type 0 where
-  not_text : ¬ (IsUtf8 line) → said ≡ codes "not text" → IsSaidOf kind line said
+  not_text : ¬ IsUtf8 line → said ≡ codes "not text" → IsSaidOf kind line said
   size : (n : ℕ) → IsUtf8 line → IsAccepted current kind false line n → SaysSize kind n said → IsSaidOf kind line said
-  refused : (fault : Fault) → IsUtf8 line → IsRefused current kind false line fault → said ≡ words_of fault → IsSaidOf kind line said
+  refused : (fault : Fault) → IsUtf8 line → IsRefused current kind false line fault → said ≡ words_of fault
+      → IsSaidOf kind line said
 
 -- what is written for a line: that, and a line end
 pub record IsAnswer (kind : Kind) (line out : List ℕ) : Type 0 where

@@ -1,5 +1,5 @@
 -- How a call of the program ends: its exit status, and what it says on standard error.
-use Rattle.std.specs.Prelude.{◌≡◌, ℕ, List, Option, None, Some, Result, Ok, Err, codes}
+use Rattle.std.specs.Prelude.{◌≡◌, ℕ, List, Option, None, Some, Result, Ok, Err, codes, ⊤}
 use Rattle.byte_unit_lines.specs.Answer.{Kind}
 use Rattle.byte_unit_lines.specs.FaultWords.{said_of}
 use Rattle.byte_unit_lines.specs.Outcome.{IsRun}
@@ -15,7 +15,7 @@ ending_of (Err e) = Failed e
 -- a run that the call ends with
 abbrev pub IsRunTo : Kind → Option (List ℕ) → Option (List ℕ) → Option (List ℕ) → Option (List ℕ) → Ending → Type 0
 IsRunTo kind left rest held holds ending =
-    (outcome : Result (Unit {0}) RunError) × IsRun kind left rest held holds outcome × (ending ≡ ending_of outcome)
+    (outcome : Result ⊤ RunError) × IsRun kind left rest held holds outcome × (ending ≡ ending_of outcome)
 
 -- the exit status
 abbrev pub status_of : Ending → ℕ

@@ -1,11 +1,11 @@
 pub mod Answer
-pub mod Answers
 pub mod Arguments
 pub mod Ending
 pub mod FaultWords
 pub mod Laws
 pub mod Lines
 pub mod Outcome
+pub mod Progress
 pub mod Report
-pub mod Steps
 pub mod Streams
+pub mod Waiting

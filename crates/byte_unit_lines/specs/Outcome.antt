@@ -1,5 +1,5 @@
 -- What a run has written, by how it ended.
-use Rattle.std.specs.Prelude.{◌≡◌, ℕ, List, ◌++◌, Option, Result, Ok, Err}
+use Rattle.std.specs.Prelude.{◌≡◌, ℕ, List, ◌++◌, Option, Result, Ok, Err, ⊤}
 use Rattle.std.specs.Io.KnownBytes.{Appends, Consumes}
 use Rattle.byte_unit_lines.specs.Answer.{Kind}
 use Rattle.byte_unit_lines.specs.Lines.{finished_lines}
@@ -30,9 +30,9 @@ abbrev pub IsWritten : {T : Type 0} → Kind → List ℕ → Result T RunError 
 IsWritten kind read (Ok _) written = IsReport kind read written
 IsWritten kind read (Err e) written = IsWrittenAt kind read e written
 
--- a run: what it has read from the reader, and what it has written to the writer for that. `left` and `rest` are what the reader
--- had left and has left, `held` and `holds` what the writer held and holds, each none where it doesn't tell
-pub record IsRun (kind : Kind) (left rest held holds : Option (List ℕ)) (result : Result (Unit {0}) RunError) : Type 0 where
+-- a run: what it has read from the reader, and what it has written to the writer for that. `left` and `rest` are what
+-- the reader had left and has left, `held` and `holds` what the writer held and holds, each none where it doesn't tell
+pub record IsRun (kind : Kind) (left rest held holds : Option (List ℕ)) (result : Result ⊤ RunError) : Type 0 where
   pub read : List ℕ
   pub written : List ℕ
   pub gave : Consumes left rest read

@@ -69,7 +69,7 @@ pub fn serve<R: Read, W: Write>(
     ensures end { result ≡ Ending.Done → IsAtEnd (R.remaining (reader_of reader.new)) }
     ensures read_failed { result ≡ Ending.Failed RunError.Read → IsTrue (reading_failed reader.new) }
     ensures write_failed { result ≡ Ending.Failed RunError.Write → IsTrue (writing_failed writer.new) }
-    ensures usage { ((kind : Kind) → AskFor (map string_bytes words.now) kind → ⊥)
+    ensures usage { ((kind : Kind) → ¬ AskFor (map string_bytes words.now) kind)
         → (result ≡ Ending.Usage) × (reader.new ≡ reader.old) × (writer.new ≡ writer.old) }
 {
     match kind_of(words) {

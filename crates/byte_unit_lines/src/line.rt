@@ -5,7 +5,7 @@ ghost use Rattle.std.specs.String.{string_bytes};
 ghost use Rattle.byte_unit.specs.Errors.{size_fault};
 ghost use Rattle.byte_unit.specs.declared.Kind.TheVariants.{Byte as InBytes, Bit as InBits};
 ghost use Rattle.byte_unit_lines.specs.Answer.{words_of};
-ghost use Rattle.byte_unit_lines.specs.Steps.{AddsAnswer, AddsSaid};
+ghost use Rattle.byte_unit_lines.specs.Progress.{AddsAnswer, AddsSaid};
 
 use crate::arguments::Kind;
 use byte_unit::{Bit, Byte, FormatSpec, ParseError, ValueParseError};

@@ -1,7 +1,6 @@
 //! Reads lines, and writes for each the size that it states, or why it states none.
 #![tactic(auto)]
 
-mod answers;
 mod arguments;
 mod ending;
 mod laws;
@@ -12,6 +11,7 @@ mod refusing;
 mod run;
 #[cfg(test)]
 mod tests;
+mod waiting;
 mod words;
 mod writing;
 

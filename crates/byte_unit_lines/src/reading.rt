@@ -1,6 +1,7 @@
 //! A reader that remembers a failure.
 
-ghost use Rattle.std.specs.Prelude.{false, ◌≡◌, ◌+◌, ◌-◌, ◌^◌, ◌≤◌, ◌<◌, ◌↔◌, take, length, IsTrue, IsNone, IfNone, IfSome, OnSome};
+ghost use Rattle.std.specs.Prelude.{◌≡◌, ◌+◌, ◌-◌, ◌^◌, ◌≤◌, ◌<◌, ◌↔◌, false, take, length};
+ghost use Rattle.std.specs.Prelude.{IsTrue, IsNone, IfNone, IfSome, OnSome};
 ghost use Rattle.std.specs.Io.KnownBytes.{Consumes, IsAtEnd, Keeps};
 ghost use Rattle.byte_unit_lines.specs.Streams.{reader_of, reading_failed, reads_left};
 

@@ -1,17 +1,19 @@
 //! The program's loop: reads, answers the lines that came, writes the answers.
 
-ghost use Rattle.std.specs.Prelude.{◌≡◌, ◌+◌, ◌^◌, ◌<◌, ℕ, List, [], ◌++◌, IsTrue, IsErrOf, IfErr, OnOk, OnErr, IfSome, IfNone, get_or, take, length};
+ghost use Rattle.std.specs.Prelude.{◌≡◌, ◌+◌, ◌^◌, ◌<◌, ℕ, List, [], ◌++◌, get_or, take, length};
+ghost use Rattle.std.specs.Prelude.{IsTrue, IsErrOf, IfErr, OnOk, OnErr, IfSome, IfNone};
 ghost use Rattle.std.specs.Io.KnownBytes.{Appends, IsAtEnd};
-ghost use Rattle.byte_unit_lines.specs.Answers.{whole_of};
+ghost use Rattle.byte_unit_lines.specs.Waiting.{answers_in};
 ghost use Rattle.byte_unit_lines.specs.Lines.{line_end};
 ghost use Rattle.byte_unit_lines.specs.Outcome.{IsBeginning, IsRun};
-ghost use Rattle.byte_unit_lines.specs.Steps.{ended_by, begun_by, IsUnbroken, AddsAnswer, AddsAnswers, AddsFirst, IsAnswered, IsLineAnswered};
+ghost use Rattle.byte_unit_lines.specs.Progress.{ended_by, begun_by, IsUnbroken, AddsAnswer, AddsAnswers, AddsFirst};
+ghost use Rattle.byte_unit_lines.specs.Progress.{IsAnswered, IsLineAnswered};
 ghost use Rattle.byte_unit_lines.specs.Streams.{reader_of, reading_failed, writer_of, writing_failed};
 
-use crate::answers::Answers;
 use crate::arguments::Kind;
 use crate::laws::each_line_has_an_answer;
 use crate::reading::Reading;
+use crate::waiting::Waiting;
 use crate::writing::Writing;
 use std::alloc::{AllocError, Allocator, Global};
 use std::io::{Read, Write};
@@ -34,6 +36,17 @@ pub enum RunError {
     Read,
     /// The writer failed.
     Write,
+}
+
+/// `Memory`.
+impl From<AllocError> for RunError {
+    ghost use Rattle.byte_unit_lines.specs.declared.run.RunError.TheVariants.{Memory};
+
+    ghost from_gives = { λ _ error. error ≡ Memory };
+
+    fn from(_: AllocError) -> RunError {
+        RunError::Memory
+    }
 }
 
 /// Reads all there is, and writes the answer to each line.
@@ -60,28 +73,12 @@ pub fn run<R: Read, W: Write>(
     ensures read_failed { IsErrOf result RunError.Read → IsTrue (reading_failed reader.new) }
     ensures write_failed { IsErrOf result RunError.Write → IsTrue (writing_failed writer.new) }
 {
-    run_in(&alloc, reader, writer, kind)
-}
-
-/// [`run`] over any allocator.
-pub fn run_in<A: Allocator, R: Read, W: Write>(
-    alloc: &A,
-    reader: &mut Reading<R>,
-    writer: &mut Writing<W>,
-    kind: Kind,
-) -> Result<(), RunError>
-    ensures run { IsRun kind (R.remaining (reader_of reader.old)) (R.remaining (reader_of reader.new))
-        (W.contents (writer_of writer.old)) (W.contents (writer_of writer.new)) result }
-    ensures end { OnOk result (IsAtEnd (R.remaining (reader_of reader.new))) }
-    ensures read_failed { IsErrOf result RunError.Read → IsTrue (reading_failed reader.new) }
-    ensures write_failed { IsErrOf result RunError.Write → IsTrue (writing_failed writer.new) }
-{
     let mut buffer = [0u8; CHUNK];
-    run_with(alloc, &mut buffer, reader, writer, kind)
+    run_in(&alloc, &mut buffer, reader, writer, kind)
 }
 
-/// [`run`] with reads of at most this buffer's length.
-pub(crate) fn run_with<A: Allocator, R: Read, W: Write>(
+/// [`run`] over any allocator, with reads of at most this buffer's length.
+pub fn run_in<A: Allocator, R: Read, W: Write>(
     alloc: &A,
     buffer: &mut [u8],
     reader: &mut Reading<R>,
@@ -98,21 +95,18 @@ pub(crate) fn run_with<A: Allocator, R: Read, W: Write>(
     // What a failing writer took begins a report, and a report answers the unanswered lines too.
     each_line_has_an_answer(kind);
     let mut line = Vec::new(alloc);
-    let mut answers = Answers::new(alloc);
+    let mut waiting = Waiting::new(alloc);
     'reads: loop {
         match reader.read(buffer) {
             None => return Err(RunError::Read),
             Some(0) => break 'reads,
-            Some(n) => match answer_piece(&mut line, &buffer[..n], kind, &mut answers, writer) {
-                Ok(()) => {}
-                Err(e) => return Err(e),
-            },
+            Some(n) => answer_piece(&mut line, &buffer[..n], kind, &mut waiting, writer)?,
         }
     }
     if line.is_empty() {
         Ok(())
     } else {
-        answer_last(&line, kind, &mut answers, writer)
+        answer_last(&line, kind, &mut waiting, writer)
     }
 }
 
@@ -121,44 +115,39 @@ fn answer_piece<A: Allocator, W: Write>(
     line: &mut Vec<u8, A>,
     bytes: &[u8],
     kind: Kind,
-    answers: &mut Answers<A>,
+    waiting: &mut Waiting<A>,
     writer: &mut Writing<W>,
 ) -> Result<(), RunError>
-    requires { whole_of answers.old ≡ [] }
+    requires { answers_in waiting.old ≡ [] }
     ensures written { (written : List ℕ)
         × Appends (W.contents (writer_of writer.old)) (W.contents (writer_of writer.new)) written
         × IsAnswered kind (ended_by line.old.items bytes.now) result written }
     ensures line { OnOk result (line.new.items ≡ begun_by line.old.items bytes.now) }
-    ensures answers { OnOk result (whole_of answers.new ≡ []) }
+    ensures waiting { OnOk result (answers_in waiting.new ≡ []) }
     ensures failed { IsErrOf result RunError.Write → IsTrue (writing_failed writer.new) }
 {
-    let fed = feed(line, bytes, kind, answers);
+    let fed = feed(line, bytes, kind, waiting);
     // The answers to the lines before a refusal are written too.
-    write_whole(writer, answers.as_bytes())?;
-    answers.clear();
-    match fed {
-        Ok(()) => Ok(()),
-        Err(_) => Err(RunError::Memory),
-    }
+    write_whole(writer, waiting.as_bytes())?;
+    waiting.clear();
+    Ok(fed?)
 }
 
 /// Answers a last line that no line end ends.
 fn answer_last<A: Allocator, W: Write>(
     line: &[u8],
     kind: Kind,
-    answers: &mut Answers<A>,
+    waiting: &mut Waiting<A>,
     writer: &mut Writing<W>,
 ) -> Result<(), RunError>
-    requires { whole_of answers.old ≡ [] }
+    requires { answers_in waiting.old ≡ [] }
     ensures written { (written : List ℕ)
         × Appends (W.contents (writer_of writer.old)) (W.contents (writer_of writer.new)) written
         × IsLineAnswered kind line.now result written }
     ensures failed { IsErrOf result RunError.Write → IsTrue (writing_failed writer.new) }
 {
-    match answers.add(line, kind) {
-        Ok(()) => write_whole(writer, answers.as_bytes()),
-        Err(_) => Err(RunError::Memory),
-    }
+    waiting.add(line, kind)?;
+    write_whole(writer, waiting.as_bytes())
 }
 
 /// Adds the answers to the lines that end in these bytes. `line` is what has come of the first, and
@@ -167,16 +156,17 @@ fn feed<A: Allocator>(
     line: &mut Vec<u8, A>,
     bytes: &[u8],
     kind: Kind,
-    answers: &mut Answers<A>,
+    waiting: &mut Waiting<A>,
 ) -> Result<(), AllocError>
-    ensures added { AddsFirst kind (ended_by line.old.items bytes.now) (whole_of answers.old) (whole_of answers.new) }
+    ensures added { AddsFirst kind (ended_by line.old.items bytes.now)
+        (answers_in waiting.old) (answers_in waiting.new) }
     ensures ok { OnOk result (AddsAnswers kind (ended_by line.old.items bytes.now)
-        (whole_of answers.old) (whole_of answers.new)) }
+        (answers_in waiting.old) (answers_in waiting.new)) }
     ensures line { OnOk result (line.new.items ≡ begun_by line.old.items bytes.now) }
 {
     let mut rest = bytes;
     while let Some(n) = end_of(rest) {
-        answer_line(line, &rest[..n], kind, answers)?;
+        answer_line(line, &rest[..n], kind, waiting)?;
         rest = &rest[n + 1..];
     }
     line.extend_from_slice(rest)
@@ -187,17 +177,18 @@ fn answer_line<A: Allocator>(
     line: &mut Vec<u8, A>,
     bytes: &[u8],
     kind: Kind,
-    answers: &mut Answers<A>,
+    waiting: &mut Waiting<A>,
 ) -> Result<(), AllocError>
-    ensures ok { OnOk result (AddsAnswer kind (line.old.items ++ bytes.now) (whole_of answers.old) (whole_of answers.new)) }
-    ensures err { OnErr result (whole_of answers.new ≡ whole_of answers.old) }
+    ensures ok { OnOk result (AddsAnswer kind (line.old.items ++ bytes.now)
+        (answers_in waiting.old) (answers_in waiting.new)) }
+    ensures err { OnErr result (answers_in waiting.new ≡ answers_in waiting.old) }
     ensures line { OnOk result (line.new.items ≡ []) }
 {
     if line.is_empty() {
-        return answers.add(bytes, kind);
+        return waiting.add(bytes, kind);
     }
     line.extend_from_slice(bytes)?;
-    answers.add(line, kind)?;
+    waiting.add(line, kind)?;
     line.clear();
     Ok(())
 }
@@ -227,7 +218,8 @@ fn end_of(bytes: &[u8]) -> Option<usize>
 
 /// Writes all the bytes, call by call.
 fn write_whole<W: Write>(writer: &mut Writing<W>, bytes: &[u8]) -> Result<(), RunError>
-    ensures ok { OnOk result (Appends (W.contents (writer_of writer.old)) (W.contents (writer_of writer.new)) bytes.now) }
+    ensures ok { OnOk result (Appends (W.contents (writer_of writer.old)) (W.contents (writer_of writer.new))
+        bytes.now) }
     ensures err { OnErr result ((written : List ℕ)
         × Appends (W.contents (writer_of writer.old)) (W.contents (writer_of writer.new)) written
         × IsBeginning written bytes.now) }

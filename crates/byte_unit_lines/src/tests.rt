@@ -10,6 +10,7 @@ use std::alloc::Global;
 
 mod endings;
 mod ends;
+mod hostile;
 mod memory;
 mod order;
 mod rows;

@@ -2,7 +2,7 @@
 use super::streams::{MemoryReader, MemoryWriter, Then};
 use super::*;
 use crate::refusing::Refusing;
-use crate::run::{run_in, run_with};
+use crate::run::run_in;
 use std::io::{Read, Write};
 use std::test::Fail;
 
@@ -74,7 +74,7 @@ fn each_size_of_buffer(rt: HostRuntime) -> Result<(), Fail> {
     for size in 1..=buffer.len() {
         let mut reader = Reading::new(INPUT);
         let mut writer = Writing::new(Vec::new(rt.alloc()));
-        let result = run_with(
+        let result = run_in(
             &rt.alloc(),
             &mut buffer[..size],
             &mut reader,
@@ -215,13 +215,14 @@ fn each_refused_request(rt: HostRuntime) -> Result<(), Fail> {
     // requests and kept by one, those after it are kept by two more, then the line that has begun is kept, and the
     // last answer, which is longer, is made by two.
     let finished = [0, 0, 0, 0, 0, 1, 2, 4, 4, 4];
+    let mut buffer = [0u8; 32];
     let mut number = 1u64;
     for lines in finished {
         for last in [number, u64::MAX] {
             let heap = Refusing::new(rt.alloc(), number, last);
             let mut reader = Reading::new(INPUT);
             let mut writer = Writing::new(open(rt.alloc()));
-            let result = run_in(&heap, &mut reader, &mut writer, Kind::Byte);
+            let result = run_in(&heap, &mut buffer, &mut reader, &mut writer, Kind::Byte);
             let taken = writer.into_inner().into_taken();
             assert_eq!(rt; result, Err(RunError::Memory), "at {number}");
             assert_eq!(rt; taken.as_slice(), first_lines(lines), "at {number}");
@@ -232,7 +233,8 @@ fn each_refused_request(rt: HostRuntime) -> Result<(), Fail> {
     let heap = Refusing::new(rt.alloc(), number, u64::MAX);
     let mut reader = Reading::new(INPUT);
     let mut writer = Writing::new(open(rt.alloc()));
-    assert_eq!(rt; run_in(&heap, &mut reader, &mut writer, Kind::Byte), Ok(()));
+    let result = run_in(&heap, &mut buffer, &mut reader, &mut writer, Kind::Byte);
+    assert_eq!(rt; result, Ok(()));
     assert_eq!(rt; writer.into_inner().into_taken().as_slice(), OUTPUT);
     Ok(())
 }

@@ -11,6 +11,23 @@ pub enum Then {
     TakeNothing,
     /// It goes byte by byte.
     ByteByByte,
+    /// It goes on with all but one byte, where there are two.
+    AllButOne,
+    /// It goes on with all.
+    All,
+}
+
+impl Then {
+    /// How many of so many bytes go at a call.
+    fn goes(self, asked: usize) -> io::Result<usize> {
+        match self {
+            Then::Fail => Err(Error::from(ErrorKind::Other)),
+            Then::TakeNothing => Ok(0),
+            Then::ByteByByte => Ok(1),
+            Then::AllButOne => Ok(asked.saturating_sub(1).max(1)),
+            Then::All => Ok(asked),
+        }
+    }
 }
 
 /// Gives at most `step` bytes a call, for some calls.
@@ -23,22 +40,19 @@ pub struct MemoryReader<'a> {
 }
 
 impl<'a> MemoryReader<'a> {
-    fn gives(&mut self) -> io::Result<usize> {
+    fn gives(&mut self, asked: usize) -> io::Result<usize> {
         if self.calls > 0 {
             self.calls -= 1;
             return Ok(self.step);
         }
-        match self.then {
-            Then::Fail => Err(Error::from(ErrorKind::Other)),
-            Then::TakeNothing => Ok(0),
-            Then::ByteByByte => Ok(1),
-        }
+        self.then.goes(asked)
     }
 }
 
 impl<'a> Read for MemoryReader<'a> {
     fn read(&mut self, buf: &mut [u8]) -> io::Result<usize> {
-        let n = self.gives()?.min(self.rest.len()).min(buf.len());
+        let asked = self.rest.len().min(buf.len());
+        let n = self.gives(asked)?.min(self.rest.len()).min(buf.len());
         let (front, rest) = self.rest.split_at(n);
         buf[..n].copy_from_slice(front);
         self.rest = rest;
@@ -56,16 +70,12 @@ pub struct MemoryWriter {
 }
 
 impl MemoryWriter {
-    fn takes(&mut self) -> io::Result<usize> {
+    fn takes(&mut self, asked: usize) -> io::Result<usize> {
         if self.calls > 0 {
             self.calls -= 1;
             return Ok(self.step);
         }
-        match self.then {
-            Then::Fail => Err(Error::from(ErrorKind::Other)),
-            Then::TakeNothing => Ok(0),
-            Then::ByteByByte => Ok(1),
-        }
+        self.then.goes(asked)
     }
 
     pub fn into_taken(self) -> Vec<u8> {
@@ -81,7 +91,7 @@ impl MemoryWriter {
 
 impl Write for MemoryWriter {
     fn write(&mut self, bytes: &[u8]) -> io::Result<usize> {
-        let n = self.takes()?.min(bytes.len());
+        let n = self.takes(bytes.len())?.min(bytes.len());
         self.taken.extend_from_slice(&bytes[..n])?;
         Ok(n)
     }

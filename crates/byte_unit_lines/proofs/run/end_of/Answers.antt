@@ -5,7 +5,9 @@ use Rattle.byte_unit_lines.proofs.run.end_of.Goals as goal
 pub loop-i-preserved : goal.loop-i-preserved
 loop-i-preserved c =
     let h = c.loop-i.invariant in
-    (unbroken_block c.args.bytes.now c.loop-i.i 32 h.0 (unbroken_clear (take (c.loop-i.i + 32 - c.loop-i.i) (drop c.loop-i.i c.args.bytes.now)) (sym c.if-contains.ensures.value)), omega (arith, h.1))
+    let i = c.loop-i.i in
+    let block = unbroken_clear (take (i + 32 - i) (drop i c.args.bytes.now)) (sym c.if-contains.ensures.value) in
+    (unbroken_block c.args.bytes.now i 32 h.0 block, omega (arith, h.1))
 
 pub loop-i-2-preserved : goal.loop-i-2-preserved
 loop-i-2-preserved c =

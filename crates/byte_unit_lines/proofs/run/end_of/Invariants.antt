@@ -1,5 +1,5 @@
 use Rattle.std.proofs.Common.{length, take, ◌-◌, ◌≤◌}
-use Rattle.byte_unit_lines.specs.Steps.{IsUnbroken}
+use Rattle.byte_unit_lines.specs.Progress.{IsUnbroken}
 use Rattle.byte_unit_lines.proofs.run.end_of.Given as goal
 
 -- no line ends before the place

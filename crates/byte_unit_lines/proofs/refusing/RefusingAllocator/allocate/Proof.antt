@@ -4,7 +4,8 @@
 --     τ       the type that the block is for
 use Rattle.std.proofs.Common.{◌≡◌, ℕ, ◌+◌, Bool, true, false, List, [], ◌∷◌, Ok, Err, refl, ap, w64}
 use Rattle.std.proofs.VecSteps.Shapes.{after}
-use Rattle.std.proofs.alloc.Calls.{Al, α, seen, token, Answer, Answer-typed, Answer-Ok, Answer-err, Takes, at_takes, Answered, Takes-goes, Takes-gives, answers}
+use Rattle.std.proofs.alloc.Calls.{Al, α, seen, token, Answer, Answer-typed, Answer-Ok, Answer-err, Takes, at_takes, Answered, Takes-goes}
+use Rattle.std.proofs.alloc.Calls.{Takes-gives, answers}
 use Rattle.std.proofs.raw_atomic.Walks.{leaves, proved}
 use Rattle.std.specs.Allocator.{block_if_ok}
 use Rattle.std.specs.contracts.alloc.Allocator.TheBound as bound
@@ -18,7 +19,8 @@ use prog.Memory.{size, align, capped, up}
 use prog.Model.{Model}
 use prog.Wired.{Wired}
 use types.ByLocal.{alloc_all, pass_all, free_all, look_at, get, through, sets, lands_as, env}
-use types.Kit.{‵, raw, ◌⊛◌, some, given, later, prop, at_ret, Sq, ◌$◌, ◌∵◌, !, qed, done, move, keep, use0, use1, use2, split, join, fsplit, fjoin, feq_i, feq_l, pick, learn, show, check, await, updating, suffices}
+use types.Kit.{‵, raw, ◌⊛◌, some, given, later, prop, at_ret, Sq, ◌$◌, ◌∵◌, !, qed, done, move, keep, use0, use1, use2, split, join}
+use types.Kit.{fsplit, fjoin, feq_i, feq_l, pick, learn, show, check, await, updating, suffices}
 use types.Kit.{now as at_once}
 use types.Logic.{Logic, sem}
 use types.Part.{agg}
@@ -125,9 +127,11 @@ module _ {M : Type 1} (𝓤 : Ura M) (𝓛 : Logic 𝓤) (𝓜 : Model 𝓤 𝓛
 
     -- the exits: a block with the right to free it, or nothing
     ends : (y : Walk.Ghost) (r : Answer.Denot) (v : Val) → ent 𝓤 (emp 𝓤) (sem 𝓛 (Answer.own_val r (v ∷ [])))
-        → Sq 𝓛 (‵ (block_if_ok (token Z y.0.3.0.now.inner) y.1 r) ∷ ‵ (flft y.0.0.0 y.0.1.0) ∷ ‵ (flft y.0.0.1.0 y.0.1.1.0) ∷ []) (prop (Walk.post y v))
+        → Sq 𝓛 (‵ (block_if_ok (token Z y.0.3.0.now.inner) y.1 r) ∷ ‵ (flft y.0.0.0 y.0.1.0) ∷ ‵ (flft y.0.0.1.0 y.0.1.1.0) ∷ [])
+        (prop (Walk.post y v))
     ends y r v made = suffices ! _ (leaves 𝓛 (ended Z) (stayed Z) clauses y v r (tt, (tt, (tt, tt))) (tt, (tt, (tt, tt)))) $
-        use0 𝓛 (‵ (Answer.own_val r (v ∷ []))) made $ join ! $ nothing ! $ nothing ! $ fjoin ! $ nothing ! $ fjoin ! $ nothing ! $ fjoin ! $ join ! $
+        use0 𝓛 (‵ (Answer.own_val r (v ∷ []))) made $ join ! $ nothing ! $ nothing ! $ fjoin ! $ nothing ! $ fjoin ! $ nothing ! $
+        fjoin ! $ join ! $
         nothing ! $ move ! (3 ∷ 0 ∷ []) $ join ! $ move ! (2 ∷ 0 ∷ []) $ join ! $ join ! $ done !
 
     meets : Wired 𝓡.env code.code → bound.Met 𝓛 𝓜 𝓡 𝓡.env Z.row Z.g Z.d
@@ -136,33 +140,48 @@ module _ {M : Type 1} (𝓤 : Ura M) (𝓛 : Logic 𝓤) (𝓜 : Model 𝓤 𝓛
         let goes = Goes-dropped 𝓛 2 word yes (λ κs x w. refl) in
         proved 𝓛 (ended Z) (stayed Z) clauses 𝓜 𝓡 (Goes-dropped 𝓛 2 (self Z) yes (λ κs x w. refl), (goes, (goes, tt)))
         (key.name (args Z)) (here Z) (code.unfolded 𝓤 H 𝓜 𝓡 wired (Z.row, tt) Z.d Z.drops)
-        (λ κs. (shr_vals, (uint_vals w64, (uint_vals w64, tt)))) (λ κs. ((λ r vs is. is.0), (uint_Tells w64, (uint_Tells w64, tt)))) (λ κs qs bounds a τ are.
-        let κ = κs.0 in let κ' = κs.1.0 in let q = qs.0 in let h = a.0.now in let at_inner = inner_at Z a.0.ref_ptr in let at_requests = requests_at Z a.0.ref_ptr in
+        (λ κs. (shr_vals, (uint_vals w64, (uint_vals w64, tt)))) (λ κs. ((λ r vs is. is.0), (uint_Tells w64, (uint_Tells w64, tt))))
+        (λ κs qs bounds a τ are.
+        let κ = κs.0 in let κ' = κs.1.0 in let q = qs.0 in let h = a.0.now in let at_inner = inner_at Z a.0.ref_ptr in
+        let at_requests = requests_at Z a.0.ref_ptr in
         let n = a.1.0 in let al = a.1.1.0 in let Sized : Type 0 = (capped (size τ) ≡ n) × (capped (align τ) ≡ al) in
         let y : Walk.Ghost = ((κs, qs, bounds, a, (shr_vals a.0, (uint_vals w64 n, (uint_vals w64 al, tt)))), τ) in
         let takes : Taking.Ghost = at_takes Z 𝓛 𝓜.mem 𝓡.returns κ q at_inner h.inner n al τ in
-        qed 𝓛 (((‵ (flft κ q) ⊛ ‵ (flft κ' qs.1.0) ⊛ ‵ ftrue) ⊛ ‵ (owns (types_at (ended Z).signature.params κs) a y.0.4)) ∷ (raw (fact 𝓤 (κ' ⊑ Z.row.lives)) ⊛ raw (fact 𝓤 Sized)) ∷ []) ∵
+        qed 𝓛 (((‵ (flft κ q) ⊛ ‵ (flft κ' qs.1.0) ⊛ ‵ ftrue) ⊛ ‵ (owns (types_at (ended Z).signature.params κs) a y.0.4)) ∷
+        (raw (fact 𝓤 (κ' ⊑ Z.row.lives)) ⊛ raw (fact 𝓤 Sized)) ∷ []) ∵
         move ! (1 ∷ []) $ split ! $ heard ! (κ' ⊑ Z.row.lives) (λ lives. heard ! Sized (λ sized.
         split ! $ split ! $ move ! (1 ∷ []) $ split ! $ move ! (3 ∷ []) $ fsplit ! $ fsplit ! $ move ! (1 ∷ []) $
-        use1 𝓛 (‵ (seen Z κ at_inner h.inner) ⊛ ‵ (seen_requests κ at_requests h.requests)) (fields κ a.0.ref_ptr h) $ split ! $ keep ! (1 ∷ 6 ∷ 0 ∷ 4 ∷ []) $
+        use1 𝓛 (‵ (seen Z κ at_inner h.inner) ⊛ ‵ (seen_requests κ at_requests h.requests)) (fields κ a.0.ref_ptr h) $ split ! $
+        keep ! (1 ∷ 6 ∷ 0 ∷ 4 ∷ []) $
         -- [the `&` to the requests; its token; the `&` to the allocator behind; the other token; the locals]
-        enter ! 𝓣.C 𝓣.Λ (here Z) _ _ $ alloc_all ! (λ l. pass_all ! refl ((tt, tt), ((tt, record { fits = are.1.0.1 }), ((tt, record { fits = are.1.1.0.1 }), tt))) $
+        enter ! 𝓣.C 𝓣.Λ (here Z) _ _ $
+        alloc_all ! (λ l. pass_all ! refl ((tt, tt), ((tt, record { fits = are.1.0.1 }), ((tt, record { fits = are.1.1.0.1 }), tt))) $
         sets ! (addr ! (through ! refl (fld ! refl (stop !)))) refl (tt, tt) $
         use2 𝓛 (raw (Grants.pre (asking κ q at_requests h.requests))) (asked κ q at_requests h.requests) $
-        calls_at ! (framed 𝓤 H 𝓜 𝓣) Grants (grants_met 𝓤 𝓛 𝓜 𝓡 (code.calls-byte_unit_lines::refusing::Requests::grants 𝓡.env wired)) (asking κ q at_requests h.requests)
+        calls_at ! (framed 𝓤 H 𝓜 𝓣) Grants (grants_met 𝓤 𝓛 𝓜 𝓡 (code.calls-byte_unit_lines::refusing::Requests::grants 𝓡.env wired))
+        (asking κ q at_requests h.requests)
         (and_then ! (get ! refl) (no_more !)) (λ v.
-        use1 𝓛 (later (some (λ (b : Bool). given (v ≡ vbool b) (‵ (flft κ q))))) (told κ q at_requests h.requests v) $ await ! tt $ pick ! (λ granted. learn ! (λ is.
+        use1 𝓛 (later (some (λ (b : Bool). given (v ≡ vbool b) (‵ (flft κ q))))) (told κ q at_requests h.requests v) $ await ! tt $
+        pick ! (λ granted. learn ! (λ is.
         lands_as ! is refl (tt, tt) $ sets ! (un ! (get ! refl) tt) refl (tt, tt) $ first ! $ branches ! (get ! refl)
-        (λ refused. sets ! (agg ! (no_more !)) refl (tt, tt) $ sets ! (agg ! (and_then ! (lit ! tt) (and_then ! (get ! refl) (no_more !)))) refl (Answer-typed false 0 0) $
-        returns_within ! (Walk.post y) refl (look_at ! 0 refl) $ free_all ! refl $ keep ! (0 ∷ 2 ∷ []) $ nothing ! $ ends y (Err (record {})) _ (Answer-err 𝓛))
+        (λ refused. sets ! (agg ! (no_more !)) refl (tt, tt) $
+        sets ! (agg ! (and_then ! (lit ! tt) (and_then ! (get ! refl) (no_more !)))) refl (Answer-typed false 0 0) $
+        returns_within ! (Walk.post y) refl (look_at ! 0 refl) $ free_all ! refl $ keep ! (0 ∷ 2 ∷ []) $ nothing ! $
+        ends y (Err (record {})) _ (Answer-err 𝓛))
         (λ passed. skips ! $ exec ! 𝓣.C 𝓣.Λ (env (here Z).locals l) (after 4 (here Z).body) (at_ret _ (Walk.post y)) $
         sets ! (addr ! (through ! refl (fld ! refl (stop !)))) refl (tt, tt) $ move ! (1 ∷ []) $
-        use2 𝓛 (raw (Taking.pre takes)) (Takes-goes Z 𝓛 𝓜.mem 𝓡.returns κ q at_inner h.inner (⊑_trans κ κ' Z.row.lives bounds.0 lives) n al τ sized.0 sized.1 are.1.0.1 are.1.1.0.1) $
-        calls_at ! (framed 𝓤 H 𝓜 𝓣) Taking (met.allocate Z.drops) takes (and_then ! (get ! refl) (and_then ! (get ! refl) (and_then ! (get ! refl) (no_more !)))) (λ v.
-        use1 𝓛 (later (raw (Answered Z 𝓛 𝓜.mem 𝓡.returns h.inner τ v) ⊛ ‵ (flft κ q))) (Takes-gives Z 𝓛 𝓜.mem 𝓡.returns κ q at_inner h.inner n al τ v) $ await ! tt $ split ! $
+        use2 𝓛 (raw (Taking.pre takes)) (Takes-goes Z 𝓛 𝓜.mem 𝓡.returns κ q at_inner h.inner (⊑_trans κ κ' Z.row.lives bounds.0 lives) n
+        al τ sized.0 sized.1 are.1.0.1 are.1.1.0.1) $
+        calls_at ! (framed 𝓤 H 𝓜 𝓣) Taking (met.allocate Z.drops) takes
+        (and_then ! (get ! refl) (and_then ! (get ! refl) (and_then ! (get ! refl) (no_more !)))) (λ v.
+        use1 𝓛 (later (raw (Answered Z 𝓛 𝓜.mem 𝓡.returns h.inner τ v) ⊛ ‵ (flft κ q)))
+        (Takes-gives Z 𝓛 𝓜.mem 𝓡.returns κ q at_inner h.inner n al τ v) $ await ! tt $ split ! $
         answers Z ! 𝓜.mem 𝓡.returns h.inner τ v
-        (λ b o is. fjoin ! $ lands_as ! is refl (Answer-typed true b o) $ returns ! (look_at ! 0 refl) $ free_all ! refl $ ends y (Ok (block_ptr b o)) _ (Answer-Ok 𝓛 b o))
-        (λ is. nothing ! $ lands_as ! is refl (Answer-typed false 0 0) $ returns ! (look_at ! 0 refl) $ free_all ! refl $ ends y (Err (record {})) _ (Answer-err 𝓛)))))))))))
+        (λ b o is. fjoin ! $ lands_as ! is refl (Answer-typed true b o) $ returns ! (look_at ! 0 refl) $ free_all ! refl $
+        ends y (Ok (block_ptr b o)) _ (Answer-Ok 𝓛 b o))
+        (λ is. nothing ! $ lands_as ! is refl (Answer-typed false 0 0) $ returns ! (look_at ! 0 refl) $ free_all ! refl $
+        ends y (Err (record {})) _ (Answer-err 𝓛)))))))))))
 
 pub allocate_spec : {M : Type 1} → statement M
-allocate_spec 𝓤 𝓛 𝓜 𝓡 wired A laws ghosts dict drops met _ = meets 𝓤 𝓛 𝓜 𝓡 (record { row = A; laws = laws; g = ghosts; d = dict; drops = drops }) wired met
+allocate_spec 𝓤 𝓛 𝓜 𝓡 wired A laws ghosts dict drops met _ = meets 𝓤 𝓛 𝓜 𝓡
+    (record { row = A; laws = laws; g = ghosts; d = dict; drops = drops }) wired met

@@ -15,7 +15,8 @@ use prog.Model.{Model}
 use prog.Wired.{Wired}
 use prog.Wp.{WpFn}
 use types.ByLocal.{alloc_all, pass_all, free_all, look_at, get, through, sets, lands_as}
-use types.Kit.{‵, raw, ◌⊛◌, given, later, prop, Sq, ◌$◌, ◌∵◌, !, qed, done, move, keep, use1, split, join, fsplit, fjoin, feq_i, learn, await, regoal, suffices, group}
+use types.Kit.{‵, raw, ◌⊛◌, given, later, prop, Sq, ◌$◌, ◌∵◌, !, qed, done, move, keep, use1, split, join, fsplit, fjoin, feq_i, learn}
+use types.Kit.{await, regoal, suffices, group}
 use types.Logic.{Logic, sem}
 use types.Run.{enter, of_opd, unit_lit, addr, stop, fld, no_more, and_then, returns}
 use contract.BorrowLft.{◌⊑◌, ⊑_trans}
@@ -87,34 +88,61 @@ module _ {M : Type 1} (𝓤 : Ura M) (𝓛 : Logic 𝓤) (𝓜 : Model 𝓤 𝓛
   -- the exit: both tokens go back
   ends : (y : Walk.Ghost) → Sq 𝓛 (‵ (flft y.0.0.0 y.0.1.0) ∷ ‵ (flft y.0.0.1.0 y.0.1.1.0) ∷ []) (prop (Walk.post y vunit))
   ends y = suffices ! _ (leaves 𝓛 (ended Z) (stayed Z) clauses y vunit tt (tt, (tt, (tt, (tt, tt)))) (tt, (tt, (tt, (tt, tt))))) $
-      nothing ! $ feq_i ! _ (vunit ∷ []) _ refl $ join ! $ nothing ! $ nothing ! $ fjoin ! $ nothing ! $ fjoin ! $ nothing ! $ fjoin ! $ nothing ! $ fjoin ! $ join ! $
+      nothing ! $ feq_i ! _ (vunit ∷ []) _ refl $ join ! $ nothing ! $ nothing ! $ fjoin ! $ nothing ! $ fjoin ! $ nothing ! $ fjoin ! $
+      nothing ! $ fjoin ! $ join ! $
       nothing ! $ move ! (3 ∷ 0 ∷ []) $ join ! $ move ! (2 ∷ 0 ∷ []) $ join ! $ join ! $ done !
 
   meets : Wired 𝓡.env code.code → bound.Met 𝓛 𝓜 𝓡 𝓡.env Z.row Z.g Z.d
       → Meets 𝓛 (deallocate.signature Z.row) (𝓡.run (𝓡.env (key.name (args Z)))) (deallocate.spec Z.row Z.g Z.d Z.drops 𝓛 𝓜.mem 𝓡.returns)
   meets wired met =
       let goes = Goes-dropped 𝓛 2 word yes (λ κs x w. refl) in
-      proved 𝓛 (ended Z) (stayed Z) clauses 𝓜 𝓡 (Goes-dropped 𝓛 2 (self Z) yes (λ κs x w. refl), (Goes-dropped 𝓛 2 pointer yes (λ κs x w. refl), (goes, (goes, tt))))
+      proved 𝓛 (ended Z) (stayed Z) clauses 𝓜 𝓡 (
+        Goes-dropped 𝓛 2 (self Z) yes (λ κs x w. refl),
+        (
+          Goes-dropped 𝓛 2 pointer yes
+              (λ κs x w. refl),
+          (goes, (goes, tt)),
+        ),
+      )
       (key.name (args Z)) (here Z) (code.unfolded 𝓤 H 𝓜 𝓡 wired (Z.row, tt) Z.d Z.drops)
-      (λ κs. (shr_vals, (rawptr_vals, (uint_vals w64, (uint_vals w64, tt))))) (λ κs. ((λ r vs is. is.0), (rawptr_Tells, (uint_Tells w64, (uint_Tells w64, tt))))) (λ κs qs bounds a τ are.
+      (λ κs. (shr_vals, (rawptr_vals, (uint_vals w64, (uint_vals w64, tt)))))
+      (λ κs. ((λ r vs is. is.0), (rawptr_Tells, (uint_Tells w64, (uint_Tells w64, tt))))) (λ κs qs bounds a τ are.
       let κ = κs.0 in let κ' = κs.1.0 in let q = qs.0 in let p = a.0.ref_ptr in let h = a.0.now in let at_inner = inner_at Z p in
       let n = a.1.1.0 in let al = a.1.1.1.0 in let Sized : Type 0 = (capped (size τ) ≡ n) × (capped (align τ) ≡ al) in
-      let y : Ptr → Walk.Ghost = λ x. ((κs, qs, bounds, (a.0, (x, a.1.1)), (shr_vals a.0, (rawptr_vals x, (uint_vals w64 n, (uint_vals w64 al, tt))))), τ) in
+      let y : Ptr
+      → Walk.Ghost = λ x. (
+        (
+          κs,
+          qs,
+          bounds,
+          (a.0, (x, a.1.1)),
+          (shr_vals a.0, (rawptr_vals x, (uint_vals w64 n, (uint_vals w64 al, tt)))),
+        ),
+        τ,
+      ) in
       qed 𝓛 (((‵ (flft κ q) ⊛ ‵ (flft κ' qs.1.0) ⊛ ‵ ftrue) ⊛ ‵ (owns (types_at (ended Z).signature.params κs) a (y a.1.0).0.4)) ∷
       (raw (fact 𝓤 (κ' ⊑ Z.row.lives)) ⊛ raw (fact 𝓤 Sized) ⊛ ‵ (owned_block (token Z h.inner) τ a.1.0)) ∷ []) ∵
       move ! (1 ∷ []) $ split ! $ heard ! (κ' ⊑ Z.row.lives) (λ lives. split ! $ heard ! Sized (λ sized. move ! (1 ∷ []) $
       split ! $ split ! $ move ! (1 ∷ []) $ split ! $ move ! (3 ∷ []) $ fsplit ! $ fsplit ! $ move ! (1 ∷ []) $
       unhide ! $ fsplit ! $ fsplit ! $ use1 𝓛 (‵ (seen Z κ at_inner h.inner)) (id⊢ 𝓤 _) $ keep ! (8 ∷ 0 ∷ 7 ∷ 5 ∷ []) $
       in_a_block ! a.1.0 (λ x. owned_block (token Z h.inner) τ x) (fst∗ 𝓤 (never 𝓤) (sem 𝓛 (token Z h.inner τ null_ptr))) (λ b o at.
-      regoal ! (λ x. prop (WpFn 𝓤 H 𝓣.C 𝓣.Λ (here Z) (vptr p.0 p.1 ∷ ptr_val x ∷ vint w64 n ∷ vint w64 al ∷ []) (Walk.post (y x)))) at refl $
+      regoal !
+      (λ x. prop (WpFn 𝓤 H 𝓣.C 𝓣.Λ (here Z) (vptr p.0 p.1 ∷ ptr_val x ∷ vint w64 n ∷ vint w64 al ∷ []) (Walk.post (y x)))) at refl $
       -- [the block; the `&` to the allocator behind; its token; the other token; the locals]
       let gives : Giving.Ghost = at_gives Z 𝓛 𝓜.mem 𝓡.returns κ q at_inner h.inner b o n al τ in
-      enter ! 𝓣.C 𝓣.Λ (here Z) _ _ $ alloc_all ! (λ l. pass_all ! refl ((tt, tt), ((tt, tt), ((tt, record { fits = are.1.1.0.1 }), ((tt, record { fits = are.1.1.1.0.1 }), tt)))) $
+      enter ! 𝓣.C 𝓣.Λ (here Z) _ _ $
+      alloc_all !
+      (λ l. pass_all ! refl ((tt, tt), ((tt, tt), ((tt, record { fits = are.1.1.0.1 }), ((tt, record { fits = are.1.1.1.0.1 }), tt)))) $
       sets ! (addr ! (through ! refl (fld ! refl (stop !)))) refl (tt, tt) $ fsplit ! $ group ! 4 $
-      use1 𝓛 (raw (Giving.pre gives)) (Gives-goes Z 𝓛 𝓜.mem 𝓡.returns κ q at_inner h.inner (⊑_trans κ κ' Z.row.lives bounds.0 lives) b o n al τ sized.0 sized.1 are.1.1.0.1 are.1.1.1.0.1) $
-      calls_at ! (framed 𝓤 H 𝓜 𝓣) Giving (met.deallocate Z.drops) gives (and_then ! (get ! refl) (and_then ! (get ! refl) (and_then ! (get ! refl) (and_then ! (get ! refl) (no_more !))))) (λ v.
-      use1 𝓛 (later (given (v ≡ vunit) (‵ (flft κ q)))) (Gives-Gives Z 𝓛 𝓜.mem 𝓡.returns κ q at_inner h.inner b o n al τ v) $ await ! tt $ learn ! (λ is.
-      lands_as ! is refl (tt, tt) $ sets ! (of_opd ! (unit_lit !)) refl (tt, tt) $ returns ! (look_at ! 0 refl) $ free_all ! refl $ ends (y (block_ptr b o)))))))))
+      use1 𝓛 (raw (Giving.pre gives)) (Gives-goes Z 𝓛 𝓜.mem 𝓡.returns κ q at_inner h.inner (⊑_trans κ κ' Z.row.lives bounds.0 lives) b o n
+      al τ sized.0 sized.1 are.1.1.0.1 are.1.1.1.0.1) $
+      calls_at ! (framed 𝓤 H 𝓜 𝓣) Giving (met.deallocate Z.drops) gives
+      (and_then ! (get ! refl) (and_then ! (get ! refl) (and_then ! (get ! refl) (and_then ! (get ! refl) (no_more !))))) (λ v.
+      use1 𝓛 (later (given (v ≡ vunit) (‵ (flft κ q)))) (Gives-Gives Z 𝓛 𝓜.mem 𝓡.returns κ q at_inner h.inner b o n al τ v) $ await ! tt $
+      learn ! (λ is.
+      lands_as ! is refl (tt, tt) $ sets ! (of_opd ! (unit_lit !)) refl (tt, tt) $ returns ! (look_at ! 0 refl) $ free_all ! refl $
+      ends (y (block_ptr b o)))))))))
 
 pub deallocate_spec : {M : Type 1} → statement M
-deallocate_spec 𝓤 𝓛 𝓜 𝓡 wired A laws ghosts dict drops met _ = meets 𝓤 𝓛 𝓜 𝓡 (record { row = A; laws = laws; g = ghosts; d = dict; drops = drops }) wired met
+deallocate_spec 𝓤 𝓛 𝓜 𝓡 wired A laws ghosts dict drops met _ = meets 𝓤 𝓛 𝓜 𝓡
+    (record { row = A; laws = laws; g = ghosts; d = dict; drops = drops }) wired met
