@@ -32,4 +32,5 @@ pub mod ReadBack
 pub mod AdjustedForms
 pub mod ShownForms
 pub mod AdjustedStrings
+pub mod Appending
 pub mod ShortExpansions

@@ -1,5 +1,6 @@
 use super::{precise, spec};
 use crate::{Align, Bit, Byte, FormatSpec, Sign, append_plain};
+use std::alloc::AllocError;
 use std::test::Fail;
 
 #[test]
@@ -240,5 +241,22 @@ fn appended_texts(rt: HostRuntime) -> Result<(), Fail> {
     Byte::from_u64(10_000).append_text(FormatSpec::ALTERNATE, &mut text)?;
     assert_eq!(rt; text.as_str(), "ab10 KB");
     assert_eq!(rt; text.capacity(), 7, "there was room");
+    Ok(())
+}
+
+/// Adds both texts of a size after one request for memory: the second can't be refused then.
+fn append_both(size: Byte, text: &mut String) -> Result<(), AllocError> {
+    let len = size.text_len(FormatSpec::PLAIN) + size.text_len(FormatSpec::ALTERNATE);
+    text.try_reserve_exact(len)?;
+    size.append_text(FormatSpec::PLAIN, text)?;
+    size.append_text(FormatSpec::ALTERNATE, text).unwrap();
+    Ok(())
+}
+
+#[test]
+fn two_texts_after_one_request(rt: HostRuntime) -> Result<(), Fail> {
+    let mut text = String::new(rt.alloc());
+    append_both(Byte::from_u64(1536), &mut text)?;
+    assert_eq!(rt; text.as_str(), "15361.5 KiB");
     Ok(())
 }

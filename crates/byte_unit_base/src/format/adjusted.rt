@@ -1,7 +1,6 @@
 //! The text of a size in a given unit.
 
-ghost use Rattle.std.specs.Prelude.{◌≡◌, ℕ, ◌+◌, ◌*◌, ◌^◌, ◌<◌, ◌≤◌, ◌++◌, List, length, OnOk, OnErr};
-ghost use Rattle.std.specs.String.{string_bytes};
+ghost use Rattle.std.specs.Prelude.{◌≡◌, ℕ, ◌*◌, ◌^◌, ◌<◌, ◌≤◌, List, length};
 ghost use Rattle.byte_unit_math.specs.Bounds.{bits_limit};
 ghost use Rattle.byte_unit_math.specs.Finite.{IsExpansion};
 ghost use Rattle.byte_unit_math.specs.Nearest.{IsNearest};
@@ -10,7 +9,7 @@ ghost use Rattle.byte_unit_base.specs.Shape.{bits};
 ghost use Rattle.byte_unit_base.specs.Edition.{current};
 ghost use Rattle.byte_unit_base.specs.Units.{shape_of};
 ghost use Rattle.byte_unit_base.specs.Kinds.{bits_in};
-ghost use Rattle.byte_unit_base.specs.Room.{spare};
+ghost use Rattle.byte_unit_base.specs.Room.{Appends};
 ghost use Rattle.byte_unit_base.specs.Forms.{text_limit};
 ghost use Rattle.byte_unit_base.specs.Adjusted.{IsAdjustedNumeral, IsAdjustedForm, is_single};
 
@@ -45,10 +44,10 @@ pub fn adjusted_len(size: u128, kind: Kind, unit: Unit, spec: FormatSpec) -> usi
     layout_len(&shown.decimal, shown.places, unit, spec)
 }
 
-/// Adds the text of a size in a unit: all its digits where no precision is set or the unit has no prefix, else the nearest
-/// decimal with exactly so many places, to the even digit where two are as near. In the alternate form a precision always
-/// counts, as 16 at most; of two that are as near the greater is taken, and zeros at the end are left out. The size is below
-/// 10^27.
+/// Adds the text of a size in a unit: all its digits where no precision is set or the unit has no prefix, else the
+/// nearest decimal with exactly so many places, to the even digit where two are as near. In the alternate form a
+/// precision always counts, as 16 at most; of two that are as near the greater is taken, and zeros at the end are left
+/// out. The size is below 10^27.
 ///
 /// It asks for memory once at most, before it writes. `AllocError` comes only where the room that the text has left
 /// is less than `adjusted_len`, and leaves the text and its room as they were.
@@ -65,11 +64,7 @@ pub fn append_adjusted<A: Allocator>(
     text: &mut String<A>,
 ) -> Result<(), AllocError>
     requires { size < current.size_limit }
-    ensures ok { OnOk result ((form : List ℕ) × IsAdjustedForm current kind size (shape_of unit) spec form × (string_bytes text.new ≡ string_bytes text.old ++ form)) }
-    ensures spare { OnOk result ((form : List ℕ) → IsAdjustedForm current kind size (shape_of unit) spec form → spare text.old ≤ spare text.new + length form) }
-    ensures err { OnErr result (string_bytes text.new ≡ string_bytes text.old) }
-    ensures kept { OnErr result (spare text.new ≡ spare text.old) }
-    ensures room { OnErr result ((form : List ℕ) × IsAdjustedForm current kind size (shape_of unit) spec form × (spare text.old < length form)) }
+    ensures { Appends (IsAdjustedForm current kind size (shape_of unit) spec) text.old text.new result }
 {
     let shown = number_in(size, kind, unit, spec);
     append_layout(&shown.decimal, shown.places, unit, spec, text)

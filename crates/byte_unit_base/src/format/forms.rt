@@ -1,11 +1,10 @@
 //! The text of a size: its plain form, or its form with a unit.
 
-ghost use Rattle.std.specs.Prelude.{◌≡◌, ℕ, ◌+◌, ◌*◌, ◌<◌, ◌≤◌, ◌++◌, List, length, OnOk, OnErr};
-ghost use Rattle.std.specs.String.{string_bytes};
+ghost use Rattle.std.specs.Prelude.{◌≡◌, ℕ, ◌<◌, List, length};
 ghost use Rattle.byte_unit_math.specs.Numeral.{text_of};
 ghost use Rattle.byte_unit_base.specs.Edition.{current, name};
 ghost use Rattle.byte_unit_base.specs.Units.{shape_of};
-ghost use Rattle.byte_unit_base.specs.Room.{spare};
+ghost use Rattle.byte_unit_base.specs.Room.{Appends};
 ghost use Rattle.byte_unit_base.specs.Layout.{layout};
 ghost use Rattle.byte_unit_base.specs.Forms.{IsSizeForm, IsText, places_of, text_limit};
 
@@ -39,9 +38,9 @@ pub fn text_len(size: u128, kind: Kind, spec: FormatSpec) -> usize
     }
 }
 
-/// Adds the text of a size: in the alternate form the size with the largest unit of its kind, not above it, that states it
-/// exactly within the precision (three places where none is set, 28 at most), else its digits. Where no unit does, the size
-/// stands in `B` or `Bit`. It is below 10^27.
+/// Adds the text of a size: in the alternate form the size with the largest unit of its kind, not above it, that states
+/// it exactly within the precision (three places where none is set, 28 at most), else its digits. Where no unit does,
+/// the size stands in `B` or `Bit`. It is below 10^27.
 ///
 /// It asks for memory once at most, before it writes. `AllocError` comes only where the room that the text has left
 /// is less than `text_len`, and leaves the text and its room as they were.
@@ -57,11 +56,7 @@ pub fn append_text<A: Allocator>(
     text: &mut String<A>,
 ) -> Result<(), AllocError>
     requires { size < current.size_limit }
-    ensures ok { OnOk result ((form : List ℕ) × IsText current kind size spec form × (string_bytes text.new ≡ string_bytes text.old ++ form)) }
-    ensures spare { OnOk result ((form : List ℕ) → IsText current kind size spec form → spare text.old ≤ spare text.new + length form) }
-    ensures err { OnErr result (string_bytes text.new ≡ string_bytes text.old) }
-    ensures kept { OnErr result (spare text.new ≡ spare text.old) }
-    ensures room { OnErr result ((form : List ℕ) × IsText current kind size spec form × (spare text.old < length form)) }
+    ensures { Appends (IsText current kind size spec) text.old text.new result }
 {
     if spec.alternate {
         let (number, unit) = stated(size, kind, spec);

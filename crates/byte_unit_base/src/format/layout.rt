@@ -1,13 +1,13 @@
 //! A number with its unit.
 
-ghost use Rattle.std.specs.Prelude.{◌≡◌, ◌+◌, ◌<◌, ◌≤◌, ◌++◌, length, take, max, OnOk, OnErr, IsAscii};
+ghost use Rattle.std.specs.Prelude.{◌≡◌, ◌+◌, ◌<◌, ◌≤◌, ◌++◌, length, take, max, IsAscii};
 ghost use Rattle.std.specs.Fmt.{decimal};
 ghost use Rattle.std.specs.String.{string_bytes};
 ghost use Rattle.byte_unit_base.specs.Edition.{name, current};
 ghost use Rattle.byte_unit_base.specs.Units.{shape_of};
 ghost use Rattle.byte_unit_math.specs.Finite.{Finite};
 ghost use Rattle.byte_unit_math.specs.Numeral.{fraction_text, glyphs, padded, text_of};
-ghost use Rattle.byte_unit_base.specs.Room.{spare};
+ghost use Rattle.byte_unit_base.specs.Room.{spare, Appends};
 ghost use Rattle.byte_unit_base.specs.Layout.{layout_of, before_layout, gap_of};
 
 use crate::format::digits::Digits;
@@ -54,11 +54,7 @@ pub fn append_layout<A: Allocator>(
     spec: FormatSpec,
     text: &mut String<A>,
 ) -> Result<(), AllocError>
-    ensures ok { OnOk result (string_bytes text.new ≡ string_bytes text.old ++ layout_of current e.now places (shape_of unit) spec) }
-    ensures spare { OnOk result (spare text.old ≤ spare text.new + length (layout_of current e.now places (shape_of unit) spec)) }
-    ensures err { OnErr result (string_bytes text.new ≡ string_bytes text.old) }
-    ensures kept { OnErr result (spare text.new ≡ spare text.old) }
-    ensures room { OnErr result (spare text.old < length (layout_of current e.now places (shape_of unit) spec)) }
+    ensures { Appends (λ form. form ≡ layout_of current e.now places (shape_of unit) spec) text.old text.new result }
 {
     let whole = Digits::of(e.whole());
     let gap = gap(unit, spec.sign);

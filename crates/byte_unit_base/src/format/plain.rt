@@ -1,8 +1,8 @@
 //! A whole number without a unit.
 
-ghost use Rattle.std.specs.Prelude.{◌≡◌, ◌+◌, ◌<◌, ◌≤◌, ◌++◌, length, max, OnOk, OnErr};
+ghost use Rattle.std.specs.Prelude.{◌≡◌, ◌+◌, ◌<◌, ◌≤◌, ◌++◌, length, max};
 ghost use Rattle.std.specs.String.{string_bytes};
-ghost use Rattle.byte_unit_base.specs.Room.{spare};
+ghost use Rattle.byte_unit_base.specs.Room.{spare, Appends};
 ghost use Rattle.byte_unit_base.specs.Plain.{plain, missing, before_plain, plus_of};
 
 use crate::format::digits::Digits;
@@ -37,11 +37,7 @@ pub fn append_plain<A: Allocator>(
     spec: FormatSpec,
     text: &mut String<A>,
 ) -> Result<(), AllocError>
-    ensures ok { OnOk result (string_bytes text.new ≡ string_bytes text.old ++ plain size spec) }
-    ensures spare { OnOk result (spare text.old ≤ spare text.new + length (plain size spec)) }
-    ensures err { OnErr result (string_bytes text.new ≡ string_bytes text.old) }
-    ensures kept { OnErr result (spare text.new ≡ spare text.old) }
-    ensures room { OnErr result (spare text.old < length (plain size spec)) }
+    ensures { Appends (λ form. form ≡ plain size spec) text.old text.new result }
 {
     let digits = Digits::of(size);
     let len = signed_len(digits.len(), spec.sign);

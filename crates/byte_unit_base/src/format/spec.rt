@@ -30,14 +30,14 @@ pub enum Align {
 /// ```
 #[derive(Debug, Clone, Copy, PartialEq, Eq)]
 pub struct FormatSpec {
-    /// Whether a size is printed with a unit; an adjusted size always is. An adjusted size with a precision is then rounded
-    /// to so many places, 16 at most, to the greater of two that are as near, and has no zeros at its end.
+    /// Whether a size is printed with a unit; an adjusted size always is. An adjusted size with a precision is then
+    /// rounded to so many places, 16 at most, to the greater of two that are as near, and has no zeros at its end.
     pub alternate: bool,
     /// The sign.
     pub sign: Sign,
     /// How many digits stand after the point. A size with its unit has at most so many, 28 at most, and 3 at most where
-    /// none is set. An adjusted size has exactly so many where its unit has a prefix, in the alternate form at most so many
-    /// in each unit, and else all its digits. A plain text ignores it.
+    /// none is set. An adjusted size has exactly so many where its unit has a prefix, in the alternate form at most so
+    /// many in each unit, and else all its digits. A plain text ignores it.
     pub precision: Option<u16>,
     /// The least number of columns, filled with spaces.
     pub width: Option<u16>,

@@ -1,10 +1,10 @@
 //! Sizes in bits as texts.
 
-ghost use Rattle.std.specs.Prelude.{◌≡◌, ◌<◌, ◌++◌, ℕ, List, length, IfOk, OnOk, OnErr};
+ghost use Rattle.std.specs.Prelude.{◌≡◌, ◌<◌, ℕ, List, length, IfOk};
 ghost use Rattle.std.specs.String.{string_bytes};
 ghost use Rattle.byte_unit_base.specs.Edition.{current};
 ghost use Rattle.byte_unit_base.specs.Forms.{IsText, text_limit};
-ghost use Rattle.byte_unit_base.specs.Room.{spare};
+ghost use Rattle.byte_unit_base.specs.Room.{Appends};
 ghost use Rattle.byte_unit_base.specs.declared.kind.Kind.TheVariants.{Bit as InBits};
 
 use super::Bit;
@@ -30,12 +30,13 @@ impl Bit {
     /// precision (three places where none is set, 28 at most), and in `b` where there is none. No sign is printed: one
     /// space stands between number and unit, for `Plus` as many as make four columns with the unit, for `Minus` none.
     ///
-    /// Spaces fill the text up to the width. Digits alone stand as the alignment says, an odd space in the middle behind
-    /// them, and on the right where none is set. A number with its unit stands on the right where that is set, with the
-    /// spaces before it; else on the left, with the spaces between number and unit.
+    /// Spaces fill the text up to the width. Digits alone stand as the alignment says, an odd space in the middle
+    /// behind them, and on the right where none is set. A number with its unit stands on the right where that is set,
+    /// with the spaces before it; else on the left, with the spaces between number and unit.
     ///
-    /// It asks for memory once at most, before it writes. `AllocError` comes only where the spare room of the text is less
-    /// than `text_len`, and leaves the text and its room as they were.
+    /// It asks for memory once at most, before it writes, and uses `text_len` of the room that is there at most.
+    /// `AllocError` comes only where the spare room of the text is less than `text_len`, and leaves the text and its
+    /// room as they were.
     ///
     /// ```text
     /// Bit::from_u64(3_211_776).append_text(FormatSpec::ALTERNATE, &mut text)?;   // "3136.5 Kib"
@@ -45,10 +46,7 @@ impl Bit {
         spec: FormatSpec,
         text: &mut String<A>,
     ) -> Result<(), AllocError>
-        ensures ok { OnOk result ((form : List ℕ) × IsText current InBits self spec form × (string_bytes text.new ≡ string_bytes text.old ++ form)) }
-        ensures err { OnErr result (string_bytes text.new ≡ string_bytes text.old) }
-        ensures room { OnErr result ((form : List ℕ) × IsText current InBits self spec form × (spare text.old < length form)) }
-        ensures kept { OnErr result (spare text.new ≡ spare text.old) }
+        ensures { Appends (IsText current InBits self spec) text.old text.new result }
     {
         format::append_text(self.size, Kind::Bit, spec, text)
     }

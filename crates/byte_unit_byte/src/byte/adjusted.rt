@@ -1,6 +1,6 @@
 //! `AdjustedByte`, a size in bytes with the unit that it is shown in.
 
-ghost use Rattle.std.specs.Prelude.{◌≡◌, ◌*◌, ◌<◌, ◌++◌, ℕ, List, length, IfOk, OnOk, OnErr};
+ghost use Rattle.std.specs.Prelude.{◌≡◌, ◌*◌, ◌<◌, ℕ, List, length, IfOk};
 ghost use Rattle.std.specs.String.{string_bytes};
 ghost use Rattle.byte_unit_base.specs.Shape.{bits};
 ghost use Rattle.byte_unit_base.specs.Edition.{current};
@@ -9,7 +9,7 @@ ghost use Rattle.byte_unit_base.specs.Kinds.{bits_in};
 ghost use Rattle.byte_unit_base.specs.Choice.{IsAppropriate};
 ghost use Rattle.byte_unit_base.specs.Forms.{text_limit};
 ghost use Rattle.byte_unit_base.specs.Adjusted.{IsAdjustedForm};
-ghost use Rattle.byte_unit_base.specs.Room.{spare};
+ghost use Rattle.byte_unit_base.specs.Room.{Appends};
 ghost use Rattle.byte_unit_base.specs.declared.kind.Kind.TheVariants.{Byte as InBytes};
 
 use super::Byte;
@@ -73,23 +73,22 @@ impl AdjustedByte {
 
     /// Adds the text of the size in its unit.
     ///
-    /// With no precision, and for `Bit` and `B` without `alternate`, it has all digits. With a precision it is the nearest
-    /// decimal of exactly so many places, to the even digit of two that are as near; with `alternate` the nearest of at
-    /// most 16 places, the greater of two that are as near, without zeros at its end.
+    /// With no precision, and for `Bit` and `B` without `alternate`, it has all digits. With a precision it is the
+    /// nearest decimal of exactly so many places, to the even digit of two that are as near; with `alternate` the
+    /// nearest of at most 16 places, the greater of two that are as near, without zeros at its end.
     ///
     /// Sign, width and alignment lay it out as [`Byte::append_text`] does a number with its unit.
     ///
-    /// It asks for memory once at most, before it writes. `AllocError` comes only where the spare room of the text is less
-    /// than `text_len`, and leaves the text and its room as they were.
+    /// It asks for memory once at most, before it writes, and uses `text_len` of the room that is there at most.
+    /// `AllocError` comes only where the spare room of the text is less than `text_len`, and leaves the text and its
+    /// room as they were.
     pub fn append_text<A: Allocator>(
         self,
         spec: FormatSpec,
         text: &mut String<A>,
     ) -> Result<(), AllocError>
-        ensures ok { OnOk result ((form : List ℕ) × IsAdjustedForm current InBytes (size_of self) (shape_of (unit_of self)) spec form × (string_bytes text.new ≡ string_bytes text.old ++ form)) }
-        ensures err { OnErr result (string_bytes text.new ≡ string_bytes text.old) }
-        ensures room { OnErr result ((form : List ℕ) × IsAdjustedForm current InBytes (size_of self) (shape_of (unit_of self)) spec form × (spare text.old < length form)) }
-        ensures kept { OnErr result (spare text.new ≡ spare text.old) }
+        ensures { let IsForm = IsAdjustedForm current InBytes (size_of self) (shape_of (unit_of self)) spec in
+            Appends IsForm text.old text.new result }
     {
         format::append_adjusted(self.size.as_u128(), Kind::Byte, self.unit, spec, text)
     }
@@ -130,7 +129,8 @@ impl Byte {
         AdjustedByte { size: self, unit }
     }
 
-    /// This size, to be shown in the largest unit of bytes of the type that is not above it; in `B` where there is none.
+    /// This size, to be shown in the largest unit of bytes of the type that is not above it; in `B` where there is
+    /// none.
     ///
     /// ```text
     /// Byte::from_u64(10_000).get_appropriate_unit(UnitType::Both)        // 9.765625 KiB

@@ -11,8 +11,8 @@ returns-in_ok-push_str-in-Ok g c =
     let second = string_bytes c.push_str.new.self in
     let new = string_bytes c.append_text-in-Ok.new.text in
     size_added Byte c.args.text.now c.in-Ok.size old first second new c.utf8.text c.in-Ok.ensures.value.found
-    c.in_ok-append_text-in-Ok.ensures.ok c.in_ok-push_str-in-Ok.ensures.bytes
-    c.append_text-in-Ok.result c.append_text-in-Ok.ensures.ok
+    c.in_ok-append_text-in-Ok.ensures.added c.in_ok-push_str-in-Ok.ensures.bytes
+    c.append_text-in-Ok.result c.append_text-in-Ok.ensures.added
 
 pub returns-in-Err : goal.returns-in-Err
 returns-in-Err g c =
