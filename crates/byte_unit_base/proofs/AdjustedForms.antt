@@ -1,5 +1,6 @@
 -- The form of a size in a given unit.
 use Rattle.std.proofs.Common.{◌≡◌, ℕ, ◌+◌, ◌*◌, ◌/◌, ◌%◌, ◌^◌, ◌<◌, ⊎_elim, min, Bool, true, false, List, length, arith, ap, sym, refl, subst, ◌∙◌, Option, Some, None}
+use Rattle.std.specs.Prelude.{if◌then◌else◌}
 use Rattle.std.proofs.Math.Nat.{div-add-mod'}
 use Rattle.std.proofs.lemmas.Nat.{pow-add, mul-pow, mod_below}
 use Rattle.std.proofs.lemmas.Bool.{cases_lt}
@@ -10,63 +11,58 @@ use Rattle.byte_unit_math.specs.declared.expansion.Ties.{Ties}
 use Rattle.byte_unit_math.specs.declared.expansion.Ties.TheVariants.{Even, Up}
 use Rattle.byte_unit_math.proofs.Digits.{ten}
 use Rattle.byte_unit_math.proofs.Nearest.{nearest_down, nearest_up, tie_up, tie_even_next, tie_even_this}
-use Rattle.byte_unit_math.proofs.Texts.{one_expansion, one_nearest, short_expansion, same_fraction, short_text, numeral_text}
+use Rattle.byte_unit_math.proofs.Texts.{one_expansion, one_nearest, short_expansion, same_fraction}
 use Rattle.byte_unit_base.specs.Shape.{Shape, bits, twos, fives}
-use Rattle.byte_unit_base.specs.Edition.{current, name}
+use Rattle.byte_unit_base.specs.Edition.{Edition, current, name}
 use Rattle.byte_unit_base.proofs.Choosing.{some_bits}
 use Rattle.byte_unit_base.specs.declared.kind.Kind.{Kind}
 use Rattle.byte_unit_base.specs.declared.format.spec.FormatSpec.{FormatSpec}
 use Rattle.byte_unit_base.specs.Kinds.{bits_in}
 use Rattle.byte_unit_base.specs.Layout.{layout, layout_of}
-use Rattle.byte_unit_base.specs.Adjusted.{IsAdjustedNumeral, IsShortNumeral, IsRoundNumeral, IsAdjustedForm, is_single}
+use Rattle.byte_unit_base.specs.Adjusted.{Rule, full, round_to, short_to, IsNumeralBy, rule_of, alternate_places, IsAdjustedForm, is_single}
 use Rattle.byte_unit_base.specs.FormLaws.{HasOneAdjustedForm}
-use Rattle.byte_unit_base.proofs.WrittenForms.{all_places}
 
 -- which numeral is written
 
-short_case : (num den p n : ℕ) (d e : Finite) → ((q : ℕ) × IsNearest num den p Up q × IsExpansion q (10 ^ p) e) → d ≡ e → n ≡ length e.digits → IsShortNumeral num den p (text_of (padded n d))
-short_case num den p n d e r de ne =
-    (r.0, r.1, ap (λ x. text_of (padded n x)) de ∙ (all_places e n ne ∙ short_text r.0 p e r.2))
+pub by_rule : {rule other : Rule} (num den : ℕ) (text : List ℕ) → rule ≡ other → IsNumeralBy other num den text → IsNumeralBy rule num den text
+by_rule num den text same h = subst (λ rule. IsNumeralBy rule num den text) (sym same) h
 
-pub adjusted_short : (precision : Option ℕ) (alternate single : Bool) (num den p r n : ℕ) (d e : Finite) → precision ≡ Some p → alternate ≡ true → r ≡ min p 16 → ((q : ℕ) × IsNearest num den r Up q × IsExpansion q (10 ^ r) e) → d ≡ e → n ≡ length e.digits → IsAdjustedNumeral precision alternate single num den (text_of (padded n d))
-adjusted_short precision alternate single num den p r n d e ep ea er h de ne =
-    let P : Option ℕ → Type 0 = λ o. IsAdjustedNumeral o alternate single num den (text_of (padded n d)) in
-    let Q : Bool → Type 0 = λ b. IsAdjustedNumeral (Some p) b single num den (text_of (padded n d)) in
-    let R : ℕ → Type 0 = λ k. IsShortNumeral num den k (text_of (padded n d)) in
-    subst P (sym ep) (subst Q (sym ea) (subst R er (short_case num den r n d e h de ne)))
+pub rule_unset : (spec : FormatSpec) (unit : Shape) → spec.precision ≡ None → rule_of spec.precision spec.alternate unit ≡ full
+rule_unset spec unit unset = ap (λ p. rule_of p spec.alternate unit) unset
 
-pub adjusted_unset : (precision : Option ℕ) (alternate single : Bool) (num den n : ℕ) (d e : Finite) → precision ≡ None → IsExpansion num den e → d ≡ e → n ≡ length e.digits → IsAdjustedNumeral precision alternate single num den (text_of (padded n d))
-adjusted_unset precision alternate single num den n d e ep h de ne =
-    let P : Option ℕ → Type 0 = λ o. IsAdjustedNumeral o alternate single num den (text_of (padded n d)) in
-    subst P (sym ep) (e, h, ap (λ x. text_of (padded n x)) de ∙ all_places e n ne)
+rule_set : (spec : FormatSpec) (unit : Shape) (precision : ℕ) (alternate : Bool) → spec.precision ≡ Some precision → spec.alternate ≡ alternate
+    → rule_of spec.precision spec.alternate unit ≡ rule_of (Some precision) alternate unit
+rule_set spec unit precision alternate set flag =
+    ap (λ p. rule_of p spec.alternate unit) set ∙ ap (λ b. rule_of (Some precision) b unit) flag
 
-pub adjusted_whole : (precision : Option ℕ) (alternate single : Bool) (num den p n : ℕ) (d e : Finite) → precision ≡ Some p → alternate ≡ false → single ≡ true → IsExpansion num den e → d ≡ e → n ≡ length e.digits → IsAdjustedNumeral precision alternate single num den (text_of (padded n d))
-adjusted_whole precision alternate single num den p n d e ep ea es h de ne =
-    let P : Option ℕ → Type 0 = λ o. IsAdjustedNumeral o alternate single num den (text_of (padded n d)) in
-    let Q : Bool → Type 0 = λ b. IsAdjustedNumeral (Some p) b single num den (text_of (padded n d)) in
-    let R : Bool → Type 0 = λ b. IsAdjustedNumeral (Some p) false b num den (text_of (padded n d)) in
-    subst P (sym ep) (subst Q (sym ea) (subst R (sym es) (e, h, ap (λ x. text_of (padded n x)) de ∙ all_places e n ne)))
+pub rule_short : (spec : FormatSpec) (unit : Shape) (precision places : ℕ) → spec.precision ≡ Some precision → spec.alternate ≡ true
+    → places ≡ min precision alternate_places → rule_of spec.precision spec.alternate unit ≡ short_to places
+rule_short spec unit precision places set flag few = rule_set spec unit precision true set flag ∙ ap short_to (sym few)
 
-pub adjusted_round : (precision : Option ℕ) (alternate single : Bool) (num den p r : ℕ) (e : Finite) → precision ≡ Some p → alternate ≡ false → single ≡ false → r ≡ p → ((q : ℕ) × IsNearest num den r Even q × IsExpansion q (10 ^ r) e) → IsAdjustedNumeral precision alternate single num den (text_of (padded r e))
-adjusted_round precision alternate single num den p r e ep ea es er h =
-    let P : Option ℕ → Type 0 = λ o. IsAdjustedNumeral o alternate single num den (text_of (padded r e)) in
-    let Q : Bool → Type 0 = λ b. IsAdjustedNumeral (Some p) b single num den (text_of (padded r e)) in
-    let R : Bool → Type 0 = λ b. IsAdjustedNumeral (Some p) false b num den (text_of (padded r e)) in
-    let S : ℕ → Type 0 = λ k. IsRoundNumeral num den k (text_of (padded r e)) in
-    subst P (sym ep) (subst Q (sym ea) (subst R (sym es) (subst S er (h.0, h.1, numeral_text h.0 r e h.2))))
+pub rule_single : (spec : FormatSpec) (unit : Shape) (precision : ℕ) → spec.precision ≡ Some precision → spec.alternate ≡ false
+    → is_single unit ≡ true → rule_of spec.precision spec.alternate unit ≡ full
+rule_single spec unit precision set flag single =
+    rule_set spec unit precision false set flag ∙ ap (λ b. if b then full else round_to precision) single
+
+pub rule_round : (spec : FormatSpec) (unit : Shape) (precision places : ℕ) → spec.precision ≡ Some precision → spec.alternate ≡ false
+    → is_single unit ≡ false → places ≡ precision → rule_of spec.precision spec.alternate unit ≡ round_to places
+rule_round spec unit precision places set flag many same =
+    rule_set spec unit precision false set flag ∙ (ap (λ b. if b then full else round_to precision) many ∙ ap round_to (sym same))
 
 -- one numeral
 
-one_numeral : (precision : Option ℕ) (alternate single : Bool) (num den : ℕ) (a b : List ℕ) → 0 < den → IsAdjustedNumeral precision alternate single num den a → IsAdjustedNumeral precision alternate single num den b → a ≡ b
-one_numeral None alternate single num den a b some h k = h.2 ∙ (ap text_of (one_expansion num den h.0 k.0 some h.1 k.1) ∙ sym k.2)
-one_numeral (Some p) true single num den a b some h k = h.2 ∙ (ap (λ q. short q (min p 16)) (one_nearest num den (min p 16) Up h.0 k.0 some h.1 k.1) ∙ sym k.2)
-one_numeral (Some p) false true num den a b some h k = h.2 ∙ (ap text_of (one_expansion num den h.0 k.0 some h.1 k.1) ∙ sym k.2)
-one_numeral (Some p) false false num den a b some h k = h.2 ∙ (ap (λ q. numeral q p) (one_nearest num den p Even h.0 k.0 some h.1 k.1) ∙ sym k.2)
+one_numeral : (rule : Rule) (num den : ℕ) (a b : List ℕ) → 0 < den → IsNumeralBy rule num den a → IsNumeralBy rule num den b → a ≡ b
+one_numeral full num den a b some h k = h.2 ∙ (ap text_of (one_expansion num den h.0 k.0 some h.1 k.1) ∙ sym k.2)
+one_numeral (round_to p) num den a b some h k = h.2 ∙ (ap (λ q. numeral q p) (one_nearest num den p Even h.0 k.0 some h.1 k.1) ∙ sym k.2)
+one_numeral (short_to p) num den a b some h k = h.2 ∙ (ap (λ q. short q p) (one_nearest num den p Up h.0 k.0 some h.1 k.1) ∙ sym k.2)
 
-pub one_adjusted : (kind : Kind) (size : ℕ) (unit : Shape) (spec : FormatSpec) (a b : List ℕ) → IsAdjustedForm current kind size unit spec a → IsAdjustedForm current kind size unit spec b → a ≡ b
-one_adjusted kind size unit spec a b h k =
-    let same = one_numeral spec.precision spec.alternate (is_single unit) (size * bits_in kind) (bits unit) h.number k.number (omega (arith, some_bits unit)) h.number_is k.number_is in
-    h.text_is ∙ (ap (λ t. layout t (name current unit) spec) same ∙ sym k.text_is)
+pub one_adjusted : (edition : Edition) (kind : Kind) (size : ℕ) (unit : Shape) (spec : FormatSpec) (a b : List ℕ)
+    → IsAdjustedForm edition kind size unit spec a → IsAdjustedForm edition kind size unit spec b → a ≡ b
+one_adjusted edition kind size unit spec a b h k =
+    let rule = rule_of spec.precision spec.alternate unit in
+    let some : 0 < bits unit = omega (arith, some_bits unit) in
+    let same = one_numeral rule (size * bits_in kind) (bits unit) h.number k.number some h.number_is k.number_is in
+    h.text_is ∙ (ap (λ t. layout t (name edition unit) spec) same ∙ sym k.text_is)
 
 -- there is one
 
@@ -116,29 +112,41 @@ expanded num a b some =
       is_expansion = same_fraction q (10 ^ p) num den (shortened (at_places p q)) (omega (arith, ten p)) some (let e : q * den ≡ num * 10 ^ p = omega (arith, same) in e) (short_expansion q p);
     }
 
-record Numeral (precision : Option ℕ) (alternate single : Bool) (num den : ℕ) : Type 0 where
+record Numeral (rule : Rule) (num den : ℕ) : Type 0 where
   number : List ℕ
-  is_numeral : IsAdjustedNumeral precision alternate single num den number
+  is_numeral : IsNumeralBy rule num den number
 
-numeral_there : (precision : Option ℕ) (alternate single : Bool) (num a b : ℕ) → 0 < 2 ^ a * 5 ^ b → Numeral precision alternate single num (2 ^ a * 5 ^ b)
-numeral_there None alternate single num a b some = let r = expanded num a b some in record { number = text_of r.e; is_numeral = (r.e, r.is_expansion, refl) }
-numeral_there (Some p) true single num a b some = let r = nearest num (2 ^ a * 5 ^ b) (min p 16) Up some in record { number = short r.q (min p 16); is_numeral = (r.q, r.is_nearest, refl) }
-numeral_there (Some p) false true num a b some = let r = expanded num a b some in record { number = text_of r.e; is_numeral = (r.e, r.is_expansion, refl) }
-numeral_there (Some p) false false num a b some = let r = nearest num (2 ^ a * 5 ^ b) p Even some in record { number = numeral r.q p; is_numeral = (r.q, r.is_nearest, refl) }
+numeral_there : (rule : Rule) (num a b : ℕ) → 0 < 2 ^ a * 5 ^ b → Numeral rule num (2 ^ a * 5 ^ b)
+numeral_there full num a b some = let r = expanded num a b some in record { number = text_of r.e; is_numeral = (r.e, r.is_expansion, refl) }
+numeral_there (round_to p) num a b some =
+    let r = nearest num (2 ^ a * 5 ^ b) p Even some in
+    record { number = numeral r.q p; is_numeral = (r.q, r.is_nearest, refl) }
+numeral_there (short_to p) num a b some =
+    let r = nearest num (2 ^ a * 5 ^ b) p Up some in
+    record { number = short r.q p; is_numeral = (r.q, r.is_nearest, refl) }
 
-pub has_one_adjusted_form : (kind : Kind) (size : ℕ) (unit : Shape) (spec : FormatSpec) → HasOneAdjustedForm current kind size unit spec
-has_one_adjusted_form kind size unit spec =
-    let r = numeral_there spec.precision spec.alternate (is_single unit) (size * bits_in kind) (twos unit) (fives unit) (let k : 0 < bits unit = omega (arith, some_bits unit) in k) in
-    let form = layout r.number (name current unit) spec in
-    let is_form : IsAdjustedForm current kind size unit spec form = record { number = r.number; number_is = r.is_numeral; text_is = refl } in
-    record { form = form; is_form = is_form; one = λ other h. one_adjusted kind size unit spec other form h is_form }
+pub has_one_adjusted_form : (edition : Edition) (kind : Kind) (size : ℕ) (unit : Shape) (spec : FormatSpec)
+    → HasOneAdjustedForm edition kind size unit spec
+has_one_adjusted_form edition kind size unit spec =
+    let some : 0 < bits unit = omega (arith, some_bits unit) in
+    let r = numeral_there (rule_of spec.precision spec.alternate unit) (size * bits_in kind) (twos unit) (fives unit) some in
+    let form = layout r.number (name edition unit) spec in
+    let is_form : IsAdjustedForm edition kind size unit spec form = record { number = r.number; number_is = r.is_numeral; text_is = refl } in
+    record { form = form; is_form = is_form; one = λ other h. one_adjusted edition kind size unit spec other form h is_form }
 
 -- the text that is written
 
-pub adjusted_form : (kind : Kind) (size : ℕ) (unit : Shape) (spec : FormatSpec) (e : Finite) (places : ℕ) → IsAdjustedNumeral spec.precision spec.alternate (is_single unit) (size * bits_in kind) (bits unit) (text_of (padded places e)) → IsAdjustedForm current kind size unit spec (layout_of current e places unit spec)
+abbrev pub IsShownBy : ℕ → Shape → FormatSpec → Finite → ℕ → Type 0
+IsShownBy num unit spec e places = IsNumeralBy (rule_of spec.precision spec.alternate unit) num (bits unit) (text_of (padded places e))
+
+pub adjusted_form : (kind : Kind) (size : ℕ) (unit : Shape) (spec : FormatSpec) (e : Finite) (places : ℕ)
+    → IsShownBy (size * bits_in kind) unit spec e places → IsAdjustedForm current kind size unit spec (layout_of current e places unit spec)
 adjusted_form kind size unit spec e places h = record { number = text_of (padded places e); number_is = h; text_is = refl }
 
 -- each form is as long
-pub adjusted_length : (kind : Kind) (size : ℕ) (unit : Shape) (spec : FormatSpec) (e : Finite) (places : ℕ) → IsAdjustedNumeral spec.precision spec.alternate (is_single unit) (size * bits_in kind) (bits unit) (text_of (padded places e)) → (form : List ℕ) → IsAdjustedForm current kind size unit spec form → length form ≡ length (layout_of current e places unit spec)
+pub adjusted_length : (kind : Kind) (size : ℕ) (unit : Shape) (spec : FormatSpec) (e : Finite) (places : ℕ)
+    → IsShownBy (size * bits_in kind) unit spec e places → (form : List ℕ) → IsAdjustedForm current kind size unit spec form
+    → length form ≡ length (layout_of current e places unit spec)
 adjusted_length kind size unit spec e places h form k =
-    ap length (one_adjusted kind size unit spec form (layout_of current e places unit spec) k (adjusted_form kind size unit spec e places h))
+    let shown = adjusted_form kind size unit spec e places h in
+    ap length (one_adjusted current kind size unit spec form (layout_of current e places unit spec) k shown)

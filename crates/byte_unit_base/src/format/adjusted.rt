@@ -11,7 +11,7 @@ ghost use Rattle.byte_unit_base.specs.Units.{shape_of};
 ghost use Rattle.byte_unit_base.specs.Kinds.{bits_in};
 ghost use Rattle.byte_unit_base.specs.Room.{Appends};
 ghost use Rattle.byte_unit_base.specs.Forms.{text_limit};
-ghost use Rattle.byte_unit_base.specs.Adjusted.{IsAdjustedNumeral, IsAdjustedForm, is_single};
+ghost use Rattle.byte_unit_base.specs.Adjusted.{IsNumeralBy, rule_of, IsAdjustedForm, is_single};
 
 use crate::format::layout::{append_layout, layout_len};
 use crate::format::spec::FormatSpec;
@@ -37,7 +37,8 @@ struct Shown {
 /// ```
 pub fn adjusted_len(size: u128, kind: Kind, unit: Unit, spec: FormatSpec) -> usize
     requires { size < current.size_limit }
-    ensures exact { (form : List ℕ) → IsAdjustedForm current kind size (shape_of unit) spec form → result ≡ length form }
+    ensures exact {
+        (form : List ℕ) → IsAdjustedForm current kind size (shape_of unit) spec form → result ≡ length form }
     ensures small { result < text_limit }
 {
     let shown = number_in(size, kind, unit, spec);
@@ -73,7 +74,10 @@ pub fn append_adjusted<A: Allocator>(
 /// The digits that are shown of the size in the unit.
 fn number_in(size: u128, kind: Kind, unit: Unit, spec: FormatSpec) -> Shown
     requires { size < current.size_limit }
-    ensures number { IsAdjustedNumeral spec.precision spec.alternate (is_single (shape_of unit)) (size * bits_in kind) (bits (shape_of unit)) (text_of (padded result.places result.decimal)) }
+    ensures number {
+        let unit = shape_of unit in
+        let text = text_of (padded result.places result.decimal) in
+        IsNumeralBy (rule_of spec.precision spec.alternate unit) (size * bits_in kind) (bits unit) text }
     ensures few { result.places ≤ u16.MAX }
 {
     match spec.precision {
@@ -96,9 +100,9 @@ fn number_in(size: u128, kind: Kind, unit: Unit, spec: FormatSpec) -> Shown
 }
 
 /// A decimal with all its places.
+#[tactic(auto, using(crate::proofs::WrittenForms::all_places))]
 fn all_places(decimal: Expansion) -> Shown
-    ensures decimal { result.decimal ≡ decimal }
-    ensures places { result.places ≡ length decimal.digits }
+    ensures text { text_of (padded result.places result.decimal) ≡ text_of decimal }
     ensures few { result.places ≤ u16.MAX }
 {
     let places = decimal.places();
@@ -108,7 +112,9 @@ fn all_places(decimal: Expansion) -> Shown
 /// The size in the unit, to so many places.
 fn nearest(size: u128, kind: Kind, unit: Unit, places: u32, ties: Ties) -> Expansion
     requires { size < current.size_limit }
-    ensures { (q : ℕ) × IsNearest (size * bits_in kind) (bits (shape_of unit)) places ties q × IsExpansion q (10 ^ places) result }
+    ensures {
+        let num = size * bits_in kind in
+        (q : ℕ) × IsNearest num (bits (shape_of unit)) places ties q × IsExpansion q (10 ^ places) result }
 {
     number_in_unit(size, kind, unit).rounded(places, ties)
 }
@@ -121,7 +127,6 @@ fn nearest(size: u128, kind: Kind, unit: Unit, places: u32, ties: Ties) -> Expan
 /// number_in_unit(1536, Kind::Byte, Unit::KiB)    1.5
 /// number_in_unit(1, Kind::Bit, Unit::KB)         0.000125
 /// ```
-#[tactic(auto)]
 pub fn number_in_unit(size: u128, kind: Kind, unit: Unit) -> Expansion
     requires { size < current.size_limit }
     ensures number { IsExpansion (size * bits_in kind) (bits (shape_of unit)) result }

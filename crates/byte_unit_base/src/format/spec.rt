@@ -1,5 +1,7 @@
 //! How a text is laid out.
 
+ghost use Rattle.std.specs.Prelude.{◌≡◌};
+
 /// A sign before a plain number, or how far a unit stands from its number.
 #[derive(Debug, Clone, Copy, PartialEq, Eq)]
 pub enum Sign {
@@ -43,6 +45,15 @@ pub struct FormatSpec {
     pub width: Option<u16>,
     /// Where the spaces go.
     pub align: Option<Align>,
+}
+
+/// [`FormatSpec::PLAIN`].
+impl Default for FormatSpec {
+    ghost is_default = { λ spec. spec ≡ FormatSpec.PLAIN };
+
+    fn default() -> FormatSpec {
+        FormatSpec::PLAIN
+    }
 }
 
 impl FormatSpec {
