@@ -1,5 +1,6 @@
 -- The form of a size in a given unit.
-use Rattle.std.proofs.Common.{◌≡◌, ℕ, ◌+◌, ◌*◌, ◌/◌, ◌%◌, ◌^◌, ◌<◌, ⊎_elim, min, Bool, true, false, List, length, arith, ap, sym, refl, subst, ◌∙◌, Option, Some, None}
+use Rattle.std.proofs.Common.{◌≡◌, ℕ, ◌+◌, ◌*◌, ◌/◌, ◌%◌, ◌^◌, ◌<◌, ⊎_elim, min, Bool, true, false, List, length, arith, ap, sym, refl}
+use Rattle.std.proofs.Common.{subst, ◌∙◌, Option, Some, None}
 use Rattle.std.specs.Prelude.{if◌then◌else◌}
 use Rattle.std.proofs.Math.Nat.{div-add-mod'}
 use Rattle.std.proofs.lemmas.Nat.{pow-add, mul-pow, mod_below}
@@ -20,17 +21,19 @@ use Rattle.byte_unit_base.specs.declared.format.spec.FormatSpec.{FormatSpec}
 use Rattle.byte_unit_base.specs.Kinds.{bits_in}
 use Rattle.byte_unit_base.specs.Layout.{layout, layout_of}
 use Rattle.byte_unit_base.specs.Adjusted.{Rule, full, round_to, short_to, IsNumeralBy, rule_of, alternate_places, IsAdjustedForm, is_single}
-use Rattle.byte_unit_base.specs.FormLaws.{HasOneAdjustedForm}
+use Rattle.byte_unit_base.specs.FormLaws.{SizeHasOneAdjustedForm}
 
 -- which numeral is written
 
-pub by_rule : {rule other : Rule} (num den : ℕ) (text : List ℕ) → rule ≡ other → IsNumeralBy other num den text → IsNumeralBy rule num den text
+pub by_rule : {rule other : Rule} (num den : ℕ) (text : List ℕ) → rule ≡ other → IsNumeralBy other num den text
+    → IsNumeralBy rule num den text
 by_rule num den text same h = subst (λ rule. IsNumeralBy rule num den text) (sym same) h
 
 pub rule_unset : (spec : FormatSpec) (unit : Shape) → spec.precision ≡ None → rule_of spec.precision spec.alternate unit ≡ full
 rule_unset spec unit unset = ap (λ p. rule_of p spec.alternate unit) unset
 
-rule_set : (spec : FormatSpec) (unit : Shape) (precision : ℕ) (alternate : Bool) → spec.precision ≡ Some precision → spec.alternate ≡ alternate
+rule_set : (spec : FormatSpec) (unit : Shape) (precision : ℕ) (alternate : Bool) → spec.precision ≡ Some precision
+    → spec.alternate ≡ alternate
     → rule_of spec.precision spec.alternate unit ≡ rule_of (Some precision) alternate unit
 rule_set spec unit precision alternate set flag =
     ap (λ p. rule_of p spec.alternate unit) set ∙ ap (λ b. rule_of (Some precision) b unit) flag
@@ -125,8 +128,7 @@ numeral_there (short_to p) num a b some =
     let r = nearest num (2 ^ a * 5 ^ b) p Up some in
     record { number = short r.q p; is_numeral = (r.q, r.is_nearest, refl) }
 
-pub has_one_adjusted_form : (edition : Edition) (kind : Kind) (size : ℕ) (unit : Shape) (spec : FormatSpec)
-    → HasOneAdjustedForm edition kind size unit spec
+pub has_one_adjusted_form : SizeHasOneAdjustedForm
 has_one_adjusted_form edition kind size unit spec =
     let some : 0 < bits unit = omega (arith, some_bits unit) in
     let r = numeral_there (rule_of spec.precision spec.alternate unit) (size * bits_in kind) (twos unit) (fives unit) some in

@@ -1,5 +1,6 @@
 -- What the string of an adjusted size is read as.
-use Rattle.std.proofs.Common.{◌≡◌, ℕ, zero, suc, ◌+◌, ◌-◌, ◌*◌, ◌^◌, ◌<◌, ◌≤◌, inl, inr, ⊎_elim, true, false, ltb, List, [], ◌∷◌, ◌++◌, None, Err, length, refl, sym, ap, subst, ◌∙◌, arith, append_assoc}
+use Rattle.std.proofs.Common.{◌≡◌, ℕ, zero, suc, ◌+◌, ◌-◌, ◌*◌, ◌^◌, ◌<◌, ◌≤◌, inl, inr, ⊎_elim, true, false, ltb, List, [], ◌∷◌, ◌++◌}
+use Rattle.std.proofs.Common.{None, Err, length, refl, sym, ap, subst, ◌∙◌, arith, append_assoc}
 use Rattle.std.specs.Prelude.{if◌then◌else◌, nat_lt}
 use Rattle.std.specs.List.{All}
 use Rattle.std.specs.Char.{digit_value}
@@ -30,8 +31,9 @@ use Rattle.byte_unit_base.specs.Accepted.{IsAccepted, IsRefused}
 use Rattle.byte_unit_base.specs.Layout.{layout}
 use Rattle.byte_unit_base.specs.Plain.{spaces}
 use Rattle.byte_unit_base.specs.Adjusted.{IsAdjustedForm}
-use Rattle.byte_unit_base.specs.AdjustedString.{alternate, IsAdjustedString}
-use Rattle.byte_unit_base.specs.FormLaws.{AdjustedReadsBack, FitsDecimal}
+use Rattle.byte_unit_base.specs.AdjustedString.{IsAdjustedString}
+use Rattle.byte_unit_base.specs.FormLaws.{AdjustedStringReadsBack, FitsDecimal}
+use Rattle.byte_unit_base.specs.declared.format.spec.TheConstants.FormatSpec.{ALTERNATE}
 use Rattle.byte_unit_base.specs.declared.kind.Kind.{Kind}
 use Rattle.byte_unit_base.specs.declared.unit.Unit.{Unit as UnitName}
 use Rattle.byte_unit_base.specs.declared.read.scan.SizeScan.TheVariants.{Beginning, Whole, Point, Fraction}
@@ -53,7 +55,8 @@ whole_not_above num den e some h =
 
 -- with no more places than a decimal, it is accepted
 
-expansion_product : (num den : ℕ) (e : Finite) → IsExpansion num den e → length e.digits ≤ places_of_decimal → number_of e.whole e.digits * den ≡ num * one
+expansion_product : (num den : ℕ) (e : Finite) → IsExpansion num den e → length e.digits ≤ places_of_decimal
+    → number_of e.whole e.digits * den ≡ num * one
 expansion_product num den e h few =
     let len = length e.digits in
     let R = 10 ^ (places_of_decimal - len) in
@@ -97,7 +100,9 @@ digit_fault : (c : ℕ) → digit_value c < 10 → after_digit current c ≡ too
 digit_fault c h = let e : nat_lt (digit_value c) 10 ≡ true = grind (arith, nat_tests) in ap (λ b. if b then too_long else no_unit current c) e
 
 -- the scan of a whole part, a point, as many digits as a decimal has, and a digit more
-read_long : (flags : Flags) (w next : ℕ) (front more : List ℕ) → w < whole_limit → All (λ d. d < 10) front → length front ≡ places_of_decimal → next < 10 → read (size_scan flags) Beginning (decimal w ++ (46 ∷ (glyphs front ++ ((48 + next) ∷ more)))) ≡ Err too_long
+read_long : (flags : Flags) (w next : ℕ) (front more : List ℕ) → w < whole_limit → All (λ d. d < 10) front
+    → length front ≡ places_of_decimal → next < 10
+    → read (size_scan flags) Beginning (decimal w ++ (46 ∷ (glyphs front ++ ((48 + next) ∷ more)))) ≡ Err too_long
 read_long flags w next front more bound small len next_small =
     let c = 48 + next in
     let digit : digit_value c < 10 = omega (arith, glyph_value next next_small, next_small) in
@@ -110,7 +115,8 @@ read_long flags w next front more bound small len next_small =
     ∙ (read_through (size_scan flags) (Point w) state (glyphs front) (c ∷ more) run.1
     ∙ (read_none (size_scan flags) state c more stop ∙ ap Err (digit_fault c digit))))
 
-long_text : (w : ℕ) (ds tail : List ℕ) → 0 < length ds → (k : LongDigits places_of_decimal ds) → (decimal w ++ fraction_text ds) ++ tail ≡ decimal w ++ (46 ∷ (glyphs k.front ++ ((48 + k.next) ∷ (glyphs k.rest ++ tail))))
+long_text : (w : ℕ) (ds tail : List ℕ) → 0 < length ds → (k : LongDigits places_of_decimal ds)
+    → (decimal w ++ fraction_text ds) ++ tail ≡ decimal w ++ (46 ∷ (glyphs k.front ++ ((48 + k.next) ∷ (glyphs k.rest ++ tail))))
 long_text w ds tail some k =
     let split : glyphs ds ≡ glyphs k.front ++ ((48 + k.next) ∷ glyphs k.rest) = ap glyphs k.list_is ∙ map-append (λ d. 48 + d) k.front (k.next ∷ k.rest) in
     let fraction : fraction_text ds ≡ 46 ∷ (glyphs k.front ++ ((48 + k.next) ∷ glyphs k.rest)) = with_point ds some ∙ ap (λ t. 46 ∷ t) split in
@@ -118,7 +124,8 @@ long_text w ds tail some k =
     ∙ (append_assoc (decimal w) (46 ∷ (glyphs k.front ++ ((48 + k.next) ∷ glyphs k.rest))) tail
     ∙ ap (λ t. decimal w ++ (46 ∷ t)) (append_assoc (glyphs k.front) ((48 + k.next) ∷ glyphs k.rest) tail))
 
-long_fault : (flags : Flags) (w : ℕ) (ds tail text : List ℕ) → w < whole_limit → All (λ d. d < 10) ds → places_of_decimal < length ds → text ≡ (decimal w ++ fraction_text ds) ++ tail → IsSizeFault current flags text too_long
+long_fault : (flags : Flags) (w : ℕ) (ds tail text : List ℕ) → w < whole_limit → All (λ d. d < 10) ds → places_of_decimal < length ds
+    → text ≡ (decimal w ++ fraction_text ds) ++ tail → IsSizeFault current flags text too_long
 long_fault flags w ds tail text bound small long e =
     let k = cut places_of_decimal ds small long in
     let is_long = ap (read (size_scan flags) Beginning) (e ∙ long_text w ds tail (omega (arith, long)) k) ∙ read_long flags w k.next k.front (glyphs k.rest ++ tail) bound k.small k.length_is k.next_small in
@@ -126,7 +133,9 @@ long_fault flags w ds tail text bound small long e =
 
 -- the string
 
-form_accepted : (kind : Kind) (size : ℕ) (unit : UnitName) (text : List ℕ) → size < current.size_limit → IsAdjustedForm current kind size (shape_of unit) alternate text → IsExactAt (size * bits_in kind) (bits (shape_of unit)) places_of_decimal → IsAccepted current kind false text size
+form_accepted : (kind : Kind) (size : ℕ) (unit : UnitName) (text : List ℕ) → size < current.size_limit
+    → IsAdjustedForm current kind size (shape_of unit) ALTERNATE text
+    → IsExactAt (size * bits_in kind) (bits (shape_of unit)) places_of_decimal → IsAccepted current kind false text size
 form_accepted kind size unit text below h exact =
     let s = shape_of unit in
     let e = h.number_is.0 in
@@ -134,10 +143,13 @@ form_accepted kind size unit text below h exact =
     let few = x.least places_of_decimal exact in
     let bound : e.whole < whole_limit = omega (arith, whole_not_above (size * bits_in kind) (bits s) e (some_bits s) x, bits_bound kind size below) in
     let P : List ℕ → Type 0 = λ t. IsAccepted current kind false t size in
-    subst P (sym (h.text_is ∙ ap (λ n. layout n (name current s) alternate) h.number_is.2))
-    (layout_accepted kind false size alternate e.whole e.digits s x.small few bound (good_name kind unit) (expansion_product (size * bits_in kind) (bits s) e x few) below)
+    subst P (sym (h.text_is ∙ ap (λ n. layout n (name current s) ALTERNATE) h.number_is.2))
+    (layout_accepted kind false size ALTERNATE e.whole e.digits s x.small few bound (good_name kind unit) (expansion_product (size * bits_in kind) (bits s) e x few) below)
 
-form_refused : (kind : Kind) (size : ℕ) (unit : UnitName) (text : List ℕ) → size < current.size_limit → IsAdjustedForm current kind size (shape_of unit) alternate text → (IsExactAt (size * bits_in kind) (bits (shape_of unit)) places_of_decimal → ⊥) → IsSizeFault current (flags_for kind false) (trimmed text) too_long
+form_refused : (kind : Kind) (size : ℕ) (unit : UnitName) (text : List ℕ) → size < current.size_limit
+    → IsAdjustedForm current kind size (shape_of unit) ALTERNATE text
+    → ¬ (IsExactAt (size * bits_in kind) (bits (shape_of unit)) places_of_decimal)
+    → IsSizeFault current (flags_for kind false) (trimmed text) too_long
 form_refused kind size unit text below h long =
     let s = shape_of unit in
     let e = h.number_is.0 in
@@ -145,18 +157,23 @@ form_refused kind size unit text below h long =
     let many : places_of_decimal < length e.digits =
     ⊎_elim (λ l. l) (λ few. absurd (long (exact_more (size * bits_in kind) (bits s) (length e.digits) places_of_decimal few (scaled e, x.exact)))) (cases_lt places_of_decimal (length e.digits)) in
     let bound : e.whole < whole_limit = omega (arith, whole_not_above (size * bits_in kind) (bits s) e (some_bits s) x, bits_bound kind size below) in
-    let t = trimmed_layout kind false alternate e.whole e.digits s x.small bound (good_name kind unit) in
-    let text_is = ap trimmed (h.text_is ∙ ap (λ n. layout n (name current s) alternate) h.number_is.2) ∙ t.trims in
+    let t = trimmed_layout kind false ALTERNATE e.whole e.digits s x.small bound (good_name kind unit) in
+    let text_is = ap trimmed (h.text_is ∙ ap (λ n. layout n (name current s) ALTERNATE) h.number_is.2) ∙ t.trims in
     long_fault (flags_for kind false) e.whole e.digits (spaces t.spaces_between ++ name current s) (trimmed text) bound x.small many text_is
 
-accepted : (kind : Kind) (size : ℕ) (unit : UnitName) (text : List ℕ) → size < current.size_limit → IsAdjustedString current kind size (shape_of unit) text → FitsDecimal current kind size (shape_of unit) → IsAccepted current kind false text size
-accepted kind size unit text below (inl h) short = size_form_back kind size alternate false text below h.1
+accepted : (kind : Kind) (size : ℕ) (unit : UnitName) (text : List ℕ) → size < current.size_limit
+    → IsAdjustedString current kind size (shape_of unit) text → FitsDecimal current kind size (shape_of unit)
+    → IsAccepted current kind false text size
+accepted kind size unit text below (inl h) short = size_form_back kind size ALTERNATE false text below h.1
 accepted kind size unit text below (inr h) (inl greatest) = absurd (h.0 greatest)
 accepted kind size unit text below (inr h) (inr exact) = form_accepted kind size unit text below h.1 exact
 
-refused : (kind : Kind) (size : ℕ) (unit : UnitName) (text : List ℕ) → size < current.size_limit → IsAdjustedString current kind size (shape_of unit) text → (FitsDecimal current kind size (shape_of unit) → ⊥) → IsRefused current kind false text too_long
+refused : (kind : Kind) (size : ℕ) (unit : UnitName) (text : List ℕ) → size < current.size_limit
+    → IsAdjustedString current kind size (shape_of unit) text → ¬ (FitsDecimal current kind size (shape_of unit))
+    → IsRefused current kind false text too_long
 refused kind size unit text below (inl h) long = absurd (long (inl h.0))
 refused kind size unit text below (inr h) long = inr (form_refused kind size unit text below h.1 (λ exact. long (inr exact)))
 
-pub adjusted_string_back : (kind : Kind) (size : ℕ) (unit : UnitName) → AdjustedReadsBack current kind size (shape_of unit)
-adjusted_string_back kind size unit = record { accepted = accepted kind size unit; refused = refused kind size unit }
+pub adjusted_string_back : AdjustedStringReadsBack
+adjusted_string_back kind size unit text below h =
+    record { accepted = accepted kind size unit text below h; refused = refused kind size unit text below h }

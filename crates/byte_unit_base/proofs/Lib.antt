@@ -34,3 +34,4 @@ pub mod ShownForms
 pub mod AdjustedStrings
 pub mod Appending
 pub mod ShortExpansions
+pub mod Widths

@@ -34,7 +34,7 @@ use Rattle.byte_unit_base.specs.Accepted.{IsAccepted}
 use Rattle.byte_unit_base.specs.Layout.{layout, layout_padding, before_layout, gap_of}
 use Rattle.byte_unit_base.specs.Plain.{spaces, plus_of, plain, plain_padding, before_plain}
 use Rattle.byte_unit_base.specs.Forms.{places_of}
-use Rattle.byte_unit_base.specs.FormLaws.{ReadsBack, PlainReadsBack}
+use Rattle.byte_unit_base.specs.FormLaws.{SizeFormReadsBack, PlainFormReadsBack}
 use Rattle.byte_unit_base.proofs.NumberTexts.{number_of, number_text, number_start, number_ascii, decimal_ascii, whole_text, StartsWithDigit, not_white, first_digit}
 use Rattle.byte_unit_base.proofs.TrimmedTexts.{trim_between, spaces_ascii}
 
@@ -155,7 +155,7 @@ whole_bound kind size number unit small some e =
     let more : number ≤ number * unit = omega (arith, mul-le number 1 number unit (omega arith) some) in
     omega (arith, most, more, e)
 
-pub size_form_back : (kind : Kind) (size : ℕ) (spec : FormatSpec) (ignore_case : Bool) → ReadsBack current kind size spec ignore_case
+pub size_form_back : SizeFormReadsBack
 size_form_back kind size spec ignore_case text below h =
     let e = shortened (at_places places_of_decimal h.number) in
     let k = short_of h.number places_of_decimal in
@@ -201,7 +201,7 @@ trim_number a b w bound =
     let P : List ℕ → Type 0 = λ t. trimmed (spaces a ++ (t ++ spaces b)) ≡ t in
     ap trimmed (append_assoc (spaces a) (decimal w) (spaces b)) ∙ subst P (sym start.text_is) (trim_between a b start.head end.last start.tail end.front start.digit end.digit (subst IsAscii start.text_is (decimal_ascii w bound)) end.text_is)
 
-pub plain_back : (kind : Kind) (size : ℕ) (spec : FormatSpec) (ignore_case : Bool) → PlainReadsBack current kind size spec ignore_case
+pub plain_back : PlainFormReadsBack
 plain_back kind size spec ignore_case below sign =
     let bound : size < whole_limit = omega (arith, below) in
     let pad = plain_padding size spec in

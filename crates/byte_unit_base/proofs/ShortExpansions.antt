@@ -4,7 +4,7 @@ use Rattle.byte_unit_math.specs.Exact.{IsExactAt}
 use Rattle.byte_unit_base.specs.Shape.{bits}
 use Rattle.byte_unit_base.specs.Units.{shape_of}
 use Rattle.byte_unit_base.specs.Kinds.{bits_in}
-use Rattle.byte_unit_base.specs.FormLaws.{EndsWithin}
+use Rattle.byte_unit_base.specs.FormLaws.{ExpansionsEnd}
 use Rattle.byte_unit_base.specs.declared.kind.Kind.{Kind}
 use Rattle.byte_unit_base.specs.declared.kind.Kind.TheVariants.{Byte, Bit as OfBits}
 use Rattle.byte_unit_base.specs.declared.unit.Unit.{Unit as UnitName}
@@ -18,6 +18,6 @@ bytes_in : (size : ℕ) (unit : UnitName) → IsExactAt (size * 8) (bits (shape_
 bytes_in size Bit = by_factor size (bits (shape_of Bit)) (8 * 10 ^ 80 / bits (shape_of Bit)) refl
 bytes_in size unit = by_factor size (bits (shape_of unit)) (8 * 10 ^ 80 / bits (shape_of unit)) refl
 
-pub ends_within : (kind : Kind) (size : ℕ) (unit : UnitName) → EndsWithin kind size (shape_of unit)
+pub ends_within : ExpansionsEnd
 ends_within Byte size unit = bytes_in size unit
 ends_within OfBits size unit = exact_in (size * bits_in OfBits) unit

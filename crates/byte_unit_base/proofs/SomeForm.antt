@@ -13,7 +13,7 @@ use Rattle.byte_unit_base.proofs.SomeChoice.{choice_or_none}
 use Rattle.byte_unit_base.specs.declared.format.spec.FormatSpec.{FormatSpec}
 use Rattle.byte_unit_base.specs.Layout.{layout}
 use Rattle.byte_unit_base.specs.Forms.{places_of, IsSizeForm}
-use Rattle.byte_unit_base.specs.FormLaws.{HasOneForm}
+use Rattle.byte_unit_base.specs.FormLaws.{SizeHasOneForm}
 use Rattle.byte_unit_base.proofs.OneForm.{one_form}
 
 record Recovered (kind : Kind) (size precision : ℕ) : Type 0 where
@@ -38,7 +38,7 @@ recovered kind size precision =
     (λ none. record { unit = own_unit kind; number = size * one; is_recovered = inr (none, refl); number_is = own_number kind size })
     (choice_or_none current (own_family kind) (size * bits_in kind) precision)
 
-pub has_one_form : (kind : Kind) (size : ℕ) (spec : FormatSpec) → HasOneForm current kind size spec
+pub has_one_form : SizeHasOneForm
 has_one_form kind size spec =
     let r = recovered kind size (places_of spec.precision) in
     let form = layout (short r.number places_of_decimal) (name current r.unit) spec in

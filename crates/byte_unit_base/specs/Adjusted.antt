@@ -1,5 +1,6 @@
 -- The text of a size in a given unit.
-use Rattle.std.specs.Prelude.{◌≡◌, ℕ, ◌*◌, min, Bool, true, false, List, ◌++◌, codes, Option, None, Some, ◌==◌, if◌then◌else◌}
+use Rattle.std.specs.Prelude.{◌≡◌, ℕ, ◌*◌, min, Bool, true, false, List, ◌++◌, codes, Option, None, Some, ◌==◌}
+use Rattle.std.specs.Prelude.{if◌then◌else◌}
 use Rattle.byte_unit_math.specs.Finite.{Finite, IsExpansion}
 use Rattle.byte_unit_math.specs.Nearest.{IsNearest}
 use Rattle.byte_unit_math.specs.Numeral.{expansion_of, text_of, numeral, short}
@@ -49,8 +50,8 @@ rule_of (Some precision) true unit = short_to (min precision alternate_places)
 rule_of (Some precision) false unit = if is_single unit then full else round_to precision
 
 -- the size in the unit
-pub record IsAdjustedForm (edition : Edition) (kind : Kind) (size : ℕ) (unit : Shape) (spec : FormatSpec) (text : List ℕ)
-    : Type 0 where
+pub record IsAdjustedForm (edition : Edition) (kind : Kind) (size : ℕ) (unit : Shape) (spec : FormatSpec)
+    (text : List ℕ) : Type 0 where
   pub number : List ℕ
   pub number_is : IsNumeralBy (rule_of spec.precision spec.alternate unit) (size * bits_in kind) (bits unit) number
   pub text_is : text ≡ layout number (name edition unit) spec

@@ -37,8 +37,8 @@ struct Shown {
 /// ```
 pub fn adjusted_len(size: u128, kind: Kind, unit: Unit, spec: FormatSpec) -> usize
     requires { size < current.size_limit }
-    ensures exact {
-        (form : List ℕ) → IsAdjustedForm current kind size (shape_of unit) spec form → result ≡ length form }
+    ensures exact { (form : List ℕ) → IsAdjustedForm current kind size (shape_of unit) spec form
+        → result ≡ length form }
     ensures small { result < text_limit }
 {
     let shown = number_in(size, kind, unit, spec);
@@ -74,8 +74,7 @@ pub fn append_adjusted<A: Allocator>(
 /// The digits that are shown of the size in the unit.
 fn number_in(size: u128, kind: Kind, unit: Unit, spec: FormatSpec) -> Shown
     requires { size < current.size_limit }
-    ensures number {
-        let unit = shape_of unit in
+    ensures number { let unit = shape_of unit in
         let text = text_of (padded result.places result.decimal) in
         IsNumeralBy (rule_of spec.precision spec.alternate unit) (size * bits_in kind) (bits unit) text }
     ensures few { result.places ≤ u16.MAX }
@@ -112,8 +111,7 @@ fn all_places(decimal: Expansion) -> Shown
 /// The size in the unit, to so many places.
 fn nearest(size: u128, kind: Kind, unit: Unit, places: u32, ties: Ties) -> Expansion
     requires { size < current.size_limit }
-    ensures {
-        let num = size * bits_in kind in
+    ensures { let num = size * bits_in kind in
         (q : ℕ) × IsNearest num (bits (shape_of unit)) places ties q × IsExpansion q (10 ^ places) result }
 {
     number_in_unit(size, kind, unit).rounded(places, ties)

@@ -49,7 +49,9 @@ pub struct FormatSpec {
 
 /// [`FormatSpec::PLAIN`].
 impl Default for FormatSpec {
-    ghost is_default = { λ spec. spec ≡ FormatSpec.PLAIN };
+    ghost use Rattle.byte_unit_base.specs.declared.format.spec.TheConstants.FormatSpec.{PLAIN};
+
+    ghost is_default = { λ spec. spec ≡ PLAIN };
 
     fn default() -> FormatSpec {
         FormatSpec::PLAIN

@@ -2,4 +2,4 @@ use Rattle.byte_unit_base.proofs.ShortExpansions.{ends_within}
 use Rattle.byte_unit_base.proofs.laws.texts.expansions_end.Goals as goal
 
 pub returns : goal.returns
-returns c = ends_within c.args.kind c.args.size c.args.unit
+returns c = ends_within

@@ -1,6 +1,5 @@
-use Rattle.byte_unit_base.specs.Units.{shape_of}
 use Rattle.byte_unit_base.proofs.AdjustedForms.{has_one_adjusted_form}
 use Rattle.byte_unit_base.proofs.laws.texts.size_has_one_adjusted_form.Goals as goal
 
 pub returns : goal.returns
-returns c = has_one_adjusted_form c.args.kind c.args.size (shape_of c.args.unit) c.args.spec
+returns c = has_one_adjusted_form

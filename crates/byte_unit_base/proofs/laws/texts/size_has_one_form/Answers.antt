@@ -2,4 +2,4 @@ use Rattle.byte_unit_base.proofs.SomeForm.{has_one_form}
 use Rattle.byte_unit_base.proofs.laws.texts.size_has_one_form.Goals as goal
 
 pub returns : goal.returns
-returns c = has_one_form c.args.kind c.args.size c.args.spec
+returns c = has_one_form
