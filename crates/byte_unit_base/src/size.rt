@@ -30,7 +30,7 @@ pub fn bounded(size: u128) -> Option<u128>
     ensures size { SomeIff result (size < current.size_limit) size }
     ensures small { IfSome result (λ n. n < current.size_limit) }
 {
-    if size < SIZE_LIMIT { Some(size) } else { None }
+    (size < SIZE_LIMIT).then_some(size)
 }
 
 /// The number, where it is a size: from 0 to below 10^27. `None` exactly where it is negative or not below 10^27.
@@ -110,10 +110,8 @@ pub fn from_decimal(number: Decimal, unit: Unit, kind: Kind) -> Option<u128>
     ensures size { IsSizeOrNone current (IsLeastOf kind number (shape_of unit)) result }
     ensures small { IfSome result (λ n. n < current.size_limit) }
 {
-    match least_size(number, unit.as_bits_u128(), bit_limit(kind)) {
-        Some(in_bits) => Some(holding(in_bits, kind)),
-        None => None,
-    }
+    let in_bits = least_size(number, unit.as_bits_u128(), bit_limit(kind))?;
+    Some(holding(in_bits, kind))
 }
 
 /// The number and the unit that a text of the kind states. A text of bits is always case sensitive.
@@ -199,20 +197,12 @@ pub fn quotient(size: u128, divisor: u128) -> Option<u128>
 pub fn saturated(size: u128) -> u64
     ensures { result ≡ min size (2 ^ 64 - 1) }
 {
-    if size < 1 << 64 {
-        size as u64
-    } else {
-        u64::MAX
-    }
+    u64::try_from(size).unwrap_or(u64::MAX)
 }
 
 /// The number as a `u64`. `None` exactly where it is not below 2^64.
 pub fn fitting(size: u128) -> Option<u64>
     ensures { SomeIff result (size < 2 ^ 64) size }
 {
-    if size < 1 << 64 {
-        Some(size as u64)
-    } else {
-        None
-    }
+    u64::try_from(size).ok()
 }

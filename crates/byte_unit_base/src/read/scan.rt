@@ -45,28 +45,21 @@ impl SizeScan {
         ensures { result ≡ size_step self.now c }
     {
         match *self {
-            SizeScan::Beginning => match c.to_digit(10) {
-                Some(digit) => Some(SizeScan::Whole(u128::from(digit))),
-                None => None,
-            },
+            SizeScan::Beginning => Some(SizeScan::Whole(u128::from(c.to_digit(10)?))),
             SizeScan::Whole(whole) => match c.to_digit(10) {
                 Some(digit) => more_whole(whole, digit),
                 None if c == '.' => Some(SizeScan::Point(whole)),
                 None => after_number(whole_decimal(whole), c),
             },
-            SizeScan::Point(whole) => match c.to_digit(10) {
-                Some(digit) => Some(SizeScan::Fraction(whole, u128::from(digit), 1)),
-                None => None,
-            },
+            SizeScan::Point(whole) => {
+                Some(SizeScan::Fraction(whole, u128::from(c.to_digit(10)?), 1))
+            }
             SizeScan::Fraction(whole, digits, places) => match c.to_digit(10) {
                 Some(digit) => more_fraction(whole, digits, places, digit),
                 None => after_number(precise_decimal(whole, digits, places), c),
             },
             SizeScan::Gap(number) => after_number(number, c),
-            SizeScan::Unit(number, scan) => match scan.step(c) {
-                Some(next) => Some(SizeScan::Unit(number, next)),
-                None => None,
-            },
+            SizeScan::Unit(number, scan) => Some(SizeScan::Unit(number, scan.step(c)?)),
         }
     }
 
@@ -138,6 +131,7 @@ fn more_fraction(whole: u128, digits: u128, places: u32, digit: u32) -> Option<S
     }
 }
 
+/// The whole part as a number.
 fn whole_decimal(whole: u128) -> Decimal
     requires { whole < whole_limit }
     ensures { result ≡ whole * one }
@@ -201,10 +195,7 @@ fn after_number(number: Decimal, c: char) -> Option<SizeScan>
     if c == ' ' {
         return Some(SizeScan::Gap(number));
     }
-    match UnitScan::START.step(c) {
-        Some(scan) => Some(SizeScan::Unit(number, scan)),
-        None => None,
-    }
+    Some(SizeScan::Unit(number, UnitScan::START.step(c)?))
 }
 
 /// The number and its unit at the end of a text.

@@ -67,8 +67,5 @@ fn read_unit(text: &str, flags: Flags) -> Result<Unit, UnitParseError>
             None => return Err(scan.fault(flags, c)),
         }
     }
-    match scan.unit(flags) {
-        Some(unit) => Ok(unit),
-        None => Err(UnitParseError::STOPS_AT_BI),
-    }
+    scan.unit(flags).ok_or(UnitParseError::STOPS_AT_BI)
 }

@@ -105,6 +105,7 @@ impl Multiple {
     ghost use Rattle.byte_unit_base.specs.UnitScan.{multiple_step, multiple_shape};
     ghost use Rattle.byte_unit_base.specs.Units.{shape_of};
 
+    /// The prefix so far with one character more, or `None` where that goes on with no prefix.
     fn step(self, c: char) -> Option<Multiple>
         ensures { result ≡ multiple_step self c }
     {
@@ -115,6 +116,7 @@ impl Multiple {
         }
     }
 
+    /// The multiple of a bit or of a byte.
     fn unit(self, bit: bool) -> Unit
         ensures { shape_of result ≡ multiple_shape self bit }
     {
@@ -129,6 +131,7 @@ impl Multiple {
 impl Word {
     ghost use Rattle.byte_unit_base.specs.UnitScan.{word_step};
 
+    /// The letters so far with one character more, or `None` where that goes on with no `bits`.
     fn step(self, c: char) -> Option<Word>
         ensures { result ≡ word_step self c }
     {
@@ -146,6 +149,7 @@ impl Word {
     }
 }
 
+/// Whether it is an `i`, in either case.
 fn is_i(c: char) -> bool
     ensures { result ≡ is_i c }
 {
@@ -178,13 +182,10 @@ impl UnitScan {
                 });
             }
         }
-        match self.word.step(c) {
-            Some(word) => Some(UnitScan {
-                multiple: self.multiple,
-                word,
-            }),
-            None => None,
-        }
+        Some(UnitScan {
+            multiple: self.multiple,
+            word: self.word.step(c)?,
+        })
     }
 
     /// The unit, where the spelling may end here.
@@ -205,16 +206,17 @@ impl UnitScan {
     pub fn fault(self, flags: Flags, character: char) -> UnitParseError
         ensures { unit_fault result ≡ fault_at current flags (place_of self) character }
     {
-        let (expected_characters, also_expect_no_character) = match self.word {
+        let expected_characters: &'static [char] = match self.word {
             Word::Empty => match self.multiple {
-                Multiple::One => (&BEGINNINGS as &'static [char], true),
-                _ => (after_prefix(flags), true),
+                Multiple::One => &BEGINNINGS,
+                _ => after_prefix(flags),
             },
-            Word::UpperB | Word::LowerB => (&['i'] as &'static [char], true),
-            Word::Bi => (&['t'] as &'static [char], false),
-            Word::Bit => (&['s'] as &'static [char], true),
-            Word::Bits => (&[] as &'static [char], true),
+            Word::UpperB | Word::LowerB => &['i'],
+            Word::Bi => &['t'],
+            Word::Bit => &['s'],
+            Word::Bits => &[],
         };
+        let also_expect_no_character = !matches!(self.word, Word::Bi);
         UnitParseError {
             character,
             expected_characters,

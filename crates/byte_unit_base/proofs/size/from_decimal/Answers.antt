@@ -4,16 +4,16 @@ use Rattle.byte_unit_base.specs.Edition.{current}
 use Rattle.byte_unit_base.specs.Units.{shape_of}
 use Rattle.byte_unit_base.proofs.size.from_decimal.Goals as goal
 
-pub returns-in-Some-clause-size : goal.returns-in-Some-clause-size
-returns-in-Some-clause-size c = (
-  least_holding c.args.kind c.args.number (shape_of c.args.unit) c.in-Some.in_bits c.holding.result (search rules) c.holding.ensures.holds c.holding.ensures.least,
-  least_below c.args.kind current.size_limit c.in-Some.in_bits c.holding.result (search rules) c.holding.ensures.least (omega arith),
-)
+pub returns-clause-size : goal.returns-clause-size
+returns-clause-size c =
+    let in_bits = c.in_ok-in_bits.in_bits in
+    let low = c.holding.ensures.least in (
+      least_holding c.args.kind c.args.number (shape_of c.args.unit) in_bits c.holding.result (search rules) c.holding.ensures.holds low,
+      least_below c.args.kind current.size_limit in_bits c.holding.result (search rules) low (omega arith),
+    )
 
-pub returns-in-None-clause-size : goal.returns-in-None-clause-size
-returns-in-None-clause-size c = λ n h.
-    least_above c.args.kind c.args.number (shape_of c.args.unit) current.size_limit c.bit_limit.result n (omega arith) c.bit_limit.ensures (rw c.as_bits_u128.ensures.bits at c.in-None.ensures.none) h
-
-pub returns-in-Some-clause-small : goal.returns-in-Some-clause-small
-returns-in-Some-clause-small c =
-    least_below c.args.kind current.size_limit c.in-Some.in_bits c.holding.result (search rules) c.holding.ensures.least (omega arith)
+pub returns-in_err-in_bits-clause-size : goal.returns-in_err-in_bits-clause-size
+returns-in_err-in_bits-clause-size c =
+    let none = rw c.as_bits_u128.ensures.bits at c.in_err-in_bits.ensures.none in
+    rw c.from_residual.ensures
+    (λ n h. least_above c.args.kind c.args.number (shape_of c.args.unit) current.size_limit c.bit_limit.result n (omega arith) c.bit_limit.ensures none h)
