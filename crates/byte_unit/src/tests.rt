@@ -9,6 +9,7 @@ mod decimals;
 mod each_unit;
 mod error_texts;
 mod faults;
+mod flags;
 mod json;
 mod readings;
 mod stored_faults;

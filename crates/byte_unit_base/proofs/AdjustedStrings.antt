@@ -40,6 +40,7 @@ use Rattle.byte_unit_base.specs.declared.read.scan.SizeScan.TheVariants.{Beginni
 use Rattle.byte_unit_base.proofs.Choosing.{some_bits}
 use Rattle.byte_unit_base.proofs.NumberTexts.{number_of, glyph_value, glyph_digits, whole_text}
 use Rattle.byte_unit_base.proofs.Quotients.{exact_more}
+use Rattle.byte_unit_base.proofs.WrittenForms.{text_some}
 use Rattle.byte_unit_base.proofs.ReadBack.{good_name, bits_bound, number_scaled, trimmed_layout, layout_accepted, size_form_back}
 use Rattle.byte_unit_base.proofs.Scans.{answers, IsAnswer, read_some, read_none, read_through}
 use Rattle.byte_unit_base.proofs.SizeReads.{size_scan_is}
@@ -85,10 +86,6 @@ cut (suc n) (d ∷ ds) h k =
     let r = cut n ds (All-tail (λ d. d < 10) d ds h) (omega (arith, k)) in
     record { front = d ∷ r.front; next = r.next; rest = r.rest; list_is = ap (λ l. d ∷ l) r.list_is; length_is = ap suc r.length_is; small = All-cons (λ d. d < 10) d r.front (All-head (λ d. d < 10) d ds h) r.small; next_small = r.next_small }
 
-with_point : (ds : List ℕ) → 0 < length ds → fraction_text ds ≡ 46 ∷ glyphs ds
-with_point [] h = absurd (omega (arith, h))
-with_point (d ∷ ds) h = refl
-
 no_more_places : (w f j c : ℕ) → digit_value c < 10 → j ≡ places_of_decimal → size_step (Fraction w f j) c ≡ None
 unfolding size_step
 no_more_places w f j c h k =
@@ -119,7 +116,7 @@ long_text : (w : ℕ) (ds tail : List ℕ) → 0 < length ds → (k : LongDigits
     → (decimal w ++ fraction_text ds) ++ tail ≡ decimal w ++ (46 ∷ (glyphs k.front ++ ((48 + k.next) ∷ (glyphs k.rest ++ tail))))
 long_text w ds tail some k =
     let split : glyphs ds ≡ glyphs k.front ++ ((48 + k.next) ∷ glyphs k.rest) = ap glyphs k.list_is ∙ map-append (λ d. 48 + d) k.front (k.next ∷ k.rest) in
-    let fraction : fraction_text ds ≡ 46 ∷ (glyphs k.front ++ ((48 + k.next) ∷ glyphs k.rest)) = with_point ds some ∙ ap (λ t. 46 ∷ t) split in
+    let fraction : fraction_text ds ≡ 46 ∷ (glyphs k.front ++ ((48 + k.next) ∷ glyphs k.rest)) = text_some ds some ∙ ap (λ t. 46 ∷ t) split in
     ap (λ t. (decimal w ++ t) ++ tail) fraction
     ∙ (append_assoc (decimal w) (46 ∷ (glyphs k.front ++ ((48 + k.next) ∷ glyphs k.rest))) tail
     ∙ ap (λ t. decimal w ++ (46 ∷ t)) (append_assoc (glyphs k.front) ((48 + k.next) ∷ glyphs k.rest) tail))

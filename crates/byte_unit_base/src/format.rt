@@ -11,6 +11,7 @@ mod spec;
 mod tests;
 
 pub use adjusted::{adjusted_len, append_adjusted, number_in_unit};
+pub use digits::write_decimal;
 pub use forms::{append_text, text_len};
 pub use layout::{append_layout, layout_len};
 pub use plain::{append_plain, plain_len};

@@ -1,12 +1,13 @@
 //! The decimal digits of a number.
 
-ghost use Rattle.std.specs.Prelude.{◌≡◌, ◌+◌, ◌≤◌, ◌<◌, ◌++◌, length, drop, IsAscii};
-ghost use Rattle.std.specs.Fmt.{decimal};
+ghost use Rattle.std.specs.Prelude.{◌≡◌, ◌+◌, ◌≤◌, ◌<◌, ◌++◌, length, drop, IsAscii, Some};
+ghost use Rattle.std.specs.Fmt.{decimal, DisplaysOnOk, DisplaysStyledOnOk};
 
 use std::marker::Model;
+use std::{fmt, str};
 
 /// More than the digits of the greatest number.
-const ROOM: usize = 40;
+pub(crate) const ROOM: usize = 40;
 
 /// Ten to the power of 18: 18 digits are taken off at once where a number is above 64 bits.
 const GROUP: u128 = 1_000_000_000_000_000_000;
@@ -20,19 +21,20 @@ pub(crate) struct Digits {
 
 impl Model for Digits {
     ghost use Rattle.std.specs.Prelude.{ℕ, List, drop, ◌≤◌, ◌≡◌, length};
+    ghost use Rattle.byte_unit_base.specs.declared.format.digits.TheConstants.{ROOM};
 
     ghost Value = { List ℕ };
 
     ghost view = { λ d. drop d.start d.bytes };
 
-    ghost invariant = { λ d. (d.start ≤ 40) × (length d.bytes ≡ 40) };
+    ghost invariant = { λ d. (d.start ≤ ROOM) × (length d.bytes ≡ ROOM) };
 }
 
 impl Digits {
     pub(crate) fn of(n: u128) -> Digits
         ensures digits { result ≡ decimal n }
         ensures ascii { IsAscii result }
-        ensures few { length result ≤ 39 }
+        ensures few { length result < ROOM }
     {
         let mut bytes = [b'0'; ROOM];
         let mut start = ROOM;
@@ -60,10 +62,23 @@ impl Digits {
     }
 }
 
+/// Writes the digits of a number into a formatter, whose flags change nothing.
+///
+/// ```text
+/// write_decimal(1536, f)    // "1536"
+/// ```
+pub fn write_decimal<W: fmt::Write>(n: u128, f: &mut fmt::Formatter<W>) -> fmt::Result
+    ensures plain { DisplaysOnOk W.write_str_gives f.old result (Some (decimal n)) f.new }
+    ensures styled { DisplaysStyledOnOk W.write_str_gives f.old result (Some (decimal n)) f.new }
+{
+    let digits = Digits::of(n);
+    f.write_str(str::from_utf8(digits.as_slice()).unwrap())
+}
+
 /// Writes digits that end before this place, and answers where they begin.
 fn write_digits(n: u64, bytes: &mut [u8; ROOM], end: usize) -> usize
     requires room { length (decimal n) ≤ end }
-    requires within { end ≤ 40 }
+    requires within { end ≤ ROOM }
     ensures begins { result + length (decimal n) ≡ end }
     ensures digits { drop result bytes.new ≡ decimal n ++ drop end bytes.old }
 {

@@ -5,7 +5,7 @@ ghost use Rattle.std.specs.String.{string_bytes};
 ghost use Rattle.byte_unit_base.specs.Room.{spare, Appends};
 ghost use Rattle.byte_unit_base.specs.Plain.{plain, missing, before_plain, plus_of};
 
-use crate::format::digits::Digits;
+use crate::format::digits::{Digits, ROOM};
 use crate::format::room::{push, push_ascii, push_run, reserve};
 use crate::format::spec::{Align, FormatSpec, Sign};
 use std::alloc::{AllocError, Allocator};
@@ -53,9 +53,9 @@ pub fn append_plain<A: Allocator>(
 
 /// How many columns so many digits take with their sign.
 fn signed_len(digits: usize, sign: Sign) -> usize
-    requires { digits ≤ 39 }
+    requires { digits < ROOM }
     ensures exact { result ≡ length (plus_of sign) + digits }
-    ensures small { result ≤ 40 }
+    ensures small { result ≤ ROOM }
 {
     match sign {
         Sign::Plus => 1 + digits,

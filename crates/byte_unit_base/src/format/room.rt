@@ -62,7 +62,7 @@ pub(crate) fn push_run<A: Allocator>(text: &mut String<A>, byte: u8, count: usiz
 }
 
 fn run_of(byte: u8) -> [u8; RUN]
-    ensures { result ≡ replicate 64 byte }
+    ensures { result ≡ replicate RUN byte }
 {
     [byte; RUN]
 }

@@ -54,7 +54,7 @@ impl Default for FormatSpec {
     ghost is_default = { λ spec. spec ≡ PLAIN };
 
     fn default() -> FormatSpec {
-        FormatSpec::PLAIN
+        Self::PLAIN
     }
 }
 

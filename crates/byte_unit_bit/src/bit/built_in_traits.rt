@@ -8,7 +8,7 @@ ghost use Rattle.byte_unit_base.specs.SizeReading.{IsSizeReading};
 ghost use Rattle.byte_unit_base.specs.declared.kind.Kind.TheVariants.{Bit as InBits};
 
 use super::Bit;
-use byte_unit_base::{ExceededBoundsError, ParseError};
+use byte_unit_base::{ExceededBoundsError, ParseError, format};
 use std::fmt;
 use std::num::TryFromIntError;
 use std::str::FromStr;
@@ -27,9 +27,10 @@ impl Default for Bit {
 impl fmt::Display for Bit {
     ghost output = { λ size. Some (decimal size) };
 
+    ghost styled_output = { λ size spec. Some (decimal size) };
+
     fn fmt<W: fmt::Write>(&self, f: &mut fmt::Formatter<W>) -> fmt::Result {
-        let size = self.as_u128();
-        write!(f, "{size}")
+        format::write_decimal(self.as_u128(), f)
     }
 }
 
