@@ -73,11 +73,6 @@ pub fn unit_to_json(alloc: Global, unit: Unit) -> Result<Value, AllocError>
 pub fn unit_from_json(value: &Value) -> Result<Unit, JsonUnitError>
     ensures { ReadsUnitString (IsUnitReading (reading false true)) (as_str (view value.now)) result }
 {
-    match value.as_str() {
-        None => Err(JsonUnitError::NotString),
-        Some(text) => match text.parse::<Unit>() {
-            Ok(unit) => Ok(unit),
-            Err(error) => Err(JsonUnitError::Unit(error)),
-        },
-    }
+    let text = value.as_str().ok_or(JsonUnitError::NotString)?;
+    text.parse().map_err(JsonUnitError::Unit)
 }

@@ -1,5 +1,6 @@
 -- What the reader of a size answers, by what the reader of its number and unit answers.
-use Rattle.std.proofs.Common.{◌≡◌, ℕ, Bool, List, Some, None, Ok, Err, sym, ap, subst, arith, inl, inr, refl}
+use Rattle.std.proofs.Common.{◌≡◌, ℕ, Bool, List, Option, Some, None, Ok, Err, sym, ap, subst, arith, inl, inr, refl}
+use Rattle.std.specs.Option.{ok_or}
 use Rattle.byte_unit_base.specs.Shape.{Shape}
 use Rattle.byte_unit_base.specs.Edition.{current}
 use Rattle.byte_unit_base.specs.Units.{shape_of}
@@ -15,7 +16,7 @@ use Rattle.byte_unit_base.specs.Kinds.{flags_for}
 use Rattle.byte_unit_base.specs.Readings.{IsNumberReading}
 use Rattle.byte_unit_base.specs.Accepted.{IsRead}
 use Rattle.byte_unit_base.specs.SizeReading.{IsSizeReading}
-use Rattle.byte_unit_base.proofs.Rounding.{least_is_one}
+use Rattle.byte_unit_base.proofs.Rounding.{least_is_one, least_of}
 
 -- a text that is read has the number and the unit that the reader answers
 of_read : (kind : Kind) (ignore_case : Bool) (bytes : List ℕ) (found : ℕ × UnitName) (number n : ℕ) → IsNumberReading (flags_for kind ignore_case) bytes (Ok found) → IsRead current kind ignore_case bytes number n → (found.0 ≡ number) × IsLeastOf kind found.0 (shape_of found.1) n
@@ -59,6 +60,12 @@ reading_of_excess kind ignore_case bytes found least reading none = record {
     },
   );
 }
+
+-- the answer by the size of the number and the unit, if it is one
+pub reading_of_number : (kind : Kind) (ignore_case : Bool) (bytes : List ℕ) (found : ℕ × UnitName) (size : Option ℕ) → IsNumberReading (flags_for kind ignore_case) bytes (Ok found) → IsSizeOrNone current (IsLeastOf kind found.0 (shape_of found.1)) size → IsSizeReading kind ignore_case bytes (ok_or size (Value (ExceededBounds found.0)))
+reading_of_number kind ignore_case bytes found (Some n) reading size = reading_of_size kind ignore_case bytes found n reading size
+reading_of_number kind ignore_case bytes found None reading none =
+    reading_of_excess kind ignore_case bytes found (least_of kind found.0 (shape_of found.1)) reading none
 
 -- the answer where there is no number and unit
 pub reading_of_fault : (kind : Kind) (ignore_case : Bool) (bytes : List ℕ) (error : ParseError) → IsNumberReading (flags_for kind ignore_case) bytes (Err error) → IsSizeReading kind ignore_case bytes (Err error)

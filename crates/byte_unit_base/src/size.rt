@@ -49,7 +49,7 @@ pub fn from_signed(size: i128) -> Option<u128>
 fn natural(size: i128) -> Option<u128>
     ensures { OfSigned (λ n answer. answer ≡ Some n) size result }
 {
-    if size < 0 { None } else { Some(size as u128) }
+    u128::try_from(size).ok()
 }
 
 /// The least number of the kind that holds so many bits.
@@ -142,13 +142,9 @@ pub fn parse(s: &str, ignore_case: bool, kind: Kind) -> Result<u128, ParseError>
     ensures reading { IsSizeReading kind ignore_case s.now result }
     ensures small { IfOk result (λ n. n < current.size_limit) }
 {
-    match read(s, ignore_case, kind) {
-        Ok(found) => match from_decimal(found.0, found.1, kind) {
-            Some(size) => Ok(size),
-            None => Err(ParseError::Value(ValueParseError::ExceededBounds(found.0))),
-        },
-        Err(error) => Err(error),
-    }
+    let (number, unit) = read(s, ignore_case, kind)?;
+    let size = from_decimal(number, unit, kind);
+    size.ok_or(ParseError::Value(ValueParseError::ExceededBounds(number)))
 }
 
 /// The sum of two sizes. `None` exactly where it is not below 10^27.

@@ -1,7 +1,6 @@
 //! `Bit`, a size in bits: what makes one, what it gives back, and its arithmetic.
 
 ghost use Rattle.std.specs.Prelude.{◌≡◌, ◌+◌, ◌-◌, ◌*◌, ◌/◌, ◌^◌, ◌<◌, ◌≤◌, ◌↔◌, IsTrue, SomeIff, min};
-ghost use Rattle.std.specs.Option.{ForSome};
 ghost use Rattle.std.specs.Ordering.{nat_cmp};
 ghost use Rattle.byte_unit_math.specs.Bounds.{one};
 ghost use Rattle.byte_unit_base.specs.Edition.{current};
@@ -54,17 +53,6 @@ impl Model for Bit {
 
 /// What makes a size in bits.
 impl Bit {
-    /// The size of a number that is one.
-    fn of(size: Option<u128>) -> Option<Bit>
-        requires { ForSome size (λ n. n < current.size_limit) }
-        ensures { result ≡ size }
-    {
-        match size {
-            Some(size) => Some(Bit { size }),
-            None => None,
-        }
-    }
-
     /// So many bits. `None` from 10^27 on.
     ///
     /// ```text
@@ -73,7 +61,8 @@ impl Bit {
     pub fn from_u128(size: u128) -> Option<Bit>
         ensures { SomeIff result (size < current.size_limit) size }
     {
-        Bit::of(size::bounded(size))
+        let size = size::bounded(size)?;
+        Some(Bit { size })
     }
 
     /// So many bits. The caller owes a size below 10^27.
@@ -106,7 +95,8 @@ impl Bit {
     pub fn from_i128(size: i128) -> Option<Bit>
         ensures { OfSigned (λ n answer. SomeIff answer (n < current.size_limit) n) size result }
     {
-        Bit::of(size::from_signed(size))
+        let size = size::from_signed(size)?;
+        Some(Bit { size })
     }
 
     /// So many bits. `None` where the number is negative.
@@ -133,7 +123,8 @@ impl Bit {
     pub fn from_u128_with_unit(size: u128, unit: Unit) -> Option<Bit>
         ensures { IsSizeOrNone current (IsLeastOf InBits (size * one) (shape_of unit)) result }
     {
-        Bit::of(size::with_unit(size, unit, Kind::Bit))
+        let size = size::with_unit(size, unit, Kind::Bit)?;
+        Some(Bit { size })
     }
 
     /// So many of the unit, rounded up to a whole bit. `None` where that is 10^27 or more.
@@ -156,7 +147,8 @@ impl Bit {
     pub fn from_i128_with_unit(size: i128, unit: Unit) -> Option<Bit>
         ensures { OfSigned (λ n answer. IsSizeOrNone current (IsLeastOf InBits (n * one) (shape_of unit)) answer) size result }
     {
-        Bit::of(size::signed_with_unit(size, unit, Kind::Bit))
+        let size = size::signed_with_unit(size, unit, Kind::Bit)?;
+        Some(Bit { size })
     }
 
     /// So many of the unit, rounded up to a whole bit. `None` where the number is negative, and where the size is
@@ -252,7 +244,8 @@ impl Bit {
     pub fn add(self, rhs: Bit) -> Option<Bit>
         ensures { SomeIff result (self + rhs < current.size_limit) (self + rhs) }
     {
-        Bit::of(size::sum(self.size, rhs.size))
+        let size = size::sum(self.size, rhs.size)?;
+        Some(Bit { size })
     }
 
     /// The difference. `None` where it would be negative.
@@ -264,7 +257,8 @@ impl Bit {
     pub fn subtract(self, rhs: Bit) -> Option<Bit>
         ensures { SomeIff result (rhs ≤ self) (self - rhs) }
     {
-        Bit::of(size::difference(self.size, rhs.size))
+        let size = size::difference(self.size, rhs.size)?;
+        Some(Bit { size })
     }
 
     /// The product. `None` from 10^27 on.
@@ -275,7 +269,8 @@ impl Bit {
     pub fn multiply(self, rhs: usize) -> Option<Bit>
         ensures { SomeIff result (self * rhs < current.size_limit) (self * rhs) }
     {
-        Bit::of(size::product(self.size, rhs as u128))
+        let size = size::product(self.size, rhs as u128)?;
+        Some(Bit { size })
     }
 
     /// The quotient, rounded down. `None` where `rhs` is zero.
@@ -287,6 +282,7 @@ impl Bit {
     pub fn divide(self, rhs: usize) -> Option<Bit>
         ensures { SomeIff result (0 < rhs) (self / rhs) }
     {
-        Bit::of(size::quotient(self.size, rhs as u128))
+        let size = size::quotient(self.size, rhs as u128)?;
+        Some(Bit { size })
     }
 }

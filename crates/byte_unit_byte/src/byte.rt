@@ -1,7 +1,6 @@
 //! `Byte`, a size in bytes: what makes one, what it gives back, and its arithmetic.
 
 ghost use Rattle.std.specs.Prelude.{◌≡◌, ◌+◌, ◌-◌, ◌*◌, ◌/◌, ◌^◌, ◌<◌, ◌≤◌, ◌↔◌, IsTrue, SomeIff, min};
-ghost use Rattle.std.specs.Option.{ForSome};
 ghost use Rattle.std.specs.Ordering.{nat_cmp};
 ghost use Rattle.byte_unit_math.specs.Bounds.{one};
 ghost use Rattle.byte_unit_base.specs.Edition.{current};
@@ -55,17 +54,6 @@ impl Model for Byte {
 
 /// What makes a size in bytes.
 impl Byte {
-    /// The size of a number that is one.
-    fn of(size: Option<u128>) -> Option<Byte>
-        requires { ForSome size (λ n. n < current.size_limit) }
-        ensures { result ≡ size }
-    {
-        match size {
-            Some(size) => Some(Byte { size }),
-            None => None,
-        }
-    }
-
     /// So many bytes. `None` from 10^27 on.
     ///
     /// ```text
@@ -74,7 +62,8 @@ impl Byte {
     pub fn from_u128(size: u128) -> Option<Byte>
         ensures { SomeIff result (size < current.size_limit) size }
     {
-        Byte::of(size::bounded(size))
+        let size = size::bounded(size)?;
+        Some(Byte { size })
     }
 
     /// So many bytes. The caller owes a size below 10^27.
@@ -107,7 +96,8 @@ impl Byte {
     pub fn from_i128(size: i128) -> Option<Byte>
         ensures { OfSigned (λ n answer. SomeIff answer (n < current.size_limit) n) size result }
     {
-        Byte::of(size::from_signed(size))
+        let size = size::from_signed(size)?;
+        Some(Byte { size })
     }
 
     /// So many bytes. `None` where the number is negative.
@@ -134,7 +124,8 @@ impl Byte {
     pub fn from_u128_with_unit(size: u128, unit: Unit) -> Option<Byte>
         ensures { IsSizeOrNone current (IsLeastOf InBytes (size * one) (shape_of unit)) result }
     {
-        Byte::of(size::with_unit(size, unit, Kind::Byte))
+        let size = size::with_unit(size, unit, Kind::Byte)?;
+        Some(Byte { size })
     }
 
     /// So many of the unit, rounded up to a whole byte. `None` where that is 10^27 or more.
@@ -157,7 +148,8 @@ impl Byte {
     pub fn from_i128_with_unit(size: i128, unit: Unit) -> Option<Byte>
         ensures { OfSigned (λ n answer. IsSizeOrNone current (IsLeastOf InBytes (n * one) (shape_of unit)) answer) size result }
     {
-        Byte::of(size::signed_with_unit(size, unit, Kind::Byte))
+        let size = size::signed_with_unit(size, unit, Kind::Byte)?;
+        Some(Byte { size })
     }
 
     /// So many of the unit, rounded up to a whole byte. `None` where the number is negative, and where the size is
@@ -253,7 +245,8 @@ impl Byte {
     pub fn add(self, rhs: Byte) -> Option<Byte>
         ensures { SomeIff result (self + rhs < current.size_limit) (self + rhs) }
     {
-        Byte::of(size::sum(self.size, rhs.size))
+        let size = size::sum(self.size, rhs.size)?;
+        Some(Byte { size })
     }
 
     /// The difference. `None` where it would be negative.
@@ -265,7 +258,8 @@ impl Byte {
     pub fn subtract(self, rhs: Byte) -> Option<Byte>
         ensures { SomeIff result (rhs ≤ self) (self - rhs) }
     {
-        Byte::of(size::difference(self.size, rhs.size))
+        let size = size::difference(self.size, rhs.size)?;
+        Some(Byte { size })
     }
 
     /// The product. `None` from 10^27 on.
@@ -276,7 +270,8 @@ impl Byte {
     pub fn multiply(self, rhs: usize) -> Option<Byte>
         ensures { SomeIff result (self * rhs < current.size_limit) (self * rhs) }
     {
-        Byte::of(size::product(self.size, rhs as u128))
+        let size = size::product(self.size, rhs as u128)?;
+        Some(Byte { size })
     }
 
     /// The quotient, rounded down. `None` where `rhs` is zero.
@@ -288,6 +283,7 @@ impl Byte {
     pub fn divide(self, rhs: usize) -> Option<Byte>
         ensures { SomeIff result (0 < rhs) (self / rhs) }
     {
-        Byte::of(size::quotient(self.size, rhs as u128))
+        let size = size::quotient(self.size, rhs as u128)?;
+        Some(Byte { size })
     }
 }

@@ -33,6 +33,7 @@ impl Bit {
     pub fn from_decimal_with_unit(size: Decimal, unit: Unit) -> Option<Bit>
         ensures { IsSizeOrNone current (IsLeastOf InBits size (shape_of unit)) result }
     {
-        Bit::of(size::from_decimal(size, unit, Kind::Bit))
+        let size = size::from_decimal(size, unit, Kind::Bit)?;
+        Some(Bit { size })
     }
 }

@@ -37,12 +37,7 @@ impl Bit {
     pub fn from_json(value: &Value) -> Result<Bit, JsonSizeError>
         ensures { ReadsString (IsSizeReading InBits false) (as_str (view value.now)) result }
     {
-        match value.as_str() {
-            None => Err(JsonSizeError::NotString),
-            Some(text) => match text.parse::<Bit>() {
-                Ok(size) => Ok(size),
-                Err(error) => Err(JsonSizeError::Parse(error)),
-            },
-        }
+        let text = value.as_str().ok_or(JsonSizeError::NotString)?;
+        text.parse().map_err(JsonSizeError::Parse)
     }
 }

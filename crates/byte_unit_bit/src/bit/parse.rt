@@ -31,9 +31,7 @@ impl Bit {
     pub fn parse_str(s: &str) -> Result<Bit, ParseError>
         ensures { IsSizeReading InBits false s.now result }
     {
-        match size::parse(s, false, Kind::Bit) {
-            Ok(size) => Ok(Bit { size }),
-            Err(error) => Err(error),
-        }
+        let size = size::parse(s, false, Kind::Bit)?;
+        Ok(Bit { size })
     }
 }

@@ -33,6 +33,7 @@ impl Byte {
     pub fn from_decimal_with_unit(size: Decimal, unit: Unit) -> Option<Byte>
         ensures { IsSizeOrNone current (IsLeastOf InBytes size (shape_of unit)) result }
     {
-        Byte::of(size::from_decimal(size, unit, Kind::Byte))
+        let size = size::from_decimal(size, unit, Kind::Byte)?;
+        Some(Byte { size })
     }
 }

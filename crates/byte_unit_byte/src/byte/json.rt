@@ -37,12 +37,7 @@ impl Byte {
     pub fn from_json(value: &Value) -> Result<Byte, JsonSizeError>
         ensures { ReadsString (IsSizeReading InBytes false) (as_str (view value.now)) result }
     {
-        match value.as_str() {
-            None => Err(JsonSizeError::NotString),
-            Some(text) => match text.parse::<Byte>() {
-                Ok(size) => Ok(size),
-                Err(error) => Err(JsonSizeError::Parse(error)),
-            },
-        }
+        let text = value.as_str().ok_or(JsonSizeError::NotString)?;
+        text.parse().map_err(JsonSizeError::Parse)
     }
 }

@@ -31,9 +31,7 @@ impl Byte {
     pub fn parse_str(s: &str, ignore_case: bool) -> Result<Byte, ParseError>
         ensures { IsSizeReading InBytes ignore_case s.now result }
     {
-        match size::parse(s, ignore_case, Kind::Byte) {
-            Ok(size) => Ok(Byte { size }),
-            Err(error) => Err(error),
-        }
+        let size = size::parse(s, ignore_case, Kind::Byte)?;
+        Ok(Byte { size })
     }
 }

@@ -122,9 +122,7 @@ impl FromStr for AdjustedBit {
     ghost from_str_gives = { IsAdjustedReading };
 
     fn from_str(s: &str) -> Result<AdjustedBit, ParseError> {
-        match s.parse::<Bit>() {
-            Ok(size) => Ok(AdjustedBit::from(size)),
-            Err(error) => Err(error),
-        }
+        let size: Bit = s.parse()?;
+        Ok(AdjustedBit::from(size))
     }
 }

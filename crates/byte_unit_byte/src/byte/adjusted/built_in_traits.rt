@@ -122,9 +122,7 @@ impl FromStr for AdjustedByte {
     ghost from_str_gives = { IsAdjustedReading };
 
     fn from_str(s: &str) -> Result<AdjustedByte, ParseError> {
-        match s.parse::<Byte>() {
-            Ok(size) => Ok(AdjustedByte::from(size)),
-            Err(error) => Err(error),
-        }
+        let size: Byte = s.parse()?;
+        Ok(AdjustedByte::from(size))
     }
 }

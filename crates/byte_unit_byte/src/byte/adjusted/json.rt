@@ -30,7 +30,7 @@ impl AdjustedByte {
         ensures { IfOk result (λ value. (text : List ℕ) × IsAdjustedString current InBytes (size_of self) (shape_of (unit_of self)) text × (view value ≡ string text)) }
     {
         let size = self.get_byte();
-        let text = if size.eq_u128(Byte::MAX.as_u128()) {
+        let text = if size == Byte::MAX {
             size.to_text(alloc, FormatSpec::ALTERNATE)?
         } else {
             self.to_text(alloc, FormatSpec::ALTERNATE)?
@@ -43,12 +43,7 @@ impl AdjustedByte {
     pub fn from_json(value: &Value) -> Result<AdjustedByte, JsonSizeError>
         ensures { ReadsString IsAdjustedReading (as_str (view value.now)) result }
     {
-        match value.as_str() {
-            None => Err(JsonSizeError::NotString),
-            Some(text) => match text.parse::<AdjustedByte>() {
-                Ok(adjusted) => Ok(adjusted),
-                Err(error) => Err(JsonSizeError::Parse(error)),
-            },
-        }
+        let text = value.as_str().ok_or(JsonSizeError::NotString)?;
+        text.parse().map_err(JsonSizeError::Parse)
     }
 }
