@@ -30,12 +30,11 @@ pub use Rattle.byte_unit_base.specs.Plain
 pub use Rattle.byte_unit_base.specs.Layout
 pub use Rattle.byte_unit_base.specs.Forms
 pub use Rattle.byte_unit_base.specs.Adjusted
+pub use Rattle.byte_unit_base.specs.AdjustedSize
 pub use Rattle.byte_unit_base.specs.AdjustedString
 pub use Rattle.byte_unit_base.specs.Room
 pub use Rattle.byte_unit_base.specs.ReaderLaws
 pub use Rattle.byte_unit_base.specs.ChoiceLaws
 pub use Rattle.byte_unit_base.specs.SizeLaws
 pub use Rattle.byte_unit_base.specs.FormLaws
-pub use Rattle.byte_unit_byte.specs.AdjustedByte
-pub use Rattle.byte_unit_bit.specs.AdjustedBit
 pub mod UnitJson

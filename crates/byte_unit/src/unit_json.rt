@@ -5,10 +5,11 @@ ghost use Rattle.serde_json.specs.Data.{string};
 ghost use Rattle.serde_json.specs.Find.{as_str};
 ghost use Rattle.serde_json.specs.View.{view};
 ghost use Rattle.byte_unit_base.specs.Edition.{current, name};
+ghost use Rattle.byte_unit_base.specs.JsonReading.{ReadsString};
 ghost use Rattle.byte_unit_base.specs.Readings.{IsUnitReading};
 ghost use Rattle.byte_unit_base.specs.Spelling.{reading};
 ghost use Rattle.byte_unit_base.specs.Units.{shape_of};
-ghost use Rattle.byte_unit.specs.UnitJson.{error_text, ReadsUnitString};
+ghost use Rattle.byte_unit.specs.UnitJson.{error_text, styled_error_text, unit_errors};
 
 use byte_unit_base::{Unit, UnitParseError};
 use serde_json::Value;
@@ -43,6 +44,8 @@ impl Clone for JsonUnitError {
 impl fmt::Display for JsonUnitError {
     ghost output = { error_text };
 
+    ghost styled_output = { λ error spec. styled_error_text error };
+
     fn fmt<W: fmt::Write>(&self, f: &mut fmt::Formatter<W>) -> fmt::Result {
         match self {
             JsonUnitError::NotString => f.write_str("not a JSON string"),
@@ -71,7 +74,7 @@ pub fn unit_to_json(alloc: Global, unit: Unit) -> Result<Value, AllocError>
 /// unit_from_json(&string)      // Unit::Kbit for the string "Kb"
 /// ```
 pub fn unit_from_json(value: &Value) -> Result<Unit, JsonUnitError>
-    ensures { ReadsUnitString (IsUnitReading (reading false true)) (as_str (view value.now)) result }
+    ensures { ReadsString unit_errors (IsUnitReading (reading false true)) (as_str (view value.now)) result }
 {
     let text = value.as_str().ok_or(JsonUnitError::NotString)?;
     text.parse().map_err(JsonUnitError::Unit)

@@ -22,6 +22,7 @@ pub mod Plain
 pub mod Layout
 pub mod Forms
 pub mod Adjusted
+pub mod AdjustedSize
 pub mod AdjustedString
 pub mod Room
 pub mod ReaderLaws

@@ -30,7 +30,7 @@ mod tests;
 /// A size in bits: a whole number below 10^27. A contract sees it as that number.
 ///
 /// ```text
-/// let Ok(line) = Bit::parse_str("100 Mbit") else { return None };
+/// let line = Bit::parse_str("100 Mbit")?;
 /// line.divide(8)        // Some(12,500,000 bits)
 /// ```
 #[derive(Debug, Clone, Copy, PartialEq, Eq, PartialOrd, Ord, Hash)]
@@ -145,7 +145,8 @@ impl Bit {
     /// Bit::from_i128_with_unit(15, Unit::Kibit)     // Some(15,360 bits)
     /// ```
     pub fn from_i128_with_unit(size: i128, unit: Unit) -> Option<Bit>
-        ensures { OfSigned (λ n answer. IsSizeOrNone current (IsLeastOf InBits (n * one) (shape_of unit)) answer) size result }
+        ensures { OfSigned
+            (λ n answer. IsSizeOrNone current (IsLeastOf InBits (n * one) (shape_of unit)) answer) size result }
     {
         let size = size::signed_with_unit(size, unit, Kind::Bit)?;
         Some(Bit { size })
@@ -158,7 +159,8 @@ impl Bit {
     /// Bit::from_i64_with_unit(-15, Unit::Kibit)     // None
     /// ```
     pub fn from_i64_with_unit(size: i64, unit: Unit) -> Option<Bit>
-        ensures { OfSigned (λ n answer. IsSizeOrNone current (IsLeastOf InBits (n * one) (shape_of unit)) answer) size result }
+        ensures { OfSigned
+            (λ n answer. IsSizeOrNone current (IsLeastOf InBits (n * one) (shape_of unit)) answer) size result }
     {
         Bit::from_i128_with_unit(i128::from(size), unit)
     }

@@ -30,7 +30,7 @@ mod tests;
 /// A size in bytes: a whole number below 10^27. A contract sees it as that number.
 ///
 /// ```text
-/// let Ok(limit) = Byte::parse_str("1.5 GiB", false) else { return None };
+/// let limit = Byte::parse_str("1.5 GiB", false)?;
 /// let used = Byte::from_u64(900_000_000);
 /// limit.subtract(used)        // Some(710,612,736 bytes)
 /// ```
@@ -146,7 +146,8 @@ impl Byte {
     /// Byte::from_i128_with_unit(15, Unit::KiB)     // Some(15,360 bytes)
     /// ```
     pub fn from_i128_with_unit(size: i128, unit: Unit) -> Option<Byte>
-        ensures { OfSigned (λ n answer. IsSizeOrNone current (IsLeastOf InBytes (n * one) (shape_of unit)) answer) size result }
+        ensures { OfSigned
+            (λ n answer. IsSizeOrNone current (IsLeastOf InBytes (n * one) (shape_of unit)) answer) size result }
     {
         let size = size::signed_with_unit(size, unit, Kind::Byte)?;
         Some(Byte { size })
@@ -159,7 +160,8 @@ impl Byte {
     /// Byte::from_i64_with_unit(-15, Unit::KiB)     // None
     /// ```
     pub fn from_i64_with_unit(size: i64, unit: Unit) -> Option<Byte>
-        ensures { OfSigned (λ n answer. IsSizeOrNone current (IsLeastOf InBytes (n * one) (shape_of unit)) answer) size result }
+        ensures { OfSigned
+            (λ n answer. IsSizeOrNone current (IsLeastOf InBytes (n * one) (shape_of unit)) answer) size result }
     {
         Byte::from_i128_with_unit(i128::from(size), unit)
     }

@@ -15,6 +15,7 @@ ghost use Rattle.byte_unit_base.specs.declared.kind.Kind.TheVariants.{Bit as InB
 use super::Bit;
 use byte_unit_base::{FormatSpec, Kind, Unit, UnitType, appropriate_unit, format};
 use std::alloc::{AllocError, Allocator, Global};
+use std::marker::Model;
 
 mod built_in_traits;
 mod json;
@@ -31,17 +32,25 @@ pub struct AdjustedBit {
     unit: Unit,
 }
 
-impl AdjustedBit {
-    ghost use Rattle.byte_unit_bit.specs.AdjustedBit.{size_of, unit_of};
+impl Model for AdjustedBit {
+    ghost use Rattle.byte_unit_base.specs.AdjustedSize.{AdjustedSize};
 
+    ghost Value = { AdjustedSize };
+
+    ghost view = { λ a. record { size = a.size; unit = a.unit } };
+
+    ghost inverse = { λ a. record { size = a.size; unit = a.unit } };
+}
+
+impl AdjustedBit {
     /// The size in its unit, as a fraction that is not reduced: its bits over the bits of the unit.
     ///
     /// ```text
     /// Bit::from_u64(24).get_adjusted_unit(Unit::B).get_value()      // (24, 8)
     /// ```
     pub fn get_value(&self) -> (u128, u128)
-        ensures numerator { result.0 ≡ size_of self.now * bits_in InBits }
-        ensures denominator { result.1 ≡ bits (shape_of (unit_of self.now)) }
+        ensures numerator { result.0 ≡ self.now.size * bits_in InBits }
+        ensures denominator { result.1 ≡ bits (shape_of self.now.unit) }
     {
         (
             self.size.as_u128() * Kind::Bit.bits(),
@@ -51,21 +60,22 @@ impl AdjustedBit {
 
     /// The unit.
     pub fn get_unit(&self) -> Unit
-        ensures { result ≡ unit_of self.now }
+        ensures { result ≡ self.now.unit }
     {
         self.unit
     }
 
     /// The size that was adjusted, exactly.
     pub fn get_bit(&self) -> Bit
-        ensures { result ≡ size_of self.now }
+        ensures { result ≡ self.now.size }
     {
         self.size
     }
 
     /// How many bytes the text has under the spec: below 65,600. It asks for no memory.
     pub fn text_len(self, spec: FormatSpec) -> usize
-        ensures exact { (form : List ℕ) → IsAdjustedForm current InBits (size_of self) (shape_of (unit_of self)) spec form → result ≡ length form }
+        ensures exact { (form : List ℕ) → IsAdjustedForm current InBits self.size (shape_of self.unit) spec form
+            → result ≡ length form }
         ensures small { result < text_limit }
     {
         format::adjusted_len(self.size.as_u128(), Kind::Bit, self.unit, spec)
@@ -87,7 +97,7 @@ impl AdjustedBit {
         spec: FormatSpec,
         text: &mut String<A>,
     ) -> Result<(), AllocError>
-        ensures { let IsForm = IsAdjustedForm current InBits (size_of self) (shape_of (unit_of self)) spec in
+        ensures { let IsForm = IsAdjustedForm current InBits self.size (shape_of self.unit) spec in
             Appends IsForm text.old text.new result }
     {
         format::append_adjusted(self.size.as_u128(), Kind::Bit, self.unit, spec, text)
@@ -95,7 +105,8 @@ impl AdjustedBit {
 
     /// The text of the size in its unit, as `append_text` adds it. `AllocError` where memory for it was refused.
     pub fn to_text(self, alloc: Global, spec: FormatSpec) -> Result<String, AllocError>
-        ensures { IfOk result (λ text. IsAdjustedForm current InBits (size_of self) (shape_of (unit_of self)) spec (string_bytes text)) }
+        ensures { IfOk result
+            (λ text. IsAdjustedForm current InBits self.size (shape_of self.unit) spec (string_bytes text)) }
     {
         self.to_text_in(alloc, spec)
     }
@@ -106,7 +117,8 @@ impl AdjustedBit {
         alloc: A,
         spec: FormatSpec,
     ) -> Result<String<A>, AllocError>
-        ensures { IfOk result (λ text. IsAdjustedForm current InBits (size_of self) (shape_of (unit_of self)) spec (string_bytes text)) }
+        ensures { IfOk result
+            (λ text. IsAdjustedForm current InBits self.size (shape_of self.unit) spec (string_bytes text)) }
     {
         let mut text = String::new(alloc);
         self.append_text(spec, &mut text)?;
@@ -115,16 +127,14 @@ impl AdjustedBit {
 }
 
 impl Bit {
-    ghost use Rattle.byte_unit_bit.specs.AdjustedBit.{size_of, unit_of};
-
     /// This size, to be shown in the unit.
     ///
     /// ```text
     /// Bit::from_u64(123_456).get_adjusted_unit(Unit::Kbit)      // 123.456 Kb
     /// ```
     pub fn get_adjusted_unit(self, unit: Unit) -> AdjustedBit
-        ensures size { size_of result ≡ self }
-        ensures unit { unit_of result ≡ unit }
+        ensures size { result.size ≡ self }
+        ensures unit { result.unit ≡ unit }
     {
         AdjustedBit { size: self, unit }
     }
@@ -137,8 +147,8 @@ impl Bit {
     /// Bit::from_u64(10_000).get_appropriate_unit(UnitType::Decimal)     // 10 Kb
     /// ```
     pub fn get_appropriate_unit(&self, unit_type: UnitType) -> AdjustedBit
-        ensures size { size_of result ≡ self.now }
-        ensures unit { IsAppropriate current InBits unit_type self.now (shape_of (unit_of result)) }
+        ensures size { result.size ≡ self.now }
+        ensures unit { IsAppropriate current InBits unit_type self.now (shape_of result.unit) }
     {
         let unit = appropriate_unit(self.size, Kind::Bit, unit_type);
         self.get_adjusted_unit(unit)

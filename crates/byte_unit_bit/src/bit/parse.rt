@@ -18,8 +18,8 @@ impl Bit {
     /// where the text is empty or white space, `NotNumber` where a digit must stand and does not, `NumberTooLong` for a
     /// whole part from 2^96 on or more than 28 digits after the point. Or it is a `Unit`, for a wrong spelling.
     ///
-    /// Where the size reaches 10^27 bits the `Value` is `ExceededBounds` with the number that was written: `1000.00 Yb`
-    /// reports 1000. It asks for no memory.
+    /// Where the size reaches 10^27 bits the `Value` is `ExceededBounds` with the number that was written:
+    /// `1000.00 Yb` reports 1000. It asks for no memory.
     ///
     /// ```text
     /// Bit::parse_str("123Kib")         // Ok(125,952 bits)

@@ -15,6 +15,7 @@ ghost use Rattle.byte_unit_base.specs.declared.kind.Kind.TheVariants.{Byte as In
 use super::Byte;
 use byte_unit_base::{FormatSpec, Kind, Unit, UnitType, appropriate_unit, format};
 use std::alloc::{AllocError, Allocator, Global};
+use std::marker::Model;
 
 mod built_in_traits;
 mod json;
@@ -31,17 +32,25 @@ pub struct AdjustedByte {
     unit: Unit,
 }
 
-impl AdjustedByte {
-    ghost use Rattle.byte_unit_byte.specs.AdjustedByte.{size_of, unit_of};
+impl Model for AdjustedByte {
+    ghost use Rattle.byte_unit_base.specs.AdjustedSize.{AdjustedSize};
 
+    ghost Value = { AdjustedSize };
+
+    ghost view = { λ a. record { size = a.size; unit = a.unit } };
+
+    ghost inverse = { λ a. record { size = a.size; unit = a.unit } };
+}
+
+impl AdjustedByte {
     /// The size in its unit, as a fraction that is not reduced: its bits over the bits of the unit.
     ///
     /// ```text
     /// Byte::from_u64(1024).get_adjusted_unit(Unit::KiB).get_value()      // (8192, 8192)
     /// ```
     pub fn get_value(&self) -> (u128, u128)
-        ensures numerator { result.0 ≡ size_of self.now * bits_in InBytes }
-        ensures denominator { result.1 ≡ bits (shape_of (unit_of self.now)) }
+        ensures numerator { result.0 ≡ self.now.size * bits_in InBytes }
+        ensures denominator { result.1 ≡ bits (shape_of self.now.unit) }
     {
         (
             self.size.as_u128() * Kind::Byte.bits(),
@@ -51,21 +60,22 @@ impl AdjustedByte {
 
     /// The unit.
     pub fn get_unit(&self) -> Unit
-        ensures { result ≡ unit_of self.now }
+        ensures { result ≡ self.now.unit }
     {
         self.unit
     }
 
     /// The size that was adjusted, exactly.
     pub fn get_byte(&self) -> Byte
-        ensures { result ≡ size_of self.now }
+        ensures { result ≡ self.now.size }
     {
         self.size
     }
 
     /// How many bytes the text has under the spec: below 65,600. It asks for no memory.
     pub fn text_len(self, spec: FormatSpec) -> usize
-        ensures exact { (form : List ℕ) → IsAdjustedForm current InBytes (size_of self) (shape_of (unit_of self)) spec form → result ≡ length form }
+        ensures exact { (form : List ℕ) → IsAdjustedForm current InBytes self.size (shape_of self.unit) spec form
+            → result ≡ length form }
         ensures small { result < text_limit }
     {
         format::adjusted_len(self.size.as_u128(), Kind::Byte, self.unit, spec)
@@ -87,7 +97,7 @@ impl AdjustedByte {
         spec: FormatSpec,
         text: &mut String<A>,
     ) -> Result<(), AllocError>
-        ensures { let IsForm = IsAdjustedForm current InBytes (size_of self) (shape_of (unit_of self)) spec in
+        ensures { let IsForm = IsAdjustedForm current InBytes self.size (shape_of self.unit) spec in
             Appends IsForm text.old text.new result }
     {
         format::append_adjusted(self.size.as_u128(), Kind::Byte, self.unit, spec, text)
@@ -95,7 +105,8 @@ impl AdjustedByte {
 
     /// The text of the size in its unit, as `append_text` adds it. `AllocError` where memory for it was refused.
     pub fn to_text(self, alloc: Global, spec: FormatSpec) -> Result<String, AllocError>
-        ensures { IfOk result (λ text. IsAdjustedForm current InBytes (size_of self) (shape_of (unit_of self)) spec (string_bytes text)) }
+        ensures { IfOk result
+            (λ text. IsAdjustedForm current InBytes self.size (shape_of self.unit) spec (string_bytes text)) }
     {
         self.to_text_in(alloc, spec)
     }
@@ -106,7 +117,8 @@ impl AdjustedByte {
         alloc: A,
         spec: FormatSpec,
     ) -> Result<String<A>, AllocError>
-        ensures { IfOk result (λ text. IsAdjustedForm current InBytes (size_of self) (shape_of (unit_of self)) spec (string_bytes text)) }
+        ensures { IfOk result
+            (λ text. IsAdjustedForm current InBytes self.size (shape_of self.unit) spec (string_bytes text)) }
     {
         let mut text = String::new(alloc);
         self.append_text(spec, &mut text)?;
@@ -115,16 +127,14 @@ impl AdjustedByte {
 }
 
 impl Byte {
-    ghost use Rattle.byte_unit_byte.specs.AdjustedByte.{size_of, unit_of};
-
     /// This size, to be shown in the unit.
     ///
     /// ```text
     /// Byte::from_u64(123_456).get_adjusted_unit(Unit::KB)      // 123.456 KB
     /// ```
     pub fn get_adjusted_unit(self, unit: Unit) -> AdjustedByte
-        ensures size { size_of result ≡ self }
-        ensures unit { unit_of result ≡ unit }
+        ensures size { result.size ≡ self }
+        ensures unit { result.unit ≡ unit }
     {
         AdjustedByte { size: self, unit }
     }
@@ -137,8 +147,8 @@ impl Byte {
     /// Byte::from_u64(10_000).get_appropriate_unit(UnitType::Decimal)     // 10 KB
     /// ```
     pub fn get_appropriate_unit(&self, unit_type: UnitType) -> AdjustedByte
-        ensures size { size_of result ≡ self.now }
-        ensures unit { IsAppropriate current InBytes unit_type self.now (shape_of (unit_of result)) }
+        ensures size { result.size ≡ self.now }
+        ensures unit { IsAppropriate current InBytes unit_type self.now (shape_of result.unit) }
     {
         let unit = appropriate_unit(self.size, Kind::Byte, unit_type);
         self.get_adjusted_unit(unit)

@@ -8,6 +8,7 @@ ghost use Rattle.std.proofs.Common.{rules};
 ghost use Rattle.byte_unit_base.specs.Edition.{current};
 ghost use Rattle.byte_unit_base.specs.Units.{shape_of};
 ghost use Rattle.byte_unit_base.specs.Adjusted.{adjusted_text};
+ghost use Rattle.byte_unit_base.specs.AdjustedSize.{IsAdjustedReading};
 ghost use Rattle.byte_unit_base.specs.Choice.{IsAppropriate};
 ghost use Rattle.byte_unit_base.specs.declared.kind.Kind.TheVariants.{Bit as InBits};
 ghost use Rattle.byte_unit_base.specs.declared.unit.unit_type.UnitType.TheVariants.{Both};
@@ -22,9 +23,7 @@ use std::str::FromStr;
 /// The size in its unit with all its digits, a space and the unit's name: the text by `FormatSpec::PLAIN`. Flags of the
 /// formatter change nothing; [`AdjustedBit::to_text`] takes them.
 impl fmt::Display for AdjustedBit {
-    ghost use Rattle.byte_unit_bit.specs.AdjustedBit.{size_of, unit_of};
-
-    ghost output = { λ a. Some (adjusted_text current InBits (size_of a) (shape_of (unit_of a))) };
+    ghost output = { λ a. Some (adjusted_text current InBits a.size (shape_of a.unit)) };
 
     fn fmt<W: fmt::Write>(&self, f: &mut fmt::Formatter<W>) -> fmt::Result {
         let size = self.get_bit().as_u128();
@@ -36,9 +35,7 @@ impl fmt::Display for AdjustedBit {
 
 /// Whether the sizes are equal, whatever the units.
 impl PartialEq for AdjustedBit {
-    ghost use Rattle.byte_unit_bit.specs.AdjustedBit.{size_of};
-
-    ghost eq = { λ a b. nat_eq (size_of a) (size_of b) };
+    ghost eq = { λ a b. nat_eq a.size b.size };
 
     ghost laws = { partial_equiv_from_equiv (Prim.search (comparing, rules)) };
 
@@ -53,9 +50,7 @@ impl Eq for AdjustedBit {
 
 /// The order of the sizes, whatever the units.
 impl Ord for AdjustedBit {
-    ghost use Rattle.byte_unit_bit.specs.AdjustedBit.{size_of};
-
-    ghost cmp = { λ a b. nat_cmp (size_of a) (size_of b) };
+    ghost cmp = { λ a b. nat_cmp a.size b.size };
 
     ghost total = { Prim.search (comparing, rules) };
 
@@ -69,9 +64,7 @@ impl Ord for AdjustedBit {
 }
 
 impl PartialOrd for AdjustedBit {
-    ghost use Rattle.byte_unit_bit.specs.AdjustedBit.{size_of};
-
-    ghost partial_cmp = { λ a b. as_partial_cmp nat_cmp (size_of a) (size_of b) };
+    ghost partial_cmp = { λ a b. as_partial_cmp nat_cmp a.size b.size };
 
     ghost laws = { partial_order_from_own_ties (Prim.search (comparing, rules)) (Prim.search (comparing, rules)) };
 
@@ -82,9 +75,7 @@ impl PartialOrd for AdjustedBit {
 
 /// The size, to be shown in the largest unit of bits that is not above it.
 impl From<Bit> for AdjustedBit {
-    ghost use Rattle.byte_unit_bit.specs.AdjustedBit.{size_of, unit_of};
-
-    ghost from_gives = { λ size a. (size_of a ≡ size) × IsAppropriate current InBits Both size (shape_of (unit_of a)) };
+    ghost from_gives = { λ size a. (a.size ≡ size) × IsAppropriate current InBits Both size (shape_of a.unit) };
 
     fn from(size: Bit) -> AdjustedBit {
         size.get_appropriate_unit(UnitType::Both)
@@ -93,9 +84,7 @@ impl From<Bit> for AdjustedBit {
 
 /// The size that was adjusted.
 impl From<AdjustedBit> for Bit {
-    ghost use Rattle.byte_unit_bit.specs.AdjustedBit.{size_of};
-
-    ghost from_gives = { λ a size. size ≡ size_of a };
+    ghost from_gives = { λ a size. size ≡ a.size };
 
     fn from(adjusted: AdjustedBit) -> Bit {
         adjusted.get_bit()
@@ -104,9 +93,7 @@ impl From<AdjustedBit> for Bit {
 
 /// The unit.
 impl From<AdjustedBit> for Unit {
-    ghost use Rattle.byte_unit_bit.specs.AdjustedBit.{unit_of};
-
-    ghost from_gives = { λ a unit. unit ≡ unit_of a };
+    ghost from_gives = { λ a unit. unit ≡ a.unit };
 
     fn from(adjusted: AdjustedBit) -> Unit {
         adjusted.get_unit()
@@ -117,9 +104,7 @@ impl From<AdjustedBit> for Unit {
 impl FromStr for AdjustedBit {
     type Err = ParseError;
 
-    ghost use Rattle.byte_unit_bit.specs.AdjustedBit.{IsAdjustedReading};
-
-    ghost from_str_gives = { IsAdjustedReading };
+    ghost from_str_gives = { IsAdjustedReading InBits };
 
     fn from_str(s: &str) -> Result<AdjustedBit, ParseError> {
         let size: Bit = s.parse()?;

@@ -6,8 +6,9 @@ ghost use Rattle.serde_json.specs.Find.{as_str};
 ghost use Rattle.serde_json.specs.View.{view};
 ghost use Rattle.byte_unit_base.specs.Edition.{current};
 ghost use Rattle.byte_unit_base.specs.Units.{shape_of};
+ghost use Rattle.byte_unit_base.specs.AdjustedSize.{IsAdjustedReading};
 ghost use Rattle.byte_unit_base.specs.AdjustedString.{IsAdjustedString};
-ghost use Rattle.byte_unit_base.specs.JsonReading.{ReadsString};
+ghost use Rattle.byte_unit_base.specs.JsonReading.{ReadsString, size_errors};
 ghost use Rattle.byte_unit_base.specs.declared.kind.Kind.TheVariants.{Bit as InBits};
 
 use super::AdjustedBit;
@@ -17,8 +18,6 @@ use serde_json::Value;
 use std::alloc::{AllocError, Global};
 
 impl AdjustedBit {
-    ghost use Rattle.byte_unit_bit.specs.AdjustedBit.{size_of, unit_of, IsAdjustedReading};
-
     /// The JSON string of the adjusted size: its text by `FormatSpec::ALTERNATE`, or that of the size where it is the
     /// greatest one. It reads back as an equal value where the size has at most 28 digits after the point in its unit;
     /// a string with more is refused by its reader. `AllocError` where memory for it was refused.
@@ -27,7 +26,9 @@ impl AdjustedBit {
     /// Bit::from_u64(4).get_adjusted_unit(Unit::Gibit).to_json(alloc)?   // "0.0000000037252902984619140625 Gib"
     /// ```
     pub fn to_json(self, alloc: Global) -> Result<Value, AllocError>
-        ensures { IfOk result (λ value. (text : List ℕ) × IsAdjustedString current InBits (size_of self) (shape_of (unit_of self)) text × (view value ≡ string text)) }
+        ensures { IfOk result
+            (λ value. (text : List ℕ) × IsAdjustedString current InBits self.size (shape_of self.unit) text
+            × (view value ≡ string text)) }
     {
         let size = self.get_bit();
         let text = if size == Bit::MAX {
@@ -41,7 +42,7 @@ impl AdjustedBit {
     /// The adjusted size of a JSON string, as `FromStr` reads its text. `NotString` where the value is no string, and
     /// `Parse` with the fault where the string is refused. It asks for no memory.
     pub fn from_json(value: &Value) -> Result<AdjustedBit, JsonSizeError>
-        ensures { ReadsString IsAdjustedReading (as_str (view value.now)) result }
+        ensures { ReadsString size_errors (IsAdjustedReading InBits) (as_str (view value.now)) result }
     {
         let text = value.as_str().ok_or(JsonSizeError::NotString)?;
         text.parse().map_err(JsonSizeError::Parse)

@@ -8,6 +8,7 @@ ghost use Rattle.std.proofs.Common.{rules};
 ghost use Rattle.byte_unit_base.specs.Edition.{current};
 ghost use Rattle.byte_unit_base.specs.Units.{shape_of};
 ghost use Rattle.byte_unit_base.specs.Adjusted.{adjusted_text};
+ghost use Rattle.byte_unit_base.specs.AdjustedSize.{IsAdjustedReading};
 ghost use Rattle.byte_unit_base.specs.Choice.{IsAppropriate};
 ghost use Rattle.byte_unit_base.specs.declared.kind.Kind.TheVariants.{Byte as InBytes};
 ghost use Rattle.byte_unit_base.specs.declared.unit.unit_type.UnitType.TheVariants.{Both};
@@ -22,9 +23,7 @@ use std::str::FromStr;
 /// The size in its unit with all its digits, a space and the unit's name: the text by `FormatSpec::PLAIN`. Flags of the
 /// formatter change nothing; [`AdjustedByte::to_text`] takes them.
 impl fmt::Display for AdjustedByte {
-    ghost use Rattle.byte_unit_byte.specs.AdjustedByte.{size_of, unit_of};
-
-    ghost output = { λ a. Some (adjusted_text current InBytes (size_of a) (shape_of (unit_of a))) };
+    ghost output = { λ a. Some (adjusted_text current InBytes a.size (shape_of a.unit)) };
 
     fn fmt<W: fmt::Write>(&self, f: &mut fmt::Formatter<W>) -> fmt::Result {
         let size = self.get_byte().as_u128();
@@ -36,9 +35,7 @@ impl fmt::Display for AdjustedByte {
 
 /// Whether the sizes are equal, whatever the units.
 impl PartialEq for AdjustedByte {
-    ghost use Rattle.byte_unit_byte.specs.AdjustedByte.{size_of};
-
-    ghost eq = { λ a b. nat_eq (size_of a) (size_of b) };
+    ghost eq = { λ a b. nat_eq a.size b.size };
 
     ghost laws = { partial_equiv_from_equiv (Prim.search (comparing, rules)) };
 
@@ -53,9 +50,7 @@ impl Eq for AdjustedByte {
 
 /// The order of the sizes, whatever the units.
 impl Ord for AdjustedByte {
-    ghost use Rattle.byte_unit_byte.specs.AdjustedByte.{size_of};
-
-    ghost cmp = { λ a b. nat_cmp (size_of a) (size_of b) };
+    ghost cmp = { λ a b. nat_cmp a.size b.size };
 
     ghost total = { Prim.search (comparing, rules) };
 
@@ -69,9 +64,7 @@ impl Ord for AdjustedByte {
 }
 
 impl PartialOrd for AdjustedByte {
-    ghost use Rattle.byte_unit_byte.specs.AdjustedByte.{size_of};
-
-    ghost partial_cmp = { λ a b. as_partial_cmp nat_cmp (size_of a) (size_of b) };
+    ghost partial_cmp = { λ a b. as_partial_cmp nat_cmp a.size b.size };
 
     ghost laws = { partial_order_from_own_ties (Prim.search (comparing, rules)) (Prim.search (comparing, rules)) };
 
@@ -82,9 +75,7 @@ impl PartialOrd for AdjustedByte {
 
 /// The size, to be shown in the largest unit of bytes that is not above it.
 impl From<Byte> for AdjustedByte {
-    ghost use Rattle.byte_unit_byte.specs.AdjustedByte.{size_of, unit_of};
-
-    ghost from_gives = { λ size a. (size_of a ≡ size) × IsAppropriate current InBytes Both size (shape_of (unit_of a)) };
+    ghost from_gives = { λ size a. (a.size ≡ size) × IsAppropriate current InBytes Both size (shape_of a.unit) };
 
     fn from(size: Byte) -> AdjustedByte {
         size.get_appropriate_unit(UnitType::Both)
@@ -93,9 +84,7 @@ impl From<Byte> for AdjustedByte {
 
 /// The size that was adjusted.
 impl From<AdjustedByte> for Byte {
-    ghost use Rattle.byte_unit_byte.specs.AdjustedByte.{size_of};
-
-    ghost from_gives = { λ a size. size ≡ size_of a };
+    ghost from_gives = { λ a size. size ≡ a.size };
 
     fn from(adjusted: AdjustedByte) -> Byte {
         adjusted.get_byte()
@@ -104,9 +93,7 @@ impl From<AdjustedByte> for Byte {
 
 /// The unit.
 impl From<AdjustedByte> for Unit {
-    ghost use Rattle.byte_unit_byte.specs.AdjustedByte.{unit_of};
-
-    ghost from_gives = { λ a unit. unit ≡ unit_of a };
+    ghost from_gives = { λ a unit. unit ≡ a.unit };
 
     fn from(adjusted: AdjustedByte) -> Unit {
         adjusted.get_unit()
@@ -117,9 +104,7 @@ impl From<AdjustedByte> for Unit {
 impl FromStr for AdjustedByte {
     type Err = ParseError;
 
-    ghost use Rattle.byte_unit_byte.specs.AdjustedByte.{IsAdjustedReading};
-
-    ghost from_str_gives = { IsAdjustedReading };
+    ghost from_str_gives = { IsAdjustedReading InBytes };
 
     fn from_str(s: &str) -> Result<AdjustedByte, ParseError> {
         let size: Byte = s.parse()?;
