@@ -1,6 +1,6 @@
 -- The texts of errors. A character is quoted as std quotes it for programmers; std says nothing of that past ASCII, and
 -- then nothing is said here of the text.
-use Rattle.std.specs.Prelude.{ℕ, Bool, if◌then◌else◌, ◌==◌, length, List, [], ◌∷◌, ◌++◌, Option, Some, codes}
+use Rattle.std.specs.Prelude.{ℕ, Bool, if◌then◌else◌, ◌==◌, length, List, [], ◌∷◌, ◌++◌, Option, Some, None, codes}
 use Rattle.std.specs.Fmt.{debug_char, ◌++?◌}
 use Rattle.byte_unit_math.specs.Bounds.{places_of_decimal}
 use Rattle.byte_unit_math.specs.Numeral.{short}
@@ -42,3 +42,19 @@ parse_text (UnitError e) = unit_text e
 abbrev pub json_text : JsonSizeError → Option (List ℕ)
 json_text NotString = Some (codes "not a JSON string")
 json_text (Parse e) = parse_text e
+
+-- The texts under a formatter's flags, which change nothing. Nothing is said here of those that quote a character or a
+-- number, since std says nothing of a quoted one under flags.
+abbrev pub styled_value_text : ValueParseError → Option (List ℕ)
+styled_value_text (ExceededBounds n) = None
+styled_value_text (NotNumber c) = None
+styled_value_text NoValue = value_text NoValue
+styled_value_text NumberTooLong = value_text NumberTooLong
+
+abbrev pub styled_parse_text : ParseError → Option (List ℕ)
+styled_parse_text (Value e) = styled_value_text e
+styled_parse_text (UnitError e) = None
+
+abbrev pub styled_json_text : JsonSizeError → Option (List ℕ)
+styled_json_text NotString = json_text NotString
+styled_json_text (Parse e) = styled_parse_text e

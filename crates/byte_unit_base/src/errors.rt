@@ -142,6 +142,8 @@ impl fmt::Display for ExceededBoundsError {
 
     ghost output = { exceeded_text };
 
+    ghost styled_output = { λ error spec. exceeded_text error };
+
     fn fmt<W: fmt::Write>(&self, f: &mut fmt::Formatter<W>) -> fmt::Result {
         f.write_str("value exceeds the valid range")
     }
@@ -150,9 +152,11 @@ impl fmt::Display for ExceededBoundsError {
 impl Error for ExceededBoundsError {}
 
 impl fmt::Display for ValueParseError {
-    ghost use Rattle.byte_unit_base.specs.FaultText.{value_text};
+    ghost use Rattle.byte_unit_base.specs.FaultText.{value_text, styled_value_text};
 
     ghost output = { value_text };
+
+    ghost styled_output = { λ error spec. styled_value_text error };
 
     fn fmt<W: fmt::Write>(&self, f: &mut fmt::Formatter<W>) -> fmt::Result {
         match self {
@@ -202,9 +206,11 @@ impl From<UnitParseError> for ParseError {
 }
 
 impl fmt::Display for ParseError {
-    ghost use Rattle.byte_unit_base.specs.FaultText.{parse_text};
+    ghost use Rattle.byte_unit_base.specs.FaultText.{parse_text, styled_parse_text};
 
     ghost output = { parse_text };
+
+    ghost styled_output = { λ error spec. styled_parse_text error };
 
     fn fmt<W: fmt::Write>(&self, f: &mut fmt::Formatter<W>) -> fmt::Result {
         match self {
@@ -250,9 +256,11 @@ fn write_others<W: fmt::Write>(others: &[char], f: &mut fmt::Formatter<W>) -> fm
 }
 
 impl fmt::Display for JsonSizeError {
-    ghost use Rattle.byte_unit_base.specs.FaultText.{json_text};
+    ghost use Rattle.byte_unit_base.specs.FaultText.{json_text, styled_json_text};
 
     ghost output = { json_text };
+
+    ghost styled_output = { λ error spec. styled_json_text error };
 
     fn fmt<W: fmt::Write>(&self, f: &mut fmt::Formatter<W>) -> fmt::Result {
         match self {

@@ -2,7 +2,7 @@ use super::*;
 use std::alloc::{AllocError, Global};
 use std::process::Abort;
 
-/// Compares the text of an error, through the bound that callers have on it.
+/// Compares the text of an error, through the bound that callers have on it. Flags of the formatter change nothing.
 fn assert_text<E: Error>(
     rt: &impl Abort,
     alloc: Global,
@@ -11,6 +11,10 @@ fn assert_text<E: Error>(
 ) -> Result<(), AllocError> {
     let text = format!(in alloc; "{error}")?;
     assert_eq!(rt; text.as_str(), want);
+    assert_eq!(rt; format!(in alloc; "{error:>200}")?.as_str(), want);
+    assert_eq!(rt; format!(in alloc; "{error:+}")?.as_str(), want);
+    assert_eq!(rt; format!(in alloc; "{error:.1}")?.as_str(), want);
+    assert_eq!(rt; format!(in alloc; "{error:#}")?.as_str(), want);
     Ok(())
 }
 
