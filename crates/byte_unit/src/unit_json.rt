@@ -26,8 +26,8 @@ pub enum JsonUnitError {
     Unit(UnitParseError),
 }
 
-// Written by hand, as for the errors that it holds: the borrow checker has no rule for a derived `clone` of a type that is
-// `Copy` and holds a reference behind a model.
+// Written by hand, as for the errors that it holds: the borrow checker has no rule for a derived `clone` of a type that
+// is `Copy` and holds a reference behind a model.
 impl Clone for JsonUnitError {
     ghost is_clone = { λ error copy. copy ≡ error };
 
@@ -67,8 +67,8 @@ pub fn unit_to_json(alloc: Global, unit: Unit) -> Result<Value, AllocError>
     Ok(Value::String(String::from_str(alloc, unit.as_str())?))
 }
 
-/// The unit of a JSON string, as `FromStr` reads its text: case sensitive, bytes preferred. Any other value is refused as
-/// `NotString`. It asks for no memory.
+/// The unit of a JSON string, as `FromStr` reads its text: case sensitive, bytes preferred. Any other value is refused
+/// as `NotString`. It asks for no memory.
 ///
 /// ```text
 /// unit_from_json(&string)      // Unit::Kbit for the string "Kb"

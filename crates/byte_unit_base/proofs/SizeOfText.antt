@@ -19,7 +19,10 @@ use Rattle.byte_unit_base.specs.SizeReading.{IsSizeReading}
 use Rattle.byte_unit_base.proofs.Rounding.{least_is_one, least_of}
 
 -- a text that is read has the number and the unit that the reader answers
-of_read : (kind : Kind) (ignore_case : Bool) (bytes : List ℕ) (found : ℕ × UnitName) (number n : ℕ) → IsNumberReading (flags_for kind ignore_case) bytes (Ok found) → IsRead current kind ignore_case bytes number n → (found.0 ≡ number) × IsLeastOf kind found.0 (shape_of found.1) n
+of_read :
+    (kind : Kind) (ignore_case : Bool) (bytes : List ℕ) (found : ℕ × UnitName) (number n : ℕ)
+    → IsNumberReading (flags_for kind ignore_case) bytes (Ok found)
+    → IsRead current kind ignore_case bytes number n → (found.0 ≡ number) × IsLeastOf kind found.0 (shape_of found.1) n
 of_read kind ignore_case bytes found number n reading read =
     let same = reading.reads number read.unit read.is_size in
     let P : ℕ → Type 0 = λ m. IsLeastOf kind m (shape_of found.1) n in
@@ -27,7 +30,11 @@ of_read kind ignore_case bytes found number n reading read =
     (same.0, subst P (sym same.0) (subst Q (sym same.1) read.is_least))
 
 -- the answer where the number and the unit give a size
-pub reading_of_size : (kind : Kind) (ignore_case : Bool) (bytes : List ℕ) (found : ℕ × UnitName) (n : ℕ) → IsNumberReading (flags_for kind ignore_case) bytes (Ok found) → IsSizeOrNone current (IsLeastOf kind found.0 (shape_of found.1)) (Some n) → IsSizeReading kind ignore_case bytes (Ok n)
+pub reading_of_size :
+    (kind : Kind) (ignore_case : Bool) (bytes : List ℕ) (found : ℕ × UnitName) (n : ℕ)
+    → IsNumberReading (flags_for kind ignore_case) bytes (Ok found)
+    → IsSizeOrNone current (IsLeastOf kind found.0 (shape_of found.1)) (Some n)
+    → IsSizeReading kind ignore_case bytes (Ok n)
 reading_of_size kind ignore_case bytes found n reading size = record {
   found = record {
     number = found.0;
@@ -43,7 +50,12 @@ reading_of_size kind ignore_case bytes found n reading size = record {
 }
 
 -- the answer where the size of the number and the unit reaches the bound
-pub reading_of_excess : (kind : Kind) (ignore_case : Bool) (bytes : List ℕ) (found : ℕ × UnitName) → ((n : ℕ) × IsLeastOf kind found.0 (shape_of found.1) n) → IsNumberReading (flags_for kind ignore_case) bytes (Ok found) → IsSizeOrNone current (IsLeastOf kind found.0 (shape_of found.1)) None → IsSizeReading kind ignore_case bytes (Err (Value (ExceededBounds found.0)))
+pub reading_of_excess :
+    (kind : Kind) (ignore_case : Bool) (bytes : List ℕ) (found : ℕ × UnitName)
+    → ((n : ℕ) × IsLeastOf kind found.0 (shape_of found.1) n)
+    → IsNumberReading (flags_for kind ignore_case) bytes (Ok found)
+    → IsSizeOrNone current (IsLeastOf kind found.0 (shape_of found.1)) None
+    → IsSizeReading kind ignore_case bytes (Err (Value (ExceededBounds found.0)))
 reading_of_excess kind ignore_case bytes found least reading none = record {
   found = tt;
   reads = λ m a. let other = of_read kind ignore_case bytes found a.number m reading a.is_read in
@@ -62,13 +74,21 @@ reading_of_excess kind ignore_case bytes found least reading none = record {
 }
 
 -- the answer by the size of the number and the unit, if it is one
-pub reading_of_number : (kind : Kind) (ignore_case : Bool) (bytes : List ℕ) (found : ℕ × UnitName) (size : Option ℕ) → IsNumberReading (flags_for kind ignore_case) bytes (Ok found) → IsSizeOrNone current (IsLeastOf kind found.0 (shape_of found.1)) size → IsSizeReading kind ignore_case bytes (ok_or size (Value (ExceededBounds found.0)))
-reading_of_number kind ignore_case bytes found (Some n) reading size = reading_of_size kind ignore_case bytes found n reading size
+pub reading_of_number :
+    (kind : Kind) (ignore_case : Bool) (bytes : List ℕ) (found : ℕ × UnitName) (size : Option ℕ)
+    → IsNumberReading (flags_for kind ignore_case) bytes (Ok found)
+    → IsSizeOrNone current (IsLeastOf kind found.0 (shape_of found.1)) size
+    → IsSizeReading kind ignore_case bytes (ok_or size (Value (ExceededBounds found.0)))
+reading_of_number kind ignore_case bytes found (Some n) reading size =
+    reading_of_size kind ignore_case bytes found n reading size
 reading_of_number kind ignore_case bytes found None reading none =
     reading_of_excess kind ignore_case bytes found (least_of kind found.0 (shape_of found.1)) reading none
 
 -- the answer where there is no number and unit
-pub reading_of_fault : (kind : Kind) (ignore_case : Bool) (bytes : List ℕ) (error : ParseError) → IsNumberReading (flags_for kind ignore_case) bytes (Err error) → IsSizeReading kind ignore_case bytes (Err error)
+pub reading_of_fault :
+    (kind : Kind) (ignore_case : Bool) (bytes : List ℕ) (error : ParseError)
+    → IsNumberReading (flags_for kind ignore_case) bytes (Err error)
+    → IsSizeReading kind ignore_case bytes (Err error)
 reading_of_fault kind ignore_case bytes error reading = record {
   found = tt;
   reads = λ m a. absurd (reading.reads a.number a.is_read.unit a.is_read.is_size);

@@ -2,7 +2,8 @@
 use Rattle.byte_unit_base.specs.Fault.{Fault, bad_unit, not_number, no_value, too_long, exceeded}
 use Rattle.byte_unit_base.specs.declared.errors.UnitParseError.{UnitParseError}
 use Rattle.byte_unit_base.specs.declared.errors.ValueParseError.{ValueParseError}
-use Rattle.byte_unit_base.specs.declared.errors.ValueParseError.TheVariants.{ExceededBounds, NotNumber, NoValue, NumberTooLong}
+use Rattle.byte_unit_base.specs.declared.errors.ValueParseError.TheVariants.{ExceededBounds, NotNumber}
+use Rattle.byte_unit_base.specs.declared.errors.ValueParseError.TheVariants.{NoValue, NumberTooLong}
 use Rattle.byte_unit_base.specs.declared.errors.ParseError.{ParseError}
 use Rattle.byte_unit_base.specs.declared.errors.ParseError.TheVariants.{Value, Unit as UnitError}
 

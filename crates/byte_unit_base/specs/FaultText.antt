@@ -7,7 +7,8 @@ use Rattle.byte_unit_math.specs.Numeral.{short}
 use Rattle.byte_unit_base.specs.declared.errors.ExceededBoundsError.{ExceededBoundsError}
 use Rattle.byte_unit_base.specs.declared.errors.UnitParseError.{UnitParseError}
 use Rattle.byte_unit_base.specs.declared.errors.ValueParseError.{ValueParseError}
-use Rattle.byte_unit_base.specs.declared.errors.ValueParseError.TheVariants.{ExceededBounds, NotNumber, NoValue, NumberTooLong}
+use Rattle.byte_unit_base.specs.declared.errors.ValueParseError.TheVariants.{ExceededBounds, NotNumber}
+use Rattle.byte_unit_base.specs.declared.errors.ValueParseError.TheVariants.{NoValue, NumberTooLong}
 use Rattle.byte_unit_base.specs.declared.errors.ParseError.{ParseError}
 use Rattle.byte_unit_base.specs.declared.errors.ParseError.TheVariants.{Value, Unit as UnitError}
 use Rattle.byte_unit_base.specs.declared.errors.JsonSizeError.{JsonSizeError}
@@ -17,7 +18,8 @@ abbrev pub exceeded_text : ExceededBoundsError → Option (List ℕ)
 exceeded_text e = Some (codes "value exceeds the valid range")
 
 abbrev pub value_text : ValueParseError → Option (List ℕ)
-value_text (ExceededBounds n) = Some (codes "the value " ++ short n places_of_decimal ++ codes " exceeds the valid range")
+value_text (ExceededBounds n) =
+    Some (codes "the value " ++ short n places_of_decimal ++ codes " exceeds the valid range")
 value_text (NotNumber c) = Some (codes "the character ") ++? debug_char c ++? Some (codes " is not a number")
 value_text NoValue = Some (codes "no value can be found")
 value_text NumberTooLong = Some (codes "value number is too long")
@@ -30,10 +32,14 @@ others_text (c ∷ cs) = Some (if length cs == 0 then codes " or " else codes ",
 -- what is expected: these characters, or also none
 abbrev pub expected_text : List ℕ → Bool → Option (List ℕ)
 expected_text [] none = Some (codes " (no character is expected)")
-expected_text (c ∷ cs) none = Some (codes " (") ++? debug_char c ++? others_text cs ++? Some (if none then codes " or no character" else []) ++? Some (codes " is expected)")
+expected_text (c ∷ cs) none =
+    Some (codes " (") ++? debug_char c ++? others_text cs
+    ++? Some (if none then codes " or no character" else []) ++? Some (codes " is expected)")
 
 abbrev pub unit_text : UnitParseError → Option (List ℕ)
-unit_text e = Some (codes "the character ") ++? debug_char e.character ++? Some (codes " is incorrect") ++? expected_text e.expected_characters.now e.also_expect_no_character
+unit_text e =
+    Some (codes "the character ") ++? debug_char e.character ++? Some (codes " is incorrect")
+    ++? expected_text e.expected_characters.now e.also_expect_no_character
 
 abbrev pub parse_text : ParseError → Option (List ℕ)
 parse_text (Value e) = value_text e

@@ -4,9 +4,13 @@ use Rattle.byte_unit_base.proofs.size.parse.Goals as goal
 
 pub returns-clause-reading : goal.returns-clause-reading
 returns-clause-reading c =
-    rw c.ok_or.ensures.value (reading_of_number c.args.kind c.args.ignore_case c.args.s.now (c.in_ok-number.number, c.in_ok-number.unit) c.from_decimal-size.result c.in_ok-number.ensures c.from_decimal-size.ensures.size)
+    let found = c.in_ok-number in
+    let size = c.from_decimal-size in
+    rw c.ok_or.ensures.value
+    (reading_of_number c.args.kind c.args.ignore_case c.args.s.now (found.number, found.unit) size.result found.ensures size.ensures.size)
 
 pub returns-in_err-number-clause-reading : goal.returns-in_err-number-clause-reading
 returns-in_err-number-clause-reading c =
     let p = err_from_is_err_and c.from_residual.result c.from_residual.ensures.1 in
-    rw (p.1, p.2) (reading_of_fault c.args.kind c.args.ignore_case c.args.s.now c.in_err-number.field-0.0 c.in_err-number.ensures)
+    let refused = c.in_err-number in
+    rw (p.1, p.2) (reading_of_fault c.args.kind c.args.ignore_case c.args.s.now refused.field-0.0 refused.ensures)
