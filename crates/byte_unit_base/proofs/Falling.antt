@@ -1,16 +1,14 @@
--- The units from the largest, and a search along them.
-use Rattle.std.proofs.Common.{◌≡◌, ℕ, ◌+◌, ◌<◌, ◌≤◌, ◌⊎◌, ⊎_elim, inl, inr, zero, suc, Bool, true, false, List, [], ◌∷◌, ◌++◌, length, map}
-use Rattle.std.proofs.Common.{drop, get_or, ◌&&◌, leb, add-one, drop-cons, arith, sym, ap, ◌∙◌, subst, refl}
-use Rattle.std.proofs.lemmas.List.{drop_all, get_or-map, length-map}
+-- The units of a family from the largest, and a search along them.
+use Rattle.std.proofs.Common.{◌≡◌, ℕ, ◌+◌, ◌*◌, ◌<◌, ◌≤◌, ◌⊎◌, ⊎_elim, inl, inr, zero, suc, Bool, true, false, List, [], ◌∷◌, ◌++◌}
+use Rattle.std.proofs.Common.{length, drop, get_or, ◌&&◌, leb, add-one, drop-cons, arith, sym, ap, ◌∙◌, subst, refl}
+use Rattle.std.proofs.lemmas.List.{drop_all}
 use Rattle.std.proofs.lemmas.Bool.{and_parts, cases_lt, leb-true}
 use Rattle.byte_unit_math.specs.Bounds.{unit_limit}
 use Rattle.byte_unit_base.specs.Shape.{Shape, shape, bits}
-use Rattle.byte_unit_base.specs.Edition.{current}
-use Rattle.byte_unit_base.specs.Family.{InFamily, HasPrefix}
-use Rattle.byte_unit_base.specs.Multiples.{of_prefix, falling_from, falling}
+use Rattle.byte_unit_base.specs.Family.{HasKind}
+use Rattle.byte_unit_base.specs.Multiples.{of_prefix, falling_from}
 use Rattle.byte_unit_base.specs.declared.unit.family.Family.{Family}
-use Rattle.byte_unit_base.specs.declared.unit.Unit.{Unit as UnitName}
-use Rattle.byte_unit_base.specs.Units.{shape_of}
+use Rattle.byte_unit_base.specs.declared.unit.family.Family.TheVariants.{All, Bytes, Bits}
 use Rattle.byte_unit_base.specs.Choice.{IsLargest, NoneHas}
 
 -- the unit is one of these
@@ -35,21 +33,69 @@ IsIn-right : (xs ys : List Shape) (unit : Shape) → IsIn unit ys → IsIn unit 
 IsIn-right [] ys unit h = h
 IsIn-right (x ∷ xs) ys unit h = inr (IsIn-right xs ys unit h)
 
-in_prefix : (power : ℕ) (binary bit : Bool) → IsIn (shape power binary bit) (of_prefix power)
-in_prefix power true false = inl refl
-in_prefix power false false = inr (inl refl)
-in_prefix power true true = inr (inr (inl refl))
-in_prefix power false true = inr (inr (inr (inl refl)))
+in_prefix : (family : Family) (power : ℕ) (binary bit : Bool) → HasKind family bit → IsIn (shape power binary bit) (of_prefix family power)
+in_prefix All power true false k = inl refl
+in_prefix All power false false k = inr (inl refl)
+in_prefix All power true true k = inr (inr (inl refl))
+in_prefix All power false true k = inr (inr (inr (inl refl)))
+in_prefix Bytes power true false k = inl refl
+in_prefix Bytes power false false k = inr (inl refl)
+in_prefix Bytes power true true k = absurd (let b : ⊥ = cc in b)
+in_prefix Bytes power false true k = absurd (let b : ⊥ = cc in b)
+in_prefix Bits power true true k = inl refl
+in_prefix Bits power false true k = inr (inl refl)
+in_prefix Bits power true false k = absurd (let b : ⊥ = cc in b)
+in_prefix Bits power false false k = absurd (let b : ⊥ = cc in b)
 
--- every unit with one of these prefixes is there
-pub in_falling : (n : ℕ) (unit : Shape) → 1 ≤ unit.power → unit.power ≤ n → IsIn unit (falling_from n)
-in_falling zero unit some known = absurd (omega (arith, some, known))
-in_falling (suc n) unit some known =
-    ⊎_elim (λ below. IsIn-right (of_prefix (suc n)) (falling_from n) unit (in_falling n unit some (omega (arith, below)))) (λ above.
+-- every unit of the family with one of these prefixes is there
+pub in_falling : (family : Family) (n : ℕ) (unit : Shape) → HasKind family unit.bit → 1 ≤ unit.power → unit.power ≤ n
+    → IsIn unit (falling_from family n)
+in_falling family zero unit kind some known = absurd (omega (arith, some, known))
+in_falling family (suc n) unit kind some known =
+    let here = of_prefix family (suc n) in
+    let later = falling_from family n in
+    ⊎_elim
+    (λ below. IsIn-right here later unit (in_falling family n unit kind some (omega (arith, below))))
+    (λ above.
     let same : unit.power ≡ suc n = omega (arith, above, known) in
-    let P : ℕ → Type 0 = λ k. IsIn unit (of_prefix k) in
-    IsIn-left (of_prefix (suc n)) (falling_from n) unit
-    (subst P same (in_prefix unit.power unit.binary unit.bit))) (cases_lt unit.power (suc n))
+    let P : ℕ → Type 0 = λ k. IsIn unit (of_prefix family k) in
+    IsIn-left here later unit (subst P same (in_prefix family unit.power unit.binary unit.bit kind)))
+    (cases_lt unit.power (suc n))
+
+IsIn-parts : (xs ys : List Shape) (unit : Shape) → IsIn unit (xs ++ ys) → IsIn unit xs ⊎ IsIn unit ys
+IsIn-parts [] ys unit h = inr h
+IsIn-parts (x ∷ xs) ys unit h = ⊎_elim (λ e. inl (inl e)) (λ k. ⊎_elim (λ a. inl (inr a)) inr (IsIn-parts xs ys unit k)) h
+
+abbrev IsOfPrefix : Family → ℕ → Shape → Type 0
+IsOfPrefix family n unit = (unit.power ≡ n) × HasKind family unit.bit
+
+of_one_prefix : (family : Family) (n : ℕ) (unit : Shape) → IsIn unit (of_prefix family n) → IsOfPrefix family n unit
+of_one_prefix All n unit (inl e) = (sym (ap (λ s. s.power) e), tt)
+of_one_prefix All n unit (inr (inl e)) = (sym (ap (λ s. s.power) e), tt)
+of_one_prefix All n unit (inr (inr (inl e))) = (sym (ap (λ s. s.power) e), tt)
+of_one_prefix All n unit (inr (inr (inr (inl e)))) = (sym (ap (λ s. s.power) e), tt)
+of_one_prefix All n unit (inr (inr (inr (inr e)))) = absurd e
+of_one_prefix Bytes n unit (inl e) = (sym (ap (λ s. s.power) e), sym (ap (λ s. s.bit) e))
+of_one_prefix Bytes n unit (inr (inl e)) = (sym (ap (λ s. s.power) e), sym (ap (λ s. s.bit) e))
+of_one_prefix Bytes n unit (inr (inr e)) = absurd e
+of_one_prefix Bits n unit (inl e) = (sym (ap (λ s. s.power) e), sym (ap (λ s. s.bit) e))
+of_one_prefix Bits n unit (inr (inl e)) = (sym (ap (λ s. s.power) e), sym (ap (λ s. s.bit) e))
+of_one_prefix Bits n unit (inr (inr e)) = absurd e
+
+-- and what is there is of the family, and has one of these prefixes
+pub from_falling : (family : Family) (n : ℕ) (unit : Shape) → IsIn unit (falling_from family n)
+    → (1 ≤ unit.power) × (unit.power ≤ n) × HasKind family unit.bit
+from_falling family zero unit h = absurd h
+from_falling family (suc n) unit h =
+    ⊎_elim
+    (λ here. let p = of_one_prefix family (suc n) unit here in (omega (arith, p.0), omega (arith, p.0), p.1))
+    (λ later. let r = from_falling family n unit later in (r.0, omega (arith, r.1), r.2))
+    (IsIn-parts (of_prefix family (suc n)) (falling_from family n) unit h)
+
+pub IsIn-at : (xs : List Shape) (i : ℕ) (d : Shape) → i < length xs → IsIn (get_or xs i d) xs
+IsIn-at [] i d h = absurd (omega (arith, h))
+IsIn-at (x ∷ xs) zero d h = inl refl
+IsIn-at (x ∷ xs) (suc i) d h = inr (IsIn-at xs i d (omega (arith, h)))
 
 -- none is above the bound
 pub le_of_falls : (xs : List Shape) (bound : ℕ) (unit : Shape) → falls bound xs ≡ true → IsIn unit xs → bits unit ≤ bound
@@ -72,22 +118,43 @@ falls_on (y ∷ ys) bound zero x rest h e =
     subst P a (subst Q b (and_parts (leb (bits y) bound) (falls (bits y) ys) h).1)
 falls_on (y ∷ ys) bound (suc i) x rest h e = falls_on ys (bits y) i x rest (and_parts (leb (bits y) bound) (falls (bits y) ys) h).1 e
 
+-- the units of this many prefixes fall, and so do those of fewer
+abbrev fall_to : Family → ℕ → Bool
+fall_to family zero = true
+fall_to family (suc n) = falls unit_limit (falling_from family (suc n)) && fall_to family n
+
+fewer_fall : (family : Family) (m n : ℕ) → fall_to family m ≡ true → n ≤ m → falls unit_limit (falling_from family n) ≡ true
+fewer_fall family zero n h few =
+    let P : ℕ → Type 0 = λ k. falls unit_limit (falling_from family k) ≡ true in
+    let none : 0 ≡ n = omega (arith, few) in
+    subst P none refl
+fewer_fall family (suc m) n h few =
+    let parts = and_parts (falls unit_limit (falling_from family (suc m))) (fall_to family m) h in
+    let P : ℕ → Type 0 = λ k. falls unit_limit (falling_from family k) ≡ true in
+    ⊎_elim
+    (λ below. fewer_fall family m n parts.1 (omega (arith, below)))
+    (λ above. let same : suc m ≡ n = omega (arith, above, few) in subst P same parts.0)
+    (cases_lt n (suc m))
+
+all_fall : (family : Family) → fall_to family 8 ≡ true
+all_fall All = refl
+all_fall Bytes = refl
+all_fall Bits = refl
+
 -- the units of the current version do
-pub current_falls : falls unit_limit (falling current) ≡ true
-current_falls = refl
+pub current_falls : (family : Family) (n : ℕ) → n ≤ 8 → falls unit_limit (falling_from family n) ≡ true
+current_falls family n few = fewer_fall family 8 n (all_fall family) few
 
 -- the first with the property is the largest
-pub largest_found : (Has : Shape → Type 0) (units : List Shape) (i : ℕ) (x : Shape) → units ≡ falling current → Remain Has (drop i units)
-    → i < length units → get_or units i x ≡ x → Has x → IsLargest Has x
-largest_found Has units i x all remain more at has =
-    let e : drop i units ≡ x ∷ drop (suc i) units = drop-cons units i x more ∙ ap (λ y. y ∷ drop (suc i) units) at in
-    let R : List Shape → Type 0 = λ l. falls unit_limit l ≡ true in
-    let fall = subst R (sym all) current_falls in
+pub largest_found : (Has : Shape → Type 0) (units : List Shape) (i : ℕ) (x : Shape) → falls unit_limit units ≡ true
+    → Remain Has (drop i units) → i < length units → get_or units i x ≡ x → Has x → IsLargest Has x
+largest_found Has units i x fall remain within at has =
+    let rest = drop (suc i) units in
+    let e : drop i units ≡ x ∷ rest = drop-cons units i x within ∙ ap (λ y. y ∷ rest) at in
     record {
       has = has;
       largest = λ unit h.
           let P : List Shape → Type 0 = λ l. IsIn unit l in
-          let rest = drop (suc i) units in
           ⊎_elim
           (λ same. omega (arith, ap bits same))
           (λ later. le_of_falls rest (bits x) unit (falls_on units unit_limit i x rest fall e) later)
@@ -97,18 +164,10 @@ largest_found Has units i x all remain more at has =
 -- one without it is left behind
 pub Remain-behind : (Has : Shape → Type 0) (units : List Shape) (i : ℕ) (x : Shape) → Remain Has (drop i units) → i < length units
     → get_or units i x ≡ x → ¬ (Has x) → Remain Has (drop (i + 1) units)
-Remain-behind Has units i x remain more at without = λ unit h.
-    let e : drop i units ≡ x ∷ drop (suc i) units = drop-cons units i x more ∙ ap (λ y. y ∷ drop (suc i) units) at in
+Remain-behind Has units i x remain within at without = λ unit h.
+    let e : drop i units ≡ x ∷ drop (suc i) units = drop-cons units i x within ∙ ap (λ y. y ∷ drop (suc i) units) at in
     let P : List Shape → Type 0 = λ l. IsIn unit l in
     rw add-one (⊎_elim (λ same. absurd (without (subst Has (sym same) h))) (λ later. later) (subst P e (remain unit h)))
-
--- a unit of a family is one of all
-pub Remain-at_start : (Has : Shape → Type 0) (units : List Shape) (family : Family) → units ≡ falling current
-    → ((unit : Shape) → Has unit → InFamily current family unit) → Remain Has (drop 0 units)
-Remain-at_start Has units family all member = λ unit h.
-    let m = member unit h in
-    let P : List Shape → Type 0 = λ l. IsIn unit l in
-    subst P (sym all) (in_falling (length current.letters) unit m.prefix.some m.prefix.known)
 
 -- none is left at the end
 pub Remain-at_end : (Has : Shape → Type 0) (units : List Shape) (i : ℕ) → length units ≤ i → Remain Has (drop i units) → NoneHas Has
@@ -117,59 +176,29 @@ Remain-at_end Has units i done remain unit h =
     let e : drop i units ≡ [] = drop_all i units done in
     subst P e (remain unit h)
 
-in_range : (n : ℕ) (unit : Shape) → IsIn unit (falling_from n) → (1 ≤ unit.power) × (unit.power ≤ n)
-in_range zero unit h = absurd h
-in_range (suc n) unit h =
-    let P : Type 0 = (1 ≤ unit.power) × (unit.power ≤ suc n) in
-    let here =
-    λ (b t : Bool) (e : shape (suc n) b t ≡ unit).
-    let same : suc n ≡ unit.power = ap (λ s. s.power) e in
-    let k : P = (omega arith, omega arith) in
-    k in
-    let later = λ (i : IsIn unit (falling_from n)). let r = in_range n unit i in let k : P = (r.0, omega (arith, r.1)) in k in
-    let last = ⊎_elim {C = P} (here false true) later in
-    let third = ⊎_elim {C = P} (here true true) last in
-    let second = ⊎_elim {C = P} (here false false) third in
-    ⊎_elim {C = P} (here true false) second h
+-- the units of the last prefixes stand behind those of the others
+abbrev pub width : Family → ℕ
+width All = 4
+width Bytes = 2
+width Bits = 2
 
-IsIn-at : (xs : List Shape) (i : ℕ) (d : Shape) → i < length xs → IsIn (get_or xs i d) xs
-IsIn-at [] i d h = absurd (omega (arith, h))
-IsIn-at (x ∷ xs) zero d h = inl refl
-IsIn-at (x ∷ xs) (suc i) d h = inr (IsIn-at xs i d (omega (arith, h)))
-
-at_unit : (items : List UnitName) (i : ℕ) (d : UnitName) → i < length items
-    → get_or (map shape_of items) i (shape_of (get_or items i d)) ≡ shape_of (get_or items i d)
-at_unit items i d more = get_or-map shape_of items i d (shape_of (get_or items i d)) more
-
--- each of the units has a prefix
-pub unit_prefix : (items : List UnitName) (i : ℕ) (d : UnitName) → map shape_of items ≡ falling current → i < length items
-    → HasPrefix current (shape_of (get_or items i d))
-unit_prefix items i d all more =
-    let P : Shape → Type 0 = λ s. IsIn s (map shape_of items) in
-    let Q : List Shape → Type 0 = λ l. IsIn (shape_of (get_or items i d)) l in
-    let found =
-    let unit = shape_of (get_or items i d) in
-    subst P (at_unit items i d more) (IsIn-at (map shape_of items) i unit (omega (arith, length-map items shape_of, more))) in
-    let range = in_range (length current.letters) (shape_of (get_or items i d)) (subst Q all found) in
-    record { some = range.0; known = range.1 }
-
--- the same, of a list of units
-pub unit_found : (Has : Shape → Type 0) (items : List UnitName) (i : ℕ) (d : UnitName) → map shape_of items ≡ falling current
-    → Remain Has (drop i (map shape_of items)) → i < length items → Has (shape_of (get_or items i d))
-    → IsLargest Has (shape_of (get_or items i d))
-unit_found Has items i d all remain more has =
-    let unit = shape_of (get_or items i d) in
-    largest_found Has (map shape_of items) i unit all remain (omega (arith, length-map items shape_of, more)) (at_unit items i d more) has
-
-pub unit_passed : (Has : Shape → Type 0) (items : List UnitName) (i : ℕ) (d : UnitName) → Remain Has (drop i (map shape_of items))
-    → i < length items → ¬ (Has (shape_of (get_or items i d))) → Remain Has (drop (i + 1) (map shape_of items))
-unit_passed Has items i d remain more without =
-    let unit = shape_of (get_or items i d) in
-    Remain-behind Has (map shape_of items) i unit remain (omega (arith, length-map items shape_of, more)) (at_unit items i d more) without
-
-pub none_found : (Has : Shape → Type 0) (items : List UnitName) (i : ℕ) → length items ≤ i → Remain Has (drop i (map shape_of items))
-    → NoneHas Has
-none_found Has items i done remain = Remain-at_end Has (map shape_of items) i (omega (arith, length-map items shape_of, done)) remain
-
-pub none_true : (b : Bool) (P : Type 0) → b ≡ false → (P → b ≡ true) → ¬ P
-none_true b P e h p = let t = h p in let k : ⊥ = cc in k
+pub drop_prefixes : (family : Family) (dropped n : ℕ)
+    → drop (width family * dropped) (falling_from family (dropped + n)) ≡ falling_from family n
+drop_prefixes All zero n = ap (falling_from All) (let none : 0 + n ≡ n = omega arith in none)
+drop_prefixes Bytes zero n = ap (falling_from Bytes) (let none : 0 + n ≡ n = omega arith in none)
+drop_prefixes Bits zero n = ap (falling_from Bits) (let none : 0 + n ≡ n = omega arith in none)
+drop_prefixes All (suc d) n =
+    let sum : suc d + n ≡ suc (d + n) = omega arith in
+    let four : 4 * suc d ≡ suc (suc (suc (suc (4 * d)))) = omega arith in
+    ap (λ m. drop (4 * suc d) (falling_from All m)) sum
+    ∙ (ap (λ m. drop m (falling_from All (suc (d + n)))) four ∙ drop_prefixes All d n)
+drop_prefixes Bytes (suc d) n =
+    let sum : suc d + n ≡ suc (d + n) = omega arith in
+    let two : 2 * suc d ≡ suc (suc (2 * d)) = omega arith in
+    ap (λ m. drop (2 * suc d) (falling_from Bytes m)) sum
+    ∙ (ap (λ m. drop m (falling_from Bytes (suc (d + n)))) two ∙ drop_prefixes Bytes d n)
+drop_prefixes Bits (suc d) n =
+    let sum : suc d + n ≡ suc (d + n) = omega arith in
+    let two : 2 * suc d ≡ suc (suc (2 * d)) = omega arith in
+    ap (λ m. drop (2 * suc d) (falling_from Bits m)) sum
+    ∙ (ap (λ m. drop m (falling_from Bits (suc (d + n)))) two ∙ drop_prefixes Bits d n)

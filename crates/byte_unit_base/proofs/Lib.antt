@@ -16,8 +16,8 @@ pub mod SizeOrFault
 pub mod Quotients
 pub mod Falling
 pub mod Choosing
-pub mod Twos
-pub mod Dividing
+pub mod Rows
+pub mod SizePowers
 pub mod SomeChoice
 pub mod LaterChoices
 pub mod OneChoice

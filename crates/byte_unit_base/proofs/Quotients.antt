@@ -3,10 +3,8 @@ use Rattle.std.proofs.Common.{◌≡◌, ℕ, ◌+◌, ◌-◌, ◌*◌, ◌/◌
 use Rattle.std.proofs.lemmas.Nat.{pow-add}
 use Rattle.std.proofs.Math.Nat.{eq_of_mul-eq-mul_right}
 use Rattle.byte_unit_math.specs.Bounds.{places_of_decimal, one}
-use Rattle.byte_unit_math.specs.Steps.{raised}
-use Rattle.byte_unit_math.specs.Exact.{IsExactAt, IsQuotient, IsFirstExact}
+use Rattle.byte_unit_math.specs.Exact.{IsExactAt, IsLeastPlaces, IsQuotient, IsFirstExact}
 use Rattle.byte_unit_base.specs.Shape.{Shape, bits}
-use Rattle.byte_unit_base.specs.Choice.{CountsDigits}
 
 raise_power : (a b : ℕ) → a ≤ b → 10 ^ b ≡ 10 ^ a * 10 ^ (b - a)
 raise_power a b h = let e : b ≡ a + (b - a) = omega arith in ap (λ n. 10 ^ n) e ∙ pow-add 10 a (b - a)
@@ -43,30 +41,28 @@ stated_where_exact size unit number digits some product e =
     let q = ap (λ x. x * one) e.1 in
     (e.0, eq_of_mul-eq-mul_right unit (omega (arith, some)) (number * 10 ^ digits) (e.0 * one) (omega (arith, p, q)))
 
--- the digits of a division are those of its number
-pub digits_counted : {answer : Option ℕ} {size unit places number old mid new : ℕ}
-    → 1 ≤ unit
-    → places ≤ places_of_decimal
-    → answer ≡ Some number
-    → IfSome answer (IsQuotient size unit places)
-    → old ≤ mid
-    → (digits : ℕ) × IsFirstExact size unit places digits × (new ≡ raised mid digits)
-    → CountsDigits number old new
-digits_counted {answer} {size} {unit} {places} {number} some room made q before d =
-    let answered : Option ℕ → Type 0 = λ x. IfSome x (IsQuotient size unit places) in
-    let here = subst answered made q in
-    let P : ℕ → Type 0 = λ j. IsExactAt size unit j in
-    let exact : IsExactAt size unit d.0 = ⊎_elim (λ e. e) (λ e. subst P (sym e) (here.whole, here.exact)) d.1.ends in
-    let product = number_times_unit size unit places number room here in
-    (d.0, stated_where_exact size unit number d.0 some product exact, omega (arith, before, d.2))
+-- and where its number is stated, the size is exact
+exact_where_stated : (size unit number digits : ℕ) → number * unit ≡ size * one → IsExactAt number one digits → IsExactAt size unit digits
+exact_where_stated size unit number digits product e =
+    let p = ap (λ x. x * 10 ^ digits) product in
+    let q = ap (λ x. x * unit) e.1 in
+    (e.0, eq_of_mul-eq-mul_right one (omega arith) (size * 10 ^ digits) (e.0 * unit) (omega (arith, p, q)))
 
--- a whole number has no digits after the point
-pub whole_counts_none : (answer : Option ℕ) (P : Type 0) (size number old new : ℕ) → answer ≡ Some number → SomeIff answer P (size * one)
-    → raised old 0 ≤ new → CountsDigits number old new
-whole_counts_none answer P size number old new made whole fits =
-    let answered : Option ℕ → Type 0 = λ x. SomeIff x P (size * one) in
-    let value = (subst answered made whole).1 in
-    (0, (size, omega (arith, value)), fits)
+-- so the digits of a division are the places of its number
+pub places_of_quotient : (size unit places digits number : ℕ) → 1 ≤ unit → places ≤ places_of_decimal
+    → IsQuotient size unit places number → IsFirstExact size unit places digits → IsLeastPlaces number one digits
+places_of_quotient size unit places digits number some room q d =
+    let product = number_times_unit size unit places number room q in
+    let P : ℕ → Type 0 = λ j. IsExactAt size unit j in
+    let exact : IsExactAt size unit digits = ⊎_elim (λ e. e) (λ e. subst P (sym e) (q.whole, q.exact)) d.ends in
+    record {
+      has = stated_where_exact size unit number digits some product exact;
+      least = λ fewer e. d.first fewer (exact_where_stated size unit number fewer product e);
+    }
+
+-- a whole number takes no places
+pub whole_takes_none : (whole : ℕ) → IsLeastPlaces (whole * one) one 0
+whole_takes_none whole = record { has = (whole, omega arith); least = λ p e. omega arith }
 
 -- a number that states a size at no places is whole
 pub whole_number : (in_bits unit number : ℕ) → 1 ≤ unit → number * unit ≡ in_bits * one → IsExactAt in_bits unit 0

@@ -8,7 +8,7 @@ use Rattle.byte_unit_math.specs.Exact.{IsExactAt}
 use Rattle.byte_unit_base.specs.Shape.{Shape, bits}
 use Rattle.byte_unit_base.specs.Edition.{Edition}
 use Rattle.byte_unit_base.specs.Family.{HasKind}
-use Rattle.byte_unit_base.specs.Multiples.{falling}
+use Rattle.byte_unit_base.specs.Multiples.{falling_from}
 use Rattle.byte_unit_base.specs.Choice.{States, places_within}
 use Rattle.byte_unit_base.specs.ChoiceLaws.{EachSizeHasAChoiceOrNone}
 use Rattle.byte_unit_base.specs.declared.unit.family.Family.{Family}
@@ -113,7 +113,9 @@ largest_or_none Has decided (x ∷ xs) =
 pub choice_or_none : EachSizeHasAChoiceOrNone
 choice_or_none edition family in_bits precision =
     let Has : Shape → Type 0 = States edition family in_bits precision in
-    let there = λ (unit : Shape) (s : Has unit). in_falling (length edition.letters) unit s.member.prefix.some s.member.prefix.known in
+    let there =
+    λ (unit : Shape) (s : Has unit).
+    in_falling family (length edition.letters) unit s.member.kind s.member.prefix.some s.member.prefix.known in
     ⊎_elim
     (λ found.
     let exact = found.1.has.exact in
@@ -126,4 +128,4 @@ choice_or_none edition family in_bits precision =
       },
     ))
     (λ none. inr (λ unit s. none unit (there unit s) s))
-    (largest_or_none Has (states_decided edition family in_bits precision) (falling edition))
+    (largest_or_none Has (states_decided edition family in_bits precision) (falling_from family (length edition.letters)))

@@ -1,8 +1,9 @@
 -- Which unit states a size. A size is put in bits here, save where a kind stands beside it.
-use Rattle.std.specs.Prelude.{◌≡◌, ℕ, ◌*◌, ◌≤◌, ◌⊎◌, min, Bool, true, false}
+use Rattle.std.specs.Prelude.{◌≡◌, ℕ, ◌+◌, ◌*◌, ◌≤◌, ◌⊎◌, min, Bool, true, false}
 use Rattle.byte_unit_math.specs.Bounds.{one, places_of_decimal}
 use Rattle.byte_unit_math.specs.Steps.{raised}
-use Rattle.byte_unit_math.specs.Exact.{IsExactAt, IsQuotient}
+use Rattle.byte_unit_math.specs.Exact.{IsExactAt, IsLeastPlaces, IsQuotient}
+use Rattle.byte_unit_math.specs.Powers.{IsTwoFive}
 use Rattle.byte_unit_base.specs.Shape.{Shape, bits}
 use Rattle.byte_unit_base.specs.Edition.{Edition}
 use Rattle.byte_unit_base.specs.Kinds.{bits_in, own_unit, own_family}
@@ -58,9 +59,24 @@ abbrev pub IsRecovered : Edition → Kind → Bool → ℕ → ℕ → Shape →
 IsRecovered edition kind both size precision =
     IsLargestOrOwn kind (States edition (family_for kind both) (size * bits_in kind) precision)
 
--- a count that rises by no less than the digits of this number after the point
-abbrev pub CountsDigits : ℕ → ℕ → ℕ → Type 0
-CountsDigits number old new = (digits : ℕ) × IsExactAt number one digits × (raised old digits ≤ new)
+-- the steps of a choice, by the size as it is counted in its kind, and the number that is answered, or 0 for none
+pub record TakesSteps (size number steps : ℕ) : Type 0 where
+  pub twos : ℕ
+  pub fives : ℕ
+  pub places : ℕ
+  pub powers : IsTwoFive size twos fives
+  pub is_places : IsLeastPlaces number one places
+  -- one for each two and each five in the size, one each for the trial that finds none, and one for each place
+  pub steps_are : steps ≡ twos + fives + 2 + places
+
+-- a count that rises by the steps of a choice, and for a size of zero by none
+abbrev pub CountsChoice : ℕ → ℕ → ℕ → ℕ → Type 0
+CountsChoice size number old new =
+    (size ≡ 0) × (new ≡ old) ⊎ (steps : ℕ) × TakesSteps size number steps × (new ≡ raised old steps)
+
+-- no choice takes more: two and five divide a size 89 times at most, and a number has 28 places at most
+abbrev pub most_steps : ℕ
+most_steps = 119
 
 -- a size of this kind is shown in the unit by a type: the largest of its family that suits it, or its kind's own
 abbrev pub IsAppropriate : Edition → Kind → UnitType → ℕ → Shape → Type 0

@@ -1,10 +1,14 @@
 -- Laws of the choice of a unit. Sizes are put in bits.
-use Rattle.std.specs.Prelude.{◌≡◌, ℕ, ◌*◌, ◌<◌, ◌≤◌, ◌⊎◌}
+use Rattle.std.specs.Prelude.{◌≡◌, ◌≢◌, ◌↔◌, ℕ, ◌+◌, ◌*◌, ◌<◌, ◌≤◌, ◌⊎◌}
 use Rattle.byte_unit_math.specs.Bounds.{one}
-use Rattle.byte_unit_base.specs.Shape.{Shape, bits}
+use Rattle.byte_unit_math.specs.Exact.{IsExactAt}
+use Rattle.byte_unit_math.specs.Powers.{IsTwoFive}
+use Rattle.byte_unit_base.specs.Shape.{Shape, bits, twos, fives}
 use Rattle.byte_unit_base.specs.Edition.{Edition}
 use Rattle.byte_unit_base.specs.Family.{InFamily}
 use Rattle.byte_unit_base.specs.Choice.{IsChosen, NoneHas, States}
+use Rattle.byte_unit_base.specs.Kinds.{bits_in}
+use Rattle.byte_unit_base.specs.declared.kind.Kind.{Kind}
 use Rattle.byte_unit_base.specs.declared.unit.family.Family.{Family}
 
 -- the unit divides the size
@@ -60,3 +64,17 @@ EachSizeHasAChoiceOrNone =
     (edition : Edition) (family : Family) (in_bits precision : ℕ)
     → ((unit : Shape) × (number : ℕ) × IsChosen edition family in_bits precision unit number)
     ⊎ NoneHas (States edition family in_bits precision)
+
+-- two and five divide the size so often, and it is exact in the unit where that has no more of either than the size,
+-- and one more for each place
+pub record IsExactByPowers (in_bits : ℕ) (unit : Shape) : Type 0 where
+  pub size_twos : ℕ
+  pub size_fives : ℕ
+  pub powers : IsTwoFive in_bits size_twos size_fives
+  pub test : (places : ℕ)
+      → IsExactAt in_bits (bits unit) places ↔ ((twos unit ≤ size_twos + places) × (fives unit ≤ size_fives + places))
+
+-- a size of a kind that is not zero is exact in a unit by its powers of two and five
+abbrev pub SizesAreExactByPowers : Type 0
+SizesAreExactByPowers =
+    (kind : Kind) (size : ℕ) (unit : Shape) → size ≢ 0 → IsExactByPowers (size * bits_in kind) unit

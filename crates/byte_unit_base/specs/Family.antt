@@ -1,5 +1,5 @@
 -- Families of units, and types of units.
-use Rattle.std.specs.Prelude.{◌≡◌, ◌≤◌, ℕ, Bool, true, false, length, ◌*◌, ⊤}
+use Rattle.std.specs.Prelude.{◌≡◌, ◌≤◌, ℕ, Bool, true, false, length, ⊤}
 use Rattle.byte_unit_base.specs.Shape.{Shape}
 use Rattle.byte_unit_base.specs.Edition.{Edition}
 use Rattle.byte_unit_base.specs.declared.unit.family.Family.{Family}
@@ -28,9 +28,3 @@ pub record HasPrefix (edition : Edition) (unit : Shape) : Type 0 where
 pub record InFamily (edition : Edition) (family : Family) (unit : Shape) : Type 0 where
   pub prefix : HasPrefix edition unit
   pub kind : HasKind family unit.bit
-
--- how many units a family has
-abbrev pub units_in : Edition → Family → ℕ
-units_in edition All = 4 * length edition.letters
-units_in edition Bytes = 2 * length edition.letters
-units_in edition Bits = 2 * length edition.letters

@@ -1,17 +1,48 @@
--- The list that the search for a unit runs along. Only private contracts speak of it.
-use Rattle.std.specs.Prelude.{ℕ, zero, suc, true, false, List, [], ◌∷◌, ◌++◌, length}
-use Rattle.byte_unit_base.specs.Shape.{Shape, shape}
-use Rattle.byte_unit_base.specs.Edition.{Edition}
+-- The lists that the search for a unit runs along. Only private contracts speak of them.
+use Rattle.std.specs.Prelude.{◌≡◌, ℕ, zero, suc, ◌≤◌, true, false, List, [], ◌∷◌, ◌++◌, length, map}
+use Rattle.byte_unit_base.specs.Shape.{Shape, shape, bits, twos, fives}
+use Rattle.byte_unit_base.specs.Units.{shape_of}
+use Rattle.byte_unit_base.specs.Edition.{Edition, current}
+use Rattle.byte_unit_base.specs.Family.{HasPrefix, InFamily}
+use Rattle.byte_unit_base.specs.declared.unit.Unit.{Unit as UnitName}
+use Rattle.byte_unit_base.specs.declared.unit.family.Family.{Family}
+use Rattle.byte_unit_base.specs.declared.unit.family.Family.TheVariants.{All, Bytes, Bits}
 
--- the units of one prefix, from the largest
-abbrev pub of_prefix : ℕ → List Shape
-of_prefix power = shape power true false ∷ shape power false false ∷ shape power true true ∷ shape power false true ∷ []
+-- the units of a family of one prefix, from the largest
+abbrev pub of_prefix : Family → ℕ → List Shape
+of_prefix All power =
+    shape power true false ∷ shape power false false ∷ shape power true true ∷ shape power false true ∷ []
+of_prefix Bytes power = shape power true false ∷ shape power false false ∷ []
+of_prefix Bits power = shape power true true ∷ shape power false true ∷ []
 
--- the units of this many prefixes, from the largest
-abbrev pub falling_from : ℕ → List Shape
-falling_from zero = []
-falling_from (suc power) = of_prefix (suc power) ++ falling_from power
+-- the units of a family of the first prefixes, from the largest
+abbrev pub falling_from : Family → ℕ → List Shape
+falling_from family zero = []
+falling_from family (suc power) = of_prefix family (suc power) ++ falling_from family power
 
--- the units of an edition that have a prefix, from the largest
-abbrev pub falling : Edition → List Shape
-falling edition = falling_from (length edition.letters)
+-- a row of a table: the unit, its bits, and its exponents of two and of five
+abbrev pub Row : Type 0
+Row = Shape × ℕ × ℕ × ℕ
+
+-- the row that a unit has
+abbrev pub row_of : Shape → Row
+row_of unit = (unit, bits unit, twos unit, fives unit)
+
+-- a row as the code has it
+abbrev pub row_shape : UnitName × ℕ × ℕ × ℕ → Row
+row_shape row = (shape_of row.0, row.1, row.2, row.3)
+
+-- rows that have every unit of the family, from the largest, whose bits are not above these
+pub record ListsUnits (family : Family) (in_bits : ℕ) (rows : List (UnitName × ℕ × ℕ × ℕ)) : Type 0 where
+  pub prefixes : ℕ
+  pub few : prefixes ≤ length current.letters
+  pub rows_are : map row_shape rows ≡ map row_of (falling_from family prefixes)
+  pub within : (unit : Shape) → HasPrefix current unit → bits unit ≤ in_bits → unit.power ≤ prefixes
+
+-- a unit of the family, not above the size, with no more twos and fives than these
+pub record HasPowers (edition : Edition) (family : Family) (in_bits most_twos most_fives : ℕ) (unit : Shape)
+    : Type 0 where
+  pub member : InFamily edition family unit
+  pub not_above : bits unit ≤ in_bits
+  pub few_twos : twos unit ≤ most_twos
+  pub few_fives : fives unit ≤ most_fives

@@ -1,18 +1,22 @@
 //! The choice of a unit for a size.
 
-ghost use Rattle.std.specs.Prelude.{◌≡◌, ℕ, ◌+◌, ◌*◌, ◌<◌, ◌≤◌, ◌⊎◌, ◌↔◌, IsTrue, IfSome, IfNone};
-ghost use Rattle.byte_unit_math.specs.Bounds.{places_of_decimal, one, whole_limit};
+ghost use Rattle.std.specs.Prelude.{◌≡◌, ◌↔◌, ℕ, ◌*◌, ◌<◌, ◌≤◌, ◌⊎◌, IsTrue, IfSome, IfNone};
+ghost use Rattle.byte_unit_math.specs.Bounds.{one};
 ghost use Rattle.byte_unit_math.specs.Steps.{raised};
 ghost use Rattle.byte_unit_base.specs.Shape.{bits};
 ghost use Rattle.byte_unit_base.specs.Edition.{current};
 ghost use Rattle.byte_unit_base.specs.Units.{shape_of};
-ghost use Rattle.byte_unit_base.specs.Family.{HasPrefix, units_in};
-ghost use Rattle.byte_unit_base.specs.Choice.{IsLargest, NoneHas, States, IsChosen, Suits, CountsDigits, places_within};
+ghost use Rattle.byte_unit_base.specs.Family.{IsOfType};
+ghost use Rattle.byte_unit_base.specs.Choice.{IsLargest, NoneHas, States, IsChosen, Suits, CountsChoice, most_steps};
+ghost use Rattle.byte_unit_base.specs.Multiples.{HasPowers};
 
 use crate::unit::Unit;
-use crate::unit::family::{Family, multiples};
+use crate::unit::family::{Family, Row};
 use crate::unit::unit_type::UnitType;
-use byte_unit_math::{Decimal, Steps, exact_quotient};
+use byte_unit_math::{Decimal, Steps, exact_quotient, two_five};
+
+/// The digits after the point of a decimal.
+const PLACES: usize = 28;
 
 /// The largest unit of the family that is not above the size and states it exactly within these
 /// places, with its number. `None` exactly where no unit of the family does.
@@ -20,15 +24,14 @@ use byte_unit_math::{Decimal, Steps, exact_quotient};
 /// The size is of bytes where the divisor is 8, and of bits where it is 1. It is below 10^27. More
 /// than 28 places count as 28.
 ///
-/// `steps` rises by one for each digit after the point that is worked out, so by at most 28 for each
-/// unit of the family. A unit above the size takes none, nor does one that its factors of two rule
-/// out.
+/// `steps` rises as by `two_five` for the size as it is given, and by one for each place of the
+/// number: so by at most 119. A size of zero takes none.
 ///
 /// ```text
-/// choose_unit(1536, Family::Bytes, 8, 3, steps)      1.5 KiB
-/// choose_unit(1000, Family::Bytes, 8, 0, steps)      1 KB
-/// choose_unit(999, Family::Bytes, 8, 3, steps)       None
-/// choose_unit(437_500, Family::All, 8, 3, steps)     3.5 Mbit
+/// choose_unit(1536, Family::Bytes, 8, 3, steps)      1.5 KiB, in 12 steps
+/// choose_unit(1000, Family::Bytes, 8, 0, steps)      1 KB, in 8 steps
+/// choose_unit(999, Family::Bytes, 8, 3, steps)       None, in 2 steps
+/// choose_unit(437_500, Family::All, 8, 3, steps)     3.5 Mbit, in 11 steps
 /// ```
 pub fn choose_unit(
     size: u128,
@@ -42,51 +45,47 @@ pub fn choose_unit(
     ensures chosen { IfSome result (λ c. IsChosen current family (size * divisor) places (shape_of c.1) c.0) }
     ensures none { IfNone result (NoneHas (States current family (size * divisor) places)) }
     ensures exact { IfSome result (λ c. c.0 * bits (shape_of c.1) ≡ size * divisor * one) }
-    ensures ticks { (ticks : ℕ)
-        × (ticks ≤ places_of_decimal * units_in current family)
-        × (steps.new ≡ raised steps.old ticks) }
-    // Each digit of the number after the point is counted, and none where none is asked for.
-    ensures counted { IfSome result (λ c. CountsDigits c.0 steps.old steps.new) }
-    ensures no_ticks { places ≡ 0 → steps.new ≡ steps.old }
+    ensures ticks { IfSome result (λ c. CountsChoice size c.0 steps.old steps.new) }
+    ensures ticks_of_none { IfNone result (CountsChoice size 0 steps.old steps.new) }
+    ensures few_ticks { steps.new ≤ raised steps.old most_steps }
 {
-    let most = places.min(u32::MAX as usize) as u32;
-    first_exact(size * divisor, family, most, steps)
+    if size == 0 {
+        return None;
+    }
+    let most = places.min(PLACES) as u32;
+    let in_bits = size * divisor;
+    let (twos, fives) = two_five(size, steps);
+    // In bits it has as many twos more as the divisor has.
+    let twos = twos + divisor.trailing_zeros();
+    let (unit, bits) = first_by_powers(family, in_bits, twos + most, fives + most)?;
+    // By its powers the size is exact in the unit, so there is a quotient.
+    let number = exact_quotient(in_bits, bits, most, steps).unwrap();
+    Some((number, unit))
 }
 
-/// The first of the multiples that states the size, which is in bits.
-fn first_exact(
-    in_bits: u128,
-    family: Family,
-    most: u32,
-    steps: &mut Steps,
-) -> Option<(Decimal, Unit)>
-    requires small { in_bits < whole_limit }
-    ensures chosen { IfSome result (λ c. IsChosen current family in_bits most (shape_of c.1) c.0) }
-    ensures none { IfNone result (NoneHas (States current family in_bits most)) }
-    ensures ticks { (ticks : ℕ)
-        × (ticks ≤ places_within most * units_in current family)
-        × (steps.new ≡ raised steps.old ticks) }
-    ensures counted { IfSome result (λ c. CountsDigits c.0 steps.old steps.new) }
+/// The largest unit of the family that is not above the size in bits and has no more twos and fives
+/// than these, with its bits.
+fn first_by_powers(family: Family, in_bits: u128, twos: u32, fives: u32) -> Option<(Unit, u128)>
+    ensures found { IfSome result (λ found.
+        IsLargest (HasPowers current family in_bits twos fives) (shape_of found.0)) }
+    ensures bits { IfSome result (λ found. found.1 ≡ bits (shape_of found.0)) }
+    ensures none { IfNone result (NoneHas (HasPowers current family in_bits twos fives)) }
 {
-    for unit in multiples() {
-        if may_state(*unit, family, in_bits, most) {
-            if let Some(number) = exact_quotient(in_bits, unit.as_bits_u128(), most, steps) {
-                return Some((number, *unit));
-            }
+    for row in family.multiples_within(in_bits) {
+        if has_powers(*row, in_bits, twos, fives) {
+            return Some((row.0, row.1));
         }
     }
     None
 }
 
-/// Whether a multiple suits the size, which is in bits, and has no more factors of two than the size
-/// with one more for each place. No other unit states the size, so most need no division.
-fn may_state(unit: Unit, family: Family, in_bits: u128, most: u32) -> bool
-    requires { HasPrefix current (shape_of unit) }
-    ensures suits { IsTrue result → Suits current family UnitType.Both in_bits (shape_of unit) }
-    ensures states { States current family in_bits most (shape_of unit) → IsTrue result }
+/// Whether the unit of a row is not above the size in bits, and has no more twos and fives than these.
+/// All three are compared at once: a jump for each takes longer.
+fn has_powers(row: Row, in_bits: u128, most_twos: u32, most_fives: u32) -> bool
+    ensures { IsTrue result ↔ ((row.1 ≤ in_bits) × (row.2 ≤ most_twos) × (row.3 ≤ most_fives)) }
 {
-    suits(unit, family, UnitType::Both, in_bits)
-        && unit.powers().0.saturating_sub(in_bits.trailing_zeros()) <= most
+    let (_, bits, twos, fives) = row;
+    (bits <= in_bits) & (twos <= most_twos) & (fives <= most_fives)
 }
 
 /// The largest unit of the family and of the type that is not above the size. `None` exactly where
@@ -110,28 +109,24 @@ pub fn largest_unit(size: u128, family: Family, unit_type: UnitType, divisor: u1
     first_suited(size.saturating_mul(divisor), family, unit_type)
 }
 
-/// The first of the multiples that suits the size, which is in bits.
+/// The largest unit of the family and of the type that is not above the size in bits.
 fn first_suited(in_bits: u128, family: Family, unit_type: UnitType) -> Option<Unit>
     ensures found { IfSome result (λ unit. IsLargest (Suits current family unit_type in_bits) (shape_of unit)) }
     ensures none { IfNone result (NoneHas (Suits current family unit_type in_bits)) }
 {
-    for unit in multiples() {
-        if suits(*unit, family, unit_type, in_bits) {
-            return Some(*unit);
+    for row in family.multiples_within(in_bits) {
+        if suits(*row, unit_type, in_bits) {
+            return Some(row.0);
         }
     }
     None
 }
 
-/// Whether a multiple is of the family and of the type, and not above the size in bits. The size is
-/// compared first, since it rules out most.
-fn suits(unit: Unit, family: Family, unit_type: UnitType, in_bits: u128) -> bool
-    requires { HasPrefix current (shape_of unit) }
-    ensures { IsTrue result ↔ Suits current family unit_type in_bits (shape_of unit) }
+/// Whether the unit of a row is of the type, and not above the size in bits.
+fn suits(row: Row, unit_type: UnitType, in_bits: u128) -> bool
+    ensures { IsTrue result ↔ ((row.1 ≤ in_bits) × IsOfType unit_type (shape_of row.0).binary) }
 {
-    unit.as_bits_u128() <= in_bits
-        && family.has_kind(unit.is_bit())
-        && unit_type.takes(unit.is_binary_multiples())
+    row.1 <= in_bits && unit_type.takes(row.0.is_binary_multiples())
 }
 
 #[cfg(test)]

@@ -1,14 +1,13 @@
 //! The unit of a size: the one that states it best or suits it best, or its own.
 
-ghost use Rattle.std.specs.Prelude.{◌≡◌, ℕ, ◌*◌, ◌<◌, ◌≤◌};
-ghost use Rattle.byte_unit_math.specs.Bounds.{places_of_decimal, one};
+ghost use Rattle.std.specs.Prelude.{◌≡◌, ◌*◌, ◌<◌, ◌≤◌};
+ghost use Rattle.byte_unit_math.specs.Bounds.{one};
 ghost use Rattle.byte_unit_math.specs.Steps.{raised};
 ghost use Rattle.byte_unit_base.specs.Shape.{bits};
 ghost use Rattle.byte_unit_base.specs.Edition.{current};
 ghost use Rattle.byte_unit_base.specs.Kinds.{bits_in};
 ghost use Rattle.byte_unit_base.specs.Units.{shape_of};
-ghost use Rattle.byte_unit_base.specs.Family.{units_in};
-ghost use Rattle.byte_unit_base.specs.Choice.{IsRecovered, IsAppropriate, CountsDigits, family_for};
+ghost use Rattle.byte_unit_base.specs.Choice.{IsRecovered, IsAppropriate, CountsChoice, family_for, most_steps};
 
 use crate::choice::{choose_unit, largest_unit};
 use crate::kind::Kind;
@@ -38,11 +37,8 @@ pub fn recoverable_unit(
     requires { size < current.size_limit }
     ensures recovered { IsRecovered current kind allow size precision (shape_of result.1) }
     ensures exact { result.0 * bits (shape_of result.1) ≡ size * bits_in kind * one }
-    ensures ticks { (ticks : ℕ)
-        × (ticks ≤ places_of_decimal * units_in current (family_for kind allow))
-        × (steps.new ≡ raised steps.old ticks) }
-    ensures counted { CountsDigits result.0 steps.old steps.new }
-    ensures no_ticks { precision ≡ 0 → steps.new ≡ steps.old }
+    ensures ticks { CountsChoice size result.0 steps.old steps.new }
+    ensures few_ticks { steps.new ≤ raised steps.old most_steps }
 {
     let family = family_for(kind, allow);
     match choose_unit(size, family, kind.bits(), precision, steps) {

@@ -29,6 +29,42 @@ fn greatest_and_least_sizes(rt: HostRuntime) -> Result<(), Fail> {
 }
 
 #[test]
+fn sizes_of_few_factors(rt: HostRuntime) -> Result<(), Fail> {
+    // 10^24 + 2^24, 2^89 and 5^38
+    for (size, spec, text) in [
+        (
+            1_000_000_000_000_000_016_777_216,
+            precise(28),
+            "1.000000000000000016777216 YB",
+        ),
+        (
+            1_000_000_000_000_000_016_777_216,
+            precise(10),
+            "931322574615478.53125 GiB",
+        ),
+        (
+            1_000_000_000_000_000_016_777_216,
+            FormatSpec::ALTERNATE,
+            "953674316406250016 MiB",
+        ),
+        (
+            618_970_019_642_690_137_449_562_112,
+            FormatSpec::ALTERNATE,
+            "512 YiB",
+        ),
+        (
+            363_797_880_709_171_295_166_015_625,
+            precise(28),
+            "363.797880709171295166015625 YB",
+        ),
+    ] {
+        let size = Byte::from_u128(size).ok_or("a size")?;
+        assert_eq!(rt; size.to_text(rt.alloc(), spec)?.as_str(), text);
+    }
+    Ok(())
+}
+
+#[test]
 fn padded_sizes(rt: HostRuntime) -> Result<(), Fail> {
     for (size, spec, text) in [
         (

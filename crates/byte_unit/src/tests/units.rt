@@ -43,10 +43,46 @@ fn the_greatest_size_with_its_steps(rt: HostRuntime) -> Result<(), Fail> {
             (number, unit)
         );
     }
-    for (allow, precision, most) in [(false, 28, 448), (true, 28, 896), (true, 0, 0)] {
+    for (allow, precision, count) in [(false, 28, 26), (true, 28, 26), (true, 0, 2)] {
         let mut steps = Steps::new();
         Byte::MAX.get_recoverable_unit_counted(allow, precision, &mut steps);
-        assert!(rt; steps.count() <= most);
+        assert_eq!(rt; steps.count(), count);
+    }
+    let mut steps = Steps::new();
+    Byte::MIN.get_recoverable_unit_counted(true, 28, &mut steps);
+    assert_eq!(rt; steps.count(), 0);
+    Ok(())
+}
+
+#[test]
+fn powers_of_two_and_of_five_with_their_steps(rt: HostRuntime) -> Result<(), Fail> {
+    // 2^89 and 5^38
+    for (size, precision, mantissa, scale, unit, count) in [
+        (
+            618_970_019_642_690_137_449_562_112,
+            3,
+            512,
+            0,
+            Unit::YiB,
+            91,
+        ),
+        (
+            363_797_880_709_171_295_166_015_625,
+            28,
+            363_797_880_709_171_295_166_015_625,
+            24,
+            Unit::YB,
+            64,
+        ),
+    ] {
+        let size = Byte::from_u128(size).ok_or("a size")?;
+        let number = Decimal::from_u128_with_scale(mantissa, scale).ok_or("a decimal")?;
+        let mut steps = Steps::new();
+        assert_eq!(rt;
+            size.get_recoverable_unit_counted(false, precision, &mut steps),
+            (number, unit)
+        );
+        assert_eq!(rt; steps.count(), count);
     }
     Ok(())
 }

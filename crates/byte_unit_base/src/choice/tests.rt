@@ -21,11 +21,12 @@ fn no_unit_states_these(rt: HostRuntime) {
 }
 
 #[test]
-fn units_above_the_size_take_no_tick(rt: HostRuntime) {
-    let mut steps = Steps::new();
-    for size in [0, 1, 500, 999] {
+fn a_size_in_no_unit_takes_its_trials_alone(rt: HostRuntime) {
+    // 500 is 2^2 * 5^3.
+    for (size, count) in [(0, 0), (1, 2), (500, 7), (999, 2)] {
+        let mut steps = Steps::new();
         let _ = choose_unit(size, Family::Bytes, 8, 28, &mut steps);
-        assert_eq!(rt; steps.count(), 0, "{size}");
+        assert_eq!(rt; steps.count(), count, "{size}");
     }
 }
 
@@ -38,31 +39,31 @@ fn parts(choice: Option<(Decimal, Unit)>) -> Option<(u128, u128, Unit)> {
 }
 
 #[test]
-fn each_digit_of_a_division_is_one_step(rt: HostRuntime) {
+fn each_trial_and_each_place_is_one_step(rt: HostRuntime) {
     let no_unit: Option<(u128, u128, Unit)> = None;
     for (size, places, choice, count) in [
-        // KiB has four factors of two more than the size, and KB is divided by to two places.
-        (1088, 2, no_unit, 2),
-        // KiB is above the size, and KB has three factors of two more than it.
-        (1001, 2, no_unit, 0),
+        // 1088 is 2^6 * 17: KiB takes four places, and KB three.
+        (1088, 2, no_unit, 8),
+        // 1001 has no two and no five: KB takes three places.
+        (1001, 2, no_unit, 2),
         (
             1088,
             3,
             Some((1, 880_000_000_000_000_000_000_000_000, Unit::KB)),
-            3,
+            11,
         ),
         (
             1088,
             4,
             Some((1, 625_000_000_000_000_000_000_000_000, Unit::KiB)),
-            4,
+            12,
         ),
-        // MB takes three digits and states nothing, and KiB one.
+        // 2^9 * 6273: MB takes six places, and KiB one.
         (
             3_211_776,
             3,
             Some((3136, 5_000_000_000_000_000_000_000_000_000u128, Unit::KiB)),
-            4,
+            12,
         ),
     ] {
         assert!(rt; size < LIMIT);

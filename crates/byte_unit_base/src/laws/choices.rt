@@ -6,6 +6,7 @@
 
 ghost use Rattle.byte_unit_base.specs.ChoiceLaws.{ChoicesAreOne, EachSizeHasAChoiceOrNone, NumberTimesUnitIsSize};
 ghost use Rattle.byte_unit_base.specs.ChoiceLaws.{ChoicesAtNoPlacesAreWhole, MorePlacesGiveNoSmallerUnit};
+ghost use Rattle.byte_unit_base.specs.ChoiceLaws.{SizesAreExactByPowers};
 
 /// Where a unit is chosen at no places, its number is whole, and no larger unit of the family divides the size.
 pub fn choices_at_no_places_are_whole()
@@ -30,4 +31,10 @@ pub fn choices_are_one()
 /// Each size has a chosen unit with its number, or no unit of the family states it.
 pub fn each_size_has_a_choice_or_none()
     ensures { EachSizeHasAChoiceOrNone }
+{}
+
+/// A size that is not zero is exact in a unit at some places exactly where the unit has no more twos, and no more
+/// fives, than the size in bits has, with one more of each for each place.
+pub fn sizes_are_exact_by_powers()
+    ensures { SizesAreExactByPowers }
 {}

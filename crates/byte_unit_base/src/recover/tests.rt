@@ -115,10 +115,19 @@ fn whole_numbers_of_units(rt: HostRuntime) {
 }
 
 #[test]
-fn ticks_of_the_greatest_size(rt: HostRuntime) {
-    for (allow, precision, most) in [(false, 28, 448), (true, 28, 896), (true, 0, 0)] {
+fn ticks_of_sizes(rt: HostRuntime) {
+    for (size, allow, precision, count) in [
+        (MAX, false, 28, 26),
+        (MAX, true, 28, 26),
+        (MAX, true, 0, 2),
+        (0, true, 28, 0),
+        // 2^89
+        (618_970_019_642_690_137_449_562_112, false, 3, 91),
+        // 5^38
+        (363_797_880_709_171_295_166_015_625, false, 28, 64),
+    ] {
         let mut steps = Steps::new();
-        let _ = recoverable_unit(MAX, Kind::Byte, allow, precision, &mut steps);
-        assert!(rt; steps.count() <= most);
+        let _ = recoverable_unit(size, Kind::Byte, allow, precision, &mut steps);
+        assert_eq!(rt; steps.count(), count, "{size} at {precision}");
     }
 }

@@ -1,14 +1,13 @@
 //! The units in which a size in bits is stated exactly.
 
-ghost use Rattle.std.specs.Prelude.{◌≡◌, ◌*◌, ◌≤◌, ℕ};
-ghost use Rattle.byte_unit_math.specs.Bounds.{one, places_of_decimal};
+ghost use Rattle.std.specs.Prelude.{◌≡◌, ◌*◌, ◌≤◌};
+ghost use Rattle.byte_unit_math.specs.Bounds.{one};
 ghost use Rattle.byte_unit_math.specs.Steps.{raised};
 ghost use Rattle.byte_unit_base.specs.Shape.{bits};
 ghost use Rattle.byte_unit_base.specs.Edition.{current};
 ghost use Rattle.byte_unit_base.specs.Units.{shape_of};
 ghost use Rattle.byte_unit_base.specs.Kinds.{bits_in};
-ghost use Rattle.byte_unit_base.specs.Family.{units_in};
-ghost use Rattle.byte_unit_base.specs.Choice.{IsRecovered, CountsDigits, family_for};
+ghost use Rattle.byte_unit_base.specs.Choice.{IsRecovered, CountsChoice, most_steps};
 ghost use Rattle.byte_unit_base.specs.declared.kind.Kind.TheVariants.{Bit as InBits};
 
 use super::Bit;
@@ -47,8 +46,9 @@ impl Bit {
         self.get_recoverable_unit_counted(allow_in_bytes, precision, &mut Steps::new())
     }
 
-    /// What `get_recoverable_unit` answers, and its work: `steps` rises by one for each digit after the point that a
-    /// division works out, at most 28 for each unit that is tried. The count stays at its greatest value.
+    /// What `get_recoverable_unit` answers, and its work: `steps` rises by one for each two and each five that divides
+    /// the size, by two where they no longer do, and by one for each digit of the decimal after the point; so by at
+    /// most 119. A size of zero takes none. The count stays at its greatest value.
     pub fn get_recoverable_unit_counted(
         self,
         allow_in_bytes: bool,
@@ -57,11 +57,8 @@ impl Bit {
     ) -> (Decimal, Unit)
         ensures recovered { IsRecovered current InBits allow_in_bytes self precision (shape_of result.1) }
         ensures exact { result.0 * bits (shape_of result.1) ≡ self * bits_in InBits * one }
-        ensures ticks { (ticks : ℕ)
-            × (ticks ≤ places_of_decimal * units_in current (family_for InBits allow_in_bytes))
-            × (steps.new ≡ raised steps.old ticks) }
-        ensures counted { CountsDigits result.0 steps.old steps.new }
-        ensures no_ticks { precision ≡ 0 → steps.new ≡ steps.old }
+        ensures ticks { CountsChoice self result.0 steps.old steps.new }
+        ensures few_ticks { steps.new ≤ raised steps.old most_steps }
     {
         recoverable_unit(self.size, Kind::Bit, allow_in_bytes, precision, steps)
     }

@@ -1,36 +1,36 @@
-use Rattle.std.proofs.Common.{map}
+use Rattle.std.proofs.Common.{get_or, map}
 use Rattle.byte_unit_base.specs.Edition.{current}
-use Rattle.byte_unit_base.specs.Units.{shape_of}
 use Rattle.byte_unit_base.specs.Choice.{Suits}
 use Rattle.byte_unit_base.specs.declared.unit.Unit.TheVariants.{Bit}
-use Rattle.byte_unit_base.proofs.Falling.{Remain-at_start, unit_prefix, unit_found, unit_passed, none_found, none_true}
+use Rattle.byte_unit_base.proofs.Rows.{search_start, row_there, row_suits, suits_in_row, unit_found, unit_passed, none_found, none_true}
 use Rattle.byte_unit_base.proofs.choice.first_suited.Goals as goal
 
-pub loop-unit-init : goal.loop-unit-init
-loop-unit-init c =
+pub loop-row-init : goal.loop-row-init
+loop-row-init c =
     let fit = Suits current c.args.family c.args.unit_type c.args.in_bits in
-    let units = map shape_of c.multiples-unit-items.result.now in
-    Remain-at_start fit units c.args.family c.multiples-unit-items.ensures (λ unit h. h.member)
+    let listed = c.multiples_within-row-items.ensures in
+    search_start fit c.args.family c.args.in_bits c.multiples_within-row-items.result.now listed (λ unit h. (h.member, h.not_above))
 
-pub suits-requires : goal.suits-requires
-suits-requires c =
-    unit_prefix c.multiples-unit-items.result.now c.loop-unit.unit-index Bit c.multiples-unit-items.ensures c.loop-unit-test.true
-
-pub loop-unit-preserved : goal.loop-unit-preserved
-loop-unit-preserved c =
+pub loop-row-preserved : goal.loop-row-preserved
+loop-row-preserved c =
     let fit = Suits current c.args.family c.args.unit_type c.args.in_bits in
-    let items = c.multiples-unit-items.result.now in
+    let rows = c.multiples_within-row-items.result.now in
+    let i = c.loop-row.row-index in
+    let is_row = row_there i (Bit, 0, 0, 0) c.multiples_within-row-items.ensures c.loop-row-test.true in
     let without = none_true _ _ c.if-suits.false c.suits.ensures.1 in
-    unit_passed fit items c.loop-unit.unit-index Bit c.loop-unit.invariant c.loop-unit-test.true without
+    unit_passed fit rows i (Bit, 0, 0, 0) c.loop-row.invariant c.loop-row-test.true
+    (λ h. without (suits_in_row c.args.unit_type c.args.in_bits is_row h))
 
 pub returns-clause-none : goal.returns-clause-none
 returns-clause-none c =
     let fit = Suits current c.args.family c.args.unit_type c.args.in_bits in
-    none_found fit c.multiples-unit-items.result.now c.loop-unit.unit-index c.loop-unit-test.false c.loop-unit.invariant
+    none_found fit c.multiples_within-row-items.result.now c.loop-row.row-index c.loop-row-test.false c.loop-row.invariant
 
 pub returns-then-suits-clause-found : goal.returns-then-suits-clause-found
 returns-then-suits-clause-found c =
     let fit = Suits current c.args.family c.args.unit_type c.args.in_bits in
-    let items = c.multiples-unit-items.result.now in
-    let has = c.suits.ensures.0 c.if-suits.true in
-    unit_found fit items c.loop-unit.unit-index Bit c.multiples-unit-items.ensures c.loop-unit.invariant c.loop-unit-test.true has
+    let i = c.loop-row.row-index in
+    let listed = c.multiples_within-row-items.ensures in
+    let is_row = row_there i (Bit, 0, 0, 0) listed c.loop-row-test.true in
+    let has = row_suits c.args.unit_type c.args.in_bits is_row (c.suits.ensures.0 c.if-suits.true) in
+    unit_found fit i (Bit, 0, 0, 0) listed c.loop-row.invariant c.loop-row-test.true has

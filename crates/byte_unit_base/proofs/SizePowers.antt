@@ -1,0 +1,144 @@
+-- A size by its powers of two and five.
+use Rattle.std.proofs.Common.{◌≡◌, ◌≢◌, ℕ, ◌+◌, ◌*◌, ◌^◌, ◌≤◌, ◌⊎◌, min, ⊎_elim, inl, inr, arith, refl, sym, ap, ◌∙◌, subst}
+use Rattle.std.proofs.lemmas.Nat.{pow-add}
+use Rattle.std.specs.Int.{w128, trailing_zeros}
+use Rattle.byte_unit_math.specs.Bounds.{one, places_of_decimal}
+use Rattle.byte_unit_math.specs.Steps.{raised}
+use Rattle.byte_unit_math.specs.Exact.{IsExactAt, IsLeastPlaces, IsQuotient}
+use Rattle.byte_unit_math.specs.Powers.{IsTwoFive}
+use Rattle.byte_unit_math.proofs.Powers.{exact_by_powers, has_two_five}
+use Rattle.byte_unit_base.specs.Shape.{Shape, bits, twos, fives}
+use Rattle.byte_unit_base.specs.Edition.{current}
+use Rattle.byte_unit_base.specs.Kinds.{bits_in}
+use Rattle.byte_unit_base.specs.Choice.{IsLargest, NoneHas, States, IsChosen, CountsChoice, TakesSteps, places_within}
+use Rattle.byte_unit_base.specs.ChoiceLaws.{SizesAreExactByPowers}
+use Rattle.byte_unit_base.specs.Multiples.{HasPowers}
+use Rattle.byte_unit_base.specs.declared.kind.Kind.{Kind}
+use Rattle.byte_unit_base.specs.declared.kind.Kind.TheVariants.{Byte, Bit}
+use Rattle.byte_unit_base.specs.declared.unit.family.Family.{Family}
+
+some_bits_in : (kind : Kind) (size : ℕ) → size ≢ 0 → size * bits_in kind ≢ 0
+some_bits_in Byte size some = λ e. some (omega (arith, e))
+some_bits_in Bit size some = λ e. some (omega (arith, e))
+
+pub sizes_by_powers : SizesAreExactByPowers
+sizes_by_powers kind size unit some =
+    let h = has_two_five (size * bits_in kind) (some_bits_in kind size some) in
+    record {
+      size_twos = h.0;
+      size_fives = h.1;
+      powers = h.2;
+      test = λ places. exact_by_powers (size * bits_in kind) (twos unit) (fives unit) h.0 h.1 places h.2;
+    }
+
+-- a byte has three twos more
+eight_times : (size a b : ℕ) → IsTwoFive size a b → IsTwoFive (size * 8) (a + 3) b
+eight_times size a b h =
+    let e = ap (λ n. n * 8) h.product in
+    let p = ap (λ n. h.left * (n * 5 ^ b)) (pow-add 2 a 3) in
+    record { left = h.left; product = e ∙ (omega arith ∙ sym p); odd = h.odd; no_five = h.no_five }
+
+eight_zeros : trailing_zeros w128 8 ≡ 3
+unfolding lib.Count.count_trailing_zeros
+eight_zeros = refl
+
+one_zeros : trailing_zeros w128 1 ≡ 0
+unfolding lib.Count.count_trailing_zeros
+one_zeros = refl
+
+pub in_bits_powers : (size divisor a b : ℕ) → (divisor ≡ 8) ⊎ (divisor ≡ 1) → IsTwoFive size a b
+    → IsTwoFive (size * divisor) (a + trailing_zeros w128 divisor) b
+in_bits_powers size divisor a b kind h =
+    let P : ℕ → Type 0 = λ d. IsTwoFive (size * d) (a + trailing_zeros w128 d) b in
+    let eight : P 8 = subst (λ n. IsTwoFive (size * 8) (a + n) b) (sym eight_zeros) (eight_times size a b h) in
+    let once : size ≡ size * 1 = omega arith in
+    let none : a ≡ a + 0 = omega arith in
+    let same = subst (λ n. IsTwoFive (size * 1) n b) none (subst (λ n. IsTwoFive n a b) once h) in
+    let by_one : P 1 = subst (λ n. IsTwoFive (size * 1) (a + n) b) (sym one_zeros) same in
+    ⊎_elim (λ e. subst P (sym e) eight) (λ e. subst P (sym e) by_one) kind
+
+-- the units that the powers of the size allow are those that state it
+module _ (family : Family) (in_bits precision a b : ℕ) (powers : IsTwoFive in_bits a b) where
+  abbrev few : Shape → Type 0
+  few = HasPowers current family in_bits (a + places_within precision) (b + places_within precision)
+
+  pub states_of_powers : (unit : Shape) → few unit → States current family in_bits precision unit
+  states_of_powers unit h = record {
+    member = h.member;
+    not_above = h.not_above;
+    exact = (exact_by_powers in_bits (twos unit) (fives unit) a b (places_within precision) powers).1 (h.few_twos, h.few_fives);
+  }
+
+  pub powers_of_states : (unit : Shape) → States current family in_bits precision unit → few unit
+  powers_of_states unit s =
+      let h = (exact_by_powers in_bits (twos unit) (fives unit) a b (places_within precision) powers).0 s.exact in
+      record { member = s.member; not_above = s.not_above; few_twos = h.0; few_fives = h.1 }
+
+  pub largest_of_powers : (unit : Shape) → IsLargest few unit → IsLargest (States current family in_bits precision) unit
+  largest_of_powers unit h = record {
+    has = states_of_powers unit h.has;
+    largest = λ other s. h.largest other (powers_of_states other s);
+  }
+
+  pub none_of_powers : NoneHas few → NoneHas (States current family in_bits precision)
+  none_of_powers none = λ unit s. none unit (powers_of_states unit s)
+
+-- so the largest with few powers is chosen, at as many places as the precision leaves
+pub chosen_by_powers : {family : Family} {in_bits most a b number : ℕ} (precision : ℕ) (unit : Shape) → most ≡ places_within precision
+    → IsTwoFive in_bits a b → IsLargest (HasPowers current family in_bits (a + most) (b + most)) unit
+    → IsQuotient in_bits (bits unit) (places_within most) number → IsChosen current family in_bits precision unit number
+chosen_by_powers {family} {in_bits} {most} {a} {b} {number} precision unit same powers h q =
+    let found : ℕ → Type 0 = λ n. IsLargest (HasPowers current family in_bits (a + n) (b + n)) unit in
+    let within : places_within most ≡ places_within precision = omega (arith, same) in
+    let quotient : ℕ → Type 0 = λ n. IsQuotient in_bits (bits unit) n number in
+    record {
+      unit_is = largest_of_powers family in_bits precision a b powers unit (subst found same h);
+      number_is = subst quotient within q;
+    }
+
+pub none_by_powers : {family : Family} {in_bits most a b : ℕ} (precision : ℕ) → most ≡ places_within precision → IsTwoFive in_bits a b
+    → NoneHas (HasPowers current family in_bits (a + most) (b + most)) → NoneHas (States current family in_bits precision)
+none_by_powers {family} {in_bits} {most} {a} {b} precision same powers h =
+    let none : ℕ → Type 0 = λ n. NoneHas (HasPowers current family in_bits (a + n) (b + n)) in
+    none_of_powers family in_bits precision a b powers (subst none same h)
+
+-- and the size is exact in it
+pub exact_by_row : {family : Family} {in_bits most a b B : ℕ} (unit : Shape) → most ≤ places_of_decimal → B ≡ bits unit
+    → IsTwoFive in_bits a b
+    → HasPowers current family in_bits (a + most) (b + most) unit → IsExactAt in_bits B (places_within most)
+exact_by_row {family} {in_bits} {most} {a} {b} {B} unit room same powers h =
+    let within : most ≡ places_within most = omega (arith, room) in
+    let exact : ℕ → Type 0 = λ n. IsExactAt in_bits n (places_within most) in
+    let places : ℕ → Type 0 = λ n. IsExactAt in_bits (bits unit) n in
+    let there = (exact_by_powers in_bits (twos unit) (fives unit) a b most powers).1 (h.few_twos, h.few_fives) in
+    subst exact (sym same) (subst places within there)
+
+-- the steps of the trials, and then of the division
+pub counted_choice : {size number a b places : ℕ} (old mid new : ℕ) → IsTwoFive size a b → IsLeastPlaces number one places
+    → mid ≡ raised old (a + b + 2) → new ≡ raised mid places → CountsChoice size number old new
+counted_choice {size} {number} {a} {b} {places} old mid new powers least trials division =
+    let steps : TakesSteps size number (a + b + 2 + places) = record {
+      twos = a;
+      fives = b;
+      places = places;
+      powers = powers;
+      is_places = least;
+      steps_are = refl;
+    } in
+    inr (a + b + 2 + places, steps, omega (arith, trials, division))
+
+-- a size in its own unit takes no more places than none
+pub counted_whole : (size number old new : ℕ) → number ≡ size * one → CountsChoice size 0 old new → CountsChoice size number old new
+counted_whole size number old new value (inl h) = inl h
+counted_whole size number old new value (inr (steps, t, e)) =
+    let none : t.places ≤ 0 = t.is_places.least 0 (0, omega arith) in
+    let scaled = ap (λ n. n * 10 ^ t.places) value in
+    let whole : TakesSteps size number steps = record {
+      twos = t.twos;
+      fives = t.fives;
+      places = t.places;
+      powers = t.powers;
+      is_places = record { has = (size * 10 ^ t.places, omega (arith, scaled)); least = λ p k. omega (arith, none) };
+      steps_are = t.steps_are;
+    } in
+    inr (steps, whole, e)

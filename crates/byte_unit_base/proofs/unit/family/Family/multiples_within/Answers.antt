@@ -1,0 +1,24 @@
+use Rattle.std.proofs.Common.{◌≡◌, ℕ, ◌-◌, ◌*◌, ◌/◌, ◌<◌, ◌^◌, arith, length, map, take, drop, ap, refl, ◌∙◌}
+use Rattle.std.proofs.lemmas.List.{length-drop, take_all}
+use Rattle.std.specs.Int.{w128, leading_zeros}
+use Rattle.byte_unit_base.specs.Multiples.{row_shape}
+use Rattle.byte_unit_base.proofs.Rows.{rows_behind, prefix_within}
+use Rattle.byte_unit_base.proofs.unit.family.Family.multiples_within.Goals as goal
+
+pub returns : goal.returns
+returns c =
+    let rows = c.multiples-units.result.now in
+    let prefixes = c.min-prefixes.result in
+    let skipped = length rows / 8 * (8 - prefixes) in
+    let whole : take (length rows - skipped) (drop skipped rows) ≡ drop skipped rows =
+    take_all (length rows - skipped) (drop skipped rows) (omega (arith, length-drop skipped rows)) in
+    let behind = rows_behind c.args.self rows prefixes skipped c.multiples-units.ensures (omega (arith, c.min-prefixes.ensures)) refl in
+    let small : c.args.in_bits < 2 ^ 128 = omega (arith, c.ranges.in_bits.fits) in
+    record {
+      prefixes = prefixes;
+      few = omega (arith, c.min-prefixes.ensures);
+      rows_are = ap (map row_shape) whole ∙ behind;
+      within = λ unit prefix not_above.
+          let digits = prefix_within c.args.in_bits (128 - leading_zeros w128 c.args.in_bits) unit small refl prefix not_above in
+          omega (arith, digits, c.min-prefixes.ensures, prefix.known);
+    }
