@@ -29,6 +29,7 @@ pub use Rattle.byte_unit_base.specs.Choice
 pub use Rattle.byte_unit_base.specs.Plain
 pub use Rattle.byte_unit_base.specs.Layout
 pub use Rattle.byte_unit_base.specs.Forms
+pub use Rattle.byte_unit_base.specs.NamedSpecs
 pub use Rattle.byte_unit_base.specs.Adjusted
 pub use Rattle.byte_unit_base.specs.AdjustedSize
 pub use Rattle.byte_unit_base.specs.AdjustedString

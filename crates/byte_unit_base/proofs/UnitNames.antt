@@ -4,7 +4,8 @@ use Rattle.std.specs.Prelude.{codes, if◌then◌else◌, ◌&&◌, nat_lt, ◌-
 use Rattle.byte_unit_base.specs.Shape.{Shape}
 use Rattle.byte_unit_base.specs.Edition.{name, current}
 
-three : (a b c : Bool) (l : ℕ) → length ((if a then l ∷ [] else []) ++ (if a && b then codes "i" else []) ++ (if c then codes "b" else codes "B")) ≤ 3
+three : (a b c : Bool) (l : ℕ)
+    → length ((if a then l ∷ [] else []) ++ (if a && b then codes "i" else []) ++ (if c then codes "b" else codes "B")) ≤ 3
 three true true true l = omega arith
 three true true false l = omega arith
 three true false true l = omega arith

@@ -5,12 +5,7 @@ use Rattle.byte_unit_base.specs.Edition.{Edition}
 use Rattle.byte_unit_base.specs.Forms.{IsSizeForm}
 use Rattle.byte_unit_base.specs.Adjusted.{IsAdjustedForm}
 use Rattle.byte_unit_base.specs.declared.kind.Kind.{Kind}
-use Rattle.byte_unit_base.specs.declared.format.spec.FormatSpec.{FormatSpec}
 use Rattle.byte_unit_base.specs.declared.format.spec.TheConstants.FormatSpec.{ALTERNATE}
-
--- the alternate form, and nothing else set
-abbrev pub alternate : FormatSpec
-alternate = ALTERNATE
 
 -- the next size reaches the limit
 abbrev pub IsGreatest : Edition → ℕ → Type 0

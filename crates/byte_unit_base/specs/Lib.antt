@@ -21,6 +21,7 @@ pub mod Choice
 pub mod Plain
 pub mod Layout
 pub mod Forms
+pub mod NamedSpecs
 pub mod Adjusted
 pub mod AdjustedSize
 pub mod AdjustedString

@@ -8,8 +8,8 @@ use Rattle.byte_unit.specs.Edition.{current}
 use Rattle.byte_unit.specs.Fault.{Fault}
 use Rattle.byte_unit.specs.Forms.{IsText}
 use Rattle.byte_unit.specs.declared.FormatSpec.{FormatSpec}
-use Rattle.byte_unit.specs.AdjustedString.{alternate}
-use Rattle.byte_unit_lines.specs.Answer.{Kind, digits_spec, words_of, size, refused}
+use Rattle.byte_unit.specs.NamedSpecs.{plain_spec, alternate_spec}
+use Rattle.byte_unit_lines.specs.Answer.{Kind, words_of, size, refused}
 use Rattle.byte_unit_lines.specs.Progress.{AddsAnswer, AddsSaid}
 
 -- a text of a size was added
@@ -21,8 +21,8 @@ regroup a b c d = append_assoc (a ++ b) c d ∙ append_assoc a b (c ++ d) ∙ ap
 
 -- the two texts of a size
 pub size_added : {E : Type 0} (kind : Kind) (text : List ℕ) (n : ℕ) (old first second new : List ℕ) → IsUtf8 text
-    → IsAccepted current kind false text n → AddsText kind n digits_spec old first → second ≡ first ++ codes " = "
-    → (r : Result ⊤ E) → OnOk r (AddsText kind n alternate second new) → OnOk r (AddsSaid kind text old new)
+    → IsAccepted current kind false text n → AddsText kind n plain_spec old first → second ≡ first ++ codes " = "
+    → (r : Result ⊤ E) → OnOk r (AddsText kind n alternate_spec second new) → OnOk r (AddsSaid kind text old new)
 size_added kind text n old first second new is_text accepted digits between (Ok _) form = (
   digits.0 ++ codes " = " ++ form.0,
   size n is_text accepted (record { digits = digits.0; form = form.0; is_digits = digits.1; is_form = form.1; said_is = refl }),

@@ -1,7 +1,7 @@
 -- Each size is said in one way.
 use Rattle.std.proofs.Common.{◌≡◌, ℕ, ◌-◌, ◌*◌, ◌^◌, ◌<◌, ◌++◌, List, inl, inr, ◌⊎◌, false, arith, refl, sym, ap, subst, ◌∙◌, codes}
 use Rattle.std.proofs.Math.Nat.{eq_of_mul-eq-mul_right, one-le-pow, one-le-mul}
-use Rattle.byte_unit.specs.AdjustedString.{alternate}
+use Rattle.byte_unit.specs.NamedSpecs.{plain_spec, alternate_spec}
 use Rattle.byte_unit.specs.Bounds.{one, places_of_decimal}
 use Rattle.byte_unit.specs.Choice.{IsLargest, NoneHas, States, IsChosen, IsRecovered}
 use Rattle.byte_unit.specs.ChoiceLaws.{EachSizeHasAChoiceOrNone, NumberTimesUnitIsSize, ChoicesAreOne}
@@ -13,13 +13,13 @@ use Rattle.byte_unit.specs.Numeral.{short}
 use Rattle.byte_unit.specs.Plain.{plain}
 use Rattle.byte_unit.specs.Shape.{Shape, bits, twos, fives}
 use Rattle.byte_unit.specs.declared.Kind.TheVariants.{Byte, Bit}
-use Rattle.byte_unit_lines.specs.Answer.{Kind, SaysSize, digits_spec}
+use Rattle.byte_unit_lines.specs.Answer.{Kind, SaysSize}
 
 abbrev places : ℕ
-places = places_of alternate.precision
+places = places_of alternate_spec.precision
 
 abbrev form_of : ℕ → Shape → List ℕ
-form_of number unit = layout (short number places_of_decimal) (name current unit) alternate
+form_of number unit = layout (short number places_of_decimal) (name current unit) alternate_spec
 
 own_number : (kind : Kind) (n : ℕ) → n * one * bits (own_unit kind) ≡ n * bits_in kind * one
 own_number Byte n = omega arith
@@ -30,7 +30,7 @@ module _ (kind : Kind) (choices : EachSizeHasAChoiceOrNone) (product : NumberTim
   some_form : (n : ℕ)
       → ((unit : Shape) × (number : ℕ) × IsChosen current (own_family kind) (n * bits_in kind) places unit number)
       ⊎ NoneHas (States current (own_family kind) (n * bits_in kind) places)
-      → (form : List ℕ) × IsSizeForm current kind n alternate form
+      → (form : List ℕ) × IsSizeForm current kind n alternate_spec form
   some_form n (inl found) = (
     form_of found.1 found.0,
     record {
@@ -55,8 +55,8 @@ module _ (kind : Kind) (choices : EachSizeHasAChoiceOrNone) (product : NumberTim
   pub some_said : (n : ℕ) → (said : List ℕ) × SaysSize kind n said
   some_said n =
       let form = some_form n (choices current (own_family kind) (n * bits_in kind) places) in (
-        plain n digits_spec ++ codes " = " ++ form.0,
-        record { digits = plain n digits_spec; form = form.0; is_digits = refl; is_form = form.1; said_is = refl },
+        plain n plain_spec ++ codes " = " ++ form.0,
+        record { digits = plain n plain_spec; form = form.0; is_digits = refl; is_form = form.1; said_is = refl },
       )
 
 some_bits : (unit : Shape) → 0 < bits unit
@@ -76,7 +76,7 @@ module _ (kind : Kind) (one_choice : ChoicesAreOne) where
   one_recovered n a b (inr p) (inl q) = absurd (p.0 b q.has)
   one_recovered n a b (inr p) (inr q) = p.1 ∙ sym q.1
 
-  one_form : (n : ℕ) (form other : List ℕ) → IsSizeForm current kind n alternate form → IsSizeForm current kind n alternate other
+  one_form : (n : ℕ) (form other : List ℕ) → IsSizeForm current kind n alternate_spec form → IsSizeForm current kind n alternate_spec other
       → form ≡ other
   one_form n form other p q =
       let unit = one_recovered n p.unit q.unit p.is_recovered q.is_recovered in

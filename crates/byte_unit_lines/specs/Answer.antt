@@ -1,26 +1,20 @@
 -- What is written for one line.
-use Rattle.std.specs.Prelude.{◌≡◌, ℕ, false, List, [], ◌∷◌, ◌++◌, None, codes}
+use Rattle.std.specs.Prelude.{◌≡◌, ℕ, false, List, [], ◌∷◌, ◌++◌, codes}
 use Rattle.std.specs.Str.{IsUtf8}
 use Rattle.byte_unit_lines.specs.Lines.{line_end}
 use Rattle.byte_unit.specs.Accepted.{IsAccepted, IsRefused}
 use Rattle.byte_unit.specs.Edition.{current}
 use Rattle.byte_unit.specs.Fault.{Fault, exceeded, not_number, no_value, too_long, bad_unit}
 use Rattle.byte_unit.specs.Forms.{IsText}
-use Rattle.byte_unit.specs.AdjustedString.{alternate}
-use Rattle.byte_unit.specs.declared.FormatSpec.{FormatSpec}
-use Rattle.byte_unit.specs.declared.Sign.TheVariants.{Unset}
+use Rattle.byte_unit.specs.NamedSpecs.{plain_spec, alternate_spec}
 pub use Rattle.byte_unit.specs.declared.Kind.{Kind}
-
--- a size by its digits, and nothing else is asked for
-abbrev pub digits_spec : FormatSpec
-digits_spec = record { alternate = false; sign = Unset; precision = None; width = None; align = None }
 
 -- a size is said by its digits, and then in the largest unit of its kind that states it exactly
 pub record SaysSize (kind : Kind) (size : ℕ) (said : List ℕ) : Type 0 where
   pub digits : List ℕ
   pub form : List ℕ
-  pub is_digits : IsText current kind size digits_spec digits
-  pub is_form : IsText current kind size alternate form
+  pub is_digits : IsText current kind size plain_spec digits
+  pub is_form : IsText current kind size alternate_spec form
   pub said_is : said ≡ digits ++ codes " = " ++ form
 
 -- the words for a fault of a text
