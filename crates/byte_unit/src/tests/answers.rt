@@ -55,24 +55,24 @@ pub fn is_fault(error: &ParseError, wanted: Answer) -> bool {
     }
 }
 
+/// The text was read with this answer.
+fn assert_answer(rt: &impl Abort, text: &str, read: Result<u128, ParseError>, wanted: Answer) {
+    match read {
+        Ok(size) => assert!(rt;
+            matches!(wanted, Answer::Size(n) if n == size),
+            "{text} is {size}"
+        ),
+        Err(error) => assert!(rt; is_fault(&error, wanted), "{text} is refused: {error}"),
+    }
+}
+
 /// The text read as bytes has this answer.
 pub fn assert_bytes(rt: &impl Abort, text: &str, ignore_case: bool, wanted: Answer) {
-    match Byte::parse_str(text, ignore_case) {
-        Ok(read) => match wanted {
-            Answer::Size(size) => assert_eq!(rt; read.as_u128(), size, "{text}"),
-            _ => panic!(rt; "{text} is read"),
-        },
-        Err(error) => assert!(rt; is_fault(&error, wanted), "{text} is refused otherwise"),
-    }
+    let read = Byte::parse_str(text, ignore_case).map(Byte::as_u128);
+    assert_answer(rt, text, read, wanted);
 }
 
 /// The text read as bits has this answer.
 pub fn assert_bits(rt: &impl Abort, text: &str, wanted: Answer) {
-    match Bit::parse_str(text) {
-        Ok(read) => match wanted {
-            Answer::Size(size) => assert_eq!(rt; read.as_u128(), size, "{text}"),
-            _ => panic!(rt; "{text} is read"),
-        },
-        Err(error) => assert!(rt; is_fault(&error, wanted), "{text} is refused otherwise"),
-    }
+    assert_answer(rt, text, Bit::parse_str(text).map(Bit::as_u128), wanted);
 }

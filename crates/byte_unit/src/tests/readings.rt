@@ -7,14 +7,8 @@ use std::test::Fail;
 /// is handed an allocator or the runtime, so nothing here can ask for memory.
 fn read(kind: Kind, text: &str, ignore_case: bool) -> Result<u128, ParseError> {
     match kind {
-        Kind::Byte => match Byte::parse_str(text, ignore_case) {
-            Ok(size) => Ok(size.as_u128()),
-            Err(error) => Err(error),
-        },
-        Kind::Bit => match Bit::parse_str(text) {
-            Ok(size) => Ok(size.as_u128()),
-            Err(error) => Err(error),
-        },
+        Kind::Byte => Byte::parse_str(text, ignore_case).map(Byte::as_u128),
+        Kind::Bit => Bit::parse_str(text).map(Bit::as_u128),
     }
 }
 

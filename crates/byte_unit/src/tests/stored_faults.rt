@@ -28,11 +28,17 @@ fn values_that_are_no_strings(rt: HostRuntime) -> Result<(), Fail> {
     Ok(())
 }
 
-/// Whether the fault of a JSON string is this one.
-fn is_stored_fault(error: &JsonSizeError, wanted: Answer) -> bool {
-    match error {
-        JsonSizeError::NotString => false,
-        JsonSizeError::Parse(fault) => is_fault(fault, wanted),
+/// The JSON string was refused with this fault.
+fn assert_refused<S: Drop>(
+    rt: &impl Abort,
+    text: &str,
+    read: Result<S, JsonSizeError>,
+    wanted: Answer,
+) {
+    match read {
+        Ok(_) => panic!(rt; "{text} is read"),
+        Err(JsonSizeError::NotString) => panic!(rt; "{text} is a string"),
+        Err(JsonSizeError::Parse(error)) => assert!(rt; is_fault(&error, wanted), "{text}"),
     }
 }
 
@@ -46,22 +52,10 @@ fn strings_that_are_no_sizes(rt: HostRuntime) -> Result<(), Fail> {
         ("1000 YB", Answer::Exceeded(1000, 0)),
     ] {
         let value = Value::String(String::from_str(rt.alloc(), text)?);
-        match Byte::from_json(&value) {
-            Ok(_) => panic!(rt; "{text} is read"),
-            Err(error) => assert!(rt; is_stored_fault(&error, wanted), "{text}"),
-        }
-        match AdjustedByte::from_json(&value) {
-            Ok(_) => panic!(rt; "{text} is read"),
-            Err(error) => assert!(rt; is_stored_fault(&error, wanted), "{text}"),
-        }
-        match Bit::from_json(&value) {
-            Ok(_) => panic!(rt; "{text} is read"),
-            Err(error) => assert!(rt; is_stored_fault(&error, wanted), "{text}"),
-        }
-        match AdjustedBit::from_json(&value) {
-            Ok(_) => panic!(rt; "{text} is read"),
-            Err(error) => assert!(rt; is_stored_fault(&error, wanted), "{text}"),
-        }
+        assert_refused(&rt, text, Byte::from_json(&value), wanted);
+        assert_refused(&rt, text, AdjustedByte::from_json(&value), wanted);
+        assert_refused(&rt, text, Bit::from_json(&value), wanted);
+        assert_refused(&rt, text, AdjustedBit::from_json(&value), wanted);
     }
     Ok(())
 }

@@ -10,28 +10,15 @@ use std::test::Fail;
 
 /// The sizes of a text, in bytes and in bits.
 fn sizes_of(text: &str) -> (Option<Byte>, Option<Bit>) {
-    let bytes = match Byte::parse_str(text, false) {
-        Ok(size) => Some(size),
-        Err(_) => None,
-    };
-    let bits = match Bit::parse_str(text) {
-        Ok(size) => Some(size),
-        Err(_) => None,
-    };
-    (bytes, bits)
+    (Byte::parse_str(text, false).ok(), Bit::parse_str(text).ok())
 }
 
 /// The unit of a text, and the unit of a JSON value.
 fn units_of(text: &str, value: &Value) -> (Option<Unit>, Option<Unit>) {
-    let unit = match Unit::parse_str(text, false, true) {
-        Ok(unit) => Some(unit),
-        Err(_) => None,
-    };
-    let stored = match unit_from_json(value) {
-        Ok(unit) => Some(unit),
-        Err(_) => None,
-    };
-    (unit, stored)
+    (
+        Unit::parse_str(text, false, true).ok(),
+        unit_from_json(value).ok(),
+    )
 }
 
 #[test]
@@ -62,28 +49,20 @@ fn string(alloc: Global, text: &str) -> Result<Value, AllocError> {
 
 /// The size in bytes of a JSON value, and that of it as an adjusted size.
 fn stored_bytes(value: &Value) -> (Option<Byte>, Option<Byte>) {
-    let size = match Byte::from_json(value) {
-        Ok(size) => Some(size),
-        Err(_) => None,
-    };
-    let adjusted = match AdjustedByte::from_json(value) {
-        Ok(adjusted) => Some(adjusted.get_byte()),
-        Err(_) => None,
-    };
-    (size, adjusted)
+    let adjusted = AdjustedByte::from_json(value).ok();
+    (
+        Byte::from_json(value).ok(),
+        adjusted.map(|adjusted| adjusted.get_byte()),
+    )
 }
 
 /// The size in bits of a JSON value, and that of it as an adjusted size.
 fn stored_bits(value: &Value) -> (Option<Bit>, Option<Bit>) {
-    let size = match Bit::from_json(value) {
-        Ok(size) => Some(size),
-        Err(_) => None,
-    };
-    let adjusted = match AdjustedBit::from_json(value) {
-        Ok(adjusted) => Some(adjusted.get_bit()),
-        Err(_) => None,
-    };
-    (size, adjusted)
+    let adjusted = AdjustedBit::from_json(value).ok();
+    (
+        Bit::from_json(value).ok(),
+        adjusted.map(|adjusted| adjusted.get_bit()),
+    )
 }
 
 #[test]
