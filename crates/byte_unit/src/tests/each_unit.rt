@@ -1,9 +1,12 @@
 use crate::Unit;
-use std::alloc::AllocError;
+use std::alloc::{AllocError, Global};
+use std::process::Abort;
 
-/// Each unit: its bits, its name, whether it counts bits, whether it goes by powers of two, and the exponents of two
-/// and of five in its bits.
-const UNITS: [(Unit, u128, &str, bool, bool, (u32, u32)); 34] = [
+/// A unit as it is written: its bits, its name, whether it counts bits, whether it goes by powers of two, and the
+/// exponents of two and of five in its bits.
+type Written = (Unit, u128, &'static str, bool, bool, (u32, u32));
+
+const TO_TERA: [Written; 18] = [
     (Unit::Bit, 1, "b", true, false, (0, 0)),
     (Unit::B, 8, "B", false, true, (3, 0)),
     (Unit::Kbit, 1000, "Kb", true, false, (3, 3)),
@@ -22,6 +25,9 @@ const UNITS: [(Unit, u128, &str, bool, bool, (u32, u32)); 34] = [
     (Unit::Tibit, 1_099_511_627_776, "Tib", true, true, (40, 0)),
     (Unit::TB, 8_000_000_000_000, "TB", false, false, (15, 12)),
     (Unit::TiB, 8_796_093_022_208, "TiB", false, true, (43, 0)),
+];
+
+const FROM_PETA: [Written; 16] = [
     (
         Unit::Pbit,
         1_000_000_000_000_000,
@@ -152,16 +158,31 @@ const UNITS: [(Unit, u128, &str, bool, bool, (u32, u32)); 34] = [
     ),
 ];
 
+/// The unit is what is written of it.
+fn assert_written(rt: &impl Abort, alloc: Global, written: Written) -> Result<(), AllocError> {
+    let (unit, bits, name, is_bit, is_binary_multiples, powers) = written;
+    assert_eq!(rt; unit.as_bits_u128(), bits, "{name}");
+    assert_eq!(rt; u128::from(unit), bits, "{name}");
+    assert_eq!(rt; unit.as_str(), name);
+    assert_eq!(rt; format!(in alloc; "{unit}")?.as_str(), name);
+    assert_eq!(rt; unit.is_bit(), is_bit, "{name}");
+    assert_eq!(rt; unit.is_binary_multiples(), is_binary_multiples, "{name}");
+    assert_eq!(rt; unit.powers(), powers, "{name}");
+    Ok(())
+}
+
 #[test]
-fn each_unit_as_written_numbers(rt: HostRuntime) -> Result<(), AllocError> {
-    for (unit, bits, name, is_bit, is_binary_multiples, powers) in UNITS {
-        assert_eq!(rt; unit.as_bits_u128(), bits, "{name}");
-        assert_eq!(rt; u128::from(unit), bits, "{name}");
-        assert_eq!(rt; unit.as_str(), name);
-        assert_eq!(rt; format!(in rt.alloc(); "{unit}")?.as_str(), name);
-        assert_eq!(rt; unit.is_bit(), is_bit, "{name}");
-        assert_eq!(rt; unit.is_binary_multiples(), is_binary_multiples, "{name}");
-        assert_eq!(rt; unit.powers(), powers, "{name}");
+fn units_to_tera_as_written_numbers(rt: HostRuntime) -> Result<(), AllocError> {
+    for written in TO_TERA {
+        assert_written(&rt, rt.alloc(), written)?;
+    }
+    Ok(())
+}
+
+#[test]
+fn units_from_peta_as_written_numbers(rt: HostRuntime) -> Result<(), AllocError> {
+    for written in FROM_PETA {
+        assert_written(&rt, rt.alloc(), written)?;
     }
     Ok(())
 }
