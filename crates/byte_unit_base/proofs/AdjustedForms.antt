@@ -1,6 +1,6 @@
 -- The form of a size in a given unit.
 use Rattle.std.proofs.Common.{◌≡◌, ℕ, ◌+◌, ◌*◌, ◌/◌, ◌%◌, ◌^◌, ◌<◌, ⊎_elim, min, Bool, true, false, List, length, arith, ap, sym, refl}
-use Rattle.std.proofs.Common.{subst, ◌∙◌, Option, Some, None}
+use Rattle.std.proofs.Common.{subst, ◌∙◌, Some, None}
 use Rattle.std.specs.Prelude.{if◌then◌else◌}
 use Rattle.std.proofs.Math.Nat.{div-add-mod'}
 use Rattle.std.proofs.lemmas.Nat.{pow-add, mul-pow, mod_below}

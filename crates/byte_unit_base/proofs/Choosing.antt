@@ -1,5 +1,5 @@
 -- What is not above a size, and a size that is cut at the greatest u128.
-use Rattle.std.proofs.Common.{◌≡◌, ℕ, ◌-◌, ◌*◌, ◌^◌, ◌≤◌, min, length, Bool, Option, Some, None, SomeIff, IfSome, IfNone, arith, ap, inl}
+use Rattle.std.proofs.Common.{◌≡◌, ℕ, ◌-◌, ◌*◌, ◌^◌, ◌≤◌, min, Bool, Option, Some, None, SomeIff, IfSome, IfNone, arith, ap, inl}
 use Rattle.std.proofs.Common.{inr, refl}
 use Rattle.std.proofs.Common.{subst, sym}
 use Rattle.std.proofs.Math.Nat.{one-le-pow, one-le-mul}

@@ -1,4 +1,5 @@
 pub mod Lists
+pub mod Options
 pub mod Trim
 pub mod Scales
 pub mod Scans

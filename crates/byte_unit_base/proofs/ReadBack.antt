@@ -1,5 +1,5 @@
 -- What a form says is read as the size that it was made of.
-use Rattle.std.proofs.Common.{◌≡◌, ◌≢◌, ℕ, ◌+◌, ◌-◌, ◌*◌, ◌/◌, ◌^◌, ◌<◌, ◌≤◌, inl, inr, List, [], ◌∷◌, ◌++◌, length, refl, sym, ap, subst, ◌∙◌, arith, Bool, false, append-nil, append_assoc, Option, None, Some}
+use Rattle.std.proofs.Common.{◌≡◌, ◌≢◌, ℕ, ◌+◌, ◌-◌, ◌*◌, ◌/◌, ◌^◌, ◌<◌, ◌≤◌, inl, inr, List, [], ◌∷◌, ◌++◌, length, refl, sym, ap, subst, ◌∙◌, arith, Bool, false, append-nil, append_assoc}
 use Rattle.std.specs.List.{All}
 use Rattle.std.specs.Char.{is_whitespace}
 use Rattle.std.specs.Fmt.{decimal}
@@ -23,7 +23,6 @@ use Rattle.byte_unit_base.specs.declared.format.spec.FormatSpec.{FormatSpec}
 use Rattle.byte_unit_base.specs.declared.format.spec.Sign.{Sign}
 use Rattle.byte_unit_base.specs.declared.format.spec.Sign.TheVariants.{Unset, Plus, Minus}
 use Rattle.byte_unit_base.specs.declared.unit.Unit.{Unit as UnitName}
-use Rattle.byte_unit_base.specs.declared.unit.family.Family.{Family}
 use Rattle.byte_unit_base.specs.Family.{InFamily, HasKind}
 use Rattle.byte_unit_base.specs.Choice.{IsRecovered}
 use Rattle.byte_unit_base.proofs.Choosing.{some_bits, own_bits}

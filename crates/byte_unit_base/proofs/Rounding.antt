@@ -7,7 +7,7 @@ use Rattle.byte_unit_base.specs.Shape.{Shape, bits}
 use Rattle.byte_unit_base.specs.declared.kind.Kind.{Kind}
 use Rattle.byte_unit_base.specs.declared.kind.Kind.TheVariants.{Byte, Bit}
 use Rattle.byte_unit_base.specs.Kinds.{bits_in}
-use Rattle.byte_unit_base.specs.SizeLaws.{EachNumberHasOneLeastSize}
+use Rattle.byte_unit_base.specs.SizeLaws.{EachNumberHasOneLeastSize, GreaterNumbersGiveNoSmallerSizes}
 use Rattle.byte_unit_base.specs.LeastOfKind.{IsLeastOf, Covers}
 
 -- there is a least number of bits
@@ -17,7 +17,8 @@ least_bits N unit =
     (b, record { has = omega arith; least = λ m r. omega (arith, r) })
 
 -- the kind's least number that holds them
-pub least_holding : (kind : Kind) (N : ℕ) (unit : Shape) (b n : ℕ) → IsLeastSize N (bits unit) b → b ≤ n * bits_in kind → n * bits_in kind < b + bits_in kind → IsLeastOf kind N unit n
+pub least_holding : (kind : Kind) (N : ℕ) (unit : Shape) (b n : ℕ) → IsLeastSize N (bits unit) b → b ≤ n * bits_in kind
+    → n * bits_in kind < b + bits_in kind → IsLeastOf kind N unit n
 least_holding Byte N unit b n h holds low = record {
   has = omega (arith, h.has, mul-le-mul_right one holds);
   least = λ m r. omega (arith, h.least (m * 8) r, low);
@@ -28,17 +29,19 @@ least_holding Bit N unit b n h holds low = record {
 }
 
 -- where the least bits reach the limit, the least number of the kind does
-pub least_above : (kind : Kind) (N : ℕ) (unit : Shape) (limit in_bits n : ℕ) → 1 ≤ limit → in_bits ≡ (limit - 1) * bits_in kind + 1 → ((b : ℕ) → IsLeastSize N (bits unit) b → in_bits ≤ b) → IsLeastOf kind N unit n → limit ≤ n
-least_above Byte N unit limit in_bits n some e none h =
+pub least_above : (kind : Kind) (N : ℕ) (unit : Shape) (limit n : ℕ) → 1 ≤ limit
+    → ((b : ℕ) → IsLeastSize N (bits unit) b → (limit - 1) * bits_in kind + 1 ≤ b) → IsLeastOf kind N unit n → limit ≤ n
+least_above Byte N unit limit n some none h =
     let least = least_bits N (bits unit) in
     let enough = least.1.least (n * 8) h.has in
-    omega (arith, enough, e, none least.0 least.1, some)
-least_above Bit N unit limit in_bits n some e none h =
+    omega (arith, enough, none least.0 least.1, some)
+least_above Bit N unit limit n some none h =
     let least = least_bits N (bits unit) in
     let enough = least.1.least (n * 1) h.has in
-    omega (arith, enough, e, none least.0 least.1, some)
+    omega (arith, enough, none least.0 least.1, some)
 
-pub least_below : (kind : Kind) (limit b n : ℕ) → b < (limit - 1) * bits_in kind + 1 → n * bits_in kind < b + bits_in kind → 1 ≤ limit → n < limit
+pub least_below : (kind : Kind) (limit b n : ℕ) → b < (limit - 1) * bits_in kind + 1 → n * bits_in kind < b + bits_in kind → 1 ≤ limit
+    → n < limit
 least_below Byte limit b n small low some = omega (arith, small, low, some)
 least_below Bit limit b n small low some = omega (arith, small, low, some)
 
@@ -65,7 +68,7 @@ one_least_size kind number unit =
     record { size = least.0; is_least = least.1; one = λ other h. least_is_one kind number unit other least.0 h least.1 }
 
 -- what covers more covers less
-pub more_covers_more : (kind : Kind) (unit : Shape) (few many small large : ℕ) → few ≤ many → IsLeastOf kind few unit small → IsLeastOf kind many unit large → small ≤ large
+pub more_covers_more : GreaterNumbersGiveNoSmallerSizes
 more_covers_more kind unit few many small large more a b =
     let covers : Covers kind few unit large = omega (arith, mul-le-mul_right (bits unit) more, b.has) in
     a.least large covers

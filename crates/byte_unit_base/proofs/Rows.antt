@@ -1,5 +1,5 @@
 -- The rows of a family that a size may reach, and a search along them.
-use Rattle.std.proofs.Common.{◌≡◌, ℕ, ◌+◌, ◌-◌, ◌*◌, ◌/◌, ◌^◌, ◌<◌, ◌≤◌, min, ⊎_elim, suc, Bool, true, false, List, [], ◌∷◌, length, map}
+use Rattle.std.proofs.Common.{◌≡◌, ℕ, ◌+◌, ◌-◌, ◌*◌, ◌/◌, ◌^◌, ◌<◌, ◌≤◌, ⊎_elim, suc, Bool, true, false, List, [], ◌∷◌, length, map}
 use Rattle.std.proofs.Common.{drop, get_or}
 use Rattle.std.proofs.Common.{◌&&◌, leb, arith, sym, ap, ◌∙◌, subst, refl}
 use Rattle.std.proofs.Math.Nat.{pow-le-pow_right}
@@ -13,7 +13,7 @@ use Rattle.byte_unit_base.specs.Edition.{current}
 use Rattle.byte_unit_base.specs.Units.{shape_of}
 use Rattle.byte_unit_base.specs.Family.{HasPrefix, InFamily, IsOfType}
 use Rattle.byte_unit_base.specs.Choice.{IsLargest, NoneHas, Suits}
-use Rattle.byte_unit_base.specs.Multiples.{HasPowers, ListsUnits, Row, falling_from, row_of, row_shape}
+use Rattle.byte_unit_base.specs.Multiples.{HasPowers, ListsUnits, falling_from, row_of, row_shape}
 use Rattle.byte_unit_base.specs.declared.unit.Unit.{Unit as UnitName}
 use Rattle.byte_unit_base.specs.declared.unit.family.Family.{Family}
 use Rattle.byte_unit_base.specs.declared.unit.family.Family.TheVariants.{All, Bytes, Bits}

@@ -8,7 +8,9 @@ power_bounds : (k : ℕ) → k ≤ places_of_decimal → (1 ≤ 10 ^ k) × (10 ^
 power_bounds k h = (one-le-pow k 10 (omega arith), pow-le-pow_right {n = 10} (omega arith) h)
 
 power_parts : (k : ℕ) → k ≤ places_of_decimal → 10 ^ k * 10 ^ (places_of_decimal - k) ≡ one
-power_parts k h = let e : k + (places_of_decimal - k) ≡ places_of_decimal = omega arith in sym (pow-add 10 k (places_of_decimal - k)) ∙ ap (λ n. 10 ^ n) e
+power_parts k h =
+    let e : k + (places_of_decimal - k) ≡ places_of_decimal = omega arith in
+    sym (pow-add 10 k (places_of_decimal - k)) ∙ ap (λ n. 10 ^ n) e
 
 pub digits_small : (f j : ℕ) → f < 10 ^ j → j ≤ places_of_decimal → f < one
 digits_small f j h k = omega (arith, power_bounds j k)

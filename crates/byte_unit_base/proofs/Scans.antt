@@ -8,12 +8,14 @@ use Rattle.byte_unit_base.specs.Fault.{Fault, fault_at, fault_at_end, IsFaultAft
 use Rattle.byte_unit_base.specs.ReaderLaws.{IsOneAnswer, Begins}
 use Rattle.byte_unit_base.specs.Scan.{Scan, run, read, seen}
 use Rattle.byte_unit_base.proofs.Lists.{at_next, push_append}
+use Rattle.byte_unit_base.proofs.Options.{some_passed}
 
 -- the state behind a text
 
 module _ {S : Type 0} (step : S → ℕ → Option S) where
   run_on : (xs ys : List ℕ) → ((t : S) → run step t (xs ++ ys) ≡ option_and_then (λ u. run step u ys) (run step t xs))
-      → (o : Option S) → option_and_then (λ t. run step t (xs ++ ys)) o ≡ option_and_then (λ u. run step u ys) (option_and_then (λ t. run step t xs) o)
+      → (o : Option S) → option_and_then (λ t. run step t (xs ++ ys)) o ≡ option_and_then (λ u. run step u ys)
+      (option_and_then (λ t. run step t xs) o)
   run_on xs ys next None = refl
   run_on xs ys next (Some t) = next t
 
@@ -28,25 +30,20 @@ module _ {S : Type 0} (step : S → ℕ → Option S) where
   pub run_step : (s t : S) (c : ℕ) (xs : List ℕ) → step s c ≡ Some t → run step s (c ∷ xs) ≡ run step t xs
   run_step s t c xs e = ap (option_and_then (λ u. run step u xs)) e
 
-  some_before : (ys : List ℕ) (u : S) (o : Option S) → option_and_then (λ t. run step t ys) o ≡ Some u → (t : S) × (o ≡ Some t)
-  some_before ys u None e = absurd (let k : ⊥ = cc in k)
-  some_before ys u (Some t) e = (t, refl)
-
   -- there is a state behind the beginning of a text, where there is one behind the text
   pub run_before : (s u : S) (xs ys : List ℕ) → run step s (xs ++ ys) ≡ Some u → (t : S) × (run step s xs ≡ Some t)
-  run_before s u xs ys e = some_before ys u (run step s xs) (sym (run-append s xs ys) ∙ e)
+  run_before s u xs ys e =
+      let t = some_passed (λ v. run step v ys) u (run step s xs) (sym (run-append s xs ys) ∙ e) in
+      (t.0, t.1)
 
 -- what each step keeps holds behind a text
 module _ {S : Type 0} (step : S → ℕ → Option S) (P : S → List ℕ → Type 0)
     (keeps : (s t : S) (c : ℕ) (text : List ℕ) → step s c ≡ Some t → P s text → P t (text ++ c ∷ [])) where
-  kept_on : (c : ℕ) (xs front : List ℕ) (s t : S) → ((u : S) → run step u xs ≡ Some t → P u (front ++ c ∷ []) → P t ((front ++ c ∷ []) ++ xs))
-      → (o : Option S) → step s c ≡ o → option_and_then (λ u. run step u xs) o ≡ Some t → P s front → P t (front ++ (c ∷ xs))
-  kept_on c xs front s t next None e h p = absurd (let k : ⊥ = cc in k)
-  kept_on c xs front s t next (Some u) e h p = subst (P t) (push_append front xs c) (next u h (keeps s u c front e p))
-
   pub run_keeps : (xs front : List ℕ) (s t : S) → run step s xs ≡ Some t → P s front → P t (front ++ xs)
   run_keeps [] front s t e p = let k : s ≡ t = cc in subst (λ u. P u (front ++ [])) k (subst (P s) (sym (append-nil front)) p)
-  run_keeps (c ∷ xs) front s t e p = kept_on c xs front s t (λ u. run_keeps xs (front ++ c ∷ []) u t) (step s c) refl e p
+  run_keeps (c ∷ xs) front s t e p =
+      let u = some_passed (λ v. run step v xs) t (step s c) e in
+      subst (P t) (push_append front xs c) (run_keeps xs (front ++ c ∷ []) u.0 t u.2 (keeps s u.0 c front u.1 p))
 
 -- where a scan stops: at the end of the text, or before a character that is no step
 
@@ -67,7 +64,14 @@ module _ {S : Type 0} (step : S → ℕ → Option S) where
   stop_after s c cs next None e = record { front = []; rest = c ∷ cs; state = s; text_is = refl; run_is = refl; stops = e }
   stop_after s c cs next (Some t) e =
       let n = next t in
-      record { front = c ∷ n.front; rest = n.rest; state = n.state; text_is = ap (λ x. c ∷ x) n.text_is; run_is = run_step step s t c n.front e ∙ n.run_is; stops = n.stops }
+      record {
+        front = c ∷ n.front;
+        rest = n.rest;
+        state = n.state;
+        text_is = ap (λ x. c ∷ x) n.text_is;
+        run_is = run_step step s t c n.front e ∙ n.run_is;
+        stops = n.stops;
+      }
 
   pub stop_of : (s : S) (text : List ℕ) → Stop s text
   stop_of s [] = record { front = []; rest = []; state = s; text_is = refl; run_is = refl; stops = tt }
@@ -79,20 +83,19 @@ module _ {S Meaning : Type 0} (scan : Scan S Meaning) where
   pub read_some : (s t : S) (c : ℕ) (cs : List ℕ) → scan.step s c ≡ Some t → read scan s (c ∷ cs) ≡ read scan t cs
   read_some s t c cs e = rw (e, read) refl
 
-  pub read_none : (s : S) (c : ℕ) (cs : List ℕ) → scan.step s c ≡ None → read scan s (c ∷ cs) ≡ Err (fault_at current scan.flags (scan.place s) c)
+  pub read_none : (s : S) (c : ℕ) (cs : List ℕ) → scan.step s c ≡ None
+      → read scan s (c ∷ cs) ≡ Err (fault_at current scan.flags (scan.place s) c)
   read_none s c cs e = rw (e, read) refl
-
-  read_on : (t s : S) (c : ℕ) (xs ys : List ℕ) → ((u : S) → run scan.step u xs ≡ Some t → read scan u (xs ++ ys) ≡ read scan t ys)
-      → (o : Option S) → scan.step s c ≡ o → option_and_then (λ u. run scan.step u xs) o ≡ Some t → read scan s (c ∷ (xs ++ ys)) ≡ read scan t ys
-  read_on t s c xs ys next None e h = absurd (let k : ⊥ = cc in k)
-  read_on t s c xs ys next (Some u) e h = read_some s u c (xs ++ ys) e ∙ next u h
 
   pub read_through : (s t : S) (xs ys : List ℕ) → run scan.step s xs ≡ Some t → read scan s (xs ++ ys) ≡ read scan t ys
   read_through s t [] ys h = let e : s ≡ t = cc in ap (λ u. read scan u ys) e
-  read_through s t (c ∷ xs) ys h = read_on t s c xs ys (λ u. read_through u t xs ys) (scan.step s c) refl h
+  read_through s t (c ∷ xs) ys h =
+      let u = some_passed (λ v. run scan.step v xs) t (scan.step s c) h in
+      read_some s u.0 c (xs ++ ys) u.1 ∙ read_through u.0 t xs ys u.2
 
   -- the reader's loop goes on
-  pub read_more : (s t : S) (cs : List ℕ) (n c : ℕ) → (n < length cs) × (c ≡ get_or cs n c) → scan.step s c ≡ Some t → read scan t (drop (n + 1) cs) ≡ read scan s (drop n cs)
+  pub read_more : (s t : S) (cs : List ℕ) (n c : ℕ) → (n < length cs) × (c ≡ get_or cs n c) → scan.step s c ≡ Some t
+      → read scan t (drop (n + 1) cs) ≡ read scan s (drop n cs)
   read_more s t cs n c h e = sym (at_next (read scan s) cs n c h ∙ read_some s t c (drop (n + 1) cs) e)
 
   -- it stops
@@ -115,6 +118,11 @@ EndsIn {Meaning} Means None answer = (meaning : Meaning) × Means meaning × (an
 abbrev pub IsAnswer : {Meaning : Type 0} → (Meaning → Type 0) → (Fault → Type 0) → Result Meaning Fault → Type 0
 IsAnswer Means Fails (Ok meaning) = Means meaning
 IsAnswer Means Fails (Err fault) = Fails fault
+
+-- no front goes on from this one into the rest
+abbrev pub NoLongerFront : (Place → List ℕ → Type 0) → List ℕ → List ℕ → Type 0
+NoLongerFront IsFront front rest =
+    (farther : Place) (next others : List ℕ) → rest ≡ next ++ others → IsFront farther (front ++ next) → next ≡ []
 
 -- behind the text is a state of the scan, at this place
 pub record IsScanned {S Meaning : Type 0} (scan : Scan S Meaning) (place : Place) (text : List ℕ) : Type 0 where
@@ -143,12 +151,11 @@ module _ {S Meaning : Type 0} {scan : Scan S Meaning} {Reached : S → List ℕ 
   reached : (text : List ℕ) (s : S) → run scan.step scan.start text ≡ Some s → Reached s text
   reached text s e = run_keeps scan.step Reached is.steps text [] scan.start s e is.starts
 
-  -- no longer text is a front
-  longest : (s : S) (front rest : List ℕ) → run scan.step scan.start front ≡ Some s → CannotStep scan.step s rest
-      → (farther : Place) (next others : List ℕ) → rest ≡ next ++ others → IsFront farther (front ++ next) → next ≡ []
-  longest s front rest e stops farther [] others r f = refl
-  longest s front [] e stops farther (x ∷ xs) others r f = absurd (let k : ⊥ = cc in k)
-  longest s front (c ∷ cs) e stops farther (x ∷ xs) others r f =
+  no_longer_front : (s : S) (front rest : List ℕ) → run scan.step scan.start front ≡ Some s → CannotStep scan.step s rest
+      → NoLongerFront IsFront front rest
+  no_longer_front s front rest e stops farther [] others r f = refl
+  no_longer_front s front [] e stops farther (x ∷ xs) others r f = absurd (let k : ⊥ = cc in k)
+  no_longer_front s front (c ∷ cs) e stops farther (x ∷ xs) others r f =
       let g = is.front_read farther (front ++ x ∷ xs) f in
       let same : c ≡ x = cc in
       let gone : run scan.step s (x ∷ xs) ≡ None = ap (option_and_then (λ u. run scan.step u xs)) (ap (scan.step s) (sym same) ∙ stops) in
@@ -156,30 +163,40 @@ module _ {S Meaning : Type 0} {scan : Scan S Meaning} {Reached : S → List ℕ 
       absurd (let k : ⊥ = cc in k)
 
   -- the fault where a scan stops
-  first_fault : (s : S) (text front rest : List ℕ) (fault : Fault) → text ≡ front ++ rest → run scan.step scan.start front ≡ Some s
-      → CannotStep scan.step s rest → IsFaultAfter current scan.flags (scan.place s) rest fault → IsFirstFault IsFront current scan.flags text fault
-  first_fault s text front rest fault t e stops h = record {
-    place = scan.place s;
-    front = front;
-    rest = rest;
-    longest = record { text_is = t; is_front = is.front s front (reached front s e); longest = longest s front rest e stops };
+  first_fault : (text : List ℕ) (stop : Stop scan.step scan.start text) (fault : Fault)
+      → IsFaultAfter current scan.flags (scan.place stop.state) stop.rest fault → IsFirstFault IsFront current scan.flags text fault
+  first_fault text stop fault h = record {
+    place = scan.place stop.state;
+    front = stop.front;
+    rest = stop.rest;
+    longest = record {
+      text_is = stop.text_is;
+      is_front = is.front stop.state stop.front (reached stop.front stop.state stop.run_is);
+      longest = no_longer_front stop.state stop.front stop.rest stop.run_is stop.stops;
+    };
     fault_is = h;
   }
 
   answer_at_end : (s : S) (text : List ℕ) → run scan.step scan.start text ≡ Some s → (o : Option Fault) → fault_at_end (scan.place s) ≡ o
       → EndsIn (Means text) o (scan.at_end s) → IsAnswer (Means text) (IsFirstFault IsFront current scan.flags text) (scan.at_end s)
-  answer_at_end s text e None at ends = subst (IsAnswer (Means text) (IsFirstFault IsFront current scan.flags text)) (sym ends.2) ends.1
+  answer_at_end s text e None at ends =
+      subst (IsAnswer (Means text) (IsFirstFault IsFront current scan.flags text)) (sym ends.2) ends.1
   answer_at_end s text e (Some fault) at ends =
-      subst (IsAnswer (Means text) (IsFirstFault IsFront current scan.flags text)) (sym ends) (first_fault s text text [] fault (sym (append-nil text)) e tt at)
+      let stop : Stop scan.step scan.start text =
+      record { front = text; rest = []; state = s; text_is = sym (append-nil text); run_is = e; stops = tt } in
+      subst (IsAnswer (Means text) (IsFirstFault IsFront current scan.flags text)) (sym ends) (first_fault text stop fault at)
 
   answer_where_stopped : (s : S) (text front rest : List ℕ) → text ≡ front ++ rest → run scan.step scan.start front ≡ Some s
       → CannotStep scan.step s rest → IsAnswer (Means text) (IsFirstFault IsFront current scan.flags text) (read scan s rest)
   answer_where_stopped s text front [] t e stops =
       let P : List ℕ → Type 0 = λ x. IsAnswer (Means x) (IsFirstFault IsFront current scan.flags x) (scan.at_end s) in
-      subst P (sym (t ∙ append-nil front)) (answer_at_end s front e (fault_at_end (scan.place s)) refl (is.ends s front (reached front s e)))
+      let here = answer_at_end s front e (fault_at_end (scan.place s)) refl (is.ends s front (reached front s e)) in
+      subst P (sym (t ∙ append-nil front)) here
   answer_where_stopped s text front (c ∷ cs) t e stops =
       let P : Result Meaning Fault → Type 0 = IsAnswer (Means text) (IsFirstFault IsFront current scan.flags text) in
-      subst P (sym (read_none scan s c cs stops)) (first_fault s text front (c ∷ cs) (fault_at current scan.flags (scan.place s) c) t e stops refl)
+      let stop : Stop scan.step scan.start text =
+      record { front = front; rest = c ∷ cs; state = s; text_is = t; run_is = e; stops = stops } in
+      subst P (sym (read_none scan s c cs stops)) (first_fault text stop (fault_at current scan.flags (scan.place s) c) refl)
 
   -- what a text is read as is its meaning or its fault
   pub answers : (text : List ℕ) → IsAnswer (Means text) (IsFirstFault IsFront current scan.flags text) (read scan scan.start text)
@@ -195,33 +212,38 @@ module _ {S Meaning : Type 0} {scan : Scan S Meaning} {Reached : S → List ℕ 
       let r = is.meaning_read text meaning h in
       ap (read scan scan.start) (sym (append-nil text)) ∙ (read_through scan scan.start r.0 text [] r.1 ∙ r.2)
 
-  fault_of_end : (Means : Meaning → Type 0) (o : Option Fault) (answer : Result Meaning Fault) (fault : Fault) → EndsIn Means o answer → o ≡ Some fault → answer ≡ Err fault
-  fault_of_end Means None answer fault ends e = absurd (let k : ⊥ = cc in k)
-  fault_of_end Means (Some other) answer fault ends e = let same : other ≡ fault = cc in ends ∙ ap Err same
+  fault_of_end : (Here : Meaning → Type 0) (o : Option Fault) (answer : Result Meaning Fault) (fault : Fault) → EndsIn Here o answer
+      → o ≡ Some fault → answer ≡ Err fault
+  fault_of_end Here None answer fault ends e = absurd (let k : ⊥ = cc in k)
+  fault_of_end Here (Some other) answer fault ends e = let same : other ≡ fault = cc in ends ∙ ap Err same
 
-  fault_of_step : (s : S) (front cs : List ℕ) (c : ℕ) (fault : Fault) → Reached s front
-      → ((farther : Place) (next others : List ℕ) → c ∷ cs ≡ next ++ others → IsFront farther (front ++ next) → next ≡ [])
-      → fault ≡ fault_at current scan.flags (scan.place s) c → (o : Option S) → scan.step s c ≡ o → read scan s (c ∷ cs) ≡ Err fault
-  fault_of_step s front cs c fault r longest h None e = read_none scan s c cs e ∙ ap Err (sym h)
-  fault_of_step s front cs c fault r longest h (Some t) e =
+  -- there is no step past the longest front
+  no_step : (s : S) (front cs : List ℕ) (c : ℕ) → Reached s front → NoLongerFront IsFront front (c ∷ cs)
+      → (o : Option S) → scan.step s c ≡ o → scan.step s c ≡ None
+  no_step s front cs c r longest None e = e
+  no_step s front cs c r longest (Some t) e =
       let none : c ∷ [] ≡ [] = longest (scan.place t) (c ∷ []) cs refl (is.front t (front ++ c ∷ []) (is.steps s t c front e r)) in
       absurd (let k : ⊥ = cc in k)
 
-  fault_of_rest : (s : S) (front rest : List ℕ) (fault : Fault) → Reached s front
-      → ((farther : Place) (next others : List ℕ) → rest ≡ next ++ others → IsFront farther (front ++ next) → next ≡ [])
+  fault_of_rest : (s : S) (front rest : List ℕ) (fault : Fault) → Reached s front → NoLongerFront IsFront front rest
       → IsFaultAfter current scan.flags (scan.place s) rest fault → read scan s rest ≡ Err fault
-  fault_of_rest s front [] fault r longest h = fault_of_end (Means front) (fault_at_end (scan.place s)) (scan.at_end s) fault (is.ends s front r) h
-  fault_of_rest s front (c ∷ cs) fault r longest h = fault_of_step s front cs c fault r longest h (scan.step s c) refl
+  fault_of_rest s front [] fault r longest h =
+      fault_of_end (Means front) (fault_at_end (scan.place s)) (scan.at_end s) fault (is.ends s front r) h
+  fault_of_rest s front (c ∷ cs) fault r longest h =
+      read_none scan s c cs (no_step s front cs c r longest (scan.step s c) refl) ∙ ap Err (sym h)
 
   -- a text with a fault is read as it
-  pub reads_fault : (text : List ℕ) (fault : Fault) → IsFirstFault IsFront current scan.flags text fault → read scan scan.start text ≡ Err fault
+  pub reads_fault : (text : List ℕ) (fault : Fault) → IsFirstFault IsFront current scan.flags text fault
+      → read scan scan.start text ≡ Err fault
   reads_fault text fault h =
       let r = is.front_read h.place h.front h.longest.is_front in
       let P : Place → Type 0 = λ place. IsFaultAfter current scan.flags place h.rest fault in
-      let rest = fault_of_rest r.state h.front h.rest fault (reached h.front r.state r.run_is) h.longest.longest (subst P (sym r.place_is) h.fault_is) in
+      let rest = fault_of_rest r.state h.front h.rest fault (reached h.front r.state r.run_is) h.longest.longest
+      (subst P (sym r.place_is) h.fault_is) in
       ap (read scan scan.start) h.longest.text_is ∙ (read_through scan scan.start r.state h.front h.rest r.run_is ∙ rest)
 
-  some_answer : (text : List ℕ) (answer : Result Meaning Fault) → IsAnswer (Means text) (IsFirstFault IsFront current scan.flags text) answer
+  some_answer : (text : List ℕ) (answer : Result Meaning Fault)
+      → IsAnswer (Means text) (IsFirstFault IsFront current scan.flags text) answer
       → ((meaning : Meaning) × Means text meaning) ⊎ ((fault : Fault) × IsFirstFault IsFront current scan.flags text fault)
   some_answer text (Ok meaning) h = inl (meaning, h)
   some_answer text (Err fault) h = inr (fault, h)

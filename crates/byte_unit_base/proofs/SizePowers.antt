@@ -1,5 +1,5 @@
 -- A size by its powers of two and five.
-use Rattle.std.proofs.Common.{◌≡◌, ◌≢◌, ℕ, ◌+◌, ◌*◌, ◌^◌, ◌≤◌, ◌⊎◌, min, ⊎_elim, inl, inr, arith, refl, sym, ap, ◌∙◌, subst}
+use Rattle.std.proofs.Common.{◌≡◌, ◌≢◌, ℕ, ◌+◌, ◌*◌, ◌^◌, ◌≤◌, ◌⊎◌, ⊎_elim, inl, inr, arith, refl, sym, ap, ◌∙◌, subst}
 use Rattle.std.proofs.lemmas.Nat.{pow-add}
 use Rattle.std.specs.Int.{w128, trailing_zeros}
 use Rattle.byte_unit_math.specs.Bounds.{one, places_of_decimal}

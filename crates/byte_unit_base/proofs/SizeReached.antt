@@ -13,6 +13,7 @@ use Rattle.byte_unit_base.specs.declared.read.scan.SizeScan.{SizeScan}
 use Rattle.byte_unit_base.specs.declared.read.scan.SizeScan.TheVariants.{Beginning, Whole, Point, Fraction, Gap, Unit as UnitAt}
 use Rattle.byte_unit_base.proofs.UnitReached.{Reached, Reached-step, Reached-start}
 use Rattle.byte_unit_base.proofs.SizeSteps.{UnitStep, AfterNumber, StepOf}
+use Rattle.byte_unit_base.proofs.Lists.{push_last}
 
 -- what has been read at a state of the scan
 
@@ -40,7 +41,6 @@ pub record UnitReached (n : ℕ) (s : UnitScan) (text : List ℕ) : Type 0 where
   pub text_is : text ≡ number_part ++ (replicate spaces 32 ++ unit_part)
   pub number_is : IsNumberText current number_part n
   pub reached : Reached s unit_part
-  pub some : 0 < length unit_part
 
 abbrev pub SizeReached : SizeScan → List ℕ → Type 0
 SizeReached Beginning text = text ≡ []
@@ -48,32 +48,86 @@ SizeReached (Whole w) text = IsWholePart current text w
 SizeReached (Point w) text = IsPointed current text w
 SizeReached (Fraction w f j) text = FractionReached w f j text
 SizeReached (Gap n) text = GapReached n text
-SizeReached (UnitAt n s) text = UnitReached n s text
+SizeReached (UnitAt n s) text = (r : UnitReached n s text) × (0 < length r.unit_part)
 
 pub fraction_number : (w f j : ℕ) (text : List ℕ) → FractionReached w f j text → IsPrecise current text (precise w f j)
-fraction_number w f j text r = record { whole = r.whole; fraction = r.fraction; value = w; part = f * 10 ^ (places_of_decimal - j); text_is = r.text_is; whole_is = r.whole_is; fraction_is = (r.numeral, omega (arith, r.length_is, r.few), ap (λ x. x * 10 ^ (places_of_decimal - j)) r.value_is ∙ ap (λ k. digits_value 10 r.fraction * 10 ^ (places_of_decimal - k)) (sym r.length_is)); number_is = refl }
+fraction_number w f j text r =
+    record {
+      whole = r.whole;
+      fraction = r.fraction;
+      value = w;
+      part = f * 10 ^ (places_of_decimal - j);
+      text_is = r.text_is;
+      whole_is = r.whole_is;
+      fraction_is = (
+        r.numeral,
+        omega (arith, r.length_is, r.few),
+        ap (λ x. x * 10 ^ (places_of_decimal - j)) r.value_is
+            ∙ ap (λ k. digits_value 10 r.fraction * 10 ^ (places_of_decimal - k)) (sym r.length_is),
+      );
+      number_is = refl;
+    }
 
-push3 : (text number gap unit : List ℕ) (c : ℕ) → text ≡ number ++ (gap ++ unit) → text ++ c ∷ [] ≡ number ++ (gap ++ (unit ++ c ∷ []))
-push3 text number gap unit c e = ap (λ t. t ++ c ∷ []) e ∙ (append_assoc number (gap ++ unit) (c ∷ []) ∙ ap (λ t. number ++ t) (append_assoc gap unit (c ∷ [])))
-
-push2 : (text number gap : List ℕ) (c : ℕ) → text ≡ number ++ gap → text ++ c ∷ [] ≡ number ++ (gap ++ c ∷ [])
-push2 text number gap c e = ap (λ t. t ++ c ∷ []) e ∙ append_assoc number gap (c ∷ [])
+push_last_of_three : (text number gap unit : List ℕ) (c : ℕ) → text ≡ number ++ (gap ++ unit)
+    → text ++ c ∷ [] ≡ number ++ (gap ++ (unit ++ c ∷ []))
+push_last_of_three text number gap unit c e =
+    push_last text number (gap ++ unit) c e ∙ ap (λ t. number ++ t) (append_assoc gap unit (c ∷ []))
 
 replicate_push : (n x : ℕ) → replicate n x ++ x ∷ [] ≡ replicate (suc n) x
 replicate_push zero x = refl
 replicate_push (suc n) x = ap (λ t. x ∷ t) (replicate_push n x)
 
-unit_goes : (n c : ℕ) (s : UnitScan) (t : SizeScan) (text number unit : List ℕ) (spaces : ℕ) → text ≡ number ++ (replicate spaces 32 ++ unit) → IsNumberText current number n → Reached s unit → UnitStep n s c t → SizeReached t (text ++ c ∷ [])
-unit_goes n c s t text number unit spaces e h r k =
-    subst (λ x. SizeReached x (text ++ c ∷ [])) k.2 (record { number_part = number; spaces = spaces; unit_part = unit ++ c ∷ []; text_is = push3 text number (replicate spaces 32) unit c e; number_is = h; reached = Reached-step s.multiple s.word k.0 c unit k.1 r; some = omega (arith, length-append unit (c ∷ [])) })
+unit_grows : (n c : ℕ) (s : UnitScan) (t : SizeScan) (text : List ℕ) → UnitReached n s text → UnitStep n s c t
+    → SizeReached t (text ++ c ∷ [])
+unit_grows n c s t text r k =
+    let grown : UnitReached n k.0 (text ++ c ∷ []) = record {
+      number_part = r.number_part;
+      spaces = r.spaces;
+      unit_part = r.unit_part ++ c ∷ [];
+      text_is = push_last_of_three text r.number_part (replicate r.spaces 32) r.unit_part c r.text_is;
+      number_is = r.number_is;
+      reached = Reached-step s.multiple s.word k.0 c r.unit_part k.1 r.reached;
+    } in
+    subst (λ x. SizeReached x (text ++ c ∷ [])) k.2 (grown, omega (arith, length-append r.unit_part (c ∷ [])))
 
-number_goes : (n c : ℕ) (t : SizeScan) (text : List ℕ) → IsNumberText current text n → AfterNumber n c t → SizeReached t (text ++ c ∷ [])
-number_goes n c t text h (inl k) = subst (λ x. SizeReached x (text ++ c ∷ [])) k.1 (record { number_part = text; spaces = 1; some = omega arith; text_is = ap (λ x. text ++ x ∷ []) k.0; number_is = h })
-number_goes n c t text h (inr k) = unit_goes n c unit_start t text text [] 0 (sym (append-nil text)) h Reached-start k
+number_grows : (n c : ℕ) (t : SizeScan) (text : List ℕ) → IsNumberText current text n → AfterNumber n c t → SizeReached t (text ++ c ∷ [])
+number_grows n c t text h (inl k) =
+    subst (λ x. SizeReached x (text ++ c ∷ [])) k.1 (record {
+      number_part = text;
+      spaces = 1;
+      some = omega arith;
+      text_is = ap (λ x. text ++ x ∷ []) k.0;
+      number_is = h;
+    })
+number_grows n c t text h (inr k) =
+    unit_grows n c unit_start t text (record {
+      number_part = text;
+      spaces = 0;
+      unit_part = [];
+      text_is = sym (append-nil text);
+      number_is = h;
+      reached = Reached-start;
+    }) k
 
-gap_goes : (n c : ℕ) (t : SizeScan) (text : List ℕ) → GapReached n text → AfterNumber n c t → SizeReached t (text ++ c ∷ [])
-gap_goes n c t text r (inl k) = subst (λ x. SizeReached x (text ++ c ∷ [])) k.1 (record { number_part = r.number_part; spaces = suc r.spaces; some = omega arith; text_is = push2 text r.number_part (replicate r.spaces 32) c r.text_is ∙ (ap (λ x. r.number_part ++ (replicate r.spaces 32 ++ x ∷ [])) k.0 ∙ ap (λ g. r.number_part ++ g) (replicate_push r.spaces 32)); number_is = r.number_is })
-gap_goes n c t text r (inr k) = unit_goes n c unit_start t text r.number_part [] r.spaces (r.text_is ∙ ap (λ g. r.number_part ++ g) (sym (append-nil (replicate r.spaces 32)))) r.number_is Reached-start k
+gap_grows : (n c : ℕ) (t : SizeScan) (text : List ℕ) → GapReached n text → AfterNumber n c t → SizeReached t (text ++ c ∷ [])
+gap_grows n c t text r (inl k) =
+    subst (λ x. SizeReached x (text ++ c ∷ [])) k.1 (record {
+      number_part = r.number_part;
+      spaces = suc r.spaces;
+      some = omega arith;
+      text_is = push_last text r.number_part (replicate r.spaces 32) c r.text_is
+          ∙ (ap (λ x. r.number_part ++ (replicate r.spaces 32 ++ x ∷ [])) k.0 ∙ ap (λ g. r.number_part ++ g) (replicate_push r.spaces 32));
+      number_is = r.number_is;
+    })
+gap_grows n c t text r (inr k) =
+    unit_grows n c unit_start t text (record {
+      number_part = r.number_part;
+      spaces = r.spaces;
+      unit_part = [];
+      text_is = r.text_is ∙ ap (λ g. r.number_part ++ g) (sym (append-nil (replicate r.spaces 32)));
+      number_is = r.number_is;
+      reached = Reached-start;
+    }) k
 
 one_digit : (c : ℕ) → digits_value 10 (c ∷ []) ≡ digit_value c
 one_digit c = omega arith
@@ -82,13 +136,38 @@ digits_push_is : (text : List ℕ) (c : ℕ) → IsNumeral 10 text → digit_val
 digits_push_is text c h k = (omega (arith, length-append text (c ∷ [])), digits_push 10 text c h.1 k)
 
 pub SizeReached-step : (s t : SizeScan) (c : ℕ) (text : List ℕ) → StepOf s c t → SizeReached s text → SizeReached t (text ++ c ∷ [])
-SizeReached-step Beginning t c text k r = subst (λ x. SizeReached x (text ++ c ∷ [])) k.1 (subst (λ x. IsWholePart current (x ++ c ∷ []) (digit_value c)) (sym r) ((omega arith, (k.0, tt)), sym (one_digit c), omega (arith, k.0)))
-SizeReached-step (Whole w) t c text (inl k) r = subst (λ x. SizeReached x (text ++ c ∷ [])) k.2 (digits_push_is text c r.0 k.0, ap (λ x. x * 10 + digit_value c) r.1 ∙ sym (digits_value_push 10 text c), k.1)
-SizeReached-step (Whole w) t c text (inr (inl k)) r = subst (λ x. SizeReached x (text ++ c ∷ [])) k.1 (record { whole = text; text_is = ap (λ x. text ++ x ∷ []) k.0; whole_is = r })
-SizeReached-step (Whole w) t c text (inr (inr k)) r = number_goes (w * one) c t text (inl (w, r, refl)) k
-SizeReached-step (Point w) t c text k r = subst (λ x. SizeReached x (text ++ c ∷ [])) k.1 (record { whole = r.whole; fraction = c ∷ []; text_is = push2 text r.whole (46 ∷ []) c r.text_is; whole_is = r.whole_is; numeral = (omega arith, (k.0, tt)); value_is = sym (one_digit c); length_is = refl; few = omega arith })
+SizeReached-step Beginning t c text k r =
+    subst (λ x. SizeReached x (text ++ c ∷ [])) k.1
+    (subst (λ x. IsWholePart current (x ++ c ∷ []) (digit_value c)) (sym r)
+    ((omega arith, (k.0, tt)), sym (one_digit c), omega (arith, k.0)))
+SizeReached-step (Whole w) t c text (inl k) r =
+    subst (λ x. SizeReached x (text ++ c ∷ [])) k.2
+    (digits_push_is text c r.0 k.0, ap (λ x. x * 10 + digit_value c) r.1 ∙ sym (digits_value_push 10 text c), k.1)
+SizeReached-step (Whole w) t c text (inr (inl k)) r =
+    subst (λ x. SizeReached x (text ++ c ∷ [])) k.1 (record { whole = text; text_is = ap (λ x. text ++ x ∷ []) k.0; whole_is = r })
+SizeReached-step (Whole w) t c text (inr (inr k)) r = number_grows (w * one) c t text (inl (w, r, refl)) k
+SizeReached-step (Point w) t c text k r =
+    subst (λ x. SizeReached x (text ++ c ∷ [])) k.1 (record {
+      whole = r.whole;
+      fraction = c ∷ [];
+      text_is = push_last text r.whole (46 ∷ []) c r.text_is;
+      whole_is = r.whole_is;
+      numeral = (omega arith, (k.0, tt));
+      value_is = sym (one_digit c);
+      length_is = refl;
+      few = omega arith;
+    })
 SizeReached-step (Fraction w f j) t c text (inl k) r =
-    subst (λ x. SizeReached x (text ++ c ∷ [])) k.2 (record { whole = r.whole; fraction = r.fraction ++ c ∷ []; text_is = push2 text r.whole (46 ∷ r.fraction) c r.text_is; whole_is = r.whole_is; numeral = digits_push_is r.fraction c r.numeral k.0; value_is = ap (λ x. x * 10 + digit_value c) r.value_is ∙ sym (digits_value_push 10 r.fraction c); length_is = omega (arith, length-append r.fraction (c ∷ []), r.length_is); few = omega (arith, k.1) })
-SizeReached-step (Fraction w f j) t c text (inr k) r = number_goes (precise w f j) c t text (inr (fraction_number w f j text r)) k
-SizeReached-step (Gap n) t c text k r = gap_goes n c t text r k
-SizeReached-step (UnitAt n s) t c text k r = unit_goes n c s t text r.number_part r.unit_part r.spaces r.text_is r.number_is r.reached k
+    subst (λ x. SizeReached x (text ++ c ∷ [])) k.2 (record {
+      whole = r.whole;
+      fraction = r.fraction ++ c ∷ [];
+      text_is = push_last text r.whole (46 ∷ r.fraction) c r.text_is;
+      whole_is = r.whole_is;
+      numeral = digits_push_is r.fraction c r.numeral k.0;
+      value_is = ap (λ x. x * 10 + digit_value c) r.value_is ∙ sym (digits_value_push 10 r.fraction c);
+      length_is = omega (arith, length-append r.fraction (c ∷ []), r.length_is);
+      few = omega (arith, k.1);
+    })
+SizeReached-step (Fraction w f j) t c text (inr k) r = number_grows (precise w f j) c t text (inr (fraction_number w f j text r)) k
+SizeReached-step (Gap n) t c text k r = gap_grows n c t text r k
+SizeReached-step (UnitAt n s) t c text k r = unit_grows n c s t text r.0 k

@@ -1,6 +1,6 @@
 -- The reader of a number and a unit: its scan is that of their texts, so it answers what a text states, and else the first
 -- fault.
-use Rattle.std.proofs.Common.{◌≡◌, ◌≢◌, ℕ, Bool, true, false, cond, ◌*◌, inl, inr, List, [], ◌∷◌, ◌++◌, Option, Some, None, Result, Ok, Err, IfErr, length, replicate, sym, refl, ap, ◌∙◌, arith, append-nil}
+use Rattle.std.proofs.Common.{◌≡◌, ◌≢◌, ℕ, ◌<◌, Bool, true, false, cond, ◌*◌, inl, inr, List, [], ◌∷◌, ◌++◌, Option, Some, None, Result, Ok, Err, IfErr, length, replicate, sym, refl, ap, ◌∙◌, arith, append-nil}
 use Rattle.std.specs.Prelude.{IsOkAnd}
 use Rattle.byte_unit_math.specs.Bounds.{one}
 use Rattle.byte_unit_base.specs.Shape.{Shape}
@@ -35,16 +35,27 @@ use Rattle.byte_unit_base.proofs.SizeRuns.{size_text_runs, size_front_runs}
 
 -- what has been read is a front
 
-front_in_unit : (n : ℕ) (s : UnitScan) (place : Place) (text : List ℕ) (r : UnitReached n s text) → IsUnitFront current place r.unit_part → IsSizedFront current place text
-front_in_unit n s place text r h = record { number_part = r.number_part; number = n; spaces = r.spaces; unit_part = r.unit_part; text_is = r.text_is; number_is = r.number_is; unit_is = h }
+front_in_unit : (n : ℕ) (s : UnitScan) (place : Place) (text : List ℕ) (r : UnitReached n s text) → IsUnitFront current place r.unit_part
+    → IsSizedFront current place text
+front_in_unit n s place text r h =
+    record {
+      number_part = r.number_part;
+      number = n;
+      spaces = r.spaces;
+      unit_part = r.unit_part;
+      text_is = r.text_is;
+      number_is = r.number_is;
+      unit_is = h;
+    }
 
-unit_at : (n : ℕ) (m : Multiple) (w : Word) (text : List ℕ) → UnitReached n (scan_of m w) text → IsSizeFront current (word_place m w) text
-unit_at n One Empty text r =
+unit_at : (n : ℕ) (m : Multiple) (w : Word) (text : List ℕ) (r : UnitReached n (scan_of m w) text) → 0 < length r.unit_part
+    → IsSizeFront current (word_place m w) text
+unit_at n One Empty text r some =
     let none : r.unit_part ≡ [] = r.reached.text_is ∙ (ap (λ x. x ++ r.reached.word) r.reached.front_is ∙ r.reached.word_is) in
-    absurd (omega (arith, r.some, ap length none))
-unit_at n (Decimal p) Empty text r = front_in_unit n _ after_prefix text r (unit_front (Decimal p) Empty r.unit_part r.reached)
-unit_at n (Binary p) Empty text r = front_in_unit n _ after_prefix text r (unit_front (Binary p) Empty r.unit_part r.reached)
-unit_at n m w text r = front_in_unit n _ (word_place m w) text r (unit_front m w r.unit_part r.reached)
+    absurd (omega (arith, some, ap length none))
+unit_at n (Decimal p) Empty text r some = front_in_unit n _ after_prefix text r (unit_front (Decimal p) Empty r.unit_part r.reached)
+unit_at n (Binary p) Empty text r some = front_in_unit n _ after_prefix text r (unit_front (Binary p) Empty r.unit_part r.reached)
+unit_at n m w text r some = front_in_unit n _ (word_place m w) text r (unit_front m w r.unit_part r.reached)
 
 size_front : (s : SizeScan) (text : List ℕ) → SizeReached s text → IsSizeFront current (size_place s) text
 size_front Beginning text r = r
@@ -63,7 +74,7 @@ size_front (Gap n) text r = (
   },
   r.some,
 )
-size_front (UnitAt n s) text r = unit_at n s.multiple s.word text r
+size_front (UnitAt n s) text r = unit_at n s.multiple s.word text r.0 r.1
 
 -- what a text that ends there is read as
 
@@ -83,23 +94,36 @@ number_at_end flags n text number k e h = (
 )
 
 -- with its number, a unit ends as it does alone
-unit_at_end_of : (flags : Flags) (n : ℕ) (text unit_part : List ℕ) → ((unit : Shape) → Spells current flags unit_part unit → IsSizeText current flags text n unit)
-    → (fault : Option Fault) (unit : Option Shape) → EndsIn (Spells current flags unit_part) fault (unit_at_end unit) → EndsIn (States flags text) fault (sized n unit)
+unit_at_end_of : (flags : Flags) (n : ℕ) (text unit_part : List ℕ)
+    → ((unit : Shape) → Spells current flags unit_part unit → IsSizeText current flags text n unit)
+    → (fault : Option Fault) (unit : Option Shape) → EndsIn (Spells current flags unit_part) fault (unit_at_end unit)
+    → EndsIn (States flags text) fault (sized n unit)
 unit_at_end_of flags n text unit_part states (Some fault) None e = cc
 unit_at_end_of flags n text unit_part states (Some fault) (Some unit) e = absurd (let k : ⊥ = cc in k)
 unit_at_end_of flags n text unit_part states None None e = absurd (let k : ⊥ = cc (e.2) in k)
-unit_at_end_of flags n text unit_part states None (Some unit) e = let same : unit ≡ e.0 = cc (e.2) in ((n, e.0), states e.0 e.1, ap (λ x. Ok (n, x)) same)
+unit_at_end_of flags n text unit_part states None (Some unit) e =
+    let same : unit ≡ e.0 = cc (e.2) in ((n, e.0), states e.0 e.1, ap (λ x. Ok (n, x)) same)
 
-size_ends : (flags : Flags) (s : SizeScan) (text : List ℕ) → SizeReached s text → EndsIn (States flags text) (fault_at_end (size_place s)) (size_at_end flags s)
+size_ends : (flags : Flags) (s : SizeScan) (text : List ℕ) → SizeReached s text
+    → EndsIn (States flags text) (fault_at_end (size_place s)) (size_at_end flags s)
 size_ends flags Beginning text r = refl
 size_ends flags (Whole w) text r = number_at_end flags (w * one) text text 0 (sym (append-nil text)) (inl (w, r, refl))
 size_ends flags (Point w) text r = refl
-size_ends flags (Fraction w f j) text r = number_at_end flags (precise w f j) text text 0 (sym (append-nil text)) (inr (fraction_number w f j text r))
+size_ends flags (Fraction w f j) text r =
+    number_at_end flags (precise w f j) text text 0 (sym (append-nil text)) (inr (fraction_number w f j text r))
 size_ends flags (Gap n) text r = number_at_end flags n text r.number_part r.spaces r.text_is r.number_is
 size_ends flags (UnitAt n s) text r =
-    unit_at_end_of flags n text r.unit_part
-    (λ unit h. record { number_part = r.number_part; spaces = r.spaces; unit_part = r.unit_part; text_is = r.text_is; number_is = r.number_is; unit_is = h })
-    (fault_at_end (word_place s.multiple s.word)) (unit_of flags s) (unit_ends flags s.multiple s.word r.unit_part r.reached)
+    let u = r.0 in
+    unit_at_end_of flags n text u.unit_part
+    (λ unit h. record {
+      number_part = u.number_part;
+      spaces = u.spaces;
+      unit_part = u.unit_part;
+      text_is = u.text_is;
+      number_is = u.number_is;
+      unit_is = h;
+    })
+    (fault_at_end (word_place s.multiple s.word)) (unit_of flags s) (unit_ends flags s.multiple s.word u.unit_part u.reached)
 
 -- a digit makes a number at the beginning and behind the point, a t a unit behind `bi`, and nothing is needed elsewhere
 
@@ -147,11 +171,13 @@ no_bounds_at_end after_point n = λ e. cc
 no_bounds_at_end after_bi n = λ e. cc
 no_bounds_at_end _ n = λ e. cc
 
-no_bounds_after : (flags : Flags) (place : Place) (rest : List ℕ) (fault : Fault) (n : ℕ) → IsFaultAfter current flags place rest fault → fault ≢ exceeded n
+no_bounds_after : (flags : Flags) (place : Place) (rest : List ℕ) (fault : Fault) (n : ℕ) → IsFaultAfter current flags place rest fault
+    → fault ≢ exceeded n
 no_bounds_after flags place [] fault n h = λ e. no_bounds_at_end place n (h ∙ ap Some e)
 no_bounds_after flags place (c ∷ cs) fault n h = λ e. no_bounds_at flags place c n (sym h ∙ e)
 
-read_no_bounds : (flags : Flags) (text : List ℕ) (r : Result (ℕ × UnitName) ParseError) → size_seen r ≡ read (size_scan flags) Beginning text
+read_no_bounds : (flags : Flags) (text : List ℕ) (r : Result (ℕ × UnitName) ParseError)
+    → size_seen r ≡ read (size_scan flags) Beginning text
     → IfErr r (λ error. (n : ℕ) → size_fault error ≢ exceeded n)
 read_no_bounds flags text (Ok x) e = tt
 read_no_bounds flags text (Err x) e = λ n.
@@ -165,7 +191,8 @@ parts_meant : (r : Result (ℕ × UnitName) ParseError) (n : ℕ) (unit : Shape)
 parts_meant (Ok found) n unit e = (ap (λ x. x.0) e, ap (λ x. x.1) e)
 parts_meant (Err error) n unit e = absurd e
 
-pub number_reading : (flags : Flags) (bytes : List ℕ) (r : Result (ℕ × UnitName) ParseError) → size_seen r ≡ read (size_scan flags) Beginning (trimmed bytes)
+pub number_reading : (flags : Flags) (bytes : List ℕ) (r : Result (ℕ × UnitName) ParseError)
+    → size_seen r ≡ read (size_scan flags) Beginning (trimmed bytes)
     → IsNumberReading flags bytes r
 number_reading flags bytes r e = record {
   found = read_found (size_scan_is flags) stated size_fault (trimmed bytes) r e;

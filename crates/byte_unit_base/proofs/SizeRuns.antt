@@ -1,5 +1,5 @@
 -- The scan goes over each text of a size and each of their fronts to its end.
-use Rattle.std.proofs.Common.{◌≡◌, ◌≢◌, ℕ, zero, suc, ◌+◌, ◌-◌, ◌*◌, ◌^◌, ◌<◌, ◌≤◌, inl, inr, List, [], ◌∷◌, ◌++◌, Option, Some, None, Ok, option_and_then, length, replicate, sym, refl, ap, ◌∙◌, arith, true, false, cond, eqb, ltb, append-nil}
+use Rattle.std.proofs.Common.{◌≡◌, ◌≢◌, ℕ, zero, suc, ◌+◌, ◌-◌, ◌*◌, ◌^◌, ◌<◌, ◌≤◌, inl, inr, List, [], ◌∷◌, ◌++◌, Option, Some, None, Ok, length, replicate, sym, refl, ap, ◌∙◌, arith, true, false, cond, eqb, ltb, append-nil}
 use Rattle.std.specs.Option.{option_map}
 use Rattle.std.specs.Char.{digit_value, to_ascii_uppercase}
 use Rattle.std.specs.Str.Parse.{IsNumeral, AllDigits, digits_value, digits_value_after}
@@ -22,6 +22,7 @@ use Rattle.byte_unit_base.specs.declared.unit.scan.Word.{Word}
 use Rattle.byte_unit_base.specs.declared.unit.scan.Word.TheVariants.{Empty, UpperB, LowerB}
 use Rattle.byte_unit_base.specs.declared.read.scan.SizeScan.{SizeScan}
 use Rattle.byte_unit_base.specs.declared.read.scan.SizeScan.TheVariants.{Beginning, Whole, Point, Fraction, Gap, Unit as UnitAt}
+use Rattle.byte_unit_base.proofs.Options.{some_passed}
 use Rattle.byte_unit_base.proofs.UnitReached.{prefix_found}
 use Rattle.byte_unit_base.proofs.Scans.{run_through, run_step, run_keeps, IsScanned}
 use Rattle.byte_unit_base.proofs.UnitRuns.{spelling_runs, unit_front_runs}
@@ -32,9 +33,12 @@ step_first : (c : ℕ) → digit_value c < 10 → size_step Beginning c ≡ Some
 unfolding size_step
 step_first c h = let e : ltb (digit_value c) 10 ≡ true = grind (arith, nat_tests) in rw e refl
 
-step_whole : (w c : ℕ) → digit_value c < 10 → w * 10 + digit_value c < whole_limit → size_step (Whole w) c ≡ Some (Whole (w * 10 + digit_value c))
+step_whole : (w c : ℕ) → digit_value c < 10 → w * 10 + digit_value c < whole_limit
+    → size_step (Whole w) c ≡ Some (Whole (w * 10 + digit_value c))
 unfolding size_step
-step_whole w c h k = let e : ltb (digit_value c) 10 ≡ true = grind (arith, nat_tests) in let f : ltb (w * 10 + digit_value c) whole_limit ≡ true = grind (arith, nat_tests) in rw (e, f) refl
+step_whole w c h k =
+    let e : ltb (digit_value c) 10 ≡ true = grind (arith, nat_tests) in
+    let f : ltb (w * 10 + digit_value c) whole_limit ≡ true = grind (arith, nat_tests) in rw (e, f) refl
 
 pub step_point : (w : ℕ) → size_step (Whole w) 46 ≡ Some (Point w)
 unfolding size_step
@@ -44,42 +48,61 @@ step_pointed : (w c : ℕ) → digit_value c < 10 → size_step (Point w) c ≡ 
 unfolding size_step
 step_pointed w c h = let e : ltb (digit_value c) 10 ≡ true = grind (arith, nat_tests) in rw e refl
 
-step_fraction : (w f j c : ℕ) → digit_value c < 10 → j < places_of_decimal → size_step (Fraction w f j) c ≡ Some (Fraction w (f * 10 + digit_value c) (j + 1))
+step_fraction : (w f j c : ℕ) → digit_value c < 10 → j < places_of_decimal
+    → size_step (Fraction w f j) c ≡ Some (Fraction w (f * 10 + digit_value c) (j + 1))
 unfolding size_step
-step_fraction w f j c h k = let e : ltb (digit_value c) 10 ≡ true = grind (arith, nat_tests) in let g : ltb j places_of_decimal ≡ true = grind (arith, nat_tests) in rw (e, g) refl
+step_fraction w f j c h k =
+    let e : ltb (digit_value c) 10 ≡ true = grind (arith, nat_tests) in
+    let g : ltb j places_of_decimal ≡ true = grind (arith, nat_tests) in rw (e, g) refl
 
 value_rises : (ds : List ℕ) (v : ℕ) → v ≤ digits_value_after 10 v ds
 value_rises [] v = omega arith
 value_rises (c ∷ cs) v = omega (arith, value_rises cs (v * 10 + digit_value c))
 
-run_digits : (ds : List ℕ) (v : ℕ) → AllDigits 10 ds → digits_value_after 10 v ds < whole_limit → run size_step (Whole v) ds ≡ Some (Whole (digits_value_after 10 v ds))
+run_digits : (ds : List ℕ) (v : ℕ) → AllDigits 10 ds → digits_value_after 10 v ds < whole_limit
+    → run size_step (Whole v) ds ≡ Some (Whole (digits_value_after 10 v ds))
 run_digits [] v h k = refl
 run_digits (c ∷ cs) v h k =
     let small : v * 10 + digit_value c < whole_limit = omega (arith, value_rises cs (v * 10 + digit_value c), k) in
-    run_step size_step (Whole v) (Whole (v * 10 + digit_value c)) c cs (step_whole v c h.0 small) ∙ run_digits cs (v * 10 + digit_value c) h.1 k
+    run_step size_step (Whole v) (Whole (v * 10 + digit_value c)) c cs (step_whole v c h.0 small)
+    ∙ run_digits cs (v * 10 + digit_value c) h.1 k
 
 pub run_whole : (text : List ℕ) (w : ℕ) → IsWholePart current text w → run size_step Beginning text ≡ Some (Whole w)
 run_whole [] w h = absurd (omega (arith, h.0.0))
 run_whole (c ∷ cs) w h =
     let first : 0 * 10 + digit_value c ≡ digit_value c = omega arith in
     let value : digits_value_after 10 (digit_value c) cs ≡ w = sym (h.1 ∙ ap (λ v. digits_value_after 10 v cs) first) in
-    run_step size_step Beginning (Whole (digit_value c)) c cs (step_first c h.0.1.0) ∙ (run_digits cs (digit_value c) h.0.1.1 (omega (arith, value, h.2)) ∙ ap (λ v. Some (Whole v)) value)
+    run_step size_step Beginning (Whole (digit_value c)) c cs (step_first c h.0.1.0)
+    ∙ (run_digits cs (digit_value c) h.0.1.1 (omega (arith, value, h.2)) ∙ ap (λ v. Some (Whole v)) value)
 
-run_more_places : (ds : List ℕ) (w f j : ℕ) → AllDigits 10 ds → j + length ds ≤ places_of_decimal → (k : ℕ) × (run size_step (Fraction w f j) ds ≡ Some (Fraction w (digits_value_after 10 f ds) k)) × (k ≡ j + length ds)
+run_more_places : (ds : List ℕ) (w f j : ℕ) → AllDigits 10 ds → j + length ds ≤ places_of_decimal
+    → (k : ℕ) × (run size_step (Fraction w f j) ds ≡ Some (Fraction w (digits_value_after 10 f ds) k)) × (k ≡ j + length ds)
 run_more_places [] w f j h k = (j, refl, omega arith)
 run_more_places (c ∷ cs) w f j h k =
-    let r = run_more_places cs w (f * 10 + digit_value c) (j + 1) h.1 (omega arith) in
-    (r.0, run_step size_step (Fraction w f j) (Fraction w (f * 10 + digit_value c) (j + 1)) c cs (step_fraction w f j c h.0 (omega arith)) ∙ r.1, omega (arith, r.2))
+    let r = run_more_places cs w (f * 10 + digit_value c) (j + 1) h.1 (omega arith) in (
+      r.0,
+      run_step size_step (Fraction w f j) (Fraction w (f * 10 + digit_value c) (j + 1)) c cs (step_fraction w f j c h.0 (omega arith))
+          ∙ r.1,
+      omega (arith, r.2),
+    )
 
 run_pointed : (text : List ℕ) (w : ℕ) → IsPointed current text w → run size_step Beginning text ≡ Some (Point w)
-run_pointed text w h = ap (run size_step Beginning) h.text_is ∙ (run_through size_step Beginning (Whole w) h.whole (46 ∷ []) (run_whole h.whole w h.whole_is) ∙ run_step size_step (Whole w) (Point w) 46 [] (step_point w))
+run_pointed text w h =
+    ap (run size_step Beginning) h.text_is
+    ∙ (run_through size_step Beginning (Whole w) h.whole (46 ∷ []) (run_whole h.whole w h.whole_is)
+    ∙ run_step size_step (Whole w) (Point w) 46 [] (step_point w))
 
-pub run_places : (text : List ℕ) (w : ℕ) → IsNumeral 10 text → length text ≤ places_of_decimal → (k : ℕ) × (run size_step (Point w) text ≡ Some (Fraction w (digits_value 10 text) k)) × (k ≡ length text)
+pub run_places : (text : List ℕ) (w : ℕ) → IsNumeral 10 text → length text ≤ places_of_decimal
+    → (k : ℕ) × (run size_step (Point w) text ≡ Some (Fraction w (digits_value 10 text) k)) × (k ≡ length text)
 run_places [] w h l = absurd (omega (arith, h.0))
 run_places (c ∷ cs) w h l =
     let first : digit_value c ≡ 0 * 10 + digit_value c = omega arith in
-    let r = run_more_places cs w (digit_value c) 1 h.1.1 (omega arith) in
-    (r.0, run_step size_step (Point w) (Fraction w (digit_value c) 1) c cs (step_pointed w c h.1.0) ∙ (r.1 ∙ ap (λ v. Some (Fraction w (digits_value_after 10 v cs) r.0)) first), omega (arith, r.2))
+    let r = run_more_places cs w (digit_value c) 1 h.1.1 (omega arith) in (
+      r.0,
+      run_step size_step (Point w) (Fraction w (digit_value c) 1) c cs (step_pointed w c h.1.0)
+          ∙ (r.1 ∙ ap (λ v. Some (Fraction w (digits_value_after 10 v cs) r.0)) first),
+      omega (arith, r.2),
+    )
 
 -- a number, spaces, and a unit
 
@@ -100,8 +123,14 @@ run_precise text n h =
     let whole = run_whole h.whole h.value h.whole_is in
     record {
       state = Fraction h.value (digits_value 10 h.fraction) p.0;
-      run = ap (run size_step Beginning) h.text_is ∙ (run_through size_step Beginning (Whole h.value) h.whole (46 ∷ h.fraction) whole ∙ (run_step size_step (Whole h.value) (Point h.value) 46 h.fraction (step_point h.value) ∙ p.1));
-      holds = (ap (λ k. h.value * one + digits_value 10 h.fraction * 10 ^ (places_of_decimal - k)) p.2 ∙ (ap (λ x. h.value * one + x) (sym h.fraction_is.2) ∙ sym h.number_is), refl);
+      run = ap (run size_step Beginning) h.text_is
+          ∙ (run_through size_step Beginning (Whole h.value) h.whole (46 ∷ h.fraction) whole
+          ∙ (run_step size_step (Whole h.value) (Point h.value) 46 h.fraction (step_point h.value) ∙ p.1));
+      holds = (
+        ap (λ k. h.value * one + digits_value 10 h.fraction * 10 ^ (places_of_decimal - k)) p.2
+            ∙ (ap (λ x. h.value * one + x) (sym h.fraction_is.2) ∙ sym h.number_is),
+        refl,
+      );
     }
 
 run_number : (text : List ℕ) (n : ℕ) → IsNumberText current text n → RunsTo (AtNumber n) Beginning text
@@ -119,14 +148,17 @@ letter_bounds c Exa e = let h = (prefix_found c Exa e).2 in (omega (arith, h), o
 letter_bounds c Zetta e = let h = (prefix_found c Zetta e).2 in (omega (arith, h), omega (arith, h))
 letter_bounds c Yotta e = let h = (prefix_found c Yotta e).2 in (omega (arith, h), omega (arith, h))
 
-b_bounds : (c : ℕ) (w : Word) → cond (eqb c 66) (Some UpperB) (cond (eqb c 98) (Some LowerB) None) ≡ Some w → (65 ≤ to_ascii_uppercase c) × (to_ascii_uppercase c ≤ 90)
+b_bounds : (c : ℕ) (w : Word) → cond (eqb c 66) (Some UpperB) (cond (eqb c 98) (Some LowerB) None) ≡ Some w
+    → (65 ≤ to_ascii_uppercase c) × (to_ascii_uppercase c ≤ 90)
 b_bounds c w e = (grind (arith, nat_tests), grind (arith, nat_tests))
 
-word_bounds : (c : ℕ) (u : UnitScan) (o : Option Word) → word_step Empty c ≡ o → option_map (scan_of One) o ≡ Some u → (65 ≤ to_ascii_uppercase c) × (to_ascii_uppercase c ≤ 90)
+word_bounds : (c : ℕ) (u : UnitScan) (o : Option Word) → word_step Empty c ≡ o → option_map (scan_of One) o ≡ Some u
+    → (65 ≤ to_ascii_uppercase c) × (to_ascii_uppercase c ≤ 90)
 word_bounds c u None e h = absurd (let k : ⊥ = cc in k)
 word_bounds c u (Some w) e h = b_bounds c w e
 
-first_bounds : (c : ℕ) (u : UnitScan) (o : Option Prefix) → prefix_at c ≡ o → or_word One (option_map Decimal o) (word_step Empty c) ≡ Some u → (65 ≤ to_ascii_uppercase c) × (to_ascii_uppercase c ≤ 90)
+first_bounds : (c : ℕ) (u : UnitScan) (o : Option Prefix) → prefix_at c ≡ o
+    → or_word One (option_map Decimal o) (word_step Empty c) ≡ Some u → (65 ≤ to_ascii_uppercase c) × (to_ascii_uppercase c ≤ 90)
 first_bounds c u None e h = word_bounds c u (word_step Empty c) refl h
 first_bounds c u (Some p) e h = letter_bounds c p e
 
@@ -188,7 +220,11 @@ run_gap : (n k : ℕ) → RunsTo (AtGap n) (Gap n) (replicate k space)
 run_gap n zero = record { state = Gap n; run = refl; holds = (refl, refl) }
 run_gap n (suc k) =
     let r = run_gap n k in
-    record { state = r.state; run = run_step size_step (Gap n) (Gap n) space (replicate k space) (step_space n (Gap n) refl) ∙ r.run; holds = r.holds }
+    record {
+      state = r.state;
+      run = run_step size_step (Gap n) (Gap n) space (replicate k space) (step_space n (Gap n) refl) ∙ r.run;
+      holds = r.holds;
+    }
 
 run_some_spaces : (n k : ℕ) (s : SizeScan) → 0 < k → AtNumber n s → RunsTo (AtGap n) s (replicate k space)
 run_some_spaces n zero s some h = absurd (omega (arith, some))
@@ -204,11 +240,13 @@ step_in_unit : (n c : ℕ) (s t : UnitScan) → unit_step s c ≡ Some t → siz
 unfolding size_step
 step_in_unit n c s t e = ap (option_map (UnitAt n)) e
 
-run_in_unit : (n : ℕ) (u : UnitScan) (cs : List ℕ) (s : UnitScan) → run unit_step s cs ≡ Some u → run size_step (UnitAt n s) cs ≡ Some (UnitAt n u)
+run_in_unit : (n : ℕ) (u : UnitScan) (cs : List ℕ) (s : UnitScan) → run unit_step s cs ≡ Some u
+    → run size_step (UnitAt n s) cs ≡ Some (UnitAt n u)
 run_in_unit n u cs s h =
     let P : UnitScan → List ℕ → Type 0 = λ t text. run size_step (UnitAt n s) text ≡ Some (UnitAt n t) in
     run_keeps unit_step P
-    (λ t v c text e p. run_through size_step (UnitAt n s) (UnitAt n t) text (c ∷ []) p ∙ run_step size_step (UnitAt n t) (UnitAt n v) c [] (step_in_unit n c t v e))
+    (λ t v c text e p. run_through size_step (UnitAt n s) (UnitAt n t) text (c ∷ []) p
+    ∙ run_step size_step (UnitAt n t) (UnitAt n v) c [] (step_in_unit n c t v e))
     cs [] s u h refl
 
 -- a state that ends as a number and this unit, at its place if there is more of it than nothing
@@ -216,50 +254,89 @@ pub record EndsAs (n : ℕ) (u : UnitScan) (t : SizeScan) : Type 0 where
   pub ends : (flags : Flags) → size_at_end flags t ≡ sized n (unit_of flags u)
   pub place : place_of u ≢ before_unit → size_place t ≡ place_of u
 
-unit_first : (n : ℕ) (u : UnitScan) (s : SizeScan) (c : ℕ) (cs : List ℕ) → AtNumber n s → (o : Option UnitScan) → unit_step unit_start c ≡ o → option_and_then (λ t. run unit_step t cs) o ≡ Some u → RunsTo (EndsAs n u) s (c ∷ cs)
-unit_first n u s c cs h None e k = absurd (let x : ⊥ = cc in x)
-unit_first n u s c cs h (Some t) e k = record { state = UnitAt n u; run = run_step size_step s (UnitAt n t) c cs (step_unit n c s t h e) ∙ run_in_unit n u cs t k; holds = record { ends = λ flags. refl; place = λ moved. refl } }
-
-run_unit : (n : ℕ) (u : UnitScan) (s : SizeScan) (text : List ℕ) → AtNumber n s → run unit_step unit_start text ≡ Some u → RunsTo (EndsAs n u) s text
-run_unit n u s [] h k = let e : unit_start ≡ u = cc in record { state = s; run = refl; holds = record { ends = λ flags. number_end flags n s h ∙ ap (λ x. sized n (unit_of flags x)) e; place = λ moved. absurd (moved (ap place_of (sym e))) } }
-run_unit n u s (c ∷ cs) h k = unit_first n u s c cs h (unit_step unit_start c) refl k
+run_unit : (n : ℕ) (u : UnitScan) (s : SizeScan) (text : List ℕ) → AtNumber n s → run unit_step unit_start text ≡ Some u
+    → RunsTo (EndsAs n u) s text
+run_unit n u s [] h k =
+    let e : unit_start ≡ u = cc in
+    record {
+      state = s;
+      run = refl;
+      holds = record {
+        ends = λ flags. number_end flags n s h ∙ ap (λ x. sized n (unit_of flags x)) e;
+        place = λ moved. absurd (moved (ap place_of (sym e)));
+      };
+    }
+run_unit n u s (c ∷ cs) h k =
+    let t = some_passed (λ v. run unit_step v cs) u (unit_step unit_start c) k in
+    record {
+      state = UnitAt n u;
+      run = run_step size_step s (UnitAt n t.0) c cs (step_unit n c s t.0 h t.1) ∙ run_in_unit n u cs t.0 t.2;
+      holds = record { ends = λ flags. refl; place = λ moved. refl };
+    }
 
 -- a number, spaces and what can still become a spelling
-run_sized : (n k : ℕ) (u : UnitScan) (text number unit : List ℕ) → text ≡ number ++ (replicate k space ++ unit) → IsNumberText current number n → run unit_step unit_start unit ≡ Some u → RunsTo (EndsAs n u) Beginning text
-run_sized n k u text number unit e h r =
-    let a = run_number number n h in
-    let b = run_spaces n k a.state a.holds in
+pub record IsNumbered (n : ℕ) (unit_part text : List ℕ) : Type 0 where
+  pub number_part : List ℕ
+  pub spaces : ℕ
+  pub text_is : text ≡ number_part ++ (replicate spaces space ++ unit_part)
+  pub number_is : IsNumberText current number_part n
+
+run_numbered : (n : ℕ) (u : UnitScan) (unit text : List ℕ) → IsNumbered n unit text → run unit_step unit_start unit ≡ Some u
+    → RunsTo (EndsAs n u) Beginning text
+run_numbered n u unit text h r =
+    let spaces = replicate h.spaces space in
+    let a = run_number h.number_part n h.number_is in
+    let b = run_spaces n h.spaces a.state a.holds in
     let c = run_unit n u b.state unit b.holds r in
-    record { state = c.state; run = ap (run size_step Beginning) e ∙ (run_through size_step Beginning a.state number (replicate k space ++ unit) a.run ∙ (run_through size_step a.state b.state (replicate k space) unit b.run ∙ c.run)); holds = c.holds }
+    let to_unit = run_through size_step a.state b.state spaces unit b.run in
+    record {
+      state = c.state;
+      run = ap (run size_step Beginning) h.text_is
+          ∙ (run_through size_step Beginning a.state h.number_part (spaces ++ unit) a.run ∙ (to_unit ∙ c.run));
+      holds = c.holds;
+    }
 
 -- a size text is read to its end
 
-pub size_text_runs : (flags : Flags) (text : List ℕ) (n : ℕ) (s : Shape) → IsSizeText current flags text n s → RunsTo (λ t. size_at_end flags t ≡ Ok (n, s)) Beginning text
+pub size_text_runs : (flags : Flags) (text : List ℕ) (n : ℕ) (s : Shape) → IsSizeText current flags text n s
+    → RunsTo (λ t. size_at_end flags t ≡ Ok (n, s)) Beginning text
 size_text_runs flags text n s h =
     let u = spelling_runs flags h.unit_part s h.unit_is in
-    let r = run_sized n h.spaces (scan_of u.multiple u.word) text h.number_part h.unit_part h.text_is h.number_is u.run in
+    let numbered : IsNumbered n h.unit_part text =
+    record { number_part = h.number_part; spaces = h.spaces; text_is = h.text_is; number_is = h.number_is } in
+    let r = run_numbered n (scan_of u.multiple u.word) h.unit_part text numbered u.run in
     record { state = r.state; run = r.run; holds = r.holds.ends flags ∙ ap (sized n) u.unit }
 
 -- a front is scanned to its end
 
-sized_front : (flags : Flags) (place : Place) (text : List ℕ) → place ≢ before_unit → IsSizedFront current place text → IsScanned (size_scan flags) place text
+sized_front : (flags : Flags) (place : Place) (text : List ℕ) → place ≢ before_unit → IsSizedFront current place text
+    → IsScanned (size_scan flags) place text
 sized_front flags place text moved h =
     let u = unit_front_runs flags place h.unit_part h.unit_is in
-    let r = run_sized h.number h.spaces u.state text h.number_part h.unit_part h.text_is h.number_is u.run_is in
+    let numbered : IsNumbered h.number h.unit_part text =
+    record { number_part = h.number_part; spaces = h.spaces; text_is = h.text_is; number_is = h.number_is } in
+    let r = run_numbered h.number u.state h.unit_part text numbered u.run_is in
     record { state = r.state; run_is = r.run; place_is = r.holds.place (λ e. moved (sym u.place_is ∙ e)) ∙ u.place_is }
 
-pub size_front_runs : (flags : Flags) (place : Place) (text : List ℕ) → IsSizeFront current place text → IsScanned (size_scan flags) place text
+pub size_front_runs : (flags : Flags) (place : Place) (text : List ℕ) → IsSizeFront current place text
+    → IsScanned (size_scan flags) place text
 size_front_runs flags beginning text h = record { state = Beginning; run_is = ap (run size_step Beginning) h; place_is = refl }
 size_front_runs flags in_whole text h = record { state = Whole h.0; run_is = run_whole text h.0 h.1; place_is = refl }
 size_front_runs flags after_point text h = record { state = Point h.0; run_is = run_pointed text h.0 h.1; place_is = refl }
-size_front_runs flags in_fraction text h = let r = run_precise text h.0 h.1 in record { state = r.state; run_is = r.run; place_is = r.holds.1 }
+size_front_runs flags in_fraction text h =
+    let r = run_precise text h.0 h.1 in record { state = r.state; run_is = r.run; place_is = r.holds.1 }
 size_front_runs flags before_unit text h =
     let f = h.0 in
     let a = run_number f.number_part f.number f.number_is in
     let b = run_some_spaces f.number f.spaces a.state h.1 a.holds in
     let spaces = replicate f.spaces space in
-    let e : text ≡ f.number_part ++ spaces = f.text_is ∙ ap (λ x. f.number_part ++ x) (ap (λ x. spaces ++ x) f.unit_is ∙ append-nil spaces) in
-    record { state = b.state; run_is = ap (run size_step Beginning) e ∙ (run_through size_step Beginning a.state f.number_part spaces a.run ∙ b.run); place_is = b.holds.1 }
+    let e : text ≡ f.number_part ++ spaces = f.text_is
+    ∙ ap (λ x. f.number_part ++ x) (ap (λ x. spaces ++ x) f.unit_is ∙ append-nil spaces) in
+    record {
+      state = b.state;
+      run_is = ap (run size_step Beginning) e ∙ (run_through size_step Beginning a.state f.number_part spaces a.run ∙ b.run);
+      place_is = b.holds.1;
+    }
 size_front_runs flags after_prefix text h = sized_front flags after_prefix text (λ e. cc) h
 size_front_runs flags after_b text h = sized_front flags after_b text (λ e. cc) h
 size_front_runs flags after_bi text h = sized_front flags after_bi text (λ e. cc) h

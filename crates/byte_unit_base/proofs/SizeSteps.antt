@@ -1,5 +1,5 @@
 -- One step of the scan of a size, by cases, and the scan of a whole text.
-use Rattle.std.proofs.Common.{◌≡◌, ℕ, ◌+◌, ◌*◌, ◌^◌, ◌<◌, ◌⊎◌, inl, inr, ⊎_elim, Option, Some, None, refl, subst, arith, Bool, true, false, cond, eqb, ltb}
+use Rattle.std.proofs.Common.{◌≡◌, ℕ, ◌+◌, ◌*◌, ◌^◌, ◌<◌, ◌⊎◌, inl, inr, ⊎_elim, Some, None, refl, subst, arith, Bool, true, false, cond, eqb, ltb}
 use Rattle.std.specs.Option.{option_map}
 use Rattle.std.specs.Char.{digit_value}
 use Rattle.std.proofs.Math.Nat.{pow-succ'}
@@ -11,6 +11,7 @@ use Rattle.byte_unit_base.specs.SizeScan.{IsScan, size_step, after_number, preci
 use Rattle.byte_unit_base.specs.declared.unit.scan.UnitScan.{UnitScan}
 use Rattle.byte_unit_base.specs.declared.read.scan.SizeScan.{SizeScan}
 use Rattle.byte_unit_base.specs.declared.read.scan.SizeScan.TheVariants.{Beginning, Whole, Point, Fraction, Gap, Unit as UnitAt}
+use Rattle.byte_unit_base.proofs.Options.{some_mapped}
 use Rattle.byte_unit_base.proofs.UnitReached.{guard_some, is_true}
 
 -- a step by cases
@@ -23,9 +24,12 @@ AfterNumber n c t = ((c ≡ 32) × (Gap n ≡ t)) ⊎ UnitStep n unit_start c t
 
 abbrev pub StepOf : SizeScan → ℕ → SizeScan → Type 0
 StepOf Beginning c t = (digit_value c < 10) × (Whole (digit_value c) ≡ t)
-StepOf (Whole w) c t = ((digit_value c < 10) × (w * 10 + digit_value c < whole_limit) × (Whole (w * 10 + digit_value c) ≡ t)) ⊎ (((c ≡ 46) × (Point w ≡ t)) ⊎ AfterNumber (w * one) c t)
+StepOf (Whole w) c t =
+    ((digit_value c < 10) × (w * 10 + digit_value c < whole_limit) × (Whole (w * 10 + digit_value c) ≡ t))
+    ⊎ (((c ≡ 46) × (Point w ≡ t)) ⊎ AfterNumber (w * one) c t)
 StepOf (Point w) c t = (digit_value c < 10) × (Fraction w (digit_value c) 1 ≡ t)
-StepOf (Fraction w f j) c t = ((digit_value c < 10) × (j < places_of_decimal) × (Fraction w (f * 10 + digit_value c) (j + 1) ≡ t)) ⊎ AfterNumber (precise w f j) c t
+StepOf (Fraction w f j) c t =
+    ((digit_value c < 10) × (j < places_of_decimal) × (Fraction w (f * 10 + digit_value c) (j + 1) ≡ t)) ⊎ AfterNumber (precise w f j) c t
 StepOf (Gap n) c t = AfterNumber n c t
 StepOf (UnitAt n s) c t = UnitStep n s c t
 
@@ -33,27 +37,30 @@ cond_is : {X : Type 0} (t : Bool) (x y z : X) → cond t x y ≡ z → ((t ≡ t
 cond_is true x y z e = inl (refl, e)
 cond_is false x y z e = inr (refl, e)
 
-unit_step_is : (n : ℕ) (c : ℕ) (s : UnitScan) (t : SizeScan) (o : Option UnitScan) → unit_step s c ≡ o → option_map (UnitAt n) o ≡ Some t → UnitStep n s c t
-unit_step_is n c s t None e h = absurd (let k : ⊥ = cc in k)
-unit_step_is n c s t (Some u) e h = (u, e, cc)
-
 after_number_is : (n c : ℕ) (t : SizeScan) → after_number n c ≡ Some t → AfterNumber n c t
-after_number_is n c t e = ⊎_elim (λ h. inl (is_true _ _ h.0, cc)) (λ h. inr (unit_step_is n c unit_start t (unit_step unit_start c) refl h.1)) (cond_is (eqb c 32) (Some (Gap n)) (option_map (UnitAt n) (unit_step unit_start c)) (Some t) e)
+after_number_is n c t e =
+    ⊎_elim (λ h. inl (is_true _ _ h.0, cc)) (λ h. inr (some_mapped (UnitAt n) t (unit_step unit_start c) h.1))
+    (cond_is (eqb c 32) (Some (Gap n)) (option_map (UnitAt n) (unit_step unit_start c)) (Some t) e)
 
 pub step_is : (s t : SizeScan) (c : ℕ) → size_step s c ≡ Some t → StepOf s c t
 unfolding size_step
 step_is Beginning t c e = let g = guard_some (is_digit c) (Whole (digit_value c)) t e in (ltb-true _ _ g.0, g.1)
 step_is (Whole w) t c e =
-    ⊎_elim (λ h. let g = guard_some (ltb (w * 10 + digit_value c) whole_limit) (Whole (w * 10 + digit_value c)) t h.1 in inl (ltb-true _ _ h.0, ltb-true _ _ g.0, g.1))
-    (λ h. inr (⊎_elim (λ k. inl (is_true _ _ k.0, cc)) (λ k. inr (after_number_is (w * one) c t k.1)) (cond_is (eqb c 46) (Some (Point w)) (after_number (w * one) c) (Some t) h.1)))
-    (cond_is (is_digit c) (cond (ltb (w * 10 + digit_value c) whole_limit) (Some (Whole (w * 10 + digit_value c))) None) (cond (eqb c 46) (Some (Point w)) (after_number (w * one) c)) (Some t) e)
+    ⊎_elim (λ h. let g = guard_some (ltb (w * 10 + digit_value c) whole_limit) (Whole (w * 10 + digit_value c)) t h.1 in inl
+    (ltb-true _ _ h.0, ltb-true _ _ g.0, g.1))
+    (λ h. inr (⊎_elim (λ k. inl (is_true _ _ k.0, cc)) (λ k. inr (after_number_is (w * one) c t k.1))
+    (cond_is (eqb c 46) (Some (Point w)) (after_number (w * one) c) (Some t) h.1)))
+    (cond_is (is_digit c) (cond (ltb (w * 10 + digit_value c) whole_limit) (Some (Whole (w * 10 + digit_value c))) None)
+    (cond (eqb c 46) (Some (Point w)) (after_number (w * one) c)) (Some t) e)
 step_is (Point w) t c e = let g = guard_some (is_digit c) (Fraction w (digit_value c) 1) t e in (ltb-true _ _ g.0, g.1)
 step_is (Fraction w f j) t c e =
-    ⊎_elim (λ h. let g = guard_some (ltb j places_of_decimal) (Fraction w (f * 10 + digit_value c) (j + 1)) t h.1 in inl (ltb-true _ _ h.0, ltb-true _ _ g.0, g.1))
+    ⊎_elim (λ h. let g = guard_some (ltb j places_of_decimal) (Fraction w (f * 10 + digit_value c) (j + 1)) t h.1 in inl
+    (ltb-true _ _ h.0, ltb-true _ _ g.0, g.1))
     (λ h. inr (after_number_is (precise w f j) c t h.1))
-    (cond_is (is_digit c) (cond (ltb j places_of_decimal) (Some (Fraction w (f * 10 + digit_value c) (j + 1))) None) (after_number (precise w f j) c) (Some t) e)
+    (cond_is (is_digit c) (cond (ltb j places_of_decimal) (Some (Fraction w (f * 10 + digit_value c) (j + 1))) None)
+    (after_number (precise w f j) c) (Some t) e)
 step_is (Gap n) t c e = after_number_is n c t e
-step_is (UnitAt n s) t c e = unit_step_is n c s t (unit_step s c) refl e
+step_is (UnitAt n s) t c e = some_mapped (UnitAt n) t (unit_step s c) e
 
 -- a step keeps the bounds of a scan
 

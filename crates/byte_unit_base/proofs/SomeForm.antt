@@ -10,7 +10,6 @@ use Rattle.byte_unit_base.specs.declared.kind.Kind.{Kind}
 use Rattle.byte_unit_base.specs.declared.kind.Kind.TheVariants.{Byte, Bit}
 use Rattle.byte_unit_base.proofs.LaterChoices.{number_times_chosen}
 use Rattle.byte_unit_base.proofs.SomeChoice.{choice_or_none}
-use Rattle.byte_unit_base.specs.declared.format.spec.FormatSpec.{FormatSpec}
 use Rattle.byte_unit_base.specs.Layout.{layout}
 use Rattle.byte_unit_base.specs.Forms.{places_of, IsSizeForm}
 use Rattle.byte_unit_base.specs.FormLaws.{SizeHasOneForm}

@@ -16,7 +16,9 @@ scalars_skip (c ∷ cs) e = scalars_cond (is_whitespace c) _ _ (scalars_skip cs 
 
 scalars_drop : (cs : List ℕ) → all_scalars cs ≡ true → all_scalars (drop_trailing_whitespace cs) ≡ true
 scalars_drop [] e = refl
-scalars_drop (c ∷ cs) e = scalars_cond (is_whitespace c && nat_eq (length (drop_trailing_whitespace cs)) 0) [] _ refl (and_from _ _ (and_parts _ _ e).0 (scalars_drop cs (and_parts _ _ e).1))
+scalars_drop (c ∷ cs) e =
+    scalars_cond (is_whitespace c && nat_eq (length (drop_trailing_whitespace cs)) 0) [] _ refl
+    (and_from _ _ (and_parts _ _ e).0 (scalars_drop cs (and_parts _ _ e).1))
 
 chars-trim_start : (bs : List ℕ) → IsUtf8 bs → chars (trim_start bs) ≡ skip_leading_whitespace (chars bs)
 unfolding trim_start
@@ -26,4 +28,6 @@ pub chars-trim : (bs : List ℕ) → IsUtf8 bs → chars (trim bs) ≡ trimmed b
 unfolding trim_end
 chars-trim bs u =
     let e = chars-trim_start bs u in
-    ap (λ cs. chars (encode_utf8_all (drop_trailing_whitespace cs))) e ∙ chars-encodes (drop_trailing_whitespace (skip_leading_whitespace (chars bs))) (scalars_drop (skip_leading_whitespace (chars bs)) (scalars_skip (chars bs) (scalars-chars bs u)))
+    ap (λ cs. chars (encode_utf8_all (drop_trailing_whitespace cs))) e
+    ∙ chars-encodes (drop_trailing_whitespace (skip_leading_whitespace (chars bs)))
+    (scalars_drop (skip_leading_whitespace (chars bs)) (scalars_skip (chars bs) (scalars-chars bs u)))

@@ -1,5 +1,5 @@
 -- The scan of a spelling and the spellings are one: what the scan has read, and what it reads.
-use Rattle.std.proofs.Common.{◌≡◌, ℕ, ◌-◌, inl, inr, List, [], ◌∷◌, ◌++◌, Option, Some, None, sym, refl, ap, subst, ◌∙◌, arith, Bool, true, false, cond, eqb, append_assoc, append-nil}
+use Rattle.std.proofs.Common.{◌≡◌, ℕ, ◌-◌, inl, inr, List, [], ◌∷◌, ◌++◌, Option, Some, None, sym, refl, ap, subst, ◌∙◌, arith, Bool, true, false, cond, eqb, append-nil}
 use Rattle.std.specs.Prelude.{slice_index, codes}
 use Rattle.std.specs.Option.{option_map}
 use Rattle.std.specs.Char.{to_ascii_lowercase, to_ascii_uppercase}
@@ -16,6 +16,8 @@ use Rattle.byte_unit_base.specs.declared.unit.scan.Word.TheVariants.{Empty, Uppe
 use Rattle.byte_unit_base.specs.declared.unit.scan.Multiple.{Multiple}
 use Rattle.byte_unit_base.specs.declared.unit.scan.Multiple.TheVariants.{One, Decimal, Binary}
 use Rattle.byte_unit_base.specs.declared.unit.scan.UnitScan.{UnitScan}
+use Rattle.byte_unit_base.proofs.Lists.{push_last}
+use Rattle.byte_unit_base.proofs.Options.{some_mapped}
 
 -- what has been read at a state of the scan
 
@@ -40,7 +42,11 @@ pub record Reached (s : UnitScan) (text : List ℕ) : Type 0 where
   pub word_is : IsWordText s.word word
 
 -- a test of one letter after another
-letter_found : (u : ℕ) (p : Prefix) → cond (eqb u 75) (Some Kilo) (cond (eqb u 77) (Some Mega) (cond (eqb u 71) (Some Giga) (cond (eqb u 84) (Some Tera) (cond (eqb u 80) (Some Peta) (cond (eqb u 69) (Some Exa) (cond (eqb u 90) (Some Zetta) (cond (eqb u 89) (Some Yotta) None))))))) ≡ Some p → u ≡ slice_index (codes "KMGTPEZY") (power_of p - 1)
+letter_found : (u : ℕ) (p : Prefix)
+    → cond (eqb u 75) (Some Kilo) (cond (eqb u 77) (Some Mega)
+    (cond (eqb u 71) (Some Giga) (cond (eqb u 84) (Some Tera)
+    (cond (eqb u 80) (Some Peta) (cond (eqb u 69) (Some Exa) (cond (eqb u 90) (Some Zetta) (cond (eqb u 89) (Some Yotta) None))))))) ≡
+    Some p → u ≡ slice_index (codes "KMGTPEZY") (power_of p - 1)
 letter_found u Kilo e = grind (arith, nat_tests)
 letter_found u Mega e = grind (arith, nat_tests)
 letter_found u Giga e = grind (arith, nat_tests)
@@ -68,23 +74,35 @@ pub is_true : (a b : ℕ) → eqb a b ≡ true → a ≡ b
 is_true a b e = grind (arith, nat_tests)
 
 -- one character more of the prefix
-multiple_grows_from_one : (c : ℕ) (n : Multiple) (o : Option Prefix) → prefix_at c ≡ o → option_map Decimal o ≡ Some n → IsMultipleText n (c ∷ [])
-multiple_grows_from_one c n None e h = absurd (let k : ⊥ = cc in k)
-multiple_grows_from_one c n (Some p) e h =
-    let s : Decimal p ≡ n = cc in
-    let one_letter : IsMultipleText (Decimal p) (c ∷ []) = record { letter = c; infix_part = []; text_is = refl; letter_is = prefix_found c p e; infix_is = inl (refl, refl) } in
-    subst (λ m. IsMultipleText m (c ∷ [])) s one_letter
+multiple_grows_from_one : (c : ℕ) (n : Multiple) → option_map Decimal (prefix_at c) ≡ Some n → IsMultipleText n (c ∷ [])
+multiple_grows_from_one c n e =
+    let p = some_mapped Decimal n (prefix_at c) e in
+    let one_letter : IsMultipleText (Decimal p.0) (c ∷ []) = record {
+      letter = c;
+      infix_part = [];
+      text_is = refl;
+      letter_is = prefix_found c p.0 p.1;
+      infix_is = inl (refl, refl);
+    } in
+    subst (λ m. IsMultipleText m (c ∷ [])) p.2 one_letter
 
 no_infix : (text : List ℕ) → SpellsBinary text false → text ≡ []
 no_infix text (inl h) = h.0
 no_infix text (inr h) = absurd (let k : ⊥ = cc (h.1) in k)
 
-multiple_grows : (m n : Multiple) (c : ℕ) (text : List ℕ) → multiple_step m c ≡ Some n → IsMultipleText m text → IsMultipleText n (text ++ c ∷ [])
-multiple_grows One n c text e h = rw h (multiple_grows_from_one c n (prefix_at c) refl e)
+multiple_grows : (m n : Multiple) (c : ℕ) (text : List ℕ) → multiple_step m c ≡ Some n → IsMultipleText m text
+    → IsMultipleText n (text ++ c ∷ [])
+multiple_grows One n c text e h = rw h (multiple_grows_from_one c n e)
 multiple_grows (Decimal p) n c text e h =
     let g = guard_some (is_i c) (Binary p) n e in
     let whole : text ≡ h.letter ∷ [] = h.text_is ∙ ap (λ x. h.letter ∷ x) (no_infix h.infix_part h.infix_is) in
-    let with_i : IsMultipleText (Binary p) (text ++ c ∷ []) = record { letter = h.letter; infix_part = c ∷ []; text_is = ap (λ x. x ++ c ∷ []) whole; letter_is = h.letter_is; infix_is = inr (ap (λ x. x ∷ []) (is_true _ _ g.0), refl) } in
+    let with_i : IsMultipleText (Binary p) (text ++ c ∷ []) = record {
+      letter = h.letter;
+      infix_part = c ∷ [];
+      text_is = ap (λ x. x ++ c ∷ []) whole;
+      letter_is = h.letter_is;
+      infix_is = inr (ap (λ x. x ∷ []) (is_true _ _ g.0), refl);
+    } in
     subst (λ m. IsMultipleText m (text ++ c ∷ [])) g.1 with_i
 multiple_grows (Binary p) n c text e h = absurd (let k : ⊥ = cc in k)
 
@@ -103,44 +121,64 @@ first_grows Bits c e = grind (arith, nat_tests)
 
 word_grows : (w v : Word) (c : ℕ) (text : List ℕ) → word_step w c ≡ Some v → IsWordText w text → IsWordText v (text ++ c ∷ [])
 word_grows Empty v c text e h = rw h (first_grows v c e)
-word_grows UpperB v c text e h = let g = guard_some (is_i c) Bi v e in rw h (subst (λ w. IsWordText w (66 ∷ c ∷ [])) g.1 (ap (λ x. 98 ∷ x ∷ []) (is_true _ _ g.0)))
-word_grows LowerB v c text e h = let g = guard_some (is_i c) Bi v e in rw h (subst (λ w. IsWordText w (98 ∷ c ∷ [])) g.1 (ap (λ x. 98 ∷ x ∷ []) (is_true _ _ g.0)))
-word_grows Bi v c text e h = let g = guard_some (eqb (to_ascii_lowercase c) 116) Bit v e in subst (λ w. IsWordText w (text ++ c ∷ [])) g.1 (lower_push text c ∙ (ap (λ t. t ++ to_ascii_lowercase c ∷ []) h ∙ ap (λ x. 98 ∷ 105 ∷ x ∷ []) (is_true _ _ g.0)))
-word_grows Bit v c text e h = let g = guard_some (eqb (to_ascii_lowercase c) 115) Bits v e in subst (λ w. IsWordText w (text ++ c ∷ [])) g.1 (lower_push text c ∙ (ap (λ t. t ++ to_ascii_lowercase c ∷ []) h ∙ ap (λ x. 98 ∷ 105 ∷ 116 ∷ x ∷ []) (is_true _ _ g.0)))
+word_grows UpperB v c text e h =
+    let g = guard_some (is_i c) Bi v e in rw h (subst (λ w. IsWordText w (66 ∷ c ∷ [])) g.1 (ap (λ x. 98 ∷ x ∷ []) (is_true _ _ g.0)))
+word_grows LowerB v c text e h =
+    let g = guard_some (is_i c) Bi v e in rw h (subst (λ w. IsWordText w (98 ∷ c ∷ [])) g.1 (ap (λ x. 98 ∷ x ∷ []) (is_true _ _ g.0)))
+word_grows Bi v c text e h =
+    let g = guard_some (eqb (to_ascii_lowercase c) 116) Bit v e in
+    subst (λ w. IsWordText w (text ++ c ∷ [])) g.1
+    (lower_push text c ∙ (ap (λ t. t ++ to_ascii_lowercase c ∷ []) h ∙ ap (λ x. 98 ∷ 105 ∷ x ∷ []) (is_true _ _ g.0)))
+word_grows Bit v c text e h =
+    let g = guard_some (eqb (to_ascii_lowercase c) 115) Bits v e in
+    subst (λ w. IsWordText w (text ++ c ∷ [])) g.1
+    (lower_push text c ∙ (ap (λ t. t ++ to_ascii_lowercase c ∷ []) h ∙ ap (λ x. 98 ∷ 105 ∷ 116 ∷ x ∷ []) (is_true _ _ g.0)))
 word_grows Bits v c text e h = absurd (let k : ⊥ = cc in k)
 
 -- one character more of the scan
-append_push : (text front word : List ℕ) (c : ℕ) → text ≡ front ++ word → text ++ c ∷ [] ≡ front ++ (word ++ c ∷ [])
-append_push text front word c e = ap (λ t. t ++ c ∷ []) e ∙ append_assoc front word (c ∷ [])
+reached_by_word : (m : Multiple) (w : Word) (t : UnitScan) (c : ℕ) (text : List ℕ) → option_map (scan_of m) (word_step w c) ≡ Some t
+    → Reached (scan_of m w) text → Reached t (text ++ c ∷ [])
+reached_by_word m w t c text h r =
+    let v = some_mapped (scan_of m) t (word_step w c) h in
+    subst (λ u. Reached u (text ++ c ∷ [])) v.2 (record {
+      front = r.front;
+      word = r.word ++ c ∷ [];
+      text_is = push_last text r.front r.word c r.text_is;
+      front_is = r.front_is;
+      word_is = word_grows w v.0 c r.word v.1 r.word_is;
+    })
 
-by_word : (m : Multiple) (w : Word) (t : UnitScan) (c : ℕ) (text : List ℕ) (o : Option Word) → word_step w c ≡ o → option_map (scan_of m) o ≡ Some t → Reached (scan_of m w) text → Reached t (text ++ c ∷ [])
-by_word m w t c text None e h r = absurd (let k : ⊥ = cc in k)
-by_word m w t c text (Some v) e h r =
-    let s : scan_of m v ≡ t = cc in
-    subst (λ u. Reached u (text ++ c ∷ [])) s (record { front = r.front; word = r.word ++ c ∷ []; text_is = append_push text r.front r.word c r.text_is; front_is = r.front_is; word_is = word_grows w v c r.word e r.word_is })
-
-by_prefix : (m : Multiple) (t : UnitScan) (c : ℕ) (text : List ℕ) (o : Option Multiple) → multiple_step m c ≡ o → or_word m o (word_step Empty c) ≡ Some t → Reached (scan_of m Empty) text → Reached t (text ++ c ∷ [])
-by_prefix m t c text None e h r = by_word m Empty t c text (word_step Empty c) refl h r
-by_prefix m t c text (Some n) e h r =
+reached_by_prefix : (m : Multiple) (t : UnitScan) (c : ℕ) (text : List ℕ) (o : Option Multiple) → multiple_step m c ≡ o
+    → or_word m o (word_step Empty c) ≡ Some t → Reached (scan_of m Empty) text → Reached t (text ++ c ∷ [])
+reached_by_prefix m t c text None e h r = reached_by_word m Empty t c text h r
+reached_by_prefix m t c text (Some n) e h r =
     let s : scan_of n Empty ≡ t = cc in
     let whole : text ≡ r.front = r.text_is ∙ (ap (λ w. r.front ++ w) r.word_is ∙ append-nil r.front) in
-    subst (λ u. Reached u (text ++ c ∷ [])) s (record { front = r.front ++ c ∷ []; word = []; text_is = ap (λ x. x ++ c ∷ []) whole ∙ sym (append-nil (r.front ++ c ∷ [])); front_is = multiple_grows m n c r.front e r.front_is; word_is = refl })
+    subst (λ u. Reached u (text ++ c ∷ [])) s (record {
+      front = r.front ++ c ∷ [];
+      word = [];
+      text_is = ap (λ x. x ++ c ∷ []) whole ∙ sym (append-nil (r.front ++ c ∷ []));
+      front_is = multiple_grows m n c r.front e r.front_is;
+      word_is = refl;
+    })
 
-pub Reached-step : (m : Multiple) (w : Word) (t : UnitScan) (c : ℕ) (text : List ℕ) → unit_step (scan_of m w) c ≡ Some t → Reached (scan_of m w) text → Reached t (text ++ c ∷ [])
+pub Reached-step : (m : Multiple) (w : Word) (t : UnitScan) (c : ℕ) (text : List ℕ) → unit_step (scan_of m w) c ≡ Some t
+    → Reached (scan_of m w) text → Reached t (text ++ c ∷ [])
 unfolding unit_step
-Reached-step m Empty t c text h r = by_prefix m t c text (multiple_step m c) refl h r
-Reached-step m UpperB t c text h r = by_word m UpperB t c text (word_step UpperB c) refl h r
-Reached-step m LowerB t c text h r = by_word m LowerB t c text (word_step LowerB c) refl h r
-Reached-step m Bi t c text h r = by_word m Bi t c text (word_step Bi c) refl h r
-Reached-step m Bit t c text h r = by_word m Bit t c text (word_step Bit c) refl h r
-Reached-step m Bits t c text h r = by_word m Bits t c text (word_step Bits c) refl h r
+Reached-step m Empty t c text h r = reached_by_prefix m t c text (multiple_step m c) refl h r
+Reached-step m UpperB t c text h r = reached_by_word m UpperB t c text h r
+Reached-step m LowerB t c text h r = reached_by_word m LowerB t c text h r
+Reached-step m Bi t c text h r = reached_by_word m Bi t c text h r
+Reached-step m Bit t c text h r = reached_by_word m Bit t c text h r
+Reached-step m Bits t c text h r = reached_by_word m Bits t c text h r
 
 pub Reached-start : Reached start []
 Reached-start = record { front = []; word = []; text_is = refl; front_is = refl; word_is = refl }
 
 -- what stands at the end of a scan
 
-count_spelled : (flags : Flags) (w : Word) (text : List ℕ) (bit : Bool) → count_of flags w ≡ Some bit → IsWordText w text → SpellsCount flags text bit
+count_spelled : (flags : Flags) (w : Word) (text : List ℕ) (bit : Bool) → count_of flags w ≡ Some bit → IsWordText w text
+    → SpellsCount flags text bit
 count_spelled flags Empty text bit e h = inl (h, cc)
 count_spelled flags UpperB text bit e h = inr (inl (h, cc))
 count_spelled flags LowerB text bit e h = inr (inr (inl (h, cc)))
@@ -148,16 +186,17 @@ count_spelled flags Bi text bit e h = absurd (let k : ⊥ = cc in k)
 count_spelled flags Bit text bit e h = inr (inr (inr (inl (h, cc))))
 count_spelled flags Bits text bit e h = inr (inr (inr (inr (h, cc))))
 
-spelled : (flags : Flags) (m : Multiple) (front word : List ℕ) (bit : Bool) → IsMultipleText m front → SpellsCount flags word bit → Spells current flags (front ++ word) (multiple_shape m bit)
+spelled : (flags : Flags) (m : Multiple) (front word : List ℕ) (bit : Bool) → IsMultipleText m front → SpellsCount flags word bit
+    → Spells current flags (front ++ word) (multiple_shape m bit)
 spelled flags One front word bit h k = rw h (inl (record { count_is = k; power_is = refl; binary_is = refl }))
-spelled flags (Decimal p) front word bit h k = inr (record { prefix_part = front; count_part = word; text_is = refl; prefix_is = h; count_is = k })
-spelled flags (Binary p) front word bit h k = inr (record { prefix_part = front; count_part = word; text_is = refl; prefix_is = h; count_is = k })
+spelled flags (Decimal p) front word bit h k =
+    inr (record { prefix_part = front; count_part = word; text_is = refl; prefix_is = h; count_is = k })
+spelled flags (Binary p) front word bit h k =
+    inr (record { prefix_part = front; count_part = word; text_is = refl; prefix_is = h; count_is = k })
 
-by_count : (flags : Flags) (m : Multiple) (w : Word) (text : List ℕ) (s : Shape) (o : Option Bool) → count_of flags w ≡ o → option_map (multiple_shape m) o ≡ Some s → Reached (scan_of m w) text → Spells current flags text s
-by_count flags m w text s None e h r = absurd (let k : ⊥ = cc in k)
-by_count flags m w text s (Some bit) e h r =
-    let same : multiple_shape m bit ≡ s = cc in
-    subst (λ x. Spells current flags text x) same (subst (λ x. Spells current flags x (multiple_shape m bit)) (sym r.text_is) (spelled flags m r.front r.word bit r.front_is (count_spelled flags w r.word bit e r.word_is)))
-
-pub Spells-reached : (flags : Flags) (m : Multiple) (w : Word) (text : List ℕ) (s : Shape) → unit_of flags (scan_of m w) ≡ Some s → Reached (scan_of m w) text → Spells current flags text s
-Spells-reached flags m w text s e r = by_count flags m w text s (count_of flags w) refl e r
+pub Spells-reached : (flags : Flags) (m : Multiple) (w : Word) (text : List ℕ) (unit : Shape)
+    → unit_of flags (scan_of m w) ≡ Some unit → Reached (scan_of m w) text → Spells current flags text unit
+Spells-reached flags m w text unit e r =
+    let bit = some_mapped (multiple_shape m) unit (count_of flags w) e in
+    let spells = spelled flags m r.front r.word bit.0 r.front_is (count_spelled flags w r.word bit.0 bit.1 r.word_is) in
+    subst (Spells current flags text) bit.2 (subst (λ x. Spells current flags x (multiple_shape m bit.0)) (sym r.text_is) spells)

@@ -35,8 +35,10 @@ some_prefix One text h = inl h
 some_prefix (Decimal p) text h = inr (power_of p, false, h)
 some_prefix (Binary p) text h = inr (power_of p, true, h)
 
-word_front : (place : Place) (m : Multiple) (w : Word) (text : List ℕ) (r : Reached (scan_of m w) text) → IsWord place r.word → IsWordFront current place text
-word_front place m w text r h = record { prefix_part = r.front; word_part = r.word; text_is = r.text_is; prefix_is = some_prefix m r.front r.front_is; word_is = h }
+word_front : (place : Place) (m : Multiple) (w : Word) (text : List ℕ) (r : Reached (scan_of m w) text) → IsWord place r.word
+    → IsWordFront current place text
+word_front place m w text r h =
+    record { prefix_part = r.front; word_part = r.word; text_is = r.text_is; prefix_is = some_prefix m r.front r.front_is; word_is = h }
 
 pub unit_front : (m : Multiple) (w : Word) (text : List ℕ) → Reached (scan_of m w) text → IsUnitFront current (word_place m w) text
 unit_front m Empty text r =
@@ -63,7 +65,8 @@ unit_ends flags m Bi text r = refl
 unit_ends flags m w text r = spelled_at_end flags m w text _ refl r
 
 -- a t behind `bi` makes a spelling, and nothing does elsewhere
-unit_goes_on : (flags : Flags) (m : Multiple) (w : Word) → (rest : List ℕ) × (unit : Shape) × (read (unit_scan flags) (scan_of m w) rest ≡ Ok unit)
+unit_goes_on : (flags : Flags) (m : Multiple) (w : Word)
+    → (rest : List ℕ) × (unit : Shape) × (read (unit_scan flags) (scan_of m w) rest ≡ Ok unit)
 unfolding unit_step
 unit_goes_on flags m Bi = (116 ∷ [], _, refl)
 unit_goes_on flags m w = ([], _, refl)
@@ -81,7 +84,8 @@ unit_scan_is flags = record {
 
 -- the clauses of the reader's callers, and its laws
 
-pub unit_reading : (flags : Flags) (bytes : List ℕ) (r : Result UnitName UnitParseError) → unit_seen r ≡ read (unit_scan flags) start (trimmed bytes)
+pub unit_reading : (flags : Flags) (bytes : List ℕ) (r : Result UnitName UnitParseError)
+    → unit_seen r ≡ read (unit_scan flags) start (trimmed bytes)
     → IsUnitReading flags bytes r
 unit_reading flags bytes r e = record {
   found = read_found (unit_scan_is flags) shape_of unit_fault (trimmed bytes) r e;

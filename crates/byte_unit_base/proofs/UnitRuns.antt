@@ -38,8 +38,10 @@ IsB w = (w ≡ UpperB) ⊎ (w ≡ LowerB)
 
 step_b : (m : Multiple) (c : ℕ) → to_ascii_lowercase c ≡ 98 → (w : Word) × (unit_step (scan_of m Empty) c ≡ Some (scan_of m w)) × IsB w
 step_b m c e = ⊎_elim
-    (λ h. let P : ℕ → Type 0 = λ x. (w : Word) × (unit_step (scan_of m Empty) x ≡ Some (scan_of m w)) × IsB w in subst P (sym h) (LowerB, at_lower m, inr refl))
-    (λ h. let k : 66 ≡ c = omega arith in let P : ℕ → Type 0 = λ x. (w : Word) × (unit_step (scan_of m Empty) x ≡ Some (scan_of m w)) × IsB w in subst P k (UpperB, at_upper m, inl refl))
+    (λ h. let P : ℕ → Type 0 = λ x. (w : Word) × (unit_step (scan_of m Empty) x ≡ Some (scan_of m w)) × IsB w in subst P (sym h)
+    (LowerB, at_lower m, inr refl))
+    (λ h. let k : 66 ≡ c = omega arith in let P : ℕ
+    → Type 0 = λ x. (w : Word) × (unit_step (scan_of m Empty) x ≡ Some (scan_of m w)) × IsB w in subst P k (UpperB, at_upper m, inl refl))
     (from_lowercase c 98 (omega arith) (omega arith) e)
 
 step_i : (m : Multiple) (w : Word) (c : ℕ) → IsB w → to_ascii_lowercase c ≡ 105 → unit_step (scan_of m w) c ≡ Some (scan_of m Bi)
@@ -56,43 +58,70 @@ unfolding unit_step
 step_s m c e = rw e refl
 
 -- the words, from any prefix on
-run_b : (m : Multiple) (text : List ℕ) → str_to_ascii_lowercase text ≡ codes "b" → (w : Word) × (run unit_step (scan_of m Empty) text ≡ Some (scan_of m w)) × IsB w
+run_b : (m : Multiple) (text : List ℕ) → str_to_ascii_lowercase text ≡ codes "b"
+    → (w : Word) × (run unit_step (scan_of m Empty) text ≡ Some (scan_of m w)) × IsB w
 run_b m text e =
     let l = lower_cons 98 [] text e in
     let s = step_b m l.head l.head_is in
     let t : text ≡ l.head ∷ [] = l.text_is ∙ ap (λ r. l.head ∷ r) (lower_nil l.tail l.tail_is) in
     (s.0, ap (run unit_step (scan_of m Empty)) t ∙ run_step unit_step (scan_of m Empty) (scan_of m s.0) l.head [] s.1, s.2)
 
-run_bi_then : (m : Multiple) (rest text : List ℕ) → str_to_ascii_lowercase text ≡ 98 ∷ 105 ∷ rest → (tail : List ℕ) × (str_to_ascii_lowercase tail ≡ rest) × (run unit_step (scan_of m Empty) text ≡ run unit_step (scan_of m Bi) tail)
+run_bi_then : (m : Multiple) (rest text : List ℕ) → str_to_ascii_lowercase text ≡ 98 ∷ 105 ∷ rest
+    → (tail : List ℕ) × (str_to_ascii_lowercase tail ≡ rest) × (run unit_step (scan_of m Empty) text ≡ run unit_step (scan_of m Bi) tail)
 run_bi_then m rest text e =
     let l = lower_cons 98 (105 ∷ rest) text e in
     let s = step_b m l.head l.head_is in
-    let k = lower_cons 105 rest l.tail l.tail_is in
-    (k.tail, k.tail_is, ap (run unit_step (scan_of m Empty)) (l.text_is ∙ ap (λ r. l.head ∷ r) k.text_is) ∙ (run_step unit_step (scan_of m Empty) (scan_of m s.0) l.head (k.head ∷ k.tail) s.1 ∙ run_step unit_step (scan_of m s.0) (scan_of m Bi) k.head k.tail (step_i m s.0 k.head s.2 k.head_is)))
+    let k = lower_cons 105 rest l.tail l.tail_is in (
+      k.tail,
+      k.tail_is,
+      ap (run unit_step (scan_of m Empty)) (l.text_is ∙ ap (λ r. l.head ∷ r) k.text_is)
+          ∙ (run_step unit_step (scan_of m Empty) (scan_of m s.0) l.head (k.head ∷ k.tail) s.1
+          ∙ run_step unit_step (scan_of m s.0) (scan_of m Bi) k.head k.tail (step_i m s.0 k.head s.2 k.head_is)),
+    )
 
-run_bi : (m : Multiple) (text : List ℕ) → str_to_ascii_lowercase text ≡ codes "bi" → run unit_step (scan_of m Empty) text ≡ Some (scan_of m Bi)
+run_bi : (m : Multiple) (text : List ℕ) → str_to_ascii_lowercase text ≡ codes "bi"
+    → run unit_step (scan_of m Empty) text ≡ Some (scan_of m Bi)
 run_bi m text e = let r = run_bi_then m [] text e in r.2 ∙ ap (run unit_step (scan_of m Bi)) (lower_nil r.0 r.1)
 
-run_bit_then : (m : Multiple) (rest text : List ℕ) → str_to_ascii_lowercase text ≡ 98 ∷ 105 ∷ 116 ∷ rest → (tail : List ℕ) × (str_to_ascii_lowercase tail ≡ rest) × (run unit_step (scan_of m Empty) text ≡ run unit_step (scan_of m Bit) tail)
+run_bit_then : (m : Multiple) (rest text : List ℕ) → str_to_ascii_lowercase text ≡ 98 ∷ 105 ∷ 116 ∷ rest
+    → (tail : List ℕ) × (str_to_ascii_lowercase tail ≡ rest) × (run unit_step (scan_of m Empty) text ≡ run unit_step (scan_of m Bit) tail)
 run_bit_then m rest text e =
     let r = run_bi_then m (116 ∷ rest) text e in
-    let k = lower_cons 116 rest r.0 r.1 in
-    (k.tail, k.tail_is, r.2 ∙ (ap (run unit_step (scan_of m Bi)) k.text_is ∙ run_step unit_step (scan_of m Bi) (scan_of m Bit) k.head k.tail (step_t m k.head k.head_is)))
+    let k = lower_cons 116 rest r.0 r.1 in (
+      k.tail,
+      k.tail_is,
+      r.2 ∙ (ap (run unit_step (scan_of m Bi)) k.text_is
+          ∙ run_step unit_step (scan_of m Bi) (scan_of m Bit) k.head k.tail (step_t m k.head k.head_is)),
+    )
 
-run_bit : (m : Multiple) (text : List ℕ) → str_to_ascii_lowercase text ≡ codes "bit" → run unit_step (scan_of m Empty) text ≡ Some (scan_of m Bit)
+run_bit : (m : Multiple) (text : List ℕ) → str_to_ascii_lowercase text ≡ codes "bit"
+    → run unit_step (scan_of m Empty) text ≡ Some (scan_of m Bit)
 run_bit m text e = let r = run_bit_then m [] text e in r.2 ∙ ap (run unit_step (scan_of m Bit)) (lower_nil r.0 r.1)
 
-run_bits : (m : Multiple) (text : List ℕ) → str_to_ascii_lowercase text ≡ codes "bits" → run unit_step (scan_of m Empty) text ≡ Some (scan_of m Bits)
+run_bits : (m : Multiple) (text : List ℕ) → str_to_ascii_lowercase text ≡ codes "bits"
+    → run unit_step (scan_of m Empty) text ≡ Some (scan_of m Bits)
 run_bits m text e =
     let r = run_bit_then m (115 ∷ []) text e in
     let k = lower_cons 115 [] r.0 r.1 in
-    r.2 ∙ (ap (run unit_step (scan_of m Bit)) (k.text_is ∙ ap (λ t. k.head ∷ t) (lower_nil k.tail k.tail_is)) ∙ run_step unit_step (scan_of m Bit) (scan_of m Bits) k.head [] (step_s m k.head k.head_is))
+    r.2 ∙ (ap (run unit_step (scan_of m Bit)) (k.text_is ∙ ap (λ t. k.head ∷ t) (lower_nil k.tail k.tail_is))
+    ∙ run_step unit_step (scan_of m Bit) (scan_of m Bits) k.head [] (step_s m k.head k.head_is))
 
 -- bits or bytes
-run_count : (flags : Flags) (m : Multiple) (text : List ℕ) (bit : Bool) → SpellsCount flags text bit → (w : Word) × (run unit_step (scan_of m Empty) text ≡ Some (scan_of m w)) × (count_of flags w ≡ Some bit)
+run_count : (flags : Flags) (m : Multiple) (text : List ℕ) (bit : Bool) → SpellsCount flags text bit
+    → (w : Word) × (run unit_step (scan_of m Empty) text ≡ Some (scan_of m w)) × (count_of flags w ≡ Some bit)
 run_count flags m text bit (inl h) = (Empty, ap (run unit_step (scan_of m Empty)) h.0, ap Some (sym h.1))
-run_count flags m text bit (inr (inl h)) = (UpperB, ap (run unit_step (scan_of m Empty)) h.0 ∙ run_step unit_step (scan_of m Empty) (scan_of m UpperB) 66 [] (at_upper m), ap Some (sym h.1))
-run_count flags m text bit (inr (inr (inl h))) = (LowerB, ap (run unit_step (scan_of m Empty)) h.0 ∙ run_step unit_step (scan_of m Empty) (scan_of m LowerB) 98 [] (at_lower m), ap Some (sym h.1))
+run_count flags m text bit (inr (inl h)) = (
+  UpperB,
+  ap (run unit_step (scan_of m Empty)) h.0
+      ∙ run_step unit_step (scan_of m Empty) (scan_of m UpperB) 66 [] (at_upper m),
+  ap Some (sym h.1),
+)
+run_count flags m text bit (inr (inr (inl h))) = (
+  LowerB,
+  ap (run unit_step (scan_of m Empty)) h.0
+      ∙ run_step unit_step (scan_of m Empty) (scan_of m LowerB) 98 [] (at_lower m),
+  ap Some (sym h.1),
+)
 run_count flags m text bit (inr (inr (inr (inl h)))) = (Bit, run_bit m text h.0, ap Some (sym h.1))
 run_count flags m text bit (inr (inr (inr (inr h)))) = (Bits, run_bits m text h.0, ap Some (sym h.1))
 
@@ -118,12 +147,20 @@ letter_prefix c (suc (suc (suc (suc (suc (suc (suc (suc zero)))))))) h = (Yotta,
 letter_prefix c (suc (suc (suc (suc (suc (suc (suc (suc (suc n))))))))) h = absurd (omega (arith, h.1))
 
 -- the prefix and an i or none
-run_infix : (p : Prefix) (text : List ℕ) (binary : Bool) → SpellsBinary text binary → (m : Multiple) × (run unit_step (scan_of (Decimal p) Empty) text ≡ Some (scan_of m Empty)) × ((bit : Bool) → multiple_shape m bit ≡ shape (power_of p) binary bit) × (empty_place m ≡ after_prefix)
-run_infix p text binary (inl h) = (Decimal p, ap (run unit_step (scan_of (Decimal p) Empty)) h.0, λ bit. ap (λ x. shape (power_of p) x bit) (sym h.1), refl)
+run_infix : (p : Prefix) (text : List ℕ) (binary : Bool) → SpellsBinary text binary
+    → (m : Multiple) × (run unit_step (scan_of (Decimal p) Empty) text ≡ Some (scan_of m Empty)) ×
+    ((bit : Bool) → multiple_shape m bit ≡ shape (power_of p) binary bit) × (empty_place m ≡ after_prefix)
+run_infix p text binary (inl h) =
+    (Decimal p, ap (run unit_step (scan_of (Decimal p) Empty)) h.0, λ bit. ap (λ x. shape (power_of p) x bit) (sym h.1), refl)
 run_infix p text binary (inr h) =
     let l = lower_cons 105 [] text h.0 in
-    let t : text ≡ l.head ∷ [] = l.text_is ∙ ap (λ r. l.head ∷ r) (lower_nil l.tail l.tail_is) in
-    (Binary p, ap (run unit_step (scan_of (Decimal p) Empty)) t ∙ run_step unit_step (scan_of (Decimal p) Empty) (scan_of (Binary p) Empty) l.head [] (step_infix p l.head l.head_is), λ bit. ap (λ x. shape (power_of p) x bit) (sym h.1), refl)
+    let t : text ≡ l.head ∷ [] = l.text_is ∙ ap (λ r. l.head ∷ r) (lower_nil l.tail l.tail_is) in (
+      Binary p,
+      ap (run unit_step (scan_of (Decimal p) Empty)) t
+          ∙ run_step unit_step (scan_of (Decimal p) Empty) (scan_of (Binary p) Empty) l.head [] (step_infix p l.head l.head_is),
+      λ bit. ap (λ x. shape (power_of p) x bit) (sym h.1),
+      refl,
+    )
 
 -- a whole prefix
 pub record RunsToPrefix (text : List ℕ) (power : ℕ) (binary : Bool) : Type 0 where
@@ -138,7 +175,8 @@ run_prefix text power binary h =
     let i = run_infix p.0 h.infix_part binary h.infix_is in
     record {
       multiple = i.0;
-      run = ap (run unit_step start) h.text_is ∙ (run_step unit_step start (scan_of (Decimal p.0) Empty) h.letter h.infix_part (step_prefix h.letter p.0 p.1) ∙ i.1);
+      run = ap (run unit_step start) h.text_is
+          ∙ (run_step unit_step start (scan_of (Decimal p.0) Empty) h.letter h.infix_part (step_prefix h.letter p.0 p.1) ∙ i.1);
       shape_is = λ bit. i.2 bit ∙ ap (λ k. shape k binary bit) p.2;
       place_is = i.3;
     }
@@ -154,7 +192,8 @@ pub record Runs (flags : Flags) (text : List ℕ) (s : Shape) : Type 0 where
 run_plain : (flags : Flags) (text : List ℕ) (s : Shape) → SpellsPlain flags text s → Runs flags text s
 run_plain flags text s h =
     let r = run_count flags One text s.bit h.count_is in
-    let same : shape 0 (not s.bit) s.bit ≡ s = ap (λ k. shape k (not s.bit) s.bit) (sym h.power_is) ∙ ap (λ x. shape s.power x s.bit) (sym h.binary_is) in
+    let same : shape 0 (not s.bit) s.bit ≡ s = ap (λ k. shape k (not s.bit) s.bit) (sym h.power_is)
+    ∙ ap (λ x. shape s.power x s.bit) (sym h.binary_is) in
     record { multiple = One; word = r.0; run = r.1; unit = ap (option_map (multiple_shape One)) r.2 ∙ ap Some same }
 
 run_multiple : (flags : Flags) (text : List ℕ) (s : Shape) → SpellsMultiple current flags text s → Runs flags text s
@@ -164,7 +203,8 @@ run_multiple flags text s h =
     record {
       multiple = p.multiple;
       word = r.0;
-      run = ap (run unit_step start) h.text_is ∙ (run_through unit_step start (scan_of p.multiple Empty) h.prefix_part h.count_part p.run ∙ r.1);
+      run = ap (run unit_step start) h.text_is
+          ∙ (run_through unit_step start (scan_of p.multiple Empty) h.prefix_part h.count_part p.run ∙ r.1);
       unit = ap (option_map (multiple_shape p.multiple)) r.2 ∙ ap Some (p.shape_is s.bit);
     }
 
@@ -174,7 +214,8 @@ spelling_runs flags text s (inr h) = run_multiple flags text s h
 
 -- a front is scanned to its end
 
-run_word : (place : Place) (m : Multiple) (text : List ℕ) → IsWord place text → (w : Word) × (run unit_step (scan_of m Empty) text ≡ Some (scan_of m w)) × (word_place m w ≡ place)
+run_word : (place : Place) (m : Multiple) (text : List ℕ) → IsWord place text
+    → (w : Word) × (run unit_step (scan_of m Empty) text ≡ Some (scan_of m w)) × (word_place m w ≡ place)
 run_word after_b m text h = let r = run_b m text h in (r.0, r.1, ⊎_elim (λ k. ap (word_place m) k) (λ k. ap (word_place m) k) r.2)
 run_word after_bi m text h = (Bi, run_bi m text h, refl)
 run_word after_bit m text h = (Bit, run_bit m text h, refl)
@@ -193,7 +234,9 @@ run_word_front flags place text h =
     record { state = scan_of p.multiple r.0; run_is = ap (run unit_step start) h.text_is ∙ (through ∙ r.1); place_is = r.2 })
     h.prefix_is
 
-pub unit_front_runs : (flags : Flags) (place : Place) (text : List ℕ) → IsUnitFront current place text → IsScanned (unit_scan flags) place text
+pub unit_front_runs : (flags : Flags) (place : Place) (text : List ℕ) → IsUnitFront current place text
+    → IsScanned (unit_scan flags) place text
 unit_front_runs flags before_unit text h = record { state = start; run_is = ap (run unit_step start) h; place_is = refl }
-unit_front_runs flags after_prefix text h = let p = run_prefix text h.0 h.1 h.2 in record { state = scan_of p.multiple Empty; run_is = p.run; place_is = p.place_is }
+unit_front_runs flags after_prefix text h =
+    let p = run_prefix text h.0 h.1 h.2 in record { state = scan_of p.multiple Empty; run_is = p.run; place_is = p.place_is }
 unit_front_runs flags place text h = run_word_front flags place text h

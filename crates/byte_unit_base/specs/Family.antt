@@ -1,5 +1,5 @@
 -- Families of units, and types of units.
-use Rattle.std.specs.Prelude.{◌≡◌, ◌≤◌, ℕ, Bool, true, false, length, ⊤}
+use Rattle.std.specs.Prelude.{◌≡◌, ◌≤◌, Bool, true, false, length, ⊤}
 use Rattle.byte_unit_base.specs.Shape.{Shape}
 use Rattle.byte_unit_base.specs.Edition.{Edition}
 use Rattle.byte_unit_base.specs.declared.unit.family.Family.{Family}

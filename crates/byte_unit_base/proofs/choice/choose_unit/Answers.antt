@@ -1,6 +1,4 @@
-use Rattle.std.proofs.Common.{◌≡◌, ◌≤◌, ℕ, ◌+◌, ◌*◌, ◌⊎◌, min, Option, Some, None, IfNone, IfSome, arith, ap, subst, sym, refl}
-use Rattle.std.specs.Int.{w128, trailing_zeros}
-use Rattle.byte_unit_math.specs.Bounds.{one, places_of_decimal}
+use Rattle.std.proofs.Common.{◌≡◌, ◌≤◌, ◌*◌, IfSome, arith, ap, subst}
 use Rattle.byte_unit_math.specs.Steps.{raised}
 use Rattle.byte_unit_math.specs.Exact.{IsQuotient}
 use Rattle.byte_unit_base.specs.Shape.{bits}

@@ -1,4 +1,3 @@
-use Rattle.std.proofs.Common.{get_or, map}
 use Rattle.byte_unit_base.specs.Edition.{current}
 use Rattle.byte_unit_base.specs.Choice.{Suits}
 use Rattle.byte_unit_base.specs.declared.unit.Unit.TheVariants.{Bit}

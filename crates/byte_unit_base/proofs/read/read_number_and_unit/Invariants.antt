@@ -7,4 +7,5 @@ use Rattle.byte_unit_base.proofs.read.read_number_and_unit.Given as goal
 
 abbrev pub invariant-loop-c : goal.invariant-loop-c
 invariant-loop-c l =
-    IsScan l.scan × (read (size_scan l.flags) l.scan (drop (length l.yielded) (chars l.text)) ≡ read (size_scan l.flags) Beginning (chars l.text))
+    IsScan l.scan × (read (size_scan l.flags) l.scan (drop (length l.yielded) (chars l.text)) ≡ read (size_scan l.flags) Beginning
+    (chars l.text))

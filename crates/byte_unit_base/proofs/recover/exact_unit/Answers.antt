@@ -1,4 +1,4 @@
-use Rattle.std.proofs.Common.{◌*◌, arith, ap, ◌∙◌}
+use Rattle.std.proofs.Common.{◌*◌, ap, ◌∙◌}
 use Rattle.byte_unit_base.specs.Shape.{bits}
 use Rattle.byte_unit_base.specs.Units.{shape_of}
 use Rattle.byte_unit_base.specs.Kinds.{bits_in}

@@ -7,7 +7,10 @@ some_where None P n h p = absurd (h p)
 some_where (Some x) P n h p = refl
 
 pub overflow_mul-digits : goal.overflow_mul-digits
-overflow_mul-digits c = rw c.power_of_ten.ensures (omega (arith, fraction_small c.args.digits c.args.places c.requires.digits c.requires.places))
+overflow_mul-digits c =
+    rw c.power_of_ten.ensures (omega (arith, fraction_small c.args.digits c.args.places c.requires.digits c.requires.places))
 
 pub unwrap-requires : goal.unwrap-requires
-unwrap-requires c = some_where c.new.result _ _ c.new.ensures (c.requires.whole, rw c.power_of_ten.ensures (fraction_small c.args.digits c.args.places c.requires.digits c.requires.places))
+unwrap-requires c =
+    some_where c.new.result _ _ c.new.ensures
+    (c.requires.whole, rw c.power_of_ten.ensures (fraction_small c.args.digits c.args.places c.requires.digits c.requires.places))

@@ -10,4 +10,5 @@ use Rattle.byte_unit_base.proofs.unit.Unit.parse_str.Goals as goal
 pub returns : goal.returns
 returns c =
     let flags = reading c.args.ignore_case c.args.prefer_byte in
-    unit_reading flags c.args.s.now c.read_unit.result (c.read_unit.ensures ∙ ap (read (unit_scan flags) start) (ap chars c.trim.ensures.trim ∙ chars-trim c.args.s.now c.utf8.s))
+    unit_reading flags c.args.s.now c.read_unit.result
+    (c.read_unit.ensures ∙ ap (read (unit_scan flags) start) (ap chars c.trim.ensures.trim ∙ chars-trim c.args.s.now c.utf8.s))

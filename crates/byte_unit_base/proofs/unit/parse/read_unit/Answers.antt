@@ -15,22 +15,28 @@ use Rattle.byte_unit_base.proofs.unit.parse.read_unit.Goals as goal
 
 pub loop-c-preserved : goal.loop-c-preserved
 loop-c-preserved c =
-    let t = YieldsList-turn (YieldsList-from_chars c.args.text.now c.utf8.text cc) c.loop-c.yielded _ c.loop-c.yielded_by _ _ c.in-Some.c c.in-Some.is c.next.ensures.steps in
-    let e = read_more (unit_scan c.args.flags) c.loop-c.scan c.in-Some-step.next (chars c.args.text.now) _ _ t (sym c.step.ensures ∙ c.in-Some-step.is) in
+    let t = YieldsList-turn (YieldsList-from_chars c.args.text.now c.utf8.text cc) c.loop-c.yielded _ c.loop-c.yielded_by _ _ c.in-Some.c
+    c.in-Some.is c.next.ensures.steps in
+    let e = read_more (unit_scan c.args.flags) c.loop-c.scan c.in-Some-step.next (chars c.args.text.now) _ _ t
+    (sym c.step.ensures ∙ c.in-Some-step.is) in
     rw (length_push c.loop-c.yielded c.in-Some.c) (e ∙ c.loop-c.invariant)
 
 pub returns-in-None-step : goal.returns-in-None-step
 returns-in-None-step c =
-    let t = YieldsList-turn (YieldsList-from_chars c.args.text.now c.utf8.text cc) c.loop-c.yielded _ c.loop-c.yielded_by _ _ c.in-Some.c c.in-Some.is c.next.ensures.steps in
-    ap Err c.fault.ensures ∙ (read_stop (unit_scan c.args.flags) c.loop-c.scan (chars c.args.text.now) _ _ t (sym c.step.ensures ∙ c.in-None-step.is) ∙ c.loop-c.invariant)
+    let t = YieldsList-turn (YieldsList-from_chars c.args.text.now c.utf8.text cc) c.loop-c.yielded _ c.loop-c.yielded_by _ _ c.in-Some.c
+    c.in-Some.is c.next.ensures.steps in
+    ap Err c.fault.ensures ∙ (read_stop (unit_scan c.args.flags) c.loop-c.scan (chars c.args.text.now) _ _ t
+    (sym c.step.ensures ∙ c.in-None-step.is) ∙ c.loop-c.invariant)
 
 -- a spelling that may end, and one that stops after `bi`
-ends_or_stops : (unit : Option UnitName) (error : UnitParseError) → unit_fault error ≡ stops_at_bi → unit_seen (ok_or unit error) ≡ unit_at_end (option_map shape_of unit)
+ends_or_stops : (unit : Option UnitName) (error : UnitParseError) → unit_fault error ≡ stops_at_bi
+    → unit_seen (ok_or unit error) ≡ unit_at_end (option_map shape_of unit)
 ends_or_stops None error e = ap Err e
 ends_or_stops (Some unit) error e = refl
 
 pub returns : goal.returns
 returns c =
-    let t = YieldsList-end (YieldsList-from_chars c.args.text.now c.utf8.text cc) c.loop-c.yielded _ c.loop-c.yielded_by _ _ c.in-None.is c.next.ensures.steps in
+    let t = YieldsList-end (YieldsList-from_chars c.args.text.now c.utf8.text cc) c.loop-c.yielded _ c.loop-c.yielded_by _ _ c.in-None.is
+    c.next.ensures.steps in
     let end = read_end (unit_scan c.args.flags) c.loop-c.scan (chars c.args.text.now) _ (omega (arith, t)) in
     ap unit_seen c.ok_or.ensures.value ∙ (ends_or_stops c.unit.result _ refl ∙ (ap unit_at_end c.unit.ensures ∙ (end ∙ c.loop-c.invariant)))

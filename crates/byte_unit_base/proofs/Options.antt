@@ -1,0 +1,12 @@
+-- What an option is, where it is known what comes of it.
+use Rattle.std.proofs.Common.{◌≡◌, Option, Some, None, option_and_then, refl}
+use Rattle.std.specs.Option.{option_map}
+
+pub some_mapped : {A B : Type 0} (f : A → B) (b : B) (o : Option A) → option_map f o ≡ Some b → (a : A) × (o ≡ Some a) × (f a ≡ b)
+some_mapped f b None e = absurd (let k : ⊥ = cc in k)
+some_mapped f b (Some a) e = (a, refl, cc)
+
+pub some_passed : {A B : Type 0} (f : A → Option B) (b : B) (o : Option A) → option_and_then f o ≡ Some b
+    → (a : A) × (o ≡ Some a) × (f a ≡ Some b)
+some_passed f b None e = absurd (let k : ⊥ = cc in k)
+some_passed f b (Some a) e = (a, refl, e)
