@@ -16,8 +16,8 @@ pub struct Entry<'a> {
     size: Byte,
 }
 
-/// The record of the fields. With a model of its own, an entry goes into an `Option` and a `Vec`; the borrow checker has
-/// no rule for passing on a visible reference beside a size.
+/// The record of the fields. With a model of its own, an entry goes into an `Option` and a `Vec`; the borrow checker
+/// has no rule for passing on a visible reference beside a size.
 impl<'a> Model for Entry<'a> {
     ghost use Rattle.byte_unit_usage.specs.EntrySeen.{EntrySeen};
 
