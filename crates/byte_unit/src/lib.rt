@@ -14,6 +14,8 @@ pub use byte_unit_base::{
 };
 pub use byte_unit_bit::{AdjustedBit, Bit};
 pub use byte_unit_byte::{AdjustedByte, Byte};
-pub use byte_unit_math::{Decimal, Expansion, Steps, Ties, exact_quotient, least_size, two_five};
+pub use byte_unit_math::{
+    Decimal, Expansion, Steps, Ties, exact_quotient, least_size, least_size_counted, two_five,
+};
 pub use std::num::TryFromIntError;
 pub use unit_json::{JsonUnitError, unit_from_json, unit_to_json};

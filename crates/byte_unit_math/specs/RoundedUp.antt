@@ -2,12 +2,13 @@
 use Rattle.std.specs.Prelude.{ℕ, ◌+◌, ◌*◌, ◌/◌, ◌^◌, ◌<◌, ◌≤◌}
 use Rattle.byte_unit_math.specs.Bounds.{places_of_decimal}
 
--- half the places of a fraction
-abbrev pub half_places : ℕ
-half_places = places_of_decimal / 2
+-- a quarter of the digits of a fraction are below it
+abbrev pub group : ℕ
+group = 10 ^ (places_of_decimal / 4)
 
+-- half of them are
 abbrev pub half : ℕ
-half = 10 ^ half_places
+half = 10 ^ (places_of_decimal / 2)
 
 -- n is product / scale, rounded up to a whole number
 pub record IsRoundedUp (product scale n : ℕ) : Type 0 where

@@ -1,15 +1,17 @@
 //! A decimal of units, rounded up to a whole size.
-ghost use Rattle.std.specs.Prelude.{ℕ, ◌+◌, ◌*◌, ◌^◌, ◌<◌, ◌≤◌, IfSome, IfNone};
+ghost use Rattle.std.specs.Prelude.{◌≡◌, ℕ, ◌+◌, ◌*◌, ◌/◌, ◌%◌, ◌^◌, ◌<◌, ◌≤◌, IfSome, IfNone};
 ghost use Rattle.byte_unit_math.specs.Bounds.{bits_limit, one, unit_limit};
 ghost use Rattle.byte_unit_math.specs.Least.{IsLeastSize};
-ghost use Rattle.byte_unit_math.specs.RoundedUp.{half, IsRoundedUp};
+ghost use Rattle.byte_unit_math.specs.RoundedUp.{group, half, IsRoundedUp};
+ghost use Rattle.byte_unit_math.specs.Steps.{raised};
 
-use crate::decimal::{Decimal, PLACES};
+use crate::decimal::Decimal;
+use crate::steps::Steps;
 
-/// Half the places of a fraction: so many digits fit a `u64`.
-const HALF_PLACES: u32 = PLACES / 2;
+/// Above each group of seven digits: a group's product with a unit of less than 40 bits fits a `u64`.
+const GROUP: u64 = 10_000_000;
 
-/// One, counted in units of the place in the middle.
+/// Above two groups, half the digits of a fraction: so many fit a `u64`.
 const HALF: u128 = 100_000_000_000_000;
 
 /// The least whole number that is not below `d * unit_size`. None exactly where that number reaches the limit.
@@ -29,57 +31,91 @@ pub fn least_size(d: Decimal, unit_size: u128, limit: u128) -> Option<u128>
     // No size below the limit is enough.
     ensures none { IfNone result ((n : ℕ) → IsLeastSize d unit_size n → limit ≤ n) }
 {
-    let part = rounded_up(d.fraction(), unit_size);
+    least_size_counted(d, unit_size, limit, &mut Steps::new())
+}
+
+/// The same number under the same conditions, with the ticks of the way to it: one for each of the four groups of seven
+/// digits of the fraction, which are gone through from the last.
+///
+/// ```text
+/// least_size_counted(1.5, 1024, limit, &mut steps)    1536, in 4 ticks
+/// ```
+pub fn least_size_counted(
+    d: Decimal,
+    unit_size: u128,
+    limit: u128,
+    steps: &mut Steps,
+) -> Option<u128>
+    requires some_unit { 1 ≤ unit_size }
+    requires small_unit { unit_size ≤ unit_limit }
+    requires small_limit { limit ≤ bits_limit }
+    ensures least { IfSome result (IsLeastSize d unit_size) }
+    ensures below { IfSome result (λ n. n < limit) }
+    ensures none { IfNone result ((n : ℕ) → IsLeastSize d unit_size n → limit ≤ n) }
+    ensures ticks { steps.new ≡ raised steps.old 4 }
+{
+    let part = rounded_up(d.fraction(), unit_size, steps);
+    // A number past 128 bits is past each limit.
     let size = d.whole().checked_mul(unit_size)?.checked_add(part)?;
     if size < limit { Some(size) } else { None }
 }
 
 /// The fraction, in last places, times the unit's size, rounded up to a whole number.
-fn rounded_up(fraction: u128, unit_size: u128) -> u128
+fn rounded_up(fraction: u128, unit_size: u128, steps: &mut Steps) -> u128
     requires fraction { fraction < one }
-    requires some_unit { 1 ≤ unit_size }
     requires small_unit { unit_size ≤ unit_limit }
     ensures least { IsLeastSize fraction unit_size result }
     ensures bound { result ≤ unit_size }
+    ensures ticks { steps.new ≡ raised steps.old 4 }
 {
-    if fraction == 0 {
-        return 0;
-    }
-    let part = over_digits((fraction % HALF) as u64, unit_size, 0);
-    over_digits((fraction / HALF) as u64, unit_size, part)
+    let (high, low) = halves(fraction);
+    let part = over_half(low, unit_size, 0, steps);
+    over_half(high, unit_size, part, steps)
 }
 
-/// The product of half the digits and the unit's size, and what the digits behind came to, rounded up a digit at a time
-/// from the last.
-fn over_digits(digits: u64, unit_size: u128, behind: u128) -> u128
+/// The first and the last 14 digits of a fraction.
+fn halves(fraction: u128) -> (u64, u64)
+    requires { fraction < one }
+    ensures high { result.0 ≡ fraction / half }
+    ensures low { result.1 ≡ fraction % half }
+{
+    if fraction == 0 {
+        return (0, 0);
+    }
+    let high = fraction / HALF;
+    (high as u64, (fraction - high * HALF) as u64)
+}
+
+/// The product of half the digits and the unit's size, and what the digits behind came to, rounded up.
+fn over_half(digits: u64, unit_size: u128, behind: u128, steps: &mut Steps) -> u128
     requires digits { digits < half }
-    requires some_unit { 1 ≤ unit_size }
     requires small_unit { unit_size ≤ unit_limit }
     requires behind { behind ≤ unit_size }
     ensures rounded { IsRoundedUp (digits * unit_size + behind) half result }
     ensures bound { result ≤ unit_size }
+    ensures ticks { steps.new ≡ raised steps.old 2 }
 {
-    let mut rest = digits;
-    let mut size = behind;
-    for _ in 0..HALF_PLACES {
-        size = over_digit(rest % 10, unit_size, size);
-        rest /= 10;
-    }
-    size
+    let part = over_group(digits % GROUP, unit_size, behind, steps);
+    over_group(digits / GROUP, unit_size, part, steps)
 }
 
-/// One digit: the least whole number that is not below `(digit * unit_size + behind) / 10`.
-fn over_digit(digit: u64, unit_size: u128, behind: u128) -> u128
-    requires digit { digit < 10 }
+/// The same for one group of digits.
+fn over_group(digits: u64, unit_size: u128, behind: u128, steps: &mut Steps) -> u128
+    requires digits { digits < group }
     requires small_unit { unit_size ≤ unit_limit }
     requires behind { behind ≤ unit_size }
-    ensures { IsRoundedUp (digit * unit_size + behind) 10 result }
+    ensures rounded { IsRoundedUp (digits * unit_size + behind) group result }
+    ensures bound { result ≤ unit_size }
+    ensures ticks { steps.new ≡ raised steps.old 1 }
 {
-    // The zeros at the end of a fraction cost no division.
-    if digit == 0 && behind == 0 {
+    steps.tick();
+    if digits == 0 && behind == 0 {
+        // A group of zeros with nothing behind it costs no division.
         0
+    } else if unit_size < 1 << 40 {
+        u128::from((digits * unit_size as u64 + behind as u64).div_ceil(GROUP))
     } else {
-        (u128::from(digit) * unit_size + behind).div_ceil(10)
+        (u128::from(digits) * unit_size + behind).div_ceil(u128::from(GROUP))
     }
 }
 
@@ -101,6 +137,33 @@ mod tests {
             (half_more, 1024, 2000, Some(1536)),
             (tenth, 1024, 2000, Some(103)),
         ] {
+            assert_eq!(rt; least_size(d, unit_size, limit), size);
+        }
+        Ok(())
+    }
+
+    #[test]
+    fn four_ticks_each(rt: HostRuntime) -> Result<(), Fail> {
+        let greatest = 9_671_406_556_917_033_397_649_408;
+        let limit = 8_000_000_000_000_000_000_000_000_000;
+        let seventh = 1_000_000_000_000_000_000_000;
+        for (fraction, unit_size, limit, size) in [
+            (seventh, 10_000_000, 100, Some(1)),
+            (seventh + 1, 10_000_000, 100, Some(2)),
+            (
+                9_999_999_999_999_999_999_999_999_999,
+                greatest,
+                limit,
+                Some(greatest),
+            ),
+            (1, greatest, 2, Some(1)),
+            (1, greatest, 1, None),
+            (0, greatest, 2, Some(0)),
+        ] {
+            let d = Decimal::new(0, fraction).ok_or("a decimal")?;
+            let mut steps = Steps::new();
+            assert_eq!(rt; least_size_counted(d, unit_size, limit, &mut steps), size);
+            assert_eq!(rt; steps.count(), 4, "at {fraction}");
             assert_eq!(rt; least_size(d, unit_size, limit), size);
         }
         Ok(())

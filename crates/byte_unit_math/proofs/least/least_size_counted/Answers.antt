@@ -1,7 +1,7 @@
 use Rattle.std.proofs.Common.{ℕ, ◌≤◌, arith, refl}
 use Rattle.byte_unit_math.specs.Least.{IsLeastSize}
 use Rattle.byte_unit_math.proofs.RoundedUp.{IsLeastSize-parts, IfNone-always}
-use Rattle.byte_unit_math.proofs.least.least_size.Goals as goal
+use Rattle.byte_unit_math.proofs.least.least_size_counted.Goals as goal
 
 pub returns-in_err-checked_mul-clause-none : goal.returns-in_err-checked_mul-clause-none
 returns-in_err-checked_mul-clause-none c =
