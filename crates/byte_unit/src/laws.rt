@@ -21,4 +21,4 @@ pub use byte_unit_base::laws::texts::{
 };
 pub use byte_unit_bit::laws::{bit_bounds, bit_constant};
 pub use byte_unit_byte::laws::{byte_bounds, byte_constant};
-pub use byte_unit_math::{exact_by_powers, numerals_are_exact, places_by_powers};
+pub use byte_unit_math::laws::{exact_by_powers, numerals_are_exact, places_by_powers};

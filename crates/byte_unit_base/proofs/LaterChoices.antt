@@ -28,7 +28,7 @@ no_larger_divides edition family in_bits unit h other member larger = λ d.
 
 pub whole_choices : ChoicesAtNoPlacesAreWhole
 whole_choices edition family in_bits number unit h =
-    record { whole = (h.number_is.whole, h.number_is.number); no_larger = no_larger_divides edition family in_bits unit h.unit_is }
+    record { whole = (h.number_is.count, h.number_is.number); no_larger = no_larger_divides edition family in_bits unit h.unit_is }
 
 pub no_smaller : MorePlacesGiveNoSmallerUnit
 no_smaller edition family in_bits low high number unit le h =

@@ -53,7 +53,7 @@ one_largest edition family in_bits precision a b h k =
 
 same_number : (size places unit n m : ℕ) → 1 ≤ unit → IsQuotient size unit places n → IsQuotient size unit places m → n ≡ m
 same_number size places unit n m some p q =
-    let e = eq_of_mul-eq-mul_right unit (omega (arith, some)) p.whole q.whole (sym p.exact ∙ q.exact) in
+    let e = eq_of_mul-eq-mul_right unit (omega (arith, some)) p.count q.count (sym p.exact ∙ q.exact) in
     p.number ∙ (ap (λ w. w * 10 ^ (places_of_decimal - places)) e ∙ sym q.number)
 
 pub one_choice : ChoicesAreOne

@@ -1,13 +1,10 @@
 -- Exact quotients at more places, and their product with the unit.
 use Rattle.std.proofs.Common.{◌≡◌, ℕ, ◌+◌, ◌-◌, ◌*◌, ◌/◌, ◌^◌, ◌≤◌, ⊎_elim, Option, Some, IfSome, arith, sym, ap, ◌∙◌, subst}
-use Rattle.std.proofs.lemmas.Nat.{pow-add}
 use Rattle.std.proofs.Math.Nat.{eq_of_mul-eq-mul_right}
 use Rattle.byte_unit_math.specs.Bounds.{places_of_decimal, one}
 use Rattle.byte_unit_math.specs.Exact.{IsExactAt, IsLeastPlaces, IsQuotient, IsFirstExact}
+use Rattle.byte_unit_math.proofs.Scales.{raise_power}
 use Rattle.byte_unit_base.specs.Shape.{Shape, bits}
-
-raise_power : (a b : ℕ) → a ≤ b → 10 ^ b ≡ 10 ^ a * 10 ^ (b - a)
-raise_power a b h = let e : b ≡ a + (b - a) = omega arith in ap (λ n. 10 ^ n) e ∙ pow-add 10 a (b - a)
 
 -- exact at some places, so at more
 pub exact_more : (size unit few more : ℕ) → few ≤ more → IsExactAt size unit few → IsExactAt size unit more
@@ -54,7 +51,7 @@ pub places_of_quotient : (size unit places digits number : ℕ) → 1 ≤ unit �
 places_of_quotient size unit places digits number some room q d =
     let product = number_times_unit size unit places number room q in
     let P : ℕ → Type 0 = λ j. IsExactAt size unit j in
-    let exact : IsExactAt size unit digits = ⊎_elim (λ e. e) (λ e. subst P (sym e) (q.whole, q.exact)) d.ends in
+    let exact : IsExactAt size unit digits = ⊎_elim (λ e. e) (λ e. subst P (sym e) (q.count, q.exact)) d.ends in
     record {
       has = stated_where_exact size unit number digits some product exact;
       least = λ fewer e. d.first fewer (exact_where_stated size unit number fewer product e);

@@ -124,7 +124,7 @@ choice_or_none edition family in_bits precision =
       exact.0 * 10 ^ (places_of_decimal - places_within precision),
       record {
         unit_is = record { has = found.1.has; largest = λ other s. found.1.largest other (there other s) s };
-        number_is = record { whole = exact.0; exact = exact.1; number = refl };
+        number_is = record { count = exact.0; exact = exact.1; number = refl };
       },
     ))
     (λ none. inr (λ unit s. none unit (there unit s) s))

@@ -4,7 +4,7 @@ use Rattle.std.specs.Prelude.{◌≡◌, ◌≢◌, ℕ, ◌+◌, ◌-◌, ◌*�
 use Rattle.std.specs.Fmt.{decimal}
 use Rattle.byte_unit_math.specs.Bounds.{places_of_decimal, expansion_places}
 use Rattle.byte_unit_math.specs.Exact.{IsExactAt, IsLeastPlaces}
-use Rattle.byte_unit_math.specs.Powers.{PlacesByPowers}
+use Rattle.byte_unit_math.specs.Powers.{TakesLackingPlaces}
 use Rattle.byte_unit_base.specs.Shape.{Shape, bits, twos, fives}
 use Rattle.byte_unit_base.specs.Edition.{Edition, current}
 use Rattle.byte_unit_base.specs.Units.{shape_of}
@@ -109,7 +109,7 @@ AdjustedStringReadsBack =
 -- fives, whichever is more
 abbrev pub PlacesOfSize : Type 0
 PlacesOfSize =
-    (kind : Kind) (size : ℕ) (unit : Shape) → PlacesByPowers (size * bits_in kind) (twos unit) (fives unit)
+    (kind : Kind) (size : ℕ) (unit : Shape) → TakesLackingPlaces (size * bits_in kind) (twos unit) (fives unit)
 
 -- and zero takes none
 abbrev pub ZeroTakesNoPlaces : Type 0

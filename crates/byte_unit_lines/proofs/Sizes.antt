@@ -67,7 +67,7 @@ module _ (kind : Kind) (one_choice : ChoicesAreOne) where
   -- a largest unit with the number that its exactness gives
   chosen_there : (n : ℕ) (unit : Shape) (h : IsLargest (States current (own_family kind) (n * bits_in kind) places) unit)
       → IsChosen current (own_family kind) (n * bits_in kind) places unit (h.has.exact.0 * 10 ^ (places_of_decimal - places))
-  chosen_there n unit h = record { unit_is = h; number_is = record { whole = h.has.exact.0; exact = h.has.exact.1; number = refl } }
+  chosen_there n unit h = record { unit_is = h; number_is = record { count = h.has.exact.0; exact = h.has.exact.1; number = refl } }
 
   one_recovered : (n : ℕ) (a b : Shape) → IsRecovered current kind false n places a → IsRecovered current kind false n places b → a ≡ b
   one_recovered n a b (inl p) (inl q) =

@@ -6,7 +6,7 @@ use Rattle.std.proofs.lemmas.Bool.{cases_lt}
 use Rattle.std.proofs.Math.Numerals.{add-one}
 use Rattle.byte_unit_math.specs.Bounds.{one, places_of_decimal, whole_limit}
 use Rattle.byte_unit_math.specs.Exact.{IsExactAt, IsQuotient, IsFirstExact}
-use Rattle.byte_unit_math.proofs.Scales.{power_bounds, power_parts}
+use Rattle.byte_unit_math.proofs.Scales.{power_bounds, power_parts, raise_power}
 
 -- the size is so many digits of the quotient, and a rest, with none before it being exact
 pub record Dividing (size unit most rest fraction digits : ℕ) : Type 0 where
@@ -15,16 +15,6 @@ pub record Dividing (size unit most rest fraction digits : ℕ) : Type 0 where
   pub small : rest < unit
   pub below : fraction < 10 ^ digits
   pub first : (fewer : ℕ) → IsExactAt size unit fewer → digits ≤ fewer
-
-pub Dividing-none : (size unit most : ℕ) → 1 ≤ unit → Dividing size unit most (size % unit) 0 0
-Dividing-none size unit most some =
-    record {
-      few = omega arith;
-      product = let e = div-add-mod' size unit in omega (arith, e);
-      small = mod_below size unit (omega arith);
-      below = omega arith;
-      first = λ fewer e. omega arith;
-    }
 
 -- exact, so no rest
 pub no_rest : (size unit digits Q rest : ℕ) → size * 10 ^ digits ≡ Q * unit + rest → rest < unit → IsExactAt size unit digits → rest ≡ 0
@@ -52,13 +42,6 @@ Dividing-more size unit most rest fraction digits some left room h =
           absurd (omega (arith, z, left))) (cases_lt digits fewer);
     }
 
-pub IsFirstExact-rest : (size unit most rest fraction digits : ℕ) → Dividing size unit most rest fraction digits → rest ≡ 0 → IsFirstExact size unit most digits
-IsFirstExact-rest size unit most rest fraction digits h e =
-    record { few = h.few; first = h.first; ends = inl (size / unit * 10 ^ digits + fraction, omega (arith, h.product, e)) }
-
-pub IsFirstExact-all : (size unit most rest fraction digits : ℕ) → Dividing size unit most rest fraction digits → most ≤ digits → IsFirstExact size unit most digits
-IsFirstExact-all size unit most rest fraction digits h e = record { few = h.few; first = h.first; ends = inr (omega (arith, h.few, e)) }
-
 pub not_exact : (size unit most rest fraction digits : ℕ) → Dividing size unit most rest fraction digits → most ≤ digits → 0 < rest → IsExactAt size unit most → ⊥
 not_exact size unit most rest fraction digits h all left e =
     let same : most ≡ digits = omega (arith, h.few, all) in
@@ -68,9 +51,6 @@ not_exact size unit most rest fraction digits h all left e =
 
 split_power : (a b c : ℕ) → a ≤ b → b ≤ c → 10 ^ (c - a) ≡ 10 ^ (b - a) * 10 ^ (c - b)
 split_power a b c h k = let e : c - a ≡ (b - a) + (c - b) = omega arith in ap (λ n. 10 ^ n) e ∙ pow-add 10 (b - a) (c - b)
-
-pub raise_power : (a b : ℕ) → a ≤ b → 10 ^ b ≡ 10 ^ a * 10 ^ (b - a)
-raise_power a b h = let e : b ≡ a + (b - a) = omega arith in ap (λ n. 10 ^ n) e ∙ pow-add 10 a (b - a)
 
 -- exact at some places, so at more
 pub IsExactAt-more : (size unit a b : ℕ) → a ≤ b → IsExactAt size unit a → IsExactAt size unit b
@@ -87,7 +67,7 @@ IsQuotient-digits size unit most rest fraction digits room h e =
     let parts = ap (λ n. size / unit * n) (power_parts digits (omega (arith, h.few))) in
     let split = ap (λ n. (size / unit * 10 ^ digits + fraction) * n) (split_power digits most places_of_decimal h.few room) in
     record {
-      whole = (size / unit * 10 ^ digits + fraction) * 10 ^ (most - digits);
+      count = (size / unit * 10 ^ digits + fraction) * 10 ^ (most - digits);
       exact = raised ∙ omega (arith, q);
       number = omega (arith, parts, split);
     }

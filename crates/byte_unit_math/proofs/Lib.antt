@@ -3,7 +3,6 @@ pub mod Places
 pub mod RoundedUp
 pub mod Division
 pub mod Digits
-pub mod Shown
 pub mod ShownDigits
 pub mod Expanding
 pub mod Nearest

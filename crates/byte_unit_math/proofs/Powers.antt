@@ -3,8 +3,9 @@ use Rattle.std.proofs.Common.{◌≡◌, ◌≢◌, ◌+◌, ◌-◌, ◌*◌, �
 use Rattle.std.proofs.lemmas.Bool.{cases_lt}
 use Rattle.std.proofs.lemmas.Nat.{pow-add, mul-pow}
 use Rattle.std.proofs.Math.Nat.{pow-succ', eq_of_mul-eq-mul_right, one-le-pow}
-use Rattle.byte_unit_math.specs.Exact.{IsExactAt, IsLeastPlaces}
-use Rattle.byte_unit_math.specs.Powers.{IsTwoFive, HasTwoFive, ExactByPowers, PlacesByPowers}
+use Rattle.byte_unit_math.specs.Exact.{IsExactAt}
+use Rattle.byte_unit_math.specs.Powers.{IsTwoFive, HasTwoFive}
+use Rattle.byte_unit_math.specs.NumberLaws.{ExactByPowers, NumbersHaveTwosAndFives, PlacesByPowers, ZeroTakesNoPlaces}
 
 odd_times : (u n : ℕ) → u % 2 ≢ 0 → (u * 5 ^ n) % 2 ≢ 0
 odd_times u zero h = λ k. h (omega (arith, k))
@@ -62,16 +63,16 @@ needs_fives num a b twos fives p h e = ⊎_elim
     absurd (five_times h.left (twos + p) h.no_five (cancel_five h.left (2 ^ (twos + p)) F e.0 K (2 ^ a) (omega (arith, one-le-pow (fives + p) 5 (omega arith))) f)))
     (λ k. k) (cases_lt (fives + p) b)
 
-pub exact_by_powers : (num a b : ℕ) → ExactByPowers num a b
+pub exact_by_powers : ExactByPowers
 exact_by_powers num a b twos fives p h = (λ e. (needs_twos num a b twos fives p h e, needs_fives num a b twos fives p h e), λ k. enough num a b twos fives p h k.0 k.1)
 
-pub places_by_powers : (num a b : ℕ) → PlacesByPowers num a b
+pub places_by_powers : PlacesByPowers
 places_by_powers num a b twos fives h = record {
   has = enough num a b twos fives (max (a - twos) (b - fives)) h (omega arith) (omega arith);
   least = λ p e. let x = needs_twos num a b twos fives p h e in let y = needs_fives num a b twos fives p h e in omega (arith, x, y);
 }
 
-pub no_places : (den : ℕ) → IsLeastPlaces 0 den 0
+pub no_places : ZeroTakesNoPlaces
 no_places den = record { has = (0, omega arith); least = λ p e. omega arith }
 
 nothing_left : (n left twos fives : ℕ) → n ≡ left * (2 ^ twos * 5 ^ fives) → 0 < left % 2 → 0 < left % 5 → HasTwoFive n
@@ -89,5 +90,5 @@ taken_off (suc turns) n left twos fives few some e =
     (cases_lt 0 (left % 2))
 
 -- a number that is not zero has powers of two and five, and something left
-pub has_two_five : (n : ℕ) → n ≢ 0 → HasTwoFive n
+pub has_two_five : NumbersHaveTwosAndFives
 has_two_five n some = taken_off n n n 0 0 (omega arith) (⊎_elim (λ l. l) (λ k. absurd (some (omega (arith, k)))) (cases_lt 0 n)) (omega arith)

@@ -11,9 +11,6 @@ use Rattle.byte_unit_math.specs.Numeral.{glyphs}
 abbrev pub ShowsFirst : {W : Type 0} (took : W → List ℕ → W → Type 0) (start now : Formatter W) (digits : List ℕ) (count : ℕ) → Type 0
 ShowsFirst took start now digits count = IsPlainFormatter start → HasWritten took start (glyphs (take count digits)) now
 
-pub shows_none : {W : Type 0} (took : W → List ℕ → W → Type 0) (start : Formatter W) (digits : List ℕ) → ShowsFirst took start start digits 0
-shows_none took start digits plain = record { wrote = record { parts = []; calls = refl; whole = refl }; plain = plain }
-
 glyphs_more : (ds : List ℕ) (i d : ℕ) → i < length ds → d ≡ get_or ds (i + 1 - 1) 0 → d < 10 → glyphs (take i ds) ++ decimal d ≡ glyphs (take (i + 1) ds)
 glyphs_more ds i d more digit small =
     let same : d ≡ get_or ds i 0 = digit ∙ ap (λ k. get_or ds k 0) (let k : i + 1 - 1 ≡ i = omega arith in k) in

@@ -30,10 +30,12 @@ few_both size left twos fives some h small =
     let product = mul-le-mul_right {m = 1} {n = left} (2 ^ twos * 5 ^ fives) some in
     few_twos (twos + fives) size (omega (arith, pow-add 2 twos fives, powers, product, h)) small
 
-few_fives : (number left fives : ℕ) → 0 < left → number ≡ left * 5 ^ fives → number < size_limit → fives ≤ 89
-few_fives number left fives some h small = omega (arith, few_both number left 0 fives some (omega (arith, h)) small)
+few_fives : (number left fives : ℕ) → 0 < left → number ≡ left * 5 ^ fives → number < size_limit → fives ≤ 38
+few_fives number left fives some h small =
+    let product = mul-le-mul_right {m = 1} {n = left} (5 ^ fives) some in
+    ⊎_elim (λ l. let most = pow-le-pow_right {n = 5} (omega arith) {i = 39} {j = fives} (omega arith) in absurd (omega (arith, most, product, h, small))) (λ k. k) (cases_lt 38 fives)
 
-pub FivesOff-few : (number left fives : ℕ) → number < size_limit → FivesOff number left fives → fives ≤ 89
+pub FivesOff-few : (number left fives : ℕ) → number < size_limit → FivesOff number left fives → fives ≤ 38
 FivesOff-few number left fives small h = few_fives number left fives h.some h.product small
 
 -- all of them
@@ -44,7 +46,7 @@ above_zero : (left factor : ℕ) → left % factor ≢ 0 → 0 < left
 above_zero zero factor h = absurd (h (zero-mod factor))
 above_zero (suc left) factor h = omega arith
 
-pub AllFives-few : (number fives : ℕ) → number < size_limit → AllFives number fives → fives ≤ 89
+pub AllFives-few : (number fives : ℕ) → number < size_limit → AllFives number fives → fives ≤ 38
 AllFives-few number fives small all = few_fives number all.0 fives (above_zero all.0 5 all.2) all.1 small
 
 -- those that are taken off, and those of what is left

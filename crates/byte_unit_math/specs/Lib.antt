@@ -7,4 +7,5 @@ pub mod Finite
 pub mod Numeral
 pub mod Nearest
 pub mod Powers
+pub mod NumberLaws
 pub mod Stored

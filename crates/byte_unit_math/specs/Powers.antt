@@ -1,6 +1,6 @@
 -- How often two and five divide a number, and the places that follow from it.
-use Rattle.std.specs.Prelude.{◌≡◌, ◌≢◌, ◌↔◌, ℕ, ◌+◌, ◌-◌, ◌*◌, ◌%◌, ◌^◌, ◌≤◌, max}
-use Rattle.byte_unit_math.specs.Exact.{IsExactAt, IsLeastPlaces}
+use Rattle.std.specs.Prelude.{◌≡◌, ◌≢◌, ℕ, ◌-◌, ◌*◌, ◌%◌, ◌^◌, max}
+use Rattle.byte_unit_math.specs.Exact.{IsLeastPlaces}
 
 -- two divides n so often, five so often, and neither divides what is left: so n is not zero
 pub record IsTwoFive (n twos fives : ℕ) : Type 0 where
@@ -13,10 +13,7 @@ pub record IsTwoFive (n twos fives : ℕ) : Type 0 where
 abbrev pub HasTwoFive : ℕ → Type 0
 HasTwoFive n = (twos : ℕ) × (fives : ℕ) × IsTwoFive n twos fives
 
--- exact at p places where neither exponent is greater than what num * 10^p has of it
-abbrev pub ExactByPowers : ℕ → ℕ → ℕ → Type 0
-ExactByPowers num a b = (twos fives p : ℕ) → IsTwoFive num twos fives → IsExactAt num (2 ^ a * 5 ^ b) p ↔ ((a ≤ twos + p) × (b ≤ fives + p))
-
--- the places are what the number lacks of twos or of fives, whichever is more
-abbrev pub PlacesByPowers : ℕ → ℕ → ℕ → Type 0
-PlacesByPowers num a b = (twos fives : ℕ) → IsTwoFive num twos fives → IsLeastPlaces num (2 ^ a * 5 ^ b) (max (a - twos) (b - fives))
+-- the places of num / (2^a * 5^b) are what num lacks of twos or of fives, whichever is more
+abbrev pub TakesLackingPlaces : ℕ → ℕ → ℕ → Type 0
+TakesLackingPlaces num a b = (twos fives : ℕ) → IsTwoFive num twos fives
+    → IsLeastPlaces num (2 ^ a * 5 ^ b) (max (a - twos) (b - fives))

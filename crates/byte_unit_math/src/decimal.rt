@@ -2,19 +2,20 @@
 ghost use Rattle.std.specs.Prelude.{◌≡◌, ℕ, ◌+◌, ◌*◌, ◌-◌, ◌^◌, ◌/◌, ◌%◌, ◌<◌, ◌≤◌, nat_eq, Some, SomeIff};
 ghost use Rattle.std.specs.Cmp.{partial_order_from_own_ties, partial_equiv_from_equiv};
 ghost use Rattle.std.specs.Cmp.Rules.{comparing};
-ghost use Rattle.std.specs.Fmt.{DisplaysOnOk};
 ghost use Rattle.std.specs.Ordering.{nat_cmp, as_partial_cmp};
 ghost use Rattle.std.proofs.Common.{rules};
 ghost use Rattle.byte_unit_math.specs.Bounds.{one, places_of_decimal, whole_limit};
 ghost use Rattle.byte_unit_math.specs.Exact.{IsLeastPlaces};
-ghost use Rattle.byte_unit_math.specs.Numeral.{glyphs, last_digits, short, without_zeros};
+ghost use Rattle.byte_unit_math.specs.Numeral.{short};
 
+use crate::expansion::Expansion;
+use crate::tens::power_of_ten;
 use std::cmp::Ordering;
 use std::fmt;
 use std::marker::Model;
 
-/// The digits after the point.
-pub(crate) const PLACES: u32 = 28;
+/// The digits after the point of a decimal.
+pub const DECIMAL_PLACES: u32 = 28;
 
 /// One, counted in last places.
 pub(crate) const ONE: u128 = 10_000_000_000_000_000_000_000_000_000;
@@ -81,13 +82,13 @@ impl Decimal {
             ((scale ≤ places_of_decimal) × (mantissa / 10 ^ scale < whole_limit))
             (mantissa * 10 ^ (places_of_decimal - scale)) }
     {
-        if scale > PLACES {
+        if scale > DECIMAL_PLACES {
             return None;
         }
-        let unit = 10u128.pow(scale);
+        let unit = power_of_ten(scale);
         Decimal::new(
             mantissa / unit,
-            mantissa % unit * 10u128.pow(PLACES - scale),
+            mantissa % unit * power_of_ten(DECIMAL_PLACES - scale),
         )
     }
 
@@ -113,7 +114,7 @@ impl Decimal {
         ensures least { IsLeastPlaces self one result }
     {
         let mut rest = self.fraction();
-        let mut places = PLACES;
+        let mut places = DECIMAL_PLACES;
         while places > 0 && rest % 10 == 0 {
             rest /= 10;
             places -= 1;
@@ -210,29 +211,8 @@ impl fmt::Display for Decimal {
     ghost output = { λ d. Some (short d places_of_decimal) };
 
     fn fmt<W: fmt::Write>(&self, f: &mut fmt::Formatter<W>) -> fmt::Result {
-        write!(f, "{}", self.whole)?;
-        if self.fraction > 0 {
-            f.write_str(".")?;
-            write_digits(self.fraction, f)?;
-        }
-        Ok(())
+        write!(f, "{}", Expansion::from_decimal(*self))
     }
-}
-
-/// The digits of a fraction, without the zeros at the end.
-fn write_digits<W: fmt::Write>(fraction: u128, f: &mut fmt::Formatter<W>) -> fmt::Result
-    requires { fraction < one }
-    ensures { DisplaysOnOk W.write_str_gives f.old result (Some (glyphs (without_zeros (last_digits places_of_decimal fraction)))) f.new }
-{
-    let mut rest = fraction;
-    let mut unit = ONE;
-    while rest > 0 {
-        unit /= 10;
-        let digit = (rest / unit) as u8;
-        write!(f, "{digit}")?;
-        rest %= unit;
-    }
-    Ok(())
 }
 
 #[cfg(test)]

@@ -14,8 +14,8 @@ use crate::dividing::digit_and_rest;
 use std::fmt;
 use std::marker::Model;
 
-/// The most digits after the point.
-const PLACES: usize = 83;
+/// The most digits after the point of an expansion.
+pub const EXPANSION_PLACES: usize = 83;
 
 /// Which of two equally near decimals is taken.
 #[derive(Debug, Clone, Copy, PartialEq, Eq)]
@@ -32,7 +32,7 @@ pub enum Ties {
 #[derive(Debug, Clone, Copy)]
 pub struct Expansion {
     whole: u128,
-    digits: [u8; PLACES],
+    digits: [u8; EXPANSION_PLACES],
     places: u32,
 }
 
@@ -178,7 +178,7 @@ impl Expansion {
     }
 
     /// So many digits, and then zeros.
-    fn front(&self, places: u32) -> [u8; PLACES]
+    fn front(&self, places: u32) -> [u8; EXPANSION_PLACES]
         requires { places ≤ length self.now.digits }
         ensures size { length result ≡ expansion_places }
         ensures front { take places result ≡ take places self.now.digits }
@@ -187,7 +187,7 @@ impl Expansion {
     {
         let count = self.places();
         prove!(places <= count);
-        let mut digits = [0u8; PLACES];
+        let mut digits = [0u8; EXPANSION_PLACES];
         for i in 0..places {
             digits[i as usize] = self.digit(i + 1);
         }
@@ -280,7 +280,7 @@ fn divide(whole: u128, remainder: u128, den: u128) -> Expansion
     ensures { IsExpansion (whole * den + remainder) den result }
 {
     let mut rest = remainder;
-    let mut digits = [0u8; PLACES];
+    let mut digits = [0u8; EXPANSION_PLACES];
     let mut places: u32 = 0;
     while rest != 0 {
         let (digit, left) = digit_and_rest(rest * 10, den);

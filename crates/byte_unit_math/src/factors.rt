@@ -34,7 +34,8 @@ pub fn two_five(size: u128, steps: &mut Steps) -> (u32, u32)
 fn fives_in(number: u128) -> u32
     requires some { 1 ≤ number }
     requires small { number < size_limit }
-    ensures { (left : ℕ) × (number ≡ left * 5 ^ result) × (left % 5 ≢ 0) }
+    ensures all { (left : ℕ) × (number ≡ left * 5 ^ result) × (left % 5 ≢ 0) }
+    ensures few { result ≤ 38 }
 {
     let mut left = number;
     let mut fives = 0;

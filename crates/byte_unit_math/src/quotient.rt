@@ -4,9 +4,10 @@ ghost use Rattle.byte_unit_math.specs.Bounds.{places_of_decimal, unit_limit, who
 ghost use Rattle.byte_unit_math.specs.Steps.{raised};
 ghost use Rattle.byte_unit_math.specs.Exact.{IsExactAt, IsQuotient, IsFirstExact};
 
-use crate::decimal::{Decimal, PLACES};
+use crate::decimal::{DECIMAL_PLACES, Decimal};
 use crate::dividing::digit_and_rest;
 use crate::steps::Steps;
+use crate::tens::power_of_ten;
 
 /// `size / unit`, where that is a decimal of at most so many places, else None. More than 28 places count as 28.
 ///
@@ -27,7 +28,7 @@ pub fn exact_quotient(size: u128, unit: u128, places: u32, steps: &mut Steps) ->
     ensures none { IfNone result (IsExactAt size unit (min places places_of_decimal) → ⊥) }
     ensures ticks { (digits : ℕ) × IsFirstExact size unit (min places places_of_decimal) digits × (steps.new ≡ raised steps.old digits) }
 {
-    let most = places.min(PLACES);
+    let most = places.min(DECIMAL_PLACES);
     let mut rest = size % unit;
     let mut fraction = 0;
     let mut digits = 0;
@@ -41,7 +42,11 @@ pub fn exact_quotient(size: u128, unit: u128, places: u32, steps: &mut Steps) ->
     if rest > 0 {
         return None;
     }
-    Decimal::new(size / unit, fraction * 10u128.pow(PLACES - digits))
+    // Never None: the size is below 2^96, and the digits fit their places.
+    Decimal::new(
+        size / unit,
+        fraction * power_of_ten(DECIMAL_PLACES - digits),
+    )
 }
 
 #[cfg(test)]

@@ -14,5 +14,12 @@ overflow_add-result c =
     let others = AllFives-few c.loop-left.left c.fives_in_short.result (omega arith) c.fives_in_short.ensures in
     omega (arith, taken, others)
 
-pub returns : goal.returns
-returns c = AllFives-joined _ _ _ _ c.loop-left.invariant c.fives_in_short.ensures
+pub returns-then-left-gt0-clause-few : goal.returns-then-left-gt0-clause-few
+returns-then-left-gt0-clause-few c = FivesOff-few c.args.number _ _ c.requires.small c.loop-left.invariant
+
+pub returns-clause-all : goal.returns-clause-all
+returns-clause-all c = AllFives-joined _ _ _ _ c.loop-left.invariant c.fives_in_short.ensures
+
+pub returns-clause-few : goal.returns-clause-few
+returns-clause-few c =
+    AllFives-few c.args.number _ c.requires.small (AllFives-joined _ _ _ _ c.loop-left.invariant c.fives_in_short.ensures)

@@ -7,21 +7,11 @@ fives_in-fives-requires-clause-some c =
     let shifted = IsOdd-shifted c.args.size c.requires.some (omega arith) in
     omega (arith, shifted.odd)
 
-pub overflow_add-twos : goal.overflow_add-twos
-overflow_add-twos c =
-    let powers = two_five_is _ _ _ (IsOdd-shifted c.args.size c.requires.some (omega arith)) c.fives_in-fives.ensures in
-    omega (arith, two_five_few _ _ _ c.requires.small powers)
-
-pub overflow_add-twos-2 : goal.overflow_add-twos-2
-overflow_add-twos-2 c =
-    let powers = two_five_is _ _ _ (IsOdd-shifted c.args.size c.requires.some (omega arith)) c.fives_in-fives.ensures in
-    omega (arith, two_five_few _ _ _ c.requires.small powers)
-
 pub returns-clause-powers : goal.returns-clause-powers
 returns-clause-powers c =
-    two_five_is _ _ _ (IsOdd-shifted c.args.size c.requires.some (omega arith)) c.fives_in-fives.ensures
+    two_five_is _ _ _ (IsOdd-shifted c.args.size c.requires.some (omega arith)) c.fives_in-fives.ensures.all
 
 pub returns-clause-few : goal.returns-clause-few
 returns-clause-few c =
-    let powers = two_five_is _ _ _ (IsOdd-shifted c.args.size c.requires.some (omega arith)) c.fives_in-fives.ensures in
-    omega (arith, two_five_few _ _ _ c.requires.small powers)
+    let shifted = IsOdd-shifted c.args.size c.requires.some (omega arith) in
+    omega (arith, two_five_few _ _ _ c.requires.small (two_five_is _ _ _ shifted c.fives_in-fives.ensures.all))

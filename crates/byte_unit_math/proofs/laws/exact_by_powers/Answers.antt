@@ -2,4 +2,4 @@ use Rattle.byte_unit_math.proofs.Powers.{exact_by_powers}
 use Rattle.byte_unit_math.proofs.laws.exact_by_powers.Goals as goal
 
 pub returns : goal.returns
-returns c = exact_by_powers c.args.numerator c.args.twos c.args.fives
+returns c = exact_by_powers

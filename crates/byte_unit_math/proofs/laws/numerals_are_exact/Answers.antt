@@ -3,4 +3,4 @@ use Rattle.byte_unit_math.proofs.Texts.{short_expansion}
 use Rattle.byte_unit_math.proofs.laws.numerals_are_exact.Goals as goal
 
 pub returns : goal.returns
-returns c = record { all = scaled_places c.args.places c.args.number; short = short_expansion c.args.number c.args.places }
+returns c = record { all = λ number places. scaled_places places number; short = short_expansion }

@@ -27,14 +27,11 @@ returns-then-rest-gt0-clause-none c = λ e.
     let P : ℕ → Type 0 = λ n. IsExactAt c.args.size c.args.unit n in
     elim c.loop-rest-test.branch [ then-loop-rest-test+else-digits-most w ↦ not_exact _ _ _ _ _ _ c.loop-rest.invariant.divides (omega arith) c.if-rest-gt0.true (subst P (sym c.min-most.ensures) e) | else-loop-rest-test w ↦ absurd (omega arith) ]
 
-pub pow-requires : goal.pow-requires
-pow-requires c = omega (arith, power_bounds (places_of_decimal - c.loop-rest.digits) (omega arith))
-
 pub overflow_mul-fraction-2 : goal.overflow_mul-fraction-2
-overflow_mul-fraction-2 c = rw c.pow.ensures (omega (arith, part_below c.loop-rest.fraction c.loop-rest.digits (omega (arith, c.loop-rest.invariant.divides.few)) c.loop-rest.invariant.divides.below))
+overflow_mul-fraction-2 c = rw c.power_of_ten.ensures (omega (arith, part_below c.loop-rest.fraction c.loop-rest.digits (omega (arith, c.loop-rest.invariant.divides.few)) c.loop-rest.invariant.divides.below))
 
 pub returns-clause-quotient : goal.returns-clause-quotient
-returns-clause-quotient c = quotient_made _ _ _ _ _ _ _ _ _ c.min-most.ensures (omega arith) c.pow.ensures (omega arith) c.loop-rest.invariant.divides c.new.ensures
+returns-clause-quotient c = quotient_made _ _ _ _ _ _ _ _ _ c.min-most.ensures (omega arith) c.power_of_ten.ensures (omega arith) c.loop-rest.invariant.divides c.new.ensures
 
 pub returns-clause-none : goal.returns-clause-none
-returns-clause-none c = always_made _ _ c.args.size c.args.unit c.min-most.result c.loop-rest.rest c.loop-rest.fraction c.loop-rest.digits c.pow.result c.requires.small_size (omega arith) c.pow.ensures c.loop-rest.invariant.divides c.new.ensures
+returns-clause-none c = always_made _ _ c.args.size c.args.unit c.min-most.result c.loop-rest.rest c.loop-rest.fraction c.loop-rest.digits c.power_of_ten.result c.requires.small_size (omega arith) c.power_of_ten.ensures c.loop-rest.invariant.divides c.new.ensures

@@ -1,7 +1,9 @@
 use Rattle.std.proofs.Common.{rules}
-use Rattle.byte_unit_math.proofs.Shown.{shows_parts}
+use Rattle.std.proofs.Output.{has_written_of_eq}
+use Rattle.byte_unit_math.specs.Bounds.{places_of_decimal}
+use Rattle.byte_unit_math.proofs.Texts.{short_text}
 use Rattle.byte_unit_math.proofs.decimal.DecimalDisplay.fmt.Goals as goal
 
-pub returns-in_ok-write_digits-clause-writes : goal.returns-in_ok-write_digits-clause-writes
-returns-in_ok-write_digits-clause-writes g c = λ plain ok.
-    shows_parts _ _ c.write.new.self c.write_str.new.self _ _ _ _ c.self.view_is c.self.invariant.1 c.if-self-gt0.true (search rules) (λ p. search rules) (λ p. c.write_digits.ensures p (search rules))
+pub returns-clause-writes : goal.returns-clause-writes
+returns-clause-writes g c = λ plain ok.
+    has_written_of_eq _ _ _ _ _ (short_text c.args.self.now places_of_decimal c.from_decimal.result c.from_decimal.ensures) (search rules)
