@@ -1,5 +1,23 @@
-//! A digit of a long division.
+//! A division, and a digit of a long one.
 ghost use Rattle.std.specs.Prelude.{◌≡◌, ◌+◌, ◌*◌, ◌/◌, ◌%◌, ◌^◌, ◌<◌, ◌≤◌};
+
+/// The quotient and the rest. Where both numbers fit 64 bits, so does the division, which then takes less time.
+pub(crate) fn quotient_and_rest(dividend: u128, divisor: u128) -> (u128, u128)
+    requires { 1 ≤ divisor }
+    ensures quotient { result.0 ≡ dividend / divisor }
+    ensures rest { result.1 ≡ dividend % divisor }
+{
+    if dividend < 1 << 64 && divisor < 1 << 64 {
+        let (dividend, divisor) = (dividend as u64, divisor as u64);
+        (
+            u128::from(dividend / divisor),
+            u128::from(dividend % divisor),
+        )
+    } else {
+        let quotient = dividend / divisor;
+        (quotient, dividend - quotient * divisor)
+    }
+}
 
 /// The quotient where it is a digit, and the rest. Four comparisons take less time than a division of 128 bits.
 pub(crate) fn digit_and_rest(dividend: u128, divisor: u128) -> (u128, u128)

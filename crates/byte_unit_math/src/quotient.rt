@@ -5,7 +5,7 @@ ghost use Rattle.byte_unit_math.specs.Steps.{raised};
 ghost use Rattle.byte_unit_math.specs.Exact.{IsExactAt, IsQuotient, IsFirstExact};
 
 use crate::decimal::{DECIMAL_PLACES, Decimal};
-use crate::dividing::digit_and_rest;
+use crate::dividing::{digit_and_rest, quotient_and_rest};
 use crate::steps::Steps;
 use crate::tens::power_of_ten;
 
@@ -13,8 +13,8 @@ use crate::tens::power_of_ten;
 ///
 /// The caller owes a unit from 1 to 2^83 and a size below 2^96.
 ///
-/// Long division takes one tick for each digit after the point, so at most 28. It stops at the first number of places at
-/// which the quotient is exact; where there is none, it takes all the places that were asked for.
+/// Long division takes one tick for each digit after the point, so at most 28. It stops at the first number of places
+/// at which the quotient is exact; where there is none, it takes all the places that were asked for.
 ///
 /// ```text
 /// exact_quotient(1, 8, 3, &mut steps)    0.125, in 3 ticks
@@ -26,10 +26,12 @@ pub fn exact_quotient(size: u128, unit: u128, places: u32, steps: &mut Steps) ->
     requires small_size { size < whole_limit }
     ensures quotient { IfSome result (IsQuotient size unit (min places places_of_decimal)) }
     ensures none { IfNone result (IsExactAt size unit (min places places_of_decimal) → ⊥) }
-    ensures ticks { (digits : ℕ) × IsFirstExact size unit (min places places_of_decimal) digits × (steps.new ≡ raised steps.old digits) }
+    ensures ticks { (digits : ℕ)
+        × IsFirstExact size unit (min places places_of_decimal) digits
+        × (steps.new ≡ raised steps.old digits) }
 {
     let most = places.min(DECIMAL_PLACES);
-    let mut rest = size % unit;
+    let (whole, mut rest) = quotient_and_rest(size, unit);
     let mut fraction = 0;
     let mut digits = 0;
     while rest > 0 && digits < most {
@@ -43,10 +45,7 @@ pub fn exact_quotient(size: u128, unit: u128, places: u32, steps: &mut Steps) ->
         return None;
     }
     // Never None: the size is below 2^96, and the digits fit their places.
-    Decimal::new(
-        size / unit,
-        fraction * power_of_ten(DECIMAL_PLACES - digits),
-    )
+    Decimal::new(whole, fraction * power_of_ten(DECIMAL_PLACES - digits))
 }
 
 #[cfg(test)]

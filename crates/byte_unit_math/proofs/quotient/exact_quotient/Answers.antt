@@ -1,5 +1,5 @@
-use Rattle.std.proofs.Common.{ℕ, ◌-◌, arith, subst, sym}
-use Rattle.byte_unit_math.specs.Bounds.{places_of_decimal}
+use Rattle.std.proofs.Common.{ℕ, ◌+◌, ◌-◌, ◌*◌, ◌<◌, SomeIff, arith, subst, sym}
+use Rattle.byte_unit_math.specs.Bounds.{one, places_of_decimal, whole_limit}
 use Rattle.byte_unit_math.specs.Exact.{IsExactAt}
 use Rattle.byte_unit_math.proofs.quotient.exact_quotient.Goals.{then-loop-rest-test+else-digits-most, else-loop-rest-test}
 use Rattle.byte_unit_math.proofs.Scales.{power_bounds}
@@ -31,7 +31,17 @@ pub overflow_mul-fraction-2 : goal.overflow_mul-fraction-2
 overflow_mul-fraction-2 c = rw c.power_of_ten.ensures (omega (arith, part_below c.loop-rest.fraction c.loop-rest.digits (omega (arith, c.loop-rest.invariant.divides.few)) c.loop-rest.invariant.divides.below))
 
 pub returns-clause-quotient : goal.returns-clause-quotient
-returns-clause-quotient c = quotient_made _ _ _ _ _ _ _ _ _ c.min-most.ensures (omega arith) c.power_of_ten.ensures (omega arith) c.loop-rest.invariant.divides c.new.ensures
+returns-clause-quotient c =
+    let part = c.loop-rest.fraction * c.power_of_ten.result in
+    let number : ℕ → Type 0 = λ whole. SomeIff c.new.result ((whole < whole_limit) × (part < one)) (whole * one + part) in
+    let made = subst number c.quotient_and_rest-whole.ensures.quotient c.new.ensures in
+    let divides = c.loop-rest.invariant.divides in
+    quotient_made _ _ _ _ _ _ _ _ _ c.min-most.ensures (omega arith) c.power_of_ten.ensures (omega arith) divides made
 
 pub returns-clause-none : goal.returns-clause-none
-returns-clause-none c = always_made _ _ c.args.size c.args.unit c.min-most.result c.loop-rest.rest c.loop-rest.fraction c.loop-rest.digits c.power_of_ten.result c.requires.small_size (omega arith) c.power_of_ten.ensures c.loop-rest.invariant.divides c.new.ensures
+returns-clause-none c =
+    let part = c.loop-rest.fraction * c.power_of_ten.result in
+    let number : ℕ → Type 0 = λ whole. SomeIff c.new.result ((whole < whole_limit) × (part < one)) (whole * one + part) in
+    let made = subst number c.quotient_and_rest-whole.ensures.quotient c.new.ensures in
+    let divides = c.loop-rest.invariant.divides in
+    always_made _ _ _ _ _ _ _ c.loop-rest.digits _ c.requires.small_size (omega arith) c.power_of_ten.ensures divides made
