@@ -63,6 +63,10 @@ fn unit_fault(
     }
 }
 
+/// The text of an `x` where a unit could begin.
+const NO_UNIT: &str =
+    "the character 'x' is incorrect ('B', 'K', 'M', 'G', 'T', 'P', 'E', 'Z' or 'Y' or no character is expected)";
+
 #[test]
 fn texts_of_faults_of_units(rt: HostRuntime) -> Result<(), Fail> {
     let alloc = rt.alloc();
@@ -91,12 +95,7 @@ fn texts_of_faults_of_units(rt: HostRuntime) -> Result<(), Fail> {
             false,
             "the character 'x' is incorrect ('B', 'K' or 'M' is expected)",
         ),
-        (
-            'x',
-            &NINE,
-            true,
-            "the character 'x' is incorrect ('B', 'K', 'M', 'G', 'T', 'P', 'E', 'Z' or 'Y' or no character is expected)",
-        ),
+        ('x', &NINE, true, NO_UNIT),
     ] {
         let alone = unit_fault(character, expected, or_end);
         let read = ParseError::Unit(unit_fault(character, expected, or_end));
