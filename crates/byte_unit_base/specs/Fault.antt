@@ -64,7 +64,8 @@ IsFaultAfter edition flags place (c ∷ rest) fault = fault ≡ fault_at edition
 
 -- the fault of a text that is refused, by what is a front
 pub record IsFirstFault
-    (IsFront : Place → List ℕ → Type 0) (edition : Edition) (flags : Flags) (text : List ℕ) (fault : Fault) : Type 0 where
+    (IsFront : Place → List ℕ → Type 0) (edition : Edition) (flags : Flags) (text : List ℕ) (fault : Fault)
+    : Type 0 where
   pub place : Place
   pub front : List ℕ
   pub rest : List ℕ

@@ -39,7 +39,8 @@ precise w f j = w * one + f * 10 ^ (places_of_decimal - j)
 unfoldable pub size_step : SizeScan → ℕ → Option SizeScan
 size_step Beginning c = if is_digit c then Some (Whole (digit_value c)) else None
 size_step (Whole w) c =
-    if is_digit c then (if nat_lt (w * 10 + digit_value c) whole_limit then Some (Whole (w * 10 + digit_value c)) else None)
+    if is_digit c
+    then (if nat_lt (w * 10 + digit_value c) whole_limit then Some (Whole (w * 10 + digit_value c)) else None)
     else (if c == point then Some (Point w) else after_number (w * one) c)
 size_step (Point w) c = if is_digit c then Some (Fraction w (digit_value c) 1) else None
 size_step (Fraction w f j) c =
