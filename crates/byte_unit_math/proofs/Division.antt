@@ -1,11 +1,11 @@
 -- Long division, a digit a step.
-use Rattle.std.proofs.Common.{◌≡◌, ℕ, ◌+◌, ◌-◌, ◌*◌, ◌/◌, ◌%◌, ◌^◌, ◌<◌, ◌≤◌, ⊎_elim, inl, inr, arith, sym, ap, ◌∙◌, subst, Option, Some, None, SomeIff, IfSome, IfNone}
+use Rattle.std.proofs.Common.{◌≡◌, ℕ, ◌+◌, ◌-◌, ◌*◌, ◌/◌, ◌%◌, ◌^◌, ◌<◌, ◌≤◌, ⊎_elim, arith, sym, ap, ◌∙◌, subst, Option, Some, None, SomeIff, IfSome, IfNone}
 use Rattle.std.proofs.Math.Nat.{pow-succ', mul-add-mod_self_right, mod-eq_of_lt, mul-mod_left, div-le_self, div-add-mod', mul-le-mul_right}
 use Rattle.std.proofs.lemmas.Nat.{pow-add, div_below, mod_below}
 use Rattle.std.proofs.lemmas.Bool.{cases_lt}
 use Rattle.std.proofs.Math.Numerals.{add-one}
 use Rattle.byte_unit_math.specs.Bounds.{one, places_of_decimal, whole_limit}
-use Rattle.byte_unit_math.specs.Exact.{IsExactAt, IsQuotient, IsFirstExact}
+use Rattle.byte_unit_math.specs.Exact.{IsExactAt, IsQuotient}
 use Rattle.byte_unit_math.proofs.Scales.{power_bounds, power_parts, raise_power}
 
 -- the size is so many digits of the quotient, and a rest, with none before it being exact

@@ -1,8 +1,7 @@
 -- A product that is rounded up from its last places, a group of digits a step.
-use Rattle.std.proofs.Common.{◌≡◌, ℕ, ◌+◌, ◌-◌, ◌*◌, ◌/◌, ◌%◌, ◌^◌, ◌<◌, ◌≤◌, arith, subst, sym, ap, ⊎_elim, Option, Some, None, IfNone}
+use Rattle.std.proofs.Common.{◌≡◌, ℕ, ◌+◌, ◌-◌, ◌*◌, ◌/◌, ◌%◌, ◌<◌, ◌≤◌, arith, subst, sym, ap, ⊎_elim, Option, Some, None, IfNone}
 use Rattle.std.proofs.lemmas.Bool.{cases_lt}
-use Rattle.std.proofs.Math.Nat.{mul-le-mul_right, pow-succ'}
-use Rattle.std.proofs.Math.Numerals.{add-one}
+use Rattle.std.proofs.Math.Nat.{mul-le-mul_right}
 use Rattle.byte_unit_math.specs.Bounds.{one}
 use Rattle.byte_unit_math.specs.Least.{IsLeastSize}
 use Rattle.byte_unit_math.specs.RoundedUp.{group, half, IsRoundedUp}

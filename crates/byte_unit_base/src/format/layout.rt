@@ -15,11 +15,8 @@ use crate::format::plain::padding;
 use crate::format::room::{push, push_ascii, push_run, reserve};
 use crate::format::spec::{Align, FormatSpec, Sign};
 use crate::unit::Unit;
-use byte_unit_math::Expansion;
+use byte_unit_math::{EXPANSION_PLACES, Expansion};
 use std::alloc::{AllocError, Allocator};
-
-/// The most digits of an expansion.
-const MOST: usize = 83;
 
 /// How long a decimal of so many places is with its unit. It takes no memory.
 ///
@@ -139,11 +136,11 @@ fn push_fraction<A: Allocator>(text: &mut String<A>, e: &Expansion, places: u32)
 }
 
 /// The digits of an expansion as characters, and zeros behind them.
-fn glyphs_of(e: &Expansion) -> [u8; MOST]
+fn glyphs_of(e: &Expansion) -> [u8; EXPANSION_PLACES]
     ensures front { take (length e.now.digits) result ≡ glyphs e.now.digits }
     ensures ascii { IsAscii result }
 {
-    let mut glyphs = [b'0'; MOST];
+    let mut glyphs = [b'0'; EXPANSION_PLACES];
     for i in 0..e.places() {
         glyphs[i as usize] = b'0' + e.digit(i + 1);
     }

@@ -11,7 +11,7 @@ ghost use Rattle.byte_unit_base.specs.SizeScan.{after_number, precise, sized, si
 use crate::errors::{ParseError, UnitParseError, ValueParseError};
 use crate::unit::Unit;
 use crate::unit::scan::{Flags, UnitScan};
-use byte_unit_math::Decimal;
+use byte_unit_math::{DECIMAL_PLACES, Decimal, power_of_ten};
 
 /// How far a number and a unit are read.
 #[derive(Clone, Copy)]
@@ -31,9 +31,6 @@ pub enum SizeScan {
 
 /// Whole parts are below this.
 const WHOLE_LIMIT: u128 = 79_228_162_514_264_337_593_543_950_336;
-
-/// The most digits of a fraction.
-const PLACES: u32 = 28;
 
 impl SizeScan {
     ghost use Rattle.byte_unit_base.specs.SizeScan.{IsScan, size_step, size_place, size_at_end};
@@ -124,7 +121,7 @@ fn more_fraction(whole: u128, digits: u128, places: u32, digit: u32) -> Option<S
         then Some (SizeScan.Fraction whole (digits * 10 + digit) (places + 1))
         else None) }
 {
-    if places < PLACES {
+    if places < DECIMAL_PLACES {
         Some(SizeScan::Fraction(whole, digits * 10 + u128::from(digit), places + 1))
     } else {
         None
@@ -146,46 +143,7 @@ fn precise_decimal(whole: u128, digits: u128, places: u32) -> Decimal
     requires places { places ≤ places_of_decimal }
     ensures { result ≡ precise whole digits places }
 {
-    Decimal::new(whole, digits * power_of_ten(PLACES - places)).unwrap()
-}
-
-/// Ten to this power. It is a table, since to work a power out takes longer than to read a short text.
-fn power_of_ten(places: u32) -> u128
-    requires { places ≤ places_of_decimal }
-    ensures { result ≡ 10 ^ places }
-{
-    match places {
-        0 => 1,
-        1 => 10,
-        2 => 100,
-        3 => 1_000,
-        4 => 10_000,
-        5 => 100_000,
-        6 => 1_000_000,
-        7 => 10_000_000,
-        8 => 100_000_000,
-        9 => 1_000_000_000,
-        10 => 10_000_000_000,
-        11 => 100_000_000_000,
-        12 => 1_000_000_000_000,
-        13 => 10_000_000_000_000,
-        14 => 100_000_000_000_000,
-        15 => 1_000_000_000_000_000,
-        16 => 10_000_000_000_000_000,
-        17 => 100_000_000_000_000_000,
-        18 => 1_000_000_000_000_000_000,
-        19 => 10_000_000_000_000_000_000,
-        20 => 100_000_000_000_000_000_000,
-        21 => 1_000_000_000_000_000_000_000,
-        22 => 10_000_000_000_000_000_000_000,
-        23 => 100_000_000_000_000_000_000_000,
-        24 => 1_000_000_000_000_000_000_000_000,
-        25 => 10_000_000_000_000_000_000_000_000,
-        26 => 100_000_000_000_000_000_000_000_000,
-        27 => 1_000_000_000_000_000_000_000_000_000,
-        28 => 10_000_000_000_000_000_000_000_000_000,
-        _ => unreachable!(),
-    }
+    Decimal::new(whole, digits * power_of_ten(DECIMAL_PLACES - places)).unwrap()
 }
 
 /// A space or the beginning of a unit, after a number.

@@ -2,7 +2,6 @@ use Rattle.std.proofs.Common.{ℕ, ◌+◌, ◌-◌, ◌*◌, ◌<◌, SomeIff, 
 use Rattle.byte_unit_math.specs.Bounds.{one, places_of_decimal, whole_limit}
 use Rattle.byte_unit_math.specs.Exact.{IsExactAt}
 use Rattle.byte_unit_math.proofs.quotient.exact_quotient.Goals.{then-loop-rest-test+else-digits-most, else-loop-rest-test}
-use Rattle.byte_unit_math.proofs.Scales.{power_bounds}
 use Rattle.byte_unit_math.proofs.Division.{Dividing-more, next_fits, not_exact, part_below, quotient_made, always_made}
 use Rattle.byte_unit_math.proofs.quotient.exact_quotient.Goals as goal
 
