@@ -40,7 +40,7 @@ use Rattle.byte_unit_base.specs.declared.read.scan.SizeScan.TheVariants.{Beginni
 use Rattle.byte_unit_base.proofs.Choosing.{some_bits}
 use Rattle.byte_unit_base.proofs.NumberTexts.{number_of, glyph_value, glyph_digits, whole_text}
 use Rattle.byte_unit_base.proofs.Quotients.{exact_more}
-use Rattle.byte_unit_base.proofs.WrittenForms.{text_some}
+use Rattle.byte_unit_math.proofs.Fractions.{text_some}
 use Rattle.byte_unit_base.proofs.ReadBack.{good_name, bits_bound, number_scaled, trimmed_layout, layout_accepted, size_form_back}
 use Rattle.byte_unit_base.proofs.Scans.{answers, IsAnswer, read_some, read_none, read_through}
 use Rattle.byte_unit_base.proofs.SizeReads.{size_scan_is}

@@ -6,6 +6,7 @@ use Rattle.std.proofs.lemmas.List.{length-take, length-map, map-append, length-a
 use Rattle.byte_unit_math.specs.Bounds.{one, places_of_decimal}
 use Rattle.byte_unit_math.specs.Finite.{Finite, IsExpansion}
 use Rattle.byte_unit_math.specs.Numeral.{glyphs, fraction_text, text_of, padded}
+use Rattle.byte_unit_math.proofs.Fractions.{text_none, text_some}
 use Rattle.byte_unit_math.proofs.Texts.{short_text, own_places}
 use Rattle.byte_unit_base.specs.Shape.{Shape, bits}
 use Rattle.byte_unit_base.specs.Edition.{current, name}
@@ -21,14 +22,6 @@ use Rattle.byte_unit_base.proofs.OneForm.{one_form}
 zeros : (n : ℕ) → glyphs (replicate n 0) ≡ replicate n 48
 zeros zero = refl
 zeros (suc n) = ap (λ l. 48 ∷ l) (zeros n)
-
-pub text_none : (ds : List ℕ) → length ds ≡ 0 → fraction_text ds ≡ []
-text_none [] h = refl
-text_none (d ∷ ds) h = absurd (omega (arith, h))
-
-pub text_some : (ds : List ℕ) → 0 < length ds → fraction_text ds ≡ 46 ∷ glyphs ds
-text_some [] h = absurd (omega (arith, h))
-text_some (d ∷ ds) h = refl
 
 -- a decimal with no places has no point
 pub fraction_none : (places : ℕ) (digits : List ℕ) → places ≡ 0 → fraction_text (take places digits ++ replicate (places - length digits) 0) ≡ []

@@ -1,7 +1,6 @@
 //! Texts of sizes.
 
 mod adjusted;
-mod digits;
 mod forms;
 mod layout;
 mod plain;
@@ -10,8 +9,7 @@ mod spec;
 #[cfg(test)]
 mod tests;
 
-pub use adjusted::{adjusted_len, append_adjusted, number_in_unit};
-pub use digits::write_decimal;
+pub use adjusted::{adjusted_len, append_adjusted, number_in_unit, write_adjusted};
 pub use forms::{append_text, text_len};
 pub use layout::{append_layout, layout_len};
 pub use plain::{append_plain, plain_len};

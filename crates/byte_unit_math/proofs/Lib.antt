@@ -3,7 +3,8 @@ pub mod Places
 pub mod RoundedUp
 pub mod Division
 pub mod Digits
-pub mod ShownDigits
+pub mod WrittenDigits
+pub mod Fractions
 pub mod Expanding
 pub mod Nearest
 pub mod Cut

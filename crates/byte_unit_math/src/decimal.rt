@@ -210,8 +210,10 @@ impl PartialOrd for Decimal {
 impl fmt::Display for Decimal {
     ghost output = { λ d. Some (short d places_of_decimal) };
 
+    ghost styled_output = { λ d spec. Some (short d places_of_decimal) };
+
     fn fmt<W: fmt::Write>(&self, f: &mut fmt::Formatter<W>) -> fmt::Result {
-        write!(f, "{}", Expansion::from_decimal(*self))
+        Expansion::from_decimal(*self).fmt(f)
     }
 }
 

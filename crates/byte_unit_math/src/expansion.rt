@@ -1,18 +1,20 @@
 //! Finite decimals, digit by digit: a whole part and at most 83 digits after the point.
-ghost use Rattle.std.specs.Prelude.{◌≡◌, ◌≢◌, ◌+◌, ◌-◌, ◌*◌, ◌%◌, ◌^◌, ◌≤◌, ◌<◌, ◌++◌, ℕ, length, take, drop, replicate, slice_index, Some};
+ghost use Rattle.std.specs.Prelude.{◌≡◌, ◌≢◌, ◌+◌, ◌-◌, ◌*◌, ◌%◌, ◌^◌, ◌≤◌, ◌<◌, ◌++◌, ℕ, length, take, drop};
+ghost use Rattle.std.specs.Prelude.{replicate, slice_index, IsAscii, Some};
 ghost use Rattle.std.specs.List.{All};
 ghost use Rattle.std.specs.Bool.{MatchBool};
-ghost use Rattle.std.specs.Fmt.{DisplaysOnOk};
+ghost use Rattle.std.specs.Fmt.{DisplaysOnOk, DisplaysStyledOnOk};
 ghost use Rattle.byte_unit_math.specs.Bounds.{bits_limit, expansion_places, one, unit_limit, whole_limit};
 ghost use Rattle.byte_unit_math.specs.Exact.{IsExactAt};
 ghost use Rattle.byte_unit_math.specs.Finite.{IsExpansion, scaled, first};
 ghost use Rattle.byte_unit_math.specs.Nearest.{IsNearest};
-ghost use Rattle.byte_unit_math.specs.Numeral.{expansion_of, glyphs, text_of};
+ghost use Rattle.byte_unit_math.specs.Numeral.{expansion_of, fraction_text, glyphs, text_of};
 
 use crate::decimal::{Decimal, ONE};
+use crate::decimal_digits::write_decimal;
 use crate::dividing::digit_and_rest;
-use std::fmt;
 use std::marker::Model;
+use std::{fmt, str};
 
 /// The most digits after the point of an expansion.
 pub const EXPANSION_PLACES: usize = 83;
@@ -241,25 +243,40 @@ impl Expansion {
 impl fmt::Display for Expansion {
     ghost output = { λ e. Some (text_of e) };
 
+    ghost styled_output = { λ e spec. Some (text_of e) };
+
     fn fmt<W: fmt::Write>(&self, f: &mut fmt::Formatter<W>) -> fmt::Result {
-        write!(f, "{}", self.whole)?;
-        if self.places > 0 {
-            f.write_str(".")?;
-            write_digits(self, f)?;
-        }
-        Ok(())
+        write_decimal(self.whole, f)?;
+        write_fraction(self, f)
     }
 }
 
-/// The digits after the point, from the first on.
-fn write_digits<W: fmt::Write>(e: &Expansion, f: &mut fmt::Formatter<W>) -> fmt::Result
-    ensures { DisplaysOnOk W.write_str_gives f.old result (Some (glyphs e.now.digits)) f.new }
+/// Writes the point and the digits behind it, or nothing where there are none.
+fn write_fraction<W: fmt::Write>(e: &Expansion, f: &mut fmt::Formatter<W>) -> fmt::Result
+    ensures plain { DisplaysOnOk W.write_str_gives f.old result (Some (fraction_text e.now.digits)) f.new }
+    ensures styled { DisplaysStyledOnOk W.write_str_gives f.old result (Some (fraction_text e.now.digits)) f.new }
 {
-    for i in 0..e.places() {
-        let digit = e.digit(i + 1);
-        write!(f, "{digit}")?;
+    if e.places() == 0 {
+        return Ok(());
     }
-    Ok(())
+    f.write_str(".")?;
+    f.write_str(str::from_utf8(&glyphs_of(e)[..e.places() as usize]).unwrap())
+}
+
+/// The digits of an expansion as characters, and zeros behind them.
+///
+/// ```text
+/// glyphs_of(&Expansion::new(13, 3, 0))[..3]    b"625"
+/// ```
+pub fn glyphs_of(e: &Expansion) -> [u8; EXPANSION_PLACES]
+    ensures front { take (length e.now.digits) result ≡ glyphs e.now.digits }
+    ensures ascii { IsAscii result }
+{
+    let mut glyphs = [b'0'; EXPANSION_PLACES];
+    for i in 0..e.places() {
+        glyphs[i as usize] = b'0' + e.digit(i + 1);
+    }
+    glyphs
 }
 
 /// A power that is no greater than a unit.

@@ -2,7 +2,8 @@
 #![tactic(auto)]
 
 pub use crate::decimal::{DECIMAL_PLACES, Decimal};
-pub use crate::expansion::{EXPANSION_PLACES, Expansion, Ties};
+pub use crate::decimal_digits::{DecimalDigits, NUMBER_DIGITS, write_decimal};
+pub use crate::expansion::{EXPANSION_PLACES, Expansion, Ties, glyphs_of};
 pub use crate::factors::two_five;
 pub use crate::least::{least_size, least_size_counted};
 pub use crate::quotient::exact_quotient;
@@ -10,6 +11,7 @@ pub use crate::steps::Steps;
 pub use crate::tens::power_of_ten;
 
 mod decimal;
+mod decimal_digits;
 mod dividing;
 mod expansion;
 mod factors;

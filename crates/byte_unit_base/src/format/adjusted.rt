@@ -1,6 +1,7 @@
 //! The text of a size in a given unit.
 
-ghost use Rattle.std.specs.Prelude.{◌≡◌, ℕ, ◌*◌, ◌^◌, ◌<◌, ◌≤◌, List, length};
+ghost use Rattle.std.specs.Prelude.{◌≡◌, ℕ, ◌*◌, ◌^◌, ◌<◌, ◌≤◌, List, length, Some};
+ghost use Rattle.std.specs.Fmt.{DisplaysOnOk, DisplaysStyledOnOk};
 ghost use Rattle.byte_unit_math.specs.Bounds.{bits_limit};
 ghost use Rattle.byte_unit_math.specs.Finite.{IsExpansion};
 ghost use Rattle.byte_unit_math.specs.Nearest.{IsNearest};
@@ -11,7 +12,7 @@ ghost use Rattle.byte_unit_base.specs.Units.{shape_of};
 ghost use Rattle.byte_unit_base.specs.Kinds.{bits_in};
 ghost use Rattle.byte_unit_base.specs.Room.{Appends};
 ghost use Rattle.byte_unit_base.specs.Forms.{text_limit};
-ghost use Rattle.byte_unit_base.specs.Adjusted.{IsNumeralBy, rule_of, IsAdjustedForm, is_single};
+ghost use Rattle.byte_unit_base.specs.Adjusted.{IsNumeralBy, rule_of, IsAdjustedForm, adjusted_text, is_single};
 
 use crate::format::layout::{append_layout, layout_len};
 use crate::format::spec::FormatSpec;
@@ -19,6 +20,8 @@ use crate::kind::Kind;
 use crate::unit::Unit;
 use byte_unit_math::{Expansion, Ties};
 use std::alloc::{AllocError, Allocator};
+use std::fmt;
+use std::fmt::Display;
 
 /// The most places of the alternate form.
 const ALTERNATE_PLACES: u16 = 16;
@@ -69,6 +72,29 @@ pub fn append_adjusted<A: Allocator>(
 {
     let shown = number_in(size, kind, unit, spec);
     append_layout(&shown.decimal, shown.places, unit, spec, text)
+}
+
+/// Writes the text of a size in a unit into a formatter, as `FormatSpec::PLAIN` lays it out, whatever the formatter's
+/// flags. The size is below 10^27.
+///
+/// ```text
+/// write_adjusted(1536, Kind::Byte, Unit::KiB, f)    // "1.5 KiB"
+/// ```
+pub fn write_adjusted<W: fmt::Write>(
+    size: u128,
+    kind: Kind,
+    unit: Unit,
+    f: &mut fmt::Formatter<W>,
+) -> fmt::Result
+    requires { size < current.size_limit }
+    ensures plain { let text = adjusted_text current kind size (shape_of unit) in
+        DisplaysOnOk W.write_str_gives f.old result (Some text) f.new }
+    ensures styled { let text = adjusted_text current kind size (shape_of unit) in
+        DisplaysStyledOnOk W.write_str_gives f.old result (Some text) f.new }
+{
+    number_in_unit(size, kind, unit).fmt(f)?;
+    f.write_str(" ")?;
+    f.write_str(unit.as_str())
 }
 
 /// The digits that are shown of the size in the unit.

@@ -6,16 +6,15 @@ ghost use Rattle.std.specs.String.{string_bytes};
 ghost use Rattle.byte_unit_base.specs.Edition.{name, current};
 ghost use Rattle.byte_unit_base.specs.Units.{shape_of};
 ghost use Rattle.byte_unit_math.specs.Finite.{Finite};
-ghost use Rattle.byte_unit_math.specs.Numeral.{fraction_text, glyphs, padded, text_of};
+ghost use Rattle.byte_unit_math.specs.Numeral.{fraction_text, padded, text_of};
 ghost use Rattle.byte_unit_base.specs.Room.{spare, Appends};
 ghost use Rattle.byte_unit_base.specs.Layout.{layout_of, before_layout, gap_of};
 
-use crate::format::digits::Digits;
 use crate::format::plain::padding;
 use crate::format::room::{push, push_ascii, push_run, reserve};
 use crate::format::spec::{Align, FormatSpec, Sign};
 use crate::unit::Unit;
-use byte_unit_math::{EXPANSION_PLACES, Expansion};
+use byte_unit_math::{DecimalDigits, Expansion, glyphs_of};
 use std::alloc::{AllocError, Allocator};
 
 /// How long a decimal of so many places is with its unit. It takes no memory.
@@ -28,7 +27,7 @@ pub fn layout_len(e: &Expansion, places: u32, unit: Unit, spec: FormatSpec) -> u
     // A whole part, the point, and the unit with its spaces take no more than 44 columns.
     ensures small { result ≤ max u16.MAX (places + 44) }
 {
-    let number = Digits::of(e.whole()).len() + fraction_len(places);
+    let number = DecimalDigits::of(e.whole()).len() + fraction_len(places);
     let len = number + gap(unit, spec.sign) + name_len(unit);
     len + padding(len, spec.width)
 }
@@ -53,7 +52,7 @@ pub fn append_layout<A: Allocator>(
 ) -> Result<(), AllocError>
     ensures { Appends (λ form. form ≡ layout_of current e.now places (shape_of unit) spec) text.old text.new result }
 {
-    let whole = Digits::of(e.whole());
+    let whole = DecimalDigits::of(e.whole());
     let gap = gap(unit, spec.sign);
     let len = whole.len() + fraction_len(places) + gap + name_len(unit);
     let pad = padding(len, spec.width);
@@ -109,7 +108,12 @@ fn fraction_len(places: u32) -> usize
 }
 
 /// Adds a decimal with exactly so many places.
-fn push_numeral<A: Allocator>(text: &mut String<A>, whole: &Digits, e: &Expansion, places: u32)
+fn push_numeral<A: Allocator>(
+    text: &mut String<A>,
+    whole: &DecimalDigits,
+    e: &Expansion,
+    places: u32,
+)
     requires whole { whole.now ≡ decimal e.now.whole }
     requires ascii { IsAscii whole.now }
     requires room { length (text_of (padded places e.now)) ≤ spare text.old }
@@ -133,16 +137,4 @@ fn push_fraction<A: Allocator>(text: &mut String<A>, e: &Expansion, places: u32)
         push_ascii(text, &glyphs_of(e)[..shown]);
         push_run(text, b'0', places as usize - shown);
     }
-}
-
-/// The digits of an expansion as characters, and zeros behind them.
-fn glyphs_of(e: &Expansion) -> [u8; EXPANSION_PLACES]
-    ensures front { take (length e.now.digits) result ≡ glyphs e.now.digits }
-    ensures ascii { IsAscii result }
-{
-    let mut glyphs = [b'0'; EXPANSION_PLACES];
-    for i in 0..e.places() {
-        glyphs[i as usize] = b'0' + e.digit(i + 1);
-    }
-    glyphs
 }

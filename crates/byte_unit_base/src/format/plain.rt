@@ -5,9 +5,9 @@ ghost use Rattle.std.specs.String.{string_bytes};
 ghost use Rattle.byte_unit_base.specs.Room.{spare, Appends};
 ghost use Rattle.byte_unit_base.specs.Plain.{plain, missing, before_plain, plus_of};
 
-use crate::format::digits::{Digits, ROOM};
 use crate::format::room::{push, push_ascii, push_run, reserve};
 use crate::format::spec::{Align, FormatSpec, Sign};
+use byte_unit_math::{DecimalDigits, NUMBER_DIGITS};
 use std::alloc::{AllocError, Allocator};
 
 /// How long the plain form of a number is: its digits with their sign, padded to the width. It takes no memory.
@@ -19,7 +19,7 @@ pub fn plain_len(size: u128, spec: FormatSpec) -> usize
     ensures exact { result ≡ length (plain size spec) }
     ensures small { result ≤ u16.MAX }
 {
-    let len = signed_len(Digits::of(size).len(), spec.sign);
+    let len = signed_len(DecimalDigits::of(size).len(), spec.sign);
     len + padding(len, spec.width)
 }
 
@@ -39,7 +39,7 @@ pub fn append_plain<A: Allocator>(
 ) -> Result<(), AllocError>
     ensures { Appends (λ form. form ≡ plain size spec) text.old text.new result }
 {
-    let digits = Digits::of(size);
+    let digits = DecimalDigits::of(size);
     let len = signed_len(digits.len(), spec.sign);
     let pad = padding(len, spec.width);
     reserve(text, len + pad)?;
@@ -53,9 +53,9 @@ pub fn append_plain<A: Allocator>(
 
 /// How many columns so many digits take with their sign.
 fn signed_len(digits: usize, sign: Sign) -> usize
-    requires { digits < ROOM }
+    requires { digits ≤ NUMBER_DIGITS }
     ensures exact { result ≡ length (plus_of sign) + digits }
-    ensures small { result ≤ ROOM }
+    ensures small { result ≤ NUMBER_DIGITS + 1 }
 {
     match sign {
         Sign::Plus => 1 + digits,

@@ -8,7 +8,8 @@ ghost use Rattle.byte_unit_base.specs.SizeReading.{IsSizeReading};
 ghost use Rattle.byte_unit_base.specs.declared.kind.Kind.TheVariants.{Byte as InBytes};
 
 use super::Byte;
-use byte_unit_base::{ExceededBoundsError, ParseError, format};
+use byte_unit_base::{ExceededBoundsError, ParseError};
+use byte_unit_math::write_decimal;
 use std::fmt;
 use std::num::TryFromIntError;
 use std::str::FromStr;
@@ -30,7 +31,7 @@ impl fmt::Display for Byte {
     ghost styled_output = { λ size spec. Some (decimal size) };
 
     fn fmt<W: fmt::Write>(&self, f: &mut fmt::Formatter<W>) -> fmt::Result {
-        format::write_decimal(self.as_u128(), f)
+        write_decimal(self.as_u128(), f)
     }
 }
 

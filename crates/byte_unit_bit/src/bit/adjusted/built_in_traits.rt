@@ -25,11 +25,11 @@ use std::str::FromStr;
 impl fmt::Display for AdjustedBit {
     ghost output = { λ a. Some (adjusted_text current InBits a.size (shape_of a.unit)) };
 
+    ghost styled_output = { λ a spec. Some (adjusted_text current InBits a.size (shape_of a.unit)) };
+
     fn fmt<W: fmt::Write>(&self, f: &mut fmt::Formatter<W>) -> fmt::Result {
         let size = self.get_bit().as_u128();
-        let unit = self.get_unit();
-        let number = format::number_in_unit(size, Kind::Bit, unit);
-        write!(f, "{number} {unit}")
+        format::write_adjusted(size, Kind::Bit, self.get_unit(), f)
     }
 }
 

@@ -25,11 +25,11 @@ use std::str::FromStr;
 impl fmt::Display for AdjustedByte {
     ghost output = { λ a. Some (adjusted_text current InBytes a.size (shape_of a.unit)) };
 
+    ghost styled_output = { λ a spec. Some (adjusted_text current InBytes a.size (shape_of a.unit)) };
+
     fn fmt<W: fmt::Write>(&self, f: &mut fmt::Formatter<W>) -> fmt::Result {
         let size = self.get_byte().as_u128();
-        let unit = self.get_unit();
-        let number = format::number_in_unit(size, Kind::Byte, unit);
-        write!(f, "{number} {unit}")
+        format::write_adjusted(size, Kind::Byte, self.get_unit(), f)
     }
 }
 

@@ -1,4 +1,4 @@
-use Rattle.byte_unit_base.proofs.WrittenDigits.{is_text}
+use Rattle.byte_unit_math.proofs.WrittenDigits.{is_text}
 use Rattle.byte_unit_base.proofs.format.room.push_ascii.Goals as goal
 
 pub unwrap-requires : goal.unwrap-requires

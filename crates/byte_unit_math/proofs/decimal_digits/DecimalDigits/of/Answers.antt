@@ -3,8 +3,8 @@ use Rattle.std.specs.Str.{IsAscii}
 use Rattle.std.specs.Fmt.{decimal}
 use Rattle.std.proofs.lemmas.Nat.{mod_below}
 use Rattle.std.proofs.lemmas.Fmt.{IsAscii-decimal_wide}
-use Rattle.byte_unit_base.proofs.WrittenDigits.{length_few, length_groups, length-after_one, group_put}
-use Rattle.byte_unit_base.proofs.format.digits.Digits.of.Goals as goal
+use Rattle.byte_unit_math.proofs.WrittenDigits.{length_few, length_groups, length-after_one, group_put}
+use Rattle.byte_unit_math.proofs.decimal_digits.DecimalDigits.of.Goals as goal
 
 pub write_digits-start-requires-clause-room : goal.write_digits-start-requires-clause-room
 write_digits-start-requires-clause-room c =
@@ -22,7 +22,9 @@ loop-rest-preserved c =
       within = omega (arith, one);
       size = c.write_digits-start.array_long;
       place = omega (arith, one, groups);
-      digits = group_put l.rest l.start c.write_digits-start.result l.bytes c.write_digits-start.new.bytes (decimal c.args.n) wide (omega arith) c.write_digits-start.ensures.digits l.invariant.digits;
+      digits =
+          group_put l.rest l.start c.write_digits-start.result l.bytes c.write_digits-start.new.bytes (decimal c.args.n)
+          wide (omega arith) c.write_digits-start.ensures.digits l.invariant.digits;
     }
 
 pub write_digits-start-requires-2-clause-room : goal.write_digits-start-requires-2-clause-room

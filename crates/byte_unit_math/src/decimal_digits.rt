@@ -6,22 +6,29 @@ ghost use Rattle.std.specs.Fmt.{decimal, DisplaysOnOk, DisplaysStyledOnOk};
 use std::marker::Model;
 use std::{fmt, str};
 
-/// More than the digits of the greatest number.
-pub(crate) const ROOM: usize = 40;
+/// The most decimal digits of a number of 128 bits.
+pub const NUMBER_DIGITS: usize = 39;
+
+/// One place more, for the one before the last group.
+const ROOM: usize = NUMBER_DIGITS + 1;
 
 /// Ten to the power of 18: 18 digits are taken off at once where a number is above 64 bits.
 const GROUP: u128 = 1_000_000_000_000_000_000;
 
-/// The digits of a number, at the end of an array.
+/// The decimal digits of a number, as characters. A contract sees the list of them.
+///
+/// ```text
+/// DecimalDigits::of(1536).as_slice()    b"1536"
+/// ```
 #[derive(Drop)]
-pub(crate) struct Digits {
+pub struct DecimalDigits {
     bytes: [u8; ROOM],
     start: usize,
 }
 
-impl Model for Digits {
+impl Model for DecimalDigits {
     ghost use Rattle.std.specs.Prelude.{ℕ, List, drop, ◌≤◌, ◌≡◌, length};
-    ghost use Rattle.byte_unit_base.specs.declared.format.digits.TheConstants.{ROOM};
+    ghost use Rattle.byte_unit_math.specs.declared.decimal_digits.TheConstants.{ROOM};
 
     ghost Value = { List ℕ };
 
@@ -30,11 +37,12 @@ impl Model for Digits {
     ghost invariant = { λ d. (d.start ≤ ROOM) × (length d.bytes ≡ ROOM) };
 }
 
-impl Digits {
-    pub(crate) fn of(n: u128) -> Digits
+impl DecimalDigits {
+    /// The digits of this number.
+    pub fn of(n: u128) -> DecimalDigits
         ensures digits { result ≡ decimal n }
         ensures ascii { IsAscii result }
-        ensures few { length result < ROOM }
+        ensures few { length result ≤ NUMBER_DIGITS }
     {
         let mut bytes = [b'0'; ROOM];
         let mut start = ROOM;
@@ -46,16 +54,18 @@ impl Digits {
             rest /= GROUP;
         }
         start = write_digits(rest as u64, &mut bytes, start);
-        Digits { bytes, start }
+        DecimalDigits { bytes, start }
     }
 
-    pub(crate) fn len(&self) -> usize
+    /// How many there are: at most 39.
+    pub fn len(&self) -> usize
         ensures { result ≡ length self.now }
     {
         ROOM - self.start
     }
 
-    pub(crate) fn as_slice(&self) -> &[u8]
+    /// The characters, from the first on.
+    pub fn as_slice(&self) -> &[u8]
         ensures { result.now ≡ self.now }
     {
         &self.bytes[self.start..]
@@ -71,7 +81,7 @@ pub fn write_decimal<W: fmt::Write>(n: u128, f: &mut fmt::Formatter<W>) -> fmt::
     ensures plain { DisplaysOnOk W.write_str_gives f.old result (Some (decimal n)) f.new }
     ensures styled { DisplaysStyledOnOk W.write_str_gives f.old result (Some (decimal n)) f.new }
 {
-    let digits = Digits::of(n);
+    let digits = DecimalDigits::of(n);
     f.write_str(str::from_utf8(digits.as_slice()).unwrap())
 }
 

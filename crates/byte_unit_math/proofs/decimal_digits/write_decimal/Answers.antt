@@ -1,7 +1,7 @@
 use Rattle.std.proofs.Common.{sym, subst}
 use Rattle.std.specs.Str.{IsAscii}
-use Rattle.byte_unit_base.proofs.WrittenDigits.{is_text}
-use Rattle.byte_unit_base.proofs.format.digits.write_decimal.Goals as goal
+use Rattle.byte_unit_math.proofs.WrittenDigits.{is_text}
+use Rattle.byte_unit_math.proofs.decimal_digits.write_decimal.Goals as goal
 
 pub unwrap-requires : goal.unwrap-requires
 unwrap-requires g c =

@@ -1,7 +1,7 @@
 use Rattle.std.proofs.Common.{◌≡◌, take, length}
 use Rattle.std.specs.Str.{IsAscii}
 use Rattle.byte_unit_math.specs.Numeral.{glyphs}
-use Rattle.byte_unit_base.proofs.format.layout.glyphs_of.Given as goal
+use Rattle.byte_unit_math.proofs.expansion.glyphs_of.Given as goal
 
 abbrev pub invariant-loop-i : goal.invariant-loop-i
 invariant-loop-i l = record {

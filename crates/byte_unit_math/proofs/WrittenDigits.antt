@@ -1,0 +1,150 @@
+-- The digits of a number, written from the last to the first.
+use Rattle.std.specs.Prelude.{MatchResult}
+use Rattle.std.specs.Fmt.{decimal}
+use Rattle.std.specs.Str.{IsUtf8, IsAscii}
+use Rattle.std.proofs.Common.{rules, Result, Ok, Err, IsOk, set, ◌≡◌, ℕ, zero, suc, ◌+◌, ◌-◌, ◌*◌, ◌^◌, ◌/◌, ◌%◌, ◌<◌}
+use Rattle.std.proofs.Common.{◌≤◌, ⊎_elim, List, []}
+use Rattle.std.proofs.Common.{◌∷◌, ◌++◌, length, drop, arith, ap, sym, refl, ◌∙◌, length-append, append_assoc}
+use Rattle.std.proofs.Common.{append-nil}
+use Rattle.std.proofs.Math.Nat.{pow-succ', one-le-pow, mul-le-mul_right}
+use Rattle.std.proofs.lemmas.Bool.{cases_lt}
+use Rattle.std.proofs.lemmas.Fmt.{decimal_digit, decimal_step_wide, length-decimal-le_wide}
+use Rattle.std.proofs.lemmas.List.{drop-set, drop-drop}
+use Rattle.std.proofs.lemmas.Nat.{mod_below}
+use Rattle.std.proofs.lemmas.Str.{IsUtf8-from_ascii}
+
+pub decimal_one : (n : ℕ) → n < 10 → decimal n ≡ (48 + n) ∷ []
+decimal_one n h = decimal_digit n h
+
+pub decimal_more : (n : ℕ) → 10 ≤ n → n < 2 ^ 128 → decimal n ≡ decimal (n / 10) ++ (48 + n % 10) ∷ []
+decimal_more n h small = decimal_step_wide n h (omega arith)
+
+pub length_one : (n : ℕ) → n < 10 → length (decimal n) ≡ 1
+length_one n h = ap length (decimal_digit n h)
+
+pub length_more : (n : ℕ) → 10 ≤ n → n < 2 ^ 128 → length (decimal n) ≡ length (decimal (n / 10)) + 1
+length_more n h small = ap length (decimal_more n h small) ∙ length-append (decimal (n / 10)) ((48 + n % 10) ∷ [])
+
+pub length_few : (n : ℕ) → n < 2 ^ 128 → length (decimal n) ≤ 39
+length_few n small = length-decimal-le_wide 39 n (omega arith) (omega arith) (omega arith)
+
+-- the last digits of a number, so many of them
+tail_digits : ℕ → ℕ → List ℕ
+tail_digits zero r = []
+tail_digits (suc k) r = tail_digits k (r / 10) ++ (48 + r % 10) ∷ []
+
+length-tail_digits : (k r : ℕ) → length (tail_digits k r) ≡ k
+unfolding tail_digits
+length-tail_digits zero r = refl
+length-tail_digits (suc k) r =
+    length-append (tail_digits k (r / 10)) ((48 + r % 10) ∷ []) ∙ omega (arith, length-tail_digits k (r / 10))
+
+-- digits before others
+decimal_front :
+    (k q r : ℕ) → 1 ≤ q → r < 10 ^ k → q * 10 ^ k + r < 10 ^ 64
+    → decimal (q * 10 ^ k + r) ≡ decimal q ++ tail_digits k r
+unfolding tail_digits
+decimal_front zero q r some below small =
+    let e : q * 10 ^ 0 + r ≡ q = omega arith in
+    ap decimal e ∙ sym (append-nil (decimal q))
+decimal_front (suc k) q r some below small =
+    let scale : 10 ^ suc k ≡ 10 * 10 ^ k = pow-succ' 10 k in
+    let product = ap (λ x. q * x) scale in
+    let n : ℕ = q * 10 ^ suc k + r in
+    let front : n / 10 ≡ q * 10 ^ k + r / 10 = omega (arith, product) in
+    let last : n % 10 ≡ r % 10 = omega (arith, product) in
+    let less : r / 10 < 10 ^ k = omega (arith, below, scale) in
+    let room : q * 10 ^ k + r / 10 < 10 ^ 64 = omega (arith, front, small) in
+    let most = mul-le-mul_right {m = 1} {n = q} (10 ^ suc k) some in
+    let wide : 10 ≤ n = omega (arith, most, scale, one-le-pow k 10 (omega arith)) in
+    decimal_step_wide n wide small
+    ∙ (ap (λ x. decimal x ++ (48 + n % 10) ∷ []) front
+    ∙ (ap (λ x. decimal (q * 10 ^ k + r / 10) ++ (48 + x) ∷ []) last
+    ∙ (ap (λ l. l ++ (48 + r % 10) ∷ []) (decimal_front k q (r / 10) some less room)
+    ∙ append_assoc (decimal q) (tail_digits k (r / 10)) ((48 + r % 10) ∷ []))))
+
+pub length_some : (n : ℕ) → n < 2 ^ 128 → 1 ≤ length (decimal n)
+length_some n small =
+    ⊎_elim (λ one. let e = length_one n one in omega (arith, e))
+    (λ more. let e = length_more n more small in omega (arith, e)) (cases_lt n 10)
+
+-- eighteen digits at once, zeros among them
+pub group_digits : ℕ → List ℕ
+group_digits r = tail_digits 18 r
+
+pub length-group_digits : (r : ℕ) → length (group_digits r) ≡ 18
+unfolding group_digits
+length-group_digits r = length-tail_digits 18 r
+
+pub decimal_groups :
+    (n : ℕ) → 10 ^ 18 ≤ n → n < 2 ^ 128 → decimal n ≡ decimal (n / 10 ^ 18) ++ group_digits (n % 10 ^ 18)
+unfolding group_digits
+decimal_groups n wide small =
+    let parts : n ≡ n / 10 ^ 18 * 10 ^ 18 + n % 10 ^ 18 = omega arith in
+    ap decimal parts
+    ∙ decimal_front 18 (n / 10 ^ 18) (n % 10 ^ 18) (omega arith) (mod_below n (10 ^ 18) (omega arith)) (omega arith)
+
+-- a one before them keeps them apart
+pub decimal_after_one : (r : ℕ) → r < 10 ^ 18 → decimal (10 ^ 18 + r) ≡ 49 ∷ group_digits r
+unfolding group_digits
+decimal_after_one r small =
+    let parts : 10 ^ 18 + r ≡ 1 * 10 ^ 18 + r = omega arith in
+    ap decimal parts
+    ∙ (decimal_front 18 1 r (omega arith) small (omega arith)
+    ∙ ap (λ l. l ++ tail_digits 18 r) (decimal_one 1 (omega arith)))
+
+-- digits in an array
+
+-- one more digit, before those that are there
+pub digit_put :
+    (rest start : ℕ) (bytes whole : List ℕ) → 10 ≤ rest → rest < 2 ^ 128 → 1 ≤ start → start < length bytes
+    → decimal rest ++ drop (start + 1) bytes ≡ whole
+    → decimal (rest / 10) ++ drop (start - 1 + 1) (set bytes start (48 + rest % 10)) ≡ whole
+digit_put rest start bytes whole more small some within h =
+    let d : ℕ = 48 + rest % 10 in
+    let back : start - 1 + 1 ≡ start = omega arith in
+    ap (λ k. decimal (rest / 10) ++ drop k (set bytes start d)) back
+    ∙ (ap (λ l. decimal (rest / 10) ++ l) (drop-set bytes start d within)
+    ∙ (sym (append_assoc (decimal (rest / 10)) (d ∷ []) (drop (start + 1) bytes))
+    ∙ (ap (λ l. l ++ drop (start + 1) bytes) (sym (decimal_more rest more small)) ∙ h)))
+
+-- the first digit
+pub last_put :
+    (rest start : ℕ) (bytes whole : List ℕ) → rest < 10 → start < length bytes
+    → decimal rest ++ drop (start + 1) bytes ≡ whole → drop start (set bytes start (48 + rest)) ≡ whole
+last_put rest start bytes whole one within h =
+    drop-set bytes start (48 + rest) within ∙ (ap (λ l. l ++ drop (start + 1) bytes) (sym (decimal_one rest one)) ∙ h)
+
+pub length-after_one : (r : ℕ) → r < 10 ^ 18 → length (decimal (10 ^ 18 + r)) ≡ 19
+length-after_one r small = ap length (decimal_after_one r small) ∙ omega (arith, length-group_digits r)
+
+pub length_groups : (n : ℕ) → 10 ^ 18 ≤ n → n < 2 ^ 128 → length (decimal n) ≡ length (decimal (n / 10 ^ 18)) + 18
+length_groups n wide small =
+    ap length (decimal_groups n wide small)
+    ∙ (length-append (decimal (n / 10 ^ 18)) (group_digits (n % 10 ^ 18))
+    ∙ ap (λ k. length (decimal (n / 10 ^ 18)) + k) (length-group_digits (n % 10 ^ 18)))
+
+-- a group of digits before those that are there
+pub group_put :
+    (rest start place : ℕ) (bytes new whole : List ℕ) → 10 ^ 18 ≤ rest → rest < 2 ^ 128
+    → drop place new ≡ decimal (10 ^ 18 + rest % 10 ^ 18) ++ drop start bytes
+    → decimal rest ++ drop start bytes ≡ whole → decimal (rest / 10 ^ 18) ++ drop (place + 1) new ≡ whole
+group_put rest start place bytes new whole wide small put h =
+    let low = rest % 10 ^ 18 in
+    let less : low < 10 ^ 18 = mod_below rest (10 ^ 18) (omega arith) in
+    let all : drop place new ≡ 49 ∷ (group_digits low ++ drop start bytes) =
+    put ∙ ap (λ l. l ++ drop start bytes) (decimal_after_one low less) in
+    let behind : drop (place + 1) new ≡ group_digits low ++ drop start bytes =
+    sym (drop-drop 1 place new) ∙ ap (λ l. drop 1 l) all in
+    ap (λ l. decimal (rest / 10 ^ 18) ++ l) behind
+    ∙ (sym (append_assoc (decimal (rest / 10 ^ 18)) (group_digits low) (drop start bytes))
+    ∙ (ap (λ l. l ++ drop start bytes) (sym (decimal_groups rest wide small)) ∙ h))
+
+-- text
+
+-- bytes of ASCII are text
+pub is_text :
+    {S E : Type 0} (r : Result S E) (bytes : List ℕ) (P : S → Type 0) (Q : E → Type 0)
+    → MatchResult r P (λ e. ¬ (IsUtf8 bytes) × Q e) → IsAscii bytes → IsOk r
+is_text (Ok s) bytes P Q h ascii = search rules
+is_text (Err e) bytes P Q h ascii = absurd (h.0 (IsUtf8-from_ascii bytes ascii))

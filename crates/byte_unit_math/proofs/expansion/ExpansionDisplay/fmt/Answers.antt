@@ -1,0 +1,11 @@
+use Rattle.std.proofs.Common.{◌++◌, refl, ap}
+use Rattle.std.proofs.Output.{has_written_styled_append, has_written_styled_of_eq}
+use Rattle.std.specs.Fmt.{decimal}
+use Rattle.byte_unit_math.specs.Numeral.{fraction_text}
+use Rattle.byte_unit_math.proofs.expansion.ExpansionDisplay.fmt.Goals as goal
+
+pub returns-clause-styled : goal.returns-clause-styled
+returns-clause-styled g c = λ flush ok.
+    let whole = c.in_ok-write_decimal.ensures.styled flush refl in
+    let both = has_written_styled_append _ _ _ _ _ _ whole (c.write_fraction.ensures.styled whole.flush ok) in
+    has_written_styled_of_eq _ _ _ _ _ (ap (λ e. decimal e.whole ++ fraction_text c.args.self.now.digits) c.self.view_is) both
