@@ -80,7 +80,8 @@ at_tie : (num den p t low : ℕ) (ties : Ties) → num * 10 ^ p ≡ t * den + lo
 at_tie num den p t low Up split below half = record { q = t + 1; is_nearest = tie_up num den p t low split below half }
 at_tie num den p t low Even split below half =
     ⊎_elim (λ even. record { q = t; is_nearest = tie_even_this num den p t low split below half (parity t even) })
-    (λ odd. record { q = t + 1; is_nearest = tie_even_next num den p t low split below half (let e : t % 2 ≡ 1 = omega (arith, odd) in e) }) (cases_lt (t % 2) 1)
+    (λ odd. record { q = t + 1; is_nearest = tie_even_next num den p t low split below half (let e : t % 2 ≡ 1 = omega (arith, odd) in e) })
+    (cases_lt (t % 2) 1)
 
 nearest : (num den p : ℕ) (ties : Ties) → 0 < den → Nearest num den p ties
 nearest num den p ties some =
@@ -90,7 +91,10 @@ nearest num den p ties some =
     let split : n ≡ t * den + low = sym (div-add-mod' n den) in
     let below : low < den = mod_below n den some in
     ⊎_elim (λ less. record { q = t; is_nearest = nearest_down num den p t low split below ties less })
-    (λ more. ⊎_elim (λ above. record { q = t + 1; is_nearest = nearest_up num den p t low split below ties above }) (λ half. at_tie num den p t low ties split below (let e : 2 * low ≡ den = omega (arith, more, half) in e)) (cases_lt den (2 * low)))
+    (λ more.
+    ⊎_elim (λ above. record { q = t + 1; is_nearest = nearest_up num den p t low split below ties above })
+    (λ half. at_tie num den p t low ties split below (let e : 2 * low ≡ den = omega (arith, more, half) in e))
+    (cases_lt den (2 * low)))
     (cases_lt (2 * low) den)
 
 record Expanded (num den : ℕ) : Type 0 where
@@ -112,7 +116,9 @@ expanded num a b some =
     let same = ap (λ x. num * x) (ten_parts a b) in
     record {
       e = shortened (at_places p q);
-      is_expansion = same_fraction q (10 ^ p) num den (shortened (at_places p q)) (omega (arith, ten p)) some (let e : q * den ≡ num * 10 ^ p = omega (arith, same) in e) (short_expansion q p);
+      is_expansion =
+          same_fraction q (10 ^ p) num den (shortened (at_places p q)) (omega (arith, ten p)) some
+          (let e : q * den ≡ num * 10 ^ p = omega (arith, same) in e) (short_expansion q p);
     }
 
 record Numeral (rule : Rule) (num den : ℕ) : Type 0 where
@@ -133,7 +139,8 @@ has_one_adjusted_form edition kind size unit spec =
     let some : 0 < bits unit = omega (arith, some_bits unit) in
     let r = numeral_there (rule_of spec.precision spec.alternate unit) (size * bits_in kind) (twos unit) (fives unit) some in
     let form = layout r.number (name edition unit) spec in
-    let is_form : IsAdjustedForm edition kind size unit spec form = record { number = r.number; number_is = r.is_numeral; text_is = refl } in
+    let is_form : IsAdjustedForm edition kind size unit spec form =
+    record { number = r.number; number_is = r.is_numeral; text_is = refl } in
     record { form = form; is_form = is_form; one = λ other h. one_adjusted edition kind size unit spec other form h is_form }
 
 -- the text that is written

@@ -61,7 +61,9 @@ expansion_product : (num den : ℕ) (e : Finite) → IsExpansion num den e → l
 expansion_product num den e h few =
     let len = length e.digits in
     let R = 10 ^ (places_of_decimal - len) in
-    let power : one ≡ 10 ^ len * R = ap (λ n. 10 ^ n) (let k : places_of_decimal ≡ len + (places_of_decimal - len) = omega arith in k) ∙ pow-add 10 len (places_of_decimal - len) in
+    let power : one ≡ 10 ^ len * R =
+    ap (λ n. 10 ^ n) (let k : places_of_decimal ≡ len + (places_of_decimal - len) = omega arith in k)
+    ∙ pow-add 10 len (places_of_decimal - len) in
     let number : number_of e.whole e.digits ≡ scaled e * R = number_scaled e.whole (value_of e.digits) (scaled e * R) len few refl in
     let x = ap (λ n. n * den) number in
     let y = ap (λ n. n * R) h.exact in
@@ -81,10 +83,36 @@ record LongDigits (n : ℕ) (ds : List ℕ) : Type 0 where
 
 cut : (n : ℕ) (ds : List ℕ) → All (λ d. d < 10) ds → n < length ds → LongDigits n ds
 cut n [] h k = absurd (omega (arith, k))
-cut zero (d ∷ ds) h k = record { front = []; next = d; rest = ds; list_is = refl; length_is = refl; small = All-nil (λ d. d < 10); next_small = All-head (λ d. d < 10) d ds h }
+cut zero (d ∷ ds) h k =
+    record {
+      front =
+          [];
+      next =
+          d;
+      rest =
+          ds;
+      list_is = refl;
+      length_is = refl;
+      small = All-nil (λ d. d < 10);
+      next_small = All-head (λ d. d < 10) d ds h;
+    }
 cut (suc n) (d ∷ ds) h k =
     let r = cut n ds (All-tail (λ d. d < 10) d ds h) (omega (arith, k)) in
-    record { front = d ∷ r.front; next = r.next; rest = r.rest; list_is = ap (λ l. d ∷ l) r.list_is; length_is = ap suc r.length_is; small = All-cons (λ d. d < 10) d r.front (All-head (λ d. d < 10) d ds h) r.small; next_small = r.next_small }
+    record {
+      front =
+          d ∷ r.front;
+      next =
+          r.next;
+      rest =
+          r.rest;
+      list_is =
+          ap (λ l. d ∷ l) r.list_is;
+      length_is =
+          ap suc r.length_is;
+      small =
+          All-cons (λ d. d < 10) d r.front (All-head (λ d. d < 10) d ds h) r.small;
+      next_small = r.next_small;
+    }
 
 no_more_places : (w f j c : ℕ) → digit_value c < 10 → j ≡ places_of_decimal → size_step (Fraction w f j) c ≡ None
 unfolding size_step
@@ -94,7 +122,8 @@ no_more_places w f j c h k =
     rw (e, g) refl
 
 digit_fault : (c : ℕ) → digit_value c < 10 → after_digit current c ≡ too_long
-digit_fault c h = let e : nat_lt (digit_value c) 10 ≡ true = grind (arith, nat_tests) in ap (λ b. if b then too_long else no_unit current c) e
+digit_fault c h = let e : nat_lt (digit_value c) 10 ≡ true = grind (arith, nat_tests) in
+    ap (λ b. if b then too_long else no_unit current c) e
 
 -- the scan of a whole part, a point, as many digits as a decimal has, and a digit more
 read_long : (flags : Flags) (w next : ℕ) (front more : List ℕ) → w < whole_limit → All (λ d. d < 10) front
@@ -107,7 +136,8 @@ read_long flags w next front more bound small len next_small =
     let run = run_places (glyphs front) w (omega (arith, count), glyph_digits front small) (omega (arith, count)) in
     let state = Fraction w (digits_value 10 (glyphs front)) run.0 in
     let stop = no_more_places w (digits_value 10 (glyphs front)) run.0 c digit (run.2 ∙ count) in
-    read_through (size_scan flags) Beginning (Whole w) (decimal w) (46 ∷ (glyphs front ++ (c ∷ more))) (run_whole (decimal w) w (whole_text w bound))
+    read_through (size_scan flags) Beginning (Whole w) (decimal w) (46 ∷ (glyphs front ++ (c ∷ more)))
+    (run_whole (decimal w) w (whole_text w bound))
     ∙ (read_some (size_scan flags) (Whole w) (Point w) 46 (glyphs front ++ (c ∷ more)) (step_point w)
     ∙ (read_through (size_scan flags) (Point w) state (glyphs front) (c ∷ more) run.1
     ∙ (read_none (size_scan flags) state c more stop ∙ ap Err (digit_fault c digit))))
@@ -115,8 +145,10 @@ read_long flags w next front more bound small len next_small =
 long_text : (w : ℕ) (ds tail : List ℕ) → 0 < length ds → (k : LongDigits places_of_decimal ds)
     → (decimal w ++ fraction_text ds) ++ tail ≡ decimal w ++ (46 ∷ (glyphs k.front ++ ((48 + k.next) ∷ (glyphs k.rest ++ tail))))
 long_text w ds tail some k =
-    let split : glyphs ds ≡ glyphs k.front ++ ((48 + k.next) ∷ glyphs k.rest) = ap glyphs k.list_is ∙ map-append (λ d. 48 + d) k.front (k.next ∷ k.rest) in
-    let fraction : fraction_text ds ≡ 46 ∷ (glyphs k.front ++ ((48 + k.next) ∷ glyphs k.rest)) = text_some ds some ∙ ap (λ t. 46 ∷ t) split in
+    let split : glyphs ds ≡ glyphs k.front ++ ((48 + k.next) ∷ glyphs k.rest) =
+    ap glyphs k.list_is ∙ map-append (λ d. 48 + d) k.front (k.next ∷ k.rest) in
+    let fraction : fraction_text ds ≡ 46 ∷ (glyphs k.front ++ ((48 + k.next) ∷ glyphs k.rest)) =
+    text_some ds some ∙ ap (λ t. 46 ∷ t) split in
     ap (λ t. (decimal w ++ t) ++ tail) fraction
     ∙ (append_assoc (decimal w) (46 ∷ (glyphs k.front ++ ((48 + k.next) ∷ glyphs k.rest))) tail
     ∙ ap (λ t. decimal w ++ (46 ∷ t)) (append_assoc (glyphs k.front) ((48 + k.next) ∷ glyphs k.rest) tail))
@@ -125,7 +157,9 @@ long_fault : (flags : Flags) (w : ℕ) (ds tail text : List ℕ) → w < whole_l
     → text ≡ (decimal w ++ fraction_text ds) ++ tail → IsSizeFault current flags text too_long
 long_fault flags w ds tail text bound small long e =
     let k = cut places_of_decimal ds small long in
-    let is_long = ap (read (size_scan flags) Beginning) (e ∙ long_text w ds tail (omega (arith, long)) k) ∙ read_long flags w k.next k.front (glyphs k.rest ++ tail) bound k.small k.length_is k.next_small in
+    let is_long =
+    ap (read (size_scan flags) Beginning) (e ∙ long_text w ds tail (omega (arith, long)) k)
+    ∙ read_long flags w k.next k.front (glyphs k.rest ++ tail) bound k.small k.length_is k.next_small in
     subst (IsAnswer (States flags text) (IsSizeFault current flags text)) is_long (answers (size_scan_is flags) text)
 
 -- the string
@@ -138,10 +172,12 @@ form_accepted kind size unit text below h exact =
     let e = h.number_is.0 in
     let x = h.number_is.1 in
     let few = x.least places_of_decimal exact in
-    let bound : e.whole < whole_limit = omega (arith, whole_not_above (size * bits_in kind) (bits s) e (some_bits s) x, bits_bound kind size below) in
+    let bound : e.whole < whole_limit =
+    omega (arith, whole_not_above (size * bits_in kind) (bits s) e (some_bits s) x, bits_bound kind size below) in
     let P : List ℕ → Type 0 = λ t. IsAccepted current kind false t size in
     subst P (sym (h.text_is ∙ ap (λ n. layout n (name current s) ALTERNATE) h.number_is.2))
-    (layout_accepted kind false size ALTERNATE e.whole e.digits s x.small few bound (good_name kind unit) (expansion_product (size * bits_in kind) (bits s) e x few) below)
+    (layout_accepted kind false size ALTERNATE e.whole e.digits s x.small few bound (good_name kind unit)
+    (expansion_product (size * bits_in kind) (bits s) e x few) below)
 
 form_refused : (kind : Kind) (size : ℕ) (unit : UnitName) (text : List ℕ) → size < current.size_limit
     → IsAdjustedForm current kind size (shape_of unit) ALTERNATE text
@@ -152,8 +188,11 @@ form_refused kind size unit text below h long =
     let e = h.number_is.0 in
     let x = h.number_is.1 in
     let many : places_of_decimal < length e.digits =
-    ⊎_elim (λ l. l) (λ few. absurd (long (exact_more (size * bits_in kind) (bits s) (length e.digits) places_of_decimal few (scaled e, x.exact)))) (cases_lt places_of_decimal (length e.digits)) in
-    let bound : e.whole < whole_limit = omega (arith, whole_not_above (size * bits_in kind) (bits s) e (some_bits s) x, bits_bound kind size below) in
+    ⊎_elim (λ l. l)
+    (λ few. absurd (long (exact_more (size * bits_in kind) (bits s) (length e.digits) places_of_decimal few (scaled e, x.exact))))
+    (cases_lt places_of_decimal (length e.digits)) in
+    let bound : e.whole < whole_limit =
+    omega (arith, whole_not_above (size * bits_in kind) (bits s) e (some_bits s) x, bits_bound kind size below) in
     let t = trimmed_layout kind false ALTERNATE e.whole e.digits s x.small bound (good_name kind unit) in
     let text_is = ap trimmed (h.text_is ∙ ap (λ n. layout n (name current s) ALTERNATE) h.number_is.2) ∙ t.trims in
     long_fault (flags_for kind false) e.whole e.digits (spaces t.spaces_between ++ name current s) (trimmed text) bound x.small many text_is

@@ -18,7 +18,8 @@ appends_this old new r form bytes room = record {
 
 -- what has added this form has added a form, where every other is as long
 pub appends_form : {Z E R : Type 0} (IsForm : List ℕ → Type 0) (old new : String Z) (result : Result R E) (form : List ℕ) → IsForm form
-    → ((other : List ℕ) → IsForm other → length other ≡ length form) → Appends (λ other. other ≡ form) old new result → Appends IsForm old new result
+    → ((other : List ℕ) → IsForm other → length other ≡ length form) → Appends (λ other. other ≡ form) old new result
+    → Appends IsForm old new result
 appends_form IsForm old new result form is_form long h = record {
   added = on_ok_weaker result (λ a. (form, is_form, a.2 ∙ ap (λ other. string_bytes old ++ other) a.1)) h.added;
   used = on_ok_weaker result (λ room other is_other. let u = room form refl in omega (arith, u, long other is_other)) h.used;

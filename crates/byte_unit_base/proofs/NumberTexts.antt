@@ -1,5 +1,6 @@
 -- The texts of numbers, as the grammar reads them.
-use Rattle.std.proofs.Common.{◌≡◌, ℕ, ◌+◌, ◌-◌, ◌*◌, ◌^◌, ◌<◌, ◌≤◌, inl, inr, List, [], ◌∷◌, ◌++◌, length, refl, sym, ap, subst, ◌∙◌, arith, false, append-nil}
+use Rattle.std.proofs.Common.{◌≡◌, ℕ, ◌+◌, ◌-◌, ◌*◌, ◌^◌, ◌<◌, ◌≤◌, inl, inr, List, [], ◌∷◌, ◌++◌, length, refl, sym, ap, subst, ◌∙◌, arith}
+use Rattle.std.proofs.Common.{false, append-nil}
 use Rattle.std.proofs.lemmas.List.{length-map}
 use Rattle.std.specs.List.{fold, All}
 use Rattle.std.specs.Char.{digit_value, is_whitespace}
@@ -29,7 +30,9 @@ glyph_digits (d ∷ ds) h =
 
 pub glyphs_value : (n : ℕ) (ds : List ℕ) → All (λ d. d < 10) ds → digits_value_after 10 n (glyphs ds) ≡ fold (λ n d. n * 10 + d) n ds
 glyphs_value n [] h = refl
-glyphs_value n (d ∷ ds) h = ap (λ x. digits_value_after 10 (n * 10 + x) (glyphs ds)) (glyph_value d (All-head (λ d. d < 10) d ds h)) ∙ (glyphs_value (n * 10 + d) ds (All-tail (λ d. d < 10) d ds h))
+glyphs_value n (d ∷ ds) h =
+    ap (λ x. digits_value_after 10 (n * 10 + x) (glyphs ds)) (glyph_value d (All-head (λ d. d < 10) d ds h))
+    ∙ (glyphs_value (n * 10 + d) ds (All-tail (λ d. d < 10) d ds h))
 
 pub whole_text : (w : ℕ) → w < whole_limit → IsWholePart current (decimal w) w
 whole_text w h =
@@ -40,7 +43,9 @@ whole_text w h =
 abbrev pub number_of : ℕ → List ℕ → ℕ
 number_of w ds = w * one + value_of ds * 10 ^ (places_of_decimal - length ds)
 
-pub number_text : (w : ℕ) (ds : List ℕ) → All (λ d. d < 10) ds → length ds ≤ places_of_decimal → w < whole_limit → IsNumberText current (decimal w ++ fraction_text ds) (number_of w ds)
+pub number_text :
+    (w : ℕ) (ds : List ℕ) → All (λ d. d < 10) ds → length ds ≤ places_of_decimal → w < whole_limit
+    → IsNumberText current (decimal w ++ fraction_text ds) (number_of w ds)
 number_text w [] small few h = inl (w, subst (λ t. IsWholePart current t w) (sym (append-nil (decimal w))) (whole_text w h), omega arith)
 number_text w (d ∷ ds) small few h = inr record {
   whole = decimal w;
@@ -49,7 +54,13 @@ number_text w (d ∷ ds) small few h = inr record {
   part = value_of (d ∷ ds) * 10 ^ (places_of_decimal - length (d ∷ ds));
   text_is = refl;
   whole_is = whole_text w h;
-  fraction_is = ((let some : 0 < length (glyphs (d ∷ ds)) = omega arith in some, glyph_digits (d ∷ ds) small), rw (length-map {A = ℕ} {B = ℕ} ds (λ d. 48 + d)) few, rw (length-map {A = ℕ} {B = ℕ} ds (λ d. 48 + d), glyphs_value 0 (d ∷ ds) small) refl);
+  fraction_is = (
+    (let some : 0 < length (glyphs (d ∷ ds)) = omega arith in some, glyph_digits (d ∷ ds) small),
+    rw
+        (length-map {A = ℕ} {B = ℕ} ds (λ d. 48 + d)) few,
+    rw
+        (length-map {A = ℕ} {B = ℕ} ds (λ d. 48 + d), glyphs_value 0 (d ∷ ds) small) refl,
+  );
   number_is = refl;
 }
 
@@ -75,7 +86,8 @@ number_start w rest h =
 
 fraction_ascii : (ds : List ℕ) → All (λ d. d < 10) ds → IsAscii (fraction_text ds)
 fraction_ascii [] h = IsAscii-nil
-fraction_ascii (d ∷ ds) h = IsAscii-cons 46 (glyphs (d ∷ ds)) (omega arith) (IsAscii-from_digits (glyphs (d ∷ ds)) (glyph_digits (d ∷ ds) h))
+fraction_ascii (d ∷ ds) h =
+    IsAscii-cons 46 (glyphs (d ∷ ds)) (omega arith) (IsAscii-from_digits (glyphs (d ∷ ds)) (glyph_digits (d ∷ ds) h))
 
 pub decimal_ascii : (w : ℕ) → w < whole_limit → IsAscii (decimal w)
 decimal_ascii w h = IsAscii-from_digits (decimal w) (whole_text w h).0.1

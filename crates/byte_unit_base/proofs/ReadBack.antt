@@ -1,5 +1,6 @@
 -- What a form says is read as the size that it was made of.
-use Rattle.std.proofs.Common.{◌≡◌, ◌≢◌, ℕ, ◌+◌, ◌-◌, ◌*◌, ◌/◌, ◌^◌, ◌<◌, ◌≤◌, inl, inr, List, [], ◌∷◌, ◌++◌, length, refl, sym, ap, subst, ◌∙◌, arith, Bool, false, append-nil, append_assoc}
+use Rattle.std.proofs.Common.{◌≡◌, ◌≢◌, ℕ, ◌+◌, ◌-◌, ◌*◌, ◌/◌, ◌^◌, ◌<◌, ◌≤◌, inl, inr, List, [], ◌∷◌, ◌++◌, length, refl, sym, ap, subst}
+use Rattle.std.proofs.Common.{◌∙◌, arith, Bool, false, append-nil, append_assoc}
 use Rattle.std.specs.List.{All}
 use Rattle.std.specs.Char.{is_whitespace}
 use Rattle.std.specs.Fmt.{decimal}
@@ -34,7 +35,8 @@ use Rattle.byte_unit_base.specs.Layout.{layout, layout_padding, before_layout, g
 use Rattle.byte_unit_base.specs.Plain.{spaces, plus_of, plain, plain_padding, before_plain}
 use Rattle.byte_unit_base.specs.Forms.{places_of}
 use Rattle.byte_unit_base.specs.FormLaws.{SizeFormReadsBack, PlainFormReadsBack}
-use Rattle.byte_unit_base.proofs.NumberTexts.{number_of, number_text, number_start, number_ascii, decimal_ascii, whole_text, StartsWithDigit, not_white, first_digit}
+use Rattle.byte_unit_base.proofs.NumberTexts.{number_of, number_text, number_start, number_ascii, decimal_ascii, whole_text}
+use Rattle.byte_unit_base.proofs.NumberTexts.{StartsWithDigit, not_white, first_digit}
 use Rattle.byte_unit_base.proofs.TrimmedTexts.{trim_between, spaces_ascii}
 
 -- names
@@ -88,25 +90,35 @@ least_size Bit N size s e = record { has = omega (arith, e); least = λ m h. ome
 
 -- a layout is accepted
 
-regroup : (a m g : ℕ) (number unit : List ℕ) → (((spaces a ++ number) ++ spaces m) ++ spaces g) ++ unit ≡ spaces a ++ ((number ++ (spaces (m + g) ++ unit)) ++ spaces 0)
+regroup :
+    (a m g : ℕ) (number unit : List ℕ)
+    → (((spaces a ++ number) ++ spaces m) ++ spaces g) ++ unit ≡ spaces a ++ ((number ++ (spaces (m + g) ++ unit)) ++ spaces 0)
 regroup a m g number unit =
     rw (← replicate-append-replicate {A = ℕ} m g 32) (simp (append_assoc {A = ℕ}, append-nil {A = ℕ}))
 
-trim_layout : (a k : ℕ) (number unit front : List ℕ) (last : ℕ) → StartsWithDigit number → IsAscii number → IsAscii unit → unit ≡ front ++ last ∷ [] → is_whitespace last ≡ false → trimmed (spaces a ++ ((number ++ (spaces k ++ unit)) ++ spaces 0)) ≡ number ++ (spaces k ++ unit)
+trim_layout :
+    (a k : ℕ) (number unit front : List ℕ) (last : ℕ) → StartsWithDigit number → IsAscii number → IsAscii unit → unit ≡ front ++ last ∷ []
+    → is_whitespace last ≡ false → trimmed (spaces a ++ ((number ++ (spaces k ++ unit)) ++ spaces 0)) ≡ number ++ (spaces k ++ unit)
 trim_layout a k number unit front last start number_ascii unit_ascii unit_is last_is =
     let rest = spaces k ++ unit in
-    let all : IsAscii (number ++ rest) = IsAscii-append number rest number_ascii (IsAscii-append (spaces k) unit (spaces_ascii k) unit_ascii) in
+    let all : IsAscii (number ++ rest) =
+    IsAscii-append number rest number_ascii (IsAscii-append (spaces k) unit (spaces_ascii k) unit_ascii) in
     let begins : number ++ rest ≡ start.head ∷ (start.tail ++ rest) = ap (λ t. t ++ rest) start.text_is in
     let ends : number ++ rest ≡ (number ++ (spaces k ++ front)) ++ last ∷ [] = rw unit_is (simp (append_assoc {A = ℕ})) in
     let P : List ℕ → Type 0 = λ t. trimmed (spaces a ++ (t ++ spaces 0)) ≡ t in
-    subst P (sym begins) (trim_between a 0 start.head last (start.tail ++ rest) (number ++ (spaces k ++ front)) start.digit last_is (subst IsAscii begins all) (sym begins ∙ ends))
+    subst P (sym begins)
+    (trim_between a 0 start.head last (start.tail ++ rest) (number ++ (spaces k ++ front)) start.digit last_is
+    (subst IsAscii begins all) (sym begins ∙ ends))
 
 -- without the spaces at its ends it is number, spaces and unit
 pub record TrimmedLayout (text number unit : List ℕ) : Type 0 where
   pub spaces_between : ℕ
   pub trims : trimmed text ≡ number ++ (spaces spaces_between ++ unit)
 
-pub trimmed_layout : (kind : Kind) (ignore_case : Bool) (spec : FormatSpec) (w : ℕ) (ds : List ℕ) (s : Shape) → All (λ d. d < 10) ds → w < whole_limit → IsGoodName kind ignore_case s → TrimmedLayout (layout (decimal w ++ fraction_text ds) (name current s) spec) (decimal w ++ fraction_text ds) (name current s)
+pub trimmed_layout :
+    (kind : Kind) (ignore_case : Bool) (spec : FormatSpec) (w : ℕ) (ds : List ℕ) (s : Shape) → All (λ d. d < 10) ds → w < whole_limit
+    → IsGoodName kind ignore_case s
+    → TrimmedLayout (layout (decimal w ++ fraction_text ds) (name current s) spec) (decimal w ++ fraction_text ds) (name current s)
 trimmed_layout kind ignore_case spec w ds s small bound good =
     let number = decimal w ++ fraction_text ds in
     let unit = name current s in
@@ -116,24 +128,54 @@ trimmed_layout kind ignore_case spec w ds s small bound good =
     let k = (pad - a) + g in
     record {
       spaces_between = k;
-      trims = ap trimmed (regroup a (pad - a) g number unit) ∙ trim_layout a k number unit good.end.front good.end.last (number_start w (fraction_text ds) bound) (number_ascii w ds small bound) good.ascii good.end.text_is good.end.last_is;
+      trims =
+          ap trimmed (regroup a (pad - a) g number unit)
+          ∙ trim_layout a k number unit good.end.front good.end.last (number_start w (fraction_text ds) bound)
+          (number_ascii w ds small bound) good.ascii good.end.text_is good.end.last_is;
     }
 
-pub layout_accepted : (kind : Kind) (ignore_case : Bool) (size : ℕ) (spec : FormatSpec) (w : ℕ) (ds : List ℕ) (s : Shape) → All (λ d. d < 10) ds → length ds ≤ places_of_decimal → w < whole_limit → IsGoodName kind ignore_case s → number_of w ds * bits s ≡ size * bits_in kind * one → size < current.size_limit → IsAccepted current kind ignore_case (layout (decimal w ++ fraction_text ds) (name current s) spec) size
+pub layout_accepted :
+    (kind : Kind) (ignore_case : Bool) (size : ℕ) (spec : FormatSpec) (w : ℕ) (ds : List ℕ) (s : Shape) → All (λ d. d < 10) ds
+    → length ds ≤ places_of_decimal → w < whole_limit → IsGoodName kind ignore_case s
+    → number_of w ds * bits s ≡ size * bits_in kind * one → size < current.size_limit
+    → IsAccepted current kind ignore_case (layout (decimal w ++ fraction_text ds) (name current s) spec) size
 layout_accepted kind ignore_case size spec w ds s small few bound good exact below =
     let t = trimmed_layout kind ignore_case spec w ds s small bound good in
     record {
       number = number_of w ds;
-      is_read = record { unit = s; is_size = record { number_part = decimal w ++ fraction_text ds; spaces = t.spaces_between; unit_part = name current s; text_is = t.trims; number_is = number_text w ds small few bound; unit_is = good.spells }; is_least = least_size kind (number_of w ds) size s exact };
+      is_read =
+          record {
+            unit =
+                s;
+            is_size =
+                record {
+                  number_part =
+                      decimal w ++ fraction_text ds;
+                  spaces =
+                      t.spaces_between;
+                  unit_part =
+                      name current s;
+                  text_is =
+                      t.trims;
+                  number_is = number_text w ds small few bound;
+                  unit_is = good.spells;
+                };
+            is_least
+                = least_size kind (number_of w ds) size s exact;
+          };
       below = below;
     }
 
 -- the numbers of the two forms
 
 -- a number that is cut at the point and has no zeros at its end, in last places again
-pub number_scaled : (w v number len : ℕ) → len ≤ places_of_decimal → number ≡ (w * 10 ^ len + v) * 10 ^ (places_of_decimal - len) → w * one + v * 10 ^ (places_of_decimal - len) ≡ number
+pub number_scaled :
+    (w v number len : ℕ) → len ≤ places_of_decimal → number ≡ (w * 10 ^ len + v) * 10 ^ (places_of_decimal - len)
+    → w * one + v * 10 ^ (places_of_decimal - len) ≡ number
 number_scaled w v number len few e =
-    let a : one ≡ 10 ^ len * 10 ^ (places_of_decimal - len) = ap (λ n. 10 ^ n) (let k : places_of_decimal ≡ len + (places_of_decimal - len) = omega arith in k) ∙ pow-add 10 len (places_of_decimal - len) in
+    let a : one ≡ 10 ^ len * 10 ^ (places_of_decimal - len) =
+    ap (λ n. 10 ^ n) (let k : places_of_decimal ≡ len + (places_of_decimal - len) = omega arith in k)
+    ∙ pow-add 10 len (places_of_decimal - len) in
     let x = ap (λ n. w * n) a in
     omega (arith, x, e)
 
@@ -144,11 +186,15 @@ bits_bound Bit size h = omega (arith, h)
 -- the size form
 
 -- the unit's name is read as the unit
-recovered_name : (kind : Kind) (ignore_case : Bool) (size precision : ℕ) (unit : Shape) → IsRecovered current kind false size precision unit → IsGoodName kind ignore_case unit
+recovered_name :
+    (kind : Kind) (ignore_case : Bool) (size precision : ℕ) (unit : Shape) → IsRecovered current kind false size precision unit
+    → IsGoodName kind ignore_case unit
 recovered_name kind ignore_case size precision unit (inl h) = multiple_name kind ignore_case unit h.has.member
 recovered_name kind ignore_case size precision unit (inr h) = subst (IsGoodName kind ignore_case) (sym h.1) (own_name kind ignore_case)
 
-whole_bound : (kind : Kind) (size number unit : ℕ) → size < current.size_limit → 1 ≤ unit → number * unit ≡ size * bits_in kind * one → number / one < whole_limit
+whole_bound :
+    (kind : Kind) (size number unit : ℕ) → size < current.size_limit → 1 ≤ unit → number * unit ≡ size * bits_in kind * one
+    → number / one < whole_limit
 whole_bound kind size number unit small some e =
     let most : size * bits_in kind < bits_limit = bits_bound kind size small in
     let more : number ≤ number * unit = omega (arith, mul-le number 1 number unit (omega arith) some) in
@@ -198,17 +244,41 @@ trim_number a b w bound =
     let digits = (whole_text w bound).0.1 in
     let end = last_digit start.head start.tail (subst (AllDigits 10) start.text_is digits) in
     let P : List ℕ → Type 0 = λ t. trimmed (spaces a ++ (t ++ spaces b)) ≡ t in
-    ap trimmed (append_assoc (spaces a) (decimal w) (spaces b)) ∙ subst P (sym start.text_is) (trim_between a b start.head end.last start.tail end.front start.digit end.digit (subst IsAscii start.text_is (decimal_ascii w bound)) end.text_is)
+    ap trimmed (append_assoc (spaces a) (decimal w) (spaces b))
+    ∙ subst P (sym start.text_is)
+    (trim_between a b start.head end.last start.tail end.front start.digit end.digit
+    (subst IsAscii start.text_is (decimal_ascii w bound)) end.text_is)
 
 pub plain_back : PlainFormReadsBack
 plain_back kind size spec ignore_case below sign =
     let bound : size < whole_limit = omega (arith, below) in
     let pad = plain_padding size spec in
     let a = before_plain spec.align pad in
-    let trims : trimmed (plain size spec) ≡ decimal size = ap (λ t. trimmed ((spaces a ++ (t ++ decimal size)) ++ spaces (pad - a))) (no_plus spec.sign sign) ∙ trim_number a (pad - a) size bound in
+    let trims : trimmed (plain size spec) ≡ decimal size =
+    ap (λ t. trimmed ((spaces a ++ (t ++ decimal size)) ++ spaces (pad - a))) (no_plus spec.sign sign)
+    ∙ trim_number a (pad - a) size bound in
     let e = ap (λ n. (size * one) * n) (own_bits kind) in
     record {
       number = size * one;
-      is_read = record { unit = own_unit kind; is_size = record { number_part = decimal size; spaces = 0; unit_part = []; text_is = trims ∙ sym (append-nil (decimal size)); number_is = inl (size, whole_text size bound, refl); unit_is = no_unit kind ignore_case }; is_least = least_size kind (size * one) size (own_unit kind) (omega (arith, e)) };
+      is_read =
+          record {
+            unit =
+                own_unit kind;
+            is_size =
+                record {
+                  number_part =
+                      decimal size;
+                  spaces =
+                      0;
+                  unit_part =
+                      [];
+                  text_is =
+                      trims ∙ sym (append-nil (decimal size));
+                  number_is =
+                      inl (size, whole_text size bound, refl);
+                  unit_is = no_unit kind ignore_case;
+                };
+            is_least = least_size kind (size * one) size (own_unit kind) (omega (arith, e));
+          };
       below = below;
     }

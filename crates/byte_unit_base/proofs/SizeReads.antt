@@ -1,6 +1,7 @@
 -- The reader of a number and a unit: its scan is that of their texts, so it answers what a text states, and else the first
 -- fault.
-use Rattle.std.proofs.Common.{◌≡◌, ◌≢◌, ℕ, ◌<◌, Bool, true, false, cond, ◌*◌, inl, inr, List, [], ◌∷◌, ◌++◌, Option, Some, None, Result, Ok, Err, IfErr, length, replicate, sym, refl, ap, ◌∙◌, arith, append-nil}
+use Rattle.std.proofs.Common.{◌≡◌, ◌≢◌, ℕ, ◌<◌, Bool, true, false, cond, ◌*◌, inl, inr, List, [], ◌∷◌, ◌++◌, Option, Some, None, Result, Ok}
+use Rattle.std.proofs.Common.{Err, IfErr, length, replicate, sym, refl, ap, ◌∙◌, arith, append-nil}
 use Rattle.std.specs.Prelude.{IsOkAnd}
 use Rattle.byte_unit_math.specs.Bounds.{one}
 use Rattle.byte_unit_base.specs.Shape.{Shape}
@@ -10,7 +11,8 @@ use Rattle.byte_unit_base.specs.Spelling.{Flags, Spells}
 use Rattle.byte_unit_base.specs.Number.{IsNumberText}
 use Rattle.byte_unit_base.specs.SizeText.{trimmed, IsSizeText}
 use Rattle.byte_unit_base.specs.Readings.{IsNumberReading}
-use Rattle.byte_unit_base.specs.Front.{Place, beginning, in_whole, after_point, in_fraction, after_prefix, after_bi, IsUnitFront, IsSizedFront, IsSizeFront}
+use Rattle.byte_unit_base.specs.Front.{Place, beginning, in_whole, after_point, in_fraction, after_prefix, after_bi, IsUnitFront}
+use Rattle.byte_unit_base.specs.Front.{IsSizedFront, IsSizeFront}
 use Rattle.byte_unit_base.specs.Fault.{Fault, IsFaultAfter, fault_at, fault_at_end, no_unit, too_long, exceeded}
 use Rattle.byte_unit_base.specs.Errors.{size_fault}
 use Rattle.byte_unit_base.specs.ReaderLaws.{States, SizeTextsHaveOneAnswer, SizeFrontsAreBeginnings}

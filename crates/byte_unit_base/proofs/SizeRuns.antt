@@ -1,5 +1,6 @@
 -- The scan goes over each text of a size and each of their fronts to its end.
-use Rattle.std.proofs.Common.{◌≡◌, ◌≢◌, ℕ, zero, suc, ◌+◌, ◌-◌, ◌*◌, ◌^◌, ◌<◌, ◌≤◌, inl, inr, List, [], ◌∷◌, ◌++◌, Option, Some, None, Ok, length, replicate, sym, refl, ap, ◌∙◌, arith, true, false, cond, eqb, ltb, append-nil}
+use Rattle.std.proofs.Common.{◌≡◌, ◌≢◌, ℕ, zero, suc, ◌+◌, ◌-◌, ◌*◌, ◌^◌, ◌<◌, ◌≤◌, inl, inr, List, [], ◌∷◌, ◌++◌, Option, Some, None, Ok}
+use Rattle.std.proofs.Common.{length, replicate, sym, refl, ap, ◌∙◌, arith, true, false, cond, eqb, ltb, append-nil}
 use Rattle.std.specs.Option.{option_map}
 use Rattle.std.specs.Char.{digit_value, to_ascii_uppercase}
 use Rattle.std.specs.Str.Parse.{IsNumeral, AllDigits, digits_value, digits_value_after}
@@ -10,7 +11,8 @@ use Rattle.byte_unit_base.specs.Edition.{current}
 use Rattle.byte_unit_base.specs.Spelling.{Flags}
 use Rattle.byte_unit_base.specs.Number.{IsWholePart, IsPointed, IsPrecise, IsNumberText}
 use Rattle.byte_unit_base.specs.SizeText.{space, IsSizeText}
-use Rattle.byte_unit_base.specs.Front.{Place, beginning, in_whole, after_point, in_fraction, before_unit, after_prefix, after_b, after_bi, after_bit, after_bits, IsSizedFront, IsSizeFront}
+use Rattle.byte_unit_base.specs.Front.{Place, beginning, in_whole, after_point, in_fraction, before_unit, after_prefix, after_b, after_bi}
+use Rattle.byte_unit_base.specs.Front.{after_bit, after_bits, IsSizedFront, IsSizeFront}
 use Rattle.byte_unit_base.specs.Scan.{run}
 use Rattle.byte_unit_base.specs.UnitScan.{unit_step, scan_of, place_of, unit_of, prefix_at, word_step, or_word, start as unit_start}
 use Rattle.byte_unit_base.specs.SizeScan.{size_step, size_scan, size_at_end, size_place, sized, precise}

@@ -1,5 +1,6 @@
 -- One step of the scan of a size, by cases, and the scan of a whole text.
-use Rattle.std.proofs.Common.{◌≡◌, ℕ, ◌+◌, ◌*◌, ◌^◌, ◌<◌, ◌⊎◌, inl, inr, ⊎_elim, Some, None, refl, subst, arith, Bool, true, false, cond, eqb, ltb}
+use Rattle.std.proofs.Common.{◌≡◌, ℕ, ◌+◌, ◌*◌, ◌^◌, ◌<◌, ◌⊎◌, inl, inr, ⊎_elim, Some, None, refl, subst, arith, Bool, true, false, cond}
+use Rattle.std.proofs.Common.{eqb, ltb}
 use Rattle.std.specs.Option.{option_map}
 use Rattle.std.specs.Char.{digit_value}
 use Rattle.std.proofs.Math.Nat.{pow-succ'}

@@ -1,6 +1,7 @@
 -- The characters of a trimmed text.
 use Rattle.std.proofs.Common.{◌≡◌, ℕ, List, [], ◌∷◌, length, refl, ap, ◌∙◌, Bool, true, false, cond, ◌&&◌, nat_eq}
-use Rattle.std.specs.Str.{chars, trim, trim_start, trim_end, skip_leading_whitespace, drop_trailing_whitespace, IsUtf8, all_scalars, encode_utf8_all}
+use Rattle.std.specs.Str.{chars, trim, trim_start, trim_end, skip_leading_whitespace, drop_trailing_whitespace, IsUtf8, all_scalars}
+use Rattle.std.specs.Str.{encode_utf8_all}
 use Rattle.std.specs.Char.{is_whitespace}
 use Rattle.std.proofs.lemmas.Bool.{and_from, and_parts}
 use Rattle.std.proofs.lemmas.Str.{chars-encodes, scalars-chars}

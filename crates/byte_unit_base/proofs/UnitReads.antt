@@ -1,5 +1,6 @@
 -- The reader of a unit: its scan is that of the spellings, so it answers the unit of a spelling, and else the first fault.
-use Rattle.std.proofs.Common.{◌≡◌, ℕ, ◌⊎◌, inl, inr, List, [], ◌∷◌, ◌++◌, Result, Ok, Some, None, ap, subst, sym, ◌∙◌, refl, append-nil, false, true}
+use Rattle.std.proofs.Common.{◌≡◌, ℕ, ◌⊎◌, inl, inr, List, [], ◌∷◌, ◌++◌, Result, Ok, Some, None, ap, subst, sym, ◌∙◌, refl, append-nil}
+use Rattle.std.proofs.Common.{false, true}
 use Rattle.std.specs.Str.{str_to_ascii_lowercase}
 use Rattle.byte_unit_base.specs.Shape.{Shape}
 use Rattle.byte_unit_base.specs.Edition.{current}
@@ -12,7 +13,8 @@ use Rattle.byte_unit_base.specs.Fault.{fault_at_end}
 use Rattle.byte_unit_base.specs.Readings.{IsUnitReading}
 use Rattle.byte_unit_base.specs.ReaderLaws.{UnitTextsHaveOneAnswer, UnitFrontsAreBeginnings}
 use Rattle.byte_unit_base.specs.Scan.{read}
-use Rattle.byte_unit_base.specs.UnitScan.{unit_step, unit_scan, unit_of, unit_at_end, unit_seen, start, scan_of, power_of, word_place, empty_place}
+use Rattle.byte_unit_base.specs.UnitScan.{unit_step, unit_scan, unit_of, unit_at_end, unit_seen, start, scan_of, power_of, word_place}
+use Rattle.byte_unit_base.specs.UnitScan.{empty_place}
 use Rattle.byte_unit_base.specs.declared.unit.Unit.{Unit as UnitName}
 use Rattle.byte_unit_base.specs.declared.errors.UnitParseError.{UnitParseError}
 use Rattle.byte_unit_base.specs.declared.unit.scan.Word.{Word}

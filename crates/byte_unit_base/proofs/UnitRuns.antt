@@ -1,15 +1,19 @@
 -- The scan goes over each spelling and each of their fronts to its end.
-use Rattle.std.proofs.Common.{◌≡◌, ℕ, zero, suc, ◌⊎◌, inl, inr, ⊎_elim, List, [], ◌∷◌, ◌++◌, Some, sym, refl, ap, subst, ◌∙◌, arith, Bool, not}
+use Rattle.std.proofs.Common.{◌≡◌, ℕ, zero, suc, ◌⊎◌, inl, inr, ⊎_elim, List, [], ◌∷◌, ◌++◌, Some, sym, refl, ap, subst, ◌∙◌, arith, Bool}
+use Rattle.std.proofs.Common.{not}
 use Rattle.std.specs.Prelude.{codes}
 use Rattle.std.specs.Option.{option_map}
 use Rattle.std.specs.Char.{to_ascii_lowercase}
 use Rattle.std.specs.Str.{str_to_ascii_lowercase}
 use Rattle.byte_unit_base.specs.Shape.{Shape, shape}
 use Rattle.byte_unit_base.specs.Edition.{current}
-use Rattle.byte_unit_base.specs.Spelling.{Flags, IsPrefixLetter, SpellsCount, SpellsBinary, SpellsPrefix, SpellsMultiple, SpellsPlain, Spells}
-use Rattle.byte_unit_base.specs.Front.{Place, before_unit, after_prefix, after_b, after_bi, after_bit, after_bits, IsWord, IsWordFront, IsUnitFront}
+use Rattle.byte_unit_base.specs.Spelling.{Flags, IsPrefixLetter, SpellsCount, SpellsBinary, SpellsPrefix, SpellsMultiple, SpellsPlain}
+use Rattle.byte_unit_base.specs.Spelling.{Spells}
+use Rattle.byte_unit_base.specs.Front.{Place, before_unit, after_prefix, after_b, after_bi, after_bit, after_bits, IsWord, IsWordFront}
+use Rattle.byte_unit_base.specs.Front.{IsUnitFront}
 use Rattle.byte_unit_base.specs.Scan.{run}
-use Rattle.byte_unit_base.specs.UnitScan.{unit_step, unit_of, unit_scan, start, scan_of, power_of, prefix_at, count_of, multiple_shape, word_place, empty_place}
+use Rattle.byte_unit_base.specs.UnitScan.{unit_step, unit_of, unit_scan, start, scan_of, power_of, prefix_at, count_of, multiple_shape}
+use Rattle.byte_unit_base.specs.UnitScan.{word_place, empty_place}
 use Rattle.byte_unit_base.specs.declared.unit.scan.Prefix.{Prefix}
 use Rattle.byte_unit_base.specs.declared.unit.scan.Prefix.TheVariants.{Kilo, Mega, Giga, Tera, Peta, Exa, Zetta, Yotta}
 use Rattle.byte_unit_base.specs.declared.unit.scan.Word.{Word}

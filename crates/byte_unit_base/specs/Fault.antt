@@ -1,10 +1,13 @@
 -- Which fault a text has that is refused: the first from the left, by the place where its longest front ends.
-use Rattle.std.specs.Prelude.{◌≡◌, ℕ, Bool, true, false, if◌then◌else◌, nat_lt, List, [], ◌∷◌, ◌++◌, Option, Some, None, codes}
+use Rattle.std.specs.Prelude.{◌≡◌, ℕ, Bool, true, false, if◌then◌else◌, nat_lt, List, [], ◌∷◌, ◌++◌, Option, Some, None}
+use Rattle.std.specs.Prelude.{codes}
 use Rattle.std.specs.Char.{digit_value}
 use Rattle.byte_unit_base.specs.Edition.{Edition}
 use Rattle.byte_unit_base.specs.Spelling.{Flags}
 use Rattle.byte_unit_base.specs.Number.{point}
-use Rattle.byte_unit_base.specs.Front.{Place, beginning, in_whole, after_point, in_fraction, before_unit, after_prefix, after_b, after_bi, after_bit, after_bits, IsUnitFront, IsSizeFront, IsLongestFront}
+use Rattle.byte_unit_base.specs.Front.{Place, beginning, in_whole, after_point, in_fraction, before_unit, after_prefix}
+use Rattle.byte_unit_base.specs.Front.{after_b, after_bi, after_bit, after_bits, IsUnitFront, IsSizeFront}
+use Rattle.byte_unit_base.specs.Front.{IsLongestFront}
 
 pub data Fault : Type 0 where
   -- the size of a number of so many last places is too large; no reader of a number and a unit answers it

@@ -49,10 +49,11 @@ abbrev pub json_text : JsonSizeError → Option (List ℕ)
 json_text NotString = Some (codes "not a JSON string")
 json_text (Parse e) = parse_text e
 
--- The texts under a formatter's flags, which change nothing. Nothing is said here of those that quote a character or a
--- number, since std says nothing of a quoted one under flags.
+-- The texts under a formatter's flags, which change nothing. Nothing is said here of those that quote a character,
+-- since
+-- std says nothing of a quoted one under flags.
 abbrev pub styled_value_text : ValueParseError → Option (List ℕ)
-styled_value_text (ExceededBounds n) = None
+styled_value_text (ExceededBounds n) = value_text (ExceededBounds n)
 styled_value_text (NotNumber c) = None
 styled_value_text NoValue = value_text NoValue
 styled_value_text NumberTooLong = value_text NumberTooLong

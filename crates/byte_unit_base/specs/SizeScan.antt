@@ -1,6 +1,7 @@
 -- Private: how the reader goes over a number and a unit, one step a character. No public contract cites this file; that
 -- what it comes to is the texts and faults of the other files is proved.
-use Rattle.std.specs.Prelude.{ℕ, ◌+◌, ◌-◌, ◌*◌, ◌^◌, ◌<◌, ◌≤◌, ⊤, Bool, if◌then◌else◌, ◌==◌, nat_lt, Option, Some, None, Result, Ok, Err}
+use Rattle.std.specs.Prelude.{ℕ, ◌+◌, ◌-◌, ◌*◌, ◌^◌, ◌<◌, ◌≤◌, ⊤, Bool, if◌then◌else◌, ◌==◌, nat_lt, Option, Some, None}
+use Rattle.std.specs.Prelude.{Result, Ok, Err}
 use Rattle.std.specs.Option.{option_map}
 use Rattle.std.specs.Char.{digit_value}
 use Rattle.byte_unit_math.specs.Bounds.{one, places_of_decimal, whole_limit}
@@ -17,7 +18,8 @@ use Rattle.byte_unit_base.specs.Fault.{Fault, not_number, no_value, stops_at_bi}
 use Rattle.byte_unit_base.specs.Scan.{Scan, seen}
 use Rattle.byte_unit_base.specs.UnitScan.{unit_step, unit_of, place_of, start as unit_start}
 use Rattle.byte_unit_base.specs.declared.read.scan.SizeScan.{SizeScan}
-use Rattle.byte_unit_base.specs.declared.read.scan.SizeScan.TheVariants.{Beginning, Whole, Point, Fraction, Gap, Unit as UnitAt}
+use Rattle.byte_unit_base.specs.declared.read.scan.SizeScan.TheVariants.{Beginning, Whole, Point, Fraction, Gap}
+use Rattle.byte_unit_base.specs.declared.read.scan.SizeScan.TheVariants.{Unit as UnitAt}
 
 -- the numbers of a scan are those of texts
 abbrev pub IsScan : SizeScan → Type 0

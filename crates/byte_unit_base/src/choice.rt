@@ -13,10 +13,7 @@ ghost use Rattle.byte_unit_base.specs.Multiples.{HasPowers};
 use crate::unit::Unit;
 use crate::unit::family::{Family, Row};
 use crate::unit::unit_type::UnitType;
-use byte_unit_math::{Decimal, Steps, exact_quotient, two_five};
-
-/// The digits after the point of a decimal.
-const PLACES: usize = 28;
+use byte_unit_math::{DECIMAL_PLACES, Decimal, Steps, exact_quotient, two_five};
 
 /// The largest unit of the family that is not above the size and states it exactly within these
 /// places, with its number. `None` exactly where no unit of the family does.
@@ -52,7 +49,7 @@ pub fn choose_unit(
     if size == 0 {
         return None;
     }
-    let most = places.min(PLACES) as u32;
+    let most = places.min(DECIMAL_PLACES as usize) as u32;
     let in_bits = size * divisor;
     let (twos, fives) = two_five(size, steps);
     // In bits it has as many twos more as the divisor has.

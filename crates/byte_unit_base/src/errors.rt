@@ -161,7 +161,10 @@ impl fmt::Display for ValueParseError {
     fn fmt<W: fmt::Write>(&self, f: &mut fmt::Formatter<W>) -> fmt::Result {
         match self {
             ValueParseError::ExceededBounds(value) => {
-                write!(f, "the value {value} exceeds the valid range")
+                // Not by `write!`, which says nothing of a formatter's flags.
+                f.write_str("the value ")?;
+                fmt::Display::fmt(value, f)?;
+                f.write_str(" exceeds the valid range")
             }
             ValueParseError::NotNumber(c) => write!(f, "the character {c:?} is not a number"),
             ValueParseError::NoValue => f.write_str("no value can be found"),

@@ -1,5 +1,6 @@
 -- The number that digits spell.
-use Rattle.std.proofs.Common.{◌≡◌, ℕ, zero, suc, ◌+◌, ◌-◌, ◌*◌, ◌/◌, ◌%◌, ◌^◌, ◌<◌, ◌≤◌, List, [], ◌∷◌, ◌++◌, length, replicate, refl, sym, ap, ◌∙◌, arith, length-append}
+use Rattle.std.proofs.Common.{◌≡◌, ℕ, zero, suc, ◌+◌, ◌-◌, ◌*◌, ◌/◌, ◌%◌, ◌^◌, ◌<◌, ◌≤◌, List, [], ◌∷◌, ◌++◌, length, replicate, refl, sym}
+use Rattle.std.proofs.Common.{ap, ◌∙◌, arith, length-append}
 use Rattle.std.specs.List.{fold, All}
 use Rattle.std.proofs.Math.Nat.{pow-succ', one-le-pow}
 use Rattle.std.proofs.lemmas.Nat.{pow-add, mod-mul-add, mod_below}
@@ -26,7 +27,8 @@ value_zeros (suc k) = value_zeros k
 -- zeros at the end
 pub value_more : (ds : List ℕ) (k : ℕ) → value_of (ds ++ replicate k 0) ≡ value_of ds * 10 ^ k
 value_more ds k =
-    fold-append (λ n d. n * 10 + d) 0 ds (replicate k 0) ∙ (value_after (value_of ds) (replicate k 0) ∙ rw (length-replicate {A = ℕ} k 0, value_zeros k) (omega arith))
+    fold-append (λ n d. n * 10 + d) 0 ds (replicate k 0)
+    ∙ (value_after (value_of ds) (replicate k 0) ∙ rw (length-replicate {A = ℕ} k 0, value_zeros k) (omega arith))
 
 -- the last digits of a number
 
@@ -52,7 +54,8 @@ next_rest q P one =
 pub value_last : (p q : ℕ) → value_of (last_digits p q) ≡ q % 10 ^ p
 value_last zero q = omega arith
 value_last (suc p) q =
-    value_cons (q / 10 ^ p % 10) (last_digits p q) ∙ rw (length_last p q, value_last p q, pow-succ' 10 p) (sym (next_rest q (10 ^ p) (ten p)))
+    value_cons (q / 10 ^ p % 10) (last_digits p q)
+    ∙ rw (length_last p q, value_last p q, pow-succ' 10 p) (sym (next_rest q (10 ^ p) (ten p)))
 
 pub scaled_places : (p q : ℕ) → scaled (at_places p q) ≡ q
 scaled_places p q = rw (length_last p q, value_last p q) (omega (arith, ten p))
@@ -81,7 +84,8 @@ small_before (suc d) (e ∷ es) h k = All-cons (λ d. d < 10) (suc d) (e ∷ es)
 
 pub small_without : (ds : List ℕ) → All (λ d. d < 10) ds → All (λ d. d < 10) (without_zeros ds)
 small_without [] h = h
-small_without (d ∷ ds) h = small_before d (without_zeros ds) (All-head (λ d. d < 10) d ds h) (small_without ds (All-tail (λ d. d < 10) d ds h))
+small_without (d ∷ ds) h =
+    small_before d (without_zeros ds) (All-head (λ d. d < 10) d ds h) (small_without ds (All-tail (λ d. d < 10) d ds h))
 
 -- the digits of q at p places are those of its short form, and zeros
 pub record ShortOf (q p : ℕ) (e : Finite) : Type 0 where
@@ -93,10 +97,19 @@ pub short_of : (q p : ℕ) → ShortOf q p (shortened (at_places p q))
 short_of q p =
     let ds = last_digits p q in
     let z = zeros_behind ds in
-    let len : length (without_zeros ds) + z.zeros ≡ p = omega (arith, ap length z.list_is, length-append (without_zeros ds) (replicate z.zeros 0), length-replicate {A = ℕ} z.zeros 0, length_last p q) in
+    let len : length (without_zeros ds) + z.zeros ≡ p =
+    omega (
+      arith,
+      ap length z.list_is,
+      length-append (without_zeros ds) (replicate z.zeros 0),
+      length-replicate {A = ℕ} z.zeros 0,
+      length_last p q,
+    ) in
     let left : p - length (without_zeros ds) ≡ z.zeros = omega (arith, len) in
-    let value : q % 10 ^ p ≡ value_of (without_zeros ds) * 10 ^ z.zeros = sym (value_last p q) ∙ (ap value_of z.list_is ∙ value_more (without_zeros ds) z.zeros) in
-    let power : 10 ^ p ≡ 10 ^ length (without_zeros ds) * 10 ^ z.zeros = ap (λ n. 10 ^ n) (sym len) ∙ pow-add 10 (length (without_zeros ds)) z.zeros in
+    let value : q % 10 ^ p ≡ value_of (without_zeros ds) * 10 ^ z.zeros =
+    sym (value_last p q) ∙ (ap value_of z.list_is ∙ value_more (without_zeros ds) z.zeros) in
+    let power : 10 ^ p ≡ 10 ^ length (without_zeros ds) * 10 ^ z.zeros =
+    ap (λ n. 10 ^ n) (sym len) ∙ pow-add 10 (length (without_zeros ds)) z.zeros in
     let e = ap (λ n. q / 10 ^ p * n) power in
     let parts : q ≡ q / 10 ^ p * 10 ^ p + q % 10 ^ p = omega (arith, ten p) in
     record {

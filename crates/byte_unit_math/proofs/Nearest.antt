@@ -18,7 +18,13 @@ module _ (num den p t low : ℕ) (split : num * 10 ^ p ≡ t * den + low) (below
 
   -- below, at, just above, and above
   cases : (P : ℕ → Type 0) → ((o : ℕ) → o < t → P o) → P t → P (t + 1) → ((o : ℕ) → t + 1 < o → P o) → (o : ℕ) → P o
-  cases P lower at next upper o = ⊎_elim (lower o) (λ k. ⊎_elim (λ l. subst P (let e : t ≡ o = omega (arith, k, l) in e) at) (λ m. ⊎_elim (λ l. subst P (let e : t + 1 ≡ o = omega (arith, m, l) in e) next) (λ n. upper o (omega (arith, n))) (cases_lt o (t + 2))) (cases_lt o (t + 1))) (cases_lt o t)
+  cases P lower at next upper o =
+      ⊎_elim (lower o)
+      (λ k.
+      ⊎_elim (λ l. subst P (let e : t ≡ o = omega (arith, k, l) in e) at)
+      (λ m.
+      ⊎_elim (λ l. subst P (let e : t + 1 ≡ o = omega (arith, m, l) in e) next) (λ n. upper o (omega (arith, n)))
+      (cases_lt o (t + 2))) (cases_lt o (t + 1))) (cases_lt o t)
 
   abbrev far : ℕ → ℕ
   far o = abs_diff (o * den) (num * 10 ^ p)
@@ -37,30 +43,48 @@ module _ (num den p t low : ℕ) (split : num * 10 ^ p ≡ t * den + low) (below
 
   pub nearest_down : (ties : Ties) → 2 * low < den → IsNearest num den p ties t
   nearest_down ties h = record {
-    nearest = cases (λ o. far t ≤ far o) (λ o l. omega (arith, at_t, far_lower o l)) (omega arith) (omega (arith, at_t, at_next, h)) (λ o l. omega (arith, at_t, far_upper o l, h));
-    tie = cases (λ o. o ≢ t → far o ≡ far t → WinsTie ties t o) (λ o l n e. absurd (omega (arith, e, at_t, far_lower o l, below))) (λ n e. absurd (n refl)) (λ n e. absurd (omega (arith, e, at_t, at_next, h))) (λ o l n e. absurd (omega (arith, e, at_t, far_upper o l, h)));
+    nearest =
+        cases (λ o. far t ≤ far o) (λ o l. omega (arith, at_t, far_lower o l)) (omega arith) (omega (arith, at_t, at_next, h))
+        (λ o l. omega (arith, at_t, far_upper o l, h));
+    tie =
+        cases (λ o. o ≢ t → far o ≡ far t → WinsTie ties t o) (λ o l n e. absurd (omega (arith, e, at_t, far_lower o l, below)))
+        (λ n e. absurd (n refl)) (λ n e. absurd (omega (arith, e, at_t, at_next, h)))
+        (λ o l n e. absurd (omega (arith, e, at_t, far_upper o l, h)));
   }
 
   pub nearest_up : (ties : Ties) → den < 2 * low → IsNearest num den p ties (t + 1)
   nearest_up ties h = record {
-    nearest = cases (λ o. far (t + 1) ≤ far o) (λ o l. omega (arith, at_next, far_lower o l)) (omega (arith, at_t, at_next, h)) (omega arith) (λ o l. omega (arith, at_next, far_upper o l, below));
-    tie = cases (λ o. o ≢ t + 1 → far o ≡ far (t + 1) → WinsTie ties (t + 1) o) (λ o l n e. absurd (omega (arith, e, at_next, far_lower o l, h, below))) (λ n e. absurd (omega (arith, e, at_t, at_next, h))) (λ n e. absurd (n refl)) (λ o l n e. absurd (omega (arith, e, at_next, far_upper o l, h, below)));
+    nearest =
+        cases (λ o. far (t + 1) ≤ far o) (λ o l. omega (arith, at_next, far_lower o l)) (omega (arith, at_t, at_next, h)) (omega arith)
+        (λ o l. omega (arith, at_next, far_upper o l, below));
+    tie =
+        cases (λ o. o ≢ t + 1 → far o ≡ far (t + 1) → WinsTie ties (t + 1) o)
+        (λ o l n e. absurd (omega (arith, e, at_next, far_lower o l, h, below))) (λ n e. absurd (omega (arith, e, at_t, at_next, h)))
+        (λ n e. absurd (n refl)) (λ o l n e. absurd (omega (arith, e, at_next, far_upper o l, h, below)));
   }
 
   pub tie_up : 2 * low ≡ den → IsNearest num den p Up (t + 1)
   tie_up h = record {
-    nearest = cases (λ o. far (t + 1) ≤ far o) (λ o l. omega (arith, at_next, far_lower o l)) (omega (arith, at_t, at_next, h)) (omega arith) (λ o l. omega (arith, at_next, far_upper o l, below));
-    tie = cases (λ o. o ≢ t + 1 → far o ≡ far (t + 1) → WinsTie Up (t + 1) o) (λ o l n e. omega (arith, l)) (λ n e. omega arith) (λ n e. omega arith) (λ o l n e. absurd (omega (arith, e, at_next, far_upper o l, h, below)));
+    nearest =
+        cases (λ o. far (t + 1) ≤ far o) (λ o l. omega (arith, at_next, far_lower o l)) (omega (arith, at_t, at_next, h)) (omega arith)
+        (λ o l. omega (arith, at_next, far_upper o l, below));
+    tie =
+        cases (λ o. o ≢ t + 1 → far o ≡ far (t + 1) → WinsTie Up (t + 1) o) (λ o l n e. omega (arith, l)) (λ n e. omega arith)
+        (λ n e. omega arith) (λ o l n e. absurd (omega (arith, e, at_next, far_upper o l, h, below)));
   }
 
   pub tie_even_next : 2 * low ≡ den → t % 2 ≡ 1 → IsNearest num den p Even (t + 1)
   tie_even_next h odd = record {
-    nearest = cases (λ o. far (t + 1) ≤ far o) (λ o l. omega (arith, at_next, far_lower o l)) (omega (arith, at_t, at_next, h)) (omega arith) (λ o l. omega (arith, at_next, far_upper o l, below));
+    nearest =
+        cases (λ o. far (t + 1) ≤ far o) (λ o l. omega (arith, at_next, far_lower o l)) (omega (arith, at_t, at_next, h)) (omega arith)
+        (λ o l. omega (arith, at_next, far_upper o l, below));
     tie = λ o n e. omega (arith, odd);
   }
 
   pub tie_even_this : 2 * low ≡ den → t % 2 ≡ 0 → IsNearest num den p Even t
   tie_even_this h even = record {
-    nearest = cases (λ o. far t ≤ far o) (λ o l. omega (arith, at_t, far_lower o l)) (omega arith) (omega (arith, at_t, at_next, h)) (λ o l. omega (arith, at_t, far_upper o l, h));
+    nearest =
+        cases (λ o. far t ≤ far o) (λ o l. omega (arith, at_t, far_lower o l)) (omega arith) (omega (arith, at_t, at_next, h))
+        (λ o l. omega (arith, at_t, far_upper o l, h));
     tie = λ o n e. even;
   }

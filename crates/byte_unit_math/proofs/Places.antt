@@ -19,7 +19,8 @@ EndsAt-all N rest e = record { few = omega arith; fraction_is = omega (arith, e)
 pub EndsAt-less : (N rest places : ℕ) → EndsAt N rest places → 0 < places → rest % 10 ≡ 0 → EndsAt N (rest / 10) (places - 1)
 EndsAt-less N rest places h some zero =
     let more : places_of_decimal - (places - 1) ≡ (places_of_decimal - places) + 1 = omega (arith, h.few) in
-    let scale : 10 ^ (places_of_decimal - (places - 1)) ≡ 10 * 10 ^ (places_of_decimal - places) = ap (λ k. 10 ^ k) more ∙ rw add-one (pow-succ' 10 (places_of_decimal - places)) in
+    let scale : 10 ^ (places_of_decimal - (places - 1)) ≡ 10 * 10 ^ (places_of_decimal - places) =
+    ap (λ k. 10 ^ k) more ∙ rw add-one (pow-succ' 10 (places_of_decimal - places)) in
     let parts : rest ≡ 10 * (rest / 10) = omega (arith, zero) in
     let e = ap (λ r. r * 10 ^ (places_of_decimal - places)) parts in
     record { few = omega (arith, h.few); fraction_is = h.fraction_is ∙ (e ∙ rw scale (omega arith)) }
@@ -47,9 +48,14 @@ fewer N rest places p h l s =
     let k : ℕ = places - p - 1 in
     let total : ((places_of_decimal - places) + p) + (k + 1) ≡ places_of_decimal = omega (arith, h.few) in
     let scale : 10 ^ (k + 1) ≡ 10 * 10 ^ k = rw add-one (pow-succ' 10 k) in
-    let split : one ≡ 10 ^ ((places_of_decimal - places) + p) * (10 * 10 ^ k) = ap (λ n. 10 ^ n) (sym total) ∙ (pow-add 10 ((places_of_decimal - places) + p) (k + 1) ∙ ap (λ x. 10 ^ ((places_of_decimal - places) + p) * x) scale) in
+    let split : one ≡ 10 ^ ((places_of_decimal - places) + p) * (10 * 10 ^ k) =
+    ap (λ n. 10 ^ n) (sym total)
+    ∙ (pow-add 10 ((places_of_decimal - places) + p) (k + 1) ∙ ap (λ x. 10 ^ ((places_of_decimal - places) + p) * x) scale) in
     let whole : N ≡ N / one * one + rest * 10 ^ (places_of_decimal - places) = omega (arith, h.fraction_is) in
-    last_zero N (N / one) s.0 rest (10 ^ p) (10 ^ (places_of_decimal - places)) (10 ^ ((places_of_decimal - places) + p)) (10 ^ k) one split (omega (arith, one-le-pow ((places_of_decimal - places) + p) 10 (omega arith))) s.1 whole (sym (pow-add 10 (places_of_decimal - places) p))
+    last_zero N (N / one) s.0 rest (10 ^ p) (10 ^ (places_of_decimal - places)) (10 ^ ((places_of_decimal - places) + p)) (10 ^ k) one split
+    (omega (arith, one-le-pow ((places_of_decimal - places) + p) 10 (omega arith))) s.1 whole
+    (sym (pow-add 10 (places_of_decimal - places) p))
 
 pub stated-least : (N rest places : ℕ) → EndsAt N rest places → 0 < rest % 10 → (p : ℕ) → IsExactAt N one p → places ≤ p
-stated-least N rest places h some p s = ⊎_elim (λ l. let z = fewer N rest places p h l s in absurd (omega (arith, some, z))) (λ k. k) (cases_lt p places)
+stated-least N rest places h some p s =
+    ⊎_elim (λ l. let z = fewer N rest places p h l s in absurd (omega (arith, some, z))) (λ k. k) (cases_lt p places)

@@ -9,11 +9,13 @@ use Rattle.byte_unit_math.specs.NumberLaws.{ExactByPowers, NumbersHaveTwosAndFiv
 
 odd_times : (u n : ℕ) → u % 2 ≢ 0 → (u * 5 ^ n) % 2 ≢ 0
 odd_times u zero h = λ k. h (omega (arith, k))
-odd_times u (suc n) h = λ k. odd_times u n h (let e : u * 5 ^ suc n ≡ 5 * (u * 5 ^ n) = rw (pow-succ' 5 n) (omega arith) in omega (arith, k, e))
+odd_times u (suc n) h =
+    λ k. odd_times u n h (let e : u * 5 ^ suc n ≡ 5 * (u * 5 ^ n) = rw (pow-succ' 5 n) (omega arith) in omega (arith, k, e))
 
 five_times : (u n : ℕ) → u % 5 ≢ 0 → (u * 2 ^ n) % 5 ≢ 0
 five_times u zero h = λ k. h (omega (arith, k))
-five_times u (suc n) h = λ k. five_times u n h (let e : u * 2 ^ suc n ≡ 2 * (u * 2 ^ n) = rw (pow-succ' 2 n) (omega arith) in omega (arith, k, e))
+five_times u (suc n) h =
+    λ k. five_times u n h (let e : u * 2 ^ suc n ≡ 2 * (u * 2 ^ n) = rw (pow-succ' 2 n) (omega arith) in omega (arith, k, e))
 
 next_power : (base m a : ℕ) → m < a → base ^ a ≡ base ^ m * (base * base ^ (a - m - 1))
 next_power base m a l =
@@ -30,8 +32,10 @@ joined num twos fives p h =
 
 enough : (num a b twos fives p : ℕ) → IsTwoFive num twos fives → a ≤ twos + p → b ≤ fives + p → IsExactAt num (2 ^ a * 5 ^ b) p
 enough num a b twos fives p h k l =
-    let x : 2 ^ (twos + p) ≡ 2 ^ (twos + p - a) * 2 ^ a = ap (λ n. 2 ^ n) (let e : twos + p ≡ (twos + p - a) + a = omega (arith, k) in e) ∙ pow-add 2 (twos + p - a) a in
-    let y : 5 ^ (fives + p) ≡ 5 ^ (fives + p - b) * 5 ^ b = ap (λ n. 5 ^ n) (let e : fives + p ≡ (fives + p - b) + b = omega (arith, l) in e) ∙ pow-add 5 (fives + p - b) b in
+    let x : 2 ^ (twos + p) ≡ 2 ^ (twos + p - a) * 2 ^ a =
+    ap (λ n. 2 ^ n) (let e : twos + p ≡ (twos + p - a) + a = omega (arith, k) in e) ∙ pow-add 2 (twos + p - a) a in
+    let y : 5 ^ (fives + p) ≡ 5 ^ (fives + p - b) * 5 ^ b =
+    ap (λ n. 5 ^ n) (let e : fives + p ≡ (fives + p - b) + b = omega (arith, l) in e) ∙ pow-add 5 (fives + p - b) b in
     let c = ap (λ n. h.left * (n * 5 ^ (fives + p))) x in
     let d = ap (λ n. h.left * (2 ^ (twos + p - a) * 2 ^ a * n)) y in
     (h.left * (2 ^ (twos + p - a) * 5 ^ (fives + p - b)), joined num twos fives p h ∙ (c ∙ (d ∙ omega arith)))
@@ -52,7 +56,8 @@ needs_twos num a b twos fives p h e = ⊎_elim
     (λ l. let T = 2 ^ (twos + p) in
     let K = 2 ^ (a - (twos + p) - 1) in
     let f = sym (joined num twos fives p h) ∙ (e.1 ∙ ap (λ n. e.0 * (n * 5 ^ b)) (next_power 2 (twos + p) a l)) in
-    absurd (odd_times h.left (fives + p) h.odd (cancel_two h.left T (5 ^ (fives + p)) e.0 K (5 ^ b) (omega (arith, one-le-pow (twos + p) 2 (omega arith))) f)))
+    absurd (odd_times h.left (fives + p) h.odd
+    (cancel_two h.left T (5 ^ (fives + p)) e.0 K (5 ^ b) (omega (arith, one-le-pow (twos + p) 2 (omega arith))) f)))
     (λ k. k) (cases_lt (twos + p) a)
 
 needs_fives : (num a b twos fives p : ℕ) → IsTwoFive num twos fives → IsExactAt num (2 ^ a * 5 ^ b) p → b ≤ fives + p
@@ -60,11 +65,13 @@ needs_fives num a b twos fives p h e = ⊎_elim
     (λ l. let F = 5 ^ (fives + p) in
     let K = 5 ^ (b - (fives + p) - 1) in
     let f = sym (joined num twos fives p h) ∙ (e.1 ∙ ap (λ n. e.0 * (2 ^ a * n)) (next_power 5 (fives + p) b l)) in
-    absurd (five_times h.left (twos + p) h.no_five (cancel_five h.left (2 ^ (twos + p)) F e.0 K (2 ^ a) (omega (arith, one-le-pow (fives + p) 5 (omega arith))) f)))
+    absurd (five_times h.left (twos + p) h.no_five
+    (cancel_five h.left (2 ^ (twos + p)) F e.0 K (2 ^ a) (omega (arith, one-le-pow (fives + p) 5 (omega arith))) f)))
     (λ k. k) (cases_lt (fives + p) b)
 
 pub exact_by_powers : ExactByPowers
-exact_by_powers num a b twos fives p h = (λ e. (needs_twos num a b twos fives p h e, needs_fives num a b twos fives p h e), λ k. enough num a b twos fives p h k.0 k.1)
+exact_by_powers num a b twos fives p h =
+    (λ e. (needs_twos num a b twos fives p h e, needs_fives num a b twos fives p h e), λ k. enough num a b twos fives p h k.0 k.1)
 
 pub places_by_powers : PlacesByPowers
 places_by_powers num a b twos fives h = record {
@@ -76,7 +83,8 @@ pub no_places : ZeroTakesNoPlaces
 no_places den = record { has = (0, omega arith); least = λ p e. omega arith }
 
 nothing_left : (n left twos fives : ℕ) → n ≡ left * (2 ^ twos * 5 ^ fives) → 0 < left % 2 → 0 < left % 5 → HasTwoFive n
-nothing_left n left twos fives e odd no_five = (twos, fives, record { left = left; product = e; odd = λ k. omega (arith, odd, k); no_five = λ k. omega (arith, no_five, k) })
+nothing_left n left twos fives e odd no_five =
+    (twos, fives, record { left = left; product = e; odd = λ k. omega (arith, odd, k); no_five = λ k. omega (arith, no_five, k) })
 
 -- two and five are taken off as long as they divide what is left
 taken_off : (turns n left twos fives : ℕ) → left ≤ turns → 0 < left → n ≡ left * (2 ^ twos * 5 ^ fives) → HasTwoFive n
@@ -84,11 +92,20 @@ taken_off zero n left twos fives few some e = absurd (omega (arith, few, some))
 taken_off (suc turns) n left twos fives few some e =
     ⊎_elim (λ odd.
     ⊎_elim (λ no_five. nothing_left n left twos fives e odd no_five)
-    (λ five. taken_off turns n (left / 5) twos (suc fives) (omega (arith, few, some, five)) (omega (arith, some, five)) (rw (pow-succ' 5 fives) (let parts : left ≡ 5 * (left / 5) = omega (arith, five) in let p = ap (λ m. m * (2 ^ twos * 5 ^ fives)) parts in omega (arith, e, p))))
+    (λ five.
+    taken_off turns n (left / 5) twos (suc fives) (omega (arith, few, some, five)) (omega (arith, some, five))
+    (rw (pow-succ' 5 fives)
+    (let parts : left ≡ 5 * (left / 5) = omega (arith, five) in let p = ap (λ m. m * (2 ^ twos * 5 ^ fives)) parts in
+    omega (arith, e, p))))
     (cases_lt 0 (left % 5)))
-    (λ two. taken_off turns n (left / 2) (suc twos) fives (omega (arith, few, some, two)) (omega (arith, some, two)) (rw (pow-succ' 2 twos) (let parts : left ≡ 2 * (left / 2) = omega (arith, two) in let p = ap (λ m. m * (2 ^ twos * 5 ^ fives)) parts in omega (arith, e, p))))
+    (λ two.
+    taken_off turns n (left / 2) (suc twos) fives (omega (arith, few, some, two)) (omega (arith, some, two))
+    (rw (pow-succ' 2 twos)
+    (let parts : left ≡ 2 * (left / 2) = omega (arith, two) in let p = ap (λ m. m * (2 ^ twos * 5 ^ fives)) parts in
+    omega (arith, e, p))))
     (cases_lt 0 (left % 2))
 
 -- a number that is not zero has powers of two and five, and something left
 pub has_two_five : NumbersHaveTwosAndFives
-has_two_five n some = taken_off n n n 0 0 (omega arith) (⊎_elim (λ l. l) (λ k. absurd (some (omega (arith, k)))) (cases_lt 0 n)) (omega arith)
+has_two_five n some =
+    taken_off n n n 0 0 (omega arith) (⊎_elim (λ l. l) (λ k. absurd (some (omega (arith, k)))) (cases_lt 0 n)) (omega arith)

@@ -36,15 +36,22 @@ IsLeastSize-halves fraction unit first last part size f l low high =
     }
 
 -- the whole part's product beside the fraction's least size
-pub IsLeastSize-whole : (whole fraction unit part : ℕ) → IsLeastSize fraction unit part → IsLeastSize (whole * one + fraction) unit (whole * unit + part)
+pub IsLeastSize-whole :
+    (whole fraction unit part : ℕ) → IsLeastSize fraction unit part → IsLeastSize (whole * one + fraction) unit (whole * unit + part)
 IsLeastSize-whole whole fraction unit part h =
     record {
       has = omega (arith, h.has);
-      least = λ m r. ⊎_elim (λ below. absurd (omega (arith, below, r))) (λ above. let more = h.least (m - whole * unit) (omega (arith, above, r)) in omega (arith, above, more)) (cases_lt m (whole * unit));
+      least =
+          λ m r.
+          ⊎_elim (λ below. absurd (omega (arith, below, r)))
+          (λ above. let more = h.least (m - whole * unit) (omega (arith, above, r)) in omega (arith, above, more))
+          (cases_lt m (whole * unit));
     }
 
 -- the same of a decimal's two parts
-pub IsLeastSize-parts : (N unit whole fraction part size : ℕ) → whole ≡ N / one → fraction ≡ N % one → IsLeastSize fraction unit part → size ≡ whole * unit + part → IsLeastSize N unit size
+pub IsLeastSize-parts :
+    (N unit whole fraction part size : ℕ) → whole ≡ N / one → fraction ≡ N % one → IsLeastSize fraction unit part
+    → size ≡ whole * unit + part → IsLeastSize N unit size
 IsLeastSize-parts N unit whole fraction part size w f h e =
     let parts : whole * one + fraction ≡ N = omega arith in
     let P : ℕ → Type 0 = λ m. IsLeastSize m unit size in

@@ -22,7 +22,9 @@ FivesOff-more number left fives h none =
 -- no power of two up to a size has more than 89 factors
 few_twos : (twos size : ℕ) → 2 ^ twos ≤ size → size < size_limit → twos ≤ 89
 few_twos twos size h small =
-    ⊎_elim (λ l. let most = pow-le-pow_right {n = 2} (omega arith) {i = 90} {j = twos} (omega arith) in absurd (omega (arith, most, h, small))) (λ k. k) (cases_lt 89 twos)
+    ⊎_elim
+    (λ l. let most = pow-le-pow_right {n = 2} (omega arith) {i = 90} {j = twos} (omega arith) in absurd (omega (arith, most, h, small)))
+    (λ k. k) (cases_lt 89 twos)
 
 few_both : (size left twos fives : ℕ) → 0 < left → size ≡ left * (2 ^ twos * 5 ^ fives) → size < size_limit → twos + fives ≤ 89
 few_both size left twos fives some h small =
@@ -33,7 +35,9 @@ few_both size left twos fives some h small =
 few_fives : (number left fives : ℕ) → 0 < left → number ≡ left * 5 ^ fives → number < size_limit → fives ≤ 38
 few_fives number left fives some h small =
     let product = mul-le-mul_right {m = 1} {n = left} (5 ^ fives) some in
-    ⊎_elim (λ l. let most = pow-le-pow_right {n = 5} (omega arith) {i = 39} {j = fives} (omega arith) in absurd (omega (arith, most, product, h, small))) (λ k. k) (cases_lt 38 fives)
+    ⊎_elim
+    (λ l. let most = pow-le-pow_right {n = 5} (omega arith) {i = 39} {j = fives} (omega arith) in
+    absurd (omega (arith, most, product, h, small))) (λ k. k) (cases_lt 38 fives)
 
 pub FivesOff-few : (number left fives : ℕ) → number < size_limit → FivesOff number left fives → fives ≤ 38
 FivesOff-few number left fives small h = few_fives number left fives h.some h.product small
@@ -60,7 +64,8 @@ twos_off : (number twos : ℕ) → ((i : ℕ) → i < twos → bit_at number i �
 twos_off number zero zeros = omega (arith, div-one number)
 twos_off number (suc twos) zeros =
     let even : number / 2 ^ twos % 2 ≡ 0 = zeros twos (omega arith) in
-    let half : number / 2 ^ twos / 2 ≡ number / 2 ^ suc twos = shr-shr number twos 1 ∙ ap (λ n. number / 2 ^ n) (let e : twos + 1 ≡ suc twos = omega arith in e) in
+    let half : number / 2 ^ twos / 2 ≡ number / 2 ^ suc twos =
+    shr-shr number twos 1 ∙ ap (λ n. number / 2 ^ n) (let e : twos + 1 ≡ suc twos = omega arith in e) in
     let parts : number / 2 ^ twos ≡ number / 2 ^ suc twos * 2 = omega (arith, even, half) in
     let power = ap (λ n. number / 2 ^ suc twos * n) (pow-suc 2 twos) in
     twos_off number twos (λ i l. zeros i (omega (arith, l))) ∙ (ap (λ n. n * 2 ^ twos) parts ∙ omega (arith, power))

@@ -10,7 +10,9 @@ pub record Finite : Type 0 where
 
 -- stored as the pair of its fields
 abbrev pub finite_code : Coded Finite
-finite_code = code_by (ℕ × List ℕ) (coded× coded_ℕ (coded_list coded_ℕ)) (λ e. (e.whole, e.digits)) (λ p. record { whole = p.0; digits = p.1 }) (λ _. refl)
+finite_code =
+    code_by (ℕ × List ℕ) (coded× coded_ℕ (coded_list coded_ℕ)) (λ e. (e.whole, e.digits))
+    (λ p. record { whole = p.0; digits = p.1 }) (λ _. refl)
 
 -- the number that digits spell
 abbrev pub value_of : List ℕ → ℕ

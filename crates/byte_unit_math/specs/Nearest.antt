@@ -12,4 +12,6 @@ WinsTie Up q other = other ≤ q
 -- q units of the p-th place are nearest to num / den
 pub record IsNearest (num den p : ℕ) (ties : Ties) (q : ℕ) : Type 0 where
   pub nearest : (other : ℕ) → abs_diff (q * den) (num * 10 ^ p) ≤ abs_diff (other * den) (num * 10 ^ p)
-  pub tie : (other : ℕ) → other ≢ q → abs_diff (other * den) (num * 10 ^ p) ≡ abs_diff (q * den) (num * 10 ^ p) → WinsTie ties q other
+  pub tie :
+      (other : ℕ) → other ≢ q → abs_diff (other * den) (num * 10 ^ p) ≡ abs_diff (q * den) (num * 10 ^ p)
+      → WinsTie ties q other

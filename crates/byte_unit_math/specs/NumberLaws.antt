@@ -29,4 +29,5 @@ NumeralsAreExact = (number places : ℕ) → scaled (at_places places number) �
 
 -- and without the zeros at its end it is the number's expansion
 abbrev pub ShortNumeralsAreExpansions : Type 0
-ShortNumeralsAreExpansions = (number places : ℕ) → IsExpansion number (10 ^ places) (shortened (at_places places number))
+ShortNumeralsAreExpansions =
+    (number places : ℕ) → IsExpansion number (10 ^ places) (shortened (at_places places number))

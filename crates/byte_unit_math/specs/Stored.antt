@@ -20,14 +20,24 @@ pub record IsStored (e : Inside) : Type 0 where
   pub room : 0 < e.places → e.whole < whole_limit
 
 abbrev pub fields_of : Finite → Inside
-fields_of v = record { whole = v.whole; digits = v.digits ++ replicate (expansion_places - length v.digits) 0; places = length v.digits }
+fields_of v =
+    record {
+      whole =
+          v.whole;
+      digits =
+          v.digits ++ replicate (expansion_places - length v.digits) 0;
+      places = length v.digits;
+    }
 
 -- the view forgets nothing
 pub fields_of-view_of : (e : Inside) → IsStored e → fields_of (view_of e) ≡ e
 fields_of-view_of e h =
     let front = take e.places e.digits in
-    let len : length front ≡ e.places = length-take-le e.places e.digits (subst (λ n. e.places ≤ n) (sym h.size) h.few) in
-    let all : front ++ replicate (expansion_places - e.places) 0 ≡ e.digits = ap (λ r. front ++ r) (sym h.rest) ∙ take-append-drop e.places e.digits in
-    let of_places : ℕ → Inside = λ n. record { whole = e.whole; digits = front ++ replicate (expansion_places - n) 0; places = n } in
+    let len : length front ≡ e.places =
+    length-take-le e.places e.digits (subst (λ n. e.places ≤ n) (sym h.size) h.few) in
+    let all : front ++ replicate (expansion_places - e.places) 0 ≡ e.digits =
+    ap (λ r. front ++ r) (sym h.rest) ∙ take-append-drop e.places e.digits in
+    let of_places : ℕ → Inside =
+    λ n. record { whole = e.whole; digits = front ++ replicate (expansion_places - n) 0; places = n } in
     let of_digits : List ℕ → Inside = λ ds. record { whole = e.whole; digits = ds; places = e.places } in
     ap of_places len ∙ ap of_digits all

@@ -63,7 +63,7 @@ impl Expansion {
     /// ```text
     /// Expansion::new(13, 3, 0)    1.625
     /// ```
-    #[tactic(auto, using(crate::proofs::Expanding::powers_small, crate::proofs::Expanding::powers_some, crate::proofs::Expanding::powers_end))]
+    #[tactic(auto, using(crate::proofs::Expanding::powers))]
     pub fn new(numerator: u128, twos: u32, fives: u32) -> Expansion
         requires small { numerator < bits_limit }
         requires den { 2 ^ twos * 5 ^ fives ≤ unit_limit }

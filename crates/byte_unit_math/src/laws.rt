@@ -1,5 +1,6 @@
 //! Laws over the definitions. Each function does nothing: its contract is the law.
-ghost use Rattle.byte_unit_math.specs.NumberLaws.{ExactByPowers, NumbersHaveTwosAndFives, PlacesByPowers, ZeroTakesNoPlaces};
+ghost use Rattle.byte_unit_math.specs.NumberLaws.{ExactByPowers, NumbersHaveTwosAndFives, PlacesByPowers};
+ghost use Rattle.byte_unit_math.specs.NumberLaws.{ZeroTakesNoPlaces};
 ghost use Rattle.byte_unit_math.specs.NumberLaws.{NumeralsAreExact, ShortNumeralsAreExpansions};
 
 /// `num / (2^a * 5^b)`, where it is not zero, is exact at p places exactly where neither exponent is greater than p and
@@ -15,7 +16,8 @@ pub fn places_by_powers()
     ensures zero { ZeroTakesNoPlaces }
 {}
 
-/// The numeral of `number / 10^places` with all its places is that number, and without the zeros at its end its decimal.
+/// The numeral of `number / 10^places` with all its places is that number, and without the zeros at its end its
+/// decimal.
 pub fn numerals_are_exact()
     ensures all { NumeralsAreExact }
     ensures short { ShortNumeralsAreExpansions }

@@ -1,4 +1,5 @@
-//! Numbers of sizes: exact decimals, products rounded up, exact quotients with counted steps, and decimals digit by digit.
+//! Numbers of sizes: exact decimals, products rounded up, exact quotients with counted steps, and decimals digit by
+//! digit.
 #![tactic(auto)]
 
 pub use crate::decimal::{DECIMAL_PLACES, Decimal};

@@ -1,6 +1,8 @@
 //! Laws of the readers. Each function does nothing; its contract is the law.
 
-ghost use Rattle.byte_unit_base.specs.ReaderLaws.{UnitTextsHaveOneAnswer, SizeTextsHaveOneAnswer, UnitFrontsAreBeginnings, SizeFrontsAreBeginnings, NamesSpellTheirUnits};
+ghost use Rattle.byte_unit_base.specs.ReaderLaws.{UnitTextsHaveOneAnswer, SizeTextsHaveOneAnswer};
+ghost use Rattle.byte_unit_base.specs.ReaderLaws.{UnitFrontsAreBeginnings, SizeFrontsAreBeginnings};
+ghost use Rattle.byte_unit_base.specs.ReaderLaws.{NamesSpellTheirUnits};
 
 /// Under given flags each text spells one unit or has one fault, and not both.
 pub fn unit_texts_have_one_answer()

@@ -1,6 +1,7 @@
 //! Laws of sizes in bytes and in bits. Each function does nothing; its contract is the law.
 
-ghost use Rattle.byte_unit_base.specs.SizeLaws.{GreaterNumbersGiveNoSmallerSizes, EachNumberHasOneLeastSize, EachTextIsOneOfThree, TextsAreAcceptedOrRefused};
+ghost use Rattle.byte_unit_base.specs.SizeLaws.{GreaterNumbersGiveNoSmallerSizes, EachNumberHasOneLeastSize};
+ghost use Rattle.byte_unit_base.specs.SizeLaws.{EachTextIsOneOfThree, TextsAreAcceptedOrRefused};
 
 /// A greater number never gives a smaller least size in the same unit.
 pub fn greater_numbers_give_no_smaller_sizes()

@@ -20,7 +20,8 @@ returns-clause-styled g c = λ flush ok.
     let characters = c.glyphs_of.result in
     let some : 0 < length digits = omega (arith, c.places.ensures.exact) in
     let written : c.unwrap.result.now ≡ take c.places-2.result characters = first_of (search rules, grind (arith, common_steps)) in
-    let all : c.unwrap.result.now ≡ glyphs digits = written ∙ (ap (λ k. take k characters) c.places-2.ensures.exact ∙ c.glyphs_of.ensures.front) in
+    let all : c.unwrap.result.now ≡ glyphs digits =
+    written ∙ (ap (λ k. take k characters) c.places-2.ensures.exact ∙ c.glyphs_of.ensures.front) in
     let point = c.in_ok-write_str.ensures.styled flush refl in
     let both = has_written_styled_append _ _ _ _ _ _ point (c.write_str-2.ensures.styled point.flush ok) in
     has_written_styled_of_eq _ _ _ _ _ (ap (λ l. 46 ∷ l) all ∙ sym (text_some digits some)) both

@@ -1,5 +1,5 @@
-use Rattle.std.proofs.Common.{ℕ, ◌+◌, ◌-◌, ◌*◌, ◌<◌, SomeIff, arith, subst, sym}
-use Rattle.byte_unit_math.specs.Bounds.{one, places_of_decimal, whole_limit}
+use Rattle.std.proofs.Common.{ℕ, ◌+◌, ◌*◌, ◌<◌, SomeIff, arith, subst, sym}
+use Rattle.byte_unit_math.specs.Bounds.{one, whole_limit}
 use Rattle.byte_unit_math.specs.Exact.{IsExactAt}
 use Rattle.byte_unit_math.proofs.quotient.exact_quotient.Goals.{then-loop-rest-test+else-digits-most, else-loop-rest-test}
 use Rattle.byte_unit_math.proofs.Division.{Dividing-more, next_fits, not_exact, part_below, quotient_made, always_made}
@@ -7,27 +7,44 @@ use Rattle.byte_unit_math.proofs.quotient.exact_quotient.Goals as goal
 
 pub overflow_mul-fraction : goal.overflow_mul-fraction
 overflow_mul-fraction c =
-    let fits = next_fits c.args.size c.args.unit c.min-most.result c.loop-rest.rest c.loop-rest.fraction c.loop-rest.digits (omega arith) (omega arith) (omega arith) (omega arith) c.loop-rest.invariant.divides in
+    let fits =
+    next_fits c.args.size c.args.unit c.min-most.result c.loop-rest.rest c.loop-rest.fraction c.loop-rest.digits (omega arith)
+    (omega arith) (omega arith) (omega arith) c.loop-rest.invariant.divides in
     omega (arith, fits)
 
 pub overflow_add-fraction : goal.overflow_add-fraction
 overflow_add-fraction c =
-    let fits = next_fits c.args.size c.args.unit c.min-most.result c.loop-rest.rest c.loop-rest.fraction c.loop-rest.digits (omega arith) (omega arith) (omega arith) (omega arith) c.loop-rest.invariant.divides in
+    let fits =
+    next_fits c.args.size c.args.unit c.min-most.result c.loop-rest.rest c.loop-rest.fraction c.loop-rest.digits (omega arith)
+    (omega arith) (omega arith) (omega arith) c.loop-rest.invariant.divides in
     omega (arith, fits)
 
 pub loop-rest-preserved : goal.loop-rest-preserved
 loop-rest-preserved c = record {
-  divides = rw (c.digit_and_rest-digit.ensures.digit, c.digit_and_rest-digit.ensures.rest) (Dividing-more _ _ _ c.loop-rest.rest c.loop-rest.fraction c.loop-rest.digits (omega arith) (omega arith) (omega arith) c.loop-rest.invariant.divides);
+  divides =
+      rw (c.digit_and_rest-digit.ensures.digit, c.digit_and_rest-digit.ensures.rest)
+      (Dividing-more _ _ _ c.loop-rest.rest c.loop-rest.fraction c.loop-rest.digits (omega arith) (omega arith) (omega arith)
+      c.loop-rest.invariant.divides);
   ticks = omega (arith, c.tick.ensures, c.loop-rest.invariant.ticks);
 }
 
 pub returns-then-rest-gt0-clause-none : goal.returns-then-rest-gt0-clause-none
 returns-then-rest-gt0-clause-none c = λ e.
     let P : ℕ → Type 0 = λ n. IsExactAt c.args.size c.args.unit n in
-    elim c.loop-rest-test.branch [ then-loop-rest-test+else-digits-most w ↦ not_exact _ _ _ _ _ _ c.loop-rest.invariant.divides (omega arith) c.if-rest-gt0.true (subst P (sym c.min-most.ensures) e) | else-loop-rest-test w ↦ absurd (omega arith) ]
+    elim c.loop-rest-test.branch [
+      | then-loop-rest-test+else-digits-most w ↦ not_exact _ _ _ _ _ _ c.loop-rest.invariant.divides
+          (omega arith) c.if-rest-gt0.true (subst P (sym c.min-most.ensures) e)
+      | else-loop-rest-test w ↦ absurd (omega arith)
+    ]
 
 pub overflow_mul-fraction-2 : goal.overflow_mul-fraction-2
-overflow_mul-fraction-2 c = rw c.power_of_ten.ensures (omega (arith, part_below c.loop-rest.fraction c.loop-rest.digits (omega (arith, c.loop-rest.invariant.divides.few)) c.loop-rest.invariant.divides.below))
+overflow_mul-fraction-2 c =
+    rw c.power_of_ten.ensures
+    (omega (
+      arith,
+      part_below c.loop-rest.fraction c.loop-rest.digits (omega (arith, c.loop-rest.invariant.divides.few))
+          c.loop-rest.invariant.divides.below,
+    ))
 
 pub returns-clause-quotient : goal.returns-clause-quotient
 returns-clause-quotient c =

@@ -15,5 +15,6 @@ returns g c =
     let e = c.number_in-shown.result.decimal in
     let places = c.number_in-shown.result.places in
     let is = c.number_in-shown.ensures.number in
-    appends_form (IsAdjustedForm current kind size unit spec) c.args.text.now c.append_layout.new.text c.append_layout.result (layout_of current e places unit spec)
+    appends_form (IsAdjustedForm current kind size unit spec) c.args.text.now c.append_layout.new.text c.append_layout.result
+    (layout_of current e places unit spec)
     (adjusted_form kind size unit spec e places is) (adjusted_length kind size unit spec e places is) c.append_layout.ensures

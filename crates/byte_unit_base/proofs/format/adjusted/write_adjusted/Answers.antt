@@ -16,7 +16,8 @@ returns-clause-plain g c = λ plain ok.
     let two = has_written_append _ _ _ _ _ _ first second in
     let all = has_written_append _ _ _ _ _ _ two (c.write_str-2.ensures.writes second.plain ok) in
     has_written_of_eq _ _ _ _ _
-    (ap (λ e. text_of e ++ codes " " ++ name) c.number_in_unit.ensures.computed ∙ ap (λ n. text_of number ++ codes " " ++ n) c.as_str.ensures)
+    (ap (λ e. text_of e ++ codes " " ++ name) c.number_in_unit.ensures.computed
+    ∙ ap (λ n. text_of number ++ codes " " ++ n) c.as_str.ensures)
     all
 
 pub returns-clause-styled : goal.returns-clause-styled
@@ -28,5 +29,6 @@ returns-clause-styled g c = λ flush ok.
     let two = has_written_styled_append _ _ _ _ _ _ first second in
     let all = has_written_styled_append _ _ _ _ _ _ two (c.write_str-2.ensures.styled second.flush ok) in
     has_written_styled_of_eq _ _ _ _ _
-    (ap (λ e. text_of e ++ codes " " ++ name) c.number_in_unit.ensures.computed ∙ ap (λ n. text_of number ++ codes " " ++ n) c.as_str.ensures)
+    (ap (λ e. text_of e ++ codes " " ++ name) c.number_in_unit.ensures.computed
+    ∙ ap (λ n. text_of number ++ codes " " ++ n) c.as_str.ensures)
     all

@@ -15,7 +15,8 @@ returns-then-spec g c =
     let unit = shape_of c.stated-number.result.1 in
     let places = c.places.result in
     let all = c.places.ensures.exact in
-    appends_form (IsText current kind size spec) c.args.text.now c.append_layout.new.text c.append_layout.result (layout_of current number places unit spec)
+    appends_form (IsText current kind size spec) c.args.text.now c.append_layout.new.text c.append_layout.result
+    (layout_of current number places unit spec)
     (shown_text kind size spec unit number places all c.if-spec.true c.stated-number.ensures)
     (shown_length kind size spec unit number places all c.if-spec.true c.stated-number.ensures)
     c.append_layout.ensures

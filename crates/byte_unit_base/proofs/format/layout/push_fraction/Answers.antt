@@ -12,4 +12,6 @@ returns-then-places-gt0-clause-bytes g c =
     let shown = c.min-shown.result in
     let old = string_bytes c.args.text.now in
     let is : shown ≡ min places (length c.args.e.now.digits) = omega (arith, c.min-shown.ensures, c.places.ensures.exact) in
-    pushed_fraction places shown old (string_bytes c.push.new.text) (string_bytes c.push_ascii.new.text) (string_bytes c.push_run.new.text) c.args.e.now.digits c.glyphs_of.result c.if-places-gt0.true is c.glyphs_of.ensures.front c.push.ensures.bytes c.push_ascii.ensures.bytes c.push_run.ensures.bytes
+    pushed_fraction places shown old (string_bytes c.push.new.text) (string_bytes c.push_ascii.new.text) (string_bytes c.push_run.new.text)
+    c.args.e.now.digits c.glyphs_of.result c.if-places-gt0.true is c.glyphs_of.ensures.front c.push.ensures.bytes
+    c.push_ascii.ensures.bytes c.push_run.ensures.bytes

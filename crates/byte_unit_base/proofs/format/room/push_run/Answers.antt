@@ -14,7 +14,10 @@ loop-left-preserved g c =
     let len = length-run c.args.byte l.left next run c.min-next.ensures c.run_of-run.ensures in
     record {
       few = omega (arith, c.min-next.ensures);
-      bytes = run_more c.args.byte c.args.count l.left next (string_bytes c.args.text.now) (string_bytes l.text) (string_bytes c.push_ascii.new.text) run l.invariant.few c.min-next.ensures c.run_of-run.ensures l.invariant.bytes c.push_ascii.ensures.bytes;
+      bytes =
+          run_more c.args.byte c.args.count l.left next (string_bytes c.args.text.now) (string_bytes l.text)
+          (string_bytes c.push_ascii.new.text) run l.invariant.few c.min-next.ensures c.run_of-run.ensures l.invariant.bytes
+          c.push_ascii.ensures.bytes;
       room = omega (arith, c.min-next.ensures, c.push_ascii.ensures.spare, len);
       used = omega (arith, c.min-next.ensures, c.push_ascii.ensures.spare, len);
     }

@@ -7,4 +7,5 @@ returns c =
     let e = c.args.self.now in
     let we : c.self.inside.whole ≡ e.whole = ap (λ v. v.whole) c.self.view_is in
     let all = shown_by c.self.inside e c.self.invariant c.self.view_is in
-    cut_is e c.args.places c.without-kept.result c.self.inside.whole c.front.result c.requires we c.without-kept.ensures.few c.without-kept.ensures.same c.without-kept.ensures.stops c.front.ensures.size all.few c.front.ensures.front c.front.ensures.small
+    cut_is e c.args.places c.without-kept.result c.self.inside.whole c.front.result c.requires we c.without-kept.ensures.few
+    c.without-kept.ensures.same c.without-kept.ensures.stops c.front.ensures.size all.few c.front.ensures.front c.front.ensures.small

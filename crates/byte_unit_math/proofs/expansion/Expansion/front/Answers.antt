@@ -6,4 +6,6 @@ pub loop-i-init : goal.loop-i-init
 loop-i-init c = none_copied c.args.self.now.digits
 
 pub loop-i-preserved : goal.loop-i-preserved
-loop-i-preserved c = one_copied c.loop-i.digits c.args.self.now.digits c.loop-i.i c.digit.result c.loop-i.invariant (omega arith) (omega arith) c.digit.ensures.exact c.digit.ensures.small
+loop-i-preserved c =
+    one_copied c.loop-i.digits c.args.self.now.digits c.loop-i.i c.digit.result c.loop-i.invariant (omega arith) (omega arith)
+    c.digit.ensures.exact c.digit.ensures.small

@@ -7,6 +7,8 @@ pub returns-then-self-places : goal.returns-then-self-places
 returns-then-self-places c =
     let e = c.args.self.now in
     let all = shown_by c.self.inside e c.self.invariant c.self.view_is in
-    let r = same_rounded e c.args.places c.args.ties all (omega (arith, length_by c.self.inside e c.self.invariant c.self.view_is, c.if-self-places.true)) in
+    let r =
+    same_rounded e c.args.places c.args.ties all
+    (omega (arith, length_by c.self.inside e c.self.invariant c.self.view_is, c.if-self-places.true)) in
     let P : Finite → Type 0 = λ v. IsExpansion r.0 (10 ^ c.args.places) v in
     (r.0, r.1, subst P (sym c.self.view_is) r.2)

@@ -6,7 +6,8 @@ pub returns-then-next-ne5 : goal.returns-then-next-ne5
 returns-then-next-ne5 c =
     let e = c.args.self.now in
     let all = shown_by c.self.inside e c.self.invariant c.self.view_is in
-    not_half e c.args.places c.digit-next.result c.args.ties all c.requires (digit_at e c.args.places c.digit-next.result c.digit-next.ensures.exact) c.if-next-ne5.true
+    not_half e c.args.places c.digit-next.result c.args.ties all c.requires
+    (digit_at e c.args.places c.digit-next.result c.digit-next.ensures.exact) c.if-next-ne5.true
 
 pub returns-then-count-places : goal.returns-then-count-places
 returns-then-count-places c =
@@ -31,5 +32,7 @@ returns-in-Even c =
     let all = shown_by c.self.inside e c.self.invariant c.self.view_is in
     let len = length_by c.self.inside e c.self.invariant c.self.view_is in
     let d = digit_at e c.args.places c.digit-next.result c.digit-next.ensures.exact in
-    let r = half_even c.is_odd_at.result e c.args.places all c.requires (sym d ∙ c.if-next-ne5.false) (omega (arith, len, c.if-count-places.false)) c.is_odd_at.ensures in
+    let r =
+    half_even c.is_odd_at.result e c.args.places all c.requires (sym d ∙ c.if-next-ne5.false)
+    (omega (arith, len, c.if-count-places.false)) c.is_odd_at.ensures in
     rw c.in-Even.is r
