@@ -13,12 +13,12 @@ pub use byte_unit_base::laws::sizes::{
     each_number_has_one_least_size, each_text_is_one_of_three,
     greater_numbers_give_no_smaller_sizes, texts_are_accepted_or_refused,
 };
-pub use byte_unit_base::laws::texts::{
+pub use byte_unit_bit::laws::{bit_bounds, bit_constant};
+pub use byte_unit_byte::laws::{byte_bounds, byte_constant};
+pub use byte_unit_format::laws::{
     adjusted_string_reads_back, expansions_end, layout_fills_width, places_of_size,
     plain_form_fills_width, plain_form_reads_back, shown_adjusted_size_is_plain_form,
     shown_size_is_plain_form, size_form_reads_back, size_has_one_adjusted_form, size_has_one_form,
     size_string_reads_back,
 };
-pub use byte_unit_bit::laws::{bit_bounds, bit_constant};
-pub use byte_unit_byte::laws::{byte_bounds, byte_constant};
 pub use byte_unit_math::laws::{exact_by_powers, numerals_are_exact, places_by_powers};

@@ -8,12 +8,14 @@ mod tests;
 mod unit_json;
 
 pub use byte_unit_base::{
-    Align, ExceededBoundsError, Family, FormatSpec, JsonSizeError, Kind, ParseError, Sign, Unit,
-    UnitParseError, UnitType, ValueParseError, append_layout, append_plain, choose_unit,
-    largest_unit, layout_len, plain_len, read_size,
+    ExceededBoundsError, Family, JsonSizeError, Kind, ParseError, Unit, UnitParseError, UnitType,
+    ValueParseError, choose_unit, largest_unit, read_size,
 };
 pub use byte_unit_bit::{AdjustedBit, Bit};
 pub use byte_unit_byte::{AdjustedByte, Byte};
+pub use byte_unit_format::{
+    Align, FormatSpec, Sign, append_layout, append_plain, layout_len, plain_len,
+};
 pub use byte_unit_math::{
     Decimal, Expansion, Steps, Ties, exact_quotient, least_size, least_size_counted, two_five,
 };

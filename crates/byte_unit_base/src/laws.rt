@@ -3,4 +3,3 @@
 pub mod choices;
 pub mod readers;
 pub mod sizes;
-pub mod texts;

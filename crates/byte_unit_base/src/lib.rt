@@ -1,4 +1,4 @@
-//! Units of bits and bytes, the readers of units and sizes, the choice of a unit for a size, and the texts of sizes.
+//! Units of bits and bytes, the readers of units and sizes, and the choice of a unit for a size.
 //!
 //! What sizes in bytes and in bits share stands here once, over their [`Kind`].
 #![tactic(auto)]
@@ -6,9 +6,6 @@
 pub use crate::choice::{choose_unit, largest_unit};
 pub use crate::errors::{
     ExceededBoundsError, JsonSizeError, ParseError, UnitParseError, ValueParseError,
-};
-pub use crate::format::{
-    Align, FormatSpec, Sign, append_layout, append_plain, layout_len, plain_len,
 };
 pub use crate::kind::Kind;
 pub use crate::read::read_size;
@@ -19,7 +16,6 @@ pub use crate::unit::unit_type::UnitType;
 
 mod choice;
 mod errors;
-pub mod format;
 mod kind;
 pub mod laws;
 mod read;

@@ -7,13 +7,14 @@ ghost use Rattle.byte_unit_base.specs.Edition.{current};
 ghost use Rattle.byte_unit_base.specs.Units.{shape_of};
 ghost use Rattle.byte_unit_base.specs.Kinds.{bits_in};
 ghost use Rattle.byte_unit_base.specs.Choice.{IsAppropriate};
-ghost use Rattle.byte_unit_base.specs.Forms.{text_limit};
-ghost use Rattle.byte_unit_base.specs.Adjusted.{IsAdjustedForm};
-ghost use Rattle.byte_unit_base.specs.Room.{Appends};
+ghost use Rattle.byte_unit_format.specs.Forms.{text_limit};
+ghost use Rattle.byte_unit_format.specs.Adjusted.{IsAdjustedForm};
+ghost use Rattle.byte_unit_format.specs.Room.{Appends};
 ghost use Rattle.byte_unit_base.specs.declared.kind.Kind.TheVariants.{Bit as InBits};
 
 use super::Bit;
-use byte_unit_base::{FormatSpec, Kind, Unit, UnitType, appropriate_unit, format};
+use byte_unit_base::{Kind, Unit, UnitType, appropriate_unit};
+use byte_unit_format::FormatSpec;
 use std::alloc::{AllocError, Allocator, Global};
 use std::marker::Model;
 
@@ -78,7 +79,7 @@ impl AdjustedBit {
             → result ≡ length form }
         ensures small { result < text_limit }
     {
-        format::adjusted_len(self.size.as_u128(), Kind::Bit, self.unit, spec)
+        byte_unit_format::adjusted_len(self.size.as_u128(), Kind::Bit, self.unit, spec)
     }
 
     /// Adds the text of the size in its unit.
@@ -100,7 +101,7 @@ impl AdjustedBit {
         ensures { let IsForm = IsAdjustedForm current InBits self.size (shape_of self.unit) spec in
             Appends IsForm text.old text.new result }
     {
-        format::append_adjusted(self.size.as_u128(), Kind::Bit, self.unit, spec, text)
+        byte_unit_format::append_adjusted(self.size.as_u128(), Kind::Bit, self.unit, spec, text)
     }
 
     /// The text of the size in its unit, as `append_text` adds it. `AllocError` where memory for it was refused.

@@ -5,13 +5,14 @@ ghost use Rattle.serde_json.specs.Data.{string};
 ghost use Rattle.serde_json.specs.Find.{as_str};
 ghost use Rattle.serde_json.specs.View.{view};
 ghost use Rattle.byte_unit_base.specs.Edition.{current};
-ghost use Rattle.byte_unit_base.specs.Forms.{IsText};
+ghost use Rattle.byte_unit_format.specs.Forms.{IsText};
 ghost use Rattle.byte_unit_base.specs.JsonReading.{ReadsString, size_errors};
 ghost use Rattle.byte_unit_base.specs.SizeReading.{IsSizeReading};
 ghost use Rattle.byte_unit_base.specs.declared.kind.Kind.TheVariants.{Bit as InBits};
 
 use super::Bit;
-use byte_unit_base::{FormatSpec, JsonSizeError};
+use byte_unit_base::JsonSizeError;
+use byte_unit_format::FormatSpec;
 use serde_json::Value;
 use std::alloc::{AllocError, Global};
 

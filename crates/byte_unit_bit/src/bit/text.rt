@@ -3,12 +3,13 @@
 ghost use Rattle.std.specs.Prelude.{◌≡◌, ◌<◌, ℕ, List, length, IfOk};
 ghost use Rattle.std.specs.String.{string_bytes};
 ghost use Rattle.byte_unit_base.specs.Edition.{current};
-ghost use Rattle.byte_unit_base.specs.Forms.{IsText, text_limit};
-ghost use Rattle.byte_unit_base.specs.Room.{Appends};
+ghost use Rattle.byte_unit_format.specs.Forms.{IsText, text_limit};
+ghost use Rattle.byte_unit_format.specs.Room.{Appends};
 ghost use Rattle.byte_unit_base.specs.declared.kind.Kind.TheVariants.{Bit as InBits};
 
 use super::Bit;
-use byte_unit_base::{FormatSpec, Kind, format};
+use byte_unit_base::Kind;
+use byte_unit_format::FormatSpec;
 use std::alloc::{AllocError, Allocator, Global};
 
 impl Bit {
@@ -21,7 +22,7 @@ impl Bit {
         ensures exact { (form : List ℕ) → IsText current InBits self spec form → result ≡ length form }
         ensures small { result < text_limit }
     {
-        format::text_len(self.size, Kind::Bit, spec)
+        byte_unit_format::text_len(self.size, Kind::Bit, spec)
     }
 
     /// Adds the text of the size. Without `alternate` that is its digits, with a `+` before them for the sign `Plus`.
@@ -48,7 +49,7 @@ impl Bit {
     ) -> Result<(), AllocError>
         ensures { Appends (IsText current InBits self spec) text.old text.new result }
     {
-        format::append_text(self.size, Kind::Bit, spec, text)
+        byte_unit_format::append_text(self.size, Kind::Bit, spec, text)
     }
 
     /// The text of the size, as `append_text` adds it. `AllocError` where memory for it was refused.

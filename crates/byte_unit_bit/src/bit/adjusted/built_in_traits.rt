@@ -7,7 +7,7 @@ ghost use Rattle.std.specs.Ordering.{nat_cmp, as_partial_cmp};
 ghost use Rattle.std.proofs.Common.{rules};
 ghost use Rattle.byte_unit_base.specs.Edition.{current};
 ghost use Rattle.byte_unit_base.specs.Units.{shape_of};
-ghost use Rattle.byte_unit_base.specs.Adjusted.{adjusted_text};
+ghost use Rattle.byte_unit_format.specs.Adjusted.{adjusted_text};
 ghost use Rattle.byte_unit_base.specs.AdjustedSize.{IsAdjustedReading};
 ghost use Rattle.byte_unit_base.specs.Choice.{IsAppropriate};
 ghost use Rattle.byte_unit_base.specs.declared.kind.Kind.TheVariants.{Bit as InBits};
@@ -15,7 +15,7 @@ ghost use Rattle.byte_unit_base.specs.declared.unit.unit_type.UnitType.TheVarian
 
 use super::AdjustedBit;
 use crate::bit::Bit;
-use byte_unit_base::{Kind, ParseError, Unit, UnitType, format};
+use byte_unit_base::{Kind, ParseError, Unit, UnitType};
 use std::cmp::Ordering;
 use std::fmt;
 use std::str::FromStr;
@@ -29,7 +29,7 @@ impl fmt::Display for AdjustedBit {
 
     fn fmt<W: fmt::Write>(&self, f: &mut fmt::Formatter<W>) -> fmt::Result {
         let size = self.get_bit().as_u128();
-        format::write_adjusted(size, Kind::Bit, self.get_unit(), f)
+        byte_unit_format::write_adjusted(size, Kind::Bit, self.get_unit(), f)
     }
 }
 

@@ -7,13 +7,14 @@ ghost use Rattle.serde_json.specs.View.{view};
 ghost use Rattle.byte_unit_base.specs.Edition.{current};
 ghost use Rattle.byte_unit_base.specs.Units.{shape_of};
 ghost use Rattle.byte_unit_base.specs.AdjustedSize.{IsAdjustedReading};
-ghost use Rattle.byte_unit_base.specs.AdjustedString.{IsAdjustedString};
+ghost use Rattle.byte_unit_format.specs.AdjustedString.{IsAdjustedString};
 ghost use Rattle.byte_unit_base.specs.JsonReading.{ReadsString, size_errors};
 ghost use Rattle.byte_unit_base.specs.declared.kind.Kind.TheVariants.{Bit as InBits};
 
 use super::AdjustedBit;
 use crate::bit::Bit;
-use byte_unit_base::{FormatSpec, JsonSizeError};
+use byte_unit_base::JsonSizeError;
+use byte_unit_format::FormatSpec;
 use serde_json::Value;
 use std::alloc::{AllocError, Global};
 

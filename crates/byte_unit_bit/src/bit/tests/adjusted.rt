@@ -1,7 +1,8 @@
 //! Sizes with the unit that they are shown in.
 use super::{greater, made, parsed, shown};
 use crate::{AdjustedBit, Bit};
-use byte_unit_base::{FormatSpec, JsonSizeError, Unit, UnitType};
+use byte_unit_base::{JsonSizeError, Unit, UnitType};
+use byte_unit_format::FormatSpec;
 use serde_json::Value;
 use std::cmp::Ordering;
 use std::test::Fail;

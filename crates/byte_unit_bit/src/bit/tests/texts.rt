@@ -1,6 +1,7 @@
 //! Texts of sizes, the units that state a size exactly, and JSON strings.
 use crate::Bit;
-use byte_unit_base::{Align, FormatSpec, JsonSizeError, Sign, Unit};
+use byte_unit_base::{JsonSizeError, Unit};
+use byte_unit_format::{Align, FormatSpec, Sign};
 use byte_unit_math::{Decimal, Steps};
 use serde_json::Value;
 use std::test::Fail;

@@ -1,5 +1,0 @@
-use Rattle.byte_unit_base.proofs.AdjustedStrings.{adjusted_string_back}
-use Rattle.byte_unit_base.proofs.laws.texts.adjusted_string_reads_back.Goals as goal
-
-pub returns : goal.returns
-returns c = adjusted_string_back

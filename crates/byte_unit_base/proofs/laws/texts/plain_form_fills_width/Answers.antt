@@ -1,5 +1,0 @@
-use Rattle.byte_unit_base.proofs.Widths.{plain_long}
-use Rattle.byte_unit_base.proofs.laws.texts.plain_form_fills_width.Goals as goal
-
-pub returns : goal.returns
-returns c = plain_long

@@ -1,5 +1,0 @@
-use Rattle.byte_unit_base.proofs.ShownForms.{shown_size}
-use Rattle.byte_unit_base.proofs.laws.texts.shown_size_is_plain_form.Goals as goal
-
-pub returns : goal.returns
-returns c = shown_size

@@ -1,5 +1,0 @@
-use Rattle.byte_unit_base.proofs.ReadBack.{size_form_back}
-use Rattle.byte_unit_base.proofs.laws.texts.size_form_reads_back.Goals as goal
-
-pub returns : goal.returns
-returns c = size_form_back

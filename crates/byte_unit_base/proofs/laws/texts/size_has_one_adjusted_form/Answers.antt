@@ -1,5 +1,0 @@
-use Rattle.byte_unit_base.proofs.AdjustedForms.{has_one_adjusted_form}
-use Rattle.byte_unit_base.proofs.laws.texts.size_has_one_adjusted_form.Goals as goal
-
-pub returns : goal.returns
-returns c = has_one_adjusted_form

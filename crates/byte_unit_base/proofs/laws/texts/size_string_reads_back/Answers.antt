@@ -1,7 +1,0 @@
-use Rattle.std.proofs.Common.{false}
-use Rattle.byte_unit_base.specs.declared.format.spec.TheConstants.FormatSpec.{ALTERNATE}
-use Rattle.byte_unit_base.proofs.ReadBack.{size_form_back}
-use Rattle.byte_unit_base.proofs.laws.texts.size_string_reads_back.Goals as goal
-
-pub returns : goal.returns
-returns c = λ kind size. size_form_back kind size ALTERNATE false

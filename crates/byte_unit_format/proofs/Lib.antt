@@ -1,0 +1,13 @@
+pub mod UnitNames
+pub mod WrittenDigits
+pub mod TrimmedTexts
+pub mod OneForm
+pub mod WrittenForms
+pub mod SomeForm
+pub mod ReadBack
+pub mod AdjustedForms
+pub mod ShownForms
+pub mod AdjustedStrings
+pub mod Appending
+pub mod ShortExpansions
+pub mod Widths

@@ -1,0 +1,22 @@
+-- No size takes more places in a unit than the greatest unit has twos, and none of bytes as many.
+use Rattle.std.proofs.Common.{◌≡◌, ◌*◌, ◌/◌, ◌^◌, ℕ, arith, ap, refl}
+use Rattle.byte_unit_math.specs.Exact.{IsExactAt}
+use Rattle.byte_unit_base.specs.Shape.{bits}
+use Rattle.byte_unit_base.specs.Units.{shape_of}
+use Rattle.byte_unit_base.specs.Kinds.{bits_in}
+use Rattle.byte_unit_format.specs.FormLaws.{ExpansionsEnd}
+use Rattle.byte_unit_base.specs.declared.kind.Kind.TheVariants.{Byte, Bit as OfBits}
+use Rattle.byte_unit_base.specs.declared.unit.Unit.{Unit as UnitName}
+use Rattle.byte_unit_base.specs.declared.unit.Unit.TheVariants.{Bit}
+use Rattle.byte_unit_format.proofs.ShownForms.{exact_in}
+
+by_factor : (size den k : ℕ) → 8 * 10 ^ 80 ≡ k * den → IsExactAt (size * 8) den 80
+by_factor size den k e = (size * k, omega (arith, ap (λ x. size * x) e))
+
+bytes_in : (size : ℕ) (unit : UnitName) → IsExactAt (size * 8) (bits (shape_of unit)) 80
+bytes_in size Bit = by_factor size (bits (shape_of Bit)) (8 * 10 ^ 80 / bits (shape_of Bit)) refl
+bytes_in size unit = by_factor size (bits (shape_of unit)) (8 * 10 ^ 80 / bits (shape_of unit)) refl
+
+pub ends_within : ExpansionsEnd
+ends_within Byte size unit = bytes_in size unit
+ends_within OfBits size unit = exact_in (size * bits_in OfBits) unit

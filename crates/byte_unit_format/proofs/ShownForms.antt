@@ -1,0 +1,46 @@
+-- What `Display` writes of a size, and of a size in a unit, is its plain form.
+use Rattle.std.proofs.Common.{◌≡◌, ◌*◌, ◌<◌, ◌++◌, ℕ, List, true, leb, append-nil, arith, ap, sym, refl}
+use Rattle.std.specs.Prelude.{codes}
+use Rattle.std.specs.Fmt.{decimal}
+use Rattle.std.proofs.lemmas.Bool.{leb-true}
+use Rattle.byte_unit_math.specs.Bounds.{expansion_places, unit_limit}
+use Rattle.byte_unit_math.specs.Exact.{IsExactAt}
+use Rattle.byte_unit_math.specs.Numeral.{expansion_of, text_of}
+use Rattle.byte_unit_math.proofs.Expanding.{powers_end}
+use Rattle.byte_unit_math.proofs.Texts.{expansion_there}
+use Rattle.byte_unit_base.specs.Shape.{bits, twos, fives}
+use Rattle.byte_unit_base.specs.Edition.{name}
+use Rattle.byte_unit_base.specs.Units.{shape_of}
+use Rattle.byte_unit_base.specs.Kinds.{bits_in}
+use Rattle.byte_unit_format.specs.Layout.{layout}
+use Rattle.byte_unit_format.specs.FormLaws.{ShownSizeIsPlainForm, ShownAdjustedSizeIsPlainForm}
+use Rattle.byte_unit_format.specs.declared.spec.TheConstants.FormatSpec.{PLAIN}
+use Rattle.byte_unit_base.specs.declared.unit.Unit.{Unit as UnitName}
+use Rattle.byte_unit_base.specs.declared.unit.Unit.TheVariants.{Bit}
+use Rattle.byte_unit_base.proofs.Choosing.{some_bits}
+
+small : (unit : UnitName) → leb (bits (shape_of unit)) unit_limit ≡ true
+small Bit = refl
+small _ = refl
+
+pub exact_in : (num : ℕ) (unit : UnitName) → IsExactAt num (bits (shape_of unit)) expansion_places
+exact_in num unit = powers_end num (twos (shape_of unit)) (fives (shape_of unit)) (leb-true _ _ (small unit))
+
+-- a number and a name with one space between them
+plain_layout : (number unit : List ℕ) → number ++ codes " " ++ unit ≡ layout number unit PLAIN
+plain_layout number unit = ap (λ l. l ++ codes " " ++ unit) (sym (append-nil number))
+
+-- digits with nothing around them
+pub shown_size : ShownSizeIsPlainForm
+shown_size edition kind size = sym (append-nil (decimal size))
+
+pub shown_form : ShownAdjustedSizeIsPlainForm
+shown_form edition kind size unit =
+    let num : ℕ = size * bits_in kind in
+    let den : ℕ = bits (shape_of unit) in
+    let some : 0 < den = omega (arith, some_bits (shape_of unit)) in
+    record {
+      number = text_of (expansion_of num den);
+      number_is = (expansion_of num den, expansion_there num den some (exact_in num unit), refl);
+      text_is = plain_layout (text_of (expansion_of num den)) (name edition (shape_of unit));
+    }

@@ -1,0 +1,46 @@
+-- Each size has one form: a unit that states it and the number are found, or none states it.
+use Rattle.std.proofs.Common.{◌≡◌, ℕ, ◌*◌, ⊎_elim, inl, inr, false, arith, refl}
+use Rattle.byte_unit_math.specs.Bounds.{one, places_of_decimal}
+use Rattle.byte_unit_math.specs.Numeral.{short}
+use Rattle.byte_unit_base.specs.Shape.{Shape, bits}
+use Rattle.byte_unit_base.specs.Edition.{current, name}
+use Rattle.byte_unit_base.specs.Kinds.{bits_in, own_family, own_unit}
+use Rattle.byte_unit_base.specs.Choice.{IsRecovered}
+use Rattle.byte_unit_base.specs.declared.kind.Kind.{Kind}
+use Rattle.byte_unit_base.specs.declared.kind.Kind.TheVariants.{Byte, Bit}
+use Rattle.byte_unit_base.proofs.LaterChoices.{number_times_chosen}
+use Rattle.byte_unit_base.proofs.SomeChoice.{choice_or_none}
+use Rattle.byte_unit_format.specs.Layout.{layout}
+use Rattle.byte_unit_format.specs.Forms.{places_of, IsSizeForm}
+use Rattle.byte_unit_format.specs.FormLaws.{SizeHasOneForm}
+use Rattle.byte_unit_format.proofs.OneForm.{one_form}
+
+record Recovered (kind : Kind) (size precision : ℕ) : Type 0 where
+  unit : Shape
+  number : ℕ
+  is_recovered : IsRecovered current kind false size precision unit
+  number_is : number * bits unit ≡ size * bits_in kind * one
+
+own_number : (kind : Kind) (size : ℕ) → size * one * bits (own_unit kind) ≡ size * bits_in kind * one
+own_number Byte size = omega arith
+own_number Bit size = omega arith
+
+recovered : (kind : Kind) (size precision : ℕ) → Recovered kind size precision
+recovered kind size precision =
+    ⊎_elim
+    (λ found. record {
+      unit = found.0;
+      number = found.1;
+      is_recovered = inl found.2.unit_is;
+      number_is = number_times_chosen current (own_family kind) (size * bits_in kind) precision found.1 found.0 found.2;
+    })
+    (λ none. record { unit = own_unit kind; number = size * one; is_recovered = inr (none, refl); number_is = own_number kind size })
+    (choice_or_none current (own_family kind) (size * bits_in kind) precision)
+
+pub has_one_form : SizeHasOneForm
+has_one_form kind size spec =
+    let r = recovered kind size (places_of spec.precision) in
+    let form = layout (short r.number places_of_decimal) (name current r.unit) spec in
+    let is_form : IsSizeForm current kind size spec form =
+    record { unit = r.unit; number = r.number; is_recovered = r.is_recovered; number_is = r.number_is; text_is = refl } in
+    record { form = form; is_form = is_form; one = λ other h. one_form kind size spec other form h is_form }

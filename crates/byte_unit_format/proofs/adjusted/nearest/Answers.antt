@@ -1,0 +1,17 @@
+use Rattle.std.proofs.Common.{arith, ◌*◌}
+use Rattle.byte_unit_math.proofs.Texts.{nearest_of}
+use Rattle.byte_unit_base.specs.Shape.{bits}
+use Rattle.byte_unit_base.specs.Units.{shape_of}
+use Rattle.byte_unit_base.proofs.Choosing.{some_bits}
+use Rattle.byte_unit_base.specs.Kinds.{bits_in}
+use Rattle.byte_unit_format.proofs.adjusted.nearest.Goals as goal
+
+pub returns : goal.returns
+returns c =
+    let r = c.rounded.ensures in
+    let den = bits (shape_of c.args.unit) in (
+      r.0,
+      nearest_of (c.args.size * bits_in c.args.kind) den c.number_in_unit.result c.args.places c.args.ties r.0
+          (omega (arith, some_bits (shape_of c.args.unit))) c.number_in_unit.ensures.number.exact r.1,
+      r.2,
+    )

@@ -1,0 +1,5 @@
+use Rattle.byte_unit_format.proofs.AdjustedForms.{has_one_adjusted_form}
+use Rattle.byte_unit_format.proofs.laws.size_has_one_adjusted_form.Goals as goal
+
+pub returns : goal.returns
+returns c = has_one_adjusted_form

@@ -1,0 +1,5 @@
+use Rattle.byte_unit_format.proofs.SomeForm.{has_one_form}
+use Rattle.byte_unit_format.proofs.laws.size_has_one_form.Goals as goal
+
+pub returns : goal.returns
+returns c = has_one_form

@@ -1,0 +1,39 @@
+-- A number with its unit.
+use Rattle.std.specs.Prelude.{ℕ, ◌+◌, ◌-◌, List, ◌++◌, length, Option, None, Some}
+use Rattle.byte_unit_math.specs.Finite.{Finite}
+use Rattle.byte_unit_math.specs.Numeral.{text_of, padded}
+use Rattle.byte_unit_base.specs.Shape.{Shape}
+use Rattle.byte_unit_base.specs.Edition.{Edition, name}
+use Rattle.byte_unit_format.specs.Plain.{missing, spaces}
+use Rattle.byte_unit_format.specs.declared.spec.Sign.{Sign}
+use Rattle.byte_unit_format.specs.declared.spec.Sign.TheVariants.{Unset, Plus, Minus}
+use Rattle.byte_unit_format.specs.declared.spec.Align.{Align}
+use Rattle.byte_unit_format.specs.declared.spec.Align.TheVariants.{Left, Center, Right}
+use Rattle.byte_unit_format.specs.declared.spec.FormatSpec.{FormatSpec}
+
+-- the spaces between number and unit; with a plus sign they and the unit take four columns
+abbrev pub gap_of : Sign → List ℕ → ℕ
+gap_of Unset name = 1
+gap_of Plus name = 4 - length name
+gap_of Minus name = 0
+
+-- how many of the padding spaces stand before the number
+abbrev pub before_layout : Option Align → ℕ → ℕ
+before_layout None pad = 0
+before_layout (Some Left) pad = 0
+before_layout (Some Center) pad = 0
+before_layout (Some Right) pad = pad
+
+abbrev pub layout_padding : List ℕ → List ℕ → FormatSpec → ℕ
+layout_padding number name spec = missing spec.width (length number + gap_of spec.sign name + length name)
+
+-- the number, padded with spaces to the width but for the unit's columns, and then the unit
+abbrev pub layout : List ℕ → List ℕ → FormatSpec → List ℕ
+layout number name spec =
+    let pad = layout_padding number name spec in
+    let before = before_layout spec.align pad in
+    spaces before ++ number ++ spaces (pad - before) ++ spaces (gap_of spec.sign name) ++ name
+
+-- a decimal with exactly so many places, and its unit
+abbrev pub layout_of : Edition → Finite → ℕ → Shape → FormatSpec → List ℕ
+layout_of edition e places unit spec = layout (text_of (padded places e)) (name edition unit) spec

@@ -1,0 +1,85 @@
+//! The text of a size: its plain form, or its form with a unit.
+
+ghost use Rattle.std.specs.Prelude.{◌≡◌, ℕ, ◌<◌, List, length};
+ghost use Rattle.byte_unit_math.specs.Numeral.{text_of};
+ghost use Rattle.byte_unit_base.specs.Edition.{current, name};
+ghost use Rattle.byte_unit_base.specs.Units.{shape_of};
+ghost use Rattle.byte_unit_format.specs.Room.{Appends};
+ghost use Rattle.byte_unit_format.specs.Layout.{layout};
+ghost use Rattle.byte_unit_format.specs.Forms.{IsSizeForm, IsText, places_of, text_limit};
+
+use crate::layout::{append_layout, layout_len};
+use crate::plain::{append_plain, plain_len};
+use crate::spec::FormatSpec;
+use byte_unit_base::{Kind, Unit, recoverable_unit};
+use byte_unit_math::{Expansion, Steps};
+use std::alloc::{AllocError, Allocator};
+
+/// The places that a size may take where no precision is set.
+const DEFAULT_PRECISION: usize = 3;
+
+/// How long the text of a size is, which is below 10^27. It takes no memory.
+///
+/// ```text
+/// text_len(1536, Kind::Byte, FormatSpec::ALTERNATE)  // 7: "1.5 KiB"
+/// ```
+pub fn text_len(size: u128, kind: Kind, spec: FormatSpec) -> usize
+    requires { size < current.size_limit }
+    ensures exact { (form : List ℕ) → IsText current kind size spec form → result ≡ length form }
+    ensures small { result < text_limit }
+{
+    if spec.alternate {
+        let (number, unit) = stated(size, kind, spec);
+        layout_len(&number, number.places(), unit, spec)
+    } else {
+        plain_len(size, spec)
+    }
+}
+
+/// Adds the text of a size: in the alternate form the size with the largest unit of its kind, not above it, that states
+/// it exactly within the precision (three places where none is set, 28 at most), else its digits. Where no unit does,
+/// the size stands in `B` or `Bit`. It is below 10^27.
+///
+/// It asks for memory once at most, before it writes. `AllocError` comes only where the room that the text has left
+/// is less than `text_len`, and leaves the text and its room as they were.
+///
+/// ```text
+/// append_text(1536, Kind::Byte, FormatSpec::PLAIN, &mut text)?;      // "1536"
+/// append_text(1536, Kind::Byte, FormatSpec::ALTERNATE, &mut text)?;  // "1.5 KiB"
+/// ```
+pub fn append_text<A: Allocator>(
+    size: u128,
+    kind: Kind,
+    spec: FormatSpec,
+    text: &mut String<A>,
+) -> Result<(), AllocError>
+    requires { size < current.size_limit }
+    ensures { Appends (IsText current kind size spec) text.old text.new result }
+{
+    if spec.alternate {
+        let (number, unit) = stated(size, kind, spec);
+        append_layout(&number, number.places(), unit, spec, text)
+    } else {
+        append_plain(size, spec, text)
+    }
+}
+
+/// The number and the unit of the alternate form: the number has all its places there.
+fn stated(size: u128, kind: Kind, spec: FormatSpec) -> (Expansion, Unit)
+    requires { size < current.size_limit }
+    ensures { IsSizeForm current kind size spec (layout (text_of result.0) (name current (shape_of result.1)) spec) }
+{
+    let places = places(spec.precision);
+    let (number, unit) = recoverable_unit(size, kind, false, places, &mut Steps::new());
+    (Expansion::from_decimal(number), unit)
+}
+
+/// The places that a size may take.
+fn places(precision: Option<u16>) -> usize
+    ensures { result ≡ places_of precision }
+{
+    match precision {
+        Some(precision) => usize::from(precision),
+        None => DEFAULT_PRECISION,
+    }
+}

@@ -1,0 +1,70 @@
+//! Laws of the texts of sizes. Each function does nothing; its contract is the law.
+
+ghost use Rattle.byte_unit_format.specs.FormLaws.{SizeFormReadsBack, PlainFormReadsBack, SizeStringReadsBack};
+ghost use Rattle.byte_unit_format.specs.FormLaws.{SizeHasOneForm, SizeHasOneAdjustedForm, AdjustedStringReadsBack};
+ghost use Rattle.byte_unit_format.specs.FormLaws.{ShownSizeIsPlainForm, ShownAdjustedSizeIsPlainForm};
+ghost use Rattle.byte_unit_format.specs.FormLaws.{PlainFormFillsWidth, LayoutFillsWidth};
+ghost use Rattle.byte_unit_format.specs.FormLaws.{PlacesOfSize, ZeroTakesNoPlaces, ExpansionsEnd};
+
+/// What the form of a size with a unit says is read as that size. Sizes are below 10^27, here and below.
+pub fn size_form_reads_back()
+    ensures { SizeFormReadsBack }
+{}
+
+/// What the plain form of a size says is read as that size, where no plus sign is asked for.
+pub fn plain_form_reads_back()
+    ensures { PlainFormReadsBack }
+{}
+
+/// The string that a size is stored as, its alternate form, is read as that size.
+pub fn size_string_reads_back()
+    ensures { SizeStringReadsBack }
+{}
+
+/// A size has one form with a unit under each spec.
+pub fn size_has_one_form()
+    ensures { SizeHasOneForm }
+{}
+
+/// A size has one form in each unit under each spec.
+pub fn size_has_one_adjusted_form()
+    ensures { SizeHasOneAdjustedForm }
+{}
+
+/// What `Display` writes of a size is its text under the plain spec.
+pub fn shown_size_is_plain_form()
+    ensures { ShownSizeIsPlainForm }
+{}
+
+/// What `Display` writes of a size in a unit is its form under the plain spec.
+pub fn shown_adjusted_size_is_plain_form()
+    ensures { ShownAdjustedSizeIsPlainForm }
+{}
+
+/// A plain form is as long as the width, or as its digits with their sign where these are longer.
+pub fn plain_form_fills_width()
+    ensures { PlainFormFillsWidth }
+{}
+
+/// A layout is as long as the width, or as number, spaces and name together where these are longer.
+pub fn layout_fills_width()
+    ensures { LayoutFillsWidth }
+{}
+
+/// What the string of an adjusted size says is read as that size where it has at most 28 digits after the point. Every
+/// other such string is refused for its 29th digit.
+pub fn adjusted_string_reads_back()
+    ensures { AdjustedStringReadsBack }
+{}
+
+/// The places that a size takes in a unit are what its bits lack of the unit's factors of two or of five, whichever is
+/// more. Zero takes none.
+pub fn places_of_size()
+    ensures places { PlacesOfSize }
+    ensures zero { ZeroTakesNoPlaces }
+{}
+
+/// A size in a unit ends within 83 places, and a size in bytes within 80.
+pub fn expansions_end()
+    ensures { ExpansionsEnd }
+{}

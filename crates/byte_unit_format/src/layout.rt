@@ -1,0 +1,140 @@
+//! A number with its unit.
+
+ghost use Rattle.std.specs.Prelude.{◌≡◌, ◌+◌, ◌<◌, ◌≤◌, ◌++◌, length, take, max, IsAscii};
+ghost use Rattle.std.specs.Fmt.{decimal};
+ghost use Rattle.std.specs.String.{string_bytes};
+ghost use Rattle.byte_unit_base.specs.Edition.{name, current};
+ghost use Rattle.byte_unit_base.specs.Units.{shape_of};
+ghost use Rattle.byte_unit_math.specs.Finite.{Finite};
+ghost use Rattle.byte_unit_math.specs.Numeral.{fraction_text, padded, text_of};
+ghost use Rattle.byte_unit_format.specs.Room.{spare, Appends};
+ghost use Rattle.byte_unit_format.specs.Layout.{layout_of, before_layout, gap_of};
+
+use crate::plain::padding;
+use crate::room::{push, push_ascii, push_run, reserve};
+use crate::spec::{Align, FormatSpec, Sign};
+use byte_unit_base::Unit;
+use byte_unit_math::{DecimalDigits, Expansion, glyphs_of};
+use std::alloc::{AllocError, Allocator};
+
+/// How long a decimal of so many places is with its unit. It takes no memory.
+///
+/// ```text
+/// layout_len(&Expansion::new(10, 0, 0), 0, Unit::KB, FormatSpec::ALTERNATE)  // 5: "10 KB"
+/// ```
+pub fn layout_len(e: &Expansion, places: u32, unit: Unit, spec: FormatSpec) -> usize
+    ensures exact { result ≡ length (layout_of current e.now places (shape_of unit) spec) }
+    // A whole part, the point, and the unit with its spaces take no more than 44 columns.
+    ensures small { result ≤ max u16.MAX (places + 44) }
+{
+    let number = DecimalDigits::of(e.whole()).len() + fraction_len(places);
+    let len = number + gap(unit, spec.sign) + name_len(unit);
+    len + padding(len, spec.width)
+}
+
+/// Adds a decimal with exactly so many places, and its unit. Where a width is set the number is padded with spaces
+/// to the columns that the unit leaves: before it where it is aligned to the right, and else after it.
+/// Between number and unit stand as many spaces as the sign says; a sign is never printed.
+///
+/// It asks for memory once at most, before it writes. `AllocError` comes only where the room that the text has left
+/// is less than `layout_len`, and leaves the text and its room as they were.
+///
+/// ```text
+/// let ten = FormatSpec { width: Some(10), ..FormatSpec::ALTERNATE };
+/// append_layout(&Expansion::new(10, 0, 0), 0, Unit::KiB, ten, &mut text)?;  // "10     KiB"
+/// ```
+pub fn append_layout<A: Allocator>(
+    e: &Expansion,
+    places: u32,
+    unit: Unit,
+    spec: FormatSpec,
+    text: &mut String<A>,
+) -> Result<(), AllocError>
+    ensures { Appends (λ form. form ≡ layout_of current e.now places (shape_of unit) spec) text.old text.new result }
+{
+    let whole = DecimalDigits::of(e.whole());
+    let gap = gap(unit, spec.sign);
+    let len = whole.len() + fraction_len(places) + gap + name_len(unit);
+    let pad = padding(len, spec.width);
+    reserve(text, len + pad)?;
+    let before = before_layout(spec.align, pad);
+    push_run(text, b' ', before);
+    push_numeral(text, &whole, e, places);
+    push_run(text, b' ', pad - before);
+    push_run(text, b' ', gap);
+    text.push_str(unit.as_str()).unwrap();
+    Ok(())
+}
+
+/// How many of the spaces stand before the number.
+fn before_layout(align: Option<Align>, pad: usize) -> usize
+    ensures exact { result ≡ before_layout align pad }
+    ensures small { result ≤ pad }
+{
+    match align {
+        Some(Align::Right) => pad,
+        Some(Align::Left) | Some(Align::Center) | None => 0,
+    }
+}
+
+#[tactic(auto, using(crate::proofs::UnitNames::name_short))]
+fn name_len(unit: Unit) -> usize
+    ensures exact { result ≡ length (name current (shape_of unit)) }
+    ensures some { 1 ≤ result }
+    ensures small { result ≤ 3 }
+{
+    unit.as_str().len()
+}
+
+/// The spaces between number and unit.
+fn gap(unit: Unit, sign: Sign) -> usize
+    ensures exact { result ≡ gap_of sign (name current (shape_of unit)) }
+    ensures small { result + length (name current (shape_of unit)) ≤ 4 }
+{
+    match sign {
+        Sign::Unset => 1,
+        Sign::Plus => 4 - name_len(unit),
+        Sign::Minus => 0,
+    }
+}
+
+/// How many columns the point and so many digits take.
+#[tactic(auto, using(crate::proofs::WrittenForms::fraction_length))]
+fn fraction_len(places: u32) -> usize
+    ensures exact { (e : Finite) → result ≡ length (fraction_text (padded places e).digits) }
+    ensures small { result ≤ places + 1 }
+{
+    if places == 0 { 0 } else { 1 + places as usize }
+}
+
+/// Adds a decimal with exactly so many places.
+fn push_numeral<A: Allocator>(
+    text: &mut String<A>,
+    whole: &DecimalDigits,
+    e: &Expansion,
+    places: u32,
+)
+    requires whole { whole.now ≡ decimal e.now.whole }
+    requires ascii { IsAscii whole.now }
+    requires room { length (text_of (padded places e.now)) ≤ spare text.old }
+    ensures bytes { string_bytes text.new ≡ string_bytes text.old ++ text_of (padded places e.now) }
+    ensures spare { spare text.old ≤ spare text.new + length (text_of (padded places e.now)) }
+{
+    push_ascii(text, whole.as_slice());
+    push_fraction(text, e, places);
+}
+
+/// Adds the point and exactly so many digits, or nothing where there are to be none.
+#[tactic(auto, using(crate::proofs::WrittenForms::fraction_length))]
+fn push_fraction<A: Allocator>(text: &mut String<A>, e: &Expansion, places: u32)
+    requires room { length (fraction_text (padded places e.now).digits) ≤ spare text.old }
+    ensures bytes { string_bytes text.new ≡ string_bytes text.old ++ fraction_text (padded places e.now).digits }
+    ensures spare { spare text.old ≤ spare text.new + length (fraction_text (padded places e.now).digits) }
+{
+    if places > 0 {
+        let shown = places.min(e.places()) as usize;
+        push(text, '.');
+        push_ascii(text, &glyphs_of(e)[..shown]);
+        push_run(text, b'0', places as usize - shown);
+    }
+}

@@ -1,0 +1,21 @@
+//! Texts of sizes: how a text is laid out, the plain form of a number, a number with its unit, the text of a size and
+//! that of a size in a given unit.
+//!
+//! What sizes in bytes and in bits share stands here once, over their `Kind`.
+#![tactic(auto)]
+
+mod adjusted;
+mod forms;
+pub mod laws;
+mod layout;
+mod plain;
+mod room;
+mod spec;
+#[cfg(test)]
+mod tests;
+
+pub use adjusted::{adjusted_len, append_adjusted, number_in_unit, write_adjusted};
+pub use forms::{append_text, text_len};
+pub use layout::{append_layout, layout_len};
+pub use plain::{append_plain, plain_len};
+pub use spec::{Align, FormatSpec, Sign};

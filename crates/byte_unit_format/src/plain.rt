@@ -1,0 +1,98 @@
+//! A whole number without a unit.
+
+ghost use Rattle.std.specs.Prelude.{◌≡◌, ◌+◌, ◌<◌, ◌≤◌, ◌++◌, length, max};
+ghost use Rattle.std.specs.String.{string_bytes};
+ghost use Rattle.byte_unit_format.specs.Room.{spare, Appends};
+ghost use Rattle.byte_unit_format.specs.Plain.{plain, missing, before_plain, plus_of};
+
+use crate::room::{push, push_ascii, push_run, reserve};
+use crate::spec::{Align, FormatSpec, Sign};
+use byte_unit_math::{DecimalDigits, NUMBER_DIGITS};
+use std::alloc::{AllocError, Allocator};
+
+/// How long the plain form of a number is: its digits with their sign, padded to the width. It takes no memory.
+///
+/// ```text
+/// plain_len(10240, FormatSpec { width: Some(8), ..FormatSpec::PLAIN })  // 8
+/// ```
+pub fn plain_len(size: u128, spec: FormatSpec) -> usize
+    ensures exact { result ≡ length (plain size spec) }
+    ensures small { result ≤ u16.MAX }
+{
+    let len = signed_len(DecimalDigits::of(size).len(), spec.sign);
+    len + padding(len, spec.width)
+}
+
+/// Adds the plain form of a number: `+` before its digits for the sign `Plus`, and spaces up to the width.
+/// They stand before it where no alignment is set.
+///
+/// It asks for memory once at most, before it writes. `AllocError` comes only where the room that the text has left
+/// is less than `plain_len`, and leaves the text and its room as they were.
+///
+/// ```text
+/// append_plain(10240, FormatSpec { width: Some(8), ..FormatSpec::PLAIN }, &mut text)?;  // "   10240"
+/// ```
+pub fn append_plain<A: Allocator>(
+    size: u128,
+    spec: FormatSpec,
+    text: &mut String<A>,
+) -> Result<(), AllocError>
+    ensures { Appends (λ form. form ≡ plain size spec) text.old text.new result }
+{
+    let digits = DecimalDigits::of(size);
+    let len = signed_len(digits.len(), spec.sign);
+    let pad = padding(len, spec.width);
+    reserve(text, len + pad)?;
+    let before = before_plain(spec.align, pad);
+    push_run(text, b' ', before);
+    push_sign(text, spec.sign);
+    push_ascii(text, digits.as_slice());
+    push_run(text, b' ', pad - before);
+    Ok(())
+}
+
+/// How many columns so many digits take with their sign.
+fn signed_len(digits: usize, sign: Sign) -> usize
+    requires { digits ≤ NUMBER_DIGITS }
+    ensures exact { result ≡ length (plus_of sign) + digits }
+    ensures small { result ≤ NUMBER_DIGITS + 1 }
+{
+    match sign {
+        Sign::Plus => 1 + digits,
+        Sign::Unset | Sign::Minus => digits,
+    }
+}
+
+/// How many spaces make so many columns as wide as is asked for.
+pub(crate) fn padding(columns: usize, width: Option<u16>) -> usize
+    ensures exact { result ≡ missing width columns }
+    ensures small { result + columns ≤ max u16.MAX columns }
+{
+    match width {
+        None => 0,
+        Some(width) => usize::from(width).saturating_sub(columns),
+    }
+}
+
+/// How many of the spaces stand before the number.
+fn before_plain(align: Option<Align>, pad: usize) -> usize
+    ensures exact { result ≡ before_plain align pad }
+    ensures small { result ≤ pad }
+{
+    match align {
+        Some(Align::Left) => 0,
+        Some(Align::Center) => pad / 2,
+        Some(Align::Right) | None => pad,
+    }
+}
+
+fn push_sign<A: Allocator>(text: &mut String<A>, sign: Sign)
+    requires room { length (plus_of sign) ≤ spare text.old }
+    ensures bytes { string_bytes text.new ≡ string_bytes text.old ++ plus_of sign }
+    ensures spare { spare text.old ≤ spare text.new + length (plus_of sign) }
+{
+    match sign {
+        Sign::Plus => push(text, '+'),
+        Sign::Unset | Sign::Minus => {}
+    }
+}

@@ -1,0 +1,68 @@
+//! Writing into room that a text has already.
+
+ghost use Rattle.std.specs.Prelude.{◌≡◌, ◌+◌, ◌≤◌, ◌<◌, [], ◌∷◌, ◌++◌, length, replicate, OnOk, OnErr, IsAscii};
+ghost use Rattle.std.specs.String.{string_bytes};
+ghost use Rattle.byte_unit_format.specs.Room.{spare};
+
+use std::alloc::{AllocError, Allocator};
+use std::str;
+
+/// How many of one character are added at once.
+const RUN: usize = 64;
+
+/// Sees that there is room for so many bytes more. It is the one request for memory of an appending call, and asks for
+/// none where the room is there. `AllocError` leaves the text and its room as they were.
+pub(crate) fn reserve<A: Allocator>(text: &mut String<A>, len: usize) -> Result<(), AllocError>
+    ensures bytes { string_bytes text.new ≡ string_bytes text.old }
+    ensures ok { OnOk result (len ≤ spare text.new) }
+    ensures no_less { OnOk result (spare text.old ≤ spare text.new) }
+    ensures kept { OnErr result (spare text.new ≡ spare text.old) }
+    ensures full { OnErr result (spare text.old < len) }
+{
+    text.try_reserve_exact(len)
+}
+
+/// Adds bytes of ASCII.
+pub(crate) fn push_ascii<A: Allocator>(text: &mut String<A>, ascii: &[u8])
+    requires ascii { IsAscii ascii.now }
+    requires room { length ascii.now ≤ spare text.old }
+    ensures bytes { string_bytes text.new ≡ string_bytes text.old ++ ascii.now }
+    ensures spare { spare text.old ≤ spare text.new + length ascii.now }
+{
+    text.push_str(str::from_utf8(ascii).unwrap()).unwrap();
+}
+
+/// Adds one character of ASCII.
+pub(crate) fn push<A: Allocator>(text: &mut String<A>, c: char)
+    requires ascii { c < 128 }
+    requires room { 1 ≤ spare text.old }
+    ensures bytes { string_bytes text.new ≡ string_bytes text.old ++ c ∷ [] }
+    ensures spare { spare text.old ≤ spare text.new + 1 }
+{
+    text.push(c).unwrap();
+}
+
+/// Adds so many of one character of ASCII.
+pub(crate) fn push_run<A: Allocator>(text: &mut String<A>, byte: u8, count: usize)
+    requires ascii { byte < 128 }
+    requires room { count ≤ spare text.old }
+    ensures bytes { string_bytes text.new ≡ string_bytes text.old ++ replicate count byte }
+    ensures spare { spare text.old ≤ spare text.new + count }
+{
+    if count == 0 {
+        return;
+    }
+    let run = run_of(byte);
+    let mut left = count;
+    while left > 0 {
+        let next = left.min(RUN);
+        push_ascii(text, &run[..next]);
+        left -= next;
+    }
+}
+
+fn run_of(byte: u8) -> [u8; RUN]
+    ensures { result ≡ replicate RUN byte }
+{
+    [byte; RUN]
+}
