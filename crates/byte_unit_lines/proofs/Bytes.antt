@@ -1,18 +1,29 @@
 -- What is written and read in several calls.
-use Rattle.std.proofs.Common.{Option, ◌≡◌, ℕ, ◌-◌, List, ◌++◌, length, take, drop, sym, ap, ◌∙◌, append_assoc, take-append-drop}
+use Rattle.std.proofs.Common.{Option, ◌≡◌, ℕ, ◌-◌, List, [], ◌++◌, length, take, drop, sym, ap, subst, ◌∙◌, append_assoc, append-nil}
+use Rattle.std.proofs.Common.{take-append-drop}
 use Rattle.std.proofs.lemmas.List.{take_rest}
-use Rattle.std.specs.Io.KnownBytes.{Appends}
-use Rattle.std.proofs.KnownBytes.{Appends-trans}
+use Rattle.std.specs.Io.KnownBytes.{Appends, Consumes}
+use Rattle.std.proofs.KnownBytes.{Appends-trans, Consumes-trans}
 
--- one more write of the front of what is left
-pub written_more : (a b c : Option (List ℕ)) (all done rest : List ℕ) (n : ℕ)
-    → Appends a b done → Appends b c (take n rest) → all ≡ done ++ rest
-    → (written : List ℕ) × Appends a c written × (all ≡ written ++ take (length rest - n) (drop n rest))
-written_more a b c all done rest n p q e = (
-  done ++ take n rest,
-  Appends-trans a b c done (take n rest) p q,
-  e
-      ∙ ap (λ l. done ++ l) (sym (take-append-drop n rest))
-      ∙ sym (append_assoc done (take n rest) (drop n rest))
-      ∙ ap (λ l. done ++ take n rest ++ l) (sym (take_rest rest n)),
+-- what was written, and what is left, make all the bytes
+abbrev pub IsWrittenTo : Option (List ℕ) → Option (List ℕ) → List ℕ → List ℕ → Type 0
+IsWrittenTo held holds bytes rest = (written : List ℕ) × Appends held holds written × (bytes ≡ written ++ rest)
+
+-- one more write, of the front of what is left
+pub written_on : (held holds now_holds : Option (List ℕ)) (bytes rest : List ℕ) (count : ℕ) → IsWrittenTo held holds bytes rest
+    → Appends holds now_holds (take count rest) → IsWrittenTo held now_holds bytes (take (length rest - count) (drop count rest))
+written_on held holds now_holds bytes rest count (written, took, all) takes = (
+  written ++ take count rest,
+  Appends-trans held holds now_holds written (take count rest) took takes,
+  all
+      ∙ ap (λ left. written ++ left) (sym (take-append-drop count rest))
+      ∙ sym (append_assoc written (take count rest) (drop count rest))
+      ∙ ap (λ left. written ++ take count rest ++ left) (sym (take_rest rest count)),
 )
+
+-- a read of nothing
+pub read_on_nothing : (left between rest : Option (List ℕ)) (read piece : List ℕ) → Consumes left between read
+    → Consumes between rest piece → piece ≡ [] → Consumes left rest read
+read_on_nothing left between rest read piece gave came none =
+    subst (Consumes left rest) (ap (λ bytes. read ++ bytes) none ∙ append-nil read)
+    (Consumes-trans left between rest read piece gave came)

@@ -1,94 +1,128 @@
 -- Answers to the lines of a piece, line by line.
 use Rattle.std.proofs.Common.{◌≡◌, ◌≢◌, ◌+◌, ◌-◌, ◌<◌, ◌||◌, cond, eqb, ℕ, List, [], ◌∷◌, ◌++◌, take, drop, get_or, length}
 use Rattle.std.proofs.Common.{arith, true, false, true≢false, refl, sym, ap, subst, ◌∙◌, append_assoc, append-nil}
-use Rattle.std.proofs.lemmas.List.{take_more, take_rest}
+use Rattle.std.proofs.lemmas.List.{take_more}
 use Rattle.std.proofs.Math.Seq.{take-add}
 use Rattle.std.specs.List.{list_any}
 use Rattle.byte_unit_lines.specs.Answer.{Kind}
 use Rattle.byte_unit_lines.specs.Progress.{ended_by, begun_by, IsUnbroken, AddsAnswer, AddsAnswers}
 use Rattle.byte_unit_lines.proofs.Answering.{answers_after, answers_one}
-use Rattle.byte_unit_lines.proofs.Lines.{ended_more, begun_more, ended_same, begun_same, ended_front, begun_front}
+use Rattle.byte_unit_lines.proofs.Lines.{ended_to_end, begun_to_end, ended_to_other, begun_to_other, ended_front, begun_front}
 use Rattle.byte_unit_lines.proofs.Lines.{ended_by-append, begun_by-append}
 
 -- a piece in which no line ends, byte by byte
-pub unbroken_more : (bytes : List ℕ) (i : ℕ) → i < length bytes → IsUnbroken (take i bytes) → get_or bytes i 0 ≢ 10
-    → IsUnbroken (take (i + 1) bytes)
-unbroken_more bytes i fits h e line = (
-  ended_same line bytes i fits e ∙ (h line).0,
-  begun_same line bytes i fits e
-      ∙ ap (λ l. l ++ get_or bytes i 0 ∷ []) (h line).1
-      ∙ append_assoc line (take i bytes) (get_or bytes i 0 ∷ [])
-      ∙ ap (λ l. line ++ l) (sym (take_more bytes i 0 fits)),
+pub unbroken_to_other : (bytes : List ℕ) (place : ℕ) → place < length bytes → IsUnbroken (take place bytes)
+    → get_or bytes place 0 ≢ 10 → IsUnbroken (take (place + 1) bytes)
+unbroken_to_other bytes place fits unbroken is_other line = (
+  ended_to_other line bytes place fits is_other ∙ (unbroken line).0,
+  begun_to_other line bytes place fits is_other
+      ∙ ap (λ begun. begun ++ get_or bytes place 0 ∷ []) (unbroken line).1
+      ∙ append_assoc line (take place bytes) (get_or bytes place 0 ∷ [])
+      ∙ ap (λ begun. line ++ begun) (sym (take_more bytes place 0 fits)),
 )
 
 -- a piece in which no line ends, block by block
-unbroken_after : (xs ys : List ℕ) → IsUnbroken xs → IsUnbroken ys → IsUnbroken (xs ++ ys)
-unbroken_after xs ys p q line = (
-  ended_by-append line xs ys ∙ ap (λ ls. ls ++ ended_by (begun_by line xs) ys) (p line).0 ∙ (q (begun_by line xs)).0,
-  begun_by-append line xs ys ∙ (q (begun_by line xs)).1 ∙ ap (λ l. l ++ ys) (p line).1 ∙ append_assoc line xs ys,
+unbroken_after : (front back : List ℕ) → IsUnbroken front → IsUnbroken back → IsUnbroken (front ++ back)
+unbroken_after front back front_is back_is line = (
+  ended_by-append line front back
+      ∙ ap (λ lines. lines ++ ended_by (begun_by line front) back) (front_is line).0
+      ∙ (back_is (begun_by line front)).0,
+  begun_by-append line front back
+      ∙ (back_is (begun_by line front)).1
+      ∙ ap (λ begun. begun ++ back) (front_is line).1
+      ∙ append_assoc line front back,
 )
 
-pub unbroken_clear : (bytes : List ℕ) → list_any (λ b. eqb b 10) bytes ≡ false → IsUnbroken bytes
-unbroken_clear [] e line = (refl, sym (append-nil line))
-unbroken_clear (b ∷ bs) e line =
-    elim (eqb b 10) as (λ t. (t || list_any (λ x. eqb x 10) bs) ≡ false
-    → (cond t (line ∷ ended_by [] bs) (ended_by (line ++ b ∷ []) bs) ≡ [])
-    × (cond t (begun_by [] bs) (begun_by (line ++ b ∷ []) bs) ≡ line ++ b ∷ bs)) [
-      | true ↦ λ f. absurd (true≢false f)
-      | false ↦ λ f. ((unbroken_clear bs f (line ++ b ∷ [])).0, (unbroken_clear bs f (line ++ b ∷ [])).1 ∙ append_assoc line (b ∷ []) bs)
-    ] e
+-- a block with no line end
+pub unbroken_without_end : (bytes : List ℕ) → list_any (λ byte. eqb byte 10) bytes ≡ false → IsUnbroken bytes
+unbroken_without_end [] none line = (refl, sym (append-nil line))
+unbroken_without_end (byte ∷ bytes) none line =
+    elim (eqb byte 10) as (λ ends. (ends || list_any (λ other. eqb other 10) bytes) ≡ false
+    → (cond ends (line ∷ ended_by [] bytes) (ended_by (line ++ byte ∷ []) bytes) ≡ [])
+    × (cond ends (begun_by [] bytes) (begun_by (line ++ byte ∷ []) bytes) ≡ line ++ byte ∷ bytes)) [
+      | true ↦ λ is. absurd (true≢false is)
+      | false ↦ λ others.
+          let rest = unbroken_without_end bytes others (line ++ byte ∷ []) in
+          (rest.0, rest.1 ∙ append_assoc line (byte ∷ []) bytes)
+    ] none
 
-pub unbroken_block : (bytes : List ℕ) (i n : ℕ) → IsUnbroken (take i bytes) → IsUnbroken (take (i + n - i) (drop i bytes))
-    → IsUnbroken (take (i + n) bytes)
-unbroken_block bytes i n p q =
-    let same : i + n - i ≡ n = omega arith in
-    let block = subst (λ k. IsUnbroken (take k (drop i bytes))) same q in
-    subst IsUnbroken (sym (take-add i n bytes)) (unbroken_after (take i bytes) (take n (drop i bytes)) p block)
+pub unbroken_block : (bytes : List ℕ) (start count : ℕ) → IsUnbroken (take start bytes)
+    → IsUnbroken (take (start + count - start) (drop start bytes)) → IsUnbroken (take (start + count) bytes)
+unbroken_block bytes start count front_is block_is =
+    let same : start + count - start ≡ count = omega arith in
+    let block = subst (λ taken. IsUnbroken (take taken (drop start bytes))) same block_is in
+    subst IsUnbroken (sym (take-add start count bytes)) (unbroken_after (take start bytes) (take count (drop start bytes)) front_is block)
 
--- the first line that ends in what is left, and the rest
-module _ (line rest : List ℕ) (n : ℕ) (fits : n < length rest) (here : get_or rest n 0 ≡ 10) (whole : IsUnbroken (take n rest)) where
-  pub ended_first : ended_by line rest ≡ (line ++ take n rest) ∷ ended_by [] (drop (n + 1) rest)
+-- the first line that ends in these bytes ends at this place
+abbrev pub EndsAt : List ℕ → ℕ → Type 0
+EndsAt bytes place = (place < length bytes) × (get_or bytes place 0 ≡ 10) × IsUnbroken (take place bytes)
+
+-- that line, and the rest
+module _ (line bytes : List ℕ) (place : ℕ) (ends : EndsAt bytes place) where
+  pub ended_first : ended_by line bytes ≡ (line ++ take place bytes) ∷ ended_by [] (drop (place + 1) bytes)
   ended_first =
-      ended_front line rest (n + 1)
-      ∙ ap (λ l. ended_by line (take (n + 1) rest) ++ ended_by l (drop (n + 1) rest)) (begun_more line rest n fits here)
-      ∙ ap (λ ls. ls ++ ended_by [] (drop (n + 1) rest)) (
-      ended_more line rest n fits here
-      ∙ ap (λ ls. ls ++ begun_by line (take n rest) ∷ []) (whole line).0
-      ∙ ap (λ l. l ∷ []) (whole line).1)
+      let rest = drop (place + 1) bytes in
+      ended_front line bytes (place + 1)
+      ∙ ap (λ begun. ended_by line (take (place + 1) bytes) ++ ended_by begun rest) (begun_to_end line bytes place ends.0 ends.1)
+      ∙ ap (λ lines. lines ++ ended_by [] rest) (
+      ended_to_end line bytes place ends.0 ends.1
+      ∙ ap (λ lines. lines ++ begun_by line (take place bytes) ∷ []) (ends.2 line).0
+      ∙ ap (λ begun. begun ∷ []) (ends.2 line).1)
 
-  pub begun_first : begun_by line rest ≡ begun_by [] (drop (n + 1) rest)
-  begun_first = begun_front line rest (n + 1) ∙ ap (λ l. begun_by l (drop (n + 1) rest)) (begun_more line rest n fits here)
+  pub begun_first : begun_by line bytes ≡ begun_by [] (drop (place + 1) bytes)
+  begun_first =
+      begun_front line bytes (place + 1)
+      ∙ ap (λ begun. begun_by begun (drop (place + 1) bytes)) (begun_to_end line bytes place ends.0 ends.1)
+
+-- between two lines of a piece: the line that has begun, the bytes that are left, and the answers that wait
+pub record Feed : Type 0 where
+  pub line : List ℕ
+  pub rest : List ℕ
+  pub answers : List ℕ
 
 -- how far a piece has come: these lines are answered, and the line and the bytes that are left give the others
-pub record IsFed (kind : Kind) (line0 bytes out0 line rest out : List ℕ) : Type 0 where
-  pub done : List (List ℕ)
-  pub added : AddsAnswers kind done out0 out
-  pub ended : ended_by line0 bytes ≡ done ++ ended_by line rest
-  pub begun : begun_by line0 bytes ≡ begun_by line rest
+pub record IsFed (kind : Kind) (start now : Feed) : Type 0 where
+  pub answered : List (List ℕ)
+  pub added : AddsAnswers kind answered start.answers now.answers
+  pub ended : ended_by start.line start.rest ≡ answered ++ ended_by now.line now.rest
+  pub begun : begun_by start.line start.rest ≡ begun_by now.line now.rest
 
-module _ (kind : Kind) (line0 bytes out0 line rest out : List ℕ) (h : IsFed kind line0 bytes out0 line rest out) where
-  -- one line more
-  pub fed_more : (n : ℕ) → n < length rest → get_or rest n 0 ≡ 10 → IsUnbroken (take n rest)
-      → (next line' : List ℕ) → line' ≡ [] → AddsAnswer kind (line ++ take n rest) out next
-      → IsFed kind line0 bytes out0 line' (drop (n + 1) rest) next
-  fed_more n fits here whole next line' none answer =
-      let this = line ++ take n rest in record {
-        done = h.done ++ this ∷ [];
-        added = (
-          h.added.0 ++ answer.0,
-          answers_after kind h.done (this ∷ []) h.added.0 answer.0 h.added.1 (answers_one kind this answer.0 answer.1),
-          answer.2 ∙ ap (λ l. l ++ answer.0) h.added.2 ∙ append_assoc out0 h.added.0 answer.0,
-        );
-        ended = h.ended ∙ ap (λ ls. h.done ++ ls) (ended_first line rest n fits here whole)
-            ∙ sym (append_assoc h.done (this ∷ []) (ended_by [] (drop (n + 1) rest)))
-            ∙ ap (λ l. (h.done ++ this ∷ []) ++ ended_by l (drop (n + 1) rest)) (sym none);
-        begun = h.begun ∙ begun_first line rest n fits here whole ∙ ap (λ l. begun_by l (drop (n + 1) rest)) (sym none);
-      }
+-- the line that ends at this place is answered, and nothing of the next has come
+pub record IsAnsweredTo (kind : Kind) (now next : Feed) (place : ℕ) : Type 0 where
+  pub ends : EndsAt now.rest place
+  pub answer : AddsAnswer kind (now.line ++ take place now.rest) now.answers next.answers
+  pub line_is : next.line ≡ []
+  pub rest_is : next.rest ≡ drop (place + 1) now.rest
 
-  -- one line more, and the slice of the rest as the code has it
-  pub fed_next : (n : ℕ) → n < length rest → get_or rest n 0 ≡ 10 → IsUnbroken (take n rest)
-      → (next line' : List ℕ) → line' ≡ [] → AddsAnswer kind (line ++ take n rest) out next
-      → IsFed kind line0 bytes out0 line' (take (length rest - (n + 1)) (drop (n + 1) rest)) next
-  fed_next n fits here whole next line' none answer =
-      let more = fed_more n fits here whole next line' none answer in
-      subst (λ l. IsFed kind line0 bytes out0 line' l next) (sym (take_rest rest (n + 1))) more
+-- the lines that end in what is left then, and the line that has begun after it
+module _ (kind : Kind) (now next : Feed) (place : ℕ) (is_answered : IsAnsweredTo kind now next place) where
+  ended_next : ended_by now.line now.rest ≡ (now.line ++ take place now.rest) ∷ ended_by next.line next.rest
+  ended_next =
+      let this = now.line ++ take place now.rest in
+      ended_first now.line now.rest place is_answered.ends
+      ∙ ap (λ line. this ∷ ended_by line (drop (place + 1) now.rest)) (sym is_answered.line_is)
+      ∙ ap (λ rest. this ∷ ended_by next.line rest) (sym is_answered.rest_is)
+
+  begun_next : begun_by now.line now.rest ≡ begun_by next.line next.rest
+  begun_next =
+      begun_first now.line now.rest place is_answered.ends
+      ∙ ap (λ line. begun_by line (drop (place + 1) now.rest)) (sym is_answered.line_is)
+      ∙ ap (begun_by next.line) (sym is_answered.rest_is)
+
+-- one line more
+pub fed_on : (kind : Kind) (start now next : Feed) (place : ℕ) → IsFed kind start now → IsAnsweredTo kind now next place
+    → IsFed kind start next
+fed_on kind start now next place fed is_answered =
+    let this = now.line ++ take place now.rest in
+    let answer = is_answered.answer in record {
+      answered = fed.answered ++ this ∷ [];
+      added = (
+        fed.added.0 ++ answer.0,
+        answers_after kind fed.answered (this ∷ []) fed.added.0 answer.0 fed.added.1 (answers_one kind this answer.0 answer.1),
+        answer.2 ∙ ap (λ out. out ++ answer.0) fed.added.2 ∙ append_assoc start.answers fed.added.0 answer.0,
+      );
+      ended = fed.ended
+          ∙ ap (λ lines. fed.answered ++ lines) (ended_next kind now next place is_answered)
+          ∙ sym (append_assoc fed.answered (this ∷ []) (ended_by next.line next.rest));
+      begun = fed.begun ∙ begun_next kind now next place is_answered;
+    }

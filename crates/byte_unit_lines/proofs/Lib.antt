@@ -5,4 +5,3 @@ pub mod Lines
 pub mod OneAnswer
 pub mod Runs
 pub mod Sayings
-pub mod Sizes

@@ -3,58 +3,93 @@ use Rattle.std.proofs.Common.{◌≡◌, ℕ, ◌++◌, ◌∷◌, List, [], tru
 use Rattle.std.specs.Str.{IsUtf8, is_utf8}
 use Rattle.std.proofs.lemmas.Str.{IsUtf8-from_is_utf8, is_utf8-from_IsUtf8}
 use Rattle.byte_unit_lines.specs.Answer.{Kind, SaysSize, IsSaidOf, IsAnswer, not_text, size, refused, words_of}
+use Rattle.byte_unit_lines.specs.Laws.{EachLineHasAnAnswer, HasOneReport}
+use Rattle.byte_unit_lines.specs.Lines.{lines_of}
 use Rattle.byte_unit_lines.specs.Report.{AreAnswers}
 use Rattle.byte_unit.specs.Accepted.{IsAccepted, IsRefused}
 use Rattle.byte_unit.specs.Edition.{current}
 use Rattle.byte_unit.specs.Fault.{Fault}
+use Rattle.byte_unit.specs.FormLaws.{SizeHasOneForm}
+use Rattle.byte_unit.specs.NamedSpecs.{plain_spec, alternate_spec}
+use Rattle.byte_unit.specs.Plain.{plain}
 use Rattle.byte_unit.specs.SizeLaws.{TextsAreAcceptedOrRefused}
-use Rattle.byte_unit.specs.ChoiceLaws.{EachSizeHasAChoiceOrNone, NumberTimesUnitIsSize, ChoicesAreOne}
-use Rattle.byte_unit_lines.proofs.Sizes.{some_said, one_saying}
+use Rattle.byte_unit_lines.proofs.Answering.{all_have_answers}
 
--- a line has an answer
-module _ (kind : Kind) (texts : TextsAreAcceptedOrRefused) (choices : EachSizeHasAChoiceOrNone) (product : NumberTimesUnitIsSize) where
-  -- what is said of a text
+module _ (texts : TextsAreAcceptedOrRefused) (forms : SizeHasOneForm) (kind : Kind) where
+  -- a size is said in some way
+  size_said : (number : ℕ) → (said : List ℕ) × SaysSize kind number said
+  size_said number =
+      let alternate = forms kind number alternate_spec in
+      let digits = plain number plain_spec in (
+        digits ++ codes " = " ++ alternate.form,
+        record { digits = digits; form = alternate.form; is_digits = refl; is_form = alternate.is_form; said_is = refl },
+      )
+
+  -- and in no other
+  one_saying : (number : ℕ) (said other : List ℕ) → SaysSize kind number said → SaysSize kind number other → said ≡ other
+  one_saying number said other says also =
+      let alternate = forms kind number alternate_spec in
+      says.said_is
+      ∙ ap (λ digits. digits ++ codes " = " ++ says.form) (says.is_digits ∙ sym also.is_digits)
+      ∙ ap (λ form. also.digits ++ codes " = " ++ form) (alternate.one says.form says.is_form ∙ sym (alternate.one also.form also.is_form))
+      ∙ sym also.said_is
+
+  -- something is said of a text
   text_said : (text : List ℕ) → IsUtf8 text
-      → ((n : ℕ) × IsAccepted current kind false text n) ⊎ ((fault : Fault) × IsRefused current kind false text fault)
+      → ((number : ℕ) × IsAccepted current kind false text number) ⊎ ((fault : Fault) × IsRefused current kind false text fault)
       → (said : List ℕ) × IsSaidOf kind text said
-  text_said text is_text (inl (n, accepted)) = let said = some_said kind choices product n in (said.0, size n is_text accepted said.1)
+  text_said text is_text (inl (number, is_accepted)) =
+      let says = size_said number in (says.0, size number is_text is_accepted says.1)
   text_said text is_text (inr (fault, is_refused)) = (words_of fault, refused fault is_text is_refused refl)
 
+  -- and of each line
   line_said : (line : List ℕ) → (said : List ℕ) × IsSaidOf kind line said
   line_said line =
-      elim (is_utf8 line) as (λ b. is_utf8 line ≡ b → (said : List ℕ) × IsSaidOf kind line said) [
-        | true ↦ λ e. text_said line (IsUtf8-from_is_utf8 line e) (texts kind false line).some
-        | false ↦ λ e. (codes "not text", not_text (λ is_text. true≢false (sym (is_utf8-from_IsUtf8 line is_text) ∙ e)) refl)
+      elim (is_utf8 line) as (λ text. is_utf8 line ≡ text → (said : List ℕ) × IsSaidOf kind line said) [
+        | true ↦ λ is_so. text_said line (IsUtf8-from_is_utf8 line is_so) (texts kind false line).some
+        | false ↦ λ is_not. (codes "not text", not_text (λ is_text. true≢false (sym (is_utf8-from_IsUtf8 line is_text) ∙ is_not)) refl)
       ] refl
 
-  pub line_answer : (line : List ℕ) → (out : List ℕ) × IsAnswer kind line out
+  pub line_answer : (line : List ℕ) → (answer : List ℕ) × IsAnswer kind line answer
   line_answer line =
       let said = line_said line in
       (said.0 ++ 10 ∷ [], record { said = said.0; is_said = said.1; ended = refl })
 
--- and no other
-module _ (kind : Kind) (texts : TextsAreAcceptedOrRefused) (one_choice : ChoicesAreOne) where
+  -- and nothing else
   one_said : (line said other : List ℕ) → IsSaidOf kind line said → IsSaidOf kind line other → said ≡ other
-  one_said line said other (not_text not e) (not_text _ f) = e ∙ sym f
-  one_said line said other (not_text not e) (size n is_text accepted f) = absurd (not is_text)
-  one_said line said other (not_text not e) (refused fault is_text is_refused f) = absurd (not is_text)
-  one_said line said other (size n is_text accepted e) (not_text not f) = absurd (not is_text)
-  one_said line said other (size n is_text accepted e) (size m _ also f) =
-      let same = (texts kind false line).one_meaning n m accepted also in
-      one_saying kind one_choice m said other (subst (λ k. SaysSize kind k said) same e) f
-  one_said line said other (size n is_text accepted e) (refused fault _ is_refused f) =
-      absurd ((texts kind false line).not_both n fault accepted is_refused)
-  one_said line said other (refused fault is_text is_refused e) (not_text not f) = absurd (not is_text)
-  one_said line said other (refused fault is_text is_refused e) (size n _ accepted f) =
-      absurd ((texts kind false line).not_both n fault accepted is_refused)
-  one_said line said other (refused fault is_text is_refused e) (refused next _ also f) =
-      e ∙ ap words_of ((texts kind false line).one_fault fault next is_refused also) ∙ sym f
+  one_said line said other (not_text _ is_said) (not_text _ also) = is_said ∙ sym also
+  one_said line said other (not_text not _) (size _ is_text _ _) = absurd (not is_text)
+  one_said line said other (not_text not _) (refused _ is_text _ _) = absurd (not is_text)
+  one_said line said other (size _ is_text _ _) (not_text not _) = absurd (not is_text)
+  one_said line said other (size number _ is_accepted says) (size other_number _ other_accepted also) =
+      let same = (texts kind false line).one_meaning number other_number is_accepted other_accepted in
+      one_saying other_number said other (subst (λ meant. SaysSize kind meant said) same says) also
+  one_said line said other (size number _ is_accepted _) (refused fault _ is_refused _) =
+      absurd ((texts kind false line).not_both number fault is_accepted is_refused)
+  one_said line said other (refused _ is_text _ _) (not_text not _) = absurd (not is_text)
+  one_said line said other (refused fault _ is_refused _) (size number _ is_accepted _) =
+      absurd ((texts kind false line).not_both number fault is_accepted is_refused)
+  one_said line said other (refused fault _ is_refused is_said) (refused other_fault _ other_refused also) =
+      is_said ∙ ap words_of ((texts kind false line).one_fault fault other_fault is_refused other_refused) ∙ sym also
 
-  one_answer : (line out other : List ℕ) → IsAnswer kind line out → IsAnswer kind line other → out ≡ other
-  one_answer line out other h k = h.ended ∙ ap (λ said. said ++ 10 ∷ []) (one_said line h.said k.said h.is_said k.is_said) ∙ sym k.ended
+  one_answer : (line answer other : List ℕ) → IsAnswer kind line answer → IsAnswer kind line other → answer ≡ other
+  one_answer line answer other answers also =
+      answers.ended ∙ ap (λ said. said ++ 10 ∷ []) (one_said line answers.said also.said answers.is_said also.is_said) ∙ sym also.ended
 
-  pub one_list_of_answers : (lines : List (List ℕ)) (out other : List ℕ)
+  one_list_of_answers : (lines : List (List ℕ)) (out other : List ℕ)
       → AreAnswers kind lines out → AreAnswers kind lines other → out ≡ other
-  one_list_of_answers [] out other h k = h ∙ sym k
-  one_list_of_answers (line ∷ lines) out other h k =
-      h.4 ∙ ap (λ l. l ++ h.1) (one_answer line h.0 k.0 h.2 k.2) ∙ ap (λ l. k.0 ++ l) (one_list_of_answers lines h.1 k.1 h.3 k.3) ∙ sym k.4
+  one_list_of_answers [] out other none also = none ∙ sym also
+  one_list_of_answers (line ∷ lines) out other answers also =
+      answers.4
+      ∙ ap (λ answer. answer ++ answers.1) (one_answer line answers.0 also.0 answers.2 also.2)
+      ∙ ap (λ rest. also.0 ++ rest) (one_list_of_answers lines answers.1 also.1 answers.3 also.3)
+      ∙ sym also.4
+
+  pub one_report : EachLineHasAnAnswer → (bytes : List ℕ) → HasOneReport kind bytes
+  one_report each bytes =
+      let lines = lines_of bytes in
+      let answers = all_have_answers kind (each kind) lines in record {
+        report = answers.0;
+        is_report = answers.1;
+        one = λ other also. one_list_of_answers lines other answers.0 also answers.1;
+      }

@@ -1,12 +1,12 @@
 -- A run, read by read.
-use Rattle.std.proofs.Common.{◌≡◌, ◌≢◌, ◌==◌, ℕ, List, [], ◌∷◌, ◌++◌, length, take, true, false, Option, Result, Ok, Err}
-use Rattle.std.specs.Prelude.{IsErrAnd}
+use Rattle.std.proofs.Common.{◌≡◌, ◌≢◌, ◌==◌, ℕ, List, [], ◌∷◌, ◌++◌, length, true, false, Option, Result, Ok, Err}
+use Rattle.std.specs.Prelude.{⊤, IsErrAnd}
 use Rattle.std.proofs.Common.{OnOk, OnErr, IfErr, refl, sym, ap, subst, ◌∙◌, append_assoc, append-nil}
 use Rattle.std.proofs.lemmas.Bool.{eqb-true, eqb-false}
 use Rattle.std.proofs.lemmas.List.{nil_from_length}
 use Rattle.std.specs.Io.KnownBytes.{Appends, Consumes}
-use Rattle.std.proofs.KnownBytes.{Appends-trans, Consumes-trans}
 use Rattle.byte_unit_lines.specs.Answer.{Kind, IsAnswer}
+use Rattle.byte_unit_lines.specs.Laws.{EachLineHasAnAnswer}
 use Rattle.byte_unit_lines.specs.Lines.{finished_lines, lines_of}
 use Rattle.byte_unit_lines.specs.Report.{AreAnswers, IsReport}
 use Rattle.byte_unit_lines.specs.Outcome.{IsBeginning, AnswerFirst, BeginsReport, IsWritten, IsWrittenAt}
@@ -17,152 +17,154 @@ use Rattle.byte_unit_lines.proofs.Answering.{answers_after, answers_one, all_hav
 use Rattle.byte_unit_lines.proofs.Answering.{beginning_after, beginning_longer}
 use Rattle.byte_unit_lines.proofs.Lines.{ended_by-append, begun_by-append, finished_lines_is, lines_of_is, if_any}
 
+-- what was read and written so far, and the line that has begun
+pub record Course : Type 0 where
+  pub read : List ℕ
+  pub written : List ℕ
+  pub line : List ℕ
+
 -- between two reads: the lines that end in what was read are answered, and the next has begun
+pub record IsServed (kind : Kind) (course : Course) : Type 0 where
+  pub answered : AreAnswers kind (ended_by [] course.read) course.written
+  pub begun : course.line ≡ begun_by [] course.read
+
+-- the same of a reader and a writer, from which so much came and to which so much went, with these answers waiting
 pub record HasServed (kind : Kind) (left rest held holds : Option (List ℕ)) (line answers : List ℕ) : Type 0 where
   pub read : List ℕ
   pub written : List ℕ
   pub gave : Consumes left rest read
   pub took : Appends held holds written
-  pub answered : AreAnswers kind (ended_by [] read) written
-  pub begun : line ≡ begun_by [] read
-  pub none_kept : answers ≡ []
-
--- and then a piece was read, and its answers were written
-pub served_on : {kind : Kind} {left mid held between : Option (List ℕ)} {line answers : List ℕ}
-    (h : HasServed kind left mid held between line answers) (rest holds : Option (List ℕ)) (piece out : List ℕ)
-    → Consumes mid rest piece → Appends between holds out
-    → Consumes left rest (h.read ++ piece) × Appends held holds (h.written ++ out)
-served_on {left = left} {mid = mid} {held = held} {between = between} h rest holds piece out came took = (
-  Consumes-trans left mid rest h.read piece h.gave came,
-  Appends-trans held between holds h.written out h.took took,
-)
-
--- and then nothing was read
-pub read_on_nothing : {kind : Kind} {left mid held between : Option (List ℕ)} {line answers : List ℕ}
-    (h : HasServed kind left mid held between line answers) (rest : Option (List ℕ)) (buffer : List ℕ) (n : ℕ)
-    → n ≡ 0 → Consumes mid rest (take n buffer) → Consumes left rest h.read
-read_on_nothing {left = left} {mid = mid} h rest buffer n none came =
-    subst (Consumes left rest) (ap (λ k. h.read ++ take k buffer) none ∙ append-nil h.read)
-    (Consumes-trans left mid rest h.read (take n buffer) h.gave came)
-
--- the lines of what was read and of a piece after it
-pub ended_more : (read piece line : List ℕ) → line ≡ begun_by [] read
-    → ended_by [] read ++ ended_by line piece ≡ ended_by [] (read ++ piece)
-ended_more read piece line same = ap (λ l. ended_by [] read ++ ended_by l piece) same ∙ sym (ended_by-append [] read piece)
-
--- the answers to a piece, after those to what was read before it
-pub answers_more : (kind : Kind) (read piece line : List ℕ) → line ≡ begun_by [] read → (front back : List ℕ)
-    → AreAnswers kind (ended_by [] read) front → AreAnswers kind (ended_by line piece) back
-    → AreAnswers kind (ended_by [] (read ++ piece)) (front ++ back)
-answers_more kind read piece line same front back p q =
-    subst (λ ls. AreAnswers kind ls (front ++ back)) (ended_more read piece line same)
-    (answers_after kind (ended_by [] read) (ended_by line piece) front back p q)
-
--- the line that has begun after a piece
-pub begun_more : (read piece line next : List ℕ) → line ≡ begun_by [] read → next ≡ begun_by line piece → next ≡ begun_by [] (read ++ piece)
-begun_more read piece line next same more = more ∙ ap (λ l. begun_by l piece) same ∙ sym (begun_by-append [] read piece)
+  pub served : IsServed kind (record { read = read; written = written; line = line })
+  pub none_wait : answers ≡ []
 
 -- whether a line has begun, by its length
-pub nothing_begun : (line : List ℕ) (len : ℕ) → len ≡ length line → true ≡ (len == 0) → line ≡ []
-nothing_begun line len same none = nil_from_length line (sym same ∙ eqb-true len 0 (sym none))
+pub nothing_begun : (line : List ℕ) (count : ℕ) → count ≡ length line → true ≡ (count == 0) → line ≡ []
+nothing_begun line count count_is none = nil_from_length line (sym count_is ∙ eqb-true count 0 (sym none))
 
-pub something_begun : (line : List ℕ) (len : ℕ) → len ≡ length line → false ≡ (len == 0) → line ≢ []
-something_begun line len same some e = eqb-false len 0 (sym some) (same ∙ ap length e)
+pub something_begun : (line : List ℕ) (count : ℕ) → count ≡ length line → false ≡ (count == 0) → line ≢ []
+something_begun line count count_is some none = eqb-false count 0 (sym some) (count_is ∙ ap length none)
 
-pub answers_finished : (kind : Kind) (read written : List ℕ)
-    → AreAnswers kind (ended_by [] read) written → AreAnswers kind (finished_lines read) written
-answers_finished kind read written h = subst (λ ls. AreAnswers kind ls written) (sym (finished_lines_is read)) h
-
--- the report where nothing has begun, and where a line has
-pub report_ended : (kind : Kind) (read line written : List ℕ) → line ≡ begun_by [] read → line ≡ []
-    → AreAnswers kind (ended_by [] read) written → IsReport kind read written
-report_ended kind read line written same none h =
-    let lines : lines_of read ≡ ended_by [] read =
-    lines_of_is read ∙ ap (λ l. ended_by [] read ++ if_any l) (sym same ∙ none) ∙ append-nil (ended_by [] read) in
-    subst (λ ls. AreAnswers kind ls written) (sym lines) h
-
-if_any_is : (line : List ℕ) → line ≢ [] → if_any line ≡ line ∷ []
-if_any_is [] h = absurd (h refl)
-if_any_is (b ∷ bs) h = refl
-
-report_begun : (kind : Kind) (read line front answer : List ℕ) → line ≡ begun_by [] read → line ≢ []
-    → AreAnswers kind (ended_by [] read) front → IsAnswer kind line answer → IsReport kind read (front ++ answer)
-report_begun kind read line front answer same some p q =
-    let lines : lines_of read ≡ ended_by [] read ++ line ∷ [] =
-    lines_of_is read ∙ ap (λ l. ended_by [] read ++ if_any l) (sym same) ∙ ap (λ ls. ended_by [] read ++ ls) (if_any_is line some) in
-    subst (λ ls. AreAnswers kind ls (front ++ answer)) (sym lines)
-    (answers_after kind (ended_by [] read) (line ∷ []) front answer p (answers_one kind line answer q))
-
--- what begins the answers to the first lines that ended begins a report, since each line has an answer
-module _ (kind : Kind) (each : (line : List ℕ) → (answer : List ℕ) × IsAnswer kind line answer) where
-  begins_report : (read written : List ℕ) → BeginFirst kind (ended_by [] read) written → BeginsReport kind read written
-  begins_report read written h =
-      let whole = h.0 in
-      let first = h.1.0 in
-      let left = h.1.1.0 in
-      let others = left ++ if_any (begun_by [] read) in
-      let more = all_have_answers kind each others in
-      let lines : first ++ others ≡ lines_of read =
-      sym (append_assoc first left (if_any (begun_by [] read)))
-      ∙ ap (λ ls. ls ++ if_any (begun_by [] read)) (sym h.1.1.1) ∙ sym (lines_of_is read) in (
-        whole ++ more.0,
-        subst (λ ls. AreAnswers kind ls (whole ++ more.0)) lines (answers_after kind first others whole more.0 h.1.2 more.1),
-        beginning_longer written whole more.0 h.2,
-      )
-
-  -- an error while the answers to lines that ended were written
-  written_at_ended : (read : List ℕ) (e : RunError) (written : List ℕ)
-      → IsAnsweredAt kind (ended_by [] read) e written → IsWrittenAt kind read e written
-  written_at_ended read Memory written h = subst (λ ls. AnswerFirst kind ls written) (sym (finished_lines_is read)) h
-  written_at_ended read Read written h = absurd h
-  written_at_ended read Write written h = begins_report read written h
-
-  -- such an error in a piece
-  pub written_in_piece : (read piece line front : List ℕ) → line ≡ begun_by [] read → AreAnswers kind (ended_by [] read) front
-      → (e : RunError) (written : List ℕ) → IsAnsweredAt kind (ended_by line piece) e written
-      → IsWrittenAt kind (read ++ piece) e (front ++ written)
-  written_in_piece read piece line front same p e written h =
-      written_at_ended (read ++ piece) e (front ++ written)
-      (subst (λ ls. IsAnsweredAt kind ls e (front ++ written)) (ended_more read piece line same)
-      (answered_after kind (ended_by [] read) (ended_by line piece) front p e written h))
+only_line : (line : List ℕ) → line ≢ [] → if_any line ≡ line ∷ []
+only_line [] some = absurd (some refl)
+only_line (_ ∷ _) some = refl
 
 -- an error that is passed up
-pub written_failed : {T : Type 0} (kind : Kind) (read written : List ℕ) (r : Result T RunError) (e : RunError)
-    → IsErrAnd r (λ x. x ≡ e) → IsWrittenAt kind read e written → IsWritten kind read r written
-written_failed kind read written (Ok _) e is h = absurd is
-written_failed kind read written (Err x) e is h = subst (λ y. IsWrittenAt kind read y written) (sym is) h
+pub written_failed : (kind : Kind) (read written : List ℕ) (result : Result ⊤ RunError) (error : RunError)
+    → IsErrAnd result (λ other. other ≡ error) → IsWrittenAt kind read error written → IsWritten kind read result written
+written_failed kind read written (Ok _) error is_error is_written = absurd is_error
+written_failed kind read written (Err _) error is_error is_written =
+    subst (λ other. IsWrittenAt kind read other written) (sym is_error) is_written
 
--- the answer to the last line
-written_at_last : (kind : Kind) (read line front : List ℕ) → line ≡ begun_by [] read → line ≢ [] → AreAnswers kind (ended_by [] read) front
-    → (e : RunError) (written : List ℕ) → IsLineAnsweredAt kind line e written → IsWrittenAt kind read e (front ++ written)
-written_at_last kind read line front same some p Memory written h =
-    let none : front ≡ front ++ written = sym (append-nil front) ∙ ap (λ l. front ++ l) (sym h) in (
-      ended_by [] read,
-      ([], finished_lines_is read ∙ sym (append-nil (ended_by [] read))),
-      subst (AreAnswers kind (ended_by [] read)) none p,
+module _ (kind : Kind) (course : Course) (served : IsServed kind course) where
+  -- the lines of what was read and of a piece after it
+  ended_with : (piece : List ℕ) → ended_by [] course.read ++ ended_by course.line piece ≡ ended_by [] (course.read ++ piece)
+  ended_with piece =
+      ap (λ line. ended_by [] course.read ++ ended_by line piece) served.begun ∙ sym (ended_by-append [] course.read piece)
+
+  -- what was read, and a piece after it whose lines were answered
+  pub served_on : (piece answers line : List ℕ) → AreAnswers kind (ended_by course.line piece) answers → line ≡ begun_by course.line piece
+      → IsServed kind (record { read = course.read ++ piece; written = course.written ++ answers; line = line })
+  served_on piece answers line are_answers line_is = record {
+    answered = subst (λ lines. AreAnswers kind lines (course.written ++ answers)) (ended_with piece)
+        (answers_after kind (ended_by [] course.read) (ended_by course.line piece) course.written answers served.answered are_answers);
+    begun = line_is ∙ ap (λ begun. begun_by begun piece) served.begun ∙ sym (begun_by-append [] course.read piece);
+  }
+
+  -- what is written where no more is read
+  pub answers_finished : AreAnswers kind (finished_lines course.read) course.written
+  answers_finished = subst (λ lines. AreAnswers kind lines course.written) (sym (finished_lines_is course.read)) served.answered
+
+  -- the report where nothing has begun, and where a line has
+  pub report_ended : course.line ≡ [] → IsReport kind course.read course.written
+  report_ended none =
+      let ended = ended_by [] course.read in
+      let lines : lines_of course.read ≡ ended =
+      lines_of_is course.read ∙ ap (λ line. ended ++ if_any line) (sym served.begun ∙ none) ∙ append-nil ended in
+      subst (λ lines. AreAnswers kind lines course.written) (sym lines) served.answered
+
+  report_begun : course.line ≢ [] → (answer : List ℕ) → IsAnswer kind course.line answer
+      → IsReport kind course.read (course.written ++ answer)
+  report_begun some answer is_answer =
+      let ended = ended_by [] course.read in
+      let lines : lines_of course.read ≡ ended ++ course.line ∷ [] =
+      lines_of_is course.read
+      ∙ ap (λ line. ended ++ if_any line) (sym served.begun)
+      ∙ ap (λ last. ended ++ last) (only_line course.line some) in
+      subst (λ lines. AreAnswers kind lines (course.written ++ answer)) (sym lines)
+      (answers_after kind ended (course.line ∷ []) course.written answer served.answered (answers_one kind course.line answer is_answer))
+
+  -- an error while the last line was answered
+  written_at_last : course.line ≢ [] → (error : RunError) (written : List ℕ) → IsLineAnsweredAt kind course.line error written
+      → IsWrittenAt kind course.read error (course.written ++ written)
+  written_at_last some Memory written none =
+      let ended = ended_by [] course.read in
+      let same : course.written ≡ course.written ++ written =
+      sym (append-nil course.written) ∙ ap (λ last. course.written ++ last) (sym none) in (
+        ended,
+        ([], finished_lines_is course.read ∙ sym (append-nil ended)),
+        subst (AreAnswers kind ended) same served.answered,
+      )
+  written_at_last some Read written at = absurd at
+  written_at_last some Write written (answer, is_answer, is_beginning) = (
+    course.written ++ answer,
+    report_begun some answer is_answer,
+    beginning_after course.written written answer is_beginning,
+  )
+
+  -- what is written once the last line was answered, or was not
+  pub written_last : course.line ≢ [] → (result : Result ⊤ RunError) (written : List ℕ)
+      → IsLineAnswered kind course.line result written → IsWritten kind course.read result (course.written ++ written)
+  written_last some (Ok _) written is_answer = report_begun some written is_answer
+  written_last some (Err error) written at = written_at_last some error written at
+
+-- what begins the answers to the first lines that ended begins a report, since each line has an answer
+begins_report : EachLineHasAnAnswer → (kind : Kind) (read written : List ℕ) → BeginFirst kind (ended_by [] read) written
+    → BeginsReport kind read written
+begins_report each kind read written (whole, (answered, (unanswered, ended_is), are_answers), is_beginning) =
+    let last = if_any (begun_by [] read) in
+    let others = unanswered ++ last in
+    let rest = all_have_answers kind (each kind) others in
+    let lines : answered ++ others ≡ lines_of read =
+    sym (append_assoc answered unanswered last) ∙ ap (λ ended. ended ++ last) (sym ended_is) ∙ sym (lines_of_is read) in (
+      whole ++ rest.0,
+      subst (λ lines. AreAnswers kind lines (whole ++ rest.0)) lines (answers_after kind answered others whole rest.0 are_answers rest.1),
+      beginning_longer written whole rest.0 is_beginning,
     )
-written_at_last kind read line front same some p Read written h = absurd h
-written_at_last kind read line front same some p Write written h =
-    (front ++ h.0, report_begun kind read line front h.0 same some p h.1, beginning_after front written h.0 h.2)
 
-pub written_last : {T : Type 0} (kind : Kind) (read line front : List ℕ) → line ≡ begun_by [] read → line ≢ []
-    → AreAnswers kind (ended_by [] read) front → (r : Result T RunError) (written : List ℕ)
-    → IsLineAnswered kind line r written → IsWritten kind read r (front ++ written)
-written_last kind read line front same some p (Ok _) written h = report_begun kind read line front written same some p h
-written_last kind read line front same some p (Err e) written h = written_at_last kind read line front same some p e written h
+-- an error while the answers to lines that ended were written
+written_at_ended : EachLineHasAnAnswer → (kind : Kind) (read : List ℕ) (error : RunError) (written : List ℕ)
+    → IsAnsweredAt kind (ended_by [] read) error written → IsWrittenAt kind read error written
+written_at_ended each kind read Memory written at = subst (λ lines. AnswerFirst kind lines written) (sym (finished_lines_is read)) at
+written_at_ended each kind read Read written at = absurd at
+written_at_ended each kind read Write written at = begins_report each kind read written at
+
+-- such an error in a piece
+pub written_in_piece : EachLineHasAnAnswer → (kind : Kind) (course : Course) → IsServed kind course → (piece : List ℕ) (error : RunError)
+    (written : List ℕ) → IsAnsweredAt kind (ended_by course.line piece) error written
+    → IsWrittenAt kind (course.read ++ piece) error (course.written ++ written)
+written_in_piece each kind course served piece error written at =
+    let ended = ended_by [] course.read in
+    written_at_ended each kind (course.read ++ piece) error (course.written ++ written)
+    (subst (λ lines. IsAnsweredAt kind lines error (course.written ++ written)) (ended_with kind course served piece)
+    (answered_after kind ended (ended_by course.line piece) course.written served.answered error written at))
 
 memory_is_not_write : Memory ≢ Write
-memory_is_not_write e = cc
+memory_is_not_write same = cc
 
 read_is_not_write : Read ≢ Write
-read_is_not_write e = cc
+read_is_not_write same = cc
+
+-- what a call has done that writes these bytes, all of them or a beginning
+pub record IsWrittenBy (held holds : Option (List ℕ)) (bytes : List ℕ) (result : Result ⊤ RunError) : Type 0 where
+  pub whole : OnOk result (Appends held holds bytes)
+  pub part : OnErr result ((written : List ℕ) × Appends held holds written × IsBeginning written bytes)
+  pub error : IfErr result (λ error. error ≡ Write)
 
 -- what was written of the last line's answer
-pub last_written : {T : Type 0} (kind : Kind) (line bytes : List ℕ) (old new : Option (List ℕ)) → IsAnswer kind line bytes
-    → (r : Result T RunError) → OnOk r (Appends old new bytes)
-    → OnErr r ((written : List ℕ) × Appends old new written × IsBeginning written bytes)
-    → IfErr r (λ e. e ≡ Write) → (written : List ℕ) × Appends old new written × IsLineAnswered kind line r written
-last_written kind line bytes old new answer (Ok _) whole part write = (bytes, whole, answer)
-last_written kind line bytes old new answer (Err Memory) whole part write = absurd (memory_is_not_write write)
-last_written kind line bytes old new answer (Err Read) whole part write = absurd (read_is_not_write write)
-last_written kind line bytes old new answer (Err Write) whole part write = (part.0, part.1, (bytes, answer, part.2))
+pub last_written : (kind : Kind) (line answer : List ℕ) (held holds : Option (List ℕ)) (result : Result ⊤ RunError)
+    → IsAnswer kind line answer → IsWrittenBy held holds answer result
+    → (written : List ℕ) × Appends held holds written × IsLineAnswered kind line result written
+last_written kind line answer held holds (Ok _) is_answer by = (answer, by.whole, is_answer)
+last_written kind line answer held holds (Err Memory) is_answer by = absurd (memory_is_not_write by.error)
+last_written kind line answer held holds (Err Read) is_answer by = absurd (read_is_not_write by.error)
+last_written kind line answer held holds (Err Write) is_answer by = (by.part.0, by.part.1, (answer, is_answer, by.part.2))

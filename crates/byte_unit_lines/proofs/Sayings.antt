@@ -12,38 +12,54 @@ use Rattle.byte_unit.specs.NamedSpecs.{plain_spec, alternate_spec}
 use Rattle.byte_unit_lines.specs.Answer.{Kind, words_of, size, refused}
 use Rattle.byte_unit_lines.specs.Progress.{AddsAnswer, AddsSaid}
 
+-- what a call that adds all or nothing has added where it succeeds
+pub added_if_ok : {E : Type 0} (result : Result ⊤ E) (old added new : List ℕ)
+    → new ≡ (if is_ok result then old ++ added else old) → OnOk result (new ≡ old ++ added)
+added_if_ok (Ok _) old added new is_added = is_added
+added_if_ok (Err _) old added new is_added = tt
+
 -- a text of a size was added
 abbrev pub AddsText : Kind → ℕ → FormatSpec → List ℕ → List ℕ → Type 0
-AddsText kind n spec old new = (form : List ℕ) × IsText current kind n spec form × (new ≡ old ++ form)
+AddsText kind number spec old new = (form : List ℕ) × IsText current kind number spec form × (new ≡ old ++ form)
 
-regroup : (a b c d : List ℕ) → ((a ++ b) ++ c) ++ d ≡ a ++ ((b ++ c) ++ d)
-regroup a b c d = append_assoc (a ++ b) c d ∙ append_assoc a b (c ++ d) ∙ ap (λ l. a ++ l) (sym (append_assoc b c d))
+-- the digits of a size were added, the sign of equality, and the size with a unit
+pub record AddsSize (kind : Kind) (number : ℕ) (old new : List ℕ) : Type 0 where
+  pub with_digits : List ℕ
+  pub with_sign : List ℕ
+  pub digits : AddsText kind number plain_spec old with_digits
+  pub sign : with_sign ≡ with_digits ++ codes " = "
+  pub form : AddsText kind number alternate_spec with_sign new
 
--- the two texts of a size
-pub size_added : {E : Type 0} (kind : Kind) (text : List ℕ) (n : ℕ) (old first second new : List ℕ) → IsUtf8 text
-    → IsAccepted current kind false text n → AddsText kind n plain_spec old first → second ≡ first ++ codes " = "
-    → (r : Result ⊤ E) → OnOk r (AddsText kind n alternate_spec second new) → OnOk r (AddsSaid kind text old new)
-size_added kind text n old first second new is_text accepted digits between (Ok _) form = (
-  digits.0 ++ codes " = " ++ form.0,
-  size n is_text accepted (record { digits = digits.0; form = form.0; is_digits = digits.1; is_form = form.1; said_is = refl }),
-  form.2 ∙ ap (λ l. l ++ form.0) (between ∙ ap (λ l. l ++ codes " = ") digits.2) ∙ regroup old digits.0 (codes " = ") form.0,
-)
-size_added kind text n old first second new is_text accepted digits between (Err e) form = tt
+regroup : (old digits sign form : List ℕ) → ((old ++ digits) ++ sign) ++ form ≡ old ++ ((digits ++ sign) ++ form)
+regroup old digits sign form =
+    append_assoc (old ++ digits) sign form
+    ∙ append_assoc old digits (sign ++ form)
+    ∙ ap (λ said. old ++ said) (sym (append_assoc digits sign form))
 
--- the words for a fault
-pub fault_added : {E : Type 0} (kind : Kind) (text : List ℕ) (fault : Fault) (old words new : List ℕ) → IsUtf8 text
-    → IsRefused current kind false text fault → words ≡ words_of fault
-    → (r : Result ⊤ E) → new ≡ (if is_ok r then old ++ words else old) → OnOk r (AddsSaid kind text old new)
-fault_added kind text fault old words new is_text is_refused words_are (Ok _) added =
-    (words, refused fault is_text is_refused words_are, added)
-fault_added kind text fault old words new is_text is_refused words_are (Err e) added = tt
+-- the size that a text is read as
+pub size_added : (kind : Kind) (text : List ℕ) (number : ℕ) (old new : List ℕ) → IsUtf8 text
+    → IsAccepted current kind false text number → AddsSize kind number old new → AddsSaid kind text old new
+size_added kind text number old new is_text is_accepted added =
+    let digits = added.digits in
+    let form = added.form in (
+      digits.0 ++ codes " = " ++ form.0,
+      size number is_text is_accepted
+          (record { digits = digits.0; form = form.0; is_digits = digits.1; is_form = form.1; said_is = refl }),
+      form.2
+          ∙ ap (λ front. front ++ form.0) (added.sign ∙ ap (λ front. front ++ codes " = ") digits.2)
+          ∙ regroup old digits.0 (codes " = ") form.0,
+    )
+
+-- the words for the fault of a text
+pub fault_added : (kind : Kind) (text : List ℕ) (fault : Fault) (old new : List ℕ) → IsUtf8 text
+    → IsRefused current kind false text fault → new ≡ old ++ words_of fault → AddsSaid kind text old new
+fault_added kind text fault old new is_text is_refused added = (words_of fault, refused fault is_text is_refused refl, added)
 
 -- and the line end
-pub line_end_added : {E : Type 0} (kind : Kind) (line old said end new : List ℕ) → end ≡ 10 ∷ [] → AddsSaid kind line old said
-    → (r : Result ⊤ E) → new ≡ (if is_ok r then said ++ end else said) → OnOk r (AddsAnswer kind line old new)
-line_end_added kind line old said end new end_is h (Ok _) added = (
-  h.0 ++ 10 ∷ [],
-  record { said = h.0; is_said = h.1; ended = refl },
-  added ∙ ap (λ l. said ++ l) end_is ∙ ap (λ l. l ++ 10 ∷ []) h.2 ∙ append_assoc old h.0 (10 ∷ []),
+pub line_end_added : (kind : Kind) (line old with_said new : List ℕ) → AddsSaid kind line old with_said → new ≡ with_said ++ 10 ∷ []
+    → AddsAnswer kind line old new
+line_end_added kind line old with_said new said ended = (
+  said.0 ++ 10 ∷ [],
+  record { said = said.0; is_said = said.1; ended = refl },
+  ended ∙ ap (λ front. front ++ 10 ∷ []) said.2 ∙ append_assoc old said.0 (10 ∷ []),
 )
-line_end_added kind line old said end new end_is h (Err e) added = tt

@@ -28,7 +28,8 @@ words_of (bad_unit _ _ _) = codes "bad unit"
 -- what is said of a line: that it is no text, the size that it is read as, or the words for its fault
 pub data IsSaidOf (kind : Kind) (line said : List ℕ) : Type 0 where
   not_text : ¬ IsUtf8 line → said ≡ codes "not text" → IsSaidOf kind line said
-  size : (n : ℕ) → IsUtf8 line → IsAccepted current kind false line n → SaysSize kind n said → IsSaidOf kind line said
+  size : (number : ℕ) → IsUtf8 line → IsAccepted current kind false line number → SaysSize kind number said
+      → IsSaidOf kind line said
   refused : (fault : Fault) → IsUtf8 line → IsRefused current kind false line fault → said ≡ words_of fault
       → IsSaidOf kind line said
 

@@ -10,7 +10,7 @@ use Rattle.byte_unit_lines.specs.declared.ending.Ending.TheVariants.{Done, Usage
 -- the ending of a run
 abbrev pub ending_of : {T : Type 0} → Result T RunError → Ending
 ending_of (Ok _) = Done
-ending_of (Err e) = Failed e
+ending_of (Err error) = Failed error
 
 -- a run that the call ends with
 abbrev pub IsRunTo : Kind → Option (List ℕ) → Option (List ℕ) → Option (List ℕ) → Option (List ℕ) → Ending → Type 0
@@ -26,5 +26,5 @@ status_of Usage = 2
 -- the line for standard error, without its end; none where all the lines are answered
 abbrev pub line_of : Ending → Option (List ℕ)
 line_of Done = None
-line_of (Failed e) = Some (said_of e)
+line_of (Failed error) = Some (said_of error)
 line_of Usage = Some (codes "usage: byte_unit_lines [byte|bit]")

@@ -1,9 +1,18 @@
--- Laws of reports.
+-- Laws of answers and reports.
 use Rattle.std.specs.Prelude.{◌≡◌, ℕ, List}
-use Rattle.byte_unit_lines.specs.Answer.{Kind}
+use Rattle.byte_unit_lines.specs.Answer.{Kind, IsAnswer}
 use Rattle.byte_unit_lines.specs.Report.{IsReport}
 
--- there is a report, and no other
-pub record IsOneReport (kind : Kind) (bytes : List ℕ) : Type 0 where
-  pub some : (out : List ℕ) × IsReport kind bytes out
-  pub one : (out other : List ℕ) → IsReport kind bytes out → IsReport kind bytes other → out ≡ other
+-- each line has an answer
+abbrev pub EachLineHasAnAnswer : Type 0
+EachLineHasAnAnswer = (kind : Kind) (line : List ℕ) → (answer : List ℕ) × IsAnswer kind line answer
+
+-- the input has a report, and one alone
+pub record HasOneReport (kind : Kind) (bytes : List ℕ) : Type 0 where
+  pub report : List ℕ
+  pub is_report : IsReport kind bytes report
+  pub one : (other : List ℕ) → IsReport kind bytes other → other ≡ report
+
+-- each input has one report
+abbrev pub EachInputHasOneReport : Type 0
+EachInputHasOneReport = (kind : Kind) (bytes : List ℕ) → HasOneReport kind bytes

@@ -8,7 +8,7 @@ line_end = 10
 
 -- the parts between the line ends
 abbrev pub parts : List ℕ → List (List ℕ)
-parts bytes = slice_split (λ b. b == line_end) bytes
+parts bytes = slice_split (λ byte. byte == line_end) bytes
 
 -- all but the last part
 abbrev pub but_last : List (List ℕ) → List (List ℕ)
@@ -20,7 +20,7 @@ but_last (part ∷ next ∷ others) = part ∷ but_last (next ∷ others)
 abbrev pub but_empty_last : List (List ℕ) → List (List ℕ)
 but_empty_last [] = []
 but_empty_last ([] ∷ []) = []
-but_empty_last ((b ∷ bs) ∷ []) = (b ∷ bs) ∷ []
+but_empty_last ((byte ∷ bytes) ∷ []) = (byte ∷ bytes) ∷ []
 but_empty_last (part ∷ next ∷ others) = part ∷ but_empty_last (next ∷ others)
 
 -- the lines: a last one that nothing ends counts where it isn't empty

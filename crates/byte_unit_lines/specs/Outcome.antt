@@ -13,7 +13,8 @@ IsBeginning {X} front whole = (rest : List X) × (whole ≡ front ++ rest)
 
 -- the answers to the first of these lines, whole, for some number of them
 abbrev pub AnswerFirst : Kind → List (List ℕ) → List ℕ → Type 0
-AnswerFirst kind lines written = (first : List (List ℕ)) × IsBeginning first lines × AreAnswers kind first written
+AnswerFirst kind lines written =
+    (answered : List (List ℕ)) × IsBeginning answered lines × AreAnswers kind answered written
 
 -- a beginning of the report
 abbrev pub BeginsReport : Kind → List ℕ → List ℕ → Type 0
@@ -28,7 +29,7 @@ IsWrittenAt kind read Write written = BeginsReport kind read written
 -- what a run has written, when it has read these bytes
 abbrev pub IsWritten : {T : Type 0} → Kind → List ℕ → Result T RunError → List ℕ → Type 0
 IsWritten kind read (Ok _) written = IsReport kind read written
-IsWritten kind read (Err e) written = IsWrittenAt kind read e written
+IsWritten kind read (Err error) written = IsWrittenAt kind read error written
 
 -- a run: what it has read from the reader, and what it has written to the writer for that. `left` and `rest` are what
 -- the reader had left and has left, `held` and `holds` what the writer held and holds, each none where it doesn't tell

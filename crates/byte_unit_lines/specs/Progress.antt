@@ -11,12 +11,12 @@ use Rattle.byte_unit_lines.specs.declared.run.RunError.TheVariants.{Memory, Read
 -- the lines that end in these bytes, the first of which began with the given line
 abbrev pub ended_by : List ℕ → List ℕ → List (List ℕ)
 ended_by line [] = []
-ended_by line (b ∷ bs) = if b == line_end then line ∷ ended_by [] bs else ended_by (line ++ b ∷ []) bs
+ended_by line (byte ∷ bytes) = if byte == line_end then line ∷ ended_by [] bytes else ended_by (line ++ byte ∷ []) bytes
 
 -- the line that has begun after these bytes
 abbrev pub begun_by : List ℕ → List ℕ → List ℕ
 begun_by line [] = line
-begun_by line (b ∷ bs) = if b == line_end then begun_by [] bs else begun_by (line ++ b ∷ []) bs
+begun_by line (byte ∷ bytes) = if byte == line_end then begun_by [] bytes else begun_by (line ++ byte ∷ []) bytes
 
 -- no line ends in these bytes
 abbrev pub IsUnbroken : List ℕ → Type 0
@@ -36,7 +36,8 @@ AddsAnswers kind lines old new = (answers : List ℕ) × AreAnswers kind lines a
 
 -- the answers to the first of these lines were added at the end, whole
 abbrev pub AddsFirst : Kind → List (List ℕ) → List ℕ → List ℕ → Type 0
-AddsFirst kind lines old new = (first : List (List ℕ)) × IsBeginning first lines × AddsAnswers kind first old new
+AddsFirst kind lines old new =
+    (answered : List (List ℕ)) × IsBeginning answered lines × AddsAnswers kind answered old new
 
 -- a beginning of the answers to the first of these lines
 abbrev pub BeginFirst : Kind → List (List ℕ) → List ℕ → Type 0
@@ -50,7 +51,7 @@ IsAnsweredAt kind lines Write written = BeginFirst kind lines written
 
 abbrev pub IsAnswered : {T : Type 0} → Kind → List (List ℕ) → Result T RunError → List ℕ → Type 0
 IsAnswered kind lines (Ok _) written = AreAnswers kind lines written
-IsAnswered kind lines (Err e) written = IsAnsweredAt kind lines e written
+IsAnswered kind lines (Err error) written = IsAnsweredAt kind lines error written
 
 -- the same of the last line, of whose answer nothing is written where there is no memory for it
 abbrev pub IsLineAnsweredAt : Kind → List ℕ → RunError → List ℕ → Type 0
@@ -60,4 +61,4 @@ IsLineAnsweredAt kind line Write written = (answer : List ℕ) × IsAnswer kind 
 
 abbrev pub IsLineAnswered : {T : Type 0} → Kind → List ℕ → Result T RunError → List ℕ → Type 0
 IsLineAnswered kind line (Ok _) written = IsAnswer kind line written
-IsLineAnswered kind line (Err e) written = IsLineAnsweredAt kind line e written
+IsLineAnswered kind line (Err error) written = IsLineAnsweredAt kind line error written

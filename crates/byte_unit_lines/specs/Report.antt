@@ -7,7 +7,7 @@ use Rattle.byte_unit_lines.specs.Lines.{lines_of}
 abbrev pub AreAnswers : Kind → List (List ℕ) → List ℕ → Type 0
 AreAnswers kind [] out = out ≡ []
 AreAnswers kind (line ∷ lines) out =
-    (first rest : List ℕ) × IsAnswer kind line first × AreAnswers kind lines rest × (out ≡ first ++ rest)
+    (answer others : List ℕ) × IsAnswer kind line answer × AreAnswers kind lines others × (out ≡ answer ++ others)
 
 -- what is written for an input
 abbrev pub IsReport : Kind → List ℕ → List ℕ → Type 0

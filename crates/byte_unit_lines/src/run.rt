@@ -93,7 +93,7 @@ pub fn run_in<A: Allocator, R: Read, W: Write>(
     ensures write_failed { IsErrOf result RunError.Write → IsTrue (writing_failed writer.new) }
 {
     // What a failing writer took begins a report, and a report answers the unanswered lines too.
-    each_line_has_an_answer(kind);
+    each_line_has_an_answer();
     let mut line = Vec::new(alloc);
     let mut waiting = Waiting::new(alloc);
     'reads: loop {

@@ -5,7 +5,8 @@ use Rattle.byte_unit_lines.proofs.run.feed.Given as goal
 
 abbrev pub invariant-loop-n : goal.invariant-loop-n
 invariant-loop-n g l =
-    IsFed l.kind l.initial.line.items l.bytes (answers_in l.initial.waiting) l.line.items l.rest (answers_in l.waiting)
+    IsFed l.kind (record { line = l.initial.line.items; rest = l.bytes; answers = answers_in l.initial.waiting })
+    (record { line = l.line.items; rest = l.rest; answers = answers_in l.waiting })
 
 abbrev pub decreases-loop-n : goal.decreases-loop-n
 decreases-loop-n g l = length l.rest
