@@ -3,7 +3,9 @@ pub use Rattle.byte_unit_math.specs.Exact
 pub use Rattle.byte_unit_math.specs.Finite
 pub use Rattle.byte_unit_math.specs.Least
 pub use Rattle.byte_unit_math.specs.Nearest
+pub use Rattle.byte_unit_math.specs.Digits
 pub use Rattle.byte_unit_math.specs.Numeral
+pub use Rattle.byte_unit_math.specs.Padded
 pub use Rattle.byte_unit_math.specs.NumberLaws
 pub use Rattle.byte_unit_math.specs.Powers
 pub use Rattle.byte_unit_math.specs.Steps

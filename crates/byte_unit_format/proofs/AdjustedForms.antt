@@ -7,7 +7,9 @@ use Rattle.std.proofs.lemmas.Nat.{pow-add, mul-pow, mod_below}
 use Rattle.std.proofs.lemmas.Bool.{cases_lt}
 use Rattle.byte_unit_math.specs.Finite.{Finite, IsExpansion}
 use Rattle.byte_unit_math.specs.Nearest.{IsNearest}
-use Rattle.byte_unit_math.specs.Numeral.{text_of, numeral, short, padded, at_places, shortened}
+use Rattle.byte_unit_math.specs.Digits.{at_places, shortened}
+use Rattle.byte_unit_math.specs.Numeral.{text_of, numeral, short}
+use Rattle.byte_unit_math.specs.Padded.{padded}
 use Rattle.byte_unit_math.specs.declared.expansion.Ties.{Ties}
 use Rattle.byte_unit_math.specs.declared.expansion.Ties.TheVariants.{Even, Up}
 use Rattle.byte_unit_math.proofs.Digits.{ten}

@@ -16,7 +16,8 @@ use Rattle.byte_unit_base.specs.Units.{shape_of}
 use Rattle.byte_unit_base.specs.Spelling.{Spells}
 use Rattle.byte_unit_base.specs.SizeText.{trimmed}
 use Rattle.byte_unit_math.specs.Finite.{value_of}
-use Rattle.byte_unit_math.specs.Numeral.{fraction_text, at_places, shortened}
+use Rattle.byte_unit_math.specs.Digits.{at_places, shortened}
+use Rattle.byte_unit_math.specs.Numeral.{fraction_text}
 use Rattle.byte_unit_math.proofs.Digits.{short_of}
 use Rattle.byte_unit_base.specs.declared.kind.Kind.{Kind}
 use Rattle.byte_unit_base.specs.declared.kind.Kind.TheVariants.{Byte, Bit}

@@ -5,7 +5,8 @@ use Rattle.std.specs.Fmt.{decimal}
 use Rattle.std.proofs.lemmas.Bool.{leb-true}
 use Rattle.byte_unit_math.specs.Bounds.{expansion_places, unit_limit}
 use Rattle.byte_unit_math.specs.Exact.{IsExactAt}
-use Rattle.byte_unit_math.specs.Numeral.{expansion_of, text_of}
+use Rattle.byte_unit_math.specs.Digits.{expansion_of}
+use Rattle.byte_unit_math.specs.Numeral.{text_of}
 use Rattle.byte_unit_math.proofs.Expanding.{powers_end}
 use Rattle.byte_unit_math.proofs.Texts.{expansion_there}
 use Rattle.byte_unit_base.specs.Shape.{bits, twos, fives}

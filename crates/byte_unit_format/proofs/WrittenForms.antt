@@ -6,7 +6,8 @@ use Rattle.std.proofs.lemmas.Bool.{cases_lt}
 use Rattle.std.proofs.lemmas.List.{length-take, length-map, map-append, length-append, length-replicate}
 use Rattle.byte_unit_math.specs.Bounds.{one, places_of_decimal}
 use Rattle.byte_unit_math.specs.Finite.{Finite, IsExpansion}
-use Rattle.byte_unit_math.specs.Numeral.{glyphs, fraction_text, text_of, padded}
+use Rattle.byte_unit_math.specs.Numeral.{glyphs, fraction_text, text_of}
+use Rattle.byte_unit_math.specs.Padded.{padded}
 use Rattle.byte_unit_math.proofs.Fractions.{text_none, text_some}
 use Rattle.byte_unit_math.proofs.Texts.{short_text, own_places}
 use Rattle.byte_unit_base.specs.Shape.{Shape, bits}

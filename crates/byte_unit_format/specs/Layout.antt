@@ -1,7 +1,8 @@
 -- A number with its unit.
 use Rattle.std.specs.Prelude.{ℕ, ◌+◌, ◌-◌, List, ◌++◌, length, Option, None, Some}
 use Rattle.byte_unit_math.specs.Finite.{Finite}
-use Rattle.byte_unit_math.specs.Numeral.{text_of, padded}
+use Rattle.byte_unit_math.specs.Numeral.{text_of}
+use Rattle.byte_unit_math.specs.Padded.{padded}
 use Rattle.byte_unit_base.specs.Shape.{Shape}
 use Rattle.byte_unit_base.specs.Edition.{Edition, name}
 use Rattle.byte_unit_format.specs.Plain.{missing, spaces}

@@ -6,7 +6,8 @@ ghost use Rattle.std.specs.String.{string_bytes};
 ghost use Rattle.byte_unit_base.specs.Edition.{name, current};
 ghost use Rattle.byte_unit_base.specs.Units.{shape_of};
 ghost use Rattle.byte_unit_math.specs.Finite.{Finite};
-ghost use Rattle.byte_unit_math.specs.Numeral.{fraction_text, padded, text_of};
+ghost use Rattle.byte_unit_math.specs.Numeral.{fraction_text, text_of};
+ghost use Rattle.byte_unit_math.specs.Padded.{padded};
 ghost use Rattle.byte_unit_format.specs.Room.{spare, Appends};
 ghost use Rattle.byte_unit_format.specs.Layout.{layout_of, before_layout, gap_of};
 

@@ -8,7 +8,7 @@ use Rattle.std.proofs.lemmas.List.{length-replicate}
 use Rattle.std.proofs.lemmas.List.Elements.{All-nil, All-cons, All-head, All-tail}
 use Rattle.std.proofs.lemmas.List.Sums.{fold-append}
 use Rattle.byte_unit_math.specs.Finite.{Finite, value_of, scaled}
-use Rattle.byte_unit_math.specs.Numeral.{last_digits, at_places, before, without_zeros, shortened}
+use Rattle.byte_unit_math.specs.Digits.{last_digits, at_places, before, without_zeros, shortened}
 
 pub ten : (p : ℕ) → 1 ≤ 10 ^ p
 ten p = one-le-pow p 10 (omega arith)

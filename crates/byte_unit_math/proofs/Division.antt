@@ -84,6 +84,14 @@ IsQuotient-digits size unit most rest fraction digits room h e =
       number = omega (arith, parts, split);
     }
 
+-- the quotient times the unit is the size
+pub IsQuotient-times :
+    (size unit places N : ℕ) → places ≤ places_of_decimal → IsQuotient size unit places N → N * unit ≡ size * one
+IsQuotient-times size unit places N few h =
+    let exact = ap (λ n. n * 10 ^ (places_of_decimal - places)) h.exact in
+    let parts = ap (λ n. size * n) (power_parts places few) in
+    ap (λ n. n * unit) h.number ∙ omega (arith, exact, parts)
+
 -- a digit's part stays below one
 pub part_below :
     (fraction digits : ℕ) → digits ≤ places_of_decimal → fraction < 10 ^ digits → fraction * 10 ^ (places_of_decimal - digits) < one

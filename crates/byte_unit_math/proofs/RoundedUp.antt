@@ -1,6 +1,9 @@
 -- A product that is rounded up from its last places, a group of digits a step.
-use Rattle.std.proofs.Common.{◌≡◌, ℕ, ◌+◌, ◌-◌, ◌*◌, ◌/◌, ◌%◌, ◌<◌, ◌≤◌, arith, subst, sym, ap, ⊎_elim, Option, Some, None, IfNone}
+use Rattle.std.proofs.Common.{◌≡◌, ℕ, ◌+◌, ◌-◌, ◌*◌, ◌/◌, ◌%◌, ◌<◌, ◌≤◌, arith, subst, sym, ap, ⊎_elim, Option, Some, None, IfSome, IfNone}
+use Rattle.std.proofs.Common.{Bool, true, false, ltb}
+use Rattle.std.specs.Bool.{then_some}
 use Rattle.std.proofs.lemmas.Bool.{cases_lt}
+use Rattle.std.proofs.lemmas.Bool.Decides.{nat_tests}
 use Rattle.std.proofs.Math.Nat.{mul-le-mul_right}
 use Rattle.byte_unit_math.specs.Bounds.{one}
 use Rattle.byte_unit_math.specs.Least.{IsLeastSize}
@@ -48,16 +51,32 @@ IsLeastSize-whole whole fraction unit part h =
           (cases_lt m (whole * unit));
     }
 
--- the same of a decimal's two parts
-pub IsLeastSize-parts :
-    (N unit whole fraction part size : ℕ) → whole ≡ N / one → fraction ≡ N % one → IsLeastSize fraction unit part
-    → size ≡ whole * unit + part → IsLeastSize N unit size
-IsLeastSize-parts N unit whole fraction part size w f h e =
-    let parts : whole * one + fraction ≡ N = omega arith in
-    let P : ℕ → Type 0 = λ m. IsLeastSize m unit size in
-    let Q : ℕ → Type 0 = λ n. IsLeastSize (whole * one + fraction) unit n in
-    subst P parts (subst Q (sym e) (IsLeastSize-whole whole fraction unit part h))
+-- a decimal in its two parts, and the least size of its fraction
+pub record InParts (N unit whole fraction part : ℕ) : Type 0 where
+  pub whole_is : whole ≡ N / one
+  pub fraction_is : fraction ≡ N % one
+  pub least : IsLeastSize fraction unit part
+
+pub IsLeastSize-parts : (N unit whole fraction part : ℕ) → InParts N unit whole fraction part → IsLeastSize N unit (whole * unit + part)
+IsLeastSize-parts N unit whole fraction part h =
+    let parts : whole * one + fraction ≡ N = omega (arith, h.whole_is, h.fraction_is) in
+    subst (λ number. IsLeastSize number unit (whole * unit + part)) parts (IsLeastSize-whole whole fraction unit part h.least)
+
+-- where the least size reaches the limit, so does each size that is enough
+pub none_below :
+    (N unit size limit : ℕ) → IsLeastSize N unit size → limit ≤ size → (enough : ℕ) → IsLeastSize N unit enough → limit ≤ enough
+none_below N unit size limit h reached enough k = omega (arith, reached, h.least enough k.has)
 
 pub IfNone-always : {T : Type 0} (o : Option T) (P : Type 0) → P → IfNone o P
 IfNone-always None P p = p
 IfNone-always (Some x) P p = tt
+
+pub IfSome-then_some : (is : Bool) (size : ℕ) (P : ℕ → Type 0) → P size → IfSome (then_some is size) P
+IfSome-then_some true size P p = p
+IfSome-then_some false size P p = tt
+
+pub IfNone-below : (size limit : ℕ) (P : Type 0) → (limit ≤ size → P) → IfNone (then_some (ltb size limit) size) P
+IfNone-below size limit P reached =
+    ⊎_elim (λ below. let yes : ltb size limit ≡ true = grind (arith, nat_tests) in
+    subst (λ is. IfNone (then_some is size) P) (sym yes) tt)
+    (λ above. IfNone-always (then_some (ltb size limit) size) P (reached above)) (cases_lt size limit)

@@ -15,8 +15,9 @@ use Rattle.byte_unit_math.specs.Nearest.{IsNearest}
 use Rattle.byte_unit_math.specs.declared.expansion.Ties.{Ties}
 use Rattle.byte_unit_math.specs.declared.expansion.Ties.TheVariants.{Even, Up}
 use Rattle.byte_unit_math.specs.Finite.{Finite, value_of, scaled, IsExpansion}
-use Rattle.byte_unit_math.specs.Numeral.{last_digits, at_places, before, without_zeros, shortened, expansion_of, text_of, numeral, short}
-use Rattle.byte_unit_math.specs.Numeral.{padded}
+use Rattle.byte_unit_math.specs.Digits.{last_digits, at_places, before, without_zeros, shortened, expansion_of}
+use Rattle.byte_unit_math.specs.Numeral.{text_of, numeral, short}
+use Rattle.byte_unit_math.specs.Padded.{padded}
 use Rattle.byte_unit_math.proofs.Division.{IsExactAt-more}
 use Rattle.byte_unit_math.proofs.Digits.{ten, value_cons, value_more, length_last, small_last, scaled_places, short_of}
 use Rattle.byte_unit_math.proofs.Expanding.{from_last, powers_end, powers_some}

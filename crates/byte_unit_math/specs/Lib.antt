@@ -4,7 +4,9 @@ pub mod RoundedUp
 pub mod Steps
 pub mod Exact
 pub mod Finite
+pub mod Digits
 pub mod Numeral
+pub mod Padded
 pub mod Nearest
 pub mod Powers
 pub mod NumberLaws

@@ -2,7 +2,7 @@
 use Rattle.std.specs.Prelude.{◌≡◌, ◌≢◌, ◌↔◌, ℕ, ◌+◌, ◌*◌, ◌^◌, ◌≤◌}
 use Rattle.byte_unit_math.specs.Exact.{IsExactAt, IsLeastPlaces}
 use Rattle.byte_unit_math.specs.Finite.{IsExpansion, scaled}
-use Rattle.byte_unit_math.specs.Numeral.{at_places, shortened}
+use Rattle.byte_unit_math.specs.Digits.{at_places, shortened}
 use Rattle.byte_unit_math.specs.Powers.{IsTwoFive, HasTwoFive, TakesLackingPlaces}
 
 -- a fraction over powers of two and five is exact at p places exactly where neither exponent is greater than p and what

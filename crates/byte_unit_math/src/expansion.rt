@@ -8,7 +8,8 @@ ghost use Rattle.byte_unit_math.specs.Bounds.{bits_limit, expansion_places, one,
 ghost use Rattle.byte_unit_math.specs.Exact.{IsExactAt};
 ghost use Rattle.byte_unit_math.specs.Finite.{IsExpansion, scaled, first};
 ghost use Rattle.byte_unit_math.specs.Nearest.{IsNearest};
-ghost use Rattle.byte_unit_math.specs.Numeral.{expansion_of, fraction_text, glyphs, text_of};
+ghost use Rattle.byte_unit_math.specs.Digits.{expansion_of};
+ghost use Rattle.byte_unit_math.specs.Numeral.{fraction_text, glyphs, text_of};
 
 use crate::decimal::{Decimal, ONE};
 use crate::decimal_digits::write_decimal;
@@ -40,7 +41,9 @@ pub struct Expansion {
 
 impl Model for Expansion {
     ghost use Rattle.byte_unit_math.specs.Finite.{Finite, finite_code};
-    ghost use Rattle.byte_unit_math.specs.Stored.{view_of, IsStored, fields_of, fields_of-view_of};
+    ghost use Rattle.byte_unit_math.specs.Stored.{view_of, IsStored, fields_of};
+    ghost use Rattle.std.specs.Prelude.{◌≤◌};
+    ghost use Rattle.std.proofs.Common.{length-take-le, take-append-drop, sym, refl, subst};
 
     ghost Value = { Finite };
 
@@ -52,7 +55,9 @@ impl Model for Expansion {
 
     ghost inverse = { fields_of };
 
-    ghost inverse_ok = { fields_of-view_of };
+    // The digits that are seen and the zeros behind them are all that is stored.
+    ghost inverse_ok = { λ e h. let few = subst (λ n. e.places ≤ n) (sym h.size) h.few in
+        rw (length-take-le e.places e.digits few, sym h.rest, take-append-drop e.places e.digits) refl };
 }
 
 impl Expansion {

@@ -57,7 +57,7 @@ pub fn least_size_counted(
     let part = rounded_up(d.fraction(), unit_size, steps);
     // A number past 128 bits is past each limit.
     let size = d.whole().checked_mul(unit_size)?.checked_add(part)?;
-    if size < limit { Some(size) } else { None }
+    (size < limit).then_some(size)
 }
 
 /// The fraction, in last places, times the unit's size, rounded up to a whole number.

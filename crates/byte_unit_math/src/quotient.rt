@@ -1,6 +1,6 @@
 //! Exact quotients by long division.
-ghost use Rattle.std.specs.Prelude.{◌≡◌, ℕ, ◌-◌, ◌^◌, ◌<◌, ◌≤◌, min, IfSome, IfNone};
-ghost use Rattle.byte_unit_math.specs.Bounds.{places_of_decimal, unit_limit, whole_limit};
+ghost use Rattle.std.specs.Prelude.{◌≡◌, ℕ, ◌*◌, ◌-◌, ◌^◌, ◌<◌, ◌≤◌, min, IfSome, IfNone};
+ghost use Rattle.byte_unit_math.specs.Bounds.{one, places_of_decimal, unit_limit, whole_limit};
 ghost use Rattle.byte_unit_math.specs.Steps.{raised};
 ghost use Rattle.byte_unit_math.specs.Exact.{IsExactAt, IsQuotient, IsFirstExact};
 
@@ -25,7 +25,8 @@ pub fn exact_quotient(size: u128, unit: u128, places: u32, steps: &mut Steps) ->
     requires small_unit { unit ≤ unit_limit }
     requires small_size { size < whole_limit }
     ensures quotient { IfSome result (IsQuotient size unit (min places places_of_decimal)) }
-    ensures none { IfNone result (IsExactAt size unit (min places places_of_decimal) → ⊥) }
+    ensures exact { IfSome result (λ N. N * unit ≡ size * one) }
+    ensures none { IfNone result (¬ IsExactAt size unit (min places places_of_decimal)) }
     ensures ticks { (digits : ℕ)
         × IsFirstExact size unit (min places places_of_decimal) digits
         × (steps.new ≡ raised steps.old digits) }

@@ -1,5 +1,6 @@
 use Rattle.std.proofs.Common.{sym, ◌∙◌, ◌*◌}
-use Rattle.byte_unit_math.specs.Numeral.{text_of, padded}
+use Rattle.byte_unit_math.specs.Numeral.{text_of}
+use Rattle.byte_unit_math.specs.Padded.{padded}
 use Rattle.byte_unit_math.proofs.Texts.{short_text, numeral_text}
 use Rattle.byte_unit_base.specs.Shape.{bits}
 use Rattle.byte_unit_base.specs.Units.{shape_of}

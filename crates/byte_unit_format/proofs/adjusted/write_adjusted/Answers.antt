@@ -1,7 +1,8 @@
 use Rattle.std.proofs.Common.{◌++◌, ◌*◌, refl, ap, ◌∙◌}
 use Rattle.std.specs.Prelude.{codes}
 use Rattle.std.proofs.Output.{has_written_append, has_written_of_eq, has_written_styled_append, has_written_styled_of_eq}
-use Rattle.byte_unit_math.specs.Numeral.{expansion_of, text_of}
+use Rattle.byte_unit_math.specs.Digits.{expansion_of}
+use Rattle.byte_unit_math.specs.Numeral.{text_of}
 use Rattle.byte_unit_base.specs.Shape.{bits}
 use Rattle.byte_unit_base.specs.Units.{shape_of}
 use Rattle.byte_unit_base.specs.Kinds.{bits_in}

@@ -1,8 +1,9 @@
-use Rattle.std.proofs.Common.{ℕ, ◌+◌, ◌*◌, ◌<◌, SomeIff, arith, subst, sym}
-use Rattle.byte_unit_math.specs.Bounds.{one, whole_limit}
+use Rattle.std.proofs.Common.{ℕ, ◌+◌, ◌*◌, ◌<◌, SomeIff, min, arith, subst, sym}
+use Rattle.std.proofs.lemmas.Option.{IfSome_then}
+use Rattle.byte_unit_math.specs.Bounds.{one, places_of_decimal, whole_limit}
 use Rattle.byte_unit_math.specs.Exact.{IsExactAt}
 use Rattle.byte_unit_math.proofs.quotient.exact_quotient.Goals.{then-loop-rest-test+else-digits-most, else-loop-rest-test}
-use Rattle.byte_unit_math.proofs.Division.{Dividing-more, next_fits, not_exact, part_below, quotient_made, always_made}
+use Rattle.byte_unit_math.proofs.Division.{Dividing-more, next_fits, not_exact, part_below, quotient_made, always_made, IsQuotient-times}
 use Rattle.byte_unit_math.proofs.quotient.exact_quotient.Goals as goal
 
 pub overflow_mul-fraction : goal.overflow_mul-fraction
@@ -53,6 +54,16 @@ returns-clause-quotient c =
     let made = subst number c.quotient_and_rest-whole.ensures.quotient c.new.ensures in
     let divides = c.loop-rest.invariant.divides in
     quotient_made _ _ _ _ _ _ _ _ _ c.min-most.ensures (omega arith) c.power_of_ten.ensures (omega arith) divides made
+
+pub returns-clause-exact : goal.returns-clause-exact
+returns-clause-exact c =
+    let part = c.loop-rest.fraction * c.power_of_ten.result in
+    let number : ℕ → Type 0 = λ whole. SomeIff c.new.result ((whole < whole_limit) × (part < one)) (whole * one + part) in
+    let made = subst number c.quotient_and_rest-whole.ensures.quotient c.new.ensures in
+    let divides = c.loop-rest.invariant.divides in
+    IfSome_then c.new.result
+    (quotient_made _ _ _ _ _ _ _ _ _ c.min-most.ensures (omega arith) c.power_of_ten.ensures (omega arith) divides made)
+    (λ N is. IsQuotient-times c.args.size c.args.unit (min c.args.places places_of_decimal) N (omega arith) is)
 
 pub returns-clause-none : goal.returns-clause-none
 returns-clause-none c =
