@@ -14,7 +14,8 @@ use Rattle.byte_unit_base.specs.Units.{shape_of}
 use Rattle.byte_unit_base.specs.Family.{HasPrefix, InFamily, IsOfType}
 use Rattle.byte_unit_base.specs.Choice.{IsLargest, NoneHas, Suits}
 use Rattle.byte_unit_base.specs.Multiples.{HasPowers, ListsUnits, falling_from, row_of, row_shape}
-use Rattle.byte_unit_base.specs.declared.unit.Unit.{Unit as UnitName}
+use Rattle.byte_unit_base.specs.declared.unit.Unit.TheVariants.{Bit}
+use Rattle.byte_unit_base.specs.declared.unit.family.Row.{Row}
 use Rattle.byte_unit_base.specs.declared.unit.family.Family.{Family}
 use Rattle.byte_unit_base.specs.declared.unit.family.Family.TheVariants.{All, Bytes, Bits}
 use Rattle.byte_unit_base.specs.declared.unit.unit_type.UnitType.{UnitType}
@@ -22,12 +23,13 @@ use Rattle.byte_unit_base.proofs.Choosing.{some_bits}
 use Rattle.byte_unit_base.proofs.Falling.{IsIn, IsIn-at, Remain, falls, in_falling, from_falling, current_falls, largest_found}
 use Rattle.byte_unit_base.proofs.Falling.{Remain-behind, Remain-at_end, width, drop_prefixes}
 
--- a row as the code has it, and its unit
-abbrev pub CodeRow : Type 0
-CodeRow = UnitName × ℕ × ℕ × ℕ
+-- the unit of a row as the code has it
+abbrev pub unit_in : Row → Shape
+unit_in row = shape_of row.unit
 
-abbrev pub unit_in : CodeRow → Shape
-unit_in row = shape_of row.0
+-- what stands behind the rows
+abbrev pub no_row : Row
+no_row = record { unit = Bit; bits = 0; twos = 0; fives = 0 }
 
 -- a unit of the n-th prefix has 10 n binary digits
 abbrev reach : List Shape → Bool
@@ -64,7 +66,7 @@ length_of_all All = omega arith
 length_of_all Bytes = omega arith
 length_of_all Bits = omega arith
 
-pub rows_behind : (family : Family) (rows : List CodeRow) (prefixes skipped : ℕ) → map row_shape rows ≡ map row_of (falling_from family 8)
+pub rows_behind : (family : Family) (rows : List Row) (prefixes skipped : ℕ) → map row_shape rows ≡ map row_of (falling_from family 8)
     → prefixes ≤ 8 → skipped ≡ length rows / 8 * (8 - prefixes)
     → map row_shape (drop skipped rows) ≡ map row_of (falling_from family prefixes)
 rows_behind family rows prefixes skipped all few count =
@@ -80,22 +82,22 @@ rows_behind family rows prefixes skipped all few count =
     ∙ (drop-map row_of skipped units
     ∙ ap (map row_of) (ap (λ n. drop n units) here ∙ behind)))
 
-units_of_rows : (rows : List CodeRow) (units : List Shape) → map row_shape rows ≡ map row_of units → map unit_in rows ≡ units
+units_of_rows : (rows : List Row) (units : List Shape) → map row_shape rows ≡ map row_of units → map unit_in rows ≡ units
 units_of_rows [] [] e = refl
 units_of_rows [] (x ∷ xs) e = absurd (let k : ⊥ = cc in k)
 units_of_rows (r ∷ rs) [] e = absurd (let k : ⊥ = cc in k)
 units_of_rows (r ∷ rs) (x ∷ xs) e =
     let first : row_shape r ≡ row_of x = cc in
     let rest : map row_shape rs ≡ map row_of xs = cc in
-    let unit : unit_in r ≡ x = ap (λ t. t.0) first in
+    let unit : unit_in r ≡ x = ap (λ row. row.unit) first in
     ap (λ s. s ∷ map unit_in rs) unit ∙ ap (λ l. x ∷ l) (units_of_rows rs xs rest)
 
-pub listed_units : (family : Family) (in_bits : ℕ) (rows : List CodeRow) (h : ListsUnits family in_bits rows)
+pub listed_units : (family : Family) (in_bits : ℕ) (rows : List Row) (h : ListsUnits family in_bits rows)
     → map unit_in rows ≡ falling_from family h.prefixes
 listed_units family in_bits rows h = units_of_rows rows (falling_from family h.prefixes) h.rows_are
 
 -- at the start no unit with the property is left out
-pub search_start : (Has : Shape → Type 0) (family : Family) (in_bits : ℕ) (rows : List CodeRow) → ListsUnits family in_bits rows
+pub search_start : (Has : Shape → Type 0) (family : Family) (in_bits : ℕ) (rows : List Row) → ListsUnits family in_bits rows
     → ((unit : Shape) → Has unit → InFamily current family unit × (bits unit ≤ in_bits)) → Remain Has (drop 0 (map unit_in rows))
 search_start Has family in_bits rows h within = λ unit has.
     let m = within unit has in
@@ -104,13 +106,13 @@ search_start Has family in_bits rows h within = λ unit has.
     subst P (sym (listed_units family in_bits rows h)) (in_falling family h.prefixes unit m.0.kind m.0.prefix.some known)
 
 -- what a row says of its unit
-pub record IsRow (family : Family) (row : CodeRow) : Type 0 where
+pub record IsRow (family : Family) (row : Row) : Type 0 where
   pub member : InFamily current family (unit_in row)
-  pub bits_are : row.1 ≡ bits (unit_in row)
-  pub twos_are : row.2 ≡ twos (unit_in row)
-  pub fives_are : row.3 ≡ fives (unit_in row)
+  pub bits_are : row.bits ≡ bits (unit_in row)
+  pub twos_are : row.twos ≡ twos (unit_in row)
+  pub fives_are : row.fives ≡ fives (unit_in row)
 
-pub row_there : {family : Family} {in_bits : ℕ} {rows : List CodeRow} (i : ℕ) (d : CodeRow) → ListsUnits family in_bits rows
+pub row_there : {family : Family} {in_bits : ℕ} {rows : List Row} (i : ℕ) (d : Row) → ListsUnits family in_bits rows
     → i < length rows → IsRow family (get_or rows i d)
 row_there {family} {in_bits} {rows} i d h within =
     let units = falling_from family h.prefixes in
@@ -123,20 +125,20 @@ row_there {family} {in_bits} {rows} i d h within =
     sym (get_or-map row_shape rows i d (row_shape row) within)
     ∙ (ap (λ l. get_or l i (row_shape row)) h.rows_are
     ∙ get_or-map row_of units i (unit_in row) (row_shape row) there) in
-    let is_unit : unit_in row ≡ unit = ap (λ t. t.0) same in
+    let is_unit : unit_in row ≡ unit = ap (λ row. row.unit) same in
     let known = from_falling family h.prefixes unit (IsIn-at units i (unit_in row) there) in
     let few : h.prefixes ≤ 8 = h.few in
     let member : InFamily current family unit =
     record { prefix = record { some = known.0; known = omega (arith, known.1, few) }; kind = known.2 } in
     record {
       member = subst (InFamily current family) (sym is_unit) member;
-      bits_are = ap (λ t. t.1) same ∙ ap bits (sym is_unit);
-      twos_are = ap (λ t. t.2) same ∙ ap twos (sym is_unit);
-      fives_are = ap (λ t. t.3) same ∙ ap fives (sym is_unit);
+      bits_are = ap (λ row. row.bits) same ∙ ap bits (sym is_unit);
+      twos_are = ap (λ row. row.twos) same ∙ ap twos (sym is_unit);
+      fives_are = ap (λ row. row.fives) same ∙ ap fives (sym is_unit);
     }
 
 -- the search along the units of rows
-pub unit_found : {family : Family} {in_bits : ℕ} {rows : List CodeRow} (Has : Shape → Type 0) (i : ℕ) (d : CodeRow)
+pub unit_found : {family : Family} {in_bits : ℕ} {rows : List Row} (Has : Shape → Type 0) (i : ℕ) (d : Row)
     → ListsUnits family in_bits rows → Remain Has (drop i (map unit_in rows)) → i < length rows → Has (unit_in (get_or rows i d))
     → IsLargest Has (unit_in (get_or rows i d))
 unit_found {family} {in_bits} {rows} Has i d h remain within has =
@@ -146,14 +148,14 @@ unit_found {family} {in_bits} {rows} Has i d h remain within has =
     let there : i < length (map unit_in rows) = omega (arith, length-map rows unit_in, within) in
     largest_found Has (map unit_in rows) i unit fall remain there (get_or-map unit_in rows i d unit within) has
 
-pub unit_passed : (Has : Shape → Type 0) (rows : List CodeRow) (i : ℕ) (d : CodeRow) → Remain Has (drop i (map unit_in rows))
+pub unit_passed : (Has : Shape → Type 0) (rows : List Row) (i : ℕ) (d : Row) → Remain Has (drop i (map unit_in rows))
     → i < length rows → ¬ (Has (unit_in (get_or rows i d))) → Remain Has (drop (i + 1) (map unit_in rows))
 unit_passed Has rows i d remain within without =
     let unit = unit_in (get_or rows i d) in
     let there : i < length (map unit_in rows) = omega (arith, length-map rows unit_in, within) in
     Remain-behind Has (map unit_in rows) i unit remain there (get_or-map unit_in rows i d unit within) without
 
-pub none_found : (Has : Shape → Type 0) (rows : List CodeRow) (i : ℕ) → length rows ≤ i → Remain Has (drop i (map unit_in rows))
+pub none_found : (Has : Shape → Type 0) (rows : List Row) (i : ℕ) → length rows ≤ i → Remain Has (drop i (map unit_in rows))
     → NoneHas Has
 none_found Has rows i done remain = Remain-at_end Has (map unit_in rows) i (omega (arith, length-map rows unit_in, done)) remain
 
@@ -161,8 +163,8 @@ pub none_true : (b : Bool) (P : Type 0) → b ≡ false → (P → b ≡ true) �
 none_true b P e h p = let t = h p in let k : ⊥ = cc in k
 
 -- the tests of a row are those of its unit
-pub row_powers : {family : Family} {row : CodeRow} (in_bits a b : ℕ) → IsRow family row
-    → (row.1 ≤ in_bits) × (row.2 ≤ a) × (row.3 ≤ b) → HasPowers current family in_bits a b (unit_in row)
+pub row_powers : {family : Family} {row : Row} (in_bits a b : ℕ) → IsRow family row
+    → (row.bits ≤ in_bits) × (row.twos ≤ a) × (row.fives ≤ b) → HasPowers current family in_bits a b (unit_in row)
 row_powers in_bits a b is h = record {
   member = is.member;
   not_above = omega (arith, is.bits_are, h.0);
@@ -170,15 +172,15 @@ row_powers in_bits a b is h = record {
   few_fives = omega (arith, is.fives_are, h.2);
 }
 
-pub powers_in_row : {family : Family} {row : CodeRow} (in_bits a b : ℕ) → IsRow family row
-    → HasPowers current family in_bits a b (unit_in row) → (row.1 ≤ in_bits) × (row.2 ≤ a) × (row.3 ≤ b)
+pub powers_in_row : {family : Family} {row : Row} (in_bits a b : ℕ) → IsRow family row
+    → HasPowers current family in_bits a b (unit_in row) → (row.bits ≤ in_bits) × (row.twos ≤ a) × (row.fives ≤ b)
 powers_in_row in_bits a b is h =
     (omega (arith, is.bits_are, h.not_above), omega (arith, is.twos_are, h.few_twos), omega (arith, is.fives_are, h.few_fives))
 
-pub row_suits : {family : Family} {row : CodeRow} (unit_type : UnitType) (in_bits : ℕ) → IsRow family row
-    → (row.1 ≤ in_bits) × IsOfType unit_type (unit_in row).binary → Suits current family unit_type in_bits (unit_in row)
+pub row_suits : {family : Family} {row : Row} (unit_type : UnitType) (in_bits : ℕ) → IsRow family row
+    → (row.bits ≤ in_bits) × IsOfType unit_type (unit_in row).binary → Suits current family unit_type in_bits (unit_in row)
 row_suits unit_type in_bits is h = record { member = is.member; of_type = h.1; not_above = omega (arith, is.bits_are, h.0) }
 
-pub suits_in_row : {family : Family} {row : CodeRow} (unit_type : UnitType) (in_bits : ℕ) → IsRow family row
-    → Suits current family unit_type in_bits (unit_in row) → (row.1 ≤ in_bits) × IsOfType unit_type (unit_in row).binary
+pub suits_in_row : {family : Family} {row : Row} (unit_type : UnitType) (in_bits : ℕ) → IsRow family row
+    → Suits current family unit_type in_bits (unit_in row) → (row.bits ≤ in_bits) × IsOfType unit_type (unit_in row).binary
 suits_in_row unit_type in_bits is h = (omega (arith, is.bits_are, h.not_above), h.of_type)

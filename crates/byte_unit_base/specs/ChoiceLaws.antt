@@ -53,10 +53,10 @@ NumberTimesUnitIsSize =
 -- a size has one chosen unit, with one number
 abbrev pub ChoicesAreOne : Type 0
 ChoicesAreOne =
-    (edition : Edition) (family : Family) (in_bits precision n m : ℕ) (a b : Shape)
-    → IsChosen edition family in_bits precision a n
-    → IsChosen edition family in_bits precision b m
-    → (a ≡ b) × (n ≡ m)
+    (edition : Edition) (family : Family) (in_bits precision number other_number : ℕ) (unit other_unit : Shape)
+    → IsChosen edition family in_bits precision unit number
+    → IsChosen edition family in_bits precision other_unit other_number
+    → (unit ≡ other_unit) × (number ≡ other_number)
 
 -- a size has a chosen unit with its number, or no unit states it
 abbrev pub EachSizeHasAChoiceOrNone : Type 0

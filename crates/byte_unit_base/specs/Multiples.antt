@@ -4,7 +4,7 @@ use Rattle.byte_unit_base.specs.Shape.{Shape, shape, bits, twos, fives}
 use Rattle.byte_unit_base.specs.Units.{shape_of}
 use Rattle.byte_unit_base.specs.Edition.{Edition, current}
 use Rattle.byte_unit_base.specs.Family.{HasPrefix, InFamily}
-use Rattle.byte_unit_base.specs.declared.unit.Unit.{Unit as UnitName}
+use Rattle.byte_unit_base.specs.declared.unit.family.Row.{Row}
 use Rattle.byte_unit_base.specs.declared.unit.family.Family.{Family}
 use Rattle.byte_unit_base.specs.declared.unit.family.Family.TheVariants.{All, Bytes, Bits}
 
@@ -20,20 +20,23 @@ abbrev pub falling_from : Family → ℕ → List Shape
 falling_from family zero = []
 falling_from family (suc power) = of_prefix family (suc power) ++ falling_from family power
 
--- a row of a table: the unit, its bits, and its exponents of two and of five
-abbrev pub Row : Type 0
-Row = Shape × ℕ × ℕ × ℕ
+-- a row of a table, with the shape of its unit: the unit, its bits, and its exponents of two and of five
+pub record ShapeRow : Type 0 where
+  pub unit : Shape
+  pub bits : ℕ
+  pub twos : ℕ
+  pub fives : ℕ
 
 -- the row that a unit has
-abbrev pub row_of : Shape → Row
-row_of unit = (unit, bits unit, twos unit, fives unit)
+abbrev pub row_of : Shape → ShapeRow
+row_of unit = record { unit = unit; bits = bits unit; twos = twos unit; fives = fives unit }
 
 -- a row as the code has it
-abbrev pub row_shape : UnitName × ℕ × ℕ × ℕ → Row
-row_shape row = (shape_of row.0, row.1, row.2, row.3)
+abbrev pub row_shape : Row → ShapeRow
+row_shape row = record { unit = shape_of row.unit; bits = row.bits; twos = row.twos; fives = row.fives }
 
 -- rows that have every unit of the family, from the largest, whose bits are not above these
-pub record ListsUnits (family : Family) (in_bits : ℕ) (rows : List (UnitName × ℕ × ℕ × ℕ)) : Type 0 where
+pub record ListsUnits (family : Family) (in_bits : ℕ) (rows : List Row) : Type 0 where
   pub prefixes : ℕ
   pub few : prefixes ≤ length current.letters
   pub rows_are : map row_shape rows ≡ map row_of (falling_from family prefixes)

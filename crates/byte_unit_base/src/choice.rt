@@ -70,7 +70,7 @@ fn first_by_powers(family: Family, in_bits: u128, twos: u32, fives: u32) -> Opti
 {
     for row in family.multiples_within(in_bits) {
         if has_powers(*row, in_bits, twos, fives) {
-            return Some((row.0, row.1));
+            return Some((row.unit, row.bits));
         }
     }
     None
@@ -79,10 +79,9 @@ fn first_by_powers(family: Family, in_bits: u128, twos: u32, fives: u32) -> Opti
 /// Whether the unit of a row is not above the size in bits, and has no more twos and fives than these.
 /// All three are compared at once: a jump for each takes longer.
 fn has_powers(row: Row, in_bits: u128, most_twos: u32, most_fives: u32) -> bool
-    ensures { IsTrue result ↔ ((row.1 ≤ in_bits) × (row.2 ≤ most_twos) × (row.3 ≤ most_fives)) }
+    ensures { IsTrue result ↔ ((row.bits ≤ in_bits) × (row.twos ≤ most_twos) × (row.fives ≤ most_fives)) }
 {
-    let (_, bits, twos, fives) = row;
-    (bits <= in_bits) & (twos <= most_twos) & (fives <= most_fives)
+    (row.bits <= in_bits) & (row.twos <= most_twos) & (row.fives <= most_fives)
 }
 
 /// The largest unit of the family and of the type that is not above the size. `None` exactly where
@@ -113,7 +112,7 @@ fn first_suited(in_bits: u128, family: Family, unit_type: UnitType) -> Option<Un
 {
     for row in family.multiples_within(in_bits) {
         if suits(*row, unit_type, in_bits) {
-            return Some(row.0);
+            return Some(row.unit);
         }
     }
     None
@@ -121,9 +120,9 @@ fn first_suited(in_bits: u128, family: Family, unit_type: UnitType) -> Option<Un
 
 /// Whether the unit of a row is of the type, and not above the size in bits.
 fn suits(row: Row, unit_type: UnitType, in_bits: u128) -> bool
-    ensures { IsTrue result ↔ ((row.1 ≤ in_bits) × IsOfType unit_type (shape_of row.0).binary) }
+    ensures { IsTrue result ↔ ((row.bits ≤ in_bits) × IsOfType unit_type (shape_of row.unit).binary) }
 {
-    row.1 <= in_bits && unit_type.takes(row.0.is_binary_multiples())
+    row.bits <= in_bits && unit_type.takes(row.unit.is_binary_multiples())
 }
 
 #[cfg(test)]

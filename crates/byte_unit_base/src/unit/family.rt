@@ -17,8 +17,14 @@ pub enum Family {
     Bits,
 }
 
-/// A unit with its bits, and the exponents of two and of five in them.
-pub(crate) type Row = (Unit, u128, u32, u32);
+/// A row of a table: a unit with its bits, and the exponents of two and of five in them.
+#[derive(Clone, Copy)]
+pub(crate) struct Row {
+    pub(crate) unit: Unit,
+    pub(crate) bits: u128,
+    pub(crate) twos: u32,
+    pub(crate) fives: u32,
+}
 
 /// The prefixes. A family has as many units of each.
 const PREFIXES: usize = 8;
@@ -49,76 +55,243 @@ impl Family {
 
 /// The multiples of bytes and of bits, from the largest.
 static ALL: [Row; 32] = [
-    (Unit::YiB, 9_671_406_556_917_033_397_649_408, 83, 0),
-    (Unit::YB, 8_000_000_000_000_000_000_000_000, 27, 24),
-    (Unit::Yibit, 1_208_925_819_614_629_174_706_176, 80, 0),
-    (Unit::Ybit, 1_000_000_000_000_000_000_000_000, 24, 24),
-    (Unit::ZiB, 9_444_732_965_739_290_427_392, 73, 0),
-    (Unit::ZB, 8_000_000_000_000_000_000_000, 24, 21),
-    (Unit::Zibit, 1_180_591_620_717_411_303_424, 70, 0),
-    (Unit::Zbit, 1_000_000_000_000_000_000_000, 21, 21),
-    (Unit::EiB, 9_223_372_036_854_775_808, 63, 0),
-    (Unit::EB, 8_000_000_000_000_000_000, 21, 18),
-    (Unit::Eibit, 1_152_921_504_606_846_976, 60, 0),
-    (Unit::Ebit, 1_000_000_000_000_000_000, 18, 18),
-    (Unit::PiB, 9_007_199_254_740_992, 53, 0),
-    (Unit::PB, 8_000_000_000_000_000, 18, 15),
-    (Unit::Pibit, 1_125_899_906_842_624, 50, 0),
-    (Unit::Pbit, 1_000_000_000_000_000, 15, 15),
-    (Unit::TiB, 8_796_093_022_208, 43, 0),
-    (Unit::TB, 8_000_000_000_000, 15, 12),
-    (Unit::Tibit, 1_099_511_627_776, 40, 0),
-    (Unit::Tbit, 1_000_000_000_000, 12, 12),
-    (Unit::GiB, 8_589_934_592, 33, 0),
-    (Unit::GB, 8_000_000_000, 12, 9),
-    (Unit::Gibit, 1_073_741_824, 30, 0),
-    (Unit::Gbit, 1_000_000_000, 9, 9),
-    (Unit::MiB, 8_388_608, 23, 0),
-    (Unit::MB, 8_000_000, 9, 6),
-    (Unit::Mibit, 1_048_576, 20, 0),
-    (Unit::Mbit, 1_000_000, 6, 6),
-    (Unit::KiB, 8_192, 13, 0),
-    (Unit::KB, 8_000, 6, 3),
-    (Unit::Kibit, 1_024, 10, 0),
-    (Unit::Kbit, 1_000, 3, 3),
+    YIB, YB, YIBIT, YBIT, ZIB, ZB, ZIBIT, ZBIT, EIB, EB, EIBIT, EBIT, PIB, PB, PIBIT, PBIT, TIB,
+    TB, TIBIT, TBIT, GIB, GB, GIBIT, GBIT, MIB, MB, MIBIT, MBIT, KIB, KB, KIBIT, KBIT,
 ];
 
 /// The multiples of bytes, from the largest.
 static BYTES: [Row; 16] = [
-    (Unit::YiB, 9_671_406_556_917_033_397_649_408, 83, 0),
-    (Unit::YB, 8_000_000_000_000_000_000_000_000, 27, 24),
-    (Unit::ZiB, 9_444_732_965_739_290_427_392, 73, 0),
-    (Unit::ZB, 8_000_000_000_000_000_000_000, 24, 21),
-    (Unit::EiB, 9_223_372_036_854_775_808, 63, 0),
-    (Unit::EB, 8_000_000_000_000_000_000, 21, 18),
-    (Unit::PiB, 9_007_199_254_740_992, 53, 0),
-    (Unit::PB, 8_000_000_000_000_000, 18, 15),
-    (Unit::TiB, 8_796_093_022_208, 43, 0),
-    (Unit::TB, 8_000_000_000_000, 15, 12),
-    (Unit::GiB, 8_589_934_592, 33, 0),
-    (Unit::GB, 8_000_000_000, 12, 9),
-    (Unit::MiB, 8_388_608, 23, 0),
-    (Unit::MB, 8_000_000, 9, 6),
-    (Unit::KiB, 8_192, 13, 0),
-    (Unit::KB, 8_000, 6, 3),
+    YIB, YB, ZIB, ZB, EIB, EB, PIB, PB, TIB, TB, GIB, GB, MIB, MB, KIB, KB,
 ];
 
 /// The multiples of bits, from the largest.
 static BITS: [Row; 16] = [
-    (Unit::Yibit, 1_208_925_819_614_629_174_706_176, 80, 0),
-    (Unit::Ybit, 1_000_000_000_000_000_000_000_000, 24, 24),
-    (Unit::Zibit, 1_180_591_620_717_411_303_424, 70, 0),
-    (Unit::Zbit, 1_000_000_000_000_000_000_000, 21, 21),
-    (Unit::Eibit, 1_152_921_504_606_846_976, 60, 0),
-    (Unit::Ebit, 1_000_000_000_000_000_000, 18, 18),
-    (Unit::Pibit, 1_125_899_906_842_624, 50, 0),
-    (Unit::Pbit, 1_000_000_000_000_000, 15, 15),
-    (Unit::Tibit, 1_099_511_627_776, 40, 0),
-    (Unit::Tbit, 1_000_000_000_000, 12, 12),
-    (Unit::Gibit, 1_073_741_824, 30, 0),
-    (Unit::Gbit, 1_000_000_000, 9, 9),
-    (Unit::Mibit, 1_048_576, 20, 0),
-    (Unit::Mbit, 1_000_000, 6, 6),
-    (Unit::Kibit, 1_024, 10, 0),
-    (Unit::Kbit, 1_000, 3, 3),
+    YIBIT, YBIT, ZIBIT, ZBIT, EIBIT, EBIT, PIBIT, PBIT, TIBIT, TBIT, GIBIT, GBIT, MIBIT, MBIT,
+    KIBIT, KBIT,
 ];
+
+// The rows, each once.
+
+const YIB: Row = Row {
+    unit: Unit::YiB,
+    bits: 9_671_406_556_917_033_397_649_408,
+    twos: 83,
+    fives: 0,
+};
+
+const YB: Row = Row {
+    unit: Unit::YB,
+    bits: 8_000_000_000_000_000_000_000_000,
+    twos: 27,
+    fives: 24,
+};
+
+const YIBIT: Row = Row {
+    unit: Unit::Yibit,
+    bits: 1_208_925_819_614_629_174_706_176,
+    twos: 80,
+    fives: 0,
+};
+
+const YBIT: Row = Row {
+    unit: Unit::Ybit,
+    bits: 1_000_000_000_000_000_000_000_000,
+    twos: 24,
+    fives: 24,
+};
+
+const ZIB: Row = Row {
+    unit: Unit::ZiB,
+    bits: 9_444_732_965_739_290_427_392,
+    twos: 73,
+    fives: 0,
+};
+
+const ZB: Row = Row {
+    unit: Unit::ZB,
+    bits: 8_000_000_000_000_000_000_000,
+    twos: 24,
+    fives: 21,
+};
+
+const ZIBIT: Row = Row {
+    unit: Unit::Zibit,
+    bits: 1_180_591_620_717_411_303_424,
+    twos: 70,
+    fives: 0,
+};
+
+const ZBIT: Row = Row {
+    unit: Unit::Zbit,
+    bits: 1_000_000_000_000_000_000_000,
+    twos: 21,
+    fives: 21,
+};
+
+const EIB: Row = Row {
+    unit: Unit::EiB,
+    bits: 9_223_372_036_854_775_808,
+    twos: 63,
+    fives: 0,
+};
+
+const EB: Row = Row {
+    unit: Unit::EB,
+    bits: 8_000_000_000_000_000_000,
+    twos: 21,
+    fives: 18,
+};
+
+const EIBIT: Row = Row {
+    unit: Unit::Eibit,
+    bits: 1_152_921_504_606_846_976,
+    twos: 60,
+    fives: 0,
+};
+
+const EBIT: Row = Row {
+    unit: Unit::Ebit,
+    bits: 1_000_000_000_000_000_000,
+    twos: 18,
+    fives: 18,
+};
+
+const PIB: Row = Row {
+    unit: Unit::PiB,
+    bits: 9_007_199_254_740_992,
+    twos: 53,
+    fives: 0,
+};
+
+const PB: Row = Row {
+    unit: Unit::PB,
+    bits: 8_000_000_000_000_000,
+    twos: 18,
+    fives: 15,
+};
+
+const PIBIT: Row = Row {
+    unit: Unit::Pibit,
+    bits: 1_125_899_906_842_624,
+    twos: 50,
+    fives: 0,
+};
+
+const PBIT: Row = Row {
+    unit: Unit::Pbit,
+    bits: 1_000_000_000_000_000,
+    twos: 15,
+    fives: 15,
+};
+
+const TIB: Row = Row {
+    unit: Unit::TiB,
+    bits: 8_796_093_022_208,
+    twos: 43,
+    fives: 0,
+};
+
+const TB: Row = Row {
+    unit: Unit::TB,
+    bits: 8_000_000_000_000,
+    twos: 15,
+    fives: 12,
+};
+
+const TIBIT: Row = Row {
+    unit: Unit::Tibit,
+    bits: 1_099_511_627_776,
+    twos: 40,
+    fives: 0,
+};
+
+const TBIT: Row = Row {
+    unit: Unit::Tbit,
+    bits: 1_000_000_000_000,
+    twos: 12,
+    fives: 12,
+};
+
+const GIB: Row = Row {
+    unit: Unit::GiB,
+    bits: 8_589_934_592,
+    twos: 33,
+    fives: 0,
+};
+
+const GB: Row = Row {
+    unit: Unit::GB,
+    bits: 8_000_000_000,
+    twos: 12,
+    fives: 9,
+};
+
+const GIBIT: Row = Row {
+    unit: Unit::Gibit,
+    bits: 1_073_741_824,
+    twos: 30,
+    fives: 0,
+};
+
+const GBIT: Row = Row {
+    unit: Unit::Gbit,
+    bits: 1_000_000_000,
+    twos: 9,
+    fives: 9,
+};
+
+const MIB: Row = Row {
+    unit: Unit::MiB,
+    bits: 8_388_608,
+    twos: 23,
+    fives: 0,
+};
+
+const MB: Row = Row {
+    unit: Unit::MB,
+    bits: 8_000_000,
+    twos: 9,
+    fives: 6,
+};
+
+const MIBIT: Row = Row {
+    unit: Unit::Mibit,
+    bits: 1_048_576,
+    twos: 20,
+    fives: 0,
+};
+
+const MBIT: Row = Row {
+    unit: Unit::Mbit,
+    bits: 1_000_000,
+    twos: 6,
+    fives: 6,
+};
+
+const KIB: Row = Row {
+    unit: Unit::KiB,
+    bits: 8_192,
+    twos: 13,
+    fives: 0,
+};
+
+const KB: Row = Row {
+    unit: Unit::KB,
+    bits: 8_000,
+    twos: 6,
+    fives: 3,
+};
+
+const KIBIT: Row = Row {
+    unit: Unit::Kibit,
+    bits: 1_024,
+    twos: 10,
+    fives: 0,
+};
+
+const KBIT: Row = Row {
+    unit: Unit::Kbit,
+    bits: 1_000,
+    twos: 3,
+    fives: 3,
+};

@@ -1,7 +1,6 @@
 use Rattle.byte_unit_base.specs.Edition.{current}
 use Rattle.byte_unit_base.specs.Multiples.{HasPowers}
-use Rattle.byte_unit_base.specs.declared.unit.Unit.TheVariants.{Bit}
-use Rattle.byte_unit_base.proofs.Rows.{search_start, row_there, row_powers, powers_in_row, unit_found, unit_passed, none_found, none_true}
+use Rattle.byte_unit_base.proofs.Rows.{no_row, search_start, row_there, row_powers, powers_in_row, unit_found, unit_passed, none_found, none_true}
 use Rattle.byte_unit_base.proofs.choice.first_by_powers.Goals as goal
 
 pub loop-row-init : goal.loop-row-init
@@ -15,9 +14,9 @@ loop-row-preserved c =
     let few = HasPowers current c.args.family c.args.in_bits c.args.twos c.args.fives in
     let rows = c.multiples_within-row-items.result.now in
     let i = c.loop-row.row-index in
-    let is_row = row_there i (Bit, 0, 0, 0) c.multiples_within-row-items.ensures c.loop-row-test.true in
+    let is_row = row_there i no_row c.multiples_within-row-items.ensures c.loop-row-test.true in
     let without = none_true _ _ c.if-has_powers.false c.has_powers.ensures.1 in
-    unit_passed few rows i (Bit, 0, 0, 0) c.loop-row.invariant c.loop-row-test.true
+    unit_passed few rows i no_row c.loop-row.invariant c.loop-row-test.true
     (λ h. without (powers_in_row c.args.in_bits c.args.twos c.args.fives is_row h))
 
 pub returns-clause-none : goal.returns-clause-none
@@ -30,10 +29,10 @@ returns-then-has_powers-clause-found c =
     let few = HasPowers current c.args.family c.args.in_bits c.args.twos c.args.fives in
     let i = c.loop-row.row-index in
     let listed = c.multiples_within-row-items.ensures in
-    let is_row = row_there i (Bit, 0, 0, 0) listed c.loop-row-test.true in
+    let is_row = row_there i no_row listed c.loop-row-test.true in
     let has = row_powers c.args.in_bits c.args.twos c.args.fives is_row (c.has_powers.ensures.0 c.if-has_powers.true) in
-    unit_found few i (Bit, 0, 0, 0) listed c.loop-row.invariant c.loop-row-test.true has
+    unit_found few i no_row listed c.loop-row.invariant c.loop-row-test.true has
 
 pub returns-then-has_powers-clause-bits : goal.returns-then-has_powers-clause-bits
 returns-then-has_powers-clause-bits c =
-    (row_there c.loop-row.row-index (Bit, 0, 0, 0) c.multiples_within-row-items.ensures c.loop-row-test.true).bits_are
+    (row_there c.loop-row.row-index no_row c.multiples_within-row-items.ensures c.loop-row-test.true).bits_are
