@@ -13,7 +13,7 @@ use Rattle.byte_unit_math.specs.Padded.{padded}
 use Rattle.byte_unit_math.specs.declared.expansion.Ties.{Ties}
 use Rattle.byte_unit_math.specs.declared.expansion.Ties.TheVariants.{Even, Up}
 use Rattle.byte_unit_math.proofs.Digits.{ten}
-use Rattle.byte_unit_math.proofs.Nearest.{nearest_down, nearest_up, tie_up, tie_even_next, tie_even_this}
+use Rattle.byte_unit_math.proofs.Nearest.{LiesAbove, nearest_down, nearest_up, tie_up, tie_even_next, tie_even_this}
 use Rattle.byte_unit_math.proofs.Texts.{one_expansion, one_nearest, short_expansion, same_fraction}
 use Rattle.byte_unit_base.specs.Shape.{Shape, bits, twos, fives}
 use Rattle.byte_unit_base.specs.Edition.{Edition, current, name}
@@ -58,8 +58,12 @@ rule_round spec unit precision places set flag many same =
 
 one_numeral : (rule : Rule) (num den : ℕ) (a b : List ℕ) → 0 < den → IsNumeralBy rule num den a → IsNumeralBy rule num den b → a ≡ b
 one_numeral full num den a b some h k = h.2 ∙ (ap text_of (one_expansion num den h.0 k.0 some h.1 k.1) ∙ sym k.2)
-one_numeral (round_to p) num den a b some h k = h.2 ∙ (ap (λ q. numeral q p) (one_nearest num den p Even h.0 k.0 some h.1 k.1) ∙ sym k.2)
-one_numeral (short_to p) num den a b some h k = h.2 ∙ (ap (λ q. short q p) (one_nearest num den p Up h.0 k.0 some h.1 k.1) ∙ sym k.2)
+one_numeral (round_to p) num den a b some h k =
+    let same = one_nearest num den p Even h.0 k.0 (record { positive = some; this = h.1; other = k.1 }) in
+    h.2 ∙ (ap (λ q. numeral q p) same ∙ sym k.2)
+one_numeral (short_to p) num den a b some h k =
+    let same = one_nearest num den p Up h.0 k.0 (record { positive = some; this = h.1; other = k.1 }) in
+    h.2 ∙ (ap (λ q. short q p) same ∙ sym k.2)
 
 pub one_adjusted : (edition : Edition) (kind : Kind) (size : ℕ) (unit : Shape) (spec : FormatSpec) (a b : List ℕ)
     → IsAdjustedForm edition kind size unit spec a → IsAdjustedForm edition kind size unit spec b → a ≡ b
@@ -78,11 +82,11 @@ record Nearest (num den p : ℕ) (ties : Ties) : Type 0 where
 parity : (n : ℕ) → n % 2 < 1 → n % 2 ≡ 0
 parity n h = omega (arith, h)
 
-at_tie : (num den p t low : ℕ) (ties : Ties) → num * 10 ^ p ≡ t * den + low → low < den → 2 * low ≡ den → Nearest num den p ties
-at_tie num den p t low Up split below half = record { q = t + 1; is_nearest = tie_up num den p t low split below half }
-at_tie num den p t low Even split below half =
-    ⊎_elim (λ even. record { q = t; is_nearest = tie_even_this num den p t low split below half (parity t even) })
-    (λ odd. record { q = t + 1; is_nearest = tie_even_next num den p t low split below half (let e : t % 2 ≡ 1 = omega (arith, odd) in e) })
+at_tie : (num den p t low : ℕ) (ties : Ties) → LiesAbove num den p t low → 2 * low ≡ den → Nearest num den p ties
+at_tie num den p t low Up lies half = record { q = t + 1; is_nearest = tie_up num den p t low lies half }
+at_tie num den p t low Even lies half =
+    ⊎_elim (λ even. record { q = t; is_nearest = tie_even_this num den p t low lies half (parity t even) })
+    (λ odd. record { q = t + 1; is_nearest = tie_even_next num den p t low lies half (let e : t % 2 ≡ 1 = omega (arith, odd) in e) })
     (cases_lt (t % 2) 1)
 
 nearest : (num den p : ℕ) (ties : Ties) → 0 < den → Nearest num den p ties
@@ -90,12 +94,11 @@ nearest num den p ties some =
     let n = num * 10 ^ p in
     let t = n / den in
     let low = n % den in
-    let split : n ≡ t * den + low = sym (div-add-mod' n den) in
-    let below : low < den = mod_below n den some in
-    ⊎_elim (λ less. record { q = t; is_nearest = nearest_down num den p t low split below ties less })
+    let lies : LiesAbove num den p t low = record { split = sym (div-add-mod' n den); below = mod_below n den some } in
+    ⊎_elim (λ less. record { q = t; is_nearest = nearest_down num den p t low lies ties less })
     (λ more.
-    ⊎_elim (λ above. record { q = t + 1; is_nearest = nearest_up num den p t low split below ties above })
-    (λ half. at_tie num den p t low ties split below (let e : 2 * low ≡ den = omega (arith, more, half) in e))
+    ⊎_elim (λ above. record { q = t + 1; is_nearest = nearest_up num den p t low lies ties above })
+    (λ half. at_tie num den p t low ties lies (let e : 2 * low ≡ den = omega (arith, more, half) in e))
     (cases_lt den (2 * low)))
     (cases_lt (2 * low) den)
 
@@ -119,8 +122,8 @@ expanded num a b some =
     record {
       e = shortened (at_places p q);
       is_expansion =
-          same_fraction q (10 ^ p) num den (shortened (at_places p q)) (omega (arith, ten p)) some
-          (let e : q * den ≡ num * 10 ^ p = omega (arith, same) in e) (short_expansion q p);
+          same_fraction q (10 ^ p) num den (shortened (at_places p q))
+          (record { positive = omega (arith, ten p); positive' = some; same = omega (arith, same) }) (short_expansion q p);
     }
 
 record Numeral (rule : Rule) (num den : ℕ) : Type 0 where

@@ -5,10 +5,11 @@ use Rattle.std.specs.Fmt.{decimal}
 use Rattle.std.proofs.lemmas.Bool.{leb-true}
 use Rattle.byte_unit_math.specs.Bounds.{expansion_places, unit_limit}
 use Rattle.byte_unit_math.specs.Exact.{IsExactAt}
+use Rattle.byte_unit_math.specs.Finite.{Finite, IsExpansion}
 use Rattle.byte_unit_math.specs.Digits.{expansion_of}
 use Rattle.byte_unit_math.specs.Numeral.{text_of}
 use Rattle.byte_unit_math.proofs.Expanding.{powers_end}
-use Rattle.byte_unit_math.proofs.Texts.{expansion_there}
+use Rattle.byte_unit_math.proofs.Texts.{expansion_is, expansion_there}
 use Rattle.byte_unit_base.specs.Shape.{bits, twos, fives}
 use Rattle.byte_unit_base.specs.Edition.{name}
 use Rattle.byte_unit_base.specs.Units.{shape_of}
@@ -26,6 +27,11 @@ small _ = refl
 
 pub exact_in : (num : ℕ) (unit : UnitName) → IsExactAt num (bits (shape_of unit)) expansion_places
 exact_in num unit = powers_end num (twos (shape_of unit)) (fives (shape_of unit)) (leb-true _ _ (small unit))
+
+-- the expansion of a number in a unit is found by division
+pub number_is : (num : ℕ) (unit : UnitName) (e : Finite) → IsExpansion num (bits (shape_of unit)) e
+    → e ≡ expansion_of num (bits (shape_of unit))
+number_is num unit e h = expansion_is num (bits (shape_of unit)) e (omega (arith, some_bits (shape_of unit))) (exact_in num unit) h
 
 -- a number and a name with one space between them
 plain_layout : (number unit : List ℕ) → number ++ codes " " ++ unit ≡ layout number unit PLAIN

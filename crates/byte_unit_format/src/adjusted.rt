@@ -5,7 +5,6 @@ ghost use Rattle.std.specs.Fmt.{DisplaysOnOk, DisplaysStyledOnOk};
 ghost use Rattle.byte_unit_math.specs.Bounds.{bits_limit};
 ghost use Rattle.byte_unit_math.specs.Finite.{IsExpansion};
 ghost use Rattle.byte_unit_math.specs.Nearest.{IsNearest};
-ghost use Rattle.byte_unit_math.specs.Digits.{expansion_of};
 ghost use Rattle.byte_unit_math.specs.Numeral.{text_of};
 ghost use Rattle.byte_unit_math.specs.Padded.{padded};
 ghost use Rattle.byte_unit_base.specs.Shape.{bits};
@@ -154,8 +153,7 @@ fn nearest(size: u128, kind: Kind, unit: Unit, places: u32, ties: Ties) -> Expan
 /// ```
 pub fn number_in_unit(size: u128, kind: Kind, unit: Unit) -> Expansion
     requires { size < current.size_limit }
-    ensures number { IsExpansion (size * bits_in kind) (bits (shape_of unit)) result }
-    ensures computed { result ≡ expansion_of (size * bits_in kind) (bits (shape_of unit)) }
+    ensures { IsExpansion (size * bits_in kind) (bits (shape_of unit)) result }
 {
     let (twos, fives) = unit.powers();
     Expansion::new(size_in_bits(size, kind), twos, fives)

@@ -44,11 +44,11 @@ pub next_rest : (q P : ℕ) → 1 ≤ P → q % (10 * P) ≡ q / P % 10 * P + q 
 next_rest q P one =
     let low : q % P < P = omega (arith, one, mod_below q P (omega arith)) in
     let parts : q ≡ q / P * P + q % P = omega (arith, one) in
-    let more : q / P ≡ q / P / 10 * 10 + q / P % 10 = omega arith in
-    let e = ap (λ n. n * P) more in
+    let tens : q / P ≡ q / P / 10 * 10 + q / P % 10 = omega arith in
+    let product = ap (λ n. n * P) tens in
     let digit : q / P % 10 ≤ 9 = omega arith in
     let few : q / P % 10 * P + q % P < 10 * P = grind (arith, digit, low) in
-    let whole : q ≡ q / P / 10 * (10 * P) + (q / P % 10 * P + q % P) = omega (arith, parts, e) in
+    let whole : q ≡ q / P / 10 * (10 * P) + (q / P % 10 * P + q % P) = omega (arith, parts, product) in
     ap (λ n. n % (10 * P)) whole ∙ mod-mul-add (q / P / 10) (10 * P) (q / P % 10 * P + q % P) few
 
 pub value_last : (p q : ℕ) → value_of (last_digits p q) ≡ q % 10 ^ p
@@ -96,24 +96,24 @@ pub record ShortOf (q p : ℕ) (e : Finite) : Type 0 where
 pub short_of : (q p : ℕ) → ShortOf q p (shortened (at_places p q))
 short_of q p =
     let ds = last_digits p q in
-    let z = zeros_behind ds in
-    let len : length (without_zeros ds) + z.zeros ≡ p =
+    let behind = zeros_behind ds in
+    let len : length (without_zeros ds) + behind.zeros ≡ p =
     omega (
       arith,
-      ap length z.list_is,
-      length-append (without_zeros ds) (replicate z.zeros 0),
-      length-replicate {A = ℕ} z.zeros 0,
+      ap length behind.list_is,
+      length-append (without_zeros ds) (replicate behind.zeros 0),
+      length-replicate {A = ℕ} behind.zeros 0,
       length_last p q,
     ) in
-    let left : p - length (without_zeros ds) ≡ z.zeros = omega (arith, len) in
-    let value : q % 10 ^ p ≡ value_of (without_zeros ds) * 10 ^ z.zeros =
-    sym (value_last p q) ∙ (ap value_of z.list_is ∙ value_more (without_zeros ds) z.zeros) in
-    let power : 10 ^ p ≡ 10 ^ length (without_zeros ds) * 10 ^ z.zeros =
-    ap (λ n. 10 ^ n) (sym len) ∙ pow-add 10 (length (without_zeros ds)) z.zeros in
-    let e = ap (λ n. q / 10 ^ p * n) power in
+    let left : p - length (without_zeros ds) ≡ behind.zeros = omega (arith, len) in
+    let value : q % 10 ^ p ≡ value_of (without_zeros ds) * 10 ^ behind.zeros =
+    sym (value_last p q) ∙ (ap value_of behind.list_is ∙ value_more (without_zeros ds) behind.zeros) in
+    let power : 10 ^ p ≡ 10 ^ length (without_zeros ds) * 10 ^ behind.zeros =
+    ap (λ n. 10 ^ n) (sym len) ∙ pow-add 10 (length (without_zeros ds)) behind.zeros in
+    let product = ap (λ n. q / 10 ^ p * n) power in
     let parts : q ≡ q / 10 ^ p * 10 ^ p + q % 10 ^ p = omega (arith, ten p) in
     record {
       few = omega (arith, len);
       small = small_without ds (small_last p q);
-      scaled_is = rw left (omega (arith, parts, e, value));
+      scaled_is = rw left (omega (arith, parts, product, value));
     }

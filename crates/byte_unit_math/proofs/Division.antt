@@ -1,86 +1,128 @@
 -- Long division, a digit a step.
-use Rattle.std.proofs.Common.{◌≡◌, ℕ, ◌+◌, ◌-◌, ◌*◌, ◌/◌, ◌%◌, ◌^◌, ◌<◌, ◌≤◌, ⊎_elim, arith, sym, ap, ◌∙◌, subst, Option, Some, None}
+use Rattle.std.proofs.Common.{◌≡◌, ℕ, suc, ◌+◌, ◌-◌, ◌*◌, ◌/◌, ◌%◌, ◌^◌, ◌<◌, ◌≤◌, ⊎_elim, arith, sym, ap, ◌∙◌, subst, Option, Some, None}
 use Rattle.std.proofs.Common.{SomeIff, IfSome, IfNone}
 use Rattle.std.proofs.Math.Nat.{pow-succ', mul-add-mod_self_right, mod-eq_of_lt, mul-mod_left, div-le_self, div-add-mod', mul-le-mul_right}
+use Rattle.std.proofs.Math.Nat.{eq_of_mul-eq-mul_right}
 use Rattle.std.proofs.lemmas.Nat.{pow-add, div_below, mod_below}
 use Rattle.std.proofs.lemmas.Bool.{cases_lt}
 use Rattle.std.proofs.Math.Numerals.{add-one}
 use Rattle.byte_unit_math.specs.Bounds.{one, places_of_decimal, whole_limit}
-use Rattle.byte_unit_math.specs.Exact.{IsExactAt, IsQuotient}
+use Rattle.byte_unit_math.specs.Exact.{IsExactAt, IsLeastPlaces, IsQuotient}
 use Rattle.byte_unit_math.proofs.Scales.{power_bounds, power_parts, raise_power}
 
+-- exact, so no rest
+pub no_rest :
+    (size unit places count rest : ℕ) → size * 10 ^ places ≡ count * unit + rest → rest < unit → IsExactAt size unit places
+    → rest ≡ 0
+no_rest size unit places count rest product small exact =
+    sym (mod-eq_of_lt small)
+    ∙ (sym (mul-add-mod_self_right count unit rest) ∙ (ap (λ n. n % unit) (sym product ∙ exact.1) ∙ mul-mod_left exact.0 unit))
+
+-- a division so far, by units of a place, and its next digit
+pub record NextDigit (size unit power count rest digit left : ℕ) : Type 0 where
+  pub so_far : size * power ≡ count * unit + rest
+  pub next : digit * unit + left ≡ rest * 10
+
+pub one_place_more :
+    (size unit power count rest digit left : ℕ) → NextDigit size unit power count rest digit left
+    → size * (10 * power) ≡ (count * 10 + digit) * unit + left
+one_place_more size unit power count rest digit left h = omega (arith, ap (λ n. n * 10) h.so_far, h.next)
+
+-- a digit behind the last of a number
+pub digit_behind : (whole power value digit : ℕ) → (whole * power + value) * 10 + digit ≡ whole * (10 * power) + (value * 10 + digit)
+digit_behind whole power value digit = omega arith
+
+-- a count of units of a place whose last digit isn't zero states a number in the fewest places
+
+ten_times : (count power : ℕ) → (count * (10 * power)) % 10 ≡ 0
+ten_times count power = omega arith
+
+less_places :
+    (size unit count places fewer : ℕ) → 0 < unit → size * 10 ^ places ≡ count * unit → (fewer < places) × IsExactAt size unit fewer
+    → count % 10 ≡ 0
+less_places size unit count places fewer positive product h =
+    let last : ℕ = places - fewer - 1 in
+    let total : fewer + suc last ≡ places = omega (arith, h.0) in
+    let power : 10 ^ places ≡ 10 ^ fewer * (10 * 10 ^ last) =
+    ap (λ n. 10 ^ n) (sym total) ∙ (pow-add 10 fewer (suc last) ∙ ap (λ n. 10 ^ fewer * n) (pow-succ' 10 last)) in
+    let stated = ap (λ n. size * n) power in
+    let raised = ap (λ n. n * (10 * 10 ^ last)) h.1.1 in
+    let tens : count ≡ h.1.0 * (10 * 10 ^ last) =
+    eq_of_mul-eq-mul_right unit positive count (h.1.0 * (10 * 10 ^ last)) (omega (arith, stated, raised, product)) in
+    ap (λ n. n % 10) tens ∙ ten_times h.1.0 (10 ^ last)
+
+pub IsLeastPlaces-last_digit :
+    (size unit count places : ℕ) → 0 < unit → size * 10 ^ places ≡ count * unit → (0 < places → 0 < count % 10)
+    → IsLeastPlaces size unit places
+IsLeastPlaces-last_digit size unit count places positive product last =
+    record {
+      has = (count, product);
+      least = λ fewer exact.
+          ⊎_elim (λ below. let some = last (omega (arith, below)) in
+          let none = less_places size unit count places fewer positive product (below, exact) in
+          absurd (omega (arith, some, none)))
+          (λ enough. enough) (cases_lt fewer places);
+    }
+
 -- the size is so many digits of the quotient, and a rest, with none before it being exact
-pub record Dividing (size unit most rest fraction digits : ℕ) : Type 0 where
-  pub few : digits ≤ most
+pub record Dividing (size unit rest fraction digits : ℕ) : Type 0 where
   pub product : size * 10 ^ digits ≡ (size / unit * 10 ^ digits + fraction) * unit + rest
   pub small : rest < unit
   pub below : fraction < 10 ^ digits
-  pub first : (fewer : ℕ) → IsExactAt size unit fewer → digits ≤ fewer
+  pub least : (fewer : ℕ) → IsExactAt size unit fewer → digits ≤ fewer
 
--- exact, so no rest
-pub no_rest : (size unit digits Q rest : ℕ) → size * 10 ^ digits ≡ Q * unit + rest → rest < unit → IsExactAt size unit digits → rest ≡ 0
-no_rest size unit digits Q rest product small e =
-    sym (mod-eq_of_lt small) ∙ (sym (mul-add-mod_self_right Q unit rest) ∙ (ap (λ n. n % unit) (sym product ∙ e.1) ∙ mul-mod_left e.0 unit))
-
-next_product :
-    (size unit W T f r k r' : ℕ) → size * T ≡ (W * T + f) * unit + r → k * unit + r' ≡ r * 10
-    → size * (10 * T) ≡ (W * (10 * T) + (f * 10 + k)) * unit + r'
-next_product size unit W T f r k r' h e = omega (arith, ap (λ n. n * 10) h)
+-- while something is left, it isn't exact
+pub not_exact : (size unit rest fraction digits : ℕ) → Dividing size unit rest fraction digits → 0 < rest → ¬ IsExactAt size unit digits
+not_exact size unit rest fraction digits h left exact =
+    let none = no_rest size unit digits (size / unit * 10 ^ digits + fraction) rest h.product h.small exact in
+    omega (arith, none, left)
 
 pub Dividing-more :
-    (size unit most rest fraction digits : ℕ) → 1 ≤ unit → 0 < rest → digits < most → Dividing size unit most rest fraction digits
-    → Dividing size unit most (rest * 10 % unit) (fraction * 10 + rest * 10 / unit) (digits + 1)
-Dividing-more size unit most rest fraction digits some left room h =
-    let scale : 10 ^ (digits + 1) ≡ 10 * 10 ^ digits = rw add-one (pow-succ' 10 digits) in
+    (size unit rest fraction digits : ℕ) → 1 ≤ unit → 0 < rest → Dividing size unit rest fraction digits
+    → Dividing size unit (rest * 10 % unit) (fraction * 10 + rest * 10 / unit) (digits + 1)
+Dividing-more size unit rest fraction digits some left h =
+    let power : 10 ^ (digits + 1) ≡ 10 * 10 ^ digits = rw add-one (pow-succ' 10 digits) in
     let digit : rest * 10 / unit < 10 = div_below (rest * 10) unit 10 (omega arith) (omega (arith, h.small)) in
     let below = h.below in
+    let count = size / unit * 10 ^ digits + fraction in
+    let product =
+    one_place_more size unit (10 ^ digits) count rest (rest * 10 / unit) (rest * 10 % unit)
+    (record { so_far = h.product; next = div-add-mod' (rest * 10) unit }) in
+    let parts = digit_behind (size / unit) (10 ^ digits) fraction (rest * 10 / unit) in
     record {
-      few = omega arith;
-      product =
-          rw scale
-          (next_product size unit (size / unit) (10 ^ digits) fraction rest (rest * 10 / unit) (rest * 10 % unit) h.product
-          (div-add-mod' (rest * 10) unit));
+      product = rw power (product ∙ ap (λ n. n * unit + rest * 10 % unit) parts);
       small = mod_below (rest * 10) unit (omega arith);
-      below = rw scale (omega arith);
-      first = λ fewer e.
-          ⊎_elim (λ l. omega (arith, l)) (λ g.
-          let same : fewer ≡ digits = omega (arith, g, h.first fewer e) in
-          let P : ℕ → Type 0 = λ n. IsExactAt size unit n in
-          let z = no_rest size unit digits (size / unit * 10 ^ digits + fraction) rest h.product h.small (subst P same e) in
-          absurd (omega (arith, z, left))) (cases_lt digits fewer);
+      below = rw power (omega arith);
+      least = λ fewer exact.
+          ⊎_elim (λ more. omega (arith, more)) (λ few.
+          let same : fewer ≡ digits = omega (arith, few, h.least fewer exact) in
+          absurd (not_exact size unit rest fraction digits h left (subst (IsExactAt size unit) same exact))) (cases_lt digits fewer);
     }
 
-pub not_exact :
-    (size unit most rest fraction digits : ℕ) → Dividing size unit most rest fraction digits → most ≤ digits → 0 < rest
-    → IsExactAt size unit most → ⊥
-not_exact size unit most rest fraction digits h all left e =
-    let same : most ≡ digits = omega (arith, h.few, all) in
-    let P : ℕ → Type 0 = λ n. IsExactAt size unit n in
-    let z = no_rest size unit digits (size / unit * 10 ^ digits + fraction) rest h.product h.small (subst P same e) in
-    omega (arith, z, left)
+-- the digits with nothing left
+pub Dividing-ended :
+    (size unit rest fraction digits : ℕ) → Dividing size unit rest fraction digits → rest ≡ 0
+    → size * 10 ^ digits ≡ (size / unit * 10 ^ digits + fraction) * unit
+Dividing-ended size unit rest fraction digits h none = omega (arith, h.product, none)
 
-split_power : (a b c : ℕ) → a ≤ b → b ≤ c → 10 ^ (c - a) ≡ 10 ^ (b - a) * 10 ^ (c - b)
-split_power a b c h k = let e : c - a ≡ (b - a) + (c - b) = omega arith in ap (λ n. 10 ^ n) e ∙ pow-add 10 (b - a) (c - b)
-
--- exact at some places, so at more
-pub IsExactAt-more : (size unit a b : ℕ) → a ≤ b → IsExactAt size unit a → IsExactAt size unit b
-IsExactAt-more size unit a b h e =
-    let p = ap (λ n. size * n) (raise_power a b h) in
-    let q = ap (λ n. n * 10 ^ (b - a)) e.1 in
-    (e.0 * 10 ^ (b - a), p ∙ omega (arith, q))
+split_power : (few more most : ℕ) → few ≤ more → more ≤ most → 10 ^ (most - few) ≡ 10 ^ (more - few) * 10 ^ (most - more)
+split_power few more most h k =
+    let total : most - few ≡ (more - few) + (most - more) = omega arith in
+    ap (λ n. 10 ^ n) total ∙ pow-add 10 (more - few) (most - more)
 
 pub IsQuotient-digits :
-    (size unit most rest fraction digits : ℕ) → most ≤ places_of_decimal → Dividing size unit most rest fraction digits → rest ≡ 0
-    → IsQuotient size unit most (size / unit * one + fraction * 10 ^ (places_of_decimal - digits))
-IsQuotient-digits size unit most rest fraction digits room h e =
-    let raised = ap (λ n. size * n) (raise_power digits most h.few) in
-    let product : size * 10 ^ digits ≡ (size / unit * 10 ^ digits + fraction) * unit = omega (arith, h.product, e) in
-    let q = ap (λ n. n * 10 ^ (most - digits)) product in
-    let parts = ap (λ n. size / unit * n) (power_parts digits (omega (arith, h.few))) in
-    let split = ap (λ n. (size / unit * 10 ^ digits + fraction) * n) (split_power digits most places_of_decimal h.few room) in
+    (size unit fraction digits places : ℕ) → digits ≤ places → places ≤ places_of_decimal
+    → size * 10 ^ digits ≡ (size / unit * 10 ^ digits + fraction) * unit
+    → IsQuotient size unit places (size / unit * one + fraction * 10 ^ (places_of_decimal - digits))
+IsQuotient-digits size unit fraction digits places few room product =
+    let count = size / unit * 10 ^ digits + fraction in
+    let power = ap (λ n. size * n) (raise_power digits places few) in
+    let raised = ap (λ n. n * 10 ^ (places - digits)) product in
+    let parts = ap (λ n. size / unit * n) (power_parts digits (omega (arith, few))) in
+    let split = ap (λ n. count * n) (split_power digits places places_of_decimal few room) in
     record {
-      count = (size / unit * 10 ^ digits + fraction) * 10 ^ (most - digits);
-      exact = raised ∙ omega (arith, q);
+      count = count * 10 ^ (places - digits);
+      exact = power ∙ omega (arith, raised);
       number = omega (arith, parts, split);
     }
 
@@ -92,13 +134,20 @@ IsQuotient-times size unit places N few h =
     let parts = ap (λ n. size * n) (power_parts places few) in
     ap (λ n. n * unit) h.number ∙ omega (arith, exact, parts)
 
--- a digit's part stays below one
+-- digits at their places stay below one
 pub part_below :
     (fraction digits : ℕ) → digits ≤ places_of_decimal → fraction < 10 ^ digits → fraction * 10 ^ (places_of_decimal - digits) < one
 part_below fraction digits room small =
     let bound = power_bounds (places_of_decimal - digits) (omega arith) in
     let product = mul-le-mul_right {m = fraction + 1} {n = 10 ^ digits} (10 ^ (places_of_decimal - digits)) (omega arith) in
     omega (arith, product, power_parts digits room, bound.0)
+
+-- and so do they as a number
+pub digits_below : (fraction digits : ℕ) → digits ≤ places_of_decimal → fraction < 10 ^ digits → fraction < one
+digits_below fraction digits room small = omega (arith, small, power_bounds digits room)
+
+pub whole_fits : (size unit : ℕ) → size < whole_limit → size / unit < whole_limit
+whole_fits size unit h = let few = div-le_self size unit in omega (arith, few)
 
 pub IfSome-made : (o : Option ℕ) (C : Type 0) (v : ℕ) (P : ℕ → Type 0) → SomeIff o C v → P v → IfSome o P
 IfSome-made None C v P h p = tt
@@ -107,37 +156,3 @@ IfSome-made (Some x) C v P h p = subst P (sym h.1) p
 pub IfNone-made : (o : Option ℕ) (C Q : Type 0) (v : ℕ) → SomeIff o C v → C → IfNone o Q
 IfNone-made None C Q v h c = absurd (h c)
 IfNone-made (Some x) C Q v h c = tt
-
--- the digits fit their places
-pub digits_fit :
-    (size unit most rest fraction digits : ℕ) → most ≤ places_of_decimal → Dividing size unit most rest fraction digits → fraction < one
-digits_fit size unit most rest fraction digits room h = omega (arith, h.below, power_bounds digits (omega (arith, h.few)))
-
-pub next_fits :
-    (size unit most rest fraction digits : ℕ) → 1 ≤ unit → 0 < rest → digits < most → most ≤ places_of_decimal
-    → Dividing size unit most rest fraction digits → fraction * 10 + rest * 10 / unit < one
-next_fits size unit most rest fraction digits some left room last h =
-    digits_fit size unit most (rest * 10 % unit) (fraction * 10 + rest * 10 / unit) (digits + 1) last
-    (Dividing-more size unit most rest fraction digits some left room h)
-
-whole_fits : (size unit : ℕ) → size < whole_limit → size / unit < whole_limit
-whole_fits size unit h = let e = div-le_self size unit in omega (arith, e)
-
-pub quotient_made :
-    (o : Option ℕ) (size unit places most rest fraction digits power : ℕ) → most ≡ places → most ≤ places_of_decimal
-    → power ≡ 10 ^ (places_of_decimal - digits) → rest ≡ 0 → Dividing size unit most rest fraction digits
-    → SomeIff o ((size / unit < whole_limit) × (fraction * power < one)) (size / unit * one + fraction * power)
-    → IfSome o (IsQuotient size unit places)
-quotient_made o size unit places most rest fraction digits power m last p done h made =
-    let P : ℕ → Type 0 = λ n. SomeIff o ((size / unit < whole_limit) × (fraction * n < one)) (size / unit * one + fraction * n) in
-    let Q : ℕ → Type 0 = λ n. IfSome o (IsQuotient size unit n) in
-    subst Q m
-    (IfSome-made o _ _ (IsQuotient size unit most) (subst P p made) (IsQuotient-digits size unit most rest fraction digits last h done))
-
-pub always_made :
-    (o : Option ℕ) (Q : Type 0) (size unit most rest fraction digits power : ℕ) → size < whole_limit → most ≤ places_of_decimal
-    → power ≡ 10 ^ (places_of_decimal - digits) → Dividing size unit most rest fraction digits
-    → SomeIff o ((size / unit < whole_limit) × (fraction * power < one)) (size / unit * one + fraction * power) → IfNone o Q
-always_made o Q size unit most rest fraction digits power small last p h made =
-    let P : ℕ → Type 0 = λ n. SomeIff o ((size / unit < whole_limit) × (fraction * n < one)) (size / unit * one + fraction * n) in
-    IfNone-made o _ Q _ (subst P p made) (whole_fits size unit small, part_below fraction digits (omega (arith, h.few)) h.below)

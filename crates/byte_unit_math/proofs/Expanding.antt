@@ -8,11 +8,11 @@ use Rattle.std.proofs.lemmas.List.{get_or-set_same, get_or-take, take_all}
 use Rattle.std.proofs.lemmas.List.Elements.{All-set, All-replicate, All-take, All-get_or}
 use Rattle.std.proofs.lemmas.List.Sums.{fold-append}
 use Rattle.std.proofs.lemmas.Nat.{pow-add, pow_below, mul-le, div-add-mod'}
-use Rattle.std.proofs.Math.Nat.{pow-succ', eq_of_mul-eq-mul_right, one-le-pow}
+use Rattle.std.proofs.Math.Nat.{pow-succ', one-le-pow}
 use Rattle.byte_unit_math.specs.Bounds.{expansion_places, one, places_of_decimal, unit_limit}
 use Rattle.byte_unit_math.specs.Exact.{IsExactAt}
 use Rattle.byte_unit_math.specs.Finite.{value_of, IsExpansion}
-use Rattle.byte_unit_math.proofs.Division.{no_rest}
+use Rattle.byte_unit_math.proofs.Division.{no_rest, one_place_more, digit_behind, IsLeastPlaces-last_digit}
 
 -- zeros stay behind a digit that is set
 pub zeros_behind_set : (n i d : ℕ) (ds : List ℕ) → drop i ds ≡ replicate (n - i) 0 → drop (i + 1) (set ds i d) ≡ replicate (n - (i + 1)) 0
@@ -28,65 +28,66 @@ pub record IsDividing (numerator den whole rest places : ℕ) (digits : List ℕ
   pub small : All (λ d. d < 10) digits
   pub zeros : drop places digits ≡ replicate (expansion_places - places) 0
   pub below : rest < den
-  pub exact : (whole * 10 ^ places + value_of (take places digits)) * den + rest ≡ numerator * 10 ^ places
+  pub exact : numerator * 10 ^ places ≡ (whole * 10 ^ places + value_of (take places digits)) * den + rest
   pub last : rest ≡ 0 → 0 < places → 0 < get_or digits (places - 1) 0
 
--- one digit more, in plain numbers
-step_exact :
-    (whole power value den rest digit next numerator : ℕ) → (whole * power + value) * den + rest ≡ numerator * power
-    → den * digit + next ≡ rest * 10
-    → (whole * (10 * power) + (value * 10 + digit)) * den + next ≡ numerator * (10 * power)
-step_exact whole power value den rest digit next numerator h e = omega (arith, ap (λ n. n * 10) h)
-
-quotient_small : (rest den digit next : ℕ) → rest < den → den * digit + next ≡ rest * 10 → digit < 10
-quotient_small rest den digit next h e = grind arith
+digit_below_ten : (rest den digit next : ℕ) → rest < den → den * digit + next ≡ rest * 10 → digit < 10
+digit_below_ten rest den digit next h e = grind arith
 
 some_digit : (rest den digit next : ℕ) → rest ≢ 0 → den * digit + next ≡ rest * 10 → next ≡ 0 → 0 < digit
 some_digit rest den zero next h e z = absurd (h (omega (arith, e, z)))
 some_digit rest den (suc digit) next h e z = omega arith
 
-module _ (numerator den whole rest places : ℕ) (digits : List ℕ) (inv : IsDividing numerator den whole rest places digits)
-    (ends : IsExactAt numerator den expansion_places) (some : rest ≢ 0) where
-  pub more : places < expansion_places
-  more = ⊎_elim (λ l. l) (λ k. let full : places ≡ expansion_places = omega (arith, k, inv.few) in
-      let P : ℕ → Type 0 = λ p. (whole * 10 ^ p + value_of (take p digits)) * den + rest ≡ numerator * 10 ^ p in
-      absurd (some
-      (no_rest numerator den expansion_places (whole * 10 ^ expansion_places + value_of (take expansion_places digits)) rest
-      (sym (subst P full inv.exact)) inv.below ends))) (cases_lt places expansion_places)
+-- more digits are to come
+pub record GoesOn (numerator den whole rest places : ℕ) (digits : List ℕ) : Type 0 where
+  pub so_far : IsDividing numerator den whole rest places digits
+  pub ends : IsExactAt numerator den expansion_places
+  pub some : rest ≢ 0
 
-  pub next_small : rest * 10 / den < 10
-  next_small =
-      quotient_small rest den (rest * 10 / den) (rest * 10 % den) inv.below
-      (let positive : 0 < den = omega (arith, inv.below) in omega arith)
+module _ (numerator den whole rest places : ℕ) (digits : List ℕ) (h : GoesOn numerator den whole rest places digits) where
+  pub GoesOn-room : places < expansion_places
+  GoesOn-room = ⊎_elim (λ room. room) (λ k. let full : places ≡ expansion_places = omega (arith, k, h.so_far.few) in
+      let P : ℕ → Type 0 = λ p. numerator * 10 ^ p ≡ (whole * 10 ^ p + value_of (take p digits)) * den + rest in
+      let count = whole * 10 ^ expansion_places + value_of (take expansion_places digits) in
+      absurd (h.some (no_rest numerator den expansion_places count rest (subst P full h.so_far.exact) h.so_far.below h.ends)))
+      (cases_lt places expansion_places)
 
-  pub step : IsDividing numerator den whole (rest * 10 % den) (places + 1) (set digits places (rest * 10 / den))
-  step =
+  next_below_ten : rest * 10 / den < 10
+  next_below_ten =
+      digit_below_ten rest den (rest * 10 / den) (rest * 10 % den) h.so_far.below
+      (let positive : 0 < den = omega (arith, h.so_far.below) in omega arith)
+
+  pub IsDividing-more : IsDividing numerator den whole (rest * 10 % den) (places + 1) (set digits places (rest * 10 / den))
+  IsDividing-more =
       let digit = rest * 10 / den in
-      let positive : 0 < den = omega (arith, inv.below) in
-      let room = more in
-      let fits : places < length digits = omega (arith, room, inv.size) in
+      let now = h.so_far in
+      let positive : 0 < den = omega (arith, now.below) in
+      let fits : places < length digits = omega (arith, GoesOn-room, now.size) in
       let split : den * digit + rest * 10 % den ≡ rest * 10 = omega arith in
       let power : 10 ^ (places + 1) ≡ 10 * 10 ^ places = ap (λ n. 10 ^ n) (add-one places) ∙ pow-succ' 10 places in
-      let value : value_of (take (places + 1) (set digits places digit)) ≡ value_of (take places digits) * 10 + digit =
+      let front = value_of (take places digits) in
+      let value : value_of (take (places + 1) (set digits places digit)) ≡ front * 10 + digit =
       ap value_of (take_more_set digits places digit fits) ∙ fold-append (λ n d. n * 10 + d) 0 (take places digits) (digit ∷ []) in
+      let product =
+      one_place_more numerator den (10 ^ places) (whole * 10 ^ places + front) rest digit (rest * 10 % den)
+      (record { so_far = now.exact; next = div-add-mod' (rest * 10) den }) in
+      let parts = digit_behind whole (10 ^ places) front digit in
       let same : places + 1 - 1 ≡ places = omega arith in
       let at : get_or (set digits places digit) (places + 1 - 1) 0 ≡ digit =
       ap (λ i. get_or (set digits places digit) i 0) same ∙ get_or-set_same digits places digit 0 fits in
       record {
-        few = omega (arith, room);
-        size = length-set digits places digit ∙ inv.size;
-        small = All-set (λ d. d < 10) digits places digit next_small inv.small;
-        zeros = zeros_behind_set expansion_places places digit digits inv.zeros;
+        few = omega (arith, GoesOn-room);
+        size = length-set digits places digit ∙ now.size;
+        small = All-set (λ d. d < 10) digits places digit next_below_ten now.small;
+        zeros = zeros_behind_set expansion_places places digit digits now.zeros;
         below = omega arith;
-        exact =
-            rw (power, value)
-            (step_exact whole (10 ^ places) (value_of (take places digits)) den rest digit (rest * 10 % den) numerator inv.exact split);
-        last = λ z p. subst (λ n. 0 < n) (sym at) (some_digit rest den digit (rest * 10 % den) some split z);
+        exact = rw (power, value) (product ∙ ap (λ n. n * den + rest * 10 % den) parts);
+        last = λ z p. subst (λ n. 0 < n) (sym at) (some_digit rest den digit (rest * 10 % den) h.some split z);
       }
 
 -- before the first digit
-pub start : (whole rest den : ℕ) → rest < den → IsDividing (whole * den + rest) den whole rest 0 (replicate expansion_places 0)
-start whole rest den below = record {
+pub IsDividing-start : (whole rest den : ℕ) → rest < den → IsDividing (whole * den + rest) den whole rest 0 (replicate expansion_places 0)
+IsDividing-start whole rest den below = record {
   few = omega arith;
   size = length-replicate {A = ℕ} expansion_places 0;
   small = All-replicate (λ d. d < 10) expansion_places 0 (omega arith);
@@ -106,57 +107,65 @@ last_value ds h =
     ∙ take_all (length ds) ds (let k : length ds ≤ length ds = omega arith in k) in
     ap value_of (sym whole ∙ take_more ds n 0 (omega arith)) ∙ fold-append (λ n d. n * 10 + d) 0 (take n ds) (get_or ds n 0 ∷ [])
 
--- ten times something isn't a number whose last digit isn't zero
-not_tens : (whole low value last q e S : ℕ) → S ≡ whole * (10 * low) + (value * 10 + last) → S ≡ q * (10 * e) → 0 < last → last < 10 → ⊥
-not_tens whole low value last q e S h k some small = absurd (omega (arith, h, k))
+-- digits that state a fraction, the last of them not zero
+pub record StatesByDigits (num den whole : ℕ) (digits : List ℕ) : Type 0 where
+  pub small : All (λ d. d < 10) digits
+  pub exact : num * 10 ^ length digits ≡ (whole * 10 ^ length digits + value_of digits) * den
+  pub last : 0 < length digits → 0 < get_or digits (length digits - 1) 0
 
-pub fewest :
-    (num den whole : ℕ) (ds : List ℕ) → 0 < den → All (λ d. d < 10) ds → num * 10 ^ length ds ≡ (whole * 10 ^ length ds + value_of ds) * den
-    → (0 < length ds → 0 < get_or ds (length ds - 1) 0) → (p : ℕ) → IsExactAt num den p → length ds ≤ p
-fewest num den whole ds positive small exact last p h = ⊎_elim
-    (λ l. let len = length ds in
-    let k : ℕ = len - p - 1 in
-    let some : 0 < len = omega (arith, l) in
-    let total : p + (k + 1) ≡ len = omega (arith, l) in
-    let scale : 10 ^ (k + 1) ≡ 10 * 10 ^ k = ap (λ n. 10 ^ n) (add-one k) ∙ pow-succ' 10 k in
-    let split : 10 ^ len ≡ 10 ^ p * (10 * 10 ^ k) = ap (λ n. 10 ^ n) (sym total) ∙ (pow-add 10 p (k + 1) ∙ ap (λ x. 10 ^ p * x) scale) in
-    let a = ap (λ n. num * n) split in
-    let b = ap (λ n. n * (10 * 10 ^ k)) h.1 in
-    let S = whole * 10 ^ len + value_of ds in
-    let tens : S ≡ h.0 * (10 * 10 ^ k) = eq_of_mul-eq-mul_right den positive S (h.0 * (10 * 10 ^ k)) (omega (arith, a, b, exact)) in
-    let low : 10 ^ len ≡ 10 * 10 ^ (len - 1) =
-    ap (λ n. 10 ^ n) (let e : len ≡ suc (len - 1) = omega (arith, some) in e) ∙ pow-succ' 10 (len - 1) in
-    let c = ap (λ n. whole * n) low in
-    let parts : S ≡ whole * (10 * 10 ^ (len - 1)) + (value_of (take (len - 1) ds) * 10 + get_or ds (len - 1) 0) =
-    omega (arith, c, last_value ds some) in
-    absurd (not_tens whole (10 ^ (len - 1)) (value_of (take (len - 1) ds)) (get_or ds (len - 1) 0) h.0 (10 ^ k) S parts tens (last some)
-    (All-get_or (λ d. d < 10) ds (len - 1) 0 (omega (arith, some)) small)))
-    (λ k. k) (cases_lt p (length ds))
+last_digit : (front value last : ℕ) → last < 10 → value ≡ front * 10 + last → value % 10 ≡ last
+last_digit front value last small parts = omega (arith, small, parts)
 
-pub from_last :
-    (num den whole : ℕ) (ds : List ℕ) → 0 < den → All (λ d. d < 10) ds → num * 10 ^ length ds ≡ (whole * 10 ^ length ds + value_of ds) * den
-    → (0 < length ds → 0 < get_or ds (length ds - 1) 0) → IsExpansion num den (record { whole = whole; digits = ds })
-from_last num den whole ds positive small exact last =
-    record { small = small; exact = exact; least = fewest num den whole ds positive small exact last }
+pub expansion_of_digits :
+    (num den whole : ℕ) (digits : List ℕ) → 0 < den → StatesByDigits num den whole digits
+    → IsExpansion num den (record { whole = whole; digits = digits })
+expansion_of_digits num den whole digits positive h =
+    let places = length digits in
+    let count = whole * 10 ^ places + value_of digits in
+    let least =
+    IsLeastPlaces-last_digit num den count places positive h.exact
+    (λ some. let before : ℕ = places - 1 in
+    let last = get_or digits before 0 in
+    let front = value_of (take before digits) in
+    let power : 10 ^ places ≡ 10 * 10 ^ before =
+    ap (λ n. 10 ^ n) (let e : places ≡ suc before = omega (arith, some) in e) ∙ pow-succ' 10 before in
+    let parts : count ≡ (whole * 10 ^ before + front) * 10 + last =
+    ap (λ n. whole * n + value_of digits) power
+    ∙ (ap (λ n. whole * (10 * 10 ^ before) + n) (last_value digits some) ∙ sym (digit_behind whole (10 ^ before) front last)) in
+    let small : last < 10 = All-get_or (λ d. d < 10) digits before 0 (omega (arith, some)) h.small in
+    subst (λ n. 0 < n) (sym (last_digit (whole * 10 ^ before + front) count last small parts)) (h.last some)) in
+    record { small = h.small; exact = h.exact; least = least.least }
 
--- the digits in the front of an array, the last of which isn't zero
-pub stored :
-    (num den whole places : ℕ) (ds : List ℕ) → 0 < den → places ≤ length ds → All (λ d. d < 10) ds
-    → num * 10 ^ places ≡ (whole * 10 ^ places + value_of (take places ds)) * den → (0 < places → 0 < get_or ds (places - 1) 0)
-    → IsExpansion num den (record { whole = whole; digits = take places ds })
-stored num den whole places ds positive few small exact last =
-    let len : length (take places ds) ≡ places = length-take-le places ds few in
-    let P : ℕ → Type 0 = λ n. num * 10 ^ n ≡ (whole * 10 ^ n + value_of (take places ds)) * den in
-    let Q : ℕ → Type 0 = λ n. 0 < n → 0 < get_or (take places ds) (n - 1) 0 in
-    from_last num den whole (take places ds) positive (All-take (λ d. d < 10) places ds small) (subst P (sym len) exact)
-    (subst Q (sym len) (λ h. subst (λ n. 0 < n) (sym (get_or-take places ds (places - 1) 0 (omega (arith, h)))) (last h)))
+-- digits in the front of an array that state a fraction, the last of them not zero
+pub record StatesByFront (num den whole places : ℕ) (digits : List ℕ) : Type 0 where
+  pub few : places ≤ length digits
+  pub small : All (λ d. d < 10) digits
+  pub exact : num * 10 ^ places ≡ (whole * 10 ^ places + value_of (take places digits)) * den
+  pub last : 0 < places → 0 < get_or digits (places - 1) 0
 
-pub divided :
+pub expansion_of_front :
+    (num den whole places : ℕ) (digits : List ℕ) → 0 < den → StatesByFront num den whole places digits
+    → IsExpansion num den (record { whole = whole; digits = take places digits })
+expansion_of_front num den whole places digits positive h =
+    let front = take places digits in
+    let len : length front ≡ places = length-take-le places digits h.few in
+    let P : ℕ → Type 0 = λ n. num * 10 ^ n ≡ (whole * 10 ^ n + value_of front) * den in
+    let Q : ℕ → Type 0 = λ n. 0 < n → 0 < get_or front (n - 1) 0 in
+    expansion_of_digits num den whole front positive
+    (record {
+      small = All-take (λ d. d < 10) places digits h.small;
+      exact = subst P (sym len) h.exact;
+      last =
+          subst Q (sym len)
+          (λ some. subst (λ n. 0 < n) (sym (get_or-take places digits (places - 1) 0 (omega (arith, some)))) (h.last some));
+    })
+
+pub IsDividing-ended :
     (num den whole rest places : ℕ) (digits : List ℕ) → IsDividing num den whole rest places digits → rest ≡ 0
     → IsExpansion num den (record { whole = whole; digits = take places digits })
-divided num den whole rest places digits h z =
-    let few : places ≤ length digits = omega (arith, h.few, h.size) in
-    stored num den whole places digits (omega (arith, h.below)) few h.small (omega (arith, h.exact, z)) (h.last z)
+IsDividing-ended num den whole rest places digits h none =
+    expansion_of_front num den whole places digits (omega (arith, h.below))
+    (record { few = omega (arith, h.few, h.size); small = h.small; exact = omega (arith, h.exact, none); last = h.last none })
 
 -- where it ends
 

@@ -8,6 +8,7 @@ pub mod Fractions
 pub mod Expanding
 pub mod Nearest
 pub mod Cut
+pub mod Kept
 pub mod Powers
 pub mod TwosFives
 pub mod Texts

@@ -7,76 +7,87 @@ use Rattle.byte_unit_math.specs.Exact.{IsExactAt}
 use Rattle.byte_unit_math.specs.Powers.{IsTwoFive, HasTwoFive}
 use Rattle.byte_unit_math.specs.NumberLaws.{ExactByPowers, NumbersHaveTwosAndFives, PlacesByPowers, ZeroTakesNoPlaces}
 
-odd_times : (u n : ℕ) → u % 2 ≢ 0 → (u * 5 ^ n) % 2 ≢ 0
-odd_times u zero h = λ k. h (omega (arith, k))
-odd_times u (suc n) h =
-    λ k. odd_times u n h (let e : u * 5 ^ suc n ≡ 5 * (u * 5 ^ n) = rw (pow-succ' 5 n) (omega arith) in omega (arith, k, e))
+odd_times : (left n : ℕ) → left % 2 ≢ 0 → (left * 5 ^ n) % 2 ≢ 0
+odd_times left zero h = λ k. h (omega (arith, k))
+odd_times left (suc n) h =
+    λ k. odd_times left n h
+    (let e : left * 5 ^ suc n ≡ 5 * (left * 5 ^ n) = rw (pow-succ' 5 n) (omega arith) in omega (arith, k, e))
 
-five_times : (u n : ℕ) → u % 5 ≢ 0 → (u * 2 ^ n) % 5 ≢ 0
-five_times u zero h = λ k. h (omega (arith, k))
-five_times u (suc n) h =
-    λ k. five_times u n h (let e : u * 2 ^ suc n ≡ 2 * (u * 2 ^ n) = rw (pow-succ' 2 n) (omega arith) in omega (arith, k, e))
+five_times : (left n : ℕ) → left % 5 ≢ 0 → (left * 2 ^ n) % 5 ≢ 0
+five_times left zero h = λ k. h (omega (arith, k))
+five_times left (suc n) h =
+    λ k. five_times left n h
+    (let e : left * 2 ^ suc n ≡ 2 * (left * 2 ^ n) = rw (pow-succ' 2 n) (omega arith) in omega (arith, k, e))
 
 next_power : (base m a : ℕ) → m < a → base ^ a ≡ base ^ m * (base * base ^ (a - m - 1))
 next_power base m a l =
     let total : a ≡ m + suc (a - m - 1) = omega (arith, l) in
     ap (λ n. base ^ n) total ∙ (pow-add base m (suc (a - m - 1)) ∙ ap (λ n. base ^ m * n) (pow-succ' base (a - m - 1)))
 
--- the number of tens joined to both
-joined : (num twos fives p : ℕ) (h : IsTwoFive num twos fives) → num * 10 ^ p ≡ h.left * (2 ^ (twos + p) * 5 ^ (fives + p))
-joined num twos fives p h =
+-- times a power of ten, so many more of both
+times_tens : (num twos fives p : ℕ) (h : IsTwoFive num twos fives) → num * 10 ^ p ≡ h.left * (2 ^ (twos + p) * 5 ^ (fives + p))
+times_tens num twos fives p h =
     let ten : 10 ^ p ≡ 2 ^ p * 5 ^ p = mul-pow 2 5 p in
-    let a = ap (λ n. n * 10 ^ p) h.product in
-    let b = ap (λ n. h.left * (2 ^ twos * 5 ^ fives) * n) ten in
-    rw (pow-add 2 twos p, pow-add 5 fives p) (omega (arith, a, b))
+    let product = ap (λ n. n * 10 ^ p) h.product in
+    let powers = ap (λ n. h.left * (2 ^ twos * 5 ^ fives) * n) ten in
+    rw (pow-add 2 twos p, pow-add 5 fives p) (omega (arith, product, powers))
 
-enough : (num a b twos fives p : ℕ) → IsTwoFive num twos fives → a ≤ twos + p → b ≤ fives + p → IsExactAt num (2 ^ a * 5 ^ b) p
-enough num a b twos fives p h k l =
-    let x : 2 ^ (twos + p) ≡ 2 ^ (twos + p - a) * 2 ^ a =
-    ap (λ n. 2 ^ n) (let e : twos + p ≡ (twos + p - a) + a = omega (arith, k) in e) ∙ pow-add 2 (twos + p - a) a in
-    let y : 5 ^ (fives + p) ≡ 5 ^ (fives + p - b) * 5 ^ b =
-    ap (λ n. 5 ^ n) (let e : fives + p ≡ (fives + p - b) + b = omega (arith, l) in e) ∙ pow-add 5 (fives + p - b) b in
-    let c = ap (λ n. h.left * (n * 5 ^ (fives + p))) x in
-    let d = ap (λ n. h.left * (2 ^ (twos + p - a) * 2 ^ a * n)) y in
-    (h.left * (2 ^ (twos + p - a) * 5 ^ (fives + p - b)), joined num twos fives p h ∙ (c ∙ (d ∙ omega arith)))
+exact_with_powers :
+    (num a b twos fives p : ℕ) → IsTwoFive num twos fives → (a ≤ twos + p) × (b ≤ fives + p) → IsExactAt num (2 ^ a * 5 ^ b) p
+exact_with_powers num a b twos fives p h few =
+    let two_parts : 2 ^ (twos + p) ≡ 2 ^ (twos + p - a) * 2 ^ a =
+    ap (λ n. 2 ^ n) (let e : twos + p ≡ (twos + p - a) + a = omega (arith, few.0) in e) ∙ pow-add 2 (twos + p - a) a in
+    let five_parts : 5 ^ (fives + p) ≡ 5 ^ (fives + p - b) * 5 ^ b =
+    ap (λ n. 5 ^ n) (let e : fives + p ≡ (fives + p - b) + b = omega (arith, few.1) in e) ∙ pow-add 5 (fives + p - b) b in
+    let twos_apart = ap (λ n. h.left * (n * 5 ^ (fives + p))) two_parts in
+    let fives_apart = ap (λ n. h.left * (2 ^ (twos + p - a) * 2 ^ a * n)) five_parts in (
+      h.left * (2 ^ (twos + p - a) * 5 ^ (fives + p - b)),
+      times_tens num twos fives p h ∙ (twos_apart ∙ (fives_apart ∙ omega arith)),
+    )
 
--- of u * T * F = q * (T * (2 * K)) * B no T is left
-cancel_two : (u T F q K B : ℕ) → 0 < T → u * (T * F) ≡ q * (T * (2 * K) * B) → (u * F) % 2 ≡ 0
-cancel_two u T F q K B some e =
-    let same : u * F ≡ 2 * (q * K * B) = eq_of_mul-eq-mul_right T some (u * F) (2 * (q * K * B)) (omega (arith, e)) in
+-- a number with one two more, or one five more, than is taken off on both sides
+cancel_twos :
+    (left twos others count more rest : ℕ) → 0 < twos → left * (twos * others) ≡ count * (twos * (2 * more) * rest)
+    → (left * others) % 2 ≡ 0
+cancel_twos left twos others count more rest some e =
+    let same : left * others ≡ 2 * (count * more * rest) =
+    eq_of_mul-eq-mul_right twos some (left * others) (2 * (count * more * rest)) (omega (arith, e)) in
     omega (arith, same)
 
-cancel_five : (u T F q K B : ℕ) → 0 < F → u * (T * F) ≡ q * (B * (F * (5 * K))) → (u * T) % 5 ≡ 0
-cancel_five u T F q K B some e =
-    let same : u * T ≡ 5 * (q * K * B) = eq_of_mul-eq-mul_right F some (u * T) (5 * (q * K * B)) (omega (arith, e)) in
+cancel_fives :
+    (left others fives count more rest : ℕ) → 0 < fives → left * (others * fives) ≡ count * (rest * (fives * (5 * more)))
+    → (left * others) % 5 ≡ 0
+cancel_fives left others fives count more rest some e =
+    let same : left * others ≡ 5 * (count * more * rest) =
+    eq_of_mul-eq-mul_right fives some (left * others) (5 * (count * more * rest)) (omega (arith, e)) in
     omega (arith, same)
 
 needs_twos : (num a b twos fives p : ℕ) → IsTwoFive num twos fives → IsExactAt num (2 ^ a * 5 ^ b) p → a ≤ twos + p
 needs_twos num a b twos fives p h e = ⊎_elim
     (λ l. let T = 2 ^ (twos + p) in
     let K = 2 ^ (a - (twos + p) - 1) in
-    let f = sym (joined num twos fives p h) ∙ (e.1 ∙ ap (λ n. e.0 * (n * 5 ^ b)) (next_power 2 (twos + p) a l)) in
+    let f = sym (times_tens num twos fives p h) ∙ (e.1 ∙ ap (λ n. e.0 * (n * 5 ^ b)) (next_power 2 (twos + p) a l)) in
     absurd (odd_times h.left (fives + p) h.odd
-    (cancel_two h.left T (5 ^ (fives + p)) e.0 K (5 ^ b) (omega (arith, one-le-pow (twos + p) 2 (omega arith))) f)))
+    (cancel_twos h.left T (5 ^ (fives + p)) e.0 K (5 ^ b) (omega (arith, one-le-pow (twos + p) 2 (omega arith))) f)))
     (λ k. k) (cases_lt (twos + p) a)
 
 needs_fives : (num a b twos fives p : ℕ) → IsTwoFive num twos fives → IsExactAt num (2 ^ a * 5 ^ b) p → b ≤ fives + p
 needs_fives num a b twos fives p h e = ⊎_elim
     (λ l. let F = 5 ^ (fives + p) in
     let K = 5 ^ (b - (fives + p) - 1) in
-    let f = sym (joined num twos fives p h) ∙ (e.1 ∙ ap (λ n. e.0 * (2 ^ a * n)) (next_power 5 (fives + p) b l)) in
+    let f = sym (times_tens num twos fives p h) ∙ (e.1 ∙ ap (λ n. e.0 * (2 ^ a * n)) (next_power 5 (fives + p) b l)) in
     absurd (five_times h.left (twos + p) h.no_five
-    (cancel_five h.left (2 ^ (twos + p)) F e.0 K (2 ^ a) (omega (arith, one-le-pow (fives + p) 5 (omega arith))) f)))
+    (cancel_fives h.left (2 ^ (twos + p)) F e.0 K (2 ^ a) (omega (arith, one-le-pow (fives + p) 5 (omega arith))) f)))
     (λ k. k) (cases_lt (fives + p) b)
 
 pub exact_by_powers : ExactByPowers
 exact_by_powers num a b twos fives p h =
-    (λ e. (needs_twos num a b twos fives p h e, needs_fives num a b twos fives p h e), λ k. enough num a b twos fives p h k.0 k.1)
+    (λ e. (needs_twos num a b twos fives p h e, needs_fives num a b twos fives p h e), λ few. exact_with_powers num a b twos fives p h few)
 
 pub places_by_powers : PlacesByPowers
 places_by_powers num a b twos fives h = record {
-  has = enough num a b twos fives (max (a - twos) (b - fives)) h (omega arith) (omega arith);
-  least = λ p e. let x = needs_twos num a b twos fives p h e in let y = needs_fives num a b twos fives p h e in omega (arith, x, y);
+  has = exact_with_powers num a b twos fives (max (a - twos) (b - fives)) h (omega arith, omega arith);
+  least = λ p exact. omega (arith, needs_twos num a b twos fives p h exact, needs_fives num a b twos fives p h exact);
 }
 
 pub no_places : ZeroTakesNoPlaces

@@ -7,20 +7,13 @@ use Rattle.std.proofs.lemmas.Bool.Decides.{nat_tests}
 use Rattle.std.proofs.Math.Nat.{mul-le-mul_right}
 use Rattle.byte_unit_math.specs.Bounds.{one}
 use Rattle.byte_unit_math.specs.Least.{IsLeastSize}
-use Rattle.byte_unit_math.specs.RoundedUp.{group, half, IsRoundedUp}
-
--- no more than the unit, where the digits are a part of it
-pub rounded_bound : (digits unit behind size : ℕ) → digits < group → behind ≤ unit
-    → IsRoundedUp (digits * unit + behind) group size → size ≤ unit
-rounded_bound digits unit behind size few small h =
-    let product = mul-le-mul_right {m = digits + 1} {n = group} unit (omega (arith, few)) in
-    omega (arith, product, small, h.close)
+use Rattle.byte_unit_math.specs.RoundedUp.{group_limit, half_limit, IsRoundedUp}
 
 -- the two groups of half the digits
-pub IsRoundedUp-groups : (digits unit behind part size : ℕ) → IsRoundedUp (digits % group * unit + behind) group part
-    → IsRoundedUp (digits / group * unit + part) group size → IsRoundedUp (digits * unit + behind) half size
+pub IsRoundedUp-groups : (digits unit behind part size : ℕ) → IsRoundedUp (digits % group_limit * unit + behind) group_limit part
+    → IsRoundedUp (digits / group_limit * unit + part) group_limit size → IsRoundedUp (digits * unit + behind) half_limit size
 IsRoundedUp-groups digits unit behind part size low high =
-    let parts : group * (digits / group) + digits % group ≡ digits = omega arith in
+    let parts : group_limit * (digits / group_limit) + digits % group_limit ≡ digits = omega arith in
     let product = ap (λ n. n * unit) parts in
     record {
       enough = omega (arith, product, low.enough, low.close, high.enough, high.close);
@@ -28,10 +21,10 @@ IsRoundedUp-groups digits unit behind part size low high =
     }
 
 -- the two halves of a fraction
-pub IsLeastSize-halves : (fraction unit first last part size : ℕ) → first ≡ fraction / half → last ≡ fraction % half
-    → IsRoundedUp (last * unit + 0) half part → IsRoundedUp (first * unit + part) half size → IsLeastSize fraction unit size
-IsLeastSize-halves fraction unit first last part size f l low high =
-    let parts : half * first + last ≡ fraction = omega (arith, f, l) in
+pub IsLeastSize-halves : (fraction unit part size : ℕ) → IsRoundedUp (fraction % half_limit * unit + 0) half_limit part
+    → IsRoundedUp (fraction / half_limit * unit + part) half_limit size → IsLeastSize fraction unit size
+IsLeastSize-halves fraction unit part size low high =
+    let parts : half_limit * (fraction / half_limit) + fraction % half_limit ≡ fraction = omega arith in
     let product = ap (λ n. n * unit) parts in
     record {
       has = omega (arith, product, low.enough, low.close, high.enough, high.close);
@@ -47,7 +40,7 @@ IsLeastSize-whole whole fraction unit part h =
       least =
           λ m r.
           ⊎_elim (λ below. absurd (omega (arith, below, r)))
-          (λ above. let more = h.least (m - whole * unit) (omega (arith, above, r)) in omega (arith, above, more))
+          (λ above. let least = h.least (m - whole * unit) (omega (arith, above, r)) in omega (arith, above, least))
           (cases_lt m (whole * unit));
     }
 

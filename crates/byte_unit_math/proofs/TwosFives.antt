@@ -64,9 +64,9 @@ twos_off : (number twos : ℕ) → ((i : ℕ) → i < twos → bit_at number i �
 twos_off number zero zeros = omega (arith, div-one number)
 twos_off number (suc twos) zeros =
     let even : number / 2 ^ twos % 2 ≡ 0 = zeros twos (omega arith) in
-    let half : number / 2 ^ twos / 2 ≡ number / 2 ^ suc twos =
+    let halved : number / 2 ^ twos / 2 ≡ number / 2 ^ suc twos =
     shr-shr number twos 1 ∙ ap (λ n. number / 2 ^ n) (let e : twos + 1 ≡ suc twos = omega arith in e) in
-    let parts : number / 2 ^ twos ≡ number / 2 ^ suc twos * 2 = omega (arith, even, half) in
+    let parts : number / 2 ^ twos ≡ number / 2 ^ suc twos * 2 = omega (arith, even, halved) in
     let power = ap (λ n. number / 2 ^ suc twos * n) (pow-suc 2 twos) in
     twos_off number twos (λ i l. zeros i (omega (arith, l))) ∙ (ap (λ n. n * 2 ^ twos) parts ∙ omega (arith, power))
 

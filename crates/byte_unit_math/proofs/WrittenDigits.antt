@@ -95,18 +95,24 @@ decimal_after_one r small =
 
 -- digits in an array
 
+-- a place of an array, with one before it
+pub record HasPlaces (start : ℕ) (bytes : List ℕ) : Type 0 where
+  pub some : 1 ≤ start
+  pub within : start < length bytes
+
 -- one more digit, before those that are there
 pub digit_put :
-    (rest start : ℕ) (bytes whole : List ℕ) → 10 ≤ rest → rest < 2 ^ 128 → 1 ≤ start → start < length bytes
+    (rest start : ℕ) (bytes whole : List ℕ) → 10 ≤ rest → rest < 2 ^ 128 → HasPlaces start bytes
     → decimal rest ++ drop (start + 1) bytes ≡ whole
     → decimal (rest / 10) ++ drop (start - 1 + 1) (set bytes start (48 + rest % 10)) ≡ whole
-digit_put rest start bytes whole more small some within h =
-    let d : ℕ = 48 + rest % 10 in
-    let back : start - 1 + 1 ≡ start = omega arith in
-    ap (λ k. decimal (rest / 10) ++ drop k (set bytes start d)) back
-    ∙ (ap (λ l. decimal (rest / 10) ++ l) (drop-set bytes start d within)
-    ∙ (sym (append_assoc (decimal (rest / 10)) (d ∷ []) (drop (start + 1) bytes))
-    ∙ (ap (λ l. l ++ drop (start + 1) bytes) (sym (decimal_more rest more small)) ∙ h)))
+digit_put rest start bytes whole wide small places h =
+    let digit : ℕ = 48 + rest % 10 in
+    let some = places.some in
+    let back : start - 1 + 1 ≡ start = omega (arith, some) in
+    ap (λ k. decimal (rest / 10) ++ drop k (set bytes start digit)) back
+    ∙ (ap (λ l. decimal (rest / 10) ++ l) (drop-set bytes start digit places.within)
+    ∙ (sym (append_assoc (decimal (rest / 10)) (digit ∷ []) (drop (start + 1) bytes))
+    ∙ (ap (λ l. l ++ drop (start + 1) bytes) (sym (decimal_more rest wide small)) ∙ h)))
 
 -- the first digit
 pub last_put :
@@ -124,21 +130,24 @@ length_groups n wide small =
     ∙ (length-append (decimal (n / 10 ^ 18)) (group_digits (n % 10 ^ 18))
     ∙ ap (λ k. length (decimal (n / 10 ^ 18)) + k) (length-group_digits (n % 10 ^ 18)))
 
--- a group of digits before those that are there
+-- a group of digits, behind a one, before those that are there
+pub record GroupPut (rest start place : ℕ) (bytes new whole : List ℕ) : Type 0 where
+  pub put : drop place new ≡ decimal (10 ^ 18 + rest % 10 ^ 18) ++ drop start bytes
+  pub so_far : decimal rest ++ drop start bytes ≡ whole
+
 pub group_put :
-    (rest start place : ℕ) (bytes new whole : List ℕ) → 10 ^ 18 ≤ rest → rest < 2 ^ 128
-    → drop place new ≡ decimal (10 ^ 18 + rest % 10 ^ 18) ++ drop start bytes
-    → decimal rest ++ drop start bytes ≡ whole → decimal (rest / 10 ^ 18) ++ drop (place + 1) new ≡ whole
-group_put rest start place bytes new whole wide small put h =
+    (rest start place : ℕ) (bytes new whole : List ℕ) → (10 ^ 18 ≤ rest) × (rest < 2 ^ 128)
+    → GroupPut rest start place bytes new whole → decimal (rest / 10 ^ 18) ++ drop (place + 1) new ≡ whole
+group_put rest start place bytes new whole wide h =
     let low = rest % 10 ^ 18 in
     let less : low < 10 ^ 18 = mod_below rest (10 ^ 18) (omega arith) in
     let all : drop place new ≡ 49 ∷ (group_digits low ++ drop start bytes) =
-    put ∙ ap (λ l. l ++ drop start bytes) (decimal_after_one low less) in
+    h.put ∙ ap (λ l. l ++ drop start bytes) (decimal_after_one low less) in
     let behind : drop (place + 1) new ≡ group_digits low ++ drop start bytes =
     sym (drop-drop 1 place new) ∙ ap (λ l. drop 1 l) all in
     ap (λ l. decimal (rest / 10 ^ 18) ++ l) behind
     ∙ (sym (append_assoc (decimal (rest / 10 ^ 18)) (group_digits low) (drop start bytes))
-    ∙ (ap (λ l. l ++ drop start bytes) (sym (decimal_groups rest wide small)) ∙ h))
+    ∙ (ap (λ l. l ++ drop start bytes) (sym (decimal_groups rest wide.0 wide.1)) ∙ h.so_far))
 
 -- text
 

@@ -28,6 +28,6 @@ pub record IsExpansion (num den : ℕ) (e : Finite) : Type 0 where
   pub exact : num * 10 ^ length e.digits ≡ scaled e * den
   pub least : (p : ℕ) → IsExactAt num den p → length e.digits ≤ p
 
--- its first digits alone
-abbrev pub first : ℕ → Finite → Finite
-first p e = record { whole = e.whole; digits = take p e.digits }
+-- its first digits alone, so many of them
+abbrev pub cut_after : ℕ → Finite → Finite
+cut_after places e = record { whole = e.whole; digits = take places e.digits }

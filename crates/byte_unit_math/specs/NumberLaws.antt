@@ -1,8 +1,9 @@
 -- Laws of fractions over powers of two and five, and of numerals.
 use Rattle.std.specs.Prelude.{◌≡◌, ◌≢◌, ◌↔◌, ℕ, ◌+◌, ◌*◌, ◌^◌, ◌≤◌}
+use Rattle.byte_unit_math.specs.Bounds.{expansion_places}
 use Rattle.byte_unit_math.specs.Exact.{IsExactAt, IsLeastPlaces}
-use Rattle.byte_unit_math.specs.Finite.{IsExpansion, scaled}
-use Rattle.byte_unit_math.specs.Digits.{at_places, shortened}
+use Rattle.byte_unit_math.specs.Finite.{Finite, IsExpansion, scaled}
+use Rattle.byte_unit_math.specs.Digits.{at_places, expansion_of, shortened}
 use Rattle.byte_unit_math.specs.Powers.{IsTwoFive, HasTwoFive, TakesLackingPlaces}
 
 -- a fraction over powers of two and five is exact at p places exactly where neither exponent is greater than p and what
@@ -22,6 +23,11 @@ PlacesByPowers = (num a b : ℕ) → TakesLackingPlaces num a b
 -- zero takes no place
 abbrev pub ZeroTakesNoPlaces : Type 0
 ZeroTakesNoPlaces = (den : ℕ) → IsLeastPlaces 0 den 0
+
+-- where a fraction ends no later than an expansion may, its expansion is found by division
+abbrev pub ExpansionsAreFoundByDivision : Type 0
+ExpansionsAreFoundByDivision = (num den : ℕ) (e : Finite) → den ≢ 0 → IsExactAt num den expansion_places
+    → IsExpansion num den e ↔ (e ≡ expansion_of num den)
 
 -- a number of units of a place, cut at the point, is that number
 abbrev pub NumeralsAreExact : Type 0

@@ -3,12 +3,12 @@ use Rattle.std.specs.Prelude.{ℕ, ◌+◌, ◌*◌, ◌/◌, ◌^◌, ◌<◌, 
 use Rattle.byte_unit_math.specs.Bounds.{places_of_decimal}
 
 -- a quarter of the digits of a fraction are below it
-abbrev pub group : ℕ
-group = 10 ^ (places_of_decimal / 4)
+abbrev pub group_limit : ℕ
+group_limit = 10 ^ (places_of_decimal / 4)
 
 -- half of them are
-abbrev pub half : ℕ
-half = 10 ^ (places_of_decimal / 2)
+abbrev pub half_limit : ℕ
+half_limit = 10 ^ (places_of_decimal / 2)
 
 -- n is product / scale, rounded up to a whole number
 pub record IsRoundedUp (product scale n : ℕ) : Type 0 where

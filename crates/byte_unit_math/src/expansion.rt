@@ -6,9 +6,8 @@ ghost use Rattle.std.specs.Bool.{MatchBool};
 ghost use Rattle.std.specs.Fmt.{DisplaysOnOk, DisplaysStyledOnOk};
 ghost use Rattle.byte_unit_math.specs.Bounds.{bits_limit, expansion_places, one, unit_limit, whole_limit};
 ghost use Rattle.byte_unit_math.specs.Exact.{IsExactAt};
-ghost use Rattle.byte_unit_math.specs.Finite.{IsExpansion, scaled, first};
+ghost use Rattle.byte_unit_math.specs.Finite.{IsExpansion, scaled, cut_after};
 ghost use Rattle.byte_unit_math.specs.Nearest.{IsNearest};
-ghost use Rattle.byte_unit_math.specs.Digits.{expansion_of};
 ghost use Rattle.byte_unit_math.specs.Numeral.{fraction_text, glyphs, text_of};
 
 use crate::decimal::{Decimal, ONE};
@@ -72,8 +71,7 @@ impl Expansion {
     pub fn new(numerator: u128, twos: u32, fives: u32) -> Expansion
         requires small { numerator < bits_limit }
         requires den { 2 ^ twos * 5 ^ fives ≤ unit_limit }
-        ensures number { IsExpansion numerator (2 ^ twos * 5 ^ fives) result }
-        ensures computed { result ≡ expansion_of numerator (2 ^ twos * 5 ^ fives) }
+        ensures { IsExpansion numerator (2 ^ twos * 5 ^ fives) result }
     {
         let den = power(2, twos) * power(5, fives);
         divide(numerator / den, numerator % den, den)
@@ -139,9 +137,9 @@ impl Expansion {
     /// Whether the decimal with so many places above this one is the nearest.
     fn rounds_up(&self, places: u32, ties: Ties) -> bool
         requires { places < length self.now.digits }
-        ensures { MatchBool result
-            (IsNearest (scaled self.now) (10 ^ length self.now.digits) places ties (scaled (first places self.now) + 1))
-            (IsNearest (scaled self.now) (10 ^ length self.now.digits) places ties (scaled (first places self.now))) }
+        ensures { let nearest = IsNearest (scaled self.now) (10 ^ length self.now.digits) places ties in
+            let cut = scaled (cut_after places self.now) in
+            MatchBool result (nearest (cut + 1)) (nearest cut) }
     {
         let count = self.places;
         let next = self.digit(places + 1);
@@ -161,7 +159,8 @@ impl Expansion {
     /// Whether the number cut after so many digits is odd, in units of its last place.
     fn is_odd_at(&self, places: u32) -> bool
         requires { places < length self.now.digits }
-        ensures { MatchBool result (scaled (first places self.now) % 2 ≡ 1) (scaled (first places self.now) % 2 ≡ 0) }
+        ensures { let cut = scaled (cut_after places self.now) in
+            MatchBool result (cut % 2 ≡ 1) (cut % 2 ≡ 0) }
     {
         if places == 0 {
             self.whole % 2 == 1
@@ -204,7 +203,7 @@ impl Expansion {
     /// The number cut after so many digits.
     fn cut(&self, places: u32) -> Expansion
         requires { places ≤ length self.now.digits }
-        ensures { IsExpansion (scaled (first places self.now)) (10 ^ places) result }
+        ensures { IsExpansion (scaled (cut_after places self.now)) (10 ^ places) result }
     {
         let kept = self.without(places, 0);
         Expansion {
@@ -217,7 +216,7 @@ impl Expansion {
     /// The next number with so many places above the one that is cut.
     fn next_at(&self, places: u32) -> Expansion
         requires { places < length self.now.digits }
-        ensures { IsExpansion (scaled (first places self.now) + 1) (10 ^ places) result }
+        ensures { IsExpansion (scaled (cut_after places self.now) + 1) (10 ^ places) result }
     {
         // Nines at the end become zeros, and the digit before them one more.
         let kept = self.without(places, 9);

@@ -1,6 +1,6 @@
 //! Laws over the definitions. Each function does nothing: its contract is the law.
 ghost use Rattle.byte_unit_math.specs.NumberLaws.{ExactByPowers, NumbersHaveTwosAndFives, PlacesByPowers};
-ghost use Rattle.byte_unit_math.specs.NumberLaws.{ZeroTakesNoPlaces};
+ghost use Rattle.byte_unit_math.specs.NumberLaws.{ZeroTakesNoPlaces, ExpansionsAreFoundByDivision};
 ghost use Rattle.byte_unit_math.specs.NumberLaws.{NumeralsAreExact, ShortNumeralsAreExpansions};
 
 /// `num / (2^a * 5^b)`, where it is not zero, is exact at p places exactly where neither exponent is greater than p and
@@ -14,6 +14,11 @@ pub fn places_by_powers()
     ensures some { NumbersHaveTwosAndFives }
     ensures places { PlacesByPowers }
     ensures zero { ZeroTakesNoPlaces }
+{}
+
+/// Where `num / den` is exact at 83 places, a decimal is its expansion exactly where it is what division finds.
+pub fn expansions_are_found_by_division()
+    ensures { ExpansionsAreFoundByDivision }
 {}
 
 /// The numeral of `number / 10^places` with all its places is that number, and without the zeros at its end its

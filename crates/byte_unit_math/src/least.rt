@@ -2,7 +2,7 @@
 ghost use Rattle.std.specs.Prelude.{◌≡◌, ℕ, ◌+◌, ◌*◌, ◌/◌, ◌%◌, ◌^◌, ◌<◌, ◌≤◌, IfSome, IfNone};
 ghost use Rattle.byte_unit_math.specs.Bounds.{bits_limit, one, unit_limit};
 ghost use Rattle.byte_unit_math.specs.Least.{IsLeastSize};
-ghost use Rattle.byte_unit_math.specs.RoundedUp.{group, half, IsRoundedUp};
+ghost use Rattle.byte_unit_math.specs.RoundedUp.{group_limit, half_limit, IsRoundedUp};
 ghost use Rattle.byte_unit_math.specs.Steps.{raised};
 
 use crate::decimal::Decimal;
@@ -76,8 +76,8 @@ fn rounded_up(fraction: u128, unit_size: u128, steps: &mut Steps) -> u128
 /// The first and the last 14 digits of a fraction.
 fn halves(fraction: u128) -> (u64, u64)
     requires { fraction < one }
-    ensures high { result.0 ≡ fraction / half }
-    ensures low { result.1 ≡ fraction % half }
+    ensures high { result.0 ≡ fraction / half_limit }
+    ensures low { result.1 ≡ fraction % half_limit }
 {
     if fraction == 0 {
         return (0, 0);
@@ -88,10 +88,10 @@ fn halves(fraction: u128) -> (u64, u64)
 
 /// The product of half the digits and the unit's size, and what the digits behind came to, rounded up.
 fn over_half(digits: u64, unit_size: u128, behind: u128, steps: &mut Steps) -> u128
-    requires digits { digits < half }
+    requires digits { digits < half_limit }
     requires small_unit { unit_size ≤ unit_limit }
     requires behind { behind ≤ unit_size }
-    ensures rounded { IsRoundedUp (digits * unit_size + behind) half result }
+    ensures rounded { IsRoundedUp (digits * unit_size + behind) half_limit result }
     ensures bound { result ≤ unit_size }
     ensures ticks { steps.new ≡ raised steps.old 2 }
 {
@@ -101,10 +101,10 @@ fn over_half(digits: u64, unit_size: u128, behind: u128, steps: &mut Steps) -> u
 
 /// The same for one group of digits.
 fn over_group(digits: u64, unit_size: u128, behind: u128, steps: &mut Steps) -> u128
-    requires digits { digits < group }
+    requires digits { digits < group_limit }
     requires small_unit { unit_size ≤ unit_limit }
     requires behind { behind ≤ unit_size }
-    ensures rounded { IsRoundedUp (digits * unit_size + behind) group result }
+    ensures rounded { IsRoundedUp (digits * unit_size + behind) group_limit result }
     ensures bound { result ≤ unit_size }
     ensures ticks { steps.new ≡ raised steps.old 1 }
 {

@@ -12,6 +12,6 @@ returns c =
     let den = bits (shape_of c.args.unit) in (
       r.0,
       nearest_of (c.args.size * bits_in c.args.kind) den c.number_in_unit.result c.args.places c.args.ties r.0
-          (omega (arith, some_bits (shape_of c.args.unit))) c.number_in_unit.ensures.number.exact r.1,
+          (omega (arith, some_bits (shape_of c.args.unit)), c.number_in_unit.ensures.exact) r.1,
       r.2,
     )

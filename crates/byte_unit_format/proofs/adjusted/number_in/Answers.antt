@@ -14,7 +14,7 @@ returns-in-None-clause-number c =
     let shown = c.all_places.result in
     by_rule (c.args.size * bits_in c.args.kind) (bits unit) (text_of (padded shown.places shown.decimal))
     (rule_unset c.args.spec unit c.in-None.is)
-    (c.number_in_unit.result, c.number_in_unit.ensures.number, c.all_places.ensures.text)
+    (c.number_in_unit.result, c.number_in_unit.ensures, c.all_places.ensures.text)
 
 pub returns-then-spec-clause-number : goal.returns-then-spec-clause-number
 returns-then-spec-clause-number c =
@@ -33,7 +33,7 @@ returns-then-is_single-clause-number c =
     let exact = c.number_in_unit-then-is_single in
     by_rule (c.args.size * bits_in c.args.kind) (bits unit) (text_of (padded shown.places shown.decimal))
     (rule_single c.args.spec unit c.in-Some.precision c.in-Some.is c.if-spec.false (sym c.is_single.ensures ∙ c.if-is_single.true))
-    (exact.result, exact.ensures.number, c.all_places-then-is_single.ensures.text)
+    (exact.result, exact.ensures, c.all_places-then-is_single.ensures.text)
 
 pub returns-else-is_single-clause-number : goal.returns-else-is_single-clause-number
 returns-else-is_single-clause-number c =

@@ -6,6 +6,7 @@ use Rattle.byte_unit_math.specs.Numeral.{text_of}
 use Rattle.byte_unit_base.specs.Shape.{bits}
 use Rattle.byte_unit_base.specs.Units.{shape_of}
 use Rattle.byte_unit_base.specs.Kinds.{bits_in}
+use Rattle.byte_unit_format.proofs.ShownForms.{number_is}
 use Rattle.byte_unit_format.proofs.adjusted.write_adjusted.Goals as goal
 
 pub returns-clause-plain : goal.returns-clause-plain
@@ -17,7 +18,7 @@ returns-clause-plain g c = λ plain ok.
     let two = has_written_append _ _ _ _ _ _ first second in
     let all = has_written_append _ _ _ _ _ _ two (c.write_str-2.ensures.writes second.plain ok) in
     has_written_of_eq _ _ _ _ _
-    (ap (λ e. text_of e ++ codes " " ++ name) c.number_in_unit.ensures.computed
+    (ap (λ e. text_of e ++ codes " " ++ name) (number_is _ c.args.unit c.number_in_unit.result c.number_in_unit.ensures)
     ∙ ap (λ n. text_of number ++ codes " " ++ n) c.as_str.ensures)
     all
 
@@ -30,6 +31,6 @@ returns-clause-styled g c = λ flush ok.
     let two = has_written_styled_append _ _ _ _ _ _ first second in
     let all = has_written_styled_append _ _ _ _ _ _ two (c.write_str-2.ensures.styled second.flush ok) in
     has_written_styled_of_eq _ _ _ _ _
-    (ap (λ e. text_of e ++ codes " " ++ name) c.number_in_unit.ensures.computed
+    (ap (λ e. text_of e ++ codes " " ++ name) (number_is _ c.args.unit c.number_in_unit.result c.number_in_unit.ensures)
     ∙ ap (λ n. text_of number ++ codes " " ++ n) c.as_str.ensures)
     all

@@ -36,8 +36,8 @@ loop-rest-preserved c =
       within = omega (arith, more, some);
       place = omega (arith, more, some);
       digits =
-          digit_put l.rest l.start l.bytes _ c.loop-rest-test.true (omega arith) (omega (arith, more, some))
-          (omega (arith, more, some)) l.invariant.digits;
+          digit_put l.rest l.start l.bytes _ c.loop-rest-test.true (omega arith)
+          (record { some = omega (arith, more, some); within = omega (arith, more, some) }) l.invariant.digits;
     }
 
 pub returns-clause-begins : goal.returns-clause-begins

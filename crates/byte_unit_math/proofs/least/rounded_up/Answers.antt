@@ -1,7 +1,13 @@
+use Rattle.std.proofs.Common.{ℕ, ◌+◌, ◌*◌, subst}
+use Rattle.byte_unit_math.specs.RoundedUp.{half_limit, IsRoundedUp}
 use Rattle.byte_unit_math.proofs.RoundedUp.{IsLeastSize-halves}
 use Rattle.byte_unit_math.proofs.least.rounded_up.Goals as goal
 
 pub returns-clause-least : goal.returns-clause-least
 returns-clause-least c =
-    IsLeastSize-halves _ _ _ _ _ _ c.halves-high.ensures.high c.halves-high.ensures.low c.over_half-part.ensures.rounded
-    c.over_half.ensures.rounded
+    let unit = c.args.unit_size in
+    let part = c.over_half-part.result in
+    let Low : ℕ → Type 0 = λ low. IsRoundedUp (low * unit + 0) half_limit part in
+    let High : ℕ → Type 0 = λ high. IsRoundedUp (high * unit + part) half_limit c.over_half.result in
+    IsLeastSize-halves c.args.fraction unit part c.over_half.result (subst Low c.halves-high.ensures.low c.over_half-part.ensures.rounded)
+    (subst High c.halves-high.ensures.high c.over_half.ensures.rounded)

@@ -24,7 +24,7 @@ loop-rest-preserved c =
       place = omega (arith, one, groups);
       digits =
           group_put l.rest l.start c.write_digits-start.result l.bytes c.write_digits-start.new.bytes (decimal c.args.n)
-          wide (omega arith) c.write_digits-start.ensures.digits l.invariant.digits;
+          (wide, omega arith) (record { put = c.write_digits-start.ensures.digits; so_far = l.invariant.digits });
     }
 
 pub write_digits-start-requires-2-clause-room : goal.write_digits-start-requires-2-clause-room

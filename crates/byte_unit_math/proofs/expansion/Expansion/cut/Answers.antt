@@ -1,11 +1,22 @@
-use Rattle.std.proofs.Common.{ap, ◌≡◌}
-use Rattle.byte_unit_math.proofs.Cut.{shown_by, cut_is}
+use Rattle.std.proofs.Common.{ap, ◌≡◌, ◌^◌, ℕ, sym, subst, take}
+use Rattle.byte_unit_math.specs.Finite.{IsExpansion, scaled, cut_after}
+use Rattle.byte_unit_math.proofs.Cut.{shown_by}
+use Rattle.byte_unit_math.proofs.Kept.{cut_is_expansion}
 use Rattle.byte_unit_math.proofs.expansion.Expansion.cut.Goals as goal
 
 pub returns : goal.returns
 returns c =
     let e = c.args.self.now in
-    let we : c.self.inside.whole ≡ e.whole = ap (λ v. v.whole) c.self.view_is in
-    let all = shown_by c.self.inside e c.self.invariant c.self.view_is in
-    cut_is e c.args.places c.without-kept.result c.self.inside.whole c.front.result c.requires we c.without-kept.ensures.few
-    c.without-kept.ensures.same c.without-kept.ensures.stops c.front.ensures.size all.few c.front.ensures.front c.front.ensures.small
+    let p = c.args.places in
+    let kept = c.without-kept.result in
+    let whole : e.whole ≡ c.self.inside.whole = sym (ap (λ v. v.whole) c.self.view_is) in
+    let P : ℕ → Type 0 = λ w. IsExpansion (scaled (cut_after p e)) (10 ^ p) (record { whole = w; digits = take kept c.front.result }) in
+    subst P whole
+    (cut_is_expansion e p kept c.front.result (shown_by c.self.inside e c.self.invariant c.self.view_is)
+    (record {
+      within = c.requires;
+      few = c.without-kept.ensures.few;
+      same = c.without-kept.ensures.same;
+      stops = c.without-kept.ensures.stops;
+    })
+    (record { size = c.front.ensures.size; front = c.front.ensures.front; small = c.front.ensures.small }))

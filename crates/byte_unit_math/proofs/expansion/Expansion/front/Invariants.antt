@@ -1,4 +1,4 @@
-use Rattle.byte_unit_math.proofs.Cut.{IsCopied}
+use Rattle.byte_unit_math.proofs.Kept.{IsCopied}
 use Rattle.byte_unit_math.proofs.expansion.Expansion.front.Given as goal
 
 abbrev pub invariant-loop-i : goal.invariant-loop-i

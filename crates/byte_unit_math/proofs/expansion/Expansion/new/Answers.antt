@@ -1,13 +1,6 @@
-use Rattle.std.proofs.Common.{refl}
 use Rattle.byte_unit_math.proofs.Expanding.{new_ends}
-use Rattle.byte_unit_math.proofs.Texts.{expansion_of_parts}
 use Rattle.byte_unit_math.proofs.expansion.Expansion.new.Goals as goal
 
 pub divide-requires-clause-ends : goal.divide-requires-clause-ends
 divide-requires-clause-ends c =
     new_ends c.args.numerator c.power.result c.power-2.result c.args.twos c.args.fives c.power.ensures c.power-2.ensures c.requires.den
-
-pub returns-clause-computed : goal.returns-clause-computed
-returns-clause-computed c =
-    expansion_of_parts c.args.numerator c.power.result c.power-2.result c.args.twos c.args.fives _ _ c.divide.result c.power.ensures
-    c.power-2.ensures refl refl c.requires.den c.divide.ensures

@@ -1,20 +1,41 @@
-use Rattle.std.proofs.Common.{arith, ap, ◌≡◌, ◌<◌}
-use Rattle.byte_unit_math.proofs.Cut.{shown_by, next_whole, next_digit}
+use Rattle.std.proofs.Common.{arith, ap, ◌≡◌, ◌+◌, ◌-◌, ◌^◌, ℕ, [], sym, subst, take, set, get_or}
+use Rattle.byte_unit_math.specs.Finite.{IsExpansion, scaled, cut_after}
+use Rattle.byte_unit_math.proofs.Cut.{shown_by}
+use Rattle.byte_unit_math.proofs.Kept.{next_whole, next_digit}
 use Rattle.byte_unit_math.proofs.expansion.Expansion.next_at.Goals as goal
 
 pub returns-then-kept-eq0 : goal.returns-then-kept-eq0
 returns-then-kept-eq0 c =
     let e = c.args.self.now in
-    let we : c.self.inside.whole ≡ e.whole = ap (λ v. v.whole) c.self.view_is in
-    next_whole e c.args.places c.without-kept.result c.self.inside.whole (omega (arith, c.requires)) we c.if-kept-eq0.true
-    c.without-kept.ensures.same
+    let p = c.args.places in
+    let whole : e.whole ≡ c.self.inside.whole = sym (ap (λ v. v.whole) c.self.view_is) in
+    let P : ℕ → Type 0 = λ w. IsExpansion (scaled (cut_after p e) + 1) (10 ^ p) (record { whole = w + 1; digits = [] }) in
+    subst P whole
+    (next_whole e p c.without-kept.result
+    (record {
+      within = omega (arith, c.requires);
+      few = c.without-kept.ensures.few;
+      same = c.without-kept.ensures.same;
+      stops = c.without-kept.ensures.stops;
+    })
+    c.if-kept-eq0.true)
 
 pub returns-else-kept-eq0 : goal.returns-else-kept-eq0
 returns-else-kept-eq0 c =
     let e = c.args.self.now in
-    let we : c.self.inside.whole ≡ e.whole = ap (λ v. v.whole) c.self.view_is in
-    let all = shown_by c.self.inside e c.self.invariant c.self.view_is in
-    let some : 0 < c.without-kept.result = omega (arith, c.if-kept-eq0.false) in
-    next_digit e c.args.places c.without-kept.result c.self.inside.whole c.front-digits.result (omega (arith, c.requires)) we
-    c.without-kept.ensures.few c.without-kept.ensures.same some (c.without-kept.ensures.stops some) c.front-digits.ensures.size all.few
-    c.front-digits.ensures.front c.front-digits.ensures.small
+    let p = c.args.places in
+    let kept = c.without-kept.result in
+    let ds = c.front-digits.result in
+    let whole : e.whole ≡ c.self.inside.whole = sym (ap (λ v. v.whole) c.self.view_is) in
+    let digits = take kept (set ds (kept - 1) (get_or ds (kept - 1) 0 + 1)) in
+    let P : ℕ → Type 0 = λ w. IsExpansion (scaled (cut_after p e) + 1) (10 ^ p) (record { whole = w; digits = digits }) in
+    subst P whole
+    (next_digit e p kept ds (shown_by c.self.inside e c.self.invariant c.self.view_is)
+    (record {
+      within = omega (arith, c.requires);
+      few = c.without-kept.ensures.few;
+      same = c.without-kept.ensures.same;
+      stops = c.without-kept.ensures.stops;
+    })
+    (record { size = c.front-digits.ensures.size; front = c.front-digits.ensures.front; small = c.front-digits.ensures.small })
+    (omega (arith, c.if-kept-eq0.false)))
