@@ -70,6 +70,7 @@ impl Bit {
         requires { size < current.size_limit }
         ensures { result ≡ size }
     {
+        // The bound is the caller's, so it is not tested here.
         Bit { size }
     }
 

@@ -71,6 +71,7 @@ impl Byte {
         requires { size < current.size_limit }
         ensures { result ≡ size }
     {
+        // The bound is the caller's, so it is not tested here.
         Byte { size }
     }
 

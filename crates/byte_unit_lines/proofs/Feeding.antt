@@ -59,7 +59,7 @@ EndsAt bytes place = (place < length bytes) × (get_or bytes place 0 ≡ 10) × 
 
 -- that line, and the rest
 module _ (line bytes : List ℕ) (place : ℕ) (ends : EndsAt bytes place) where
-  pub ended_first : ended_by line bytes ≡ (line ++ take place bytes) ∷ ended_by [] (drop (place + 1) bytes)
+  ended_first : ended_by line bytes ≡ (line ++ take place bytes) ∷ ended_by [] (drop (place + 1) bytes)
   ended_first =
       let rest = drop (place + 1) bytes in
       ended_front line bytes (place + 1)
@@ -69,7 +69,7 @@ module _ (line bytes : List ℕ) (place : ℕ) (ends : EndsAt bytes place) where
       ∙ ap (λ lines. lines ++ begun_by line (take place bytes) ∷ []) (ends.2 line).0
       ∙ ap (λ begun. begun ∷ []) (ends.2 line).1)
 
-  pub begun_first : begun_by line bytes ≡ begun_by [] (drop (place + 1) bytes)
+  begun_first : begun_by line bytes ≡ begun_by [] (drop (place + 1) bytes)
   begun_first =
       begun_front line bytes (place + 1)
       ∙ ap (λ begun. begun_by begun (drop (place + 1) bytes)) (begun_to_end line bytes place ends.0 ends.1)
