@@ -8,11 +8,15 @@ use crate::run::{RunError, run};
 use crate::writing::Writing;
 use std::alloc::Global;
 
+mod chunks;
 mod endings;
 mod ends;
 mod hostile;
+mod large;
 mod memory;
+mod mixed;
 mod order;
+mod refusals;
 mod rows;
 mod streams;
 

@@ -69,6 +69,20 @@ fn each_cut_into_reads(rt: HostRuntime) -> Result<(), Fail> {
 }
 
 #[test]
+fn each_cut_in_two(rt: HostRuntime) -> Result<(), Fail> {
+    for cut in 1..=INPUT.len() {
+        let mut reader = whole(INPUT);
+        reader.step = cut;
+        reader.calls = 1;
+        reader.then = Then::All;
+        let (result, taken) = ran(rt.alloc(), reader, open(rt.alloc()));
+        assert_eq!(rt; result, Ok(()));
+        assert_eq!(rt; taken.as_slice(), OUTPUT, "cut at {cut}");
+    }
+    Ok(())
+}
+
+#[test]
 fn each_size_of_buffer(rt: HostRuntime) -> Result<(), Fail> {
     let mut buffer = [0u8; 32];
     for size in 1..=buffer.len() {

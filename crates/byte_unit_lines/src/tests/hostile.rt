@@ -1,73 +1,8 @@
-//! Inputs that are cut anywhere, and streams and memory that fail at any call.
-use super::streams::{MemoryReader, MemoryWriter, Then};
+//! Inputs that are cut anywhere, and streams that fail at any call.
+use super::mixed::{ANSWERS, INPUT, answers_to, finished, ran, reader, writer};
+use super::streams::Then;
 use super::*;
-use crate::refusing::Refusing;
-use crate::run::run_in;
-use std::alloc::AllocError;
 use std::test::Fail;
-
-/// Lines of every make, with both line ends, the last with none.
-const INPUT: &[u8] =
-    b"1.5 KiB\n1KB\r\n\n1Kbi\nx\n\xFF\n1000 YB\n99999999999999999999999999999\n1YB";
-
-/// What is written for each line.
-const ANSWERS: [&[u8]; 9] = [
-    b"1536 = 1.5 KiB\n",
-    b"1000 = 1 KB\n",
-    b"no value\n",
-    b"bad unit\n",
-    b"not a number\n",
-    b"not text\n",
-    b"out of range\n",
-    b"number too long\n",
-    b"1000000000000000000000000 = 1 YB\n",
-];
-
-/// What is written for the first lines.
-fn answers_to(alloc: Global, lines: usize) -> Result<Vec<u8>, AllocError> {
-    let mut answers = Vec::new(alloc);
-    for answer in ANSWERS.iter().take(lines) {
-        answers.extend_from_slice(answer)?;
-    }
-    Ok(answers)
-}
-
-/// How many lines end in these bytes.
-fn finished(bytes: &[u8]) -> usize {
-    bytes.iter().filter(|byte| **byte == b'\n').count()
-}
-
-/// A reader of the input.
-fn reader(step: usize, calls: usize, then: Then) -> MemoryReader<'static> {
-    MemoryReader {
-        rest: INPUT,
-        step,
-        calls,
-        then,
-    }
-}
-
-/// A writer that took nothing yet.
-fn writer(alloc: Global, step: usize, calls: usize, then: Then) -> MemoryWriter {
-    MemoryWriter {
-        taken: Vec::new(alloc),
-        step,
-        calls,
-        then,
-    }
-}
-
-/// How a run ended, and what was written.
-fn ran(
-    alloc: Global,
-    reader: MemoryReader<'_>,
-    writer: MemoryWriter,
-) -> (Result<(), RunError>, Vec<u8>) {
-    let mut reader = Reading::new(reader);
-    let mut writer = Writing::new(writer);
-    let result = run(alloc, &mut reader, &mut writer, Kind::Byte);
-    (result, writer.into_inner().into_taken())
-}
 
 #[test]
 fn each_cut_in_two(rt: HostRuntime) -> Result<(), Fail> {
@@ -171,38 +106,6 @@ fn each_failing_write(rt: HostRuntime) -> Result<(), Fail> {
             assert_eq!(rt; result, Err(RunError::Write), "after {lines} writes");
             assert_eq!(rt; taken.as_slice(), report.as_slice(), "after {lines} writes");
         }
-    }
-    Ok(())
-}
-
-#[test]
-fn each_refused_request(rt: HostRuntime) -> Result<(), Fail> {
-    let mut buffer = [0u8; 80];
-    for step in [1, 2, 3, 8, INPUT.len()] {
-        let mut is_answered = false;
-        for number in 1..200 {
-            let heap = Refusing::new(rt.alloc(), number, number);
-            let mut input = Reading::new(reader(step, usize::MAX, Then::Fail));
-            let mut output = Writing::new(writer(rt.alloc(), 0, 0, Then::All));
-            let result = run_in(&heap, &mut buffer, &mut input, &mut output, Kind::Byte);
-            let taken = output.into_inner().into_taken();
-            let lines = finished(&taken);
-            let report = answers_to(rt.alloc(), lines)?;
-            assert_eq!(rt; taken.as_slice(), report.as_slice(), "at request {number}");
-            if result.is_ok() {
-                assert_eq!(rt; lines, ANSWERS.len(), "at request {number}");
-                assert!(rt; heap.asked() < number);
-                is_answered = true;
-                break;
-            }
-            assert_eq!(rt; result, Err(RunError::Memory), "at request {number}");
-            assert_eq!(rt; heap.asked(), number);
-            // All lines that ended before the last read are answered.
-            let read = INPUT.len().saturating_sub(input.into_inner().rest.len());
-            let before = read.saturating_sub(step).min(INPUT.len());
-            assert!(rt; finished(&INPUT[..before]) <= lines, "at request {number}");
-        }
-        assert!(rt; is_answered, "{step} bytes a read");
     }
     Ok(())
 }

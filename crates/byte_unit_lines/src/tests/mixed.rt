@@ -1,0 +1,67 @@
+//! Lines of every make, what is written for them, and runs over them.
+use super::streams::{MemoryReader, MemoryWriter, Then};
+use super::*;
+use std::alloc::AllocError;
+
+/// Lines of every make, with both line ends, the last with none.
+pub const INPUT: &[u8] =
+    b"1.5 KiB\n1KB\r\n\n1Kbi\nx\n\xFF\n1000 YB\n99999999999999999999999999999\n1YB";
+
+/// What is written for each line.
+pub const ANSWERS: [&[u8]; 9] = [
+    b"1536 = 1.5 KiB\n",
+    b"1000 = 1 KB\n",
+    b"no value\n",
+    b"bad unit\n",
+    b"not a number\n",
+    b"not text\n",
+    b"out of range\n",
+    b"number too long\n",
+    b"1000000000000000000000000 = 1 YB\n",
+];
+
+/// What is written for the first lines.
+pub fn answers_to(alloc: Global, lines: usize) -> Result<Vec<u8>, AllocError> {
+    let mut answers = Vec::new(alloc);
+    for answer in ANSWERS.iter().take(lines) {
+        answers.extend_from_slice(answer)?;
+    }
+    Ok(answers)
+}
+
+/// How many lines end in these bytes.
+pub fn finished(bytes: &[u8]) -> usize {
+    bytes.iter().filter(|byte| **byte == b'\n').count()
+}
+
+/// A reader of the input.
+pub fn reader(step: usize, calls: usize, then: Then) -> MemoryReader<'static> {
+    MemoryReader {
+        rest: INPUT,
+        step,
+        calls,
+        then,
+    }
+}
+
+/// A writer that took nothing yet.
+pub fn writer(alloc: Global, step: usize, calls: usize, then: Then) -> MemoryWriter {
+    MemoryWriter {
+        taken: Vec::new(alloc),
+        step,
+        calls,
+        then,
+    }
+}
+
+/// How a run ended, and what was written.
+pub fn ran(
+    alloc: Global,
+    reader: MemoryReader<'_>,
+    writer: MemoryWriter,
+) -> (Result<(), RunError>, Vec<u8>) {
+    let mut reader = Reading::new(reader);
+    let mut writer = Writing::new(writer);
+    let result = run(alloc, &mut reader, &mut writer, Kind::Byte);
+    (result, writer.into_inner().into_taken())
+}
