@@ -21,4 +21,6 @@ pub use byte_unit_format::laws::{
     shown_size_is_plain_form, size_form_reads_back, size_has_one_adjusted_form, size_has_one_form,
     size_string_reads_back,
 };
-pub use byte_unit_math::laws::{exact_by_powers, numerals_are_exact, places_by_powers};
+pub use byte_unit_math::laws::{
+    exact_by_powers, expansions_are_found_by_division, numerals_are_exact, places_by_powers,
+};
