@@ -10,7 +10,8 @@ use Rattle.std.proofs.lemmas.Bool.Decides.{nat_tests}
 use Rattle.std.proofs.lemmas.List.{map-append, length-map}
 use Rattle.std.proofs.lemmas.List.Elements.{All-nil, All-cons, All-head, All-tail}
 use Rattle.byte_unit_math.specs.Bounds.{places_of_decimal, whole_limit}
-use Rattle.byte_unit_math.specs.Numeral.{glyphs, fraction_text}
+use Rattle.byte_unit_math.specs.Finite.{Finite}
+use Rattle.byte_unit_math.specs.Numeral.{glyphs, fraction_text, text_of}
 use Rattle.byte_unit_math.proofs.Fractions.{text_some}
 use Rattle.byte_unit_base.specs.Edition.{current}
 use Rattle.byte_unit_base.specs.Spelling.{Flags}
@@ -19,97 +20,104 @@ use Rattle.byte_unit_base.specs.ReaderLaws.{States}
 use Rattle.byte_unit_base.specs.Scan.{read}
 use Rattle.byte_unit_base.specs.SizeScan.{size_step, size_scan}
 use Rattle.byte_unit_base.specs.declared.read.scan.SizeScan.TheVariants.{Beginning, Whole, Point, Fraction}
-use Rattle.byte_unit_base.proofs.NumberTexts.{glyph_value, glyph_digits, whole_text}
+use Rattle.byte_unit_base.proofs.NumberTexts.{IsBounded, glyph_value, glyph_digits, whole_text}
 use Rattle.byte_unit_base.proofs.Scans.{answers, IsAnswer, read_some, read_none, read_through}
 use Rattle.byte_unit_base.proofs.SizeReads.{size_scan_is}
 use Rattle.byte_unit_base.proofs.SizeRuns.{step_point, run_whole, run_places}
 
-record LongDigits (n : ℕ) (ds : List ℕ) : Type 0 where
+-- more digits than so many: the first of these, the next, and the rest
+record LongDigits (count : ℕ) (digits : List ℕ) : Type 0 where
   front : List ℕ
   next : ℕ
   rest : List ℕ
-  list_is : ds ≡ front ++ (next ∷ rest)
-  length_is : length front ≡ n
-  small : All (λ d. d < 10) front
+  list_is : digits ≡ front ++ (next ∷ rest)
+  length_is : length front ≡ count
+  small : All (λ digit. digit < 10) front
   next_small : next < 10
 
-cut : (n : ℕ) (ds : List ℕ) → All (λ d. d < 10) ds → n < length ds → LongDigits n ds
-cut n [] h k = absurd (omega (arith, k))
-cut zero (d ∷ ds) h k =
+cut : (count : ℕ) (digits : List ℕ) → All (λ digit. digit < 10) digits → count < length digits → LongDigits count digits
+cut count [] small long = absurd (omega (arith, long))
+cut zero (digit ∷ digits) small long =
     record {
       front =
           [];
       next =
-          d;
+          digit;
       rest =
-          ds;
+          digits;
       list_is = refl;
       length_is = refl;
-      small = All-nil (λ d. d < 10);
-      next_small = All-head (λ d. d < 10) d ds h;
+      small = All-nil (λ digit. digit < 10);
+      next_small = All-head (λ digit. digit < 10) digit digits small;
     }
-cut (suc n) (d ∷ ds) h k =
-    let r = cut n ds (All-tail (λ d. d < 10) d ds h) (omega (arith, k)) in
+cut (suc count) (digit ∷ digits) small long =
+    let behind = cut count digits (All-tail (λ digit. digit < 10) digit digits small) (omega (arith, long)) in
     record {
       front =
-          d ∷ r.front;
+          digit ∷ behind.front;
       next =
-          r.next;
+          behind.next;
       rest =
-          r.rest;
+          behind.rest;
       list_is =
-          ap (λ l. d ∷ l) r.list_is;
+          ap (λ list. digit ∷ list) behind.list_is;
       length_is =
-          ap suc r.length_is;
+          ap suc behind.length_is;
       small =
-          All-cons (λ d. d < 10) d r.front (All-head (λ d. d < 10) d ds h) r.small;
-      next_small = r.next_small;
+          All-cons (λ digit. digit < 10) digit behind.front (All-head (λ digit. digit < 10) digit digits small) behind.small;
+      next_small = behind.next_small;
     }
 
-no_more_places : (w f j c : ℕ) → digit_value c < 10 → j ≡ places_of_decimal → size_step (Fraction w f j) c ≡ None
+no_more_places : (whole part places character : ℕ) → digit_value character < 10 → places ≡ places_of_decimal
+    → size_step (Fraction whole part places) character ≡ None
 unfolding size_step
-no_more_places w f j c h k =
-    let e : ltb (digit_value c) 10 ≡ true = grind (arith, nat_tests) in
-    let g : ltb j places_of_decimal ≡ false = grind (arith, nat_tests) in
-    rw (e, g) refl
+no_more_places whole part places character is_digit all =
+    let digit : ltb (digit_value character) 10 ≡ true = grind (arith, nat_tests) in
+    let full : ltb places places_of_decimal ≡ false = grind (arith, nat_tests) in
+    rw (digit, full) refl
 
-digit_fault : (c : ℕ) → digit_value c < 10 → after_digit current c ≡ too_long
-digit_fault c h = let e : nat_lt (digit_value c) 10 ≡ true = grind (arith, nat_tests) in
-    ap (λ b. if b then too_long else no_unit current c) e
+digit_fault : (character : ℕ) → digit_value character < 10 → after_digit current character ≡ too_long
+digit_fault character is_digit =
+    let digit : nat_lt (digit_value character) 10 ≡ true = grind (arith, nat_tests) in
+    ap (λ yes. if yes then too_long else no_unit current character) digit
 
 -- the scan of a whole part, a point, as many digits as a decimal has, and a digit more
-read_long : (flags : Flags) (w next : ℕ) (front more : List ℕ) → w < whole_limit → All (λ d. d < 10) front
-    → length front ≡ places_of_decimal → next < 10
-    → read (size_scan flags) Beginning (decimal w ++ (46 ∷ (glyphs front ++ ((48 + next) ∷ more)))) ≡ Err too_long
-read_long flags w next front more bound small len next_small =
-    let c = 48 + next in
-    let digit : digit_value c < 10 = omega (arith, glyph_value next next_small, next_small) in
-    let count : length (glyphs front) ≡ places_of_decimal = length-map {A = ℕ} {B = ℕ} front (λ d. 48 + d) ∙ len in
-    let run = run_places (glyphs front) w (omega (arith, count), glyph_digits front small) (omega (arith, count)) in
-    let state = Fraction w (digits_value 10 (glyphs front)) run.0 in
-    let stop = no_more_places w (digits_value 10 (glyphs front)) run.0 c digit (run.2 ∙ count) in
-    read_through (size_scan flags) Beginning (Whole w) (decimal w) (46 ∷ (glyphs front ++ (c ∷ more)))
-    (run_whole (decimal w) w (whole_text w bound))
-    ∙ (read_some (size_scan flags) (Whole w) (Point w) 46 (glyphs front ++ (c ∷ more)) (step_point w)
-    ∙ (read_through (size_scan flags) (Point w) state (glyphs front) (c ∷ more) run.1
-    ∙ (read_none (size_scan flags) state c more stop ∙ ap Err (digit_fault c digit))))
+read_long : (flags : Flags) (whole : ℕ) (digits : List ℕ) (long : LongDigits places_of_decimal digits) (behind : List ℕ)
+    → whole < whole_limit
+    → read (size_scan flags) Beginning (decimal whole ++ (46 ∷ (glyphs long.front ++ ((48 + long.next) ∷ behind)))) ≡ Err too_long
+read_long flags whole digits long behind bound =
+    let front = long.front in
+    let next = 48 + long.next in
+    let is_digit : digit_value next < 10 = omega (arith, glyph_value long.next long.next_small, long.next_small) in
+    let count : length (glyphs front) ≡ places_of_decimal =
+    length-map {A = ℕ} {B = ℕ} front (λ digit. 48 + digit) ∙ long.length_is in
+    let run = run_places (glyphs front) whole (omega (arith, count), glyph_digits front long.small) (omega (arith, count)) in
+    let state = Fraction whole (digits_value 10 (glyphs front)) run.0 in
+    let stop = no_more_places whole (digits_value 10 (glyphs front)) run.0 next is_digit (run.2 ∙ count) in
+    read_through (size_scan flags) Beginning (Whole whole) (decimal whole) (46 ∷ (glyphs front ++ (next ∷ behind)))
+    (run_whole (decimal whole) whole (whole_text whole bound))
+    ∙ (read_some (size_scan flags) (Whole whole) (Point whole) 46 (glyphs front ++ (next ∷ behind)) (step_point whole)
+    ∙ (read_through (size_scan flags) (Point whole) state (glyphs front) (next ∷ behind) run.1
+    ∙ (read_none (size_scan flags) state next behind stop ∙ ap Err (digit_fault next is_digit))))
 
-long_text : (w : ℕ) (ds tail : List ℕ) → 0 < length ds → (k : LongDigits places_of_decimal ds)
-    → (decimal w ++ fraction_text ds) ++ tail ≡ decimal w ++ (46 ∷ (glyphs k.front ++ ((48 + k.next) ∷ (glyphs k.rest ++ tail))))
-long_text w ds tail some k =
-    let split : glyphs ds ≡ glyphs k.front ++ ((48 + k.next) ∷ glyphs k.rest) =
-    ap glyphs k.list_is ∙ map-append (λ d. 48 + d) k.front (k.next ∷ k.rest) in
-    let fraction : fraction_text ds ≡ 46 ∷ (glyphs k.front ++ ((48 + k.next) ∷ glyphs k.rest)) =
-    text_some ds some ∙ ap (λ t. 46 ∷ t) split in
-    ap (λ t. (decimal w ++ t) ++ tail) fraction
-    ∙ (append_assoc (decimal w) (46 ∷ (glyphs k.front ++ ((48 + k.next) ∷ glyphs k.rest))) tail
-    ∙ ap (λ t. decimal w ++ (46 ∷ t)) (append_assoc (glyphs k.front) ((48 + k.next) ∷ glyphs k.rest) tail))
+long_text : (whole : ℕ) (digits tail : List ℕ) → 0 < length digits → (long : LongDigits places_of_decimal digits)
+    → (decimal whole ++ fraction_text digits) ++ tail
+    ≡ decimal whole ++ (46 ∷ (glyphs long.front ++ ((48 + long.next) ∷ (glyphs long.rest ++ tail))))
+long_text whole digits tail some long =
+    let next = 48 + long.next in
+    let split : glyphs digits ≡ glyphs long.front ++ (next ∷ glyphs long.rest) =
+    ap glyphs long.list_is ∙ map-append (λ digit. 48 + digit) long.front (long.next ∷ long.rest) in
+    let fraction : fraction_text digits ≡ 46 ∷ (glyphs long.front ++ (next ∷ glyphs long.rest)) =
+    text_some digits some ∙ ap (λ text. 46 ∷ text) split in
+    ap (λ text. (decimal whole ++ text) ++ tail) fraction
+    ∙ (append_assoc (decimal whole) (46 ∷ (glyphs long.front ++ (next ∷ glyphs long.rest))) tail
+    ∙ ap (λ text. decimal whole ++ (46 ∷ text)) (append_assoc (glyphs long.front) (next ∷ glyphs long.rest) tail))
 
-pub long_fault : (flags : Flags) (w : ℕ) (ds tail text : List ℕ) → w < whole_limit → All (λ d. d < 10) ds → places_of_decimal < length ds
-    → text ≡ (decimal w ++ fraction_text ds) ++ tail → IsSizeFault current flags text too_long
-long_fault flags w ds tail text bound small long e =
-    let k = cut places_of_decimal ds small long in
+pub long_fault : (flags : Flags) (e : Finite) (tail text : List ℕ) → IsBounded e → places_of_decimal < length e.digits
+    → text ≡ text_of e ++ tail → IsSizeFault current flags text too_long
+long_fault flags e tail text bounded many text_is =
+    let long = cut places_of_decimal e.digits bounded.small many in
     let is_long =
-    ap (read (size_scan flags) Beginning) (e ∙ long_text w ds tail (omega (arith, long)) k)
-    ∙ read_long flags w k.next k.front (glyphs k.rest ++ tail) bound k.small k.length_is k.next_small in
+    ap (read (size_scan flags) Beginning) (text_is ∙ long_text e.whole e.digits tail (omega (arith, many)) long)
+    ∙ read_long flags e.whole e.digits long (glyphs long.rest ++ tail) bounded.bound in
     subst (IsAnswer (States flags text) (IsSizeFault current flags text)) is_long (answers (size_scan_is flags) text)

@@ -19,6 +19,7 @@ use Rattle.byte_unit_base.specs.SizeText.{trimmed}
 use Rattle.byte_unit_base.specs.ReaderLaws.{NamesSpellTheirUnits}
 use Rattle.byte_unit_base.specs.declared.unit.Unit.{Unit as UnitName}
 use Rattle.byte_unit_base.specs.declared.unit.Unit.TheVariants.{Bit, B}
+use Rattle.byte_unit_base.proofs.Trim.{EndsWithoutSpace}
 
 -- a known prefix, or a byte or a bit alone
 pub record IsKnown (s : Shape) : Type 0 where
@@ -139,13 +140,7 @@ name_ascii s known =
     (cases_lt 0 s.power)
 
 -- a name ends in no white space
-pub record EndsInLetter (text : List ℕ) : Type 0 where
-  pub front : List ℕ
-  pub last : ℕ
-  pub text_is : text ≡ front ++ last ∷ []
-  pub last_is : is_whitespace last ≡ false
-
-pub name_end : (s : Shape) → EndsInLetter (name current s)
+pub name_end : (s : Shape) → EndsWithoutSpace (name current s)
 name_end s =
     let end = count_end s.bit in
     let some = nat_lt 0 s.power in

@@ -16,81 +16,90 @@ use Rattle.std.proofs.lemmas.List.Elements.{All-head, All-tail}
 use Rattle.byte_unit_math.specs.Bounds.{one, places_of_decimal, whole_limit}
 use Rattle.byte_unit_base.specs.Edition.{current}
 use Rattle.byte_unit_base.specs.Number.{IsWholePart, IsNumberText}
-use Rattle.byte_unit_math.specs.Finite.{value_of}
+use Rattle.byte_unit_math.specs.Finite.{Finite, value_of}
 use Rattle.byte_unit_math.specs.Numeral.{glyphs, fraction_text}
+use Rattle.byte_unit_base.proofs.Trim.{StartsWithoutSpace}
 
-pub glyph_value : (d : ℕ) → d < 10 → digit_value (48 + d) ≡ d
-glyph_value d h = grind (arith, nat_tests)
+pub glyph_value : (digit : ℕ) → digit < 10 → digit_value (48 + digit) ≡ digit
+glyph_value digit small = grind (arith, nat_tests)
 
-pub glyph_digits : (ds : List ℕ) → All (λ d. d < 10) ds → AllDigits 10 (glyphs ds)
-glyph_digits [] h = tt
-glyph_digits (d ∷ ds) h =
-    let small : d < 10 = All-head (λ d. d < 10) d ds h in
-    (omega (arith, small, glyph_value d small), glyph_digits ds (All-tail (λ d. d < 10) d ds h))
+pub glyph_digits : (digits : List ℕ) → All (λ digit. digit < 10) digits → AllDigits 10 (glyphs digits)
+glyph_digits [] small = tt
+glyph_digits (digit ∷ digits) small =
+    let below : digit < 10 = All-head (λ digit. digit < 10) digit digits small in
+    (omega (arith, below, glyph_value digit below), glyph_digits digits (All-tail (λ digit. digit < 10) digit digits small))
 
-pub glyphs_value : (n : ℕ) (ds : List ℕ) → All (λ d. d < 10) ds → digits_value_after 10 n (glyphs ds) ≡ fold (λ n d. n * 10 + d) n ds
-glyphs_value n [] h = refl
-glyphs_value n (d ∷ ds) h =
-    ap (λ x. digits_value_after 10 (n * 10 + x) (glyphs ds)) (glyph_value d (All-head (λ d. d < 10) d ds h))
-    ∙ (glyphs_value (n * 10 + d) ds (All-tail (λ d. d < 10) d ds h))
+pub glyphs_value :
+    (value : ℕ) (digits : List ℕ) → All (λ digit. digit < 10) digits
+    → digits_value_after 10 value (glyphs digits) ≡ fold (λ value digit. value * 10 + digit) value digits
+glyphs_value value [] small = refl
+glyphs_value value (digit ∷ digits) small =
+    let below : digit < 10 = All-head (λ digit. digit < 10) digit digits small in
+    ap (λ next. digits_value_after 10 (value * 10 + next) (glyphs digits)) (glyph_value digit below)
+    ∙ (glyphs_value (value * 10 + digit) digits (All-tail (λ digit. digit < 10) digit digits small))
 
-pub whole_text : (w : ℕ) → w < whole_limit → IsWholePart current (decimal w) w
-whole_text w h =
-    let k = decimal_is_IsNumeral_wide w (omega arith) in
-    (k.0, sym k.1, h)
+pub whole_text : (whole : ℕ) → whole < whole_limit → IsWholePart current (decimal whole) whole
+whole_text whole bound =
+    let numeral = decimal_is_IsNumeral_wide whole (omega arith) in
+    (numeral.0, sym numeral.1, bound)
 
 -- how many last places a decimal is, of no more places than those
 abbrev pub number_of : ℕ → List ℕ → ℕ
-number_of w ds = w * one + value_of ds * 10 ^ (places_of_decimal - length ds)
+number_of whole digits = whole * one + value_of digits * 10 ^ (places_of_decimal - length digits)
 
 pub number_text :
-    (w : ℕ) (ds : List ℕ) → All (λ d. d < 10) ds → length ds ≤ places_of_decimal → w < whole_limit
-    → IsNumberText current (decimal w ++ fraction_text ds) (number_of w ds)
-number_text w [] small few h = inl (w, subst (λ t. IsWholePart current t w) (sym (append-nil (decimal w))) (whole_text w h), omega arith)
-number_text w (d ∷ ds) small few h = inr record {
-  whole = decimal w;
-  fraction = glyphs (d ∷ ds);
-  value = w;
-  part = value_of (d ∷ ds) * 10 ^ (places_of_decimal - length (d ∷ ds));
+    (whole : ℕ) (digits : List ℕ) → All (λ digit. digit < 10) digits → length digits ≤ places_of_decimal → whole < whole_limit
+    → IsNumberText current (decimal whole ++ fraction_text digits) (number_of whole digits)
+number_text whole [] small few bound =
+    inl (whole, subst (λ text. IsWholePart current text whole) (sym (append-nil (decimal whole))) (whole_text whole bound), omega arith)
+number_text whole (digit ∷ digits) small few bound = inr record {
+  whole = decimal whole;
+  fraction = glyphs (digit ∷ digits);
+  value = whole;
+  part = value_of (digit ∷ digits) * 10 ^ (places_of_decimal - length (digit ∷ digits));
   text_is = refl;
-  whole_is = whole_text w h;
+  whole_is = whole_text whole bound;
   fraction_is = (
-    (let some : 0 < length (glyphs (d ∷ ds)) = omega arith in some, glyph_digits (d ∷ ds) small),
+    (let some : 0 < length (glyphs (digit ∷ digits)) = omega arith in some, glyph_digits (digit ∷ digits) small),
     rw
-        (length-map {A = ℕ} {B = ℕ} ds (λ d. 48 + d)) few,
+        (length-map {A = ℕ} {B = ℕ} digits (λ digit. 48 + digit)) few,
     rw
-        (length-map {A = ℕ} {B = ℕ} ds (λ d. 48 + d), glyphs_value 0 (d ∷ ds) small) refl,
+        (length-map {A = ℕ} {B = ℕ} digits (λ digit. 48 + digit), glyphs_value 0 (digit ∷ digits) small) refl,
   );
   number_is = refl;
 }
 
+-- a decimal whose digits are below ten and whose whole part the grammar takes
+pub record IsBounded (e : Finite) : Type 0 where
+  pub small : All (λ digit. digit < 10) e.digits
+  pub bound : e.whole < whole_limit
+
 -- characters
 
-pub record StartsWithDigit (text : List ℕ) : Type 0 where
-  pub head : ℕ
-  pub tail : List ℕ
-  pub text_is : text ≡ head ∷ tail
-  pub digit : is_whitespace head ≡ false
+pub not_white : (character : ℕ) → digit_value character < 10 → is_whitespace character ≡ false
+not_white character is_digit = let value = digit_from_value character is_digit in grind (arith, nat_tests, value)
 
-pub not_white : (c : ℕ) → digit_value c < 10 → is_whitespace c ≡ false
-not_white c h = let k = digit_from_value c h in grind (arith, nat_tests, k)
+pub starts_with_digit : (text : List ℕ) → IsNumeral 10 text → StartsWithoutSpace text
+starts_with_digit [] numeral = absurd (omega (arith, numeral.0))
+starts_with_digit (character ∷ rest) numeral =
+    record { head = character; tail = rest; text_is = refl; head_is = not_white character numeral.1.0 }
 
-pub first_digit : (ds : List ℕ) → IsNumeral 10 ds → StartsWithDigit ds
-first_digit [] h = absurd (omega (arith, h.0))
-first_digit (c ∷ cs) h = record { head = c; tail = cs; text_is = refl; digit = not_white c h.1.0 }
+pub number_start : (whole : ℕ) (rest : List ℕ) → whole < whole_limit → StartsWithoutSpace (decimal whole ++ rest)
+number_start whole rest bound =
+    let start = starts_with_digit (decimal whole) (whole_text whole bound).0 in
+    record { head = start.head; tail = start.tail ++ rest; text_is = ap (λ text. text ++ rest) start.text_is; head_is = start.head_is }
 
-pub number_start : (w : ℕ) (rest : List ℕ) → w < whole_limit → StartsWithDigit (decimal w ++ rest)
-number_start w rest h =
-    let s = first_digit (decimal w) (whole_text w h).0 in
-    record { head = s.head; tail = s.tail ++ rest; text_is = ap (λ t. t ++ rest) s.text_is; digit = s.digit }
+fraction_ascii : (digits : List ℕ) → All (λ digit. digit < 10) digits → IsAscii (fraction_text digits)
+fraction_ascii [] small = IsAscii-nil
+fraction_ascii (digit ∷ digits) small =
+    IsAscii-cons 46 (glyphs (digit ∷ digits)) (omega arith)
+    (IsAscii-from_digits (glyphs (digit ∷ digits)) (glyph_digits (digit ∷ digits) small))
 
-fraction_ascii : (ds : List ℕ) → All (λ d. d < 10) ds → IsAscii (fraction_text ds)
-fraction_ascii [] h = IsAscii-nil
-fraction_ascii (d ∷ ds) h =
-    IsAscii-cons 46 (glyphs (d ∷ ds)) (omega arith) (IsAscii-from_digits (glyphs (d ∷ ds)) (glyph_digits (d ∷ ds) h))
+pub decimal_ascii : (whole : ℕ) → whole < whole_limit → IsAscii (decimal whole)
+decimal_ascii whole bound = IsAscii-from_digits (decimal whole) (whole_text whole bound).0.1
 
-pub decimal_ascii : (w : ℕ) → w < whole_limit → IsAscii (decimal w)
-decimal_ascii w h = IsAscii-from_digits (decimal w) (whole_text w h).0.1
-
-pub number_ascii : (w : ℕ) (ds : List ℕ) → All (λ d. d < 10) ds → w < whole_limit → IsAscii (decimal w ++ fraction_text ds)
-number_ascii w ds small h = IsAscii-append (decimal w) (fraction_text ds) (decimal_ascii w h) (fraction_ascii ds small)
+pub number_ascii :
+    (whole : ℕ) (digits : List ℕ) → All (λ digit. digit < 10) digits → whole < whole_limit
+    → IsAscii (decimal whole ++ fraction_text digits)
+number_ascii whole digits small bound =
+    IsAscii-append (decimal whole) (fraction_text digits) (decimal_ascii whole bound) (fraction_ascii digits small)

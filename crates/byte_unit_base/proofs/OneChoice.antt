@@ -37,27 +37,34 @@ same_fields p false true q false false i j t f = absurd (omega (arith, t, f))
 same_fields p false false q false true i j t f = absurd (omega (arith, t, f))
 
 -- so units with a prefix and the same bits are one
-same_unit : (a b : Shape) → 1 ≤ a.power → 1 ≤ b.power → bits a ≡ bits b → a ≡ b
-same_unit a b i j e =
-    let h = no_greater (twos a) (fives a) (twos b) (fives b) e in
-    let k = no_greater (twos b) (fives b) (twos a) (fives a) (sym e) in
-    same_fields a.power a.binary a.bit b.power b.binary b.bit i j (omega (arith, h.0, k.0)) (omega (arith, h.1, k.1))
+same_unit : (unit other : Shape) → 1 ≤ unit.power → 1 ≤ other.power → bits unit ≡ bits other → unit ≡ other
+same_unit unit other prefix other_prefix same =
+    let low = no_greater (twos unit) (fives unit) (twos other) (fives other) same in
+    let high = no_greater (twos other) (fives other) (twos unit) (fives unit) (sym same) in
+    same_fields unit.power unit.binary unit.bit other.power other.binary other.bit prefix other_prefix (omega (arith, low.0, high.0))
+    (omega (arith, low.1, high.1))
 
 -- of two largest units the one is the other
-pub one_largest : (edition : Edition) (family : Family) (in_bits precision : ℕ) (a b : Shape)
-    → IsLargest (States edition family in_bits precision) a → IsLargest (States edition family in_bits precision) b → a ≡ b
-one_largest edition family in_bits precision a b h k =
-    let low = h.largest b k.has in
-    let high = k.largest a h.has in
-    same_unit a b h.has.member.prefix.some k.has.member.prefix.some (omega (arith, low, high))
+pub one_largest : (edition : Edition) (family : Family) (in_bits precision : ℕ) (unit other : Shape)
+    → IsLargest (States edition family in_bits precision) unit → IsLargest (States edition family in_bits precision) other → unit ≡ other
+one_largest edition family in_bits precision unit other largest other_largest =
+    let low = largest.largest other other_largest.has in
+    let high = other_largest.largest unit largest.has in
+    same_unit unit other largest.has.member.prefix.some other_largest.has.member.prefix.some (omega (arith, low, high))
 
-same_number : (size places unit n m : ℕ) → 1 ≤ unit → IsQuotient size unit places n → IsQuotient size unit places m → n ≡ m
-same_number size places unit n m some p q =
-    let e = eq_of_mul-eq-mul_right unit (omega (arith, some)) p.count q.count (sym p.exact ∙ q.exact) in
-    p.number ∙ (ap (λ w. w * 10 ^ (places_of_decimal - places)) e ∙ sym q.number)
+same_number : (size places unit number other : ℕ) → 1 ≤ unit → IsQuotient size unit places number → IsQuotient size unit places other
+    → number ≡ other
+same_number size places unit number other some quotient other_quotient =
+    let count =
+    eq_of_mul-eq-mul_right unit (omega (arith, some)) quotient.count other_quotient.count (sym quotient.exact ∙ other_quotient.exact) in
+    quotient.number ∙ (ap (λ count. count * 10 ^ (places_of_decimal - places)) count ∙ sym other_quotient.number)
 
 pub one_choice : ChoicesAreOne
-one_choice edition family in_bits precision n m a b h k =
-    let same = one_largest edition family in_bits precision a b h.unit_is k.unit_is in
-    let number : Shape → Type 0 = λ s. IsQuotient in_bits (bits s) (places_within precision) m in
-    (same, same_number in_bits (places_within precision) (bits a) n m (some_bits a) h.number_is (subst number (sym same) k.number_is))
+one_choice edition family in_bits precision number other_number unit other_unit chosen other =
+    let same = one_largest edition family in_bits precision unit other_unit chosen.unit_is other.unit_is in
+    let places = places_within precision in
+    let quotient : Shape → Type 0 = λ unit. IsQuotient in_bits (bits unit) places other_number in (
+      same,
+      same_number in_bits places (bits unit) number other_number (some_bits unit) chosen.number_is
+          (subst quotient (sym same) other.number_is),
+    )

@@ -1,5 +1,5 @@
 -- The characters of a trimmed text.
-use Rattle.std.proofs.Common.{◌≡◌, ℕ, List, [], ◌∷◌, length, refl, ap, ◌∙◌, Bool, true, false, cond, ◌&&◌, nat_eq}
+use Rattle.std.proofs.Common.{◌≡◌, ℕ, List, [], ◌∷◌, ◌++◌, length, refl, ap, ◌∙◌, Bool, true, false, cond, ◌&&◌, nat_eq}
 use Rattle.std.specs.Str.{chars, trim, trim_start, trim_end, skip_leading_whitespace, drop_trailing_whitespace, IsUtf8, all_scalars}
 use Rattle.std.specs.Str.{encode_utf8_all}
 use Rattle.std.specs.Char.{is_whitespace}
@@ -32,3 +32,17 @@ chars-trim bs u =
     ap (λ cs. chars (encode_utf8_all (drop_trailing_whitespace cs))) e
     ∙ chars-encodes (drop_trailing_whitespace (skip_leading_whitespace (chars bs)))
     (scalars_drop (skip_leading_whitespace (chars bs)) (scalars_skip (chars bs) (scalars-chars bs u)))
+
+-- texts that trimming keeps at one end
+
+pub record StartsWithoutSpace (text : List ℕ) : Type 0 where
+  pub head : ℕ
+  pub tail : List ℕ
+  pub text_is : text ≡ head ∷ tail
+  pub head_is : is_whitespace head ≡ false
+
+pub record EndsWithoutSpace (text : List ℕ) : Type 0 where
+  pub front : List ℕ
+  pub last : ℕ
+  pub text_is : text ≡ front ++ last ∷ []
+  pub last_is : is_whitespace last ≡ false

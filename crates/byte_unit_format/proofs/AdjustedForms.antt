@@ -22,23 +22,24 @@ use Rattle.byte_unit_base.specs.declared.kind.Kind.{Kind}
 use Rattle.byte_unit_format.specs.declared.spec.FormatSpec.{FormatSpec}
 use Rattle.byte_unit_base.specs.Kinds.{bits_in}
 use Rattle.byte_unit_format.specs.Layout.{layout, layout_of}
-use Rattle.byte_unit_format.specs.Adjusted.{Rule, full, round_to, short_to, IsNumeralBy, rule_of, alternate_places, IsAdjustedForm, is_single}
+use Rattle.byte_unit_format.specs.Adjusted.{Rule, full, round_to, short_to, IsNumeralBy, rule_of}
+use Rattle.byte_unit_format.specs.Adjusted.{alternate_places, IsAdjustedForm, is_single}
 use Rattle.byte_unit_format.specs.FormLaws.{SizeHasOneAdjustedForm}
 
 -- which numeral is written
 
 pub by_rule : {rule other : Rule} (num den : ℕ) (text : List ℕ) → rule ≡ other → IsNumeralBy other num den text
     → IsNumeralBy rule num den text
-by_rule num den text same h = subst (λ rule. IsNumeralBy rule num den text) (sym same) h
+by_rule num den text same numeral = subst (λ rule. IsNumeralBy rule num den text) (sym same) numeral
 
 pub rule_unset : (spec : FormatSpec) (unit : Shape) → spec.precision ≡ None → rule_of spec.precision spec.alternate unit ≡ full
-rule_unset spec unit unset = ap (λ p. rule_of p spec.alternate unit) unset
+rule_unset spec unit unset = ap (λ precision. rule_of precision spec.alternate unit) unset
 
 rule_set : (spec : FormatSpec) (unit : Shape) (precision : ℕ) (alternate : Bool) → spec.precision ≡ Some precision
     → spec.alternate ≡ alternate
     → rule_of spec.precision spec.alternate unit ≡ rule_of (Some precision) alternate unit
 rule_set spec unit precision alternate set flag =
-    ap (λ p. rule_of p spec.alternate unit) set ∙ ap (λ b. rule_of (Some precision) b unit) flag
+    ap (λ precision. rule_of precision spec.alternate unit) set ∙ ap (λ alternate. rule_of (Some precision) alternate unit) flag
 
 pub rule_short : (spec : FormatSpec) (unit : Shape) (precision places : ℕ) → spec.precision ≡ Some precision → spec.alternate ≡ true
     → places ≡ min precision alternate_places → rule_of spec.precision spec.alternate unit ≡ short_to places
@@ -47,120 +48,136 @@ rule_short spec unit precision places set flag few = rule_set spec unit precisio
 pub rule_single : (spec : FormatSpec) (unit : Shape) (precision : ℕ) → spec.precision ≡ Some precision → spec.alternate ≡ false
     → is_single unit ≡ true → rule_of spec.precision spec.alternate unit ≡ full
 rule_single spec unit precision set flag single =
-    rule_set spec unit precision false set flag ∙ ap (λ b. if b then full else round_to precision) single
+    rule_set spec unit precision false set flag ∙ ap (λ single. if single then full else round_to precision) single
 
 pub rule_round : (spec : FormatSpec) (unit : Shape) (precision places : ℕ) → spec.precision ≡ Some precision → spec.alternate ≡ false
     → is_single unit ≡ false → places ≡ precision → rule_of spec.precision spec.alternate unit ≡ round_to places
-rule_round spec unit precision places set flag many same =
-    rule_set spec unit precision false set flag ∙ (ap (λ b. if b then full else round_to precision) many ∙ ap round_to (sym same))
+rule_round spec unit precision places set flag prefixed same =
+    rule_set spec unit precision false set flag
+    ∙ (ap (λ single. if single then full else round_to precision) prefixed ∙ ap round_to (sym same))
 
 -- one numeral
 
-one_numeral : (rule : Rule) (num den : ℕ) (a b : List ℕ) → 0 < den → IsNumeralBy rule num den a → IsNumeralBy rule num den b → a ≡ b
-one_numeral full num den a b some h k = h.2 ∙ (ap text_of (one_expansion num den h.0 k.0 some h.1 k.1) ∙ sym k.2)
-one_numeral (round_to p) num den a b some h k =
-    let same = one_nearest num den p Even h.0 k.0 (record { positive = some; this = h.1; other = k.1 }) in
-    h.2 ∙ (ap (λ q. numeral q p) same ∙ sym k.2)
-one_numeral (short_to p) num den a b some h k =
-    let same = one_nearest num den p Up h.0 k.0 (record { positive = some; this = h.1; other = k.1 }) in
-    h.2 ∙ (ap (λ q. short q p) same ∙ sym k.2)
+one_numeral : (rule : Rule) (num den : ℕ) (text other : List ℕ) → 0 < den → IsNumeralBy rule num den text → IsNumeralBy rule num den other
+    → text ≡ other
+one_numeral full num den text other some of_text of_other =
+    of_text.2 ∙ (ap text_of (one_expansion num den of_text.0 of_other.0 some of_text.1 of_other.1) ∙ sym of_other.2)
+one_numeral (round_to places) num den text other some of_text of_other =
+    let same = one_nearest num den places Even of_text.0 of_other.0 (record { positive = some; this = of_text.1; other = of_other.1 }) in
+    of_text.2 ∙ (ap (λ nearest. numeral nearest places) same ∙ sym of_other.2)
+one_numeral (short_to places) num den text other some of_text of_other =
+    let same = one_nearest num den places Up of_text.0 of_other.0 (record { positive = some; this = of_text.1; other = of_other.1 }) in
+    of_text.2 ∙ (ap (λ nearest. short nearest places) same ∙ sym of_other.2)
 
-pub one_adjusted : (edition : Edition) (kind : Kind) (size : ℕ) (unit : Shape) (spec : FormatSpec) (a b : List ℕ)
-    → IsAdjustedForm edition kind size unit spec a → IsAdjustedForm edition kind size unit spec b → a ≡ b
-one_adjusted edition kind size unit spec a b h k =
+pub one_adjusted : {edition : Edition} {kind : Kind} {size : ℕ} {unit : Shape} {spec : FormatSpec} {text other : List ℕ}
+    → IsAdjustedForm edition kind size unit spec text → IsAdjustedForm edition kind size unit spec other → text ≡ other
+one_adjusted {edition} {kind} {size} {unit} {spec} form other =
     let rule = rule_of spec.precision spec.alternate unit in
     let some : 0 < bits unit = omega (arith, some_bits unit) in
-    let same = one_numeral rule (size * bits_in kind) (bits unit) h.number k.number some h.number_is k.number_is in
-    h.text_is ∙ (ap (λ t. layout t (name edition unit) spec) same ∙ sym k.text_is)
+    let same =
+    one_numeral rule (size * bits_in kind) (bits unit) form.number other.number some form.number_is other.number_is in
+    form.text_is ∙ (ap (λ number. layout number (name edition unit) spec) same ∙ sym other.text_is)
 
 -- there is one
 
-record Nearest (num den p : ℕ) (ties : Ties) : Type 0 where
-  q : ℕ
-  is_nearest : IsNearest num den p ties q
+record Nearest (num den places : ℕ) (ties : Ties) : Type 0 where
+  number : ℕ
+  is_nearest : IsNearest num den places ties number
 
-parity : (n : ℕ) → n % 2 < 1 → n % 2 ≡ 0
-parity n h = omega (arith, h)
+parity : (number : ℕ) → number % 2 < 1 → number % 2 ≡ 0
+parity number even = omega (arith, even)
 
-at_tie : (num den p t low : ℕ) (ties : Ties) → LiesAbove num den p t low → 2 * low ≡ den → Nearest num den p ties
-at_tie num den p t low Up lies half = record { q = t + 1; is_nearest = tie_up num den p t low lies half }
-at_tie num den p t low Even lies half =
-    ⊎_elim (λ even. record { q = t; is_nearest = tie_even_this num den p t low lies half (parity t even) })
-    (λ odd. record { q = t + 1; is_nearest = tie_even_next num den p t low lies half (let e : t % 2 ≡ 1 = omega (arith, odd) in e) })
-    (cases_lt (t % 2) 1)
+at_tie : (num den places below rest : ℕ) (ties : Ties) → LiesAbove num den places below rest → 2 * rest ≡ den
+    → Nearest num den places ties
+at_tie num den places below rest Up lies tie = record { number = below + 1; is_nearest = tie_up num den places below rest lies tie }
+at_tie num den places below rest Even lies tie =
+    ⊎_elim (λ even. record { number = below; is_nearest = tie_even_this num den places below rest lies tie (parity below even) })
+    (λ odd.
+    let is_odd : below % 2 ≡ 1 = omega (arith, odd) in
+    record { number = below + 1; is_nearest = tie_even_next num den places below rest lies tie is_odd })
+    (cases_lt (below % 2) 1)
 
-nearest : (num den p : ℕ) (ties : Ties) → 0 < den → Nearest num den p ties
-nearest num den p ties some =
-    let n = num * 10 ^ p in
-    let t = n / den in
-    let low = n % den in
-    let lies : LiesAbove num den p t low = record { split = sym (div-add-mod' n den); below = mod_below n den some } in
-    ⊎_elim (λ less. record { q = t; is_nearest = nearest_down num den p t low lies ties less })
-    (λ more.
-    ⊎_elim (λ above. record { q = t + 1; is_nearest = nearest_up num den p t low lies ties above })
-    (λ half. at_tie num den p t low ties lies (let e : 2 * low ≡ den = omega (arith, more, half) in e))
-    (cases_lt den (2 * low)))
-    (cases_lt (2 * low) den)
+nearest : (num den places : ℕ) (ties : Ties) → 0 < den → Nearest num den places ties
+nearest num den places ties some =
+    let scaled_num = num * 10 ^ places in
+    let below = scaled_num / den in
+    let rest = scaled_num % den in
+    let lies : LiesAbove num den places below rest =
+    record { split = sym (div-add-mod' scaled_num den); below = mod_below scaled_num den some } in
+    ⊎_elim
+    (λ less. record { number = below; is_nearest = nearest_down num den places below rest lies ties less })
+    (λ at_least.
+    ⊎_elim
+    (λ more. record { number = below + 1; is_nearest = nearest_up num den places below rest lies ties more })
+    (λ at_most. at_tie num den places below rest ties lies (let tie : 2 * rest ≡ den = omega (arith, at_least, at_most) in tie))
+    (cases_lt den (2 * rest)))
+    (cases_lt (2 * rest) den)
 
 record Expanded (num den : ℕ) : Type 0 where
   e : Finite
   is_expansion : IsExpansion num den e
 
 -- ten times itself so often as two and five divide is a multiple
-ten_parts : (a b : ℕ) → 10 ^ (a + b) ≡ (5 ^ a * 2 ^ b) * (2 ^ a * 5 ^ b)
-ten_parts a b =
-    let ten_a : 10 ^ a ≡ 2 ^ a * 5 ^ a = mul-pow 2 5 a in
-    let ten_b : 10 ^ b ≡ 2 ^ b * 5 ^ b = mul-pow 2 5 b in
-    pow-add 10 a b ∙ (ap (λ x. x * 10 ^ b) ten_a ∙ (ap (λ x. 2 ^ a * 5 ^ a * x) ten_b ∙ omega arith))
+ten_parts : (twos fives : ℕ) → 10 ^ (twos + fives) ≡ (5 ^ twos * 2 ^ fives) * (2 ^ twos * 5 ^ fives)
+ten_parts twos fives =
+    let of_twos : 10 ^ twos ≡ 2 ^ twos * 5 ^ twos = mul-pow 2 5 twos in
+    let of_fives : 10 ^ fives ≡ 2 ^ fives * 5 ^ fives = mul-pow 2 5 fives in
+    pow-add 10 twos fives
+    ∙ (ap (λ power. power * 10 ^ fives) of_twos ∙ (ap (λ power. 2 ^ twos * 5 ^ twos * power) of_fives ∙ omega arith))
 
-expanded : (num a b : ℕ) → 0 < 2 ^ a * 5 ^ b → Expanded num (2 ^ a * 5 ^ b)
-expanded num a b some =
-    let den = 2 ^ a * 5 ^ b in
-    let p : ℕ = a + b in
-    let q : ℕ = num * (5 ^ a * 2 ^ b) in
-    let same = ap (λ x. num * x) (ten_parts a b) in
+expanded : (num twos fives : ℕ) → 0 < 2 ^ twos * 5 ^ fives → Expanded num (2 ^ twos * 5 ^ fives)
+expanded num twos fives some =
+    let den = 2 ^ twos * 5 ^ fives in
+    let places : ℕ = twos + fives in
+    let number : ℕ = num * (5 ^ twos * 2 ^ fives) in
+    let multiple = ap (λ power. num * power) (ten_parts twos fives) in
+    let same : number * den ≡ num * 10 ^ places = omega (arith, multiple) in
     record {
-      e = shortened (at_places p q);
+      e = shortened (at_places places number);
       is_expansion =
-          same_fraction q (10 ^ p) num den (shortened (at_places p q))
-          (record { positive = omega (arith, ten p); positive' = some; same = omega (arith, same) }) (short_expansion q p);
+          same_fraction number (10 ^ places) num den (shortened (at_places places number))
+          (record { positive = omega (arith, ten places); positive' = some; same = same }) (short_expansion number places);
     }
 
 record Numeral (rule : Rule) (num den : ℕ) : Type 0 where
   number : List ℕ
   is_numeral : IsNumeralBy rule num den number
 
-numeral_there : (rule : Rule) (num a b : ℕ) → 0 < 2 ^ a * 5 ^ b → Numeral rule num (2 ^ a * 5 ^ b)
-numeral_there full num a b some = let r = expanded num a b some in record { number = text_of r.e; is_numeral = (r.e, r.is_expansion, refl) }
-numeral_there (round_to p) num a b some =
-    let r = nearest num (2 ^ a * 5 ^ b) p Even some in
-    record { number = numeral r.q p; is_numeral = (r.q, r.is_nearest, refl) }
-numeral_there (short_to p) num a b some =
-    let r = nearest num (2 ^ a * 5 ^ b) p Up some in
-    record { number = short r.q p; is_numeral = (r.q, r.is_nearest, refl) }
+numeral_there : (rule : Rule) (num twos fives : ℕ) → 0 < 2 ^ twos * 5 ^ fives → Numeral rule num (2 ^ twos * 5 ^ fives)
+numeral_there full num twos fives some =
+    let found = expanded num twos fives some in
+    record { number = text_of found.e; is_numeral = (found.e, found.is_expansion, refl) }
+numeral_there (round_to places) num twos fives some =
+    let found = nearest num (2 ^ twos * 5 ^ fives) places Even some in
+    record { number = numeral found.number places; is_numeral = (found.number, found.is_nearest, refl) }
+numeral_there (short_to places) num twos fives some =
+    let found = nearest num (2 ^ twos * 5 ^ fives) places Up some in
+    record { number = short found.number places; is_numeral = (found.number, found.is_nearest, refl) }
 
 pub has_one_adjusted_form : SizeHasOneAdjustedForm
 has_one_adjusted_form edition kind size unit spec =
     let some : 0 < bits unit = omega (arith, some_bits unit) in
-    let r = numeral_there (rule_of spec.precision spec.alternate unit) (size * bits_in kind) (twos unit) (fives unit) some in
-    let form = layout r.number (name edition unit) spec in
+    let found = numeral_there (rule_of spec.precision spec.alternate unit) (size * bits_in kind) (twos unit) (fives unit) some in
+    let form = layout found.number (name edition unit) spec in
     let is_form : IsAdjustedForm edition kind size unit spec form =
-    record { number = r.number; number_is = r.is_numeral; text_is = refl } in
-    record { form = form; is_form = is_form; one = λ other h. one_adjusted edition kind size unit spec other form h is_form }
+    record { number = found.number; number_is = found.is_numeral; text_is = refl } in
+    record { form = form; is_form = is_form; one = λ other is_other. one_adjusted is_other is_form }
 
 -- the text that is written
 
-abbrev pub IsShownBy : ℕ → Shape → FormatSpec → Finite → ℕ → Type 0
-IsShownBy num unit spec e places = IsNumeralBy (rule_of spec.precision spec.alternate unit) num (bits unit) (text_of (padded places e))
+-- a decimal with so many places is the numeral that the spec asks for
+pub record IsShown (kind : Kind) (size : ℕ) (unit : Shape) (spec : FormatSpec) (e : Finite) (places : ℕ) : Type 0 where
+  pub is_numeral :
+      IsNumeralBy (rule_of spec.precision spec.alternate unit) (size * bits_in kind) (bits unit) (text_of (padded places e))
 
-pub adjusted_form : (kind : Kind) (size : ℕ) (unit : Shape) (spec : FormatSpec) (e : Finite) (places : ℕ)
-    → IsShownBy (size * bits_in kind) unit spec e places → IsAdjustedForm current kind size unit spec (layout_of current e places unit spec)
-adjusted_form kind size unit spec e places h = record { number = text_of (padded places e); number_is = h; text_is = refl }
+pub adjusted_form :
+    {kind : Kind} {size : ℕ} {unit : Shape} {spec : FormatSpec} {e : Finite} {places : ℕ} → IsShown kind size unit spec e places
+    → IsAdjustedForm current kind size unit spec (layout_of current e places unit spec)
+adjusted_form {kind} {size} {unit} {spec} {e} {places} shown =
+    record { number = text_of (padded places e); number_is = shown.is_numeral; text_is = refl }
 
 -- each form is as long
-pub adjusted_length : (kind : Kind) (size : ℕ) (unit : Shape) (spec : FormatSpec) (e : Finite) (places : ℕ)
-    → IsShownBy (size * bits_in kind) unit spec e places → (form : List ℕ) → IsAdjustedForm current kind size unit spec form
-    → length form ≡ length (layout_of current e places unit spec)
-adjusted_length kind size unit spec e places h form k =
-    let shown = adjusted_form kind size unit spec e places h in
-    ap length (one_adjusted current kind size unit spec form (layout_of current e places unit spec) k shown)
+pub adjusted_length :
+    {kind : Kind} {size : ℕ} {unit : Shape} {spec : FormatSpec} {e : Finite} {places : ℕ} → IsShown kind size unit spec e places
+    → (form : List ℕ) → IsAdjustedForm current kind size unit spec form → length form ≡ length (layout_of current e places unit spec)
+adjusted_length shown form is_form = ap length (one_adjusted is_form (adjusted_form shown))

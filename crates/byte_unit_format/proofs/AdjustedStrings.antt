@@ -4,11 +4,11 @@ use Rattle.std.proofs.Common.{length, refl, sym, ap, subst, ◌∙◌, arith}
 use Rattle.std.proofs.Math.Nat.{le_of_mul-le-mul_right}
 use Rattle.std.proofs.lemmas.Nat.{pow-add, mul-le}
 use Rattle.std.proofs.lemmas.Bool.{cases_lt}
-use Rattle.byte_unit_math.specs.Bounds.{one, places_of_decimal, whole_limit}
+use Rattle.byte_unit_math.specs.Bounds.{one, places_of_decimal}
 use Rattle.byte_unit_math.specs.Exact.{IsExactAt}
 use Rattle.byte_unit_math.specs.Finite.{Finite, IsExpansion, value_of, scaled}
 use Rattle.byte_unit_math.proofs.Digits.{ten}
-use Rattle.byte_unit_base.specs.Shape.{bits}
+use Rattle.byte_unit_base.specs.Shape.{Shape, bits}
 use Rattle.byte_unit_base.specs.Edition.{current, name}
 use Rattle.byte_unit_base.specs.Units.{shape_of}
 use Rattle.byte_unit_base.specs.SizeText.{trimmed}
@@ -24,83 +24,96 @@ use Rattle.byte_unit_format.specs.declared.spec.TheConstants.FormatSpec.{ALTERNA
 use Rattle.byte_unit_base.specs.declared.kind.Kind.{Kind}
 use Rattle.byte_unit_base.specs.declared.unit.Unit.{Unit as UnitName}
 use Rattle.byte_unit_base.proofs.Choosing.{some_bits}
-use Rattle.byte_unit_base.proofs.NumberTexts.{number_of}
+use Rattle.byte_unit_base.proofs.NumberTexts.{IsBounded, number_of}
 use Rattle.byte_unit_base.proofs.LongFractions.{long_fault}
 use Rattle.byte_unit_base.proofs.Quotients.{exact_more}
-use Rattle.byte_unit_format.proofs.ReadBack.{good_name, bits_bound, number_scaled, trimmed_layout, layout_accepted, size_form_back}
+use Rattle.byte_unit_format.proofs.ReadBack.{IsStatement, good_name, bits_bound, number_scaled, trimmed_layout, layout_accepted}
+use Rattle.byte_unit_format.proofs.ReadBack.{size_form_back}
 
--- the whole part of an expansion
+-- an expansion
 
 whole_not_above : (num den : ℕ) (e : Finite) → 1 ≤ den → IsExpansion num den e → e.whole ≤ num
-whole_not_above num den e some h =
-    let more = mul-le (scaled e) 1 (scaled e) den (omega arith) some in
-    let x : e.whole * 10 ^ length e.digits ≤ num * 10 ^ length e.digits = omega (arith, more, h.exact) in
-    le_of_mul-le-mul_right x (let k : 0 < 10 ^ length e.digits = omega (arith, ten (length e.digits)) in k)
+whole_not_above num den e some expansion =
+    let scale = 10 ^ length e.digits in
+    let not_above = mul-le (scaled e) 1 (scaled e) den (omega arith) some in
+    let scaled_whole : e.whole * scale ≤ num * scale = omega (arith, not_above, expansion.exact) in
+    le_of_mul-le-mul_right scaled_whole (let positive : 0 < scale = omega (arith, ten (length e.digits)) in positive)
 
--- with no more places than a decimal, it is accepted
+-- that of a size is one that the grammar takes
+expansion_bounded : (kind : Kind) (size : ℕ) (unit : Shape) (e : Finite) → size < current.size_limit
+    → IsExpansion (size * bits_in kind) (bits unit) e → IsBounded e
+expansion_bounded kind size unit e below expansion =
+    let not_above = whole_not_above (size * bits_in kind) (bits unit) e (some_bits unit) expansion in
+    record { small = expansion.small; bound = omega (arith, not_above, bits_bound kind size below) }
 
+-- in last places
 expansion_product : (num den : ℕ) (e : Finite) → IsExpansion num den e → length e.digits ≤ places_of_decimal
     → number_of e.whole e.digits * den ≡ num * one
-expansion_product num den e h few =
-    let len = length e.digits in
-    let R = 10 ^ (places_of_decimal - len) in
-    let power : one ≡ 10 ^ len * R =
-    ap (λ n. 10 ^ n) (let k : places_of_decimal ≡ len + (places_of_decimal - len) = omega arith in k)
-    ∙ pow-add 10 len (places_of_decimal - len) in
-    let number : number_of e.whole e.digits ≡ scaled e * R = number_scaled e.whole (value_of e.digits) (scaled e * R) len few refl in
-    let x = ap (λ n. n * den) number in
-    let y = ap (λ n. n * R) h.exact in
-    let z = ap (λ n. num * n) power in
-    x ∙ omega (arith, y, z)
+expansion_product num den e expansion few =
+    let places = length e.digits in
+    let rest = 10 ^ (places_of_decimal - places) in
+    let split : places_of_decimal ≡ places + (places_of_decimal - places) = omega arith in
+    let power : one ≡ 10 ^ places * rest = ap (λ places. 10 ^ places) split ∙ pow-add 10 places (places_of_decimal - places) in
+    let number : number_of e.whole e.digits ≡ scaled e * rest =
+    number_scaled e.whole (value_of e.digits) (scaled e * rest) places few refl in
+    let of_rest = ap (λ number. number * rest) expansion.exact in
+    let of_power = ap (λ power. num * power) power in
+    ap (λ number. number * den) number ∙ omega (arith, of_rest, of_power)
 
 -- the string
 
 form_accepted : (kind : Kind) (size : ℕ) (unit : UnitName) (text : List ℕ) → size < current.size_limit
     → IsAdjustedForm current kind size (shape_of unit) ALTERNATE text
     → IsExactAt (size * bits_in kind) (bits (shape_of unit)) places_of_decimal → IsAccepted current kind false text size
-form_accepted kind size unit text below h exact =
-    let s = shape_of unit in
-    let e = h.number_is.0 in
-    let x = h.number_is.1 in
-    let few = x.least places_of_decimal exact in
-    let bound : e.whole < whole_limit =
-    omega (arith, whole_not_above (size * bits_in kind) (bits s) e (some_bits s) x, bits_bound kind size below) in
-    let P : List ℕ → Type 0 = λ t. IsAccepted current kind false t size in
-    subst P (sym (h.text_is ∙ ap (λ n. layout n (name current s) ALTERNATE) h.number_is.2))
-    (layout_accepted kind false size ALTERNATE e.whole e.digits s x.small few bound (good_name kind unit)
-    (expansion_product (size * bits_in kind) (bits s) e x few) below)
+form_accepted kind size unit text below form exact =
+    let shape = shape_of unit in
+    let e = form.number_is.0 in
+    let expansion = form.number_is.1 in
+    let few = expansion.least places_of_decimal exact in
+    let states : IsStatement kind false size e shape =
+    record {
+      bounded = expansion_bounded kind size shape e below expansion;
+      few = few;
+      good = good_name kind unit;
+      exact = expansion_product (size * bits_in kind) (bits shape) e expansion few;
+      below = below;
+    } in
+    let text_is = form.text_is ∙ ap (λ number. layout number (name current shape) ALTERNATE) form.number_is.2 in
+    let Accepted : List ℕ → Type 0 = λ text. IsAccepted current kind false text size in
+    subst Accepted (sym text_is) (layout_accepted kind false size ALTERNATE e shape states)
 
 form_refused : (kind : Kind) (size : ℕ) (unit : UnitName) (text : List ℕ) → size < current.size_limit
     → IsAdjustedForm current kind size (shape_of unit) ALTERNATE text
     → ¬ (IsExactAt (size * bits_in kind) (bits (shape_of unit)) places_of_decimal)
     → IsSizeFault current (flags_for kind false) (trimmed text) too_long
-form_refused kind size unit text below h long =
-    let s = shape_of unit in
-    let e = h.number_is.0 in
-    let x = h.number_is.1 in
+form_refused kind size unit text below form long =
+    let shape = shape_of unit in
+    let e = form.number_is.0 in
+    let expansion = form.number_is.1 in
     let many : places_of_decimal < length e.digits =
-    ⊎_elim (λ l. l)
-    (λ few. absurd (long (exact_more (size * bits_in kind) (bits s) (length e.digits) places_of_decimal few (scaled e, x.exact))))
+    ⊎_elim (λ many. many)
+    (λ few.
+    absurd (long (exact_more (size * bits_in kind) (bits shape) (length e.digits) places_of_decimal few (scaled e, expansion.exact))))
     (cases_lt places_of_decimal (length e.digits)) in
-    let bound : e.whole < whole_limit =
-    omega (arith, whole_not_above (size * bits_in kind) (bits s) e (some_bits s) x, bits_bound kind size below) in
-    let t = trimmed_layout kind false ALTERNATE e.whole e.digits s x.small bound (good_name kind unit) in
-    let text_is = ap trimmed (h.text_is ∙ ap (λ n. layout n (name current s) ALTERNATE) h.number_is.2) ∙ t.trims in
-    long_fault (flags_for kind false) e.whole e.digits (spaces t.spaces_between ++ name current s) (trimmed text) bound x.small many text_is
+    let bounded = expansion_bounded kind size shape e below expansion in
+    let layout_is = trimmed_layout kind false ALTERNATE e shape bounded (good_name kind unit) in
+    let text_is =
+    ap trimmed (form.text_is ∙ ap (λ number. layout number (name current shape) ALTERNATE) form.number_is.2) ∙ layout_is.trims in
+    long_fault (flags_for kind false) e (spaces layout_is.spaces_between ++ name current shape) (trimmed text) bounded many text_is
 
 accepted : (kind : Kind) (size : ℕ) (unit : UnitName) (text : List ℕ) → size < current.size_limit
     → IsAdjustedString current kind size (shape_of unit) text → FitsDecimal current kind size (shape_of unit)
     → IsAccepted current kind false text size
-accepted kind size unit text below (inl h) short = size_form_back kind size ALTERNATE false text below h.1
-accepted kind size unit text below (inr h) (inl greatest) = absurd (h.0 greatest)
-accepted kind size unit text below (inr h) (inr exact) = form_accepted kind size unit text below h.1 exact
+accepted kind size unit text below (inl greatest) fits = size_form_back kind size ALTERNATE false text below greatest.1
+accepted kind size unit text below (inr other) (inl greatest) = absurd (other.0 greatest)
+accepted kind size unit text below (inr other) (inr exact) = form_accepted kind size unit text below other.1 exact
 
 refused : (kind : Kind) (size : ℕ) (unit : UnitName) (text : List ℕ) → size < current.size_limit
     → IsAdjustedString current kind size (shape_of unit) text → ¬ (FitsDecimal current kind size (shape_of unit))
     → IsRefused current kind false text too_long
-refused kind size unit text below (inl h) long = absurd (long (inl h.0))
-refused kind size unit text below (inr h) long = inr (form_refused kind size unit text below h.1 (λ exact. long (inr exact)))
+refused kind size unit text below (inl greatest) long = absurd (long (inl greatest.0))
+refused kind size unit text below (inr other) long = inr (form_refused kind size unit text below other.1 (λ exact. long (inr exact)))
 
 pub adjusted_string_back : AdjustedStringReadsBack
-adjusted_string_back kind size unit text below h =
-    record { accepted = accepted kind size unit text below h; refused = refused kind size unit text below h }
+adjusted_string_back kind size unit text below string =
+    record { accepted = accepted kind size unit text below string; refused = refused kind size unit text below string }

@@ -15,23 +15,25 @@ use Rattle.byte_unit_format.specs.Layout.{layout}
 use Rattle.byte_unit_format.specs.Forms.{places_of, IsSizeForm}
 
 -- a size is recovered in one unit
-pub one_recovered : (kind : Kind) (both : Bool) (size precision : ℕ) (a b : Shape) → IsRecovered current kind both size precision a
-    → IsRecovered current kind both size precision b → a ≡ b
-one_recovered kind both size precision a b (inl h) (inl k) =
-    one_largest current (family_for kind both) (size * bits_in kind) precision a b h k
-one_recovered kind both size precision a b (inl h) (inr k) = absurd (k.0 a h.has)
-one_recovered kind both size precision a b (inr h) (inl k) = absurd (h.0 b k.has)
-one_recovered kind both size precision a b (inr h) (inr k) = h.1 ∙ sym k.1
+pub one_recovered :
+    (kind : Kind) (both : Bool) (size precision : ℕ) (unit other : Shape) → IsRecovered current kind both size precision unit
+    → IsRecovered current kind both size precision other → unit ≡ other
+one_recovered kind both size precision unit other (inl largest) (inl other_largest) =
+    one_largest current (family_for kind both) (size * bits_in kind) precision unit other largest other_largest
+one_recovered kind both size precision unit other (inl largest) (inr none) = absurd (none.0 unit largest.has)
+one_recovered kind both size precision unit other (inr none) (inl largest) = absurd (none.0 other largest.has)
+one_recovered kind both size precision unit other (inr own) (inr other_own) = own.1 ∙ sym other_own.1
 
-pub one_form : (kind : Kind) (size : ℕ) (spec : FormatSpec) (a b : List ℕ) → IsSizeForm current kind size spec a
-    → IsSizeForm current kind size spec b → a ≡ b
-one_form kind size spec a b h k =
-    let unit = one_recovered kind false size (places_of spec.precision) h.unit k.unit h.is_recovered k.is_recovered in
-    let product : Shape → Type 0 = λ s. k.number * bits s ≡ size * bits_in kind * one in
+pub one_form : (kind : Kind) (size : ℕ) (spec : FormatSpec) (text other : List ℕ) → IsSizeForm current kind size spec text
+    → IsSizeForm current kind size spec other → text ≡ other
+one_form kind size spec text other form other_form =
+    let unit =
+    one_recovered kind false size (places_of spec.precision) form.unit other_form.unit form.is_recovered other_form.is_recovered in
+    let product : Shape → Type 0 = λ unit. other_form.number * bits unit ≡ size * bits_in kind * one in
     let number =
-    let same = h.number_is ∙ sym (subst product (sym unit) k.number_is) in
-    eq_of_mul-eq-mul_right (bits h.unit) (some_bits h.unit) h.number k.number same in
-    h.text_is
-    ∙ ap (λ s. layout (short h.number places_of_decimal) (name current s) spec) unit
-    ∙ ap (λ n. layout (short n places_of_decimal) (name current k.unit) spec) number
-    ∙ sym k.text_is
+    let same = form.number_is ∙ sym (subst product (sym unit) other_form.number_is) in
+    eq_of_mul-eq-mul_right (bits form.unit) (some_bits form.unit) form.number other_form.number same in
+    form.text_is
+    ∙ ap (λ unit. layout (short form.number places_of_decimal) (name current unit) spec) unit
+    ∙ ap (λ number. layout (short number places_of_decimal) (name current other_form.unit) spec) number
+    ∙ sym other_form.text_is

@@ -1,8 +1,6 @@
 -- What a form says is read as the size that it was made of.
 use Rattle.std.proofs.Common.{◌≡◌, ◌≢◌, ℕ, ◌+◌, ◌-◌, ◌*◌, ◌/◌, ◌^◌, ◌<◌, ◌≤◌, inl, inr, List, [], ◌∷◌, ◌++◌, length, refl, sym, ap, subst}
 use Rattle.std.proofs.Common.{◌∙◌, arith, Bool, false, append-nil, append_assoc}
-use Rattle.std.specs.List.{All}
-use Rattle.std.specs.Char.{is_whitespace}
 use Rattle.std.specs.Fmt.{decimal}
 use Rattle.std.specs.Str.{IsAscii}
 use Rattle.std.specs.Str.Parse.{AllDigits}
@@ -15,9 +13,9 @@ use Rattle.byte_unit_base.specs.Edition.{current, name}
 use Rattle.byte_unit_base.specs.Units.{shape_of}
 use Rattle.byte_unit_base.specs.Spelling.{Spells}
 use Rattle.byte_unit_base.specs.SizeText.{trimmed}
-use Rattle.byte_unit_math.specs.Finite.{value_of}
+use Rattle.byte_unit_math.specs.Finite.{Finite, value_of}
 use Rattle.byte_unit_math.specs.Digits.{at_places, shortened}
-use Rattle.byte_unit_math.specs.Numeral.{fraction_text}
+use Rattle.byte_unit_math.specs.Numeral.{fraction_text, text_of}
 use Rattle.byte_unit_math.proofs.Digits.{short_of}
 use Rattle.byte_unit_base.specs.declared.kind.Kind.{Kind}
 use Rattle.byte_unit_base.specs.declared.kind.Kind.TheVariants.{Byte, Bit}
@@ -28,7 +26,7 @@ use Rattle.byte_unit_base.specs.declared.unit.Unit.{Unit as UnitName}
 use Rattle.byte_unit_base.specs.Family.{InFamily, HasKind}
 use Rattle.byte_unit_base.specs.Choice.{IsRecovered}
 use Rattle.byte_unit_base.proofs.Choosing.{some_bits, own_bits}
-use Rattle.byte_unit_base.proofs.Names.{IsKnown, SaysKind, EndsInLetter, unit_known, name_spells, name_ascii, name_end}
+use Rattle.byte_unit_base.proofs.Names.{IsKnown, SaysKind, unit_known, name_spells, name_ascii, name_end}
 use Rattle.byte_unit_base.specs.Kinds.{bits_in, counts_bits, own_unit, own_family, flags_for}
 use Rattle.byte_unit_base.specs.LeastOfKind.{IsLeastOf}
 use Rattle.byte_unit_base.specs.Accepted.{IsAccepted}
@@ -37,38 +35,41 @@ use Rattle.byte_unit_format.specs.Plain.{spaces, plus_of, plain, plain_padding, 
 use Rattle.byte_unit_format.specs.Forms.{places_of}
 use Rattle.byte_unit_format.specs.FormLaws.{SizeFormReadsBack, PlainFormReadsBack}
 use Rattle.byte_unit_base.proofs.NumberTexts.{number_of, number_text, number_start, number_ascii, decimal_ascii, whole_text}
-use Rattle.byte_unit_base.proofs.NumberTexts.{StartsWithDigit, not_white, first_digit}
+use Rattle.byte_unit_base.proofs.NumberTexts.{IsBounded, not_white, starts_with_digit}
+use Rattle.byte_unit_base.proofs.Trim.{StartsWithoutSpace, EndsWithoutSpace}
 use Rattle.byte_unit_format.proofs.TrimmedTexts.{trim_between, spaces_ascii}
 
 -- names
 
 -- a name is read as its unit, and ends in no white space
-pub record IsGoodName (kind : Kind) (ignore_case : Bool) (s : Shape) : Type 0 where
-  end : EndsInLetter (name current s)
-  ascii : IsAscii (name current s)
-  spells : Spells current (flags_for kind ignore_case) (name current s) s
+pub record IsGoodName (kind : Kind) (ignore_case : Bool) (unit : Shape) : Type 0 where
+  end : EndsWithoutSpace (name current unit)
+  ascii : IsAscii (name current unit)
+  spells : Spells current (flags_for kind ignore_case) (name current unit) unit
 
-named : (kind : Kind) (ignore_case : Bool) (s : Shape) → IsKnown s → SaysKind (flags_for kind ignore_case) s.bit
-    → IsGoodName kind ignore_case s
-named kind ignore_case s known says = record {
-  end = name_end s;
-  ascii = name_ascii s known.known;
-  spells = name_spells (flags_for kind ignore_case) s known says;
+named : (kind : Kind) (ignore_case : Bool) (unit : Shape) → IsKnown unit → SaysKind (flags_for kind ignore_case) unit.bit
+    → IsGoodName kind ignore_case unit
+named kind ignore_case unit known says = record {
+  end = name_end unit;
+  ascii = name_ascii unit known.known;
+  spells = name_spells (flags_for kind ignore_case) unit known says;
 }
 
 -- so in a kind's own family, since case counts where bits are read
 own_says : (kind : Kind) (ignore_case bit : Bool) → HasKind (own_family kind) bit → SaysKind (flags_for kind ignore_case) bit
-own_says Byte ignore_case bit h e = absurd (let k : ⊥ = cc in k)
-own_says Bit ignore_case bit h e = refl
+own_says Byte ignore_case bit has is_bit = absurd (let never : ⊥ = cc in never)
+own_says Bit ignore_case bit has is_bit = refl
 
 own_kind : (kind : Kind) → HasKind (own_family kind) (counts_bits kind)
 own_kind Byte = refl
 own_kind Bit = refl
 
-multiple_name : (kind : Kind) (ignore_case : Bool) (s : Shape) → InFamily current (own_family kind) s → IsGoodName kind ignore_case s
-multiple_name kind ignore_case s h =
-    let known : IsKnown s = record { known = h.prefix.known; alone = λ none. absurd (omega (arith, none, h.prefix.some)) } in
-    named kind ignore_case s known (own_says kind ignore_case s.bit h.kind)
+multiple_name : (kind : Kind) (ignore_case : Bool) (unit : Shape) → InFamily current (own_family kind) unit
+    → IsGoodName kind ignore_case unit
+multiple_name kind ignore_case unit member =
+    let known : IsKnown unit =
+    record { known = member.prefix.known; alone = λ none. absurd (omega (arith, none, member.prefix.some)) } in
+    named kind ignore_case unit known (own_says kind ignore_case unit.bit member.kind)
 
 own_name : (kind : Kind) (ignore_case : Bool) → IsGoodName kind ignore_case (own_unit kind)
 own_name kind ignore_case =
@@ -85,31 +86,40 @@ good_name kind unit = named kind false (shape_of unit) (unit_known unit) (λ bit
 
 -- the least size
 
-least_size : (kind : Kind) (N size : ℕ) (s : Shape) → N * bits s ≡ size * bits_in kind * one → IsLeastOf kind N s size
-least_size Byte N size s e = record { has = omega (arith, e); least = λ m h. omega (arith, e, h) }
-least_size Bit N size s e = record { has = omega (arith, e); least = λ m h. omega (arith, e, h) }
+least_size : (kind : Kind) (number size : ℕ) (unit : Shape) → number * bits unit ≡ size * bits_in kind * one
+    → IsLeastOf kind number unit size
+least_size Byte number size unit exact = record { has = omega (arith, exact); least = λ other covers. omega (arith, exact, covers) }
+least_size Bit number size unit exact = record { has = omega (arith, exact); least = λ other covers. omega (arith, exact, covers) }
 
 -- a layout is accepted
 
 regroup :
-    (a m g : ℕ) (number unit : List ℕ)
-    → (((spaces a ++ number) ++ spaces m) ++ spaces g) ++ unit ≡ spaces a ++ ((number ++ (spaces (m + g) ++ unit)) ++ spaces 0)
-regroup a m g number unit =
-    rw (← replicate-append-replicate {A = ℕ} m g 32) (simp (append_assoc {A = ℕ}, append-nil {A = ℕ}))
+    (before behind gap : ℕ) (number unit : List ℕ)
+    → (((spaces before ++ number) ++ spaces behind) ++ spaces gap) ++ unit
+    ≡ spaces before ++ ((number ++ (spaces (behind + gap) ++ unit)) ++ spaces 0)
+regroup before behind gap number unit =
+    rw (← replicate-append-replicate {A = ℕ} behind gap 32) (simp (append_assoc {A = ℕ}, append-nil {A = ℕ}))
 
 trim_layout :
-    (a k : ℕ) (number unit front : List ℕ) (last : ℕ) → StartsWithDigit number → IsAscii number → IsAscii unit → unit ≡ front ++ last ∷ []
-    → is_whitespace last ≡ false → trimmed (spaces a ++ ((number ++ (spaces k ++ unit)) ++ spaces 0)) ≡ number ++ (spaces k ++ unit)
-trim_layout a k number unit front last start number_ascii unit_ascii unit_is last_is =
-    let rest = spaces k ++ unit in
-    let all : IsAscii (number ++ rest) =
-    IsAscii-append number rest number_ascii (IsAscii-append (spaces k) unit (spaces_ascii k) unit_ascii) in
-    let begins : number ++ rest ≡ start.head ∷ (start.tail ++ rest) = ap (λ t. t ++ rest) start.text_is in
-    let ends : number ++ rest ≡ (number ++ (spaces k ++ front)) ++ last ∷ [] = rw unit_is (simp (append_assoc {A = ℕ})) in
-    let P : List ℕ → Type 0 = λ t. trimmed (spaces a ++ (t ++ spaces 0)) ≡ t in
-    subst P (sym begins)
-    (trim_between a 0 start.head last (start.tail ++ rest) (number ++ (spaces k ++ front)) start.digit last_is
-    (subst IsAscii begins all) (sym begins ∙ ends))
+    (before between : ℕ) (number unit : List ℕ) → StartsWithoutSpace number → EndsWithoutSpace unit → IsAscii number → IsAscii unit
+    → trimmed (spaces before ++ ((number ++ (spaces between ++ unit)) ++ spaces 0)) ≡ number ++ (spaces between ++ unit)
+trim_layout before between number unit start end number_ascii unit_ascii =
+    let behind = spaces between ++ unit in
+    let ascii : IsAscii (number ++ behind) =
+    IsAscii-append number behind number_ascii (IsAscii-append (spaces between) unit (spaces_ascii between) unit_ascii) in
+    let starts : StartsWithoutSpace (number ++ behind) =
+    record {
+      head = start.head;
+      tail = start.tail ++ behind;
+      text_is = ap (λ text. text ++ behind) start.text_is;
+      head_is = start.head_is;
+    } in
+    let parts =
+    ap (λ text. number ++ (spaces between ++ text)) end.text_is
+    ∙ simp (append_assoc {A = ℕ} number (spaces between ++ end.front) (end.last ∷ []), append_assoc {A = ℕ}) in
+    let ends : EndsWithoutSpace (number ++ behind) =
+    record { front = number ++ (spaces between ++ end.front); last = end.last; text_is = parts; last_is = end.last_is } in
+    trim_between before 0 (number ++ behind) starts ends ascii
 
 -- without the spaces at its ends it is number, spaces and unit
 pub record TrimmedLayout (text number unit : List ℕ) : Type 0 where
@@ -117,72 +127,78 @@ pub record TrimmedLayout (text number unit : List ℕ) : Type 0 where
   pub trims : trimmed text ≡ number ++ (spaces spaces_between ++ unit)
 
 pub trimmed_layout :
-    (kind : Kind) (ignore_case : Bool) (spec : FormatSpec) (w : ℕ) (ds : List ℕ) (s : Shape) → All (λ d. d < 10) ds → w < whole_limit
-    → IsGoodName kind ignore_case s
-    → TrimmedLayout (layout (decimal w ++ fraction_text ds) (name current s) spec) (decimal w ++ fraction_text ds) (name current s)
-trimmed_layout kind ignore_case spec w ds s small bound good =
-    let number = decimal w ++ fraction_text ds in
-    let unit = name current s in
-    let pad = layout_padding number unit spec in
-    let a = before_layout spec.align pad in
-    let g = gap_of spec.sign unit in
-    let k = (pad - a) + g in
+    (kind : Kind) (ignore_case : Bool) (spec : FormatSpec) (e : Finite) (unit : Shape) → IsBounded e → IsGoodName kind ignore_case unit
+    → TrimmedLayout (layout (text_of e) (name current unit) spec) (text_of e) (name current unit)
+trimmed_layout kind ignore_case spec e unit bounded good =
+    let pad = layout_padding (text_of e) (name current unit) spec in
+    let before = before_layout spec.align pad in
+    let gap = gap_of spec.sign (name current unit) in
+    let between = (pad - before) + gap in
+    let start = number_start e.whole (fraction_text e.digits) bounded.bound in
+    let ascii = number_ascii e.whole e.digits bounded.small bounded.bound in
     record {
-      spaces_between = k;
+      spaces_between = between;
       trims =
-          ap trimmed (regroup a (pad - a) g number unit)
-          ∙ trim_layout a k number unit good.end.front good.end.last (number_start w (fraction_text ds) bound)
-          (number_ascii w ds small bound) good.ascii good.end.text_is good.end.last_is;
+          ap trimmed (regroup before (pad - before) gap (text_of e) (name current unit))
+          ∙ trim_layout before between (text_of e) (name current unit) start good.end ascii good.ascii;
     }
 
+-- a decimal of no more places than are read, of a unit whose name is read, is the size
+pub record IsStatement (kind : Kind) (ignore_case : Bool) (size : ℕ) (e : Finite) (unit : Shape) : Type 0 where
+  pub bounded : IsBounded e
+  pub few : length e.digits ≤ places_of_decimal
+  pub good : IsGoodName kind ignore_case unit
+  pub exact : number_of e.whole e.digits * bits unit ≡ size * bits_in kind * one
+  pub below : size < current.size_limit
+
 pub layout_accepted :
-    (kind : Kind) (ignore_case : Bool) (size : ℕ) (spec : FormatSpec) (w : ℕ) (ds : List ℕ) (s : Shape) → All (λ d. d < 10) ds
-    → length ds ≤ places_of_decimal → w < whole_limit → IsGoodName kind ignore_case s
-    → number_of w ds * bits s ≡ size * bits_in kind * one → size < current.size_limit
-    → IsAccepted current kind ignore_case (layout (decimal w ++ fraction_text ds) (name current s) spec) size
-layout_accepted kind ignore_case size spec w ds s small few bound good exact below =
-    let t = trimmed_layout kind ignore_case spec w ds s small bound good in
+    (kind : Kind) (ignore_case : Bool) (size : ℕ) (spec : FormatSpec) (e : Finite) (unit : Shape)
+    → IsStatement kind ignore_case size e unit
+    → IsAccepted current kind ignore_case (layout (text_of e) (name current unit) spec) size
+layout_accepted kind ignore_case size spec e unit states =
+    let layout = trimmed_layout kind ignore_case spec e unit states.bounded states.good in
     record {
-      number = number_of w ds;
+      number = number_of e.whole e.digits;
       is_read =
           record {
             unit =
-                s;
+                unit;
             is_size =
                 record {
                   number_part =
-                      decimal w ++ fraction_text ds;
+                      text_of e;
                   spaces =
-                      t.spaces_between;
+                      layout.spaces_between;
                   unit_part =
-                      name current s;
+                      name current unit;
                   text_is =
-                      t.trims;
-                  number_is = number_text w ds small few bound;
-                  unit_is = good.spells;
+                      layout.trims;
+                  number_is = number_text e.whole e.digits states.bounded.small states.few states.bounded.bound;
+                  unit_is = states.good.spells;
                 };
             is_least
-                = least_size kind (number_of w ds) size s exact;
+                = least_size kind (number_of e.whole e.digits) size unit states.exact;
           };
-      below = below;
+      below = states.below;
     }
 
 -- the numbers of the two forms
 
 -- a number that is cut at the point and has no zeros at its end, in last places again
 pub number_scaled :
-    (w v number len : ℕ) → len ≤ places_of_decimal → number ≡ (w * 10 ^ len + v) * 10 ^ (places_of_decimal - len)
-    → w * one + v * 10 ^ (places_of_decimal - len) ≡ number
-number_scaled w v number len few e =
-    let a : one ≡ 10 ^ len * 10 ^ (places_of_decimal - len) =
-    ap (λ n. 10 ^ n) (let k : places_of_decimal ≡ len + (places_of_decimal - len) = omega arith in k)
-    ∙ pow-add 10 len (places_of_decimal - len) in
-    let x = ap (λ n. w * n) a in
-    omega (arith, x, e)
+    (whole part number places : ℕ) → places ≤ places_of_decimal
+    → number ≡ (whole * 10 ^ places + part) * 10 ^ (places_of_decimal - places)
+    → whole * one + part * 10 ^ (places_of_decimal - places) ≡ number
+number_scaled whole part number places few scaled_is =
+    let split : places_of_decimal ≡ places + (places_of_decimal - places) = omega arith in
+    let power : one ≡ 10 ^ places * 10 ^ (places_of_decimal - places) =
+    ap (λ places. 10 ^ places) split ∙ pow-add 10 places (places_of_decimal - places) in
+    let of_whole = ap (λ power. whole * power) power in
+    omega (arith, of_whole, scaled_is)
 
 pub bits_bound : (kind : Kind) (size : ℕ) → size < current.size_limit → size * bits_in kind < bits_limit
-bits_bound Byte size h = omega (arith, h)
-bits_bound Bit size h = omega (arith, h)
+bits_bound Byte size below = omega (arith, below)
+bits_bound Bit size below = omega (arith, below)
 
 -- the size form
 
@@ -190,75 +206,75 @@ bits_bound Bit size h = omega (arith, h)
 recovered_name :
     (kind : Kind) (ignore_case : Bool) (size precision : ℕ) (unit : Shape) → IsRecovered current kind false size precision unit
     → IsGoodName kind ignore_case unit
-recovered_name kind ignore_case size precision unit (inl h) = multiple_name kind ignore_case unit h.has.member
-recovered_name kind ignore_case size precision unit (inr h) = subst (IsGoodName kind ignore_case) (sym h.1) (own_name kind ignore_case)
+recovered_name kind ignore_case size precision unit (inl largest) = multiple_name kind ignore_case unit largest.has.member
+recovered_name kind ignore_case size precision unit (inr own) =
+    subst (IsGoodName kind ignore_case) (sym own.1) (own_name kind ignore_case)
 
 whole_bound :
     (kind : Kind) (size number unit : ℕ) → size < current.size_limit → 1 ≤ unit → number * unit ≡ size * bits_in kind * one
     → number / one < whole_limit
-whole_bound kind size number unit small some e =
-    let most : size * bits_in kind < bits_limit = bits_bound kind size small in
-    let more : number ≤ number * unit = omega (arith, mul-le number 1 number unit (omega arith) some) in
-    omega (arith, most, more, e)
+whole_bound kind size number unit below some exact =
+    let few : size * bits_in kind < bits_limit = bits_bound kind size below in
+    let not_above : number ≤ number * unit = omega (arith, mul-le number 1 number unit (omega arith) some) in
+    omega (arith, few, not_above, exact)
 
 pub size_form_back : SizeFormReadsBack
-size_form_back kind size spec ignore_case text below h =
-    let e = shortened (at_places places_of_decimal h.number) in
-    let k = short_of h.number places_of_decimal in
-    let bound = whole_bound kind size h.number (bits h.unit) below (some_bits h.unit) h.number_is in
-    let number = number_scaled e.whole (value_of e.digits) h.number (length e.digits) k.few k.scaled_is in
-    let x = ap (λ n. n * bits h.unit) number in
-    let exact : number_of e.whole e.digits * bits h.unit ≡ size * bits_in kind * one = x ∙ h.number_is in
-    let name = recovered_name kind ignore_case size (places_of spec.precision) h.unit h.is_recovered in
-    let P : List ℕ → Type 0 = λ t. IsAccepted current kind ignore_case t size in
-    subst P (sym h.text_is) (layout_accepted kind ignore_case size spec e.whole e.digits h.unit k.small k.few bound name exact below)
+size_form_back kind size spec ignore_case text below form =
+    let e = shortened (at_places places_of_decimal form.number) in
+    let short = short_of form.number places_of_decimal in
+    let bound = whole_bound kind size form.number (bits form.unit) below (some_bits form.unit) form.number_is in
+    let number = number_scaled e.whole (value_of e.digits) form.number (length e.digits) short.few short.scaled_is in
+    let states : IsStatement kind ignore_case size e form.unit =
+    record {
+      bounded = record { small = short.small; bound = bound };
+      few = short.few;
+      good = recovered_name kind ignore_case size (places_of spec.precision) form.unit form.is_recovered;
+      exact = ap (λ number. number * bits form.unit) number ∙ form.number_is;
+      below = below;
+    } in
+    let Accepted : List ℕ → Type 0 = λ text. IsAccepted current kind ignore_case text size in
+    subst Accepted (sym form.text_is) (layout_accepted kind ignore_case size spec e form.unit states)
 
 -- the plain form
 
 no_plus : (sign : Sign) → sign ≢ Plus → plus_of sign ≡ []
-no_plus Unset h = refl
-no_plus Minus h = refl
-no_plus Plus h = absurd (h refl)
+no_plus Unset other = refl
+no_plus Minus other = refl
+no_plus Plus other = absurd (other refl)
 
-record EndsWithDigit (text : List ℕ) : Type 0 where
-  front : List ℕ
-  last : ℕ
-  text_is : text ≡ front ++ last ∷ []
-  digit : is_whitespace last ≡ false
-
-last_digit : (c : ℕ) (cs : List ℕ) → AllDigits 10 (c ∷ cs) → EndsWithDigit (c ∷ cs)
-last_digit c [] h = record { front = []; last = c; text_is = refl; digit = not_white c h.0 }
-last_digit c (d ∷ ds) h =
-    let k = last_digit d ds h.1 in
-    record { front = c ∷ k.front; last = k.last; text_is = ap (λ t. c ∷ t) k.text_is; digit = k.digit }
+last_digit : (digit : ℕ) (digits : List ℕ) → AllDigits 10 (digit ∷ digits) → EndsWithoutSpace (digit ∷ digits)
+last_digit digit [] all = record { front = []; last = digit; text_is = refl; last_is = not_white digit all.0 }
+last_digit digit (next ∷ digits) all =
+    let behind = last_digit next digits all.1 in
+    record {
+      front = digit ∷ behind.front;
+      last = behind.last;
+      text_is = ap (λ text. digit ∷ text) behind.text_is;
+      last_is = behind.last_is;
+    }
 
 no_unit : (kind : Kind) (ignore_case : Bool) → Spells current (flags_for kind ignore_case) [] (own_unit kind)
 no_unit Byte ignore_case = inl record { count_is = inl (refl, refl); power_is = refl; binary_is = refl }
 no_unit Bit ignore_case = inl record { count_is = inl (refl, refl); power_is = refl; binary_is = refl }
 
-number_start_alone : (w : ℕ) → w < whole_limit → StartsWithDigit (decimal w)
-number_start_alone w bound = first_digit (decimal w) (whole_text w bound).0
-
-trim_number : (a b w : ℕ) → w < whole_limit → trimmed ((spaces a ++ decimal w) ++ spaces b) ≡ decimal w
-trim_number a b w bound =
-    let start = number_start_alone w bound in
-    let digits = (whole_text w bound).0.1 in
-    let end = last_digit start.head start.tail (subst (AllDigits 10) start.text_is digits) in
-    let P : List ℕ → Type 0 = λ t. trimmed (spaces a ++ (t ++ spaces b)) ≡ t in
-    ap trimmed (append_assoc (spaces a) (decimal w) (spaces b))
-    ∙ subst P (sym start.text_is)
-    (trim_between a b start.head end.last start.tail end.front start.digit end.digit
-    (subst IsAscii start.text_is (decimal_ascii w bound)) end.text_is)
+trim_number : (before behind whole : ℕ) → whole < whole_limit
+    → trimmed ((spaces before ++ decimal whole) ++ spaces behind) ≡ decimal whole
+trim_number before behind whole bound =
+    let text = whole_text whole bound in
+    let start = starts_with_digit (decimal whole) text.0 in
+    let end = last_digit start.head start.tail (subst (AllDigits 10) start.text_is text.0.1) in
+    ap trimmed (append_assoc (spaces before) (decimal whole) (spaces behind))
+    ∙ trim_between before behind (decimal whole) start (subst EndsWithoutSpace (sym start.text_is) end) (decimal_ascii whole bound)
 
 pub plain_back : PlainFormReadsBack
 plain_back kind size spec ignore_case below sign =
     let bound : size < whole_limit = omega (arith, below) in
     let pad = plain_padding size spec in
-    let a = before_plain spec.align pad in
+    let before = before_plain spec.align pad in
     let trims : trimmed (plain size spec) ≡ decimal size =
-    ap (λ t. trimmed ((spaces a ++ (t ++ decimal size)) ++ spaces (pad - a))) (no_plus spec.sign sign)
-    ∙ trim_number a (pad - a) size bound in
-    let e = ap (λ n. (size * one) * n) (own_bits kind) in
+    ap (λ plus. trimmed ((spaces before ++ (plus ++ decimal size)) ++ spaces (pad - before))) (no_plus spec.sign sign)
+    ∙ trim_number before (pad - before) size bound in
+    let own = ap (λ bits. (size * one) * bits) (own_bits kind) in
     record {
       number = size * one;
       is_read =
@@ -279,7 +295,7 @@ plain_back kind size spec ignore_case below sign =
                       inl (size, whole_text size bound, refl);
                   unit_is = no_unit kind ignore_case;
                 };
-            is_least = least_size kind (size * one) size (own_unit kind) (omega (arith, e));
+            is_least = least_size kind (size * one) size (own_unit kind) (omega (arith, own));
           };
       below = below;
     }

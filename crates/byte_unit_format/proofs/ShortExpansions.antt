@@ -10,8 +10,8 @@ use Rattle.byte_unit_base.specs.declared.unit.Unit.{Unit as UnitName}
 use Rattle.byte_unit_base.specs.declared.unit.Unit.TheVariants.{Bit}
 use Rattle.byte_unit_format.proofs.ShownForms.{exact_in}
 
-by_factor : (size den k : ℕ) → 8 * 10 ^ 80 ≡ k * den → IsExactAt (size * 8) den 80
-by_factor size den k e = (size * k, omega (arith, ap (λ x. size * x) e))
+by_factor : (size den factor : ℕ) → 8 * 10 ^ 80 ≡ factor * den → IsExactAt (size * 8) den 80
+by_factor size den factor product = (size * factor, omega (arith, ap (λ number. size * number) product))
 
 bytes_in : (size : ℕ) (unit : UnitName) → IsExactAt (size * 8) (bits (shape_of unit)) 80
 bytes_in size Bit = by_factor size (bits (shape_of Bit)) (8 * 10 ^ 80 / bits (shape_of Bit)) refl

@@ -21,21 +21,22 @@ use Rattle.byte_unit_base.specs.declared.unit.Unit.{Unit as UnitName}
 use Rattle.byte_unit_base.specs.declared.unit.Unit.TheVariants.{Bit}
 use Rattle.byte_unit_base.proofs.Choosing.{some_bits}
 
-small : (unit : UnitName) → leb (bits (shape_of unit)) unit_limit ≡ true
-small Bit = refl
-small _ = refl
+below_limit : (unit : UnitName) → leb (bits (shape_of unit)) unit_limit ≡ true
+below_limit Bit = refl
+below_limit _ = refl
 
 pub exact_in : (num : ℕ) (unit : UnitName) → IsExactAt num (bits (shape_of unit)) expansion_places
-exact_in num unit = powers_end num (twos (shape_of unit)) (fives (shape_of unit)) (leb-true _ _ (small unit))
+exact_in num unit = powers_end num (twos (shape_of unit)) (fives (shape_of unit)) (leb-true _ _ (below_limit unit))
 
 -- the expansion of a number in a unit is found by division
 pub number_is : (num : ℕ) (unit : UnitName) (e : Finite) → IsExpansion num (bits (shape_of unit)) e
     → e ≡ expansion_of num (bits (shape_of unit))
-number_is num unit e h = expansion_is num (bits (shape_of unit)) e (omega (arith, some_bits (shape_of unit))) (exact_in num unit) h
+number_is num unit e expansion =
+    expansion_is num (bits (shape_of unit)) e (omega (arith, some_bits (shape_of unit))) (exact_in num unit) expansion
 
 -- a number and a name with one space between them
 plain_layout : (number unit : List ℕ) → number ++ codes " " ++ unit ≡ layout number unit PLAIN
-plain_layout number unit = ap (λ l. l ++ codes " " ++ unit) (sym (append-nil number))
+plain_layout number unit = ap (λ front. front ++ codes " " ++ unit) (sym (append-nil number))
 
 -- digits with nothing around them
 pub shown_size : ShownSizeIsPlainForm

@@ -39,8 +39,14 @@ recovered kind size precision =
 
 pub has_one_form : SizeHasOneForm
 has_one_form kind size spec =
-    let r = recovered kind size (places_of spec.precision) in
-    let form = layout (short r.number places_of_decimal) (name current r.unit) spec in
+    let found = recovered kind size (places_of spec.precision) in
+    let form = layout (short found.number places_of_decimal) (name current found.unit) spec in
     let is_form : IsSizeForm current kind size spec form =
-    record { unit = r.unit; number = r.number; is_recovered = r.is_recovered; number_is = r.number_is; text_is = refl } in
-    record { form = form; is_form = is_form; one = λ other h. one_form kind size spec other form h is_form }
+    record {
+      unit = found.unit;
+      number = found.number;
+      is_recovered = found.is_recovered;
+      number_is = found.number_is;
+      text_is = refl;
+    } in
+    record { form = form; is_form = is_form; one = λ other is_other. one_form kind size spec other form is_other is_form }

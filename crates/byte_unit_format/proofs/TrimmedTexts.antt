@@ -8,45 +8,55 @@ use Rattle.std.proofs.lemmas.Str.{chars-IsAscii, IsAscii-append}
 use Rattle.std.proofs.lemmas.Str.Ascii.{IsAscii-from_all}
 use Rattle.std.proofs.lemmas.List.Elements.{All-replicate}
 use Rattle.byte_unit_base.specs.SizeText.{trimmed}
+use Rattle.byte_unit_base.proofs.Trim.{StartsWithoutSpace, EndsWithoutSpace}
 use Rattle.byte_unit_format.specs.Plain.{spaces}
 
-pub skip_spaces : (k c : ℕ) (cs : List ℕ) → is_whitespace c ≡ false → skip_leading_whitespace (spaces k ++ (c ∷ cs)) ≡ c ∷ cs
-skip_spaces zero c cs h = ap (λ b. cond b (skip_leading_whitespace cs) (c ∷ cs)) h
-skip_spaces (suc k) c cs h = skip_spaces k c cs h
+skip_spaces : (count next : ℕ) (rest : List ℕ) → is_whitespace next ≡ false
+    → skip_leading_whitespace (spaces count ++ (next ∷ rest)) ≡ next ∷ rest
+skip_spaces zero next rest is_none = ap (λ white. cond white (skip_leading_whitespace rest) (next ∷ rest)) is_none
+skip_spaces (suc count) next rest is_none = skip_spaces count next rest is_none
 
-not_zero : (n : ℕ) → nat_eq (suc n) 0 ≡ false
-not_zero n = grind (arith, nat_tests)
+not_zero : (number : ℕ) → nat_eq (suc number) 0 ≡ false
+not_zero number = grind (arith, nat_tests)
 
-not_empty : (b : Bool) (xs : List ℕ) (c : ℕ) (zs : List ℕ) → cond (b && nat_eq (length (xs ++ c ∷ [])) 0) [] zs ≡ zs
-not_empty false xs c zs = refl
-not_empty true [] c zs = refl
-not_empty true (x ∷ xs) c zs = ap (λ b. cond b [] zs) (not_zero (length (xs ++ c ∷ [])))
+not_empty : (white : Bool) (front : List ℕ) (last : ℕ) (kept : List ℕ)
+    → cond (white && nat_eq (length (front ++ last ∷ [])) 0) [] kept ≡ kept
+not_empty false front last kept = refl
+not_empty true [] last kept = refl
+not_empty true (next ∷ front) last kept = ap (λ empty. cond empty [] kept) (not_zero (length (front ++ last ∷ [])))
 
-pub keep_last : (xs : List ℕ) (c : ℕ) → is_whitespace c ≡ false → drop_trailing_whitespace (xs ++ c ∷ []) ≡ xs ++ c ∷ []
-keep_last [] c h = ap (λ b. cond (b && true) [] (c ∷ [])) h
-keep_last (x ∷ xs) c h =
-    ap (λ l. cond (is_whitespace x && nat_eq (length l) 0) [] (x ∷ l)) (keep_last xs c h)
-    ∙ not_empty (is_whitespace x) xs c (x ∷ (xs ++ c ∷ []))
+keep_last : (front : List ℕ) (last : ℕ) → is_whitespace last ≡ false → drop_trailing_whitespace (front ++ last ∷ []) ≡ front ++ last ∷ []
+keep_last [] last is_none = ap (λ white. cond (white && true) [] (last ∷ [])) is_none
+keep_last (next ∷ front) last is_none =
+    ap (λ rest. cond (is_whitespace next && nat_eq (length rest) 0) [] (next ∷ rest)) (keep_last front last is_none)
+    ∙ not_empty (is_whitespace next) front last (next ∷ (front ++ last ∷ []))
 
-drop_spaces : (k : ℕ) → drop_trailing_whitespace (spaces k) ≡ []
+drop_spaces : (count : ℕ) → drop_trailing_whitespace (spaces count) ≡ []
 drop_spaces zero = refl
-drop_spaces (suc k) = ap (λ l. cond (nat_eq (length l) 0) [] (32 ∷ l)) (drop_spaces k)
+drop_spaces (suc count) = ap (λ rest. cond (nat_eq (length rest) 0) [] (32 ∷ rest)) (drop_spaces count)
 
-pub drop_end : (xs : List ℕ) (k : ℕ) → drop_trailing_whitespace (xs ++ spaces k) ≡ drop_trailing_whitespace xs
-drop_end [] k = drop_spaces k
-drop_end (x ∷ xs) k = ap (λ l. cond (is_whitespace x && nat_eq (length l) 0) [] (x ∷ l)) (drop_end xs k)
+drop_end : (text : List ℕ) (count : ℕ) → drop_trailing_whitespace (text ++ spaces count) ≡ drop_trailing_whitespace text
+drop_end [] count = drop_spaces count
+drop_end (next ∷ text) count =
+    ap (λ rest. cond (is_whitespace next && nat_eq (length rest) 0) [] (next ∷ rest)) (drop_end text count)
 
-pub spaces_ascii : (k : ℕ) → IsAscii (spaces k)
-spaces_ascii k = IsAscii-from_all (spaces k) (All-replicate (λ b. b < 128) k 32 (omega arith))
+pub spaces_ascii : (count : ℕ) → IsAscii (spaces count)
+spaces_ascii count = IsAscii-from_all (spaces count) (All-replicate (λ byte. byte < 128) count 32 (omega arith))
 
 -- a text with a character that isn't white space at each end, between spaces
 pub trim_between :
-    (a b c d : ℕ) (cs front : List ℕ) → is_whitespace c ≡ false → is_whitespace d ≡ false → IsAscii (c ∷ cs) → c ∷ cs ≡ front ++ d ∷ []
-    → trimmed (spaces a ++ ((c ∷ cs) ++ spaces b)) ≡ c ∷ cs
-trim_between a b c d cs front hc hd ascii ends =
-    let text = spaces a ++ ((c ∷ cs) ++ spaces b) in
-    let all : IsAscii text =
-    IsAscii-append (spaces a) ((c ∷ cs) ++ spaces b) (spaces_ascii a) (IsAscii-append (c ∷ cs) (spaces b) ascii (spaces_ascii b)) in
-    ap (λ t. drop_trailing_whitespace (skip_leading_whitespace t)) (chars-IsAscii text all)
-    ∙ (ap drop_trailing_whitespace (skip_spaces a c (cs ++ spaces b) hc)
-    ∙ (drop_end (c ∷ cs) b ∙ (ap drop_trailing_whitespace ends ∙ (keep_last front d hd ∙ sym ends))))
+    (before behind : ℕ) (text : List ℕ) → StartsWithoutSpace text → EndsWithoutSpace text → IsAscii text
+    → trimmed (spaces before ++ (text ++ spaces behind)) ≡ text
+trim_between before behind text start end ascii =
+    let padded = spaces before ++ (text ++ spaces behind) in
+    let all : IsAscii padded =
+    IsAscii-append (spaces before) (text ++ spaces behind) (spaces_ascii before)
+    (IsAscii-append text (spaces behind) ascii (spaces_ascii behind)) in
+    let skipped : skip_leading_whitespace padded ≡ text ++ spaces behind =
+    ap (λ text. skip_leading_whitespace (spaces before ++ (text ++ spaces behind))) start.text_is
+    ∙ (skip_spaces before start.head (start.tail ++ spaces behind) start.head_is
+    ∙ ap (λ text. text ++ spaces behind) (sym start.text_is)) in
+    let kept : drop_trailing_whitespace text ≡ text =
+    ap drop_trailing_whitespace end.text_is ∙ (keep_last end.front end.last end.last_is ∙ sym end.text_is) in
+    ap (λ text. drop_trailing_whitespace (skip_leading_whitespace text)) (chars-IsAscii padded all)
+    ∙ (ap drop_trailing_whitespace skipped ∙ (drop_end text behind ∙ kept))

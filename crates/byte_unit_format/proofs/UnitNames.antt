@@ -4,14 +4,16 @@ use Rattle.std.specs.Prelude.{codes, if◌then◌else◌, ◌&&◌, nat_lt, ◌-
 use Rattle.byte_unit_base.specs.Shape.{Shape}
 use Rattle.byte_unit_base.specs.Edition.{name, current}
 
-three : (a b c : Bool) (l : ℕ)
-    → length ((if a then l ∷ [] else []) ++ (if a && b then codes "i" else []) ++ (if c then codes "b" else codes "B")) ≤ 3
-three true true true l = omega arith
-three true true false l = omega arith
-three true false true l = omega arith
-three true false false l = omega arith
-three false b true l = omega arith
-three false b false l = omega arith
+parts_short : (prefix binary bit : Bool) (letter : ℕ)
+    → length
+    ((if prefix then letter ∷ [] else []) ++ (if prefix && binary then codes "i" else []) ++ (if bit then codes "b" else codes "B"))
+    ≤ 3
+parts_short true true true letter = omega arith
+parts_short true true false letter = omega arith
+parts_short true false true letter = omega arith
+parts_short true false false letter = omega arith
+parts_short false binary true letter = omega arith
+parts_short false binary false letter = omega arith
 
-pub name_short : (s : Shape) → length (name current s) ≤ 3
-name_short s = three (nat_lt 0 s.power) s.binary s.bit (slice_index current.letters (s.power - 1))
+pub name_short : (unit : Shape) → length (name current unit) ≤ 3
+name_short unit = parts_short (nat_lt 0 unit.power) unit.binary unit.bit (slice_index current.letters (unit.power - 1))

@@ -19,12 +19,12 @@ layout_before (Some Left) pad = omega arith
 layout_before (Some Center) pad = omega arith
 layout_before (Some Right) pad = omega arith
 
-filled : (width : Option ℕ) (len : ℕ) → missing width len + len ≡ max (least_columns width) len
-filled None len = omega arith
-filled (Some width) len = omega arith
+filled : (width : Option ℕ) (columns : ℕ) → missing width columns + columns ≡ max (least_columns width) columns
+filled None columns = omega arith
+filled (Some width) columns = omega arith
 
-between_spaces : (a b : ℕ) (text : List ℕ) → length (spaces a ++ text ++ spaces b) ≡ a + length text + b
-between_spaces a b text = omega (arith, length-append {A = ℕ}, length-replicate {A = ℕ})
+between_spaces : (before behind : ℕ) (text : List ℕ) → length (spaces before ++ text ++ spaces behind) ≡ before + length text + behind
+between_spaces before behind text = omega (arith, length-append {A = ℕ}, length-replicate {A = ℕ})
 
 pub plain_long : PlainFormFillsWidth
 plain_long size spec =
@@ -34,9 +34,9 @@ plain_long size spec =
     let fill = filled spec.width (length text) in
     between_spaces (before_plain spec.align pad) (pad - before_plain spec.align pad) text ∙ omega (arith, before, fill)
 
-parts : (a b gap : ℕ) (number name : List ℕ)
-    → length (spaces a ++ number ++ spaces b ++ spaces gap ++ name) ≡ a + length number + b + gap + length name
-parts a b gap number name = omega (arith, length-append {A = ℕ}, length-replicate {A = ℕ})
+parts_long : (before behind gap : ℕ) (number name : List ℕ)
+    → length (spaces before ++ number ++ spaces behind ++ spaces gap ++ name) ≡ before + length number + behind + gap + length name
+parts_long before behind gap number name = omega (arith, length-append {A = ℕ}, length-replicate {A = ℕ})
 
 pub layout_long : LayoutFillsWidth
 layout_long number name spec =
@@ -44,4 +44,4 @@ layout_long number name spec =
     let gap = gap_of spec.sign name in
     let before = layout_before spec.align pad in
     let fill = filled spec.width (length number + gap + length name) in
-    parts (before_layout spec.align pad) (pad - before_layout spec.align pad) gap number name ∙ omega (arith, before, fill)
+    parts_long (before_layout spec.align pad) (pad - before_layout spec.align pad) gap number name ∙ omega (arith, before, fill)

@@ -14,58 +14,79 @@ use Rattle.byte_unit_format.proofs.WrittenForms.{fraction_some}
 
 pub run_ascii : (byte next : ℕ) (run : List ℕ) → byte < 128 → run ≡ replicate 64 byte → IsAscii (take next run)
 run_ascii byte next run small all =
-    IsAscii-take run next (subst IsAscii (sym all) (IsAscii-from_all (replicate 64 byte) (All-replicate (λ b. b < 128) 64 byte small)))
+    let of_byte = IsAscii-from_all (replicate 64 byte) (All-replicate (λ byte. byte < 128) 64 byte small) in
+    IsAscii-take run next (subst IsAscii (sym all) of_byte)
 
 pub length-run : (byte left next : ℕ) (run : List ℕ) → next ≡ min left 64 → run ≡ replicate 64 byte → length (take next run) ≡ next
 length-run byte left next run is all =
-    let some : next ≤ 64 = omega (arith, is) in
-    ap (λ l. length (take next l)) all ∙ (ap length (take-replicate next 64 byte some) ∙ length-replicate next byte)
+    let few : next ≤ 64 = omega (arith, is) in
+    ap (λ run. length (take next run)) all ∙ (ap length (take-replicate next 64 byte few) ∙ length-replicate next byte)
 
--- one run more
+-- what is so where the next part of a run is added: of so many in all, so many are left
+pub record IsRunPart (byte count left next : ℕ) (run : List ℕ) : Type 0 where
+  pub few : left ≤ count
+  pub next_is : next ≡ min left 64
+  pub run_is : run ≡ replicate 64 byte
+
+-- then there are as many more
 pub run_more :
-    (byte count left next : ℕ) (old text new run : List ℕ) → left ≤ count → next ≡ min left 64 → run ≡ replicate 64 byte
-    → text ≡ old ++ replicate (count - left) byte → new ≡ text ++ take next run → new ≡ old ++ replicate (count - (left - next)) byte
-run_more byte count left next old text new run few is all before pushed =
-    let some : next ≤ 64 = omega (arith, is) in
-    let these : take next run ≡ replicate next byte = ap (λ l. take next l) all ∙ take-replicate next 64 byte some in
-    let count_is : (count - left) + next ≡ count - (left - next) = omega (arith, is, few) in
-    let joined = replicate-append-replicate (count - left) next byte ∙ ap (λ k. replicate k byte) count_is in
-    let added = ap (λ l. replicate (count - left) byte ++ l) these ∙ joined in
-    pushed
-    ∙ (ap (λ l. l ++ take next run) before
-    ∙ (append_assoc old (replicate (count - left) byte) (take next run) ∙ ap (λ l. old ++ l) added))
+    {byte count left next : ℕ} {run : List ℕ} (old before after : List ℕ) → IsRunPart byte count left next run
+    → before ≡ old ++ replicate (count - left) byte → after ≡ before ++ take next run
+    → after ≡ old ++ replicate (count - (left - next)) byte
+run_more {byte} {count} {left} {next} {run} old before after part before_is after_is =
+    let few : next ≤ 64 = omega (arith, part.next_is) in
+    let these : take next run ≡ replicate next byte = ap (λ run. take next run) part.run_is ∙ take-replicate next 64 byte few in
+    let count_is : (count - left) + next ≡ count - (left - next) = omega (arith, part.next_is, part.few) in
+    let one_run = replicate-append-replicate (count - left) next byte ∙ ap (λ count. replicate count byte) count_is in
+    let added = ap (λ run. replicate (count - left) byte ++ run) these ∙ one_run in
+    after_is
+    ∙ (ap (λ text. text ++ take next run) before_is
+    ∙ (append_assoc old (replicate (count - left) byte) (take next run) ∙ ap (λ run. old ++ run) added))
 
 -- the digits of an expansion
 
 pub digits_ascii : (shown : ℕ) (characters : List ℕ) → IsAscii characters → IsAscii (take shown characters)
-digits_ascii shown characters h = IsAscii-take characters shown h
+digits_ascii shown characters ascii = IsAscii-take characters shown ascii
+
+-- so many digits are shown of those that there are, and these are their characters
+pub record AreShown (places shown : ℕ) (digits characters : List ℕ) : Type 0 where
+  pub some : 0 < places
+  pub shown_is : shown ≡ min places (length digits)
+  pub characters_are : take (length digits) characters ≡ glyphs digits
 
 pub fraction_shown :
-    (places shown : ℕ) (digits characters : List ℕ) → 0 < places → shown ≡ min places (length digits)
-    → take (length digits) characters ≡ glyphs digits
+    {places shown : ℕ} {digits characters : List ℕ} → AreShown places shown digits characters
     → 46 ∷ (take shown characters ++ replicate (places - shown) 48)
     ≡ fraction_text (take places digits ++ replicate (places - length digits) 0)
-fraction_shown places shown digits characters some is front =
-    let few : shown ≤ length digits = omega (arith, is) in
-    let rest : places - shown ≡ places - length digits = omega (arith, is) in
+fraction_shown {places} {shown} {digits} {characters} are =
+    let few : shown ≤ length digits = omega (arith, are.shown_is) in
+    let rest : places - shown ≡ places - length digits = omega (arith, are.shown_is) in
     let here : take shown digits ≡ take places digits =
-    ⊎_elim (λ l. ap (λ k. take k digits) (let e : shown ≡ places = omega (arith, is, l) in e))
-    (λ l. take_all shown digits (omega (arith, is, l)) ∙ sym (take_all places digits l)) (cases_lt places (length digits)) in
+    ⊎_elim (λ cut. ap (λ count. take count digits) (let same : shown ≡ places = omega (arith, are.shown_is, cut) in same))
+    (λ whole. take_all shown digits (omega (arith, are.shown_is, whole)) ∙ sym (take_all places digits whole))
+    (cases_lt places (length digits)) in
     let these : take shown characters ≡ glyphs (take places digits) =
     sym (take-take shown (length digits) characters few)
-    ∙ (ap (λ l. take shown l) front ∙ (take-map (λ d. 48 + d) shown digits ∙ ap glyphs here)) in
-    ap (λ l. 46 ∷ (l ++ replicate (places - shown) 48)) these
-    ∙ (ap (λ k. 46 ∷ (glyphs (take places digits) ++ replicate k 48)) rest ∙ sym (fraction_some places digits some))
+    ∙ (ap (λ list. take shown list) are.characters_are ∙ (take-map (λ digit. 48 + digit) shown digits ∙ ap glyphs here)) in
+    ap (λ front. 46 ∷ (front ++ replicate (places - shown) 48)) these
+    ∙ (ap (λ count. 46 ∷ (glyphs (take places digits) ++ replicate count 48)) rest ∙ sym (fraction_some places digits are.some))
+
+-- a text to which the point, then the digits, then zeros are added
+pub record AddsFraction (places shown : ℕ) (characters old new : List ℕ) : Type 0 where
+  pub with_point : List ℕ
+  pub with_digits : List ℕ
+  pub point_is : with_point ≡ old ++ 46 ∷ []
+  pub digits_are : with_digits ≡ with_point ++ take shown characters
+  pub zeros_are : new ≡ with_digits ++ replicate (places - shown) 48
 
 pub pushed_fraction :
-    (places shown : ℕ) (old point front new digits characters : List ℕ) → 0 < places → shown ≡ min places (length digits)
-    → take (length digits) characters ≡ glyphs digits → point ≡ old ++ 46 ∷ [] → front ≡ point ++ take shown characters
-    → new ≡ front ++ replicate (places - shown) 48
+    {places shown : ℕ} {digits characters old new : List ℕ} → AreShown places shown digits characters
+    → AddsFraction places shown characters old new
     → new ≡ old ++ fraction_text (take places digits ++ replicate (places - length digits) 0)
-pushed_fraction places shown old point front new digits characters some is same a b c =
+pushed_fraction {places} {shown} {digits} {characters} {old} are adds =
     let these = take shown characters in
     let zeros = replicate (places - shown) 48 in
-    c ∙ (ap (λ t. t ++ zeros) (b ∙ ap (λ t. t ++ these) a)
+    adds.zeros_are ∙ (ap (λ text. text ++ zeros) (adds.digits_are ∙ ap (λ text. text ++ these) adds.point_is)
     ∙ (append_assoc (old ++ 46 ∷ []) these zeros
     ∙ (append_assoc old (46 ∷ []) (these ++ zeros)
-    ∙ ap (λ t. old ++ t) (fraction_shown places shown digits characters some is same))))
+    ∙ ap (λ text. old ++ text) (fraction_shown are))))

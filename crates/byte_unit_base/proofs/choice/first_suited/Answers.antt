@@ -1,6 +1,7 @@
 use Rattle.byte_unit_base.specs.Edition.{current}
 use Rattle.byte_unit_base.specs.Choice.{Suits}
-use Rattle.byte_unit_base.proofs.Rows.{no_row, search_start, row_there, row_suits, suits_in_row, unit_found, unit_passed, none_found, none_true}
+use Rattle.byte_unit_base.proofs.Rows.{no_row, search_start, row_there, row_suits, suits_in_row}
+use Rattle.byte_unit_base.proofs.Rows.{unit_found, unit_passed, none_found, none_true}
 use Rattle.byte_unit_base.proofs.choice.first_suited.Goals as goal
 
 pub loop-row-init : goal.loop-row-init

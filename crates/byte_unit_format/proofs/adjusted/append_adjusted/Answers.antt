@@ -3,7 +3,7 @@ use Rattle.byte_unit_base.specs.Units.{shape_of}
 use Rattle.byte_unit_format.specs.Layout.{layout_of}
 use Rattle.byte_unit_format.specs.Adjusted.{IsAdjustedForm}
 use Rattle.byte_unit_format.proofs.Appending.{appends_form}
-use Rattle.byte_unit_format.proofs.AdjustedForms.{adjusted_form, adjusted_length}
+use Rattle.byte_unit_format.proofs.AdjustedForms.{IsShown, adjusted_form, adjusted_length}
 use Rattle.byte_unit_format.proofs.adjusted.append_adjusted.Goals as goal
 
 pub returns : goal.returns
@@ -12,9 +12,9 @@ returns g c =
     let size = c.args.size in
     let spec = c.args.spec in
     let unit = shape_of c.args.unit in
-    let e = c.number_in-shown.result.decimal in
-    let places = c.number_in-shown.result.places in
-    let is = c.number_in-shown.ensures.number in
+    let number = c.number_in-shown.result in
+    let shown : IsShown kind size unit spec number.decimal number.places =
+    record { is_numeral = c.number_in-shown.ensures.number } in
     appends_form (IsAdjustedForm current kind size unit spec) c.args.text.now c.append_layout.new.text c.append_layout.result
-    (layout_of current e places unit spec)
-    (adjusted_form kind size unit spec e places is) (adjusted_length kind size unit spec e places is) c.append_layout.ensures
+    (layout_of current number.decimal number.places unit spec)
+    (adjusted_form shown) (adjusted_length shown) c.append_layout.ensures

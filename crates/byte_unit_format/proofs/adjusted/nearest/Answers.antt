@@ -8,10 +8,10 @@ use Rattle.byte_unit_format.proofs.adjusted.nearest.Goals as goal
 
 pub returns : goal.returns
 returns c =
-    let r = c.rounded.ensures in
+    let rounded = c.rounded.ensures in
     let den = bits (shape_of c.args.unit) in (
-      r.0,
-      nearest_of (c.args.size * bits_in c.args.kind) den c.number_in_unit.result c.args.places c.args.ties r.0
-          (omega (arith, some_bits (shape_of c.args.unit)), c.number_in_unit.ensures.exact) r.1,
-      r.2,
+      rounded.0,
+      nearest_of (c.args.size * bits_in c.args.kind) den c.number_in_unit.result c.args.places c.args.ties rounded.0
+          (omega (arith, some_bits (shape_of c.args.unit)), c.number_in_unit.ensures.exact) rounded.1,
+      rounded.2,
     )

@@ -1,6 +1,6 @@
 use Rattle.std.proofs.Common.{arith}
 use Rattle.std.specs.String.{string_bytes}
-use Rattle.byte_unit_format.proofs.WrittenDigits.{run_ascii, run_more, length-run}
+use Rattle.byte_unit_format.proofs.WrittenDigits.{IsRunPart, run_ascii, run_more, length-run}
 use Rattle.byte_unit_format.proofs.room.push_run.Goals as goal
 
 pub push_ascii-requires-clause-ascii : goal.push_ascii-requires-clause-ascii
@@ -8,15 +8,16 @@ push_ascii-requires-clause-ascii g c = run_ascii c.args.byte c.min-next.result c
 
 pub loop-left-preserved : goal.loop-left-preserved
 loop-left-preserved g c =
-    let l = c.loop-left in
+    let loop = c.loop-left in
     let next = c.min-next.result in
     let run = c.run_of-run.result in
-    let len = length-run c.args.byte l.left next run c.min-next.ensures c.run_of-run.ensures in
+    let len = length-run c.args.byte loop.left next run c.min-next.ensures c.run_of-run.ensures in
+    let part : IsRunPart c.args.byte c.args.count loop.left next run =
+    record { few = loop.invariant.few; next_is = c.min-next.ensures; run_is = c.run_of-run.ensures } in
     record {
       few = omega (arith, c.min-next.ensures);
       bytes =
-          run_more c.args.byte c.args.count l.left next (string_bytes c.args.text.now) (string_bytes l.text)
-          (string_bytes c.push_ascii.new.text) run l.invariant.few c.min-next.ensures c.run_of-run.ensures l.invariant.bytes
+          run_more (string_bytes c.args.text.now) (string_bytes loop.text) (string_bytes c.push_ascii.new.text) part loop.invariant.bytes
           c.push_ascii.ensures.bytes;
       room = omega (arith, c.min-next.ensures, c.push_ascii.ensures.spare, len);
       used = omega (arith, c.min-next.ensures, c.push_ascii.ensures.spare, len);
