@@ -19,27 +19,27 @@ FivesOff-more number left fives h none =
     let power = ap (λ n. left / 5 * n) (ap (λ n. 5 ^ n) (add-one fives) ∙ pow-suc 5 fives) in
     record { some = omega (arith, h.some, none); product = h.product ∙ (ap (λ n. n * 5 ^ fives) parts ∙ omega (arith, power)) }
 
--- no power of two up to a size has more than 89 factors
-few_twos : (twos size : ℕ) → 2 ^ twos ≤ size → size < size_limit → twos ≤ 89
+-- no power of two up to a size has more than 99 factors
+few_twos : (twos size : ℕ) → 2 ^ twos ≤ size → size < size_limit → twos ≤ 99
 few_twos twos size h small =
     ⊎_elim
-    (λ l. let most = pow-le-pow_right {n = 2} (omega arith) {i = 90} {j = twos} (omega arith) in absurd (omega (arith, most, h, small)))
-    (λ k. k) (cases_lt 89 twos)
+    (λ l. let most = pow-le-pow_right {n = 2} (omega arith) {i = 100} {j = twos} (omega arith) in absurd (omega (arith, most, h, small)))
+    (λ k. k) (cases_lt 99 twos)
 
-few_both : (size left twos fives : ℕ) → 0 < left → size ≡ left * (2 ^ twos * 5 ^ fives) → size < size_limit → twos + fives ≤ 89
+few_both : (size left twos fives : ℕ) → 0 < left → size ≡ left * (2 ^ twos * 5 ^ fives) → size < size_limit → twos + fives ≤ 99
 few_both size left twos fives some h small =
     let powers = mul-le-mul_left {m = 2 ^ fives} {n = 5 ^ fives} (2 ^ twos) (pow-le-pow_left {n = 2} {m = 5} (omega arith) fives) in
     let product = mul-le-mul_right {m = 1} {n = left} (2 ^ twos * 5 ^ fives) some in
     few_twos (twos + fives) size (omega (arith, pow-add 2 twos fives, powers, product, h)) small
 
-few_fives : (number left fives : ℕ) → 0 < left → number ≡ left * 5 ^ fives → number < size_limit → fives ≤ 38
+few_fives : (number left fives : ℕ) → 0 < left → number ≡ left * 5 ^ fives → number < size_limit → fives ≤ 42
 few_fives number left fives some h small =
     let product = mul-le-mul_right {m = 1} {n = left} (5 ^ fives) some in
     ⊎_elim
-    (λ l. let most = pow-le-pow_right {n = 5} (omega arith) {i = 39} {j = fives} (omega arith) in
-    absurd (omega (arith, most, product, h, small))) (λ k. k) (cases_lt 38 fives)
+    (λ l. let most = pow-le-pow_right {n = 5} (omega arith) {i = 43} {j = fives} (omega arith) in
+    absurd (omega (arith, most, product, h, small))) (λ k. k) (cases_lt 42 fives)
 
-pub FivesOff-few : (number left fives : ℕ) → number < size_limit → FivesOff number left fives → fives ≤ 38
+pub FivesOff-few : (number left fives : ℕ) → number < size_limit → FivesOff number left fives → fives ≤ 42
 FivesOff-few number left fives small h = few_fives number left fives h.some h.product small
 
 -- all of them
@@ -50,7 +50,7 @@ above_zero : (left factor : ℕ) → left % factor ≢ 0 → 0 < left
 above_zero zero factor h = absurd (h (zero-mod factor))
 above_zero (suc left) factor h = omega arith
 
-pub AllFives-few : (number fives : ℕ) → number < size_limit → AllFives number fives → fives ≤ 38
+pub AllFives-few : (number fives : ℕ) → number < size_limit → AllFives number fives → fives ≤ 42
 AllFives-few number fives small all = few_fives number all.0 fives (above_zero all.0 5 all.2) all.1 small
 
 -- those that are taken off, and those of what is left
@@ -98,5 +98,5 @@ two_five_is number twos fives h all =
       no_five = all.2;
     }
 
-pub two_five_few : (number twos fives : ℕ) → number < size_limit → IsTwoFive number twos fives → twos + fives ≤ 89
+pub two_five_few : (number twos fives : ℕ) → number < size_limit → IsTwoFive number twos fives → twos + fives ≤ 99
 two_five_few number twos fives small h = few_both number h.left twos fives (above_zero h.left 2 h.odd) h.product small

@@ -20,10 +20,10 @@ pub const DECIMAL_PLACES: u32 = 28;
 /// One, counted in last places.
 pub(crate) const ONE: u128 = 10_000_000_000_000_000_000_000_000_000;
 
-/// Whole parts are below this, 2^96.
-const WHOLE_LIMIT: u128 = 79_228_162_514_264_337_593_543_950_336;
+/// Whole parts are below this, 2^112.
+const WHOLE_LIMIT: u128 = 5_192_296_858_534_827_628_530_496_329_220_096;
 
-/// A number with 28 digits after the point, never negative. Its whole part is below 2^96.
+/// A number with 28 digits after the point, never negative. Its whole part is below 2^112.
 ///
 /// A contract sees it as the number of its last places: `1.5` is 15 * 10^27. Equality, order and hash are those of the
 /// numbers.
@@ -53,7 +53,7 @@ impl Decimal {
         fraction: 0,
     };
 
-    /// `whole + fraction / 10^28`. None exactly where the whole part is 2^96 or more, or the fraction 10^28 or more.
+    /// `whole + fraction / 10^28`. None exactly where the whole part is 2^112 or more, or the fraction 10^28 or more.
     pub fn new(whole: u128, fraction: u128) -> Option<Decimal>
         ensures { SomeIff result ((whole < whole_limit) × (fraction < one)) (whole * one + fraction) }
     {
@@ -64,14 +64,14 @@ impl Decimal {
         }
     }
 
-    /// A whole number. None exactly where it is 2^96 or more.
+    /// A whole number. None exactly where it is 2^112 or more.
     pub fn from_u128(n: u128) -> Option<Decimal>
         ensures { SomeIff result (n < whole_limit) (n * one) }
     {
         Decimal::new(n, 0)
     }
 
-    /// `mantissa / 10^scale`. None exactly where the scale is above 28, or the whole part 2^96 or more.
+    /// `mantissa / 10^scale`. None exactly where the scale is above 28, or the whole part 2^112 or more.
     ///
     /// ```text
     /// from_u128_with_scale(5084, 2)    50.84
@@ -92,7 +92,7 @@ impl Decimal {
         )
     }
 
-    /// The part before the point, below 2^96.
+    /// The part before the point, below 2^112.
     pub fn whole(self) -> u128
         ensures value { result ≡ self / one }
         ensures bound { result < whole_limit }

@@ -1,4 +1,4 @@
-//! Finite decimals, digit by digit: a whole part and at most 83 digits after the point.
+//! Finite decimals, digit by digit: a whole part and at most 93 digits after the point.
 ghost use Rattle.std.specs.Prelude.{◌≡◌, ◌≢◌, ◌+◌, ◌-◌, ◌*◌, ◌%◌, ◌^◌, ◌≤◌, ◌<◌, ◌++◌, ℕ, length, take, drop};
 ghost use Rattle.std.specs.Prelude.{replicate, slice_index, IsAscii, Some};
 ghost use Rattle.std.specs.List.{All};
@@ -17,7 +17,7 @@ use std::marker::Model;
 use std::{fmt, str};
 
 /// The most digits after the point of an expansion.
-pub const EXPANSION_PLACES: usize = 83;
+pub const EXPANSION_PLACES: usize = 93;
 
 /// Which of two equally near decimals is taken.
 #[derive(Debug, Clone, Copy, PartialEq, Eq)]
@@ -28,7 +28,7 @@ pub enum Ties {
     Up,
 }
 
-/// A number with at most 83 digits after the point, the last of which is not 0.
+/// A number with at most 93 digits after the point, the last of which is not 0.
 ///
 /// A contract sees it as its whole part and its digits.
 #[derive(Debug, Clone, Copy)]
@@ -62,7 +62,7 @@ impl Model for Expansion {
 impl Expansion {
     /// `numerator / (2^twos * 5^fives)`.
     ///
-    /// The caller owes a numerator below 8 * 10^27, and a product of the powers of at most 2^83.
+    /// The caller owes a numerator below 8 * 10^30, and a product of the powers of at most 2^93.
     ///
     /// ```text
     /// Expansion::new(13, 3, 0)    1.625
@@ -91,7 +91,7 @@ impl Expansion {
         self.whole
     }
 
-    /// The digits after the point: the least number of places that state it, at most 83.
+    /// The digits after the point: the least number of places that state it, at most 93.
     pub fn places(&self) -> u32
         ensures exact { result ≡ length self.now.digits }
         ensures few { result ≤ expansion_places }

@@ -16,7 +16,7 @@ const HALF: u128 = 100_000_000_000_000;
 
 /// The least whole number that is not below `d * unit_size`. None exactly where that number reaches the limit.
 ///
-/// The caller owes a unit size from 1 to 2^83, and a limit of at most 8 * 10^27.
+/// The caller owes a unit size from 1 to 2^93, and a limit of at most 8 * 10^30.
 ///
 /// ```text
 /// least_size(1.5, 1024, limit)    1536
@@ -165,6 +165,25 @@ mod tests {
             assert_eq!(rt; least_size_counted(d, unit_size, limit, &mut steps), size);
             assert_eq!(rt; steps.count(), 4, "at {fraction}");
             assert_eq!(rt; least_size(d, unit_size, limit), size);
+        }
+        Ok(())
+    }
+
+    #[test]
+    fn in_the_greatest_unit(rt: HostRuntime) -> Result<(), Fail> {
+        let greatest = 9_903_520_314_283_042_199_192_993_792;
+        let limit = 8_000_000_000_000_000_000_000_000_000_000;
+        let nines = 9_999_999_999_999_999_999_999_999_999;
+        for (whole, fraction, size) in [
+            (0, nines, Some(greatest)),
+            (0, 1, Some(1)),
+            (806, nines, Some(807 * greatest)),
+            // Past the limit, and past 128 bits.
+            (807, nines, None),
+            (5_192_296_858_534_827_628_530_496_329_220_095, nines, None),
+        ] {
+            let d = Decimal::new(whole, fraction).ok_or("a decimal")?;
+            assert_eq!(rt; least_size(d, greatest, limit), size);
         }
         Ok(())
     }

@@ -11,7 +11,7 @@ use crate::tens::power_of_ten;
 
 /// `size / unit`, where that is a decimal of at most so many places, else None. More than 28 places count as 28.
 ///
-/// The caller owes a unit from 1 to 2^83 and a size below 2^96.
+/// The caller owes a unit from 1 to 2^93 and a size below 2^112.
 ///
 /// Long division takes one tick for each digit after the point, so at most 28. It stops at the first number of places
 /// at which the quotient is exact; where there is none, it takes all the places that were asked for.
@@ -45,7 +45,7 @@ pub fn exact_quotient(size: u128, unit: u128, places: u32, steps: &mut Steps) ->
     if rest > 0 {
         return None;
     }
-    // Never None: the size is below 2^96, and the digits fit their places.
+    // Never None: the size is below 2^112, and the digits fit their places.
     Decimal::new(whole, fraction * power_of_ten(DECIMAL_PLACES - digits))
 }
 

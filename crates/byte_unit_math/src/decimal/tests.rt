@@ -13,12 +13,22 @@ fn parts_of_scaled_mantissas(rt: HostRuntime) -> Result<(), Fail> {
             34_028_236_692_093_846_346_337_460_743,
             1_768_211_455_000_000_000_000_000_000,
         ),
+        (
+            9,
+            340_282_366_920_938_463_463_374_607_431,
+            7_682_114_550_000_000_000_000_000_000,
+        ),
+        (
+            5,
+            3_402_823_669_209_384_634_633_746_074_317_682,
+            1_145_500_000_000_000_000_000_000_000,
+        ),
     ] {
         let d = Decimal::from_u128_with_scale(u128::MAX, scale).ok_or("a decimal")?;
         assert_eq!(rt; d.whole(), whole, "at scale {scale}");
         assert_eq!(rt; d.fraction(), fraction, "at scale {scale}");
     }
-    assert_eq!(rt; Decimal::from_u128_with_scale(u128::MAX, 9), None);
+    assert_eq!(rt; Decimal::from_u128_with_scale(u128::MAX, 4), None);
     assert_eq!(rt; Decimal::from_u128_with_scale(1, 29), None);
     Ok(())
 }
@@ -26,12 +36,17 @@ fn parts_of_scaled_mantissas(rt: HostRuntime) -> Result<(), Fail> {
 #[test]
 fn the_greatest_parts(rt: HostRuntime) -> Result<(), Fail> {
     let nines = 9_999_999_999_999_999_999_999_999_999;
-    let greatest = Decimal::new(79_228_162_514_264_337_593_543_950_335, nines).ok_or("a decimal")?;
-    assert_eq!(rt; greatest.whole(), 79_228_162_514_264_337_593_543_950_335);
+    let greatest = Decimal::new(5_192_296_858_534_827_628_530_496_329_220_095, nines).ok_or(
+        "a decimal",
+    )?;
+    assert_eq!(rt;
+        greatest.whole(),
+        5_192_296_858_534_827_628_530_496_329_220_095
+    );
     assert_eq!(rt; greatest.fraction(), nines);
     assert_eq!(rt; greatest.places(), 28);
     assert_eq!(rt;
-        Decimal::new(79_228_162_514_264_337_593_543_950_336, 0),
+        Decimal::new(5_192_296_858_534_827_628_530_496_329_220_096, 0),
         None
     );
     assert_eq!(rt;
@@ -39,7 +54,7 @@ fn the_greatest_parts(rt: HostRuntime) -> Result<(), Fail> {
         None
     );
     assert_eq!(rt;
-        Decimal::from_u128(79_228_162_514_264_337_593_543_950_336),
+        Decimal::from_u128(5_192_296_858_534_827_628_530_496_329_220_096),
         None
     );
     Ok(())

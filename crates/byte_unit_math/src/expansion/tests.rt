@@ -27,7 +27,7 @@ fn digits_of_decimals(rt: HostRuntime) -> Result<(), Fail> {
 }
 
 #[test]
-fn one_over_the_greatest_unit(rt: HostRuntime) {
+fn one_over_yobibytes_and_robibytes(rt: HostRuntime) {
     let e = Expansion::new(1, 83, 0);
     assert_eq!(rt; e.whole(), 0);
     assert_eq!(rt; e.places(), 83);
@@ -38,6 +38,12 @@ fn one_over_the_greatest_unit(rt: HostRuntime) {
     assert_eq!(rt; five_digits(&e, 25), [1, 0, 3, 3, 9]);
     assert_eq!(rt; five_digits(&e, 78), [3, 2, 8, 1, 2]);
     assert_eq!(rt; e.digit(83), 5);
+    let e = Expansion::new(1, 93, 0);
+    assert_eq!(rt; e.places(), 93);
+    // 5^93 begins with 10097 and ends with 703125.
+    assert_eq!(rt; five_digits(&e, 27), [0, 1, 0, 0, 9]);
+    assert_eq!(rt; five_digits(&e, 88), [7, 0, 3, 1, 2]);
+    assert_eq!(rt; e.digit(93), 5);
 }
 
 /// The digits from this place on.
@@ -62,10 +68,10 @@ fn fractions_over_twos_and_fives(rt: HostRuntime) {
         (6, 0, 1, 1, 1, 2),
         (1024, 10, 0, 1, 0, 0),
         (
-            7_999_999_999_999_999_999_999_999_999,
+            7_999_999_999_999_999_999_999_999_999_999,
             0,
             0,
-            7_999_999_999_999_999_999_999_999_999,
+            7_999_999_999_999_999_999_999_999_999_999,
             0,
             0,
         ),
@@ -118,6 +124,12 @@ fn printed(rt: HostRuntime) -> Result<(), Fail> {
             83,
             0,
             "0.00000000000000000000000010339757656912845935892608650874535669572651386260986328125",
+        ),
+        (
+            1,
+            93,
+            0,
+            "0.000000000000000000000000000100974195868289511092701256356196637398170423693954944610595703125",
         ),
     ] {
         let e = Expansion::new(numerator, twos, fives);

@@ -5,7 +5,7 @@ use Rattle.byte_unit_math.proofs.expansion.glyphs_of.Given as goal
 
 abbrev pub invariant-loop-i : goal.invariant-loop-i
 invariant-loop-i l = record {
-  size : length l.glyphs ≡ 83;
+  size : length l.glyphs ≡ 93;
   ascii : IsAscii l.glyphs;
   front : take l.i l.glyphs ≡ glyphs (take l.i l.e.digits);
 }
