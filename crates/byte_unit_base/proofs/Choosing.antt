@@ -10,7 +10,7 @@ use Rattle.byte_unit_base.specs.Shape.{Shape, bits, twos, fives}
 use Rattle.byte_unit_base.specs.Edition.{current}
 use Rattle.byte_unit_base.specs.Units.{shape_of}
 use Rattle.byte_unit_base.specs.Family.{InFamily}
-use Rattle.byte_unit_base.specs.Multiples.{falling_from}
+use Rattle.byte_unit_base.specs.Multiples.{falling_from, known_prefixes}
 use Rattle.byte_unit_base.specs.Choice.{IsLargest, NoneHas, IsRecovered, Suits}
 use Rattle.byte_unit_base.specs.Kinds.{bits_in, own_unit}
 use Rattle.byte_unit_base.specs.declared.kind.Kind.{Kind}
@@ -25,8 +25,8 @@ some_bits unit = one-le-mul (one-le-pow (twos unit) 2 (omega arith)) (one-le-pow
 
 pub small_bits : (family : Family) (unit : Shape) → InFamily current family unit → bits unit ≤ unit_limit
 small_bits family unit h =
-    let units = falling_from family 8 in
-    le_of_falls units unit_limit unit (current_falls family 8 (omega arith)) (in_falling family 8 unit h.kind h.prefix.some h.prefix.known)
+    let units = falling_from family known_prefixes in
+    le_of_falls units unit_limit unit (current_falls family known_prefixes (omega arith)) (in_falling family known_prefixes unit h.kind h.prefix.some h.prefix.known)
 
 pub own_bits : (kind : Kind) → bits (own_unit kind) ≡ bits_in kind
 own_bits Byte = refl

@@ -6,7 +6,7 @@ use Rattle.std.proofs.lemmas.Bool.{and_parts, cases_lt, leb-true}
 use Rattle.byte_unit_math.specs.Bounds.{unit_limit}
 use Rattle.byte_unit_base.specs.Shape.{Shape, shape, bits}
 use Rattle.byte_unit_base.specs.Family.{HasKind}
-use Rattle.byte_unit_base.specs.Multiples.{of_prefix, falling_from}
+use Rattle.byte_unit_base.specs.Multiples.{of_prefix, falling_from, known_prefixes}
 use Rattle.byte_unit_base.specs.declared.unit.family.Family.{Family}
 use Rattle.byte_unit_base.specs.declared.unit.family.Family.TheVariants.{All, Bytes, Bits}
 use Rattle.byte_unit_base.specs.Choice.{IsLargest, NoneHas}
@@ -136,14 +136,14 @@ fewer_fall family (suc m) n h few =
     (λ above. let same : suc m ≡ n = omega (arith, above, few) in subst P same parts.0)
     (cases_lt n (suc m))
 
-all_fall : (family : Family) → fall_to family 8 ≡ true
+all_fall : (family : Family) → fall_to family known_prefixes ≡ true
 all_fall All = refl
 all_fall Bytes = refl
 all_fall Bits = refl
 
 -- the units of the current version do
-pub current_falls : (family : Family) (n : ℕ) → n ≤ 8 → falls unit_limit (falling_from family n) ≡ true
-current_falls family n few = fewer_fall family 8 n (all_fall family) few
+pub current_falls : (family : Family) (n : ℕ) → n ≤ known_prefixes → falls unit_limit (falling_from family n) ≡ true
+current_falls family n few = fewer_fall family known_prefixes n (all_fall family) few
 
 -- the first with the property is the largest
 pub largest_found : (Has : Shape → Type 0) (units : List Shape) (i : ℕ) (x : Shape) → falls unit_limit units ≡ true

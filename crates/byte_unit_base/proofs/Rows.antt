@@ -13,7 +13,7 @@ use Rattle.byte_unit_base.specs.Edition.{current}
 use Rattle.byte_unit_base.specs.Units.{shape_of}
 use Rattle.byte_unit_base.specs.Family.{HasPrefix, InFamily, IsOfType}
 use Rattle.byte_unit_base.specs.Choice.{IsLargest, NoneHas, Suits}
-use Rattle.byte_unit_base.specs.Multiples.{HasPowers, ListsUnits, falling_from, row_of, row_shape}
+use Rattle.byte_unit_base.specs.Multiples.{HasPowers, ListsUnits, falling_from, known_prefixes, row_of, row_shape}
 use Rattle.byte_unit_base.specs.declared.unit.Unit.TheVariants.{Bit}
 use Rattle.byte_unit_base.specs.declared.unit.family.Row.{Row}
 use Rattle.byte_unit_base.specs.declared.unit.family.Family.{Family}
@@ -43,7 +43,7 @@ reaches (x ∷ xs) unit h i =
     let P : Shape → Type 0 = λ s. 2 ^ (10 * s.power - 1) ≤ bits s in
     ⊎_elim (λ e. subst P e (leb-true (2 ^ (10 * x.power - 1)) (bits x) parts.0)) (λ later. reaches xs unit parts.1 later) i
 
-all_reach : reach (falling_from All 8) ≡ true
+all_reach : reach (falling_from All known_prefixes) ≡ true
 all_reach = refl
 
 -- so its prefix is among the first that the digits of a size allow
@@ -52,7 +52,7 @@ pub prefix_within : (in_bits digits : ℕ) (unit : Shape) → in_bits < 2 ^ 128 
 prefix_within in_bits digits unit small count prefix not_above =
     let some : 0 < in_bits = omega (arith, some_bits unit, not_above) in
     let top = leading_top 128 in_bits some small in
-    let reached = reaches (falling_from All 8) unit all_reach (in_falling All 8 unit tt prefix.some prefix.known) in
+    let reached = reaches (falling_from All known_prefixes) unit all_reach (in_falling All known_prefixes unit tt prefix.some prefix.known) in
     ⊎_elim
     (λ fewer.
     let more = pow-le-pow_right {n = 2} (omega arith) {i = suc top.0} {j = 10 * unit.power - 1} (omega (arith, fewer, count, top.1)) in
@@ -61,22 +61,22 @@ prefix_within in_bits digits unit small count prefix not_above =
     (cases_lt digits (10 * unit.power))
 
 -- the rows of the last prefixes
-length_of_all : (family : Family) → length (falling_from family 8) / 8 ≡ width family
+length_of_all : (family : Family) → length (falling_from family known_prefixes) / known_prefixes ≡ width family
 length_of_all All = omega arith
 length_of_all Bytes = omega arith
 length_of_all Bits = omega arith
 
-pub rows_behind : (family : Family) (rows : List Row) (prefixes skipped : ℕ) → map row_shape rows ≡ map row_of (falling_from family 8)
-    → prefixes ≤ 8 → skipped ≡ length rows / 8 * (8 - prefixes)
+pub rows_behind : (family : Family) (rows : List Row) (prefixes skipped : ℕ) → map row_shape rows ≡ map row_of (falling_from family known_prefixes)
+    → prefixes ≤ known_prefixes → skipped ≡ length rows / known_prefixes * (known_prefixes - prefixes)
     → map row_shape (drop skipped rows) ≡ map row_of (falling_from family prefixes)
 rows_behind family rows prefixes skipped all few count =
-    let units = falling_from family 8 in
+    let units = falling_from family known_prefixes in
     let lengths : length rows ≡ length units = sym (length-map rows row_shape) ∙ (ap length all ∙ length-map units row_of) in
-    let across : length rows / 8 ≡ width family = ap (λ n. n / 8) lengths ∙ length_of_all family in
-    let here : skipped ≡ width family * (8 - prefixes) = count ∙ ap (λ n. n * (8 - prefixes)) across in
-    let total : (8 - prefixes) + prefixes ≡ 8 = omega (arith, few) in
-    let P : ℕ → Type 0 = λ n. drop (width family * (8 - prefixes)) (falling_from family n) ≡ falling_from family prefixes in
-    let behind = subst P total (drop_prefixes family (8 - prefixes) prefixes) in
+    let across : length rows / known_prefixes ≡ width family = ap (λ n. n / known_prefixes) lengths ∙ length_of_all family in
+    let here : skipped ≡ width family * (known_prefixes - prefixes) = count ∙ ap (λ n. n * (known_prefixes - prefixes)) across in
+    let total : (known_prefixes - prefixes) + prefixes ≡ known_prefixes = omega (arith, few) in
+    let P : ℕ → Type 0 = λ n. drop (width family * (known_prefixes - prefixes)) (falling_from family n) ≡ falling_from family prefixes in
+    let behind = subst P total (drop_prefixes family (known_prefixes - prefixes) prefixes) in
     sym (drop-map row_shape skipped rows)
     ∙ (ap (drop skipped) all
     ∙ (drop-map row_of skipped units
@@ -127,7 +127,7 @@ row_there {family} {in_bits} {rows} i d h within =
     ∙ get_or-map row_of units i (unit_in row) (row_shape row) there) in
     let is_unit : unit_in row ≡ unit = ap (λ row. row.unit) same in
     let known = from_falling family h.prefixes unit (IsIn-at units i (unit_in row) there) in
-    let few : h.prefixes ≤ 8 = h.few in
+    let few : h.prefixes ≤ known_prefixes = h.few in
     let member : InFamily current family unit =
     record { prefix = record { some = known.0; known = omega (arith, known.1, few) }; kind = known.2 } in
     record {

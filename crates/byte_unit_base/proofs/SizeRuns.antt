@@ -17,7 +17,7 @@ use Rattle.byte_unit_base.specs.Scan.{run}
 use Rattle.byte_unit_base.specs.UnitScan.{unit_step, scan_of, place_of, unit_of, prefix_at, word_step, or_word, start as unit_start}
 use Rattle.byte_unit_base.specs.SizeScan.{size_step, size_scan, size_at_end, size_place, sized, precise}
 use Rattle.byte_unit_base.specs.declared.unit.scan.Prefix.{Prefix}
-use Rattle.byte_unit_base.specs.declared.unit.scan.Prefix.TheVariants.{Kilo, Mega, Giga, Tera, Peta, Exa, Zetta, Yotta}
+use Rattle.byte_unit_base.specs.declared.unit.scan.Prefix.TheVariants.{Kilo, Mega, Giga, Tera, Peta, Exa, Zetta, Yotta, Ronna}
 use Rattle.byte_unit_base.specs.declared.unit.scan.UnitScan.{UnitScan}
 use Rattle.byte_unit_base.specs.declared.unit.scan.Multiple.TheVariants.{One, Decimal}
 use Rattle.byte_unit_base.specs.declared.unit.scan.Word.{Word}
@@ -149,6 +149,7 @@ letter_bounds c Peta e = let h = (prefix_found c Peta e).2 in (omega (arith, h),
 letter_bounds c Exa e = let h = (prefix_found c Exa e).2 in (omega (arith, h), omega (arith, h))
 letter_bounds c Zetta e = let h = (prefix_found c Zetta e).2 in (omega (arith, h), omega (arith, h))
 letter_bounds c Yotta e = let h = (prefix_found c Yotta e).2 in (omega (arith, h), omega (arith, h))
+letter_bounds c Ronna e = let h = (prefix_found c Ronna e).2 in (omega (arith, h), omega (arith, h))
 
 b_bounds : (c : ℕ) (w : Word) → cond (eqb c 66) (Some UpperB) (cond (eqb c 98) (Some LowerB) None) ≡ Some w
     → (65 ≤ to_ascii_uppercase c) × (to_ascii_uppercase c ≤ 90)

@@ -12,7 +12,7 @@ use Rattle.byte_unit_base.specs.Spelling.{Flags, IsPrefixLetter, SpellsBinary, S
 use Rattle.byte_unit_base.specs.UnitScan.{unit_step, unit_of, start, scan_of, power_of, prefix_at, is_i, multiple_step, word_step, or_word}
 use Rattle.byte_unit_base.specs.UnitScan.{count_of, multiple_shape}
 use Rattle.byte_unit_base.specs.declared.unit.scan.Prefix.{Prefix}
-use Rattle.byte_unit_base.specs.declared.unit.scan.Prefix.TheVariants.{Kilo, Mega, Giga, Tera, Peta, Exa, Zetta, Yotta}
+use Rattle.byte_unit_base.specs.declared.unit.scan.Prefix.TheVariants.{Kilo, Mega, Giga, Tera, Peta, Exa, Zetta, Yotta, Ronna}
 use Rattle.byte_unit_base.specs.declared.unit.scan.Word.{Word}
 use Rattle.byte_unit_base.specs.declared.unit.scan.Word.TheVariants.{Empty, UpperB, LowerB, Bi, Bit, Bits}
 use Rattle.byte_unit_base.specs.declared.unit.scan.Multiple.{Multiple}
@@ -47,8 +47,8 @@ pub record Reached (s : UnitScan) (text : List ℕ) : Type 0 where
 letter_found : (u : ℕ) (p : Prefix)
     → cond (eqb u 75) (Some Kilo) (cond (eqb u 77) (Some Mega)
     (cond (eqb u 71) (Some Giga) (cond (eqb u 84) (Some Tera)
-    (cond (eqb u 80) (Some Peta) (cond (eqb u 69) (Some Exa) (cond (eqb u 90) (Some Zetta) (cond (eqb u 89) (Some Yotta) None))))))) ≡
-    Some p → u ≡ slice_index (codes "KMGTPEZY") (power_of p - 1)
+    (cond (eqb u 80) (Some Peta) (cond (eqb u 69) (Some Exa) (cond (eqb u 90) (Some Zetta) (cond (eqb u 89) (Some Yotta)
+    (cond (eqb u 82) (Some Ronna) None)))))))) ≡ Some p → u ≡ slice_index current.letters (power_of p - 1)
 letter_found u Kilo e = grind (arith, nat_tests)
 letter_found u Mega e = grind (arith, nat_tests)
 letter_found u Giga e = grind (arith, nat_tests)
@@ -57,6 +57,7 @@ letter_found u Peta e = grind (arith, nat_tests)
 letter_found u Exa e = grind (arith, nat_tests)
 letter_found u Zetta e = grind (arith, nat_tests)
 letter_found u Yotta e = grind (arith, nat_tests)
+letter_found u Ronna e = grind (arith, nat_tests)
 
 pub prefix_found : (c : ℕ) (p : Prefix) → prefix_at c ≡ Some p → IsPrefixLetter current (power_of p) c
 prefix_found c Kilo e = (omega arith, omega arith, letter_found (to_ascii_uppercase c) Kilo e)
@@ -67,6 +68,7 @@ prefix_found c Peta e = (omega arith, omega arith, letter_found (to_ascii_upperc
 prefix_found c Exa e = (omega arith, omega arith, letter_found (to_ascii_uppercase c) Exa e)
 prefix_found c Zetta e = (omega arith, omega arith, letter_found (to_ascii_uppercase c) Zetta e)
 prefix_found c Yotta e = (omega arith, omega arith, letter_found (to_ascii_uppercase c) Yotta e)
+prefix_found c Ronna e = (omega arith, omega arith, letter_found (to_ascii_uppercase c) Ronna e)
 
 pub guard_some : {X : Type 0} (t : Bool) (x y : X) → cond t (Some x) None ≡ Some y → (t ≡ true) × (x ≡ y)
 guard_some true x y e = (refl, cc)

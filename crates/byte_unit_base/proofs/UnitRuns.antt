@@ -15,7 +15,7 @@ use Rattle.byte_unit_base.specs.Scan.{run}
 use Rattle.byte_unit_base.specs.UnitScan.{unit_step, unit_of, unit_scan, start, scan_of, power_of, prefix_at, count_of, multiple_shape}
 use Rattle.byte_unit_base.specs.UnitScan.{word_place, empty_place}
 use Rattle.byte_unit_base.specs.declared.unit.scan.Prefix.{Prefix}
-use Rattle.byte_unit_base.specs.declared.unit.scan.Prefix.TheVariants.{Kilo, Mega, Giga, Tera, Peta, Exa, Zetta, Yotta}
+use Rattle.byte_unit_base.specs.declared.unit.scan.Prefix.TheVariants.{Kilo, Mega, Giga, Tera, Peta, Exa, Zetta, Yotta, Ronna}
 use Rattle.byte_unit_base.specs.declared.unit.scan.Word.{Word}
 use Rattle.byte_unit_base.specs.declared.unit.scan.Word.TheVariants.{Empty, UpperB, LowerB, Bi, Bit, Bits}
 use Rattle.byte_unit_base.specs.declared.unit.scan.Multiple.{Multiple}
@@ -148,7 +148,8 @@ letter_prefix c (suc (suc (suc (suc (suc zero))))) h = (Peta, rw h.2 refl, refl)
 letter_prefix c (suc (suc (suc (suc (suc (suc zero)))))) h = (Exa, rw h.2 refl, refl)
 letter_prefix c (suc (suc (suc (suc (suc (suc (suc zero))))))) h = (Zetta, rw h.2 refl, refl)
 letter_prefix c (suc (suc (suc (suc (suc (suc (suc (suc zero)))))))) h = (Yotta, rw h.2 refl, refl)
-letter_prefix c (suc (suc (suc (suc (suc (suc (suc (suc (suc n))))))))) h = absurd (omega (arith, h.1))
+letter_prefix c (suc (suc (suc (suc (suc (suc (suc (suc (suc zero))))))))) h = (Ronna, rw h.2 refl, refl)
+letter_prefix c (suc (suc (suc (suc (suc (suc (suc (suc (suc (suc n)))))))))) h = absurd (omega (arith, h.1))
 
 -- the prefix and an i or none
 run_infix : (p : Prefix) (text : List ℕ) (binary : Bool) → SpellsBinary text binary

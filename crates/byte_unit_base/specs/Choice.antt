@@ -74,9 +74,9 @@ abbrev pub CountsChoice : ℕ → ℕ → ℕ → ℕ → Type 0
 CountsChoice size number old new =
     (size ≡ 0) × (new ≡ old) ⊎ (steps : ℕ) × TakesSteps size number steps × (new ≡ raised old steps)
 
--- no choice takes more: two and five divide a size 89 times at most, and a number has 28 places at most
+-- no choice takes more: two and five divide a size 99 times at most, and a number has 28 places at most
 abbrev pub most_steps : ℕ
-most_steps = 119
+most_steps = 129
 
 -- a size of this kind is shown in the unit by a type: the largest of its family that suits it, or its kind's own
 abbrev pub IsAppropriate : Edition → Kind → UnitType → ℕ → Shape → Type 0

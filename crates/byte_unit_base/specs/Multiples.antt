@@ -8,6 +8,10 @@ use Rattle.byte_unit_base.specs.declared.unit.family.Row.{Row}
 use Rattle.byte_unit_base.specs.declared.unit.family.Family.{Family}
 use Rattle.byte_unit_base.specs.declared.unit.family.Family.TheVariants.{All, Bytes, Bits}
 
+-- how many prefixes there are
+abbrev pub known_prefixes : ℕ
+known_prefixes = length current.letters
+
 -- the units of a family of one prefix, from the largest
 abbrev pub of_prefix : Family → ℕ → List Shape
 of_prefix All power =
@@ -38,7 +42,7 @@ row_shape row = record { unit = shape_of row.unit; bits = row.bits; twos = row.t
 -- rows that have every unit of the family, from the largest, whose bits are not above these
 pub record ListsUnits (family : Family) (in_bits : ℕ) (rows : List Row) : Type 0 where
   pub prefixes : ℕ
-  pub few : prefixes ≤ length current.letters
+  pub few : prefixes ≤ known_prefixes
   pub rows_are : map row_shape rows ≡ map row_of (falling_from family prefixes)
   pub within : (unit : Shape) → HasPrefix current unit → bits unit ≤ in_bits → unit.power ≤ prefixes
 

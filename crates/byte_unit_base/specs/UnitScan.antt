@@ -13,7 +13,7 @@ use Rattle.byte_unit_base.specs.declared.unit.Unit.{Unit as UnitName}
 use Rattle.byte_unit_base.specs.declared.errors.UnitParseError.{UnitParseError}
 use Rattle.byte_unit_base.specs.Front.{Place, before_unit, after_prefix, after_b, after_bi, after_bit, after_bits}
 use Rattle.byte_unit_base.specs.declared.unit.scan.Prefix.{Prefix}
-use Rattle.byte_unit_base.specs.declared.unit.scan.Prefix.TheVariants.{Kilo, Mega, Giga, Tera, Peta, Exa, Zetta, Yotta}
+use Rattle.byte_unit_base.specs.declared.unit.scan.Prefix.TheVariants.{Kilo, Mega, Giga, Tera, Peta, Exa, Zetta, Yotta, Ronna}
 use Rattle.byte_unit_base.specs.declared.unit.scan.Word.{Word}
 use Rattle.byte_unit_base.specs.declared.unit.scan.Word.TheVariants.{Empty, UpperB, LowerB, Bi, Bit, Bits}
 use Rattle.byte_unit_base.specs.declared.unit.scan.Multiple.{Multiple}
@@ -29,6 +29,7 @@ power_of Peta = 5
 power_of Exa = 6
 power_of Zetta = 7
 power_of Yotta = 8
+power_of Ronna = 9
 
 -- the prefix of a letter
 abbrev pub prefix_at : ℕ → Option Prefix
@@ -36,7 +37,7 @@ prefix_at c =
     let u = to_ascii_uppercase c in
     if u == 75 then Some Kilo else (if u == 77 then Some Mega else (if u == 71 then Some Giga
     else (if u == 84 then Some Tera else (if u == 80 then Some Peta else (if u == 69 then Some Exa
-    else (if u == 90 then Some Zetta else (if u == 89 then Some Yotta else None)))))))
+    else (if u == 90 then Some Zetta else (if u == 89 then Some Yotta else (if u == 82 then Some Ronna else None))))))))
 
 abbrev pub is_i : ℕ → Bool
 is_i c = to_ascii_lowercase c == 105

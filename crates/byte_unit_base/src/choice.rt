@@ -18,11 +18,11 @@ use byte_unit_math::{DECIMAL_PLACES, Decimal, Steps, exact_quotient, two_five};
 /// The largest unit of the family that is not above the size and states it exactly within these
 /// places, with its number. `None` exactly where no unit of the family does.
 ///
-/// The size is of bytes where the divisor is 8, and of bits where it is 1. It is below 10^27. More
+/// The size is of bytes where the divisor is 8, and of bits where it is 1. It is below 10^30. More
 /// than 28 places count as 28.
 ///
 /// `steps` rises as by `two_five` for the size as it is given, and by one for each place of the
-/// number: so by at most 119. A size of zero takes none.
+/// number: so by at most 129. A size of zero takes none.
 ///
 /// ```text
 /// choose_unit(1536, Family::Bytes, 8, 3, steps)      1.5 KiB, in 12 steps

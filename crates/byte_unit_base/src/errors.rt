@@ -24,7 +24,7 @@ pub enum ValueParseError {
     NotNumber(char),
     /// The text is empty or white space alone.
     NoValue,
-    /// The whole part is above 2^96 - 1, or more than 28 digits follow the point.
+    /// The whole part is above 2^112 - 1, or more than 28 digits follow the point.
     NumberTooLong,
 }
 

@@ -19,7 +19,7 @@ use byte_unit_math::{Decimal, Steps};
 /// The largest unit, not above the size, that states it exactly within the precision, with its
 /// number; where there is none, the size itself in `B` or `Bit`.
 ///
-/// The unit is of the size's own kind, or of either where `allow` is set. The size is below 10^27. A
+/// The unit is of the size's own kind, or of either where `allow` is set. The size is below 10^30. A
 /// precision above 28 counts as 28. `steps` rises as by `choose_unit`.
 ///
 /// ```text
@@ -50,7 +50,7 @@ pub fn recoverable_unit(
 /// The largest unit that divides the size, with the whole number of them; where there is none, the
 /// size itself in `B` or `Bit`.
 ///
-/// The unit is of the size's own kind, or of either where `allow` is set. The size is below 10^27.
+/// The unit is of the size's own kind, or of either where `allow` is set. The size is below 10^30.
 ///
 /// ```text
 /// exact_unit(50_840_000, Kind::Byte, false)    50840 KB

@@ -17,10 +17,10 @@ use crate::read::read_size;
 use crate::unit::Unit;
 use byte_unit_math::{Decimal, least_size};
 
-/// Sizes are below this: 10^27.
-const SIZE_LIMIT: u128 = 1_000_000_000_000_000_000_000_000_000;
+/// Sizes are below this: 10^30.
+const SIZE_LIMIT: u128 = 1_000_000_000_000_000_000_000_000_000_000;
 
-/// The number, where it is a size: below 10^27. `None` exactly where it is not.
+/// The number, where it is a size: below 10^30. `None` exactly where it is not.
 ///
 /// ```text
 /// bounded(1536)         Some(1536)
@@ -33,7 +33,7 @@ pub fn bounded(size: u128) -> Option<u128>
     (size < SIZE_LIMIT).then_some(size)
 }
 
-/// The number, where it is a size: from 0 to below 10^27. `None` exactly where it is negative or not below 10^27.
+/// The number, where it is a size: from 0 to below 10^30. `None` exactly where it is negative or not below 10^30.
 ///
 /// ```text
 /// from_signed(-1)    None
@@ -63,7 +63,7 @@ fn holding(in_bits: u128, kind: Kind) -> u128
     }
 }
 
-/// So many of the unit, rounded up to a whole number of the kind. `None` exactly where that is not below 10^27.
+/// So many of the unit, rounded up to a whole number of the kind. `None` exactly where that is not below 10^30.
 ///
 /// ```text
 /// with_unit(3, Unit::KB, Kind::Byte)    Some(3000)
@@ -78,7 +78,7 @@ pub fn with_unit(size: u128, unit: Unit, kind: Kind) -> Option<u128>
 }
 
 /// So many of the unit, as `with_unit` gives them. `None` exactly where the number is negative or that size is not
-/// below 10^27.
+/// below 10^30.
 pub fn signed_with_unit(size: i128, unit: Unit, kind: Kind) -> Option<u128>
     ensures size { OfSigned
         (λ n answer. IsSizeOrNone current (IsLeastOf kind (n * one) (shape_of unit)) answer)
@@ -100,7 +100,7 @@ fn bit_limit(kind: Kind) -> u128
 }
 
 /// The number times the unit exactly, rounded up once to a whole number of the kind. `None` exactly where that is not
-/// below 10^27.
+/// below 10^30.
 ///
 /// ```text
 /// from_decimal(1.5, Unit::KiB, Kind::Byte)    Some(1536)
@@ -124,14 +124,14 @@ fn read(s: &str, ignore_case: bool, kind: Kind) -> Result<(Decimal, Unit), Parse
     }
 }
 
-/// The size that the text states, rounded up once to a whole number of the kind. It is below 10^27.
+/// The size that the text states, rounded up once to a whole number of the kind. It is below 10^30.
 ///
 /// The text is one that `read_size` reads. Where it names no unit it states bytes for `Kind::Byte`, and bits for
 /// `Kind::Bit`. With `ignore_case` a `b` means bytes; texts of bits are always case sensitive, so there it does
 /// nothing.
 ///
 /// Every other text is refused by the error of `read_size`: `NoValue`, `NotNumber` or `NumberTooLong` for the number,
-/// or `Unit`. A text whose size is not below 10^27 is refused by `ExceededBounds`, with its number as it was written.
+/// or `Unit`. A text whose size is not below 10^30 is refused by `ExceededBounds`, with its number as it was written.
 ///
 /// ```text
 /// parse("1.5 KiB", false, Kind::Byte) is Ok(1536)
@@ -147,9 +147,9 @@ pub fn parse(s: &str, ignore_case: bool, kind: Kind) -> Result<u128, ParseError>
     size.ok_or(ParseError::Value(ValueParseError::ExceededBounds(number)))
 }
 
-/// The sum of two sizes. `None` exactly where it is not below 10^27.
+/// The sum of two sizes. `None` exactly where it is not below 10^30.
 ///
-/// The caller owes numbers below 10^27.
+/// The caller owes numbers below 10^30.
 pub fn sum(left: u128, right: u128) -> Option<u128>
     requires left { left < current.size_limit }
     requires right { right < current.size_limit }
@@ -159,7 +159,7 @@ pub fn sum(left: u128, right: u128) -> Option<u128>
     bounded(left + right)
 }
 
-/// The product of a number and a factor. `None` exactly where it is not below 10^27.
+/// The product of a number and a factor. `None` exactly where it is not below 10^30.
 pub fn product(size: u128, factor: u128) -> Option<u128>
     ensures product { SomeIff result (size * factor < current.size_limit) (size * factor) }
     ensures small { IfSome result (λ n. n < current.size_limit) }
@@ -169,7 +169,7 @@ pub fn product(size: u128, factor: u128) -> Option<u128>
 
 /// The size less another number. `None` exactly where that is negative.
 ///
-/// The caller owes a size below 10^27.
+/// The caller owes a size below 10^30.
 pub fn difference(size: u128, less: u128) -> Option<u128>
     requires { size < current.size_limit }
     ensures difference { SomeIff result (less ≤ size) (size - less) }
@@ -180,7 +180,7 @@ pub fn difference(size: u128, less: u128) -> Option<u128>
 
 /// The size divided by the divisor, rounded down. `None` exactly where the divisor is zero.
 ///
-/// The caller owes a size below 10^27.
+/// The caller owes a size below 10^30.
 pub fn quotient(size: u128, divisor: u128) -> Option<u128>
     requires { size < current.size_limit }
     ensures quotient { SomeIff result (0 < divisor) (size / divisor) }

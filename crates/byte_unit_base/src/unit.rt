@@ -14,7 +14,7 @@ pub(crate) mod unit_type;
 
 /// A unit of bits or bytes, with one of the prefixes of the SI or of the IEC or with none.
 ///
-/// The prefixes rise from K to Y. Within a prefix the units rise in the order in which they stand here, and each prefix
+/// The prefixes rise from K to R. Within a prefix the units rise in the order in which they stand here, and each prefix
 /// lies wholly above the one before.
 #[derive(Clone, Copy, Debug, PartialEq, Eq)]
 pub enum Unit {
@@ -86,6 +86,14 @@ pub enum Unit {
     YB,
     /// 2^80 bytes.
     YiB,
+    /// 10^27 bits.
+    Rbit,
+    /// 2^90 bits.
+    Ribit,
+    /// 10^27 bytes.
+    RB,
+    /// 2^90 bytes.
+    RiB,
 }
 
 /// What a unit is made of.
@@ -102,7 +110,7 @@ struct Shape {
 impl Unit {
     ghost use Rattle.byte_unit_base.specs.Units.{shape_of};
 
-    /// How many bits the unit is: from 1 to 2^83.
+    /// How many bits the unit is: from 1 to 2^93.
     ///
     /// ```text
     /// Unit::KiB.as_bits_u128() == 8192
@@ -147,6 +155,10 @@ impl Unit {
             Unit::Yibit => 1_208_925_819_614_629_174_706_176,
             Unit::YB => 8_000_000_000_000_000_000_000_000,
             Unit::YiB => 9_671_406_556_917_033_397_649_408,
+            Unit::Rbit => 1_000_000_000_000_000_000_000_000_000,
+            Unit::Ribit => 1_237_940_039_285_380_274_899_124_224,
+            Unit::RB => 8_000_000_000_000_000_000_000_000_000,
+            Unit::RiB => 9_903_520_314_283_042_199_192_993_792,
         }
     }
 
@@ -194,6 +206,10 @@ impl Unit {
             Unit::Yibit => "Yib",
             Unit::YB => "YB",
             Unit::YiB => "YiB",
+            Unit::Rbit => "Rb",
+            Unit::Ribit => "Rib",
+            Unit::RB => "RB",
+            Unit::RiB => "RiB",
         }
     }
 
@@ -278,6 +294,10 @@ impl Unit {
             Unit::Yibit => (8, true, true),
             Unit::YB => (8, false, false),
             Unit::YiB => (8, true, false),
+            Unit::Rbit => (9, false, true),
+            Unit::Ribit => (9, true, true),
+            Unit::RB => (9, false, false),
+            Unit::RiB => (9, true, false),
         };
         Shape { power, binary, bit }
     }

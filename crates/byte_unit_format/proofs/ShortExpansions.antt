@@ -10,12 +10,12 @@ use Rattle.byte_unit_base.specs.declared.unit.Unit.{Unit as UnitName}
 use Rattle.byte_unit_base.specs.declared.unit.Unit.TheVariants.{Bit}
 use Rattle.byte_unit_format.proofs.ShownForms.{exact_in}
 
-by_factor : (size den factor : ℕ) → 8 * 10 ^ 80 ≡ factor * den → IsExactAt (size * 8) den 80
+by_factor : (size den factor : ℕ) → 8 * 10 ^ 90 ≡ factor * den → IsExactAt (size * 8) den 90
 by_factor size den factor product = (size * factor, omega (arith, ap (λ number. size * number) product))
 
-bytes_in : (size : ℕ) (unit : UnitName) → IsExactAt (size * 8) (bits (shape_of unit)) 80
-bytes_in size Bit = by_factor size (bits (shape_of Bit)) (8 * 10 ^ 80 / bits (shape_of Bit)) refl
-bytes_in size unit = by_factor size (bits (shape_of unit)) (8 * 10 ^ 80 / bits (shape_of unit)) refl
+bytes_in : (size : ℕ) (unit : UnitName) → IsExactAt (size * 8) (bits (shape_of unit)) 90
+bytes_in size Bit = by_factor size (bits (shape_of Bit)) (8 * 10 ^ 90 / bits (shape_of Bit)) refl
+bytes_in size unit = by_factor size (bits (shape_of unit)) (8 * 10 ^ 90 / bits (shape_of unit)) refl
 
 pub ends_within : ExpansionsEnd
 ends_within Byte size unit = bytes_in size unit

@@ -33,7 +33,7 @@ struct Shown {
     places: u32,
 }
 
-/// How long the text of a size in a unit is. The size is below 10^27. It takes no memory.
+/// How long the text of a size in a unit is. The size is below 10^30. It takes no memory.
 ///
 /// ```text
 /// adjusted_len(1536, Kind::Byte, Unit::KB, FormatSpec::PLAIN)  // 8: "1.536 KB"
@@ -51,7 +51,7 @@ pub fn adjusted_len(size: u128, kind: Kind, unit: Unit, spec: FormatSpec) -> usi
 /// Adds the text of a size in a unit: all its digits where no precision is set or the unit has no prefix, else the
 /// nearest decimal with exactly so many places, to the even digit where two are as near. In the alternate form a
 /// precision always counts, as 16 at most; of two that are as near the greater is taken, and zeros at the end are left
-/// out. The size is below 10^27.
+/// out. The size is below 10^30.
 ///
 /// It asks for memory once at most, before it writes. `AllocError` comes only where the room that the text has left
 /// is less than `adjusted_len`, and leaves the text and its room as they were.
@@ -75,7 +75,7 @@ pub fn append_adjusted<A: Allocator>(
 }
 
 /// Writes the text of a size in a unit into a formatter, as `FormatSpec::PLAIN` lays it out, whatever the formatter's
-/// flags. The size is below 10^27.
+/// flags. The size is below 10^30.
 ///
 /// ```text
 /// write_adjusted(1536, Kind::Byte, Unit::KiB, f)    // "1.5 KiB"
@@ -143,9 +143,9 @@ fn nearest(size: u128, kind: Kind, unit: Unit, places: u32, ties: Ties) -> Expan
     number_in_unit(size, kind, unit).rounded(places, ties)
 }
 
-/// The size in the unit, with all its digits: at most 83 after the point.
+/// The size in the unit, with all its digits: at most 93 after the point.
 ///
-/// The caller owes a size below 10^27.
+/// The caller owes a size below 10^30.
 ///
 /// ```text
 /// number_in_unit(1536, Kind::Byte, Unit::KiB)    1.5

@@ -18,7 +18,7 @@ use std::alloc::{AllocError, Allocator};
 /// The places that a size may take where no precision is set.
 const DEFAULT_PRECISION: usize = 3;
 
-/// How long the text of a size is, which is below 10^27. It takes no memory.
+/// How long the text of a size is, which is below 10^30. It takes no memory.
 ///
 /// ```text
 /// text_len(1536, Kind::Byte, FormatSpec::ALTERNATE)  // 7: "1.5 KiB"
@@ -38,7 +38,7 @@ pub fn text_len(size: u128, kind: Kind, spec: FormatSpec) -> usize
 
 /// Adds the text of a size: in the alternate form the size with the largest unit of its kind, not above it, that states
 /// it exactly within the precision (three places where none is set, 28 at most), else its digits. Where no unit does,
-/// the size stands in `B` or `Bit`. It is below 10^27.
+/// the size stands in `B` or `Bit`. It is below 10^30.
 ///
 /// It asks for memory once at most, before it writes. `AllocError` comes only where the room that the text has left
 /// is less than `text_len`, and leaves the text and its room as they were.

@@ -6,7 +6,7 @@ ghost use Rattle.byte_unit_format.specs.FormLaws.{ShownSizeIsPlainForm, ShownAdj
 ghost use Rattle.byte_unit_format.specs.FormLaws.{PlainFormFillsWidth, LayoutFillsWidth};
 ghost use Rattle.byte_unit_format.specs.FormLaws.{PlacesOfSize, ZeroTakesNoPlaces, ExpansionsEnd};
 
-/// What the form of a size with a unit says is read as that size. Sizes are below 10^27, here and below.
+/// What the form of a size with a unit says is read as that size. Sizes are below 10^30, here and below.
 pub fn size_form_reads_back()
     ensures { SizeFormReadsBack }
 {}
@@ -64,7 +64,7 @@ pub fn places_of_size()
     ensures zero { ZeroTakesNoPlaces }
 {}
 
-/// A size in a unit ends within 83 places, and a size in bytes within 80.
+/// A size in a unit ends within 93 places, and a size in bytes within 90.
 pub fn expansions_end()
     ensures { ExpansionsEnd }
 {}

@@ -30,7 +30,7 @@ pub enum SizeScan {
 }
 
 /// Whole parts are below this.
-const WHOLE_LIMIT: u128 = 79_228_162_514_264_337_593_543_950_336;
+const WHOLE_LIMIT: u128 = 5_192_296_858_534_827_628_530_496_329_220_096;
 
 impl SizeScan {
     ghost use Rattle.byte_unit_base.specs.SizeScan.{IsScan, size_step, size_place, size_at_end};

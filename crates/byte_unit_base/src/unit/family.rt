@@ -1,8 +1,7 @@
 //! Families of units, and the tables of their units.
 
-ghost use Rattle.std.specs.Prelude.{◌≡◌, length, map};
-ghost use Rattle.byte_unit_base.specs.Edition.{current};
-ghost use Rattle.byte_unit_base.specs.Multiples.{ListsUnits, falling_from, row_of, row_shape};
+ghost use Rattle.std.specs.Prelude.{◌≡◌, map};
+ghost use Rattle.byte_unit_base.specs.Multiples.{ListsUnits, falling_from, known_prefixes, row_of, row_shape};
 
 use crate::unit::Unit;
 
@@ -27,7 +26,7 @@ pub(crate) struct Row {
 }
 
 /// The prefixes. A family has as many units of each.
-const PREFIXES: usize = 8;
+const PREFIXES: usize = 9;
 
 impl Family {
     /// Its units from the largest, but for those whose prefix is too large for so many bits: a unit of
@@ -43,7 +42,7 @@ impl Family {
 
     /// Its units from the largest.
     fn multiples(self) -> &'static [Row]
-        ensures { map row_shape result.now ≡ map row_of (falling_from self (length current.letters)) }
+        ensures { map row_shape result.now ≡ map row_of (falling_from self known_prefixes) }
     {
         match self {
             Family::All => &ALL,
@@ -54,23 +53,51 @@ impl Family {
 }
 
 /// The multiples of bytes and of bits, from the largest.
-static ALL: [Row; 32] = [
-    YIB, YB, YIBIT, YBIT, ZIB, ZB, ZIBIT, ZBIT, EIB, EB, EIBIT, EBIT, PIB, PB, PIBIT, PBIT, TIB,
+static ALL: [Row; 36] = [
+    RIB, RB, RIBIT, RBIT, YIB, YB, YIBIT, YBIT, ZIB, ZB, ZIBIT, ZBIT, EIB, EB, EIBIT, EBIT, PIB, PB, PIBIT, PBIT, TIB,
     TB, TIBIT, TBIT, GIB, GB, GIBIT, GBIT, MIB, MB, MIBIT, MBIT, KIB, KB, KIBIT, KBIT,
 ];
 
 /// The multiples of bytes, from the largest.
-static BYTES: [Row; 16] = [
-    YIB, YB, ZIB, ZB, EIB, EB, PIB, PB, TIB, TB, GIB, GB, MIB, MB, KIB, KB,
+static BYTES: [Row; 18] = [
+    RIB, RB, YIB, YB, ZIB, ZB, EIB, EB, PIB, PB, TIB, TB, GIB, GB, MIB, MB, KIB, KB,
 ];
 
 /// The multiples of bits, from the largest.
-static BITS: [Row; 16] = [
-    YIBIT, YBIT, ZIBIT, ZBIT, EIBIT, EBIT, PIBIT, PBIT, TIBIT, TBIT, GIBIT, GBIT, MIBIT, MBIT,
+static BITS: [Row; 18] = [
+    RIBIT, RBIT, YIBIT, YBIT, ZIBIT, ZBIT, EIBIT, EBIT, PIBIT, PBIT, TIBIT, TBIT, GIBIT, GBIT, MIBIT, MBIT,
     KIBIT, KBIT,
 ];
 
 // The rows, each once.
+
+const RIB: Row = Row {
+    unit: Unit::RiB,
+    bits: 9_903_520_314_283_042_199_192_993_792,
+    twos: 93,
+    fives: 0,
+};
+
+const RB: Row = Row {
+    unit: Unit::RB,
+    bits: 8_000_000_000_000_000_000_000_000_000,
+    twos: 30,
+    fives: 27,
+};
+
+const RIBIT: Row = Row {
+    unit: Unit::Ribit,
+    bits: 1_237_940_039_285_380_274_899_124_224,
+    twos: 90,
+    fives: 0,
+};
+
+const RBIT: Row = Row {
+    unit: Unit::Rbit,
+    bits: 1_000_000_000_000_000_000_000_000_000,
+    twos: 27,
+    fives: 27,
+};
 
 const YIB: Row = Row {
     unit: Unit::YiB,

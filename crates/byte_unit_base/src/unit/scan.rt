@@ -19,6 +19,7 @@ pub enum Prefix {
     Exa,
     Zetta,
     Yotta,
+    Ronna,
 }
 
 /// The prefix so far, and whether an `i` came after it.
@@ -74,6 +75,7 @@ impl Prefix {
             'E' => Some(Prefix::Exa),
             'Z' => Some(Prefix::Zetta),
             'Y' => Some(Prefix::Yotta),
+            'R' => Some(Prefix::Ronna),
             _ => None,
         }
     }
@@ -91,6 +93,7 @@ impl Prefix {
             Prefix::Exa => [Unit::Ebit, Unit::Eibit, Unit::EB, Unit::EiB],
             Prefix::Zetta => [Unit::Zbit, Unit::Zibit, Unit::ZB, Unit::ZiB],
             Prefix::Yotta => [Unit::Ybit, Unit::Yibit, Unit::YB, Unit::YiB],
+            Prefix::Ronna => [Unit::Rbit, Unit::Ribit, Unit::RB, Unit::RiB],
         };
         match (binary, bit) {
             (false, true) => decimal_bit,
@@ -226,7 +229,7 @@ impl UnitScan {
 }
 
 /// The capital letters that begin a unit.
-static BEGINNINGS: [char; 9] = ['B', 'K', 'M', 'G', 'T', 'P', 'E', 'Z', 'Y'];
+static BEGINNINGS: [char; 10] = ['B', 'K', 'M', 'G', 'T', 'P', 'E', 'Z', 'Y', 'R'];
 
 /// The letters that are named after a prefix: both where case counts, and else `B` where bytes are preferred and `b`
 /// where bits are.

@@ -1,7 +1,7 @@
 use Rattle.std.proofs.Common.{◌≡◌, ◌-◌, ◌*◌, ◌/◌, ◌<◌, ◌^◌, arith, length, map, take, drop, ap, refl, ◌∙◌}
 use Rattle.std.proofs.lemmas.List.{length-drop, take_all}
 use Rattle.std.specs.Int.{w128, leading_zeros}
-use Rattle.byte_unit_base.specs.Multiples.{row_shape}
+use Rattle.byte_unit_base.specs.Multiples.{row_shape, known_prefixes}
 use Rattle.byte_unit_base.proofs.Rows.{rows_behind, prefix_within}
 use Rattle.byte_unit_base.proofs.unit.family.Family.multiples_within.Goals as goal
 
@@ -9,7 +9,7 @@ pub returns : goal.returns
 returns c =
     let rows = c.multiples-units.result.now in
     let prefixes = c.min-prefixes.result in
-    let skipped = length rows / 8 * (8 - prefixes) in
+    let skipped = length rows / known_prefixes * (known_prefixes - prefixes) in
     let whole : take (length rows - skipped) (drop skipped rows) ≡ drop skipped rows =
     take_all (length rows - skipped) (drop skipped rows) (omega (arith, length-drop skipped rows)) in
     let behind = rows_behind c.args.self rows prefixes skipped c.multiples-units.ensures (omega (arith, c.min-prefixes.ensures)) refl in
