@@ -11,3 +11,4 @@ pub mod AdjustedStrings
 pub mod Appending
 pub mod ShortExpansions
 pub mod Widths
+pub mod LaterVersion

@@ -6,3 +6,4 @@ pub mod Adjusted
 pub mod AdjustedString
 pub mod Room
 pub mod FormLaws
+pub mod VersionLaws

@@ -5,6 +5,8 @@ ghost use Rattle.byte_unit_format.specs.FormLaws.{SizeHasOneForm, SizeHasOneAdju
 ghost use Rattle.byte_unit_format.specs.FormLaws.{ShownSizeIsPlainForm, ShownAdjustedSizeIsPlainForm};
 ghost use Rattle.byte_unit_format.specs.FormLaws.{PlainFormFillsWidth, LayoutFillsWidth};
 ghost use Rattle.byte_unit_format.specs.FormLaws.{PlacesOfSize, ZeroTakesNoPlaces, ExpansionsEnd};
+ghost use Rattle.byte_unit_format.specs.VersionLaws.{AcceptedTextsStay, SizeFormsStay, AppropriateUnitsStay};
+ghost use Rattle.byte_unit_format.specs.VersionLaws.{AdjustedFormsStay, ExtendsOld};
 
 /// What the form of a size with a unit says is read as that size. Sizes are below 10^30, here and below.
 pub fn size_form_reads_back()
@@ -67,4 +69,20 @@ pub fn places_of_size()
 /// A size in a unit ends within 93 places, and a size in bytes within 90.
 pub fn expansions_end()
     ensures { ExpansionsEnd }
+{}
+
+/// No stored text and no printed size changes its meaning. Each text that the first version accepts is accepted as the
+/// same size, under the same flags. Each size of the first version has the same form with a unit under each spec, and
+/// the same appropriate unit of its own kind by each type; and in each unit of the first version a size has the same
+/// form under each spec.
+pub fn old_meanings_stay()
+    ensures accepted_texts { AcceptedTextsStay }
+    ensures size_forms { SizeFormsStay }
+    ensures appropriate_units { AppropriateUnitsStay }
+    ensures adjusted_forms { AdjustedFormsStay }
+{}
+
+/// The current version has one prefix letter more, whole parts 2^16 times as wide, and sizes a thousand times as wide.
+pub fn current_version_extends_old()
+    ensures { ExtendsOld }
 {}
