@@ -27,7 +27,7 @@ pub use adjusted::AdjustedBit;
 #[cfg(test)]
 mod tests;
 
-/// A size in bits: a whole number below 10^27. A contract sees it as that number.
+/// A size in bits: a whole number below 10^30. A contract sees it as that number.
 ///
 /// ```text
 /// let line = Bit::parse_str("100 Mbit")?;
@@ -53,7 +53,7 @@ impl Model for Bit {
 
 /// What makes a size in bits.
 impl Bit {
-    /// So many bits. `None` from 10^27 on.
+    /// So many bits. `None` from 10^30 on.
     ///
     /// ```text
     /// Bit::from_u128(15_000_000)     // Some(15,000,000 bits)
@@ -65,7 +65,7 @@ impl Bit {
         Some(Bit { size })
     }
 
-    /// So many bits. The caller owes a size below 10^27.
+    /// So many bits. The caller owes a size below 10^30.
     pub fn from_u128_unsafe(size: u128) -> Bit
         requires { size < current.size_limit }
         ensures { result ≡ size }
@@ -87,7 +87,7 @@ impl Bit {
         }
     }
 
-    /// So many bits. `None` where the number is negative, and from 10^27 on.
+    /// So many bits. `None` where the number is negative, and from 10^30 on.
     ///
     /// ```text
     /// Bit::from_i128(15_000_000)     // Some(15,000,000 bits)
@@ -115,7 +115,7 @@ impl Bit {
 
 /// What makes a size in bits from a number of a unit.
 impl Bit {
-    /// So many of the unit, rounded up to a whole bit. `None` where that is 10^27 or more.
+    /// So many of the unit, rounded up to a whole bit. `None` where that is 10^30 or more.
     ///
     /// ```text
     /// Bit::from_u128_with_unit(15, Unit::Mbit)    // Some(15,000,000 bits)
@@ -128,7 +128,7 @@ impl Bit {
         Some(Bit { size })
     }
 
-    /// So many of the unit, rounded up to a whole bit. `None` where that is 10^27 or more.
+    /// So many of the unit, rounded up to a whole bit. `None` where that is 10^30 or more.
     ///
     /// ```text
     /// Bit::from_u64_with_unit(15, Unit::Kibit)     // Some(15,360 bits)
@@ -140,7 +140,7 @@ impl Bit {
     }
 
     /// So many of the unit, rounded up to a whole bit. `None` where the number is negative, and where the size is
-    /// 10^27 or more.
+    /// 10^30 or more.
     ///
     /// ```text
     /// Bit::from_i128_with_unit(15, Unit::Kibit)     // Some(15,360 bits)
@@ -154,7 +154,7 @@ impl Bit {
     }
 
     /// So many of the unit, rounded up to a whole bit. `None` where the number is negative, and where the size is
-    /// 10^27 or more.
+    /// 10^30 or more.
     ///
     /// ```text
     /// Bit::from_i64_with_unit(-15, Unit::Kibit)     // None
@@ -169,7 +169,7 @@ impl Bit {
 
 /// What a size gives back.
 impl Bit {
-    /// The number of bits, below 10^27.
+    /// The number of bits, below 10^30.
     ///
     /// ```text
     /// Bit::KIBIBIT.as_u128()     // 1024
@@ -239,7 +239,7 @@ impl Bit {
 
 /// Arithmetic. No call overflows, wraps or panics.
 impl Bit {
-    /// The sum. `None` from 10^27 on.
+    /// The sum. `None` from 10^30 on.
     ///
     /// ```text
     /// Bit::from_u64(15_500).add(Bit::from_u64(500))     // Some(16,000 bits)
@@ -264,7 +264,7 @@ impl Bit {
         Some(Bit { size })
     }
 
-    /// The product. `None` from 10^27 on.
+    /// The product. `None` from 10^30 on.
     ///
     /// ```text
     /// Bit::from_u64(15_500).multiply(2)     // Some(31,000 bits)

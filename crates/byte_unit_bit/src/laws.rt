@@ -49,6 +49,10 @@ pub fn bit_constant(unit: Unit) -> Option<Bit>
         Unit::Yibit => Some(Bit::YOBIBIT),
         Unit::YB => Some(Bit::YOTTABYTE),
         Unit::YiB => Some(Bit::YOBIBYTE),
+        Unit::Rbit => Some(Bit::RONNABIT),
+        Unit::Ribit => Some(Bit::ROBIBIT),
+        Unit::RB => Some(Bit::RONNABYTE),
+        Unit::RiB => Some(Bit::ROBIBYTE),
     }
 }
 

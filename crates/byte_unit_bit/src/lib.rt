@@ -1,4 +1,4 @@
-//! Sizes in bits: [`Bit`], a whole number of bits below 10^27.
+//! Sizes in bits: [`Bit`], a whole number of bits below 10^30.
 #![tactic(auto)]
 
 mod bit;

@@ -27,7 +27,7 @@ pub use adjusted::AdjustedByte;
 #[cfg(test)]
 mod tests;
 
-/// A size in bytes: a whole number below 10^27. A contract sees it as that number.
+/// A size in bytes: a whole number below 10^30. A contract sees it as that number.
 ///
 /// ```text
 /// let limit = Byte::parse_str("1.5 GiB", false)?;
@@ -54,7 +54,7 @@ impl Model for Byte {
 
 /// What makes a size in bytes.
 impl Byte {
-    /// So many bytes. `None` from 10^27 on.
+    /// So many bytes. `None` from 10^30 on.
     ///
     /// ```text
     /// Byte::from_u128(15_000_000)     // Some(15,000,000 bytes)
@@ -66,7 +66,7 @@ impl Byte {
         Some(Byte { size })
     }
 
-    /// So many bytes. The caller owes a size below 10^27.
+    /// So many bytes. The caller owes a size below 10^30.
     pub fn from_u128_unsafe(size: u128) -> Byte
         requires { size < current.size_limit }
         ensures { result ≡ size }
@@ -88,7 +88,7 @@ impl Byte {
         }
     }
 
-    /// So many bytes. `None` where the number is negative, and from 10^27 on.
+    /// So many bytes. `None` where the number is negative, and from 10^30 on.
     ///
     /// ```text
     /// Byte::from_i128(15_000_000)     // Some(15,000,000 bytes)
@@ -116,7 +116,7 @@ impl Byte {
 
 /// What makes a size in bytes from a number of a unit.
 impl Byte {
-    /// So many of the unit, rounded up to a whole byte. `None` where that is 10^27 or more.
+    /// So many of the unit, rounded up to a whole byte. `None` where that is 10^30 or more.
     ///
     /// ```text
     /// Byte::from_u128_with_unit(15, Unit::MB)      // Some(15,000,000 bytes)
@@ -129,7 +129,7 @@ impl Byte {
         Some(Byte { size })
     }
 
-    /// So many of the unit, rounded up to a whole byte. `None` where that is 10^27 or more.
+    /// So many of the unit, rounded up to a whole byte. `None` where that is 10^30 or more.
     ///
     /// ```text
     /// Byte::from_u64_with_unit(15, Unit::KiB)     // Some(15,360 bytes)
@@ -141,7 +141,7 @@ impl Byte {
     }
 
     /// So many of the unit, rounded up to a whole byte. `None` where the number is negative, and where the size is
-    /// 10^27 or more.
+    /// 10^30 or more.
     ///
     /// ```text
     /// Byte::from_i128_with_unit(15, Unit::KiB)     // Some(15,360 bytes)
@@ -155,7 +155,7 @@ impl Byte {
     }
 
     /// So many of the unit, rounded up to a whole byte. `None` where the number is negative, and where the size is
-    /// 10^27 or more.
+    /// 10^30 or more.
     ///
     /// ```text
     /// Byte::from_i64_with_unit(-15, Unit::KiB)     // None
@@ -170,7 +170,7 @@ impl Byte {
 
 /// What a size gives back.
 impl Byte {
-    /// The number of bytes, below 10^27.
+    /// The number of bytes, below 10^30.
     ///
     /// ```text
     /// Byte::KIBIBYTE.as_u128()     // 1024
@@ -240,7 +240,7 @@ impl Byte {
 
 /// Arithmetic. No call overflows, wraps or panics.
 impl Byte {
-    /// The sum. `None` from 10^27 on.
+    /// The sum. `None` from 10^30 on.
     ///
     /// ```text
     /// Byte::from_u64(15_500).add(Byte::from_u64(500))     // Some(16,000 bytes)
@@ -265,7 +265,7 @@ impl Byte {
         Some(Byte { size })
     }
 
-    /// The product. `None` from 10^27 on.
+    /// The product. `None` from 10^30 on.
     ///
     /// ```text
     /// Byte::from_u64(15_500).multiply(2)     // Some(31,000 bytes)

@@ -50,6 +50,10 @@ pub fn byte_constant(unit: Unit) -> Option<Byte>
         Unit::Yibit => Some(Byte::YOBIBIT),
         Unit::YB => Some(Byte::YOTTABYTE),
         Unit::YiB => Some(Byte::YOBIBYTE),
+        Unit::Rbit => Some(Byte::RONNABIT),
+        Unit::Ribit => Some(Byte::ROBIBIT),
+        Unit::RB => Some(Byte::RONNABYTE),
+        Unit::RiB => Some(Byte::ROBIBYTE),
     }
 }
 

@@ -1,4 +1,4 @@
-//! Sizes in bytes: [`Byte`], a whole number of bytes below 10^27.
+//! Sizes in bytes: [`Byte`], a whole number of bytes below 10^30.
 #![tactic(auto)]
 
 mod byte;

@@ -34,6 +34,10 @@ impl Bit {
     pub const YOTTABIT: Bit = Bit {
         size: 1_000_000_000_000_000_000_000_000,
     };
+    /// 1 Rbit is 10^27 bits.
+    pub const RONNABIT: Bit = Bit {
+        size: 1_000_000_000_000_000_000_000_000_000,
+    };
 
     /// 1 Kibit is 2^10 bits.
     pub const KIBIBIT: Bit = Bit { size: 1_024 };
@@ -62,6 +66,10 @@ impl Bit {
     /// 1 Yibit is 2^80 bits.
     pub const YOBIBIT: Bit = Bit {
         size: 1_208_925_819_614_629_174_706_176,
+    };
+    /// 1 Ribit is 2^90 bits.
+    pub const ROBIBIT: Bit = Bit {
+        size: 1_237_940_039_285_380_274_899_124_224,
     };
 
     /// 1 KB is 8 * 10^3 bits.
@@ -92,6 +100,10 @@ impl Bit {
     pub const YOTTABYTE: Bit = Bit {
         size: 8_000_000_000_000_000_000_000_000,
     };
+    /// 1 RB is 8 * 10^27 bits.
+    pub const RONNABYTE: Bit = Bit {
+        size: 8_000_000_000_000_000_000_000_000_000,
+    };
 
     /// 1 KiB is 2^13 bits.
     pub const KIBIBYTE: Bit = Bit { size: 8_192 };
@@ -121,12 +133,16 @@ impl Bit {
     pub const YOBIBYTE: Bit = Bit {
         size: 9_671_406_556_917_033_397_649_408,
     };
+    /// 1 RiB is 2^93 bits.
+    pub const ROBIBYTE: Bit = Bit {
+        size: 9_903_520_314_283_042_199_192_993_792,
+    };
 
     /// No bit: the least size.
     pub const MIN: Bit = Bit { size: 0 };
 
-    /// 10^27 - 1 bits: the greatest size.
+    /// 10^30 - 1 bits: the greatest size.
     pub const MAX: Bit = Bit {
-        size: 999_999_999_999_999_999_999_999_999,
+        size: 999_999_999_999_999_999_999_999_999_999,
     };
 }

@@ -16,9 +16,9 @@ impl Bit {
     ///
     /// Any other text is refused by its first fault from the left. The fault is a `Value` of [`ParseError`]: `NoValue`
     /// where the text is empty or white space, `NotNumber` where a digit must stand and does not, `NumberTooLong` for a
-    /// whole part from 2^96 on or more than 28 digits after the point. Or it is a `Unit`, for a wrong spelling.
+    /// whole part from 2^112 on or more than 28 digits after the point. Or it is a `Unit`, for a wrong spelling.
     ///
-    /// Where the size reaches 10^27 bits the `Value` is `ExceededBounds` with the number that was written:
+    /// Where the size reaches 10^30 bits the `Value` is `ExceededBounds` with the number that was written:
     /// `1000.00 Yb` reports 1000. It asks for no memory.
     ///
     /// ```text

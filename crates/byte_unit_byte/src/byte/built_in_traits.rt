@@ -91,7 +91,7 @@ impl From<usize> for Byte {
     }
 }
 
-/// So many bytes. `ExceededBoundsError` from 10^27 on.
+/// So many bytes. `ExceededBoundsError` from 10^30 on.
 impl TryFrom<u128> for Byte {
     type Error = ExceededBoundsError;
 
@@ -102,7 +102,7 @@ impl TryFrom<u128> for Byte {
     }
 }
 
-/// So many bytes. `ExceededBoundsError` where the number is negative, and from 10^27 on.
+/// So many bytes. `ExceededBoundsError` where the number is negative, and from 10^30 on.
 impl TryFrom<i128> for Byte {
     type Error = ExceededBoundsError;
 

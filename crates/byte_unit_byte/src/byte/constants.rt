@@ -34,6 +34,10 @@ impl Byte {
     pub const YOTTABYTE: Byte = Byte {
         size: 1_000_000_000_000_000_000_000_000,
     };
+    /// 1 RB is 10^27 bytes.
+    pub const RONNABYTE: Byte = Byte {
+        size: 1_000_000_000_000_000_000_000_000_000,
+    };
 
     /// 1 KiB is 2^10 bytes.
     pub const KIBIBYTE: Byte = Byte { size: 1_024 };
@@ -63,6 +67,10 @@ impl Byte {
     pub const YOBIBYTE: Byte = Byte {
         size: 1_208_925_819_614_629_174_706_176,
     };
+    /// 1 RiB is 2^90 bytes.
+    pub const ROBIBYTE: Byte = Byte {
+        size: 1_237_940_039_285_380_274_899_124_224,
+    };
 
     /// 1 Kbit is 125 bytes.
     pub const KILOBIT: Byte = Byte { size: 125 };
@@ -89,6 +97,10 @@ impl Byte {
     /// 1 Ybit is 125 * 10^21 bytes.
     pub const YOTTABIT: Byte = Byte {
         size: 125_000_000_000_000_000_000_000,
+    };
+    /// 1 Rbit is 125 * 10^24 bytes.
+    pub const RONNABIT: Byte = Byte {
+        size: 125_000_000_000_000_000_000_000_000,
     };
 
     /// 1 Kibit is 2^7 bytes.
@@ -117,12 +129,16 @@ impl Byte {
     pub const YOBIBIT: Byte = Byte {
         size: 151_115_727_451_828_646_838_272,
     };
+    /// 1 Ribit is 2^87 bytes.
+    pub const ROBIBIT: Byte = Byte {
+        size: 154_742_504_910_672_534_362_390_528,
+    };
 
     /// No byte: the least size.
     pub const MIN: Byte = Byte { size: 0 };
 
-    /// 10^27 - 1 bytes: the greatest size.
+    /// 10^30 - 1 bytes: the greatest size.
     pub const MAX: Byte = Byte {
-        size: 999_999_999_999_999_999_999_999_999,
+        size: 999_999_999_999_999_999_999_999_999_999,
     };
 }

@@ -12,7 +12,7 @@ use byte_unit_base::{Kind, Unit, size};
 use byte_unit_math::Decimal;
 
 impl Byte {
-    /// So many bytes, rounded up. `None` where that is 10^27 or more.
+    /// So many bytes, rounded up. `None` where that is 10^30 or more.
     ///
     /// ```text
     /// let number = Decimal::from_u128_with_scale(5084, 2)?;      // 50.84
@@ -24,7 +24,7 @@ impl Byte {
         Byte::from_decimal_with_unit(size, Unit::B)
     }
 
-    /// So many of the unit: the exact product, rounded up to a whole byte. `None` where that is 10^27 or more.
+    /// So many of the unit: the exact product, rounded up to a whole byte. `None` where that is 10^30 or more.
     ///
     /// ```text
     /// let number = Decimal::from_u128_with_scale(15, 1)?;      // 1.5

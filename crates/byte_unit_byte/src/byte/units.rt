@@ -49,7 +49,7 @@ impl Byte {
 
     /// What `get_recoverable_unit` answers, and its work: `steps` rises by one for each two and each five that divides
     /// the size, by two where they no longer do, and by one for each digit of the decimal after the point; so by at
-    /// most 119. A size of zero takes none. The count stays at its greatest value.
+    /// most 129. A size of zero takes none. The count stays at its greatest value.
     pub fn get_recoverable_unit_counted(
         self,
         allow_in_bits: bool,
