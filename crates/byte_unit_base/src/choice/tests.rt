@@ -1,7 +1,7 @@
 use super::*;
 
 /// Sizes are below this.
-const LIMIT: u128 = 1_000_000_000_000_000_000_000_000_000;
+const LIMIT: u128 = 1_000_000_000_000_000_000_000_000_000_000;
 
 #[test]
 fn no_unit_states_these(rt: HostRuntime) {
@@ -110,7 +110,7 @@ fn the_largest_unit_is_the_one_not_above_the_size(rt: HostRuntime) {
         (1000, Family::Bits, UnitType::Binary, 1, None),
         (1030, Family::Bits, UnitType::Decimal, 1, Some(Unit::Kbit)),
         (125, Family::All, UnitType::Both, 8, Some(Unit::Kbit)),
-        (u128::MAX, Family::All, UnitType::Both, 8, Some(Unit::YiB)),
+        (u128::MAX, Family::All, UnitType::Both, 8, Some(Unit::RiB)),
     ] {
         assert!(rt; divisor == 8 || divisor == 1);
         assert_eq!(rt; largest_unit(size, family, kind, divisor), unit, "{size}");

@@ -4,7 +4,7 @@ use crate::errors::tests::is_unit_error;
 use std::process::Abort;
 
 /// What can begin a unit.
-const NINE: [char; 9] = ['B', 'K', 'M', 'G', 'T', 'P', 'E', 'Z', 'Y'];
+const TEN: [char; 10] = ['B', 'K', 'M', 'G', 'T', 'P', 'E', 'Z', 'Y', 'R'];
 
 #[test]
 fn numbers_and_units_read(rt: HostRuntime) {
@@ -49,6 +49,24 @@ fn numbers_and_units_read(rt: HostRuntime) {
             Unit::B,
         ),
         (
+            "79228162514264337593543950336",
+            false,
+            true,
+            79_228_162_514_264_337_593_543_950_336u128,
+            0,
+            Unit::B,
+        ),
+        (
+            "5192296858534827628530496329220095",
+            false,
+            true,
+            5_192_296_858_534_827_628_530_496_329_220_095u128,
+            0,
+            Unit::B,
+        ),
+        ("1 rib", true, true, 1, 0, Unit::RiB),
+        ("1 rib", false, true, 1, 0, Unit::Ribit),
+        (
             "1.9999999999999999999999999999 YiB",
             false,
             true,
@@ -77,8 +95,8 @@ fn numbers_refused(rt: HostRuntime) {
     for text in [
         "9.00000000000000000000000000001",
         "1.00000000000000000000000000000",
-        "79228162514264337593543950336",
-        "79228162514264337593543950336 x",
+        "5192296858534827628530496329220096",
+        "5192296858534827628530496329220096 x",
     ] {
         match read_size(text, false, true) {
             Err(ParseError::Value(ValueParseError::NumberTooLong)) => {}
@@ -152,7 +170,7 @@ fn units_refused_where_none_begins(rt: HostRuntime) {
         ("1,5", ','),
         ("1e3", '3'),
     ] {
-        let expected: &[char] = if character == '3' { &['B', 'b'] } else { &NINE };
+        let expected: &[char] = if character == '3' { &['B', 'b'] } else { &TEN };
         assert_unit_refused(&rt, text, false, character, expected, true);
     }
 }

@@ -2,7 +2,10 @@ use super::*;
 use std::test::Fail;
 
 /// The greatest size.
-const MAX: u128 = 999_999_999_999_999_999_999_999_999;
+const MAX: u128 = 999_999_999_999_999_999_999_999_999_999;
+
+/// The greatest size of the first version.
+const OLD_MAX: u128 = 999_999_999_999_999_999_999_999_999;
 
 #[test]
 fn sizes_in_the_unit_that_states_them_best(rt: HostRuntime) -> Result<(), Fail> {
@@ -24,7 +27,10 @@ fn sizes_in_the_unit_that_states_them_best(rt: HostRuntime) -> Result<(), Fail> 
         (3_211_776, Bit, false, 3, 31_365, 1, Unit::Kibit),
         (MAX, Byte, true, 3, MAX, 3, Unit::KB),
         (MAX, Byte, true, 10, MAX, 9, Unit::GB),
-        (MAX, Byte, true, 28, MAX, 24, Unit::YB),
+        (MAX, Byte, true, 28, MAX, 27, Unit::RB),
+        (OLD_MAX, Byte, true, 3, OLD_MAX, 3, Unit::KB),
+        (OLD_MAX, Byte, true, 10, OLD_MAX, 9, Unit::GB),
+        (OLD_MAX, Byte, false, 28, OLD_MAX, 24, Unit::YB),
         // 2^80 + 2^51: more than 28 places count as 28.
         (
             1_208_925_821_866_428_988_391_424,
@@ -63,7 +69,7 @@ fn sizes_in_the_unit_that_states_them_best(rt: HostRuntime) -> Result<(), Fail> 
             0,
             Unit::MiB,
         ),
-        // 2^89 and 5^38.
+        // 2^89, 2^99 and 5^38.
         (
             618_970_019_642_690_137_449_562_112,
             Byte,
@@ -72,6 +78,15 @@ fn sizes_in_the_unit_that_states_them_best(rt: HostRuntime) -> Result<(), Fail> 
             512,
             0,
             Unit::YiB,
+        ),
+        (
+            633_825_300_114_114_700_748_351_602_688,
+            Byte,
+            false,
+            3,
+            512,
+            0,
+            Unit::RiB,
         ),
         (
             363_797_880_709_171_295_166_015_625,
@@ -99,10 +114,18 @@ fn whole_numbers_of_units(rt: HostRuntime) {
         (50_840_000, Byte, false, 50_840, Unit::KB),
         (24_000_000, Bit, true, 3, Unit::MB),
         (24_000_000, Bit, false, 24, Unit::Mbit),
+        // Of both kinds it is a whole number of the greater `Rbit`.
         (
             125_000_000_000_000_000_000_000_000,
             Byte,
             true,
+            1,
+            Unit::Rbit,
+        ),
+        (
+            125_000_000_000_000_000_000_000_000,
+            Byte,
+            false,
             125,
             Unit::YB,
         ),
@@ -117,14 +140,19 @@ fn whole_numbers_of_units(rt: HostRuntime) {
 #[test]
 fn ticks_of_sizes(rt: HostRuntime) {
     for (size, allow, precision, count) in [
-        (MAX, false, 28, 26),
-        (MAX, true, 28, 26),
+        (MAX, false, 28, 29),
+        (MAX, true, 28, 29),
         (MAX, true, 0, 2),
+        (OLD_MAX, false, 28, 26),
         (0, true, 28, 0),
         // 2^89
         (618_970_019_642_690_137_449_562_112, false, 3, 91),
+        // 2^99
+        (633_825_300_114_114_700_748_351_602_688, false, 3, 101),
         // 5^38
         (363_797_880_709_171_295_166_015_625, false, 28, 64),
+        // 5^42
+        (227_373_675_443_232_059_478_759_765_625, false, 28, 71),
     ] {
         let mut steps = Steps::new();
         let _ = recoverable_unit(size, Kind::Byte, allow, precision, &mut steps);

@@ -4,10 +4,10 @@ use std::alloc::{AllocError, Global};
 use std::process::Abort;
 
 /// What can begin a unit.
-const NINE: [char; 9] = ['B', 'K', 'M', 'G', 'T', 'P', 'E', 'Z', 'Y'];
+const TEN: [char; 10] = ['B', 'K', 'M', 'G', 'T', 'P', 'E', 'Z', 'Y', 'R'];
 
 /// The four units of each prefix: bits and bytes by powers of ten, bits and bytes by powers of two.
-const UNITS: [[Unit; 4]; 8] = [
+const UNITS: [[Unit; 4]; 9] = [
     [Unit::Kbit, Unit::KB, Unit::Kibit, Unit::KiB],
     [Unit::Mbit, Unit::MB, Unit::Mibit, Unit::MiB],
     [Unit::Gbit, Unit::GB, Unit::Gibit, Unit::GiB],
@@ -16,6 +16,7 @@ const UNITS: [[Unit; 4]; 8] = [
     [Unit::Ebit, Unit::EB, Unit::Eibit, Unit::EiB],
     [Unit::Zbit, Unit::ZB, Unit::Zibit, Unit::ZiB],
     [Unit::Ybit, Unit::YB, Unit::Yibit, Unit::YiB],
+    [Unit::Rbit, Unit::RB, Unit::Ribit, Unit::RiB],
 ];
 
 #[test]
@@ -73,20 +74,20 @@ fn units_refused(rt: HostRuntime) {
     assert_refused(&rt, "Kix", (true, false), 'x', &['b'], true);
     assert_refused(&rt, "Kix", (true, true), 'x', &['B'], true);
     for flags in [(false, false), (false, true), (true, false), (true, true)] {
-        assert_refused(&rt, "x", flags, 'x', &NINE, true);
+        assert_refused(&rt, "x", flags, 'x', &TEN, true);
         assert_refused(&rt, "bx", flags, 'x', &['i'], true);
         assert_refused(&rt, "biX", flags, 'X', &['t'], false);
         assert_refused(&rt, "bita", flags, 'a', &['s'], true);
         assert_refused(&rt, "bitsé", flags, 'é', &[], true);
         assert_refused(&rt, "bi", flags, 'i', &[], true);
         assert_refused(&rt, "GBI", flags, 'i', &[], true);
-        assert_refused(&rt, "\u{212A}", flags, '\u{212A}', &NINE, true);
+        assert_refused(&rt, "\u{212A}", flags, '\u{212A}', &TEN, true);
         assert_refused(&rt, "bit\u{17F}", flags, '\u{17F}', &['s'], true);
-        assert_refused(&rt, "\u{1F600}", flags, '\u{1F600}', &NINE, true);
+        assert_refused(&rt, "\u{1F600}", flags, '\u{1F600}', &TEN, true);
     }
 }
 
-const LETTERS: [[&str; 2]; 8] = [
+const LETTERS: [[&str; 2]; 9] = [
     ["K", "k"],
     ["M", "m"],
     ["G", "g"],
@@ -95,6 +96,7 @@ const LETTERS: [[&str; 2]; 8] = [
     ["E", "e"],
     ["Z", "z"],
     ["Y", "y"],
+    ["R", "r"],
 ];
 
 /// All that may follow a prefix and its `i`, or stand alone.
@@ -154,6 +156,6 @@ fn every_spelling(rt: HostRuntime) -> Result<(), AllocError> {
             texts = texts.saturating_add(read);
         }
     }
-    assert_eq!(rt; texts, 5292);
+    assert_eq!(rt; texts, 5940);
     Ok(())
 }

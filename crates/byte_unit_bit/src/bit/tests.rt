@@ -43,6 +43,20 @@ fn texts_are_read_exactly_and_rounded_up(rt: HostRuntime) {
             "999999999999999999999999999",
             999_999_999_999_999_999_999_999_999,
         ),
+        // From here to the next comment: accepted since sizes are below 10^30.
+        (
+            "124.9999999999999999999999999 YB",
+            1_000_000_000_000_000_000_000_000_000,
+        ),
+        ("125 YB", 1_000_000_000_000_000_000_000_000_000),
+        ("1000.00 Yb", 1_000_000_000_000_000_000_000_000_000),
+        (
+            "1000000000000000000000000000",
+            1_000_000_000_000_000_000_000_000_000,
+        ),
+        ("1 RiB", 9_903_520_314_283_042_199_192_993_792),
+        ("1rib", 1_237_940_039_285_380_274_899_124_224),
+        // In the first version too.
         ("12", 12),
         ("9 b", 9),
         ("12 bits", 12),
@@ -58,14 +72,14 @@ fn texts_are_read_exactly_and_rounded_up(rt: HostRuntime) {
 fn sizes_out_of_range_are_refused_with_their_number(rt: HostRuntime) -> Result<(), Fail> {
     for (text, number) in [
         (
-            "124.9999999999999999999999999 YB",
-            "124.9999999999999999999999999",
+            "124.9999999999999999999999999999 RB",
+            "124.9999999999999999999999999999",
         ),
-        ("125 YB", "125"),
-        ("1000.00 Yb", "1000"),
+        ("125 RB", "125"),
+        ("1000.00 Rb", "1000"),
         (
-            "1000000000000000000000000000",
-            "1000000000000000000000000000",
+            "1000000000000000000000000000000",
+            "1000000000000000000000000000000",
         ),
     ] {
         let wanted = format!(in rt.alloc(); "the value {number} exceeds the valid range")?;
@@ -108,7 +122,7 @@ fn long_numbers_are_refused(rt: HostRuntime) {
     for text in [
         "9.00000000000000000000000000001",
         "1.00000000000000000000000000000",
-        "79228162514264337593543950336",
+        "5192296858534827628530496329220096",
     ] {
         assert!(rt;
             matches!(
@@ -125,7 +139,9 @@ fn numbers_of_a_unit_are_rounded_up(rt: HostRuntime) {
         (17, Unit::Bit, Some(17)),
         (3, Unit::B, Some(24)),
         (124, Unit::YB, Some(992_000_000_000_000_000_000_000_000)),
-        (125, Unit::YB, None),
+        (125, Unit::YB, Some(1_000_000_000_000_000_000_000_000_000)),
+        (124, Unit::RB, Some(992_000_000_000_000_000_000_000_000_000)),
+        (125, Unit::RB, None),
         (u128::MAX, Unit::Bit, None),
         (999, Unit::Ybit, Some(999_000_000_000_000_000_000_000_000)),
     ] {
@@ -280,6 +296,10 @@ fn numbers_become_sizes(rt: HostRuntime) {
     assert_eq!(rt; tried::<i64, Bit>(-1), Err(ExceededBoundsError));
     assert_eq!(rt;
         tried::<u128, Bit>(1_000_000_000_000_000_000_000_000_000),
+        Ok(Bit::RONNABIT)
+    );
+    assert_eq!(rt;
+        tried::<u128, Bit>(1_000_000_000_000_000_000_000_000_000_000),
         Err(ExceededBoundsError)
     );
 }
@@ -292,7 +312,7 @@ fn refuses<S: TryFrom<Bit, Error = TryFromIntError> + Drop>(size: Bit) -> bool {
 fn sizes_become_numbers(rt: HostRuntime) {
     assert_eq!(rt;
         made::<Bit, u128>(Bit::MAX),
-        999_999_999_999_999_999_999_999_999
+        999_999_999_999_999_999_999_999_999_999
     );
     assert_eq!(rt; made::<Bit, u64>(Bit::MAX), u64::MAX);
     assert_eq!(rt; made::<Bit, u64>(Bit::KIBIBIT), 1024);

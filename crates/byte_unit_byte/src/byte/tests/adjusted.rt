@@ -115,7 +115,7 @@ fn adjusted_sizes_as_json_strings(rt: HostRuntime) -> Result<(), Fail> {
             Unit::GiB,
             "0.0000000037252902984619140625 GiB",
         ),
-        (Byte::MAX, Unit::YiB, "999999999999999999999999.999 KB"),
+        (Byte::MAX, Unit::YiB, "999999999999999999999999999.999 KB"),
     ] {
         let value = size.get_adjusted_unit(unit).to_json(rt.alloc())?;
         assert_eq!(rt; value.as_str(), Some(text));

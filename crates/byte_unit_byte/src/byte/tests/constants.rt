@@ -2,8 +2,8 @@
 use crate::{Byte, laws};
 use byte_unit_base::Unit;
 
-/// The constants of each prefix from K to Y: bytes in powers of ten and of two, then bits in powers of ten and of two.
-const BY_PREFIX: [[Byte; 4]; 8] = [
+/// The constants of each prefix from K to R: bytes in powers of ten and of two, then bits in powers of ten and of two.
+const BY_PREFIX: [[Byte; 4]; 9] = [
     [Byte::KILOBYTE, Byte::KIBIBYTE, Byte::KILOBIT, Byte::KIBIBIT],
     [Byte::MEGABYTE, Byte::MEBIBYTE, Byte::MEGABIT, Byte::MEBIBIT],
     [Byte::GIGABYTE, Byte::GIBIBYTE, Byte::GIGABIT, Byte::GIBIBIT],
@@ -22,6 +22,12 @@ const BY_PREFIX: [[Byte; 4]; 8] = [
         Byte::YOTTABIT,
         Byte::YOBIBIT,
     ],
+    [
+        Byte::RONNABYTE,
+        Byte::ROBIBYTE,
+        Byte::RONNABIT,
+        Byte::ROBIBIT,
+    ],
 ];
 
 #[test]
@@ -36,15 +42,18 @@ fn constants_of_each_prefix(rt: HostRuntime) {
         assert_eq!(rt; bits.as_u128(), decimal / 8);
         assert_eq!(rt; binary_bits.as_u128(), binary / 8);
     }
-    assert_eq!(rt; decimal, 1_000_000_000_000_000_000_000_000);
-    assert_eq!(rt; binary, 1 << 80);
+    assert_eq!(rt; decimal, 1_000_000_000_000_000_000_000_000_000);
+    assert_eq!(rt; binary, 1 << 90);
 }
 
 #[test]
 fn constants_without_a_prefix(rt: HostRuntime) {
     assert_eq!(rt; Byte::BYTE.as_u128(), 1);
     assert_eq!(rt; Byte::MIN.as_u128(), 0);
-    assert_eq!(rt; Byte::MAX.as_u128(), 999_999_999_999_999_999_999_999_999);
+    assert_eq!(rt;
+        Byte::MAX.as_u128(),
+        999_999_999_999_999_999_999_999_999_999
+    );
 }
 
 #[test]
