@@ -7,13 +7,13 @@ use Rattle.byte_unit_math.specs.Bounds.{one, places_of_decimal}
 use Rattle.byte_unit_math.specs.Numeral.{short}
 use Rattle.byte_unit_base.specs.Shape.{Shape, shape, bits}
 use Rattle.byte_unit_base.specs.Edition.{Edition, old, current, name}
-use Rattle.byte_unit_base.specs.Spelling.{Flags, Spells, SpellsMultiple, SpellsPrefix, IsPrefixLetter}
+use Rattle.byte_unit_base.specs.Spelling.{Spells, SpellsMultiple, SpellsPrefix, IsPrefixLetter}
 use Rattle.byte_unit_base.specs.Number.{IsWholePart, IsPrecise, IsNumberText}
 use Rattle.byte_unit_base.specs.SizeText.{IsSizeText}
 use Rattle.byte_unit_base.specs.Accepted.{IsRead, IsAccepted}
 use Rattle.byte_unit_base.specs.Family.{HasKind, HasPrefix, InFamily}
-use Rattle.byte_unit_base.specs.Kinds.{bits_in, own_family, own_unit}
-use Rattle.byte_unit_base.specs.Choice.{IsLargest, IsLargestOrOwn, States, Suits, IsRecovered, IsAppropriate}
+use Rattle.byte_unit_base.specs.Kinds.{bits_in, own_family, flags_for}
+use Rattle.byte_unit_base.specs.Choice.{IsLargestOrOwn, States, Suits, IsRecovered, IsAppropriate}
 use Rattle.byte_unit_format.specs.Layout.{layout}
 use Rattle.byte_unit_format.specs.Forms.{IsSizeForm, places_of}
 use Rattle.byte_unit_format.specs.Adjusted.{IsAdjustedForm}
@@ -63,9 +63,10 @@ prefix_stays text power binary h = record {
   infix_is = h.infix_is;
 }
 
-spelling_stays : (flags : Flags) (text : List ℕ) (unit : Shape) → Spells old flags text unit → Spells current flags text unit
-spelling_stays flags text unit (inl h) = inl h
-spelling_stays flags text unit (inr h) = inr (record {
+spelling_stays : (kind : Kind) (ignore_case : Bool) (text : List ℕ) (unit : Shape)
+    → Spells old (flags_for kind ignore_case) text unit → Spells current (flags_for kind ignore_case) text unit
+spelling_stays kind ignore_case text unit (inl h) = inl h
+spelling_stays kind ignore_case text unit (inr h) = inr (record {
   prefix_part = h.prefix_part;
   count_part = h.count_part;
   text_is = h.text_is;
@@ -89,15 +90,16 @@ number_stays text number (inr h) = inr (record {
   number_is = h.number_is;
 })
 
-text_stays : (flags : Flags) (text : List ℕ) (number : ℕ) (unit : Shape) → IsSizeText old flags text number unit
-    → IsSizeText current flags text number unit
-text_stays flags text number unit h = record {
+text_stays : (kind : Kind) (ignore_case : Bool) (text : List ℕ) (number : ℕ) (unit : Shape)
+    → IsSizeText old (flags_for kind ignore_case) text number unit
+    → IsSizeText current (flags_for kind ignore_case) text number unit
+text_stays kind ignore_case text number unit h = record {
   number_part = h.number_part;
   spaces = h.spaces;
   unit_part = h.unit_part;
   text_is = h.text_is;
   number_is = number_stays h.number_part number h.number_is;
-  unit_is = spelling_stays flags h.unit_part unit h.unit_is;
+  unit_is = spelling_stays kind ignore_case h.unit_part unit h.unit_is;
 }
 
 pub accepted_stays : AcceptedTextsStay
@@ -105,7 +107,7 @@ accepted_stays kind ignore_case text size h = record {
   number = h.number;
   is_read = record {
     unit = h.is_read.unit;
-    is_size = text_stays _ _ h.number h.is_read.unit h.is_read.is_size;
+    is_size = text_stays kind ignore_case _ h.number h.is_read.unit h.is_read.is_size;
     is_least = h.is_read.is_least;
   };
   below = omega (arith, h.below);

@@ -10,7 +10,10 @@ use std::process::Abort;
 use std::test::Fail;
 
 /// Sizes are below this.
-const LIMIT: u128 = 1_000_000_000_000_000_000_000_000_000;
+const LIMIT: u128 = 1_000_000_000_000_000_000_000_000_000_000;
+
+/// The greatest size of the first version.
+const OLD_MAX: u128 = 999_999_999_999_999_999_999_999_999;
 
 const PLAIN: FormatSpec = FormatSpec::PLAIN;
 
@@ -81,7 +84,8 @@ fn plain_texts(rt: HostRuntime) -> Result<(), Fail> {
         (12, by_sign(Sign::Minus, PLAIN), "12"),
         (12, at_side(Align::Left, as_wide(5, PLAIN)), "12   "),
         (12, at_side(Align::Right, as_wide(5, PLAIN)), "   12"),
-        (LIMIT - 1, PLAIN, "999999999999999999999999999"),
+        (OLD_MAX, PLAIN, "999999999999999999999999999"),
+        (LIMIT - 1, PLAIN, "999999999999999999999999999999"),
     ] {
         assert_eq!(rt; text_of(&rt, size, Kind::Byte, spec)?.as_str(), want);
     }
@@ -108,14 +112,26 @@ fn digits_past_64_bits(rt: HostRuntime) -> Result<(), Fail> {
 fn sizes_with_their_unit(rt: HostRuntime) -> Result<(), Fail> {
     let most = LIMIT - 1;
     for (size, spec, want) in [
-        (most, ALTERNATE, "999999999999999999999999.999 KB"),
+        (most, ALTERNATE, "999999999999999999999999999.999 KB"),
         (
             most,
+            to_places(9, ALTERNATE),
+            "999999999999999999999.999999999 GB",
+        ),
+        (
+            most,
+            to_places(28, ALTERNATE),
+            "999.999999999999999999999999999 RB",
+        ),
+        // As in the first version, which had them as the greatest.
+        (OLD_MAX, ALTERNATE, "999999999999999999999999.999 KB"),
+        (
+            OLD_MAX,
             to_places(9, ALTERNATE),
             "999999999999999999.999999999 GB",
         ),
         (
-            most,
+            OLD_MAX,
             to_places(28, ALTERNATE),
             "999.999999999999999999999999 YB",
         ),
@@ -309,12 +325,18 @@ fn longest_texts(rt: HostRuntime) -> Result<(), Fail> {
     assert!(rt; text.as_str().ends_with("0 KB"));
     let most = by_sign(Sign::Plus, to_places(65535, PLAIN));
     let text = adjusted_text(&rt, LIMIT - 1, Kind::Byte, Unit::Kbit, most)?;
-    assert_eq!(rt; text.len(), 65565);
-    assert!(rt; text.as_str().starts_with("7999999999999999999999999.9920"));
+    assert_eq!(rt; text.len(), 65568);
+    assert!(rt;
+        text.as_str()
+            .starts_with("7999999999999999999999999999.9920")
+    );
     assert!(rt; text.as_str().ends_with("0  Kb"));
     let text = adjusted_text(&rt, 1, Kind::Bit, Unit::YiB, to_places(84, PLAIN))?;
     assert_eq!(rt; text.len(), 90);
     assert!(rt; text.as_str().ends_with("3281250 YiB"));
+    let text = adjusted_text(&rt, 1, Kind::Bit, Unit::RiB, to_places(94, PLAIN))?;
+    assert_eq!(rt; text.len(), 100);
+    assert!(rt; text.as_str().ends_with("7031250 RiB"));
     let text = text_of(&rt, 0, Kind::Byte, as_wide(65535, PLAIN))?;
     assert_eq!(rt; text.len(), 65535);
     assert!(rt; text.as_str().ends_with(" 0"));
