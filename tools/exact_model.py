@@ -5,9 +5,9 @@ It follows docs/DEFINITIONS.md and shares nothing with the crates. `tools/at-sca
 
 import re
 
-LETTERS = "KMGTPEZY"
-WHOLE_LIMIT = 2**96
-SIZE_LIMIT = 10**27
+LETTERS = "KMGTPEZYR"
+WHOLE_LIMIT = 2**112
+SIZE_LIMIT = 10**30
 FRACTION_PLACES = 28
 FORM_PLACES = 3
 
@@ -16,7 +16,7 @@ WHITE_SPACE = (
     "\t\n\v\f\r \x85\xa0\u1680" + "".join(map(chr, range(0x2000, 0x200B))) + "\u2028\u2029\u202f\u205f\u3000"
 )
 
-SPELLING = re.compile(r"(?:([KMGTPEZYkmgtpezy])([Ii]?))?(B|b|[Bb][Ii][Tt][Ss]?)?", re.ASCII)
+SPELLING = re.compile(r"(?:([KMGTPEZYRkmgtpezyr])([Ii]?))?(B|b|[Bb][Ii][Tt][Ss]?)?", re.ASCII)
 
 
 def unit_bits(power, binary, bit):

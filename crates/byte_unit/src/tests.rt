@@ -16,6 +16,7 @@ mod long_strings;
 mod quoted;
 mod readings;
 mod refused;
+mod ronna;
 mod stored_faults;
 mod texts;
 mod tour;

@@ -3,7 +3,7 @@ use crate::{Bit, Byte, ParseError, UnitParseError, ValueParseError};
 use std::process::Abort;
 
 /// The letters that begin a unit.
-pub const NINE: [char; 9] = ['B', 'K', 'M', 'G', 'T', 'P', 'E', 'Z', 'Y'];
+pub const TEN: [char; 10] = ['B', 'K', 'M', 'G', 'T', 'P', 'E', 'Z', 'Y', 'R'];
 
 /// What a reader answers.
 #[derive(Clone, Copy)]

@@ -1,5 +1,5 @@
 //! Texts of any make: long ones, any character at each place, a text cut anywhere, white space and what only looks so.
-use super::answers::{Answer, NINE, assert_bits, assert_bytes, is_unit_fault};
+use super::answers::{Answer, TEN, assert_bits, assert_bytes, is_unit_fault};
 use crate::Unit;
 use std::test::Fail;
 
@@ -43,7 +43,7 @@ fn strange_characters_where_a_digit_stands(rt: HostRuntime) -> Result<(), Fail> 
 /// What may stand before a strange character in a unit, which characters are named there, and whether the text could
 /// end there.
 const IN_A_UNIT: [(&str, &[char], bool); 8] = [
-    ("", &NINE, true),
+    ("", &TEN, true),
     ("K", &['B', 'b'], true),
     ("Ki", &['B', 'b'], true),
     ("b", &['i'], true),

@@ -7,8 +7,8 @@ fn constants_without_a_prefix(rt: HostRuntime) {
     assert_eq!(rt; Bit::BIT.as_u128(), 1);
     assert_eq!(rt; Byte::MIN.as_u128(), 0);
     assert_eq!(rt; Bit::MIN.as_u128(), 0);
-    assert_eq!(rt; Byte::MAX.as_u128(), 999_999_999_999_999_999_999_999_999);
-    assert_eq!(rt; Bit::MAX.as_u128(), 999_999_999_999_999_999_999_999_999);
+    assert_eq!(rt; Byte::MAX.as_u128(), 999_999_999_999_999_999_999_999_999_999);
+    assert_eq!(rt; Bit::MAX.as_u128(), 999_999_999_999_999_999_999_999_999_999);
 }
 
 #[test]
@@ -22,6 +22,7 @@ fn bytes_by_powers_of_ten(rt: HostRuntime) {
         (Byte::EXABYTE, 1_000_000_000_000_000_000),
         (Byte::ZETTABYTE, 1_000_000_000_000_000_000_000),
         (Byte::YOTTABYTE, 1_000_000_000_000_000_000_000_000),
+        (Byte::RONNABYTE, 1_000_000_000_000_000_000_000_000_000),
     ] {
         assert_eq!(rt; constant.as_u128(), number);
     }
@@ -38,6 +39,7 @@ fn bytes_by_powers_of_two(rt: HostRuntime) {
         (Byte::EXBIBYTE, 1_152_921_504_606_846_976),
         (Byte::ZEBIBYTE, 1_180_591_620_717_411_303_424),
         (Byte::YOBIBYTE, 1_208_925_819_614_629_174_706_176),
+        (Byte::ROBIBYTE, 1_237_940_039_285_380_274_899_124_224),
     ] {
         assert_eq!(rt; constant.as_u128(), number);
     }
@@ -54,6 +56,7 @@ fn bits_by_powers_of_ten_in_bytes(rt: HostRuntime) {
         (Byte::EXABIT, 125_000_000_000_000_000),
         (Byte::ZETTABIT, 125_000_000_000_000_000_000),
         (Byte::YOTTABIT, 125_000_000_000_000_000_000_000),
+        (Byte::RONNABIT, 125_000_000_000_000_000_000_000_000),
     ] {
         assert_eq!(rt; constant.as_u128(), number);
     }
@@ -70,6 +73,7 @@ fn bits_by_powers_of_two_in_bytes(rt: HostRuntime) {
         (Byte::EXBIBIT, 144_115_188_075_855_872),
         (Byte::ZEBIBIT, 147_573_952_589_676_412_928),
         (Byte::YOBIBIT, 151_115_727_451_828_646_838_272),
+        (Byte::ROBIBIT, 154_742_504_910_672_534_362_390_528),
     ] {
         assert_eq!(rt; constant.as_u128(), number);
     }
@@ -86,6 +90,7 @@ fn bytes_by_powers_of_ten_in_bits(rt: HostRuntime) {
         (Bit::EXABYTE, 8_000_000_000_000_000_000),
         (Bit::ZETTABYTE, 8_000_000_000_000_000_000_000),
         (Bit::YOTTABYTE, 8_000_000_000_000_000_000_000_000),
+        (Bit::RONNABYTE, 8_000_000_000_000_000_000_000_000_000),
     ] {
         assert_eq!(rt; constant.as_u128(), number);
     }
@@ -102,6 +107,7 @@ fn bytes_by_powers_of_two_in_bits(rt: HostRuntime) {
         (Bit::EXBIBYTE, 9_223_372_036_854_775_808),
         (Bit::ZEBIBYTE, 9_444_732_965_739_290_427_392),
         (Bit::YOBIBYTE, 9_671_406_556_917_033_397_649_408),
+        (Bit::ROBIBYTE, 9_903_520_314_283_042_199_192_993_792),
     ] {
         assert_eq!(rt; constant.as_u128(), number);
     }
@@ -118,6 +124,7 @@ fn bits_by_powers_of_ten(rt: HostRuntime) {
         (Bit::EXABIT, 1_000_000_000_000_000_000),
         (Bit::ZETTABIT, 1_000_000_000_000_000_000_000),
         (Bit::YOTTABIT, 1_000_000_000_000_000_000_000_000),
+        (Bit::RONNABIT, 1_000_000_000_000_000_000_000_000_000),
     ] {
         assert_eq!(rt; constant.as_u128(), number);
     }
@@ -134,6 +141,7 @@ fn bits_by_powers_of_two(rt: HostRuntime) {
         (Bit::EXBIBIT, 1_152_921_504_606_846_976),
         (Bit::ZEBIBIT, 1_180_591_620_717_411_303_424),
         (Bit::YOBIBIT, 1_208_925_819_614_629_174_706_176),
+        (Bit::ROBIBIT, 1_237_940_039_285_380_274_899_124_224),
     ] {
         assert_eq!(rt; constant.as_u128(), number);
     }

@@ -27,7 +27,7 @@ const TO_TERA: [Written; 18] = [
     (Unit::TiB, 8_796_093_022_208, "TiB", false, true, (43, 0)),
 ];
 
-const FROM_PETA: [Written; 16] = [
+const FROM_PETA: [Written; 20] = [
     (
         Unit::Pbit,
         1_000_000_000_000_000,
@@ -155,6 +155,38 @@ const FROM_PETA: [Written; 16] = [
         false,
         true,
         (83, 0),
+    ),
+    (
+        Unit::Rbit,
+        1_000_000_000_000_000_000_000_000_000,
+        "Rb",
+        true,
+        false,
+        (27, 27),
+    ),
+    (
+        Unit::Ribit,
+        1_237_940_039_285_380_274_899_124_224,
+        "Rib",
+        true,
+        true,
+        (90, 0),
+    ),
+    (
+        Unit::RB,
+        8_000_000_000_000_000_000_000_000_000,
+        "RB",
+        false,
+        false,
+        (30, 27),
+    ),
+    (
+        Unit::RiB,
+        9_903_520_314_283_042_199_192_993_792,
+        "RiB",
+        false,
+        true,
+        (93, 0),
     ),
 ];
 

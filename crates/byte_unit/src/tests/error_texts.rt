@@ -1,5 +1,5 @@
 //! The texts of the errors.
-use super::answers::NINE;
+use super::answers::TEN;
 use crate::{
     Decimal, ExceededBoundsError, JsonSizeError, JsonUnitError, ParseError, UnitParseError,
     ValueParseError,
@@ -65,7 +65,7 @@ fn unit_fault(
 
 /// The text of an `x` where a unit could begin.
 const NO_UNIT: &str =
-    "the character 'x' is incorrect ('B', 'K', 'M', 'G', 'T', 'P', 'E', 'Z' or 'Y' or no character is expected)";
+    "the character 'x' is incorrect ('B', 'K', 'M', 'G', 'T', 'P', 'E', 'Z', 'Y' or 'R' or no character is expected)";
 
 #[test]
 fn texts_of_faults_of_units(rt: HostRuntime) -> Result<(), Fail> {
@@ -95,7 +95,7 @@ fn texts_of_faults_of_units(rt: HostRuntime) -> Result<(), Fail> {
             false,
             "the character 'x' is incorrect ('B', 'K' or 'M' is expected)",
         ),
-        ('x', &NINE, true, NO_UNIT),
+        ('x', &TEN, true, NO_UNIT),
     ] {
         let alone = unit_fault(character, expected, or_end);
         let read = ParseError::Unit(unit_fault(character, expected, or_end));

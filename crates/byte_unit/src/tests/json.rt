@@ -55,7 +55,7 @@ fn adjusted_sizes_read_back(rt: HostRuntime) -> Result<(), Fail> {
             "0.0000000037252902984619140625 GiB",
         ),
         (Byte::from_u64(1), Unit::MiB, "0.00000095367431640625 MiB"),
-        (Byte::MAX, Unit::YiB, "999999999999999999999999.999 KB"),
+        (Byte::MAX, Unit::YiB, "999999999999999999999999999.999 KB"),
     ] {
         let value = adjusted(rt.alloc(), size, unit)?;
         assert_eq!(rt; value.as_str(), Some(text));
@@ -66,13 +66,13 @@ fn adjusted_sizes_read_back(rt: HostRuntime) -> Result<(), Fail> {
     }
     let before_last = Byte::MAX.subtract(Byte::BYTE).ok_or("a size")?;
     let value = adjusted(rt.alloc(), before_last, Unit::KB)?;
-    assert_eq!(rt; value.as_str(), Some("999999999999999999999999.998 KB"));
+    assert_eq!(rt; value.as_str(), Some("999999999999999999999999999.998 KB"));
     let bits = Bit::from_u64(15_500)
         .get_adjusted_unit(Unit::Kbit)
         .to_json(rt.alloc())?;
     assert_eq!(rt; bits.as_str(), Some("15.5 Kb"));
     let most = Bit::MAX.get_adjusted_unit(Unit::YiB).to_json(rt.alloc())?;
-    assert_eq!(rt; most.as_str(), Some("999999999999999999999999.999 Kb"));
+    assert_eq!(rt; most.as_str(), Some("999999999999999999999999999.999 Kb"));
     Ok(())
 }
 

@@ -80,27 +80,41 @@ fn with_unit(kind: Kind, number: u128, unit: Unit) -> Option<u128> {
     }
 }
 
+/// The greatest size of the first version.
+const OLD_GREATEST: u128 = 999_999_999_999_999_999_999_999_999;
+
 /// The greatest size.
-const GREATEST: u128 = 999_999_999_999_999_999_999_999_999;
+const GREATEST: u128 = 999_999_999_999_999_999_999_999_999_999;
 
 /// How many are in a yottabyte.
 const YOTTA: u128 = 1_000_000_000_000_000_000_000_000;
+
+/// How many are in a ronnabyte.
+const RONNA: u128 = 1_000_000_000_000_000_000_000_000_000;
 
 #[test]
 fn numbers_of_a_unit(rt: HostRuntime) {
     for (kind, number, unit, size) in [
         (Kind::Byte, 17, Unit::Bit, Some(3)),
+        (Kind::Byte, 8 * OLD_GREATEST, Unit::Bit, Some(OLD_GREATEST)),
+        (Kind::Byte, 8 * OLD_GREATEST + 1, Unit::Bit, Some(RONNA)),
         (Kind::Byte, 8 * GREATEST, Unit::Bit, Some(GREATEST)),
         (Kind::Byte, 8 * GREATEST + 1, Unit::Bit, None),
         (Kind::Byte, u128::MAX, Unit::B, None),
         (Kind::Byte, 999, Unit::YB, Some(999 * YOTTA)),
-        (Kind::Byte, 1000, Unit::YB, None),
+        (Kind::Byte, 1000, Unit::YB, Some(RONNA)),
         (Kind::Byte, 827, Unit::YiB, Some(827 << 80)),
-        (Kind::Byte, 828, Unit::YiB, None),
+        (Kind::Byte, 828, Unit::YiB, Some(828 << 80)),
+        (Kind::Byte, 999, Unit::RB, Some(999 * RONNA)),
+        (Kind::Byte, 1000, Unit::RB, None),
+        (Kind::Byte, 807, Unit::RiB, Some(807 << 90)),
+        (Kind::Byte, 808, Unit::RiB, None),
         (Kind::Bit, 17, Unit::Bit, Some(17)),
         (Kind::Bit, 3, Unit::B, Some(24)),
         (Kind::Bit, 124, Unit::YB, Some(992 * YOTTA)),
-        (Kind::Bit, 125, Unit::YB, None),
+        (Kind::Bit, 125, Unit::YB, Some(RONNA)),
+        (Kind::Bit, 124, Unit::RB, Some(992 * RONNA)),
+        (Kind::Bit, 125, Unit::RB, None),
         (Kind::Bit, u128::MAX, Unit::Bit, None),
         (Kind::Bit, 999, Unit::Ybit, Some(999 * YOTTA)),
     ] {

@@ -1,5 +1,5 @@
 //! Why a JSON value is no size and no unit, fault by fault.
-use super::answers::{Answer, NINE, is_fault, is_unit_fault};
+use super::answers::{Answer, TEN, is_fault, is_unit_fault};
 use crate::{AdjustedBit, AdjustedByte, Bit, Byte, JsonSizeError, JsonUnitError, unit_from_json};
 use serde_json::Value;
 use std::process::Abort;
@@ -49,7 +49,7 @@ fn strings_that_are_no_sizes(rt: HostRuntime) -> Result<(), Fail> {
         ("", Answer::NoValue),
         ("x", Answer::NotNumber('x')),
         ("0.00000000000000000000000000001 GiB", Answer::NumberTooLong),
-        ("1000 YB", Answer::Exceeded(1000, 0)),
+        ("1000 RB", Answer::Exceeded(1000, 0)),
     ] {
         let value = Value::String(String::from_str(rt.alloc(), text)?);
         assert_refused(&rt, text, Byte::from_json(&value), wanted);
@@ -63,7 +63,7 @@ fn strings_that_are_no_sizes(rt: HostRuntime) -> Result<(), Fail> {
 #[test]
 fn strings_that_are_no_units(rt: HostRuntime) -> Result<(), Fail> {
     for (text, wanted) in [
-        ("x", Answer::Unit('x', &NINE, true)),
+        ("x", Answer::Unit('x', &TEN, true)),
         ("Kix", Answer::Unit('x', &['B', 'b'], true)),
         ("GBI", Answer::Unit('i', &[], true)),
     ] {

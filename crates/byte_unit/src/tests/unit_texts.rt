@@ -1,5 +1,5 @@
 //! Units from texts, and the faults of those that spell none.
-use super::answers::{Answer, NINE, is_unit_fault};
+use super::answers::{Answer, TEN, is_unit_fault};
 use crate::Unit;
 use std::process::Abort;
 
@@ -72,8 +72,8 @@ fn spellings_by_any_flags(rt: HostRuntime) {
 #[test]
 fn faults_of_units(rt: HostRuntime) {
     for (text, wanted) in [
-        ("x", Answer::Unit('x', &NINE, true)),
-        ("\u{212A}", Answer::Unit('\u{212A}', &NINE, true)),
+        ("x", Answer::Unit('x', &TEN, true)),
+        ("\u{212A}", Answer::Unit('\u{212A}', &TEN, true)),
         ("bx", Answer::Unit('x', &['i'], true)),
         ("biX", Answer::Unit('X', &['t'], false)),
         ("bita", Answer::Unit('a', &['s'], true)),

@@ -36,14 +36,14 @@ fn recoverable_units(rt: HostRuntime) -> Result<(), Fail> {
 
 #[test]
 fn the_greatest_size_with_its_steps(rt: HostRuntime) -> Result<(), Fail> {
-    for (precision, scale, unit) in [(3, 3, Unit::KB), (10, 9, Unit::GB), (28, 24, Unit::YB)] {
+    for (precision, scale, unit) in [(3, 3, Unit::KB), (10, 9, Unit::GB), (28, 27, Unit::RB)] {
         let number = Decimal::from_u128_with_scale(Byte::MAX.as_u128(), scale).ok_or("a decimal")?;
         assert_eq!(rt;
             Byte::MAX.get_recoverable_unit(true, precision),
             (number, unit)
         );
     }
-    for (allow, precision, count) in [(false, 28, 26), (true, 28, 26), (true, 0, 2)] {
+    for (allow, precision, count) in [(false, 28, 29), (true, 28, 29), (true, 0, 2)] {
         let mut steps = Steps::new();
         Byte::MAX.get_recoverable_unit_counted(allow, precision, &mut steps);
         assert_eq!(rt; steps.count(), count);
@@ -56,7 +56,7 @@ fn the_greatest_size_with_its_steps(rt: HostRuntime) -> Result<(), Fail> {
 
 #[test]
 fn powers_of_two_and_of_five_with_their_steps(rt: HostRuntime) -> Result<(), Fail> {
-    // 2^89 and 5^38
+    // 2^89, 2^99, 5^38 and 5^42
     for (size, precision, mantissa, scale, unit, count) in [
         (
             618_970_019_642_690_137_449_562_112,
@@ -65,6 +65,22 @@ fn powers_of_two_and_of_five_with_their_steps(rt: HostRuntime) -> Result<(), Fai
             0,
             Unit::YiB,
             91,
+        ),
+        (
+            633_825_300_114_114_700_748_351_602_688,
+            3,
+            512,
+            0,
+            Unit::RiB,
+            101,
+        ),
+        (
+            227_373_675_443_232_059_478_759_765_625,
+            28,
+            227_373_675_443_232_059_478_759_765_625,
+            27,
+            Unit::RB,
+            71,
         ),
         (
             363_797_880_709_171_295_166_015_625,

@@ -20,16 +20,16 @@ fn the_greatest_precision(rt: HostRuntime) -> Result<(), Fail> {
     let zeros = "0".repeat(alloc, 65_532)?;
 
     let bytes = Byte::MAX.get_adjusted_unit(Unit::Kbit);
-    let wanted = format!(in alloc; "7999999999999999999999999.992{zeros}  Kb")?;
-    assert_eq!(rt; wanted.len(), 65_565);
+    let wanted = format!(in alloc; "7999999999999999999999999999.992{zeros}  Kb")?;
+    assert_eq!(rt; wanted.len(), 65_568);
     assert!(rt; bytes.to_text(alloc, most)?.as_str() == wanted.as_str());
-    assert_eq!(rt; bytes.text_len(most), 65_565);
+    assert_eq!(rt; bytes.text_len(most), 65_568);
 
     let bits = Bit::MAX.get_adjusted_unit(Unit::Kbit);
-    let wanted = format!(in alloc; "999999999999999999999999.999{zeros}  Kb")?;
-    assert_eq!(rt; wanted.len(), 65_564);
+    let wanted = format!(in alloc; "999999999999999999999999999.999{zeros}  Kb")?;
+    assert_eq!(rt; wanted.len(), 65_567);
     assert!(rt; bits.to_text(alloc, most)?.as_str() == wanted.as_str());
-    assert_eq!(rt; bits.text_len(most), 65_564);
+    assert_eq!(rt; bits.text_len(most), 65_567);
     Ok(())
 }
 
