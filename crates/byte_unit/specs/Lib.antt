@@ -40,5 +40,7 @@ pub use Rattle.byte_unit_format.specs.Room
 pub use Rattle.byte_unit_base.specs.ReaderLaws
 pub use Rattle.byte_unit_base.specs.ChoiceLaws
 pub use Rattle.byte_unit_base.specs.SizeLaws
+pub use Rattle.byte_unit_base.specs.EditionLaws
 pub use Rattle.byte_unit_format.specs.FormLaws
+pub use Rattle.byte_unit_format.specs.VersionLaws
 pub mod UnitJson

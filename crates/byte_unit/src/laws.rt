@@ -5,6 +5,7 @@ pub use byte_unit_base::laws::choices::{
     choices_are_one, choices_at_no_places_are_whole, each_size_has_a_choice_or_none,
     more_places_give_no_smaller_unit, number_times_unit_is_size, sizes_are_exact_by_powers,
 };
+pub use byte_unit_base::laws::editions::current_extends_old;
 pub use byte_unit_base::laws::readers::{
     names_spell_their_units, size_fronts_are_beginnings, size_texts_have_one_answer,
     unit_fronts_are_beginnings, unit_texts_have_one_answer,
@@ -16,10 +17,10 @@ pub use byte_unit_base::laws::sizes::{
 pub use byte_unit_bit::laws::{bit_bounds, bit_constant};
 pub use byte_unit_byte::laws::{byte_bounds, byte_constant};
 pub use byte_unit_format::laws::{
-    adjusted_string_reads_back, expansions_end, layout_fills_width, places_of_size,
-    plain_form_fills_width, plain_form_reads_back, shown_adjusted_size_is_plain_form,
-    shown_size_is_plain_form, size_form_reads_back, size_has_one_adjusted_form, size_has_one_form,
-    size_string_reads_back,
+    adjusted_string_reads_back, expansions_end, layout_fills_width, old_meanings_stay,
+    places_of_size, plain_form_fills_width, plain_form_reads_back,
+    shown_adjusted_size_is_plain_form, shown_size_is_plain_form, size_form_reads_back,
+    size_has_one_adjusted_form, size_has_one_form, size_string_reads_back,
 };
 pub use byte_unit_math::laws::{
     exact_by_powers, expansions_are_found_by_division, numerals_are_exact, places_by_powers,

@@ -22,6 +22,7 @@ pub mod AdjustedSize
 pub mod ReaderLaws
 pub mod ChoiceLaws
 pub mod SizeLaws
+pub mod EditionLaws
 pub mod Scan
 pub mod UnitScan
 pub mod SizeScan

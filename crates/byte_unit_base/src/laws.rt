@@ -1,5 +1,6 @@
 //! Laws over the definitions. Each function does nothing: its contract is the law.
 
 pub mod choices;
+pub mod editions;
 pub mod readers;
 pub mod sizes;

@@ -17,7 +17,7 @@ use Rattle.byte_unit_base.specs.Choice.{IsLargestOrOwn, States, Suits, IsRecover
 use Rattle.byte_unit_format.specs.Layout.{layout}
 use Rattle.byte_unit_format.specs.Forms.{IsSizeForm, places_of}
 use Rattle.byte_unit_format.specs.Adjusted.{IsAdjustedForm}
-use Rattle.byte_unit_format.specs.VersionLaws.{AcceptedTextsStay, SizeFormsStay, AppropriateUnitsStay, AdjustedFormsStay, ExtendsOld}
+use Rattle.byte_unit_format.specs.VersionLaws.{AcceptedTextsStay, SizeFormsStay, AppropriateUnitsStay, AdjustedFormsStay}
 use Rattle.byte_unit_base.specs.declared.kind.Kind.{Kind}
 use Rattle.byte_unit_base.specs.declared.unit.family.Family.{Family}
 use Rattle.byte_unit_base.specs.declared.kind.Kind.TheVariants.{Byte, Bit}
@@ -249,6 +249,3 @@ adjusted_before kind size unit spec text known h =
 pub adjusted_forms_stay : AdjustedFormsStay
 adjusted_forms_stay kind size unit spec text known =
     (adjusted_stays kind size unit spec text known, adjusted_before kind size unit spec text known)
-
-pub extends : ExtendsOld
-extends = record { letters = refl; whole_limit = refl; size_limit = refl }

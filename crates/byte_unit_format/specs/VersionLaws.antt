@@ -1,5 +1,5 @@
 -- What stays as it was in the first version, for those who hold stored texts and printed sizes.
-use Rattle.std.specs.Prelude.{◌≡◌, ◌↔◌, ℕ, ◌*◌, ◌^◌, ◌<◌, ◌≤◌, Bool, List, ◌++◌, codes, length}
+use Rattle.std.specs.Prelude.{◌↔◌, ℕ, ◌<◌, ◌≤◌, Bool, List, length}
 use Rattle.byte_unit_base.specs.Shape.{Shape}
 use Rattle.byte_unit_base.specs.Edition.{old, current}
 use Rattle.byte_unit_base.specs.Accepted.{IsAccepted}
@@ -33,9 +33,3 @@ abbrev pub AdjustedFormsStay : Type 0
 AdjustedFormsStay =
     (kind : Kind) (size : ℕ) (unit : Shape) (spec : FormatSpec) (text : List ℕ) → unit.power ≤ length old.letters
     → IsAdjustedForm old kind size unit spec text ↔ IsAdjustedForm current kind size unit spec text
-
--- the current version has one letter more, and bounds as many times wider
-pub record ExtendsOld : Type 0 where
-  pub letters : current.letters ≡ old.letters ++ codes "R"
-  pub whole_limit : current.whole_limit ≡ old.whole_limit * 2 ^ 16
-  pub size_limit : current.size_limit ≡ old.size_limit * 10 ^ 3

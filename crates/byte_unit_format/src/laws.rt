@@ -5,8 +5,8 @@ ghost use Rattle.byte_unit_format.specs.FormLaws.{SizeHasOneForm, SizeHasOneAdju
 ghost use Rattle.byte_unit_format.specs.FormLaws.{ShownSizeIsPlainForm, ShownAdjustedSizeIsPlainForm};
 ghost use Rattle.byte_unit_format.specs.FormLaws.{PlainFormFillsWidth, LayoutFillsWidth};
 ghost use Rattle.byte_unit_format.specs.FormLaws.{PlacesOfSize, ZeroTakesNoPlaces, ExpansionsEnd};
-ghost use Rattle.byte_unit_format.specs.VersionLaws.{AcceptedTextsStay, SizeFormsStay, AppropriateUnitsStay};
-ghost use Rattle.byte_unit_format.specs.VersionLaws.{AdjustedFormsStay, ExtendsOld};
+ghost use Rattle.byte_unit_format.specs.VersionLaws.{AcceptedTextsStay, AdjustedFormsStay, AppropriateUnitsStay};
+ghost use Rattle.byte_unit_format.specs.VersionLaws.{SizeFormsStay};
 
 /// What the form of a size with a unit says is read as that size. Sizes are below 10^30, here and below.
 pub fn size_form_reads_back()
@@ -80,9 +80,4 @@ pub fn old_meanings_stay()
     ensures size_forms { SizeFormsStay }
     ensures appropriate_units { AppropriateUnitsStay }
     ensures adjusted_forms { AdjustedFormsStay }
-{}
-
-/// The current version has one prefix letter more, whole parts 2^16 times as wide, and sizes a thousand times as wide.
-pub fn current_version_extends_old()
-    ensures { ExtendsOld }
 {}

@@ -56,7 +56,10 @@ fn texts_of_bits_at_the_bound(rt: HostRuntime) {
 #[test]
 fn texts_past_the_bound_of_the_first_version(rt: HostRuntime) {
     for (text, size) in [
-        ("999999999999999999999999999", 999_999_999_999_999_999_999_999_999),
+        (
+            "999999999999999999999999999",
+            999_999_999_999_999_999_999_999_999,
+        ),
         (
             "999999999999999999999999999.0000000000000000000000000001",
             1_000_000_000_000_000_000_000_000_000,
@@ -101,7 +104,10 @@ fn numbers_at_the_bound(rt: HostRuntime) {
     assert_eq!(rt; Bit::try_from(GREATEST + 1), Err(ExceededBoundsError));
     assert_eq!(rt; Byte::try_from(-1i64), Err(ExceededBoundsError));
     assert_eq!(rt; Bit::try_from(-1i64), Err(ExceededBoundsError));
-    assert_eq!(rt; Byte::try_from(Byte::RONNABYTE.as_u128()), Ok(Byte::RONNABYTE));
+    assert_eq!(rt;
+        Byte::try_from(Byte::RONNABYTE.as_u128()),
+        Ok(Byte::RONNABYTE)
+    );
     assert_eq!(rt; Byte::from_i128(i128::MIN), None);
     assert_eq!(rt; Bit::from_i128(i128::MIN), None);
     assert_eq!(rt; Byte::from_i64_with_unit(-1, Unit::KB), None);

@@ -7,7 +7,10 @@ fn constants_without_a_prefix(rt: HostRuntime) {
     assert_eq!(rt; Bit::BIT.as_u128(), 1);
     assert_eq!(rt; Byte::MIN.as_u128(), 0);
     assert_eq!(rt; Bit::MIN.as_u128(), 0);
-    assert_eq!(rt; Byte::MAX.as_u128(), 999_999_999_999_999_999_999_999_999_999);
+    assert_eq!(rt;
+        Byte::MAX.as_u128(),
+        999_999_999_999_999_999_999_999_999_999
+    );
     assert_eq!(rt; Bit::MAX.as_u128(), 999_999_999_999_999_999_999_999_999_999);
 }
 

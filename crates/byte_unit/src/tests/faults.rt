@@ -20,7 +20,10 @@ fn faults_of_numbers(rt: HostRuntime) {
         ("9.00000000000000000000000000001", Answer::NumberTooLong),
         ("1.00000000000000000000000000000", Answer::NumberTooLong),
         ("5192296858534827628530496329220096", Answer::NumberTooLong),
-        ("5192296858534827628530496329220096 x", Answer::NumberTooLong),
+        (
+            "5192296858534827628530496329220096 x",
+            Answer::NumberTooLong,
+        ),
     ] {
         assert_bytes(&rt, text, false, wanted);
         assert_bytes(&rt, text, true, wanted);

@@ -2,7 +2,7 @@
 //! what stayed.
 use super::answers::{Answer, assert_bits, assert_bytes};
 use super::precise;
-use crate::{AdjustedByte, Byte, Decimal, FormatSpec, JsonSizeError, Unit, Bit};
+use crate::{AdjustedByte, Bit, Byte, Decimal, FormatSpec, JsonSizeError, Unit};
 use serde_json::Value;
 use std::process::Abort;
 use std::test::Fail;
@@ -70,13 +70,13 @@ fn texts_of_the_greatest_sizes(rt: HostRuntime) -> Result<(), Fail> {
             "999999999999999999999999999.999 KB",
         ),
         (Byte::MAX, precise(9), "999999999999999999999.999999999 GB"),
-        (
-            Byte::MAX,
-            precise(28),
-            "999.999999999999999999999999999 RB",
-        ),
+        (Byte::MAX, precise(28), "999.999999999999999999999999999 RB"),
         // As in the first version.
-        (old, FormatSpec::ALTERNATE, "999999999999999999999999.999 KB"),
+        (
+            old,
+            FormatSpec::ALTERNATE,
+            "999999999999999999999999.999 KB",
+        ),
         (old, precise(9), "999999999999999999.999999999 GB"),
         (old, precise(28), "999.999999999999999999999999 YB"),
     ] {
@@ -132,10 +132,7 @@ fn adjusted_greatest_sizes_as_strings(rt: HostRuntime) -> Result<(), Fail> {
     assert_eq!(rt; string.as_str().map(str::len), Some(3 + 1 + 80 + 4));
     assert_too_long(&rt, AdjustedByte::from_json(&string));
     let string = Byte::MAX.get_adjusted_unit(Unit::YiB).to_json(rt.alloc())?;
-    assert_eq!(rt;
-        string.as_str(),
-        Some("999999999999999999999999999.999 KB")
-    );
+    assert_eq!(rt; string.as_str(), Some("999999999999999999999999999.999 KB"));
     match AdjustedByte::from_json(&string) {
         Ok(read) => assert_eq!(rt; read.get_byte(), Byte::MAX),
         Err(_) => panic!(rt; "refused"),

@@ -14,11 +14,7 @@ fn greatest_and_least_sizes(rt: HostRuntime) -> Result<(), Fail> {
             "999999999999999999999999999.999 KB",
         ),
         (Byte::MAX, precise(9), "999999999999999999999.999999999 GB"),
-        (
-            Byte::MAX,
-            precise(28),
-            "999.999999999999999999999999999 RB",
-        ),
+        (Byte::MAX, precise(28), "999.999999999999999999999999999 RB"),
         (Byte::from_u64(500), FormatSpec::ALTERNATE, "500 B"),
         (Byte::MIN, FormatSpec::ALTERNATE, "0 B"),
         (Byte::MIN, spec(false, Sign::Plus, None, None, None), "+0"),

@@ -54,8 +54,9 @@ impl Family {
 
 /// The multiples of bytes and of bits, from the largest.
 static ALL: [Row; 36] = [
-    RIB, RB, RIBIT, RBIT, YIB, YB, YIBIT, YBIT, ZIB, ZB, ZIBIT, ZBIT, EIB, EB, EIBIT, EBIT, PIB, PB, PIBIT, PBIT, TIB,
-    TB, TIBIT, TBIT, GIB, GB, GIBIT, GBIT, MIB, MB, MIBIT, MBIT, KIB, KB, KIBIT, KBIT,
+    RIB, RB, RIBIT, RBIT, YIB, YB, YIBIT, YBIT, ZIB, ZB, ZIBIT, ZBIT, EIB, EB, EIBIT, EBIT, PIB,
+    PB, PIBIT, PBIT, TIB, TB, TIBIT, TBIT, GIB, GB, GIBIT, GBIT, MIB, MB, MIBIT, MBIT, KIB, KB,
+    KIBIT, KBIT,
 ];
 
 /// The multiples of bytes, from the largest.
@@ -65,8 +66,8 @@ static BYTES: [Row; 18] = [
 
 /// The multiples of bits, from the largest.
 static BITS: [Row; 18] = [
-    RIBIT, RBIT, YIBIT, YBIT, ZIBIT, ZBIT, EIBIT, EBIT, PIBIT, PBIT, TIBIT, TBIT, GIBIT, GBIT, MIBIT, MBIT,
-    KIBIT, KBIT,
+    RIBIT, RBIT, YIBIT, YBIT, ZIBIT, ZBIT, EIBIT, EBIT, PIBIT, PBIT, TIBIT, TBIT, GIBIT, GBIT,
+    MIBIT, MBIT, KIBIT, KBIT,
 ];
 
 // The rows, each once.
