@@ -21,7 +21,15 @@ fn decimals_by_mantissa_and_scale(rt: HostRuntime) {
                 1_768_211_455_000_000_000_000_000_000,
             )),
         ),
-        (u128::MAX, 9, None),
+        (
+            u128::MAX,
+            9,
+            Some((
+                340_282_366_920_938_463_463_374_607_431,
+                7_682_114_550_000_000_000_000_000_000,
+            )),
+        ),
+        (u128::MAX, 4, None),
     ] {
         let number = Decimal::from_u128_with_scale(mantissa, scale);
         assert_eq!(rt; number.map(parts_of), parts, "{mantissa} and {scale}");
@@ -36,7 +44,7 @@ fn parts_of(number: Decimal) -> (u128, u128) {
 #[test]
 fn decimals_at_their_bounds(rt: HostRuntime) -> Result<(), Fail> {
     let one = 10_000_000_000_000_000_000_000_000_000;
-    let wholes = 79_228_162_514_264_337_593_543_950_336;
+    let wholes = 5_192_296_858_534_827_628_530_496_329_220_096;
     assert_eq!(rt; Decimal::new(0, one), None);
     assert_eq!(rt; Decimal::new(wholes, 0), None);
     let greatest = Decimal::new(wholes - 1, one - 1).ok_or("a decimal")?;

@@ -5,7 +5,7 @@ use std::alloc::AllocError;
 
 /// Lines of every make, with both line ends, the last with none.
 pub const INPUT: &[u8] =
-    b"1.5 KiB\n1KB\r\n\n1Kbi\nx\n\xFF\n1000 YB\n99999999999999999999999999999\n1YB";
+    b"1.5 KiB\n1KB\r\n\n1Kbi\nx\n\xFF\n1000 RB\n9999999999999999999999999999999999\n1YB";
 
 /// What is written for each line.
 pub const ANSWERS: [&[u8]; 9] = [
