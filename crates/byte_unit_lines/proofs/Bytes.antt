@@ -1,9 +1,9 @@
--- What is written and read in several calls.
-use Rattle.std.proofs.Common.{Option, ◌≡◌, ℕ, ◌-◌, List, [], ◌++◌, length, take, drop, sym, ap, subst, ◌∙◌, append_assoc, append-nil}
+-- What is written in several calls.
+use Rattle.std.proofs.Common.{Option, ◌≡◌, ℕ, ◌-◌, List, ◌++◌, length, take, drop, sym, ap, ◌∙◌, append_assoc}
 use Rattle.std.proofs.Common.{take-append-drop}
 use Rattle.std.proofs.lemmas.List.{take_rest}
-use Rattle.std.specs.Io.KnownBytes.{Appends, Consumes}
-use Rattle.std.proofs.KnownBytes.{Appends-trans, Consumes-trans}
+use Rattle.std.specs.Io.KnownBytes.{Appends}
+use Rattle.std.proofs.KnownBytes.{Appends-trans}
 
 -- what was written, and what is left, make all the bytes
 abbrev pub IsWrittenTo : Option (List ℕ) → Option (List ℕ) → List ℕ → List ℕ → Type 0
@@ -20,10 +20,3 @@ written_on held holds now_holds bytes rest count (written, took, all) takes = (
       ∙ sym (append_assoc written (take count rest) (drop count rest))
       ∙ ap (λ left. written ++ take count rest ++ left) (sym (take_rest rest count)),
 )
-
--- a read of nothing
-pub read_on_nothing : (left between rest : Option (List ℕ)) (read piece : List ℕ) → Consumes left between read
-    → Consumes between rest piece → piece ≡ [] → Consumes left rest read
-read_on_nothing left between rest read piece gave came none =
-    subst (Consumes left rest) (ap (λ bytes. read ++ bytes) none ∙ append-nil read)
-    (Consumes-trans left between rest read piece gave came)

@@ -5,6 +5,7 @@ use Rattle.std.proofs.Common.{OnOk, OnErr, IfErr, refl, sym, ap, subst, ◌∙�
 use Rattle.std.proofs.lemmas.Bool.{eqb-true, eqb-false}
 use Rattle.std.proofs.lemmas.List.{nil_from_length}
 use Rattle.std.specs.Io.KnownBytes.{Appends, Consumes}
+use Rattle.std.proofs.KnownBytes.{Appends-trans, Consumes-trans}
 use Rattle.byte_unit_lines.specs.Answer.{Kind, IsAnswer}
 use Rattle.byte_unit_lines.specs.Laws.{EachLineHasAnAnswer}
 use Rattle.byte_unit_lines.specs.Lines.{finished_lines, lines_of}
@@ -36,6 +37,27 @@ pub record HasServed (kind : Kind) (left rest held holds : Option (List ℕ)) (l
   pub took : Appends held holds written
   pub served : IsServed kind (record { read = read; written = written; line = line })
   pub none_wait : answers ≡ []
+
+-- what was read and written by then
+abbrev pub course_of : {kind : Kind} {left rest held holds : Option (List ℕ)} {line answers : List ℕ}
+    → HasServed kind left rest held holds line answers → Course
+course_of {line = line} so_far = record { read = so_far.read; written = so_far.written; line = line }
+
+module _ {kind : Kind} {left between held holds : Option (List ℕ)} {line answers : List ℕ}
+    (so_far : HasServed kind left between held holds line answers) where
+  -- and then a piece was read, or nothing
+  pub read_on : (rest : Option (List ℕ)) (piece : List ℕ) → Consumes between rest piece → Consumes left rest (so_far.read ++ piece)
+  read_on rest piece came = Consumes-trans left between rest so_far.read piece so_far.gave came
+
+  pub read_on_nothing : (rest : Option (List ℕ)) (piece : List ℕ) → Consumes between rest piece → piece ≡ []
+      → Consumes left rest so_far.read
+  read_on_nothing rest piece came none =
+      subst (Consumes left rest) (ap (λ bytes. so_far.read ++ bytes) none ∙ append-nil so_far.read) (read_on rest piece came)
+
+  -- and then something was written
+  pub wrote_on : (now_holds : Option (List ℕ)) (written : List ℕ) → Appends holds now_holds written
+      → Appends held now_holds (so_far.written ++ written)
+  wrote_on now_holds written took = Appends-trans held holds now_holds so_far.written written so_far.took took
 
 -- whether a line has begun, by its length
 pub nothing_begun : (line : List ℕ) (count : ℕ) → count ≡ length line → true ≡ (count == 0) → line ≡ []

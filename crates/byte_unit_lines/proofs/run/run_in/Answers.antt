@@ -1,8 +1,7 @@
 use Rattle.std.proofs.Common.{◌≢◌, [], ◌++◌, sym, ap, ◌∙◌, take, vec_len}
-use Rattle.std.proofs.KnownBytes.{Consumes-kept, Consumes-trans, Appends-trans}
+use Rattle.std.proofs.KnownBytes.{Consumes-kept}
 use Rattle.byte_unit_lines.specs.Streams.{reader_of, writer_of}
-use Rattle.byte_unit_lines.proofs.Bytes.{read_on_nothing}
-use Rattle.byte_unit_lines.proofs.Runs.{Course, IsServed, served_on, answers_finished}
+use Rattle.byte_unit_lines.proofs.Runs.{Course, IsServed, course_of, read_on, read_on_nothing, wrote_on, served_on, answers_finished}
 use Rattle.byte_unit_lines.proofs.Runs.{nothing_begun, something_begun, written_in_piece, written_failed}
 use Rattle.byte_unit_lines.proofs.Runs.{report_ended, written_last}
 use Rattle.byte_unit_lines.proofs.run.run_in.Goals as goal
@@ -12,92 +11,71 @@ returns-in-None-clause-run g c =
     let left = g.R.Read.remaining (reader_of c.args.reader.now) in
     let between = g.R.Read.remaining (reader_of c.reads.reader) in
     let rest = g.R.Read.remaining (reader_of c.read.new.self) in
-    let so_far = c.reads.invariant in
-    let course : Course = record { read = so_far.read; written = so_far.written; line = c.reads.line.items } in record {
+    let so_far = c.reads.invariant in record {
       read = so_far.read;
       written = so_far.written;
       gave = Consumes-kept left between rest so_far.read so_far.gave c.in-None.ensures.none;
       took = so_far.took;
-      is_written = answers_finished c.args.kind course so_far.served;
+      is_written = answers_finished c.args.kind (course_of so_far) so_far.served;
     }
 
 pub reads-preserved : goal.reads-preserved
 reads-preserved g c =
-    let left = g.R.Read.remaining (reader_of c.args.reader.now) in
-    let between = g.R.Read.remaining (reader_of c.reads.reader) in
     let rest = g.R.Read.remaining (reader_of c.read.new.self) in
-    let held = g.W.Write.contents (writer_of c.args.writer.now) in
-    let before = g.W.Write.contents (writer_of c.reads.writer) in
     let holds = g.W.Write.contents (writer_of c.answer_piece.new.writer) in
     let so_far = c.reads.invariant in
-    let course : Course = record { read = so_far.read; written = so_far.written; line = c.reads.line.items } in
-    let served = c.in_ok-answer_piece-in-Some.ensures in
-    let answers = served.written in
-    let piece = take c.in-Some.n c.read.new.buf in record {
+    let piece = take c.in-Some.n c.read.new.buf in
+    let fed = c.in_ok-answer_piece-in-Some.ensures in
+    let answers = fed.written in record {
       read = so_far.read ++ piece;
       written = so_far.written ++ answers.0;
-      gave = Consumes-trans left between rest so_far.read piece so_far.gave c.in-Some.ensures.came;
-      took = Appends-trans held before holds so_far.written answers.0 so_far.took answers.1;
-      served = served_on c.args.kind course so_far.served piece answers.0 c.answer_piece.new.line.items answers.2 served.line;
-      none_wait = served.waiting;
+      gave = read_on so_far rest piece c.in-Some.ensures.came;
+      took = wrote_on so_far holds answers.0 answers.1;
+      served = served_on c.args.kind (course_of so_far) so_far.served piece answers.0 c.answer_piece.new.line.items answers.2 fed.line;
+      none_wait = fed.waiting;
     }
 
 pub returns-in_err-answer_piece-in-Some-clause-run : goal.returns-in_err-answer_piece-in-Some-clause-run
 returns-in_err-answer_piece-in-Some-clause-run g c =
-    let left = g.R.Read.remaining (reader_of c.args.reader.now) in
-    let between = g.R.Read.remaining (reader_of c.reads.reader) in
     let rest = g.R.Read.remaining (reader_of c.read.new.self) in
-    let held = g.W.Write.contents (writer_of c.args.writer.now) in
-    let before = g.W.Write.contents (writer_of c.reads.writer) in
     let holds = g.W.Write.contents (writer_of c.answer_piece.new.writer) in
     let each = c.each_line_has_an_answer.ensures in
     let so_far = c.reads.invariant in
-    let course : Course = record { read = so_far.read; written = so_far.written; line = c.reads.line.items } in
-    let failed = c.in_err-answer_piece-in-Some in
-    let answers = failed.ensures.written in
-    let error = failed.field-0.0 in
     let piece = take c.in-Some.n c.read.new.buf in
+    let failed = c.in_err-answer_piece-in-Some in
+    let error = failed.field-0.0 in
+    let answers = failed.ensures.written in
     let read = so_far.read ++ piece in
     let written = so_far.written ++ answers.0 in
-    let at = written_in_piece each c.args.kind course so_far.served piece error answers.0 answers.2 in record {
+    let at = written_in_piece each c.args.kind (course_of so_far) so_far.served piece error answers.0 answers.2 in record {
       read = read;
       written = written;
-      gave = Consumes-trans left between rest so_far.read piece so_far.gave c.in-Some.ensures.came;
-      took = Appends-trans held before holds so_far.written answers.0 so_far.took answers.1;
+      gave = read_on so_far rest piece c.in-Some.ensures.came;
+      took = wrote_on so_far holds answers.0 answers.1;
       is_written = written_failed c.args.kind read written c.from_residual.result error c.from_residual.ensures.1 at;
     }
 
 pub returns-then-is_empty-clause-run : goal.returns-then-is_empty-clause-run
 returns-then-is_empty-clause-run g c =
-    let left = g.R.Read.remaining (reader_of c.args.reader.now) in
-    let between = g.R.Read.remaining (reader_of c.reads.reader) in
     let rest = g.R.Read.remaining (reader_of c.read.new.self) in
-    let end = c.in-Some-eq0 in
-    let piece = take end.field-0 c.read.new.buf in
-    let none = ap (λ count. take count c.read.new.buf) end.field-0-test in
     let so_far = c.reads.invariant in
-    let line = c.reads.line.items in
-    let course : Course = record { read = so_far.read; written = so_far.written; line = line } in
-    let empty = nothing_begun line (vec_len c.reads.line) c.reads.line.ok.0 c.if-is_empty.ensures in record {
+    let end = c.in-Some-eq0 in
+    let none = ap (λ count. take count c.read.new.buf) end.field-0-test in
+    let empty = nothing_begun c.reads.line.items (vec_len c.reads.line) c.reads.line.ok.0 c.if-is_empty.ensures in record {
       read = so_far.read;
       written = so_far.written;
-      gave = read_on_nothing left between rest so_far.read piece so_far.gave end.ensures.came none;
+      gave = read_on_nothing so_far rest (take end.field-0 c.read.new.buf) end.ensures.came none;
       took = so_far.took;
-      is_written = report_ended c.args.kind course so_far.served empty;
+      is_written = report_ended c.args.kind (course_of so_far) so_far.served empty;
     }
 
 pub returns-clause-run : goal.returns-clause-run
 returns-clause-run g c =
-    let left = g.R.Read.remaining (reader_of c.args.reader.now) in
-    let between = g.R.Read.remaining (reader_of c.reads.reader) in
     let rest = g.R.Read.remaining (reader_of c.read.new.self) in
-    let held = g.W.Write.contents (writer_of c.args.writer.now) in
-    let before = g.W.Write.contents (writer_of c.reads.writer) in
     let holds = g.W.Write.contents (writer_of c.answer_last.new.writer) in
-    let end = c.in-Some-eq0 in
-    let piece = take end.field-0 c.read.new.buf in
-    let none = ap (λ count. take count c.read.new.buf) end.field-0-test in
     let so_far = c.reads.invariant in
+    let end = c.in-Some-eq0 in
+    let none = ap (λ count. take count c.read.new.buf) end.field-0-test in
     let answer = c.answer_last.ensures.written in
     let line = c.deref.result.now in
     let begun = something_begun c.reads.line.items (vec_len c.reads.line) c.reads.line.ok.0 c.if-is_empty.ensures in
@@ -107,7 +85,7 @@ returns-clause-run g c =
     record { answered = so_far.served.answered; begun = c.deref.ensures.value ∙ so_far.served.begun } in record {
       read = so_far.read;
       written = so_far.written ++ answer.0;
-      gave = read_on_nothing left between rest so_far.read piece so_far.gave end.ensures.came none;
-      took = Appends-trans held before holds so_far.written answer.0 so_far.took answer.1;
+      gave = read_on_nothing so_far rest (take end.field-0 c.read.new.buf) end.ensures.came none;
+      took = wrote_on so_far holds answer.0 answer.1;
       is_written = written_last c.args.kind course served some c.answer_last.result answer.0 answer.2;
     }
