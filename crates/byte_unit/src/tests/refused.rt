@@ -31,7 +31,7 @@ fn stored(call: Call, alloc: Global) -> Result<Value, AllocError> {
     }
 }
 
-/// The call is asked three times for its JSON string. Each answer is the string or a refusal, and one is refused at most.
+/// The call is asked three times for its JSON string. Each answer is the string or a refusal; one is refused at most.
 fn assert_stored(rt: &impl Abort, alloc: Global, call: Call, wanted: &str) {
     let mut answers = 0u32;
     for _ in 0..3 {

@@ -1,4 +1,5 @@
-//! Lines, answers and counts of reads that are large.
+//! Lines, answers and counts of reads that are large. Lines of 10 MB and of 1 GB are left to `tools/at-scale`, since
+//! `rt try` takes a minute for the first.
 use super::mixed::writer;
 use super::streams::{MemoryReader, Then};
 use super::*;
