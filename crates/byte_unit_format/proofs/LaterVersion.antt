@@ -1,19 +1,18 @@
 -- What the first version says, the current one says.
-use Rattle.std.proofs.Common.{◌≡◌, ℕ, zero, suc, ◌-◌, ◌*◌, ◌+◌, ◌<◌, ◌≤◌, ⊎_elim, inl, inr, Bool, true, false, List, ◌++◌}
+use Rattle.std.proofs.Common.{◌≡◌, ℕ, zero, suc, ◌-◌, ◌*◌, ◌<◌, ◌≤◌, ⊎_elim, inl, inr, Bool, true, false, List}
 use Rattle.std.proofs.Common.{length, arith, refl, sym, ap, ◌∙◌, subst}
 use Rattle.std.specs.Prelude.{◌↔◌, slice_index}
 use Rattle.std.proofs.lemmas.Bool.{cases_lt}
-use Rattle.byte_unit_math.specs.Bounds.{one, places_of_decimal}
+use Rattle.byte_unit_math.specs.Bounds.{places_of_decimal}
 use Rattle.byte_unit_math.specs.Numeral.{short}
 use Rattle.byte_unit_base.specs.Shape.{Shape, shape, bits}
-use Rattle.byte_unit_base.specs.Edition.{Edition, old, current, name}
-use Rattle.byte_unit_base.specs.Spelling.{Spells, SpellsMultiple, SpellsPrefix, IsPrefixLetter}
-use Rattle.byte_unit_base.specs.Number.{IsWholePart, IsPrecise, IsNumberText}
+use Rattle.byte_unit_base.specs.Edition.{old, current, name}
+use Rattle.byte_unit_base.specs.Spelling.{Spells, SpellsPrefix, IsPrefixLetter}
+use Rattle.byte_unit_base.specs.Number.{IsWholePart, IsNumberText}
 use Rattle.byte_unit_base.specs.SizeText.{IsSizeText}
-use Rattle.byte_unit_base.specs.Accepted.{IsRead, IsAccepted}
-use Rattle.byte_unit_base.specs.Family.{HasKind, HasPrefix, InFamily}
+use Rattle.byte_unit_base.specs.Family.{HasKind, InFamily}
 use Rattle.byte_unit_base.specs.Kinds.{bits_in, own_family, flags_for}
-use Rattle.byte_unit_base.specs.Choice.{IsLargestOrOwn, States, Suits, IsRecovered, IsAppropriate}
+use Rattle.byte_unit_base.specs.Choice.{IsLargestOrOwn, States, Suits, IsRecovered}
 use Rattle.byte_unit_format.specs.Layout.{layout}
 use Rattle.byte_unit_format.specs.Forms.{IsSizeForm, places_of}
 use Rattle.byte_unit_format.specs.Adjusted.{IsAdjustedForm}

@@ -3,7 +3,7 @@ use Rattle.std.proofs.Common.{◌≡◌, ℕ, ◌*◌, inl, inr, Bool, false, Li
 use Rattle.std.proofs.Math.Nat.{eq_of_mul-eq-mul_right}
 use Rattle.byte_unit_math.specs.Bounds.{one, places_of_decimal}
 use Rattle.byte_unit_base.specs.Shape.{Shape, bits}
-use Rattle.byte_unit_base.specs.Edition.{current, name}
+use Rattle.byte_unit_base.specs.Edition.{Edition, name}
 use Rattle.byte_unit_base.specs.Choice.{IsRecovered, family_for}
 use Rattle.byte_unit_base.proofs.Choosing.{some_bits}
 use Rattle.byte_unit_base.proofs.OneChoice.{one_largest}
@@ -16,24 +16,26 @@ use Rattle.byte_unit_format.specs.Forms.{places_of, IsSizeForm}
 
 -- a size is recovered in one unit
 pub one_recovered :
-    (kind : Kind) (both : Bool) (size precision : ℕ) (unit other : Shape) → IsRecovered current kind both size precision unit
-    → IsRecovered current kind both size precision other → unit ≡ other
-one_recovered kind both size precision unit other (inl largest) (inl other_largest) =
-    one_largest current (family_for kind both) (size * bits_in kind) precision unit other largest other_largest
-one_recovered kind both size precision unit other (inl largest) (inr none) = absurd (none.0 unit largest.has)
-one_recovered kind both size precision unit other (inr none) (inl largest) = absurd (none.0 other largest.has)
-one_recovered kind both size precision unit other (inr own) (inr other_own) = own.1 ∙ sym other_own.1
+    (edition : Edition) (kind : Kind) (both : Bool) (size precision : ℕ) (unit other : Shape)
+    → IsRecovered edition kind both size precision unit
+    → IsRecovered edition kind both size precision other → unit ≡ other
+one_recovered edition kind both size precision unit other (inl largest) (inl other_largest) =
+    one_largest edition (family_for kind both) (size * bits_in kind) precision unit other largest other_largest
+one_recovered edition kind both size precision unit other (inl largest) (inr none) = absurd (none.0 unit largest.has)
+one_recovered edition kind both size precision unit other (inr none) (inl largest) = absurd (none.0 other largest.has)
+one_recovered edition kind both size precision unit other (inr own) (inr other_own) = own.1 ∙ sym other_own.1
 
-pub one_form : (kind : Kind) (size : ℕ) (spec : FormatSpec) (text other : List ℕ) → IsSizeForm current kind size spec text
-    → IsSizeForm current kind size spec other → text ≡ other
-one_form kind size spec text other form other_form =
+pub one_form : (edition : Edition) (kind : Kind) (size : ℕ) (spec : FormatSpec) (text other : List ℕ)
+    → IsSizeForm edition kind size spec text
+    → IsSizeForm edition kind size spec other → text ≡ other
+one_form edition kind size spec text other form other_form =
     let unit =
-    one_recovered kind false size (places_of spec.precision) form.unit other_form.unit form.is_recovered other_form.is_recovered in
+    one_recovered edition kind false size (places_of spec.precision) form.unit other_form.unit form.is_recovered other_form.is_recovered in
     let product : Shape → Type 0 = λ unit. other_form.number * bits unit ≡ size * bits_in kind * one in
     let number =
     let same = form.number_is ∙ sym (subst product (sym unit) other_form.number_is) in
     eq_of_mul-eq-mul_right (bits form.unit) (some_bits form.unit) form.number other_form.number same in
     form.text_is
-    ∙ ap (λ unit. layout (short form.number places_of_decimal) (name current unit) spec) unit
-    ∙ ap (λ number. layout (short number places_of_decimal) (name current other_form.unit) spec) number
+    ∙ ap (λ unit. layout (short form.number places_of_decimal) (name edition unit) spec) unit
+    ∙ ap (λ number. layout (short number places_of_decimal) (name edition other_form.unit) spec) number
     ∙ sym other_form.text_is

@@ -3,7 +3,7 @@ use Rattle.std.proofs.Common.{◌≡◌, ℕ, ◌*◌, ⊎_elim, inl, inr, false
 use Rattle.byte_unit_math.specs.Bounds.{one, places_of_decimal}
 use Rattle.byte_unit_math.specs.Numeral.{short}
 use Rattle.byte_unit_base.specs.Shape.{Shape, bits}
-use Rattle.byte_unit_base.specs.Edition.{current, name}
+use Rattle.byte_unit_base.specs.Edition.{Edition, name}
 use Rattle.byte_unit_base.specs.Kinds.{bits_in, own_family, own_unit}
 use Rattle.byte_unit_base.specs.Choice.{IsRecovered}
 use Rattle.byte_unit_base.specs.declared.kind.Kind.{Kind}
@@ -15,33 +15,33 @@ use Rattle.byte_unit_format.specs.Forms.{places_of, IsSizeForm}
 use Rattle.byte_unit_format.specs.FormLaws.{SizeHasOneForm}
 use Rattle.byte_unit_format.proofs.OneForm.{one_form}
 
-record Recovered (kind : Kind) (size precision : ℕ) : Type 0 where
+record Recovered (edition : Edition) (kind : Kind) (size precision : ℕ) : Type 0 where
   unit : Shape
   number : ℕ
-  is_recovered : IsRecovered current kind false size precision unit
+  is_recovered : IsRecovered edition kind false size precision unit
   number_is : number * bits unit ≡ size * bits_in kind * one
 
 own_number : (kind : Kind) (size : ℕ) → size * one * bits (own_unit kind) ≡ size * bits_in kind * one
 own_number Byte size = omega arith
 own_number Bit size = omega arith
 
-recovered : (kind : Kind) (size precision : ℕ) → Recovered kind size precision
-recovered kind size precision =
+recovered : (edition : Edition) (kind : Kind) (size precision : ℕ) → Recovered edition kind size precision
+recovered edition kind size precision =
     ⊎_elim
     (λ found. record {
       unit = found.0;
       number = found.1;
       is_recovered = inl found.2.unit_is;
-      number_is = number_times_chosen current (own_family kind) (size * bits_in kind) precision found.1 found.0 found.2;
+      number_is = number_times_chosen edition (own_family kind) (size * bits_in kind) precision found.1 found.0 found.2;
     })
     (λ none. record { unit = own_unit kind; number = size * one; is_recovered = inr (none, refl); number_is = own_number kind size })
-    (choice_or_none current (own_family kind) (size * bits_in kind) precision)
+    (choice_or_none edition (own_family kind) (size * bits_in kind) precision)
 
 pub has_one_form : SizeHasOneForm
-has_one_form kind size spec =
-    let found = recovered kind size (places_of spec.precision) in
-    let form = layout (short found.number places_of_decimal) (name current found.unit) spec in
-    let is_form : IsSizeForm current kind size spec form =
+has_one_form edition kind size spec =
+    let found = recovered edition kind size (places_of spec.precision) in
+    let form = layout (short found.number places_of_decimal) (name edition found.unit) spec in
+    let is_form : IsSizeForm edition kind size spec form =
     record {
       unit = found.unit;
       number = found.number;
@@ -49,4 +49,4 @@ has_one_form kind size spec =
       number_is = found.number_is;
       text_is = refl;
     } in
-    record { form = form; is_form = is_form; one = λ other is_other. one_form kind size spec other form is_other is_form }
+    record { form = form; is_form = is_form; one = λ other is_other. one_form edition kind size spec other form is_other is_form }

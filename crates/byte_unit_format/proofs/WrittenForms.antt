@@ -111,7 +111,7 @@ one_text :
     → IsText current kind size spec other → other ≡ text
 one_text kind size spec text other alternate form other_text =
     let Text : Bool → Type 0 = λ alternate. MatchBool alternate (IsSizeForm current kind size spec other) (other ≡ plain size spec) in
-    one_form kind size spec other text (subst Text alternate other_text) form
+    one_form current kind size spec other text (subst Text alternate other_text) form
 
 -- the alternate form is a decimal with all its places, and a unit
 pub record IsShownWhole (kind : Kind) (size : ℕ) (spec : FormatSpec) (unit : Shape) (e : Finite) (places : ℕ) : Type 0 where

@@ -48,7 +48,8 @@ pub record HasOneForm (edition : Edition) (kind : Kind) (size : ℕ) (spec : For
   pub one : (other : List ℕ) → IsSizeForm edition kind size spec other → other ≡ form
 
 abbrev pub SizeHasOneForm : Type 0
-SizeHasOneForm = (kind : Kind) (size : ℕ) (spec : FormatSpec) → HasOneForm current kind size spec
+SizeHasOneForm =
+    (edition : Edition) (kind : Kind) (size : ℕ) (spec : FormatSpec) → HasOneForm edition kind size spec
 
 -- the size has a form in the unit, and one alone
 pub record HasOneAdjustedForm (edition : Edition) (kind : Kind) (size : ℕ) (unit : Shape) (spec : FormatSpec)

@@ -23,7 +23,7 @@ pub fn size_string_reads_back()
     ensures { SizeStringReadsBack }
 {}
 
-/// A size has one form with a unit under each spec.
+/// A size has one form with a unit under each spec, in each version.
 pub fn size_has_one_form()
     ensures { SizeHasOneForm }
 {}

@@ -19,7 +19,7 @@ module _ (texts : TextsAreAcceptedOrRefused) (forms : SizeHasOneForm) (kind : Ki
   -- a size is said in some way
   size_said : (number : ℕ) → (said : List ℕ) × SaysSize kind number said
   size_said number =
-      let alternate = forms kind number alternate_spec in
+      let alternate = forms current kind number alternate_spec in
       let digits = plain number plain_spec in (
         digits ++ codes " = " ++ alternate.form,
         record { digits = digits; form = alternate.form; is_digits = refl; is_form = alternate.is_form; said_is = refl },
@@ -28,7 +28,7 @@ module _ (texts : TextsAreAcceptedOrRefused) (forms : SizeHasOneForm) (kind : Ki
   -- and in no other
   one_saying : (number : ℕ) (said other : List ℕ) → SaysSize kind number said → SaysSize kind number other → said ≡ other
   one_saying number said other says also =
-      let alternate = forms kind number alternate_spec in
+      let alternate = forms current kind number alternate_spec in
       says.said_is
       ∙ ap (λ digits. digits ++ codes " = " ++ says.form) (says.is_digits ∙ sym also.is_digits)
       ∙ ap (λ form. also.digits ++ codes " = " ++ form) (alternate.one says.form says.is_form ∙ sym (alternate.one also.form also.is_form))
