@@ -8,81 +8,89 @@ use Rattle.byte_unit_math.specs.declared.expansion.Ties.{Ties}
 use Rattle.byte_unit_math.specs.declared.expansion.Ties.TheVariants.{Even, Up}
 
 -- below, at, just above, and above
-cases : (t : ℕ) (P : ℕ → Type 0) → ((o : ℕ) → o < t → P o) → P t → P (t + 1) → ((o : ℕ) → t + 1 < o → P o) → (o : ℕ) → P o
-cases t P lower at next upper o =
-    ⊎_elim (lower o)
+cases :
+    (count : ℕ) (P : ℕ → Type 0) → ((other : ℕ) → other < count → P other) → P count → P (count + 1)
+    → ((other : ℕ) → count + 1 < other → P other) → (other : ℕ) → P other
+cases count P lower at next upper other =
+    ⊎_elim (lower other)
     (λ k.
-    ⊎_elim (λ l. subst P (let e : t ≡ o = omega (arith, k, l) in e) at)
+    ⊎_elim (λ l. subst P (let e : count ≡ other = omega (arith, k, l) in e) at)
     (λ m.
-    ⊎_elim (λ l. subst P (let e : t + 1 ≡ o = omega (arith, m, l) in e) next) (λ n. upper o (omega (arith, n)))
-    (cases_lt o (t + 2))) (cases_lt o (t + 1))) (cases_lt o t)
+    ⊎_elim (λ l. subst P (let e : count + 1 ≡ other = omega (arith, m, l) in e) next) (λ n. upper other (omega (arith, n)))
+    (cases_lt other (count + 2))) (cases_lt other (count + 1))) (cases_lt other count)
 
--- the number is low above t multiples of den
-pub record LiesAbove (num den p t low : ℕ) : Type 0 where
-  pub split : num * 10 ^ p ≡ t * den + low
+-- the number is low above so many multiples of den
+pub record LiesAbove (num den p count low : ℕ) : Type 0 where
+  pub split : num * 10 ^ p ≡ count * den + low
   pub below : low < den
 
-module _ (num den p t low : ℕ) (lies : LiesAbove num den p t low) where
-  beneath : (o : ℕ) → o < t → o * den + den + low ≤ num * 10 ^ p
-  beneath o l = let product = mul-le-mul_right {m = o + 1} {n = t} den (omega (arith, l)) in omega (arith, product, lies.split)
+module _ (num den p count low : ℕ) (lies : LiesAbove num den p count low) where
+  beneath : (other : ℕ) → other < count → other * den + den + low ≤ num * 10 ^ p
+  beneath other l =
+      let product = mul-le-mul_right {m = other + 1} {n = count} den (omega (arith, l)) in
+      omega (arith, product, lies.split)
 
-  above : (o : ℕ) → t + 1 < o → num * 10 ^ p + den + den ≤ o * den + low
-  above o l = let product = mul-le-mul_right {m = t + 2} {n = o} den (omega (arith, l)) in omega (arith, product, lies.split)
+  above : (other : ℕ) → count + 1 < other → num * 10 ^ p + den + den ≤ other * den + low
+  above other l =
+      let product = mul-le-mul_right {m = count + 2} {n = other} den (omega (arith, l)) in
+      omega (arith, product, lies.split)
 
-  abbrev far : ℕ → ℕ
-  far o = abs_diff (o * den) (num * 10 ^ p)
+  abbrev distance : ℕ → ℕ
+  distance other = abs_diff (other * den) (num * 10 ^ p)
 
-  at_t : far t ≡ low
-  at_t = omega (arith, lies.split)
+  at_count : distance count ≡ low
+  at_count = omega (arith, lies.split)
 
-  at_next : far (t + 1) + low ≡ den
+  at_next : distance (count + 1) + low ≡ den
   at_next = omega (arith, lies.split, lies.below)
 
-  far_lower : (o : ℕ) → o < t → den + low ≤ far o
-  far_lower o l = omega (arith, beneath o l)
+  lower_is_far : (other : ℕ) → other < count → den + low ≤ distance other
+  lower_is_far other l = omega (arith, beneath other l)
 
-  far_upper : (o : ℕ) → t + 1 < o → den + den ≤ far o + low
-  far_upper o l = omega (arith, above o l)
+  upper_is_far : (other : ℕ) → count + 1 < other → den + den ≤ distance other + low
+  upper_is_far other l = omega (arith, above other l)
 
-  this_is_nearest : 2 * low ≤ den → (o : ℕ) → far t ≤ far o
+  this_is_nearest : 2 * low ≤ den → (other : ℕ) → distance count ≤ distance other
   this_is_nearest h =
-      cases t (λ o. far t ≤ far o) (λ o l. omega (arith, at_t, far_lower o l)) (omega arith) (omega (arith, at_t, at_next, h))
-      (λ o l. omega (arith, at_t, far_upper o l, h))
+      cases count (λ other. distance count ≤ distance other) (λ other l. omega (arith, at_count, lower_is_far other l)) (omega arith)
+      (omega (arith, at_count, at_next, h)) (λ other l. omega (arith, at_count, upper_is_far other l, h))
 
-  next_is_nearest : den ≤ 2 * low → (o : ℕ) → far (t + 1) ≤ far o
+  next_is_nearest : den ≤ 2 * low → (other : ℕ) → distance (count + 1) ≤ distance other
   next_is_nearest h =
-      cases t (λ o. far (t + 1) ≤ far o) (λ o l. omega (arith, at_next, far_lower o l)) (omega (arith, at_t, at_next, h)) (omega arith)
-      (λ o l. omega (arith, at_next, far_upper o l, lies.below))
+      cases count (λ other. distance (count + 1) ≤ distance other) (λ other l. omega (arith, at_next, lower_is_far other l))
+      (omega (arith, at_count, at_next, h)) (omega arith) (λ other l. omega (arith, at_next, upper_is_far other l, lies.below))
 
-  pub nearest_down : (ties : Ties) → 2 * low < den → IsNearest num den p ties t
+  pub nearest_down : (ties : Ties) → 2 * low < den → IsNearest num den p ties count
   nearest_down ties h = record {
     nearest = this_is_nearest (omega (arith, h));
     tie =
-        cases t (λ o. o ≢ t → far o ≡ far t → WinsTie ties t o) (λ o l n e. absurd (omega (arith, e, at_t, far_lower o l, lies.below)))
-        (λ n e. absurd (n refl)) (λ n e. absurd (omega (arith, e, at_t, at_next, h)))
-        (λ o l n e. absurd (omega (arith, e, at_t, far_upper o l, h)));
+        cases count (λ other. other ≢ count → distance other ≡ distance count → WinsTie ties count other)
+        (λ other l n e. absurd (omega (arith, e, at_count, lower_is_far other l, lies.below))) (λ n e. absurd (n refl))
+        (λ n e. absurd (omega (arith, e, at_count, at_next, h)))
+        (λ other l n e. absurd (omega (arith, e, at_count, upper_is_far other l, h)));
   }
 
-  pub nearest_up : (ties : Ties) → den < 2 * low → IsNearest num den p ties (t + 1)
+  pub nearest_up : (ties : Ties) → den < 2 * low → IsNearest num den p ties (count + 1)
   nearest_up ties h = record {
     nearest = next_is_nearest (omega (arith, h));
     tie =
-        cases t (λ o. o ≢ t + 1 → far o ≡ far (t + 1) → WinsTie ties (t + 1) o)
-        (λ o l n e. absurd (omega (arith, e, at_next, far_lower o l, h, lies.below)))
-        (λ n e. absurd (omega (arith, e, at_t, at_next, h))) (λ n e. absurd (n refl))
-        (λ o l n e. absurd (omega (arith, e, at_next, far_upper o l, h, lies.below)));
+        cases count (λ other. other ≢ count + 1 → distance other ≡ distance (count + 1) → WinsTie ties (count + 1) other)
+        (λ other l n e. absurd (omega (arith, e, at_next, lower_is_far other l, h, lies.below)))
+        (λ n e. absurd (omega (arith, e, at_count, at_next, h))) (λ n e. absurd (n refl))
+        (λ other l n e. absurd (omega (arith, e, at_next, upper_is_far other l, h, lies.below)));
   }
 
-  pub tie_up : 2 * low ≡ den → IsNearest num den p Up (t + 1)
+  pub tie_up : 2 * low ≡ den → IsNearest num den p Up (count + 1)
   tie_up h = record {
     nearest = next_is_nearest (omega (arith, h));
     tie =
-        cases t (λ o. o ≢ t + 1 → far o ≡ far (t + 1) → WinsTie Up (t + 1) o) (λ o l n e. omega (arith, l)) (λ n e. omega arith)
-        (λ n e. omega arith) (λ o l n e. absurd (omega (arith, e, at_next, far_upper o l, h, lies.below)));
+        cases count (λ other. other ≢ count + 1 → distance other ≡ distance (count + 1) → WinsTie Up (count + 1) other)
+        (λ other l n e. omega (arith, l)) (λ n e. omega arith) (λ n e. omega arith)
+        (λ other l n e. absurd (omega (arith, e, at_next, upper_is_far other l, h, lies.below)));
   }
 
-  pub tie_even_next : 2 * low ≡ den → t % 2 ≡ 1 → IsNearest num den p Even (t + 1)
-  tie_even_next h odd = record { nearest = next_is_nearest (omega (arith, h)); tie = λ o n e. omega (arith, odd) }
+  pub tie_even_next : 2 * low ≡ den → count % 2 ≡ 1 → IsNearest num den p Even (count + 1)
+  tie_even_next h odd = record { nearest = next_is_nearest (omega (arith, h)); tie = λ other n e. omega (arith, odd) }
 
-  pub tie_even_this : 2 * low ≡ den → t % 2 ≡ 0 → IsNearest num den p Even t
-  tie_even_this h even = record { nearest = this_is_nearest (omega (arith, h)); tie = λ o n e. even }
+  pub tie_even_this : 2 * low ≡ den → count % 2 ≡ 0 → IsNearest num den p Even count
+  tie_even_this h even = record { nearest = this_is_nearest (omega (arith, h)); tie = λ other n e. even }

@@ -1,10 +1,9 @@
 -- A product that is rounded up from its last places, a group of digits a step.
-use Rattle.std.proofs.Common.{◌≡◌, ℕ, ◌+◌, ◌-◌, ◌*◌, ◌/◌, ◌%◌, ◌<◌, ◌≤◌, arith, subst, sym, ap, ⊎_elim, Option, Some, None, IfSome, IfNone}
+use Rattle.std.proofs.Common.{◌≡◌, ℕ, ◌+◌, ◌-◌, ◌*◌, ◌/◌, ◌%◌, ◌≤◌, arith, subst, sym, ap, ⊎_elim, Option, Some, None, IfSome, IfNone}
 use Rattle.std.proofs.Common.{Bool, true, false, ltb}
 use Rattle.std.specs.Bool.{then_some}
 use Rattle.std.proofs.lemmas.Bool.{cases_lt}
 use Rattle.std.proofs.lemmas.Bool.Decides.{nat_tests}
-use Rattle.std.proofs.Math.Nat.{mul-le-mul_right}
 use Rattle.byte_unit_math.specs.Bounds.{one}
 use Rattle.byte_unit_math.specs.Least.{IsLeastSize}
 use Rattle.byte_unit_math.specs.RoundedUp.{group_limit, half_limit, IsRoundedUp}

@@ -16,7 +16,7 @@ pub fn places_by_powers()
     ensures zero { ZeroTakesNoPlaces }
 {}
 
-/// Where `num / den` is exact at 83 places, a decimal is its expansion exactly where it is what division finds.
+/// Where `num / den` is exact at 93 places, a decimal is its expansion exactly where it is what division finds.
 pub fn expansions_are_found_by_division()
     ensures { ExpansionsAreFoundByDivision }
 {}
