@@ -76,6 +76,16 @@ mod tests {
             (1_000, (3, 3), 8),
             (15, (0, 1), 3),
             (24, (3, 0), 5),
+        ] {
+            let mut steps = Steps::new();
+            assert_eq!(rt; two_five(size, &mut steps), powers);
+            assert_eq!(rt; steps.count(), ticks, "at {size}");
+        }
+    }
+
+    #[test]
+    fn great_sizes_with_their_ticks(rt: HostRuntime) {
+        for (size, powers, ticks) in [
             // 2^89, 2^99, 5^38, 5^42, 10^24, 27 nines and 30 nines
             (618_970_019_642_690_137_449_562_112, (89, 0), 91),
             (633_825_300_114_114_700_748_351_602_688, (99, 0), 101),
