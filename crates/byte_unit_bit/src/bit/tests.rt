@@ -43,7 +43,20 @@ fn texts_are_read_exactly_and_rounded_up(rt: HostRuntime) {
             "999999999999999999999999999",
             999_999_999_999_999_999_999_999_999,
         ),
-        // From here to the next comment: accepted since sizes are below 10^30.
+        ("12", 12),
+        ("9 b", 9),
+        ("12 bits", 12),
+        ("50.84 Mb", 50_840_000),
+        ("\u{2028}1KB\u{b}", 8000),
+        ("\u{b}\u{c}1Kb\u{85}\u{2028}\u{2029}", 1000),
+    ] {
+        assert_eq!(rt; read_without_memory(text), Some(size), "{text}");
+    }
+}
+
+#[test]
+fn texts_past_the_bound_of_the_first_version(rt: HostRuntime) {
+    for (text, size) in [
         (
             "124.9999999999999999999999999 YB",
             1_000_000_000_000_000_000_000_000_000,
@@ -56,13 +69,6 @@ fn texts_are_read_exactly_and_rounded_up(rt: HostRuntime) {
         ),
         ("1 RiB", 9_903_520_314_283_042_199_192_993_792),
         ("1rib", 1_237_940_039_285_380_274_899_124_224),
-        // In the first version too.
-        ("12", 12),
-        ("9 b", 9),
-        ("12 bits", 12),
-        ("50.84 Mb", 50_840_000),
-        ("\u{2028}1KB\u{b}", 8000),
-        ("\u{b}\u{c}1Kb\u{85}\u{2028}\u{2029}", 1000),
     ] {
         assert_eq!(rt; read_without_memory(text), Some(size), "{text}");
     }

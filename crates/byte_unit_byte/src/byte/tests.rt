@@ -37,7 +37,31 @@ fn texts_are_read_exactly_and_rounded_up(rt: HostRuntime) {
             false,
             999_999_999_999_999_999_999_999_999,
         ),
-        // From here to the next comment: accepted since sizes are below 10^30.
+        ("0001", false, 1),
+        ("9 b", false, 2),
+        ("9 b", true, 9),
+        ("12 bits", true, 2),
+        ("1.5 KiB", false, 1536),
+        ("1.5 KiB", true, 1536),
+        ("1kb", false, 125),
+        ("1 K", false, 1000),
+        ("1zb", false, 125_000_000_000_000_000_000),
+        ("\u{3000}1KB\u{a0}", false, 1000),
+        ("\u{b}\u{c}1KB\u{85}\u{2028}\u{2029}", false, 1000),
+        ("\u{2028}1KB\u{b}", false, 1000),
+        ("1zb", true, 1_000_000_000_000_000_000_000),
+    ] {
+        assert_eq!(rt;
+            read_without_memory(text, ignore_case),
+            Some(size),
+            "{text}"
+        );
+    }
+}
+
+#[test]
+fn texts_past_the_bound_of_the_first_version(rt: HostRuntime) {
+    for (text, ignore_case, size) in [
         (
             "999999999999999999999999999.0000000000000000000000000001",
             false,
@@ -62,20 +86,6 @@ fn texts_are_read_exactly_and_rounded_up(rt: HostRuntime) {
         ("1RB", false, 1_000_000_000_000_000_000_000_000_000),
         ("1 RiB", false, 1_237_940_039_285_380_274_899_124_224),
         ("1rib", false, 154_742_504_910_672_534_362_390_528),
-        // In the first version too.
-        ("0001", false, 1),
-        ("9 b", false, 2),
-        ("9 b", true, 9),
-        ("12 bits", true, 2),
-        ("1.5 KiB", false, 1536),
-        ("1.5 KiB", true, 1536),
-        ("1kb", false, 125),
-        ("1 K", false, 1000),
-        ("1zb", false, 125_000_000_000_000_000_000),
-        ("\u{3000}1KB\u{a0}", false, 1000),
-        ("\u{b}\u{c}1KB\u{85}\u{2028}\u{2029}", false, 1000),
-        ("\u{2028}1KB\u{b}", false, 1000),
-        ("1zb", true, 1_000_000_000_000_000_000_000),
     ] {
         assert_eq!(rt;
             read_without_memory(text, ignore_case),
