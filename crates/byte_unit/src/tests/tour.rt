@@ -1,4 +1,4 @@
-//! The examples of the README.
+//! The library in short: reading, calculating, printing.
 use crate::{Bit, Byte, FormatSpec, ParseError, Unit, UnitType, ValueParseError};
 use std::test::Fail;
 

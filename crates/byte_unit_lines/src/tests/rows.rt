@@ -101,8 +101,9 @@ fn faults(rt: HostRuntime) -> Result<(), Fail> {
 }
 
 #[test]
-fn lines_of_the_readme(rt: HostRuntime) -> Result<(), Fail> {
-    let rows: [(&[u8], &str); 9] = [
+fn documented_lines(rt: HostRuntime) -> Result<(), Fail> {
+    let rows: [(&[u8], &str); 10] = [
+        (b"\xEF\xBB\xBF1 KB\n2 KB\n", "not a number\n2000 = 2 KB\n"),
         (
             b"100 MB\n100mB\n100 M\n",
             "100000000 = 100 MB\n100000000 = 100 MB\n100000000 = 100 MB\n",
