@@ -26,7 +26,8 @@ some_bits unit = one-le-mul (one-le-pow (twos unit) 2 (omega arith)) (one-le-pow
 pub small_bits : (family : Family) (unit : Shape) → InFamily current family unit → bits unit ≤ unit_limit
 small_bits family unit h =
     let units = falling_from family known_prefixes in
-    le_of_falls units unit_limit unit (current_falls family known_prefixes (omega arith)) (in_falling family known_prefixes unit h.kind h.prefix.some h.prefix.known)
+    let is_in = in_falling family known_prefixes unit h.kind h.prefix.some h.prefix.known in
+    le_of_falls units unit_limit unit (current_falls family known_prefixes (omega arith)) is_in
 
 pub own_bits : (kind : Kind) → bits (own_unit kind) ≡ bits_in kind
 own_bits Byte = refl

@@ -52,7 +52,8 @@ pub prefix_within : (in_bits digits : ℕ) (unit : Shape) → in_bits < 2 ^ 128 
 prefix_within in_bits digits unit small count prefix not_above =
     let some : 0 < in_bits = omega (arith, some_bits unit, not_above) in
     let top = leading_top 128 in_bits some small in
-    let reached = reaches (falling_from All known_prefixes) unit all_reach (in_falling All known_prefixes unit tt prefix.some prefix.known) in
+    let is_in = in_falling All known_prefixes unit tt prefix.some prefix.known in
+    let reached = reaches (falling_from All known_prefixes) unit all_reach is_in in
     ⊎_elim
     (λ fewer.
     let more = pow-le-pow_right {n = 2} (omega arith) {i = suc top.0} {j = 10 * unit.power - 1} (omega (arith, fewer, count, top.1)) in
@@ -66,8 +67,8 @@ length_of_all All = omega arith
 length_of_all Bytes = omega arith
 length_of_all Bits = omega arith
 
-pub rows_behind : (family : Family) (rows : List Row) (prefixes skipped : ℕ) → map row_shape rows ≡ map row_of (falling_from family known_prefixes)
-    → prefixes ≤ known_prefixes → skipped ≡ length rows / known_prefixes * (known_prefixes - prefixes)
+pub rows_behind : (family : Family) (rows : List Row) (prefixes skipped : ℕ)
+    → map row_shape rows ≡ map row_of (falling_from family known_prefixes) → prefixes ≤ known_prefixes → skipped ≡ length rows / known_prefixes * (known_prefixes - prefixes)
     → map row_shape (drop skipped rows) ≡ map row_of (falling_from family prefixes)
 rows_behind family rows prefixes skipped all few count =
     let units = falling_from family known_prefixes in

@@ -17,9 +17,9 @@ mod scan;
 
 /// The number and the unit that the text states, without the white space at its ends.
 ///
-/// The text is a whole part of ASCII digits, at most 2^112 - 1, with any number of leading zeros; optionally a point and
-/// 1 to 28 digits; any number of the character space; and the spelling of a unit, as `Unit::parse_str` reads it but
-/// without another trim. Every digit is kept, and nothing is rounded.
+/// The text is a whole part of ASCII digits, at most 2^112 - 1, with any number of leading zeros; optionally a point
+/// and 1 to 28 digits; any number of the character space; and the spelling of a unit, as `Unit::parse_str` reads it
+/// but without another trim. Every digit is kept, and nothing is rounded.
 ///
 /// Every other text is refused by its first fault from the left: `NoValue` where it is empty or white space alone,
 /// `NotNumber` where a digit has to stand and none does, `NumberTooLong` at the digit that makes the number too long,

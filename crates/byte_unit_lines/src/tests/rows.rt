@@ -65,7 +65,7 @@ fn bounds(rt: HostRuntime) -> Result<(), Fail> {
 /// What the first version refused, and the current one accepts.
 #[test]
 fn past_the_bounds_of_the_first_version(rt: HostRuntime) -> Result<(), Fail> {
-    let rows: [(&[u8], &str); 3] = [
+    let rows: [(&[u8], &str); 4] = [
         (
             b"79228162514264337593543950336\n1000 YB\n",
             "79228162514264337593543950336 = 64 RiB\n1000000000000000000000000000 = 1 RB\n",
@@ -75,8 +75,12 @@ fn past_the_bounds_of_the_first_version(rt: HostRuntime) -> Result<(), Fail> {
             "1000000000000000000000000000 = 1 RB\n",
         ),
         (
-            b"1RB\n1 RiB\n1rib\n1000RB\n",
-            "1000000000000000000000000000 = 1 RB\n1237940039285380274899124224 = 1 RiB\n154742504910672534362390528 = 128 YiB\nout of range\n",
+            b"1RB\n1000RB\n",
+            "1000000000000000000000000000 = 1 RB\nout of range\n",
+        ),
+        (
+            b"1 RiB\n1rib\n",
+            "1237940039285380274899124224 = 1 RiB\n154742504910672534362390528 = 128 YiB\n",
         ),
     ];
     give(&rt, rt.alloc(), Kind::Byte, &rows)
