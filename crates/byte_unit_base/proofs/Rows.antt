@@ -68,7 +68,8 @@ length_of_all Bytes = omega arith
 length_of_all Bits = omega arith
 
 pub rows_behind : (family : Family) (rows : List Row) (prefixes skipped : ℕ)
-    → map row_shape rows ≡ map row_of (falling_from family known_prefixes) → prefixes ≤ known_prefixes → skipped ≡ length rows / known_prefixes * (known_prefixes - prefixes)
+    → map row_shape rows ≡ map row_of (falling_from family known_prefixes) → prefixes ≤ known_prefixes
+    → skipped ≡ length rows / known_prefixes * (known_prefixes - prefixes)
     → map row_shape (drop skipped rows) ≡ map row_of (falling_from family prefixes)
 rows_behind family rows prefixes skipped all few count =
     let units = falling_from family known_prefixes in
