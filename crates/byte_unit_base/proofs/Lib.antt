@@ -24,3 +24,5 @@ pub mod LaterChoices
 pub mod OneChoice
 pub mod NumberTexts
 pub mod LongFractions
+pub mod FastReads
+pub mod SizeAscii

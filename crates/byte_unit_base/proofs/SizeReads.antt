@@ -28,7 +28,7 @@ use Rattle.byte_unit_base.specs.declared.unit.scan.Word.{Word}
 use Rattle.byte_unit_base.specs.declared.unit.scan.Word.TheVariants.{Empty, Bi}
 use Rattle.byte_unit_base.specs.declared.read.scan.SizeScan.{SizeScan}
 use Rattle.byte_unit_base.specs.declared.read.scan.SizeScan.TheVariants.{Beginning, Whole, Point, Fraction, Gap, Unit as UnitAt}
-use Rattle.byte_unit_base.proofs.Scans.{EndsIn, IsScanOf, read_found, read_meant, read_refused, one_answer, fronts_are_beginnings}
+use Rattle.byte_unit_base.proofs.Scans.{EndsIn, IsScanOf, read_found, read_meant, read_refused, reads_meaning, one_answer, fronts_are_beginnings}
 use Rattle.byte_unit_base.proofs.UnitReached.{Reached-start, Spells-reached}
 use Rattle.byte_unit_base.proofs.UnitReads.{unit_front, unit_ends}
 use Rattle.byte_unit_base.proofs.SizeSteps.{step_is}
@@ -208,3 +208,10 @@ size_texts_have_one_answer flags text = one_answer (size_scan_is flags) text
 
 pub size_fronts_are_beginnings : SizeFrontsAreBeginnings
 size_fronts_are_beginnings flags text = fronts_are_beginnings (size_scan_is flags) text
+
+-- what a text states may be answered
+pub stated_reading : (flags : Flags) (bytes : List ℕ) (found : ℕ × UnitName)
+    → IsSizeText current flags (trimmed bytes) found.0 (shape_of found.1)
+    → IsNumberReading flags bytes (Ok found)
+stated_reading flags bytes found h =
+    number_reading flags bytes (Ok found) (sym (reads_meaning (size_scan_is flags) (trimmed bytes) (stated found) h))

@@ -1,10 +1,11 @@
 -- The characters of a trimmed text.
-use Rattle.std.proofs.Common.{◌≡◌, ℕ, List, [], ◌∷◌, ◌++◌, length, refl, ap, ◌∙◌, Bool, true, false, cond, ◌&&◌, nat_eq}
-use Rattle.std.specs.Str.{chars, trim, trim_start, trim_end, skip_leading_whitespace, drop_trailing_whitespace, IsUtf8, all_scalars}
+use Rattle.std.proofs.Common.{◌≡◌, ℕ, suc, List, [], ◌∷◌, ◌++◌, length, refl, sym, ap, ◌∙◌, arith, Bool, true, false, cond, ◌&&◌, nat_eq}
+use Rattle.std.specs.Str.{chars, trim, trim_start, trim_end, skip_leading_whitespace, drop_trailing_whitespace, IsUtf8, IsAscii, all_scalars}
 use Rattle.std.specs.Str.{encode_utf8_all}
 use Rattle.std.specs.Char.{is_whitespace}
 use Rattle.std.proofs.lemmas.Bool.{and_from, and_parts}
-use Rattle.std.proofs.lemmas.Str.{chars-encodes, scalars-chars}
+use Rattle.std.proofs.lemmas.Bool.Decides.{nat_tests}
+use Rattle.std.proofs.lemmas.Str.{chars-encodes, scalars-chars, chars-IsAscii}
 use Rattle.byte_unit_base.specs.SizeText.{trimmed}
 
 scalars_cond : (t : Bool) (xs ys : List ℕ) → all_scalars xs ≡ true → all_scalars ys ≡ true → all_scalars (cond t xs ys) ≡ true
@@ -46,3 +47,31 @@ pub record EndsWithoutSpace (text : List ℕ) : Type 0 where
   pub last : ℕ
   pub text_is : text ≡ front ++ last ∷ []
   pub last_is : is_whitespace last ≡ false
+
+-- what trimming keeps
+
+not_zero : (number : ℕ) → nat_eq (suc number) 0 ≡ false
+not_zero number = grind (arith, nat_tests)
+
+not_empty : (white : Bool) (front : List ℕ) (last : ℕ) (kept : List ℕ)
+    → cond (white && nat_eq (length (front ++ last ∷ [])) 0) [] kept ≡ kept
+not_empty false front last kept = refl
+not_empty true [] last kept = refl
+not_empty true (next ∷ front) last kept = ap (λ empty. cond empty [] kept) (not_zero (length (front ++ last ∷ [])))
+
+pub keep_last : (front : List ℕ) (last : ℕ) → is_whitespace last ≡ false → drop_trailing_whitespace (front ++ last ∷ []) ≡ front ++ last ∷ []
+keep_last [] last is_none = ap (λ white. cond (white && true) [] (last ∷ [])) is_none
+keep_last (next ∷ front) last is_none =
+    ap (λ rest. cond (is_whitespace next && nat_eq (length rest) 0) [] (next ∷ rest)) (keep_last front last is_none)
+    ∙ not_empty (is_whitespace next) front last (next ∷ (front ++ last ∷ []))
+
+-- a text of ASCII with a character that isn't white space at each end
+pub trimmed_same : (text : List ℕ) → StartsWithoutSpace text → EndsWithoutSpace text → IsAscii text → trimmed text ≡ text
+trimmed_same text start end ascii =
+    let skipped : skip_leading_whitespace text ≡ text =
+    ap skip_leading_whitespace start.text_is
+    ∙ (ap (λ white. cond white (skip_leading_whitespace start.tail) (start.head ∷ start.tail)) start.head_is ∙ sym start.text_is) in
+    let kept : drop_trailing_whitespace text ≡ text =
+    ap drop_trailing_whitespace end.text_is ∙ (keep_last end.front end.last end.last_is ∙ sym end.text_is) in
+    ap (λ text. drop_trailing_whitespace (skip_leading_whitespace text)) (chars-IsAscii text ascii)
+    ∙ (ap drop_trailing_whitespace skipped ∙ kept)

@@ -26,4 +26,5 @@ pub mod EditionLaws
 pub mod Scan
 pub mod UnitScan
 pub mod SizeScan
+pub mod FastReading
 pub mod Multiples

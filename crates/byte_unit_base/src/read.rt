@@ -13,6 +13,7 @@ use crate::unit::Unit;
 use crate::unit::scan::Flags;
 use byte_unit_math::Decimal;
 
+mod fast;
 mod scan;
 
 /// The number and the unit that the text states, without the white space at its ends.
@@ -42,7 +43,10 @@ pub fn read_size(
         ignore_case,
         prefer_byte,
     };
-    read_number_and_unit(s.trim(), flags)
+    match fast::read_fast(s, flags) {
+        Some(stated) => Ok(stated),
+        None => read_number_and_unit(s.trim(), flags),
+    }
 }
 
 /// The number and the unit that the whole text states.

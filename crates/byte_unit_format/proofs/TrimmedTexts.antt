@@ -3,33 +3,17 @@ use Rattle.std.proofs.Common.{◌≡◌, ℕ, zero, suc, ◌<◌, List, [], ◌�
 use Rattle.std.proofs.Common.{nat_eq}
 use Rattle.std.specs.Char.{is_whitespace}
 use Rattle.std.specs.Str.{skip_leading_whitespace, drop_trailing_whitespace, IsAscii}
-use Rattle.std.proofs.lemmas.Bool.Decides.{nat_tests}
 use Rattle.std.proofs.lemmas.Str.{chars-IsAscii, IsAscii-append}
 use Rattle.std.proofs.lemmas.Str.Ascii.{IsAscii-from_all}
 use Rattle.std.proofs.lemmas.List.Elements.{All-replicate}
 use Rattle.byte_unit_base.specs.SizeText.{trimmed}
-use Rattle.byte_unit_base.proofs.Trim.{StartsWithoutSpace, EndsWithoutSpace}
+use Rattle.byte_unit_base.proofs.Trim.{StartsWithoutSpace, EndsWithoutSpace, keep_last}
 use Rattle.byte_unit_format.specs.Plain.{spaces}
 
 skip_spaces : (count next : ℕ) (rest : List ℕ) → is_whitespace next ≡ false
     → skip_leading_whitespace (spaces count ++ (next ∷ rest)) ≡ next ∷ rest
 skip_spaces zero next rest is_none = ap (λ white. cond white (skip_leading_whitespace rest) (next ∷ rest)) is_none
 skip_spaces (suc count) next rest is_none = skip_spaces count next rest is_none
-
-not_zero : (number : ℕ) → nat_eq (suc number) 0 ≡ false
-not_zero number = grind (arith, nat_tests)
-
-not_empty : (white : Bool) (front : List ℕ) (last : ℕ) (kept : List ℕ)
-    → cond (white && nat_eq (length (front ++ last ∷ [])) 0) [] kept ≡ kept
-not_empty false front last kept = refl
-not_empty true [] last kept = refl
-not_empty true (next ∷ front) last kept = ap (λ empty. cond empty [] kept) (not_zero (length (front ++ last ∷ [])))
-
-keep_last : (front : List ℕ) (last : ℕ) → is_whitespace last ≡ false → drop_trailing_whitespace (front ++ last ∷ []) ≡ front ++ last ∷ []
-keep_last [] last is_none = ap (λ white. cond (white && true) [] (last ∷ [])) is_none
-keep_last (next ∷ front) last is_none =
-    ap (λ rest. cond (is_whitespace next && nat_eq (length rest) 0) [] (next ∷ rest)) (keep_last front last is_none)
-    ∙ not_empty (is_whitespace next) front last (next ∷ (front ++ last ∷ []))
 
 drop_spaces : (count : ℕ) → drop_trailing_whitespace (spaces count) ≡ []
 drop_spaces zero = refl

@@ -30,7 +30,7 @@ pub enum SizeScan {
 }
 
 /// Whole parts are below this.
-const WHOLE_LIMIT: u128 = 5_192_296_858_534_827_628_530_496_329_220_096;
+pub const WHOLE_LIMIT: u128 = 5_192_296_858_534_827_628_530_496_329_220_096;
 
 impl SizeScan {
     ghost use Rattle.byte_unit_base.specs.SizeScan.{IsScan, size_step, size_place, size_at_end};
@@ -129,7 +129,7 @@ fn more_fraction(whole: u128, digits: u128, places: u32, digit: u32) -> Option<S
 }
 
 /// The whole part as a number.
-fn whole_decimal(whole: u128) -> Decimal
+pub fn whole_decimal(whole: u128) -> Decimal
     requires { whole < whole_limit }
     ensures { result ≡ whole * one }
 {
@@ -137,7 +137,7 @@ fn whole_decimal(whole: u128) -> Decimal
 }
 
 /// The whole part, and so many digits after the point as a number.
-fn precise_decimal(whole: u128, digits: u128, places: u32) -> Decimal
+pub fn precise_decimal(whole: u128, digits: u128, places: u32) -> Decimal
     requires whole { whole < whole_limit }
     requires digits { digits < 10 ^ places }
     requires places { places ≤ places_of_decimal }

@@ -91,6 +91,50 @@ fn numbers_and_units_read(rt: HostRuntime) {
 }
 
 #[test]
+fn numbers_read_at_borders(rt: HostRuntime) {
+    for (text, whole, fraction) in [
+        ("9999999999999999999", 9_999_999_999_999_999_999u128, 0u128),
+        ("10000000000000000000", 10_000_000_000_000_000_000, 0),
+        ("18446744073709551615", 18_446_744_073_709_551_615, 0),
+        ("18446744073709551616", 18_446_744_073_709_551_616, 0),
+        ("0000000000000000000000000000000001", 1, 0),
+        ("00000000000000000000000000000000001", 1, 0),
+        ("7.12345678901234", 7, 1_234_567_890_123_400_000_000_000_000),
+        (
+            "7.123456789012345",
+            7,
+            1_234_567_890_123_450_000_000_000_000,
+        ),
+        (
+            "7.1234567890123456789",
+            7,
+            1_234_567_890_123_456_789_000_000_000,
+        ),
+        (
+            "7.12345678901234567891",
+            7,
+            1_234_567_890_123_456_789_100_000_000,
+        ),
+        (
+            "5192296858534827628530496329220095.1234567890123456789012345678",
+            5_192_296_858_534_827_628_530_496_329_220_095,
+            1_234_567_890_123_456_789_012_345_678,
+        ),
+        ("1 ", 1, 0),
+        (" 1", 1, 0),
+    ] {
+        match read_size(text, false, true) {
+            Ok((number, unit)) => {
+                assert_eq!(rt; number.whole(), whole, "{text}");
+                assert_eq!(rt; number.fraction(), fraction, "{text}");
+                assert_eq!(rt; unit, Unit::B, "{text}");
+            }
+            Err(_) => panic!(rt; "refused {text}"),
+        }
+    }
+}
+
+#[test]
 fn numbers_refused(rt: HostRuntime) {
     for text in [
         "9.00000000000000000000000000001",
@@ -115,6 +159,8 @@ fn numbers_refused(rt: HostRuntime) {
         ("1.x", 'x'),
         ("é", 'é'),
         ("1.é", 'é'),
+        ("\u{80}1", '\u{80}'),
+        ("1.\u{80}", '\u{80}'),
         ("-1", '-'),
         ("+1", '+'),
         (".5", '.'),
@@ -167,6 +213,14 @@ fn units_refused_where_none_begins(rt: HostRuntime) {
         ("1\u{661}", '\u{661}'),
         ("1\u{212A}", '\u{212A}'),
         ("1\u{1F600}", '\u{1F600}'),
+        ("1\u{7F}", '\u{7F}'),
+        ("1\u{80}", '\u{80}'),
+        ("1.5\u{80}", '\u{80}'),
+        ("1 \u{80}", '\u{80}'),
+        ("9999999999999999999\u{80}", '\u{80}'),
+        ("10000000000000000000\u{80}", '\u{80}'),
+        ("1.1234567890123456789\u{80}", '\u{80}'),
+        ("1.12345678901234567891\u{80}", '\u{80}'),
         ("1,5", ','),
         ("1e3", '3'),
     ] {
@@ -190,5 +244,11 @@ fn units_refused_within(rt: HostRuntime) {
     assert_unit_refused(&rt, "1bité", false, 'é', &['s'], true);
     assert_unit_refused(&rt, "1bit\u{17F}", false, '\u{17F}', &['s'], true);
     assert_unit_refused(&rt, "1bitsé", false, 'é', &[], true);
+    assert_unit_refused(&rt, "1K\u{80}", false, '\u{80}', &['B', 'b'], true);
+    assert_unit_refused(&rt, "1Ki\u{80}", false, '\u{80}', &['B', 'b'], true);
+    assert_unit_refused(&rt, "1KB\u{80}", false, '\u{80}', &['i'], true);
+    assert_unit_refused(&rt, "1bi\u{80}", false, '\u{80}', &['t'], false);
+    assert_unit_refused(&rt, "1bit\u{80}", false, '\u{80}', &['s'], true);
+    assert_unit_refused(&rt, "1bits\u{80}", false, '\u{80}', &[], true);
     assert_unit_refused(&rt, "12.50 Kbi", false, 'i', &[], true);
 }

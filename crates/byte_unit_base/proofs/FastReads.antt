@@ -1,0 +1,114 @@
+-- The reader of bytes: the digits that it has read, the number that they make, and the text of a number and a unit.
+use Rattle.std.proofs.Common.{◌≡◌, ℕ, ◌+◌, ◌-◌, ◌*◌, ◌^◌, ◌<◌, ◌≤◌, true, inr, List, [], ◌∷◌, ◌++◌, Option, Some, None, Ok, IfSome}
+use Rattle.std.proofs.Common.{length, take, drop, get_or, refl, sym, ap, subst, ◌∙◌, arith, pow-add}
+use Rattle.std.proofs.Math.Nat.{pow-le-pow_right}
+use Rattle.std.proofs.Math.Seq.{take-add}
+use Rattle.std.specs.Option.{option_map}
+use Rattle.std.specs.Char.{digit_value, is_ascii_digit}
+use Rattle.std.specs.Str.Parse.{digits_value}
+use Rattle.std.proofs.lemmas.Bool.Decides.{nat_tests}
+use Rattle.std.proofs.lemmas.Int.Digits.{digits_more, digits_value_more, digits_value-lt}
+use Rattle.std.proofs.lemmas.List.{length-take-le, take_more}
+use Rattle.byte_unit_math.specs.Bounds.{places_of_decimal, whole_limit}
+use Rattle.byte_unit_base.specs.Edition.{current}
+use Rattle.byte_unit_base.specs.Units.{shape_of}
+use Rattle.byte_unit_base.specs.Spelling.{Flags, Spells}
+use Rattle.byte_unit_base.specs.Number.{point, IsNumberText}
+use Rattle.byte_unit_base.specs.Errors.{unit_fault}
+use Rattle.byte_unit_base.specs.Scan.{read}
+use Rattle.byte_unit_base.specs.UnitScan.{unit_scan, unit_of, unit_at_end, start}
+use Rattle.byte_unit_base.specs.SizeScan.{precise}
+use Rattle.byte_unit_base.specs.FastReading.{AreDigits}
+use Rattle.byte_unit_base.specs.declared.unit.Unit.{Unit as UnitName}
+use Rattle.byte_unit_base.specs.declared.unit.scan.UnitScan.{UnitScan}
+use Rattle.byte_unit_base.proofs.Lists.{push_append}
+use Rattle.byte_unit_base.proofs.Scans.{read_found}
+use Rattle.byte_unit_base.proofs.UnitReads.{unit_scan_is}
+
+-- digits
+
+pub no_digits : (bytes : List ℕ) → AreDigits bytes 0 0
+no_digits bytes = record { within = omega arith; digits = tt; value_is = refl }
+
+pub digit_of : (c : ℕ) → is_ascii_digit c ≡ true → digit_value c + 48 ≡ c
+digit_of c e = grind (arith, nat_tests)
+
+pub digit_below : (c : ℕ) → is_ascii_digit c ≡ true → digit_value c < 10
+digit_below c e = grind (arith, nat_tests)
+
+pub digit_small : (c digit : ℕ) → is_ascii_digit c ≡ true → digit ≡ c - 48 → digit < 10
+digit_small c digit test is = omega (arith, digit_of c test, digit_below c test, is)
+
+pub one_digit_more :
+    (bytes : List ℕ) (count value digit : ℕ) → AreDigits bytes count value → count < length bytes
+    → is_ascii_digit (get_or bytes count 0) ≡ true → digit ≡ get_or bytes count 0 - 48
+    → AreDigits bytes (count + 1) (value * 10 + digit)
+one_digit_more bytes count value digit read inside test is =
+    let same : digit ≡ digit_value (get_or bytes count 0) = omega (arith, digit_of (get_or bytes count 0) test, is) in
+    record {
+      within = omega (arith, inside);
+      digits = digits_more 10 bytes count inside read.digits (digit_below (get_or bytes count 0) test);
+      value_is = omega (arith, digits_value_more 10 bytes count inside, read.value_is, same);
+    }
+
+-- so many digits are below that power of ten
+pub digits_below : (bytes : List ℕ) (count value : ℕ) → AreDigits bytes count value → value < 10 ^ count
+digits_below bytes count value read =
+    let few = length-take-le count bytes read.within in
+    let below = digits_value-lt 10 (take count bytes) read.digits in
+    subst (λ n. n < 10 ^ count) (sym read.value_is) (subst (λ n. digits_value 10 (take count bytes) < 10 ^ n) few below)
+
+-- and so are those with one digit more, up to a limit
+pub next_below : (bytes : List ℕ) (count value digit most : ℕ) → AreDigits bytes count value → count < most → digit < 10
+    → value * 10 + digit < 10 ^ most
+next_below bytes count value digit most read few small =
+    omega (arith, digits_below bytes count value read, pow-add 10 count 1, pow-le-pow_right {n = 10} (omega arith) {i = count + 1} {j = most} (omega (arith, few)))
+
+-- numbers
+
+are_numeral : (bytes : List ℕ) (count value : ℕ) → AreDigits bytes count value → 0 < count → 0 < length (take count bytes)
+are_numeral bytes count value read some = omega (arith, length-take-le count bytes read.within, some)
+
+-- a whole part, and a fraction behind a point
+pub record ArePrecise (bytes : List ℕ) (end whole places fraction : ℕ) : Type 0 where
+  pub whole_is : AreDigits bytes end whole
+  pub some : 0 < end
+  pub below : whole < whole_limit
+  pub inside : end < length bytes
+  pub point_is : get_or bytes end 0 ≡ point
+  pub fraction_is : AreDigits (drop (end + 1) bytes) places fraction
+  pub some_places : 0 < places
+  pub few_places : places ≤ places_of_decimal
+
+pub precise_number : (bytes : List ℕ) (end whole places fraction : ℕ) → ArePrecise bytes end whole places fraction
+    → IsNumberText current (take (end + 1 + places) bytes) (precise whole fraction places)
+precise_number bytes end whole places fraction read =
+    let digits = take places (drop (end + 1) bytes) in
+    let few = length-take-le places (drop (end + 1) bytes) read.fraction_is.within in
+    let front : take (end + 1) bytes ≡ take end bytes ++ point ∷ [] =
+    take_more bytes end 0 read.inside ∙ ap (λ c. take end bytes ++ c ∷ []) read.point_is in
+    inr record {
+      whole = take end bytes;
+      fraction = digits;
+      value = whole;
+      part = fraction * 10 ^ (places_of_decimal - places);
+      text_is = take-add (end + 1) places bytes ∙ (ap (λ text. text ++ digits) front ∙ push_append (take end bytes) digits point);
+      whole_is = ((are_numeral bytes end whole read.whole_is read.some, read.whole_is.digits), read.whole_is.value_is, read.below);
+      fraction_is = (
+        (are_numeral (drop (end + 1) bytes) places fraction read.fraction_is read.some_places, read.fraction_is.digits),
+        subst (λ n. n ≤ places_of_decimal) (sym few) read.few_places,
+        subst (λ n. fraction * 10 ^ (places_of_decimal - places) ≡ n * 10 ^ (places_of_decimal - length digits)) read.fraction_is.value_is
+            (ap (λ n. fraction * 10 ^ (places_of_decimal - n)) (sym few)),
+      );
+      number_is = refl;
+    }
+
+-- the letters of a unit
+
+pub spelled :
+    (flags : Flags) (bytes : List ℕ) (scan : UnitScan) (unit : Option UnitName) → option_map shape_of unit ≡ unit_of flags scan
+    → unit_at_end (unit_of flags scan) ≡ read (unit_scan flags) start bytes
+    → IfSome unit (λ name. Spells current flags bytes (shape_of name))
+spelled flags bytes scan None e h = tt
+spelled flags bytes scan (Some unit) e h =
+    read_found (unit_scan_is flags) shape_of unit_fault bytes (Ok unit) (ap unit_at_end e ∙ h)

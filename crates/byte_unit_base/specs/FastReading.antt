@@ -1,0 +1,16 @@
+-- Private: what the reader of bytes has read. No public contract cites this file.
+use Rattle.std.specs.Prelude.{◌≡◌, ℕ, ◌-◌, ◌<◌, ◌≤◌, true, List, length, take, slice_index}
+use Rattle.std.specs.Char.{is_ascii_graphic}
+use Rattle.std.specs.Str.Parse.{AllDigits, digits_value}
+
+-- the first bytes, so many, are digits of this value
+pub record AreDigits (bytes : List ℕ) (count value : ℕ) : Type 0 where
+  pub within : count ≤ length bytes
+  pub digits : AllDigits 10 (take count bytes)
+  pub value_is : value ≡ digits_value 10 (take count bytes)
+
+-- a visible character of ASCII stands at each end
+pub record HasVisibleEnds (bytes : List ℕ) : Type 0 where
+  pub some : 0 < length bytes
+  pub start : is_ascii_graphic (slice_index bytes 0) ≡ true
+  pub end : is_ascii_graphic (slice_index bytes (length bytes - 1)) ≡ true

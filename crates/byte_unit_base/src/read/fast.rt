@@ -1,0 +1,127 @@
+//! The reader of numbers and units by loops over bytes. It answers most texts that state one, and else leaves it open.
+
+ghost use Rattle.std.specs.Prelude.{◌≡◌, ◌≤◌, IfSome, IsTrue, length, take, replicate};
+ghost use Rattle.byte_unit_base.specs.Edition.{current};
+ghost use Rattle.byte_unit_base.specs.Units.{shape_of};
+ghost use Rattle.byte_unit_base.specs.Spelling.{Spells};
+ghost use Rattle.byte_unit_base.specs.Number.{IsNumberText};
+ghost use Rattle.byte_unit_base.specs.SizeText.{space, trimmed, IsSizeText};
+ghost use Rattle.byte_unit_base.specs.FastReading.{AreDigits, HasVisibleEnds};
+
+use crate::read::scan::{WHOLE_LIMIT, precise_decimal, whole_decimal};
+use crate::unit::Unit;
+use crate::unit::scan::{Flags, UnitScan};
+use byte_unit_math::{DECIMAL_PLACES, Decimal};
+
+/// How many digits a `u64` holds, whichever they are.
+const SHORT_DIGITS: usize = 19;
+
+/// How many digits the greatest whole part has.
+const WHOLE_DIGITS: usize = 34;
+
+/// The number and the unit that the text states, without the white space at its ends. Where there is no answer, the
+/// text may state one or not: so are all texts with a fault, with a character past ASCII, with white space at an end, or
+/// with a whole part of more digits than the greatest has.
+pub fn read_fast(text: &str, flags: Flags) -> Option<(Decimal, Unit)>
+    ensures { IfSome result (λ stated. IsSizeText current flags (trimmed text.now) stated.0 (shape_of stated.1)) }
+{
+    let bytes = text.as_bytes();
+    if has_visible_ends(bytes) {
+        read_whole(bytes, flags)
+    } else {
+        None
+    }
+}
+
+/// Whether a visible character of ASCII stands at each end, so that there is nothing to trim.
+fn has_visible_ends(bytes: &[u8]) -> bool
+    ensures { IsTrue result → HasVisibleEnds bytes.now }
+{
+    !bytes.is_empty() && bytes[0].is_ascii_graphic() && bytes[bytes.len() - 1].is_ascii_graphic()
+}
+
+/// The number and the unit that all the bytes state.
+fn read_whole(bytes: &[u8], flags: Flags) -> Option<(Decimal, Unit)>
+    ensures { IfSome result (λ stated. IsSizeText current flags bytes.now stated.0 (shape_of stated.1)) }
+{
+    let (number, end) = number_at_front(bytes)?;
+    let behind = &bytes[end..];
+    let unit = spelled_unit(&behind[spaces_at_front(behind)..], flags)?;
+    Some((number, unit))
+}
+
+/// The number with which the bytes begin, and where it ends.
+fn number_at_front(bytes: &[u8]) -> Option<(Decimal, usize)>
+    ensures within { IfSome result (λ read. read.1 ≤ length bytes.now) }
+    ensures stated { IfSome result (λ read. IsNumberText current (take read.1 bytes.now) read.0) }
+{
+    let (whole, end) = digits_at_front(bytes, WHOLE_DIGITS);
+    if end == 0 || whole >= WHOLE_LIMIT {
+        return None;
+    }
+    if end == bytes.len() || bytes[end] != b'.' {
+        return Some((whole_decimal(whole), end));
+    }
+    let (fraction, places) = digits_at_front(&bytes[end + 1..], DECIMAL_PLACES as usize);
+    if places == 0 {
+        return None;
+    }
+    Some((
+        precise_decimal(whole, fraction, places as u32),
+        end + 1 + places,
+    ))
+}
+
+/// The digits with which the bytes begin, at most so many: their value, and how many they are.
+fn digits_at_front(bytes: &[u8], most: usize) -> (u128, usize)
+    requires { most ≤ 38 }
+    ensures few { result.1 ≤ most }
+    ensures read { AreDigits bytes.now result.1 result.0 }
+{
+    let (short, mut count) = short_digits_at_front(bytes, most);
+    let mut value = u128::from(short);
+    let end = bytes.len().min(most);
+    'digits: while count < end && bytes[count].is_ascii_digit() {
+        value = value * 10 + u128::from(bytes[count] - b'0');
+        count += 1;
+    }
+    (value, count)
+}
+
+/// The same, of no more digits than a `u64` holds.
+fn short_digits_at_front(bytes: &[u8], most: usize) -> (u64, usize)
+    ensures few { result.1 ≤ most }
+    ensures read { AreDigits bytes.now result.1 result.0 }
+{
+    let end = bytes.len().min(most).min(SHORT_DIGITS);
+    let mut value = 0;
+    let mut count = 0;
+    'digits: while count < end && bytes[count].is_ascii_digit() {
+        value = value * 10 + u64::from(bytes[count] - b'0');
+        count += 1;
+    }
+    (value, count)
+}
+
+/// How many spaces the bytes begin with.
+fn spaces_at_front(bytes: &[u8]) -> usize
+    ensures within { result ≤ length bytes.now }
+    ensures spaces { take result bytes.now ≡ replicate result space }
+{
+    let mut count = 0;
+    'spaces: while count < bytes.len() && bytes[count] == b' ' {
+        count += 1;
+    }
+    count
+}
+
+/// The unit that the whole text spells.
+fn spelled_unit(bytes: &[u8], flags: Flags) -> Option<Unit>
+    ensures { IfSome result (λ unit. Spells current flags bytes.now (shape_of unit)) }
+{
+    let mut scan = UnitScan::START;
+    'letters: for byte in bytes {
+        scan = scan.step(char::from(*byte))?;
+    }
+    scan.unit(flags)
+}
