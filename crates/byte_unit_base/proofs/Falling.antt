@@ -147,10 +147,10 @@ current_falls family n few = fewer_fall family known_prefixes n (all_fall family
 
 -- the first with the property is the largest
 pub largest_found : (Has : Shape → Type 0) (units : List Shape) (i : ℕ) (x : Shape) → falls unit_limit units ≡ true
-    → Remain Has (drop i units) → i < length units → get_or units i x ≡ x → Has x → IsLargest Has x
-largest_found Has units i x fall remain within at has =
+    → Remain Has (drop i units) → (i < length units) × (get_or units i x ≡ x) → Has x → IsLargest Has x
+largest_found Has units i x fall remain at has =
     let rest = drop (suc i) units in
-    let e : drop i units ≡ x ∷ rest = drop-cons units i x within ∙ ap (λ y. y ∷ rest) at in
+    let e : drop i units ≡ x ∷ rest = drop-cons units i x at.0 ∙ ap (λ y. y ∷ rest) at.1 in
     record {
       has = has;
       largest = λ unit h.

@@ -22,27 +22,36 @@ no_greater a b c d e =
     let h = (exact_by_powers (2 ^ a * 5 ^ b) c d a b 0 (pure_powers a b)).0 (1, omega (arith, e)) in
     (omega (arith, h.0), omega (arith, h.1))
 
--- units with the same powers have the same fields
-same_fields : (p : ℕ) (x u : Bool) (q : ℕ) (y v : Bool) → 1 ≤ p → 1 ≤ q → twos (shape p x u) ≡ twos (shape q y v)
-    → fives (shape p x u) ≡ fives (shape q y v) → shape p x u ≡ shape q y v
-same_fields p true u q false v i j t f = absurd (omega (arith, j, f))
-same_fields p false u q true v i j t f = absurd (omega (arith, i, f))
-same_fields p true true q true true i j t f = ap (λ n. shape n true true) (omega (arith, t))
-same_fields p true false q true false i j t f = ap (λ n. shape n true false) (omega (arith, t))
-same_fields p true true q true false i j t f = absurd (omega (arith, t))
-same_fields p true false q true true i j t f = absurd (omega (arith, t))
-same_fields p false true q false true i j t f = ap (λ n. shape n false true) (omega (arith, f))
-same_fields p false false q false false i j t f = ap (λ n. shape n false false) (omega (arith, f))
-same_fields p false true q false false i j t f = absurd (omega (arith, t, f))
-same_fields p false false q false true i j t f = absurd (omega (arith, t, f))
+-- two units have a prefix and the same powers
+record HaveSamePowers (unit other : Shape) : Type 0 where
+  some : 1 ≤ unit.power
+  other_some : 1 ≤ other.power
+  twos : twos unit ≡ twos other
+  fives : fives unit ≡ fives other
+
+-- such units have the same fields
+same_fields : (power : ℕ) (binary bit : Bool) (other : ℕ) (other_binary other_bit : Bool)
+    → HaveSamePowers (shape power binary bit) (shape other other_binary other_bit)
+    → shape power binary bit ≡ shape other other_binary other_bit
+same_fields power true bit other false other_bit h = absurd (omega (arith, h.other_some, h.fives))
+same_fields power false bit other true other_bit h = absurd (omega (arith, h.some, h.fives))
+same_fields power true true other true true h = ap (λ n. shape n true true) (omega (arith, h.twos))
+same_fields power true false other true false h = ap (λ n. shape n true false) (omega (arith, h.twos))
+same_fields power true true other true false h = absurd (omega (arith, h.twos))
+same_fields power true false other true true h = absurd (omega (arith, h.twos))
+same_fields power false true other false true h = ap (λ n. shape n false true) (omega (arith, h.fives))
+same_fields power false false other false false h = ap (λ n. shape n false false) (omega (arith, h.fives))
+same_fields power false true other false false h = absurd (omega (arith, h.twos, h.fives))
+same_fields power false false other false true h = absurd (omega (arith, h.twos, h.fives))
 
 -- so units with a prefix and the same bits are one
 same_unit : (unit other : Shape) → 1 ≤ unit.power → 1 ≤ other.power → bits unit ≡ bits other → unit ≡ other
 same_unit unit other prefix other_prefix same =
     let low = no_greater (twos unit) (fives unit) (twos other) (fives other) same in
     let high = no_greater (twos other) (fives other) (twos unit) (fives unit) (sym same) in
-    same_fields unit.power unit.binary unit.bit other.power other.binary other.bit prefix other_prefix (omega (arith, low.0, high.0))
-    (omega (arith, low.1, high.1))
+    let powers : HaveSamePowers unit other =
+    record { some = prefix; other_some = other_prefix; twos = omega (arith, low.0, high.0); fives = omega (arith, low.1, high.1) } in
+    same_fields unit.power unit.binary unit.bit other.power other.binary other.bit powers
 
 -- of two largest units the one is the other
 pub one_largest : (edition : Edition) (family : Family) (in_bits precision : ℕ) (unit other : Shape)

@@ -45,16 +45,25 @@ exact_where_stated size unit number digits product e =
     let q = ap (λ x. x * unit) e.1 in
     (e.0, eq_of_mul-eq-mul_right one (omega arith) (size * 10 ^ digits) (e.0 * unit) (omega (arith, p, q)))
 
+-- a number is the quotient at so many places, after this first count of digits
+pub record IsDivided (size unit places digits number : ℕ) : Type 0 where
+  pub some : 1 ≤ unit
+  pub room : places ≤ places_of_decimal
+  pub quotient : IsQuotient size unit places number
+  pub first : IsFirstExact size unit places digits
+
 -- so the digits of a division are the places of its number
-pub places_of_quotient : (size unit places digits number : ℕ) → 1 ≤ unit → places ≤ places_of_decimal
-    → IsQuotient size unit places number → IsFirstExact size unit places digits → IsLeastPlaces number one digits
-places_of_quotient size unit places digits number some room q d =
-    let product = number_times_unit size unit places number room q in
+pub places_of_quotient : (size unit places digits number : ℕ) → IsDivided size unit places digits number
+    → IsLeastPlaces number one digits
+places_of_quotient size unit places digits number divided =
+    let quotient = divided.quotient in
+    let product = number_times_unit size unit places number divided.room quotient in
     let P : ℕ → Type 0 = λ j. IsExactAt size unit j in
-    let exact : IsExactAt size unit digits = ⊎_elim (λ e. e) (λ e. subst P (sym e) (q.count, q.exact)) d.ends in
+    let exact : IsExactAt size unit digits =
+    ⊎_elim (λ e. e) (λ e. subst P (sym e) (quotient.count, quotient.exact)) divided.first.ends in
     record {
-      has = stated_where_exact size unit number digits some product exact;
-      least = λ fewer e. d.first fewer (exact_where_stated size unit number fewer product e);
+      has = stated_where_exact size unit number digits divided.some product exact;
+      least = λ fewer e. divided.first.first fewer (exact_where_stated size unit number fewer product e);
     }
 
 -- a whole number takes no places

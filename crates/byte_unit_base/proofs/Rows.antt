@@ -148,7 +148,7 @@ unit_found {family} {in_bits} {rows} Has i d h remain within has =
     let P : List Shape → Type 0 = λ l. falls unit_limit l ≡ true in
     let fall = subst P (sym (listed_units family in_bits rows h)) (current_falls family h.prefixes h.few) in
     let there : i < length (map unit_in rows) = omega (arith, length-map rows unit_in, within) in
-    largest_found Has (map unit_in rows) i unit fall remain there (get_or-map unit_in rows i d unit within) has
+    largest_found Has (map unit_in rows) i unit fall remain (there, get_or-map unit_in rows i d unit within) has
 
 pub unit_passed : (Has : Shape → Type 0) (rows : List Row) (i : ℕ) (d : Row) → Remain Has (drop i (map unit_in rows))
     → i < length rows → ¬ (Has (unit_in (get_or rows i d))) → Remain Has (drop (i + 1) (map unit_in rows))

@@ -64,10 +64,13 @@ record IsLargestOf (Has : Shape → Type 0) (units : List Shape) (unit : Shape) 
   has : Has unit
   largest : (other : Shape) → IsIn other units → Has other → bits other ≤ bits unit
 
+-- those among the units that have the property are no larger
+abbrev AreNoLarger : (Shape → Type 0) → List Shape → ℕ → Type 0
+AreNoLarger Has units bound = (other : Shape) → IsIn other units → Has other → bits other ≤ bound
+
 -- what is no larger among the first and the others is no larger among all
-each_of : (Has : Shape → Type 0) (x : Shape) (xs : List Shape) (bound : ℕ) → bits x ≤ bound
-    → ((other : Shape) → IsIn other xs → Has other → bits other ≤ bound)
-    → (other : Shape) → IsIn other (x ∷ xs) → Has other → bits other ≤ bound
+each_of : (Has : Shape → Type 0) (x : Shape) (xs : List Shape) (bound : ℕ) → bits x ≤ bound → AreNoLarger Has xs bound
+    → AreNoLarger Has (x ∷ xs) bound
 each_of Has x xs bound first rest other i h = ⊎_elim (λ e. omega (arith, ap bits e, first)) (λ later. rest other later h) i
 
 -- among units one with the property is the largest, or none has it

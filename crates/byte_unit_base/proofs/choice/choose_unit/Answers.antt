@@ -56,6 +56,7 @@ returns-clause-ticks c =
     let some : 1 ≤ c.in_ok-unit.bits = omega (arith, some_bits (shape_of c.in_ok-unit.unit), bits_are) in
     let quotient =
     subst (λ answer. IfSome answer (IsQuotient in_bits c.in_ok-unit.bits most)) c.unwrap-number.ensures c.exact_quotient.ensures.quotient in
-    let least = places_of_quotient in_bits c.in_ok-unit.bits most digits.0 c.unwrap-number.result some (omega arith) quotient digits.1 in
+    let least = places_of_quotient in_bits c.in_ok-unit.bits most digits.0 c.unwrap-number.result
+    (record { some = some; room = omega arith; quotient = quotient; first = digits.1 }) in
     let trials = c.two_five-twos.ensures in
     counted_choice c.args.steps.now c.two_five-twos.new.steps c.exact_quotient.new.steps trials.powers least trials.ticks digits.2
