@@ -62,7 +62,8 @@ digits_below bytes count value read =
 pub next_below : (bytes : List ℕ) (count value digit most : ℕ) → AreDigits bytes count value → count < most → digit < 10
     → value * 10 + digit < 10 ^ most
 next_below bytes count value digit most read few small =
-    omega (arith, digits_below bytes count value read, pow-add 10 count 1, pow-le-pow_right {n = 10} (omega arith) {i = count + 1} {j = most} (omega (arith, few)))
+    let power = pow-le-pow_right {n = 10} (omega arith) {i = count + 1} {j = most} (omega (arith, few)) in
+    omega (arith, digits_below bytes count value read, pow-add 10 count 1, power)
 
 -- numbers
 

@@ -59,7 +59,8 @@ not_empty false front last kept = refl
 not_empty true [] last kept = refl
 not_empty true (next ∷ front) last kept = ap (λ empty. cond empty [] kept) (not_zero (length (front ++ last ∷ [])))
 
-pub keep_last : (front : List ℕ) (last : ℕ) → is_whitespace last ≡ false → drop_trailing_whitespace (front ++ last ∷ []) ≡ front ++ last ∷ []
+pub keep_last : (front : List ℕ) (last : ℕ) → is_whitespace last ≡ false
+    → drop_trailing_whitespace (front ++ last ∷ []) ≡ front ++ last ∷ []
 keep_last [] last is_none = ap (λ white. cond (white && true) [] (last ∷ [])) is_none
 keep_last (next ∷ front) last is_none =
     ap (λ rest. cond (is_whitespace next && nat_eq (length rest) 0) [] (next ∷ rest)) (keep_last front last is_none)

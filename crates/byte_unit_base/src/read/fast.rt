@@ -20,8 +20,8 @@ const SHORT_DIGITS: usize = 19;
 const WHOLE_DIGITS: usize = 34;
 
 /// The number and the unit that the text states, without the white space at its ends. Where there is no answer, the
-/// text may state one or not: so are all texts with a fault, with a character past ASCII, with white space at an end, or
-/// with a whole part of more digits than the greatest has.
+/// text may state one or not: so are all texts with a fault, with a character past ASCII, with white space at an end,
+/// or with a whole part of more digits than the greatest has.
 pub fn read_fast(text: &str, flags: Flags) -> Option<(Decimal, Unit)>
     ensures { IfSome result (λ stated. IsSizeText current flags (trimmed text.now) stated.0 (shape_of stated.1)) }
 {
