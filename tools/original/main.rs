@@ -1,0 +1,42 @@
+//! What byte_unit_lines does, with the Rust crate byte-unit in place of the proved library: for measurements beside it.
+//!
+//! original_lines [byte|bit] reads lines on standard input and writes the size and its form with a unit for each, or
+//! `refused`. Where the crate rounds or refuses otherwise than the library, the answers differ.
+
+use std::io::{self, BufRead, BufReader, BufWriter, Write};
+
+use byte_unit::{Bit, Byte};
+
+const BUFFER: usize = 128 * 1024;
+
+fn answer(line: &[u8], in_bits: bool, out: &mut impl Write) -> io::Result<()> {
+    let Ok(text) = std::str::from_utf8(line) else {
+        return writeln!(out, "refused");
+    };
+    if in_bits {
+        match Bit::parse_str(text) {
+            Ok(size) => writeln!(out, "{size} = {size:#}"),
+            Err(_) => writeln!(out, "refused"),
+        }
+    } else {
+        match Byte::parse_str(text, false) {
+            Ok(size) => writeln!(out, "{size} = {size:#}"),
+            Err(_) => writeln!(out, "refused"),
+        }
+    }
+}
+
+fn main() -> io::Result<()> {
+    let in_bits = std::env::args().nth(1).as_deref() == Some("bit");
+    let mut reader = BufReader::with_capacity(BUFFER, io::stdin().lock());
+    let mut writer = BufWriter::with_capacity(BUFFER, io::stdout().lock());
+    let mut line = Vec::new();
+    while reader.read_until(b'\n', &mut line)? > 0 {
+        if line.last() == Some(&b'\n') {
+            line.pop();
+        }
+        answer(&line, in_bits, &mut writer)?;
+        line.clear();
+    }
+    writer.flush()
+}
