@@ -1,9 +1,10 @@
 -- The zeros at the end of a fraction.
-use Rattle.std.proofs.Common.{◌≡◌, ℕ, suc, ◌+◌, ◌-◌, ◌*◌, ◌/◌, ◌%◌, ◌^◌, ◌<◌, ◌≤◌, arith, ap, ◌∙◌}
+use Rattle.std.proofs.Common.{◌≡◌, ℕ, suc, ◌+◌, ◌-◌, ◌*◌, ◌/◌, ◌%◌, ◌^◌, ◌<◌, ◌≤◌, arith, ap, sym, subst, ◌∙◌}
 use Rattle.std.proofs.Math.Nat.{pow-succ'}
 use Rattle.std.proofs.Math.Numerals.{add-one}
 use Rattle.byte_unit_math.specs.Bounds.{one, places_of_decimal}
 use Rattle.byte_unit_math.specs.Exact.{IsLeastPlaces}
+use Rattle.byte_unit_math.specs.ShortDigits.{IsShortened}
 use Rattle.byte_unit_math.proofs.Division.{IsLeastPlaces-last_digit}
 use Rattle.byte_unit_math.proofs.Scales.{power_parts}
 
@@ -12,17 +13,33 @@ pub record EndsAt (N rest places : ℕ) : Type 0 where
   pub few : places ≤ places_of_decimal
   pub fraction_is : N % one ≡ rest * 10 ^ (places_of_decimal - places)
 
-pub EndsAt-all : (N rest : ℕ) → rest ≡ N % one → EndsAt N rest places_of_decimal
-EndsAt-all N rest fraction = record { few = omega arith; fraction_is = omega (arith, fraction) }
+-- the same digits, with fewer zeros at their end
+pub record FewerZeros (digits all rest places : ℕ) : Type 0 where
+  pub few : places ≤ all
+  pub same : digits ≡ rest * 10 ^ (all - places)
+  pub below : rest < 10 ^ places
 
-pub EndsAt-less : (N rest places : ℕ) → EndsAt N rest places → 0 < places → rest % 10 ≡ 0 → EndsAt N (rest / 10) (places - 1)
-EndsAt-less N rest places h some zero =
-    let behind : places_of_decimal - (places - 1) ≡ (places_of_decimal - places) + 1 = omega (arith, h.few) in
-    let scale : 10 ^ (places_of_decimal - (places - 1)) ≡ 10 * 10 ^ (places_of_decimal - places) =
-    ap (λ k. 10 ^ k) behind ∙ rw add-one (pow-succ' 10 (places_of_decimal - places)) in
+pub FewerZeros-all : (digits all : ℕ) → digits < 10 ^ all → FewerZeros digits all digits all
+FewerZeros-all digits all below =
+    let none : all - all ≡ 0 = omega arith in
+    record { few = omega arith; same = rw none (omega arith); below = below }
+
+pub FewerZeros-less :
+    (digits all rest places : ℕ) → FewerZeros digits all rest places → 0 < places → rest % 10 ≡ 0
+    → FewerZeros digits all (rest / 10) (places - 1)
+FewerZeros-less digits all rest places h some zero =
+    let behind : all - (places - 1) ≡ (all - places) + 1 = omega (arith, h.few) in
+    let scale : 10 ^ (all - (places - 1)) ≡ 10 * 10 ^ (all - places) =
+    ap (λ k. 10 ^ k) behind ∙ rw add-one (pow-succ' 10 (all - places)) in
+    let before : 10 ^ places ≡ 10 * 10 ^ (places - 1) =
+    ap (λ k. 10 ^ k) (let e : places ≡ suc (places - 1) = omega (arith, some) in e) ∙ pow-succ' 10 (places - 1) in
     let parts : rest ≡ 10 * (rest / 10) = omega (arith, zero) in
-    let product = ap (λ r. r * 10 ^ (places_of_decimal - places)) parts in
-    record { few = omega (arith, h.few); fraction_is = h.fraction_is ∙ (product ∙ rw scale (omega arith)) }
+    let product = ap (λ r. r * 10 ^ (all - places)) parts in
+    record {
+      few = omega (arith, h.few);
+      same = h.same ∙ (product ∙ rw scale (omega arith));
+      below = omega (arith, h.below, before, parts);
+    }
 
 -- N in units of the place
 stated : (N rest places : ℕ) → EndsAt N rest places → N * 10 ^ places ≡ (N / one * 10 ^ places + rest) * one
@@ -44,3 +61,20 @@ pub EndsAt-least : (N rest places : ℕ) → EndsAt N rest places → (0 < place
 EndsAt-least N rest places h last =
     IsLeastPlaces-last_digit N one (N / one * 10 ^ places + rest) places (omega arith) (stated N rest places h)
     (λ some. last_digit_kept (N / one) rest places some (last some))
+
+-- a fraction without the zeros at its end
+pub shortened_ends : (N short places : ℕ) → IsShortened (N % one) places_of_decimal short places → EndsAt N short places
+shortened_ends N short places h = record { few = h.few; fraction_is = h.same }
+
+pub shortened_least : (N short places : ℕ) → IsShortened (N % one) places_of_decimal short places → IsLeastPlaces N one places
+shortened_least N short places h = EndsAt-least N short places (shortened_ends N short places h) h.last
+
+pub one_least : (N places others : ℕ) → IsLeastPlaces N one places → IsLeastPlaces N one others → places ≡ others
+one_least N places others h k = omega (arith, h.least others k.has, k.least places h.has)
+
+pub shortened_value :
+    (N short places least : ℕ) → IsShortened (N % one) places_of_decimal short places → IsLeastPlaces N one least
+    → (short * 10 ^ (places_of_decimal - least) ≡ N % one) × (short < 10 ^ least)
+shortened_value N short places least h k =
+    let same = one_least N places least (shortened_least N short places h) k in
+    subst (λ n. (short * 10 ^ (places_of_decimal - n) ≡ N % one) × (short < 10 ^ n)) same (sym h.same, h.below)

@@ -10,4 +10,5 @@ pub mod Padded
 pub mod Nearest
 pub mod Powers
 pub mod NumberLaws
+pub mod ShortDigits
 pub mod Stored

@@ -7,6 +7,7 @@ ghost use Rattle.std.proofs.Common.{rules};
 ghost use Rattle.byte_unit_math.specs.Bounds.{one, places_of_decimal, whole_limit};
 ghost use Rattle.byte_unit_math.specs.Exact.{IsLeastPlaces};
 ghost use Rattle.byte_unit_math.specs.Numeral.{short};
+ghost use Rattle.byte_unit_math.specs.ShortDigits.{IsShortened};
 
 use crate::expansion::Expansion;
 use crate::tens::power_of_ten;
@@ -113,14 +114,38 @@ impl Decimal {
         ensures bound { result ≤ places_of_decimal }
         ensures least { IsLeastPlaces self one result }
     {
-        let mut rest = self.fraction();
-        let mut places = DECIMAL_PLACES;
-        while places > 0 && rest % 10 == 0 {
-            rest /= 10;
-            places -= 1;
-        }
+        let (_, places) = without_zeros(self.fraction, DECIMAL_PLACES);
         places
     }
+
+    /// The digits after the point as a number: of as many digits as it has places, the first of which may be zeros.
+    ///
+    /// ```text
+    /// 50.084    84, of 3 places
+    /// 7         0, of no places
+    /// ```
+    pub fn digits(self) -> u128
+        ensures value { (places : ℕ) → IsLeastPlaces self one places
+            → result * 10 ^ (places_of_decimal - places) ≡ self % one }
+        ensures bound { (places : ℕ) → IsLeastPlaces self one places → result < 10 ^ places }
+    {
+        let (digits, _) = without_zeros(self.fraction, DECIMAL_PLACES);
+        digits
+    }
+}
+
+/// The same digits after a point without the zeros at their end, and how many are left.
+fn without_zeros(digits: u128, places: u32) -> (u128, u32)
+    requires { digits < 10 ^ places }
+    ensures { IsShortened digits places result.0 result.1 }
+{
+    let mut rest = digits;
+    let mut left = places;
+    while left > 0 && rest % 10 == 0 {
+        rest /= 10;
+        left -= 1;
+    }
+    (rest, left)
 }
 
 impl From<u8> for Decimal {

@@ -61,6 +61,22 @@ fn the_greatest_parts(rt: HostRuntime) -> Result<(), Fail> {
 }
 
 #[test]
+fn digits_after_the_point(rt: HostRuntime) -> Result<(), Fail> {
+    for (mantissa, scale, digits, places) in [
+        (5084, 2, 84, 2),
+        (50_084, 3, 84, 3),
+        (1000, 2, 0, 0),
+        (90, 2, 9, 1),
+        (1, 28, 1, 28),
+    ] {
+        let d = Decimal::from_u128_with_scale(mantissa, scale).ok_or("a decimal")?;
+        assert_eq!(rt; d.digits(), digits);
+        assert_eq!(rt; d.places(), places);
+    }
+    Ok(())
+}
+
+#[test]
 fn printed(rt: HostRuntime) -> Result<(), Fail> {
     for (mantissa, scale, text) in [
         (5084, 2, "50.84"),
