@@ -14,7 +14,8 @@ pub use byte_unit_base::{
 pub use byte_unit_bit::{AdjustedBit, Bit};
 pub use byte_unit_byte::{AdjustedByte, Byte};
 pub use byte_unit_format::{
-    Align, FormatSpec, Sign, append_layout, append_plain, layout_len, plain_len,
+    Align, FormatSpec, Sign, append_layout, append_plain, layout_len, plain_len, write_layout,
+    write_plain,
 };
 pub use byte_unit_math::{
     Decimal, Expansion, Steps, Ties, exact_quotient, least_size, least_size_counted, two_five,

@@ -3,6 +3,7 @@ pub mod WrittenDigits
 pub mod TrimmedTexts
 pub mod OneForm
 pub mod WrittenForms
+pub mod Rows
 pub mod SomeForm
 pub mod ReadBack
 pub mod AdjustedForms

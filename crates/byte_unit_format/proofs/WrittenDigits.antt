@@ -5,7 +5,7 @@ use Rattle.std.proofs.Common.{List, [], ◌∷◌, ◌++◌, length, take, repli
 use Rattle.std.proofs.Common.{append_assoc}
 use Rattle.std.proofs.lemmas.Bool.{cases_lt}
 use Rattle.std.proofs.lemmas.List.{length-replicate, take-replicate, replicate-append-replicate, take_all, take-take}
-use Rattle.std.proofs.lemmas.List.{take-map}
+use Rattle.std.proofs.lemmas.List.{take-map, length-map, length-take}
 use Rattle.std.proofs.lemmas.List.Elements.{All-replicate}
 use Rattle.std.proofs.lemmas.Str.{IsAscii-take}
 use Rattle.std.proofs.lemmas.Str.Ascii.{IsAscii-from_all}
@@ -90,3 +90,16 @@ pushed_fraction {places} {shown} {digits} {characters} {old} are adds =
     ∙ (append_assoc (old ++ 46 ∷ []) these zeros
     ∙ (append_assoc old (46 ∷ []) (these ++ zeros)
     ∙ ap (λ text. old ++ text) (fraction_shown are))))
+
+pub length_shown :
+    (shown : ℕ) (digits characters : List ℕ) → shown ≤ length digits → take (length digits) characters ≡ glyphs digits
+    → length (take shown characters) ≡ shown
+length_shown shown digits characters few are =
+    omega (
+      arith,
+      few,
+      ap length are,
+      length-map digits (λ digit. 48 + digit),
+      length-take {A = ℕ} (length digits) characters,
+      length-take {A = ℕ} shown characters,
+    )

@@ -59,6 +59,11 @@ fraction_some places digits positive =
     ∙ ap (λ text. 46 ∷ text)
     (map-append (λ digit. 48 + digit) front back ∙ ap (λ text. glyphs front ++ text) (zeros (places - length digits)))
 
+-- a point stands before the digits where there are any
+pub text_length : (digits : List ℕ) → length (fraction_text digits) ≡ length digits + min 1 (length digits)
+text_length [] = omega arith
+text_length (d ∷ ds) = omega (arith, length-map (d ∷ ds) (λ digit. 48 + digit))
+
 -- the columns of the point and the digits
 pub fraction_length :
     (places : ℕ) (digits : List ℕ)

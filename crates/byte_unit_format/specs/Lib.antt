@@ -5,5 +5,7 @@ pub mod NamedSpecs
 pub mod Adjusted
 pub mod AdjustedString
 pub mod Room
+pub mod Written
+pub mod Row
 pub mod FormLaws
 pub mod VersionLaws

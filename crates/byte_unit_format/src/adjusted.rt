@@ -12,10 +12,11 @@ ghost use Rattle.byte_unit_base.specs.Edition.{current};
 ghost use Rattle.byte_unit_base.specs.Units.{shape_of};
 ghost use Rattle.byte_unit_base.specs.Kinds.{bits_in};
 ghost use Rattle.byte_unit_format.specs.Room.{Appends};
+ghost use Rattle.byte_unit_format.specs.Written.{Writes};
 ghost use Rattle.byte_unit_format.specs.Forms.{text_limit};
 ghost use Rattle.byte_unit_format.specs.Adjusted.{IsNumeralBy, rule_of, IsAdjustedForm, adjusted_text, is_single};
 
-use crate::layout::{append_layout, layout_len};
+use crate::layout::{append_layout, layout_len, write_layout};
 use crate::spec::FormatSpec;
 use byte_unit_base::{Kind, Unit};
 use byte_unit_math::{Expansion, Ties};
@@ -74,13 +75,28 @@ pub fn append_adjusted<A: Allocator>(
     append_layout(&shown.decimal, shown.places, unit, spec, text)
 }
 
+/// Writes the text of a size in a unit at the front of the bytes, as `append_adjusted` adds it, and answers how long it
+/// is. Where it does not fit, nothing is written. It takes no memory. The size is below 10^30.
+///
+/// ```text
+/// write_adjusted(1536, Kind::Byte, Unit::KB, FormatSpec::PLAIN, &mut out)  // 8: "1.536 KB"
+/// ```
+pub fn write_adjusted(size: u128, kind: Kind, unit: Unit, spec: FormatSpec, out: &mut [u8]) -> usize
+    requires { size < current.size_limit }
+    ensures written { Writes (IsAdjustedForm current kind size (shape_of unit) spec) out.old out.new result }
+    ensures small { result < text_limit }
+{
+    let shown = number_in(size, kind, unit, spec);
+    write_layout(&shown.decimal, shown.places, unit, spec, out)
+}
+
 /// Writes the text of a size in a unit into a formatter, as `FormatSpec::PLAIN` lays it out, whatever the formatter's
 /// flags. The size is below 10^30.
 ///
 /// ```text
-/// write_adjusted(1536, Kind::Byte, Unit::KiB, f)    // "1.5 KiB"
+/// display_adjusted(1536, Kind::Byte, Unit::KiB, f)    // "1.5 KiB"
 /// ```
-pub fn write_adjusted<W: fmt::Write>(
+pub fn display_adjusted<W: fmt::Write>(
     size: u128,
     kind: Kind,
     unit: Unit,

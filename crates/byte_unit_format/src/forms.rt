@@ -5,11 +5,12 @@ ghost use Rattle.byte_unit_math.specs.Numeral.{text_of};
 ghost use Rattle.byte_unit_base.specs.Edition.{current, name};
 ghost use Rattle.byte_unit_base.specs.Units.{shape_of};
 ghost use Rattle.byte_unit_format.specs.Room.{Appends};
+ghost use Rattle.byte_unit_format.specs.Written.{Writes};
 ghost use Rattle.byte_unit_format.specs.Layout.{layout};
 ghost use Rattle.byte_unit_format.specs.Forms.{IsSizeForm, IsText, places_of, text_limit};
 
-use crate::layout::{append_layout, layout_len};
-use crate::plain::{append_plain, plain_len};
+use crate::layout::{append_layout, layout_len, write_layout};
+use crate::plain::{append_plain, plain_len, write_plain};
 use crate::spec::FormatSpec;
 use byte_unit_base::{Kind, Unit, recoverable_unit};
 use byte_unit_math::{Expansion, Steps};
@@ -61,6 +62,25 @@ pub fn append_text<A: Allocator>(
         append_layout(&number, number.places(), unit, spec, text)
     } else {
         append_plain(size, spec, text)
+    }
+}
+
+/// Writes the text of a size at the front of the bytes, as `append_text` adds it, and answers how long it is. Where it
+/// does not fit, nothing is written. It takes no memory. The size is below 10^30.
+///
+/// ```text
+/// write_text(1536, Kind::Byte, FormatSpec::ALTERNATE, &mut out)  // 7: "1.5 KiB"
+/// ```
+pub fn write_text(size: u128, kind: Kind, spec: FormatSpec, out: &mut [u8]) -> usize
+    requires { size < current.size_limit }
+    ensures written { Writes (IsText current kind size spec) out.old out.new result }
+    ensures small { result < text_limit }
+{
+    if spec.alternate {
+        let (number, unit) = stated(size, kind, spec);
+        write_layout(&number, number.places(), unit, spec, out)
+    } else {
+        write_plain(size, spec, out)
     }
 }
 

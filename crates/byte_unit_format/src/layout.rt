@@ -9,13 +9,16 @@ ghost use Rattle.byte_unit_math.specs.Finite.{Finite};
 ghost use Rattle.byte_unit_math.specs.Numeral.{fraction_text, text_of};
 ghost use Rattle.byte_unit_math.specs.Padded.{padded};
 ghost use Rattle.byte_unit_format.specs.Room.{spare, Appends};
-ghost use Rattle.byte_unit_format.specs.Layout.{layout_of, before_layout, gap_of};
+ghost use Rattle.byte_unit_format.specs.Layout.{layout, layout_of, before_layout, gap_of};
+ghost use Rattle.byte_unit_format.specs.Row.{fraction_of, places_in, row_text};
+ghost use Rattle.byte_unit_format.specs.Written.{Writes};
 
 use crate::plain::padding;
 use crate::room::{push, push_ascii, push_run, reserve};
+use crate::row::{Fraction, Row};
 use crate::spec::{Align, FormatSpec, Sign};
 use byte_unit_base::Unit;
-use byte_unit_math::{DecimalDigits, Expansion, glyphs_of};
+use byte_unit_math::{DecimalDigits, Expansion, decimal_len, glyphs_of};
 use std::alloc::{AllocError, Allocator};
 
 /// How long a decimal of so many places is with its unit. It takes no memory.
@@ -28,9 +31,7 @@ pub fn layout_len(e: &Expansion, places: u32, unit: Unit, spec: FormatSpec) -> u
     // A whole part, the point, and the unit with its spaces take no more than 44 columns.
     ensures small { result ≤ max u16.MAX (places + 44) }
 {
-    let number = DecimalDigits::of(e.whole()).len() + fraction_len(places);
-    let len = number + gap(unit, spec.sign) + name_len(unit);
-    len + padding(len, spec.width)
+    layout_row(e.whole(), Fraction::First(e, places), unit, spec).len
 }
 
 /// Adds a decimal with exactly so many places, and its unit. Where a width is set the number is padded with spaces
@@ -65,6 +66,54 @@ pub fn append_layout<A: Allocator>(
     push_run(text, b' ', gap);
     text.push_str(unit.as_str()).unwrap();
     Ok(())
+}
+
+/// Writes a decimal with exactly so many places, and its unit, at the front of the bytes, as `append_layout` adds them,
+/// and answers how long they are. Where they do not fit, nothing is written. It takes no memory.
+///
+/// ```text
+/// write_layout(&Expansion::new(10, 0, 0), 0, Unit::KiB, FormatSpec::ALTERNATE, &mut out)  // 6: "10 KiB"
+/// ```
+pub fn write_layout(
+    e: &Expansion,
+    places: u32,
+    unit: Unit,
+    spec: FormatSpec,
+    out: &mut [u8],
+) -> usize
+    ensures written { let text = layout_of current e.now places (shape_of unit) spec in
+        Writes (λ form. form ≡ text) out.old out.new result }
+    ensures small { result ≤ max u16.MAX (places + 44) }
+{
+    layout_row(e.whole(), Fraction::First(e, places), unit, spec).write(out)
+}
+
+/// The parts of a number with its unit.
+pub(crate) fn layout_row<'a>(
+    whole: u128,
+    fraction: Fraction<'a>,
+    unit: Unit,
+    spec: FormatSpec,
+) -> Row<'a>
+    ensures text { let number = decimal whole ++ fraction_of fraction.entry in
+        row_text result ≡ layout number (name current (shape_of unit)) spec }
+    ensures len { result.len ≡ length (row_text result) }
+    ensures small { result.len ≤ max u16.MAX (places_in fraction.entry + 44) }
+    ensures fraction { result.fraction ≡ fraction.entry }
+{
+    let gap = gap(unit, spec.sign);
+    let columns = decimal_len(whole) + fraction.len() + gap + name_len(unit);
+    let pad = padding(columns, spec.width);
+    let before = before_layout(spec.align, pad);
+    Row {
+        before,
+        sign: Sign::Unset,
+        whole,
+        fraction,
+        after: pad - before + gap,
+        unit: Some(unit),
+        len: columns + pad,
+    }
 }
 
 /// How many of the spaces stand before the number.

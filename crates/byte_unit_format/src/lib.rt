@@ -9,13 +9,17 @@ mod forms;
 pub mod laws;
 mod layout;
 mod plain;
+mod put;
 mod room;
+mod row;
 mod spec;
 #[cfg(test)]
 mod tests;
 
-pub use adjusted::{adjusted_len, append_adjusted, number_in_unit, write_adjusted};
-pub use forms::{append_text, text_len};
-pub use layout::{append_layout, layout_len};
-pub use plain::{append_plain, plain_len};
+pub use adjusted::{
+    adjusted_len, append_adjusted, display_adjusted, number_in_unit, write_adjusted,
+};
+pub use forms::{append_text, text_len, write_text};
+pub use layout::{append_layout, layout_len, write_layout};
+pub use plain::{append_plain, plain_len, write_plain};
 pub use spec::{Align, FormatSpec, Sign};

@@ -4,10 +4,13 @@ ghost use Rattle.std.specs.Prelude.{◌≡◌, ◌+◌, ◌<◌, ◌≤◌, ◌+
 ghost use Rattle.std.specs.String.{string_bytes};
 ghost use Rattle.byte_unit_format.specs.Room.{spare, Appends};
 ghost use Rattle.byte_unit_format.specs.Plain.{plain, missing, before_plain, plus_of};
+ghost use Rattle.byte_unit_format.specs.Row.{IsShort, row_text};
+ghost use Rattle.byte_unit_format.specs.Written.{Writes};
 
 use crate::room::{push, push_ascii, push_run, reserve};
+use crate::row::{Fraction, Row};
 use crate::spec::{Align, FormatSpec, Sign};
-use byte_unit_math::{DecimalDigits, NUMBER_DIGITS};
+use byte_unit_math::{DecimalDigits, NUMBER_DIGITS, decimal_len};
 use std::alloc::{AllocError, Allocator};
 
 /// How long the plain form of a number is: its digits with their sign, padded to the width. It takes no memory.
@@ -19,8 +22,7 @@ pub fn plain_len(size: u128, spec: FormatSpec) -> usize
     ensures exact { result ≡ length (plain size spec) }
     ensures small { result ≤ u16.MAX }
 {
-    let len = signed_len(DecimalDigits::of(size).len(), spec.sign);
-    len + padding(len, spec.width)
+    plain_row(size, spec).len
 }
 
 /// Adds the plain form of a number: `+` before its digits for the sign `Plus`, and spaces up to the width.
@@ -49,6 +51,40 @@ pub fn append_plain<A: Allocator>(
     push_ascii(text, digits.as_slice());
     push_run(text, b' ', pad - before);
     Ok(())
+}
+
+/// Writes the plain form of a number at the front of the bytes, as `append_plain` adds it, and answers how long it is.
+/// Where it does not fit, nothing is written. It takes no memory.
+///
+/// ```text
+/// write_plain(10240, FormatSpec { width: Some(8), ..FormatSpec::PLAIN }, &mut out)  // 8: "   10240"
+/// ```
+pub fn write_plain(size: u128, spec: FormatSpec, out: &mut [u8]) -> usize
+    ensures written { Writes (λ form. form ≡ plain size spec) out.old out.new result }
+    ensures small { result ≤ u16.MAX }
+{
+    plain_row(size, spec).write(out)
+}
+
+/// The parts of the plain form of a number.
+fn plain_row(size: u128, spec: FormatSpec) -> Row<'static>
+    ensures text { row_text result ≡ plain size spec }
+    ensures len { result.len ≡ length (plain size spec) }
+    ensures small { result.len ≤ u16.MAX }
+    ensures short { IsShort result.fraction }
+{
+    let columns = signed_len(decimal_len(size), spec.sign);
+    let pad = padding(columns, spec.width);
+    let before = before_plain(spec.align, pad);
+    Row {
+        before,
+        sign: spec.sign,
+        whole: size,
+        fraction: Fraction::Last(0, 0),
+        after: pad - before,
+        unit: None,
+        len: columns + pad,
+    }
 }
 
 /// How many columns so many digits take with their sign.

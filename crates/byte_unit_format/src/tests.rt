@@ -2,7 +2,7 @@
 
 use crate::{
     Align, FormatSpec, Sign, adjusted_len, append_adjusted, append_layout, append_plain,
-    append_text, plain_len, text_len,
+    append_text, plain_len, text_len, write_adjusted, write_layout, write_plain, write_text,
 };
 use byte_unit_base::{Kind, Unit};
 use byte_unit_math::Expansion;
@@ -217,6 +217,23 @@ fn texts_without_room(rt: HostRuntime) -> Result<(), Fail> {
     append_layout(&Expansion::new(10, 0, 0), 0, Unit::KB, ALTERNATE, &mut text)?;
     assert_eq!(rt; text.as_str(), "10 KB");
     Ok(())
+}
+
+#[test]
+fn texts_in_bytes(rt: HostRuntime) {
+    let right = at_side(Align::Right, as_wide(9, ALTERNATE));
+    let mut out = [b'~'; 12];
+    assert_eq!(rt; write_text(1536, Kind::Byte, right, &mut out), 9);
+    assert!(rt; out.starts_with(b"  1.5 KiB~~~"));
+    assert_eq!(rt; write_plain(10, by_sign(Sign::Plus, PLAIN), &mut out), 3);
+    assert!(rt; out.starts_with(b"+10.5 KiB~~~"));
+    let three = to_places(3, PLAIN);
+    assert_eq!(rt; write_adjusted(10, Kind::Bit, Unit::KB, three, &mut out), 8);
+    assert!(rt; out.starts_with(b"0.001 KBB~~~"));
+    let mut short = [b'~'; 4];
+    let ten = Expansion::new(10, 0, 0);
+    assert_eq!(rt; write_layout(&ten, 0, Unit::KB, ALTERNATE, &mut short), 5);
+    assert!(rt; short.starts_with(b"~~~~"));
 }
 
 #[test]

@@ -6,12 +6,16 @@ use Rattle.std.proofs.Common.{rules, Result, Ok, Err, IsOk, set, ◌≡◌, ℕ,
 use Rattle.std.proofs.Common.{◌≤◌, ⊎_elim, List, []}
 use Rattle.std.proofs.Common.{◌∷◌, ◌++◌, length, drop, arith, ap, sym, refl, ◌∙◌, length-append, append_assoc}
 use Rattle.std.proofs.Common.{append-nil}
-use Rattle.std.proofs.Math.Nat.{pow-succ', one-le-pow, mul-le-mul_right}
+use Rattle.std.proofs.Math.Nat.{pow-succ', one-le-pow, mul-le-mul_right, pow-le-pow_right, div-add-mod'}
 use Rattle.std.proofs.lemmas.Bool.{cases_lt}
 use Rattle.std.proofs.lemmas.Fmt.{decimal_digit, decimal_step_wide, length-decimal-le_wide}
-use Rattle.std.proofs.lemmas.List.{drop-set, drop-drop}
-use Rattle.std.proofs.lemmas.Nat.{mod_below}
+use Rattle.std.proofs.lemmas.List.{drop-set, drop-drop, map-append}
+use Rattle.std.proofs.lemmas.Nat.{mod_below, same_from_place}
 use Rattle.std.proofs.lemmas.Str.{IsUtf8-from_ascii}
+use Rattle.byte_unit_math.specs.Digits.{last_digits}
+use Rattle.byte_unit_math.specs.Numeral.{fraction_text, glyphs}
+use Rattle.byte_unit_math.proofs.Digits.{length_last}
+use Rattle.byte_unit_math.proofs.Fractions.{text_some}
 
 pub decimal_one : (n : ℕ) → n < 10 → decimal n ≡ (48 + n) ∷ []
 decimal_one n h = decimal_digit n h
@@ -38,6 +42,40 @@ unfolding tail_digits
 length-tail_digits zero r = refl
 length-tail_digits (suc k) r =
     length-append (tail_digits k (r / 10)) ((48 + r % 10) ∷ []) ∙ omega (arith, length-tail_digits k (r / 10))
+
+-- a place more is a division by ten more
+place_shift : (r k : ℕ) → r / 10 ^ suc k ≡ r / 10 / 10 ^ k
+place_shift r k =
+    let power = 10 ^ k in
+    let front = r / 10 / power in
+    let behind = r / 10 % power in
+    let scale : 10 ^ suc k ≡ 10 * power = pow-succ' 10 k in
+    let some : 0 < power = omega (arith, one-le-pow k 10 (omega arith)) in
+    let split : r / 10 ≡ front * power + behind = sym (div-add-mod' (r / 10) power) in
+    let below : behind < power = mod_below (r / 10) power some in
+    let product = ap (λ x. front * x) scale in
+    let this : r % 10 ^ suc k < 10 ^ suc k = mod_below r (10 ^ suc k) (omega (arith, scale, some)) in
+    let other : 10 * behind + r % 10 < 10 ^ suc k = omega (arith, scale, below) in
+    let both : r / 10 ^ suc k * 10 ^ suc k + r % 10 ^ suc k ≡ front * 10 ^ suc k + (10 * behind + r % 10) =
+    div-add-mod' r (10 ^ suc k) ∙ omega (arith, split, product) in
+    (same_from_place (r / 10 ^ suc k) (r % 10 ^ suc k) front (10 * behind + r % 10) (10 ^ suc k) this other both).0
+
+-- the last digit of so many is the last of the number
+last_of_digits : (k r : ℕ) → last_digits (suc k) r ≡ last_digits k (r / 10) ++ (r % 10) ∷ []
+last_of_digits zero r =
+    let one : r / 10 ^ 0 % 10 ≡ r % 10 = omega arith in
+    ap (λ d. d ∷ []) one
+last_of_digits (suc k) r =
+    let same : r / 10 ^ suc k ≡ r / 10 / 10 ^ k = place_shift r k in
+    ap (λ q. (q % 10) ∷ last_digits (suc k) r) same
+    ∙ ap (λ ds. (r / 10 / 10 ^ k % 10) ∷ ds) (last_of_digits k r)
+
+tail_glyphs : (k r : ℕ) → tail_digits k r ≡ glyphs (last_digits k r)
+unfolding tail_digits
+tail_glyphs zero r = refl
+tail_glyphs (suc k) r =
+    ap (λ ds. ds ++ (48 + r % 10) ∷ []) (tail_glyphs k (r / 10))
+    ∙ (sym (map-append (λ d. 48 + d) (last_digits k (r / 10)) ((r % 10) ∷ [])) ∙ ap glyphs (sym (last_of_digits k r)))
 
 -- digits before others
 decimal_front :
@@ -157,3 +195,43 @@ pub is_text :
     → MatchResult r P (λ e. ¬ (IsUtf8 bytes) × Q e) → IsAscii bytes → IsOk r
 is_text (Ok s) bytes P Q h ascii = search rules
 is_text (Err e) bytes P Q h ascii = absurd (h.0 (IsUtf8-from_ascii bytes ascii))
+
+-- the digits after the point
+
+pub fraction_glyphs : (places digits : ℕ) → 0 < places → fraction_text (last_digits places digits) ≡ 46 ∷ glyphs (last_digits places digits)
+fraction_glyphs places digits some =
+    text_some (last_digits places digits) (omega (arith, some, length_last places digits))
+
+pub decimal_behind_one :
+    (places digits : ℕ) → digits < 10 ^ places → places ≤ 28
+    → decimal (10 ^ places + digits) ≡ 49 ∷ glyphs (last_digits places digits)
+decimal_behind_one places digits below few =
+    let parts : 10 ^ places + digits ≡ 1 * 10 ^ places + digits = omega arith in
+    let power : 10 ^ places ≤ 10 ^ 28 = pow-le-pow_right {n = 10} (omega arith) few in
+    ap decimal parts
+    ∙ (decimal_front places 1 digits (omega arith) below (omega (arith, power, below))
+    ∙ (ap (λ l. l ++ tail_digits places digits) (decimal_one 1 (omega arith)) ∙ ap (λ l. 49 ∷ l) (tail_glyphs places digits)))
+
+-- then they are as long as the point and the digits
+pub length_behind_one :
+    (places digits : ℕ) → 0 < places → digits < 10 ^ places → places ≤ 28
+    → (length (decimal (10 ^ places + digits)) ≡ length (fraction_text (last_digits places digits)))
+    × (0 < length (decimal (10 ^ places + digits)))
+length_behind_one places digits some below few =
+    let number = decimal_behind_one places digits below few in (
+      ap length number ∙ sym (ap length (fraction_glyphs places digits some)),
+      omega (arith, ap length number),
+    )
+
+-- and the one becomes the point
+pub point_put :
+    (places digits point : ℕ) (bytes behind : List ℕ) → (0 < places) × (digits < 10 ^ places) × (places ≤ 28)
+    → point < length bytes → drop point bytes ≡ decimal (10 ^ places + digits) ++ behind
+    → drop point (set bytes point 46) ≡ fraction_text (last_digits places digits) ++ behind
+point_put places digits point bytes behind fits within h =
+    let all : drop point bytes ≡ 49 ∷ (glyphs (last_digits places digits) ++ behind) =
+    h ∙ ap (λ l. l ++ behind) (decimal_behind_one places digits fits.1 fits.2) in
+    let rest : drop (point + 1) bytes ≡ glyphs (last_digits places digits) ++ behind =
+    sym (drop-drop 1 point bytes) ∙ ap (λ l. drop 1 l) all in
+    drop-set bytes point 46 within
+    ∙ (ap (λ l. 46 ∷ l) rest ∙ ap (λ l. l ++ behind) (sym (fraction_glyphs places digits fits.0)))

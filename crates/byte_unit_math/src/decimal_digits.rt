@@ -1,8 +1,12 @@
 //! The decimal digits of a number.
 
-ghost use Rattle.std.specs.Prelude.{◌≡◌, ◌+◌, ◌≤◌, ◌<◌, ◌++◌, length, drop, IsAscii, Some};
+ghost use Rattle.std.specs.Prelude.{◌≡◌, ◌+◌, ◌^◌, ◌≤◌, ◌<◌, ◌++◌, length, drop, IsAscii, Some};
 ghost use Rattle.std.specs.Fmt.{decimal, DisplaysOnOk, DisplaysStyledOnOk};
+ghost use Rattle.byte_unit_math.specs.Bounds.{places_of_decimal};
+ghost use Rattle.byte_unit_math.specs.Digits.{last_digits};
+ghost use Rattle.byte_unit_math.specs.Numeral.{fraction_text};
 
+use crate::tens::power_of_ten;
 use std::marker::Model;
 use std::{fmt, str};
 
@@ -12,7 +16,10 @@ pub const NUMBER_DIGITS: usize = 39;
 /// One place more, for the one before the last group.
 const ROOM: usize = NUMBER_DIGITS + 1;
 
-/// Ten to the power of 18: 18 digits are taken off at once where a number is above 64 bits.
+/// So many digits are taken off at once where a number is above 64 bits.
+const GROUP_DIGITS: usize = 18;
+
+/// Ten to the power of 18.
 const GROUP: u128 = 1_000_000_000_000_000_000;
 
 /// The decimal digits of a number, as characters. A contract sees the list of them.
@@ -45,15 +52,7 @@ impl DecimalDigits {
         ensures few { length result ≤ NUMBER_DIGITS }
     {
         let mut bytes = [b'0'; ROOM];
-        let mut start = ROOM;
-        let mut rest = n;
-        while rest > u128::from(u64::MAX) {
-            // A one before the group keeps the zeros it begins with; the next digits are written over it.
-            let group = (GROUP + rest % GROUP) as u64;
-            start = write_digits(group, &mut bytes, start) + 1;
-            rest /= GROUP;
-        }
-        start = write_digits(rest as u64, &mut bytes, start);
+        let start = put_decimal(n, &mut bytes, ROOM);
         DecimalDigits { bytes, start }
     }
 
@@ -85,10 +84,89 @@ pub fn write_decimal<W: fmt::Write>(n: u128, f: &mut fmt::Formatter<W>) -> fmt::
     f.write_str(str::from_utf8(digits.as_slice()).unwrap())
 }
 
-/// Writes digits that end before this place, and answers where they begin.
-fn write_digits(n: u64, bytes: &mut [u8; ROOM], end: usize) -> usize
+/// How many decimal digits a number has: at most 39.
+///
+/// ```text
+/// decimal_len(1536)    4
+/// ```
+pub fn decimal_len(n: u128) -> usize
+    ensures exact { result ≡ length (decimal n) }
+    ensures few { result ≤ NUMBER_DIGITS }
+{
+    let mut behind = 0;
+    let mut rest = n;
+    while rest > u128::from(u64::MAX) {
+        rest /= GROUP;
+        behind += GROUP_DIGITS;
+    }
+    len_of(rest as u64) + behind
+}
+
+fn len_of(n: u64) -> usize
+    ensures exact { result ≡ length (decimal n) }
+{
+    let mut len = 1;
+    let mut rest = n;
+    while rest >= 10 {
+        rest /= 10;
+        len += 1;
+    }
+    len
+}
+
+/// Writes the digits of a number so that they end before this place, and answers where they begin.
+///
+/// The caller owes room for them before the place.
+///
+/// ```text
+/// put_decimal(1536, bytes, 6)    2, and the bytes from there on begin with "1536"
+/// ```
+pub fn put_decimal(n: u128, bytes: &mut [u8], end: usize) -> usize
     requires room { length (decimal n) ≤ end }
-    requires within { end ≤ ROOM }
+    requires within { end ≤ length bytes.old }
+    ensures begins { result + length (decimal n) ≡ end }
+    ensures digits { drop result bytes.new ≡ decimal n ++ drop end bytes.old }
+{
+    let mut start = end;
+    let mut rest = n;
+    while rest > u128::from(u64::MAX) {
+        // A one before the group keeps the zeros it begins with; the next digits are written over it.
+        let group = (GROUP + rest % GROUP) as u64;
+        start = write_digits(group, bytes, start) + 1;
+        rest /= GROUP;
+    }
+    write_digits(rest as u64, bytes, start)
+}
+
+/// Writes the point and so many digits of a number, zeros in front where it has fewer, so that they end before this
+/// place, and answers where they begin. Where there are to be none it writes nothing.
+///
+/// The caller owes a number of no more than 28 digits, and room before the place.
+///
+/// ```text
+/// put_fraction(5, 2, bytes, 6)    3, and the bytes from there on begin with ".05"
+/// ```
+pub fn put_fraction(digits: u128, places: u32, bytes: &mut [u8], end: usize) -> usize
+    requires few { places ≤ places_of_decimal }
+    requires below { digits < 10 ^ places }
+    requires room { length (fraction_text (last_digits places digits)) ≤ end }
+    requires within { end ≤ length bytes.old }
+    ensures begins { result + length (fraction_text (last_digits places digits)) ≡ end }
+    ensures digits { drop result bytes.new ≡ fraction_text (last_digits places digits) ++ drop end bytes.old }
+{
+    if places == 0 {
+        return end;
+    }
+    // A one in front keeps the zeros behind it, and becomes the point.
+    let point = put_decimal(power_of_ten(places) + digits, bytes, end);
+    bytes[point] = b'.';
+    point
+}
+
+/// Writes digits that end before this place, and answers where they begin.
+fn write_digits(n: u64, bytes: &mut [u8], end: usize) -> usize
+    requires room { length (decimal n) ≤ end }
+    requires within { end ≤ length bytes.old }
     ensures begins { result + length (decimal n) ≡ end }
     ensures digits { drop result bytes.new ≡ decimal n ++ drop end bytes.old }
 {

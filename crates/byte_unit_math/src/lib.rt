@@ -3,7 +3,9 @@
 #![tactic(auto)]
 
 pub use crate::decimal::{DECIMAL_PLACES, Decimal};
-pub use crate::decimal_digits::{DecimalDigits, NUMBER_DIGITS, write_decimal};
+pub use crate::decimal_digits::{
+    DecimalDigits, NUMBER_DIGITS, decimal_len, put_decimal, put_fraction, write_decimal,
+};
 pub use crate::expansion::{EXPANSION_PLACES, Expansion, Ties, glyphs_of};
 pub use crate::factors::two_five;
 pub use crate::least::{least_size, least_size_counted};

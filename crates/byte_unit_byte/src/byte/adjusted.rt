@@ -10,6 +10,7 @@ ghost use Rattle.byte_unit_base.specs.Choice.{IsAppropriate};
 ghost use Rattle.byte_unit_format.specs.Forms.{text_limit};
 ghost use Rattle.byte_unit_format.specs.Adjusted.{IsAdjustedForm};
 ghost use Rattle.byte_unit_format.specs.Room.{Appends};
+ghost use Rattle.byte_unit_format.specs.Written.{Writes};
 ghost use Rattle.byte_unit_base.specs.declared.kind.Kind.TheVariants.{Byte as InBytes};
 
 use super::Byte;
@@ -102,6 +103,16 @@ impl AdjustedByte {
             Appends IsForm text.old text.new result }
     {
         byte_unit_format::append_adjusted(self.size.as_u128(), Kind::Byte, self.unit, spec, text)
+    }
+
+    /// Writes the text at the front of the bytes, as `append_text` adds it, and answers how many bytes it has. Where it
+    /// does not fit, nothing is written. It asks for no memory.
+    pub fn write_text(self, spec: FormatSpec, out: &mut [u8]) -> usize
+        ensures written { let IsForm = IsAdjustedForm current InBytes self.size (shape_of self.unit) spec in
+            Writes IsForm out.old out.new result }
+        ensures small { result < text_limit }
+    {
+        byte_unit_format::write_adjusted(self.size.as_u128(), Kind::Byte, self.unit, spec, out)
     }
 
     /// The text of the size in its unit, as `append_text` adds it. `AllocError` where memory for it was refused.

@@ -5,6 +5,7 @@ ghost use Rattle.std.specs.String.{string_bytes};
 ghost use Rattle.byte_unit_base.specs.Edition.{current};
 ghost use Rattle.byte_unit_format.specs.Forms.{IsText, text_limit};
 ghost use Rattle.byte_unit_format.specs.Room.{Appends};
+ghost use Rattle.byte_unit_format.specs.Written.{Writes};
 ghost use Rattle.byte_unit_base.specs.declared.kind.Kind.TheVariants.{Byte as InBytes};
 
 use super::Byte;
@@ -50,6 +51,20 @@ impl Byte {
         ensures { Appends (IsText current InBytes self spec) text.old text.new result }
     {
         byte_unit_format::append_text(self.size, Kind::Byte, spec, text)
+    }
+
+    /// Writes the text of the size at the front of the bytes, as `append_text` adds it, and answers how many bytes it
+    /// has. Where it does not fit, nothing is written. It asks for no memory.
+    ///
+    /// ```text
+    /// let mut out = [0; 16];
+    /// Byte::from_u64(1536).write_text(FormatSpec::ALTERNATE, &mut out)      // 7, and `out` begins with "1.5 KiB"
+    /// ```
+    pub fn write_text(self, spec: FormatSpec, out: &mut [u8]) -> usize
+        ensures written { Writes (IsText current InBytes self spec) out.old out.new result }
+        ensures small { result < text_limit }
+    {
+        byte_unit_format::write_text(self.size, Kind::Byte, spec, out)
     }
 
     /// The text of the size, as `append_text` adds it. `AllocError` where memory for it was refused.

@@ -58,6 +58,9 @@ fn texts_of_adjusted_sizes(rt: HostRuntime) -> Result<(), Fail> {
         assert_eq!(rt; adjusted.to_text(rt.alloc(), spec)?.as_str(), text);
         assert_eq!(rt; adjusted.to_text_in(rt.alloc(), spec)?.as_str(), text);
         adjusted.append_text(spec, &mut all)?;
+        let mut out = [0; 16];
+        assert_eq!(rt; adjusted.write_text(spec, &mut out), text.len());
+        assert!(rt; out.starts_with(text.as_bytes()), "{text}");
     }
     assert_eq!(rt; all.as_str(), "9.765625 Kib9.77 Kib10.00 Kb10 Kb1.625 B");
     Ok(())

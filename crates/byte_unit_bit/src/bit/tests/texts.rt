@@ -39,6 +39,9 @@ fn texts_and_their_lengths(rt: HostRuntime) -> Result<(), Fail> {
         assert_eq!(rt; size.to_text(rt.alloc(), spec)?.as_str(), text);
         assert_eq!(rt; size.to_text_in(rt.alloc(), spec)?.as_str(), text);
         size.append_text(spec, &mut all)?;
+        let mut out = [0; 16];
+        assert_eq!(rt; size.write_text(spec, &mut out), text.len());
+        assert!(rt; out.starts_with(text.as_bytes()), "{text}");
         assert!(rt; all.as_str().ends_with(text), "{text}");
     }
     assert_eq!(rt; all.len(), 7 + 10 + 11 + 9 + 10 + 10);

@@ -29,7 +29,7 @@ impl fmt::Display for AdjustedByte {
 
     fn fmt<W: fmt::Write>(&self, f: &mut fmt::Formatter<W>) -> fmt::Result {
         let size = self.get_byte().as_u128();
-        byte_unit_format::write_adjusted(size, Kind::Byte, self.get_unit(), f)
+        byte_unit_format::display_adjusted(size, Kind::Byte, self.get_unit(), f)
     }
 }
 

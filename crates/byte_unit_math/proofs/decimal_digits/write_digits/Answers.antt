@@ -1,5 +1,4 @@
 use Rattle.std.proofs.Common.{◌≡◌, ◌+◌, ◌-◌, ◌/◌, ◌++◌, ◌%◌, drop, arith, rules, ap}
-use Rattle.std.proofs.lemmas.List.{length-set}
 use Rattle.std.specs.Fmt.{decimal}
 use Rattle.byte_unit_math.proofs.WrittenDigits.{length_some, length_one, length_more, digit_put, last_put}
 use Rattle.byte_unit_math.proofs.decimal_digits.write_digits.Goals as goal
@@ -12,12 +11,8 @@ loop-rest-init c =
     let some = length_some c.args.n (omega arith) in
     let back : c.args.end - 1 + 1 ≡ c.args.end = omega (arith, some) in
     record {
-      size =
-          search rules;
-      within =
-          omega (arith, some);
-      place =
-          omega (arith, back);
+      within = omega (arith, some);
+      place = omega (arith, back);
       digits = ap (λ k. decimal c.args.n ++ drop k c.args.bytes.now) back;
     }
 
@@ -32,7 +27,6 @@ loop-rest-preserved c =
     let more = length_more l.rest c.loop-rest-test.true (omega arith) in
     let some = length_some (l.rest / 10) (omega arith) in
     record {
-      size = omega (arith, length-set l.bytes l.start (48 + l.rest % 10));
       within = omega (arith, more, some);
       place = omega (arith, more, some);
       digits =

@@ -4,7 +4,6 @@ use Rattle.byte_unit_math.proofs.decimal_digits.write_digits.Given as goal
 
 abbrev pub invariant-loop-rest : goal.invariant-loop-rest
 invariant-loop-rest l = record {
-  size : length l.bytes ≡ 40;
   within : l.start < l.end;
   place : l.start + 1 + length (decimal l.n) ≡ l.end + length (decimal l.rest);
   digits : decimal l.rest ++ drop (l.start + 1) l.bytes ≡ decimal l.n ++ drop l.end l.fn.bytes;

@@ -1,41 +1,22 @@
-use Rattle.std.proofs.Common.{◌%◌, ◌^◌, ◌≤◌, arith, sym, ◌∙◌, subst, ap, length}
-use Rattle.std.specs.Str.{IsAscii}
+use Rattle.std.proofs.Common.{◌≡◌, ◌++◌, List, [], ℕ, drop, replicate, append-nil, arith, sym, subst, ap, length, ◌∙◌, refl}
 use Rattle.std.specs.Fmt.{decimal}
-use Rattle.std.proofs.lemmas.Nat.{mod_below}
+use Rattle.std.specs.Str.{IsAscii}
 use Rattle.std.proofs.lemmas.Fmt.{IsAscii-decimal_wide}
-use Rattle.byte_unit_math.proofs.WrittenDigits.{length_few, length_groups, length-after_one, group_put}
+use Rattle.byte_unit_math.proofs.WrittenDigits.{length_few}
 use Rattle.byte_unit_math.proofs.decimal_digits.DecimalDigits.of.Goals as goal
 
-pub write_digits-start-requires-clause-room : goal.write_digits-start-requires-clause-room
-write_digits-start-requires-clause-room c =
-    let rest = c.loop-rest.rest in
-    let one = length-after_one (rest % 10 ^ 18) (mod_below rest (10 ^ 18) (omega arith)) in
-    omega (arith, one, length_groups rest (omega arith) (omega arith), length_few c.args.n (omega arith))
+pub put_decimal-start-requires-clause-room : goal.put_decimal-start-requires-clause-room
+put_decimal-start-requires-clause-room c = omega (arith, length_few c.args.n (omega arith))
 
-pub loop-rest-preserved : goal.loop-rest-preserved
-loop-rest-preserved c =
-    let l = c.loop-rest in
-    let wide : 10 ^ 18 ≤ l.rest = omega arith in
-    let one = length-after_one (l.rest % 10 ^ 18) (mod_below l.rest (10 ^ 18) (omega arith)) in
-    let groups = length_groups l.rest wide (omega arith) in
-    record {
-      within = omega (arith, one);
-      size = c.write_digits-start.array_long;
-      place = omega (arith, one, groups);
-      digits =
-          group_put l.rest l.start c.write_digits-start.result l.bytes c.write_digits-start.new.bytes (decimal c.args.n)
-          (wide, omega arith) (record { put = c.write_digits-start.ensures.digits; so_far = l.invariant.digits });
-    }
-
-pub write_digits-start-requires-2-clause-room : goal.write_digits-start-requires-2-clause-room
-write_digits-start-requires-2-clause-room c = omega (arith, length_few c.args.n (omega arith))
+pub returns-clause-digits : goal.returns-clause-digits
+returns-clause-digits c = c.put_decimal-start.ensures.digits ∙ append-nil (decimal c.args.n)
 
 pub returns-clause-ascii : goal.returns-clause-ascii
 returns-clause-ascii c =
-    let same = c.write_digits-start-2.ensures.digits ∙ c.loop-rest.invariant.digits in
+    let same = c.put_decimal-start.ensures.digits ∙ append-nil (decimal c.args.n) in
     subst IsAscii (sym same) (IsAscii-decimal_wide c.args.n (omega arith))
 
 pub returns-clause-few : goal.returns-clause-few
 returns-clause-few c =
-    let same = c.write_digits-start-2.ensures.digits ∙ c.loop-rest.invariant.digits in
+    let same = c.put_decimal-start.ensures.digits ∙ append-nil (decimal c.args.n) in
     omega (arith, ap length same, length_few c.args.n (omega arith))

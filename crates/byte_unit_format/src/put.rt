@@ -1,0 +1,27 @@
+//! Writing before a place of bytes that are there already.
+
+ghost use Rattle.std.specs.Prelude.{◌≡◌, ◌+◌, ◌≤◌, ◌++◌, length, drop, replicate};
+
+/// Puts bytes so that they end before this place, and answers where they begin.
+pub(crate) fn put(bytes: &[u8], out: &mut [u8], end: usize) -> usize
+    requires room { length bytes.now ≤ end }
+    requires within { end ≤ length out.old }
+    ensures begins { result + length bytes.now ≡ end }
+    ensures bytes { drop result out.new ≡ bytes.now ++ drop end out.old }
+{
+    let start = end - bytes.len();
+    out[start..end].copy_from_slice(bytes);
+    start
+}
+
+/// Puts so many of one byte so that they end before this place, and answers where they begin.
+pub(crate) fn put_run(byte: u8, count: usize, out: &mut [u8], end: usize) -> usize
+    requires room { count ≤ end }
+    requires within { end ≤ length out.old }
+    ensures begins { result + count ≡ end }
+    ensures bytes { drop result out.new ≡ replicate count byte ++ drop end out.old }
+{
+    let start = end - count;
+    out[start..end].fill(byte);
+    start
+}
