@@ -1,10 +1,10 @@
 -- What is not above a size, and a size that is cut at the greatest u128.
-use Rattle.std.proofs.Common.{◌≡◌, ℕ, ◌-◌, ◌*◌, ◌^◌, ◌≤◌, min, Bool, Option, Some, None, SomeIff, IfSome, IfNone, arith, ap, inl}
+use Rattle.std.proofs.Common.{◌≡◌, ℕ, ◌-◌, ◌*◌, ◌^◌, ◌≤◌, min, Bool, Option, Some, None, IfSome, IfNone, arith, ap, inl}
 use Rattle.std.proofs.Common.{inr, refl}
-use Rattle.std.proofs.Common.{subst, sym}
+use Rattle.std.proofs.Common.{subst, sym, ◌∙◌}
 use Rattle.std.proofs.Math.Nat.{one-le-pow, one-le-mul}
 use Rattle.std.specs.Option.{IsSome}
-use Rattle.byte_unit_math.specs.Bounds.{unit_limit}
+use Rattle.byte_unit_math.specs.Bounds.{one, unit_limit}
 use Rattle.byte_unit_math.specs.Exact.{IsExactAt}
 use Rattle.byte_unit_base.specs.Shape.{Shape, bits, twos, fives}
 use Rattle.byte_unit_base.specs.Edition.{current}
@@ -50,8 +50,11 @@ pub is_some : {A : Type 0} {P : Type 0} (answer : Option A) → IfNone answer (�
 is_some None none h = absurd (none h)
 is_some (Some x) none h = refl
 
-pub value_made : (answer : Option ℕ) (P : Type 0) (value number : ℕ) → answer ≡ Some number → SomeIff answer P value → number ≡ value
-value_made answer P value number made h = (subst (λ a. SomeIff a P value) made h).1
+-- the size in the unit that is one of its kind
+pub own_number : (kind : Kind) (size number : ℕ) (unit : Shape) → number ≡ size * one → unit ≡ own_unit kind
+    → number * bits unit ≡ size * bits_in kind * one
+own_number kind size number unit value own =
+    ap (λ n. n * bits unit) value ∙ (ap (λ n. size * one * n) (ap bits own ∙ own_bits kind) ∙ omega arith)
 
 -- a size that the greatest u128 cuts off is above every unit as it was
 cut_suits : (family : Family) (kind : UnitType) (in_bits cut : ℕ) (unit : Shape) → cut ≡ min in_bits (2 ^ 128 - 1)

@@ -43,7 +43,7 @@ pub fn recoverable_unit(
     let family = family_for(kind, allow);
     match choose_unit(size, family, kind.bits(), precision, steps) {
         Some(chosen) => chosen,
-        None => (Decimal::from_u128(size).unwrap(), kind.unit()),
+        None => (Decimal::from_digits(size, 0, 0), kind.unit()),
     }
 }
 

@@ -1,6 +1,5 @@
 -- Long division, a digit a step.
-use Rattle.std.proofs.Common.{◌≡◌, ℕ, suc, ◌+◌, ◌-◌, ◌*◌, ◌/◌, ◌%◌, ◌^◌, ◌<◌, ◌≤◌, ⊎_elim, arith, sym, ap, ◌∙◌, subst, Option, Some, None}
-use Rattle.std.proofs.Common.{SomeIff, IfSome, IfNone}
+use Rattle.std.proofs.Common.{◌≡◌, ℕ, suc, ◌+◌, ◌-◌, ◌*◌, ◌/◌, ◌%◌, ◌^◌, ◌<◌, ◌≤◌, ⊎_elim, arith, sym, ap, ◌∙◌, subst}
 use Rattle.std.proofs.Math.Nat.{pow-succ', mul-add-mod_self_right, mod-eq_of_lt, mul-mod_left, div-le_self, div-add-mod', mul-le-mul_right}
 use Rattle.std.proofs.Math.Nat.{eq_of_mul-eq-mul_right}
 use Rattle.std.proofs.lemmas.Nat.{pow-add, div_below, mod_below}
@@ -148,11 +147,3 @@ digits_below fraction digits room small = omega (arith, small, power_bounds digi
 
 pub whole_fits : (size unit : ℕ) → size < whole_limit → size / unit < whole_limit
 whole_fits size unit h = let few = div-le_self size unit in omega (arith, few)
-
-pub IfSome-made : (o : Option ℕ) (C : Type 0) (v : ℕ) (P : ℕ → Type 0) → SomeIff o C v → P v → IfSome o P
-IfSome-made None C v P h p = tt
-IfSome-made (Some x) C v P h p = subst P (sym h.1) p
-
-pub IfNone-made : (o : Option ℕ) (C Q : Type 0) (v : ℕ) → SomeIff o C v → C → IfNone o Q
-IfNone-made None C Q v h c = absurd (h c)
-IfNone-made (Some x) C Q v h c = tt

@@ -1,12 +1,14 @@
 -- A product that is rounded up from its last places, a group of digits a step.
-use Rattle.std.proofs.Common.{◌≡◌, ℕ, ◌+◌, ◌-◌, ◌*◌, ◌/◌, ◌%◌, ◌≤◌, arith, subst, sym, ap, ⊎_elim, Option, Some, None, IfSome, IfNone}
+use Rattle.std.proofs.Common.{◌≡◌, ℕ, ◌+◌, ◌-◌, ◌*◌, ◌^◌, ◌/◌, ◌%◌, ◌<◌, ◌≤◌, arith, subst, sym, ap, ◌∙◌, ⊎_elim, Option, Some, None, IfSome, IfNone}
 use Rattle.std.proofs.Common.{Bool, true, false, ltb}
 use Rattle.std.specs.Bool.{then_some}
+use Rattle.std.proofs.Math.Nat.{one-le-pow, pow-le-pow_right, mul-le-mul_right}
 use Rattle.std.proofs.lemmas.Bool.{cases_lt}
 use Rattle.std.proofs.lemmas.Bool.Decides.{nat_tests}
-use Rattle.byte_unit_math.specs.Bounds.{one}
+use Rattle.byte_unit_math.specs.Bounds.{one, places_of_decimal}
 use Rattle.byte_unit_math.specs.Least.{IsLeastSize}
-use Rattle.byte_unit_math.specs.RoundedUp.{group_limit, half_limit, IsRoundedUp}
+use Rattle.byte_unit_math.specs.RoundedUp.{group_limit, half_places, half_limit, IsRoundedUp}
+use Rattle.byte_unit_math.proofs.Scales.{raise_power}
 
 -- the two groups of half the digits
 pub IsRoundedUp-groups : (digits unit behind part size : ℕ) → IsRoundedUp (digits % group_limit * unit + behind) group_limit part
@@ -17,6 +19,29 @@ IsRoundedUp-groups digits unit behind part size low high =
     record {
       enough = omega (arith, product, low.enough, low.close, high.enough, high.close);
       close = omega (arith, product, low.enough, low.close, high.enough, high.close);
+    }
+
+-- digits that are all in the first half
+pub record InFirstHalf (digits places : ℕ) : Type 0 where
+  pub digits_fit : digits < half_limit
+  pub power_fits : 10 ^ (half_places - places) ≤ half_limit
+  pub first : digits * 10 ^ (half_places - places) < half_limit
+  pub all : digits * 10 ^ (places_of_decimal - places) ≡ digits * 10 ^ (half_places - places) * half_limit
+
+pub first_half : (digits places : ℕ) → places ≤ half_places → digits < 10 ^ places → InFirstHalf digits places
+first_half digits places few small =
+    let parts : 10 ^ half_places ≡ 10 ^ places * 10 ^ (half_places - places) = raise_power places half_places few in
+    let left : places_of_decimal - places - (half_places - places) ≡ half_places = omega (arith, few) in
+    let scale : 10 ^ (places_of_decimal - places) ≡ 10 ^ (half_places - places) * half_limit =
+    raise_power (half_places - places) (places_of_decimal - places) (omega (arith, few)) ∙ ap (λ n. 10 ^ (half_places - places) * 10 ^ n) left in
+    let product = ap (λ n. digits * n) scale in
+    let below = mul-le-mul_right {m = digits + 1} {n = 10 ^ places} (10 ^ (half_places - places)) (omega (arith, small)) in
+    let some = one-le-pow (half_places - places) 10 (omega arith) in
+    record {
+      digits_fit = omega (arith, small, pow-le-pow_right {n = 10} (omega arith) {i = places} {j = half_places} few);
+      power_fits = pow-le-pow_right {n = 10} (omega arith) {i = half_places - places} {j = half_places} (omega arith);
+      first = omega (arith, below, parts, some);
+      all = omega (arith, product);
     }
 
 -- the two halves of a fraction

@@ -11,4 +11,5 @@ pub mod Nearest
 pub mod Powers
 pub mod NumberLaws
 pub mod ShortDigits
+pub mod StoredDecimal
 pub mod Stored

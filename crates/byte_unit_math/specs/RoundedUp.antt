@@ -6,9 +6,13 @@ use Rattle.byte_unit_math.specs.Bounds.{places_of_decimal}
 abbrev pub group_limit : ℕ
 group_limit = 10 ^ (places_of_decimal / 4)
 
--- half of them are
+-- half of them
+abbrev pub half_places : ℕ
+half_places = places_of_decimal / 2
+
+-- as a number they are below it
 abbrev pub half_limit : ℕ
-half_limit = 10 ^ (places_of_decimal / 2)
+half_limit = 10 ^ half_places
 
 -- n is product / scale, rounded up to a whole number
 pub record IsRoundedUp (product scale n : ℕ) : Type 0 where

@@ -31,27 +31,37 @@ const WHOLE_LIMIT: u128 = 5_192_296_858_534_827_628_530_496_329_220_096;
 #[derive(Clone, Copy, Debug, Hash)]
 pub struct Decimal {
     whole: u128,
-    fraction: u128,
+    /// The digits after the point as a number. The last of them is not 0.
+    digits: u128,
+    /// How many they are.
+    places: u32,
 }
 
 impl Model for Decimal {
-    ghost use Rattle.std.specs.Prelude.{◌≡◌, ℕ, ◌+◌, ◌*◌, ◌/◌, ◌%◌, ◌<◌};
-    ghost use Rattle.byte_unit_math.specs.Bounds.{one, whole_limit};
+    ghost use Rattle.std.specs.Prelude.{ℕ};
+    ghost use Rattle.std.specs.Coded.{coded_ℕ};
+    ghost use Rattle.byte_unit_math.specs.StoredDecimal.{number_of, IsShort, fields_of};
 
     ghost Value = { ℕ };
 
-    ghost view = { λ d. d.whole * one + d.fraction };
+    ghost coded = { coded_ℕ };
 
-    ghost invariant = { λ d. (d.whole < whole_limit) × (d.fraction < one) };
+    ghost view = { number_of };
 
-    ghost inverse = { λ n. record { whole = n / one; fraction = n % one } };
+    ghost invariant = { IsShort };
+
+    ghost inverse = { fields_of };
+
+    // A number has no other fields.
+    ghost inverse_ok = { λ d h. h.only };
 }
 
 impl Decimal {
     /// Zero.
     pub const ZERO: Decimal = Decimal {
         whole: 0,
-        fraction: 0,
+        digits: 0,
+        places: 0,
     };
 
     /// `whole + fraction / 10^28`. None exactly where the whole part is 2^112 or more, or the fraction 10^28 or more.
@@ -59,7 +69,7 @@ impl Decimal {
         ensures { SomeIff result ((whole < whole_limit) × (fraction < one)) (whole * one + fraction) }
     {
         if whole < WHOLE_LIMIT && fraction < ONE {
-            Some(Decimal { whole, fraction })
+            Some(Decimal::from_digits(whole, fraction, DECIMAL_PLACES))
         } else {
             None
         }
@@ -69,7 +79,11 @@ impl Decimal {
     pub fn from_u128(n: u128) -> Option<Decimal>
         ensures { SomeIff result (n < whole_limit) (n * one) }
     {
-        Decimal::new(n, 0)
+        if n < WHOLE_LIMIT {
+            Some(Decimal::from_digits(n, 0, 0))
+        } else {
+            None
+        }
     }
 
     /// `mantissa / 10^scale`. None exactly where the scale is above 28, or the whole part 2^112 or more.
@@ -87,10 +101,33 @@ impl Decimal {
             return None;
         }
         let unit = power_of_ten(scale);
-        Decimal::new(
-            mantissa / unit,
-            mantissa % unit * power_of_ten(DECIMAL_PLACES - scale),
-        )
+        let whole = mantissa / unit;
+        if whole < WHOLE_LIMIT {
+            Some(Decimal::from_digits(whole, mantissa % unit, scale))
+        } else {
+            None
+        }
+    }
+
+    /// The whole part, and so many digits after the point as a number: `whole + digits / 10^places`.
+    ///
+    /// The caller owes a whole part below 2^112, at most 28 places, and digits below `10^places`.
+    ///
+    /// ```text
+    /// from_digits(50, 84, 3)    50.084
+    /// ```
+    pub fn from_digits(whole: u128, digits: u128, places: u32) -> Decimal
+        requires whole { whole < whole_limit }
+        requires places { places ≤ places_of_decimal }
+        requires digits { digits < 10 ^ places }
+        ensures { result ≡ whole * one + digits * 10 ^ (places_of_decimal - places) }
+    {
+        let (digits, places) = without_zeros(digits, places);
+        Decimal {
+            whole,
+            digits,
+            places,
+        }
     }
 
     /// The part before the point, below 2^112.
@@ -106,7 +143,7 @@ impl Decimal {
         ensures value { result ≡ self % one }
         ensures bound { result < one }
     {
-        self.fraction
+        self.digits * power_of_ten(DECIMAL_PLACES - self.places)
     }
 
     /// The least number of places that state it, 0 to 28.
@@ -114,8 +151,7 @@ impl Decimal {
         ensures bound { result ≤ places_of_decimal }
         ensures least { IsLeastPlaces self one result }
     {
-        let (_, places) = without_zeros(self.fraction, DECIMAL_PLACES);
-        places
+        self.places
     }
 
     /// The digits after the point as a number: of as many digits as it has places, the first of which may be zeros.
@@ -129,13 +165,30 @@ impl Decimal {
             → result * 10 ^ (places_of_decimal - places) ≡ self % one }
         ensures bound { (places : ℕ) → IsLeastPlaces self one places → result < 10 ^ places }
     {
-        let (digits, _) = without_zeros(self.fraction, DECIMAL_PLACES);
-        digits
+        self.digits
     }
 }
 
 /// The same digits after a point without the zeros at their end, and how many are left.
 fn without_zeros(digits: u128, places: u32) -> (u128, u32)
+    requires { digits < 10 ^ places }
+    ensures { IsShortened digits places result.0 result.1 }
+{
+    if digits < 1 << 64 {
+        let (digits, places) = short_without_zeros(digits as u64, places);
+        return (u128::from(digits), places);
+    }
+    let mut rest = digits;
+    let mut left = places;
+    while left > 0 && rest % 10 == 0 {
+        rest /= 10;
+        left -= 1;
+    }
+    (rest, left)
+}
+
+/// The same of digits that fit 64 bits, where a division takes less time.
+fn short_without_zeros(digits: u64, places: u32) -> (u64, u32)
     requires { digits < 10 ^ places }
     ensures { IsShortened digits places result.0 result.1 }
 {
@@ -176,10 +229,7 @@ impl From<u64> for Decimal {
     ghost from_gives = { λ n d. d ≡ n * one };
 
     fn from(n: u64) -> Decimal {
-        Decimal {
-            whole: u128::from(n),
-            fraction: 0,
-        }
+        Decimal::from_digits(u128::from(n), 0, 0)
     }
 }
 
@@ -197,7 +247,7 @@ impl PartialEq for Decimal {
     ghost laws = { partial_equiv_from_equiv (Prim.search (comparing, rules)) };
 
     fn eq(&self, other: &Decimal) -> bool {
-        self.whole == other.whole && self.fraction == other.fraction
+        self.whole() == other.whole() && self.fraction() == other.fraction()
     }
 }
 
@@ -215,9 +265,9 @@ impl Ord for Decimal {
     ghost matches_eq = { Prim.search (comparing, rules) };
 
     fn cmp(&self, other: &Decimal) -> Ordering {
-        self.whole
-            .cmp(&other.whole)
-            .then(self.fraction.cmp(&other.fraction))
+        self.whole()
+            .cmp(&other.whole())
+            .then(self.fraction().cmp(&other.fraction()))
     }
 }
 

@@ -1,18 +1,22 @@
 //! A decimal of units, rounded up to a whole size.
-ghost use Rattle.std.specs.Prelude.{◌≡◌, ℕ, ◌+◌, ◌*◌, ◌/◌, ◌%◌, ◌^◌, ◌<◌, ◌≤◌, IfSome, IfNone};
-ghost use Rattle.byte_unit_math.specs.Bounds.{bits_limit, one, unit_limit};
+ghost use Rattle.std.specs.Prelude.{◌≡◌, ℕ, ◌+◌, ◌-◌, ◌*◌, ◌/◌, ◌%◌, ◌^◌, ◌<◌, ◌≤◌, IfSome, IfNone};
+ghost use Rattle.byte_unit_math.specs.Bounds.{bits_limit, places_of_decimal, unit_limit};
 ghost use Rattle.byte_unit_math.specs.Least.{IsLeastSize};
 ghost use Rattle.byte_unit_math.specs.RoundedUp.{group_limit, half_limit, IsRoundedUp};
 ghost use Rattle.byte_unit_math.specs.Steps.{raised};
 
-use crate::decimal::Decimal;
+use crate::decimal::{DECIMAL_PLACES, Decimal};
 use crate::steps::Steps;
+use crate::tens::power_of_ten;
 
 /// Above each group of seven digits: a group's product with a unit of less than 40 bits fits a `u64`.
 const GROUP: u64 = 10_000_000;
 
 /// Above two groups, half the digits of a fraction: so many fit a `u64`.
 const HALF: u128 = 100_000_000_000_000;
+
+/// How many digits half of them are.
+const HALF_PLACES: u32 = 14;
 
 /// The least whole number that is not below `d * unit_size`. None exactly where that number reaches the limit.
 ///
@@ -54,34 +58,38 @@ pub fn least_size_counted(
     ensures none { IfNone result ((n : ℕ) → IsLeastSize d unit_size n → limit ≤ n) }
     ensures ticks { steps.new ≡ raised steps.old 4 }
 {
-    let part = rounded_up(d.fraction(), unit_size, steps);
+    let part = rounded_up(d.digits(), d.places(), unit_size, steps);
     // A number past 128 bits is past each limit.
     let size = d.whole().checked_mul(unit_size)?.checked_add(part)?;
     (size < limit).then_some(size)
 }
 
-/// The fraction, in last places, times the unit's size, rounded up to a whole number.
-fn rounded_up(fraction: u128, unit_size: u128, steps: &mut Steps) -> u128
-    requires fraction { fraction < one }
+/// A fraction of so many digits times the unit's size, rounded up to a whole number.
+fn rounded_up(digits: u128, places: u32, unit_size: u128, steps: &mut Steps) -> u128
+    requires digits { digits < 10 ^ places }
+    requires places { places ≤ places_of_decimal }
     requires small_unit { unit_size ≤ unit_limit }
-    ensures least { IsLeastSize fraction unit_size result }
+    ensures least { IsLeastSize (digits * 10 ^ (places_of_decimal - places)) unit_size result }
     ensures bound { result ≤ unit_size }
     ensures ticks { steps.new ≡ raised steps.old 4 }
 {
-    let (high, low) = halves(fraction);
+    let (high, low) = halves(digits, places);
     let part = over_half(low, unit_size, 0, steps);
     over_half(high, unit_size, part, steps)
 }
 
-/// The first and the last 14 digits of a fraction.
-fn halves(fraction: u128) -> (u64, u64)
-    requires { fraction < one }
-    ensures high { result.0 ≡ fraction / half_limit }
-    ensures low { result.1 ≡ fraction % half_limit }
+/// The first and the last 14 digits of a fraction, of which so many digits are given.
+fn halves(digits: u128, places: u32) -> (u64, u64)
+    requires digits { digits < 10 ^ places }
+    requires places { places ≤ places_of_decimal }
+    ensures high { result.0 ≡ digits * 10 ^ (places_of_decimal - places) / half_limit }
+    ensures low { result.1 ≡ digits * 10 ^ (places_of_decimal - places) % half_limit }
 {
-    if fraction == 0 {
-        return (0, 0);
+    if places <= HALF_PLACES {
+        // They are all in the first half, and fit 64 bits.
+        return (digits as u64 * power_of_ten(HALF_PLACES - places) as u64, 0);
     }
+    let fraction = digits * power_of_ten(DECIMAL_PLACES - places);
     let high = fraction / HALF;
     (high as u64, (fraction - high * HALF) as u64)
 }

@@ -7,7 +7,6 @@ ghost use Rattle.byte_unit_math.specs.Exact.{IsExactAt, IsQuotient, IsFirstExact
 use crate::decimal::{DECIMAL_PLACES, Decimal};
 use crate::dividing::{digit_and_rest, quotient_and_rest};
 use crate::steps::Steps;
-use crate::tens::power_of_ten;
 
 /// `size / unit`, where that is a decimal of at most so many places, else None. More than 28 places count as 28.
 ///
@@ -45,8 +44,7 @@ pub fn exact_quotient(size: u128, unit: u128, places: u32, steps: &mut Steps) ->
     if rest > 0 {
         return None;
     }
-    // Never None: the size is below 2^112, and the digits fit their places.
-    Decimal::new(whole, fraction * power_of_ten(DECIMAL_PLACES - digits))
+    Some(Decimal::from_digits(whole, fraction, digits))
 }
 
 #[cfg(test)]

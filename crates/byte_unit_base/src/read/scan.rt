@@ -11,7 +11,7 @@ ghost use Rattle.byte_unit_base.specs.SizeScan.{after_number, precise, sized, si
 use crate::errors::{ParseError, UnitParseError, ValueParseError};
 use crate::unit::Unit;
 use crate::unit::scan::{Flags, UnitScan};
-use byte_unit_math::{DECIMAL_PLACES, Decimal, power_of_ten};
+use byte_unit_math::{DECIMAL_PLACES, Decimal};
 
 /// How far a number and a unit are read.
 #[derive(Clone, Copy)]
@@ -133,7 +133,7 @@ pub fn whole_decimal(whole: u128) -> Decimal
     requires { whole < whole_limit }
     ensures { result ≡ whole * one }
 {
-    Decimal::from_u128(whole).unwrap()
+    Decimal::from_digits(whole, 0, 0)
 }
 
 /// The whole part, and so many digits after the point as a number.
@@ -143,7 +143,7 @@ pub fn precise_decimal(whole: u128, digits: u128, places: u32) -> Decimal
     requires places { places ≤ places_of_decimal }
     ensures { result ≡ precise whole digits places }
 {
-    Decimal::new(whole, digits * power_of_ten(DECIMAL_PLACES - places)).unwrap()
+    Decimal::from_digits(whole, digits, places)
 }
 
 /// A space or the beginning of a unit, after a number.

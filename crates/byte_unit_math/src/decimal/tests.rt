@@ -72,6 +72,7 @@ fn digits_after_the_point(rt: HostRuntime) -> Result<(), Fail> {
         let d = Decimal::from_u128_with_scale(mantissa, scale).ok_or("a decimal")?;
         assert_eq!(rt; d.digits(), digits);
         assert_eq!(rt; d.places(), places);
+        assert_eq!(rt; Decimal::from_digits(d.whole(), digits, places), d);
     }
     Ok(())
 }

@@ -1,10 +1,9 @@
 use Rattle.std.proofs.Common.{◌≡◌, min, arith, subst}
-use Rattle.std.proofs.lemmas.Option.{IfSome_then}
 use Rattle.byte_unit_math.specs.Bounds.{places_of_decimal}
-use Rattle.byte_unit_math.specs.Exact.{IsExactAt, IsQuotient}
+use Rattle.byte_unit_math.specs.Exact.{IsExactAt}
 use Rattle.byte_unit_math.proofs.quotient.exact_quotient.Goals.{then-loop-rest-test+else-digits-most, else-loop-rest-test}
-use Rattle.byte_unit_math.proofs.Division.{Dividing-more, Dividing-ended, digits_below, not_exact, part_below, whole_fits}
-use Rattle.byte_unit_math.proofs.Division.{IsQuotient-digits, IsQuotient-times, IfSome-made, IfNone-made}
+use Rattle.byte_unit_math.proofs.Division.{Dividing-more, Dividing-ended, digits_below, not_exact, whole_fits}
+use Rattle.byte_unit_math.proofs.Division.{IsQuotient-digits, IsQuotient-times}
 use Rattle.byte_unit_math.proofs.quotient.exact_quotient.Goals as goal
 
 pub overflow_mul-fraction : goal.overflow_mul-fraction
@@ -40,10 +39,9 @@ returns-then-rest-gt0-clause-none c = λ exact.
       | else-loop-rest-test w ↦ absurd (omega arith)
     ]
 
-pub overflow_mul-fraction-2 : goal.overflow_mul-fraction-2
-overflow_mul-fraction-2 c =
-    let loop = c.loop-rest in
-    rw c.power_of_ten.ensures (omega (arith, part_below loop.fraction loop.digits (omega arith) loop.invariant.divides.below))
+pub from_digits-requires-clause-whole : goal.from_digits-requires-clause-whole
+from_digits-requires-clause-whole c =
+    rw c.quotient_and_rest-whole.ensures.quotient (whole_fits c.args.size c.args.unit c.requires.small_size)
 
 pub returns-clause-quotient : goal.returns-clause-quotient
 returns-clause-quotient c =
@@ -52,18 +50,9 @@ returns-clause-quotient c =
     let number =
     IsQuotient-digits c.args.size c.args.unit loop.fraction loop.digits places (omega (arith, c.min-most.ensures, loop.invariant.few))
     (omega arith) (Dividing-ended _ _ _ _ _ loop.invariant.divides (omega arith)) in
-    IfSome-made c.new.result _ _ (IsQuotient c.args.size c.args.unit places) c.new.ensures
-    (rw (c.quotient_and_rest-whole.ensures.quotient, c.power_of_ten.ensures) number)
+    rw (c.from_digits.ensures, c.quotient_and_rest-whole.ensures.quotient) number
 
 pub returns-clause-exact : goal.returns-clause-exact
 returns-clause-exact c =
-    IfSome_then c.new.result (returns-clause-quotient c)
-    (λ N is. IsQuotient-times c.args.size c.args.unit (min c.args.places places_of_decimal) N (omega arith) is)
-
-pub returns-clause-none : goal.returns-clause-none
-returns-clause-none c =
-    let loop = c.loop-rest in
-    IfNone-made c.new.result _ _ _ c.new.ensures (
-      rw c.quotient_and_rest-whole.ensures.quotient (whole_fits c.args.size c.args.unit c.requires.small_size),
-      rw c.power_of_ten.ensures (part_below loop.fraction loop.digits (omega arith) loop.invariant.divides.below),
-    )
+    IsQuotient-times c.args.size c.args.unit (min c.args.places places_of_decimal) c.from_digits.result (omega arith)
+    (returns-clause-quotient c)

@@ -1,7 +1,15 @@
-use Rattle.std.proofs.Common.{◌+◌, ◌*◌}
+use Rattle.std.proofs.Common.{◌≡◌, ◌+◌, ◌*◌, arith, subst}
 use Rattle.byte_unit_math.specs.Bounds.{one}
+use Rattle.byte_unit_math.specs.Finite.{IsExpansion}
 use Rattle.byte_unit_math.proofs.Expanding.{decimal_end}
 use Rattle.byte_unit_math.proofs.expansion.Expansion.from_decimal.Goals as goal
 
 pub divide-requires-clause-ends : goal.divide-requires-clause-ends
 divide-requires-clause-ends c = decimal_end (c.whole.result * one + c.fraction.result)
+
+pub returns : goal.returns
+returns c =
+    let whole = c.whole.ensures.value in
+    let fraction = c.fraction.ensures.value in
+    let parts : c.whole.result * one + c.fraction.result ≡ c.args.d = omega (arith, whole, fraction) in
+    subst (λ n. IsExpansion n one c.divide.result) parts c.divide.ensures
