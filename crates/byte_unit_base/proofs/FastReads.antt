@@ -1,5 +1,5 @@
 -- The reader of bytes: the digits that it has read, the number that they make, and the text of a number and a unit.
-use Rattle.std.proofs.Common.{◌≡◌, ℕ, ◌+◌, ◌-◌, ◌*◌, ◌^◌, ◌<◌, ◌≤◌, true, inr, List, [], ◌∷◌, ◌++◌, Option, Some, None, Ok, IfSome}
+use Rattle.std.proofs.Common.{◌≡◌, ℕ, ◌+◌, ◌-◌, ◌*◌, ◌^◌, ◌<◌, ◌≤◌, true, inl, inr, List, [], ◌∷◌, ◌++◌, Option, Some, None, IfSome}
 use Rattle.std.proofs.Common.{length, take, drop, get_or, refl, sym, ap, subst, ◌∙◌, arith, pow-add}
 use Rattle.std.proofs.Math.Nat.{pow-le-pow_right}
 use Rattle.std.proofs.Math.Seq.{take-add}
@@ -14,16 +14,16 @@ use Rattle.byte_unit_base.specs.Edition.{current}
 use Rattle.byte_unit_base.specs.Units.{shape_of}
 use Rattle.byte_unit_base.specs.Spelling.{Flags, Spells}
 use Rattle.byte_unit_base.specs.Number.{point, IsNumberText}
-use Rattle.byte_unit_base.specs.Errors.{unit_fault}
-use Rattle.byte_unit_base.specs.Scan.{read}
-use Rattle.byte_unit_base.specs.UnitScan.{unit_scan, unit_of, unit_at_end, start}
+use Rattle.byte_unit_base.specs.UnitScan.{unit_of, scan_of, prefix_at, is_i, IsMultipleText}
 use Rattle.byte_unit_base.specs.SizeScan.{precise}
 use Rattle.byte_unit_base.specs.FastReading.{AreDigits}
 use Rattle.byte_unit_base.specs.declared.unit.Unit.{Unit as UnitName}
-use Rattle.byte_unit_base.specs.declared.unit.scan.UnitScan.{UnitScan}
+use Rattle.byte_unit_base.specs.declared.unit.scan.Prefix.{Prefix}
+use Rattle.byte_unit_base.specs.declared.unit.scan.Word.{Word}
+use Rattle.byte_unit_base.specs.declared.unit.scan.Multiple.{Multiple}
+use Rattle.byte_unit_base.specs.declared.unit.scan.Multiple.TheVariants.{Decimal, Binary}
 use Rattle.byte_unit_base.proofs.Lists.{push_append}
-use Rattle.byte_unit_base.proofs.Scans.{read_found}
-use Rattle.byte_unit_base.proofs.UnitReads.{unit_scan_is}
+use Rattle.byte_unit_base.proofs.UnitReached.{Reached, Spells-reached, prefix_found, is_true}
 
 -- digits
 
@@ -106,10 +106,30 @@ precise_number bytes end whole places fraction read =
 
 -- the letters of a unit
 
+pub decimal_text :
+    (bytes : List ℕ) (prefix : Prefix) → 0 < length bytes → prefix_at (get_or bytes 0 0) ≡ Some prefix
+    → IsMultipleText (Decimal prefix) (take 1 bytes)
+decimal_text [] prefix some is = absurd (omega (arith, some))
+decimal_text (c ∷ cs) prefix some is =
+    record { letter = c; infix_part = []; text_is = refl; letter_is = prefix_found c prefix is; infix_is = inl (refl, refl) }
+
+pub binary_text :
+    (bytes : List ℕ) (prefix : Prefix) → 1 < length bytes → prefix_at (get_or bytes 0 0) ≡ Some prefix
+    → is_i (get_or bytes 1 0) ≡ true → IsMultipleText (Binary prefix) (take 2 bytes)
+binary_text [] prefix some is with_i = absurd (omega (arith, some))
+binary_text (c ∷ []) prefix some is with_i = absurd (omega (arith, some))
+binary_text (c ∷ d ∷ cs) prefix some is with_i =
+    record {
+      letter = c;
+      infix_part = d ∷ [];
+      text_is = refl;
+      letter_is = prefix_found c prefix is;
+      infix_is = inr (ap (λ x. x ∷ []) (is_true _ _ with_i), refl);
+    }
+
 pub spelled :
-    (flags : Flags) (bytes : List ℕ) (scan : UnitScan) (unit : Option UnitName) → option_map shape_of unit ≡ unit_of flags scan
-    → unit_at_end (unit_of flags scan) ≡ read (unit_scan flags) start bytes
+    (flags : Flags) (multiple : Multiple) (word : Word) (bytes : List ℕ) (unit : Option UnitName)
+    → option_map shape_of unit ≡ unit_of flags (scan_of multiple word) → Reached (scan_of multiple word) bytes
     → IfSome unit (λ name. Spells current flags bytes (shape_of name))
-spelled flags bytes scan None e h = tt
-spelled flags bytes scan (Some unit) e h =
-    read_found (unit_scan_is flags) shape_of unit_fault bytes (Ok unit) (ap unit_at_end e ∙ h)
+spelled flags multiple word bytes None e reached = tt
+spelled flags multiple word bytes (Some unit) e reached = Spells-reached flags multiple word bytes (shape_of unit) (sym e) reached

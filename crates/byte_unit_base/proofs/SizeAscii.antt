@@ -4,12 +4,12 @@ use Rattle.std.proofs.Common.{refl, sym, subst, ◌∙◌, arith}
 use Rattle.std.specs.Prelude.{codes}
 use Rattle.std.specs.List.{All}
 use Rattle.std.specs.Char.{to_ascii_lowercase, to_ascii_uppercase, is_ascii_graphic, is_whitespace}
-use Rattle.std.specs.Str.{IsAscii, str_to_ascii_lowercase}
+use Rattle.std.specs.Str.{IsAscii, IsUtf8, str_to_ascii_lowercase}
 use Rattle.std.proofs.lemmas.Bool.Decides.{nat_tests}
 use Rattle.std.proofs.lemmas.Fmt.{IsAscii-from_digits}
 use Rattle.std.proofs.lemmas.List.{take_more, take_all}
 use Rattle.std.proofs.lemmas.List.Elements.{All-nil, All-cons, All-head, All-tail, All-replicate}
-use Rattle.std.proofs.lemmas.Str.{IsAscii-append}
+use Rattle.std.proofs.lemmas.Str.{IsAscii-append, IsUtf8-from_ascii}
 use Rattle.std.proofs.lemmas.Str.Ascii.{IsAscii-nil, IsAscii-cons, IsAscii-from_all}
 use Rattle.byte_unit_base.specs.Shape.{Shape}
 use Rattle.byte_unit_base.specs.Edition.{current}
@@ -134,10 +134,13 @@ trimmed_size flags bytes number unit ends h =
     subst (λ text. IsSizeText current flags text number unit)
     (sym (trimmed_same bytes (visible_start bytes ends) (visible_end bytes ends) (size_ascii flags bytes number unit h))) h
 
-pub trimmed_stated : (flags : Flags) (bytes text : List ℕ) (found : Option (ℕ × UnitName)) → bytes ≡ text → HasVisibleEnds bytes
+pub trimmed_stated : (flags : Flags) (bytes : List ℕ) (found : Option (ℕ × UnitName)) → HasVisibleEnds bytes
     → IfSome found (λ stated. IsSizeText current flags bytes stated.0 (shape_of stated.1))
-    → IfSome found (λ stated. IsSizeText current flags (trimmed text) stated.0 (shape_of stated.1))
-trimmed_stated flags bytes text None same ends h = tt
-trimmed_stated flags bytes text (Some stated) same ends h =
-    subst (λ whole. IsSizeText current flags (trimmed whole) stated.0 (shape_of stated.1)) same
-    (trimmed_size flags bytes stated.0 (shape_of stated.1) ends h)
+    → IfSome found (λ stated. IsSizeText current flags (trimmed bytes) stated.0 (shape_of stated.1))
+trimmed_stated flags bytes None ends h = tt
+trimmed_stated flags bytes (Some stated) ends h = trimmed_size flags bytes stated.0 (shape_of stated.1) ends h
+
+pub text_stated : (flags : Flags) (bytes : List ℕ) (found : Option (ℕ × UnitName))
+    → IfSome found (λ stated. IsSizeText current flags bytes stated.0 (shape_of stated.1)) → IfSome found (λ stated. IsUtf8 bytes)
+text_stated flags bytes None h = tt
+text_stated flags bytes (Some stated) h = IsUtf8-from_ascii bytes (size_ascii flags bytes stated.0 (shape_of stated.1) h)

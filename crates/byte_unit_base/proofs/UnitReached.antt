@@ -1,16 +1,16 @@
 -- The scan of a spelling and the spellings are one: what the scan has read, and what it reads.
 use Rattle.std.proofs.Common.{◌≡◌, ℕ, ◌-◌, inl, inr, List, [], ◌∷◌, ◌++◌, Option, Some, None, sym, refl, ap, subst, ◌∙◌, arith, Bool, true}
 use Rattle.std.proofs.Common.{false, cond, eqb, append-nil}
-use Rattle.std.specs.Prelude.{slice_index, codes}
+use Rattle.std.specs.Prelude.{slice_index}
 use Rattle.std.specs.Option.{option_map}
 use Rattle.std.specs.Char.{to_ascii_lowercase, to_ascii_uppercase}
 use Rattle.std.specs.Str.{str_to_ascii_lowercase}
 use Rattle.std.proofs.lemmas.Bool.Decides.{nat_tests}
 use Rattle.byte_unit_base.specs.Shape.{Shape}
 use Rattle.byte_unit_base.specs.Edition.{current}
-use Rattle.byte_unit_base.specs.Spelling.{Flags, IsPrefixLetter, SpellsBinary, SpellsPrefix, SpellsCount, Spells}
+use Rattle.byte_unit_base.specs.Spelling.{Flags, IsPrefixLetter, SpellsBinary, SpellsCount, Spells}
 use Rattle.byte_unit_base.specs.UnitScan.{unit_step, unit_of, start, scan_of, power_of, prefix_at, is_i, multiple_step, word_step, or_word}
-use Rattle.byte_unit_base.specs.UnitScan.{count_of, multiple_shape}
+use Rattle.byte_unit_base.specs.UnitScan.{count_of, multiple_shape, IsMultipleText, IsWordText}
 use Rattle.byte_unit_base.specs.declared.unit.scan.Prefix.{Prefix}
 use Rattle.byte_unit_base.specs.declared.unit.scan.Prefix.TheVariants.{Kilo, Mega, Giga, Tera, Peta, Exa, Zetta, Yotta, Ronna}
 use Rattle.byte_unit_base.specs.declared.unit.scan.Word.{Word}
@@ -22,19 +22,6 @@ use Rattle.byte_unit_base.proofs.Lists.{push_last}
 use Rattle.byte_unit_base.proofs.Options.{some_mapped}
 
 -- what has been read at a state of the scan
-
-abbrev pub IsMultipleText : Multiple → List ℕ → Type 0
-IsMultipleText One text = text ≡ []
-IsMultipleText (Decimal p) text = SpellsPrefix current text (power_of p) false
-IsMultipleText (Binary p) text = SpellsPrefix current text (power_of p) true
-
-abbrev pub IsWordText : Word → List ℕ → Type 0
-IsWordText Empty text = text ≡ []
-IsWordText UpperB text = text ≡ codes "B"
-IsWordText LowerB text = text ≡ codes "b"
-IsWordText Bi text = str_to_ascii_lowercase text ≡ codes "bi"
-IsWordText Bit text = str_to_ascii_lowercase text ≡ codes "bit"
-IsWordText Bits text = str_to_ascii_lowercase text ≡ codes "bits"
 
 pub record Reached (s : UnitScan) (text : List ℕ) : Type 0 where
   pub front : List ℕ

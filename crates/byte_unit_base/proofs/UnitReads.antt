@@ -14,7 +14,7 @@ use Rattle.byte_unit_base.specs.Readings.{IsUnitReading}
 use Rattle.byte_unit_base.specs.ReaderLaws.{UnitTextsHaveOneAnswer, UnitFrontsAreBeginnings}
 use Rattle.byte_unit_base.specs.Scan.{read}
 use Rattle.byte_unit_base.specs.UnitScan.{unit_step, unit_scan, unit_of, unit_at_end, unit_seen, start, scan_of, power_of, word_place}
-use Rattle.byte_unit_base.specs.UnitScan.{empty_place}
+use Rattle.byte_unit_base.specs.UnitScan.{empty_place, IsMultipleText}
 use Rattle.byte_unit_base.specs.declared.unit.Unit.{Unit as UnitName}
 use Rattle.byte_unit_base.specs.declared.errors.UnitParseError.{UnitParseError}
 use Rattle.byte_unit_base.specs.declared.unit.scan.Word.{Word}
@@ -22,7 +22,7 @@ use Rattle.byte_unit_base.specs.declared.unit.scan.Word.TheVariants.{Empty, Uppe
 use Rattle.byte_unit_base.specs.declared.unit.scan.Multiple.{Multiple}
 use Rattle.byte_unit_base.specs.declared.unit.scan.Multiple.TheVariants.{One, Decimal, Binary}
 use Rattle.byte_unit_base.proofs.Scans.{EndsIn, IsScanOf, read_found, read_meant, read_refused, one_answer, fronts_are_beginnings}
-use Rattle.byte_unit_base.proofs.UnitReached.{Reached, Reached-step, Reached-start, Spells-reached, IsMultipleText}
+use Rattle.byte_unit_base.proofs.UnitReached.{Reached, Reached-step, Reached-start, Spells-reached}
 use Rattle.byte_unit_base.proofs.UnitRuns.{spelling_runs, unit_front_runs}
 
 -- what has been read is a front

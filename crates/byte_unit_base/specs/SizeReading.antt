@@ -1,5 +1,6 @@
--- What the reader of a size answers for a text.
-use Rattle.std.specs.Prelude.{◌≡◌, ℕ, Bool, List, Result, Ok, IfOk, IfErr, IsErrAnd}
+-- What the readers of a size answer for a text, and for bytes.
+use Rattle.std.specs.Prelude.{◌≡◌, ℕ, Bool, List, Option, MatchOption, Result, Ok, IfOk, IfErr, IsErrAnd}
+use Rattle.std.specs.Str.{IsUtf8}
 use Rattle.byte_unit_base.specs.Edition.{current}
 use Rattle.byte_unit_base.specs.Fault.{exceeded}
 use Rattle.byte_unit_base.specs.Errors.{size_fault}
@@ -16,3 +17,8 @@ pub record IsSizeReading
   pub exceeds : (number : ℕ) → Exceeds current kind ignore_case bytes number
       → IsErrAnd result (λ error. size_fault error ≡ exceeded number)
   pub fault : IfErr result (λ error. IsRefused current kind ignore_case bytes (size_fault error))
+
+-- nothing where the bytes are no text, and else the reading of the text that they are
+abbrev pub IsBytesReading : Kind → Bool → List ℕ → Option (Result ℕ ParseError) → Type 0
+IsBytesReading kind ignore_case bytes result =
+    MatchOption result (¬ IsUtf8 bytes) (λ answer. IsUtf8 bytes × IsSizeReading kind ignore_case bytes answer)

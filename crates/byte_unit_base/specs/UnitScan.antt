@@ -1,13 +1,16 @@
 -- Private: how the reader goes over a spelling, one step a character. No public contract cites this file; that what it
 -- comes to is the spellings and faults of the other files is proved.
-use Rattle.std.specs.Prelude.{ℕ, Bool, true, false, not, if◌then◌else◌, ◌==◌, Option, Some, None, Result, Ok, Err}
+use Rattle.std.specs.Prelude.{◌≡◌, ℕ, Bool, true, false, not, if◌then◌else◌, ◌==◌, List, [], Option, Some, None, Result}
+use Rattle.std.specs.Prelude.{Ok, Err, codes}
+use Rattle.std.specs.Str.{str_to_ascii_lowercase}
 use Rattle.byte_unit_base.specs.Fault.{Fault, stops_at_bi}
 use Rattle.std.specs.Option.{option_map}
 use Rattle.std.specs.Char.{to_ascii_uppercase, to_ascii_lowercase}
 use Rattle.byte_unit_base.specs.Shape.{Shape, shape}
 use Rattle.byte_unit_base.specs.Units.{shape_of}
 use Rattle.byte_unit_base.specs.Errors.{unit_fault}
-use Rattle.byte_unit_base.specs.Spelling.{Flags}
+use Rattle.byte_unit_base.specs.Edition.{current}
+use Rattle.byte_unit_base.specs.Spelling.{Flags, SpellsPrefix}
 use Rattle.byte_unit_base.specs.Scan.{Scan, seen}
 use Rattle.byte_unit_base.specs.declared.unit.Unit.{Unit as UnitName}
 use Rattle.byte_unit_base.specs.declared.errors.UnitParseError.{UnitParseError}
@@ -73,6 +76,20 @@ unit_step s c = or_word s.multiple (prefix_step s.multiple s.word c) (word_step 
 
 abbrev pub start : UnitScan
 start = scan_of One Empty
+
+-- the texts that are read as a prefix, and as the letters behind it
+abbrev pub IsMultipleText : Multiple → List ℕ → Type 0
+IsMultipleText One text = text ≡ []
+IsMultipleText (Decimal p) text = SpellsPrefix current text (power_of p) false
+IsMultipleText (Binary p) text = SpellsPrefix current text (power_of p) true
+
+abbrev pub IsWordText : Word → List ℕ → Type 0
+IsWordText Empty text = text ≡ []
+IsWordText UpperB text = text ≡ codes "B"
+IsWordText LowerB text = text ≡ codes "b"
+IsWordText Bi text = str_to_ascii_lowercase text ≡ codes "bi"
+IsWordText Bit text = str_to_ascii_lowercase text ≡ codes "bit"
+IsWordText Bits text = str_to_ascii_lowercase text ≡ codes "bits"
 
 -- whether a word says bits; it may stop within the word
 abbrev pub count_of : Flags → Word → Option Bool

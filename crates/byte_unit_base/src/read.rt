@@ -8,6 +8,7 @@ ghost use Rattle.byte_unit_base.specs.Scan.{read};
 ghost use Rattle.byte_unit_base.specs.SizeScan.{size_seen, size_scan};
 
 use crate::errors::ParseError;
+pub(crate) use crate::read::fast::read_fast;
 use crate::read::scan::SizeScan;
 use crate::unit::Unit;
 use crate::unit::scan::Flags;
@@ -43,10 +44,17 @@ pub fn read_size(
         ignore_case,
         prefer_byte,
     };
-    match fast::read_fast(s, flags) {
+    match read_fast(s.as_bytes(), flags) {
         Some(stated) => Ok(stated),
-        None => read_number_and_unit(s.trim(), flags),
+        None => read_by_steps(s, flags),
     }
+}
+
+/// What `read_size` answers, by steps of a character.
+pub(crate) fn read_by_steps(s: &str, flags: Flags) -> Result<(Decimal, Unit), ParseError>
+    ensures { IsNumberReading flags s.now result }
+{
+    read_number_and_unit(s.trim(), flags)
 }
 
 /// The number and the unit that the whole text states.

@@ -1,21 +1,23 @@
 //! Sizes of either kind as numbers below their bound: what the size types share.
 
-ghost use Rattle.std.specs.Prelude.{◌≡◌, ℕ, ◌+◌, ◌-◌, ◌*◌, ◌/◌, ◌^◌, ◌<◌, ◌≤◌, SomeIff, IfSome, IfOk, min};
+ghost use Rattle.std.specs.Prelude.{◌≡◌, ℕ, ◌+◌, ◌-◌, ◌*◌, ◌/◌, ◌^◌, ◌<◌, ◌≤◌, SomeIff, IfSome, IfOk, Ok, min};
+ghost use Rattle.std.specs.Str.{IsUtf8};
 ghost use Rattle.byte_unit_math.specs.Bounds.{one};
 ghost use Rattle.byte_unit_base.specs.Shape.{bits};
 ghost use Rattle.byte_unit_base.specs.Edition.{current};
 ghost use Rattle.byte_unit_base.specs.Units.{shape_of};
 ghost use Rattle.byte_unit_base.specs.Kinds.{bits_in, flags_for};
-ghost use Rattle.byte_unit_base.specs.Readings.{IsNumberReading};
-ghost use Rattle.byte_unit_base.specs.SizeReading.{IsSizeReading};
+ghost use Rattle.byte_unit_base.specs.SizeReading.{IsSizeReading, IsBytesReading};
 ghost use Rattle.byte_unit_base.specs.LeastOfKind.{IsLeastOf};
 ghost use Rattle.byte_unit_base.specs.SizeOrNone.{IsSizeOrNone, OfSigned};
 
 use crate::errors::{ParseError, ValueParseError};
 use crate::kind::Kind;
-use crate::read::read_size;
+use crate::read::{read_by_steps, read_fast};
 use crate::unit::Unit;
+use crate::unit::scan::Flags;
 use byte_unit_math::{Decimal, least_size};
+use std::str;
 
 /// Sizes are below this: 10^30.
 const SIZE_LIMIT: u128 = 1_000_000_000_000_000_000_000_000_000_000;
@@ -114,16 +116,6 @@ pub fn from_decimal(number: Decimal, unit: Unit, kind: Kind) -> Option<u128>
     Some(holding(in_bits, kind))
 }
 
-/// The number and the unit that a text of the kind states. A text of bits is always case sensitive.
-fn read(s: &str, ignore_case: bool, kind: Kind) -> Result<(Decimal, Unit), ParseError>
-    ensures { IsNumberReading (flags_for kind ignore_case) s.now result }
-{
-    match kind {
-        Kind::Byte => read_size(s, ignore_case, true),
-        Kind::Bit => read_size(s, false, false),
-    }
-}
-
 /// The size that the text states, rounded up once to a whole number of the kind. It is below 10^30.
 ///
 /// The text is one that `read_size` reads. Where it names no unit it states bytes for `Kind::Byte`, and bits for
@@ -142,9 +134,67 @@ pub fn parse(s: &str, ignore_case: bool, kind: Kind) -> Result<u128, ParseError>
     ensures reading { IsSizeReading kind ignore_case s.now result }
     ensures small { IfOk result (λ n. n < current.size_limit) }
 {
-    let (number, unit) = read(s, ignore_case, kind)?;
+    match parse_fast(s.as_bytes(), ignore_case, kind) {
+        Some(size) => Ok(size),
+        None => parse_by_steps(s, ignore_case, kind),
+    }
+}
+
+/// What `parse` answers for the text that the bytes are. `None` exactly where they are not UTF-8.
+///
+/// ```text
+/// parse_bytes(b"1.5 KiB", false, Kind::Byte) is Some(Ok(1536))
+/// parse_bytes(b"1.", false, Kind::Byte) is Some(Err) of NotNumber('.')
+/// parse_bytes(b"1 KiB\xFF", false, Kind::Byte) is None
+/// ```
+pub fn parse_bytes(bytes: &[u8], ignore_case: bool, kind: Kind) -> Option<Result<u128, ParseError>>
+    ensures reading { IsBytesReading kind ignore_case bytes.now result }
+    ensures small { IfSome result (λ answer. IfOk answer (λ n. n < current.size_limit)) }
+{
+    // A text that is read at once is ASCII, and takes no test for UTF-8.
+    if let Some(size) = parse_fast(bytes, ignore_case, kind) {
+        return Some(Ok(size));
+    }
+    match str::from_utf8(bytes) {
+        Ok(text) => Some(parse_by_steps(text, ignore_case, kind)),
+        Err(_) => None,
+    }
+}
+
+/// The size that the bytes of a text state, where they are read at once and it is below 10^30.
+fn parse_fast(bytes: &[u8], ignore_case: bool, kind: Kind) -> Option<u128>
+    ensures reading { IfSome result (λ n. IsSizeReading kind ignore_case bytes.now (Ok n)) }
+    ensures text { IfSome result (λ n. IsUtf8 bytes.now) }
+    ensures small { IfSome result (λ n. n < current.size_limit) }
+{
+    let (number, unit) = read_fast(bytes, flags_for(kind, ignore_case))?;
+    from_decimal(number, unit, kind)
+}
+
+/// What `parse` answers, by steps of a character.
+fn parse_by_steps(s: &str, ignore_case: bool, kind: Kind) -> Result<u128, ParseError>
+    ensures reading { IsSizeReading kind ignore_case s.now result }
+    ensures small { IfOk result (λ n. n < current.size_limit) }
+{
+    let (number, unit) = read_by_steps(s, flags_for(kind, ignore_case))?;
     let size = from_decimal(number, unit, kind);
     size.ok_or(ParseError::Value(ValueParseError::ExceededBounds(number)))
+}
+
+/// How a text of the kind is read. One of bits is always case sensitive.
+fn flags_for(kind: Kind, ignore_case: bool) -> Flags
+    ensures { result ≡ flags_for kind ignore_case }
+{
+    match kind {
+        Kind::Byte => Flags {
+            ignore_case,
+            prefer_byte: true,
+        },
+        Kind::Bit => Flags {
+            ignore_case: false,
+            prefer_byte: false,
+        },
+    }
 }
 
 /// The sum of two sizes. `None` exactly where it is not below 10^30.

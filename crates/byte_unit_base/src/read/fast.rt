@@ -1,16 +1,18 @@
 //! The reader of numbers and units by loops over bytes. It answers most texts that state one, and else leaves it open.
 
 ghost use Rattle.std.specs.Prelude.{◌≡◌, ◌≤◌, IfSome, IsTrue, length, take, replicate};
+ghost use Rattle.std.specs.Str.{IsUtf8};
 ghost use Rattle.byte_unit_base.specs.Edition.{current};
 ghost use Rattle.byte_unit_base.specs.Units.{shape_of};
 ghost use Rattle.byte_unit_base.specs.Spelling.{Spells};
 ghost use Rattle.byte_unit_base.specs.Number.{IsNumberText};
 ghost use Rattle.byte_unit_base.specs.SizeText.{space, trimmed, IsSizeText};
 ghost use Rattle.byte_unit_base.specs.FastReading.{AreDigits, HasVisibleEnds};
+ghost use Rattle.byte_unit_base.specs.UnitScan.{IsMultipleText, IsWordText};
 
 use crate::read::scan::{WHOLE_LIMIT, precise_decimal, whole_decimal};
 use crate::unit::Unit;
-use crate::unit::scan::{Flags, UnitScan};
+use crate::unit::scan::{Flags, Multiple, Prefix, UnitScan, Word, is_i};
 use byte_unit_math::{DECIMAL_PLACES, Decimal};
 
 /// How many digits a `u64` holds, whichever they are.
@@ -19,13 +21,14 @@ const SHORT_DIGITS: usize = 19;
 /// How many digits the greatest whole part has.
 const WHOLE_DIGITS: usize = 34;
 
-/// The number and the unit that the text states, without the white space at its ends. Where there is no answer, the
-/// text may state one or not: so are all texts with a fault, with a character past ASCII, with white space at an end,
-/// or with a whole part of more digits than the greatest has.
-pub fn read_fast(text: &str, flags: Flags) -> Option<(Decimal, Unit)>
-    ensures { IfSome result (λ stated. IsSizeText current flags (trimmed text.now) stated.0 (shape_of stated.1)) }
+/// The number and the unit that the bytes of a text state, without the white space at its ends. Where there is no
+/// answer, they may state one or not: so are all texts with a fault, with a character past ASCII, with white space at
+/// an end, with a whole part of more digits than the greatest has, or with `bit` or `bits` in capital letters.
+pub fn read_fast(bytes: &[u8], flags: Flags) -> Option<(Decimal, Unit)>
+    ensures stated { IfSome result
+        (λ stated. IsSizeText current flags (trimmed bytes.now) stated.0 (shape_of stated.1)) }
+    ensures text { IfSome result (λ stated. IsUtf8 bytes.now) }
 {
-    let bytes = text.as_bytes();
     if has_visible_ends(bytes) {
         read_whole(bytes, flags)
     } else {
@@ -119,9 +122,41 @@ fn spaces_at_front(bytes: &[u8]) -> usize
 fn spelled_unit(bytes: &[u8], flags: Flags) -> Option<Unit>
     ensures { IfSome result (λ unit. Spells current flags bytes.now (shape_of unit)) }
 {
-    let mut scan = UnitScan::START;
-    'letters: for byte in bytes {
-        scan = scan.step(char::from(*byte))?;
+    let (multiple, end) = multiple_at_front(bytes);
+    let word = word_of(&bytes[end..])?;
+    UnitScan { multiple, word }.unit(flags)
+}
+
+/// The prefix with which the bytes begin, and where it ends.
+fn multiple_at_front(bytes: &[u8]) -> (Multiple, usize)
+    ensures within { result.1 ≤ length bytes.now }
+    ensures read { IsMultipleText result.0 (take result.1 bytes.now) }
+{
+    if bytes.is_empty() {
+        return (Multiple::One, 0);
     }
-    scan.unit(flags)
+    match Prefix::from_char(char::from(bytes[0])) {
+        None => (Multiple::One, 0),
+        Some(prefix) => {
+            if bytes.len() > 1 && is_i(char::from(bytes[1])) {
+                (Multiple::Binary(prefix), 2)
+            } else {
+                (Multiple::Decimal(prefix), 1)
+            }
+        }
+    }
+}
+
+/// What the letters behind a prefix say.
+fn word_of(bytes: &[u8]) -> Option<Word>
+    ensures { IfSome result (λ word. IsWordText word bytes.now) }
+{
+    match bytes {
+        [] => Some(Word::Empty),
+        [b'B'] => Some(Word::UpperB),
+        [b'b'] => Some(Word::LowerB),
+        [b'b', b'i', b't'] => Some(Word::Bit),
+        [b'b', b'i', b't', b's'] => Some(Word::Bits),
+        _ => None,
+    }
 }

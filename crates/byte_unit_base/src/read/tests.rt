@@ -91,6 +91,27 @@ fn numbers_and_units_read(rt: HostRuntime) {
 }
 
 #[test]
+fn words_read_in_either_case(rt: HostRuntime) {
+    for (text, want) in [
+        ("1bit", Unit::Bit),
+        ("1 bits", Unit::Bit),
+        ("1BIT", Unit::Bit),
+        ("1 Kbit", Unit::Kbit),
+        ("1 kibits", Unit::Kibit),
+        ("1 KIbItS", Unit::Kibit),
+        ("1KI", Unit::KiB),
+    ] {
+        match read_size(text, false, true) {
+            Ok((number, unit)) => {
+                assert_eq!(rt; number.whole(), 1, "{text}");
+                assert_eq!(rt; unit, want, "{text}");
+            }
+            Err(_) => panic!(rt; "refused {text}"),
+        }
+    }
+}
+
+#[test]
 fn numbers_read_at_borders(rt: HostRuntime) {
     for (text, whole, fraction) in [
         ("9999999999999999999", 9_999_999_999_999_999_999u128, 0u128),

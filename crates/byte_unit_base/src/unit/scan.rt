@@ -63,7 +63,7 @@ impl Prefix {
     ghost use Rattle.byte_unit_base.specs.Units.{shape_of};
 
     /// The prefix of a letter in either case.
-    fn from_char(c: char) -> Option<Prefix>
+    pub fn from_char(c: char) -> Option<Prefix>
         ensures { result ≡ prefix_at c }
     {
         match c.to_ascii_uppercase() {
@@ -153,7 +153,7 @@ impl Word {
 }
 
 /// Whether it is an `i`, in either case.
-fn is_i(c: char) -> bool
+pub fn is_i(c: char) -> bool
     ensures { result ≡ is_i c }
 {
     c.to_ascii_lowercase() == 'i'

@@ -55,6 +55,23 @@ fn texts_are_read_exactly_and_rounded_up(rt: HostRuntime) {
 }
 
 #[test]
+fn bytes_are_read_as_their_text(rt: HostRuntime) {
+    for (text, size) in [("1.5 Kib", 1536), ("1 K\u{85}", 1000)] {
+        match Bit::parse_bytes(text.as_bytes()) {
+            Some(Ok(found)) => assert_eq!(rt; found.as_u128(), size, "{text}"),
+            _ => panic!(rt; "{text}"),
+        }
+    }
+    assert!(rt;
+        matches!(
+            Bit::parse_bytes(b""),
+            Some(Err(ParseError::Value(ValueParseError::NoValue)))
+        )
+    );
+    assert!(rt; Bit::parse_bytes(b"\xC2").is_none());
+}
+
+#[test]
 fn texts_past_the_bound_of_the_first_version(rt: HostRuntime) {
     for (text, size) in [
         (

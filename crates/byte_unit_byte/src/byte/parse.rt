@@ -1,6 +1,6 @@
 //! Reading sizes in bytes.
 
-ghost use Rattle.byte_unit_base.specs.SizeReading.{IsSizeReading};
+ghost use Rattle.byte_unit_base.specs.SizeReading.{IsSizeReading, IsBytesReading};
 ghost use Rattle.byte_unit_base.specs.declared.kind.Kind.TheVariants.{Byte as InBytes};
 
 use super::Byte;
@@ -33,5 +33,23 @@ impl Byte {
     {
         let size = size::parse(s, ignore_case, Kind::Byte)?;
         Ok(Byte { size })
+    }
+
+    /// What `parse_str` answers for the text that the bytes are. `None` exactly where they are not UTF-8.
+    ///
+    /// Where they state a size and are not refused, it is quicker than to make a text of them first.
+    ///
+    /// ```text
+    /// Byte::parse_bytes(b"1.5 KiB", false)      // Some(Ok(1536 bytes))
+    /// Byte::parse_bytes(b"1.", false)           // Some(Err(Value(NotNumber('.'))))
+    /// Byte::parse_bytes(b"1 KiB\xFF", false)    // None
+    /// ```
+    pub fn parse_bytes(bytes: &[u8], ignore_case: bool) -> Option<Result<Byte, ParseError>>
+        ensures { IsBytesReading InBytes ignore_case bytes.now result }
+    {
+        match size::parse_bytes(bytes, ignore_case, Kind::Byte)? {
+            Ok(size) => Some(Ok(Byte { size })),
+            Err(error) => Some(Err(error)),
+        }
     }
 }

@@ -150,6 +150,27 @@ fn other_texts_are_refused_by_their_fault(rt: HostRuntime) {
 }
 
 #[test]
+fn bytes_are_read_as_their_text(rt: HostRuntime) {
+    for (text, size) in [
+        ("1.5 KiB", 1536),
+        ("\u{3000}1 K\u{85}", 1000),
+        ("12 BITS", 2),
+    ] {
+        match Byte::parse_bytes(text.as_bytes(), false) {
+            Some(Ok(found)) => assert_eq!(rt; found.as_u128(), size, "{text}"),
+            _ => panic!(rt; "{text}"),
+        }
+    }
+    assert!(rt;
+        matches!(
+            Byte::parse_bytes(b"1.", false),
+            Some(Err(ParseError::Value(ValueParseError::NotNumber('.'))))
+        )
+    );
+    assert!(rt; Byte::parse_bytes(b"1 KiB\xFF", false).is_none());
+}
+
+#[test]
 fn long_numbers_are_refused(rt: HostRuntime) {
     for text in [
         "9.00000000000000000000000000001",
