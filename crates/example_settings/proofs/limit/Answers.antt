@@ -1,0 +1,14 @@
+use Rattle.std.proofs.Common.{◌≡◌, Some}
+use Rattle.std.proofs.lemmas.Option.{same_Some}
+use Rattle.serde_json.specs.Data.{string}
+use Rattle.serde_json.specs.View.{view}
+use Rattle.example_settings.proofs.limit.Goals as goal
+
+pub returns-in-Some-clause-stated : goal.returns-in-Some-clause-stated
+returns-in-Some-clause-stated c = λ size states.
+    let found = c.in-Some.ensures in
+    let same : Some (view c.in-Some.value.now) ≡ Some (string states.0) = rw found states.1 in
+    let is_string = same_Some _ _ same in
+    let reading = rw is_string at c.from_json.ensures in
+    let accepted = reading.1.reads size states.2 in
+    rw accepted at reading.2

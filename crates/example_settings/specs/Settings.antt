@@ -1,0 +1,12 @@
+-- What settings state.
+use Rattle.std.specs.Prelude.{◌≡◌, ℕ, List, Some, false}
+use Rattle.serde_json.specs.Data.{Data, string}
+use Rattle.serde_json.specs.Find.{get}
+use Rattle.byte_unit.specs.Accepted.{IsAccepted}
+use Rattle.byte_unit.specs.Edition.{current}
+use Rattle.byte_unit.specs.declared.Kind.TheVariants.{Byte as InBytes}
+
+-- by this name the settings have a string, and its text is read as this size
+abbrev pub States : Data → List ℕ → ℕ → Type 0
+States settings name size =
+    (text : List ℕ) × (get name settings ≡ Some (string text)) × IsAccepted current InBytes false text size

@@ -1,0 +1,79 @@
+//! Reads the limits of a service from JSON, and says which limits hold and which settings are refused.
+#![tactic(auto)]
+
+ghost use Rattle.std.specs.Prelude.{◌≡◌, ◌⊎◌, ℕ, IfOk};
+ghost use Rattle.serde_json.specs.Find.{get};
+ghost use Rattle.serde_json.specs.View.{view};
+ghost use Rattle.example_settings.specs.Settings.{States};
+
+use anyhow::{Result, anyhow};
+use byte_unit::{Byte, FormatSpec, JsonSizeError};
+use serde_json::Value;
+use std::io;
+
+/// A setting of the service. Each is a limit.
+#[derive(Clone, Copy)]
+enum Setting {
+    Upload,
+    Cache,
+    Log,
+    Line,
+}
+
+impl Setting {
+    const ALL: [Setting; 4] = [Setting::Upload, Setting::Cache, Setting::Log, Setting::Line];
+
+    /// Its name in the settings.
+    fn name(self) -> &'static str {
+        match self {
+            Setting::Upload => "upload",
+            Setting::Cache => "cache",
+            Setting::Log => "log",
+            Setting::Line => "line",
+        }
+    }
+
+    /// The limit where the settings state none.
+    fn default_limit(self) -> Byte {
+        match self {
+            Setting::Upload => Byte::MEGABYTE,
+            Setting::Cache => Byte::GIBIBYTE,
+            Setting::Log => Byte::MEBIBYTE,
+            Setting::Line => Byte::KIBIBYTE,
+        }
+    }
+}
+
+/// The limit that the settings state by this name, and the default where they have no such name. Anything else by this
+/// name is refused.
+fn limit(settings: &Value, name: &str, default: Byte) -> Result<Byte, JsonSizeError>
+    ensures stated { (size : ℕ) → States (view settings.now) name.now size → result ≡ Ok size }
+    ensures default { get name.now (view settings.now) ≡ None → result ≡ Ok default }
+    ensures nothing_else { IfOk result (λ size. States (view settings.now) name.now size
+        ⊎ ((get name.now (view settings.now) ≡ None) × (size ≡ default))) }
+{
+    match settings.get(name) {
+        Some(value) => Byte::from_json(value),
+        None => Ok(default),
+    }
+}
+
+fn main(rt: HostRuntime) -> Result<()> {
+    let text = io::read_to_string(rt.alloc(), rt.reader())?;
+    let settings = Value::from_str(rt.alloc(), text.as_str()).map_err(|error| anyhow!(
+        "the settings are no JSON: {error}"
+    ))?;
+    for setting in Setting::ALL {
+        let name = setting.name();
+        let limit = match limit(&settings, name, setting.default_limit()) {
+            Ok(limit) => limit,
+            Err(error) => {
+                println!(rt; "{name} is refused: {error}")?;
+                setting.default_limit()
+            }
+        };
+        let text = limit.to_text(rt.alloc(), FormatSpec::ALTERNATE)?;
+        println!(rt; "{name}: {text}")?;
+    }
+    Ok(())
+}
