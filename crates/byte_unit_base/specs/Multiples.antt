@@ -1,4 +1,4 @@
--- The lists that the search for a unit runs along. Only private contracts speak of them.
+-- Private: the lists that the search for a unit runs along. No public contract cites this file.
 use Rattle.std.specs.Prelude.{◌≡◌, ℕ, zero, suc, ◌≤◌, true, false, List, [], ◌∷◌, ◌++◌, length, map}
 use Rattle.byte_unit_base.specs.Shape.{Shape, shape, bits, twos, fives}
 use Rattle.byte_unit_base.specs.Units.{shape_of}

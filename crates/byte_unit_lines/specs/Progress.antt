@@ -1,5 +1,4 @@
--- How far a run has come, step by step: for the functions of `run`, `waiting` and `line` that no other crate calls, and
--- for no public contract.
+-- Private: how far a run has come, step by step. No public contract cites this file.
 use Rattle.std.specs.Prelude.{◌≡◌, ℕ, List, [], ◌∷◌, ◌++◌, ◌==◌, if◌then◌else◌, Result, Ok, Err}
 use Rattle.byte_unit_lines.specs.Answer.{Kind, IsSaidOf, IsAnswer}
 use Rattle.byte_unit_lines.specs.Lines.{line_end}

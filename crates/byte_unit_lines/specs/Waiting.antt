@@ -1,4 +1,4 @@
--- What a clause sees of answers that wait to be written.
+-- Private: the answers that wait to be written, as a clause sees them. No public contract cites this file.
 use Rattle.std.specs.Prelude.{ℕ, List}
 use Rattle.byte_unit_lines.specs.declared.waiting.Waiting.{Waiting}
 

@@ -1,4 +1,4 @@
--- Step words for private functions: a product that is rounded up a few digits at a time.
+-- Private: a product that is rounded up a few digits at a time. No public contract cites this file.
 use Rattle.std.specs.Prelude.{ℕ, ◌+◌, ◌*◌, ◌/◌, ◌^◌, ◌<◌, ◌≤◌}
 use Rattle.byte_unit_math.specs.Bounds.{places_of_decimal}
 
