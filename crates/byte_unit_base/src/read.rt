@@ -51,6 +51,8 @@ pub fn read_size(
 }
 
 /// What `read_size` answers, by steps of a character.
+#[cold]
+#[inline(never)]
 pub(crate) fn read_by_steps(s: &str, flags: Flags) -> Result<(Decimal, Unit), ParseError>
     ensures { IsNumberReading flags s.now result }
 {

@@ -108,6 +108,7 @@ fn bit_limit(kind: Kind) -> u128
 /// from_decimal(1.5, Unit::KiB, Kind::Byte)    Some(1536)
 /// from_decimal(0.1, Unit::B, Kind::Byte)      Some(1)
 /// ```
+#[inline]
 pub fn from_decimal(number: Decimal, unit: Unit, kind: Kind) -> Option<u128>
     ensures size { IsSizeOrNone current (IsLeastOf kind number (shape_of unit)) result }
     ensures small { IfSome result (λ n. n < current.size_limit) }
@@ -162,6 +163,7 @@ pub fn parse_bytes(bytes: &[u8], ignore_case: bool, kind: Kind) -> Option<Result
 }
 
 /// The size that the bytes of a text state, where they are read at once and it is below 10^30.
+#[inline]
 fn parse_fast(bytes: &[u8], ignore_case: bool, kind: Kind) -> Option<u128>
     ensures reading { IfSome result (λ n. IsSizeReading kind ignore_case bytes.now (Ok n)) }
     ensures text { IfSome result (λ n. IsUtf8 bytes.now) }
@@ -172,6 +174,8 @@ fn parse_fast(bytes: &[u8], ignore_case: bool, kind: Kind) -> Option<u128>
 }
 
 /// What `parse` answers, by steps of a character.
+#[cold]
+#[inline(never)]
 fn parse_by_steps(s: &str, ignore_case: bool, kind: Kind) -> Result<u128, ParseError>
     ensures reading { IsSizeReading kind ignore_case s.now result }
     ensures small { IfOk result (λ n. n < current.size_limit) }

@@ -55,6 +55,13 @@ IsLeastSize-halves fraction unit part size low high =
       least = λ m r. omega (arith, product, low.enough, low.close, high.enough, high.close, r);
     }
 
+-- none of a unit
+pub IsLeastSize-none : (digits power unit : ℕ) → digits ≡ 0 → IsLeastSize (digits * power) unit 0
+IsLeastSize-none digits power unit none =
+    let zero_is : 0 ≡ digits * power = sym (ap (λ n. n * power) none ∙ omega arith) in
+    let least : IsLeastSize 0 unit 0 = record { has = omega arith; least = λ m r. omega arith } in
+    subst (λ n. IsLeastSize n unit 0) zero_is least
+
 -- the whole part's product beside the fraction's least size
 pub IsLeastSize-whole :
     (whole fraction unit part : ℕ) → IsLeastSize fraction unit part → IsLeastSize (whole * one + fraction) unit (whole * unit + part)

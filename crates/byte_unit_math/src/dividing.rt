@@ -26,6 +26,11 @@ pub(crate) fn digit_and_rest(dividend: u128, divisor: u128) -> (u128, u128)
     ensures digit { result.0 ≡ dividend / divisor }
     ensures rest { result.1 ≡ dividend % divisor }
 {
+    if divisor < 1 << 60 {
+        // Ten times the divisor fits 64 bits.
+        let (digit, rest) = short_digit_and_rest(dividend as u64, divisor as u64);
+        return (u128::from(digit), u128::from(rest));
+    }
     let (eights, rest) = taken(dividend, 8, divisor);
     let (fours, rest) = taken(rest, 4, divisor);
     let (twos, rest) = taken(rest, 2, divisor);
@@ -37,6 +42,36 @@ pub(crate) fn digit_and_rest(dividend: u128, divisor: u128) -> (u128, u128)
 fn taken(dividend: u128, times: u128, divisor: u128) -> (u128, u128)
     requires once { dividend < 2 * (times * divisor) }
     requires small { times * divisor < 2 ^ 128 }
+    ensures few { result.0 ≤ times }
+    ensures parts { result.0 * divisor + result.1 ≡ dividend }
+    ensures below { result.1 < times * divisor }
+{
+    let multiple = times * divisor;
+    if dividend < multiple {
+        (0, dividend)
+    } else {
+        (times, dividend - multiple)
+    }
+}
+
+/// The same in 64 bits.
+fn short_digit_and_rest(dividend: u64, divisor: u64) -> (u64, u64)
+    requires digit { dividend < 10 * divisor }
+    requires small { 10 * divisor < 2 ^ 64 }
+    ensures digit { result.0 ≡ dividend / divisor }
+    ensures rest { result.1 ≡ dividend % divisor }
+{
+    let (eights, rest) = short_taken(dividend, 8, divisor);
+    let (fours, rest) = short_taken(rest, 4, divisor);
+    let (twos, rest) = short_taken(rest, 2, divisor);
+    let (ones, rest) = short_taken(rest, 1, divisor);
+    (eights + fours + twos + ones, rest)
+}
+
+/// So many times the divisor, or none, in 64 bits.
+fn short_taken(dividend: u64, times: u64, divisor: u64) -> (u64, u64)
+    requires once { dividend < 2 * (times * divisor) }
+    requires small { times * divisor < 2 ^ 64 }
     ensures few { result.0 ≤ times }
     ensures parts { result.0 * divisor + result.1 ≡ dividend }
     ensures below { result.1 < times * divisor }

@@ -73,6 +73,10 @@ fn rounded_up(digits: u128, places: u32, unit_size: u128, steps: &mut Steps) -> 
     ensures bound { result ≤ unit_size }
     ensures ticks { steps.new ≡ raised steps.old 4 }
 {
+    if digits == 0 {
+        steps.raise(4);
+        return 0;
+    }
     let (high, low) = halves(digits, places);
     let part = over_half(low, unit_size, 0, steps);
     over_half(high, unit_size, part, steps)

@@ -82,6 +82,9 @@ fn digits_at_front(bytes: &[u8], most: usize) -> (u128, usize)
     ensures read { AreDigits bytes.now result.1 result.0 }
 {
     let (short, mut count) = short_digits_at_front(bytes, most);
+    if count < SHORT_DIGITS {
+        return (u128::from(short), count);
+    }
     let mut value = u128::from(short);
     let end = bytes.len().min(most);
     'digits: while count < end && bytes[count].is_ascii_digit() {

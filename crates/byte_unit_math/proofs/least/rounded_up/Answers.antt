@@ -2,7 +2,7 @@ use Rattle.std.proofs.Common.{ℕ, ◌+◌, ◌-◌, ◌*◌, ◌^◌, arith, su
 use Rattle.byte_unit_math.specs.Bounds.{places_of_decimal}
 use Rattle.byte_unit_math.specs.RoundedUp.{half_limit, IsRoundedUp}
 use Rattle.byte_unit_math.proofs.Division.{part_below}
-use Rattle.byte_unit_math.proofs.RoundedUp.{IsLeastSize-halves}
+use Rattle.byte_unit_math.proofs.RoundedUp.{IsLeastSize-halves, IsLeastSize-none}
 use Rattle.byte_unit_math.proofs.least.rounded_up.Goals as goal
 
 pub returns-clause-least : goal.returns-clause-least
@@ -19,3 +19,7 @@ pub over_half-requires-clause-digits : goal.over_half-requires-clause-digits
 over_half-requires-clause-digits c =
     let below = part_below c.args.digits c.args.places c.requires.places c.requires.digits in
     omega (arith, below, c.halves-high.ensures.high)
+
+pub returns-then-digits-eq0-clause-least : goal.returns-then-digits-eq0-clause-least
+returns-then-digits-eq0-clause-least c =
+    IsLeastSize-none c.args.digits (10 ^ (places_of_decimal - c.args.places)) c.args.unit_size c.if-digits-eq0.true

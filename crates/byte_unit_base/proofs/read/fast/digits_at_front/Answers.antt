@@ -11,13 +11,13 @@ pub overflow_add-value : goal.overflow_add-value
 overflow_add-value c =
     let test : is_ascii_digit (get_or c.args.bytes.now c.digits.count 0) ≡ true =
     sym c.is_ascii_digit.ensures.value ∙ c.if-is_ascii_digit.true in
-    let small = digit_small _ c.from.result test c.from.ensures in
-    omega (arith, next_below c.args.bytes.now c.digits.count c.digits.value c.from.result 38 c.digits.invariant.1 (omega arith) small)
+    let small = digit_small _ c.from-in-digits.result test c.from-in-digits.ensures in
+    omega (arith, next_below c.args.bytes.now c.digits.count c.digits.value c.from-in-digits.result 38 c.digits.invariant.1 (omega arith) small)
 
 pub digits-preserved : goal.digits-preserved
 digits-preserved c =
     let test : is_ascii_digit (get_or c.args.bytes.now c.digits.count 0) ≡ true =
     sym c.is_ascii_digit.ensures.value ∙ c.if-is_ascii_digit.true in (
       omega arith,
-      one_digit_more c.args.bytes.now c.digits.count c.digits.value c.from.result c.digits.invariant.1 (omega arith) test c.from.ensures,
+      one_digit_more c.args.bytes.now c.digits.count c.digits.value c.from-in-digits.result c.digits.invariant.1 (omega arith) test c.from-in-digits.ensures,
     )
