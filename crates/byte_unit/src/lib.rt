@@ -3,8 +3,6 @@
 
 pub mod decimal;
 pub mod laws;
-#[cfg(test)]
-mod tests;
 mod unit_json;
 
 pub use byte_unit_base::{

@@ -124,6 +124,3 @@ fn suits(row: Row, unit_type: UnitType, in_bits: u128) -> bool
 {
     row.bits <= in_bits && unit_type.takes(row.unit.is_binary_multiples())
 }
-
-#[cfg(test)]
-mod tests;

@@ -274,6 +274,3 @@ impl fmt::Display for JsonSizeError {
 }
 
 impl Error for JsonSizeError {}
-
-#[cfg(test)]
-pub(crate) mod tests;

@@ -72,6 +72,3 @@ fn read_number_and_unit(text: &str, flags: Flags) -> Result<(Decimal, Unit), Par
     }
     scan.finish(flags)
 }
-
-#[cfg(test)]
-mod tests;

@@ -92,6 +92,3 @@ fn family_for(kind: Kind, allow: bool) -> Family
         (Kind::Bit, false) => Family::Bits,
     }
 }
-
-#[cfg(test)]
-mod tests;

@@ -327,6 +327,3 @@ impl fmt::Display for Unit {
         f.write_str(self.as_str())
     }
 }
-
-#[cfg(test)]
-mod tests;

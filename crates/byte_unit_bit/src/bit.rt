@@ -24,9 +24,6 @@ mod units;
 
 pub use adjusted::AdjustedBit;
 
-#[cfg(test)]
-mod tests;
-
 /// A size in bits: a whole number below 10^30. A contract sees it as that number.
 ///
 /// ```text

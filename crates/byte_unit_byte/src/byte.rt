@@ -24,9 +24,6 @@ mod units;
 
 pub use adjusted::AdjustedByte;
 
-#[cfg(test)]
-mod tests;
-
 /// A size in bytes: a whole number below 10^30. A contract sees it as that number.
 ///
 /// ```text

@@ -13,8 +13,6 @@ mod put;
 mod room;
 mod row;
 mod spec;
-#[cfg(test)]
-mod tests;
 
 pub use adjusted::{
     adjusted_len, append_adjusted, display_adjusted, number_in_unit, write_adjusted,

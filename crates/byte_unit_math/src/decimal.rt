@@ -293,6 +293,3 @@ impl fmt::Display for Decimal {
         Expansion::from_decimal(*self).fmt(f)
     }
 }
-
-#[cfg(test)]
-mod tests;

@@ -315,6 +315,3 @@ fn divide(whole: u128, remainder: u128, den: u128) -> Expansion
         places,
     }
 }
-
-#[cfg(test)]
-mod tests;

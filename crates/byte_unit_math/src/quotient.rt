@@ -46,30 +46,3 @@ pub fn exact_quotient(size: u128, unit: u128, places: u32, steps: &mut Steps) ->
     }
     Some(Decimal::from_digits(whole, fraction, digits))
 }
-
-#[cfg(test)]
-mod tests {
-    use super::*;
-    use std::test::Fail;
-
-    #[test]
-    fn quotients_with_their_ticks(rt: HostRuntime) -> Result<(), Fail> {
-        let eighth = Decimal::from_u128_with_scale(125, 3).ok_or("a decimal")?;
-        let power = Decimal::new(0, 37_252_902_984_619_140_625).ok_or("a decimal")?;
-        let two_to_28 = 268_435_456;
-        for (size, unit, places, quotient, ticks) in [
-            (1, 8, 3, Some(eighth), 3),
-            (1, 8, 2, None, 2),
-            (1, 3, 28, None, 28),
-            (0, 7, 0, Some(Decimal::ZERO), 0),
-            (1, two_to_28, 28, Some(power), 28),
-            (1, two_to_28, 99, Some(power), 28),
-            (1, 2 * two_to_28, 99, None, 28),
-        ] {
-            let mut steps = Steps::new();
-            assert_eq!(rt; exact_quotient(size, unit, places, &mut steps), quotient);
-            assert_eq!(rt; steps.count(), ticks, "at {size} and {unit}");
-        }
-        Ok(())
-    }
-}

@@ -1,0 +1,177 @@
+//! The texts of the errors.
+use super::answers::TEN;
+use byte_unit::{
+    Decimal, ExceededBoundsError, JsonSizeError, JsonUnitError, ParseError, UnitParseError,
+    ValueParseError,
+};
+use std::alloc::{AllocError, Global};
+use std::error::Error;
+use std::process::Abort;
+
+/// Compares the text of an error, through the bound that callers have on it.
+pub fn assert_text<E: Error>(
+    rt: &impl Abort,
+    alloc: Global,
+    error: &E,
+    wanted: &str,
+) -> Result<(), AllocError> {
+    let text = format!(in alloc; "{error}")?;
+    assert_eq!(rt; text.as_str(), wanted);
+    Ok(())
+}
+
+/// Compares the text of an error as a formatter with each flag writes it: flags change nothing.
+fn assert_with_flags<E: Error>(
+    rt: &impl Abort,
+    alloc: Global,
+    error: &E,
+    wanted: &str,
+) -> Result<(), AllocError> {
+    assert!(rt;
+        format!(in alloc; "{error:>200}")?.as_str() == wanted,
+        "{wanted}"
+    );
+    assert!(rt;
+        format!(in alloc; "{error:+}")?.as_str() == wanted,
+        "{wanted}"
+    );
+    assert!(rt;
+        format!(in alloc; "{error:.1}")?.as_str() == wanted,
+        "{wanted}"
+    );
+    assert!(rt;
+        format!(in alloc; "{error:#}")?.as_str() == wanted,
+        "{wanted}"
+    );
+    Ok(())
+}
+
+/// The error has this text by itself, as the error of a text, and as that of a JSON string.
+pub fn assert_value_text(
+    rt: &impl Abort,
+    alloc: Global,
+    error: ValueParseError,
+    wanted: &str,
+) -> Result<(), AllocError> {
+    assert_text(rt, alloc, &error, wanted)?;
+    assert_with_flags(rt, alloc, &error, wanted)?;
+    let read: ParseError = error.into();
+    assert_text(rt, alloc, &read, wanted)?;
+    assert_with_flags(rt, alloc, &read, wanted)?;
+    assert_text(rt, alloc, &JsonSizeError::Parse(read), wanted)
+}
+
+#[test]
+fn texts_of_faults_of_numbers(rt: HostRuntime) -> Result<(), AllocError> {
+    let price = Decimal::from_u128_with_scale(5084, 2).expect(&rt, "a decimal");
+    let ronna = Decimal::from_u128(1_000_000_000_000_000_000_000_000_000).expect(&rt, "a decimal");
+    for (error, text) in [
+        (
+            ValueParseError::ExceededBounds(price),
+            "the value 50.84 exceeds the valid range",
+        ),
+        (
+            ValueParseError::ExceededBounds(ronna),
+            "the value 1000000000000000000000000000 exceeds the valid range",
+        ),
+        (
+            ValueParseError::NotNumber('é'),
+            "the character 'é' is not a number",
+        ),
+        (
+            ValueParseError::NotNumber('\t'),
+            "the character '\\t' is not a number",
+        ),
+        (ValueParseError::NoValue, "no value can be found"),
+        (ValueParseError::NumberTooLong, "value number is too long"),
+    ] {
+        assert_value_text(&rt, rt.alloc(), error, text)?;
+    }
+    Ok(())
+}
+
+/// The fault of a unit with these fields.
+fn unit_fault(
+    character: char,
+    expected_characters: &'static [char],
+    also_expect_no_character: bool,
+) -> UnitParseError {
+    UnitParseError {
+        character,
+        expected_characters,
+        also_expect_no_character,
+    }
+}
+
+/// The fault of a unit with these fields has this text by itself, as the error of a text, and as that of a JSON string.
+pub fn assert_unit_text(
+    rt: &impl Abort,
+    alloc: Global,
+    fields: (char, &'static [char], bool),
+    wanted: &str,
+) -> Result<(), AllocError> {
+    let (character, expected, or_end) = fields;
+    let alone = unit_fault(character, expected, or_end);
+    assert_text(rt, alloc, &alone, wanted)?;
+    assert_with_flags(rt, alloc, &alone, wanted)?;
+    let read: ParseError = alone.into();
+    assert_text(rt, alloc, &read, wanted)?;
+    assert_with_flags(rt, alloc, &read, wanted)?;
+    assert_text(rt, alloc, &JsonSizeError::Parse(read), wanted)?;
+    let stored = JsonUnitError::Unit(unit_fault(character, expected, or_end));
+    assert_text(rt, alloc, &stored, wanted)
+}
+
+/// The text of an `x` where a unit could begin.
+const NO_UNIT: &str =
+    "the character 'x' is incorrect ('B', 'K', 'M', 'G', 'T', 'P', 'E', 'Z', 'Y' or 'R' or no character is expected)";
+
+#[test]
+fn texts_of_faults_of_units(rt: HostRuntime) -> Result<(), AllocError> {
+    for (character, expected, or_end, text) in [
+        (
+            'é',
+            &['B', 'b'] as &'static [char],
+            true,
+            "the character 'é' is incorrect ('B' or 'b' or no character is expected)",
+        ),
+        (
+            'x',
+            &['t'],
+            false,
+            "the character 'x' is incorrect ('t' is expected)",
+        ),
+        (
+            'x',
+            &['i'],
+            true,
+            "the character 'x' is incorrect ('i' or no character is expected)",
+        ),
+        (
+            'i',
+            &[],
+            true,
+            "the character 'i' is incorrect (no character is expected)",
+        ),
+        (
+            'x',
+            &['B', 'K', 'M'],
+            false,
+            "the character 'x' is incorrect ('B', 'K' or 'M' is expected)",
+        ),
+        ('x', &TEN, true, NO_UNIT),
+    ] {
+        assert_unit_text(&rt, rt.alloc(), (character, expected, or_end), text)?;
+    }
+    Ok(())
+}
+
+#[test]
+fn texts_of_errors_without_fields(rt: HostRuntime) -> Result<(), AllocError> {
+    let alloc = rt.alloc();
+    let exceeded = "value exceeds the valid range";
+    assert_text(&rt, alloc, &ExceededBoundsError, exceeded)?;
+    assert_with_flags(&rt, alloc, &ExceededBoundsError, exceeded)?;
+    assert_text(&rt, alloc, &JsonSizeError::NotString, "not a JSON string")?;
+    assert_text(&rt, alloc, &JsonUnitError::NotString, "not a JSON string")
+}

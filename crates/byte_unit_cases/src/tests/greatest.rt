@@ -1,0 +1,161 @@
+//! The greatest values of each type as Display writes them, and those with the most places.
+use super::shown::{Shown, assert_display, assert_displays, bits, bytes, great_bytes};
+use byte_unit::{Bit, Byte, Decimal, Expansion, JsonSizeError, ParseError, Unit, ValueParseError};
+use std::alloc::AllocError;
+
+/// The greatest whole part of a decimal: 2^112 - 1.
+const WHOLES: u128 = 5_192_296_858_534_827_628_530_496_329_220_095;
+
+/// The greatest fraction of a decimal, in 28th places.
+const NINES: u128 = 9_999_999_999_999_999_999_999_999_999;
+
+#[test]
+fn decimals(rt: HostRuntime) -> Result<(), AllocError> {
+    for (whole, fraction, text) in [
+        (
+            WHOLES,
+            NINES,
+            "5192296858534827628530496329220095.9999999999999999999999999999",
+        ),
+        (WHOLES, 0, "5192296858534827628530496329220095"),
+        (
+            WHOLES,
+            1,
+            "5192296858534827628530496329220095.0000000000000000000000000001",
+        ),
+        (0, NINES, "0.9999999999999999999999999999"),
+        (0, 1, "0.0000000000000000000000000001"),
+        (
+            18_446_744_073_709_551_616,
+            18_446_744_073_709_551_616,
+            "18446744073709551616.0000000018446744073709551616",
+        ),
+    ] {
+        let number = Decimal::new(whole, fraction).expect(&rt, "a decimal");
+        assert_display(&rt, rt.alloc(), &number, text)?;
+        assert_display(&rt, rt.alloc(), &Expansion::from_decimal(number), text)?;
+    }
+    Ok(())
+}
+
+#[test]
+fn expansions(rt: HostRuntime) -> Result<(), AllocError> {
+    for (numerator, twos, fives, text) in [
+        (
+            7_999_999_999_999_999_999_999_999_999_999,
+            0,
+            0,
+            "7999999999999999999999999999999",
+        ),
+        (
+            7_999_999_999_999_999_999_999_999_999_999,
+            93,
+            0,
+            "807.793566946316088741610050849472124989495100040546855628409428362601829576306045055389404296875",
+        ),
+        (
+            1,
+            93,
+            0,
+            "0.000000000000000000000000000100974195868289511092701256356196637398170423693954944610595703125",
+        ),
+        (
+            7_999_999_999_999_999_999_999_999_999_999,
+            27,
+            27,
+            "7999.999999999999999999999999999",
+        ),
+        (1, 27, 27, "0.000000000000000000000000001"),
+    ] {
+        let number = Expansion::new(numerator, twos, fives);
+        assert_display(&rt, rt.alloc(), &number, text)?;
+    }
+    Ok(())
+}
+
+#[test]
+fn sizes(rt: HostRuntime) -> Result<(), AllocError> {
+    let great = 100_000_000_000_000_000_000_000_000_000;
+    let in_bits = Shown::Bit(Bit::from_u128(great).expect(&rt, "a size"));
+    let past = Shown::Bit(Bit::from_u128(18_446_744_073_709_551_616).expect(&rt, "a size"));
+    assert_displays(
+        &rt,
+        rt.alloc(),
+        &[
+            (Shown::Byte(Byte::MAX), "999999999999999999999999999999"),
+            (Shown::Bit(Bit::MAX), "999999999999999999999999999999"),
+            (bytes(18_446_744_073_709_551_615), "18446744073709551615"),
+            (bits(18_446_744_073_709_551_615), "18446744073709551615"),
+            (
+                great_bytes(&rt, 18_446_744_073_709_551_616),
+                "18446744073709551616",
+            ),
+            (past, "18446744073709551616"),
+            (great_bytes(&rt, great), "100000000000000000000000000000"),
+            (in_bits, "100000000000000000000000000000"),
+        ],
+    )
+}
+
+/// The greatest size in bytes, in the unit.
+fn most_bytes(unit: Unit) -> Shown {
+    Shown::AdjustedByte(Byte::MAX.get_adjusted_unit(unit))
+}
+
+#[test]
+fn bytes_in_units(rt: HostRuntime) -> Result<(), AllocError> {
+    assert_displays(
+        &rt,
+        rt.alloc(),
+        &[
+            (most_bytes(Unit::Bit), "7999999999999999999999999999992 b"),
+            (most_bytes(Unit::B), "999999999999999999999999999999 B"),
+            (
+                most_bytes(Unit::Kbit),
+                "7999999999999999999999999999.992 Kb",
+            ),
+            (most_bytes(Unit::YB), "999999.999999999999999999999999 YB"),
+            (most_bytes(Unit::RB), "999.999999999999999999999999999 RB"),
+            (
+                most_bytes(Unit::RiB),
+                "807.793566946316088741610050848765305618417073462897946833916051900814636610448360443115234375 RiB",
+            ),
+        ],
+    )
+}
+
+/// The greatest size in bits, in the unit.
+fn most_bits(unit: Unit) -> Shown {
+    Shown::AdjustedBit(Bit::MAX.get_adjusted_unit(unit))
+}
+
+#[test]
+fn bits_in_units(rt: HostRuntime) -> Result<(), AllocError> {
+    assert_displays(
+        &rt,
+        rt.alloc(),
+        &[
+            (most_bits(Unit::Bit), "999999999999999999999999999999 b"),
+            (most_bits(Unit::B), "124999999999999999999999999999.875 B"),
+            (most_bits(Unit::Kbit), "999999999999999999999999999.999 Kb"),
+            (most_bits(Unit::YB), "124999.999999999999999999999999875 YB"),
+            (most_bits(Unit::RB), "124.999999999999999999999999999875 RB"),
+            (
+                most_bits(Unit::RiB),
+                "100.974195868289511092701256356095663202302134182862243354239506487601829576306045055389404296875 RiB",
+            ),
+        ],
+    )
+}
+
+#[test]
+fn errors_with_the_greatest_number(rt: HostRuntime) -> Result<(), AllocError> {
+    let number = Decimal::new(WHOLES, NINES).expect(&rt, "a decimal");
+    let text =
+        "the value 5192296858534827628530496329220095.9999999999999999999999999999 exceeds the valid range";
+    let error = ValueParseError::ExceededBounds(number);
+    assert_display(&rt, rt.alloc(), &error, text)?;
+    let read = ParseError::Value(error);
+    assert_display(&rt, rt.alloc(), &read, text)?;
+    assert_display(&rt, rt.alloc(), &JsonSizeError::Parse(read), text)
+}

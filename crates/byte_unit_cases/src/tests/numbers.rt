@@ -1,0 +1,241 @@
+//! Sizes from numbers and as numbers, each through the name or the bound that callers have.
+use byte_unit::{Bit, Byte, ExceededBoundsError, Kind, TryFromIntError};
+use std::cmp::Ordering;
+
+/// The greatest size.
+const GREATEST: u128 = 999_999_999_999_999_999_999_999_999_999;
+
+#[test]
+fn numbers_in_and_out(rt: HostRuntime) {
+    let five = Byte::from_u64(5);
+    for (call, holds) in [
+        ("i64", Byte::from_i64(5) == Some(five)),
+        ("i64 below 0", Byte::from_i64(-5).is_none()),
+        ("i128", Byte::from_i128(5) == Some(five)),
+        ("i128 below 0", Byte::from_i128(i128::MIN).is_none()),
+        ("u128", Byte::from_u128(5) == Some(five)),
+        ("the greatest", Byte::from_u128(GREATEST) == Some(Byte::MAX)),
+        (
+            "u128 below the bound",
+            Byte::from_u128_unsafe(7).as_u128() == 7,
+        ),
+        ("as u64", five.as_u64() == 5),
+        ("as u64, checked", five.as_u64_checked() == Some(5)),
+    ] {
+        assert!(rt; holds, "{call}");
+    }
+}
+
+#[test]
+fn numbers_in_and_out_of_bits(rt: HostRuntime) {
+    let five = Bit::from_u64(5);
+    for (call, holds) in [
+        ("i64", Bit::from_i64(5) == Some(five)),
+        ("i64 below 0", Bit::from_i64(-5).is_none()),
+        ("i128", Bit::from_i128(5) == Some(five)),
+        ("i128 below 0", Bit::from_i128(i128::MIN).is_none()),
+        ("u128", Bit::from_u128(5) == Some(five)),
+        ("the greatest", Bit::from_u128(GREATEST) == Some(Bit::MAX)),
+        (
+            "u128 below the bound",
+            Bit::from_u128_unsafe(7).as_u128() == 7,
+        ),
+        ("as u64", five.as_u64() == 5),
+        ("as u64, checked", five.as_u64_checked() == Some(5)),
+    ] {
+        assert!(rt; holds, "{call}");
+    }
+}
+
+/// The size as a `u64`: cut at the greatest, and where it fits.
+fn in_64_bits(kind: Kind, size: u128) -> Option<(u64, Option<u64>)> {
+    match kind {
+        Kind::Byte => {
+            let size = Byte::from_u128(size)?;
+            Some((size.as_u64(), size.as_u64_checked()))
+        }
+        Kind::Bit => {
+            let size = Bit::from_u128(size)?;
+            Some((size.as_u64(), size.as_u64_checked()))
+        }
+    }
+}
+
+#[test]
+fn sizes_in_64_bits(rt: HostRuntime) {
+    let most = u64::MAX;
+    for kind in [Kind::Byte, Kind::Bit] {
+        for (size, number) in [
+            (7, Some((7, Some(7)))),
+            (18_446_744_073_709_551_615, Some((most, Some(most)))),
+            (18_446_744_073_709_551_616, Some((most, None))),
+            // ZETTABIT in bytes, and as many bits as ZETTABYTE has.
+            (Byte::ZETTABIT.as_u128(), Some((most, None))),
+            (Bit::ZETTABYTE.as_u128(), Some((most, None))),
+            (1_000_000_000_000_000_000_000, Some((most, None))),
+            (GREATEST, Some((most, None))),
+            (GREATEST + 1, None),
+        ] {
+            assert!(rt; in_64_bits(kind, size) == number, "{size}");
+        }
+    }
+}
+
+#[test]
+fn comparisons_with_numbers(rt: HostRuntime) {
+    let (bytes, bits) = (Byte::from_u64(1024), Bit::from_u64(1024));
+    for (number, order) in [
+        (1025, Ordering::Less),
+        (1024, Ordering::Equal),
+        (1000, Ordering::Greater),
+    ] {
+        let wide = u128::from(number);
+        assert!(rt; bytes.cmp_u64(number) == order && bytes.cmp_u128(wide) == order);
+        assert!(rt; bits.cmp_u64(number) == order && bits.cmp_u128(wide) == order);
+        let is_equal = order.is_eq();
+        assert!(rt; bytes.eq_u64(number) == is_equal && bytes.eq_u128(wide) == is_equal);
+        assert!(rt; bits.eq_u64(number) == is_equal && bits.eq_u128(wide) == is_equal);
+    }
+    assert!(rt; bytes.cmp_u128(u128::MAX) == Ordering::Less);
+    assert!(rt; bits.cmp_u128(u128::MAX) == Ordering::Less);
+}
+
+/// Each conversion through its bound alone.
+pub fn made<N, S: From<N>>(number: N) -> S {
+    S::from(number)
+}
+
+fn tried<N, S: TryFrom<N>>(number: N) -> Result<S, S::Error> {
+    S::try_from(number)
+}
+
+#[test]
+fn numbers_become_bytes(rt: HostRuntime) {
+    let five = Byte::from_u64(5);
+    let ronna = Ok(Byte::RONNABYTE);
+    for (number, holds) in [
+        ("u8", made::<u8, Byte>(5) == five),
+        ("u16", made::<u16, Byte>(5) == five),
+        ("u32", made::<u32, Byte>(5) == five),
+        ("u64", made::<u64, Byte>(5) == five),
+        ("usize", made::<usize, Byte>(5) == five),
+        ("i8", tried::<i8, Byte>(5) == Ok(five)),
+        ("i16", tried::<i16, Byte>(5) == Ok(five)),
+        ("i32", tried::<i32, Byte>(5) == Ok(five)),
+        ("isize", tried::<isize, Byte>(5) == Ok(five)),
+        ("i64", tried::<i64, Byte>(5) == Ok(five)),
+        ("i128", tried::<i128, Byte>(5) == Ok(five)),
+        ("u128", tried::<u128, Byte>(5) == Ok(five)),
+        (
+            "below 0",
+            tried::<i64, Byte>(-1) == Err(ExceededBoundsError),
+        ),
+        (
+            "10^27",
+            tried::<u128, Byte>(1_000_000_000_000_000_000_000_000_000) == ronna,
+        ),
+        (
+            "10^30",
+            tried::<u128, Byte>(GREATEST + 1) == Err(ExceededBoundsError),
+        ),
+    ] {
+        assert!(rt; holds, "{number}");
+    }
+}
+
+#[test]
+fn numbers_become_bits(rt: HostRuntime) {
+    let five = Bit::from_u64(5);
+    let ronna = Ok(Bit::RONNABIT);
+    for (number, holds) in [
+        ("u8", made::<u8, Bit>(5) == five),
+        ("u16", made::<u16, Bit>(5) == five),
+        ("u32", made::<u32, Bit>(5) == five),
+        ("u64", made::<u64, Bit>(5) == five),
+        ("usize", made::<usize, Bit>(5) == five),
+        ("i8", tried::<i8, Bit>(5) == Ok(five)),
+        ("i16", tried::<i16, Bit>(5) == Ok(five)),
+        ("i32", tried::<i32, Bit>(5) == Ok(five)),
+        ("isize", tried::<isize, Bit>(5) == Ok(five)),
+        ("i64", tried::<i64, Bit>(5) == Ok(five)),
+        ("i128", tried::<i128, Bit>(5) == Ok(five)),
+        ("u128", tried::<u128, Bit>(5) == Ok(five)),
+        ("below 0", tried::<i64, Bit>(-1) == Err(ExceededBoundsError)),
+        (
+            "10^27",
+            tried::<u128, Bit>(1_000_000_000_000_000_000_000_000_000) == ronna,
+        ),
+        (
+            "10^30",
+            tried::<u128, Bit>(GREATEST + 1) == Err(ExceededBoundsError),
+        ),
+    ] {
+        assert!(rt; holds, "{number}");
+    }
+}
+
+fn refuses<N, S: TryFrom<N, Error = TryFromIntError> + Drop>(size: N) -> bool {
+    S::try_from(size).is_err()
+}
+
+#[test]
+fn bytes_become_numbers(rt: HostRuntime) {
+    for (number, holds) in [
+        ("u128", made::<Byte, u128>(Byte::MAX) == GREATEST),
+        ("u64, cut", made::<Byte, u64>(Byte::MAX) == u64::MAX),
+        ("u64", made::<Byte, u64>(Byte::KIBIBYTE) == 1024),
+        (
+            "u8",
+            tried::<Byte, u8>(Byte::from_u64(255)).ok() == Some(255),
+        ),
+        (
+            "u16",
+            tried::<Byte, u16>(Byte::from_u64(300)).ok() == Some(300),
+        ),
+        (
+            "u32",
+            tried::<Byte, u32>(Byte::from_u64(4_294_967_295)).ok() == Some(4_294_967_295),
+        ),
+        (
+            "usize",
+            tried::<Byte, usize>(Byte::KIBIBYTE).ok() == Some(1024),
+        ),
+        ("no u8", refuses::<Byte, u8>(Byte::from_u64(300))),
+        ("no u16", refuses::<Byte, u16>(Byte::from_u64(65_536))),
+        (
+            "no u32",
+            refuses::<Byte, u32>(Byte::from_u64(4_294_967_296)),
+        ),
+        ("no usize", refuses::<Byte, usize>(Byte::MAX)),
+    ] {
+        assert!(rt; holds, "{number}");
+    }
+}
+
+#[test]
+fn bits_become_numbers(rt: HostRuntime) {
+    for (number, holds) in [
+        ("u128", made::<Bit, u128>(Bit::MAX) == GREATEST),
+        ("u64, cut", made::<Bit, u64>(Bit::MAX) == u64::MAX),
+        ("u64", made::<Bit, u64>(Bit::KIBIBIT) == 1024),
+        ("u8", tried::<Bit, u8>(Bit::from_u64(255)).ok() == Some(255)),
+        (
+            "u16",
+            tried::<Bit, u16>(Bit::from_u64(300)).ok() == Some(300),
+        ),
+        (
+            "u32",
+            tried::<Bit, u32>(Bit::from_u64(4_294_967_295)).ok() == Some(4_294_967_295),
+        ),
+        (
+            "usize",
+            tried::<Bit, usize>(Bit::KIBIBIT).ok() == Some(1024),
+        ),
+        ("no u8", refuses::<Bit, u8>(Bit::from_u64(300))),
+        ("no u16", refuses::<Bit, u16>(Bit::from_u64(65_536))),
+        ("no u32", refuses::<Bit, u32>(Bit::from_u64(4_294_967_296))),
+        ("no usize", refuses::<Bit, usize>(Bit::MAX)),
+    ] {
+        assert!(rt; holds, "{number}");
+    }
+}

@@ -1,0 +1,64 @@
+//! The library in short: reading, calculating, printing.
+use byte_unit::{Bit, Byte, FormatSpec, ParseError, Unit, UnitType, ValueParseError};
+use std::alloc::AllocError;
+
+#[test]
+fn reading(rt: HostRuntime) {
+    let size = Byte::parse_str("1.5 KiB", false).ok();
+    assert!(rt; size == Some(Byte::from_u64(1536)));
+    let size = Bit::parse_str("123Kib").ok();
+    assert!(rt; size == Some(Bit::from_u64(125_952)));
+    assert!(rt;
+        matches!(
+            "1.".parse::<Byte>(),
+            Err(ParseError::Value(ValueParseError::NotNumber('.')))
+        )
+    );
+}
+
+/// What can be wrong in the settings of an example.
+#[derive(Debug, Drop)]
+enum SettingsError {
+    Quota(ParseError),
+}
+
+/// The quota of a setting.
+fn quota_of(text: &str) -> Result<Byte, SettingsError> {
+    let quota = Byte::parse_str(text, false).map_err(SettingsError::Quota)?;
+    Ok(quota)
+}
+
+#[test]
+fn reading_into_an_error_of_the_caller(rt: HostRuntime) {
+    assert!(rt; quota_of("20 GB").ok() == Some(Byte::from_u64(20_000_000_000)));
+    assert!(rt;
+        matches!(
+            quota_of("20 GX"),
+            Err(SettingsError::Quota(ParseError::Unit(_)))
+        )
+    );
+}
+
+#[test]
+fn calculating(rt: HostRuntime) {
+    let quota = Byte::GIBIBYTE;
+    let used = Byte::from_u64(900_000_000);
+    assert!(rt; quota.subtract(used) == Some(Byte::from_u64(173_741_824)));
+    assert!(rt; used.subtract(quota).is_none());
+    assert!(rt; used.cmp_u64(1_000_000_000).is_lt());
+}
+
+#[test]
+fn printing(rt: HostRuntime) -> Result<(), AllocError> {
+    let size = Byte::from_u64(123_456);
+    let plain = size.to_text(rt.alloc(), FormatSpec::PLAIN)?;
+    assert!(rt; plain.as_str() == "123456");
+    let with_unit = size.to_text(rt.alloc(), FormatSpec::ALTERNATE)?;
+    assert!(rt; with_unit.as_str() == "123.456 KB");
+    let adjusted = size.get_adjusted_unit(Unit::KiB);
+    let in_kib = adjusted.to_text(rt.alloc(), FormatSpec::PLAIN)?;
+    assert!(rt; in_kib.as_str() == "120.5625 KiB");
+    let appropriate = size.get_appropriate_unit(UnitType::Decimal);
+    assert!(rt; appropriate.get_unit() == Unit::KB);
+    Ok(())
+}

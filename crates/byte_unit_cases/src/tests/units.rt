@@ -1,0 +1,229 @@
+//! The units that state a size: exact, recoverable, with the steps that the choice takes.
+use byte_unit::{Bit, Byte, Decimal, Kind, Steps, Unit};
+use std::process::Abort;
+
+/// The greatest size.
+const GREATEST: u128 = 999_999_999_999_999_999_999_999_999_999;
+
+/// The greatest size of the first version.
+const OLD_GREATEST: u128 = 999_999_999_999_999_999_999_999_999;
+
+/// How many of which unit a size of the kind is; units of the other kind are allowed or not.
+fn exact(kind: Kind, size: u128, allow: bool) -> Option<(u128, Unit)> {
+    match kind {
+        Kind::Byte => Some(Byte::from_u128(size)?.get_exact_unit(allow)),
+        Kind::Bit => Some(Bit::from_u128(size)?.get_exact_unit(allow)),
+    }
+}
+
+#[test]
+fn exact_units(rt: HostRuntime) {
+    for (kind, size, allow, number, unit) in [
+        (Kind::Byte, 50_840_000, false, 50_840, Unit::KB),
+        (Kind::Byte, 437_500, false, 437_500, Unit::B),
+        (Kind::Byte, 437_500, true, 3500, Unit::Kbit),
+        (Kind::Byte, 0, true, 0, Unit::B),
+        (Kind::Byte, 0, false, 0, Unit::B),
+        (Kind::Bit, 24_000_000, true, 3, Unit::MB),
+        (Kind::Bit, 24_000_000, false, 24, Unit::Mbit),
+        (Kind::Bit, 16, true, 16, Unit::Bit),
+        (Kind::Bit, 0, true, 0, Unit::Bit),
+        // Of both kinds it is a whole number of the greater `Rbit`.
+        (
+            Kind::Byte,
+            125_000_000_000_000_000_000_000_000,
+            true,
+            1,
+            Unit::Rbit,
+        ),
+        // As in the first version.
+        (
+            Kind::Byte,
+            125_000_000_000_000_000_000_000_000,
+            false,
+            125,
+            Unit::YB,
+        ),
+    ] {
+        assert!(rt; exact(kind, size, allow) == Some((number, unit)), "{size}");
+    }
+}
+
+/// How many of which unit states a size of the kind.
+fn recoverable(kind: Kind, size: u128, allow: bool, precision: usize) -> Option<(Decimal, Unit)> {
+    match kind {
+        Kind::Byte => Some(Byte::from_u128(size)?.get_recoverable_unit(allow, precision)),
+        Kind::Bit => Some(Bit::from_u128(size)?.get_recoverable_unit(allow, precision)),
+    }
+}
+
+/// The same by the sibling that counts, and its steps.
+fn counted(
+    kind: Kind,
+    size: u128,
+    allow: bool,
+    precision: usize,
+) -> Option<((Decimal, Unit), u64)> {
+    let mut steps = Steps::new();
+    let stated = match kind {
+        Kind::Byte => Byte::from_u128(size)?.get_recoverable_unit_counted(
+            allow, precision, &mut steps,
+        ),
+        Kind::Bit => Bit::from_u128(size)?.get_recoverable_unit_counted(
+            allow, precision, &mut steps,
+        ),
+    };
+    Some((stated, steps.count()))
+}
+
+/// A size and its kind, whether units of the other kind are allowed, and the precision; then the unit, with the number
+/// of it as a mantissa over ten to the scale.
+type Stated = (Kind, u128, bool, usize, u128, u32, Unit);
+
+/// Each size is stated so by both calls.
+fn assert_stated(rt: &impl Abort, rows: &[Stated]) {
+    for (kind, size, allow, precision, mantissa, scale, unit) in rows {
+        let number = Decimal::from_u128_with_scale(*mantissa, *scale).expect(rt, "a decimal");
+        let stated = recoverable(*kind, *size, *allow, *precision);
+        assert!(rt; stated == Some((number, *unit)), "{size} at {precision}");
+        let stated = counted(*kind, *size, *allow, *precision);
+        assert!(rt;
+            stated.map(|pair| pair.0) == Some((number, *unit)),
+            "{size} at {precision}"
+        );
+    }
+}
+
+#[test]
+fn recoverable_units(rt: HostRuntime) {
+    assert_stated(
+        &rt,
+        &[
+            (Kind::Byte, 50_840_000, false, 2, 5084, 2, Unit::MB),
+            (Kind::Byte, 50_840_000, false, 0, 50_840, 0, Unit::KB),
+            (Kind::Byte, 437_500, true, 3, 35, 1, Unit::Mbit),
+            (Kind::Byte, 437_500, false, 3, 4375, 1, Unit::KB),
+            (Kind::Byte, 500, true, 3, 4, 0, Unit::Kbit),
+            (Kind::Byte, 500, false, 3, 500, 0, Unit::B),
+            (Kind::Byte, 0, true, 28, 0, 0, Unit::B),
+            (Kind::Byte, 1023, false, 3, 1023, 3, Unit::KB),
+            (Kind::Byte, 1088, false, 3, 1088, 3, Unit::KB),
+            (Kind::Byte, 1088, false, 4, 10_625, 4, Unit::KiB),
+            (Kind::Byte, 3_211_776, false, 3, 31_365, 1, Unit::KiB),
+            (Kind::Byte, 3_211_776, false, 6, 3_211_776, 6, Unit::MB),
+            (Kind::Byte, 3_211_776, false, 0, 3_211_776, 0, Unit::B),
+        ],
+    );
+}
+
+#[test]
+fn recoverable_units_of_bits(rt: HostRuntime) {
+    assert_stated(
+        &rt,
+        &[
+            (Kind::Bit, 0, true, 28, 0, 0, Unit::Bit),
+            (Kind::Bit, 3_211_776, false, 3, 31_365, 1, Unit::Kibit),
+            (Kind::Bit, 28_000_000, true, 3, 35, 1, Unit::MB),
+            (Kind::Bit, 3_670_016, false, 3, 35, 1, Unit::Mibit),
+            (Kind::Bit, 437_500, false, 3, 4375, 1, Unit::Kbit),
+        ],
+    );
+}
+
+#[test]
+fn recoverable_units_of_great_sizes(rt: HostRuntime) {
+    // 2^80 + 2^51, where more than 28 places count as 28, 10^24 + 2^24, 2^89, 2^99, 5^38 and 5^42.
+    let near = 1_208_925_821_866_428_988_391_424;
+    let sum = 1_000_000_000_000_000_016_777_216;
+    let fives = 363_797_880_709_171_295_166_015_625;
+    let more_fives = 227_373_675_443_232_059_478_759_765_625;
+    assert_stated(
+        &rt,
+        &[
+            (Kind::Byte, GREATEST, true, 3, GREATEST, 3, Unit::KB),
+            (Kind::Byte, GREATEST, true, 10, GREATEST, 9, Unit::GB),
+            (Kind::Byte, GREATEST, true, 28, GREATEST, 27, Unit::RB),
+            (Kind::Byte, OLD_GREATEST, true, 3, OLD_GREATEST, 3, Unit::KB),
+            (
+                Kind::Byte,
+                OLD_GREATEST,
+                true,
+                10,
+                OLD_GREATEST,
+                9,
+                Unit::GB,
+            ),
+            (
+                Kind::Byte,
+                OLD_GREATEST,
+                false,
+                28,
+                OLD_GREATEST,
+                24,
+                Unit::YB,
+            ),
+            (Kind::Byte, near, false, 29, near, 24, Unit::YB),
+            (Kind::Byte, sum, false, 28, sum, 24, Unit::YB),
+            (
+                Kind::Byte,
+                sum,
+                false,
+                10,
+                93_132_257_461_547_853_125,
+                5,
+                Unit::GiB,
+            ),
+            (
+                Kind::Byte,
+                sum,
+                false,
+                3,
+                953_674_316_406_250_016,
+                0,
+                Unit::MiB,
+            ),
+            (
+                Kind::Byte,
+                618_970_019_642_690_137_449_562_112,
+                false,
+                3,
+                512,
+                0,
+                Unit::YiB,
+            ),
+            (
+                Kind::Byte,
+                633_825_300_114_114_700_748_351_602_688,
+                false,
+                3,
+                512,
+                0,
+                Unit::RiB,
+            ),
+            (Kind::Byte, fives, false, 28, fives, 24, Unit::YB),
+            (Kind::Byte, more_fives, false, 28, more_fives, 27, Unit::RB),
+        ],
+    );
+}
+
+#[test]
+fn steps_of_the_choice(rt: HostRuntime) {
+    for (size, allow, precision, count) in [
+        (GREATEST, false, 28, 29),
+        (GREATEST, true, 28, 29),
+        (GREATEST, true, 0, 2),
+        (OLD_GREATEST, false, 28, 26),
+        (0, true, 28, 0),
+        // 2^89, 2^99, 5^38 and 5^42
+        (618_970_019_642_690_137_449_562_112, false, 3, 91),
+        (633_825_300_114_114_700_748_351_602_688, false, 3, 101),
+        (363_797_880_709_171_295_166_015_625, false, 28, 64),
+        (227_373_675_443_232_059_478_759_765_625, false, 28, 71),
+    ] {
+        let stated = counted(Kind::Byte, size, allow, precision);
+        assert!(rt;
+            stated.map(|pair| pair.1) == Some(count),
+            "{size} at {precision}"
+        );
+    }
+}

@@ -1,0 +1,137 @@
+//! Calls that ask for no memory. The functions here are handed neither an allocator nor the runtime, so what they call
+//! can ask for none; the tests compare what they answer.
+use super::precise;
+use byte_unit::{
+    AdjustedBit, AdjustedByte, Bit, Byte, Decimal, FormatSpec, Unit, UnitType, unit_from_json,
+};
+use serde_json::Value;
+use std::alloc::{AllocError, Global};
+
+/// The sizes of a text, in bytes and in bits.
+fn sizes_of(text: &str) -> (Option<u128>, Option<u128>) {
+    (
+        Byte::parse_str(text, false).map(Byte::as_u128).ok(),
+        Bit::parse_str(text).map(Bit::as_u128).ok(),
+    )
+}
+
+#[test]
+fn texts_are_read(rt: HostRuntime) {
+    for (text, sizes) in [
+        ("1.5 KiB", (Some(1536), Some(12_288))),
+        ("1kb", (Some(125), Some(1000))),
+        ("1KB x", (None, None)),
+        ("1.", (None, None)),
+    ] {
+        assert!(rt; sizes_of(text) == sizes, "{text}");
+    }
+}
+
+/// The unit of a text, and the unit of a JSON value.
+fn units_of(text: &str, value: &Value) -> (Option<Unit>, Option<Unit>) {
+    (
+        Unit::parse_str(text, false, true).ok(),
+        unit_from_json(value).ok(),
+    )
+}
+
+/// A JSON string.
+fn string(alloc: Global, text: &str) -> Result<Value, AllocError> {
+    Ok(Value::String(String::from_str(alloc, text)?))
+}
+
+#[test]
+fn units_are_read(rt: HostRuntime) -> Result<(), AllocError> {
+    let value = string(rt.alloc(), "Kb")?;
+    assert!(rt; units_of("MiB", &value) == (Some(Unit::MiB), Some(Unit::Kbit)));
+    assert!(rt; units_of("x", &Value::Null) == (None, None));
+    Ok(())
+}
+
+/// The size in bytes of a JSON value, and that of it as an adjusted size.
+fn stored_bytes(value: &Value) -> (Option<Byte>, Option<Byte>) {
+    let adjusted = AdjustedByte::from_json(value).ok();
+    (
+        Byte::from_json(value).ok(),
+        adjusted.map(|adjusted| adjusted.get_byte()),
+    )
+}
+
+/// The size in bits of a JSON value, and that of it as an adjusted size.
+fn stored_bits(value: &Value) -> (Option<Bit>, Option<Bit>) {
+    let adjusted = AdjustedBit::from_json(value).ok();
+    (
+        Bit::from_json(value).ok(),
+        adjusted.map(|adjusted| adjusted.get_bit()),
+    )
+}
+
+#[test]
+fn json_values_are_read(rt: HostRuntime) -> Result<(), AllocError> {
+    let value = string(rt.alloc(), "15.5 KB")?;
+    let (size, adjusted) = stored_bytes(&value);
+    assert!(rt; size == Some(Byte::from_u64(15_500)));
+    assert!(rt; adjusted == Some(Byte::from_u64(15_500)));
+    let (size, adjusted) = stored_bits(&value);
+    assert!(rt; size == Some(Bit::from_u64(124_000)));
+    assert!(rt; adjusted == Some(Bit::from_u64(124_000)));
+    assert!(rt; stored_bytes(&Value::Null) == (None, None));
+    assert!(rt; stored_bits(&Value::Null) == (None, None));
+    Ok(())
+}
+
+/// The units that a size in bytes has: exact, recoverable in two places, appropriate.
+fn units_of_bytes(size: Byte) -> ((u128, Unit), (Decimal, Unit), Unit) {
+    let appropriate = size.get_appropriate_unit(UnitType::Both);
+    (
+        size.get_exact_unit(false),
+        size.get_recoverable_unit(false, 2),
+        appropriate.get_unit(),
+    )
+}
+
+/// The units that a size in bits has: exact, recoverable in two places, appropriate.
+fn units_of_bits(size: Bit) -> ((u128, Unit), (Decimal, Unit), Unit) {
+    let appropriate = size.get_appropriate_unit(UnitType::Both);
+    (
+        size.get_exact_unit(true),
+        size.get_recoverable_unit(true, 2),
+        appropriate.get_unit(),
+    )
+}
+
+#[test]
+fn units_are_chosen(rt: HostRuntime) {
+    let number = Decimal::from_u128_with_scale(5084, 2).expect(&rt, "a decimal");
+    let bytes = Byte::from_u64(50_840_000);
+    assert!(rt; units_of_bytes(bytes) == ((50_840, Unit::KB), (number, Unit::MB), Unit::MiB));
+    let three = Decimal::from_u128(3).expect(&rt, "a decimal");
+    let bits = Bit::from_u64(24_000_000);
+    assert!(rt; units_of_bits(bits) == ((3, Unit::MB), (three, Unit::MB), Unit::Mibit));
+}
+
+/// The lengths of the plain text, of that with a unit, and of that in `KB`, with two places.
+fn lengths_of_bytes(size: Byte) -> (usize, usize, usize) {
+    (
+        size.text_len(FormatSpec::PLAIN),
+        size.text_len(FormatSpec::ALTERNATE),
+        size.get_adjusted_unit(Unit::KB).text_len(precise(2)),
+    )
+}
+
+/// The lengths of the plain text, of that with a unit, and of that in `B`, with two places.
+fn lengths_of_bits(size: Bit) -> (usize, usize, usize) {
+    (
+        size.text_len(FormatSpec::PLAIN),
+        size.text_len(FormatSpec::ALTERNATE),
+        size.get_adjusted_unit(Unit::B).text_len(precise(2)),
+    )
+}
+
+#[test]
+fn lengths_are_told(rt: HostRuntime) {
+    let bytes = lengths_of_bytes(Byte::from_u64(1005));
+    assert!(rt; bytes == ("1005".len(), "1.005 KB".len(), "1.01 KB".len()));
+    let bits = lengths_of_bits(Bit::from_u64(13));
+    assert!(rt; bits == ("13".len(), "13 b".len(), "1.63 B".len()));
+}
