@@ -1,0 +1,6 @@
+-- The parts of zero.
+use Rattle.std.proofs.Common.{arith, refl}
+use Rattle.byte_unit_c.specs.Values.{IsParts}
+
+pub zero_parts : IsParts (record { whole = record { low = 0; high = 0 }; fraction = record { low = 0; high = 0 } }) 0
+zero_parts = record { sum = refl; below_one = omega arith }

@@ -1,0 +1,37 @@
+-- The codes of units, types of units and kinds. A code is a place in a list.
+use Rattle.std.specs.Prelude.{◌≡◌, ℕ, Bool, true, false, List, [], ◌∷◌, Option, Some, slice_get}
+use Rattle.byte_unit_base.specs.Shape.{Shape}
+use Rattle.byte_unit_base.specs.Units.{shape_of}
+use Rattle.byte_unit_base.specs.declared.kind.Kind.{Kind}
+use Rattle.byte_unit_base.specs.declared.kind.Kind.TheVariants.{Byte as InBytes, Bit as InBits}
+use Rattle.byte_unit_base.specs.declared.unit.unit_type.UnitType.{UnitType}
+use Rattle.byte_unit_base.specs.declared.unit.unit_type.UnitType.TheVariants.{Binary, Decimal, Both}
+use Rattle.byte_unit_base.specs.declared.unit.Unit.{Unit as UnitName}
+use Rattle.byte_unit_base.specs.declared.unit.Unit.TheVariants.{Bit, B, Kbit, Kibit, KB, KiB, Mbit, Mibit, MB, MiB}
+use Rattle.byte_unit_base.specs.declared.unit.Unit.TheVariants.{Gbit, Gibit, GB, GiB, Tbit, Tibit, TB, TiB}
+use Rattle.byte_unit_base.specs.declared.unit.Unit.TheVariants.{Pbit, Pibit, PB, PiB, Ebit, Eibit, EB, EiB}
+use Rattle.byte_unit_base.specs.declared.unit.Unit.TheVariants.{Zbit, Zibit, ZB, ZiB, Ybit, Yibit, YB, YiB}
+use Rattle.byte_unit_base.specs.declared.unit.Unit.TheVariants.{Rbit, Ribit, RB, RiB}
+
+abbrev pub units : List UnitName
+units =
+    Bit ∷ B ∷ Kbit ∷ Kibit ∷ KB ∷ KiB ∷ Mbit ∷ Mibit ∷ MB ∷ MiB
+    ∷ Gbit ∷ Gibit ∷ GB ∷ GiB ∷ Tbit ∷ Tibit ∷ TB ∷ TiB
+    ∷ Pbit ∷ Pibit ∷ PB ∷ PiB ∷ Ebit ∷ Eibit ∷ EB ∷ EiB
+    ∷ Zbit ∷ Zibit ∷ ZB ∷ ZiB ∷ Ybit ∷ Yibit ∷ YB ∷ YiB
+    ∷ Rbit ∷ Ribit ∷ RB ∷ RiB ∷ []
+
+-- the unit of a code
+abbrev pub unit_at : ℕ → Option UnitName
+unit_at code = slice_get units code
+
+-- the code is that of a unit with the property
+abbrev pub CodesUnit : (Shape → Type 0) → ℕ → Type 0
+CodesUnit Has code = (unit : UnitName) × (unit_at code ≡ Some unit) × Has (shape_of unit)
+
+abbrev pub types : List UnitType
+types = Binary ∷ Decimal ∷ Both ∷ []
+
+abbrev pub kind_of : Bool → Kind
+kind_of true = InBits
+kind_of false = InBytes

@@ -1,0 +1,5 @@
+pub mod Values
+pub mod Codes
+pub mod Spec
+pub mod Fault
+pub mod Reading

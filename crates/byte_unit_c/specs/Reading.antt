@@ -1,0 +1,34 @@
+-- What a caller in C gets of what a text is read as.
+use Rattle.std.specs.Prelude.{◌≡◌, ℕ, List, Result, Ok, Err, IfSome}
+use Rattle.std.specs.Fmt.Cut.{IsTextOrCut}
+use Rattle.byte_unit_base.specs.Errors.{size_fault}
+use Rattle.byte_unit_base.specs.FaultText.{parse_text}
+use Rattle.byte_unit_base.specs.declared.errors.ParseError.{ParseError}
+use Rattle.byte_unit_format.specs.Written.{Writes}
+use Rattle.byte_unit_c.specs.declared.values.Number.{Number}
+use Rattle.byte_unit_c.specs.declared.fault.Fault.{Fault as Told}
+use Rattle.byte_unit_c.specs.Values.{number_of}
+use Rattle.byte_unit_c.specs.Fault.{code_of, TellsFault}
+
+-- the answer where a text states a size
+abbrev pub ok : ℕ
+ok = 0
+
+-- the answer to bytes that are no text; those between are the codes of faults
+abbrev pub not_utf8 : ℕ
+not_utf8 = 6
+
+-- the size, or the fault with its code; the other stays
+abbrev pub Answers : Result ℕ ParseError → ℕ → Number → Number → Told → Told → Type 0
+Answers (Ok n) code size size' fault fault' = (code ≡ ok) × (number_of size' ≡ n) × (fault' ≡ fault)
+Answers (Err e) code size size' fault fault' =
+    (code ≡ code_of (size_fault e)) × TellsFault (size_fault e) fault' × (size' ≡ size)
+
+-- the words, or a text of 256 bytes at most that ends in dots; nothing is said where std says nothing of the words
+abbrev pub AreWords : ParseError → List ℕ → Type 0
+AreWords e kept = IfSome (parse_text e) (λ words. IsTextOrCut 256 words kept)
+
+-- the words of an error, or nothing where there is none
+abbrev pub Explains : Result ℕ ParseError → List ℕ → List ℕ → ℕ → Type 0
+Explains (Ok n) old new needed = (needed ≡ 0) × (new ≡ old)
+Explains (Err e) old new needed = Writes (AreWords e) old new needed

@@ -1,0 +1,85 @@
+//! Units, kinds and types of units by their codes.
+
+ghost use Rattle.std.specs.Prelude.{◌≡◌, slice_get, Some};
+ghost use Rattle.byte_unit_c.specs.Codes.{kind_of, types, unit_at};
+
+use byte_unit_base::{Kind, Unit, UnitType};
+
+/// The units, each at its code.
+static UNITS: [Unit; 38] = [
+    Unit::Bit,
+    Unit::B,
+    Unit::Kbit,
+    Unit::Kibit,
+    Unit::KB,
+    Unit::KiB,
+    Unit::Mbit,
+    Unit::Mibit,
+    Unit::MB,
+    Unit::MiB,
+    Unit::Gbit,
+    Unit::Gibit,
+    Unit::GB,
+    Unit::GiB,
+    Unit::Tbit,
+    Unit::Tibit,
+    Unit::TB,
+    Unit::TiB,
+    Unit::Pbit,
+    Unit::Pibit,
+    Unit::PB,
+    Unit::PiB,
+    Unit::Ebit,
+    Unit::Eibit,
+    Unit::EB,
+    Unit::EiB,
+    Unit::Zbit,
+    Unit::Zibit,
+    Unit::ZB,
+    Unit::ZiB,
+    Unit::Ybit,
+    Unit::Yibit,
+    Unit::YB,
+    Unit::YiB,
+    Unit::Rbit,
+    Unit::Ribit,
+    Unit::RB,
+    Unit::RiB,
+];
+
+/// The unit of a code, which is its place among the units. `None` from 38 on.
+pub fn unit_at(code: u32) -> Option<Unit>
+    ensures { result ≡ unit_at code }
+{
+    if code < 38 {
+        Some(UNITS[code as usize])
+    } else {
+        None
+    }
+}
+
+/// The code of a unit.
+pub fn code_of(unit: Unit) -> u32
+    ensures { unit_at result ≡ Some unit }
+{
+    unit as u32
+}
+
+/// The kind: bits or bytes.
+pub fn kind_of(in_bits: bool) -> Kind
+    ensures { result ≡ kind_of in_bits }
+{
+    if in_bits { Kind::Bit } else { Kind::Byte }
+}
+
+/// The type of units of a code: 0 binary, 1 decimal, 2 both. `None` from 3 on.
+pub fn type_at(code: u32) -> Option<UnitType>
+    ensures { result ≡ slice_get types code }
+{
+    match code {
+        0 => Some(UnitType::Binary),
+        1 => Some(UnitType::Decimal),
+        2 => Some(UnitType::Both),
+        _ => None,
+    }
+}

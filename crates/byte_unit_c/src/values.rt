@@ -1,0 +1,63 @@
+//! Numbers as they cross to C.
+
+ghost use Rattle.std.specs.Prelude.{◌≡◌};
+ghost use Rattle.byte_unit_c.specs.Values.{number_of, IsParts};
+
+use byte_unit_math::Decimal;
+
+/// A number of 128 bits in two halves, since C has no type of its own for one.
+#[repr(C)]
+#[derive(Clone, Copy)]
+pub struct Number {
+    pub low: u64,
+    pub high: u64,
+}
+
+/// 2^64.
+const HALF: u128 = 1 << 64;
+
+impl Number {
+    pub const ZERO: Number = Number { low: 0, high: 0 };
+
+    /// The number in its halves.
+    pub fn new(n: u128) -> Number
+        ensures { number_of result ≡ n }
+    {
+        Number {
+            low: (n % HALF) as u64,
+            high: (n / HALF) as u64,
+        }
+    }
+
+    /// The number of the halves.
+    pub fn get(self) -> u128
+        ensures { result ≡ number_of self }
+    {
+        u128::from(self.high) * HALF + u128::from(self.low)
+    }
+}
+
+/// A decimal: the part before the point, and the part behind it in last places of 28, below 10^28.
+#[repr(C)]
+#[derive(Clone, Copy)]
+pub struct Parts {
+    pub whole: Number,
+    pub fraction: Number,
+}
+
+impl Parts {
+    pub const ZERO: Parts = Parts {
+        whole: Number::ZERO,
+        fraction: Number::ZERO,
+    };
+
+    /// The parts of a decimal.
+    pub fn new(decimal: Decimal) -> Parts
+        ensures { IsParts result decimal }
+    {
+        Parts {
+            whole: Number::new(decimal.whole()),
+            fraction: Number::new(decimal.fraction()),
+        }
+    }
+}

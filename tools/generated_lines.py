@@ -1,0 +1,31 @@
+"""Lines of every make, by a seed: numbers short and long, units well and badly spelled, white space, and bytes of no text."""
+
+from exact_model import LETTERS
+
+WORDS = ["", "B", "b", "bit", "bits", "BIT", "bItS", "bi", "bitx", "byte"]
+ODD = ["", " ", "\t", "x", "-1", "+1", ".5", "1.", "1 .5", "1,000", "1_000", "1e3", "é", "1é", "1 Ké", "1😀", "\ufeff1"]
+BROKEN = [b"\xff", b"1\xff", b"1\xc3", b"1\xed\xa0\x80", b"1\xc0\x80", b"1\x00", b"1KB\r", b"\r", b"1\x1c", b"1\x85"]
+
+
+def some_line(rng):
+    """A line of any make, as bytes without a line end."""
+    make = rng.random()
+    if make < 0.05:
+        return rng.choice(BROKEN)
+    if make < 0.1:
+        return rng.choice(ODD).encode()
+    number = str(rng.randrange(10 ** rng.choice([1, 2, 3, 4, 6, 9, 12, 15, 18, 20, 24, 27, 28, 29, 30])))
+    if rng.random() < 0.5:
+        places = rng.choice([1, 1, 2, 2, 3, 6, 12, 15, 27, 28, 29])
+        number += "." + "".join(rng.choices("0123456789", k=places))
+    if rng.random() < 0.03:
+        number = "0" * rng.randrange(40) + number
+    unit = rng.choice(["", *LETTERS, *LETTERS.lower()])
+    unit += rng.choice(["", "", "i", "I"] if unit else [""]) + rng.choice(WORDS)
+    text = number + " " * rng.choice([0, 0, 1, 1, 1, 2, 9]) + unit
+    if rng.random() < 0.05:
+        at = rng.randrange(len(text) + 1)
+        text = text[:at] + rng.choice("bikKx. \t0é\u3000\u212a") + text[at:]
+    if rng.random() < 0.03:
+        text = rng.choice([" ", "\u3000", "\u2028\v"]) + text + rng.choice([" ", "\u00a0", "\r", "\u200b"])
+    return text.encode()
