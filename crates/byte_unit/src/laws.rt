@@ -23,5 +23,6 @@ pub use byte_unit_format::laws::{
     size_has_one_adjusted_form, size_has_one_form, size_string_reads_back,
 };
 pub use byte_unit_math::laws::{
-    exact_by_powers, expansions_are_found_by_division, numerals_are_exact, places_by_powers,
+    exact_by_powers, expansions_are_found_by_division, greatest_count_stays, numerals_are_exact,
+    places_by_powers,
 };

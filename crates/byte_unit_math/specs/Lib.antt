@@ -10,6 +10,7 @@ pub mod Padded
 pub mod Nearest
 pub mod Powers
 pub mod NumberLaws
+pub mod CountLaws
 pub mod ShortDigits
 pub mod StoredDecimal
 pub mod Stored

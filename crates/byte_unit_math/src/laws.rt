@@ -2,6 +2,7 @@
 ghost use Rattle.byte_unit_math.specs.NumberLaws.{ExactByPowers, NumbersHaveTwosAndFives, PlacesByPowers};
 ghost use Rattle.byte_unit_math.specs.NumberLaws.{ZeroTakesNoPlaces, ExpansionsAreFoundByDivision};
 ghost use Rattle.byte_unit_math.specs.NumberLaws.{NumeralsAreExact, ShortNumeralsAreExpansions};
+ghost use Rattle.byte_unit_math.specs.CountLaws.{GreatestCountStays};
 
 /// `num / (2^a * 5^b)`, where it is not zero, is exact at p places exactly where neither exponent is greater than p and
 /// what the numerator has of it.
@@ -26,4 +27,9 @@ pub fn expansions_are_found_by_division()
 pub fn numerals_are_exact()
     ensures all { NumeralsAreExact }
     ensures short { ShortNumeralsAreExpansions }
+{}
+
+/// Once a count of ticks is the greatest, it stays, however many more there are.
+pub fn greatest_count_stays()
+    ensures { GreatestCountStays }
 {}

@@ -49,21 +49,3 @@ impl Steps {
         self.count = self.count.saturating_add(u64::from(ticks));
     }
 }
-
-#[cfg(test)]
-mod tests {
-    use super::*;
-
-    #[test]
-    fn the_greatest_count_stays(rt: HostRuntime) {
-        let mut steps = Steps {
-            count: u64::MAX - 1,
-        };
-        steps.tick();
-        assert_eq!(rt; steps.count(), u64::MAX);
-        steps.tick();
-        assert_eq!(rt; steps.count(), u64::MAX);
-        steps.raise(u32::MAX);
-        assert_eq!(rt; steps.count(), u64::MAX);
-    }
-}
