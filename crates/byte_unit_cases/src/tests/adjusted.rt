@@ -1,126 +1,114 @@
 //! Sizes in a unit: their texts by their specs, and what they are made of.
-use super::shown::{Shown, assert_displays, assert_texts, bits_in, bytes_in};
+use super::shown::{
+    Shown, assert_bits_in, assert_bytes_in, assert_displays, assert_texts, bits_in, bytes_in,
+};
 use super::{places, precise, spec};
 use byte_unit::{Align, Bit, Byte, FormatSpec, Sign, Unit, UnitType};
 use std::alloc::AllocError;
 
 #[test]
 fn decimals_carried_through_nines(rt: HostRuntime) -> Result<(), AllocError> {
-    assert_texts(
+    assert_bytes_in(
         &rt,
         rt.alloc(),
         &[
-            (bytes_in(9_996_000, Unit::MB), places(2), "10.00 MB"),
-            (bytes_in(9_996_000, Unit::MB), precise(2), "10 MB"),
-            (bytes_in(999_999, Unit::MB), places(3), "1.000 MB"),
-            (bytes_in(999_999, Unit::MB), precise(3), "1 MB"),
+            (9_996_000, Unit::MB, places(2), "10.00 MB"),
+            (9_996_000, Unit::MB, precise(2), "10 MB"),
+            (999_999, Unit::MB, places(3), "1.000 MB"),
+            (999_999, Unit::MB, precise(3), "1 MB"),
         ],
     )
 }
 
 #[test]
 fn ties_to_even_and_up(rt: HostRuntime) -> Result<(), AllocError> {
-    assert_texts(
+    assert_bytes_in(
         &rt,
         rt.alloc(),
         &[
-            (bytes_in(1005, Unit::KB), places(2), "1.00 KB"),
-            (bytes_in(1005, Unit::KB), precise(2), "1.01 KB"),
-            (bytes_in(1015, Unit::KB), places(2), "1.02 KB"),
-            (bytes_in(1015, Unit::KB), precise(2), "1.02 KB"),
-            (bytes_in(500, Unit::KB), places(0), "0 KB"),
-            (bytes_in(500, Unit::KB), precise(0), "1 KB"),
-            (bytes_in(1500, Unit::KB), places(0), "2 KB"),
-            (bytes_in(1500, Unit::KB), precise(0), "2 KB"),
+            (1005, Unit::KB, places(2), "1.00 KB"),
+            (1005, Unit::KB, precise(2), "1.01 KB"),
+            (1015, Unit::KB, places(2), "1.02 KB"),
+            (1015, Unit::KB, precise(2), "1.02 KB"),
+            (500, Unit::KB, places(0), "0 KB"),
+            (500, Unit::KB, precise(0), "1 KB"),
+            (1500, Unit::KB, places(0), "2 KB"),
+            (1500, Unit::KB, precise(0), "2 KB"),
         ],
     )
 }
 
 #[test]
 fn small_sizes(rt: HostRuntime) -> Result<(), AllocError> {
-    assert_texts(
+    assert_bytes_in(
         &rt,
         rt.alloc(),
         &[
             (
-                bytes_in(1, Unit::MiB),
+                1,
+                Unit::MiB,
                 FormatSpec::PLAIN,
                 "0.00000095367431640625 MiB",
             ),
             (
-                bytes_in(1, Unit::MiB),
+                1,
+                Unit::MiB,
                 FormatSpec::ALTERNATE,
                 "0.00000095367431640625 MiB",
             ),
-            (
-                bytes_in(1, Unit::MiB),
-                places(18),
-                "0.000000953674316406 MiB",
-            ),
-            (
-                bytes_in(1, Unit::MiB),
-                places(19),
-                "0.0000009536743164062 MiB",
-            ),
-            (
-                bytes_in(1, Unit::MiB),
-                precise(18),
-                "0.0000009536743164 MiB",
-            ),
-            (
-                bytes_in(1, Unit::MiB),
-                precise(19),
-                "0.0000009536743164 MiB",
-            ),
-            (
-                bytes_in(1, Unit::MiB),
-                precise(20),
-                "0.0000009536743164 MiB",
-            ),
+            (1, Unit::MiB, places(18), "0.000000953674316406 MiB"),
+            (1, Unit::MiB, places(19), "0.0000009536743164062 MiB"),
+            (1, Unit::MiB, precise(18), "0.0000009536743164 MiB"),
+            (1, Unit::MiB, precise(19), "0.0000009536743164 MiB"),
+            (1, Unit::MiB, precise(20), "0.0000009536743164 MiB"),
         ],
     )
 }
 
 #[test]
 fn sizes_in_their_own_unit(rt: HostRuntime) -> Result<(), AllocError> {
-    assert_texts(
+    assert_bytes_in(
         &rt,
         rt.alloc(),
         &[
-            (bytes_in(3, Unit::Bit), places(2), "24 b"),
-            (bytes_in(3, Unit::Bit), precise(2), "24 b"),
-            (bytes_in(3, Unit::Bit), FormatSpec::PLAIN, "24 b"),
-            (bytes_in(3, Unit::Bit), FormatSpec::ALTERNATE, "24 b"),
+            (3, Unit::Bit, places(2), "24 b"),
+            (3, Unit::Bit, precise(2), "24 b"),
+            (3, Unit::Bit, FormatSpec::PLAIN, "24 b"),
+            (3, Unit::Bit, FormatSpec::ALTERNATE, "24 b"),
         ],
     )
 }
 
 #[test]
 fn whole_expansions(rt: HostRuntime) -> Result<(), AllocError> {
-    assert_texts(
+    assert_bytes_in(
         &rt,
         rt.alloc(),
         &[
             (
-                bytes_in(1, Unit::GiB),
+                1,
+                Unit::GiB,
                 FormatSpec::PLAIN,
                 "0.000000000931322574615478515625 GiB",
             ),
             (
-                bytes_in(1, Unit::GiB),
+                1,
+                Unit::GiB,
                 FormatSpec::ALTERNATE,
                 "0.000000000931322574615478515625 GiB",
             ),
-            (bytes_in(1, Unit::YiB), FormatSpec::PLAIN, ONE_BYTE_IN_YIB),
-            (
-                bytes_in(1, Unit::YiB),
-                FormatSpec::ALTERNATE,
-                ONE_BYTE_IN_YIB,
-            ),
-            (bits_in(1, Unit::YiB), FormatSpec::PLAIN, ONE_BIT_IN_YIB),
-            (bits_in(1, Unit::YiB), FormatSpec::ALTERNATE, ONE_BIT_IN_YIB),
-            (bits_in(1, Unit::YiB), places(84), ONE_BIT_IN_84_PLACES),
-            (bits_in(1, Unit::RiB), places(94), ONE_BIT_IN_94_PLACES),
+            (1, Unit::YiB, FormatSpec::PLAIN, ONE_BYTE_IN_YIB),
+            (1, Unit::YiB, FormatSpec::ALTERNATE, ONE_BYTE_IN_YIB),
+        ],
+    )?;
+    assert_bits_in(
+        &rt,
+        rt.alloc(),
+        &[
+            (1, Unit::YiB, FormatSpec::PLAIN, ONE_BIT_IN_YIB),
+            (1, Unit::YiB, FormatSpec::ALTERNATE, ONE_BIT_IN_YIB),
+            (1, Unit::YiB, places(84), ONE_BIT_IN_84_PLACES),
+            (1, Unit::RiB, places(94), ONE_BIT_IN_94_PLACES),
         ],
     )
 }
@@ -143,88 +131,82 @@ const ONE_BIT_IN_94_PLACES: &str =
 
 #[test]
 fn short_expansions(rt: HostRuntime) -> Result<(), AllocError> {
-    assert_texts(
+    assert_bytes_in(
         &rt,
         rt.alloc(),
         &[
-            (bytes_in(10_000, Unit::KB), FormatSpec::PLAIN, "10 KB"),
+            (10_000, Unit::KB, FormatSpec::PLAIN, "10 KB"),
+            (10_000, Unit::KiB, FormatSpec::PLAIN, "9.765625 KiB"),
+            (10_000, Unit::KiB, FormatSpec::ALTERNATE, "9.765625 KiB"),
+            (1023, Unit::KB, FormatSpec::PLAIN, "1.023 KB"),
+            (1023, Unit::KB, FormatSpec::ALTERNATE, "1.023 KB"),
             (
-                bytes_in(10_000, Unit::KiB),
-                FormatSpec::PLAIN,
-                "9.765625 KiB",
-            ),
-            (
-                bytes_in(10_000, Unit::KiB),
-                FormatSpec::ALTERNATE,
-                "9.765625 KiB",
-            ),
-            (bytes_in(1023, Unit::KB), FormatSpec::PLAIN, "1.023 KB"),
-            (bytes_in(1023, Unit::KB), FormatSpec::ALTERNATE, "1.023 KB"),
-            (
-                bytes_in(1_048_575, Unit::KiB),
+                1_048_575,
+                Unit::KiB,
                 FormatSpec::PLAIN,
                 "1023.9990234375 KiB",
             ),
             (
-                bytes_in(1_048_575, Unit::KiB),
+                1_048_575,
+                Unit::KiB,
                 FormatSpec::ALTERNATE,
                 "1023.9990234375 KiB",
             ),
             (
-                bytes_in(50_840_000, Unit::MiB),
+                50_840_000,
+                Unit::MiB,
                 FormatSpec::PLAIN,
                 "48.48480224609375 MiB",
             ),
             (
-                bytes_in(50_840_000, Unit::MiB),
+                50_840_000,
+                Unit::MiB,
                 FormatSpec::ALTERNATE,
                 "48.48480224609375 MiB",
             ),
-            (bytes_in(125_952, Unit::KB), FormatSpec::PLAIN, "125.952 KB"),
-            (
-                bytes_in(125_952, Unit::KB),
-                FormatSpec::ALTERNATE,
-                "125.952 KB",
-            ),
-            (bits_in(10_000, Unit::Kbit), FormatSpec::PLAIN, "10 Kb"),
-            (
-                bits_in(10_000, Unit::Kibit),
-                FormatSpec::PLAIN,
-                "9.765625 Kib",
-            ),
+            (125_952, Unit::KB, FormatSpec::PLAIN, "125.952 KB"),
+            (125_952, Unit::KB, FormatSpec::ALTERNATE, "125.952 KB"),
+        ],
+    )?;
+    assert_bits_in(
+        &rt,
+        rt.alloc(),
+        &[
+            (10_000, Unit::Kbit, FormatSpec::PLAIN, "10 Kb"),
+            (10_000, Unit::Kibit, FormatSpec::PLAIN, "9.765625 Kib"),
         ],
     )
 }
 
 #[test]
 fn expansions_by_precision(rt: HostRuntime) -> Result<(), AllocError> {
-    assert_texts(
+    assert_bytes_in(
         &rt,
         rt.alloc(),
         &[
-            (bytes_in(10_000, Unit::KiB), places(2), "9.77 KiB"),
-            (bytes_in(10_000, Unit::KB), places(2), "10.00 KB"),
-            (bytes_in(10_000, Unit::KB), precise(2), "10 KB"),
-            (bytes_in(125_952, Unit::KB), places(2), "125.95 KB"),
-            (bytes_in(1_500_000, Unit::MiB), places(2), "1.43 MiB"),
-            (bytes_in(1_500_000, Unit::MiB), precise(2), "1.43 MiB"),
+            (10_000, Unit::KiB, places(2), "9.77 KiB"),
+            (10_000, Unit::KB, places(2), "10.00 KB"),
+            (10_000, Unit::KB, precise(2), "10 KB"),
+            (125_952, Unit::KB, places(2), "125.95 KB"),
+            (1_500_000, Unit::MiB, places(2), "1.43 MiB"),
+            (1_500_000, Unit::MiB, precise(2), "1.43 MiB"),
         ],
     )
 }
 
 #[test]
 fn expansions_in_bits_by_precision(rt: HostRuntime) -> Result<(), AllocError> {
-    assert_texts(
+    assert_bits_in(
         &rt,
         rt.alloc(),
         &[
-            (bits_in(13, Unit::B), places(2), "1.625 B"),
-            (bits_in(13, Unit::B), precise(2), "1.63 B"),
-            (bits_in(125_952, Unit::Kbit), places(2), "125.95 Kb"),
-            (bits_in(125_952, Unit::Kbit), precise(2), "125.95 Kb"),
-            (bits_in(10_000, Unit::Kibit), places(2), "9.77 Kib"),
-            (bits_in(10_000, Unit::Kbit), places(2), "10.00 Kb"),
-            (bits_in(10_000, Unit::Kbit), precise(2), "10 Kb"),
+            (13, Unit::B, places(2), "1.625 B"),
+            (13, Unit::B, precise(2), "1.63 B"),
+            (125_952, Unit::Kbit, places(2), "125.95 Kb"),
+            (125_952, Unit::Kbit, precise(2), "125.95 Kb"),
+            (10_000, Unit::Kibit, places(2), "9.77 Kib"),
+            (10_000, Unit::Kbit, places(2), "10.00 Kb"),
+            (10_000, Unit::Kbit, precise(2), "10 Kb"),
         ],
     )
 }
@@ -233,13 +215,13 @@ fn expansions_in_bits_by_precision(rt: HostRuntime) -> Result<(), AllocError> {
 fn layouts(rt: HostRuntime) -> Result<(), AllocError> {
     let wide = spec(false, Sign::Plus, Some(2), Some(10), Some(Align::Right));
     let close = spec(false, Sign::Minus, None, None, None);
-    assert_texts(
+    assert_bytes_in(
         &rt,
         rt.alloc(),
         &[
-            (bytes_in(10_000, Unit::KiB), wide, "  9.77 KiB"),
-            (bytes_in(10_000, Unit::KB), wide, " 10.00  KB"),
-            (bytes_in(10_000, Unit::KiB), close, "9.765625KiB"),
+            (10_000, Unit::KiB, wide, "  9.77 KiB"),
+            (10_000, Unit::KB, wide, " 10.00  KB"),
+            (10_000, Unit::KiB, close, "9.765625KiB"),
         ],
     )
 }

@@ -133,6 +133,62 @@ pub fn assert_texts(
     Ok(())
 }
 
+/// Each text of so many bytes, by its spec, is the one in its row.
+pub fn assert_texts_of_bytes(
+    rt: &impl Abort,
+    alloc: Global,
+    rows: &[(u64, FormatSpec, &str)],
+) -> Result<(), AllocError> {
+    for (size, spec, wanted) in rows {
+        let shown = bytes(*size);
+        assert_text(rt, alloc, &shown, *spec, wanted)?;
+        assert_written(rt, &shown, *spec, wanted);
+    }
+    Ok(())
+}
+
+/// Each text of so many bits, by its spec, is the one in its row.
+pub fn assert_texts_of_bits(
+    rt: &impl Abort,
+    alloc: Global,
+    rows: &[(u64, FormatSpec, &str)],
+) -> Result<(), AllocError> {
+    for (size, spec, wanted) in rows {
+        let shown = bits(*size);
+        assert_text(rt, alloc, &shown, *spec, wanted)?;
+        assert_written(rt, &shown, *spec, wanted);
+    }
+    Ok(())
+}
+
+/// Each text of so many bytes in the unit, by its spec, is the one in its row.
+pub fn assert_bytes_in(
+    rt: &impl Abort,
+    alloc: Global,
+    rows: &[(u64, Unit, FormatSpec, &str)],
+) -> Result<(), AllocError> {
+    for (size, unit, spec, wanted) in rows {
+        let shown = bytes_in(*size, *unit);
+        assert_text(rt, alloc, &shown, *spec, wanted)?;
+        assert_written(rt, &shown, *spec, wanted);
+    }
+    Ok(())
+}
+
+/// Each text of so many bits in the unit, by its spec, is the one in its row.
+pub fn assert_bits_in(
+    rt: &impl Abort,
+    alloc: Global,
+    rows: &[(u64, Unit, FormatSpec, &str)],
+) -> Result<(), AllocError> {
+    for (size, unit, spec, wanted) in rows {
+        let shown = bits_in(*size, *unit);
+        assert_text(rt, alloc, &shown, *spec, wanted)?;
+        assert_written(rt, &shown, *spec, wanted);
+    }
+    Ok(())
+}
+
 /// What Display writes, through the bound that callers have on it.
 pub fn assert_display<D: Display>(
     rt: &impl Abort,

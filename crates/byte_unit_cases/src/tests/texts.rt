@@ -1,5 +1,7 @@
 //! Texts of sizes, by their specs.
-use super::shown::{Shown, assert_texts, bits, bytes, great_bytes};
+use super::shown::{
+    Shown, assert_texts, assert_texts_of_bits, assert_texts_of_bytes, bytes, great_bytes,
+};
 use super::{places, precise, spec};
 use byte_unit::{
     Align, Bit, Byte, Expansion, FormatSpec, Sign, Unit, append_plain, plain_len, write_layout,
@@ -123,19 +125,22 @@ fn padded_sizes(rt: HostRuntime) -> Result<(), AllocError> {
     let left = spec(true, Sign::Unset, None, Some(10), Some(Align::Left));
     let right = spec(true, Sign::Plus, None, Some(10), Some(Align::Right));
     let five = spec(true, Sign::Unset, None, Some(5), Some(Align::Right));
-    assert_texts(
+    assert_texts_of_bytes(
         &rt,
         rt.alloc(),
         &[
-            (bytes(10_240), ten, "10     KiB"),
-            (bytes(10_240), center, "10     KiB"),
-            (bytes(10_240), left, "10     KiB"),
-            (bytes(10_240), right, "    10 KiB"),
-            (bytes(10_000), right, "    10  KB"),
-            (bits(10_240), right, "    10 Kib"),
-            (bits(10_000), right, "    10  Kb"),
-            (Shown::Byte(Byte::MIN), five, "  0 B"),
+            (10_240, ten, "10     KiB"),
+            (10_240, center, "10     KiB"),
+            (10_240, left, "10     KiB"),
+            (10_240, right, "    10 KiB"),
+            (10_000, right, "    10  KB"),
+            (0, five, "  0 B"),
         ],
+    )?;
+    assert_texts_of_bits(
+        &rt,
+        rt.alloc(),
+        &[(10_240, right, "    10 Kib"), (10_000, right, "    10  Kb")],
     )
 }
 
@@ -147,20 +152,26 @@ fn plain_sizes(rt: HostRuntime) -> Result<(), AllocError> {
     let left = spec(false, Sign::Unset, None, Some(5), Some(Align::Left));
     let right = spec(false, Sign::Unset, None, Some(5), Some(Align::Right));
     let most = spec(false, Sign::Unset, Some(65_535), None, None);
-    assert_texts(
+    assert_texts_of_bytes(
         &rt,
         rt.alloc(),
         &[
-            (bytes(10_240), center, " 10240  "),
-            (bytes(10_240), plus, "  +10240"),
-            (bytes(10_000), most, "10000"),
-            (bytes(12), minus, "12"),
-            (bytes(12), left, "12   "),
-            (bytes(12), right, "   12"),
-            (bytes(15_500), FormatSpec::PLAIN, "15500"),
-            (bytes(3_211_776), FormatSpec::PLAIN, "3211776"),
-            (bits(15_500), FormatSpec::PLAIN, "15500"),
-            (bits(3_211_776), FormatSpec::PLAIN, "3211776"),
+            (10_240, center, " 10240  "),
+            (10_240, plus, "  +10240"),
+            (10_000, most, "10000"),
+            (12, minus, "12"),
+            (12, left, "12   "),
+            (12, right, "   12"),
+            (15_500, FormatSpec::PLAIN, "15500"),
+            (3_211_776, FormatSpec::PLAIN, "3211776"),
+        ],
+    )?;
+    assert_texts_of_bits(
+        &rt,
+        rt.alloc(),
+        &[
+            (15_500, FormatSpec::PLAIN, "15500"),
+            (3_211_776, FormatSpec::PLAIN, "3211776"),
         ],
     )
 }
@@ -170,35 +181,41 @@ fn sizes_by_sign(rt: HostRuntime) -> Result<(), AllocError> {
     let minus = spec(true, Sign::Minus, None, None, None);
     let plus = spec(true, Sign::Plus, None, None, None);
     let no_width = spec(true, Sign::Unset, None, Some(0), None);
-    assert_texts(
+    assert_texts_of_bytes(
         &rt,
         rt.alloc(),
         &[
-            (bytes(10_000), minus, "10KB"),
-            (bytes(500), plus, "500   B"),
-            (bytes(10_000), no_width, "10 KB"),
+            (10_000, minus, "10KB"),
+            (500, plus, "500   B"),
+            (10_000, no_width, "10 KB"),
         ],
     )
 }
 
 #[test]
 fn sizes_by_precision(rt: HostRuntime) -> Result<(), AllocError> {
-    assert_texts(
+    assert_texts_of_bytes(
         &rt,
         rt.alloc(),
         &[
-            (bytes(3_211_776), FormatSpec::ALTERNATE, "3136.5 KiB"),
-            (bytes(3_211_776), precise(6), "3.211776 MB"),
-            (bytes(3_211_776), precise(0), "3211776 B"),
-            (bytes(1023), FormatSpec::ALTERNATE, "1.023 KB"),
-            (bytes(1536), FormatSpec::ALTERNATE, "1.5 KiB"),
-            (bytes(1088), FormatSpec::ALTERNATE, "1.088 KB"),
-            (bytes(1088), precise(4), "1.0625 KiB"),
-            (bytes(15_500), FormatSpec::ALTERNATE, "15.5 KB"),
-            (bytes(15_500), precise(0), "15500 B"),
-            (bits(3_211_776), FormatSpec::ALTERNATE, "3136.5 Kib"),
-            (bits(3_211_776), precise(6), "3.211776 Mb"),
-            (bits(3_211_776), precise(0), "3211776 b"),
+            (3_211_776, FormatSpec::ALTERNATE, "3136.5 KiB"),
+            (3_211_776, precise(6), "3.211776 MB"),
+            (3_211_776, precise(0), "3211776 B"),
+            (1023, FormatSpec::ALTERNATE, "1.023 KB"),
+            (1536, FormatSpec::ALTERNATE, "1.5 KiB"),
+            (1088, FormatSpec::ALTERNATE, "1.088 KB"),
+            (1088, precise(4), "1.0625 KiB"),
+            (15_500, FormatSpec::ALTERNATE, "15.5 KB"),
+            (15_500, precise(0), "15500 B"),
+        ],
+    )?;
+    assert_texts_of_bits(
+        &rt,
+        rt.alloc(),
+        &[
+            (3_211_776, FormatSpec::ALTERNATE, "3136.5 Kib"),
+            (3_211_776, precise(6), "3.211776 Mb"),
+            (3_211_776, precise(0), "3211776 b"),
         ],
     )
 }
