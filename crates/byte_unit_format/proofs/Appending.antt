@@ -1,20 +1,9 @@
 -- What a call that appends has done.
-use Rattle.std.proofs.Common.{◌≡◌, ℕ, ◌+◌, ◌≤◌, List, ◌++◌, length, Result, Ok, arith, ap, refl, ◌∙◌}
+use Rattle.std.proofs.Common.{◌≡◌, ℕ, List, ◌++◌, length, Result, arith, ap, refl, subst, ◌∙◌}
 use Rattle.std.specs.String.{string_bytes}
 use Rattle.std.specs.declared.string.String.{String}
 use Rattle.std.proofs.lemmas.Result.{on_ok_weaker, on_err_weaker}
 use Rattle.byte_unit_format.specs.Room.{spare, Appends}
-
--- this form is added
-pub appends_this : {Z E R : Type 0} (old new : String Z) (answer : R) (form : List ℕ) → string_bytes new ≡ string_bytes old ++ form
-    → spare old ≤ spare new + length form → Appends {E = E} (λ other. other ≡ form) old new (Ok answer)
-appends_this old new answer form bytes room = record {
-  added = (form, refl, bytes);
-  used = λ other same. let as_long = ap length same in omega (arith, as_long, room);
-  refused = tt;
-  unchanged = tt;
-  kept = tt;
-}
 
 -- what has added this form has added a form, where every other is as long
 pub appends_form : {Z E R : Type 0} (IsForm : List ℕ → Type 0) (old new : String Z) (result : Result R E) (form : List ℕ) → IsForm form
@@ -28,3 +17,9 @@ appends_form IsForm old new result form is_form as_long this = record {
   unchanged = this.unchanged;
   kept = this.kept;
 }
+
+-- what has added a text has added the text that it is
+pub appends_same : {Z E R : Type 0} {old new : String Z} {result : Result R E} {text form : List ℕ} → text ≡ form
+    → Appends (λ other. other ≡ text) old new result → Appends (λ other. other ≡ form) old new result
+appends_same {old} {new} {result} {text} {form} same this =
+    let Adds : List ℕ → Type 0 = λ text. Appends (λ other. other ≡ text) old new result in subst Adds same this

@@ -1,14 +1,21 @@
 -- The texts that the code writes are those of the definitions.
 use Rattle.std.specs.Prelude.{MatchBool}
-use Rattle.std.proofs.Common.{◌≡◌, ◌+◌, ◌-◌, ◌*◌, ◌<◌, ⊎_elim, min, ℕ, zero, suc, Bool, true, false, List, [], ◌∷◌, ◌++◌, length, take}
+use Rattle.std.proofs.Common.{◌≡◌, ◌+◌, ◌-◌, ◌*◌, ◌/◌, ◌%◌, ◌^◌, ◌<◌, ◌≤◌, ⊎_elim, min, ℕ, zero, suc}
+use Rattle.std.proofs.Common.{Bool, true, false, List, [], ◌∷◌, ◌++◌, length, take}
 use Rattle.std.proofs.Common.{replicate, arith, ap, sym, refl, subst, ◌∙◌}
+use Rattle.std.specs.Fmt.{decimal}
+use Rattle.std.proofs.Math.Nat.{mod-eq_of_lt}
 use Rattle.std.proofs.lemmas.Bool.{cases_lt}
 use Rattle.std.proofs.lemmas.List.{length-take, length-map, map-append, length-append, length-replicate}
 use Rattle.byte_unit_math.specs.Bounds.{one, places_of_decimal}
-use Rattle.byte_unit_math.specs.Finite.{Finite, IsExpansion}
+use Rattle.byte_unit_math.specs.Digits.{last_digits}
+use Rattle.byte_unit_math.specs.Exact.{IsExactAt, IsLeastPlaces}
+use Rattle.byte_unit_math.specs.Finite.{Finite, IsExpansion, value_of}
 use Rattle.byte_unit_math.specs.Numeral.{glyphs, fraction_text, text_of}
 use Rattle.byte_unit_math.specs.Padded.{padded}
+use Rattle.byte_unit_math.proofs.Digits.{length_last, small_last, value_last}
 use Rattle.byte_unit_math.proofs.Fractions.{text_none, text_some}
+use Rattle.byte_unit_math.proofs.Scales.{raise_power}
 use Rattle.byte_unit_math.proofs.Texts.{short_text, own_places}
 use Rattle.byte_unit_base.specs.Shape.{Shape, bits}
 use Rattle.byte_unit_base.specs.Edition.{current, name}
@@ -16,7 +23,7 @@ use Rattle.byte_unit_base.specs.Choice.{IsRecovered}
 use Rattle.byte_unit_base.specs.declared.kind.Kind.{Kind}
 use Rattle.byte_unit_format.specs.declared.spec.FormatSpec.{FormatSpec}
 use Rattle.byte_unit_base.specs.Kinds.{bits_in}
-use Rattle.byte_unit_format.specs.Layout.{layout, layout_of}
+use Rattle.byte_unit_format.specs.Layout.{layout}
 use Rattle.byte_unit_format.specs.Plain.{plain}
 use Rattle.byte_unit_format.specs.Forms.{IsSizeForm, IsText, places_of}
 use Rattle.byte_unit_format.proofs.OneForm.{one_form}
@@ -86,62 +93,75 @@ all_places e places count = ap (λ places. text_of (padded places e)) count ∙ 
 
 -- the form of a size
 
+-- the parts of a decimal: its whole part, and its digits after the point, no more than it has
+pub record AreParts (number whole digits places : ℕ) : Type 0 where
+  pub few : places ≤ places_of_decimal
+  pub least : IsLeastPlaces number one places
+  pub whole_is : whole ≡ number / one
+  pub digits_are : digits * 10 ^ (places_of_decimal - places) ≡ number % one
+  pub below : digits < 10 ^ places
+
+parts_expansion :
+    {number whole digits places : ℕ} → AreParts number whole digits places
+    → IsExpansion number one (record { whole = whole; digits = last_digits places digits })
+parts_expansion {number} {whole} {digits} {places} parts =
+    let these = last_digits places digits in
+    let len : length these ≡ places = length_last places digits in
+    let value : value_of these ≡ digits = value_last places digits ∙ mod-eq_of_lt parts.below in
+    let product = ap (λ power. digits * power) (raise_power places places_of_decimal parts.few) in
+    let split : number ≡ whole * one + digits * 10 ^ (places_of_decimal - places) = omega (arith, parts.whole_is, parts.digits_are) in
+    let times = ap (λ number. number * 10 ^ places) split in
+    let Exact : ℕ → Type 0 = λ places. number * 10 ^ places ≡ (whole * 10 ^ places + value_of these) * one in
+    let Least : ℕ → Type 0 = λ places. (p : ℕ) → IsExactAt number one p → places ≤ p in
+    record {
+      small = small_last places digits;
+      exact = subst Exact (sym len) (omega (arith, times, product, ap (λ value. value * one) value));
+      least = subst Least (sym len) parts.least.least;
+    }
+
 -- all digits of the number are its form
-pub stated_form : (kind : Kind) (size : ℕ) (spec : FormatSpec) {unit : Shape} {number places : ℕ} {e : Finite}
+pub stated_form : (kind : Kind) (size : ℕ) (spec : FormatSpec) {unit : Shape} {number places whole digits count : ℕ}
     → places ≡ places_of spec.precision
     → IsRecovered current kind false size places unit
     → number * bits unit ≡ size * bits_in kind * one
-    → IsExpansion number one e
-    → IsSizeForm current kind size spec (layout (text_of e) (name current unit) spec)
-stated_form kind size spec {unit} {number} {places} {e} places_are recovered product expansion =
+    → AreParts number whole digits count
+    → IsSizeForm current kind size spec (layout (decimal whole ++ fraction_text (last_digits count digits)) (name current unit) spec)
+stated_form kind size spec {unit} {number} {places} {whole} {digits} {count} places_are recovered product parts =
     let within : ℕ → Type 0 = λ places. IsRecovered current kind false size places unit in
+    let e : Finite = record { whole = whole; digits = last_digits count digits } in
     record {
       unit = unit;
       number = number;
       is_recovered = subst within places_are recovered;
       number_is = product;
-      text_is = ap (λ number. layout number (name current unit) spec) (short_text number places_of_decimal e expansion);
+      text_is = ap (λ number. layout number (name current unit) spec) (short_text number places_of_decimal e (parts_expansion parts));
     }
 
-is_text_form :
-    (kind : Kind) (size : ℕ) (spec : FormatSpec) (text : List ℕ) → spec.alternate ≡ true → IsSizeForm current kind size spec text
+-- the text of a size under the alternate form, and without it
+pub form_text :
+    (kind : Kind) (size : ℕ) (spec : FormatSpec) {text : List ℕ} → spec.alternate ≡ true → IsSizeForm current kind size spec text
     → IsText current kind size spec text
-is_text_form kind size spec text alternate form =
+form_text kind size spec {text} alternate form =
     let Text : Bool → Type 0 = λ alternate. MatchBool alternate (IsSizeForm current kind size spec text) (text ≡ plain size spec) in
     subst Text (sym alternate) form
 
--- each text under the alternate form is this one
+pub plain_text :
+    (kind : Kind) (size : ℕ) (spec : FormatSpec) {text : List ℕ} → spec.alternate ≡ false → text ≡ plain size spec
+    → IsText current kind size spec text
+plain_text kind size spec {text} alternate form =
+    let Text : Bool → Type 0 = λ alternate. MatchBool alternate (IsSizeForm current kind size spec text) (text ≡ plain size spec) in
+    subst Text (sym alternate) form
+
+-- a size has one text
 one_text :
-    (kind : Kind) (size : ℕ) (spec : FormatSpec) (text other : List ℕ) → spec.alternate ≡ true → IsSizeForm current kind size spec text
-    → IsText current kind size spec other → other ≡ text
-one_text kind size spec text other alternate form other_text =
-    let Text : Bool → Type 0 = λ alternate. MatchBool alternate (IsSizeForm current kind size spec other) (other ≡ plain size spec) in
-    one_form current kind size spec other text (subst Text alternate other_text) form
+    (alternate : Bool) (kind : Kind) (size : ℕ) (spec : FormatSpec) (text other : List ℕ)
+    → MatchBool alternate (IsSizeForm current kind size spec text) (text ≡ plain size spec)
+    → MatchBool alternate (IsSizeForm current kind size spec other) (other ≡ plain size spec) → other ≡ text
+one_text true kind size spec text other is_text is_other = one_form current kind size spec other text is_other is_text
+one_text false kind size spec text other is_text is_other = is_other ∙ sym is_text
 
--- the alternate form is a decimal with all its places, and a unit
-pub record IsShownWhole (kind : Kind) (size : ℕ) (spec : FormatSpec) (unit : Shape) (e : Finite) (places : ℕ) : Type 0 where
-  pub count : places ≡ length e.digits
-  pub alternate : spec.alternate ≡ true
-  pub form : IsSizeForm current kind size spec (layout (text_of e) (name current unit) spec)
-
-own_shown :
-    (e : Finite) (places : ℕ) (unit : Shape) (spec : FormatSpec) → places ≡ length e.digits
-    → layout_of current e places unit spec ≡ layout (text_of e) (name current unit) spec
-own_shown e places unit spec count = ap (λ number. layout number (name current unit) spec) (all_places e places count)
-
--- it is the text
-pub shown_text :
-    {kind : Kind} {size : ℕ} {spec : FormatSpec} {unit : Shape} {e : Finite} {places : ℕ} → IsShownWhole kind size spec unit e places
-    → IsText current kind size spec (layout_of current e places unit spec)
-shown_text {kind} {size} {spec} {unit} {e} {places} shown =
-    is_text_form kind size spec (layout_of current e places unit spec) shown.alternate
-    (subst (IsSizeForm current kind size spec) (sym (own_shown e places unit spec shown.count)) shown.form)
-
--- and each text of the size is as long
-pub shown_length :
-    {kind : Kind} {size : ℕ} {spec : FormatSpec} {unit : Shape} {e : Finite} {places : ℕ} → IsShownWhole kind size spec unit e places
-    → (text : List ℕ) → IsText current kind size spec text → length text ≡ length (layout_of current e places unit spec)
-shown_length {kind} {size} {spec} {unit} {e} {places} shown text is_text =
-    ap length
-    (one_text kind size spec (layout (text_of e) (name current unit) spec) text shown.alternate shown.form is_text
-    ∙ sym (own_shown e places unit spec shown.count))
+pub text_long :
+    (kind : Kind) (size : ℕ) (spec : FormatSpec) (text : List ℕ) → IsText current kind size spec text
+    → (other : List ℕ) → IsText current kind size spec other → length other ≡ length text
+text_long kind size spec text is_text other is_other =
+    ap length (one_text spec.alternate kind size spec text other is_text is_other)

@@ -35,6 +35,10 @@ abbrev pub IsText : Edition → Kind → ℕ → FormatSpec → List ℕ → Typ
 IsText edition kind size spec text =
     MatchBool spec.alternate (IsSizeForm edition kind size spec text) (text ≡ plain size spec)
 
+-- texts of sizes for which no width is asked are no longer than this many bytes
+abbrev pub narrow_text : ℕ
+narrow_text = 72
+
 -- texts are shorter than this many bytes
 abbrev pub text_limit : ℕ
 text_limit = 65600

@@ -1,19 +1,18 @@
 //! The text of a size: its plain form, or its form with a unit.
 
-ghost use Rattle.std.specs.Prelude.{◌≡◌, ℕ, ◌<◌, List, length};
-ghost use Rattle.byte_unit_math.specs.Numeral.{text_of};
-ghost use Rattle.byte_unit_base.specs.Edition.{current, name};
-ghost use Rattle.byte_unit_base.specs.Units.{shape_of};
+ghost use Rattle.std.specs.Prelude.{◌≡◌, ℕ, ◌<◌, ◌≤◌, List, length};
+ghost use Rattle.byte_unit_base.specs.Edition.{current};
 ghost use Rattle.byte_unit_format.specs.Room.{Appends};
+ghost use Rattle.byte_unit_format.specs.Row.{IsShort, row_text};
 ghost use Rattle.byte_unit_format.specs.Written.{Writes};
-ghost use Rattle.byte_unit_format.specs.Layout.{layout};
-ghost use Rattle.byte_unit_format.specs.Forms.{IsSizeForm, IsText, places_of, text_limit};
+ghost use Rattle.byte_unit_format.specs.Forms.{IsSizeForm, IsText, places_of, narrow_text, text_limit};
 
-use crate::layout::{append_layout, layout_len, write_layout};
-use crate::plain::{append_plain, plain_len, write_plain};
+use crate::layout::layout_row;
+use crate::plain::plain_row;
+use crate::row::{Fraction, Row};
 use crate::spec::FormatSpec;
-use byte_unit_base::{Kind, Unit, recoverable_unit};
-use byte_unit_math::{Expansion, Steps};
+use byte_unit_base::{Kind, recoverable_unit};
+use byte_unit_math::Steps;
 use std::alloc::{AllocError, Allocator};
 
 /// The places that a size may take where no precision is set.
@@ -29,12 +28,7 @@ pub fn text_len(size: u128, kind: Kind, spec: FormatSpec) -> usize
     ensures exact { (form : List ℕ) → IsText current kind size spec form → result ≡ length form }
     ensures small { result < text_limit }
 {
-    if spec.alternate {
-        let (number, unit) = stated(size, kind, spec);
-        layout_len(&number, number.places(), unit, spec)
-    } else {
-        plain_len(size, spec)
-    }
+    text_row(size, kind, spec).len
 }
 
 /// Adds the text of a size: in the alternate form the size with the largest unit of its kind, not above it, that states
@@ -57,12 +51,7 @@ pub fn append_text<A: Allocator>(
     requires { size < current.size_limit }
     ensures { Appends (IsText current kind size spec) text.old text.new result }
 {
-    if spec.alternate {
-        let (number, unit) = stated(size, kind, spec);
-        append_layout(&number, number.places(), unit, spec, text)
-    } else {
-        append_plain(size, spec, text)
-    }
+    text_row(size, kind, spec).append(text)
 }
 
 /// Writes the text of a size at the front of the bytes, as `append_text` adds it, and answers how long it is. Where it
@@ -75,23 +64,40 @@ pub fn write_text(size: u128, kind: Kind, spec: FormatSpec, out: &mut [u8]) -> u
     requires { size < current.size_limit }
     ensures written { Writes (IsText current kind size spec) out.old out.new result }
     ensures small { result < text_limit }
+    ensures narrow { spec.width ≡ None → result ≤ narrow_text }
+{
+    text_row(size, kind, spec).write(out)
+}
+
+/// The parts of the text of a size.
+fn text_row(size: u128, kind: Kind, spec: FormatSpec) -> Row<'static>
+    requires { size < current.size_limit }
+    ensures text { IsText current kind size spec (row_text result) }
+    ensures len { result.len ≡ length (row_text result) }
+    ensures small { result.len < text_limit }
+    ensures narrow { spec.width ≡ None → result.len ≤ narrow_text }
+    ensures short { IsShort result.fraction }
 {
     if spec.alternate {
-        let (number, unit) = stated(size, kind, spec);
-        write_layout(&number, number.places(), unit, spec, out)
+        form_row(size, kind, spec)
     } else {
-        write_plain(size, spec, out)
+        plain_row(size, spec)
     }
 }
 
-/// The number and the unit of the alternate form: the number has all its places there.
-fn stated(size: u128, kind: Kind, spec: FormatSpec) -> (Expansion, Unit)
+/// The parts of the alternate form: the number has all its places there.
+fn form_row(size: u128, kind: Kind, spec: FormatSpec) -> Row<'static>
     requires { size < current.size_limit }
-    ensures { IsSizeForm current kind size spec (layout (text_of result.0) (name current (shape_of result.1)) spec) }
+    ensures form { IsSizeForm current kind size spec (row_text result) }
+    ensures len { result.len ≡ length (row_text result) }
+    ensures small { result.len < text_limit }
+    ensures narrow { spec.width ≡ None → result.len ≤ narrow_text }
+    ensures short { IsShort result.fraction }
 {
     let places = places(spec.precision);
     let (number, unit) = recoverable_unit(size, kind, false, places, &mut Steps::new());
-    (Expansion::from_decimal(number), unit)
+    let fraction = Fraction::Last(number.digits(), number.places());
+    layout_row(number.whole(), fraction, unit, spec)
 }
 
 /// The places that a size may take.

@@ -1,24 +1,19 @@
 //! A number with its unit.
 
-ghost use Rattle.std.specs.Prelude.{◌≡◌, ◌+◌, ◌<◌, ◌≤◌, ◌++◌, length, take, max, IsAscii};
+ghost use Rattle.std.specs.Prelude.{◌≡◌, ◌+◌, ◌≤◌, ◌++◌, length, max};
 ghost use Rattle.std.specs.Fmt.{decimal};
-ghost use Rattle.std.specs.String.{string_bytes};
 ghost use Rattle.byte_unit_base.specs.Edition.{name, current};
 ghost use Rattle.byte_unit_base.specs.Units.{shape_of};
-ghost use Rattle.byte_unit_math.specs.Finite.{Finite};
-ghost use Rattle.byte_unit_math.specs.Numeral.{fraction_text, text_of};
-ghost use Rattle.byte_unit_math.specs.Padded.{padded};
-ghost use Rattle.byte_unit_format.specs.Room.{spare, Appends};
+ghost use Rattle.byte_unit_format.specs.Room.{Appends};
 ghost use Rattle.byte_unit_format.specs.Layout.{layout, layout_of, before_layout, gap_of};
 ghost use Rattle.byte_unit_format.specs.Row.{fraction_of, places_in, row_text};
 ghost use Rattle.byte_unit_format.specs.Written.{Writes};
 
 use crate::plain::padding;
-use crate::room::{push, push_ascii, push_run, reserve};
 use crate::row::{Fraction, Row};
 use crate::spec::{Align, FormatSpec, Sign};
 use byte_unit_base::Unit;
-use byte_unit_math::{DecimalDigits, Expansion, decimal_len, glyphs_of};
+use byte_unit_math::{Expansion, decimal_len};
 use std::alloc::{AllocError, Allocator};
 
 /// How long a decimal of so many places is with its unit. It takes no memory.
@@ -54,18 +49,7 @@ pub fn append_layout<A: Allocator>(
 ) -> Result<(), AllocError>
     ensures { Appends (λ form. form ≡ layout_of current e.now places (shape_of unit) spec) text.old text.new result }
 {
-    let whole = DecimalDigits::of(e.whole());
-    let gap = gap(unit, spec.sign);
-    let len = whole.len() + fraction_len(places) + gap + name_len(unit);
-    let pad = padding(len, spec.width);
-    reserve(text, len + pad)?;
-    let before = before_layout(spec.align, pad);
-    push_run(text, b' ', before);
-    push_numeral(text, &whole, e, places);
-    push_run(text, b' ', pad - before);
-    push_run(text, b' ', gap);
-    text.push_str(unit.as_str()).unwrap();
-    Ok(())
+    layout_row(e.whole(), Fraction::First(e, places), unit, spec).append(text)
 }
 
 /// Writes a decimal with exactly so many places, and its unit, at the front of the bytes, as `append_layout` adds them,
@@ -99,6 +83,7 @@ pub(crate) fn layout_row<'a>(
         row_text result ≡ layout number (name current (shape_of unit)) spec }
     ensures len { result.len ≡ length (row_text result) }
     ensures small { result.len ≤ max u16.MAX (places_in fraction.entry + 44) }
+    ensures narrow { spec.width ≡ None → result.len ≤ places_in fraction.entry + 44 }
     ensures fraction { result.fraction ≡ fraction.entry }
 {
     let gap = gap(unit, spec.sign);
@@ -145,46 +130,5 @@ fn gap(unit: Unit, sign: Sign) -> usize
         Sign::Unset => 1,
         Sign::Plus => 4 - name_len(unit),
         Sign::Minus => 0,
-    }
-}
-
-/// How many columns the point and so many digits take.
-#[tactic(auto, using(crate::proofs::WrittenForms::fraction_length))]
-fn fraction_len(places: u32) -> usize
-    ensures exact { (e : Finite) → result ≡ length (fraction_text (padded places e).digits) }
-    ensures small { result ≤ places + 1 }
-{
-    if places == 0 { 0 } else { 1 + places as usize }
-}
-
-/// Adds a decimal with exactly so many places.
-fn push_numeral<A: Allocator>(
-    text: &mut String<A>,
-    whole: &DecimalDigits,
-    e: &Expansion,
-    places: u32,
-)
-    requires whole { whole.now ≡ decimal e.now.whole }
-    requires ascii { IsAscii whole.now }
-    requires room { length (text_of (padded places e.now)) ≤ spare text.old }
-    ensures bytes { string_bytes text.new ≡ string_bytes text.old ++ text_of (padded places e.now) }
-    ensures spare { spare text.old ≤ spare text.new + length (text_of (padded places e.now)) }
-{
-    push_ascii(text, whole.as_slice());
-    push_fraction(text, e, places);
-}
-
-/// Adds the point and exactly so many digits, or nothing where there are to be none.
-#[tactic(auto, using(crate::proofs::WrittenForms::fraction_length))]
-fn push_fraction<A: Allocator>(text: &mut String<A>, e: &Expansion, places: u32)
-    requires room { length (fraction_text (padded places e.now).digits) ≤ spare text.old }
-    ensures bytes { string_bytes text.new ≡ string_bytes text.old ++ fraction_text (padded places e.now).digits }
-    ensures spare { spare text.old ≤ spare text.new + length (fraction_text (padded places e.now).digits) }
-{
-    if places > 0 {
-        let shown = places.min(e.places()) as usize;
-        push(text, '.');
-        push_ascii(text, &glyphs_of(e)[..shown]);
-        push_run(text, b'0', places as usize - shown);
     }
 }

@@ -1,16 +1,14 @@
 //! A whole number without a unit.
 
-ghost use Rattle.std.specs.Prelude.{◌≡◌, ◌+◌, ◌<◌, ◌≤◌, ◌++◌, length, max};
-ghost use Rattle.std.specs.String.{string_bytes};
-ghost use Rattle.byte_unit_format.specs.Room.{spare, Appends};
+ghost use Rattle.std.specs.Prelude.{◌≡◌, ◌+◌, ◌≤◌, length, max};
+ghost use Rattle.byte_unit_format.specs.Room.{Appends};
 ghost use Rattle.byte_unit_format.specs.Plain.{plain, missing, before_plain, plus_of};
 ghost use Rattle.byte_unit_format.specs.Row.{IsShort, row_text};
 ghost use Rattle.byte_unit_format.specs.Written.{Writes};
 
-use crate::room::{push, push_ascii, push_run, reserve};
 use crate::row::{Fraction, Row};
 use crate::spec::{Align, FormatSpec, Sign};
-use byte_unit_math::{DecimalDigits, NUMBER_DIGITS, decimal_len};
+use byte_unit_math::{NUMBER_DIGITS, decimal_len};
 use std::alloc::{AllocError, Allocator};
 
 /// How long the plain form of a number is: its digits with their sign, padded to the width. It takes no memory.
@@ -41,16 +39,7 @@ pub fn append_plain<A: Allocator>(
 ) -> Result<(), AllocError>
     ensures { Appends (λ form. form ≡ plain size spec) text.old text.new result }
 {
-    let digits = DecimalDigits::of(size);
-    let len = signed_len(digits.len(), spec.sign);
-    let pad = padding(len, spec.width);
-    reserve(text, len + pad)?;
-    let before = before_plain(spec.align, pad);
-    push_run(text, b' ', before);
-    push_sign(text, spec.sign);
-    push_ascii(text, digits.as_slice());
-    push_run(text, b' ', pad - before);
-    Ok(())
+    plain_row(size, spec).append(text)
 }
 
 /// Writes the plain form of a number at the front of the bytes, as `append_plain` adds it, and answers how long it is.
@@ -67,10 +56,11 @@ pub fn write_plain(size: u128, spec: FormatSpec, out: &mut [u8]) -> usize
 }
 
 /// The parts of the plain form of a number.
-fn plain_row(size: u128, spec: FormatSpec) -> Row<'static>
+pub(crate) fn plain_row(size: u128, spec: FormatSpec) -> Row<'static>
     ensures text { row_text result ≡ plain size spec }
     ensures len { result.len ≡ length (plain size spec) }
     ensures small { result.len ≤ u16.MAX }
+    ensures narrow { spec.width ≡ None → result.len ≤ NUMBER_DIGITS + 1 }
     ensures short { IsShort result.fraction }
 {
     let columns = signed_len(decimal_len(size), spec.sign);
@@ -103,6 +93,7 @@ fn signed_len(digits: usize, sign: Sign) -> usize
 pub(crate) fn padding(columns: usize, width: Option<u16>) -> usize
     ensures exact { result ≡ missing width columns }
     ensures small { result + columns ≤ max u16.MAX columns }
+    ensures none { width ≡ None → result ≡ 0 }
 {
     match width {
         None => 0,
@@ -119,16 +110,5 @@ fn before_plain(align: Option<Align>, pad: usize) -> usize
         Some(Align::Left) => 0,
         Some(Align::Center) => pad / 2,
         Some(Align::Right) | None => pad,
-    }
-}
-
-fn push_sign<A: Allocator>(text: &mut String<A>, sign: Sign)
-    requires room { length (plus_of sign) ≤ spare text.old }
-    ensures bytes { string_bytes text.new ≡ string_bytes text.old ++ plus_of sign }
-    ensures spare { spare text.old ≤ spare text.new + length (plus_of sign) }
-{
-    match sign {
-        Sign::Plus => push(text, '+'),
-        Sign::Unset | Sign::Minus => {}
     }
 }

@@ -29,7 +29,8 @@ pub(crate) fn push_ascii<A: Allocator>(text: &mut String<A>, ascii: &[u8])
     ensures bytes { string_bytes text.new ≡ string_bytes text.old ++ ascii.now }
     ensures spare { spare text.old ≤ spare text.new + length ascii.now }
 {
-    text.push_str(str::from_utf8(ascii).unwrap()).unwrap();
+    text.push_str(unsafe { str::from_utf8_unchecked(ascii) })
+        .unwrap();
 }
 
 /// Adds one character of ASCII.

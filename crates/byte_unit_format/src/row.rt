@@ -1,16 +1,25 @@
 //! The parts of a text, and writing them in their order.
 
-ghost use Rattle.std.specs.Prelude.{◌≡◌, ◌+◌, ◌^◌, ◌≤◌, ◌++◌, length, drop};
+ghost use Rattle.std.specs.Prelude.{◌≡◌, ◌+◌, ◌^◌, ◌<◌, ◌≤◌, ◌++◌, length, drop, IsAscii};
+ghost use Rattle.std.specs.String.{string_bytes};
+ghost use Rattle.byte_unit_math.specs.Bounds.{places_of_decimal};
+ghost use Rattle.byte_unit_math.specs.Digits.{last_digits};
 ghost use Rattle.byte_unit_math.specs.Numeral.{fraction_text};
 ghost use Rattle.byte_unit_math.specs.Padded.{padded};
 ghost use Rattle.byte_unit_format.specs.Plain.{plus_of};
+ghost use Rattle.byte_unit_format.specs.Room.{spare, Appends};
 ghost use Rattle.byte_unit_format.specs.Row.{fraction_of, places_in, IsShort, name_of, row_text};
 ghost use Rattle.byte_unit_format.specs.Written.{Writes};
 
 use crate::put::{put, put_run};
+use crate::room::{push, push_ascii, push_run, reserve};
 use crate::spec::Sign;
 use byte_unit_base::Unit;
-use byte_unit_math::{Expansion, glyphs_of, put_decimal, put_fraction};
+use byte_unit_math::{DecimalDigits, Expansion, glyphs_of, put_decimal, put_fraction};
+use std::alloc::{AllocError, Allocator};
+
+/// Rows of no more bytes are added to a text in one piece.
+const AT_ONCE: usize = 96;
 
 /// The digits after the point, so many of them.
 #[derive(Clone, Copy)]
@@ -49,6 +58,49 @@ impl Row<'_> {
         self.len
     }
 
+    /// Adds the row at the end of a text. It asks for memory once at most, before it writes.
+    pub(crate) fn append<A: Allocator>(&self, text: &mut String<A>) -> Result<(), AllocError>
+        requires len { self.now.len ≡ length (row_text self.now) }
+        requires short { IsShort self.now.fraction }
+        ensures { Appends (λ form. form ≡ row_text self.now) text.old text.new result }
+    {
+        reserve(text, self.len)?;
+        if self.len <= AT_ONCE {
+            self.push_at_once(text);
+        } else {
+            self.push_parts(text);
+        }
+        Ok(())
+    }
+
+    /// Adds the row in one piece.
+    fn push_at_once<A: Allocator>(&self, text: &mut String<A>)
+        requires few { length (row_text self.now) ≤ AT_ONCE }
+        requires short { IsShort self.now.fraction }
+        requires room { length (row_text self.now) ≤ spare text.old }
+        ensures bytes { string_bytes text.new ≡ string_bytes text.old ++ row_text self.now }
+        ensures spare { spare text.old ≤ spare text.new + length (row_text self.now) }
+    {
+        let mut bytes = [0; AT_ONCE];
+        let start = self.put(&mut bytes, AT_ONCE);
+        push_ascii(text, &bytes[start..]);
+    }
+
+    /// Adds the parts of the row one after another.
+    fn push_parts<A: Allocator>(&self, text: &mut String<A>)
+        requires short { IsShort self.now.fraction }
+        requires room { length (row_text self.now) ≤ spare text.old }
+        ensures bytes { string_bytes text.new ≡ string_bytes text.old ++ row_text self.now }
+        ensures spare { spare text.old ≤ spare text.new + length (row_text self.now) }
+    {
+        push_run(text, b' ', self.before);
+        push_sign(text, self.sign);
+        push_ascii(text, DecimalDigits::of(self.whole).as_slice());
+        self.fraction.push(text);
+        push_run(text, b' ', self.after);
+        push_name(text, self.unit);
+    }
+
     /// Puts the row so that it ends before this place, and answers where it begins.
     fn put(&self, out: &mut [u8], end: usize) -> usize
         requires room { length (row_text self.now) ≤ end }
@@ -56,6 +108,7 @@ impl Row<'_> {
         requires short { IsShort self.now.fraction }
         ensures begins { result + length (row_text self.now) ≡ end }
         ensures bytes { drop result out.new ≡ row_text self.now ++ drop end out.old }
+        ensures ascii { IsAscii (row_text self.now) }
     {
         let name = put_name(self.unit, out, end);
         let behind = put_run(b' ', self.after, out, name);
@@ -80,6 +133,19 @@ impl Fraction<'_> {
         if places == 0 { 0 } else { 1 + places as usize }
     }
 
+    /// Adds the point and the digits.
+    fn push<A: Allocator>(&self, text: &mut String<A>)
+        requires short { IsShort self.now }
+        requires room { length (fraction_of self.now) ≤ spare text.old }
+        ensures bytes { string_bytes text.new ≡ string_bytes text.old ++ fraction_of self.now }
+        ensures spare { spare text.old ≤ spare text.new + length (fraction_of self.now) }
+    {
+        match self {
+            Fraction::Last(digits, places) => push_last(text, *digits, *places),
+            Fraction::First(e, places) => push_first(text, e, *places),
+        }
+    }
+
     /// Puts the point and the digits so that they end before this place, and answers where they begin.
     fn put(&self, out: &mut [u8], end: usize) -> usize
         requires room { length (fraction_of self.now) ≤ end }
@@ -87,6 +153,7 @@ impl Fraction<'_> {
         requires short { IsShort self.now }
         ensures begins { result + length (fraction_of self.now) ≡ end }
         ensures bytes { drop result out.new ≡ fraction_of self.now ++ drop end out.old }
+        ensures ascii { IsAscii (fraction_of self.now) }
     {
         match self {
             Fraction::Last(digits, places) => put_fraction(*digits, *places, out, end),
@@ -101,6 +168,7 @@ fn put_first(e: &Expansion, places: u32, out: &mut [u8], end: usize) -> usize
     requires within { end ≤ length out.old }
     ensures begins { result + length (fraction_text (padded places e.now).digits) ≡ end }
     ensures bytes { drop result out.new ≡ fraction_text (padded places e.now).digits ++ drop end out.old }
+    ensures ascii { IsAscii (fraction_text (padded places e.now).digits) }
 {
     if places == 0 {
         return end;
@@ -132,5 +200,54 @@ fn put_name(unit: Option<Unit>, out: &mut [u8], end: usize) -> usize
     match unit {
         Some(unit) => put(unit.as_str().as_bytes(), out, end),
         None => end,
+    }
+}
+
+/// Adds the point and so many last digits of a number.
+fn push_last<A: Allocator>(text: &mut String<A>, digits: u128, places: u32)
+    requires short { (places ≤ places_of_decimal) × (digits < 10 ^ places) }
+    requires room { length (fraction_text (last_digits places digits)) ≤ spare text.old }
+    ensures bytes { string_bytes text.new ≡ string_bytes text.old ++ fraction_text (last_digits places digits) }
+    ensures spare { spare text.old ≤ spare text.new + length (fraction_text (last_digits places digits)) }
+{
+    let mut bytes = [0; AT_ONCE];
+    let start = put_fraction(digits, places, &mut bytes, AT_ONCE);
+    push_ascii(text, &bytes[start..]);
+}
+
+/// Adds the point and so many digits of an expansion, or nothing where there are to be none.
+#[tactic(auto, using(crate::proofs::WrittenForms::fraction_length))]
+fn push_first<A: Allocator>(text: &mut String<A>, e: &Expansion, places: u32)
+    requires room { length (fraction_text (padded places e.now).digits) ≤ spare text.old }
+    ensures bytes { string_bytes text.new ≡ string_bytes text.old ++ fraction_text (padded places e.now).digits }
+    ensures spare { spare text.old ≤ spare text.new + length (fraction_text (padded places e.now).digits) }
+{
+    if places > 0 {
+        let shown = places.min(e.places()) as usize;
+        push(text, '.');
+        push_ascii(text, &glyphs_of(e)[..shown]);
+        push_run(text, b'0', places as usize - shown);
+    }
+}
+
+fn push_sign<A: Allocator>(text: &mut String<A>, sign: Sign)
+    requires room { length (plus_of sign) ≤ spare text.old }
+    ensures bytes { string_bytes text.new ≡ string_bytes text.old ++ plus_of sign }
+    ensures spare { spare text.old ≤ spare text.new + length (plus_of sign) }
+{
+    match sign {
+        Sign::Plus => push(text, '+'),
+        Sign::Unset | Sign::Minus => {}
+    }
+}
+
+fn push_name<A: Allocator>(text: &mut String<A>, unit: Option<Unit>)
+    requires room { length (name_of unit) ≤ spare text.old }
+    ensures bytes { string_bytes text.new ≡ string_bytes text.old ++ name_of unit }
+    ensures spare { spare text.old ≤ spare text.new + length (name_of unit) }
+{
+    match unit {
+        Some(unit) => text.push_str(unit.as_str()).unwrap(),
+        None => {}
     }
 }

@@ -5,13 +5,14 @@ use Rattle.std.specs.Str.{IsUtf8, IsAscii}
 use Rattle.std.proofs.Common.{rules, Result, Ok, Err, IsOk, set, ◌≡◌, ℕ, zero, suc, ◌+◌, ◌-◌, ◌*◌, ◌^◌, ◌/◌, ◌%◌, ◌<◌}
 use Rattle.std.proofs.Common.{◌≤◌, ⊎_elim, List, []}
 use Rattle.std.proofs.Common.{◌∷◌, ◌++◌, length, drop, arith, ap, sym, refl, ◌∙◌, length-append, append_assoc}
-use Rattle.std.proofs.Common.{append-nil}
+use Rattle.std.proofs.Common.{append-nil, subst}
 use Rattle.std.proofs.Math.Nat.{pow-succ', one-le-pow, mul-le-mul_right, pow-le-pow_right, div-add-mod'}
 use Rattle.std.proofs.lemmas.Bool.{cases_lt}
 use Rattle.std.proofs.lemmas.Fmt.{decimal_digit, decimal_step_wide, length-decimal-le_wide}
 use Rattle.std.proofs.lemmas.List.{drop-set, drop-drop, map-append}
 use Rattle.std.proofs.lemmas.Nat.{mod_below, same_from_place}
-use Rattle.std.proofs.lemmas.Str.{IsUtf8-from_ascii}
+use Rattle.std.proofs.lemmas.Str.{IsUtf8-from_ascii, IsAscii-drop}
+use Rattle.std.proofs.lemmas.Str.Ascii.{IsAscii-cons}
 use Rattle.byte_unit_math.specs.Digits.{last_digits}
 use Rattle.byte_unit_math.specs.Numeral.{fraction_text, glyphs}
 use Rattle.byte_unit_math.proofs.Digits.{length_last}
@@ -235,3 +236,12 @@ point_put places digits point bytes behind fits within h =
     sym (drop-drop 1 point bytes) ∙ ap (λ l. drop 1 l) all in
     drop-set bytes point 46 within
     ∙ (ap (λ l. 46 ∷ l) rest ∙ ap (λ l. l ++ behind) (sym (fraction_glyphs places digits fits.0)))
+
+pub fraction_ascii :
+    (places digits : ℕ) → (0 < places) × (digits < 10 ^ places) × (places ≤ 28) → IsAscii (decimal (10 ^ places + digits))
+    → IsAscii (fraction_text (last_digits places digits))
+fraction_ascii places digits fits ascii =
+    let glyphs_ascii = IsAscii-drop (49 ∷ glyphs (last_digits places digits)) 1
+    (subst IsAscii (decimal_behind_one places digits fits.1 fits.2) ascii) in
+    subst IsAscii (sym (fraction_glyphs places digits fits.0))
+    (IsAscii-cons 46 (glyphs (last_digits places digits)) (omega arith) glyphs_ascii)

@@ -126,6 +126,7 @@ pub fn put_decimal(n: u128, bytes: &mut [u8], end: usize) -> usize
     requires within { end ≤ length bytes.old }
     ensures begins { result + length (decimal n) ≡ end }
     ensures digits { drop result bytes.new ≡ decimal n ++ drop end bytes.old }
+    ensures ascii { IsAscii (decimal n) }
 {
     let mut start = end;
     let mut rest = n;
@@ -153,6 +154,7 @@ pub fn put_fraction(digits: u128, places: u32, bytes: &mut [u8], end: usize) -> 
     requires within { end ≤ length bytes.old }
     ensures begins { result + length (fraction_text (last_digits places digits)) ≡ end }
     ensures digits { drop result bytes.new ≡ fraction_text (last_digits places digits) ++ drop end bytes.old }
+    ensures ascii { IsAscii (fraction_text (last_digits places digits)) }
 {
     if places == 0 {
         return end;

@@ -1,9 +1,9 @@
 //! Sizes in bits as texts.
 
-ghost use Rattle.std.specs.Prelude.{◌≡◌, ◌<◌, ℕ, List, length, IfOk};
+ghost use Rattle.std.specs.Prelude.{◌≡◌, ◌<◌, ◌≤◌, ℕ, List, length, IfOk};
 ghost use Rattle.std.specs.String.{string_bytes};
 ghost use Rattle.byte_unit_base.specs.Edition.{current};
-ghost use Rattle.byte_unit_format.specs.Forms.{IsText, text_limit};
+ghost use Rattle.byte_unit_format.specs.Forms.{IsText, narrow_text, text_limit};
 ghost use Rattle.byte_unit_format.specs.Room.{Appends};
 ghost use Rattle.byte_unit_format.specs.Written.{Writes};
 ghost use Rattle.byte_unit_base.specs.declared.kind.Kind.TheVariants.{Bit as InBits};
@@ -54,7 +54,7 @@ impl Bit {
     }
 
     /// Writes the text of the size at the front of the bytes, as `append_text` adds it, and answers how many bytes it
-    /// has. Where it does not fit, nothing is written. It asks for no memory.
+    /// has: at most 72 where no width is set. Where it does not fit, nothing is written. It asks for no memory.
     ///
     /// ```text
     /// let mut out = [0; 16];
@@ -63,6 +63,7 @@ impl Bit {
     pub fn write_text(self, spec: FormatSpec, out: &mut [u8]) -> usize
         ensures written { Writes (IsText current InBits self spec) out.old out.new result }
         ensures small { result < text_limit }
+        ensures narrow { spec.width ≡ None → result ≤ narrow_text }
     {
         byte_unit_format::write_text(self.size, Kind::Bit, spec, out)
     }

@@ -1,13 +1,17 @@
-use Rattle.std.proofs.Common.{arith}
-use Rattle.std.proofs.lemmas.Grind.{common_steps}
-use Rattle.byte_unit_base.specs.Edition.{current}
+use Rattle.std.proofs.Common.{◌++◌, ◌∙◌, ap, sym}
+use Rattle.std.specs.Fmt.{decimal}
+use Rattle.byte_unit_math.specs.Numeral.{fraction_text}
+use Rattle.byte_unit_math.specs.Padded.{padded}
+use Rattle.byte_unit_base.specs.Edition.{current, name}
 use Rattle.byte_unit_base.specs.Units.{shape_of}
-use Rattle.byte_unit_format.specs.Layout.{layout_of}
-use Rattle.byte_unit_format.proofs.Appending.{appends_this}
+use Rattle.byte_unit_format.specs.Layout.{layout}
+use Rattle.byte_unit_format.proofs.Appending.{appends_same}
 use Rattle.byte_unit_format.proofs.layout.append_layout.Goals as goal
 
 pub returns : goal.returns
 returns g c =
-    appends_this c.args.text.now c.push_str.new.self tt (layout_of current c.args.e.now c.args.places (shape_of c.args.unit) c.args.spec)
-    (grind (arith, common_steps))
-    (grind (arith, common_steps))
+    let fraction = fraction_text (padded c.args.places c.args.e.now).digits in
+    let unit = name current (shape_of c.args.unit) in
+    appends_same
+    (c.layout_row.ensures.text ∙ ap (λ whole. layout (decimal whole ++ fraction) unit c.args.spec) c.whole.ensures)
+    c.append.ensures

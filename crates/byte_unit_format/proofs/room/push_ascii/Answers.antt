@@ -1,5 +1,5 @@
-use Rattle.byte_unit_math.proofs.WrittenDigits.{is_text}
+use Rattle.std.proofs.lemmas.Str.{IsUtf8-from_ascii}
 use Rattle.byte_unit_format.proofs.room.push_ascii.Goals as goal
 
-pub unwrap-requires : goal.unwrap-requires
-unwrap-requires g c = is_text c.from_utf8.result c.args.ascii.now _ _ c.from_utf8.ensures.cases c.requires.ascii
+pub from_utf8_unchecked-requires : goal.from_utf8_unchecked-requires
+from_utf8_unchecked-requires g c = IsUtf8-from_ascii c.args.ascii.now c.requires.ascii

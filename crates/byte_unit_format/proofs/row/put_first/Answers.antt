@@ -1,7 +1,12 @@
-use Rattle.std.proofs.Common.{◌≡◌, ◌<◌, ◌≤◌, ◌-◌, ◌++◌, ◌∷◌, ◌∙◌, ℕ, List, arith, min, length, take, drop, replicate, append_assoc, ap, sym}
-use Rattle.std.proofs.lemmas.List.{length-take, length-map}
+use Rattle.std.proofs.Common.{◌≡◌, ◌<◌, ◌≤◌, ◌-◌, ◌++◌, ◌∷◌, ◌∙◌, ℕ, List, arith, min, length, take, drop, replicate}
+use Rattle.std.proofs.Common.{append_assoc, ap, sym, subst}
+use Rattle.std.specs.Str.{IsAscii}
+use Rattle.std.proofs.lemmas.List.{length-take}
+use Rattle.std.proofs.lemmas.Str.{IsAscii-take, IsAscii-append}
+use Rattle.std.proofs.lemmas.Str.Ascii.{IsAscii-cons}
 use Rattle.byte_unit_format.proofs.WrittenForms.{fraction_length}
 use Rattle.byte_unit_format.proofs.WrittenDigits.{AreShown, fraction_shown, length_shown}
+use Rattle.byte_unit_format.proofs.Rows.{run_ascii}
 use Rattle.byte_unit_format.proofs.row.put_first.Goals as goal
 
 pub put-digits-requires-clause-room : goal.put-digits-requires-clause-room
@@ -40,3 +45,19 @@ returns-clause-bytes c =
     ∙ (ap (λ l. 46 ∷ l)
     (c.put-digits.ensures.bytes ∙ (ap (λ l. front ++ l) c.put_run-zeros.ensures.bytes ∙ sym (append_assoc front zeros behind)))
     ∙ ap (λ l. l ++ behind) (fraction_shown are))
+
+pub returns-clause-ascii : goal.returns-clause-ascii
+returns-clause-ascii c =
+    let places = c.args.places in
+    let shown = c.min-shown.result in
+    let characters = c.glyphs_of.result in
+    let are : AreShown places shown c.args.e.now.digits characters =
+    record {
+      some = omega (arith, c.if-places-eq0.false);
+      shown_is = omega (arith, c.min-shown.ensures, c.places.ensures.exact);
+      characters_are = c.glyphs_of.ensures.front;
+    } in
+    let front = IsAscii-take characters shown c.glyphs_of.ensures.ascii in
+    let zeros = run_ascii (places - shown) 48 (omega arith) in
+    let digits = IsAscii-append (take shown characters) (replicate (places - shown) 48) front zeros in
+    subst IsAscii (fraction_shown are) (IsAscii-cons 46 (take shown characters ++ replicate (places - shown) 48) (omega arith) digits)

@@ -1,5 +1,6 @@
 use Rattle.std.proofs.Common.{◌/◌, ◌%◌, ◌^◌, ◌≤◌, ◌++◌, arith, length, drop}
 use Rattle.std.specs.Fmt.{decimal}
+use Rattle.std.proofs.lemmas.Fmt.{IsAscii-decimal_wide}
 use Rattle.std.proofs.lemmas.Nat.{mod_below}
 use Rattle.byte_unit_math.proofs.WrittenDigits.{length_some, length_groups, length-after_one, group_put}
 use Rattle.byte_unit_math.proofs.decimal_digits.put_decimal.Goals as goal
@@ -25,3 +26,6 @@ loop-rest-preserved c =
           (decimal c.args.n ++ drop c.args.end c.args.bytes.now)
           (wide, omega arith) (record { put = c.write_digits-start.ensures.digits; so_far = l.invariant.digits });
     }
+
+pub returns-clause-ascii : goal.returns-clause-ascii
+returns-clause-ascii c = IsAscii-decimal_wide c.args.n (omega arith)

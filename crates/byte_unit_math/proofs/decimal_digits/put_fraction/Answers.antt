@@ -1,7 +1,11 @@
-use Rattle.std.proofs.Common.{◌≡◌, ◌+◌, ◌<◌, ◌≤◌, ◌^◌, ◌++◌, ◌∙◌, arith, ap, drop, length}
+use Rattle.std.proofs.Common.{ℕ, subst, sym, ◌≡◌, ◌+◌, ◌<◌, ◌≤◌, ◌^◌, ◌++◌, ◌∙◌, arith, ap, drop, length}
 use Rattle.std.proofs.Math.Nat.{pow-le-pow_right}
 use Rattle.std.specs.Fmt.{decimal}
-use Rattle.byte_unit_math.proofs.WrittenDigits.{length_behind_one, point_put}
+use Rattle.std.specs.Str.{IsAscii}
+use Rattle.byte_unit_math.specs.Digits.{last_digits}
+use Rattle.byte_unit_math.specs.Numeral.{fraction_text}
+use Rattle.std.proofs.lemmas.Str.Ascii.{IsAscii-nil}
+use Rattle.byte_unit_math.proofs.WrittenDigits.{length_behind_one, point_put, fraction_ascii}
 use Rattle.byte_unit_math.proofs.decimal_digits.put_fraction.Goals as goal
 
 pub overflow_add-power_of_ten : goal.overflow_add-power_of_ten
@@ -37,3 +41,15 @@ returns-clause-digits c =
     let number = ap (λ n. decimal (n + c.args.digits) ++ behind) c.power_of_ten.ensures in
     point_put c.args.places c.args.digits c.put_decimal-point.result c.put_decimal-point.new.bytes behind
     (some, c.requires.below, c.requires.few) (bounds-bytes-point c) (c.put_decimal-point.ensures.digits ∙ number)
+
+pub returns-then-places-eq0-clause-ascii : goal.returns-then-places-eq0-clause-ascii
+returns-then-places-eq0-clause-ascii c =
+    let Ascii : ℕ → Type 0 = λ places. IsAscii (fraction_text (last_digits places c.args.digits)) in
+    subst Ascii (sym c.if-places-eq0.true) IsAscii-nil
+
+pub returns-clause-ascii : goal.returns-clause-ascii
+returns-clause-ascii c =
+    let some : 0 < c.args.places = omega (arith, c.if-places-eq0.false) in
+    let number = ap (λ n. decimal (n + c.args.digits)) c.power_of_ten.ensures in
+    fraction_ascii c.args.places c.args.digits (some, c.requires.below, c.requires.few)
+    (subst IsAscii number c.put_decimal-point.ensures.ascii)

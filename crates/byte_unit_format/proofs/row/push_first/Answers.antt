@@ -1,7 +1,7 @@
 use Rattle.std.proofs.Common.{◌≡◌, arith, min, length}
 use Rattle.std.specs.String.{string_bytes}
 use Rattle.byte_unit_format.proofs.WrittenDigits.{AreShown, AddsFraction, digits_ascii, pushed_fraction}
-use Rattle.byte_unit_format.proofs.layout.push_fraction.Goals as goal
+use Rattle.byte_unit_format.proofs.row.push_first.Goals as goal
 
 pub push_ascii-requires-clause-ascii : goal.push_ascii-requires-clause-ascii
 push_ascii-requires-clause-ascii g c = digits_ascii c.min-shown.result c.glyphs_of.result c.glyphs_of.ensures.ascii
