@@ -108,7 +108,7 @@ fn bit_limit(kind: Kind) -> u128
 /// from_decimal(1.5, Unit::KiB, Kind::Byte)    Some(1536)
 /// from_decimal(0.1, Unit::B, Kind::Byte)      Some(1)
 /// ```
-#[inline]
+#[inline(always)]
 pub fn from_decimal(number: Decimal, unit: Unit, kind: Kind) -> Option<u128>
     ensures size { IsSizeOrNone current (IsLeastOf kind number (shape_of unit)) result }
     ensures small { IfSome result (λ n. n < current.size_limit) }

@@ -33,7 +33,8 @@ first_half digits places few small =
     let parts : 10 ^ half_places ≡ 10 ^ places * 10 ^ (half_places - places) = raise_power places half_places few in
     let left : places_of_decimal - places - (half_places - places) ≡ half_places = omega (arith, few) in
     let scale : 10 ^ (places_of_decimal - places) ≡ 10 ^ (half_places - places) * half_limit =
-    raise_power (half_places - places) (places_of_decimal - places) (omega (arith, few)) ∙ ap (λ n. 10 ^ (half_places - places) * 10 ^ n) left in
+    raise_power (half_places - places) (places_of_decimal - places) (omega (arith, few))
+    ∙ ap (λ n. 10 ^ (half_places - places) * 10 ^ n) left in
     let product = ap (λ n. digits * n) scale in
     let below = mul-le-mul_right {m = digits + 1} {n = 10 ^ places} (10 ^ (half_places - places)) (omega (arith, small)) in
     let some = one-le-pow (half_places - places) 10 (omega arith) in

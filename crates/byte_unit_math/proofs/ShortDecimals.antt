@@ -73,7 +73,8 @@ pub record AreParts (whole digits places : ℕ) : Type 0 where
   pub below : digits < 10 ^ places
   pub last : 0 < places → 0 < digits % 10
 
-pub short_parts : (whole digits places : ℕ) → AreParts whole digits places → IsShort (record { whole = whole; digits = digits; places = places })
+pub short_parts :
+    (whole digits places : ℕ) → AreParts whole digits places → IsShort (record { whole = whole; digits = digits; places = places })
 short_parts whole digits places h =
     let n = whole * one + digits * 10 ^ (places_of_decimal - places) in
     let part = part_below digits places h.few h.below in

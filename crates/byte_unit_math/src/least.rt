@@ -26,6 +26,7 @@ const HALF_PLACES: u32 = 14;
 /// least_size(1.5, 1024, limit)    1536
 /// least_size(0.1, 1024, limit)    103
 /// ```
+#[inline(always)]
 pub fn least_size(d: Decimal, unit_size: u128, limit: u128) -> Option<u128>
     requires some_unit { 1 ≤ unit_size }
     requires small_unit { unit_size ≤ unit_limit }
@@ -44,6 +45,7 @@ pub fn least_size(d: Decimal, unit_size: u128, limit: u128) -> Option<u128>
 /// ```text
 /// least_size_counted(1.5, 1024, limit, &mut steps)    1536, in 4 ticks
 /// ```
+#[inline(always)]
 pub fn least_size_counted(
     d: Decimal,
     unit_size: u128,
@@ -65,6 +67,7 @@ pub fn least_size_counted(
 }
 
 /// A fraction of so many digits times the unit's size, rounded up to a whole number.
+#[inline(always)]
 fn rounded_up(digits: u128, places: u32, unit_size: u128, steps: &mut Steps) -> u128
     requires digits { digits < 10 ^ places }
     requires places { places ≤ places_of_decimal }

@@ -4,12 +4,16 @@ use Rattle.byte_unit_math.proofs.dividing.short_digit_and_rest.Goals as goal
 
 pub returns : goal.returns
 returns c =
-    let digit = c.short_taken-eights.result.0 + c.short_taken-fours.result.0 + c.short_taken-twos.result.0 + c.short_taken-ones.result.0 in
-    let parts : digit * c.args.divisor + c.short_taken-ones.result.1 ≡ c.args.dividend =
-    omega (arith, c.short_taken-eights.ensures.parts, c.short_taken-fours.ensures.parts, c.short_taken-twos.ensures.parts, c.short_taken-ones.ensures.parts) in
-    let below = c.short_taken-ones.ensures.below in
+    let eights = c.short_taken-eights in
+    let fours = c.short_taken-fours in
+    let twos = c.short_taken-twos in
+    let ones = c.short_taken-ones in
+    let digit = eights.result.0 + fours.result.0 + twos.result.0 + ones.result.0 in
+    let parts : digit * c.args.divisor + ones.result.1 ≡ c.args.dividend =
+    omega (arith, eights.ensures.parts, fours.ensures.parts, twos.ensures.parts, ones.ensures.parts) in
+    let below = ones.ensures.below in
     record {
       digit =
-          sym (ap (λ n. n / c.args.divisor) (sym parts) ∙ div-mul-add digit c.args.divisor c.short_taken-ones.result.1 (omega (arith, below)));
-      rest = sym (ap (λ n. n % c.args.divisor) (sym parts) ∙ mod-mul-add digit c.args.divisor c.short_taken-ones.result.1 (omega (arith, below)));
+          sym (ap (λ n. n / c.args.divisor) (sym parts) ∙ div-mul-add digit c.args.divisor ones.result.1 (omega (arith, below)));
+      rest = sym (ap (λ n. n % c.args.divisor) (sym parts) ∙ mod-mul-add digit c.args.divisor ones.result.1 (omega (arith, below)));
     }

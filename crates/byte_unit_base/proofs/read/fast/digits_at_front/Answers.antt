@@ -12,12 +12,14 @@ overflow_add-value c =
     let test : is_ascii_digit (get_or c.args.bytes.now c.digits.count 0) ≡ true =
     sym c.is_ascii_digit.ensures.value ∙ c.if-is_ascii_digit.true in
     let small = digit_small _ c.from-in-digits.result test c.from-in-digits.ensures in
-    omega (arith, next_below c.args.bytes.now c.digits.count c.digits.value c.from-in-digits.result 38 c.digits.invariant.1 (omega arith) small)
+    let next = c.from-in-digits.result in
+    omega (arith, next_below c.args.bytes.now c.digits.count c.digits.value next 38 c.digits.invariant.1 (omega arith) small)
 
 pub digits-preserved : goal.digits-preserved
 digits-preserved c =
     let test : is_ascii_digit (get_or c.args.bytes.now c.digits.count 0) ≡ true =
-    sym c.is_ascii_digit.ensures.value ∙ c.if-is_ascii_digit.true in (
+    sym c.is_ascii_digit.ensures.value ∙ c.if-is_ascii_digit.true in
+    let next = c.from-in-digits in (
       omega arith,
-      one_digit_more c.args.bytes.now c.digits.count c.digits.value c.from-in-digits.result c.digits.invariant.1 (omega arith) test c.from-in-digits.ensures,
+      one_digit_more c.args.bytes.now c.digits.count c.digits.value next.result c.digits.invariant.1 (omega arith) test next.ensures,
     )
