@@ -1,5 +1,5 @@
 -- What a caller in C gets of what a text is read as.
-use Rattle.std.specs.Prelude.{◌≡◌, ℕ, List, Result, Ok, Err, IfSome}
+use Rattle.std.specs.Prelude.{◌≡◌, ℕ, List, Option, Some, None, Result, Ok, Err, IfSome, codes}
 use Rattle.std.specs.Fmt.Cut.{IsTextOrCut}
 use Rattle.byte_unit_base.specs.Errors.{size_fault}
 use Rattle.byte_unit_base.specs.FaultText.{parse_text}
@@ -18,17 +18,19 @@ ok = 0
 abbrev pub not_utf8 : ℕ
 not_utf8 = 6
 
--- the size, or the fault with its code; the other stays
-abbrev pub Answers : Result ℕ ParseError → ℕ → Number → Number → Told → Told → Type 0
-Answers (Ok n) code size size' fault fault' = (code ≡ ok) × (number_of size' ≡ n) × (fault' ≡ fault)
-Answers (Err e) code size size' fault fault' =
+-- the size, or the fault with its code; what is not answered stays
+abbrev pub Answers : Option (Result ℕ ParseError) → ℕ → Number → Number → Told → Told → Type 0
+Answers None code size size' fault fault' = (code ≡ not_utf8) × (size' ≡ size) × (fault' ≡ fault)
+Answers (Some (Ok n)) code size size' fault fault' = (code ≡ ok) × (number_of size' ≡ n) × (fault' ≡ fault)
+Answers (Some (Err e)) code size size' fault fault' =
     (code ≡ code_of (size_fault e)) × TellsFault (size_fault e) fault' × (size' ≡ size)
 
 -- the words, or a text of 256 bytes at most that ends in dots; nothing is said where std says nothing of the words
 abbrev pub AreWords : ParseError → List ℕ → Type 0
 AreWords e kept = IfSome (parse_text e) (λ words. IsTextOrCut 256 words kept)
 
--- the words of an error, or nothing where there is none
-abbrev pub Explains : Result ℕ ParseError → List ℕ → List ℕ → ℕ → Type 0
-Explains (Ok n) old new needed = (needed ≡ 0) × (new ≡ old)
-Explains (Err e) old new needed = Writes (AreWords e) old new needed
+-- the words of an error, or that the bytes are no text; nothing where a size is stated
+abbrev pub Explains : Option (Result ℕ ParseError) → List ℕ → List ℕ → ℕ → Type 0
+Explains None old new needed = Writes (λ words. words ≡ codes "the text is not UTF-8") old new needed
+Explains (Some (Ok n)) old new needed = (needed ≡ 0) × (new ≡ old)
+Explains (Some (Err e)) old new needed = Writes (AreWords e) old new needed

@@ -1,14 +1,13 @@
 //! Texts of sizes are read, and what is wrong with them is told.
 
-ghost use Rattle.std.specs.Prelude.{◌≡◌, ℕ, ◌≤◌, Result, IfSome, IsUtf8, codes};
+ghost use Rattle.std.specs.Prelude.{ℕ, ◌≤◌, Option, Result, IfSome};
 ghost use Rattle.std.specs.Fmt.Cut.{IsTextOrCut};
 ghost use Rattle.std.specs.Fmt.InlineText.{inline_text};
 ghost use Rattle.byte_unit_base.specs.FaultText.{parse_text};
-ghost use Rattle.byte_unit_base.specs.SizeReading.{IsSizeReading};
+ghost use Rattle.byte_unit_base.specs.SizeReading.{IsBytesReading};
 ghost use Rattle.byte_unit_base.specs.declared.errors.ParseError.{ParseError};
-ghost use Rattle.byte_unit_format.specs.Written.{Writes};
 ghost use Rattle.byte_unit_c.specs.Codes.{kind_of};
-ghost use Rattle.byte_unit_c.specs.Reading.{Answers, Explains, not_utf8};
+ghost use Rattle.byte_unit_c.specs.Reading.{Answers, Explains};
 
 use crate::codes::kind_of;
 use crate::fault::{Fault, NOT_UTF8, OK, UNIT, shown};
@@ -16,7 +15,6 @@ use crate::texts::write;
 use crate::values::Number;
 use byte_unit_base::{ParseError, size};
 use std::fmt::InlineText;
-use std::str;
 
 /// Reads a size: the least number of bytes, or of bits, that is not below what the text states, below 10^30. A text of
 /// bits is always case sensitive, so there `ignore_case` does nothing.
@@ -36,26 +34,21 @@ pub extern "C" fn byte_unit_parse(
     size: &mut Number,
     fault: &mut Fault,
 ) -> u32
-    ensures reading { IsUtf8 text.now → (answer : Result ℕ ParseError)
-        × IsSizeReading (kind_of in_bits) ignore_case text.now answer
+    ensures { (answer : Option (Result ℕ ParseError))
+        × IsBytesReading (kind_of in_bits) ignore_case text.now answer
         × Answers answer result size.old size.new fault.old fault.new }
-    ensures not_utf8 { ¬ (IsUtf8 text.now)
-        → (result ≡ not_utf8) × (size.new ≡ size.old) × (fault.new ≡ fault.old) }
 {
-    let Ok(text) = str::from_utf8(text) else {
-        return NOT_UTF8;
-    };
-    match size::parse(text, ignore_case, kind_of(in_bits)) {
-        Ok(found) => {
+    match size::parse_bytes(text, ignore_case, kind_of(in_bits)) {
+        Some(Ok(found)) => {
             *size = Number::new(found);
             OK
         }
-        Err(ParseError::Value(error)) => {
+        Some(Err(ParseError::Value(error))) => {
             let (code, told) = Fault::of_value(error);
             *fault = told;
             code
         }
-        Err(ParseError::Unit(error)) => {
+        Some(Err(ParseError::Unit(error))) => {
             *fault = Fault {
                 character: error.character as u32,
                 also_expect_no_character: error.also_expect_no_character,
@@ -64,6 +57,7 @@ pub extern "C" fn byte_unit_parse(
             };
             UNIT
         }
+        None => NOT_UTF8,
     }
 }
 
@@ -80,19 +74,15 @@ pub extern "C" fn byte_unit_explain(
     ignore_case: bool,
     out: &mut [u8],
 ) -> usize
-    ensures reading { IsUtf8 text.now → (answer : Result ℕ ParseError)
-        × IsSizeReading (kind_of in_bits) ignore_case text.now answer
+    ensures reading { (answer : Option (Result ℕ ParseError))
+        × IsBytesReading (kind_of in_bits) ignore_case text.now answer
         × Explains answer out.old out.new result }
-    ensures not_utf8 { ¬ (IsUtf8 text.now)
-        → Writes (λ words. words ≡ codes "the text is not UTF-8") out.old out.new result }
     ensures short { result ≤ 256 }
 {
-    let Ok(text) = str::from_utf8(text) else {
-        return write(b"the text is not UTF-8", out);
-    };
-    match size::parse(text, ignore_case, kind_of(in_bits)) {
-        Ok(_) => 0,
-        Err(error) => write(words_of(&error).as_str().as_bytes(), out),
+    match size::parse_bytes(text, ignore_case, kind_of(in_bits)) {
+        Some(Ok(_)) => 0,
+        Some(Err(error)) => write(words_of(&error).as_str().as_bytes(), out),
+        None => write(b"the text is not UTF-8", out),
     }
 }
 

@@ -1,6 +1,6 @@
-use Rattle.std.specs.Prelude.{Err}
-use Rattle.std.proofs.Common.{ℕ, List, refl, ap, subst, ◌∙◌}
-use Rattle.byte_unit_base.specs.SizeReading.{IsSizeReading}
+use Rattle.std.specs.Prelude.{Result, Err, Some}
+use Rattle.std.proofs.Common.{◌≡◌, ℕ, refl, ap, subst, ◌∙◌}
+use Rattle.byte_unit_base.specs.SizeReading.{IsBytesReading}
 use Rattle.byte_unit_base.specs.declared.errors.ParseError.{ParseError}
 use Rattle.byte_unit_base.specs.declared.errors.ParseError.TheVariants.{Unit as UnitError}
 use Rattle.byte_unit_base.specs.declared.kind.Kind.{Kind}
@@ -8,16 +8,16 @@ use Rattle.byte_unit_c.specs.Fault.{shown}
 use Rattle.byte_unit_c.proofs.Zeros.{zero_parts}
 use Rattle.byte_unit_c.proofs.reading.byte_unit_parse.Goals as goal
 
-pub returns-in-Err-Unit-clause-reading : goal.returns-in-Err-Unit-clause-reading
-returns-in-Err-Unit-clause-reading c = λ _.
-    let e = UnitError c.in-Err-Unit.error in
+pub returns-in-Some-Err-Unit : goal.returns-in-Some-Err-Unit
+returns-in-Some-Err-Unit c =
+    let e : Result ℕ ParseError = Err (UnitError c.in-Some-Err-Unit.error) in
     let view = c.error.view_is in
-    let R : ParseError → Type 0 = λ x. IsSizeReading c.kind_of.result c.args.ignore_case c.in-Ok.text.now (Err x) in
-    let reading : R e = subst R c.in-Err-Unit.field-0-is c.in-Err-Unit.ensures.reading in
-    let P : List ℕ → Type 0 = λ t. IsSizeReading c.kind_of.result c.args.ignore_case t (Err e) in
-    let Q : Kind → Type 0 = λ k. IsSizeReading k c.args.ignore_case c.args.text.now (Err e) in (
-      Err e,
-      subst Q c.kind_of.ensures (subst P c.in-Ok.ensures.cases.0 reading),
+    let is : c.in-Some-Err-Unit.field-0 ≡ e = c.in-Some-Err-Unit.field-0-is ∙ ap (λ x. Err x) c.in-Some-Err-Unit.field-0-0-is in
+    let R : Result ℕ ParseError → Type 0 = λ x. IsBytesReading c.kind_of.result c.args.ignore_case c.args.text.now (Some x) in
+    let Q : Kind → Type 0 = λ k. IsBytesReading k c.args.ignore_case c.args.text.now (Some e) in
+    let reading : R e = subst R is c.in-Some-Err-Unit.ensures.reading in (
+      Some e,
+      subst Q c.kind_of.ensures reading,
       (
         refl,
         record {
