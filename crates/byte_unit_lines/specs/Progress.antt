@@ -1,6 +1,6 @@
 -- Private: how far a run has come, step by step. No public contract cites this file.
 use Rattle.std.specs.Prelude.{◌≡◌, ℕ, List, [], ◌∷◌, ◌++◌, ◌==◌, if◌then◌else◌, Result, Ok, Err}
-use Rattle.byte_unit_lines.specs.Answer.{Kind, IsSaidOf, IsAnswer}
+use Rattle.byte_unit_lines.specs.Answer.{Kind, IsAnswer}
 use Rattle.byte_unit_lines.specs.Lines.{line_end}
 use Rattle.byte_unit_lines.specs.Report.{AreAnswers}
 use Rattle.byte_unit_lines.specs.Outcome.{IsBeginning, AnswerFirst}
@@ -24,10 +24,6 @@ IsUnbroken bytes = (line : List ℕ) → (ended_by line bytes ≡ []) × (begun_
 -- the answer to a line was added at the end
 abbrev pub AddsAnswer : Kind → List ℕ → List ℕ → List ℕ → Type 0
 AddsAnswer kind line old new = (answer : List ℕ) × IsAnswer kind line answer × (new ≡ old ++ answer)
-
--- what is said of a line was added at the end
-abbrev pub AddsSaid : Kind → List ℕ → List ℕ → List ℕ → Type 0
-AddsSaid kind line old new = (said : List ℕ) × IsSaidOf kind line said × (new ≡ old ++ said)
 
 -- the answers to these lines were added at the end
 abbrev pub AddsAnswers : Kind → List (List ℕ) → List ℕ → List ℕ → Type 0

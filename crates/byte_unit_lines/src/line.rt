@@ -1,84 +1,119 @@
 //! The answer to one line.
 
-ghost use Rattle.std.specs.Prelude.{◌≡◌, OnOk};
-ghost use Rattle.std.specs.String.{string_bytes};
+ghost use Rattle.std.specs.Prelude.{◌≡◌, ◌+◌, ◌≤◌, ◌∷◌, [], ◌++◌, ℕ, List, length, take, OnOk, OnErr};
+ghost use Rattle.byte_unit.specs.Edition.{current};
 ghost use Rattle.byte_unit.specs.Errors.{size_fault};
+ghost use Rattle.byte_unit.specs.Forms.{IsText, narrow_text};
 ghost use Rattle.byte_unit.specs.declared.Kind.TheVariants.{Byte as InBytes, Bit as InBits};
 ghost use Rattle.byte_unit_lines.specs.Answer.{words_of};
-ghost use Rattle.byte_unit_lines.specs.Progress.{AddsAnswer, AddsSaid};
+ghost use Rattle.byte_unit_lines.specs.Lines.{line_end};
+ghost use Rattle.byte_unit_lines.specs.Progress.{AddsAnswer};
 
 use crate::arguments::Kind;
 use byte_unit::{Bit, Byte, FormatSpec, ParseError, ValueParseError};
 use std::alloc::{AllocError, Allocator};
-use std::str;
 
-/// Adds the answer to a line, with its line end. Where memory is refused, a part of it may be added.
+/// The most bytes of an answer that says a size: two texts of 72, what stands between them, and the line end.
+const ROOM: usize = 148;
+
+/// Adds the answer to a line, with its line end: all of it, or nothing where memory is refused.
 ///
 /// ```text
 /// "1.5 KiB"   "1536 = 1.5 KiB"
 /// "1Kbi"      "bad unit"
 /// ```
-pub(crate) fn append_answer<A: Allocator>(
+pub(crate) fn add_answer<A: Allocator>(
     line: &[u8],
     kind: Kind,
-    out: &mut String<A>,
+    out: &mut Vec<u8, A>,
 ) -> Result<(), AllocError>
-    ensures { OnOk result (AddsAnswer kind line.now (string_bytes out.old) (string_bytes out.new)) }
+    ensures ok { OnOk result (AddsAnswer kind line.now out.old.items out.new.items) }
+    ensures err { OnErr result (out.new.items ≡ out.old.items) }
 {
-    say(line, kind, out)?;
-    out.push('\n')
-}
-
-/// Adds what is said of a line.
-fn say<A: Allocator>(line: &[u8], kind: Kind, out: &mut String<A>) -> Result<(), AllocError>
-    ensures { OnOk result (AddsSaid kind line.now (string_bytes out.old) (string_bytes out.new)) }
-{
-    match str::from_utf8(line) {
-        Err(_) => out.push_str("not text"),
-        Ok(text) => match kind {
-            Kind::Byte => say_bytes(text, out),
-            Kind::Bit => say_bits(text, out),
-        },
+    match kind {
+        Kind::Byte => answer_bytes(line, out),
+        Kind::Bit => answer_bits(line, out),
     }
 }
 
-/// Adds what is said of a text that is read as bytes.
-fn say_bytes<A: Allocator>(text: &str, out: &mut String<A>) -> Result<(), AllocError>
-    ensures { OnOk result (AddsSaid InBytes text.now (string_bytes out.old) (string_bytes out.new)) }
+/// Adds the answer to a line that is read as bytes.
+fn answer_bytes<A: Allocator>(line: &[u8], out: &mut Vec<u8, A>) -> Result<(), AllocError>
+    ensures ok { OnOk result (AddsAnswer InBytes line.now out.old.items out.new.items) }
+    ensures err { OnErr result (out.new.items ≡ out.old.items) }
 {
-    match text.parse::<Byte>() {
-        Ok(size) => {
-            size.append_text(FormatSpec::PLAIN, out)?;
-            out.push_str(" = ")?;
-            size.append_text(FormatSpec::ALTERNATE, out)
+    match Byte::parse_bytes(line, false) {
+        Some(Ok(size)) => {
+            let mut answer = [0; ROOM];
+            let digits = put_bytes(size, FormatSpec::PLAIN, &mut answer, 0);
+            let sign = put(b" = ", &mut answer, digits);
+            let form = put_bytes(size, FormatSpec::ALTERNATE, &mut answer, sign);
+            let end = put(b"\n", &mut answer, form);
+            out.extend_from_slice(&answer[..end])
         }
-        Err(error) => out.push_str(fault_words_of(&error)),
+        Some(Err(error)) => out.extend_from_slice(fault_line_of(&error)),
+        None => out.extend_from_slice(b"not text\n"),
     }
 }
 
-/// Adds what is said of a text that is read as bits.
-fn say_bits<A: Allocator>(text: &str, out: &mut String<A>) -> Result<(), AllocError>
-    ensures { OnOk result (AddsSaid InBits text.now (string_bytes out.old) (string_bytes out.new)) }
+/// Adds the answer to a line that is read as bits.
+fn answer_bits<A: Allocator>(line: &[u8], out: &mut Vec<u8, A>) -> Result<(), AllocError>
+    ensures ok { OnOk result (AddsAnswer InBits line.now out.old.items out.new.items) }
+    ensures err { OnErr result (out.new.items ≡ out.old.items) }
 {
-    match text.parse::<Bit>() {
-        Ok(size) => {
-            size.append_text(FormatSpec::PLAIN, out)?;
-            out.push_str(" = ")?;
-            size.append_text(FormatSpec::ALTERNATE, out)
+    match Bit::parse_bytes(line) {
+        Some(Ok(size)) => {
+            let mut answer = [0; ROOM];
+            let digits = put_bits(size, FormatSpec::PLAIN, &mut answer, 0);
+            let sign = put(b" = ", &mut answer, digits);
+            let form = put_bits(size, FormatSpec::ALTERNATE, &mut answer, sign);
+            let end = put(b"\n", &mut answer, form);
+            out.extend_from_slice(&answer[..end])
         }
-        Err(error) => out.push_str(fault_words_of(&error)),
+        Some(Err(error)) => out.extend_from_slice(fault_line_of(&error)),
+        None => out.extend_from_slice(b"not text\n"),
     }
 }
 
-/// The words for a text that is refused.
-fn fault_words_of(error: &ParseError) -> &'static str
-    ensures { result.now ≡ words_of (size_fault error.now) }
+/// Puts the text of a size at this place, and answers where it ends.
+fn put_bytes(size: Byte, spec: FormatSpec, out: &mut [u8], at: usize) -> usize
+    requires narrow { spec.width ≡ None }
+    requires room { at + narrow_text ≤ length out.old }
+    ensures { (form : List ℕ) × IsText current InBytes size spec form × (result ≡ at + length form)
+        × (result ≤ at + narrow_text) × (take result out.new ≡ take at out.old ++ form) }
+{
+    at + size.write_text(spec, &mut out[at..])
+}
+
+/// Puts the text of a size at this place, and answers where it ends.
+fn put_bits(size: Bit, spec: FormatSpec, out: &mut [u8], at: usize) -> usize
+    requires narrow { spec.width ≡ None }
+    requires room { at + narrow_text ≤ length out.old }
+    ensures { (form : List ℕ) × IsText current InBits size spec form × (result ≡ at + length form)
+        × (result ≤ at + narrow_text) × (take result out.new ≡ take at out.old ++ form) }
+{
+    at + size.write_text(spec, &mut out[at..])
+}
+
+/// Puts bytes at this place, and answers where they end.
+fn put(bytes: &[u8], out: &mut [u8], at: usize) -> usize
+    requires { at + length bytes.now ≤ length out.old }
+    ensures end { result ≡ at + length bytes.now }
+    ensures bytes { take result out.new ≡ take at out.old ++ bytes.now }
+{
+    let end = at + bytes.len();
+    out[at..end].copy_from_slice(bytes);
+    end
+}
+
+/// The words for a text that is refused, with the line end.
+fn fault_line_of(error: &ParseError) -> &'static [u8]
+    ensures { result.now ≡ words_of (size_fault error.now) ++ line_end ∷ [] }
 {
     match error {
-        ParseError::Value(ValueParseError::ExceededBounds(_)) => "out of range",
-        ParseError::Value(ValueParseError::NotNumber(_)) => "not a number",
-        ParseError::Value(ValueParseError::NoValue) => "no value",
-        ParseError::Value(ValueParseError::NumberTooLong) => "number too long",
-        ParseError::Unit(_) => "bad unit",
+        ParseError::Value(ValueParseError::ExceededBounds(_)) => b"out of range\n",
+        ParseError::Value(ValueParseError::NotNumber(_)) => b"not a number\n",
+        ParseError::Value(ValueParseError::NoValue) => b"no value\n",
+        ParseError::Value(ValueParseError::NumberTooLong) => b"number too long\n",
+        ParseError::Unit(_) => b"bad unit\n",
     }
 }

@@ -5,14 +5,13 @@ ghost use Rattle.byte_unit_lines.specs.Waiting.{answers_in};
 ghost use Rattle.byte_unit_lines.specs.Progress.{AddsAnswer};
 
 use crate::arguments::Kind;
-use crate::line::append_answer;
+use crate::line::add_answer;
 use std::alloc::{AllocError, Allocator};
 
-/// Answers, whole, and room for making the next. Both keep their memory from one use to the next.
+/// Answers, whole. Their memory is kept from one use to the next.
 #[derive(Drop)]
 pub(crate) struct Waiting<A: Allocator> {
     whole: Vec<u8, A>,
-    next: String<A>,
 }
 
 impl<'a, A: Allocator> Waiting<&'a A> {
@@ -21,7 +20,6 @@ impl<'a, A: Allocator> Waiting<&'a A> {
     {
         Waiting {
             whole: Vec::new(alloc),
-            next: String::new(alloc),
         }
     }
 }
@@ -32,9 +30,7 @@ impl<A: Allocator> Waiting<A> {
         ensures ok { OnOk result (AddsAnswer kind line.now (answers_in self.old) (answers_in self.new)) }
         ensures err { OnErr result (answers_in self.new ≡ answers_in self.old) }
     {
-        self.next.clear();
-        append_answer(line, kind, &mut self.next)?;
-        self.whole.extend_from_slice(self.next.as_bytes())
+        add_answer(line, kind, &mut self.whole)
     }
 
     /// The answers, one after another.

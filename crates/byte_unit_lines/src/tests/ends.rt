@@ -225,10 +225,9 @@ fn each_failing_write(rt: HostRuntime) -> Result<(), Fail> {
 
 #[test]
 fn each_refused_request(rt: HostRuntime) -> Result<(), Fail> {
-    // How many lines are written at the first refusal, the second and so on. The first answer is made by four
-    // requests and kept by one, those after it are kept by two more, then the line that has begun is kept, and the
-    // last answer, which is longer, is made by two.
-    let finished = [0, 0, 0, 0, 0, 1, 2, 4, 4, 4];
+    // How many lines are written at the first refusal, the second and so on. The first answer is kept by one request,
+    // those after it by two more, then the line that has begun is kept; there is room for the last answer.
+    let finished = [0, 1, 2, 4];
     let mut buffer = [0u8; 32];
     let mut number = 1u64;
     for lines in finished {
