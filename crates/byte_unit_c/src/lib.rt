@@ -9,8 +9,6 @@ mod codes;
 mod fault;
 mod reading;
 mod spec;
-#[cfg(test)]
-mod tests;
 mod texts;
 mod units;
 mod values;
