@@ -2,7 +2,7 @@
 use Rattle.std.specs.Prelude.{MatchResult}
 use Rattle.std.specs.Fmt.{decimal}
 use Rattle.std.specs.Str.{IsUtf8, IsAscii}
-use Rattle.std.proofs.Common.{rules, Result, Ok, Err, IsOk, set, ◌≡◌, ℕ, zero, suc, ◌+◌, ◌-◌, ◌*◌, ◌^◌, ◌/◌, ◌%◌, ◌<◌}
+use Rattle.std.proofs.Common.{rules, Result, Ok, Err, IsOk, set, ◌≡◌, ℕ, zero, suc, ◌+◌, ◌*◌, ◌^◌, ◌/◌, ◌%◌, ◌<◌}
 use Rattle.std.proofs.Common.{◌≤◌, ⊎_elim, List, []}
 use Rattle.std.proofs.Common.{◌∷◌, ◌++◌, length, drop, arith, ap, sym, refl, ◌∙◌, length-append, append_assoc}
 use Rattle.std.proofs.Common.{append-nil, subst}
@@ -29,6 +29,15 @@ length_one n h = ap length (decimal_digit n h)
 
 pub length_more : (n : ℕ) → 10 ≤ n → n < 2 ^ 128 → length (decimal n) ≡ length (decimal (n / 10)) + 1
 length_more n h small = ap length (decimal_more n h small) ∙ length-append (decimal (n / 10)) ((48 + n % 10) ∷ [])
+
+-- a number of two digits
+pub decimal_two : (n : ℕ) → 10 ≤ n → n < 100 → decimal n ≡ glyphs (last_digits 2 n)
+decimal_two n wide small =
+    let first : n / 10 ≡ n / 10 ^ 1 % 10 = omega (arith, small) in
+    let last : n % 10 ≡ n / 10 ^ 0 % 10 = omega arith in
+    decimal_more n wide (omega (arith, small))
+    ∙ (ap (λ l. l ++ (48 + n % 10) ∷ []) (decimal_one (n / 10) (omega (arith, small)))
+    ∙ (ap (λ d. (48 + d) ∷ (48 + n % 10) ∷ []) first ∙ ap (λ d. (48 + n / 10 ^ 1 % 10) ∷ (48 + d) ∷ []) last))
 
 pub length_few : (n : ℕ) → n < 2 ^ 128 → length (decimal n) ≤ 39
 length_few n small = length-decimal-le_wide 39 n (omega arith) (omega arith) (omega arith)
@@ -107,51 +116,39 @@ length_some n small =
     ⊎_elim (λ one. let e = length_one n one in omega (arith, e))
     (λ more. let e = length_more n more small in omega (arith, e)) (cases_lt n 10)
 
--- eighteen digits at once, zeros among them
-pub group_digits : ℕ → List ℕ
-group_digits r = tail_digits 18 r
+-- a number in two parts, the last digits apart
+decimal_split : (k n : ℕ) → 10 ^ k ≤ n → n < 2 ^ 128 → decimal n ≡ decimal (n / 10 ^ k) ++ tail_digits k (n % 10 ^ k)
+decimal_split k n wide small =
+    let power = 10 ^ k in
+    let below = mod_below n power (omega (arith, one-le-pow k 10 (omega arith))) in
+    let parts : n ≡ n / power * power + n % power = sym (div-add-mod' n power) in
+    let front : 1 ≤ n / power =
+    ⊎_elim (λ none.
+    let nothing : n / power ≡ 0 = omega (arith, none) in
+    let product = ap (λ q. q * power) nothing in
+    absurd (omega (arith, product, parts, below, wide)))
+    (λ some. some) (cases_lt (n / power) 1) in
+    ap decimal parts ∙ decimal_front k (n / power) (n % power) front below (omega (arith, parts, small))
 
-pub length-group_digits : (r : ℕ) → length (group_digits r) ≡ 18
-unfolding group_digits
-length-group_digits r = length-tail_digits 18 r
+pub length_split : (k n : ℕ) → 10 ^ k ≤ n → n < 2 ^ 128 → length (decimal n) ≡ length (decimal (n / 10 ^ k)) + k
+length_split k n wide small =
+    ap length (decimal_split k n wide small)
+    ∙ (length-append (decimal (n / 10 ^ k)) (tail_digits k (n % 10 ^ k))
+    ∙ ap (λ m. length (decimal (n / 10 ^ k)) + m) (length-tail_digits k (n % 10 ^ k)))
 
-pub decimal_groups :
-    (n : ℕ) → 10 ^ 18 ≤ n → n < 2 ^ 128 → decimal n ≡ decimal (n / 10 ^ 18) ++ group_digits (n % 10 ^ 18)
-unfolding group_digits
-decimal_groups n wide small =
-    let parts : n ≡ n / 10 ^ 18 * 10 ^ 18 + n % 10 ^ 18 = omega arith in
+-- a one before digits keeps them apart
+decimal_after_one : (k r : ℕ) → r < 10 ^ k → k ≤ 28 → decimal (10 ^ k + r) ≡ 49 ∷ tail_digits k r
+decimal_after_one k r below few =
+    let parts : 10 ^ k + r ≡ 1 * 10 ^ k + r = omega arith in
+    let power : 10 ^ k ≤ 10 ^ 28 = pow-le-pow_right {n = 10} (omega arith) few in
     ap decimal parts
-    ∙ decimal_front 18 (n / 10 ^ 18) (n % 10 ^ 18) (omega arith) (mod_below n (10 ^ 18) (omega arith)) (omega arith)
+    ∙ (decimal_front k 1 r (omega arith) below (omega (arith, power, below))
+    ∙ ap (λ l. l ++ tail_digits k r) (decimal_one 1 (omega arith)))
 
--- a one before them keeps them apart
-pub decimal_after_one : (r : ℕ) → r < 10 ^ 18 → decimal (10 ^ 18 + r) ≡ 49 ∷ group_digits r
-unfolding group_digits
-decimal_after_one r small =
-    let parts : 10 ^ 18 + r ≡ 1 * 10 ^ 18 + r = omega arith in
-    ap decimal parts
-    ∙ (decimal_front 18 1 r (omega arith) small (omega arith)
-    ∙ ap (λ l. l ++ tail_digits 18 r) (decimal_one 1 (omega arith)))
+pub length-after_one : (r : ℕ) → r < 10 ^ 18 → length (decimal (10 ^ 18 + r)) ≡ 19
+length-after_one r small = ap length (decimal_after_one 18 r small (omega arith)) ∙ omega (arith, length-tail_digits 18 r)
 
 -- digits in an array
-
--- a place of an array, with one before it
-pub record HasPlaces (start : ℕ) (bytes : List ℕ) : Type 0 where
-  pub some : 1 ≤ start
-  pub within : start < length bytes
-
--- one more digit, before those that are there
-pub digit_put :
-    (rest start : ℕ) (bytes whole : List ℕ) → 10 ≤ rest → rest < 2 ^ 128 → HasPlaces start bytes
-    → decimal rest ++ drop (start + 1) bytes ≡ whole
-    → decimal (rest / 10) ++ drop (start - 1 + 1) (set bytes start (48 + rest % 10)) ≡ whole
-digit_put rest start bytes whole wide small places h =
-    let digit : ℕ = 48 + rest % 10 in
-    let some = places.some in
-    let back : start - 1 + 1 ≡ start = omega (arith, some) in
-    ap (λ k. decimal (rest / 10) ++ drop k (set bytes start digit)) back
-    ∙ (ap (λ l. decimal (rest / 10) ++ l) (drop-set bytes start digit places.within)
-    ∙ (sym (append_assoc (decimal (rest / 10)) (digit ∷ []) (drop (start + 1) bytes))
-    ∙ (ap (λ l. l ++ drop (start + 1) bytes) (sym (decimal_more rest wide small)) ∙ h)))
 
 -- the first digit
 pub last_put :
@@ -160,33 +157,31 @@ pub last_put :
 last_put rest start bytes whole one within h =
     drop-set bytes start (48 + rest) within ∙ (ap (λ l. l ++ drop (start + 1) bytes) (sym (decimal_one rest one)) ∙ h)
 
-pub length-after_one : (r : ℕ) → r < 10 ^ 18 → length (decimal (10 ^ 18 + r)) ≡ 19
-length-after_one r small = ap length (decimal_after_one r small) ∙ omega (arith, length-group_digits r)
+-- so many of the last digits, before those that are there
+pub digits_put :
+    (k rest start place : ℕ) (bytes new whole : List ℕ) → (10 ^ k ≤ rest) × (rest < 2 ^ 128)
+    → drop place new ≡ glyphs (last_digits k (rest % 10 ^ k)) ++ drop start bytes → decimal rest ++ drop start bytes ≡ whole
+    → decimal (rest / 10 ^ k) ++ drop place new ≡ whole
+digits_put k rest start place bytes new whole wide put so_far =
+    let low = rest % 10 ^ k in
+    ap (λ l. decimal (rest / 10 ^ k) ++ l) (put ∙ ap (λ l. l ++ drop start bytes) (sym (tail_glyphs k low)))
+    ∙ (sym (append_assoc (decimal (rest / 10 ^ k)) (tail_digits k low) (drop start bytes))
+    ∙ (ap (λ l. l ++ drop start bytes) (sym (decimal_split k rest wide.0 wide.1)) ∙ so_far))
 
-pub length_groups : (n : ℕ) → 10 ^ 18 ≤ n → n < 2 ^ 128 → length (decimal n) ≡ length (decimal (n / 10 ^ 18)) + 18
-length_groups n wide small =
-    ap length (decimal_groups n wide small)
-    ∙ (length-append (decimal (n / 10 ^ 18)) (group_digits (n % 10 ^ 18))
-    ∙ ap (λ k. length (decimal (n / 10 ^ 18)) + k) (length-group_digits (n % 10 ^ 18)))
-
--- a group of digits, behind a one, before those that are there
-pub record GroupPut (rest start place : ℕ) (bytes new whole : List ℕ) : Type 0 where
-  pub put : drop place new ≡ decimal (10 ^ 18 + rest % 10 ^ 18) ++ drop start bytes
-  pub so_far : decimal rest ++ drop start bytes ≡ whole
-
+-- a group of digits, behind a one
 pub group_put :
     (rest start place : ℕ) (bytes new whole : List ℕ) → (10 ^ 18 ≤ rest) × (rest < 2 ^ 128)
-    → GroupPut rest start place bytes new whole → decimal (rest / 10 ^ 18) ++ drop (place + 1) new ≡ whole
-group_put rest start place bytes new whole wide h =
+    → drop place new ≡ decimal (10 ^ 18 + rest % 10 ^ 18) ++ drop start bytes → decimal rest ++ drop start bytes ≡ whole
+    → decimal (rest / 10 ^ 18) ++ drop (place + 1) new ≡ whole
+group_put rest start place bytes new whole wide put so_far =
     let low = rest % 10 ^ 18 in
     let less : low < 10 ^ 18 = mod_below rest (10 ^ 18) (omega arith) in
-    let all : drop place new ≡ 49 ∷ (group_digits low ++ drop start bytes) =
-    h.put ∙ ap (λ l. l ++ drop start bytes) (decimal_after_one low less) in
-    let behind : drop (place + 1) new ≡ group_digits low ++ drop start bytes =
+    let all : drop place new ≡ 49 ∷ (tail_digits 18 low ++ drop start bytes) =
+    put ∙ ap (λ l. l ++ drop start bytes) (decimal_after_one 18 low less (omega arith)) in
+    let behind : drop (place + 1) new ≡ tail_digits 18 low ++ drop start bytes =
     sym (drop-drop 1 place new) ∙ ap (λ l. drop 1 l) all in
-    ap (λ l. decimal (rest / 10 ^ 18) ++ l) behind
-    ∙ (sym (append_assoc (decimal (rest / 10 ^ 18)) (group_digits low) (drop start bytes))
-    ∙ (ap (λ l. l ++ drop start bytes) (sym (decimal_groups rest wide.0 wide.1)) ∙ h.so_far))
+    digits_put 18 rest start (place + 1) bytes new whole wide
+    (behind ∙ ap (λ l. l ++ drop start bytes) (tail_glyphs 18 low)) so_far
 
 -- text
 
@@ -207,11 +202,7 @@ pub decimal_behind_one :
     (places digits : ℕ) → digits < 10 ^ places → places ≤ 28
     → decimal (10 ^ places + digits) ≡ 49 ∷ glyphs (last_digits places digits)
 decimal_behind_one places digits below few =
-    let parts : 10 ^ places + digits ≡ 1 * 10 ^ places + digits = omega arith in
-    let power : 10 ^ places ≤ 10 ^ 28 = pow-le-pow_right {n = 10} (omega arith) few in
-    ap decimal parts
-    ∙ (decimal_front places 1 digits (omega arith) below (omega (arith, power, below))
-    ∙ (ap (λ l. l ++ tail_digits places digits) (decimal_one 1 (omega arith)) ∙ ap (λ l. 49 ∷ l) (tail_glyphs places digits)))
+    decimal_after_one places digits below few ∙ ap (λ l. 49 ∷ l) (tail_glyphs places digits)
 
 -- then they are as long as the point and the digits
 pub length_behind_one :

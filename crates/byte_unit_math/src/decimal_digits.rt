@@ -4,7 +4,7 @@ ghost use Rattle.std.specs.Prelude.{◌≡◌, ◌+◌, ◌^◌, ◌≤◌, ◌<
 ghost use Rattle.std.specs.Fmt.{decimal, DisplaysOnOk, DisplaysStyledOnOk};
 ghost use Rattle.byte_unit_math.specs.Bounds.{places_of_decimal};
 ghost use Rattle.byte_unit_math.specs.Digits.{last_digits};
-ghost use Rattle.byte_unit_math.specs.Numeral.{fraction_text};
+ghost use Rattle.byte_unit_math.specs.Numeral.{fraction_text, glyphs};
 
 use crate::tens::power_of_ten;
 use std::marker::Model;
@@ -131,10 +131,11 @@ pub fn put_decimal(n: u128, bytes: &mut [u8], end: usize) -> usize
     let mut start = end;
     let mut rest = n;
     while rest > u128::from(u64::MAX) {
+        let quotient = rest / GROUP;
         // A one before the group keeps the zeros it begins with; the next digits are written over it.
-        let group = (GROUP + rest % GROUP) as u64;
+        let group = (rest - quotient * GROUP + GROUP) as u64;
         start = write_digits(group, bytes, start) + 1;
-        rest /= GROUP;
+        rest = quotient;
     }
     write_digits(rest as u64, bytes, start)
 }
@@ -172,13 +173,61 @@ fn write_digits(n: u64, bytes: &mut [u8], end: usize) -> usize
     ensures begins { result + length (decimal n) ≡ end }
     ensures digits { drop result bytes.new ≡ decimal n ++ drop end bytes.old }
 {
-    let mut start = end - 1;
+    let mut start = end;
     let mut rest = n;
-    while rest >= 10 {
-        bytes[start] = b'0' + (rest % 10) as u8;
-        rest /= 10;
-        start -= 1;
+    while rest >= 10_000 {
+        start = put_four((rest % 10_000) as u32, bytes, start);
+        rest /= 10_000;
     }
-    bytes[start] = b'0' + rest as u8;
+    let few = rest as u32;
+    if few < 100 {
+        return put_one_or_two(few, bytes, start);
+    }
+    start = put_two(few % 100, bytes, start);
+    put_one_or_two(few / 100, bytes, start)
+}
+
+/// Writes four digits, zeros in front among them, and answers where they begin.
+#[inline]
+fn put_four(n: u32, bytes: &mut [u8], end: usize) -> usize
+    requires below { n < 10 ^ 4 }
+    requires room { 4 ≤ end }
+    requires within { end ≤ length bytes.old }
+    ensures begins { result + 4 ≡ end }
+    ensures digits { drop result bytes.new ≡ glyphs (last_digits 4 n) ++ drop end bytes.old }
+{
+    let middle = put_two(n % 100, bytes, end);
+    put_two(n / 100, bytes, middle)
+}
+
+/// Writes two digits, a zero in front among them, and answers where they begin.
+#[inline]
+fn put_two(n: u32, bytes: &mut [u8], end: usize) -> usize
+    requires below { n < 10 ^ 2 }
+    requires room { 2 ≤ end }
+    requires within { end ≤ length bytes.old }
+    ensures begins { result + 2 ≡ end }
+    ensures digits { drop result bytes.new ≡ glyphs (last_digits 2 n) ++ drop end bytes.old }
+{
+    let start = end - 2;
+    bytes[start + 1] = b'0' + (n % 10) as u8;
+    bytes[start] = b'0' + (n / 10) as u8;
+    start
+}
+
+/// Writes the digits of a number below a hundred, and answers where they begin.
+#[inline]
+fn put_one_or_two(n: u32, bytes: &mut [u8], end: usize) -> usize
+    requires below { n < 100 }
+    requires room { length (decimal n) ≤ end }
+    requires within { end ≤ length bytes.old }
+    ensures begins { result + length (decimal n) ≡ end }
+    ensures digits { drop result bytes.new ≡ decimal n ++ drop end bytes.old }
+{
+    if n >= 10 {
+        return put_two(n, bytes, end);
+    }
+    let start = end - 1;
+    bytes[start] = b'0' + n as u8;
     start
 }

@@ -1,9 +1,9 @@
 use Rattle.std.proofs.Common.{arith}
-use Rattle.byte_unit_math.proofs.WrittenDigits.{length_groups, length_few, length_some}
+use Rattle.byte_unit_math.proofs.WrittenDigits.{length_split, length_few}
 use Rattle.byte_unit_math.proofs.decimal_digits.decimal_len.Goals as goal
 
 pub loop-rest-preserved : goal.loop-rest-preserved
-loop-rest-preserved c = omega (arith, length_groups c.loop-rest.rest (omega arith) (omega arith))
+loop-rest-preserved c = omega (arith, length_split 18 c.loop-rest.rest (omega arith) (omega arith))
 
 pub overflow_add-behind : goal.overflow_add-behind
 overflow_add-behind c =

@@ -1,44 +1,36 @@
-use Rattle.std.proofs.Common.{◌≡◌, ◌+◌, ◌-◌, ◌/◌, ◌++◌, ◌%◌, drop, arith, rules, ap}
+use Rattle.std.proofs.Common.{◌^◌, ◌≤◌, ◌++◌, ◌∙◌, arith, drop}
 use Rattle.std.specs.Fmt.{decimal}
-use Rattle.byte_unit_math.proofs.WrittenDigits.{length_some, length_one, length_more, digit_put, last_put}
+use Rattle.byte_unit_math.proofs.WrittenDigits.{length_split, digits_put}
 use Rattle.byte_unit_math.proofs.decimal_digits.write_digits.Goals as goal
 
-pub overflow_sub-start : goal.overflow_sub-start
-overflow_sub-start c = omega (arith, length_some c.args.n (omega arith))
-
-pub loop-rest-init : goal.loop-rest-init
-loop-rest-init c =
-    let some = length_some c.args.n (omega arith) in
-    let back : c.args.end - 1 + 1 ≡ c.args.end = omega (arith, some) in
-    record {
-      within = omega (arith, some);
-      place = omega (arith, back);
-      digits = ap (λ k. decimal c.args.n ++ drop k c.args.bytes.now) back;
-    }
-
-pub overflow_sub-start-in-loop-rest : goal.overflow_sub-start-in-loop-rest
-overflow_sub-start-in-loop-rest c =
-    let rest = c.loop-rest.rest in
-    omega (arith, length_more rest c.loop-rest-test.true (omega arith), length_some (rest / 10) (omega arith))
+pub put_four-start-requires-clause-room : goal.put_four-start-requires-clause-room
+put_four-start-requires-clause-room c = omega (arith, length_split 4 c.loop-rest.rest (omega arith) (omega arith))
 
 pub loop-rest-preserved : goal.loop-rest-preserved
 loop-rest-preserved c =
     let l = c.loop-rest in
-    let more = length_more l.rest c.loop-rest-test.true (omega arith) in
-    let some = length_some (l.rest / 10) (omega arith) in
+    let wide : 10 ^ 4 ≤ l.rest = omega arith in
     record {
-      within = omega (arith, more, some);
-      place = omega (arith, more, some);
+      within = omega arith;
+      place = omega (arith, length_split 4 l.rest wide (omega arith));
       digits =
-          digit_put l.rest l.start l.bytes _ c.loop-rest-test.true (omega arith)
-          (record { some = omega (arith, more, some); within = omega (arith, more, some) }) l.invariant.digits;
+          digits_put 4 l.rest l.start c.put_four-start.result l.bytes c.put_four-start.new.bytes
+          (decimal c.args.n ++ drop c.args.end c.args.bytes.now) (wide, omega arith) c.put_four-start.ensures.digits l.invariant.digits;
     }
 
+pub put_two-start-requires-clause-room : goal.put_two-start-requires-clause-room
+put_two-start-requires-clause-room c = omega (arith, length_split 2 c.loop-rest.rest (omega arith) (omega arith))
+
+pub put_one_or_two-requires-2-clause-room : goal.put_one_or_two-requires-2-clause-room
+put_one_or_two-requires-2-clause-room c = omega (arith, length_split 2 c.loop-rest.rest (omega arith) (omega arith))
+
 pub returns-clause-begins : goal.returns-clause-begins
-returns-clause-begins c = omega (arith, length_one c.loop-rest.rest c.loop-rest-test.false)
+returns-clause-begins c = omega (arith, length_split 2 c.loop-rest.rest (omega arith) (omega arith))
 
 pub returns-clause-digits : goal.returns-clause-digits
 returns-clause-digits c =
-    let one = length_one c.loop-rest.rest c.loop-rest-test.false in
-    last_put c.loop-rest.rest c.loop-rest.start c.loop-rest.bytes _ c.loop-rest-test.false (omega (arith, one))
-    c.loop-rest.invariant.digits
+    let l = c.loop-rest in
+    let last = c.put_two-start in
+    c.put_one_or_two-2.ensures.digits
+    ∙ digits_put 2 l.rest l.start last.result l.bytes last.new.bytes (decimal c.args.n ++ drop c.args.end c.args.bytes.now)
+    (omega arith, omega arith) last.ensures.digits l.invariant.digits

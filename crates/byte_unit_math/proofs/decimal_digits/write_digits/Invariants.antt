@@ -1,12 +1,12 @@
-use Rattle.std.proofs.Common.{◌≡◌, ◌+◌, ◌<◌, ◌++◌, length, drop}
+use Rattle.std.proofs.Common.{◌≡◌, ◌+◌, ◌≤◌, ◌++◌, length, drop}
 use Rattle.std.specs.Fmt.{decimal}
 use Rattle.byte_unit_math.proofs.decimal_digits.write_digits.Given as goal
 
 abbrev pub invariant-loop-rest : goal.invariant-loop-rest
 invariant-loop-rest l = record {
-  within : l.start < l.end;
-  place : l.start + 1 + length (decimal l.n) ≡ l.end + length (decimal l.rest);
-  digits : decimal l.rest ++ drop (l.start + 1) l.bytes ≡ decimal l.n ++ drop l.end l.fn.bytes;
+  within : l.start ≤ l.end;
+  place : l.start + length (decimal l.n) ≡ l.end + length (decimal l.rest);
+  digits : decimal l.rest ++ drop l.start l.bytes ≡ decimal l.n ++ drop l.end l.fn.bytes;
 }
 
 abbrev pub decreases-loop-rest : goal.decreases-loop-rest

@@ -1,4 +1,4 @@
-use Rattle.std.proofs.Common.{◌≡◌, ◌++◌, List, [], ℕ, drop, replicate, append-nil, arith, sym, subst, ap, length, ◌∙◌, refl}
+use Rattle.std.proofs.Common.{append-nil, arith, sym, subst, ap, length, ◌∙◌}
 use Rattle.std.specs.Fmt.{decimal}
 use Rattle.std.specs.Str.{IsAscii}
 use Rattle.std.proofs.lemmas.Fmt.{IsAscii-decimal_wide}
