@@ -5,6 +5,7 @@ pub mod Division
 pub mod ShortDecimals
 pub mod Digits
 pub mod WrittenDigits
+pub mod BinaryDigits
 pub mod Fractions
 pub mod Expanding
 pub mod Nearest

@@ -6,7 +6,7 @@ ghost use Rattle.byte_unit_math.specs.Bounds.{places_of_decimal};
 ghost use Rattle.byte_unit_math.specs.Digits.{last_digits};
 ghost use Rattle.byte_unit_math.specs.Numeral.{fraction_text, glyphs};
 
-use crate::tens::power_of_ten;
+use crate::tens::{power_of_ten, wide_power_of_ten};
 use std::marker::Model;
 use std::{fmt, str};
 
@@ -16,10 +16,7 @@ pub const NUMBER_DIGITS: usize = 39;
 /// One place more, for the one before the last group.
 const ROOM: usize = NUMBER_DIGITS + 1;
 
-/// So many digits are taken off at once where a number is above 64 bits.
-const GROUP_DIGITS: usize = 18;
-
-/// Ten to the power of 18.
+/// Ten to the power of 18: so many digits are taken off at once where a number is above 64 bits.
 const GROUP: u128 = 1_000_000_000_000_000_000;
 
 /// The decimal digits of a number, as characters. A contract sees the list of them.
@@ -57,6 +54,7 @@ impl DecimalDigits {
     }
 
     /// How many there are: at most 39.
+    #[inline]
     pub fn len(&self) -> usize
         ensures { result ≡ length self.now }
     {
@@ -64,6 +62,7 @@ impl DecimalDigits {
     }
 
     /// The characters, from the first on.
+    #[inline]
     pub fn as_slice(&self) -> &[u8]
         ensures { result.now ≡ self.now }
     {
@@ -93,25 +92,15 @@ pub fn decimal_len(n: u128) -> usize
     ensures exact { result ≡ length (decimal n) }
     ensures few { result ≤ NUMBER_DIGITS }
 {
-    let mut behind = 0;
-    let mut rest = n;
-    while rest > u128::from(u64::MAX) {
-        rest /= GROUP;
-        behind += GROUP_DIGITS;
+    if n < 10 {
+        return 1;
     }
-    len_of(rest as u64) + behind
-}
-
-fn len_of(n: u64) -> usize
-    ensures exact { result ≡ length (decimal n) }
-{
-    let mut len = 1;
-    let mut rest = n;
-    while rest >= 10 {
-        rest /= 10;
-        len += 1;
+    // The count of binary digits leaves the choice between so many decimal ones and one more.
+    let few = (u128::BITS - n.leading_zeros()) * 1_233 / 4_096;
+    if n < wide_power_of_ten(few) {
+        return few as usize;
     }
-    len
+    few as usize + 1
 }
 
 /// Writes the digits of a number so that they end before this place, and answers where they begin.

@@ -2,8 +2,8 @@
 ghost use Rattle.std.specs.Prelude.{◌≡◌, ◌^◌, ◌≤◌};
 ghost use Rattle.byte_unit_math.specs.Bounds.{places_of_decimal};
 
-/// Ten to each power up to the places of a decimal.
-const POWERS: [u128; 29] = [
+/// Ten to each power that 128 bits hold.
+const POWERS: [u128; 39] = [
     1,
     10,
     100,
@@ -33,6 +33,16 @@ const POWERS: [u128; 29] = [
     100_000_000_000_000_000_000_000_000,
     1_000_000_000_000_000_000_000_000_000,
     10_000_000_000_000_000_000_000_000_000,
+    100_000_000_000_000_000_000_000_000_000,
+    1_000_000_000_000_000_000_000_000_000_000,
+    10_000_000_000_000_000_000_000_000_000_000,
+    100_000_000_000_000_000_000_000_000_000_000,
+    1_000_000_000_000_000_000_000_000_000_000_000,
+    10_000_000_000_000_000_000_000_000_000_000_000,
+    100_000_000_000_000_000_000_000_000_000_000_000,
+    1_000_000_000_000_000_000_000_000_000_000_000_000,
+    10_000_000_000_000_000_000_000_000_000_000_000_000,
+    100_000_000_000_000_000_000_000_000_000_000_000_000,
 ];
 
 /// Ten to a power of at most 28. It is looked up, since to work a power out takes longer than to read a short text.
@@ -40,8 +50,18 @@ const POWERS: [u128; 29] = [
 /// ```text
 /// power_of_ten(3)    1000
 /// ```
+#[inline]
 pub fn power_of_ten(exponent: u32) -> u128
     requires { exponent ≤ places_of_decimal }
+    ensures { result ≡ 10 ^ exponent }
+{
+    POWERS[exponent as usize]
+}
+
+/// Ten to a power of at most 38, the greatest that 128 bits hold.
+#[inline]
+pub(crate) fn wide_power_of_ten(exponent: u32) -> u128
+    requires { exponent ≤ 38 }
     ensures { result ≡ 10 ^ exponent }
 {
     POWERS[exponent as usize]

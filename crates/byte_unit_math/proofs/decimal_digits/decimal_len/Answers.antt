@@ -1,16 +1,20 @@
-use Rattle.std.proofs.Common.{arith}
-use Rattle.byte_unit_math.proofs.WrittenDigits.{length_split, length_few}
+use Rattle.std.proofs.Common.{◌<◌, ◌≤◌, arith, refl, subst, sym}
+use Rattle.byte_unit_math.proofs.WrittenDigits.{length_one}
+use Rattle.byte_unit_math.proofs.BinaryDigits.{length_by}
 use Rattle.byte_unit_math.proofs.decimal_digits.decimal_len.Goals as goal
 
-pub loop-rest-preserved : goal.loop-rest-preserved
-loop-rest-preserved c = omega (arith, length_split 18 c.loop-rest.rest (omega arith) (omega arith))
+pub returns-then-n-lt10-clause-exact : goal.returns-then-n-lt10-clause-exact
+returns-then-n-lt10-clause-exact c = sym (length_one c.args.n c.if-n-lt10.true)
 
-pub overflow_add-behind : goal.overflow_add-behind
-overflow_add-behind c =
-    omega (arith, c.loop-rest.invariant, length_few c.args.n (omega arith))
+pub returns-then-n-wide_power_of_ten-clause-exact :
+    goal.returns-then-n-wide_power_of_ten-clause-exact
+returns-then-n-wide_power_of_ten-clause-exact c =
+    let power = c.wide_power_of_ten.ensures in
+    sym ((length_by c.args.n _ c.if-n-lt10.false (omega arith) refl).fewer
+    (subst (λ m. c.args.n < m) power c.if-n-wide_power_of_ten.true))
 
-pub overflow_add-result : goal.overflow_add-result
-overflow_add-result c = omega (arith, c.loop-rest.invariant, c.len_of.ensures, c.from.ensures, length_few c.args.n (omega arith))
-
-pub returns-clause-few : goal.returns-clause-few
-returns-clause-few c = omega (arith, c.loop-rest.invariant, c.len_of.ensures, length_few c.args.n (omega arith))
+pub returns-clause-exact : goal.returns-clause-exact
+returns-clause-exact c =
+    let power = c.wide_power_of_ten.ensures in
+    sym ((length_by c.args.n _ c.if-n-lt10.false (omega arith) refl).more
+    (subst (λ m. m ≤ c.args.n) power c.if-n-wide_power_of_ten.false))
