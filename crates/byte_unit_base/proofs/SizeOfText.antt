@@ -1,5 +1,5 @@
 -- What the reader of a size answers, by what the reader of its number and unit answers.
-use Rattle.std.proofs.Common.{◌≡◌, ℕ, Bool, List, Option, Some, None, IfSome, Ok, Err, sym, ap, subst, arith, inl, inr, refl}
+use Rattle.std.proofs.Common.{◌≡◌, ℕ, Bool, List, Option, Some, None, Ok, Err, sym, ap, subst, arith, inl, inr, refl}
 use Rattle.std.specs.Option.{ok_or}
 use Rattle.byte_unit_base.specs.Shape.{Shape}
 use Rattle.byte_unit_base.specs.Edition.{current}
@@ -15,10 +15,8 @@ use Rattle.byte_unit_base.specs.SizeOrNone.{IsSizeOrNone}
 use Rattle.byte_unit_base.specs.Kinds.{flags_for}
 use Rattle.byte_unit_base.specs.Readings.{IsNumberReading}
 use Rattle.byte_unit_base.specs.Accepted.{IsRead}
-use Rattle.byte_unit_base.specs.SizeText.{trimmed, IsSizeText}
 use Rattle.byte_unit_base.specs.SizeReading.{IsSizeReading}
 use Rattle.byte_unit_base.proofs.Rounding.{least_is_one, least_of}
-use Rattle.byte_unit_base.proofs.SizeReads.{stated_reading}
 
 -- a text that is read has the number and the unit that the reader answers
 of_read :
@@ -97,17 +95,3 @@ reading_of_fault kind ignore_case bytes error reading = record {
   exceeds = λ number e. absurd (reading.reads number e.is_read.unit e.is_read.is_size);
   fault = inr reading.fault;
 }
-
--- the answer of the fast way, where it gives a size
-pub fast_reading :
-    (kind : Kind) (ignore_case : Bool) (bytes : List ℕ) (found : ℕ × UnitName) (size : Option ℕ)
-    → IsSizeText current (flags_for kind ignore_case) (trimmed bytes) found.0 (shape_of found.1)
-    → IsSizeOrNone current (IsLeastOf kind found.0 (shape_of found.1)) size
-    → IfSome size (λ n. IsSizeReading kind ignore_case bytes (Ok n))
-fast_reading kind ignore_case bytes found None stated none = tt
-fast_reading kind ignore_case bytes found (Some n) stated size =
-    reading_of_size kind ignore_case bytes found n (stated_reading (flags_for kind ignore_case) bytes found stated) size
-
-pub always : {A : Type 0} {P : Type 0} (answer : Option A) → P → IfSome answer (λ x. P)
-always None h = tt
-always (Some x) h = h

@@ -1,12 +1,12 @@
 //! Sizes of either kind as numbers below their bound: what the size types share.
 
-ghost use Rattle.std.specs.Prelude.{◌≡◌, ℕ, ◌+◌, ◌-◌, ◌*◌, ◌/◌, ◌^◌, ◌<◌, ◌≤◌, SomeIff, IfSome, IfOk, Ok, min};
-ghost use Rattle.std.specs.Str.{IsUtf8};
+ghost use Rattle.std.specs.Prelude.{◌≡◌, ℕ, Bool, List, ◌+◌, ◌-◌, ◌*◌, ◌/◌, ◌^◌, ◌<◌, ◌≤◌, SomeIff, IfSome, IfOk, min};
 ghost use Rattle.byte_unit_math.specs.Bounds.{one};
 ghost use Rattle.byte_unit_base.specs.Shape.{bits};
 ghost use Rattle.byte_unit_base.specs.Edition.{current};
 ghost use Rattle.byte_unit_base.specs.Units.{shape_of};
 ghost use Rattle.byte_unit_base.specs.Kinds.{bits_in, flags_for};
+ghost use Rattle.byte_unit_base.specs.SizeText.{trimmed, IsSizeText};
 ghost use Rattle.byte_unit_base.specs.SizeReading.{IsSizeReading, IsBytesReading};
 ghost use Rattle.byte_unit_base.specs.LeastOfKind.{IsLeastOf};
 ghost use Rattle.byte_unit_base.specs.SizeOrNone.{IsSizeOrNone, OfSigned};
@@ -135,8 +135,8 @@ pub fn parse(s: &str, ignore_case: bool, kind: Kind) -> Result<u128, ParseError>
     ensures reading { IsSizeReading kind ignore_case s.now result }
     ensures small { IfOk result (λ n. n < current.size_limit) }
 {
-    match parse_fast(s.as_bytes(), ignore_case, kind) {
-        Some(size) => Ok(size),
+    match read_fast(s.as_bytes(), flags_for(kind, ignore_case)) {
+        Some((number, unit)) => size_of(number, unit, kind),
         None => parse_by_steps(s, ignore_case, kind),
     }
 }
@@ -153,24 +153,13 @@ pub fn parse_bytes(bytes: &[u8], ignore_case: bool, kind: Kind) -> Option<Result
     ensures small { IfSome result (λ answer. IfOk answer (λ n. n < current.size_limit)) }
 {
     // A text that is read at once is ASCII, and takes no test for UTF-8.
-    if let Some(size) = parse_fast(bytes, ignore_case, kind) {
-        return Some(Ok(size));
+    if let Some((number, unit)) = read_fast(bytes, flags_for(kind, ignore_case)) {
+        return Some(size_of(number, unit, kind));
     }
     match str::from_utf8(bytes) {
         Ok(text) => Some(parse_by_steps(text, ignore_case, kind)),
         Err(_) => None,
     }
-}
-
-/// The size that the bytes of a text state, where they are read at once and it is below 10^30.
-#[inline]
-fn parse_fast(bytes: &[u8], ignore_case: bool, kind: Kind) -> Option<u128>
-    ensures reading { IfSome result (λ n. IsSizeReading kind ignore_case bytes.now (Ok n)) }
-    ensures text { IfSome result (λ n. IsUtf8 bytes.now) }
-    ensures small { IfSome result (λ n. n < current.size_limit) }
-{
-    let (number, unit) = read_fast(bytes, flags_for(kind, ignore_case))?;
-    from_decimal(number, unit, kind)
 }
 
 /// What `parse` answers, by steps of a character.
@@ -181,8 +170,22 @@ fn parse_by_steps(s: &str, ignore_case: bool, kind: Kind) -> Result<u128, ParseE
     ensures small { IfOk result (λ n. n < current.size_limit) }
 {
     let (number, unit) = read_by_steps(s, flags_for(kind, ignore_case))?;
-    let size = from_decimal(number, unit, kind);
-    size.ok_or(ParseError::Value(ValueParseError::ExceededBounds(number)))
+    size_of(number, unit, kind)
+}
+
+/// What `parse` answers for each text that states this number and this unit. It is inlined by force: a call would move
+/// the whole answer through memory.
+#[inline(always)]
+fn size_of(number: Decimal, unit: Unit, kind: Kind) -> Result<u128, ParseError>
+    ensures reading { (ignore_case : Bool) (bytes : List ℕ)
+        → IsSizeText current (flags_for kind ignore_case) (trimmed bytes) number (shape_of unit)
+        → IsSizeReading kind ignore_case bytes result }
+    ensures small { IfOk result (λ n. n < current.size_limit) }
+{
+    match from_decimal(number, unit, kind) {
+        Some(size) => Ok(size),
+        None => Err(ParseError::Value(ValueParseError::ExceededBounds(number))),
+    }
 }
 
 /// How a text of the kind is read. One of bits is always case sensitive.

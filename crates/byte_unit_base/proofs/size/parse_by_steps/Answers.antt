@@ -2,17 +2,14 @@ use Rattle.std.proofs.Common.{subst, Ok, Err}
 use Rattle.std.proofs.lemmas.Result.{err_from_is_err_and}
 use Rattle.byte_unit_base.specs.Readings.{IsNumberReading}
 use Rattle.byte_unit_base.specs.Spelling.{Flags}
-use Rattle.byte_unit_base.proofs.SizeOfText.{reading_of_number, reading_of_fault}
+use Rattle.byte_unit_base.proofs.SizeOfText.{reading_of_fault}
 use Rattle.byte_unit_base.proofs.size.parse_by_steps.Goals as goal
 
 pub returns-clause-reading : goal.returns-clause-reading
 returns-clause-reading c =
     let found = c.in_ok-number in
-    let size = c.from_decimal-size in
     let P : Flags → Type 0 = λ flags. IsNumberReading flags c.args.s.now (Ok (found.number, found.unit)) in
-    rw c.ok_or.ensures.value
-    (reading_of_number c.args.kind c.args.ignore_case c.args.s.now (found.number, found.unit) size.result
-    (subst P c.flags_for.ensures found.ensures) size.ensures.size)
+    c.size_of.ensures.reading c.args.ignore_case c.args.s.now (subst P c.flags_for.ensures found.ensures).found
 
 pub returns-in_err-number-clause-reading : goal.returns-in_err-number-clause-reading
 returns-in_err-number-clause-reading c =
