@@ -1,19 +1,25 @@
 //! The choice of a unit for a size.
 
-ghost use Rattle.std.specs.Prelude.{◌≡◌, ◌↔◌, ℕ, ◌*◌, ◌<◌, ◌≤◌, ◌⊎◌, IsTrue, IfSome, IfNone};
-ghost use Rattle.byte_unit_math.specs.Bounds.{one};
+ghost use Rattle.std.specs.Prelude.{◌≡◌, ◌↔◌, ℕ, ◌+◌, ◌*◌, ◌^◌, ◌<◌, ◌≤◌, ◌⊎◌, IsTrue, IfSome, IfNone};
+ghost use Rattle.byte_unit_math.specs.Bounds.{one, places_of_decimal};
+ghost use Rattle.byte_unit_math.specs.Exact.{IsLeastPlaces};
 ghost use Rattle.byte_unit_math.specs.Steps.{raised};
 ghost use Rattle.byte_unit_base.specs.Shape.{bits};
 ghost use Rattle.byte_unit_base.specs.Edition.{current};
 ghost use Rattle.byte_unit_base.specs.Units.{shape_of};
 ghost use Rattle.byte_unit_base.specs.Family.{IsOfType};
 ghost use Rattle.byte_unit_base.specs.Choice.{IsLargest, NoneHas, States, IsChosen, Suits, CountsChoice, most_steps};
-ghost use Rattle.byte_unit_base.specs.Multiples.{HasPowers};
+ghost use Rattle.byte_unit_base.specs.Multiples.{HasPowers, IsMultiple, row_of, row_shape};
 
 use crate::unit::Unit;
 use crate::unit::family::{Family, Row};
 use crate::unit::unit_type::UnitType;
-use byte_unit_math::{DECIMAL_PLACES, Decimal, Steps, exact_quotient, two_five};
+use byte_unit_math::{
+    DECIMAL_PLACES, Decimal, Factors, Steps, exact_quotient, factored_quotient, factors_of,
+};
+
+/// Numbers of no more places are found from the factors of a size: in any unit the product of these then fits 128 bits.
+const FEW_PLACES: u32 = 5;
 
 /// The largest unit of the family that is not above the size and states it exactly within these
 /// places, with its number. `None` exactly where no unit of the family does.
@@ -51,26 +57,59 @@ pub fn choose_unit(
     }
     let most = places.min(DECIMAL_PLACES as usize) as u32;
     let in_bits = size * divisor;
-    let (twos, fives) = two_five(size, steps);
+    let Factors { left, twos, fives } = factors_of(size, steps);
     // In bits it has as many twos more as the divisor has.
     let twos = twos + divisor.trailing_zeros();
-    let (unit, bits) = first_by_powers(family, in_bits, twos + most, fives + most)?;
-    // By its powers the size is exact in the unit, so there is a quotient.
-    let number = exact_quotient(in_bits, bits, most, steps).unwrap();
-    Some((number, unit))
+    let row = first_by_powers(family, in_bits, twos + most, fives + most)?;
+    let number = number_in(row, in_bits, Factors { left, twos, fives }, most, steps);
+    Some((number, row.unit))
+}
+
+/// So many bits in the unit of a row, in which they are exact within so many places by their factors.
+///
+/// It takes one tick for each place of the number.
+fn number_in(
+    row: &Row,
+    in_bits: u128,
+    factors: Factors,
+    most: u32,
+    steps: &mut Steps,
+) -> Decimal
+    requires row { IsMultiple row.now }
+    requires size { (1 ≤ in_bits) × (in_bits < 8 * current.size_limit) }
+    requires factors { in_bits ≡ factors.left * (2 ^ factors.twos * 5 ^ factors.fives) }
+    requires most { most ≤ places_of_decimal }
+    requires exact { (row.now.twos ≤ factors.twos + most) × (row.now.fives ≤ factors.fives + most) }
+    ensures exact { result * row.now.bits ≡ in_bits * one }
+    ensures ticks { (places : ℕ) × IsLeastPlaces result one places × (steps.new ≡ raised steps.old places) }
+{
+    let twos = row.twos.saturating_sub(factors.twos);
+    let places = twos.max(row.fives.saturating_sub(factors.fives));
+    if places > FEW_PLACES {
+        // The size is exact in the unit, so there is a quotient.
+        return exact_quotient(in_bits, row.bits, most, steps).unwrap();
+    }
+    let twos = factors.twos + places - row.twos;
+    let fives = factors.fives + places - row.fives;
+    factored_quotient(factors.left, twos, fives, places, steps)
 }
 
 /// The largest unit of the family that is not above the size in bits and has no more twos and fives
-/// than these, with its bits.
-fn first_by_powers(family: Family, in_bits: u128, twos: u32, fives: u32) -> Option<(Unit, u128)>
-    ensures found { IfSome result (λ found.
-        IsLargest (HasPowers current family in_bits twos fives) (shape_of found.0)) }
-    ensures bits { IfSome result (λ found. found.1 ≡ bits (shape_of found.0)) }
+/// than these, as its row.
+fn first_by_powers(
+    family: Family,
+    in_bits: u128,
+    twos: u32,
+    fives: u32,
+) -> Option<&'static Row>
+    ensures found { IfSome result (λ row.
+        IsLargest (HasPowers current family in_bits twos fives) (shape_of row.now.unit)) }
+    ensures row { IfSome result (λ row. row_shape row.now ≡ row_of (shape_of row.now.unit)) }
     ensures none { IfNone result (NoneHas (HasPowers current family in_bits twos fives)) }
 {
     for row in family.multiples_within(in_bits) {
         if has_powers(*row, in_bits, twos, fives) {
-            return Some((row.unit, row.bits));
+            return Some(row);
         }
     }
     None

@@ -6,6 +6,7 @@ pub mod ShortDecimals
 pub mod Digits
 pub mod WrittenDigits
 pub mod BinaryDigits
+pub mod FactoredNumbers
 pub mod Fractions
 pub mod Expanding
 pub mod Nearest

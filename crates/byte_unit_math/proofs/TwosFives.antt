@@ -54,10 +54,11 @@ pub AllFives-few : (number fives : ℕ) → number < size_limit → AllFives num
 AllFives-few number fives small all = few_fives number all.0 fives (above_zero all.0 5 all.2) all.1 small
 
 -- those that are taken off, and those of what is left
-pub AllFives-joined : (number left fives others : ℕ) → FivesOff number left fives → AllFives left others → AllFives number (fives + others)
-AllFives-joined number left fives others h all =
-    let power = ap (λ n. all.0 * n) (pow-add 5 fives others) in
-    (all.0, h.product ∙ (ap (λ n. n * 5 ^ fives) all.1 ∙ omega (arith, power)), all.2)
+pub FivesOff-joined : (number left fives rest others : ℕ) → FivesOff number left fives → left ≡ rest * 5 ^ others
+    → number ≡ rest * 5 ^ (fives + others)
+FivesOff-joined number left fives rest others h all =
+    let power = ap (λ n. rest * n) (pow-add 5 fives others) in
+    h.product ∙ (ap (λ n. n * 5 ^ fives) all ∙ omega (arith, power))
 
 -- the twos below the lowest digit that is set
 twos_off : (number twos : ℕ) → ((i : ℕ) → i < twos → bit_at number i ≡ 0) → number ≡ number / 2 ^ twos * 2 ^ twos
@@ -88,12 +89,15 @@ odd_left left others odd even =
     let product : left * others ≡ left / 2 * others * 2 = ap (λ n. n * others) parts ∙ omega arith in
     omega (arith, odd, product)
 
+pub two_five_product : (number left twos fives : ℕ) → IsOdd number twos → number / 2 ^ twos ≡ left * 5 ^ fives
+    → number ≡ left * (2 ^ twos * 5 ^ fives)
+two_five_product number left twos fives h all = h.product ∙ (ap (λ n. n * 2 ^ twos) all ∙ omega arith)
+
 pub two_five_is : (number twos fives : ℕ) → IsOdd number twos → AllFives (number / 2 ^ twos) fives → IsTwoFive number twos fives
 two_five_is number twos fives h all =
-    let product = ap (λ n. n * 2 ^ twos) all.1 in
     record {
       left = all.0;
-      product = h.product ∙ (product ∙ omega arith);
+      product = two_five_product number all.0 twos fives h all.1;
       odd = odd_left all.0 (5 ^ fives) (ap (λ n. n % 2) (sym all.1) ∙ h.odd);
       no_five = all.2;
     }

@@ -1,10 +1,18 @@
-//! How often two and five divide a size.
-ghost use Rattle.std.specs.Prelude.{◌≡◌, ◌≢◌, ℕ, ◌+◌, ◌*◌, ◌%◌, ◌^◌, ◌<◌, ◌≤◌};
+//! How often two and five divide a size, and what is left of it.
+ghost use Rattle.std.specs.Prelude.{◌≡◌, ◌≢◌, ◌+◌, ◌*◌, ◌%◌, ◌^◌, ◌<◌, ◌≤◌};
 ghost use Rattle.byte_unit_math.specs.Bounds.{size_limit};
 ghost use Rattle.byte_unit_math.specs.Powers.{IsTwoFive};
 ghost use Rattle.byte_unit_math.specs.Steps.{raised};
 
 use crate::steps::Steps;
+
+/// A number by its factors: how often two and five divide it, and what is left without them.
+#[derive(Clone, Copy, Debug)]
+pub struct Factors {
+    pub left: u128,
+    pub twos: u32,
+    pub fives: u32,
+}
 
 /// How often two and how often five divide the size.
 ///
@@ -24,36 +32,60 @@ pub fn two_five(size: u128, steps: &mut Steps) -> (u32, u32)
     ensures ticks { steps.new ≡ raised steps.old (result.0 + result.1 + 2) }
     ensures few { result.0 + result.1 + 2 ≤ 101 }
 {
-    let twos = size.trailing_zeros();
-    let fives = fives_in(size >> twos);
-    steps.raise(twos + fives + 2);
+    let Factors {
+        left: _,
+        twos,
+        fives,
+    } = factors_of(size, steps);
     (twos, fives)
 }
 
-/// How often five divides the number.
-fn fives_in(number: u128) -> u32
+/// The size by its factors, under the same conditions and in as many ticks.
+///
+/// ```text
+/// factors_of(7_000, &mut steps)    7 is left, with 3 twos and 3 fives, in 8 ticks
+/// ```
+pub fn factors_of(size: u128, steps: &mut Steps) -> Factors
+    requires some { 1 ≤ size }
+    requires small { size < size_limit }
+    ensures product { size ≡ result.left * (2 ^ result.twos * 5 ^ result.fives) }
+    ensures powers { IsTwoFive size result.twos result.fives }
+    ensures ticks { steps.new ≡ raised steps.old (result.twos + result.fives + 2) }
+    ensures few { result.twos + result.fives + 2 ≤ 101 }
+{
+    let twos = size.trailing_zeros();
+    let (left, fives) = without_fives(size >> twos);
+    steps.raise(twos + fives + 2);
+    Factors { left, twos, fives }
+}
+
+/// What is left of the number without its fives, and how many they are.
+fn without_fives(number: u128) -> (u128, u32)
     requires some { 1 ≤ number }
     requires small { number < size_limit }
-    ensures all { (left : ℕ) × (number ≡ left * 5 ^ result) × (left % 5 ≢ 0) }
-    ensures few { result ≤ 42 }
+    ensures product { number ≡ result.0 * 5 ^ result.1 }
+    ensures none { result.0 % 5 ≢ 0 }
+    ensures few { result.1 ≤ 42 }
 {
     let mut left = number;
     let mut fives = 0;
     // As soon as what is left fits, the divisions are of 64 bits.
     while left >= 1 << 64 {
         if left % 5 > 0 {
-            return fives;
+            return (left, fives);
         }
         left /= 5;
         fives += 1;
     }
-    fives + fives_in_short(left as u64)
+    let (left, others) = short_without_fives(left as u64);
+    (u128::from(left), fives + others)
 }
 
 /// The same for a number of 64 bits.
-fn fives_in_short(number: u64) -> u32
+fn short_without_fives(number: u64) -> (u64, u32)
     requires { 1 ≤ number }
-    ensures { (left : ℕ) × (number ≡ left * 5 ^ result) × (left % 5 ≢ 0) }
+    ensures product { number ≡ result.0 * 5 ^ result.1 }
+    ensures none { result.0 % 5 ≢ 0 }
 {
     let mut left = number;
     let mut fives = 0;
@@ -61,5 +93,5 @@ fn fives_in_short(number: u64) -> u32
         left /= 5;
         fives += 1;
     }
-    fives
+    (left, fives)
 }

@@ -7,9 +7,9 @@ pub use crate::decimal_digits::{
     DecimalDigits, NUMBER_DIGITS, decimal_len, put_decimal, put_fraction, write_decimal,
 };
 pub use crate::expansion::{EXPANSION_PLACES, Expansion, Ties, glyphs_of};
-pub use crate::factors::two_five;
+pub use crate::factors::{Factors, factors_of, two_five};
 pub use crate::least::{least_size, least_size_counted};
-pub use crate::quotient::exact_quotient;
+pub use crate::quotient::{exact_quotient, factored_quotient};
 pub use crate::steps::Steps;
 pub use crate::tens::power_of_ten;
 

@@ -2,11 +2,12 @@
 ghost use Rattle.std.specs.Prelude.{◌≡◌, ℕ, ◌*◌, ◌-◌, ◌^◌, ◌<◌, ◌≤◌, min, IfSome, IfNone};
 ghost use Rattle.byte_unit_math.specs.Bounds.{one, places_of_decimal, unit_limit, whole_limit};
 ghost use Rattle.byte_unit_math.specs.Steps.{raised};
-ghost use Rattle.byte_unit_math.specs.Exact.{IsExactAt, IsQuotient, IsFirstExact};
+ghost use Rattle.byte_unit_math.specs.Exact.{IsExactAt, IsLeastPlaces, IsQuotient, IsFirstExact};
 
 use crate::decimal::{DECIMAL_PLACES, Decimal};
 use crate::dividing::{digit_and_rest, quotient_and_rest};
 use crate::steps::Steps;
+use crate::tens::{power_of_five, power_of_ten};
 
 /// `size / unit`, where that is a decimal of at most so many places, else None. More than 28 places count as 28.
 ///
@@ -45,4 +46,44 @@ pub fn exact_quotient(size: u128, unit: u128, places: u32, steps: &mut Steps) ->
         return None;
     }
     Some(Decimal::from_digits(whole, fraction, digits))
+}
+
+/// `left * 2^twos * 5^fives / 10^places`: a quotient whose numerator is known by its factors takes no long division.
+///
+/// The caller owes a numerator of at least 1 and below 2^112, and at most 28 places. It takes one tick for each place of
+/// the number.
+///
+/// ```text
+/// factored_quotient(3, 0, 1, 1, &mut steps)    1.5, in one tick
+/// ```
+pub fn factored_quotient(
+    left: u128,
+    twos: u32,
+    fives: u32,
+    places: u32,
+    steps: &mut Steps,
+) -> Decimal
+    requires some { 1 ≤ left }
+    requires small { left * (2 ^ twos * 5 ^ fives) < whole_limit }
+    requires places { places ≤ places_of_decimal }
+    ensures number { result ≡ left * (2 ^ twos * 5 ^ fives) * 10 ^ (places_of_decimal - places) }
+    ensures ticks { (least : ℕ) × IsLeastPlaces result one least × (steps.new ≡ raised steps.old least) }
+{
+    let count = (left << twos) * power_of_five(fives);
+    let number = in_places(count, places);
+    steps.raise(number.places());
+    number
+}
+
+/// So many units of a place.
+fn in_places(count: u128, places: u32) -> Decimal
+    requires small { count < whole_limit }
+    requires places { places ≤ places_of_decimal }
+    ensures { result ≡ count * 10 ^ (places_of_decimal - places) }
+{
+    if places == 0 {
+        return Decimal::from_digits(count, 0, 0);
+    }
+    let (whole, digits) = quotient_and_rest(count, power_of_ten(places));
+    Decimal::from_digits(whole, digits, places)
 }

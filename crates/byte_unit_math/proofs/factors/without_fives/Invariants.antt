@@ -1,5 +1,5 @@
 use Rattle.byte_unit_math.proofs.TwosFives.{FivesOff}
-use Rattle.byte_unit_math.proofs.factors.fives_in.Given as goal
+use Rattle.byte_unit_math.proofs.factors.without_fives.Given as goal
 
 abbrev pub invariant-loop-left : goal.invariant-loop-left
 invariant-loop-left l = FivesOff l.number l.left l.fives

@@ -1,0 +1,31 @@
+-- Numbers that are given by their factors.
+use Rattle.std.proofs.Common.{ℕ, ◌+◌, ◌*◌, ◌^◌, ◌<◌, ◌≤◌, ⊎_elim, arith}
+use Rattle.std.proofs.Math.Nat.{one-le-pow, pow-le-pow_right, mul-le-mul_left, mul-le-mul_right}
+use Rattle.std.proofs.lemmas.Bool.{cases_lt}
+use Rattle.byte_unit_math.specs.Bounds.{whole_limit}
+
+-- a power below the limit has few factors
+few_in_power : (base most exponent : ℕ) → 1 ≤ base → base ^ exponent < whole_limit → whole_limit ≤ base ^ (most + 1) → exponent ≤ most
+few_in_power base most exponent some small large = ⊎_elim
+    (λ more. let high = pow-le-pow_right {n = base} some {i = most + 1} {j = exponent} (omega (arith, more)) in absurd (omega (arith, high, small, large)))
+    (λ few. few) (cases_lt most exponent)
+
+-- a number below the limit, by its factors
+pub record FewFactors (left twos fives : ℕ) : Type 0 where
+  pub few_twos : twos ≤ 111
+  pub few_fives : fives ≤ 48
+  pub shifted : left * 2 ^ twos < whole_limit
+
+pub few_factors : (left twos fives : ℕ) → 1 ≤ left → left * (2 ^ twos * 5 ^ fives) < whole_limit → FewFactors left twos fives
+few_factors left twos fives some small =
+    let some_fives = one-le-pow fives 5 (omega arith) in
+    let some_twos = one-le-pow twos 2 (omega arith) in
+    let powers = mul-le-mul_right {m = 1} {n = left} (2 ^ twos * 5 ^ fives) some in
+    let without_fives = mul-le-mul_left {m = 1} {n = 5 ^ fives} (2 ^ twos) some_fives in
+    let without_twos = mul-le-mul_right {m = 1} {n = 2 ^ twos} (5 ^ fives) some_twos in
+    let left_twos = mul-le-mul_left {m = 2 ^ twos} {n = 2 ^ twos * 5 ^ fives} left (omega (arith, without_fives)) in
+    record {
+      few_twos = few_in_power 2 111 twos (omega arith) (omega (arith, powers, without_fives, small)) (omega arith);
+      few_fives = few_in_power 5 48 fives (omega arith) (omega (arith, powers, without_twos, small)) (omega arith);
+      shifted = omega (arith, left_twos, small);
+    }
