@@ -22,6 +22,20 @@ number_times_unit size unit places number room h =
     let p = ap (λ x. size * x) (raise_power places places_of_decimal room) in
     n ∙ omega (arith, e, p)
 
+-- a number that gives the size with the unit is the quotient, at each place at which it is exact
+pub quotient_of_product : (size unit places number : ℕ) → 1 ≤ unit → places ≤ places_of_decimal → number * unit ≡ size * one
+    → IsExactAt size unit places → IsQuotient size unit places number
+quotient_of_product size unit places number some room product exact =
+    let behind = 10 ^ (places_of_decimal - places) in
+    let e = ap (λ x. x * behind) exact.1 in
+    let p = ap (λ x. size * x) (raise_power places places_of_decimal room) in
+    let same : number * unit ≡ exact.0 * behind * unit = omega (arith, product, e, p) in
+    record {
+      count = exact.0;
+      exact = exact.1;
+      number = eq_of_mul-eq-mul_right unit (omega (arith, some)) number (exact.0 * behind) same;
+    }
+
 -- the quotient that was answered, by the unit's shape
 pub quotient_here : {answer : Option ℕ} {size places B number : ℕ} (unit : Shape) → B ≡ bits unit → answer ≡ Some number
     → IfSome answer (IsQuotient size B places) → IsQuotient size (bits unit) places number

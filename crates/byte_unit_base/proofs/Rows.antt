@@ -13,13 +13,13 @@ use Rattle.byte_unit_base.specs.Edition.{current}
 use Rattle.byte_unit_base.specs.Units.{shape_of}
 use Rattle.byte_unit_base.specs.Family.{HasPrefix, InFamily, IsOfType}
 use Rattle.byte_unit_base.specs.Choice.{IsLargest, NoneHas, Suits}
-use Rattle.byte_unit_base.specs.Multiples.{HasPowers, ListsUnits, falling_from, known_prefixes, row_of, row_shape}
+use Rattle.byte_unit_base.specs.Multiples.{HasPowers, IsMultiple, ListsUnits, falling_from, known_prefixes, row_of, row_shape}
 use Rattle.byte_unit_base.specs.declared.unit.Unit.TheVariants.{Bit}
 use Rattle.byte_unit_base.specs.declared.unit.family.Row.{Row}
 use Rattle.byte_unit_base.specs.declared.unit.family.Family.{Family}
 use Rattle.byte_unit_base.specs.declared.unit.family.Family.TheVariants.{All, Bytes, Bits}
 use Rattle.byte_unit_base.specs.declared.unit.unit_type.UnitType.{UnitType}
-use Rattle.byte_unit_base.proofs.Choosing.{some_bits}
+use Rattle.byte_unit_base.proofs.Choosing.{small_bits, some_bits}
 use Rattle.byte_unit_base.proofs.Falling.{IsIn, IsIn-at, Remain, falls, in_falling, from_falling, current_falls, largest_found}
 use Rattle.byte_unit_base.proofs.Falling.{Remain-behind, Remain-at_end, width, drop_prefixes}
 
@@ -46,14 +46,17 @@ reaches (x ∷ xs) unit h i =
 all_reach : reach (falling_from All known_prefixes) ≡ true
 all_reach = refl
 
+reaches_its_prefix : (unit : Shape) → HasPrefix current unit → 2 ^ (10 * unit.power - 1) ≤ bits unit
+reaches_its_prefix unit prefix =
+    reaches (falling_from All known_prefixes) unit all_reach (in_falling All known_prefixes unit tt prefix.some prefix.known)
+
 -- so its prefix is among the first that the digits of a size allow
 pub prefix_within : (in_bits digits : ℕ) (unit : Shape) → in_bits < 2 ^ 128 → digits ≡ 128 - leading_zeros w128 in_bits
     → HasPrefix current unit → bits unit ≤ in_bits → 10 * unit.power ≤ digits
 prefix_within in_bits digits unit small count prefix not_above =
     let some : 0 < in_bits = omega (arith, some_bits unit, not_above) in
     let top = leading_top 128 in_bits some small in
-    let is_in = in_falling All known_prefixes unit tt prefix.some prefix.known in
-    let reached = reaches (falling_from All known_prefixes) unit all_reach is_in in
+    let reached = reaches_its_prefix unit prefix in
     ⊎_elim
     (λ fewer.
     let more = pow-le-pow_right {n = 2} (omega arith) {i = suc top.0} {j = 10 * unit.power - 1} (omega (arith, fewer, count, top.1)) in
@@ -137,6 +140,26 @@ row_there {family} {in_bits} {rows} i d h within =
       bits_are = ap (λ row. row.bits) same ∙ ap bits (sym is_unit);
       twos_are = ap (λ row. row.twos) same ∙ ap twos (sym is_unit);
       fives_are = ap (λ row. row.fives) same ∙ ap fives (sym is_unit);
+    }
+
+pub row_is : {family : Family} {row : Row} → IsRow family row → row_shape row ≡ row_of (unit_in row)
+row_is {family} {row} is =
+    let bits_are = is.bits_are in
+    let twos_are = is.twos_are in
+    let fives_are = is.fives_are in
+    cc
+
+-- and its bits are its powers
+pub row_multiple : {family : Family} {row : Row} → IsRow family row → IsMultiple row
+row_multiple {family} {row} is =
+    let member = is.member in
+    let first = pow-le-pow_right {n = 2} (omega arith) {i = 9} {j = 10 * (unit_in row).power - 1} (omega (arith, member.prefix.some)) in
+    let twos_same = ap (λ n. 2 ^ n * 5 ^ fives (unit_in row)) (sym is.twos_are) in
+    let fives_same = ap (λ n. 2 ^ row.twos * 5 ^ n) (sym is.fives_are) in
+    record {
+      powers = is.bits_are ∙ (twos_same ∙ fives_same);
+      large = omega (arith, first, reaches_its_prefix (unit_in row) member.prefix, is.bits_are);
+      small = omega (arith, small_bits family (unit_in row) member, is.bits_are);
     }
 
 -- the search along the units of rows

@@ -57,6 +57,18 @@ in_bits_powers size divisor a b kind h =
     let by_one : P 1 = subst (λ n. IsTwoFive (size * 1) (a + n) b) (sym one_zeros) same in
     ⊎_elim (λ e. subst P (sym e) eight) (λ e. subst P (sym e) by_one) kind
 
+-- the same of its factors
+pub in_bits_product : (size divisor left a b : ℕ) → (divisor ≡ 8) ⊎ (divisor ≡ 1) → left * (2 ^ a * 5 ^ b) ≡ size
+    → left * (2 ^ (a + trailing_zeros w128 divisor) * 5 ^ b) ≡ size * divisor
+in_bits_product size divisor left a b kind h =
+    let P : ℕ → Type 0 = λ d. left * (2 ^ (a + trailing_zeros w128 d) * 5 ^ b) ≡ size * d in
+    let eight : P 8 = ap (λ n. left * (2 ^ (a + n) * 5 ^ b)) eight_zeros
+    ∙ (ap (λ n. left * (n * 5 ^ b)) (pow-add 2 a 3) ∙ omega (arith, ap (λ n. n * 8) h)) in
+    let none : a + 0 ≡ a = omega arith in
+    let by_one : P 1 = ap (λ n. left * (2 ^ (a + n) * 5 ^ b)) one_zeros
+    ∙ (ap (λ n. left * (2 ^ n * 5 ^ b)) none ∙ (h ∙ omega arith)) in
+    ⊎_elim (λ e. subst P (sym e) eight) (λ e. subst P (sym e) by_one) kind
+
 -- the units that the powers of the size allow are those that state it
 module _ (family : Family) (in_bits precision a b : ℕ) (powers : IsTwoFive in_bits a b) where
   abbrev few : Shape → Type 0

@@ -1,5 +1,6 @@
 -- Private: the lists that the search for a unit runs along. No public contract cites this file.
 use Rattle.std.specs.Prelude.{◌≡◌, ℕ, zero, suc, ◌*◌, ◌^◌, ◌≤◌, true, false, List, [], ◌∷◌, ◌++◌, length, map}
+use Rattle.byte_unit_math.specs.Bounds.{unit_limit}
 use Rattle.byte_unit_base.specs.Shape.{Shape, shape, bits, twos, fives}
 use Rattle.byte_unit_base.specs.Units.{shape_of}
 use Rattle.byte_unit_base.specs.Edition.{Edition, current}
@@ -39,10 +40,11 @@ row_of unit = record { unit = unit; bits = bits unit; twos = twos unit; fives = 
 abbrev pub row_shape : Row → ShapeRow
 row_shape row = record { unit = shape_of row.unit; bits = row.bits; twos = row.twos; fives = row.fives }
 
--- the row of a unit with a prefix: its bits are its powers of two and of five, and no fewer than a thousand
+-- the row of a unit with a prefix: its bits are its powers of two and of five, from 2^9 to 2^93
 pub record IsMultiple (row : Row) : Type 0 where
   pub powers : row.bits ≡ 2 ^ row.twos * 5 ^ row.fives
-  pub large : 1000 ≤ row.bits
+  pub large : 2 ^ 9 ≤ row.bits
+  pub small : row.bits ≤ unit_limit
 
 -- rows that have every unit of the family, from the largest, whose bits are not above these
 pub record ListsUnits (family : Family) (in_bits : ℕ) (rows : List Row) : Type 0 where

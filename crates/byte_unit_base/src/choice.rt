@@ -3,6 +3,7 @@
 ghost use Rattle.std.specs.Prelude.{◌≡◌, ◌↔◌, ℕ, ◌+◌, ◌*◌, ◌^◌, ◌<◌, ◌≤◌, ◌⊎◌, IsTrue, IfSome, IfNone};
 ghost use Rattle.byte_unit_math.specs.Bounds.{one, places_of_decimal};
 ghost use Rattle.byte_unit_math.specs.Exact.{IsLeastPlaces};
+ghost use Rattle.byte_unit_math.specs.Factored.{value_of};
 ghost use Rattle.byte_unit_math.specs.Steps.{raised};
 ghost use Rattle.byte_unit_base.specs.Shape.{bits};
 ghost use Rattle.byte_unit_base.specs.Edition.{current};
@@ -68,18 +69,13 @@ pub fn choose_unit(
 /// So many bits in the unit of a row, in which they are exact within so many places by their factors.
 ///
 /// It takes one tick for each place of the number.
-fn number_in(
-    row: &Row,
-    in_bits: u128,
-    factors: Factors,
-    most: u32,
-    steps: &mut Steps,
-) -> Decimal
+fn number_in(row: &Row, in_bits: u128, factors: Factors, most: u32, steps: &mut Steps) -> Decimal
     requires row { IsMultiple row.now }
-    requires size { (1 ≤ in_bits) × (in_bits < 8 * current.size_limit) }
-    requires factors { in_bits ≡ factors.left * (2 ^ factors.twos * 5 ^ factors.fives) }
-    requires most { most ≤ places_of_decimal }
+    requires size { (1 ≤ in_bits) × (in_bits ≤ 8 * current.size_limit) }
+    requires factors { value_of factors ≡ in_bits }
+    requires few { (factors.twos < 2 ^ 16) × (factors.fives < 2 ^ 16) }
     requires exact { (row.now.twos ≤ factors.twos + most) × (row.now.fives ≤ factors.fives + most) }
+    requires most { most ≤ places_of_decimal }
     ensures exact { result * row.now.bits ≡ in_bits * one }
     ensures ticks { (places : ℕ) × IsLeastPlaces result one places × (steps.new ≡ raised steps.old places) }
 {
@@ -89,22 +85,16 @@ fn number_in(
         // The size is exact in the unit, so there is a quotient.
         return exact_quotient(in_bits, row.bits, most, steps).unwrap();
     }
-    let twos = factors.twos + places - row.twos;
-    let fives = factors.fives + places - row.fives;
-    factored_quotient(factors.left, twos, fives, places, steps)
+    factored_quotient(factors, row.twos, row.fives, places, steps)
 }
 
 /// The largest unit of the family that is not above the size in bits and has no more twos and fives
 /// than these, as its row.
-fn first_by_powers(
-    family: Family,
-    in_bits: u128,
-    twos: u32,
-    fives: u32,
-) -> Option<&'static Row>
+fn first_by_powers(family: Family, in_bits: u128, twos: u32, fives: u32) -> Option<&'static Row>
     ensures found { IfSome result (λ row.
         IsLargest (HasPowers current family in_bits twos fives) (shape_of row.now.unit)) }
     ensures row { IfSome result (λ row. row_shape row.now ≡ row_of (shape_of row.now.unit)) }
+    ensures multiple { IfSome result (λ row. IsMultiple row.now) }
     ensures none { IfNone result (NoneHas (HasPowers current family in_bits twos fives)) }
 {
     for row in family.multiples_within(in_bits) {

@@ -1,8 +1,9 @@
 -- Numbers that are given by their factors.
-use Rattle.std.proofs.Common.{ℕ, ◌+◌, ◌*◌, ◌^◌, ◌<◌, ◌≤◌, ⊎_elim, arith}
-use Rattle.std.proofs.Math.Nat.{one-le-pow, pow-le-pow_right, mul-le-mul_left, mul-le-mul_right}
+use Rattle.std.proofs.Common.{◌≡◌, ℕ, ◌+◌, ◌-◌, ◌*◌, ◌^◌, ◌<◌, ◌≤◌, ⊎_elim, arith, ap}
+use Rattle.std.proofs.Math.Nat.{one-le-pow, pow-le-pow_right, mul-le-mul_left, mul-le-mul_right, lt_of_mul-lt-mul_right}
 use Rattle.std.proofs.lemmas.Bool.{cases_lt}
-use Rattle.byte_unit_math.specs.Bounds.{whole_limit}
+use Rattle.byte_unit_math.specs.Bounds.{one, places_of_decimal, whole_limit}
+use Rattle.byte_unit_math.proofs.Scales.{power_parts}
 
 -- a power below the limit has few factors
 few_in_power : (base most exponent : ℕ) → 1 ≤ base → base ^ exponent < whole_limit → whole_limit ≤ base ^ (most + 1) → exponent ≤ most
@@ -29,3 +30,14 @@ few_factors left twos fives some small =
       few_fives = few_in_power 5 48 fives (omega arith) (omega (arith, powers, without_twos, small)) (omega arith);
       shifted = omega (arith, left_twos, small);
     }
+
+-- a number in units of a place, as a count of another unit
+module _ (number unit count places : ℕ) (same : number * 10 ^ places ≡ count * unit) where
+  pub count_below : number * 10 ^ places < whole_limit * unit → count < whole_limit
+  count_below small = lt_of_mul-lt-mul_right unit {m = count} {n = whole_limit} (omega (arith, same, small))
+
+  pub exact_count : places ≤ places_of_decimal → count * 10 ^ (places_of_decimal - places) * unit ≡ number * one
+  exact_count few =
+      let scaled = ap (λ n. n * 10 ^ (places_of_decimal - places)) same in
+      let parts = ap (λ n. number * n) (power_parts places few) in
+      omega (arith, scaled, parts)

@@ -24,26 +24,35 @@ next_power base m a l =
     let total : a ≡ m + suc (a - m - 1) = omega (arith, l) in
     ap (λ n. base ^ n) total ∙ (pow-add base m (suc (a - m - 1)) ∙ ap (λ n. base ^ m * n) (pow-succ' base (a - m - 1)))
 
--- times a power of ten, so many more of both
-times_tens : (num twos fives p : ℕ) (h : IsTwoFive num twos fives) → num * 10 ^ p ≡ h.left * (2 ^ (twos + p) * 5 ^ (fives + p))
-times_tens num twos fives p h =
+-- a number by its factors, times a power of ten: so many more of both
+tens_of_factors : (left twos fives p : ℕ) → left * (2 ^ twos * 5 ^ fives) * 10 ^ p ≡ left * (2 ^ (twos + p) * 5 ^ (fives + p))
+tens_of_factors left twos fives p =
     let ten : 10 ^ p ≡ 2 ^ p * 5 ^ p = mul-pow 2 5 p in
-    let product = ap (λ n. n * 10 ^ p) h.product in
-    let powers = ap (λ n. h.left * (2 ^ twos * 5 ^ fives) * n) ten in
-    rw (pow-add 2 twos p, pow-add 5 fives p) (omega (arith, product, powers))
+    let powers = ap (λ n. left * (2 ^ twos * 5 ^ fives) * n) ten in
+    rw (pow-add 2 twos p, pow-add 5 fives p) (omega (arith, powers))
 
-exact_with_powers :
-    (num a b twos fives p : ℕ) → IsTwoFive num twos fives → (a ≤ twos + p) × (b ≤ fives + p) → IsExactAt num (2 ^ a * 5 ^ b) p
-exact_with_powers num a b twos fives p h few =
+-- which is a count of units that have no more of them
+pub count_of_units :
+    (left twos fives a b p : ℕ) → (a ≤ twos + p) × (b ≤ fives + p)
+    → left * (2 ^ twos * 5 ^ fives) * 10 ^ p ≡ left * (2 ^ (twos + p - a) * 5 ^ (fives + p - b)) * (2 ^ a * 5 ^ b)
+count_of_units left twos fives a b p few =
     let two_parts : 2 ^ (twos + p) ≡ 2 ^ (twos + p - a) * 2 ^ a =
     ap (λ n. 2 ^ n) (let e : twos + p ≡ (twos + p - a) + a = omega (arith, few.0) in e) ∙ pow-add 2 (twos + p - a) a in
     let five_parts : 5 ^ (fives + p) ≡ 5 ^ (fives + p - b) * 5 ^ b =
     ap (λ n. 5 ^ n) (let e : fives + p ≡ (fives + p - b) + b = omega (arith, few.1) in e) ∙ pow-add 5 (fives + p - b) b in
-    let twos_apart = ap (λ n. h.left * (n * 5 ^ (fives + p))) two_parts in
-    let fives_apart = ap (λ n. h.left * (2 ^ (twos + p - a) * 2 ^ a * n)) five_parts in (
-      h.left * (2 ^ (twos + p - a) * 5 ^ (fives + p - b)),
-      times_tens num twos fives p h ∙ (twos_apart ∙ (fives_apart ∙ omega arith)),
-    )
+    let twos_apart = ap (λ n. left * (n * 5 ^ (fives + p))) two_parts in
+    let fives_apart = ap (λ n. left * (2 ^ (twos + p - a) * 2 ^ a * n)) five_parts in
+    tens_of_factors left twos fives p ∙ (twos_apart ∙ (fives_apart ∙ omega arith))
+
+times_tens : (num twos fives p : ℕ) (h : IsTwoFive num twos fives) → num * 10 ^ p ≡ h.left * (2 ^ (twos + p) * 5 ^ (fives + p))
+times_tens num twos fives p h = ap (λ n. n * 10 ^ p) h.product ∙ tens_of_factors h.left twos fives p
+
+exact_with_powers :
+    (num a b twos fives p : ℕ) → IsTwoFive num twos fives → (a ≤ twos + p) × (b ≤ fives + p) → IsExactAt num (2 ^ a * 5 ^ b) p
+exact_with_powers num a b twos fives p h few = (
+    h.left * (2 ^ (twos + p - a) * 5 ^ (fives + p - b)),
+    ap (λ n. n * 10 ^ p) h.product ∙ count_of_units h.left twos fives a b p few,
+)
 
 -- a number with one two more, or one five more, than is taken off on both sides
 cancel_twos :

@@ -9,6 +9,7 @@ pub mod Numeral
 pub mod Padded
 pub mod Nearest
 pub mod Powers
+pub mod Factored
 pub mod NumberLaws
 pub mod CountLaws
 pub mod ShortDigits

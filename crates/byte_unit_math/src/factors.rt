@@ -1,17 +1,30 @@
 //! How often two and five divide a size, and what is left of it.
 ghost use Rattle.std.specs.Prelude.{◌≡◌, ◌≢◌, ◌+◌, ◌*◌, ◌%◌, ◌^◌, ◌<◌, ◌≤◌};
-ghost use Rattle.byte_unit_math.specs.Bounds.{size_limit};
+ghost use Rattle.byte_unit_math.specs.Bounds.{size_limit, whole_limit};
+ghost use Rattle.byte_unit_math.specs.Factored.{value_of};
 ghost use Rattle.byte_unit_math.specs.Powers.{IsTwoFive};
 ghost use Rattle.byte_unit_math.specs.Steps.{raised};
 
 use crate::steps::Steps;
+use crate::tens::power_of_five;
 
-/// A number by its factors: how often two and five divide it, and what is left without them.
+/// A number by its factors: `left * 2^twos * 5^fives`.
 #[derive(Clone, Copy, Debug)]
 pub struct Factors {
     pub left: u128,
     pub twos: u32,
     pub fives: u32,
+}
+
+impl Factors {
+    /// The number.
+    pub(crate) fn product(self) -> u128
+        requires some { 1 ≤ self.left }
+        requires small { value_of self < whole_limit }
+        ensures { result ≡ value_of self }
+    {
+        (self.left << self.twos) * power_of_five(self.fives)
+    }
 }
 
 /// How often two and how often five divide the size.
@@ -48,7 +61,7 @@ pub fn two_five(size: u128, steps: &mut Steps) -> (u32, u32)
 pub fn factors_of(size: u128, steps: &mut Steps) -> Factors
     requires some { 1 ≤ size }
     requires small { size < size_limit }
-    ensures product { size ≡ result.left * (2 ^ result.twos * 5 ^ result.fives) }
+    ensures product { value_of result ≡ size }
     ensures powers { IsTwoFive size result.twos result.fives }
     ensures ticks { steps.new ≡ raised steps.old (result.twos + result.fives + 2) }
     ensures few { result.twos + result.fives + 2 ≤ 101 }

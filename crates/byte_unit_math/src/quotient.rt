@@ -1,13 +1,15 @@
 //! Exact quotients by long division.
-ghost use Rattle.std.specs.Prelude.{◌≡◌, ℕ, ◌*◌, ◌-◌, ◌^◌, ◌<◌, ◌≤◌, min, IfSome, IfNone};
+ghost use Rattle.std.specs.Prelude.{◌≡◌, ℕ, ◌+◌, ◌*◌, ◌-◌, ◌^◌, ◌<◌, ◌≤◌, min, IfSome, IfNone};
 ghost use Rattle.byte_unit_math.specs.Bounds.{one, places_of_decimal, unit_limit, whole_limit};
 ghost use Rattle.byte_unit_math.specs.Steps.{raised};
 ghost use Rattle.byte_unit_math.specs.Exact.{IsExactAt, IsLeastPlaces, IsQuotient, IsFirstExact};
+ghost use Rattle.byte_unit_math.specs.Factored.{value_of};
 
 use crate::decimal::{DECIMAL_PLACES, Decimal};
 use crate::dividing::{digit_and_rest, quotient_and_rest};
+use crate::factors::Factors;
 use crate::steps::Steps;
-use crate::tens::{power_of_five, power_of_ten};
+use crate::tens::power_of_ten;
 
 /// `size / unit`, where that is a decimal of at most so many places, else None. More than 28 places count as 28.
 ///
@@ -48,31 +50,39 @@ pub fn exact_quotient(size: u128, unit: u128, places: u32, steps: &mut Steps) ->
     Some(Decimal::from_digits(whole, fraction, digits))
 }
 
-/// `left * 2^twos * 5^fives / 10^places`: a quotient whose numerator is known by its factors takes no long division.
+/// A number over `2^twos * 5^fives`, where it is a decimal of at most so many places. A quotient of numbers by their
+/// factors takes no long division.
 ///
-/// The caller owes a numerator of at least 1 and below 2^112, and at most 28 places. It takes one tick for each place of
-/// the number.
+/// The caller owes a number of at least 1, places at which the quotient is exact, 28 at most, and a quotient below
+/// 2^112 in units of that place. It takes one tick for each place of the answer.
 ///
 /// ```text
-/// factored_quotient(3, 0, 1, 1, &mut steps)    1.5, in one tick
+/// let twelve = Factors { left: 3, twos: 2, fives: 0 };
+/// factored_quotient(twelve, 3, 0, 1, &mut steps)    1.5, in one tick
 /// ```
 pub fn factored_quotient(
-    left: u128,
+    number: Factors,
     twos: u32,
     fives: u32,
     places: u32,
     steps: &mut Steps,
 ) -> Decimal
-    requires some { 1 ≤ left }
-    requires small { left * (2 ^ twos * 5 ^ fives) < whole_limit }
+    requires some { 1 ≤ number.left }
+    requires few { (number.twos < 2 ^ 16) × (number.fives < 2 ^ 16) }
     requires places { places ≤ places_of_decimal }
-    ensures number { result ≡ left * (2 ^ twos * 5 ^ fives) * 10 ^ (places_of_decimal - places) }
+    requires exact { (twos ≤ number.twos + places) × (fives ≤ number.fives + places) }
+    requires small { value_of number * 10 ^ places < whole_limit * (2 ^ twos * 5 ^ fives) }
+    ensures exact { result * (2 ^ twos * 5 ^ fives) ≡ value_of number * one }
     ensures ticks { (least : ℕ) × IsLeastPlaces result one least × (steps.new ≡ raised steps.old least) }
 {
-    let count = (left << twos) * power_of_five(fives);
-    let number = in_places(count, places);
-    steps.raise(number.places());
-    number
+    let count = Factors {
+        left: number.left,
+        twos: number.twos + places - twos,
+        fives: number.fives + places - fives,
+    };
+    let quotient = in_places(count.product(), places);
+    steps.raise(quotient.places());
+    quotient
 }
 
 /// So many units of a place.

@@ -1,6 +1,6 @@
 use Rattle.byte_unit_base.specs.Edition.{current}
 use Rattle.byte_unit_base.specs.Multiples.{HasPowers}
-use Rattle.byte_unit_base.proofs.Rows.{no_row, search_start, row_there, row_powers, powers_in_row}
+use Rattle.byte_unit_base.proofs.Rows.{no_row, search_start, row_is, row_multiple, row_there, row_powers, powers_in_row}
 use Rattle.byte_unit_base.proofs.Rows.{unit_found, unit_passed, none_found, none_true}
 use Rattle.byte_unit_base.proofs.choice.first_by_powers.Goals as goal
 
@@ -34,6 +34,10 @@ returns-then-has_powers-clause-found c =
     let has = row_powers c.args.in_bits c.args.twos c.args.fives is_row (c.has_powers.ensures.0 c.if-has_powers.true) in
     unit_found few i no_row listed c.loop-row.invariant c.loop-row-test.true has
 
-pub returns-then-has_powers-clause-bits : goal.returns-then-has_powers-clause-bits
-returns-then-has_powers-clause-bits c =
-    (row_there c.loop-row.row-index no_row c.multiples_within-row-items.ensures c.loop-row-test.true).bits_are
+pub returns-then-has_powers-clause-row : goal.returns-then-has_powers-clause-row
+returns-then-has_powers-clause-row c =
+    row_is (row_there c.loop-row.row-index no_row c.multiples_within-row-items.ensures c.loop-row-test.true)
+
+pub returns-then-has_powers-clause-multiple : goal.returns-then-has_powers-clause-multiple
+returns-then-has_powers-clause-multiple c =
+    row_multiple (row_there c.loop-row.row-index no_row c.multiples_within-row-items.ensures c.loop-row-test.true)

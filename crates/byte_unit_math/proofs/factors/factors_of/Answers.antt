@@ -1,4 +1,4 @@
-use Rattle.std.proofs.Common.{◌/◌, ◌^◌, arith}
+use Rattle.std.proofs.Common.{◌/◌, ◌^◌, arith, sym}
 use Rattle.std.specs.Int.{trailing_zeros, w128}
 use Rattle.byte_unit_math.proofs.TwosFives.{AllFives, IsOdd-shifted, two_five_is, two_five_product, two_five_few}
 use Rattle.byte_unit_math.proofs.factors.factors_of.Goals as goal
@@ -10,7 +10,7 @@ without_fives-left-requires-clause-some c =
 
 pub returns-clause-product : goal.returns-clause-product
 returns-clause-product c =
-    two_five_product _ _ _ _ (IsOdd-shifted c.args.size c.requires.some (omega arith)) c.without_fives-left.ensures.product
+    sym (two_five_product _ _ _ _ (IsOdd-shifted c.args.size c.requires.some (omega arith)) c.without_fives-left.ensures.product)
 
 pub returns-clause-powers : goal.returns-clause-powers
 returns-clause-powers c =

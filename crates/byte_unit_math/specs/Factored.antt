@@ -1,0 +1,7 @@
+-- Numbers by their factors.
+use Rattle.std.specs.Prelude.{ℕ, ◌*◌, ◌^◌}
+use Rattle.byte_unit_math.specs.declared.factors.Factors.{Factors}
+
+-- the number that has these factors
+abbrev pub value_of : Factors → ℕ
+value_of factors = factors.left * (2 ^ factors.twos * 5 ^ factors.fives)
