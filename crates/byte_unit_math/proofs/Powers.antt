@@ -50,8 +50,8 @@ times_tens num twos fives p h = ap (λ n. n * 10 ^ p) h.product ∙ tens_of_fact
 exact_with_powers :
     (num a b twos fives p : ℕ) → IsTwoFive num twos fives → (a ≤ twos + p) × (b ≤ fives + p) → IsExactAt num (2 ^ a * 5 ^ b) p
 exact_with_powers num a b twos fives p h few = (
-    h.left * (2 ^ (twos + p - a) * 5 ^ (fives + p - b)),
-    ap (λ n. n * 10 ^ p) h.product ∙ count_of_units h.left twos fives a b p few,
+  h.left * (2 ^ (twos + p - a) * 5 ^ (fives + p - b)),
+  ap (λ n. n * 10 ^ p) h.product ∙ count_of_units h.left twos fives a b p few,
 )
 
 -- a number with one two more, or one five more, than is taken off on both sides
