@@ -5,11 +5,11 @@ use Rattle.std.specs.Str.{IsUtf8, IsAscii}
 use Rattle.std.proofs.Common.{rules, Result, Ok, Err, IsOk, set, ◌≡◌, ℕ, zero, suc, ◌+◌, ◌*◌, ◌^◌, ◌/◌, ◌%◌, ◌<◌}
 use Rattle.std.proofs.Common.{◌≤◌, ⊎_elim, List, []}
 use Rattle.std.proofs.Common.{◌∷◌, ◌++◌, length, drop, arith, ap, sym, refl, ◌∙◌, length-append, append_assoc}
-use Rattle.std.proofs.Common.{append-nil, subst}
+use Rattle.std.proofs.Common.{append-nil, get_or, subst}
 use Rattle.std.proofs.Math.Nat.{pow-succ', one-le-pow, mul-le-mul_right, pow-le-pow_right, div-add-mod'}
 use Rattle.std.proofs.lemmas.Bool.{cases_lt}
 use Rattle.std.proofs.lemmas.Fmt.{decimal_digit, decimal_step_wide, length-decimal-le_wide}
-use Rattle.std.proofs.lemmas.List.{drop-set, drop-drop, map-append}
+use Rattle.std.proofs.lemmas.List.{drop-set, drop-drop, length-set, map-append}
 use Rattle.std.proofs.lemmas.Nat.{mod_below, same_from_place}
 use Rattle.std.proofs.lemmas.Str.{IsUtf8-from_ascii, IsAscii-drop}
 use Rattle.std.proofs.lemmas.Str.Ascii.{IsAscii-cons}
@@ -149,6 +149,41 @@ pub length-after_one : (r : ℕ) → r < 10 ^ 18 → length (decimal (10 ^ 18 + 
 length-after_one r small = ap length (decimal_after_one 18 r small (omega arith)) ∙ omega (arith, length-tail_digits 18 r)
 
 -- digits in an array
+
+-- the digits of so many numbers, two of each, from the number that is given
+abbrev pairs_from : ℕ → ℕ → List ℕ
+pairs_from zero n = []
+pairs_from (suc count) n = (48 + n / 10) ∷ (48 + n % 10) ∷ pairs_from count (suc n)
+
+pub pairs_at :
+    (count from k : ℕ) → k < count
+    → (get_or (pairs_from count from) (k * 2) 0 ≡ 48 + (from + k) / 10)
+    × (get_or (pairs_from count from) (k * 2 + 1) 0 ≡ 48 + (from + k) % 10)
+pairs_at zero from k few = absurd (omega (arith, few))
+pairs_at (suc count) from zero few = (omega arith, omega arith)
+pairs_at (suc count) from (suc k) few =
+    let both = pairs_at count (suc from) k (omega (arith, few)) in
+    let first : suc k * 2 ≡ suc (suc (k * 2)) = omega arith in
+    let second : suc k * 2 + 1 ≡ suc (suc (k * 2 + 1)) = omega arith in (
+      ap (λ i. get_or (pairs_from (suc count) from) i 0) first ∙ omega (arith, both.0),
+      ap (λ i. get_or (pairs_from (suc count) from) i 0) second ∙ omega (arith, both.1),
+    )
+
+pub pair_put :
+    (n start first last : ℕ) (bytes : List ℕ) → (n < 10 ^ 2) × (start + 2 ≤ length bytes)
+    → (first ≡ 48 + n / 10) × (last ≡ 48 + n % 10)
+    → drop start (set (set bytes (start + 1) last) start first) ≡ glyphs (last_digits 2 n) ++ drop (start + 2) bytes
+pair_put n start first last bytes fits digits =
+    let inner = set bytes (start + 1) last in
+    let long : length inner ≡ length bytes = length-set bytes (start + 1) last in
+    let behind : drop (start + 1) inner ≡ last ∷ drop (start + 2) bytes =
+    drop-set bytes (start + 1) last (omega (arith, fits.1)) ∙ ap (λ k. last ∷ drop k bytes) (omega arith) in
+    let front : first ≡ 48 + n / 10 ^ 1 % 10 = omega (arith, digits.0, fits.0) in
+    let back : last ≡ 48 + n / 10 ^ 0 % 10 = omega (arith, digits.1) in
+    drop-set inner start first (omega (arith, long, fits.1))
+    ∙ (ap (λ l. first ∷ l) behind
+    ∙ (ap (λ d. d ∷ last ∷ drop (start + 2) bytes) front
+    ∙ ap (λ d. (48 + n / 10 ^ 1 % 10) ∷ d ∷ drop (start + 2) bytes) back))
 
 -- the first digit
 pub last_put :

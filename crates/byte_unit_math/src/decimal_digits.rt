@@ -19,6 +19,14 @@ const ROOM: usize = NUMBER_DIGITS + 1;
 /// Ten to the power of 18: so many digits are taken off at once where a number is above 64 bits.
 const GROUP: u128 = 1_000_000_000_000_000_000;
 
+/// The two digits of each number below a hundred.
+static PAIRS: [u8; 200] = *b"\
+    0001020304050607080910111213141516171819\
+    2021222324252627282930313233343536373839\
+    4041424344454647484950515253545556575859\
+    6061626364656667686970717273747576777879\
+    8081828384858687888990919293949596979899";
+
 /// The decimal digits of a number, as characters. A contract sees the list of them.
 ///
 /// ```text
@@ -110,6 +118,7 @@ pub fn decimal_len(n: u128) -> usize
 /// ```text
 /// put_decimal(1536, bytes, 6)    2, and the bytes from there on begin with "1536"
 /// ```
+#[inline]
 pub fn put_decimal(n: u128, bytes: &mut [u8], end: usize) -> usize
     requires room { length (decimal n) ≤ end }
     requires within { end ≤ length bytes.old }
@@ -117,16 +126,10 @@ pub fn put_decimal(n: u128, bytes: &mut [u8], end: usize) -> usize
     ensures digits { drop result bytes.new ≡ decimal n ++ drop end bytes.old }
     ensures ascii { IsAscii (decimal n) }
 {
-    let mut start = end;
-    let mut rest = n;
-    while rest > u128::from(u64::MAX) {
-        let quotient = rest / GROUP;
-        // A one before the group keeps the zeros it begins with; the next digits are written over it.
-        let group = (rest - quotient * GROUP + GROUP) as u64;
-        start = write_digits(group, bytes, start) + 1;
-        rest = quotient;
+    if n <= u128::from(u64::MAX) {
+        return write_digits(n as u64, bytes, end);
     }
-    write_digits(rest as u64, bytes, start)
+    put_wide(n, bytes, end)
 }
 
 /// Writes the point and so many digits of a number, zeros in front where it has fewer, so that they end before this
@@ -153,6 +156,26 @@ pub fn put_fraction(digits: u128, places: u32, bytes: &mut [u8], end: usize) -> 
     let point = put_decimal(power_of_ten(places) + digits, bytes, end);
     bytes[point] = b'.';
     point
+}
+
+/// Writes digits that end before this place, those of a great number in groups, and answers where they begin.
+#[inline(never)]
+fn put_wide(n: u128, bytes: &mut [u8], end: usize) -> usize
+    requires room { length (decimal n) ≤ end }
+    requires within { end ≤ length bytes.old }
+    ensures begins { result + length (decimal n) ≡ end }
+    ensures digits { drop result bytes.new ≡ decimal n ++ drop end bytes.old }
+{
+    let mut start = end;
+    let mut rest = n;
+    while rest > u128::from(u64::MAX) {
+        let quotient = rest / GROUP;
+        // A one before the group keeps the zeros it begins with; the next digits are written over it.
+        let group = (rest - quotient * GROUP + GROUP) as u64;
+        start = write_digits(group, bytes, start) + 1;
+        rest = quotient;
+    }
+    write_digits(rest as u64, bytes, start)
 }
 
 /// Writes digits that end before this place, and answers where they begin.
@@ -199,8 +222,9 @@ fn put_two(n: u32, bytes: &mut [u8], end: usize) -> usize
     ensures digits { drop result bytes.new ≡ glyphs (last_digits 2 n) ++ drop end bytes.old }
 {
     let start = end - 2;
-    bytes[start + 1] = b'0' + (n % 10) as u8;
-    bytes[start] = b'0' + (n / 10) as u8;
+    let pair = n as usize * 2;
+    bytes[start + 1] = PAIRS[pair + 1];
+    bytes[start] = PAIRS[pair];
     start
 }
 

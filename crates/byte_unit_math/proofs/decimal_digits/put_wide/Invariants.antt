@@ -1,6 +1,6 @@
 use Rattle.std.proofs.Common.{◌≡◌, ◌+◌, ◌≤◌, ◌++◌, length, drop}
 use Rattle.std.specs.Fmt.{decimal}
-use Rattle.byte_unit_math.proofs.decimal_digits.put_decimal.Given as goal
+use Rattle.byte_unit_math.proofs.decimal_digits.put_wide.Given as goal
 
 abbrev pub invariant-loop-rest : goal.invariant-loop-rest
 invariant-loop-rest l = record {
