@@ -2,6 +2,7 @@ pub mod Scales
 pub mod Places
 pub mod RoundedUp
 pub mod Division
+pub mod Estimates
 pub mod ShortDecimals
 pub mod Digits
 pub mod WrittenDigits

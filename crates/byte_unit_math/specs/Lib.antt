@@ -1,6 +1,7 @@
 pub mod Bounds
 pub mod Least
 pub mod RoundedUp
+pub mod Inverse
 pub mod Steps
 pub mod Exact
 pub mod Finite

@@ -1,5 +1,6 @@
-//! A division, and a digit of a long one.
+//! A division, one by a constant, and a digit of a long one.
 ghost use Rattle.std.specs.Prelude.{◌≡◌, ◌+◌, ◌*◌, ◌/◌, ◌%◌, ◌^◌, ◌<◌, ◌≤◌};
+ghost use Rattle.byte_unit_math.specs.Inverse.{HasInverse};
 
 /// The quotient and the rest. Where both numbers fit 64 bits, so does the division, which then takes less time.
 pub(crate) fn quotient_and_rest(dividend: u128, divisor: u128) -> (u128, u128)
@@ -16,6 +17,30 @@ pub(crate) fn quotient_and_rest(dividend: u128, divisor: u128) -> (u128, u128)
     } else {
         let quotient = dividend / divisor;
         (quotient, dividend - quotient * divisor)
+    }
+}
+
+/// The quotient and the rest by a constant, with no division: the leading 64 bits of the dividend times the whole part of
+/// 2^(cut + shift) / divisor give an estimate, which is the quotient or one below it.
+#[inline(always)]
+pub(crate) fn quotient_by_inverse(
+    dividend: u128,
+    divisor: u64,
+    inverse: u64,
+    cut: u32,
+    shift: u32,
+) -> (u64, u64)
+    requires { HasInverse dividend divisor inverse cut shift }
+    ensures quotient { result.0 ≡ dividend / divisor }
+    ensures rest { result.1 ≡ dividend % divisor }
+{
+    let leading = (dividend >> cut) as u64;
+    let estimate = ((u128::from(leading) * u128::from(inverse)) >> shift) as u64;
+    let rest = (dividend - u128::from(estimate) * u128::from(divisor)) as u64;
+    if rest < divisor {
+        (estimate, rest)
+    } else {
+        (estimate + 1, rest - divisor)
     }
 }
 

@@ -6,14 +6,21 @@ ghost use Rattle.byte_unit_math.specs.RoundedUp.{group_limit, half_limit, IsRoun
 ghost use Rattle.byte_unit_math.specs.Steps.{raised};
 
 use crate::decimal::{DECIMAL_PLACES, Decimal};
+use crate::dividing::quotient_by_inverse;
 use crate::steps::Steps;
 use crate::tens::power_of_ten;
 
 /// Above each group of seven digits: a group's product with a unit of less than 40 bits fits a `u64`.
 const GROUP: u64 = 10_000_000;
 
+/// The base of a long division by a group.
+const BASE: u64 = 1 << 40;
+
 /// Above two groups, half the digits of a fraction: so many fit a `u64`.
-const HALF: u128 = 100_000_000_000_000;
+const HALF: u64 = 100_000_000_000_000;
+
+/// The whole part of 2^110 / `HALF`.
+const HALF_INVERSE: u64 = 12_980_742_146_337_069_071;
 
 /// How many digits half of them are.
 const HALF_PLACES: u32 = 14;
@@ -97,8 +104,7 @@ fn halves(digits: u128, places: u32) -> (u64, u64)
         return (digits as u64 * power_of_ten(HALF_PLACES - places) as u64, 0);
     }
     let fraction = digits * power_of_ten(DECIMAL_PLACES - places);
-    let high = fraction / HALF;
-    (high as u64, (fraction - high * HALF) as u64)
+    quotient_by_inverse(fraction, HALF, HALF_INVERSE, 30, 80)
 }
 
 /// The product of half the digits and the unit's size, and what the digits behind came to, rounded up.
@@ -130,6 +136,19 @@ fn over_group(digits: u64, unit_size: u128, behind: u128, steps: &mut Steps) -> 
     } else if unit_size < 1 << 40 {
         u128::from((digits * unit_size as u64 + behind as u64).div_ceil(GROUP))
     } else {
-        (u128::from(digits) * unit_size + behind).div_ceil(u128::from(GROUP))
+        over_ten_million(u128::from(digits) * unit_size + behind + u128::from(GROUP - 1))
     }
+}
+
+/// The quotient by a group: a long division in base 2^40, each step of which fits 64 bits.
+#[inline(always)]
+fn over_ten_million(n: u128) -> u128
+    requires { n < 2 ^ 120 }
+    ensures { result ≡ n / group_limit }
+{
+    let high = (n >> 80) as u64;
+    let middle = high % GROUP * BASE + ((n >> 40) % u128::from(BASE)) as u64;
+    let low = middle % GROUP * BASE + (n % u128::from(BASE)) as u64;
+    (u128::from(high / GROUP) * u128::from(BASE) + u128::from(middle / GROUP)) * u128::from(BASE)
+        + u128::from(low / GROUP)
 }

@@ -1,4 +1,4 @@
-use Rattle.std.proofs.Common.{◌*◌, ap, arith, ◌∙◌}
+use Rattle.std.proofs.Common.{◌*◌, ap, arith, ◌∙◌, refl}
 use Rattle.byte_unit_math.proofs.Division.{part_below}
 use Rattle.byte_unit_math.proofs.RoundedUp.{first_half}
 use Rattle.byte_unit_math.proofs.least.halves.Goals as goal
@@ -23,12 +23,16 @@ overflow_mul-fraction c =
     let below = part_below c.args.digits c.args.places c.requires.places c.requires.digits in
     rw c.power_of_ten-2.ensures (omega (arith, below))
 
-pub overflow_cast-result-2 : goal.overflow_cast-result-2
-overflow_cast-result-2 c =
+pub quotient_by_inverse-requires : goal.quotient_by_inverse-requires
+quotient_by_inverse-requires c =
     let below = part_below c.args.digits c.args.places c.requires.places c.requires.digits in
-    rw c.power_of_ten-2.ensures (omega (arith, below))
-
-pub overflow_mul-result-2 : goal.overflow_mul-result-2
-overflow_mul-result-2 c =
-    let below = part_below c.args.digits c.args.places c.requires.places c.requires.digits in
-    rw c.power_of_ten-2.ensures (omega (arith, below))
+    rw c.power_of_ten-2.ensures (record {
+      leading = omega (arith, below);
+      cut_fits = omega arith;
+      shift_fits = (omega arith, omega arith);
+      some = omega arith;
+      small = omega arith;
+      inverse_is = refl;
+      fits = omega arith;
+      close = omega arith;
+    })

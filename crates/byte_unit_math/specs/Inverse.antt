@@ -1,0 +1,13 @@
+-- Private: a division by a constant, by a multiplication. No public contract cites this file.
+use Rattle.std.specs.Prelude.{◌≡◌, ℕ, ◌+◌, ◌*◌, ◌/◌, ◌^◌, ◌<◌, ◌≤◌}
+
+-- the leading 64 bits of n, which lie above the lowest `cut`, times the inverse tell n / divisor up to one
+pub record HasInverse (n divisor inverse cut shift : ℕ) : Type 0 where
+  pub leading : n < 2 ^ (64 + cut)
+  pub cut_fits : cut < 64
+  pub shift_fits : (64 < shift) × (shift < 128)
+  pub some : 1 ≤ divisor
+  pub small : divisor ≤ 2 ^ 63
+  pub inverse_is : inverse ≡ 2 ^ (cut + shift) / divisor
+  pub fits : inverse < 2 ^ 64
+  pub close : 2 ^ 64 * divisor + 2 ^ (cut + shift) ≤ divisor * 2 ^ shift
