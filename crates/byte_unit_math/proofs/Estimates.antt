@@ -34,7 +34,8 @@ estimate_fits {n} {divisor} {inverse} {cut} {shift} h =
     (omega (arith, product_fits h, few))
 
 pub IsEstimate-inverse :
-    (n divisor inverse cut shift : ℕ) → HasInverse n divisor inverse cut shift → IsEstimate n divisor (estimate_of n inverse cut shift)
+    (n divisor inverse cut shift : ℕ) → HasInverse n divisor inverse cut shift
+    → IsEstimate n divisor (estimate_of n inverse cut shift)
 IsEstimate-inverse n divisor inverse cut shift h =
     let some_cut : 0 < 2 ^ cut = one-le-pow cut 2 (omega arith) in
     let some_shift : 0 < 2 ^ shift = one-le-pow shift 2 (omega arith) in
@@ -51,13 +52,17 @@ IsEstimate-inverse n divisor inverse cut shift h =
     let inverse_parts = mul-le-mul_right leading inverse_low in
     let leading_parts = mul-le-mul_right (2 ^ shift) (div-mul-le_self n (2 ^ cut)) in
     let past_leading = mul-le-mul_right {m = n + 1} {n = leading * 2 ^ cut + 2 ^ cut} (2 ^ shift) (omega (arith, leading_high)) in
-    let past_inverse = mul-le-mul_right {m = 2 ^ (cut + shift) + 1} {n = inverse * divisor + divisor} leading (omega (arith, inverse_high)) in
-    let past_estimate = mul-le-mul_right {m = leading * inverse + 1} {n = estimate * 2 ^ shift + 2 ^ shift} divisor (omega (arith, estimate_high)) in
+    let past_inverse =
+    mul-le-mul_right {m = 2 ^ (cut + shift) + 1} {n = inverse * divisor + divisor} leading (omega (arith, inverse_high)) in
+    let past_estimate =
+    mul-le-mul_right {m = leading * inverse + 1} {n = estimate * 2 ^ shift + 2 ^ shift} divisor (omega (arith, estimate_high)) in
     let few_leading = mul-le-mul_right {m = leading + 1} {n = 2 ^ 64} divisor (omega (arith, leading_fits h)) in
     let powers = ap (λ m. m * leading) power in
     record {
       enough = le_of_mul-le-mul_right (omega (arith, estimate_parts, inverse_parts, leading_parts, powers)) some_shift;
-      close = lt_of_mul-lt-mul_right (2 ^ shift) (omega (arith, past_leading, past_inverse, past_estimate, few_leading, powers, power, h.close, some_shift));
+      close =
+          lt_of_mul-lt-mul_right (2 ^ shift)
+          (omega (arith, past_leading, past_inverse, past_estimate, few_leading, powers, power, h.close, some_shift));
     }
 
 -- from the estimate to the quotient, and to the rest

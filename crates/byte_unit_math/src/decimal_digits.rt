@@ -6,6 +6,7 @@ ghost use Rattle.byte_unit_math.specs.Bounds.{places_of_decimal};
 ghost use Rattle.byte_unit_math.specs.Digits.{last_digits};
 ghost use Rattle.byte_unit_math.specs.Numeral.{fraction_text, glyphs};
 
+use crate::dividing::{EIGHTEEN_DIGITS, split_at_eighteen};
 use crate::tens::{power_of_ten, wide_power_of_ten};
 use std::marker::Model;
 use std::{fmt, str};
@@ -15,9 +16,6 @@ pub const NUMBER_DIGITS: usize = 39;
 
 /// One place more, for the one before the last group.
 const ROOM: usize = NUMBER_DIGITS + 1;
-
-/// Ten to the power of 18: so many digits are taken off at once where a number is above 64 bits.
-const GROUP: u128 = 1_000_000_000_000_000_000;
 
 /// The two digits of each number below a hundred.
 static PAIRS: [u8; 200] = *b"\
@@ -158,7 +156,7 @@ pub fn put_fraction(digits: u128, places: u32, bytes: &mut [u8], end: usize) -> 
     point
 }
 
-/// Writes digits that end before this place, those of a great number in groups, and answers where they begin.
+/// Writes digits that end before this place, eighteen at a time, and answers where they begin.
 #[inline(never)]
 fn put_wide(n: u128, bytes: &mut [u8], end: usize) -> usize
     requires room { length (decimal n) ≤ end }
@@ -169,11 +167,10 @@ fn put_wide(n: u128, bytes: &mut [u8], end: usize) -> usize
     let mut start = end;
     let mut rest = n;
     while rest > u128::from(u64::MAX) {
-        let quotient = rest / GROUP;
-        // A one before the group keeps the zeros it begins with; the next digits are written over it.
-        let group = (rest - quotient * GROUP + GROUP) as u64;
-        start = write_digits(group, bytes, start) + 1;
-        rest = quotient;
+        let (before, last) = split_at_eighteen(rest);
+        // A one before the last digits keeps the zeros they begin with; the next digits are written over it.
+        start = write_digits(EIGHTEEN_DIGITS + last, bytes, start) + 1;
+        rest = before;
     }
     write_digits(rest as u64, bytes, start)
 }

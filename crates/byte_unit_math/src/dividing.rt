@@ -2,6 +2,12 @@
 ghost use Rattle.std.specs.Prelude.{◌≡◌, ◌+◌, ◌*◌, ◌/◌, ◌%◌, ◌^◌, ◌<◌, ◌≤◌};
 ghost use Rattle.byte_unit_math.specs.Inverse.{HasInverse};
 
+/// Ten to the power of 18.
+pub(crate) const EIGHTEEN_DIGITS: u64 = 1_000_000_000_000_000_000;
+
+/// The whole part of 2^123 / `EIGHTEEN_DIGITS`.
+const EIGHTEEN_DIGITS_INVERSE: u64 = 10_633_823_966_279_326_983;
+
 /// The quotient and the rest. Where both numbers fit 64 bits, so does the division, which then takes less time.
 pub(crate) fn quotient_and_rest(dividend: u128, divisor: u128) -> (u128, u128)
     requires { 1 ≤ divisor }
@@ -42,6 +48,26 @@ pub(crate) fn quotient_by_inverse(
     } else {
         (estimate + 1, rest - divisor)
     }
+}
+
+/// What is before the last eighteen digits of a number, and these digits. Numbers of 122 bits take no division.
+#[inline(always)]
+pub(crate) fn split_at_eighteen(n: u128) -> (u128, u64)
+    ensures quotient { result.0 ≡ n / 10 ^ 18 }
+    ensures rest { result.1 ≡ n % 10 ^ 18 }
+{
+    if n < 1 << 122 {
+        let (before, last) = quotient_by_inverse(
+            n,
+            EIGHTEEN_DIGITS,
+            EIGHTEEN_DIGITS_INVERSE,
+            58,
+            65,
+        );
+        return (u128::from(before), last);
+    }
+    let (before, last) = quotient_and_rest(n, u128::from(EIGHTEEN_DIGITS));
+    (before, last as u64)
 }
 
 /// The quotient where it is a digit, and the rest. Four comparisons take less time than a division of 128 bits.

@@ -1,4 +1,4 @@
-use Rattle.std.proofs.Common.{◌≡◌, ◌+◌, ◌-◌, ◌*◌, ◌/◌, ◌%◌, ◌^◌, ◌≤◌, ◌++◌, ◌∙◌, ap, arith, length, drop}
+use Rattle.std.proofs.Common.{◌+◌, ◌/◌, ◌%◌, ◌^◌, ◌≤◌, ◌++◌, ◌∙◌, ap, arith, length, drop}
 use Rattle.std.specs.Fmt.{decimal}
 use Rattle.std.proofs.lemmas.Nat.{mod_below}
 use Rattle.byte_unit_math.proofs.WrittenDigits.{length_some, length_split, length-after_one, group_put}
@@ -7,7 +7,7 @@ use Rattle.byte_unit_math.proofs.decimal_digits.put_wide.Goals as goal
 pub write_digits-start-requires-clause-room : goal.write_digits-start-requires-clause-room
 write_digits-start-requires-clause-room c =
     let rest = c.loop-rest.rest in
-    let group : rest - rest / 10 ^ 18 * 10 ^ 18 + 10 ^ 18 ≡ 10 ^ 18 + rest % 10 ^ 18 = omega arith in
+    let group = ap (λ n. 10 ^ 18 + n) c.split_at_eighteen-before.ensures.rest in
     let one = length-after_one (rest % 10 ^ 18) (mod_below rest (10 ^ 18) (omega arith)) in
     let some = length_some (rest / 10 ^ 18) (omega arith) in
     omega (
@@ -24,15 +24,16 @@ loop-rest-preserved c =
     let l = c.loop-rest in
     let behind = drop l.start l.bytes in
     let wide : 10 ^ 18 ≤ l.rest = omega arith in
-    let group : l.rest - l.rest / 10 ^ 18 * 10 ^ 18 + 10 ^ 18 ≡ 10 ^ 18 + l.rest % 10 ^ 18 = omega arith in
+    let group = ap (λ n. 10 ^ 18 + n) c.split_at_eighteen-before.ensures.rest in
+    let before = c.split_at_eighteen-before.ensures.quotient in
     let number = ap (λ n. length (decimal n)) group in
     let one = length-after_one (l.rest % 10 ^ 18) (mod_below l.rest (10 ^ 18) (omega arith)) in
     let groups = length_split 18 l.rest wide (omega arith) in
     record {
       within = omega (arith, number, one);
-      place = omega (arith, number, one, groups);
+      place = omega (arith, number, one, groups, ap (λ n. length (decimal n)) before);
       digits =
-          group_put l.rest l.start c.write_digits-start.result l.bytes c.write_digits-start.new.bytes
+          rw before (group_put l.rest l.start c.write_digits-start.result l.bytes c.write_digits-start.new.bytes
           (decimal c.args.n ++ drop c.args.end c.args.bytes.now) (wide, omega arith)
-          (c.write_digits-start.ensures.digits ∙ ap (λ n. decimal n ++ behind) group) l.invariant.digits;
+          (c.write_digits-start.ensures.digits ∙ ap (λ n. decimal n ++ behind) group) l.invariant.digits);
     }
