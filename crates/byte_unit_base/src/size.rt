@@ -55,6 +55,7 @@ fn natural(size: i128) -> Option<u128>
 }
 
 /// The least number of the kind that holds so many bits.
+#[inline]
 fn holding(in_bits: u128, kind: Kind) -> u128
     ensures holds { in_bits ≤ result * bits_in kind }
     ensures least { result * bits_in kind < in_bits + bits_in kind }
@@ -92,6 +93,7 @@ pub fn signed_with_unit(size: i128, unit: Unit, kind: Kind) -> Option<u128>
 }
 
 /// The least number of bits that no size of the kind holds.
+#[inline]
 fn bit_limit(kind: Kind) -> u128
     ensures { result ≡ (current.size_limit - 1) * bits_in kind + 1 }
 {
@@ -148,6 +150,7 @@ pub fn parse(s: &str, ignore_case: bool, kind: Kind) -> Result<u128, ParseError>
 /// parse_bytes(b"1.", false, Kind::Byte) is Some(Err) of NotNumber('.')
 /// parse_bytes(b"1 KiB\xFF", false, Kind::Byte) is None
 /// ```
+#[inline(always)]
 pub fn parse_bytes(bytes: &[u8], ignore_case: bool, kind: Kind) -> Option<Result<u128, ParseError>>
     ensures reading { IsBytesReading kind ignore_case bytes.now result }
     ensures small { IfSome result (λ answer. IfOk answer (λ n. n < current.size_limit)) }
@@ -189,6 +192,7 @@ fn size_of(number: Decimal, unit: Unit, kind: Kind) -> Result<u128, ParseError>
 }
 
 /// How a text of the kind is read. One of bits is always case sensitive.
+#[inline]
 fn flags_for(kind: Kind, ignore_case: bool) -> Flags
     ensures { result ≡ flags_for kind ignore_case }
 {

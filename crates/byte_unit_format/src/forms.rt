@@ -60,6 +60,7 @@ pub fn append_text<A: Allocator>(
 /// ```text
 /// write_text(1536, Kind::Byte, FormatSpec::ALTERNATE, &mut out)  // 7: "1.5 KiB"
 /// ```
+#[inline(always)]
 pub fn write_text(size: u128, kind: Kind, spec: FormatSpec, out: &mut [u8]) -> usize
     requires { size < current.size_limit }
     ensures written { Writes (IsText current kind size spec) out.old out.new result }
@@ -70,6 +71,7 @@ pub fn write_text(size: u128, kind: Kind, spec: FormatSpec, out: &mut [u8]) -> u
 }
 
 /// The parts of the text of a size.
+#[inline(always)]
 fn text_row(size: u128, kind: Kind, spec: FormatSpec) -> Row<'static>
     requires { size < current.size_limit }
     ensures text { IsText current kind size spec (row_text result) }
@@ -86,6 +88,7 @@ fn text_row(size: u128, kind: Kind, spec: FormatSpec) -> Row<'static>
 }
 
 /// The parts of the alternate form: the number has all its places there.
+#[inline]
 fn form_row(size: u128, kind: Kind, spec: FormatSpec) -> Row<'static>
     requires { size < current.size_limit }
     ensures form { IsSizeForm current kind size spec (row_text result) }
@@ -101,6 +104,7 @@ fn form_row(size: u128, kind: Kind, spec: FormatSpec) -> Row<'static>
 }
 
 /// The places that a size may take.
+#[inline]
 fn places(precision: Option<u16>) -> usize
     ensures { result ≡ places_of precision }
 {

@@ -73,6 +73,7 @@ pub fn write_layout(
 }
 
 /// The parts of a number with its unit.
+#[inline(always)]
 pub(crate) fn layout_row<'a>(
     whole: u128,
     fraction: Fraction<'a>,
@@ -102,6 +103,7 @@ pub(crate) fn layout_row<'a>(
 }
 
 /// How many of the spaces stand before the number.
+#[inline(always)]
 fn before_layout(align: Option<Align>, pad: usize) -> usize
     ensures exact { result ≡ before_layout align pad }
     ensures small { result ≤ pad }
@@ -113,6 +115,7 @@ fn before_layout(align: Option<Align>, pad: usize) -> usize
 }
 
 #[tactic(auto, using(crate::proofs::UnitNames::name_short))]
+#[inline]
 fn name_len(unit: Unit) -> usize
     ensures exact { result ≡ length (name current (shape_of unit)) }
     ensures some { 1 ≤ result }
@@ -122,6 +125,7 @@ fn name_len(unit: Unit) -> usize
 }
 
 /// The spaces between number and unit.
+#[inline(always)]
 fn gap(unit: Unit, sign: Sign) -> usize
     ensures exact { result ≡ gap_of sign (name current (shape_of unit)) }
     ensures small { result + length (name current (shape_of unit)) ≤ 4 }

@@ -56,6 +56,7 @@ pub fn write_plain(size: u128, spec: FormatSpec, out: &mut [u8]) -> usize
 }
 
 /// The parts of the plain form of a number.
+#[inline(always)]
 pub(crate) fn plain_row(size: u128, spec: FormatSpec) -> Row<'static>
     ensures text { row_text result ≡ plain size spec }
     ensures len { result.len ≡ length (plain size spec) }
@@ -78,6 +79,7 @@ pub(crate) fn plain_row(size: u128, spec: FormatSpec) -> Row<'static>
 }
 
 /// How many columns so many digits take with their sign.
+#[inline(always)]
 fn signed_len(digits: usize, sign: Sign) -> usize
     requires { digits ≤ NUMBER_DIGITS }
     ensures exact { result ≡ length (plus_of sign) + digits }
@@ -90,6 +92,7 @@ fn signed_len(digits: usize, sign: Sign) -> usize
 }
 
 /// How many spaces make so many columns as wide as is asked for.
+#[inline(always)]
 pub(crate) fn padding(columns: usize, width: Option<u16>) -> usize
     ensures exact { result ≡ missing width columns }
     ensures small { result + columns ≤ max u16.MAX columns }
@@ -102,6 +105,7 @@ pub(crate) fn padding(columns: usize, width: Option<u16>) -> usize
 }
 
 /// How many of the spaces stand before the number.
+#[inline(always)]
 fn before_plain(align: Option<Align>, pad: usize) -> usize
     ensures exact { result ≡ before_plain align pad }
     ensures small { result ≤ pad }

@@ -3,6 +3,7 @@
 ghost use Rattle.std.specs.Prelude.{◌≡◌, ◌+◌, ◌≤◌, ◌++◌, length, drop, replicate};
 
 /// Puts bytes so that they end before this place, and answers where they begin.
+#[inline(always)]
 pub(crate) fn put(bytes: &[u8], out: &mut [u8], end: usize) -> usize
     requires room { length bytes.now ≤ end }
     requires within { end ≤ length out.old }
@@ -15,6 +16,7 @@ pub(crate) fn put(bytes: &[u8], out: &mut [u8], end: usize) -> usize
 }
 
 /// Puts so many of one byte so that they end before this place, and answers where they begin.
+#[inline(always)]
 pub(crate) fn put_run(byte: u8, count: usize, out: &mut [u8], end: usize) -> usize
     requires room { count ≤ end }
     requires within { end ≤ length out.old }

@@ -46,6 +46,7 @@ pub(crate) struct Row<'a> {
 
 impl Row<'_> {
     /// Writes the row at the front of the bytes, where it fits, and answers how long it is.
+    #[inline(always)]
     pub(crate) fn write(&self, out: &mut [u8]) -> usize
         requires len { self.now.len ≡ length (row_text self.now) }
         requires short { IsShort self.now.fraction }
@@ -102,6 +103,7 @@ impl Row<'_> {
     }
 
     /// Puts the row so that it ends before this place, and answers where it begins.
+    #[inline(always)]
     fn put(&self, out: &mut [u8], end: usize) -> usize
         requires room { length (row_text self.now) ≤ end }
         requires within { end ≤ length out.old }
@@ -121,6 +123,7 @@ impl Row<'_> {
 
 impl Fraction<'_> {
     /// How many columns the point and the digits take.
+    #[inline(always)]
     #[tactic(auto, using(crate::proofs::Rows::fraction_long))]
     pub(crate) fn len(&self) -> usize
         ensures exact { result ≡ length (fraction_of self.now) }
@@ -147,6 +150,7 @@ impl Fraction<'_> {
     }
 
     /// Puts the point and the digits so that they end before this place, and answers where they begin.
+    #[inline(always)]
     fn put(&self, out: &mut [u8], end: usize) -> usize
         requires room { length (fraction_of self.now) ≤ end }
         requires within { end ≤ length out.old }
@@ -179,6 +183,7 @@ fn put_first(e: &Expansion, places: u32, out: &mut [u8], end: usize) -> usize
     put_run(b'.', 1, out, digits)
 }
 
+#[inline(always)]
 fn put_sign(sign: Sign, out: &mut [u8], end: usize) -> usize
     requires room { length (plus_of sign) ≤ end }
     requires within { end ≤ length out.old }
@@ -191,6 +196,7 @@ fn put_sign(sign: Sign, out: &mut [u8], end: usize) -> usize
     }
 }
 
+#[inline(always)]
 fn put_name(unit: Option<Unit>, out: &mut [u8], end: usize) -> usize
     requires room { length (name_of unit) ≤ end }
     requires within { end ≤ length out.old }

@@ -1,5 +1,5 @@
 //! Exact quotients by long division.
-ghost use Rattle.std.specs.Prelude.{◌≡◌, ℕ, ◌+◌, ◌*◌, ◌-◌, ◌^◌, ◌<◌, ◌≤◌, min, IfSome, IfNone};
+ghost use Rattle.std.specs.Prelude.{◌≡◌, ℕ, ◌+◌, ◌*◌, ◌-◌, ◌/◌, ◌%◌, ◌^◌, ◌<◌, ◌≤◌, min, IfSome, IfNone};
 ghost use Rattle.byte_unit_math.specs.Bounds.{one, places_of_decimal, unit_limit, whole_limit};
 ghost use Rattle.byte_unit_math.specs.Steps.{raised};
 ghost use Rattle.byte_unit_math.specs.Exact.{IsExactAt, IsLeastPlaces, IsQuotient, IsFirstExact};
@@ -10,6 +10,9 @@ use crate::dividing::{digit_and_rest, quotient_and_rest};
 use crate::factors::Factors;
 use crate::steps::Steps;
 use crate::tens::power_of_ten;
+
+/// Numbers below this fit 64 bits.
+const SHORT: u128 = 1 << 64;
 
 /// `size / unit`, where that is a decimal of at most so many places, else None. More than 28 places count as 28.
 ///
@@ -91,9 +94,29 @@ fn in_places(count: u128, places: u32) -> Decimal
     requires places { places ≤ places_of_decimal }
     ensures { result ≡ count * 10 ^ (places_of_decimal - places) }
 {
-    if places == 0 {
-        return Decimal::from_digits(count, 0, 0);
-    }
-    let (whole, digits) = quotient_and_rest(count, power_of_ten(places));
+    let (whole, digits) = at_point(count, places);
     Decimal::from_digits(whole, digits, places)
+}
+
+/// The parts before and behind the point of so many units of a place.
+#[inline]
+fn at_point(count: u128, places: u32) -> (u128, u128)
+    requires { places ≤ places_of_decimal }
+    ensures whole { result.0 ≡ count / 10 ^ places }
+    ensures digits { result.1 ≡ count % 10 ^ places }
+{
+    match places {
+        0 => (count, 0),
+        // A division by a constant takes a multiplication.
+        1 if count < SHORT => (u128::from(count as u64 / 10), u128::from(count as u64 % 10)),
+        2 if count < SHORT => (
+            u128::from(count as u64 / 100),
+            u128::from(count as u64 % 100),
+        ),
+        3 if count < SHORT => (
+            u128::from(count as u64 / 1000),
+            u128::from(count as u64 % 1000),
+        ),
+        _ => quotient_and_rest(count, power_of_ten(places)),
+    }
 }

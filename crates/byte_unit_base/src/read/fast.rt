@@ -24,6 +24,7 @@ const WHOLE_DIGITS: usize = 34;
 /// The number and the unit that the bytes of a text state, without the white space at its ends. Where there is no
 /// answer, they may state one or not: so are all texts with a fault, with a character past ASCII, with white space at
 /// an end, with a whole part of more digits than the greatest has, or with `bit` or `bits` in capital letters.
+#[inline(always)]
 pub fn read_fast(bytes: &[u8], flags: Flags) -> Option<(Decimal, Unit)>
     ensures stated { IfSome result
         (λ stated. IsSizeText current flags (trimmed bytes.now) stated.0 (shape_of stated.1)) }
@@ -44,6 +45,7 @@ fn has_visible_ends(bytes: &[u8]) -> bool
 }
 
 /// The number and the unit that all the bytes state.
+#[inline(always)]
 fn read_whole(bytes: &[u8], flags: Flags) -> Option<(Decimal, Unit)>
     ensures { IfSome result (λ stated. IsSizeText current flags bytes.now stated.0 (shape_of stated.1)) }
 {
@@ -54,6 +56,7 @@ fn read_whole(bytes: &[u8], flags: Flags) -> Option<(Decimal, Unit)>
 }
 
 /// The number with which the bytes begin, and where it ends.
+#[inline(always)]
 fn number_at_front(bytes: &[u8]) -> Option<(Decimal, usize)>
     ensures within { IfSome result (λ read. read.1 ≤ length bytes.now) }
     ensures stated { IfSome result (λ read. IsNumberText current (take read.1 bytes.now) read.0) }
@@ -122,6 +125,7 @@ fn spaces_at_front(bytes: &[u8]) -> usize
 }
 
 /// The unit that the whole text spells.
+#[inline(always)]
 fn spelled_unit(bytes: &[u8], flags: Flags) -> Option<Unit>
     ensures { IfSome result (λ unit. Spells current flags bytes.now (shape_of unit)) }
 {

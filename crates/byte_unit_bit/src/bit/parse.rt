@@ -44,6 +44,7 @@ impl Bit {
     /// Bit::parse_bytes(b"1.")           // Some(Err(Value(NotNumber('.'))))
     /// Bit::parse_bytes(b"1 Kib\xFF")    // None
     /// ```
+    #[inline(always)]
     pub fn parse_bytes(bytes: &[u8]) -> Option<Result<Bit, ParseError>>
         ensures { IsBytesReading InBits false bytes.now result }
     {

@@ -60,6 +60,7 @@ impl Bit {
     /// let mut out = [0; 16];
     /// Bit::from_u64(1536).write_text(FormatSpec::ALTERNATE, &mut out)      // 7, and `out` begins with "1.5 Kib"
     /// ```
+    #[inline(always)]
     pub fn write_text(self, spec: FormatSpec, out: &mut [u8]) -> usize
         ensures written { Writes (IsText current InBits self spec) out.old out.new result }
         ensures small { result < text_limit }

@@ -44,6 +44,7 @@ impl Byte {
     /// Byte::parse_bytes(b"1.", false)           // Some(Err(Value(NotNumber('.'))))
     /// Byte::parse_bytes(b"1 KiB\xFF", false)    // None
     /// ```
+    #[inline(always)]
     pub fn parse_bytes(bytes: &[u8], ignore_case: bool) -> Option<Result<Byte, ParseError>>
         ensures { IsBytesReading InBytes ignore_case bytes.now result }
     {

@@ -60,6 +60,7 @@ impl Byte {
     /// let mut out = [0; 16];
     /// Byte::from_u64(1536).write_text(FormatSpec::ALTERNATE, &mut out)      // 7, and `out` begins with "1.5 KiB"
     /// ```
+    #[inline(always)]
     pub fn write_text(self, spec: FormatSpec, out: &mut [u8]) -> usize
         ensures written { Writes (IsText current InBytes self spec) out.old out.new result }
         ensures small { result < text_limit }
