@@ -88,7 +88,7 @@ fn text_row(size: u128, kind: Kind, spec: FormatSpec) -> Row<'static>
 }
 
 /// The parts of the alternate form: the number has all its places there.
-#[inline]
+#[inline(always)]
 fn form_row(size: u128, kind: Kind, spec: FormatSpec) -> Row<'static>
     requires { size < current.size_limit }
     ensures form { IsSizeForm current kind size spec (row_text result) }
@@ -104,7 +104,7 @@ fn form_row(size: u128, kind: Kind, spec: FormatSpec) -> Row<'static>
 }
 
 /// The places that a size may take.
-#[inline]
+#[inline(always)]
 fn places(precision: Option<u16>) -> usize
     ensures { result ≡ places_of precision }
 {

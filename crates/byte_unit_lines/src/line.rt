@@ -75,6 +75,7 @@ fn answer_bits<A: Allocator>(line: &[u8], out: &mut Vec<u8, A>) -> Result<(), Al
 }
 
 /// Puts the text of a size at this place, and answers where it ends.
+#[inline(always)]
 fn put_bytes(size: Byte, spec: FormatSpec, out: &mut [u8], at: usize) -> usize
     requires narrow { spec.width ≡ None }
     requires room { at + narrow_text ≤ length out.old }
@@ -85,6 +86,7 @@ fn put_bytes(size: Byte, spec: FormatSpec, out: &mut [u8], at: usize) -> usize
 }
 
 /// Puts the text of a size at this place, and answers where it ends.
+#[inline(always)]
 fn put_bits(size: Bit, spec: FormatSpec, out: &mut [u8], at: usize) -> usize
     requires narrow { spec.width ≡ None }
     requires room { at + narrow_text ≤ length out.old }
@@ -95,6 +97,7 @@ fn put_bits(size: Bit, spec: FormatSpec, out: &mut [u8], at: usize) -> usize
 }
 
 /// Puts bytes at this place, and answers where they end.
+#[inline(always)]
 fn put(bytes: &[u8], out: &mut [u8], at: usize) -> usize
     requires { at + length bytes.now ≤ length out.old }
     ensures end { result ≡ at + length bytes.now }
