@@ -116,7 +116,7 @@ pub fn decimal_len(n: u128) -> usize
 /// ```text
 /// put_decimal(1536, bytes, 6)    2, and the bytes from there on begin with "1536"
 /// ```
-#[inline]
+#[inline(always)]
 pub fn put_decimal(n: u128, bytes: &mut [u8], end: usize) -> usize
     requires room { length (decimal n) ≤ end }
     requires within { end ≤ length bytes.old }
@@ -138,6 +138,7 @@ pub fn put_decimal(n: u128, bytes: &mut [u8], end: usize) -> usize
 /// ```text
 /// put_fraction(5, 2, bytes, 6)    3, and the bytes from there on begin with ".05"
 /// ```
+#[inline(always)]
 pub fn put_fraction(digits: u128, places: u32, bytes: &mut [u8], end: usize) -> usize
     requires few { places ≤ places_of_decimal }
     requires below { digits < 10 ^ places }

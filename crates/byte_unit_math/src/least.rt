@@ -93,6 +93,7 @@ fn rounded_up(digits: u128, places: u32, unit_size: u128, steps: &mut Steps) -> 
 }
 
 /// The first and the last 14 digits of a fraction, of which so many digits are given.
+#[inline(always)]
 fn halves(digits: u128, places: u32) -> (u64, u64)
     requires digits { digits < 10 ^ places }
     requires places { places ≤ places_of_decimal }
@@ -108,6 +109,7 @@ fn halves(digits: u128, places: u32) -> (u64, u64)
 }
 
 /// The product of half the digits and the unit's size, and what the digits behind came to, rounded up.
+#[inline(always)]
 fn over_half(digits: u64, unit_size: u128, behind: u128, steps: &mut Steps) -> u128
     requires digits { digits < half_limit }
     requires small_unit { unit_size ≤ unit_limit }
@@ -121,6 +123,7 @@ fn over_half(digits: u64, unit_size: u128, behind: u128, steps: &mut Steps) -> u
 }
 
 /// The same for one group of digits.
+#[inline(always)]
 fn over_group(digits: u64, unit_size: u128, behind: u128, steps: &mut Steps) -> u128
     requires digits { digits < group_limit }
     requires small_unit { unit_size ≤ unit_limit }
