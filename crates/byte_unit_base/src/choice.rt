@@ -37,6 +37,7 @@ const FEW_PLACES: u32 = 5;
 /// choose_unit(999, Family::Bytes, 8, 3, steps)       None, in 2 steps
 /// choose_unit(437_500, Family::All, 8, 3, steps)     3.5 Mbit, in 11 steps
 /// ```
+#[inline(always)]
 pub fn choose_unit(
     size: u128,
     family: Family,
@@ -69,6 +70,7 @@ pub fn choose_unit(
 /// So many bits in the unit of a row, in which they are exact within so many places by their factors.
 ///
 /// It takes one tick for each place of the number.
+#[inline(always)]
 fn number_in(row: &Row, in_bits: u128, factors: Factors, most: u32, steps: &mut Steps) -> Decimal
     requires row { IsMultiple row.now }
     requires size { (1 ≤ in_bits) × (in_bits ≤ 8 * current.size_limit) }
@@ -90,6 +92,7 @@ fn number_in(row: &Row, in_bits: u128, factors: Factors, most: u32, steps: &mut 
 
 /// The largest unit of the family that is not above the size in bits and has no more twos and fives
 /// than these, as its row.
+#[inline(always)]
 fn first_by_powers(family: Family, in_bits: u128, twos: u32, fives: u32) -> Option<&'static Row>
     ensures found { IfSome result (λ row.
         IsLargest (HasPowers current family in_bits twos fives) (shape_of row.now.unit)) }
@@ -107,6 +110,7 @@ fn first_by_powers(family: Family, in_bits: u128, twos: u32, fives: u32) -> Opti
 
 /// Whether the unit of a row is not above the size in bits, and has no more twos and fives than these.
 /// All three are compared at once: a jump for each takes longer.
+#[inline(always)]
 fn has_powers(row: Row, in_bits: u128, most_twos: u32, most_fives: u32) -> bool
     ensures { IsTrue result ↔ ((row.bits ≤ in_bits) × (row.twos ≤ most_twos) × (row.fives ≤ most_fives)) }
 {

@@ -27,6 +27,7 @@ use byte_unit_math::{Decimal, Steps};
 /// recoverable_unit(437_500, Kind::Byte, true, 3, steps)       3.5 Mbit
 /// recoverable_unit(500, Kind::Byte, false, 3, steps)          500 B
 /// ```
+#[inline(always)]
 pub fn recoverable_unit(
     size: u128,
     kind: Kind,
@@ -83,6 +84,7 @@ pub fn appropriate_unit(size: u128, kind: Kind, unit_type: UnitType) -> Unit
 }
 
 /// The multiples that a size of the kind may stand in.
+#[inline(always)]
 fn family_for(kind: Kind, allow: bool) -> Family
     ensures { result ≡ family_for kind allow }
 {

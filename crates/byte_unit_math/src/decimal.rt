@@ -116,7 +116,7 @@ impl Decimal {
     /// ```text
     /// from_digits(50, 84, 3)    50.084
     /// ```
-    #[inline]
+    #[inline(always)]
     pub fn from_digits(whole: u128, digits: u128, places: u32) -> Decimal
         requires whole { whole < whole_limit }
         requires places { places ≤ places_of_decimal }
@@ -171,7 +171,7 @@ impl Decimal {
 }
 
 /// The same digits after a point without the zeros at their end, and how many are left.
-#[inline]
+#[inline(always)]
 fn without_zeros(digits: u128, places: u32) -> (u128, u32)
     requires { digits < 10 ^ places }
     ensures { IsShortened digits places result.0 result.1 }

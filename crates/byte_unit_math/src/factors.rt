@@ -18,6 +18,7 @@ pub struct Factors {
 
 impl Factors {
     /// The number.
+    #[inline(always)]
     pub(crate) fn product(self) -> u128
         requires some { 1 ≤ self.left }
         requires small { value_of self < whole_limit }
@@ -58,6 +59,7 @@ pub fn two_five(size: u128, steps: &mut Steps) -> (u32, u32)
 /// ```text
 /// factors_of(7_000, &mut steps)    7 is left, with 3 twos and 3 fives, in 8 ticks
 /// ```
+#[inline(always)]
 pub fn factors_of(size: u128, steps: &mut Steps) -> Factors
     requires some { 1 ≤ size }
     requires small { size < size_limit }

@@ -63,6 +63,7 @@ pub fn exact_quotient(size: u128, unit: u128, places: u32, steps: &mut Steps) ->
 /// let twelve = Factors { left: 3, twos: 2, fives: 0 };
 /// factored_quotient(twelve, 3, 0, 1, &mut steps)    1.5, in one tick
 /// ```
+#[inline(always)]
 pub fn factored_quotient(
     number: Factors,
     twos: u32,
@@ -89,6 +90,7 @@ pub fn factored_quotient(
 }
 
 /// So many units of a place.
+#[inline(always)]
 fn in_places(count: u128, places: u32) -> Decimal
     requires small { count < whole_limit }
     requires places { places ≤ places_of_decimal }
@@ -99,7 +101,7 @@ fn in_places(count: u128, places: u32) -> Decimal
 }
 
 /// The parts before and behind the point of so many units of a place.
-#[inline]
+#[inline(always)]
 fn at_point(count: u128, places: u32) -> (u128, u128)
     requires { places ≤ places_of_decimal }
     ensures whole { result.0 ≡ count / 10 ^ places }

@@ -31,6 +31,7 @@ const PREFIXES: usize = 9;
 impl Family {
     /// Its units from the largest, but for those whose prefix is too large for so many bits: a unit of
     /// the n-th prefix has no fewer than 10 n binary digits.
+    #[inline(always)]
     pub(crate) fn multiples_within(self, in_bits: u128) -> &'static [Row]
         ensures { ListsUnits self in_bits result.now }
     {
@@ -41,6 +42,7 @@ impl Family {
     }
 
     /// Its units from the largest.
+    #[inline(always)]
     fn multiples(self) -> &'static [Row]
         ensures { map row_shape result.now ≡ map row_of (falling_from self known_prefixes) }
     {
