@@ -1,4 +1,4 @@
-//! Exact quotients by long division.
+//! Exact quotients, by long division and by factors.
 ghost use Rattle.std.specs.Prelude.{◌≡◌, ℕ, ◌+◌, ◌*◌, ◌-◌, ◌/◌, ◌%◌, ◌^◌, ◌<◌, ◌≤◌, min, IfSome, IfNone};
 ghost use Rattle.byte_unit_math.specs.Bounds.{one, places_of_decimal, unit_limit, whole_limit};
 ghost use Rattle.byte_unit_math.specs.Steps.{raised};
