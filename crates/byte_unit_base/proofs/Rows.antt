@@ -1,5 +1,5 @@
 -- The rows of a family that a size may reach, and a search along them.
-use Rattle.std.proofs.Common.{◌≡◌, ℕ, ◌+◌, ◌-◌, ◌*◌, ◌/◌, ◌^◌, ◌<◌, ◌≤◌, ⊎_elim, suc, Bool, true, false, List, [], ◌∷◌, length, map}
+use Rattle.std.proofs.Common.{◌≡◌, ℕ, ◌+◌, ◌-◌, ◌*◌, ◌/◌, ◌^◌, ◌<◌, ◌≤◌, ⊎_elim, suc, Bool, true, false, List, [], ◌∷◌, length, map, max}
 use Rattle.std.proofs.Common.{drop, get_or}
 use Rattle.std.proofs.Common.{◌&&◌, leb, arith, sym, ap, ◌∙◌, subst, refl}
 use Rattle.std.proofs.Math.Nat.{pow-le-pow_right}
@@ -8,7 +8,7 @@ use Rattle.std.proofs.lemmas.Bool.{and_parts, cases_lt, leb-true}
 use Rattle.std.proofs.lemmas.Nat.{leading_top}
 use Rattle.std.specs.Int.{w128, leading_zeros}
 use Rattle.byte_unit_math.specs.Bounds.{unit_limit}
-use Rattle.byte_unit_base.specs.Shape.{Shape, bits, twos, fives}
+use Rattle.byte_unit_base.specs.Shape.{Shape, shape, bits, twos, fives}
 use Rattle.byte_unit_base.specs.Edition.{current}
 use Rattle.byte_unit_base.specs.Units.{shape_of}
 use Rattle.byte_unit_base.specs.Family.{HasPrefix, InFamily, IsOfType}
@@ -97,18 +97,19 @@ units_of_rows (r ∷ rs) (x ∷ xs) e =
     let unit : unit_in r ≡ x = ap (λ row. row.unit) first in
     ap (λ s. s ∷ map unit_in rs) unit ∙ ap (λ l. x ∷ l) (units_of_rows rs xs rest)
 
-pub listed_units : (family : Family) (in_bits : ℕ) (rows : List Row) (h : ListsUnits family in_bits rows)
+pub listed_units : (family : Family) (in_bits first : ℕ) (rows : List Row) (h : ListsUnits family in_bits first rows)
     → map unit_in rows ≡ falling_from family h.prefixes
-listed_units family in_bits rows h = units_of_rows rows (falling_from family h.prefixes) h.rows_are
+listed_units family in_bits first rows h = units_of_rows rows (falling_from family h.prefixes) h.rows_are
 
 -- at the start no unit with the property is left out
-pub search_start : (Has : Shape → Type 0) (family : Family) (in_bits : ℕ) (rows : List Row) → ListsUnits family in_bits rows
-    → ((unit : Shape) → Has unit → InFamily current family unit × (bits unit ≤ in_bits)) → Remain Has (drop 0 (map unit_in rows))
-search_start Has family in_bits rows h within = λ unit has.
+pub search_start : (Has : Shape → Type 0) (family : Family) (in_bits first : ℕ) (rows : List Row) → ListsUnits family in_bits first rows
+    → ((unit : Shape) → Has unit → InFamily current family unit × (bits unit ≤ in_bits) × (unit.power ≤ first))
+    → Remain Has (drop 0 (map unit_in rows))
+search_start Has family in_bits first rows h within = λ unit has.
     let m = within unit has in
     let P : List Shape → Type 0 = λ l. IsIn unit l in
-    let known = h.within unit m.0.prefix m.1 in
-    subst P (sym (listed_units family in_bits rows h)) (in_falling family h.prefixes unit m.0.kind m.0.prefix.some known)
+    let known = h.within unit m.0.prefix m.1 m.2 in
+    subst P (sym (listed_units family in_bits _ rows h)) (in_falling family h.prefixes unit m.0.kind m.0.prefix.some known)
 
 -- what a row says of its unit
 pub record IsRow (family : Family) (row : Row) : Type 0 where
@@ -117,9 +118,9 @@ pub record IsRow (family : Family) (row : Row) : Type 0 where
   pub twos_are : row.twos ≡ twos (unit_in row)
   pub fives_are : row.fives ≡ fives (unit_in row)
 
-pub row_there : {family : Family} {in_bits : ℕ} {rows : List Row} (i : ℕ) (d : Row) → ListsUnits family in_bits rows
+pub row_there : {family : Family} {in_bits first : ℕ} {rows : List Row} (i : ℕ) (d : Row) → ListsUnits family in_bits first rows
     → i < length rows → IsRow family (get_or rows i d)
-row_there {family} {in_bits} {rows} i d h within =
+row_there {family} {in_bits} {first} {rows} i d h within =
     let units = falling_from family h.prefixes in
     let row = get_or rows i d in
     let lengths : length rows ≡ length units =
@@ -149,6 +150,15 @@ row_is {family} {row} is =
     let fives_are = is.fives_are in
     cc
 
+few_prefixes : (power a b : ℕ) (binary bit : Bool) → twos (shape power binary bit) ≤ a → fives (shape power binary bit) ≤ b
+    → power ≤ max (a / 10) (b / 3)
+few_prefixes power a b true bit few_twos few_fives = omega (arith, few_twos)
+few_prefixes power a b false bit few_twos few_fives = omega (arith, few_fives)
+
+-- a unit with few powers has one of the first prefixes
+pub power_of_powers : (unit : Shape) (a b : ℕ) → twos unit ≤ a → fives unit ≤ b → unit.power ≤ max (a / 10) (b / 3)
+power_of_powers unit a b = few_prefixes unit.power a b unit.binary unit.bit
+
 -- and its bits are its powers
 pub row_multiple : {family : Family} {row : Row} → IsRow family row → IsMultiple row
 row_multiple {family} {row} is =
@@ -163,13 +173,13 @@ row_multiple {family} {row} is =
     }
 
 -- the search along the units of rows
-pub unit_found : {family : Family} {in_bits : ℕ} {rows : List Row} (Has : Shape → Type 0) (i : ℕ) (d : Row)
-    → ListsUnits family in_bits rows → Remain Has (drop i (map unit_in rows)) → i < length rows → Has (unit_in (get_or rows i d))
+pub unit_found : {family : Family} {in_bits first : ℕ} {rows : List Row} (Has : Shape → Type 0) (i : ℕ) (d : Row)
+    → ListsUnits family in_bits first rows → Remain Has (drop i (map unit_in rows)) → i < length rows → Has (unit_in (get_or rows i d))
     → IsLargest Has (unit_in (get_or rows i d))
-unit_found {family} {in_bits} {rows} Has i d h remain within has =
+unit_found {family} {in_bits} {first} {rows} Has i d h remain within has =
     let unit = unit_in (get_or rows i d) in
     let P : List Shape → Type 0 = λ l. falls unit_limit l ≡ true in
-    let fall = subst P (sym (listed_units family in_bits rows h)) (current_falls family h.prefixes h.few) in
+    let fall = subst P (sym (listed_units family in_bits _ rows h)) (current_falls family h.prefixes h.few) in
     let there : i < length (map unit_in rows) = omega (arith, length-map rows unit_in, within) in
     largest_found Has (map unit_in rows) i unit fall remain (there, get_or-map unit_in rows i d unit within) has
 

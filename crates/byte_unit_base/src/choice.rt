@@ -13,7 +13,7 @@ ghost use Rattle.byte_unit_base.specs.Choice.{IsLargest, NoneHas, States, IsChos
 ghost use Rattle.byte_unit_base.specs.Multiples.{HasPowers, IsMultiple, row_of, row_shape};
 
 use crate::unit::Unit;
-use crate::unit::family::{Family, Row};
+use crate::unit::family::{Family, PREFIXES, Row};
 use crate::unit::unit_type::UnitType;
 use byte_unit_math::{
     DECIMAL_PLACES, Decimal, Factors, Steps, exact_quotient, factored_quotient, factors_of,
@@ -100,7 +100,9 @@ fn first_by_powers(family: Family, in_bits: u128, twos: u32, fives: u32) -> Opti
     ensures multiple { IfSome result (λ row. IsMultiple row.now) }
     ensures none { IfNone result (NoneHas (HasPowers current family in_bits twos fives)) }
 {
-    for row in family.multiples_within(in_bits) {
+    // A unit of the n-th prefix has 10 n twos or 3 n fives, so that few prefixes are left for most sizes.
+    let first = (twos / 10).max(fives / 3);
+    for row in family.multiples_within(in_bits, first) {
         if has_powers(*row, in_bits, twos, fives) {
             return Some(row);
         }
@@ -143,7 +145,7 @@ fn first_suited(in_bits: u128, family: Family, unit_type: UnitType) -> Option<Un
     ensures found { IfSome result (λ unit. IsLargest (Suits current family unit_type in_bits) (shape_of unit)) }
     ensures none { IfNone result (NoneHas (Suits current family unit_type in_bits)) }
 {
-    for row in family.multiples_within(in_bits) {
+    for row in family.multiples_within(in_bits, PREFIXES as u32) {
         if suits(*row, unit_type, in_bits) {
             return Some(row.unit);
         }

@@ -26,17 +26,17 @@ pub(crate) struct Row {
 }
 
 /// The prefixes. A family has as many units of each.
-const PREFIXES: usize = 9;
+pub(crate) const PREFIXES: usize = 9;
 
 impl Family {
-    /// Its units from the largest, but for those whose prefix is too large for so many bits: a unit of
-    /// the n-th prefix has no fewer than 10 n binary digits.
+    /// Its units of the first prefixes, so many, from the largest, but for those whose prefix is too large for so many
+    /// bits: a unit of the n-th prefix has no fewer than 10 n binary digits.
     #[inline(always)]
-    pub(crate) fn multiples_within(self, in_bits: u128) -> &'static [Row]
-        ensures { ListsUnits self in_bits result.now }
+    pub(crate) fn multiples_within(self, in_bits: u128, first: u32) -> &'static [Row]
+        ensures { ListsUnits self in_bits first result.now }
     {
         let digits = u128::BITS - in_bits.leading_zeros();
-        let prefixes = PREFIXES.min((digits / 10) as usize);
+        let prefixes = PREFIXES.min((digits / 10).min(first) as usize);
         let units = self.multiples();
         &units[units.len() / PREFIXES * (PREFIXES - prefixes)..]
     }

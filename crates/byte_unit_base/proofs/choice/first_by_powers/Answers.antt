@@ -1,6 +1,7 @@
+use Rattle.std.proofs.Common.{arith}
 use Rattle.byte_unit_base.specs.Edition.{current}
 use Rattle.byte_unit_base.specs.Multiples.{HasPowers}
-use Rattle.byte_unit_base.proofs.Rows.{no_row, search_start, row_is, row_multiple, row_there, row_powers, powers_in_row}
+use Rattle.byte_unit_base.proofs.Rows.{no_row, search_start, power_of_powers, row_is, row_multiple, row_there, row_powers, powers_in_row}
 use Rattle.byte_unit_base.proofs.Rows.{unit_found, unit_passed, none_found, none_true}
 use Rattle.byte_unit_base.proofs.choice.first_by_powers.Goals as goal
 
@@ -8,7 +9,8 @@ pub loop-row-init : goal.loop-row-init
 loop-row-init c =
     let few = HasPowers current c.args.family c.args.in_bits c.args.twos c.args.fives in
     let listed = c.multiples_within-row-items.ensures in
-    search_start few c.args.family c.args.in_bits c.multiples_within-row-items.result.now listed (λ unit h. (h.member, h.not_above))
+    search_start few c.args.family c.args.in_bits _ c.multiples_within-row-items.result.now listed
+    (λ unit h. (h.member, h.not_above, omega (arith, power_of_powers unit c.args.twos c.args.fives h.few_twos h.few_fives, c.max-first.ensures)))
 
 pub loop-row-preserved : goal.loop-row-preserved
 loop-row-preserved c =

@@ -1,3 +1,4 @@
+use Rattle.std.proofs.Common.{arith}
 use Rattle.byte_unit_base.specs.Edition.{current}
 use Rattle.byte_unit_base.specs.Choice.{Suits}
 use Rattle.byte_unit_base.proofs.Rows.{no_row, search_start, row_there, row_suits, suits_in_row}
@@ -8,7 +9,8 @@ pub loop-row-init : goal.loop-row-init
 loop-row-init c =
     let fit = Suits current c.args.family c.args.unit_type c.args.in_bits in
     let listed = c.multiples_within-row-items.ensures in
-    search_start fit c.args.family c.args.in_bits c.multiples_within-row-items.result.now listed (λ unit h. (h.member, h.not_above))
+    search_start fit c.args.family c.args.in_bits _ c.multiples_within-row-items.result.now listed
+    (λ unit h. (h.member, h.not_above, omega (arith, h.member.prefix.known)))
 
 pub loop-row-preserved : goal.loop-row-preserved
 loop-row-preserved c =

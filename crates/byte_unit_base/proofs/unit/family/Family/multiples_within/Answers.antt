@@ -18,7 +18,7 @@ returns c =
       prefixes = prefixes;
       few = omega (arith, c.min-prefixes.ensures);
       rows_are = ap (map row_shape) whole ∙ behind;
-      within = λ unit prefix not_above.
+      within = λ unit prefix not_above among.
           let digits = prefix_within c.args.in_bits (128 - leading_zeros w128 c.args.in_bits) unit small refl prefix not_above in
-          omega (arith, digits, c.min-prefixes.ensures, prefix.known);
+          omega (arith, digits, among, c.min.ensures, c.min-prefixes.ensures, prefix.known);
     }
