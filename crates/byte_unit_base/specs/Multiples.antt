@@ -46,13 +46,14 @@ pub record IsMultiple (row : Row) : Type 0 where
   pub large : 2 ^ 9 ≤ row.bits
   pub small : row.bits ≤ unit_limit
 
--- rows that have every unit of the family, from the largest, whose bits are not above these and whose prefix is among the
--- first, so many
+-- rows that have every unit of the family, from the largest, whose bits are not above these and whose prefix is one of so
+-- many first ones
 pub record ListsUnits (family : Family) (in_bits first : ℕ) (rows : List Row) : Type 0 where
   pub prefixes : ℕ
   pub few : prefixes ≤ known_prefixes
   pub rows_are : map row_shape rows ≡ map row_of (falling_from family prefixes)
-  pub within : (unit : Shape) → HasPrefix current unit → bits unit ≤ in_bits → unit.power ≤ first → unit.power ≤ prefixes
+  pub within : (unit : Shape) → HasPrefix current unit → bits unit ≤ in_bits → unit.power ≤ first
+      → unit.power ≤ prefixes
 
 -- a unit of the family, not above the size, with no more twos and fives than these
 pub record HasPowers (edition : Edition) (family : Family) (in_bits most_twos most_fives : ℕ) (unit : Shape)

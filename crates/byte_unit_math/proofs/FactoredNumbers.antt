@@ -1,5 +1,5 @@
 -- Numbers that are given by their factors.
-use Rattle.std.proofs.Common.{◌≡◌, ℕ, ◌+◌, ◌-◌, ◌*◌, ◌^◌, ◌<◌, ◌≤◌, ⊎_elim, arith, ap}
+use Rattle.std.proofs.Common.{◌≡◌, ℕ, ◌+◌, ◌-◌, ◌*◌, ◌^◌, ◌%◌, ◌<◌, ◌≤◌, ⊎_elim, arith, ap}
 use Rattle.std.proofs.Math.Nat.{one-le-pow, pow-le-pow_right, mul-le-mul_left, mul-le-mul_right, lt_of_mul-lt-mul_right}
 use Rattle.std.proofs.lemmas.Bool.{cases_lt}
 use Rattle.byte_unit_math.specs.Bounds.{one, places_of_decimal, whole_limit}
@@ -8,14 +8,16 @@ use Rattle.byte_unit_math.proofs.Scales.{power_parts}
 -- a power below the limit has few factors
 few_in_power : (base most exponent : ℕ) → 1 ≤ base → base ^ exponent < whole_limit → whole_limit ≤ base ^ (most + 1) → exponent ≤ most
 few_in_power base most exponent some small large = ⊎_elim
-    (λ more. let high = pow-le-pow_right {n = base} some {i = most + 1} {j = exponent} (omega (arith, more)) in absurd (omega (arith, high, small, large)))
+    (λ more.
+    let high = pow-le-pow_right {n = base} some {i = most + 1} {j = exponent} (omega (arith, more)) in
+    absurd (omega (arith, high, small, large)))
     (λ few. few) (cases_lt most exponent)
 
 -- a number below the limit, by its factors
 pub record FewFactors (left twos fives : ℕ) : Type 0 where
   pub few_twos : twos ≤ 111
   pub few_fives : fives ≤ 48
-  pub shifted : left * 2 ^ twos < whole_limit
+  pub unshifted : left * 2 ^ twos % 2 ^ 128 ≡ left * 2 ^ twos
 
 pub few_factors : (left twos fives : ℕ) → 1 ≤ left → left * (2 ^ twos * 5 ^ fives) < whole_limit → FewFactors left twos fives
 few_factors left twos fives some small =
@@ -28,7 +30,7 @@ few_factors left twos fives some small =
     record {
       few_twos = few_in_power 2 111 twos (omega arith) (omega (arith, powers, without_fives, small)) (omega arith);
       few_fives = few_in_power 5 48 fives (omega arith) (omega (arith, powers, without_twos, small)) (omega arith);
-      shifted = omega (arith, left_twos, small);
+      unshifted = omega (arith, left_twos, small);
     }
 
 -- a number in units of a place, as a count of another unit

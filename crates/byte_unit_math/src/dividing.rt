@@ -26,8 +26,8 @@ pub(crate) fn quotient_and_rest(dividend: u128, divisor: u128) -> (u128, u128)
     }
 }
 
-/// The quotient and the rest by a constant, with no division: the leading 64 bits of the dividend times the whole part of
-/// 2^(cut + shift) / divisor give an estimate, which is the quotient or one below it.
+/// The quotient and the rest by a constant, with no division: the leading 64 bits of the dividend times the whole part
+/// of 2^(cut + shift) / divisor give an estimate, which is the quotient or one below it.
 #[inline(always)]
 pub(crate) fn quotient_by_inverse(
     dividend: u128,

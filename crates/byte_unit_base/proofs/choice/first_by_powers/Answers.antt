@@ -10,7 +10,9 @@ loop-row-init c =
     let few = HasPowers current c.args.family c.args.in_bits c.args.twos c.args.fives in
     let listed = c.multiples_within-row-items.ensures in
     search_start few c.args.family c.args.in_bits _ c.multiples_within-row-items.result.now listed
-    (λ unit h. (h.member, h.not_above, omega (arith, power_of_powers unit c.args.twos c.args.fives h.few_twos h.few_fives, c.max-first.ensures)))
+    (λ unit h.
+    let among = power_of_powers unit c.args.twos c.args.fives h.few_twos h.few_fives in
+    (h.member, h.not_above, omega (arith, among, c.max-first.ensures)))
 
 pub loop-row-preserved : goal.loop-row-preserved
 loop-row-preserved c =

@@ -17,8 +17,9 @@ pub returns-then-places-gt-FEW_PLACES-clause-ticks : goal.returns-then-places-gt
 returns-then-places-gt-FEW_PLACES-clause-ticks c =
     let most = min c.args.most places_of_decimal in
     let digits = c.exact_quotient.ensures.ticks in
-    let quotient =
-    subst (λ answer. IfSome answer (IsQuotient c.args.in_bits c.args.row.now.bits most)) c.unwrap.ensures c.exact_quotient.ensures.quotient in
+    let unit = c.args.row.now.bits in
+    let found = c.exact_quotient.ensures.quotient in
+    let quotient = subst (λ answer. IfSome answer (IsQuotient c.args.in_bits unit most)) c.unwrap.ensures found in
     let least = places_of_quotient c.args.in_bits c.args.row.now.bits most digits.0 c.unwrap.result
     (record { some = omega (arith, c.requires.row.large); room = omega arith; quotient = quotient; first = digits.1 }) in
     (digits.0, least, digits.2)

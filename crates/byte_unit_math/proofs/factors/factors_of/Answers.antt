@@ -21,5 +21,6 @@ pub returns-clause-few : goal.returns-clause-few
 returns-clause-few c =
     let shifted = IsOdd-shifted c.args.size c.requires.some (omega arith) in
     let fives = c.without_fives-left.ensures in
-    let all : AllFives (c.args.size / 2 ^ trailing_zeros w128 c.args.size) c.without_fives-left.result.1 = (c.without_fives-left.result.0, fives.product, fives.none) in
+    let rest = c.without_fives-left.result in
+    let all : AllFives (c.args.size / 2 ^ trailing_zeros w128 c.args.size) rest.1 = (rest.0, fives.product, fives.none) in
     omega (arith, two_five_few _ _ _ c.requires.small (two_five_is _ _ _ shifted all))
