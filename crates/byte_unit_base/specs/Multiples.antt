@@ -46,8 +46,8 @@ pub record IsMultiple (row : Row) : Type 0 where
   pub large : 2 ^ 9 ≤ row.bits
   pub small : row.bits ≤ unit_limit
 
--- rows that have every unit of the family, from the largest, whose bits are not above these and whose prefix is one of so
--- many first ones
+-- rows that have every unit of the family, from the largest, whose bits are not above these and whose prefix is one of
+-- so many first ones
 pub record ListsUnits (family : Family) (in_bits first : ℕ) (rows : List Row) : Type 0 where
   pub prefixes : ℕ
   pub few : prefixes ≤ known_prefixes
