@@ -1,13 +1,15 @@
 -- The reader of bytes: the digits that it has read, the number that they make, and the text of a number and a unit.
 use Rattle.std.proofs.Common.{◌≡◌, ℕ, ◌+◌, ◌-◌, ◌*◌, ◌^◌, ◌<◌, ◌≤◌, true, inl, inr, List, [], ◌∷◌, ◌++◌, Option, Some, None, IfSome}
-use Rattle.std.proofs.Common.{length, take, drop, get_or, refl, sym, ap, subst, ◌∙◌, arith, pow-add}
-use Rattle.std.proofs.Math.Nat.{pow-le-pow_right}
+use Rattle.std.proofs.Common.{◌%◌, length, take, drop, get_or, refl, sym, ap, subst, ◌∙◌, arith, slice_range, take_all}
+use Rattle.std.proofs.Math.Nat.{mod-eq_of_lt, pow-le-pow_right}
 use Rattle.std.proofs.Math.Seq.{take-add}
 use Rattle.std.specs.Option.{option_map}
-use Rattle.std.specs.Char.{digit_value, is_ascii_digit}
-use Rattle.std.specs.Str.Parse.{digits_value}
-use Rattle.std.proofs.lemmas.Bool.Decides.{nat_tests}
-use Rattle.std.proofs.lemmas.Int.Digits.{digits_more, digits_value_more, digits_value-lt}
+use Rattle.std.specs.Float.Numeral.{digits_len}
+use Rattle.std.specs.Str.Parse.{AllDigits, digits_value}
+use Rattle.std.proofs.lemmas.Int.Digits.{digits_value-lt}
+use Rattle.std.proofs.lemmas.Str.Parse.{digit_from_value}
+use Rattle.core.proofs.dec2flt.DigitsLemmas.{is_digit}
+use Rattle.core.proofs.dec2flt.Rows.{AllDigits-digits_len}
 use Rattle.std.proofs.lemmas.List.{length-take-le, take_more}
 use Rattle.byte_unit_math.specs.Bounds.{places_of_decimal, whole_limit}
 use Rattle.byte_unit_base.specs.Edition.{current}
@@ -30,26 +32,46 @@ use Rattle.byte_unit_base.proofs.UnitReached.{Reached, Spells-reached, prefix_fo
 pub no_digits : (bytes : List ℕ) → AreDigits bytes 0 0
 no_digits bytes = record { within = omega arith; digits = tt; value_is = refl }
 
-pub digit_of : (c : ℕ) → is_ascii_digit c ≡ true → digit_value c + 48 ≡ c
-digit_of c e = grind (arith, nat_tests)
+-- digits alone are a run from end to end
+pub digits_to_the_end : (ds : List ℕ) → AllDigits 10 ds → digits_len ds ≡ length ds
+digits_to_the_end [] digits = refl
+digits_to_the_end (d ∷ ds) digits =
+    let digit = digit_from_value d digits.0 in
+    rw ((is_digit d digit.0 digit.1).0) (omega (arith, digits_to_the_end ds digits.1))
 
-pub digit_below : (c : ℕ) → is_ascii_digit c ≡ true → digit_value c < 10
-digit_below c e = grind (arith, nat_tests)
+pub digits_of_run : (bytes : List ℕ) (count : ℕ) → count ≡ 0 + digits_len (drop 0 bytes) → AllDigits 10 (take count bytes)
+digits_of_run bytes count is = AllDigits-digits_len bytes count (omega (arith, is))
 
-pub digit_small : (c digit : ℕ) → is_ascii_digit c ≡ true → digit ≡ c - 48 → digit < 10
-digit_small c digit test is = omega (arith, digit_of c test, digit_below c test, is)
+-- what std reads of a run that fits a word
+pub short_run :
+    (bytes : List ℕ) (count value : ℕ) → count ≡ 0 + digits_len (drop 0 bytes) → count ≤ length bytes → count ≤ 19
+    → value ≡ (0 * 10 ^ (count - 0) + digits_value 10 (slice_range bytes 0 count)) % 2 ^ 64 → AreDigits bytes count value
+short_run bytes count value count_is within few value_is =
+    let digits = digits_of_run bytes count count_is in
+    let length_is = length-take-le count bytes within in
+    let power = pow-le-pow_right {n = 10} (omega arith) {i = count} {j = 19} few in
+    let from_the_first : count - 0 ≡ count = omega arith in
+    let same : slice_range bytes 0 count ≡ take count bytes = ap (λ n. take n bytes) from_the_first in
+    let below : digits_value 10 (take count bytes) < 10 ^ count =
+    subst (λ n. digits_value 10 (take count bytes) < 10 ^ n) length_is (digits_value-lt 10 (take count bytes) digits) in
+    let all : 0 * 10 ^ (count - 0) + digits_value 10 (slice_range bytes 0 count) ≡ digits_value 10 (slice_range bytes 0 count) =
+    omega arith in
+    let small : 0 * 10 ^ (count - 0) + digits_value 10 (slice_range bytes 0 count) < 2 ^ 64 =
+    omega (arith, all, ap (digits_value 10) same, below, power) in
+    record { within = within; digits = digits; value_is = value_is ∙ (mod-eq_of_lt small ∙ (all ∙ ap (digits_value 10) same)) }
 
-pub one_digit_more :
-    (bytes : List ℕ) (count value digit : ℕ) → AreDigits bytes count value → count < length bytes
-    → is_ascii_digit (get_or bytes count 0) ≡ true → digit ≡ get_or bytes count 0 - 48
-    → AreDigits bytes (count + 1) (value * 10 + digit)
-one_digit_more bytes count value digit read inside test is =
-    let same : digit ≡ digit_value (get_or bytes count 0) = omega (arith, digit_of (get_or bytes count 0) test, is) in
-    record {
-      within = omega (arith, inside);
-      digits = digits_more 10 bytes count inside read.digits (digit_below (get_or bytes count 0) test);
-      value_is = omega (arith, digits_value_more 10 bytes count inside, read.value_is, same);
-    }
+pub both_digits : (front behind : List ℕ) → AllDigits 10 (front ++ behind) → AllDigits 10 front × AllDigits 10 behind
+both_digits [] behind digits = (tt, digits)
+both_digits (d ∷ ds) behind digits = let rest = both_digits ds behind digits.1 in ((digits.0, rest.0), rest.1)
+
+-- the value of a text of digits that std reads as one run
+pub short_value :
+    (ds : List ℕ) (count value : ℕ) → AllDigits 10 ds → count ≡ 0 + digits_len (drop 0 ds) → length ds ≤ 19
+    → value ≡ (0 * 10 ^ (count - 0) + digits_value 10 (slice_range ds 0 count)) % 2 ^ 64 → value ≡ digits_value 10 ds
+short_value ds count value digits count_is few value_is =
+    let all : count ≡ length ds = omega (arith, count_is, digits_to_the_end ds digits) in
+    let read = short_run ds count value count_is (omega (arith, all)) (omega (arith, all, few)) value_is in
+    read.value_is ∙ ap (digits_value 10) (ap (λ n. take n ds) all ∙ take_all (length ds) ds (omega arith))
 
 -- so many digits are below that power of ten
 pub digits_below : (bytes : List ℕ) (count value : ℕ) → AreDigits bytes count value → value < 10 ^ count
@@ -57,13 +79,6 @@ digits_below bytes count value read =
     let few = length-take-le count bytes read.within in
     let below = digits_value-lt 10 (take count bytes) read.digits in
     subst (λ n. n < 10 ^ count) (sym read.value_is) (subst (λ n. digits_value 10 (take count bytes) < 10 ^ n) few below)
-
--- and so are those with one digit more, up to a limit
-pub next_below : (bytes : List ℕ) (count value digit most : ℕ) → AreDigits bytes count value → count < most → digit < 10
-    → value * 10 + digit < 10 ^ most
-next_below bytes count value digit most read few small =
-    let power = pow-le-pow_right {n = 10} (omega arith) {i = count + 1} {j = most} (omega (arith, few)) in
-    omega (arith, digits_below bytes count value read, pow-add 10 count 1, power)
 
 -- numbers
 

@@ -2,6 +2,7 @@
 
 ghost use Rattle.std.specs.Prelude.{◌≡◌, ◌≤◌, IfSome, IsTrue, length, take, replicate};
 ghost use Rattle.std.specs.Str.{IsUtf8};
+ghost use Rattle.std.specs.Str.Parse.{AllDigits, digits_value};
 ghost use Rattle.byte_unit_base.specs.Edition.{current};
 ghost use Rattle.byte_unit_base.specs.Units.{shape_of};
 ghost use Rattle.byte_unit_base.specs.Spelling.{Spells};
@@ -13,7 +14,8 @@ ghost use Rattle.byte_unit_base.specs.UnitScan.{IsMultipleText, IsWordText};
 use crate::read::scan::{WHOLE_LIMIT, precise_decimal, whole_decimal};
 use crate::unit::Unit;
 use crate::unit::scan::{Flags, Multiple, Prefix, UnitScan, Word, is_i};
-use byte_unit_math::{DECIMAL_PLACES, Decimal};
+use byte_unit_math::{DECIMAL_PLACES, Decimal, power_of_ten};
+use core::dec2flt::read_digits;
 
 /// How many digits a `u64` holds, whichever they are.
 const SHORT_DIGITS: usize = 19;
@@ -78,38 +80,36 @@ fn number_at_front(bytes: &[u8]) -> Option<(Decimal, usize)>
     ))
 }
 
-/// The digits with which the bytes begin, at most so many: their value, and how many they are.
+/// The digits with which the bytes begin: their value, and how many they are. None of them where they are more than
+/// so many.
+#[inline(always)]
 fn digits_at_front(bytes: &[u8], most: usize) -> (u128, usize)
-    requires { most ≤ 38 }
+    requires { (SHORT_DIGITS ≤ most) × (most ≤ 38) }
     ensures few { result.1 ≤ most }
     ensures read { AreDigits bytes.now result.1 result.0 }
 {
-    let (short, mut count) = short_digits_at_front(bytes, most);
-    if count < SHORT_DIGITS {
-        return (u128::from(short), count);
+    let (count, value) = read_digits(bytes, 0, 0);
+    if count <= SHORT_DIGITS {
+        (u128::from(value), count)
+    } else if count <= most {
+        (long_value(&bytes[..count]), count)
+    } else {
+        (0, 0)
     }
-    let mut value = u128::from(short);
-    let end = bytes.len().min(most);
-    'digits: while count < end && bytes[count].is_ascii_digit() {
-        value = value * 10 + u128::from(bytes[count] - b'0');
-        count += 1;
-    }
-    (value, count)
 }
 
-/// The same, of no more digits than a `u64` holds.
-fn short_digits_at_front(bytes: &[u8], most: usize) -> (u64, usize)
-    ensures few { result.1 ≤ most }
-    ensures read { AreDigits bytes.now result.1 result.0 }
+/// The value of digits that are more than a `u64` holds.
+#[inline(never)]
+fn long_value(digits: &[u8]) -> u128
+    requires digits { AllDigits 10 digits.now }
+    requires many { SHORT_DIGITS ≤ length digits.now }
+    requires few { length digits.now ≤ 38 }
+    ensures { result ≡ digits_value 10 digits.now }
 {
-    let end = bytes.len().min(most).min(SHORT_DIGITS);
-    let mut value = 0;
-    let mut count = 0;
-    'digits: while count < end && bytes[count].is_ascii_digit() {
-        value = value * 10 + u64::from(bytes[count] - b'0');
-        count += 1;
-    }
-    (value, count)
+    let (front, behind) = digits.split_at(SHORT_DIGITS);
+    let (_, high) = read_digits(front, 0, 0);
+    let (_, low) = read_digits(behind, 0, 0);
+    u128::from(high) * power_of_ten(behind.len() as u32) + u128::from(low)
 }
 
 /// How many spaces the bytes begin with.
