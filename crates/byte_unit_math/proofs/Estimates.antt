@@ -1,7 +1,7 @@
--- A quotient by a constant, estimated by one multiplication.
+-- A quotient by a constant: estimated by one multiplication, and by a long division.
 use Rattle.std.proofs.Common.{◌≡◌, ℕ, ◌+◌, ◌-◌, ◌*◌, ◌/◌, ◌%◌, ◌^◌, ◌<◌, ◌≤◌, arith, ap, sym, ◌∙◌, subst}
 use Rattle.std.proofs.Math.Nat.{mul-le-mul_right, le_of_mul-le-mul_right, div-mul-le_self, lt_of_mul-lt-mul_right, lt-div-mul-add, div-lt_iff_lt-mul}
-use Rattle.std.proofs.Math.Nat.{div-eq_of_lt-le, mod-eq-sub-div-mul, one-le-pow, pow-le-pow_right}
+use Rattle.std.proofs.Math.Nat.{div-add-mod, div-eq_of_lt-le, mod-eq-sub-div-mul, mod-lt, one-le-pow, pow-le-pow_right}
 use Rattle.std.proofs.lemmas.Nat.{pow-add}
 use Rattle.byte_unit_math.specs.Inverse.{HasInverse}
 
@@ -83,3 +83,25 @@ IsEstimate-steps {n} {divisor} {inverse} {cut} {shift} {leading} {factor} {estim
     let product : leading * factor ≡ n / 2 ^ cut * inverse =
     ap (λ m. m * factor) leading_is ∙ ap (λ m. n / 2 ^ cut * m) factor_is in
     subst (IsEstimate n divisor) (sym (estimate_is ∙ ap (λ m. m / 2 ^ shift) product)) (IsEstimate-inverse n divisor inverse cut shift h)
+
+-- a long division in base 2^40: the quotient, and what is left
+pub long_division :
+    (n divisor middle low : ℕ) → 1 ≤ divisor → middle ≡ n / 2 ^ 80 % divisor * 2 ^ 40 + n / 2 ^ 40 % 2 ^ 40
+    → low ≡ middle % divisor * 2 ^ 40 + n % 2 ^ 40
+    → ((n / 2 ^ 80 / divisor * 2 ^ 40 + middle / divisor) * 2 ^ 40 + low / divisor ≡ n / divisor) × (low % divisor ≡ n % divisor)
+long_division n divisor middle low some middle_is low_is =
+    let quotient = (n / 2 ^ 80 / divisor * 2 ^ 40 + middle / divisor) * 2 ^ 40 + low / divisor in
+    let left : low % divisor < divisor = mod-lt low some in
+    let parts : quotient * divisor + low % divisor ≡ n =
+    omega (
+      arith,
+      div-add-mod (n / 2 ^ 80) divisor,
+      div-add-mod middle divisor,
+      div-add-mod low divisor,
+      middle_is,
+      low_is,
+    ) in
+    let enough : quotient * divisor ≤ n = omega (arith, parts) in
+    let close : n - quotient * divisor < divisor = omega (arith, parts, left) in
+    let rest : low % divisor ≡ n - quotient * divisor = omega (arith, parts) in
+    (quotient_is n divisor quotient enough close, rest ∙ rest_is n divisor quotient enough close)

@@ -8,6 +8,9 @@ pub(crate) const EIGHTEEN_DIGITS: u64 = 1_000_000_000_000_000_000;
 /// The whole part of 2^123 / `EIGHTEEN_DIGITS`.
 const EIGHTEEN_DIGITS_INVERSE: u64 = 10_633_823_966_279_326_983;
 
+/// The base of a long division by a number of 24 bits: each step fits 64 bits.
+const BASE: u64 = 1 << 40;
+
 /// The quotient and the rest. Where both numbers fit 64 bits, so does the division, which then takes less time.
 pub(crate) fn quotient_and_rest(dividend: u128, divisor: u128) -> (u128, u128)
     requires { 1 ≤ divisor }
@@ -48,6 +51,26 @@ pub(crate) fn quotient_by_inverse(
     } else {
         (estimate + 1, rest - divisor)
     }
+}
+
+/// The quotient and the rest by a constant of at most 24 bits: a long division in base 2^40, each step of which takes a
+/// multiplication.
+#[inline(always)]
+pub(crate) fn quotient_by_short(dividend: u128, divisor: u64) -> (u128, u64)
+    requires some { 1 ≤ divisor }
+    requires short { divisor ≤ 2 ^ 24 }
+    requires small { dividend < 2 ^ 120 }
+    ensures quotient { result.0 ≡ dividend / divisor }
+    ensures rest { result.1 ≡ dividend % divisor }
+{
+    let high = (dividend >> 80) as u64;
+    let middle = high % divisor * BASE + ((dividend >> 40) % u128::from(BASE)) as u64;
+    let low = middle % divisor * BASE + (dividend % u128::from(BASE)) as u64;
+    let leading = u128::from(high / divisor) * u128::from(BASE) + u128::from(middle / divisor);
+    (
+        leading * u128::from(BASE) + u128::from(low / divisor),
+        low % divisor,
+    )
 }
 
 /// What is before the last eighteen digits of a number, and these digits. Numbers of 122 bits take no division.

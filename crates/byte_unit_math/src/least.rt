@@ -6,15 +6,12 @@ ghost use Rattle.byte_unit_math.specs.RoundedUp.{group_limit, half_limit, IsRoun
 ghost use Rattle.byte_unit_math.specs.Steps.{raised};
 
 use crate::decimal::{DECIMAL_PLACES, Decimal};
-use crate::dividing::quotient_by_inverse;
+use crate::dividing::{quotient_by_inverse, quotient_by_short};
 use crate::steps::Steps;
 use crate::tens::power_of_ten;
 
 /// Above each group of seven digits: a group's product with a unit of less than 40 bits fits a `u64`.
 const GROUP: u64 = 10_000_000;
-
-/// The base of a long division by a group.
-const BASE: u64 = 1 << 40;
 
 /// Above two groups, half the digits of a fraction: so many fit a `u64`.
 const HALF: u64 = 100_000_000_000_000;
@@ -139,19 +136,7 @@ fn over_group(digits: u64, unit_size: u128, behind: u128, steps: &mut Steps) -> 
     } else if unit_size < 1 << 40 {
         u128::from((digits * unit_size as u64 + behind as u64).div_ceil(GROUP))
     } else {
-        over_ten_million(u128::from(digits) * unit_size + behind + u128::from(GROUP - 1))
+        let product = u128::from(digits) * unit_size + behind;
+        quotient_by_short(product + u128::from(GROUP - 1), GROUP).0
     }
-}
-
-/// The quotient by a group: a long division in base 2^40, each step of which fits 64 bits.
-#[inline(always)]
-fn over_ten_million(n: u128) -> u128
-    requires { n < 2 ^ 120 }
-    ensures { result ≡ n / group_limit }
-{
-    let high = (n >> 80) as u64;
-    let middle = high % GROUP * BASE + ((n >> 40) % u128::from(BASE)) as u64;
-    let low = middle % GROUP * BASE + (n % u128::from(BASE)) as u64;
-    (u128::from(high / GROUP) * u128::from(BASE) + u128::from(middle / GROUP)) * u128::from(BASE)
-        + u128::from(low / GROUP)
 }

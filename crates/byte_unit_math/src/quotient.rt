@@ -6,7 +6,7 @@ ghost use Rattle.byte_unit_math.specs.Exact.{IsExactAt, IsLeastPlaces, IsQuotien
 ghost use Rattle.byte_unit_math.specs.Factored.{value_of};
 
 use crate::decimal::{DECIMAL_PLACES, Decimal};
-use crate::dividing::{digit_and_rest, quotient_and_rest};
+use crate::dividing::{digit_and_rest, quotient_and_rest, quotient_by_short};
 use crate::factors::Factors;
 use crate::steps::Steps;
 use crate::tens::power_of_ten;
@@ -103,22 +103,34 @@ fn in_places(count: u128, places: u32) -> Decimal
 /// The parts before and behind the point of so many units of a place.
 #[inline(always)]
 fn at_point(count: u128, places: u32) -> (u128, u128)
-    requires { places ≤ places_of_decimal }
+    requires small { count < whole_limit }
+    requires places { places ≤ places_of_decimal }
     ensures whole { result.0 ≡ count / 10 ^ places }
     ensures digits { result.1 ≡ count % 10 ^ places }
 {
     match places {
         0 => (count, 0),
-        // A division by a constant takes a multiplication.
-        1 if count < SHORT => (u128::from(count as u64 / 10), u128::from(count as u64 % 10)),
-        2 if count < SHORT => (
-            u128::from(count as u64 / 100),
-            u128::from(count as u64 % 100),
-        ),
-        3 if count < SHORT => (
-            u128::from(count as u64 / 1000),
-            u128::from(count as u64 % 1000),
-        ),
+        // A division by a constant takes a multiplication or a few.
+        1 => at_place(count, 10),
+        2 => at_place(count, 100),
+        3 => at_place(count, 1000),
         _ => quotient_and_rest(count, power_of_ten(places)),
     }
+}
+
+/// The same by the number of units of the place that one is, a constant.
+#[inline(always)]
+fn at_place(count: u128, one: u64) -> (u128, u128)
+    requires some { 1 ≤ one }
+    requires few { one ≤ 1000 }
+    requires small { count < whole_limit }
+    ensures whole { result.0 ≡ count / one }
+    ensures digits { result.1 ≡ count % one }
+{
+    if count < SHORT {
+        let count = count as u64;
+        return (u128::from(count / one), u128::from(count % one));
+    }
+    let (whole, digits) = quotient_by_short(count, one);
+    (whole, u128::from(digits))
 }
