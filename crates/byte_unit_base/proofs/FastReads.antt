@@ -73,6 +73,12 @@ short_value ds count value digits count_is few value_is =
     let read = short_run ds count value count_is (omega (arith, all)) (omega (arith, all, few)) value_is in
     read.value_is ∙ ap (digits_value 10) (ap (λ n. take n ds) all ∙ take_all (length ds) ds (omega arith))
 
+-- the last nineteen digits of a number, by its last 64 bits and the digits before
+pub last_digits_are :
+    (value front behind bits : ℕ) → value ≡ front * 10 ^ 19 + behind → behind < 10 ^ 19 → bits ≡ value % 2 ^ 64
+    → (bits + (2 ^ 64 - front * 10 ^ 19 % 2 ^ 64)) % 2 ^ 64 ≡ behind
+last_digits_are value front behind bits value_is below bits_are = omega (arith, value_is, below, bits_are)
+
 -- so many digits are below that power of ten
 pub digits_below : (bytes : List ℕ) (count value : ℕ) → AreDigits bytes count value → value < 10 ^ count
 digits_below bytes count value read =

@@ -1,6 +1,6 @@
 //! The reader of numbers and units by loops over bytes. It answers most texts that state one, and else leaves it open.
 
-ghost use Rattle.std.specs.Prelude.{◌≡◌, ◌≤◌, IfSome, IsTrue, length, take, replicate};
+ghost use Rattle.std.specs.Prelude.{◌≡◌, ◌≤◌, ◌%◌, ◌^◌, IfSome, IsTrue, length, take, replicate};
 ghost use Rattle.std.specs.Str.{IsUtf8};
 ghost use Rattle.std.specs.Str.Parse.{AllDigits, digits_value};
 ghost use Rattle.byte_unit_base.specs.Edition.{current};
@@ -14,11 +14,14 @@ ghost use Rattle.byte_unit_base.specs.UnitScan.{IsMultipleText, IsWordText};
 use crate::read::scan::{WHOLE_LIMIT, precise_decimal, whole_decimal};
 use crate::unit::Unit;
 use crate::unit::scan::{Flags, Multiple, Prefix, UnitScan, Word, is_i};
-use byte_unit_math::{DECIMAL_PLACES, Decimal, power_of_ten};
+use byte_unit_math::{DECIMAL_PLACES, Decimal};
 use core::dec2flt::read_digits;
 
 /// How many digits a `u64` holds, whichever they are.
 const SHORT_DIGITS: usize = 19;
+
+/// Above each number of so many digits.
+const NINETEEN_DIGITS: u128 = 10_000_000_000_000_000_000;
 
 /// How many digits the greatest whole part has.
 const WHOLE_DIGITS: usize = 34;
@@ -92,24 +95,26 @@ fn digits_at_front(bytes: &[u8], most: usize) -> (u128, usize)
     if count <= SHORT_DIGITS {
         (u128::from(value), count)
     } else if count <= most {
-        (long_value(&bytes[..count]), count)
+        (long_value(&bytes[..count], value), count)
     } else {
         (0, 0)
     }
 }
 
-/// The value of digits that are more than a `u64` holds.
+/// The value of digits that are more than a `u64` holds, of which the last 64 bits are known.
 #[inline(never)]
-fn long_value(digits: &[u8]) -> u128
+fn long_value(digits: &[u8], last_bits: u64) -> u128
     requires digits { AllDigits 10 digits.now }
     requires many { SHORT_DIGITS ≤ length digits.now }
     requires few { length digits.now ≤ 38 }
+    requires last_bits { last_bits ≡ digits_value 10 digits.now % 2 ^ 64 }
     ensures { result ≡ digits_value 10 digits.now }
 {
-    let (front, behind) = digits.split_at(SHORT_DIGITS);
+    let (front, _) = digits.split_at(digits.len() - SHORT_DIGITS);
     let (_, high) = read_digits(front, 0, 0);
-    let (_, low) = read_digits(behind, 0, 0);
-    u128::from(high) * power_of_ten(behind.len() as u32) + u128::from(low)
+    let product = u128::from(high) * NINETEEN_DIGITS;
+    // The other nineteen digits fit 64 bits, so that these bits tell them.
+    product + u128::from(last_bits.wrapping_sub((product % (1 << 64)) as u64))
 }
 
 /// How many spaces the bytes begin with.
