@@ -66,6 +66,19 @@ fn each_trial_and_each_place_is_one_step(rt: HostRuntime) {
             Some((3136, 5_000_000_000_000_000_000_000_000_000u128, Unit::KiB)),
             12,
         ),
+        (
+            3_211_776,
+            6,
+            Some((3, 2_117_760_000_000_000_000_000_000_000, Unit::MB)),
+            17,
+        ),
+        // 10 * 321177: MB takes five places.
+        (
+            3_211_770,
+            5,
+            Some((3, 2_117_700_000_000_000_000_000_000_000, Unit::MB)),
+            9,
+        ),
     ] {
         assert!(rt; size < LIMIT);
         let mut steps = Steps::new();
