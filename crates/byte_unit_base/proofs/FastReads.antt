@@ -88,7 +88,7 @@ digits_below bytes count value read =
 
 -- numbers
 
-are_numeral : (bytes : List ℕ) (count value : ℕ) → AreDigits bytes count value → 0 < count → 0 < length (take count bytes)
+pub are_numeral : (bytes : List ℕ) (count value : ℕ) → AreDigits bytes count value → 0 < count → 0 < length (take count bytes)
 are_numeral bytes count value read some = omega (arith, length-take-le count bytes read.within, some)
 
 -- a whole part, and a fraction behind a point
@@ -102,19 +102,25 @@ pub record ArePrecise (bytes : List ℕ) (end whole places fraction : ℕ) : Typ
   pub some_places : 0 < places
   pub few_places : places ≤ places_of_decimal
 
+pub precise_text : (bytes : List ℕ) (end whole places fraction : ℕ) → ArePrecise bytes end whole places fraction
+    → take (end + 1 + places) bytes ≡ take end bytes ++ point ∷ take places (drop (end + 1) bytes)
+precise_text bytes end whole places fraction read =
+    let digits = take places (drop (end + 1) bytes) in
+    let front : take (end + 1) bytes ≡ take end bytes ++ point ∷ [] =
+    take_more bytes end 0 read.inside ∙ ap (λ c. take end bytes ++ c ∷ []) read.point_is in
+    take-add (end + 1) places bytes ∙ (ap (λ text. text ++ digits) front ∙ push_append (take end bytes) digits point)
+
 pub precise_number : (bytes : List ℕ) (end whole places fraction : ℕ) → ArePrecise bytes end whole places fraction
     → IsNumberText current (take (end + 1 + places) bytes) (precise whole fraction places)
 precise_number bytes end whole places fraction read =
     let digits = take places (drop (end + 1) bytes) in
     let few = length-take-le places (drop (end + 1) bytes) read.fraction_is.within in
-    let front : take (end + 1) bytes ≡ take end bytes ++ point ∷ [] =
-    take_more bytes end 0 read.inside ∙ ap (λ c. take end bytes ++ c ∷ []) read.point_is in
     inr record {
       whole = take end bytes;
       fraction = digits;
       value = whole;
       part = fraction * 10 ^ (places_of_decimal - places);
-      text_is = take-add (end + 1) places bytes ∙ (ap (λ text. text ++ digits) front ∙ push_append (take end bytes) digits point);
+      text_is = precise_text bytes end whole places fraction read;
       whole_is = ((are_numeral bytes end whole read.whole_is read.some, read.whole_is.digits), read.whole_is.value_is, read.below);
       fraction_is = (
         (are_numeral (drop (end + 1) bytes) places fraction read.fraction_is read.some_places, read.fraction_is.digits),

@@ -27,3 +27,4 @@ pub mod NumberTexts
 pub mod LongFractions
 pub mod FastReads
 pub mod SizeAscii
+pub mod SizeDigits

@@ -94,7 +94,7 @@ spelling_ascii flags text unit (inr h) =
 
 -- numbers and sizes
 
-number_ascii : (text : List ℕ) (number : ℕ) → IsNumberText current text number → IsAscii text
+pub number_ascii : (text : List ℕ) (number : ℕ) → IsNumberText current text number → IsAscii text
 number_ascii text number (inl h) = IsAscii-from_digits text h.1.0.1
 number_ascii text number (inr h) =
     subst IsAscii (sym h.text_is)

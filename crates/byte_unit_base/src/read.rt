@@ -5,15 +5,17 @@ ghost use Rattle.std.specs.Str.{chars};
 ghost use Rattle.byte_unit_base.specs.Spelling.{reading};
 ghost use Rattle.byte_unit_base.specs.Readings.{IsNumberReading};
 ghost use Rattle.byte_unit_base.specs.Scan.{read};
-ghost use Rattle.byte_unit_base.specs.SizeScan.{size_seen, size_scan};
+ghost use Rattle.byte_unit_base.specs.SizeScan.{IsScan, size_seen, size_scan};
 
 use crate::errors::ParseError;
+use crate::read::digits::scan_digits;
 pub(crate) use crate::read::fast::read_fast;
 use crate::read::scan::SizeScan;
 use crate::unit::Unit;
 use crate::unit::scan::Flags;
 use byte_unit_math::Decimal;
 
+mod digits;
 mod fast;
 mod scan;
 
@@ -63,8 +65,17 @@ pub(crate) fn read_by_steps(s: &str, flags: Flags) -> Result<(Decimal, Unit), Pa
 fn read_number_and_unit(text: &str, flags: Flags) -> Result<(Decimal, Unit), ParseError>
     ensures { size_seen result ≡ read (size_scan flags) SizeScan.Beginning (chars text.now) }
 {
-    let mut scan = SizeScan::Beginning;
-    for c in text.chars() {
+    let (scan, end) = scan_digits(text.as_bytes());
+    read_rest(scan, &text[end..], flags)
+}
+
+/// The number and the unit of a text that is read this far, and goes on with this rest.
+fn read_rest(start: SizeScan, rest: &str, flags: Flags) -> Result<(Decimal, Unit), ParseError>
+    requires { IsScan start }
+    ensures { size_seen result ≡ read (size_scan flags) start (chars rest.now) }
+{
+    let mut scan = start;
+    for c in rest.chars() {
         match scan.step(c) {
             Some(next) => scan = next,
             None => return Err(scan.fault(flags, c)),

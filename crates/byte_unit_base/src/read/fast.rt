@@ -24,7 +24,7 @@ const SHORT_DIGITS: usize = 19;
 const NINETEEN_DIGITS: u128 = 10_000_000_000_000_000_000;
 
 /// How many digits the greatest whole part has.
-const WHOLE_DIGITS: usize = 34;
+pub const WHOLE_DIGITS: usize = 34;
 
 /// The number and the unit that the bytes of a text state, without the white space at its ends. Where there is no
 /// answer, they may state one or not: so are all texts with a fault, with a character past ASCII, with white space at
@@ -86,7 +86,7 @@ fn number_at_front(bytes: &[u8]) -> Option<(Decimal, usize)>
 /// The digits with which the bytes begin: their value, and how many they are. None of them where they are more than
 /// so many.
 #[inline(always)]
-fn digits_at_front(bytes: &[u8], most: usize) -> (u128, usize)
+pub fn digits_at_front(bytes: &[u8], most: usize) -> (u128, usize)
     requires { (SHORT_DIGITS ≤ most) × (most ≤ 38) }
     ensures few { result.1 ≤ most }
     ensures read { AreDigits bytes.now result.1 result.0 }
