@@ -1,14 +1,12 @@
 -- Answers to the lines of a piece, line by line.
-use Rattle.std.proofs.Common.{◌≡◌, ◌≢◌, ◌+◌, ◌-◌, ◌<◌, ◌||◌, cond, eqb, ℕ, List, [], ◌∷◌, ◌++◌, take, drop, get_or, length}
-use Rattle.std.proofs.Common.{arith, true, false, true≢false, refl, sym, ap, subst, ◌∙◌, append_assoc, append-nil}
+use Rattle.std.proofs.Common.{◌≡◌, ◌≢◌, ◌+◌, ◌<◌, ◌≤◌, ℕ, zero, suc, List, [], ◌∷◌, ◌++◌, take, drop, get_or, length}
+use Rattle.std.proofs.Common.{arith, sym, ap, subst, ◌∙◌, append_assoc, false-eqb}
 use Rattle.std.proofs.lemmas.List.{take_more}
-use Rattle.std.proofs.Math.Seq.{take-add}
-use Rattle.std.specs.List.{list_any}
+use Rattle.std.specs.Slice.Scan.{HoldsNowhere}
 use Rattle.byte_unit_lines.specs.Answer.{Kind}
-use Rattle.byte_unit_lines.specs.Progress.{ended_by, begun_by, IsUnbroken, AddsAnswer, AddsAnswers}
+use Rattle.byte_unit_lines.specs.Progress.{ended_by, begun_by, is_end, IsUnbroken, AddsAnswer, AddsAnswers}
 use Rattle.byte_unit_lines.proofs.Answering.{answers_after, answers_one}
 use Rattle.byte_unit_lines.proofs.Lines.{ended_to_end, begun_to_end, ended_to_other, begun_to_other, ended_front, begun_front}
-use Rattle.byte_unit_lines.proofs.Lines.{ended_by-append, begun_by-append}
 
 -- a piece in which no line ends, byte by byte
 pub unbroken_to_other : (bytes : List ℕ) (place : ℕ) → place < length bytes → IsUnbroken (take place bytes)
@@ -21,37 +19,15 @@ unbroken_to_other bytes place fits unbroken is_other line = (
       ∙ ap (λ begun. line ++ begun) (sym (take_more bytes place 0 fits)),
 )
 
--- a piece in which no line ends, block by block
-unbroken_after : (front back : List ℕ) → IsUnbroken front → IsUnbroken back → IsUnbroken (front ++ back)
-unbroken_after front back front_is back_is line = (
-  ended_by-append line front back
-      ∙ ap (λ lines. lines ++ ended_by (begun_by line front) back) (front_is line).0
-      ∙ (back_is (begun_by line front)).0,
-  begun_by-append line front back
-      ∙ (back_is (begun_by line front)).1
-      ∙ ap (λ begun. begun ++ back) (front_is line).1
-      ∙ append_assoc line front back,
-)
-
--- a block with no line end
-pub unbroken_without_end : (bytes : List ℕ) → list_any (λ byte. eqb byte 10) bytes ≡ false → IsUnbroken bytes
-unbroken_without_end [] none line = (refl, sym (append-nil line))
-unbroken_without_end (byte ∷ bytes) none line =
-    elim (eqb byte 10) as (λ ends. (ends || list_any (λ other. eqb other 10) bytes) ≡ false
-    → (cond ends (line ∷ ended_by [] bytes) (ended_by (line ++ byte ∷ []) bytes) ≡ [])
-    × (cond ends (begun_by [] bytes) (begun_by (line ++ byte ∷ []) bytes) ≡ line ++ byte ∷ bytes)) [
-      | true ↦ λ is. absurd (true≢false is)
-      | false ↦ λ others.
-          let rest = unbroken_without_end bytes others (line ++ byte ∷ []) in
-          (rest.0, rest.1 ∙ append_assoc line (byte ∷ []) bytes)
-    ] none
-
-pub unbroken_block : (bytes : List ℕ) (start count : ℕ) → IsUnbroken (take start bytes)
-    → IsUnbroken (take (start + count - start) (drop start bytes)) → IsUnbroken (take (start + count) bytes)
-unbroken_block bytes start count front_is block_is =
-    let same : start + count - start ≡ count = omega arith in
-    let block = subst (λ taken. IsUnbroken (take taken (drop start bytes))) same block_is in
-    subst IsUnbroken (sym (take-add start count bytes)) (unbroken_after (take start bytes) (take count (drop start bytes)) front_is block)
+-- and by more bytes at once, none of which is a line end
+pub unbroken_on : (bytes : List ℕ) (place count : ℕ) → place + count ≤ length bytes → IsUnbroken (take place bytes)
+    → HoldsNowhere (is_end bytes) place (place + count) → IsUnbroken (take (place + count) bytes)
+unbroken_on bytes place zero fits unbroken none = subst (λ to. IsUnbroken (take to bytes)) (omega arith) unbroken
+unbroken_on bytes place (suc count) fits unbroken none =
+    let front = unbroken_on bytes place count (omega arith) unbroken (λ k low high. none k low (omega arith)) in
+    let is_other = false-eqb (get_or bytes (place + count) 0) 10 (sym (none (place + count) (omega arith) (omega arith))) in
+    let next : place + count + 1 ≡ place + suc count = omega arith in
+    subst (λ to. IsUnbroken (take to bytes)) next (unbroken_to_other bytes (place + count) (omega arith) front is_other)
 
 -- the first line that ends in these bytes ends at this place
 abbrev pub EndsAt : List ℕ → ℕ → Type 0

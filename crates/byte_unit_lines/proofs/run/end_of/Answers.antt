@@ -1,13 +1,22 @@
-use Rattle.std.proofs.Common.{◌<◌, ◌+◌, ◌-◌, drop, length, sym, take, arith}
-use Rattle.byte_unit_lines.proofs.Feeding.{unbroken_to_other, unbroken_without_end, unbroken_block}
+use Rattle.std.proofs.Common.{◌+◌, ◌/◌, ◌<◌, get_or, length, w64, eqb-true, arith}
+use Rattle.std.specs.Int.{trailing_zeros}
+use Rattle.byte_unit_lines.proofs.Feeding.{unbroken_to_other, unbroken_on}
 use Rattle.byte_unit_lines.proofs.run.end_of.Goals as goal
 
 pub loop-i-preserved : goal.loop-i-preserved
 loop-i-preserved c =
     let so_far = c.loop-i.invariant in
+    (unbroken_on c.args.bytes.now c.loop-i.i 8 (omega arith) so_far.0 (c.end_flags-flags.ensures.none (omega (arith, c.if-flags-ne0.false))), omega arith)
+
+pub returns-then-flags-ne0-clause-some : goal.returns-then-flags-ne0-clause-some
+returns-then-flags-ne0-clause-some c =
+    let bytes = c.args.bytes.now in
     let start = c.loop-i.i in
-    let block = unbroken_without_end (take (start + 32 - start) (drop start c.args.bytes.now)) (sym c.if-contains.ensures.value) in
-    (unbroken_block c.args.bytes.now start 32 so_far.0 block, omega (arith, so_far.1))
+    let count = trailing_zeros w64 c.end_flags-flags.result / 8 in
+    let found = c.end_flags-flags.ensures.lowest (omega (arith, c.if-flags-ne0.true)) in
+    let within : count < 8 = found.0 in
+    let is_end = eqb-true (get_or bytes (start + count) 0) 10 (found.1.hit (omega (arith, within))) in
+    (omega (arith, within), is_end, unbroken_on bytes start count (omega (arith, within)) c.loop-i.invariant.0 found.1.before)
 
 pub loop-i-2-preserved : goal.loop-i-2-preserved
 loop-i-2-preserved c =
