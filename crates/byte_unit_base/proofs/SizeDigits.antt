@@ -1,6 +1,6 @@
 -- The digits with which a text begins lead the scan of a size to their state. What the rest of the text is read as from there, the
 -- whole text is read as.
-use Rattle.std.proofs.Common.{◌≡◌, ℕ, ◌+◌, ◌*◌, ◌<◌, ◌≤◌, inl, List, ◌∷◌, ◌++◌, Some, length, take, drop, refl, sym, ap, ◌∙◌, arith}
+use Rattle.std.proofs.Common.{◌≡◌, ℕ, ◌+◌, ◌*◌, ◌<◌, ◌≤◌, inl, inr, List, [], ◌∷◌, ◌++◌, Some, IfSome, length, take, drop, refl, sym, ap, ◌∙◌, arith}
 use Rattle.std.proofs.Common.{take-append-drop}
 use Rattle.std.specs.Str.{chars, IsUtf8, IsCharBoundary}
 use Rattle.std.specs.Str.Parse.{IsNumeral}
@@ -9,14 +9,15 @@ use Rattle.std.proofs.lemmas.Str.{chars-append, chars-IsAscii, IsUtf8-from_ascii
 use Rattle.byte_unit_math.specs.Bounds.{one, whole_limit}
 use Rattle.byte_unit_base.specs.Edition.{current}
 use Rattle.byte_unit_base.specs.Spelling.{Flags}
-use Rattle.byte_unit_base.specs.Number.{point, IsWholePart}
+use Rattle.byte_unit_base.specs.Number.{point, IsWholePart, IsNumberText}
 use Rattle.byte_unit_base.specs.Scan.{run, read}
-use Rattle.byte_unit_base.specs.SizeScan.{IsScan, size_step, size_scan, precise}
+use Rattle.byte_unit_base.specs.SizeScan.{IsScan, size_step, size_scan, precise, number_of}
 use Rattle.byte_unit_base.specs.FastReading.{AreDigits, AreScanned}
 use Rattle.byte_unit_base.specs.declared.read.scan.SizeScan.{SizeScan}
-use Rattle.byte_unit_base.specs.declared.read.scan.SizeScan.TheVariants.{Beginning, Whole, Point, Fraction}
+use Rattle.byte_unit_base.specs.declared.read.scan.SizeScan.TheVariants.{Beginning, Whole, Point, Fraction, Gap, Unit as UnitAt}
 use Rattle.byte_unit_base.proofs.Scans.{run_through, run_step, run_keeps, read_through}
 use Rattle.byte_unit_base.proofs.SizeSteps.{step_is, step_keeps}
+use Rattle.byte_unit_base.proofs.SizeReached.{SizeReached, SizeReached-step, fraction_number}
 use Rattle.byte_unit_base.proofs.SizeRuns.{step_point, run_whole, run_places}
 use Rattle.byte_unit_base.proofs.SizeAscii.{number_ascii}
 use Rattle.byte_unit_base.proofs.FastReads.{are_numeral, ArePrecise, precise_text, precise_number}
@@ -85,3 +86,21 @@ rest_read flags bytes end state scanned =
     ∙ ap (λ first. first ++ chars rest) (chars-IsAscii front scanned.ascii)) in
     sym (ap (read (size_scan flags) Beginning) text
     ∙ read_through (size_scan flags) Beginning state front (chars rest) scanned.run_is)
+
+-- the number that the digits make
+
+number_reached : (state : SizeScan) (text : List ℕ) → SizeReached state text
+    → IfSome (number_of state) (λ number. IsNumberText current text number)
+number_reached Beginning text r = tt
+number_reached (Whole w) text r = inl (w, r, refl)
+number_reached (Point w) text r = tt
+number_reached (Fraction w f j) text r = inr (fraction_number w f j text r)
+number_reached (Gap n) text r = tt
+number_reached (UnitAt n s) text r = tt
+
+pub number_scanned : (bytes : List ℕ) (end : ℕ) (state : SizeScan) → AreScanned bytes end state
+    → IfSome (number_of state) (λ number. IsNumberText current (take end bytes) number)
+number_scanned bytes end state scanned =
+    number_reached state (take end bytes)
+    (run_keeps size_step SizeReached (λ s t c text e r. SizeReached-step s t c text (step_is s t c e) r) (take end bytes) [] Beginning
+    state scanned.run_is refl)

@@ -59,6 +59,12 @@ size_place (Fraction w f j) = in_fraction
 size_place (Gap n) = before_unit
 size_place (UnitAt n s) = place_of s
 
+-- the number at whose last digit a scan may be
+abbrev pub number_of : SizeScan → Option ℕ
+number_of (Whole w) = Some (w * one)
+number_of (Fraction w f j) = Some (precise w f j)
+number_of _ = None
+
 -- a number and its unit at the end of a text
 abbrev pub sized : ℕ → Option Shape → Result (ℕ × Shape) Fault
 sized n (Some s) = Ok (n, s)

@@ -1,30 +1,19 @@
 //! The reader of numbers and units by loops over bytes. It answers most texts that state one, and else leaves it open.
 
-ghost use Rattle.std.specs.Prelude.{◌≡◌, ◌≤◌, ◌%◌, ◌^◌, IfSome, IsTrue, length, take, replicate};
+ghost use Rattle.std.specs.Prelude.{◌≡◌, ◌≤◌, IfSome, IsTrue, length, take, replicate};
 ghost use Rattle.std.specs.Str.{IsUtf8};
-ghost use Rattle.std.specs.Str.Parse.{AllDigits, digits_value};
 ghost use Rattle.byte_unit_base.specs.Edition.{current};
 ghost use Rattle.byte_unit_base.specs.Units.{shape_of};
 ghost use Rattle.byte_unit_base.specs.Spelling.{Spells};
 ghost use Rattle.byte_unit_base.specs.Number.{IsNumberText};
 ghost use Rattle.byte_unit_base.specs.SizeText.{space, trimmed, IsSizeText};
-ghost use Rattle.byte_unit_base.specs.FastReading.{AreDigits, HasVisibleEnds};
+ghost use Rattle.byte_unit_base.specs.FastReading.{HasVisibleEnds};
 ghost use Rattle.byte_unit_base.specs.UnitScan.{IsMultipleText, IsWordText};
 
-use crate::read::scan::{WHOLE_LIMIT, precise_decimal, whole_decimal};
+use crate::read::digits::scan_digits;
 use crate::unit::Unit;
 use crate::unit::scan::{Flags, Multiple, Prefix, UnitScan, Word, is_i};
-use byte_unit_math::{DECIMAL_PLACES, Decimal};
-use core::dec2flt::read_digits;
-
-/// How many digits a `u64` holds, whichever they are.
-const SHORT_DIGITS: usize = 19;
-
-/// Above each number of so many digits.
-const NINETEEN_DIGITS: u128 = 10_000_000_000_000_000_000;
-
-/// How many digits the greatest whole part has.
-pub const WHOLE_DIGITS: usize = 34;
+use byte_unit_math::Decimal;
 
 /// The number and the unit that the bytes of a text state, without the white space at its ends. Where there is no
 /// answer, they may state one or not: so are all texts with a fault, with a character past ASCII, with white space at
@@ -66,55 +55,8 @@ fn number_at_front(bytes: &[u8]) -> Option<(Decimal, usize)>
     ensures within { IfSome result (λ read. read.1 ≤ length bytes.now) }
     ensures stated { IfSome result (λ read. IsNumberText current (take read.1 bytes.now) read.0) }
 {
-    let (whole, end) = digits_at_front(bytes, WHOLE_DIGITS);
-    if end == 0 || whole >= WHOLE_LIMIT {
-        return None;
-    }
-    if end == bytes.len() || bytes[end] != b'.' {
-        return Some((whole_decimal(whole), end));
-    }
-    let (fraction, places) = digits_at_front(&bytes[end + 1..], DECIMAL_PLACES as usize);
-    if places == 0 {
-        return None;
-    }
-    Some((
-        precise_decimal(whole, fraction, places as u32),
-        end + 1 + places,
-    ))
-}
-
-/// The digits with which the bytes begin: their value, and how many they are. None of them where they are more than
-/// so many.
-#[inline(always)]
-pub fn digits_at_front(bytes: &[u8], most: usize) -> (u128, usize)
-    requires { (SHORT_DIGITS ≤ most) × (most ≤ 38) }
-    ensures few { result.1 ≤ most }
-    ensures read { AreDigits bytes.now result.1 result.0 }
-{
-    let (count, value) = read_digits(bytes, 0, 0);
-    if count <= SHORT_DIGITS {
-        (u128::from(value), count)
-    } else if count <= most {
-        (long_value(&bytes[..count], value), count)
-    } else {
-        (0, 0)
-    }
-}
-
-/// The value of digits that are more than a `u64` holds, of which the last 64 bits are known.
-#[inline(never)]
-fn long_value(digits: &[u8], last_bits: u64) -> u128
-    requires digits { AllDigits 10 digits.now }
-    requires many { SHORT_DIGITS ≤ length digits.now }
-    requires few { length digits.now ≤ 38 }
-    requires last_bits { last_bits ≡ digits_value 10 digits.now % 2 ^ 64 }
-    ensures { result ≡ digits_value 10 digits.now }
-{
-    let (front, _) = digits.split_at(digits.len() - SHORT_DIGITS);
-    let (_, high) = read_digits(front, 0, 0);
-    let product = u128::from(high) * NINETEEN_DIGITS;
-    // The other nineteen digits fit 64 bits, so that these bits tell them.
-    product + u128::from(last_bits.wrapping_sub((product % (1 << 64)) as u64))
+    let (scan, end) = scan_digits(bytes);
+    Some((scan.number()?, end))
 }
 
 /// How many spaces the bytes begin with.

@@ -33,7 +33,7 @@ pub enum SizeScan {
 pub const WHOLE_LIMIT: u128 = 5_192_296_858_534_827_628_530_496_329_220_096;
 
 impl SizeScan {
-    ghost use Rattle.byte_unit_base.specs.SizeScan.{IsScan, size_step, size_place, size_at_end};
+    ghost use Rattle.byte_unit_base.specs.SizeScan.{IsScan, size_step, size_place, size_at_end, number_of};
 
     /// What has been read with one character more, or `None` where that goes on with no number and unit.
     #[tactic(auto, unfolding(crate::specs::SizeScan::size_step))]
@@ -75,6 +75,21 @@ impl SizeScan {
             },
             SizeScan::Gap(_) => ParseError::Unit(UnitScan::START.fault(flags, c)),
             SizeScan::Unit(_, scan) => ParseError::Unit(scan.fault(flags, c)),
+        }
+    }
+
+    /// The number whose last digit has just been read, or could be.
+    #[inline(always)]
+    pub fn number(&self) -> Option<Decimal>
+        requires { IsScan self.now }
+        ensures { result ≡ number_of self.now }
+    {
+        match *self {
+            SizeScan::Whole(whole) => Some(whole_decimal(whole)),
+            SizeScan::Fraction(whole, digits, places) => {
+                Some(precise_decimal(whole, digits, places))
+            }
+            _ => None,
         }
     }
 

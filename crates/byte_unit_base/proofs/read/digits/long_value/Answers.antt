@@ -3,7 +3,7 @@ use Rattle.std.specs.Str.Parse.{AllDigits, digits_value}
 use Rattle.std.proofs.lemmas.Int.Digits.{digits_value-lt}
 use Rattle.core.proofs.dec2flt.DigitsLemmas.{digits_value-append}
 use Rattle.byte_unit_base.proofs.FastReads.{both_digits, last_digits_are, short_value}
-use Rattle.byte_unit_base.proofs.read.fast.long_value.Goals as goal
+use Rattle.byte_unit_base.proofs.read.digits.long_value.Goals as goal
 
 pub returns : goal.returns
 returns c =
@@ -16,7 +16,7 @@ returns c =
     subst (λ n. digits_value 10 parts.1.now < 10 ^ n) last (digits_value-lt 10 parts.1.now digits.1) in
     let front : c.from-product.result ≡ digits_value 10 parts.0.now = c.from-product.ensures ∙ high in
     let joined_value = digits_value-append parts.0.now parts.1.now
-        ∙ ap (λ n. digits_value 10 parts.0.now * 10 ^ n + digits_value 10 parts.1.now) last in
+    ∙ ap (λ n. digits_value 10 parts.0.now * 10 ^ n + digits_value 10 parts.1.now) last in
     let value : digits_value 10 c.args.digits.now ≡ c.from-product.result * 10 ^ 19 + digits_value 10 parts.1.now =
     omega (arith, ap (digits_value 10) joined, joined_value, front) in
     let behind = last_digits_are _ c.from-product.result _ c.args.last_bits value below c.requires.last_bits in
