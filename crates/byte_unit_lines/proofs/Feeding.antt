@@ -1,10 +1,9 @@
 -- Answers to the lines of a piece, line by line.
 use Rattle.std.proofs.Common.{◌≡◌, ◌≢◌, ◌+◌, ◌<◌, ◌≤◌, ℕ, zero, suc, List, [], ◌∷◌, ◌++◌, take, drop, get_or, length}
-use Rattle.std.proofs.Common.{arith, sym, ap, subst, ◌∙◌, append_assoc, false-eqb}
+use Rattle.std.proofs.Common.{arith, false, eqb, sym, ap, subst, ◌∙◌, append_assoc, false-eqb}
 use Rattle.std.proofs.lemmas.List.{take_more}
-use Rattle.std.specs.Slice.Scan.{HoldsNowhere}
 use Rattle.byte_unit_lines.specs.Answer.{Kind}
-use Rattle.byte_unit_lines.specs.Progress.{ended_by, begun_by, is_end, IsUnbroken, AddsAnswer, AddsAnswers}
+use Rattle.byte_unit_lines.specs.Progress.{ended_by, begun_by, IsUnbroken, AddsAnswer, AddsAnswers}
 use Rattle.byte_unit_lines.proofs.Answering.{answers_after, answers_one}
 use Rattle.byte_unit_lines.proofs.Lines.{ended_to_end, begun_to_end, ended_to_other, begun_to_other, ended_front, begun_front}
 
@@ -21,7 +20,7 @@ unbroken_to_other bytes place fits unbroken is_other line = (
 
 -- and by more bytes at once, none of which is a line end
 pub unbroken_on : (bytes : List ℕ) (place count : ℕ) → place + count ≤ length bytes → IsUnbroken (take place bytes)
-    → HoldsNowhere (is_end bytes) place (place + count) → IsUnbroken (take (place + count) bytes)
+    → ((k : ℕ) → place ≤ k → k < place + count → eqb (get_or bytes k 0) 10 ≡ false) → IsUnbroken (take (place + count) bytes)
 unbroken_on bytes place zero fits unbroken none = subst (λ to. IsUnbroken (take to bytes)) (omega arith) unbroken
 unbroken_on bytes place (suc count) fits unbroken none =
     let front = unbroken_on bytes place count (omega arith) unbroken (λ k low high. none k low (omega arith)) in

@@ -1,5 +1,5 @@
 -- Private: how far a run has come, step by step. No public contract cites this file.
-use Rattle.std.specs.Prelude.{◌≡◌, ℕ, Bool, List, [], ◌∷◌, ◌++◌, get_or, ◌==◌, if◌then◌else◌, Result, Ok, Err}
+use Rattle.std.specs.Prelude.{◌≡◌, ℕ, List, [], ◌∷◌, ◌++◌, ◌==◌, if◌then◌else◌, Result, Ok, Err}
 use Rattle.byte_unit_lines.specs.Answer.{Kind, IsAnswer}
 use Rattle.byte_unit_lines.specs.Lines.{line_end}
 use Rattle.byte_unit_lines.specs.Report.{AreAnswers}
@@ -16,10 +16,6 @@ ended_by line (byte ∷ bytes) = if byte == line_end then line ∷ ended_by [] b
 abbrev pub begun_by : List ℕ → List ℕ → List ℕ
 begun_by line [] = line
 begun_by line (byte ∷ bytes) = if byte == line_end then begun_by [] bytes else begun_by (line ++ byte ∷ []) bytes
-
--- a line ends at this place of the bytes
-abbrev pub is_end : List ℕ → ℕ → Bool
-is_end bytes place = get_or bytes place 0 == line_end
 
 -- no line ends in these bytes
 abbrev pub IsUnbroken : List ℕ → Type 0

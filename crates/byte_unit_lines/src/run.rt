@@ -3,11 +3,10 @@
 ghost use Rattle.std.specs.Prelude.{◌≡◌, ◌+◌, ◌^◌, ◌<◌, ◌≤◌, ℕ, List, [], ◌++◌, get_or, take, length};
 ghost use Rattle.std.specs.Prelude.{IsTrue, IsErrOf, IfErr, OnOk, OnErr, IfSome, IfNone};
 ghost use Rattle.std.specs.Io.KnownBytes.{Appends, IsAtEnd};
-ghost use Rattle.std.specs.Slice.Scan.{Flags, little_endian};
 ghost use Rattle.byte_unit_lines.specs.Waiting.{answers_in};
 ghost use Rattle.byte_unit_lines.specs.Lines.{line_end};
 ghost use Rattle.byte_unit_lines.specs.Outcome.{IsBeginning, IsRun};
-ghost use Rattle.byte_unit_lines.specs.Progress.{ended_by, begun_by, is_end, IsUnbroken, AddsAnswer, AddsAnswers, AddsFirst};
+ghost use Rattle.byte_unit_lines.specs.Progress.{ended_by, begun_by, IsUnbroken, AddsAnswer, AddsAnswers, AddsFirst};
 ghost use Rattle.byte_unit_lines.specs.Progress.{IsAnswered, IsLineAnswered};
 ghost use Rattle.byte_unit_lines.specs.Streams.{reader_of, reading_failed, writer_of, writing_failed};
 
@@ -18,21 +17,13 @@ use crate::waiting::Waiting;
 use crate::writing::Writing;
 use std::alloc::{AllocError, Allocator, Global};
 use std::io::{Read, Write};
+use std::simd::prelude::*;
 
 /// The byte that ends a line.
 const LINE_END: u8 = b'\n';
 
-/// How many bytes a word has.
-const WORD: usize = 8;
-
-/// A word with a line end in each byte.
-const LINE_ENDS: u64 = 0x0a0a_0a0a_0a0a_0a0a;
-
-/// The highest bit of each byte of a word.
-const HIGH_BITS: u64 = 0x8080_8080_8080_8080;
-
-/// The other seven bits of each.
-const LOW_BITS: u64 = 0x7f7f_7f7f_7f7f_7f7f;
+/// How many bytes are compared at once.
+const LANES: usize = 16;
 
 /// How many bytes are asked for at a read.
 const CHUNK: usize = 65536;
@@ -211,12 +202,15 @@ fn end_of(bytes: &[u8]) -> Option<usize>
     ensures small { IfSome result (λ n. n + 1 < 2 ^ 64) }
 {
     let mut i = 0;
-    while bytes.len() - i >= WORD {
-        let flags = end_flags(bytes, i);
-        if flags != 0 {
-            return Some(i + flags.trailing_zeros() as usize / 8);
+    // Where a line ends can't be foretold: a mask has the place with one branch, not one a byte.
+    while bytes.len() - i >= LANES {
+        let ends = u8x16::from_slice(&bytes[i..])
+            .simd_eq(u8x16::splat(LINE_END))
+            .to_bitmask();
+        if ends != 0 {
+            return Some(i + ends.trailing_zeros() as usize);
         }
-        i += WORD;
+        i += LANES;
     }
     while i < bytes.len() {
         if bytes[i] == LINE_END {
@@ -225,37 +219,6 @@ fn end_of(bytes: &[u8]) -> Option<usize>
         i += 1;
     }
     None
-}
-
-/// The line ends among the eight bytes from this place on: the high bit of a byte is set where one
-/// is, and no other bit.
-#[inline(always)]
-fn end_flags(bytes: &[u8], i: usize) -> u64
-    requires { i + 8 ≤ length bytes.now }
-    ensures { Flags (is_end bytes.now) i result }
-{
-    // A byte is 0 where a line ends.
-    let differences = word_at(bytes, i) ^ LINE_ENDS;
-    // A sum sets its high bit where the low bits aren't 0, and carries nothing into the next byte.
-    (((differences & LOW_BITS) + LOW_BITS | differences) & HIGH_BITS) ^ HIGH_BITS
-}
-
-/// The eight bytes from this place on as a number, the lowest first.
-#[inline(always)]
-fn word_at(bytes: &[u8], i: usize) -> u64
-    requires { i + 8 ≤ length bytes.now }
-    ensures { result ≡ little_endian bytes.now i }
-{
-    u64::from_le_bytes([
-        bytes[i],
-        bytes[i + 1],
-        bytes[i + 2],
-        bytes[i + 3],
-        bytes[i + 4],
-        bytes[i + 5],
-        bytes[i + 6],
-        bytes[i + 7],
-    ])
 }
 
 /// Writes all the bytes, call by call.

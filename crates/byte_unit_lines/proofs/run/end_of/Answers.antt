@@ -1,22 +1,47 @@
-use Rattle.std.proofs.Common.{◌+◌, ◌/◌, ◌<◌, get_or, length, w64, eqb-true, arith}
-use Rattle.std.specs.Int.{trailing_zeros}
-use Rattle.byte_unit_lines.proofs.Feeding.{unbroken_to_other, unbroken_on}
+use Rattle.std.proofs.Common.{◌+◌, ◌^◌, ◌<◌, ◌≤◌, eqb, not, ℕ, Bool, get_or, length, map, w8, w16}
+use Rattle.std.proofs.Common.{refl, ap, sym, subst, eqb-true, ◌∙◌, arith}
+use Rattle.std.proofs.lemmas.List.{length-map}
+use Rattle.std.proofs.lemmas.Nat.Bits.{bit_at-trailing_zeros}
+use Rattle.std.proofs.lemmas.Simd.{length-chunk, bitmask_splat, mask_l-lt, none_from_empty_mask, trailing_mask_l, run_in_chunk_fails, run_in_chunk_stops}
+use Rattle.std.specs.List.{prefix_len}
+use lib.Count.{count_trailing_zeros}
+use lib.Lanes.{chunk, mask_l}
+use Rattle.byte_unit_lines.proofs.Feeding.{unbroken_to_other, unbroken_on, EndsAt}
 use Rattle.byte_unit_lines.proofs.run.end_of.Goals as goal
+
+abbrev is_end : ℕ → Bool
+is_end byte = eqb byte 10
 
 pub loop-i-preserved : goal.loop-i-preserved
 loop-i-preserved c =
-    let so_far = c.loop-i.invariant in
-    (unbroken_on c.args.bytes.now c.loop-i.i 8 (omega arith) so_far.0 (c.end_flags-flags.ensures.none (omega (arith, c.if-flags-ne0.false))), omega arith)
-
-pub returns-then-flags-ne0-clause-some : goal.returns-then-flags-ne0-clause-some
-returns-then-flags-ne0-clause-some c =
     let bytes = c.args.bytes.now in
     let start = c.loop-i.i in
-    let count = trailing_zeros w64 c.end_flags-flags.result / 8 in
-    let found = c.end_flags-flags.ensures.lowest (omega (arith, c.if-flags-ne0.true)) in
-    let within : count < 8 = found.0 in
-    let is_end = eqb-true (get_or bytes (start + count) 0) 10 (found.1.hit (omega (arith, within))) in
-    (omega (arith, within), is_end, unbroken_on bytes start count (omega (arith, within)) c.loop-i.invariant.0 found.1.before)
+    let vector = chunk start 16 bytes in
+    let mask = bitmask_splat w8 eqb vector 16 10 (length-chunk start 16 bytes (omega arith)) (omega arith) in
+    let none = none_from_empty_mask is_end bytes start 16 0 (omega arith) (sym mask ∙ c.if-ends-ne0.false) in
+    (unbroken_on bytes start 16 (omega arith) c.loop-i.invariant.0 none, omega arith)
+
+pub returns-then-ends-ne0-clause-some : goal.returns-then-ends-ne0-clause-some
+returns-then-ends-ne0-clause-some c =
+    let bytes = c.args.bytes.now in
+    let start = c.loop-i.i in
+    let room : start + 16 ≤ length bytes = omega arith in
+    let vector = chunk start 16 bytes in
+    let long = length-chunk start 16 bytes room in
+    let mask = bitmask_splat w8 eqb vector 16 10 long (omega arith) in
+    let some : 0 < mask_l (map is_end vector) = omega (arith, mask, c.if-ends-ne0.true) in
+    let count = prefix_len (λ byte. not (is_end byte)) vector in
+    let counted = ap (count_trailing_zeros 64) mask ∙ trailing_mask_l is_end 64 vector (omega (arith, long)) some in
+    let small = subst (λ lanes. mask_l (map is_end vector) < 2 ^ lanes) (length-map vector is_end ∙ long) (mask_l-lt (map is_end vector)) in
+    let lowest = (bit_at-trailing_zeros w16 (mask_l (map is_end vector)) some small).0 in
+    let within : count < 16 = omega (arith, lowest, trailing_mask_l is_end 16 vector (omega (arith, long)) some) in
+    let hit = run_in_chunk_stops is_end bytes start 16 count 0 room refl within in
+    let none = run_in_chunk_fails is_end bytes start 16 count 0 room refl in
+    subst (EndsAt bytes) (ap (λ n. start + n) (sym counted)) (
+      omega (arith, within, room),
+      eqb-true (get_or bytes (start + count) 0) 10 hit,
+      unbroken_on bytes start count (omega (arith, within, room)) c.loop-i.invariant.0 none,
+    )
 
 pub loop-i-2-preserved : goal.loop-i-2-preserved
 loop-i-2-preserved c =
