@@ -48,16 +48,32 @@ fn greatest_and_least_sizes(rt: HostRuntime) -> Result<(), AllocError> {
 /// Numbers of a few places on both sides of 2^64 units of the last place.
 #[test]
 fn forms_past_64_bits(rt: HostRuntime) -> Result<(), AllocError> {
-    let mut rows = Vec::new(rt.alloc());
-    for (size, wanted) in [
-        (18_446_744_073_709_551_615, "18446744073709551.615 KB"),
-        (18_446_744_073_709_551_617, "18446744073709551.617 KB"),
-        (18_446_744_073_709_551_620, "18446744073709551.62 KB"),
-        (18_446_744_073_709_551_700, "18446744073709551.7 KB"),
-    ] {
-        rows.push((great_bytes(&rt, size), FormatSpec::ALTERNATE, wanted))?;
-    }
-    assert_texts(&rt, rt.alloc(), &rows)
+    assert_texts(
+        &rt,
+        rt.alloc(),
+        &[
+            (
+                great_bytes(&rt, 18_446_744_073_709_551_615),
+                FormatSpec::ALTERNATE,
+                "18446744073709551.615 KB",
+            ),
+            (
+                great_bytes(&rt, 18_446_744_073_709_551_617),
+                FormatSpec::ALTERNATE,
+                "18446744073709551.617 KB",
+            ),
+            (
+                great_bytes(&rt, 18_446_744_073_709_551_620),
+                FormatSpec::ALTERNATE,
+                "18446744073709551.62 KB",
+            ),
+            (
+                great_bytes(&rt, 18_446_744_073_709_551_700),
+                FormatSpec::ALTERNATE,
+                "18446744073709551.7 KB",
+            ),
+        ],
+    )
 }
 
 /// As the first version printed its greatest size.
