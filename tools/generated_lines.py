@@ -4,6 +4,9 @@ from exact_model import LETTERS
 
 WORDS = ["", "B", "b", "bit", "bits", "BIT", "bItS", "bi", "bitx", "byte"]
 ODD = ["", " ", "\t", "x", "-1", "+1", ".5", "1.", "1 .5", "1,000", "1_000", "1e3", "é", "1é", "1 Ké", "1😀", "\ufeff1"]
+# Digits are read eight at a time, nineteen fit a word, and a fraction is taken in two halves of fourteen.
+DIGITS = [1, 2, 3, 4, 6, 8, 9, 12, 15, 16, 18, 19, 20, 24, 27, 28, 29, 30, 34, 35]
+PLACES = [1, 1, 2, 2, 3, 6, 8, 12, 14, 15, 19, 20, 27, 28, 29]
 BROKEN = [b"\xff", b"1\xff", b"1\xc3", b"1\xed\xa0\x80", b"1\xc0\x80", b"1\x00", b"1KB\r", b"\r", b"1\x1c", b"1\x85"]
 
 
@@ -14,9 +17,9 @@ def some_line(rng):
         return rng.choice(BROKEN)
     if make < 0.1:
         return rng.choice(ODD).encode()
-    number = str(rng.randrange(10 ** rng.choice([1, 2, 3, 4, 6, 9, 12, 15, 18, 20, 24, 27, 28, 29, 30])))
+    number = str(rng.randrange(10 ** rng.choice(DIGITS)))
     if rng.random() < 0.5:
-        places = rng.choice([1, 1, 2, 2, 3, 6, 12, 15, 27, 28, 29])
+        places = rng.choice(PLACES)
         number += "." + "".join(rng.choices("0123456789", k=places))
     if rng.random() < 0.03:
         number = "0" * rng.randrange(40) + number
