@@ -3,7 +3,7 @@ use Rattle.std.proofs.Common.{◌≡◌, ℕ, List, ◌++◌, length, Result, ar
 use Rattle.std.specs.String.{string_bytes}
 use Rattle.std.specs.declared.string.String.{String}
 use Rattle.std.proofs.lemmas.Result.{on_ok_weaker, on_err_weaker}
-use Rattle.byte_unit_format.specs.Room.{spare, Appends}
+use Rattle.byte_unit_format.specs.Room.{Appends}
 
 -- what has added this form has added a form, where every other is as long
 pub appends_form : {Z E R : Type 0} (IsForm : List ℕ → Type 0) (old new : String Z) (result : Result R E) (form : List ℕ) → IsForm form

@@ -1,25 +1,19 @@
 -- The parts of a text make the text.
-use Rattle.std.proofs.Common.{◌≡◌, ◌+◌, ◌-◌, ◌<◌, ℕ, List, [], ◌++◌, length, take, drop, replicate, append_assoc, Option, None, Some}
+use Rattle.std.proofs.Common.{◌≡◌, ◌+◌, ◌-◌, ◌<◌, ℕ, List, ◌++◌, length, take, drop, replicate, append_assoc}
 use Rattle.std.proofs.Common.{arith, ap, sym, ◌∙◌, subst, min}
 use Rattle.std.specs.Fmt.{decimal}
 use Rattle.std.specs.Str.{IsAscii}
 use Rattle.std.proofs.lemmas.List.{replicate-append-replicate, take_at}
 use Rattle.std.proofs.lemmas.List.Elements.{All-replicate}
 use Rattle.std.proofs.lemmas.Str.{IsAscii-append}
-use Rattle.std.proofs.lemmas.Str.Ascii.{IsAscii-nil, IsAscii-cons, IsAscii-from_all}
+use Rattle.std.proofs.lemmas.Str.Ascii.{IsAscii-from_all}
 use Rattle.byte_unit_math.specs.Digits.{last_digits}
-use Rattle.byte_unit_math.specs.Numeral.{fraction_text}
 use Rattle.byte_unit_math.proofs.Digits.{length_last}
-use Rattle.byte_unit_base.specs.Units.{shape_of}
-use Rattle.byte_unit_base.specs.declared.unit.Unit.{Unit as UnitName}
-use Rattle.byte_unit_base.proofs.Names.{name_ascii, unit_known}
-use Rattle.byte_unit_format.specs.Plain.{spaces, plus_of}
+use Rattle.byte_unit_format.specs.Plain.{spaces}
 use Rattle.byte_unit_format.specs.Layout.{layout, layout_padding, before_layout, gap_of}
-use Rattle.byte_unit_format.specs.Row.{fraction_of, places_in, name_of, row_text}
+use Rattle.byte_unit_format.specs.Row.{fraction_of, places_in, IsReady, row_text}
 use Rattle.byte_unit_format.specs.Written.{Writes}
 use Rattle.byte_unit_format.specs.declared.spec.FormatSpec.{FormatSpec}
-use Rattle.byte_unit_format.specs.declared.spec.Sign.{Sign}
-use Rattle.byte_unit_format.specs.declared.spec.Sign.TheVariants.{Unset, Plus, Minus}
 use Rattle.byte_unit_format.specs.declared.row.Row.{Row}
 use Rattle.byte_unit_format.specs.declared.row.Fraction.{Fraction}
 use Rattle.byte_unit_format.specs.declared.row.Fraction.TheVariants.{Last, First}
@@ -67,20 +61,11 @@ layout_is number name spec pad before gap pad_is before_is gap_is =
 pub run_ascii : (count byte : ℕ) → byte < 128 → IsAscii (replicate count byte)
 run_ascii count byte small = IsAscii-from_all (replicate count byte) (All-replicate (λ byte. byte < 128) count byte small)
 
-plus_ascii : (sign : Sign) → IsAscii (plus_of sign)
-plus_ascii Unset = IsAscii-nil
-plus_ascii Plus = IsAscii-cons 43 [] (omega arith) IsAscii-nil
-plus_ascii Minus = IsAscii-nil
-
-unit_ascii : (unit : Option UnitName) → IsAscii (name_of unit)
-unit_ascii None = IsAscii-nil
-unit_ascii (Some unit) = name_ascii (shape_of unit) (unit_known unit).known
-
-pub row_ascii : (row : Row) → IsAscii (decimal row.whole) → IsAscii (fraction_of row.fraction) → IsAscii (row_text row)
-row_ascii row whole fraction =
-    let number = IsAscii-append _ _ (IsAscii-append _ _ (plus_ascii row.sign) whole) fraction in
+pub row_ascii : (row : Row) → IsReady row → IsAscii (decimal row.whole) → IsAscii (fraction_of row.fraction) → IsAscii (row_text row)
+row_ascii row ready whole fraction =
+    let number = IsAscii-append _ _ (IsAscii-append _ _ ready.1 whole) fraction in
     let front = IsAscii-append _ _ (run_ascii row.before 32 (omega arith)) number in
-    IsAscii-append _ _ (IsAscii-append _ _ front (run_ascii row.after 32 (omega arith))) (unit_ascii row.unit)
+    IsAscii-append _ _ (IsAscii-append _ _ front (run_ascii row.after 32 (omega arith))) ready.2
 
 -- what was put before the end of an array is the array from its beginning on
 pub piece_is :

@@ -137,18 +137,11 @@ stated_form kind size spec {unit} {number} {places} {whole} {digits} {count} pla
       text_is = ap (λ number. layout number (name current unit) spec) (short_text number places_of_decimal e (parts_expansion parts));
     }
 
--- the text of a size under the alternate form, and without it
+-- the text of a size under the alternate form
 pub form_text :
     (kind : Kind) (size : ℕ) (spec : FormatSpec) {text : List ℕ} → spec.alternate ≡ true → IsSizeForm current kind size spec text
     → IsText current kind size spec text
 form_text kind size spec {text} alternate form =
-    let Text : Bool → Type 0 = λ alternate. MatchBool alternate (IsSizeForm current kind size spec text) (text ≡ plain size spec) in
-    subst Text (sym alternate) form
-
-pub plain_text :
-    (kind : Kind) (size : ℕ) (spec : FormatSpec) {text : List ℕ} → spec.alternate ≡ false → text ≡ plain size spec
-    → IsText current kind size spec text
-plain_text kind size spec {text} alternate form =
     let Text : Bool → Type 0 = λ alternate. MatchBool alternate (IsSizeForm current kind size spec text) (text ≡ plain size spec) in
     subst Text (sym alternate) form
 

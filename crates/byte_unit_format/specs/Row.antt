@@ -1,14 +1,11 @@
 -- Private: the parts of a text in their order, which the writing code hands on.
-use Rattle.std.specs.Prelude.{ℕ, ◌^◌, ◌<◌, ◌≤◌, List, [], ◌++◌, Option, None, Some}
+use Rattle.std.specs.Prelude.{ℕ, ◌^◌, ◌<◌, ◌≤◌, List, ◌++◌, IsAscii}
 use Rattle.std.specs.Fmt.{decimal}
 use Rattle.byte_unit_math.specs.Bounds.{places_of_decimal}
 use Rattle.byte_unit_math.specs.Digits.{last_digits}
 use Rattle.byte_unit_math.specs.Numeral.{fraction_text}
 use Rattle.byte_unit_math.specs.Padded.{padded}
-use Rattle.byte_unit_base.specs.Edition.{current, name}
-use Rattle.byte_unit_base.specs.Units.{shape_of}
-use Rattle.byte_unit_base.specs.declared.unit.Unit.{Unit as UnitName}
-use Rattle.byte_unit_format.specs.Plain.{plus_of, spaces}
+use Rattle.byte_unit_format.specs.Plain.{spaces}
 use Rattle.byte_unit_format.specs.declared.row.Fraction.{Fraction}
 use Rattle.byte_unit_format.specs.declared.row.Fraction.TheVariants.{Last, First}
 use Rattle.byte_unit_format.specs.declared.row.Row.{Row}
@@ -27,13 +24,12 @@ abbrev pub IsShort : Fraction → Type 0
 IsShort (Last digits places) = (places ≤ places_of_decimal) × (digits < 10 ^ places)
 IsShort (First e places) = Unit {0}
 
--- nothing, where there is no unit
-abbrev pub name_of : Option UnitName → List ℕ
-name_of None = []
-name_of (Some unit) = name current (shape_of unit)
-
 abbrev pub number_of : Row → List ℕ
-number_of row = plus_of row.sign ++ decimal row.whole ++ fraction_of row.fraction
+number_of row = row.sign.now ++ decimal row.whole ++ fraction_of row.fraction
 
 abbrev pub row_text : Row → List ℕ
-row_text row = spaces row.before ++ number_of row ++ spaces row.after ++ name_of row.unit
+row_text row = spaces row.before ++ number_of row ++ spaces row.after ++ row.name.now
+
+-- a row that may be written: its fraction is short, and its sign and name are ASCII
+abbrev pub IsReady : Row → Type 0
+IsReady row = IsShort row.fraction × IsAscii row.sign.now × IsAscii row.name.now

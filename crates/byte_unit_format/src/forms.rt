@@ -3,9 +3,9 @@
 ghost use Rattle.std.specs.Prelude.{◌≡◌, ℕ, ◌<◌, ◌≤◌, List, length};
 ghost use Rattle.byte_unit_base.specs.Edition.{current};
 ghost use Rattle.byte_unit_format.specs.Room.{Appends};
-ghost use Rattle.byte_unit_format.specs.Row.{IsShort, row_text};
+ghost use Rattle.byte_unit_format.specs.Row.{IsReady, row_text};
 ghost use Rattle.byte_unit_format.specs.Written.{Writes};
-ghost use Rattle.byte_unit_format.specs.Forms.{IsSizeForm, IsText, places_of, narrow_text, text_limit};
+ghost use Rattle.byte_unit_format.specs.Forms.{IsText, narrow_text, text_limit};
 
 use crate::layout::layout_row;
 use crate::plain::plain_row;
@@ -70,7 +70,7 @@ pub fn write_text(size: u128, kind: Kind, spec: FormatSpec, out: &mut [u8]) -> u
     text_row(size, kind, spec).write(out)
 }
 
-/// The parts of the text of a size.
+/// The parts of the text of a size. In the alternate form the number has all its places.
 #[inline(always)]
 fn text_row(size: u128, kind: Kind, spec: FormatSpec) -> Row<'static>
     requires { size < current.size_limit }
@@ -78,38 +78,16 @@ fn text_row(size: u128, kind: Kind, spec: FormatSpec) -> Row<'static>
     ensures len { result.len ≡ length (row_text result) }
     ensures small { result.len < text_limit }
     ensures narrow { spec.width ≡ None → result.len ≤ narrow_text }
-    ensures short { IsShort result.fraction }
+    ensures ready { IsReady result }
 {
-    if spec.alternate {
-        form_row(size, kind, spec)
-    } else {
-        plain_row(size, spec)
+    if !spec.alternate {
+        return plain_row(size, spec);
     }
-}
-
-/// The parts of the alternate form: the number has all its places there.
-#[inline(always)]
-fn form_row(size: u128, kind: Kind, spec: FormatSpec) -> Row<'static>
-    requires { size < current.size_limit }
-    ensures form { IsSizeForm current kind size spec (row_text result) }
-    ensures len { result.len ≡ length (row_text result) }
-    ensures small { result.len < text_limit }
-    ensures narrow { spec.width ≡ None → result.len ≤ narrow_text }
-    ensures short { IsShort result.fraction }
-{
-    let places = places(spec.precision);
+    let places = match spec.precision {
+        Some(precision) => usize::from(precision),
+        None => DEFAULT_PRECISION,
+    };
     let (number, unit) = recoverable_unit(size, kind, false, places, &mut Steps::new());
     let fraction = Fraction::Last(number.digits(), number.places());
     layout_row(number.whole(), fraction, unit, spec)
-}
-
-/// The places that a size may take.
-#[inline(always)]
-fn places(precision: Option<u16>) -> usize
-    ensures { result ≡ places_of precision }
-{
-    match precision {
-        Some(precision) => usize::from(precision),
-        None => DEFAULT_PRECISION,
-    }
 }

@@ -5,8 +5,8 @@ ghost use Rattle.std.specs.Fmt.{decimal};
 ghost use Rattle.byte_unit_base.specs.Edition.{name, current};
 ghost use Rattle.byte_unit_base.specs.Units.{shape_of};
 ghost use Rattle.byte_unit_format.specs.Room.{Appends};
-ghost use Rattle.byte_unit_format.specs.Layout.{layout, layout_of, before_layout, gap_of};
-ghost use Rattle.byte_unit_format.specs.Row.{fraction_of, places_in, row_text};
+ghost use Rattle.byte_unit_format.specs.Layout.{layout, layout_of};
+ghost use Rattle.byte_unit_format.specs.Row.{fraction_of, places_in, IsShort, IsReady, row_text};
 ghost use Rattle.byte_unit_format.specs.Written.{Writes};
 
 use crate::plain::padding;
@@ -74,65 +74,40 @@ pub fn write_layout(
 
 /// The parts of a number with its unit.
 #[inline(always)]
+#[tactic(auto, using(crate::proofs::UnitNames::name_short))]
 pub(crate) fn layout_row<'a>(
     whole: u128,
     fraction: Fraction<'a>,
     unit: Unit,
     spec: FormatSpec,
 ) -> Row<'a>
+    requires short { IsShort fraction }
     ensures text { let number = decimal whole ++ fraction_of fraction.entry in
         row_text result ≡ layout number (name current (shape_of unit)) spec }
     ensures len { result.len ≡ length (row_text result) }
     ensures small { result.len ≤ max u16.MAX (places_in fraction.entry + 44) }
     ensures narrow { spec.width ≡ None → result.len ≤ places_in fraction.entry + 44 }
-    ensures fraction { result.fraction ≡ fraction.entry }
+    ensures ready { IsReady result }
 {
-    let gap = gap(unit, spec.sign);
-    let columns = decimal_len(whole) + fraction.len() + gap + name_len(unit);
+    let name = unit.as_str();
+    let gap = match spec.sign {
+        Sign::Unset => 1,
+        Sign::Plus => 4 - name.len(),
+        Sign::Minus => 0,
+    };
+    let columns = decimal_len(whole) + fraction.len() + gap + name.len();
     let pad = padding(columns, spec.width);
-    let before = before_layout(spec.align, pad);
+    let before = match spec.align {
+        Some(Align::Right) => pad,
+        Some(Align::Left) | Some(Align::Center) | None => 0,
+    };
     Row {
         before,
-        sign: Sign::Unset,
+        sign: "",
         whole,
         fraction,
         after: pad - before + gap,
-        unit: Some(unit),
+        name,
         len: columns + pad,
-    }
-}
-
-/// How many of the spaces stand before the number.
-#[inline(always)]
-fn before_layout(align: Option<Align>, pad: usize) -> usize
-    ensures exact { result ≡ before_layout align pad }
-    ensures small { result ≤ pad }
-{
-    match align {
-        Some(Align::Right) => pad,
-        Some(Align::Left) | Some(Align::Center) | None => 0,
-    }
-}
-
-#[tactic(auto, using(crate::proofs::UnitNames::name_short))]
-#[inline]
-fn name_len(unit: Unit) -> usize
-    ensures exact { result ≡ length (name current (shape_of unit)) }
-    ensures some { 1 ≤ result }
-    ensures small { result ≤ 3 }
-{
-    unit.as_str().len()
-}
-
-/// The spaces between number and unit.
-#[inline(always)]
-fn gap(unit: Unit, sign: Sign) -> usize
-    ensures exact { result ≡ gap_of sign (name current (shape_of unit)) }
-    ensures small { result + length (name current (shape_of unit)) ≤ 4 }
-{
-    match sign {
-        Sign::Unset => 1,
-        Sign::Plus => 4 - name_len(unit),
-        Sign::Minus => 0,
     }
 }

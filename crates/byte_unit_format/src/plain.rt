@@ -2,8 +2,8 @@
 
 ghost use Rattle.std.specs.Prelude.{◌≡◌, ◌+◌, ◌≤◌, length, max};
 ghost use Rattle.byte_unit_format.specs.Room.{Appends};
-ghost use Rattle.byte_unit_format.specs.Plain.{plain, missing, before_plain, plus_of};
-ghost use Rattle.byte_unit_format.specs.Row.{IsShort, row_text};
+ghost use Rattle.byte_unit_format.specs.Plain.{plain, missing};
+ghost use Rattle.byte_unit_format.specs.Row.{IsReady, row_text};
 ghost use Rattle.byte_unit_format.specs.Written.{Writes};
 
 use crate::row::{Fraction, Row};
@@ -62,32 +62,27 @@ pub(crate) fn plain_row(size: u128, spec: FormatSpec) -> Row<'static>
     ensures len { result.len ≡ length (plain size spec) }
     ensures small { result.len ≤ u16.MAX }
     ensures narrow { spec.width ≡ None → result.len ≤ NUMBER_DIGITS + 1 }
-    ensures short { IsShort result.fraction }
+    ensures ready { IsReady result }
 {
-    let columns = signed_len(decimal_len(size), spec.sign);
+    let sign = match spec.sign {
+        Sign::Plus => "+",
+        Sign::Unset | Sign::Minus => "",
+    };
+    let columns = sign.len() + decimal_len(size);
     let pad = padding(columns, spec.width);
-    let before = before_plain(spec.align, pad);
+    let before = match spec.align {
+        Some(Align::Left) => 0,
+        Some(Align::Center) => pad / 2,
+        Some(Align::Right) | None => pad,
+    };
     Row {
         before,
-        sign: spec.sign,
+        sign,
         whole: size,
         fraction: Fraction::Last(0, 0),
         after: pad - before,
-        unit: None,
+        name: "",
         len: columns + pad,
-    }
-}
-
-/// How many columns so many digits take with their sign.
-#[inline(always)]
-fn signed_len(digits: usize, sign: Sign) -> usize
-    requires { digits ≤ NUMBER_DIGITS }
-    ensures exact { result ≡ length (plus_of sign) + digits }
-    ensures small { result ≤ NUMBER_DIGITS + 1 }
-{
-    match sign {
-        Sign::Plus => 1 + digits,
-        Sign::Unset | Sign::Minus => digits,
     }
 }
 
@@ -101,18 +96,5 @@ pub(crate) fn padding(columns: usize, width: Option<u16>) -> usize
     match width {
         None => 0,
         Some(width) => usize::from(width).saturating_sub(columns),
-    }
-}
-
-/// How many of the spaces stand before the number.
-#[inline(always)]
-fn before_plain(align: Option<Align>, pad: usize) -> usize
-    ensures exact { result ≡ before_plain align pad }
-    ensures small { result ≤ pad }
-{
-    match align {
-        Some(Align::Left) => 0,
-        Some(Align::Center) => pad / 2,
-        Some(Align::Right) | None => pad,
     }
 }

@@ -6,15 +6,12 @@ ghost use Rattle.byte_unit_math.specs.Bounds.{places_of_decimal};
 ghost use Rattle.byte_unit_math.specs.Digits.{last_digits};
 ghost use Rattle.byte_unit_math.specs.Numeral.{fraction_text};
 ghost use Rattle.byte_unit_math.specs.Padded.{padded};
-ghost use Rattle.byte_unit_format.specs.Plain.{plus_of};
 ghost use Rattle.byte_unit_format.specs.Room.{spare, Appends};
-ghost use Rattle.byte_unit_format.specs.Row.{fraction_of, places_in, IsShort, name_of, row_text};
+ghost use Rattle.byte_unit_format.specs.Row.{fraction_of, places_in, IsShort, IsReady, row_text};
 ghost use Rattle.byte_unit_format.specs.Written.{Writes};
 
 use crate::put::{put, put_run};
 use crate::room::{push, push_ascii, push_run, reserve};
-use crate::spec::Sign;
-use byte_unit_base::Unit;
 use byte_unit_math::{DecimalDigits, Expansion, glyphs_of, put_decimal, put_fraction};
 use std::alloc::{AllocError, Allocator};
 
@@ -35,12 +32,14 @@ pub(crate) enum Fraction<'a> {
 pub(crate) struct Row<'a> {
     /// Spaces before the number.
     pub before: usize,
-    pub sign: Sign,
+    /// A plus sign, or nothing.
+    pub sign: &'static str,
     pub whole: u128,
     pub fraction: Fraction<'a>,
     /// Spaces behind the number.
     pub after: usize,
-    pub unit: Option<Unit>,
+    /// The name of a unit, or nothing.
+    pub name: &'static str,
     pub len: usize,
 }
 
@@ -49,7 +48,7 @@ impl Row<'_> {
     #[inline(always)]
     pub(crate) fn write(&self, out: &mut [u8]) -> usize
         requires len { self.now.len ≡ length (row_text self.now) }
-        requires short { IsShort self.now.fraction }
+        requires ready { IsReady self.now }
         ensures written { Writes (λ form. form ≡ row_text self.now) out.old out.new result }
         ensures len { result ≡ self.now.len }
     {
@@ -62,7 +61,7 @@ impl Row<'_> {
     /// Adds the row at the end of a text. It asks for memory once at most, before it writes.
     pub(crate) fn append<A: Allocator>(&self, text: &mut String<A>) -> Result<(), AllocError>
         requires len { self.now.len ≡ length (row_text self.now) }
-        requires short { IsShort self.now.fraction }
+        requires ready { IsReady self.now }
         ensures { Appends (λ form. form ≡ row_text self.now) text.old text.new result }
     {
         reserve(text, self.len)?;
@@ -77,7 +76,7 @@ impl Row<'_> {
     /// Adds the row in one piece.
     fn push_at_once<A: Allocator>(&self, text: &mut String<A>)
         requires few { length (row_text self.now) ≤ AT_ONCE }
-        requires short { IsShort self.now.fraction }
+        requires ready { IsReady self.now }
         requires room { length (row_text self.now) ≤ spare text.old }
         ensures bytes { string_bytes text.new ≡ string_bytes text.old ++ row_text self.now }
         ensures spare { spare text.old ≤ spare text.new + length (row_text self.now) }
@@ -89,17 +88,17 @@ impl Row<'_> {
 
     /// Adds the parts of the row one after another.
     fn push_parts<A: Allocator>(&self, text: &mut String<A>)
-        requires short { IsShort self.now.fraction }
+        requires ready { IsReady self.now }
         requires room { length (row_text self.now) ≤ spare text.old }
         ensures bytes { string_bytes text.new ≡ string_bytes text.old ++ row_text self.now }
         ensures spare { spare text.old ≤ spare text.new + length (row_text self.now) }
     {
         push_run(text, b' ', self.before);
-        push_sign(text, self.sign);
+        text.push_str(self.sign).unwrap();
         push_ascii(text, DecimalDigits::of(self.whole).as_slice());
         self.fraction.push(text);
         push_run(text, b' ', self.after);
-        push_name(text, self.unit);
+        text.push_str(self.name).unwrap();
     }
 
     /// Puts the row so that it ends before this place, and answers where it begins.
@@ -107,16 +106,16 @@ impl Row<'_> {
     fn put(&self, out: &mut [u8], end: usize) -> usize
         requires room { length (row_text self.now) ≤ end }
         requires within { end ≤ length out.old }
-        requires short { IsShort self.now.fraction }
+        requires ready { IsReady self.now }
         ensures begins { result + length (row_text self.now) ≡ end }
         ensures bytes { drop result out.new ≡ row_text self.now ++ drop end out.old }
         ensures ascii { IsAscii (row_text self.now) }
     {
-        let name = put_name(self.unit, out, end);
+        let name = put(self.name.as_bytes(), out, end);
         let behind = put_run(b' ', self.after, out, name);
         let point = self.fraction.put(out, behind);
         let digits = put_decimal(self.whole, out, point);
-        let sign = put_sign(self.sign, out, digits);
+        let sign = put(self.sign.as_bytes(), out, digits);
         put_run(b' ', self.before, out, sign)
     }
 }
@@ -183,32 +182,6 @@ fn put_first(e: &Expansion, places: u32, out: &mut [u8], end: usize) -> usize
     put_run(b'.', 1, out, digits)
 }
 
-#[inline(always)]
-fn put_sign(sign: Sign, out: &mut [u8], end: usize) -> usize
-    requires room { length (plus_of sign) ≤ end }
-    requires within { end ≤ length out.old }
-    ensures begins { result + length (plus_of sign) ≡ end }
-    ensures bytes { drop result out.new ≡ plus_of sign ++ drop end out.old }
-{
-    match sign {
-        Sign::Plus => put_run(b'+', 1, out, end),
-        Sign::Unset | Sign::Minus => end,
-    }
-}
-
-#[inline(always)]
-fn put_name(unit: Option<Unit>, out: &mut [u8], end: usize) -> usize
-    requires room { length (name_of unit) ≤ end }
-    requires within { end ≤ length out.old }
-    ensures begins { result + length (name_of unit) ≡ end }
-    ensures bytes { drop result out.new ≡ name_of unit ++ drop end out.old }
-{
-    match unit {
-        Some(unit) => put(unit.as_str().as_bytes(), out, end),
-        None => end,
-    }
-}
-
 /// Adds the point and so many last digits of a number.
 fn push_last<A: Allocator>(text: &mut String<A>, digits: u128, places: u32)
     requires short { (places ≤ places_of_decimal) × (digits < 10 ^ places) }
@@ -233,27 +206,5 @@ fn push_first<A: Allocator>(text: &mut String<A>, e: &Expansion, places: u32)
         push(text, '.');
         push_ascii(text, &glyphs_of(e)[..shown]);
         push_run(text, b'0', places as usize - shown);
-    }
-}
-
-fn push_sign<A: Allocator>(text: &mut String<A>, sign: Sign)
-    requires room { length (plus_of sign) ≤ spare text.old }
-    ensures bytes { string_bytes text.new ≡ string_bytes text.old ++ plus_of sign }
-    ensures spare { spare text.old ≤ spare text.new + length (plus_of sign) }
-{
-    match sign {
-        Sign::Plus => push(text, '+'),
-        Sign::Unset | Sign::Minus => {}
-    }
-}
-
-fn push_name<A: Allocator>(text: &mut String<A>, unit: Option<Unit>)
-    requires room { length (name_of unit) ≤ spare text.old }
-    ensures bytes { string_bytes text.new ≡ string_bytes text.old ++ name_of unit }
-    ensures spare { spare text.old ≤ spare text.new + length (name_of unit) }
-{
-    match unit {
-        Some(unit) => text.push_str(unit.as_str()).unwrap(),
-        None => {}
     }
 }

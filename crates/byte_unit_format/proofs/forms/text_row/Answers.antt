@@ -1,8 +1,24 @@
-use Rattle.byte_unit_format.proofs.WrittenForms.{form_text, plain_text}
+use Rattle.std.proofs.Common.{◌≡◌, true, rules, sym, subst}
+use Rattle.byte_unit_base.specs.Edition.{current}
+use Rattle.byte_unit_format.specs.Forms.{IsSizeForm, places_of}
+use Rattle.byte_unit_format.proofs.WrittenForms.{AreParts, form_text, stated_form}
 use Rattle.byte_unit_format.proofs.forms.text_row.Goals as goal
 
-pub returns-then-spec-clause-text : goal.returns-then-spec-clause-text
-returns-then-spec-clause-text c = form_text c.args.kind c.args.size c.args.spec c.if-spec.true c.form_row.ensures.form
-
-pub returns-else-spec-clause-text : goal.returns-else-spec-clause-text
-returns-else-spec-clause-text c = plain_text c.args.kind c.args.size c.args.spec c.if-spec.false c.plain_row.ensures.text
+pub returns-clause-text : goal.returns-clause-text
+returns-clause-text c =
+    let spec = c.args.spec in
+    let alternate : spec.alternate ≡ true = search rules in
+    let places_are : c.match-spec.places ≡ places_of spec.precision = search rules in
+    let answered = c.recoverable_unit-number.ensures in
+    let least = c.places.ensures.least in
+    let parts : AreParts c.recoverable_unit-number.result.0 c.whole.result c.digits.result c.places.result =
+    record {
+      few = c.places.ensures.bound;
+      least = least;
+      whole_is = c.whole.ensures.value;
+      digits_are = c.digits.ensures.value c.places.result least;
+      below = c.digits.ensures.bound c.places.result least;
+    } in
+    form_text c.args.kind c.args.size spec alternate
+    (subst (IsSizeForm current c.args.kind c.args.size spec) (sym c.layout_row.ensures.text)
+    (stated_form c.args.kind c.args.size spec places_are answered.recovered answered.exact parts))

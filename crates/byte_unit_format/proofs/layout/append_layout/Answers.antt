@@ -1,4 +1,4 @@
-use Rattle.std.proofs.Common.{◌++◌, ◌∙◌, ap, sym}
+use Rattle.std.proofs.Common.{◌++◌, ◌∙◌, ap}
 use Rattle.std.specs.Fmt.{decimal}
 use Rattle.byte_unit_math.specs.Numeral.{fraction_text}
 use Rattle.byte_unit_math.specs.Padded.{padded}

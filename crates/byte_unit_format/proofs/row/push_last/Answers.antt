@@ -1,8 +1,8 @@
-use Rattle.std.proofs.Common.{arith, drop, ◌++◌}
+use Rattle.std.proofs.Common.{arith}
 use Rattle.byte_unit_math.specs.Digits.{last_digits}
 use Rattle.byte_unit_math.specs.Numeral.{fraction_text}
 use Rattle.byte_unit_format.specs.declared.row.Fraction.TheVariants.{Last}
-use Rattle.byte_unit_format.proofs.Rows.{fraction_long, piece_ascii, piece_is}
+use Rattle.byte_unit_format.proofs.Rows.{fraction_long, piece_ascii}
 use Rattle.byte_unit_format.proofs.row.push_last.Goals as goal
 
 pub put_fraction-start-requires-clause-room : goal.put_fraction-start-requires-clause-room
