@@ -89,13 +89,15 @@ pub(crate) fn layout_row<'a>(
     ensures narrow { spec.width ≡ None → result.len ≤ places_in fraction.entry + 44 }
     ensures ready { IsReady result }
 {
+    let number = decimal_len(whole) + fraction.len();
+    // Not asked for first: there the compiler makes a jump of the unit, and here it reads a table.
     let name = unit.as_str();
     let gap = match spec.sign {
         Sign::Unset => 1,
         Sign::Plus => 4 - name.len(),
         Sign::Minus => 0,
     };
-    let columns = decimal_len(whole) + fraction.len() + gap + name.len();
+    let columns = number + gap + name.len();
     let pad = padding(columns, spec.width);
     let before = match spec.align {
         Some(Align::Right) => pad,
