@@ -1,9 +1,8 @@
 -- The reader of bytes: the digits that it has read, the number that they make, and the text of a number and a unit.
-use Rattle.std.proofs.Common.{◌≡◌, ℕ, ◌+◌, ◌-◌, ◌*◌, ◌^◌, ◌<◌, ◌≤◌, true, inl, inr, List, [], ◌∷◌, ◌++◌, Option, Some, None, IfSome}
+use Rattle.std.proofs.Common.{◌≡◌, ℕ, ◌+◌, ◌-◌, ◌*◌, ◌^◌, ◌<◌, ◌≤◌, true, inl, inr, List, [], ◌∷◌, ◌++◌, Some}
 use Rattle.std.proofs.Common.{◌%◌, length, take, drop, get_or, refl, sym, ap, subst, ◌∙◌, arith, slice_range, take_all}
 use Rattle.std.proofs.Math.Nat.{mod-eq_of_lt, pow-le-pow_right}
 use Rattle.std.proofs.Math.Seq.{take-add}
-use Rattle.std.specs.Option.{option_map}
 use Rattle.std.specs.Float.Numeral.{digits_len}
 use Rattle.std.specs.Str.Parse.{AllDigits, digits_value}
 use Rattle.std.proofs.lemmas.Int.Digits.{digits_value-lt}
@@ -13,19 +12,14 @@ use Rattle.core.proofs.dec2flt.Rows.{AllDigits-digits_len}
 use Rattle.std.proofs.lemmas.List.{length-take-le, take_more}
 use Rattle.byte_unit_math.specs.Bounds.{places_of_decimal, whole_limit}
 use Rattle.byte_unit_base.specs.Edition.{current}
-use Rattle.byte_unit_base.specs.Units.{shape_of}
-use Rattle.byte_unit_base.specs.Spelling.{Flags, Spells}
 use Rattle.byte_unit_base.specs.Number.{point, IsNumberText}
-use Rattle.byte_unit_base.specs.UnitScan.{unit_of, scan_of, prefix_at, is_i, IsMultipleText}
+use Rattle.byte_unit_base.specs.UnitScan.{prefix_at, is_i, IsMultipleText}
 use Rattle.byte_unit_base.specs.SizeScan.{precise}
 use Rattle.byte_unit_base.specs.FastReading.{AreDigits}
-use Rattle.byte_unit_base.specs.declared.unit.Unit.{Unit as UnitName}
 use Rattle.byte_unit_base.specs.declared.unit.scan.Prefix.{Prefix}
-use Rattle.byte_unit_base.specs.declared.unit.scan.Word.{Word}
-use Rattle.byte_unit_base.specs.declared.unit.scan.Multiple.{Multiple}
 use Rattle.byte_unit_base.specs.declared.unit.scan.Multiple.TheVariants.{Decimal, Binary}
 use Rattle.byte_unit_base.proofs.Lists.{push_append}
-use Rattle.byte_unit_base.proofs.UnitReached.{Reached, Spells-reached, prefix_found, is_true}
+use Rattle.byte_unit_base.proofs.UnitReached.{prefix_found, is_true}
 
 -- digits
 
@@ -153,10 +147,3 @@ binary_text (c ∷ d ∷ cs) prefix some is with_i =
       letter_is = prefix_found c prefix is;
       infix_is = inr (ap (λ x. x ∷ []) (is_true _ _ with_i), refl);
     }
-
-pub spelled :
-    (flags : Flags) (multiple : Multiple) (word : Word) (bytes : List ℕ) (unit : Option UnitName)
-    → option_map shape_of unit ≡ unit_of flags (scan_of multiple word) → Reached (scan_of multiple word) bytes
-    → IfSome unit (λ name. Spells current flags bytes (shape_of name))
-spelled flags multiple word bytes None e reached = tt
-spelled flags multiple word bytes (Some unit) e reached = Spells-reached flags multiple word bytes (shape_of unit) (sym e) reached

@@ -1,5 +1,5 @@
 -- The texts of numbers and units are ASCII. So with visible ends they are their own trimmed texts.
-use Rattle.std.proofs.Common.{◌≡◌, ℕ, ◌+◌, ◌-◌, ◌<◌, Bool, true, false, Option, Some, None, IfSome, inl, inr, List, [], ◌∷◌, ◌++◌, length, take, get_or, replicate}
+use Rattle.std.proofs.Common.{◌≡◌, ℕ, ◌+◌, ◌-◌, ◌<◌, Bool, true, false, inl, inr, List, [], ◌∷◌, ◌++◌, length, take, get_or, replicate}
 use Rattle.std.proofs.Common.{refl, sym, subst, ◌∙◌, arith}
 use Rattle.std.specs.Prelude.{codes}
 use Rattle.std.specs.List.{All}
@@ -16,8 +16,6 @@ use Rattle.byte_unit_base.specs.Edition.{current}
 use Rattle.byte_unit_base.specs.Spelling.{Flags, SpellsBinary, SpellsPrefix, SpellsCount, Spells}
 use Rattle.byte_unit_base.specs.Number.{IsNumberText}
 use Rattle.byte_unit_base.specs.SizeText.{space, trimmed, IsSizeText}
-use Rattle.byte_unit_base.specs.Units.{shape_of}
-use Rattle.byte_unit_base.specs.declared.unit.Unit.{Unit as UnitName}
 use Rattle.byte_unit_base.specs.FastReading.{HasVisibleEnds}
 use Rattle.byte_unit_base.proofs.Trim.{StartsWithoutSpace, EndsWithoutSpace, trimmed_same}
 
@@ -128,19 +126,11 @@ visible_end bytes ends =
       last_is = visible_not_white (get_or bytes last 0) ends.end;
     }
 
-trimmed_size : (flags : Flags) (bytes : List ℕ) (number : ℕ) (unit : Shape) → HasVisibleEnds bytes
+pub trimmed_size : (flags : Flags) (bytes : List ℕ) (number : ℕ) (unit : Shape) → HasVisibleEnds bytes
     → IsSizeText current flags bytes number unit → IsSizeText current flags (trimmed bytes) number unit
 trimmed_size flags bytes number unit ends h =
     subst (λ text. IsSizeText current flags text number unit)
     (sym (trimmed_same bytes (visible_start bytes ends) (visible_end bytes ends) (size_ascii flags bytes number unit h))) h
 
-pub trimmed_stated : (flags : Flags) (bytes : List ℕ) (found : Option (ℕ × UnitName)) → HasVisibleEnds bytes
-    → IfSome found (λ stated. IsSizeText current flags bytes stated.0 (shape_of stated.1))
-    → IfSome found (λ stated. IsSizeText current flags (trimmed bytes) stated.0 (shape_of stated.1))
-trimmed_stated flags bytes None ends h = tt
-trimmed_stated flags bytes (Some stated) ends h = trimmed_size flags bytes stated.0 (shape_of stated.1) ends h
-
-pub text_stated : (flags : Flags) (bytes : List ℕ) (found : Option (ℕ × UnitName))
-    → IfSome found (λ stated. IsSizeText current flags bytes stated.0 (shape_of stated.1)) → IfSome found (λ stated. IsUtf8 bytes)
-text_stated flags bytes None h = tt
-text_stated flags bytes (Some stated) h = IsUtf8-from_ascii bytes (size_ascii flags bytes stated.0 (shape_of stated.1) h)
+pub size_utf8 : (flags : Flags) (bytes : List ℕ) (number : ℕ) (unit : Shape) → IsSizeText current flags bytes number unit → IsUtf8 bytes
+size_utf8 flags bytes number unit h = IsUtf8-from_ascii bytes (size_ascii flags bytes number unit h)

@@ -1,18 +1,15 @@
 //! The reader of numbers and units by loops over bytes. It answers most texts that state one, and else leaves it open.
 
-ghost use Rattle.std.specs.Prelude.{◌≡◌, ◌≤◌, IfSome, IsTrue, length, take, replicate};
+ghost use Rattle.std.specs.Prelude.{◌≡◌, ◌≤◌, IfSome, length, take, replicate};
 ghost use Rattle.std.specs.Str.{IsUtf8};
 ghost use Rattle.byte_unit_base.specs.Edition.{current};
 ghost use Rattle.byte_unit_base.specs.Units.{shape_of};
-ghost use Rattle.byte_unit_base.specs.Spelling.{Spells};
-ghost use Rattle.byte_unit_base.specs.Number.{IsNumberText};
 ghost use Rattle.byte_unit_base.specs.SizeText.{space, trimmed, IsSizeText};
-ghost use Rattle.byte_unit_base.specs.FastReading.{HasVisibleEnds};
 ghost use Rattle.byte_unit_base.specs.UnitScan.{IsMultipleText, IsWordText};
 
 use crate::read::digits::scan_digits;
 use crate::unit::Unit;
-use crate::unit::scan::{Flags, Multiple, Prefix, UnitScan, Word, is_i};
+use crate::unit::scan::{Flags, Multiple, Prefix, UnitScan, Word};
 use byte_unit_math::Decimal;
 
 /// The number and the unit that the bytes of a text state, without the white space at its ends. Where there is no
@@ -24,39 +21,21 @@ pub fn read_fast(bytes: &[u8], flags: Flags) -> Option<(Decimal, Unit)>
         (λ stated. IsSizeText current flags (trimmed bytes.now) stated.0 (shape_of stated.1)) }
     ensures text { IfSome result (λ stated. IsUtf8 bytes.now) }
 {
-    if has_visible_ends(bytes) {
-        read_whole(bytes, flags)
-    } else {
-        None
+    // Between visible characters there is nothing to trim.
+    if bytes.is_empty()
+        || !bytes[0].is_ascii_graphic()
+        || !bytes[bytes.len() - 1].is_ascii_graphic()
+    {
+        return None;
     }
-}
-
-/// Whether a visible character of ASCII stands at each end, so that there is nothing to trim.
-fn has_visible_ends(bytes: &[u8]) -> bool
-    ensures { IsTrue result → HasVisibleEnds bytes.now }
-{
-    !bytes.is_empty() && bytes[0].is_ascii_graphic() && bytes[bytes.len() - 1].is_ascii_graphic()
-}
-
-/// The number and the unit that all the bytes state.
-#[inline(always)]
-fn read_whole(bytes: &[u8], flags: Flags) -> Option<(Decimal, Unit)>
-    ensures { IfSome result (λ stated. IsSizeText current flags bytes.now stated.0 (shape_of stated.1)) }
-{
-    let (number, end) = number_at_front(bytes)?;
-    let behind = &bytes[end..];
-    let unit = spelled_unit(&behind[spaces_at_front(behind)..], flags)?;
-    Some((number, unit))
-}
-
-/// The number with which the bytes begin, and where it ends.
-#[inline(always)]
-fn number_at_front(bytes: &[u8]) -> Option<(Decimal, usize)>
-    ensures within { IfSome result (λ read. read.1 ≤ length bytes.now) }
-    ensures stated { IfSome result (λ read. IsNumberText current (take read.1 bytes.now) read.0) }
-{
     let (scan, end) = scan_digits(bytes);
-    Some((scan.number()?, end))
+    let number = scan.number()?;
+    let behind = &bytes[end..];
+    let spelling = &behind[spaces_at_front(behind)..];
+    let (multiple, start) = multiple_at_front(spelling);
+    let word = word_of(&spelling[start..])?;
+    let unit = UnitScan { multiple, word }.unit(flags)?;
+    Some((number, unit))
 }
 
 /// How many spaces the bytes begin with.
@@ -71,16 +50,6 @@ fn spaces_at_front(bytes: &[u8]) -> usize
     count
 }
 
-/// The unit that the whole text spells.
-#[inline(always)]
-fn spelled_unit(bytes: &[u8], flags: Flags) -> Option<Unit>
-    ensures { IfSome result (λ unit. Spells current flags bytes.now (shape_of unit)) }
-{
-    let (multiple, end) = multiple_at_front(bytes);
-    let word = word_of(&bytes[end..])?;
-    UnitScan { multiple, word }.unit(flags)
-}
-
 /// The prefix with which the bytes begin, and where it ends.
 fn multiple_at_front(bytes: &[u8]) -> (Multiple, usize)
     ensures within { result.1 ≤ length bytes.now }
@@ -92,7 +61,7 @@ fn multiple_at_front(bytes: &[u8]) -> (Multiple, usize)
     match Prefix::from_char(char::from(bytes[0])) {
         None => (Multiple::One, 0),
         Some(prefix) => {
-            if bytes.len() > 1 && is_i(char::from(bytes[1])) {
+            if bytes.len() > 1 && matches!(bytes[1], b'i' | b'I') {
                 (Multiple::Binary(prefix), 2)
             } else {
                 (Multiple::Decimal(prefix), 1)
