@@ -1,12 +1,11 @@
 //! The scan of a number and a unit: one step a character.
 
 ghost use Rattle.std.specs.Prelude.{◌≡◌, ◌+◌, ◌*◌, ◌^◌, ◌<◌, ◌≤◌, nat_lt, if◌then◌else◌};
-ghost use Rattle.byte_unit_math.specs.Bounds.{one, places_of_decimal, whole_limit};
+ghost use Rattle.byte_unit_math.specs.Bounds.{places_of_decimal, whole_limit};
 ghost use Rattle.byte_unit_base.specs.Edition.{current};
 ghost use Rattle.byte_unit_base.specs.Fault.{fault_at};
 ghost use Rattle.byte_unit_base.specs.Errors.{size_fault};
-ghost use Rattle.byte_unit_base.specs.UnitScan.{unit_of};
-ghost use Rattle.byte_unit_base.specs.SizeScan.{after_number, precise, sized, size_seen};
+ghost use Rattle.byte_unit_base.specs.SizeScan.{after_number, size_seen};
 
 use crate::errors::{ParseError, UnitParseError, ValueParseError};
 use crate::unit::Unit;
@@ -46,14 +45,14 @@ impl SizeScan {
             SizeScan::Whole(whole) => match c.to_digit(10) {
                 Some(digit) => more_whole(whole, digit),
                 None if c == '.' => Some(SizeScan::Point(whole)),
-                None => after_number(whole_decimal(whole), c),
+                None => after_number(Decimal::from_digits(whole, 0, 0), c),
             },
             SizeScan::Point(whole) => {
                 Some(SizeScan::Fraction(whole, u128::from(c.to_digit(10)?), 1))
             }
             SizeScan::Fraction(whole, digits, places) => match c.to_digit(10) {
                 Some(digit) => more_fraction(whole, digits, places, digit),
-                None => after_number(precise_decimal(whole, digits, places), c),
+                None => after_number(Decimal::from_digits(whole, digits, places), c),
             },
             SizeScan::Gap(number) => after_number(number, c),
             SizeScan::Unit(number, scan) => Some(SizeScan::Unit(number, scan.step(c)?)),
@@ -85,9 +84,9 @@ impl SizeScan {
         ensures { result ≡ number_of self.now }
     {
         match *self {
-            SizeScan::Whole(whole) => Some(whole_decimal(whole)),
+            SizeScan::Whole(whole) => Some(Decimal::from_digits(whole, 0, 0)),
             SizeScan::Fraction(whole, digits, places) => {
-                Some(precise_decimal(whole, digits, places))
+                Some(Decimal::from_digits(whole, digits, places))
             }
             _ => None,
         }
@@ -98,19 +97,19 @@ impl SizeScan {
         requires { IsScan self.now }
         ensures { size_seen result ≡ size_at_end flags self.now }
     {
-        match *self {
-            SizeScan::Beginning => Err(ParseError::Value(ValueParseError::NoValue)),
-            SizeScan::Point(_) => Err(ParseError::Value(ValueParseError::NotNumber('.'))),
-            SizeScan::Whole(whole) => sized(whole_decimal(whole), UnitScan::START, flags),
+        let (number, scan) = match *self {
+            SizeScan::Beginning => return Err(ParseError::Value(ValueParseError::NoValue)),
+            SizeScan::Point(_) => return Err(ParseError::Value(ValueParseError::NotNumber('.'))),
+            SizeScan::Whole(whole) => (Decimal::from_digits(whole, 0, 0), UnitScan::START),
             SizeScan::Fraction(whole, digits, places) => {
-                sized(
-                    precise_decimal(whole, digits, places),
-                    UnitScan::START,
-                    flags,
-                )
+                (Decimal::from_digits(whole, digits, places), UnitScan::START)
             }
-            SizeScan::Gap(number) => sized(number, UnitScan::START, flags),
-            SizeScan::Unit(number, scan) => sized(number, scan, flags),
+            SizeScan::Gap(number) => (number, UnitScan::START),
+            SizeScan::Unit(number, scan) => (number, scan),
+        };
+        match scan.unit(flags) {
+            Some(unit) => Ok((number, unit)),
+            None => Err(ParseError::Unit(UnitParseError::STOPS_AT_BI)),
         }
     }
 }
@@ -143,24 +142,6 @@ fn more_fraction(whole: u128, digits: u128, places: u32, digit: u32) -> Option<S
     }
 }
 
-/// The whole part as a number.
-pub fn whole_decimal(whole: u128) -> Decimal
-    requires { whole < whole_limit }
-    ensures { result ≡ whole * one }
-{
-    Decimal::from_digits(whole, 0, 0)
-}
-
-/// The whole part, and so many digits after the point as a number.
-pub fn precise_decimal(whole: u128, digits: u128, places: u32) -> Decimal
-    requires whole { whole < whole_limit }
-    requires digits { digits < 10 ^ places }
-    requires places { places ≤ places_of_decimal }
-    ensures { result ≡ precise whole digits places }
-{
-    Decimal::from_digits(whole, digits, places)
-}
-
 /// A space or the beginning of a unit, after a number.
 fn after_number(number: Decimal, c: char) -> Option<SizeScan>
     ensures { result ≡ after_number number c }
@@ -169,14 +150,4 @@ fn after_number(number: Decimal, c: char) -> Option<SizeScan>
         return Some(SizeScan::Gap(number));
     }
     Some(SizeScan::Unit(number, UnitScan::START.step(c)?))
-}
-
-/// The number and its unit at the end of a text.
-fn sized(number: Decimal, scan: UnitScan, flags: Flags) -> Result<(Decimal, Unit), ParseError>
-    ensures { size_seen result ≡ sized number (unit_of flags scan) }
-{
-    match scan.unit(flags) {
-        Some(unit) => Ok((number, unit)),
-        None => Err(ParseError::Unit(UnitParseError::STOPS_AT_BI)),
-    }
 }

@@ -105,8 +105,7 @@ impl Prefix {
 }
 
 impl Multiple {
-    ghost use Rattle.byte_unit_base.specs.UnitScan.{multiple_step, multiple_shape};
-    ghost use Rattle.byte_unit_base.specs.Units.{shape_of};
+    ghost use Rattle.byte_unit_base.specs.UnitScan.{multiple_step};
 
     /// The prefix so far with one character more, or `None` where that goes on with no prefix.
     fn step(self, c: char) -> Option<Multiple>
@@ -116,17 +115,6 @@ impl Multiple {
             Multiple::One => Prefix::from_char(c).map(Multiple::Decimal),
             Multiple::Decimal(prefix) => is_i(c).then_some(Multiple::Binary(prefix)),
             Multiple::Binary(_) => None,
-        }
-    }
-
-    /// The multiple of a bit or of a byte.
-    fn unit(self, bit: bool) -> Unit
-        ensures { shape_of result ≡ multiple_shape self bit }
-    {
-        match self {
-            Multiple::One => { if bit { Unit::Bit } else { Unit::B } }
-            Multiple::Decimal(prefix) => prefix.unit(false, bit),
-            Multiple::Binary(prefix) => prefix.unit(true, bit),
         }
     }
 }
@@ -160,7 +148,7 @@ pub fn is_i(c: char) -> bool
 }
 
 impl UnitScan {
-    ghost use Rattle.byte_unit_base.specs.UnitScan.{start, unit_step, unit_of, place_of, count_of};
+    ghost use Rattle.byte_unit_base.specs.UnitScan.{unit_step, unit_of, place_of};
     ghost use Rattle.byte_unit_base.specs.Units.{shape_of};
     ghost use Rattle.byte_unit_base.specs.Edition.{current};
     ghost use Rattle.byte_unit_base.specs.Fault.{fault_at};
@@ -202,7 +190,12 @@ impl UnitScan {
             Word::Bi => return None,
             Word::Bit | Word::Bits => true,
         };
-        Some(self.multiple.unit(bit))
+        Some(match self.multiple {
+            Multiple::One if bit => Unit::Bit,
+            Multiple::One => Unit::B,
+            Multiple::Decimal(prefix) => prefix.unit(false, bit),
+            Multiple::Binary(prefix) => prefix.unit(true, bit),
+        })
     }
 
     /// The fault of a character that goes on with no spelling.
