@@ -1,7 +1,6 @@
 //! The scan of a number and a unit: one step a character.
 
-ghost use Rattle.std.specs.Prelude.{◌≡◌, ◌+◌, ◌*◌, ◌^◌, ◌<◌, ◌≤◌, nat_lt, if◌then◌else◌};
-ghost use Rattle.byte_unit_math.specs.Bounds.{places_of_decimal, whole_limit};
+ghost use Rattle.std.specs.Prelude.{◌≡◌};
 ghost use Rattle.byte_unit_base.specs.Edition.{current};
 ghost use Rattle.byte_unit_base.specs.Fault.{fault_at};
 ghost use Rattle.byte_unit_base.specs.Errors.{size_fault};
@@ -43,7 +42,10 @@ impl SizeScan {
         match *self {
             SizeScan::Beginning => Some(SizeScan::Whole(u128::from(c.to_digit(10)?))),
             SizeScan::Whole(whole) => match c.to_digit(10) {
-                Some(digit) => more_whole(whole, digit),
+                Some(digit) => {
+                    let more = whole * 10 + u128::from(digit);
+                    (more < WHOLE_LIMIT).then_some(SizeScan::Whole(more))
+                }
                 None if c == '.' => Some(SizeScan::Point(whole)),
                 None => after_number(Decimal::from_digits(whole, 0, 0), c),
             },
@@ -51,7 +53,10 @@ impl SizeScan {
                 Some(SizeScan::Fraction(whole, u128::from(c.to_digit(10)?), 1))
             }
             SizeScan::Fraction(whole, digits, places) => match c.to_digit(10) {
-                Some(digit) => more_fraction(whole, digits, places, digit),
+                Some(digit) if places < DECIMAL_PLACES => {
+                    Some(SizeScan::Fraction(whole, digits * 10 + u128::from(digit), places + 1))
+                }
+                Some(_) => None,
                 None => after_number(Decimal::from_digits(whole, digits, places), c),
             },
             SizeScan::Gap(number) => after_number(number, c),
@@ -111,34 +116,6 @@ impl SizeScan {
             Some(unit) => Ok((number, unit)),
             None => Err(ParseError::Unit(UnitParseError::STOPS_AT_BI)),
         }
-    }
-}
-
-/// One digit more of a whole part, or `None` where it would reach the limit.
-fn more_whole(whole: u128, digit: u32) -> Option<SizeScan>
-    requires whole { whole < whole_limit }
-    requires digit { digit < 10 }
-    ensures { result ≡ (if nat_lt (whole * 10 + digit) whole_limit
-        then Some (SizeScan.Whole (whole * 10 + digit))
-        else None) }
-{
-    let more = whole * 10 + u128::from(digit);
-    (more < WHOLE_LIMIT).then_some(SizeScan::Whole(more))
-}
-
-/// One digit more of a fraction, or `None` where it has all its places.
-fn more_fraction(whole: u128, digits: u128, places: u32, digit: u32) -> Option<SizeScan>
-    requires digits { digits < 10 ^ places }
-    requires places { places ≤ places_of_decimal }
-    requires digit { digit < 10 }
-    ensures { result ≡ (if nat_lt places places_of_decimal
-        then Some (SizeScan.Fraction whole (digits * 10 + digit) (places + 1))
-        else None) }
-{
-    if places < DECIMAL_PLACES {
-        Some(SizeScan::Fraction(whole, digits * 10 + u128::from(digit), places + 1))
-    } else {
-        None
     }
 }
 

@@ -141,7 +141,7 @@ impl Word {
 }
 
 /// Whether it is an `i`, in either case.
-pub fn is_i(c: char) -> bool
+fn is_i(c: char) -> bool
     ensures { result ≡ is_i c }
 {
     c.to_ascii_lowercase() == 'i'
