@@ -1,10 +1,8 @@
 //! The text of a size in a given unit.
 
-ghost use Rattle.std.specs.Prelude.{◌≡◌, ℕ, ◌*◌, ◌^◌, ◌<◌, ◌≤◌, List, length, Some};
+ghost use Rattle.std.specs.Prelude.{◌≡◌, ℕ, ◌*◌, ◌<◌, ◌≤◌, List, length, Some};
 ghost use Rattle.std.specs.Fmt.{DisplaysOnOk, DisplaysStyledOnOk};
-ghost use Rattle.byte_unit_math.specs.Bounds.{bits_limit};
 ghost use Rattle.byte_unit_math.specs.Finite.{IsExpansion};
-ghost use Rattle.byte_unit_math.specs.Nearest.{IsNearest};
 ghost use Rattle.byte_unit_math.specs.Numeral.{text_of};
 ghost use Rattle.byte_unit_math.specs.Padded.{padded};
 ghost use Rattle.byte_unit_base.specs.Shape.{bits};
@@ -121,18 +119,19 @@ fn number_in(size: u128, kind: Kind, unit: Unit, spec: FormatSpec) -> Shown
         IsNumeralBy (rule_of spec.precision spec.alternate unit) (size * bits_in kind) (bits unit) text }
     ensures few { result.places ≤ u16.MAX }
 {
+    let exact = number_in_unit(size, kind, unit);
     match spec.precision {
-        None => all_places(number_in_unit(size, kind, unit)),
+        None => all_places(exact),
         Some(precision) => {
             if spec.alternate {
                 let places = u32::from(precision.min(ALTERNATE_PLACES));
-                all_places(nearest(size, kind, unit, places, Ties::Up))
+                all_places(exact.rounded(places, Ties::Up))
             } else if is_single(unit) {
-                all_places(number_in_unit(size, kind, unit))
+                all_places(exact)
             } else {
                 let places = u32::from(precision);
                 Shown {
-                    decimal: nearest(size, kind, unit, places, Ties::Even),
+                    decimal: exact.rounded(places, Ties::Even),
                     places,
                 }
             }
@@ -150,15 +149,6 @@ fn all_places(decimal: Expansion) -> Shown
     Shown { decimal, places }
 }
 
-/// The size in the unit, to so many places.
-fn nearest(size: u128, kind: Kind, unit: Unit, places: u32, ties: Ties) -> Expansion
-    requires { size < current.size_limit }
-    ensures { let num = size * bits_in kind in
-        (q : ℕ) × IsNearest num (bits (shape_of unit)) places ties q × IsExpansion q (10 ^ places) result }
-{
-    number_in_unit(size, kind, unit).rounded(places, ties)
-}
-
 /// The size in the unit, with all its digits: at most 93 after the point.
 ///
 /// The caller owes a size below 10^30.
@@ -172,15 +162,7 @@ pub fn number_in_unit(size: u128, kind: Kind, unit: Unit) -> Expansion
     ensures { IsExpansion (size * bits_in kind) (bits (shape_of unit)) result }
 {
     let (twos, fives) = unit.powers();
-    Expansion::new(size_in_bits(size, kind), twos, fives)
-}
-
-fn size_in_bits(size: u128, kind: Kind) -> u128
-    requires { size < current.size_limit }
-    ensures value { result ≡ size * bits_in kind }
-    ensures small { result < bits_limit }
-{
-    size * kind.bits()
+    Expansion::new(size * kind.bits(), twos, fives)
 }
 
 /// Whether the unit has no prefix.

@@ -53,17 +53,11 @@ pub(crate) fn push_run<A: Allocator>(text: &mut String<A>, byte: u8, count: usiz
     if count == 0 {
         return;
     }
-    let run = run_of(byte);
+    let run = [byte; RUN];
     let mut left = count;
     while left > 0 {
         let next = left.min(RUN);
         push_ascii(text, &run[..next]);
         left -= next;
     }
-}
-
-fn run_of(byte: u8) -> [u8; RUN]
-    ensures { result ≡ replicate RUN byte }
-{
-    [byte; RUN]
 }
