@@ -58,13 +58,7 @@ pub fn read_size(
 pub(crate) fn read_by_steps(s: &str, flags: Flags) -> Result<(Decimal, Unit), ParseError>
     ensures { IsNumberReading flags s.now result }
 {
-    read_number_and_unit(s.trim(), flags)
-}
-
-/// The number and the unit that the whole text states.
-fn read_number_and_unit(text: &str, flags: Flags) -> Result<(Decimal, Unit), ParseError>
-    ensures { size_seen result ≡ read (size_scan flags) SizeScan.Beginning (chars text.now) }
-{
+    let text = s.trim();
     let (scan, end) = scan_digits(text.as_bytes());
     read_rest(scan, &text[end..], flags)
 }

@@ -3,7 +3,6 @@
 ghost use Rattle.std.specs.Prelude.{◌≡◌};
 ghost use Rattle.std.specs.Option.{option_map};
 ghost use Rattle.byte_unit_base.specs.UnitScan.{is_i};
-ghost use Rattle.byte_unit_base.specs.Fault.{expected_after_prefix};
 
 use crate::errors::UnitParseError;
 use crate::unit::Unit;
@@ -205,7 +204,10 @@ impl UnitScan {
         let expected_characters: &'static [char] = match self.word {
             Word::Empty => match self.multiple {
                 Multiple::One => &BEGINNINGS,
-                _ => after_prefix(flags),
+                // After a prefix both letters where case counts, and else the one of what is preferred.
+                _ if !flags.ignore_case => &['B', 'b'],
+                _ if flags.prefer_byte => &['B'],
+                _ => &['b'],
             },
             Word::UpperB | Word::LowerB => &['i'],
             Word::Bi => &['t'],
@@ -223,15 +225,3 @@ impl UnitScan {
 
 /// The capital letters that begin a unit.
 static BEGINNINGS: [char; 10] = ['B', 'K', 'M', 'G', 'T', 'P', 'E', 'Z', 'Y', 'R'];
-
-/// The letters that are named after a prefix: both where case counts, and else `B` where bytes are preferred and `b`
-/// where bits are.
-fn after_prefix(flags: Flags) -> &'static [char]
-    ensures { result.now ≡ expected_after_prefix flags }
-{
-    match (flags.ignore_case, flags.prefer_byte) {
-        (false, _) => &['B', 'b'],
-        (true, true) => &['B'],
-        (true, false) => &['b'],
-    }
-}
