@@ -4,7 +4,6 @@ use Rattle.std.proofs.Math.Nat.{pow-succ'}
 use Rattle.std.proofs.Math.Numerals.{add-one}
 use Rattle.byte_unit_math.specs.Bounds.{one, places_of_decimal}
 use Rattle.byte_unit_math.specs.Exact.{IsLeastPlaces}
-use Rattle.byte_unit_math.specs.ShortDigits.{IsShortened}
 use Rattle.byte_unit_math.proofs.Division.{IsLeastPlaces-last_digit}
 use Rattle.byte_unit_math.proofs.Scales.{power_parts}
 
@@ -19,22 +18,26 @@ pub record FewerZeros (digits all rest places : ℕ) : Type 0 where
   pub same : digits ≡ rest * 10 ^ (all - places)
   pub below : rest < 10 ^ places
 
+-- and none
+pub record IsShortened (digits all short places : ℕ) : Type 0 where
+  pub fewer : FewerZeros digits all short places
+  pub last : 0 < places → 0 < short % 10
+
 pub FewerZeros-all : (digits all : ℕ) → digits < 10 ^ all → FewerZeros digits all digits all
 FewerZeros-all digits all below =
     let none : all - all ≡ 0 = omega arith in
     record { few = omega arith; same = rw none (omega arith); below = below }
 
 pub FewerZeros-less :
-    (digits all rest places : ℕ) → FewerZeros digits all rest places → 0 < places → rest % 10 ≡ 0
-    → FewerZeros digits all (rest / 10) (places - 1)
-FewerZeros-less digits all rest places h some zero =
+    (digits all rest places tenth : ℕ) → FewerZeros digits all rest places → 0 < places → tenth * 10 ≡ rest
+    → FewerZeros digits all tenth (places - 1)
+FewerZeros-less digits all rest places tenth h some parts =
     let behind : all - (places - 1) ≡ (all - places) + 1 = omega (arith, h.few) in
     let scale : 10 ^ (all - (places - 1)) ≡ 10 * 10 ^ (all - places) =
     ap (λ k. 10 ^ k) behind ∙ rw add-one (pow-succ' 10 (all - places)) in
     let before : 10 ^ places ≡ 10 * 10 ^ (places - 1) =
     ap (λ k. 10 ^ k) (let e : places ≡ suc (places - 1) = omega (arith, some) in e) ∙ pow-succ' 10 (places - 1) in
-    let parts : rest ≡ 10 * (rest / 10) = omega (arith, zero) in
-    let product = ap (λ r. r * 10 ^ (all - places)) parts in
+    let product = ap (λ r. r * 10 ^ (all - places)) (sym parts) in
     record {
       few = omega (arith, h.few);
       same = h.same ∙ (product ∙ rw scale (omega arith));
@@ -64,7 +67,7 @@ EndsAt-least N rest places h last =
 
 -- a fraction without the zeros at its end
 pub shortened_ends : (N short places : ℕ) → IsShortened (N % one) places_of_decimal short places → EndsAt N short places
-shortened_ends N short places h = record { few = h.few; fraction_is = h.same }
+shortened_ends N short places h = record { few = h.fewer.few; fraction_is = h.fewer.same }
 
 pub shortened_least : (N short places : ℕ) → IsShortened (N % one) places_of_decimal short places → IsLeastPlaces N one places
 shortened_least N short places h = EndsAt-least N short places (shortened_ends N short places h) h.last
@@ -77,4 +80,4 @@ pub shortened_value :
     → (short * 10 ^ (places_of_decimal - least) ≡ N % one) × (short < 10 ^ least)
 shortened_value N short places least h k =
     let same = one_least N places least (shortened_least N short places h) k in
-    subst (λ n. (short * 10 ^ (places_of_decimal - n) ≡ N % one) × (short < 10 ^ n)) same (sym h.same, h.below)
+    subst (λ n. (short * 10 ^ (places_of_decimal - n) ≡ N % one) × (short < 10 ^ n)) same (sym h.fewer.same, h.fewer.below)

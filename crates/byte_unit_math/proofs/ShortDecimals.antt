@@ -4,10 +4,10 @@ use Rattle.std.specs.Prelude.{if◌then◌else◌}
 use Rattle.std.proofs.Math.Nat.{pow-succ'}
 use Rattle.std.proofs.lemmas.Bool.Decides.{nat_tests}
 use Rattle.byte_unit_math.specs.Bounds.{one, places_of_decimal, whole_limit}
-use Rattle.byte_unit_math.specs.ShortDigits.{IsShortened}
 use Rattle.byte_unit_math.specs.StoredDecimal.{number_of, shortened_digits, short_fraction, IsShort}
 use Rattle.byte_unit_math.specs.declared.decimal.Decimal.TheInside.{Inside}
 use Rattle.byte_unit_math.proofs.Division.{part_below}
+use Rattle.byte_unit_math.proofs.Places.{FewerZeros, IsShortened}
 use Rattle.byte_unit_math.proofs.Scales.{raise_power}
 
 -- the parts of a number
@@ -22,7 +22,7 @@ pub fraction_is : (N : ℕ) (d : Inside) → IsShort d → number_of d ≡ N →
 fraction_is N d h view = let part = below_one d h in omega (arith, part, view)
 
 pub shortened_is : (N : ℕ) (d : Inside) → IsShort d → number_of d ≡ N → IsShortened (N % one) places_of_decimal d.digits d.places
-shortened_is N d h view = record { few = h.few; same = sym (fraction_is N d h view); below = h.below; last = h.last }
+shortened_is N d h view = record { fewer = record { few = h.few; same = sym (fraction_is N d h view); below = h.below }; last = h.last }
 
 -- digits without the zeros at their end are found again
 
@@ -90,7 +90,7 @@ short_parts whole digits places h =
 -- the same number without the zeros at the end of its digits
 
 pub shortened_number :
-    (whole digits all short places : ℕ) → IsShortened digits all short places → all ≤ places_of_decimal
+    (whole digits all short places : ℕ) → FewerZeros digits all short places → all ≤ places_of_decimal
     → whole * one + short * 10 ^ (places_of_decimal - places) ≡ whole * one + digits * 10 ^ (places_of_decimal - all)
 shortened_number whole digits all short places h most =
     let scale = raise_power (all - places) (places_of_decimal - places) (omega (arith, h.few, most)) in

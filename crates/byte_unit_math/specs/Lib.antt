@@ -13,6 +13,5 @@ pub mod Powers
 pub mod Factored
 pub mod NumberLaws
 pub mod CountLaws
-pub mod ShortDigits
 pub mod StoredDecimal
 pub mod Stored

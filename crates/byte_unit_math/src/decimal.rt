@@ -7,7 +7,6 @@ ghost use Rattle.std.proofs.Common.{rules};
 ghost use Rattle.byte_unit_math.specs.Bounds.{one, places_of_decimal, whole_limit};
 ghost use Rattle.byte_unit_math.specs.Exact.{IsLeastPlaces};
 ghost use Rattle.byte_unit_math.specs.Numeral.{short};
-ghost use Rattle.byte_unit_math.specs.ShortDigits.{IsShortened};
 
 use crate::expansion::Expansion;
 use crate::tens::power_of_ten;
@@ -123,11 +122,26 @@ impl Decimal {
         requires digits { digits < 10 ^ places }
         ensures { result ≡ whole * one + digits * 10 ^ (places_of_decimal - places) }
     {
-        let (digits, places) = without_zeros(digits, places);
+        let mut short = digits;
+        let mut left = places;
+        // The zeros at the end go.
+        while left > 0 {
+            // Where the digits fit 64 bits, so does the division, which then takes less time.
+            let tenth = if short < 1 << 64 {
+                u128::from(short as u64 / 10)
+            } else {
+                short / 10
+            };
+            if tenth * 10 != short {
+                break;
+            }
+            short = tenth;
+            left -= 1;
+        }
         Decimal {
             whole,
-            digits,
-            places,
+            digits: short,
+            places: left,
         }
     }
 
@@ -168,39 +182,6 @@ impl Decimal {
     {
         self.digits
     }
-}
-
-/// The same digits after a point without the zeros at their end, and how many are left.
-#[inline(always)]
-fn without_zeros(digits: u128, places: u32) -> (u128, u32)
-    requires { digits < 10 ^ places }
-    ensures { IsShortened digits places result.0 result.1 }
-{
-    if digits < 1 << 64 {
-        let (digits, places) = short_without_zeros(digits as u64, places);
-        return (u128::from(digits), places);
-    }
-    let mut rest = digits;
-    let mut left = places;
-    while left > 0 && rest % 10 == 0 {
-        rest /= 10;
-        left -= 1;
-    }
-    (rest, left)
-}
-
-/// The same of digits that fit 64 bits, where a division takes less time.
-fn short_without_zeros(digits: u64, places: u32) -> (u64, u32)
-    requires { digits < 10 ^ places }
-    ensures { IsShortened digits places result.0 result.1 }
-{
-    let mut rest = digits;
-    let mut left = places;
-    while left > 0 && rest % 10 == 0 {
-        rest /= 10;
-        left -= 1;
-    }
-    (rest, left)
 }
 
 impl From<u8> for Decimal {

@@ -64,29 +64,20 @@ pub fn least_size_counted(
     ensures none { IfNone result ((n : ℕ) → IsLeastSize d unit_size n → limit ≤ n) }
     ensures ticks { steps.new ≡ raised steps.old 4 }
 {
-    let part = rounded_up(d.digits(), d.places(), unit_size, steps);
+    let (digits, places) = (d.digits(), d.places());
+    let part = if digits == 0 {
+        steps.raise(4);
+        0
+    } else {
+        let (high, low) = halves(digits, places);
+        let part = over_group(low % GROUP, unit_size, 0, steps);
+        let part = over_group(low / GROUP, unit_size, part, steps);
+        let part = over_group(high % GROUP, unit_size, part, steps);
+        over_group(high / GROUP, unit_size, part, steps)
+    };
     // A number past 128 bits is past each limit.
     let size = d.whole().checked_mul(unit_size)?.checked_add(part)?;
     (size < limit).then_some(size)
-}
-
-/// A fraction of so many digits times the unit's size, rounded up to a whole number.
-#[inline(always)]
-fn rounded_up(digits: u128, places: u32, unit_size: u128, steps: &mut Steps) -> u128
-    requires digits { digits < 10 ^ places }
-    requires places { places ≤ places_of_decimal }
-    requires small_unit { unit_size ≤ unit_limit }
-    ensures least { IsLeastSize (digits * 10 ^ (places_of_decimal - places)) unit_size result }
-    ensures bound { result ≤ unit_size }
-    ensures ticks { steps.new ≡ raised steps.old 4 }
-{
-    if digits == 0 {
-        steps.raise(4);
-        return 0;
-    }
-    let (high, low) = halves(digits, places);
-    let part = over_half(low, unit_size, 0, steps);
-    over_half(high, unit_size, part, steps)
 }
 
 /// The first and the last 14 digits of a fraction, of which so many digits are given.
@@ -105,21 +96,7 @@ fn halves(digits: u128, places: u32) -> (u64, u64)
     quotient_by_inverse(fraction, HALF, HALF_INVERSE, 30, 80)
 }
 
-/// The product of half the digits and the unit's size, and what the digits behind came to, rounded up.
-#[inline(always)]
-fn over_half(digits: u64, unit_size: u128, behind: u128, steps: &mut Steps) -> u128
-    requires digits { digits < half_limit }
-    requires small_unit { unit_size ≤ unit_limit }
-    requires behind { behind ≤ unit_size }
-    ensures rounded { IsRoundedUp (digits * unit_size + behind) half_limit result }
-    ensures bound { result ≤ unit_size }
-    ensures ticks { steps.new ≡ raised steps.old 2 }
-{
-    let part = over_group(digits % GROUP, unit_size, behind, steps);
-    over_group(digits / GROUP, unit_size, part, steps)
-}
-
-/// The same for one group of digits.
+/// The product of a group of digits and the unit's size, and what the digits behind came to, rounded up.
 #[inline(always)]
 fn over_group(digits: u64, unit_size: u128, behind: u128, steps: &mut Steps) -> u128
     requires digits { digits < group_limit }
@@ -129,7 +106,7 @@ fn over_group(digits: u64, unit_size: u128, behind: u128, steps: &mut Steps) -> 
     ensures bound { result ≤ unit_size }
     ensures ticks { steps.new ≡ raised steps.old 1 }
 {
-    steps.tick();
+    steps.raise(1);
     if digits == 0 && behind == 0 {
         // A group of zeros with nothing behind it costs no division.
         0

@@ -41,7 +41,7 @@ pub fn exact_quotient(size: u128, unit: u128, places: u32, steps: &mut Steps) ->
     let mut fraction = 0;
     let mut digits = 0;
     while rest > 0 && digits < most {
-        steps.tick();
+        steps.raise(1);
         let (digit, left) = digit_and_rest(rest * 10, unit);
         fraction = fraction * 10 + digit;
         rest = left;

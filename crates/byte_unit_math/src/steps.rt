@@ -35,13 +35,6 @@ impl Steps {
         self.count
     }
 
-    /// One tick more.
-    pub(crate) fn tick(&mut self)
-        ensures { self.new ≡ raised self.old 1 }
-    {
-        self.raise(1);
-    }
-
     /// So many ticks more.
     pub(crate) fn raise(&mut self, ticks: u32)
         ensures { self.new ≡ raised self.old ticks }

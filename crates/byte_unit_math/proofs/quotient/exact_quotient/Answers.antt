@@ -26,7 +26,7 @@ loop-rest-preserved c =
       divides =
           rw (c.digit_and_rest-digit.ensures.digit, c.digit_and_rest-digit.ensures.rest)
           (Dividing-more _ _ loop.rest loop.fraction loop.digits (omega arith) (omega arith) loop.invariant.divides);
-      ticks = omega (arith, c.tick.ensures, loop.invariant.ticks);
+      ticks = omega (arith, c.raise.ensures, loop.invariant.ticks);
     }
 
 pub returns-then-rest-gt0-clause-none : goal.returns-then-rest-gt0-clause-none

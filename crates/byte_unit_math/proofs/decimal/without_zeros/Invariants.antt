@@ -1,8 +1,0 @@
-use Rattle.byte_unit_math.proofs.Places.{FewerZeros}
-use Rattle.byte_unit_math.proofs.decimal.without_zeros.Given as goal
-
-abbrev pub invariant-loop-left : goal.invariant-loop-left
-invariant-loop-left l = FewerZeros l.digits l.places l.rest l.left
-
-abbrev pub decreases-loop-left : goal.decreases-loop-left
-decreases-loop-left l = l.left
