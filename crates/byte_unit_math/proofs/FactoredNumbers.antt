@@ -1,9 +1,9 @@
 -- Numbers that are given by their factors.
-use Rattle.std.proofs.Common.{◌≡◌, ℕ, ◌+◌, ◌-◌, ◌*◌, ◌^◌, ◌%◌, ◌<◌, ◌≤◌, ⊎_elim, arith, ap}
+use Rattle.std.proofs.Common.{◌≡◌, ℕ, get_or, ◌∙◌, ◌+◌, ◌-◌, ◌*◌, ◌^◌, ◌/◌, ◌%◌, ◌<◌, ◌≤◌, ⊎_elim, arith, ap, sym}
 use Rattle.std.proofs.Math.Nat.{one-le-pow, pow-le-pow_right, mul-le-mul_left, mul-le-mul_right, lt_of_mul-lt-mul_right}
 use Rattle.std.proofs.lemmas.Bool.{cases_lt}
 use Rattle.byte_unit_math.specs.Bounds.{one, places_of_decimal, whole_limit}
-use Rattle.byte_unit_math.proofs.Scales.{power_parts}
+use Rattle.byte_unit_math.proofs.Scales.{power_parts, powers_from, powers_of_at}
 
 -- a power below the limit has few factors
 few_in_power : (base most exponent : ℕ) → 1 ≤ base → base ^ exponent < whole_limit → whole_limit ≤ base ^ (most + 1) → exponent ≤ most
@@ -33,6 +33,15 @@ few_factors left twos fives some small =
       unshifted = omega (arith, left_twos, small);
     }
 
+-- its product, by a shift and the table of powers of five
+pub product_is :
+    (left twos fives : ℕ) → 1 ≤ left → left * (2 ^ twos * 5 ^ fives) < whole_limit
+    → left * 2 ^ twos % 2 ^ 128 * get_or (powers_from 5 49 1) fives 0 ≡ left * (2 ^ twos * 5 ^ fives)
+product_is left twos fives some small =
+    let few = few_factors left twos fives some small in
+    let power = powers_of_at 5 49 1 fives (omega (arith, few.few_fives)) in
+    ap (λ n. n * get_or (powers_from 5 49 1) fives 0) few.unshifted ∙ (ap (λ n. left * 2 ^ twos * n) power ∙ omega arith)
+
 -- a number in units of a place, as a count of another unit
 module _ (number unit count places : ℕ) (same : number * 10 ^ places ≡ count * unit) where
   pub count_below : number * 10 ^ places < whole_limit * unit → count < whole_limit
@@ -43,3 +52,9 @@ module _ (number unit count places : ℕ) (same : number * 10 ^ places ≡ count
       let scaled = ap (λ n. n * 10 ^ (places_of_decimal - places)) same in
       let parts = ap (λ n. number * n) (power_parts places few) in
       omega (arith, scaled, parts)
+
+-- a quotient and a rest by the same numbers
+pub cut_at :
+    {product count power scale : ℕ} {parts quotient : ℕ × ℕ} → product ≡ count → power ≡ scale → parts ≡ quotient
+    → (quotient.0 ≡ product / power) × (quotient.1 ≡ product % power) → (parts.0 ≡ count / scale) × (parts.1 ≡ count % scale)
+cut_at is_count is_scale is_quotient divides = rw (sym is_count, sym is_scale, is_quotient) divides

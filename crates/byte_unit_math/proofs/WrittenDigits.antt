@@ -193,7 +193,7 @@ last_put rest start bytes whole one within h =
     drop-set bytes start (48 + rest) within ∙ (ap (λ l. l ++ drop (start + 1) bytes) (sym (decimal_one rest one)) ∙ h)
 
 -- so many of the last digits, before those that are there
-pub digits_put :
+digits_put :
     (k rest start place : ℕ) (bytes new whole : List ℕ) → (10 ^ k ≤ rest) × (rest < 2 ^ 128)
     → drop place new ≡ glyphs (last_digits k (rest % 10 ^ k)) ++ drop start bytes → decimal rest ++ drop start bytes ≡ whole
     → decimal (rest / 10 ^ k) ++ drop place new ≡ whole
@@ -202,6 +202,23 @@ digits_put k rest start place bytes new whole wide put so_far =
     ap (λ l. decimal (rest / 10 ^ k) ++ l) (put ∙ ap (λ l. l ++ drop start bytes) (sym (tail_glyphs k low)))
     ∙ (sym (append_assoc (decimal (rest / 10 ^ k)) (tail_digits k low) (drop start bytes))
     ∙ (ap (λ l. l ++ drop start bytes) (sym (decimal_split k rest wide.0 wide.1)) ∙ so_far))
+
+-- the last digits of n are written before the place `end`, from `start` on, and those of the rest are not yet
+pub record IsWritten (n end : ℕ) (old : List ℕ) (rest start : ℕ) (bytes : List ℕ) : Type 0 where
+  pub within : start ≤ end
+  pub place : start + length (decimal n) ≡ end + length (decimal rest)
+  pub digits : decimal rest ++ drop start bytes ≡ decimal n ++ drop end old
+
+pub IsWritten-more :
+    {n end rest start place : ℕ} {old bytes new : List ℕ} (k : ℕ) → (10 ^ k ≤ rest) × (rest < 2 ^ 128) → place + k ≡ start
+    → drop place new ≡ glyphs (last_digits k (rest % 10 ^ k)) ++ drop start bytes → IsWritten n end old rest start bytes
+    → IsWritten n end old (rest / 10 ^ k) place new
+IsWritten-more {n} {end} {rest} {start} {place} {old} {bytes} {new} k wide back put h =
+    record {
+      within = omega (arith, h.within, back);
+      place = omega (arith, h.place, back, length_split k rest wide.0 wide.1);
+      digits = digits_put k rest start place bytes new (decimal n ++ drop end old) wide put h.digits;
+    }
 
 -- a group of digits, behind a one
 pub group_put :

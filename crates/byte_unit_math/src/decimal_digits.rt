@@ -7,7 +7,7 @@ ghost use Rattle.byte_unit_math.specs.Digits.{last_digits};
 ghost use Rattle.byte_unit_math.specs.Numeral.{fraction_text, glyphs};
 
 use crate::dividing::{EIGHTEEN_DIGITS, split_at_eighteen};
-use crate::tens::{power_of_ten, wide_power_of_ten};
+use crate::tens::power_of_ten;
 use std::marker::Model;
 use std::{fmt, str};
 
@@ -103,7 +103,7 @@ pub fn decimal_len(n: u128) -> usize
     }
     // The count of binary digits leaves the choice between so many decimal ones and one more.
     let few = (u128::BITS - n.leading_zeros()) * 1_233 / 4_096;
-    if n < wide_power_of_ten(few) {
+    if n < power_of_ten(few) {
         return few as usize;
     }
     few as usize + 1
@@ -189,12 +189,17 @@ fn write_digits(n: u64, bytes: &mut [u8], end: usize) -> usize
         start = put_four((rest % 10_000) as u32, bytes, start);
         rest /= 10_000;
     }
-    let few = rest as u32;
-    if few < 100 {
-        return put_one_or_two(few, bytes, start);
+    let mut few = rest as u32;
+    if few >= 100 {
+        start = put_two(few % 100, bytes, start);
+        few /= 100;
     }
-    start = put_two(few % 100, bytes, start);
-    put_one_or_two(few / 100, bytes, start)
+    if few >= 10 {
+        return put_two(few, bytes, start);
+    }
+    start -= 1;
+    bytes[start] = b'0' + few as u8;
+    start
 }
 
 /// Writes four digits, zeros in front among them, and answers where they begin.
@@ -223,22 +228,5 @@ fn put_two(n: u32, bytes: &mut [u8], end: usize) -> usize
     let pair = n as usize * 2;
     bytes[start + 1] = PAIRS[pair + 1];
     bytes[start] = PAIRS[pair];
-    start
-}
-
-/// Writes the digits of a number below a hundred, and answers where they begin.
-#[inline]
-fn put_one_or_two(n: u32, bytes: &mut [u8], end: usize) -> usize
-    requires below { n < 100 }
-    requires room { length (decimal n) ≤ end }
-    requires within { end ≤ length bytes.old }
-    ensures begins { result + length (decimal n) ≡ end }
-    ensures digits { drop result bytes.new ≡ decimal n ++ drop end bytes.old }
-{
-    if n >= 10 {
-        return put_two(n, bytes, end);
-    }
-    let start = end - 1;
-    bytes[start] = b'0' + n as u8;
     start
 }

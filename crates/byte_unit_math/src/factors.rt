@@ -1,12 +1,11 @@
 //! How often two and five divide a size, and what is left of it.
-ghost use Rattle.std.specs.Prelude.{◌≡◌, ◌≢◌, ◌+◌, ◌*◌, ◌%◌, ◌^◌, ◌<◌, ◌≤◌};
-ghost use Rattle.byte_unit_math.specs.Bounds.{size_limit, whole_limit};
+ghost use Rattle.std.specs.Prelude.{◌≡◌, ◌+◌, ◌<◌, ◌≤◌};
+ghost use Rattle.byte_unit_math.specs.Bounds.{size_limit};
 ghost use Rattle.byte_unit_math.specs.Factored.{value_of};
 ghost use Rattle.byte_unit_math.specs.Powers.{IsTwoFive};
 ghost use Rattle.byte_unit_math.specs.Steps.{raised};
 
 use crate::steps::Steps;
-use crate::tens::power_of_five;
 
 /// A number by its factors: `left * 2^twos * 5^fives`.
 #[derive(Clone, Copy, Debug)]
@@ -14,18 +13,6 @@ pub struct Factors {
     pub left: u128,
     pub twos: u32,
     pub fives: u32,
-}
-
-impl Factors {
-    /// The number.
-    #[inline(always)]
-    pub(crate) fn product(self) -> u128
-        requires some { 1 ≤ self.left }
-        requires small { value_of self < whole_limit }
-        ensures { result ≡ value_of self }
-    {
-        (self.left << self.twos) * power_of_five(self.fives)
-    }
 }
 
 /// How often two and how often five divide the size.
@@ -69,44 +56,21 @@ pub fn factors_of(size: u128, steps: &mut Steps) -> Factors
     ensures few { result.twos + result.fives + 2 ≤ 101 }
 {
     let twos = size.trailing_zeros();
-    let (left, fives) = without_fives(size >> twos);
+    let mut left = size >> twos;
+    let mut fives = 0;
+    loop {
+        // Where it fits 64 bits, so does the division, which then takes less time.
+        let fifth = if left < 1 << 64 {
+            u128::from(left as u64 / 5)
+        } else {
+            left / 5
+        };
+        if fifth * 5 != left {
+            break;
+        }
+        left = fifth;
+        fives += 1;
+    }
     steps.raise(twos + fives + 2);
     Factors { left, twos, fives }
-}
-
-/// What is left of the number without its fives, and how many they are.
-fn without_fives(number: u128) -> (u128, u32)
-    requires some { 1 ≤ number }
-    requires small { number < size_limit }
-    ensures product { number ≡ result.0 * 5 ^ result.1 }
-    ensures none { result.0 % 5 ≢ 0 }
-    ensures few { result.1 ≤ 42 }
-{
-    let mut left = number;
-    let mut fives = 0;
-    // As soon as what is left fits, the divisions are of 64 bits.
-    while left >= 1 << 64 {
-        if left % 5 > 0 {
-            return (left, fives);
-        }
-        left /= 5;
-        fives += 1;
-    }
-    let (left, others) = short_without_fives(left as u64);
-    (u128::from(left), fives + others)
-}
-
-/// The same for a number of 64 bits.
-fn short_without_fives(number: u64) -> (u64, u32)
-    requires { 1 ≤ number }
-    ensures product { number ≡ result.0 * 5 ^ result.1 }
-    ensures none { result.0 % 5 ≢ 0 }
-{
-    let mut left = number;
-    let mut fives = 0;
-    while left % 5 == 0 {
-        left /= 5;
-        fives += 1;
-    }
-    (left, fives)
 }

@@ -9,7 +9,7 @@ use crate::decimal::{DECIMAL_PLACES, Decimal};
 use crate::dividing::{digit_and_rest, quotient_and_rest, quotient_by_short};
 use crate::factors::Factors;
 use crate::steps::Steps;
-use crate::tens::power_of_ten;
+use crate::tens::{POWERS_OF_FIVE, power_of_ten};
 
 /// Numbers below this fit 64 bits.
 const SHORT: u128 = 1 << 64;
@@ -79,46 +79,22 @@ pub fn factored_quotient(
     ensures exact { result * (2 ^ twos * 5 ^ fives) ≡ value_of number * one }
     ensures ticks { (least : ℕ) × IsLeastPlaces result one least × (steps.new ≡ raised steps.old least) }
 {
-    let count = Factors {
-        left: number.left,
-        twos: number.twos + places - twos,
-        fives: number.fives + places - fives,
-    };
-    let quotient = in_places(count.product(), places);
-    steps.raise(quotient.places());
-    quotient
-}
-
-/// So many units of a place.
-#[inline(always)]
-fn in_places(count: u128, places: u32) -> Decimal
-    requires small { count < whole_limit }
-    requires places { places ≤ places_of_decimal }
-    ensures { result ≡ count * 10 ^ (places_of_decimal - places) }
-{
-    let (whole, digits) = at_point(count, places);
-    Decimal::from_digits(whole, digits, places)
-}
-
-/// The parts before and behind the point of so many units of a place.
-#[inline(always)]
-fn at_point(count: u128, places: u32) -> (u128, u128)
-    requires small { count < whole_limit }
-    requires places { places ≤ places_of_decimal }
-    ensures whole { result.0 ≡ count / 10 ^ places }
-    ensures digits { result.1 ≡ count % 10 ^ places }
-{
-    match places {
+    let power = POWERS_OF_FIVE[(number.fives + places - fives) as usize];
+    let count = (number.left << (number.twos + places - twos)) * power;
+    let (whole, digits) = match places {
         0 => (count, 0),
         // A division by a constant takes a multiplication or a few.
         1 => at_place(count, 10),
         2 => at_place(count, 100),
         3 => at_place(count, 1000),
         _ => quotient_and_rest(count, power_of_ten(places)),
-    }
+    };
+    let quotient = Decimal::from_digits(whole, digits, places);
+    steps.raise(quotient.places());
+    quotient
 }
 
-/// The same by the number of units of the place that one is, a constant.
+/// The parts before and behind the point of so many units of a place, by the number of them that one is, a constant.
 #[inline(always)]
 fn at_place(count: u128, one: u64) -> (u128, u128)
     requires some { 1 ≤ one }

@@ -1,6 +1,5 @@
 //! Powers of ten and of five.
 ghost use Rattle.std.specs.Prelude.{◌≡◌, ◌^◌, ◌≤◌};
-ghost use Rattle.byte_unit_math.specs.Bounds.{places_of_decimal};
 
 /// Ten to each power that 128 bits hold.
 const POWERS: [u128; 39] = [
@@ -45,22 +44,14 @@ const POWERS: [u128; 39] = [
     100_000_000_000_000_000_000_000_000_000_000_000_000,
 ];
 
-/// Ten to a power of at most 28. It is looked up, since to work a power out takes longer than to read a short text.
+/// Ten to a power of at most 38, the greatest that 128 bits hold. It is looked up, since to work a power out takes longer
+/// than to read a short text.
 ///
 /// ```text
 /// power_of_ten(3)    1000
 /// ```
 #[inline]
 pub fn power_of_ten(exponent: u32) -> u128
-    requires { exponent ≤ places_of_decimal }
-    ensures { result ≡ 10 ^ exponent }
-{
-    POWERS[exponent as usize]
-}
-
-/// Ten to a power of at most 38, the greatest that 128 bits hold.
-#[inline]
-pub(crate) fn wide_power_of_ten(exponent: u32) -> u128
     requires { exponent ≤ 38 }
     ensures { result ≡ 10 ^ exponent }
 {
@@ -68,7 +59,7 @@ pub(crate) fn wide_power_of_ten(exponent: u32) -> u128
 }
 
 /// Five to each power below 2^112.
-const POWERS_OF_FIVE: [u128; 49] = [
+pub(crate) const POWERS_OF_FIVE: [u128; 49] = [
     1,
     5,
     25,
@@ -119,12 +110,3 @@ const POWERS_OF_FIVE: [u128; 49] = [
     710_542_735_760_100_185_871_124_267_578_125,
     3_552_713_678_800_500_929_355_621_337_890_625,
 ];
-
-/// Five to a power of at most 48.
-#[inline]
-pub(crate) fn power_of_five(exponent: u32) -> u128
-    requires { exponent ≤ 48 }
-    ensures { result ≡ 5 ^ exponent }
-{
-    POWERS_OF_FIVE[exponent as usize]
-}

@@ -6,15 +6,15 @@ use Rattle.byte_unit_math.proofs.decimal_digits.decimal_len.Goals as goal
 pub returns-then-n-lt10-clause-exact : goal.returns-then-n-lt10-clause-exact
 returns-then-n-lt10-clause-exact c = sym (length_one c.args.n c.if-n-lt10.true)
 
-pub returns-then-n-wide_power_of_ten-clause-exact :
-    goal.returns-then-n-wide_power_of_ten-clause-exact
-returns-then-n-wide_power_of_ten-clause-exact c =
-    let power = c.wide_power_of_ten.ensures in
+pub returns-then-n-power_of_ten-clause-exact :
+    goal.returns-then-n-power_of_ten-clause-exact
+returns-then-n-power_of_ten-clause-exact c =
+    let power = c.power_of_ten.ensures in
     sym ((length_by c.args.n _ c.if-n-lt10.false (omega arith) refl).fewer
-    (subst (λ m. c.args.n < m) power c.if-n-wide_power_of_ten.true))
+    (subst (λ m. c.args.n < m) power c.if-n-power_of_ten.true))
 
 pub returns-clause-exact : goal.returns-clause-exact
 returns-clause-exact c =
-    let power = c.wide_power_of_ten.ensures in
+    let power = c.power_of_ten.ensures in
     sym ((length_by c.args.n _ c.if-n-lt10.false (omega arith) refl).more
-    (subst (λ m. m ≤ c.args.n) power c.if-n-wide_power_of_ten.false))
+    (subst (λ m. m ≤ c.args.n) power c.if-n-power_of_ten.false))

@@ -1,9 +1,0 @@
-use Rattle.std.proofs.Common.{arith}
-use Rattle.byte_unit_math.proofs.TwosFives.{FivesOff-more, FivesOff-few}
-use Rattle.byte_unit_math.proofs.factors.short_without_fives.Goals as goal
-
-pub overflow_add-fives : goal.overflow_add-fives
-overflow_add-fives c = omega (arith, FivesOff-few c.args.number c.loop-left.left c.loop-left.fives (omega arith) c.loop-left.invariant)
-
-pub loop-left-preserved : goal.loop-left-preserved
-loop-left-preserved c = FivesOff-more _ _ _ c.loop-left.invariant (omega arith)
