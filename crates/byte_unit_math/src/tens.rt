@@ -44,8 +44,8 @@ const POWERS: [u128; 39] = [
     100_000_000_000_000_000_000_000_000_000_000_000_000,
 ];
 
-/// Ten to a power of at most 38, the greatest that 128 bits hold. It is looked up, since to work a power out takes longer
-/// than to read a short text.
+/// Ten to a power of at most 38, the greatest that 128 bits hold. It is looked up, since to work a power out takes
+/// longer than to read a short text.
 ///
 /// ```text
 /// power_of_ten(3)    1000

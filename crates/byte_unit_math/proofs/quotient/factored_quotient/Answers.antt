@@ -63,8 +63,8 @@ quotient_and_rest-requires c = omega (arith, c.power_of_ten.ensures, power_bound
 abbrev start : Joined-places → Start
 start c = (goal.at.from_digits-quotient-requires-clause-digits c).Start
 
-parts : (c : Joined-places)
-    → (c.match-places.whole.0 ≡ count_of (start c) / 10 ^ c.args.places) × (c.match-places.whole.1 ≡ count_of (start c) % 10 ^ c.args.places)
+parts : (c : Joined-places) → (c.match-places.whole.0 ≡ count_of (start c) / 10 ^ c.args.places)
+    × (c.match-places.whole.1 ≡ count_of (start c) % 10 ^ c.args.places)
 parts c =
     let is_count = product (start c) in
     let Power : ℕ → ℕ = λ n. 10 ^ n in
