@@ -2,7 +2,7 @@
 use Rattle.std.proofs.Common.{◌≡◌, ◌≢◌, ◌+◌, ◌<◌, ◌≤◌, ℕ, zero, suc, List, [], ◌∷◌, ◌++◌, take, drop, get_or, length}
 use Rattle.std.proofs.Common.{arith, false, eqb, sym, ap, subst, ◌∙◌, append_assoc, false-eqb}
 use Rattle.std.proofs.lemmas.List.{take_more}
-use Rattle.byte_unit_lines.specs.Answer.{Kind}
+use Rattle.byte_unit_lines.specs.Answer.{Kind, IsAnswer}
 use Rattle.byte_unit_lines.specs.Progress.{ended_by, begun_by, IsUnbroken, AddsAnswer, AddsAnswers}
 use Rattle.byte_unit_lines.proofs.Answering.{answers_after, answers_one}
 use Rattle.byte_unit_lines.proofs.Lines.{ended_to_end, begun_to_end, ended_to_other, begun_to_other, ended_front, begun_front}
@@ -61,6 +61,12 @@ pub record IsFed (kind : Kind) (start now : Feed) : Type 0 where
   pub added : AddsAnswers kind answered start.answers now.answers
   pub ended : ended_by start.line start.rest ≡ answered ++ ended_by now.line now.rest
   pub begun : begun_by start.line start.rest ≡ begun_by now.line now.rest
+
+-- an answer that was added, where the line and what came of it are called otherwise
+pub added_as : (kind : Kind) (line old : List ℕ) {same new after : List ℕ} → AddsAnswer kind same old new → same ≡ line → after ≡ new
+    → AddsAnswer kind line old after
+added_as kind line old (answer, is_answer, new_is) line_is after_is =
+    (answer, subst (λ this. IsAnswer kind this answer) line_is is_answer, after_is ∙ new_is)
 
 -- the line that ends at this place is answered, and nothing of the next has come
 pub record IsAnsweredTo (kind : Kind) (now next : Feed) (place : ℕ) : Type 0 where

@@ -8,4 +8,3 @@ pub mod Outcome
 pub mod Progress
 pub mod Report
 pub mod Streams
-pub mod Waiting

@@ -11,7 +11,6 @@ mod refusing;
 mod run;
 #[cfg(test)]
 mod tests;
-mod waiting;
 mod words;
 mod writing;
 

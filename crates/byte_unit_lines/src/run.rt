@@ -1,19 +1,21 @@
 //! The program's loop: reads, answers the lines that came, writes the answers.
+//!
+//! The answers that wait to be written are bytes: whole answers, one after another. Their memory is kept from one read
+//! to the next, and so is that of a line of which only the front has come.
 
-ghost use Rattle.std.specs.Prelude.{◌≡◌, ◌+◌, ◌^◌, ◌<◌, ◌≤◌, ℕ, List, [], ◌++◌, get_or, take, length};
+ghost use Rattle.std.specs.Prelude.{◌≡◌, ◌+◌, ◌^◌, ◌<◌, ◌≤◌, ℕ, List, [], get_or, take, length};
 ghost use Rattle.std.specs.Prelude.{IsTrue, IsErrOf, IfErr, OnOk, OnErr, IfSome, IfNone};
 ghost use Rattle.std.specs.Io.KnownBytes.{Appends, IsAtEnd};
-ghost use Rattle.byte_unit_lines.specs.Waiting.{answers_in};
 ghost use Rattle.byte_unit_lines.specs.Lines.{line_end};
 ghost use Rattle.byte_unit_lines.specs.Outcome.{IsBeginning, IsRun};
-ghost use Rattle.byte_unit_lines.specs.Progress.{ended_by, begun_by, IsUnbroken, AddsAnswer, AddsAnswers, AddsFirst};
+ghost use Rattle.byte_unit_lines.specs.Progress.{ended_by, begun_by, IsUnbroken, AddsAnswers, AddsFirst};
 ghost use Rattle.byte_unit_lines.specs.Progress.{IsAnswered, IsLineAnswered};
 ghost use Rattle.byte_unit_lines.specs.Streams.{reader_of, reading_failed, writer_of, writing_failed};
 
 use crate::arguments::Kind;
 use crate::laws::each_line_has_an_answer;
+use crate::line::add_answer;
 use crate::reading::Reading;
-use crate::waiting::Waiting;
 use crate::writing::Writing;
 use std::alloc::{AllocError, Allocator, Global};
 use std::io::{Read, Write};
@@ -96,7 +98,7 @@ pub fn run_in<A: Allocator, R: Read, W: Write>(
     // What a failing writer took begins a report, and a report answers the unanswered lines too.
     each_line_has_an_answer();
     let mut line = Vec::new(alloc);
-    let mut waiting = Waiting::new(alloc);
+    let mut waiting = Vec::new(alloc);
     'reads: loop {
         match reader.read(buffer) {
             None => return Err(RunError::Read),
@@ -116,20 +118,20 @@ fn answer_piece<A: Allocator, W: Write>(
     line: &mut Vec<u8, A>,
     bytes: &[u8],
     kind: Kind,
-    waiting: &mut Waiting<A>,
+    waiting: &mut Vec<u8, A>,
     writer: &mut Writing<W>,
 ) -> Result<(), RunError>
-    requires { answers_in waiting.old ≡ [] }
+    requires { waiting.old.items ≡ [] }
     ensures written { (written : List ℕ)
         × Appends (W.contents (writer_of writer.old)) (W.contents (writer_of writer.new)) written
         × IsAnswered kind (ended_by line.old.items bytes.now) result written }
     ensures line { OnOk result (line.new.items ≡ begun_by line.old.items bytes.now) }
-    ensures waiting { OnOk result (answers_in waiting.new ≡ []) }
+    ensures waiting { OnOk result (waiting.new.items ≡ []) }
     ensures failed { IsErrOf result RunError.Write → IsTrue (writing_failed writer.new) }
 {
     let fed = feed(line, bytes, kind, waiting);
     // The answers to the lines before a refusal are written too.
-    write_whole(writer, waiting.as_bytes())?;
+    write_whole(writer, waiting)?;
     waiting.clear();
     Ok(fed?)
 }
@@ -138,17 +140,17 @@ fn answer_piece<A: Allocator, W: Write>(
 fn answer_last<A: Allocator, W: Write>(
     line: &[u8],
     kind: Kind,
-    waiting: &mut Waiting<A>,
+    waiting: &mut Vec<u8, A>,
     writer: &mut Writing<W>,
 ) -> Result<(), RunError>
-    requires { answers_in waiting.old ≡ [] }
+    requires { waiting.old.items ≡ [] }
     ensures written { (written : List ℕ)
         × Appends (W.contents (writer_of writer.old)) (W.contents (writer_of writer.new)) written
         × IsLineAnswered kind line.now result written }
     ensures failed { IsErrOf result RunError.Write → IsTrue (writing_failed writer.new) }
 {
-    waiting.add(line, kind)?;
-    write_whole(writer, waiting.as_bytes())
+    add_answer(line, kind, waiting)?;
+    write_whole(writer, waiting)
 }
 
 /// Adds the answers to the lines that end in these bytes. `line` is what has come of the first, and
@@ -157,41 +159,26 @@ fn feed<A: Allocator>(
     line: &mut Vec<u8, A>,
     bytes: &[u8],
     kind: Kind,
-    waiting: &mut Waiting<A>,
+    waiting: &mut Vec<u8, A>,
 ) -> Result<(), AllocError>
     ensures added { AddsFirst kind (ended_by line.old.items bytes.now)
-        (answers_in waiting.old) (answers_in waiting.new) }
+        waiting.old.items waiting.new.items }
     ensures ok { OnOk result (AddsAnswers kind (ended_by line.old.items bytes.now)
-        (answers_in waiting.old) (answers_in waiting.new)) }
+        waiting.old.items waiting.new.items) }
     ensures line { OnOk result (line.new.items ≡ begun_by line.old.items bytes.now) }
 {
     let mut rest = bytes;
     while let Some(n) = end_of(rest) {
-        answer_line(line, &rest[..n], kind, waiting)?;
+        if line.is_empty() {
+            add_answer(&rest[..n], kind, waiting)?;
+        } else {
+            line.extend_from_slice(&rest[..n])?;
+            add_answer(line, kind, waiting)?;
+            line.clear();
+        }
         rest = &rest[n + 1..];
     }
     line.extend_from_slice(rest)
-}
-
-/// Adds the answer to the line that ends with these bytes. `line` is what has come of it before.
-fn answer_line<A: Allocator>(
-    line: &mut Vec<u8, A>,
-    bytes: &[u8],
-    kind: Kind,
-    waiting: &mut Waiting<A>,
-) -> Result<(), AllocError>
-    ensures ok { OnOk result (AddsAnswer kind (line.old.items ++ bytes.now)
-        (answers_in waiting.old) (answers_in waiting.new)) }
-    ensures err { OnErr result (answers_in waiting.new ≡ answers_in waiting.old) }
-    ensures line { OnOk result (line.new.items ≡ []) }
-{
-    if line.is_empty() {
-        return waiting.add(bytes, kind);
-    }
-    line.extend_from_slice(bytes)?;
-    waiting.add(line, kind)?;
-    line.clear();
-    Ok(())
 }
 
 /// How many bytes come before the first line end.

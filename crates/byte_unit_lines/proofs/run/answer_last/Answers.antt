@@ -8,9 +8,9 @@ pub returns-clause-written : goal.returns-clause-written
 returns-clause-written g c =
     let held = g.W.Write.contents (writer_of c.args.writer.now) in
     let holds = g.W.Write.contents (writer_of c.write_whole.new.writer) in
-    let added = c.in_ok-add.ensures.ok in
-    let bytes = c.as_bytes.result.now in
-    let same : added.0 ≡ bytes = sym (c.as_bytes.ensures ∙ added.2 ∙ ap (λ before. before ++ added.0) c.requires) in
+    let added = c.in_ok-add_answer.ensures.ok in
+    let bytes = c.deref.result.now in
+    let same : added.0 ≡ bytes = sym (c.deref.ensures.value ∙ added.2 ∙ ap (λ before. before ++ added.0) c.requires) in
     let is_answer = subst (IsAnswer c.args.kind c.args.line.now) same added.1 in
     let write = c.write_whole in
     last_written c.args.kind c.args.line.now bytes held holds write.result is_answer

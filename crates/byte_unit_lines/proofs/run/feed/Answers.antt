@@ -1,21 +1,44 @@
-use Rattle.std.proofs.Common.{◌+◌, ◌-◌, length, take, drop}
+use Rattle.std.proofs.Common.{◌+◌, ◌-◌, ◌++◌, ◌≡◌, length, take, drop, sym, ap, ◌∙◌, vec_len}
 use Rattle.std.proofs.lemmas.List.{take_rest}
-use Rattle.byte_unit_lines.specs.Waiting.{answers_in}
-use Rattle.byte_unit_lines.proofs.Feeding.{Feed, fed_on}
+use Rattle.byte_unit_lines.proofs.Feeding.{Feed, IsAnsweredTo, added_as, fed_on}
+use Rattle.byte_unit_lines.proofs.Runs.{nothing_begun}
+use Rattle.byte_unit_lines.proofs.run.feed.Goals.{then-is_empty+in_ok-add_answer, else-is_empty+in_ok-extend_from_slice+in_ok-add_answer-2}
 use Rattle.byte_unit_lines.proofs.run.feed.Goals as goal
 
 pub loop-n-preserved : goal.loop-n-preserved
 loop-n-preserved g c =
     let place = c.in-Some.n in
+    let ends = c.in-Some.ensures.some in
     let rest = c.loop-n.rest.now in
-    let added = c.in_ok-answer_line.ensures in
+    let front = c.loop-n.line.items in
+    let back = take place rest in
     let start : Feed =
-    record { line = c.args.line.now.items; rest = c.args.bytes.now; answers = answers_in c.args.waiting.now } in
-    let now : Feed = record { line = c.loop-n.line.items; rest = rest; answers = answers_in c.loop-n.waiting } in
+    record { line = c.args.line.now.items; rest = c.args.bytes.now; answers = c.args.waiting.now.items } in
+    let now : Feed = record { line = front; rest = rest; answers = c.loop-n.waiting.items } in
     let next : Feed = record {
-      line = c.answer_line.new.line.items;
+      line = c.if-is_empty.line.items;
       rest = take (length rest - (place + 1)) (drop (place + 1) rest);
-      answers = answers_in c.answer_line.new.waiting;
+      answers = c.if-is_empty.waiting.items;
     } in
-    fed_on c.args.kind start now next place c.loop-n.invariant
-    (record { ends = c.in-Some.ensures.some; answer = added.ok; line_is = added.line; rest_is = take_rest rest (place + 1) })
+    let rest_is = take_rest rest (place + 1) in
+    let answered : IsAnsweredTo c.args.kind now next place = elim c.if-is_empty.branch [
+      | then-is_empty+in_ok-add_answer w ↦
+          let none = nothing_begun front (vec_len c.loop-n.line) c.loop-n.line.ok.0 w.if-is_empty.ensures in
+          record {
+            ends = ends;
+            answer =
+                added_as c.args.kind (front ++ back) now.answers w.in_ok-add_answer.ensures.ok (ap (λ line. line ++ back) (sym none)) (ap (λ waiting. waiting.items) w.waiting-is);
+            line_is = ap (λ line. line.items) w.line-is ∙ none;
+            rest_is = rest_is;
+          }
+      | else-is_empty+in_ok-extend_from_slice+in_ok-add_answer-2 w ↦
+          let joined : w.deref.result.now ≡ front ++ back = w.deref.ensures.value ∙ w.in_ok-extend_from_slice.ensures.items in
+          record {
+            ends = ends;
+            answer = added_as c.args.kind (front ++ back) now.answers w.in_ok-add_answer-2.ensures.ok joined
+                (ap (λ waiting. waiting.items) w.waiting-is);
+            line_is = ap (λ line. line.items) w.line-is ∙ w.clear.ensures.items;
+            rest_is = rest_is;
+          }
+    ] in
+    fed_on c.args.kind start now next place c.loop-n.invariant answered

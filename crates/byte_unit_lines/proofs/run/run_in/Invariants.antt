@@ -1,4 +1,3 @@
-use Rattle.byte_unit_lines.specs.Waiting.{answers_in}
 use Rattle.byte_unit_lines.specs.Streams.{reader_of, writer_of, reads_left}
 use Rattle.byte_unit_lines.proofs.Runs.{HasServed}
 use Rattle.byte_unit_lines.proofs.run.run_in.Given as goal
@@ -8,7 +7,7 @@ invariant-reads g l =
     let remaining = g.R.Read.remaining in
     let contents = g.W.Write.contents in
     HasServed l.kind (remaining (reader_of l.initial.reader)) (remaining (reader_of l.reader))
-    (contents (writer_of l.initial.writer)) (contents (writer_of l.writer)) l.line.items (answers_in l.waiting)
+    (contents (writer_of l.initial.writer)) (contents (writer_of l.writer)) l.line.items l.waiting.items
 
 abbrev pub decreases-reads : goal.decreases-reads
 decreases-reads g l = reads_left l.reader
