@@ -1,14 +1,17 @@
 -- What is added for a line.
 use Rattle.std.proofs.Common.{◌≡◌, ℕ, ◌+◌, ◌≤◌, List, [], ◌∷◌, ◌++◌, false, if◌then◌else◌, codes, refl, sym, ap, ◌∙◌, append_assoc}
+use Rattle.std.proofs.Common.{◌-◌, drop, set}
 use Rattle.std.proofs.Common.{Result, Ok, Err, OnOk, is_ok, length, take, arith}
 use Rattle.std.specs.Prelude.{⊤}
 use Rattle.std.specs.Str.{IsUtf8}
-use Rattle.std.proofs.lemmas.List.{length-append, length-take, take_at}
+use Rattle.std.proofs.lemmas.List.{length-append, length-take, length-drop, take_at, take_more_set}
+use borrow.Rule.Slice.PartMut.{put_mid}
 use Rattle.byte_unit.specs.Accepted.{IsAccepted, IsRefused}
 use Rattle.byte_unit.specs.Edition.{current}
 use Rattle.byte_unit.specs.Fault.{Fault}
-use Rattle.byte_unit.specs.Forms.{IsText}
+use Rattle.byte_unit.specs.Forms.{IsText, narrow_text}
 use Rattle.byte_unit.specs.NamedSpecs.{plain_spec, alternate_spec}
+use Rattle.byte_unit.specs.Written.{Writes}
 use Rattle.byte_unit_lines.specs.Answer.{Kind, IsAnswer, words_of, not_text, size, refused}
 use Rattle.byte_unit_lines.specs.Progress.{AddsAnswer}
 
@@ -56,3 +59,80 @@ put_behind at end old front form rest behind front_is within end_is =
     ∙ (ap (λ l. take end (take at old ++ l)) (append_assoc form rest behind)
     ∙ (ap (λ l. take end l) (sym (append_assoc (take at old) form (rest ++ behind)))
     ∙ take_at (take at old ++ form) (rest ++ behind) end long))
+
+-- a text that was written where it fits
+module _ {IsForm : List ℕ → Type 0} {old new : List ℕ} {count : ℕ} (wrote : Writes IsForm old new count) (room : count ≤ length old) where
+  written_is : new ≡ wrote.form ++ drop (length wrote.form) old
+  written_is = wrote.fits (omega (arith, wrote.needed_is, room))
+
+  written_front : take count new ≡ wrote.form
+  written_front =
+      ap (λ l. take count l) written_is ∙ take_at wrote.form (drop (length wrote.form) old) count (sym wrote.needed_is)
+
+  written_length : length new ≡ length old
+  written_length =
+      let behind = drop (length wrote.form) old in
+      omega (
+        arith,
+        wrote.needed_is,
+        room,
+        ap (λ l. length l) written_is,
+        length-append {A = ℕ} wrote.form behind,
+        length-drop {A = ℕ} (length wrote.form) old,
+      )
+
+-- how long the bytes are after a write to a part of them
+put_length : (at count : ℕ) (old part : List ℕ) → at + count ≤ length old → length part ≡ count
+    → length (put_mid at count old part) ≡ length old
+put_length at count old part fits long =
+    let behind = drop count (drop at old) in
+    omega (
+      arith,
+      fits,
+      long,
+      length-append {A = ℕ} (take at old) (part ++ behind),
+      length-append {A = ℕ} part behind,
+      length-take {A = ℕ} at old,
+      length-drop {A = ℕ} count (drop at old),
+      length-drop {A = ℕ} at old,
+    )
+
+-- the digits, the sign behind them, the size with a unit behind that, and the line end, as they are put into the bytes
+pub answer_put :
+    (kind : Kind) (number : ℕ) {blank first sign second : List ℕ} {few many : ℕ}
+    (digits : Writes (IsText current kind number plain_spec) blank first few) → few ≤ narrow_text → sign ≡ codes " = "
+    → (form : Writes (IsText current kind number alternate_spec)
+    (take (148 - (few + 3)) (drop (few + 3) (put_mid few (few + 3 - few) first sign))) second many) → many ≤ narrow_text
+    → length blank ≡ 148
+    → SaysParts kind number digits.form form.form
+    (take (few + 3 + many + 1)
+    (set (put_mid (few + 3) (148 - (few + 3)) (put_mid few (few + 3 - few) first sign) second) (few + 3 + many) 10))
+answer_put kind number {blank} {first} {sign} {second} {few} {many} digits narrow sign_is form narrow_form long =
+    let at = few + 3 in
+    let end = at + many in
+    let signed = put_mid few (at - few) first sign in
+    let room : few ≤ length blank = omega (arith, narrow, long) in
+    let first_length : length first ≡ 148 = written_length digits room ∙ long in
+    let sign_length : length sign ≡ 3 = ap (λ l. length l) sign_is in
+    let signed_length : length signed ≡ 148 =
+    put_length few (at - few) first sign (omega (arith, first_length, narrow)) (omega (arith, sign_length)) ∙ first_length in
+    let part = take (148 - at) (drop at signed) in
+    let part_length : length part ≡ 148 - at =
+    omega (arith, signed_length, length-take {A = ℕ} (148 - at) (drop at signed), length-drop {A = ℕ} at signed) in
+    let part_room : many ≤ length part = omega (arith, part_length, narrow, narrow_form) in
+    let said = put_mid at (148 - at) signed second in
+    let said_length : length said ≡ 148 =
+    put_length at (148 - at) signed second (omega (arith, signed_length, narrow)) (written_length form part_room ∙ part_length)
+    ∙ signed_length in
+    let is_signed : take at signed ≡ digits.form ++ codes " = " =
+    put_behind few at first sign (codes " = ") [] _ sign_is (omega (arith, first_length, narrow)) refl
+    ∙ ap (λ l. l ++ codes " = ") (written_front digits room) in
+    let is_said : take end said ≡ (digits.form ++ codes " = ") ++ form.form =
+    put_behind at end signed second form.form _ _ (written_is form part_room) (omega (arith, signed_length, narrow))
+    (ap (λ n. at + n) form.needed_is)
+    ∙ ap (λ l. l ++ form.form) is_signed in
+    record {
+      is_digits = digits.is_form;
+      is_form = form.is_form;
+      put = take_more_set said end 10 (omega (arith, said_length, narrow, narrow_form)) ∙ ap (λ l. l ++ 10 ∷ []) is_said;
+    }

@@ -1,9 +1,7 @@
 //! The answer to one line.
 
-ghost use Rattle.std.specs.Prelude.{◌≡◌, ◌+◌, ◌≤◌, ◌∷◌, [], ◌++◌, ℕ, List, length, take, OnOk, OnErr};
-ghost use Rattle.byte_unit.specs.Edition.{current};
+ghost use Rattle.std.specs.Prelude.{◌≡◌, ◌∷◌, [], ◌++◌, OnOk, OnErr};
 ghost use Rattle.byte_unit.specs.Errors.{size_fault};
-ghost use Rattle.byte_unit.specs.Forms.{IsText, narrow_text};
 ghost use Rattle.byte_unit.specs.declared.Kind.TheVariants.{Byte as InBytes, Bit as InBits};
 ghost use Rattle.byte_unit_lines.specs.Answer.{words_of};
 ghost use Rattle.byte_unit_lines.specs.Lines.{line_end};
@@ -44,11 +42,12 @@ fn answer_bytes<A: Allocator>(line: &[u8], out: &mut Vec<u8, A>) -> Result<(), A
     match Byte::parse_bytes(line, false) {
         Some(Ok(size)) => {
             let mut answer = [0; ROOM];
-            let digits = put_bytes(size, FormatSpec::PLAIN, &mut answer, 0);
-            let sign = put(b" = ", &mut answer, digits);
-            let form = put_bytes(size, FormatSpec::ALTERNATE, &mut answer, sign);
-            let end = put(b"\n", &mut answer, form);
-            out.extend_from_slice(&answer[..end])
+            let digits = size.write_text(FormatSpec::PLAIN, &mut answer);
+            let form = digits + 3;
+            answer[digits..form].copy_from_slice(b" = ");
+            let end = form + size.write_text(FormatSpec::ALTERNATE, &mut answer[form..]);
+            answer[end] = b'\n';
+            out.extend_from_slice(&answer[..end + 1])
         }
         Some(Err(error)) => out.extend_from_slice(fault_line_of(&error)),
         None => out.extend_from_slice(b"not text\n"),
@@ -63,49 +62,16 @@ fn answer_bits<A: Allocator>(line: &[u8], out: &mut Vec<u8, A>) -> Result<(), Al
     match Bit::parse_bytes(line) {
         Some(Ok(size)) => {
             let mut answer = [0; ROOM];
-            let digits = put_bits(size, FormatSpec::PLAIN, &mut answer, 0);
-            let sign = put(b" = ", &mut answer, digits);
-            let form = put_bits(size, FormatSpec::ALTERNATE, &mut answer, sign);
-            let end = put(b"\n", &mut answer, form);
-            out.extend_from_slice(&answer[..end])
+            let digits = size.write_text(FormatSpec::PLAIN, &mut answer);
+            let form = digits + 3;
+            answer[digits..form].copy_from_slice(b" = ");
+            let end = form + size.write_text(FormatSpec::ALTERNATE, &mut answer[form..]);
+            answer[end] = b'\n';
+            out.extend_from_slice(&answer[..end + 1])
         }
         Some(Err(error)) => out.extend_from_slice(fault_line_of(&error)),
         None => out.extend_from_slice(b"not text\n"),
     }
-}
-
-/// Puts the text of a size at this place, and answers where it ends.
-#[inline(always)]
-fn put_bytes(size: Byte, spec: FormatSpec, out: &mut [u8], at: usize) -> usize
-    requires narrow { spec.width ≡ None }
-    requires room { at + narrow_text ≤ length out.old }
-    ensures { (form : List ℕ) × IsText current InBytes size spec form × (result ≡ at + length form)
-        × (result ≤ at + narrow_text) × (take result out.new ≡ take at out.old ++ form) }
-{
-    at + size.write_text(spec, &mut out[at..])
-}
-
-/// Puts the text of a size at this place, and answers where it ends.
-#[inline(always)]
-fn put_bits(size: Bit, spec: FormatSpec, out: &mut [u8], at: usize) -> usize
-    requires narrow { spec.width ≡ None }
-    requires room { at + narrow_text ≤ length out.old }
-    ensures { (form : List ℕ) × IsText current InBits size spec form × (result ≡ at + length form)
-        × (result ≤ at + narrow_text) × (take result out.new ≡ take at out.old ++ form) }
-{
-    at + size.write_text(spec, &mut out[at..])
-}
-
-/// Puts bytes at this place, and answers where they end.
-#[inline(always)]
-fn put(bytes: &[u8], out: &mut [u8], at: usize) -> usize
-    requires { at + length bytes.now ≤ length out.old }
-    ensures end { result ≡ at + length bytes.now }
-    ensures bytes { take result out.new ≡ take at out.old ++ bytes.now }
-{
-    let end = at + bytes.len();
-    out[at..end].copy_from_slice(bytes);
-    end
 }
 
 /// The words for a text that is refused, with the line end.

@@ -1,25 +1,17 @@
-use Rattle.std.proofs.Common.{ap, refl, ◌∙◌, List, ℕ, [], ◌∷◌, ◌++◌, codes, take}
+use Rattle.std.proofs.Common.{refl, List, ℕ, [], ◌∷◌, ◌++◌, codes}
 use Rattle.byte_unit.specs.Errors.{size_fault}
 use Rattle.byte_unit.specs.declared.Kind.TheVariants.{Byte}
-use Rattle.byte_unit_lines.proofs.Sayings.{SaysParts, answer_added, size_said, fault_said, no_text_said}
+use Rattle.byte_unit_lines.proofs.Sayings.{answer_put, answer_added, size_said, fault_said, no_text_said}
 use Rattle.byte_unit_lines.proofs.line.answer_bytes.Goals as goal
 
 pub returns-in-Some-Ok-clause-ok : goal.returns-in-Some-Ok-clause-ok
 returns-in-Some-Ok-clause-ok g c =
     let reading = rw c.in-Some-Ok.field-0-is at c.in-Some-Ok.ensures in
-    let digits = c.put_bytes-digits.ensures in
-    let form = c.put_bytes-form.ensures in
-    let all = take c.put-end.result c.put-end.new.out in
-    let said : SaysParts Byte c.in-Some-Ok.size digits.0 form.0 all =
-    record {
-      is_digits = digits.1;
-      is_form = form.1;
-      put =
-          c.put-end.ensures.bytes
-          ∙ ap (λ l. l ++ 10 ∷ [])
-          (form.4 ∙ ap (λ l. l ++ form.0) (c.put-sign.ensures.bytes ∙ ap (λ l. l ++ codes " = ") digits.4));
-    } in
-    answer_added Byte c.args.line.now c.extend_from_slice.result c.args.out.now.items all c.extend_from_slice.new.self.items
+    let digits = c.write_text-digits.ensures in
+    let form = c.write_text.ensures in
+    let sign = c.copy_from_slice.ensures.after in
+    let said = answer_put Byte c.in-Some-Ok.size digits.written (digits.narrow refl) sign form.written (form.narrow refl) refl in
+    answer_added Byte c.args.line.now c.extend_from_slice.result c.args.out.now.items _ c.extend_from_slice.new.self.items
     (size_said c.args.line.now reading.0 reading.1.found said) c.extend_from_slice.ensures.items
 
 pub returns-in-Some-Err-clause-ok : goal.returns-in-Some-Err-clause-ok
