@@ -1,5 +1,5 @@
--- What is not above a size, and a size that is cut at the greatest u128.
-use Rattle.std.proofs.Common.{◌≡◌, ℕ, ◌-◌, ◌*◌, ◌^◌, ◌≤◌, min, Bool, Option, Some, None, IfSome, IfNone, arith, ap, inl}
+-- The bits of units, and a size in its own unit.
+use Rattle.std.proofs.Common.{◌≡◌, ℕ, ◌*◌, ◌≤◌, Bool, Option, Some, None, IfNone, arith, ap, inl}
 use Rattle.std.proofs.Common.{inr, refl}
 use Rattle.std.proofs.Common.{subst, sym, ◌∙◌}
 use Rattle.std.proofs.Math.Nat.{one-le-pow, one-le-mul}
@@ -8,16 +8,13 @@ use Rattle.byte_unit_math.specs.Bounds.{one, unit_limit}
 use Rattle.byte_unit_math.specs.Exact.{IsExactAt}
 use Rattle.byte_unit_base.specs.Shape.{Shape, bits, twos, fives}
 use Rattle.byte_unit_base.specs.Edition.{current}
-use Rattle.byte_unit_base.specs.Units.{shape_of}
 use Rattle.byte_unit_base.specs.Family.{InFamily}
 use Rattle.byte_unit_base.specs.Multiples.{falling_from, known_prefixes}
-use Rattle.byte_unit_base.specs.Choice.{IsLargest, NoneHas, IsRecovered, Suits}
+use Rattle.byte_unit_base.specs.Choice.{IsRecovered}
 use Rattle.byte_unit_base.specs.Kinds.{bits_in, own_unit}
 use Rattle.byte_unit_base.specs.declared.kind.Kind.{Kind}
 use Rattle.byte_unit_base.specs.declared.kind.Kind.TheVariants.{Byte, Bit}
-use Rattle.byte_unit_base.specs.declared.unit.Unit.{Unit as UnitName}
 use Rattle.byte_unit_base.specs.declared.unit.family.Family.{Family}
-use Rattle.byte_unit_base.specs.declared.unit.unit_type.UnitType.{UnitType}
 use Rattle.byte_unit_base.proofs.Falling.{in_falling, le_of_falls, current_falls}
 
 pub some_bits : (unit : Shape) → 1 ≤ bits unit
@@ -55,31 +52,3 @@ pub own_number : (kind : Kind) (size number : ℕ) (unit : Shape) → number ≡
     → number * bits unit ≡ size * bits_in kind * one
 own_number kind size number unit value own =
     ap (λ n. n * bits unit) value ∙ (ap (λ n. size * one * n) (ap bits own ∙ own_bits kind) ∙ omega arith)
-
--- a size that the greatest u128 cuts off is above every unit as it was
-cut_suits : (family : Family) (kind : UnitType) (in_bits cut : ℕ) (unit : Shape) → cut ≡ min in_bits (2 ^ 128 - 1)
-    → Suits current family kind in_bits unit → Suits current family kind cut unit
-cut_suits family kind in_bits cut unit e h =
-    record { member = h.member; of_type = h.of_type; not_above = omega (arith, e, h.not_above, small_bits family unit h.member) }
-
-whole_suits : (family : Family) (kind : UnitType) (in_bits cut : ℕ) (unit : Shape) → cut ≡ min in_bits (2 ^ 128 - 1)
-    → Suits current family kind cut unit → Suits current family kind in_bits unit
-whole_suits family kind in_bits cut unit e h = record { member = h.member; of_type = h.of_type; not_above = omega (arith, e, h.not_above) }
-
-pub largest_of_cut : (answer : Option UnitName) (family : Family) (kind : UnitType) (in_bits cut : ℕ)
-    → cut ≡ min in_bits (2 ^ 128 - 1)
-    → IfSome answer (λ unit. IsLargest (Suits current family kind cut) (shape_of unit))
-    → IfSome answer (λ unit. IsLargest (Suits current family kind in_bits) (shape_of unit))
-largest_of_cut None family kind in_bits cut e h = tt
-largest_of_cut (Some u) family kind in_bits cut e h =
-    record {
-      has = whole_suits family kind in_bits cut (shape_of u) e h.has;
-      largest = λ other k. h.largest other (cut_suits family kind in_bits cut other e k);
-    }
-
-pub none_of_cut : (answer : Option UnitName) (family : Family) (kind : UnitType) (in_bits cut : ℕ)
-    → cut ≡ min in_bits (2 ^ 128 - 1)
-    → IfNone answer (NoneHas (Suits current family kind cut))
-    → IfNone answer (NoneHas (Suits current family kind in_bits))
-none_of_cut None family kind in_bits cut e h = λ unit k. h unit (cut_suits family kind in_bits cut unit e k)
-none_of_cut (Some u) family kind in_bits cut e h = tt

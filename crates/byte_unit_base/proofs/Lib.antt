@@ -15,7 +15,6 @@ pub mod Rounding
 pub mod SizeOfText
 pub mod SizeOrFault
 pub mod Quotients
-pub mod FactoredSizes
 pub mod Falling
 pub mod Choosing
 pub mod Rows

@@ -4,21 +4,20 @@ use Rattle.std.proofs.Common.{drop, get_or}
 use Rattle.std.proofs.Common.{◌&&◌, leb, arith, sym, ap, ◌∙◌, subst, refl}
 use Rattle.std.proofs.Math.Nat.{pow-le-pow_right}
 use Rattle.std.proofs.lemmas.List.{drop-map, get_or-map, length-map}
-use Rattle.std.proofs.lemmas.Bool.{and_parts, cases_lt, leb-true}
+use Rattle.std.proofs.lemmas.Bool.{and_from, and_parts, cases_lt, le-leb, leb-true}
 use Rattle.std.proofs.lemmas.Nat.{leading_top}
 use Rattle.std.specs.Int.{w128, leading_zeros}
 use Rattle.byte_unit_math.specs.Bounds.{unit_limit}
 use Rattle.byte_unit_base.specs.Shape.{Shape, shape, bits, twos, fives}
 use Rattle.byte_unit_base.specs.Edition.{current}
 use Rattle.byte_unit_base.specs.Units.{shape_of}
-use Rattle.byte_unit_base.specs.Family.{HasPrefix, InFamily, IsOfType}
-use Rattle.byte_unit_base.specs.Choice.{IsLargest, NoneHas, Suits}
-use Rattle.byte_unit_base.specs.Multiples.{HasPowers, IsMultiple, ListsUnits, falling_from, known_prefixes, row_of, row_shape}
+use Rattle.byte_unit_base.specs.Family.{HasPrefix, InFamily}
+use Rattle.byte_unit_base.specs.Choice.{IsLargest, NoneHas}
+use Rattle.byte_unit_base.specs.Multiples.{ListsUnits, falling_from, known_prefixes, row_of, row_shape}
 use Rattle.byte_unit_base.specs.declared.unit.Unit.TheVariants.{Bit}
 use Rattle.byte_unit_base.specs.declared.unit.family.Row.{Row}
 use Rattle.byte_unit_base.specs.declared.unit.family.Family.{Family}
 use Rattle.byte_unit_base.specs.declared.unit.family.Family.TheVariants.{All, Bytes, Bits}
-use Rattle.byte_unit_base.specs.declared.unit.unit_type.UnitType.{UnitType}
 use Rattle.byte_unit_base.proofs.Choosing.{small_bits, some_bits}
 use Rattle.byte_unit_base.proofs.Falling.{IsIn, IsIn-at, Remain, falls, in_falling, from_falling, current_falls, largest_found}
 use Rattle.byte_unit_base.proofs.Falling.{Remain-behind, Remain-at_end, width, drop_prefixes}
@@ -30,6 +29,20 @@ unit_in row = shape_of row.unit
 -- what stands behind the rows
 abbrev pub no_row : Row
 no_row = record { unit = Bit; bits = 0; twos = 0; fives = 0 }
+
+-- the row of a unit with a prefix: its bits are its powers of two and of five, from 2^9 to 2^93
+pub record IsMultiple (row : Row) : Type 0 where
+  pub powers : row.bits ≡ 2 ^ row.twos * 5 ^ row.fives
+  pub large : 2 ^ 9 ≤ row.bits
+  pub small : row.bits ≤ unit_limit
+
+-- a unit of the family, not above the size, with no more twos and fives than these
+pub record HasPowers (family : Family) (in_bits most_twos most_fives : ℕ) (unit : Shape)
+    : Type 0 where
+  pub member : InFamily current family unit
+  pub not_above : bits unit ≤ in_bits
+  pub few_twos : twos unit ≤ most_twos
+  pub few_fives : fives unit ≤ most_fives
 
 -- a unit of the n-th prefix has 10 n binary digits
 abbrev reach : List Shape → Bool
@@ -143,13 +156,6 @@ row_there {family} {in_bits} {first} {rows} i d h within =
       fives_are = ap (λ row. row.fives) same ∙ ap fives (sym is_unit);
     }
 
-pub row_is : {family : Family} {row : Row} → IsRow family row → row_shape row ≡ row_of (unit_in row)
-row_is {family} {row} is =
-    let bits_are = is.bits_are in
-    let twos_are = is.twos_are in
-    let fives_are = is.fives_are in
-    cc
-
 few_prefixes : (power a b : ℕ) (binary bit : Bool) → twos (shape power binary bit) ≤ a → fives (shape power binary bit) ≤ b
     → power ≤ max (a / 10) (b / 3)
 few_prefixes power a b true bit few_twos few_fives = omega (arith, few_twos)
@@ -199,23 +205,22 @@ none_true b P e h p = let t = h p in let k : ⊥ = cc in k
 
 -- the tests of a row are those of its unit
 pub row_powers : {family : Family} {row : Row} (in_bits a b : ℕ) → IsRow family row
-    → (row.bits ≤ in_bits) × (row.twos ≤ a) × (row.fives ≤ b) → HasPowers current family in_bits a b (unit_in row)
-row_powers in_bits a b is h = record {
-  member = is.member;
-  not_above = omega (arith, is.bits_are, h.0);
-  few_twos = omega (arith, is.twos_are, h.1);
-  few_fives = omega (arith, is.fives_are, h.2);
-}
+    → ((leb row.bits in_bits && leb row.twos a) && leb row.fives b) ≡ true → HasPowers family in_bits a b (unit_in row)
+row_powers {family} {row} in_bits a b is h =
+    let parts = and_parts (leb row.bits in_bits && leb row.twos a) (leb row.fives b) h in
+    let first = and_parts (leb row.bits in_bits) (leb row.twos a) parts.0 in
+    record {
+      member = is.member;
+      not_above = omega (arith, is.bits_are, leb-true row.bits in_bits first.0);
+      few_twos = omega (arith, is.twos_are, leb-true row.twos a first.1);
+      few_fives = omega (arith, is.fives_are, leb-true row.fives b parts.1);
+    }
 
 pub powers_in_row : {family : Family} {row : Row} (in_bits a b : ℕ) → IsRow family row
-    → HasPowers current family in_bits a b (unit_in row) → (row.bits ≤ in_bits) × (row.twos ≤ a) × (row.fives ≤ b)
-powers_in_row in_bits a b is h =
-    (omega (arith, is.bits_are, h.not_above), omega (arith, is.twos_are, h.few_twos), omega (arith, is.fives_are, h.few_fives))
-
-pub row_suits : {family : Family} {row : Row} (unit_type : UnitType) (in_bits : ℕ) → IsRow family row
-    → (row.bits ≤ in_bits) × IsOfType unit_type (unit_in row).binary → Suits current family unit_type in_bits (unit_in row)
-row_suits unit_type in_bits is h = record { member = is.member; of_type = h.1; not_above = omega (arith, is.bits_are, h.0) }
-
-pub suits_in_row : {family : Family} {row : Row} (unit_type : UnitType) (in_bits : ℕ) → IsRow family row
-    → Suits current family unit_type in_bits (unit_in row) → (row.bits ≤ in_bits) × IsOfType unit_type (unit_in row).binary
-suits_in_row unit_type in_bits is h = (omega (arith, is.bits_are, h.not_above), h.of_type)
+    → HasPowers family in_bits a b (unit_in row) → ((leb row.bits in_bits && leb row.twos a) && leb row.fives b) ≡ true
+powers_in_row {family} {row} in_bits a b is h =
+    let below = le-leb row.bits in_bits (omega (arith, is.bits_are, h.not_above)) in
+    let twos_few = le-leb row.twos a (omega (arith, is.twos_are, h.few_twos)) in
+    let fives_few = le-leb row.fives b (omega (arith, is.fives_are, h.few_fives)) in
+    and_from (leb row.bits in_bits && leb row.twos a) (leb row.fives b)
+    (and_from (leb row.bits in_bits) (leb row.twos a) below twos_few) fives_few

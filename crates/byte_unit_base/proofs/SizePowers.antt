@@ -1,21 +1,24 @@
 -- A size by its powers of two and five.
-use Rattle.std.proofs.Common.{◌≡◌, ◌≢◌, ℕ, ◌+◌, ◌*◌, ◌^◌, ◌≤◌, ◌⊎◌, ⊎_elim, inl, inr, arith, refl, sym, ap, ◌∙◌, subst}
+use Rattle.std.proofs.Common.{◌≡◌, ◌≢◌, ℕ, ◌+◌, ◌*◌, ◌^◌, ◌<◌, ◌≤◌, ◌⊎◌, ⊎_elim, inl, inr, arith, refl, sym, ap, ◌∙◌, subst}
+use Rattle.std.proofs.Math.Nat.{pow-le-pow_right, mul-le-mul_left}
 use Rattle.std.proofs.lemmas.Nat.{pow-add}
 use Rattle.std.specs.Int.{w128, trailing_zeros}
-use Rattle.byte_unit_math.specs.Bounds.{one, places_of_decimal}
+use Rattle.byte_unit_math.specs.Bounds.{one, places_of_decimal, whole_limit}
 use Rattle.byte_unit_math.specs.Steps.{raised}
 use Rattle.byte_unit_math.specs.Exact.{IsExactAt, IsLeastPlaces, IsQuotient}
 use Rattle.byte_unit_math.specs.Powers.{IsTwoFive}
 use Rattle.byte_unit_math.proofs.Powers.{exact_by_powers, has_two_five}
+use Rattle.byte_unit_math.proofs.TwosFives.{two_five_few}
 use Rattle.byte_unit_base.specs.Shape.{Shape, bits, twos, fives}
 use Rattle.byte_unit_base.specs.Edition.{current}
 use Rattle.byte_unit_base.specs.Kinds.{bits_in}
-use Rattle.byte_unit_base.specs.Choice.{IsLargest, NoneHas, States, IsChosen, CountsChoice, TakesSteps, places_within}
+use Rattle.byte_unit_base.specs.Choice.{IsLargest, NoneHas, States, IsChosen, CountsChoice, TakesSteps, most_steps, places_within}
 use Rattle.byte_unit_base.specs.ChoiceLaws.{SizesAreExactByPowers}
-use Rattle.byte_unit_base.specs.Multiples.{HasPowers}
+use Rattle.byte_unit_base.proofs.Rows.{HasPowers, IsMultiple}
 use Rattle.byte_unit_base.specs.declared.kind.Kind.{Kind}
 use Rattle.byte_unit_base.specs.declared.kind.Kind.TheVariants.{Byte, Bit}
 use Rattle.byte_unit_base.specs.declared.unit.family.Family.{Family}
+use Rattle.byte_unit_base.specs.declared.unit.family.Row.{Row}
 
 some_bits_in : (kind : Kind) (size : ℕ) → size ≢ 0 → size * bits_in kind ≢ 0
 some_bits_in Byte size some = λ e. some (omega (arith, e))
@@ -72,7 +75,7 @@ in_bits_product size divisor left a b kind h =
 -- the units that the powers of the size allow are those that state it
 module _ (family : Family) (in_bits precision a b : ℕ) (powers : IsTwoFive in_bits a b) where
   abbrev few : Shape → Type 0
-  few = HasPowers current family in_bits (a + places_within precision) (b + places_within precision)
+  few = HasPowers family in_bits (a + places_within precision) (b + places_within precision)
 
   pub states_of_powers : (unit : Shape) → few unit → States current family in_bits precision unit
   states_of_powers unit h = record {
@@ -97,10 +100,10 @@ module _ (family : Family) (in_bits precision a b : ℕ) (powers : IsTwoFive in_
 
 -- so the largest with few powers is chosen, at as many places as the precision leaves
 pub chosen_by_powers : {family : Family} {in_bits most a b number : ℕ} (precision : ℕ) (unit : Shape) → most ≡ places_within precision
-    → IsTwoFive in_bits a b → IsLargest (HasPowers current family in_bits (a + most) (b + most)) unit
+    → IsTwoFive in_bits a b → IsLargest (HasPowers family in_bits (a + most) (b + most)) unit
     → IsQuotient in_bits (bits unit) (places_within most) number → IsChosen current family in_bits precision unit number
 chosen_by_powers {family} {in_bits} {most} {a} {b} {number} precision unit same powers h q =
-    let found : ℕ → Type 0 = λ n. IsLargest (HasPowers current family in_bits (a + n) (b + n)) unit in
+    let found : ℕ → Type 0 = λ n. IsLargest (HasPowers family in_bits (a + n) (b + n)) unit in
     let within : places_within most ≡ places_within precision = omega (arith, same) in
     let quotient : ℕ → Type 0 = λ n. IsQuotient in_bits (bits unit) n number in
     record {
@@ -109,21 +112,31 @@ chosen_by_powers {family} {in_bits} {most} {a} {b} {number} precision unit same 
     }
 
 pub none_by_powers : {family : Family} {in_bits most a b : ℕ} (precision : ℕ) → most ≡ places_within precision → IsTwoFive in_bits a b
-    → NoneHas (HasPowers current family in_bits (a + most) (b + most)) → NoneHas (States current family in_bits precision)
+    → NoneHas (HasPowers family in_bits (a + most) (b + most)) → NoneHas (States current family in_bits precision)
 none_by_powers {family} {in_bits} {most} {a} {b} precision same powers h =
-    let none : ℕ → Type 0 = λ n. NoneHas (HasPowers current family in_bits (a + n) (b + n)) in
+    let none : ℕ → Type 0 = λ n. NoneHas (HasPowers family in_bits (a + n) (b + n)) in
     none_of_powers family in_bits precision a b powers (subst none same h)
 
 -- and the size is exact in it
 pub exact_by_row : {family : Family} {in_bits most a b B : ℕ} (unit : Shape) → most ≤ places_of_decimal → B ≡ bits unit
     → IsTwoFive in_bits a b
-    → HasPowers current family in_bits (a + most) (b + most) unit → IsExactAt in_bits B (places_within most)
+    → HasPowers family in_bits (a + most) (b + most) unit → IsExactAt in_bits B (places_within most)
 exact_by_row {family} {in_bits} {most} {a} {b} {B} unit room same powers h =
     let within : most ≡ places_within most = omega (arith, room) in
     let exact : ℕ → Type 0 = λ n. IsExactAt in_bits n (places_within most) in
     let places : ℕ → Type 0 = λ n. IsExactAt in_bits (bits unit) n in
     let there = (exact_by_powers in_bits (twos unit) (fives unit) a b most powers).1 (h.few_twos, h.few_fives) in
     subst exact (sym same) (subst places within there)
+
+-- at few places its count in the unit of a row fits
+pub count_fits : {row : Row} (size divisor places : ℕ) → IsMultiple row → (divisor ≡ 8) ⊎ (divisor ≡ 1) → size < current.size_limit
+    → places ≤ 5 → size * divisor * 10 ^ places < whole_limit * row.bits
+count_fits {row} size divisor places multiple kind small few =
+    let tens = pow-le-pow_right {n = 10} (omega arith) {i = places} {j = 5} few in
+    let scaled = mul-le-mul_left {m = 10 ^ places} {n = 10 ^ 5} (size * divisor) tens in
+    let in_bits : size * divisor ≤ 8 * current.size_limit =
+    ⊎_elim (λ e. omega (arith, ap (λ d. size * d) e, small)) (λ e. omega (arith, ap (λ d. size * d) e, small)) kind in
+    omega (arith, scaled, in_bits, multiple.large)
 
 -- the steps of the trials, and then of the division
 pub counted_choice : {size number a b places : ℕ} (old mid new : ℕ) → IsTwoFive size a b → IsLeastPlaces number one places
@@ -138,6 +151,15 @@ counted_choice {size} {number} {a} {b} {places} old mid new powers least trials 
       steps_are = refl;
     } in
     inr (a + b + 2 + places, steps, omega (arith, trials, division))
+
+-- and they are no more than 129
+pub few_steps : {size number old new : ℕ} → size < current.size_limit → CountsChoice size number old new
+    → new ≤ raised old most_steps
+few_steps small (inl h) = omega (arith, h.1)
+few_steps {size} {number} {old} {new} small (inr (steps, t, e)) =
+    let powers = two_five_few size t.twos t.fives small t.powers in
+    let places = t.is_places.least places_of_decimal (number, refl) in
+    omega (arith, e, t.steps_are, powers, places)
 
 -- a size in its own unit takes no more places than none
 pub counted_whole : (size number old new : ℕ) → number ≡ size * one → CountsChoice size 0 old new → CountsChoice size number old new

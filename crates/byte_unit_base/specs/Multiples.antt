@@ -1,10 +1,9 @@
 -- Private: the lists that the search for a unit runs along. No public contract cites this file.
-use Rattle.std.specs.Prelude.{◌≡◌, ℕ, zero, suc, ◌*◌, ◌^◌, ◌≤◌, true, false, List, [], ◌∷◌, ◌++◌, length, map}
-use Rattle.byte_unit_math.specs.Bounds.{unit_limit}
+use Rattle.std.specs.Prelude.{◌≡◌, ℕ, zero, suc, ◌≤◌, true, false, List, [], ◌∷◌, ◌++◌, length, map}
 use Rattle.byte_unit_base.specs.Shape.{Shape, shape, bits, twos, fives}
 use Rattle.byte_unit_base.specs.Units.{shape_of}
-use Rattle.byte_unit_base.specs.Edition.{Edition, current}
-use Rattle.byte_unit_base.specs.Family.{HasPrefix, InFamily}
+use Rattle.byte_unit_base.specs.Edition.{current}
+use Rattle.byte_unit_base.specs.Family.{HasPrefix}
 use Rattle.byte_unit_base.specs.declared.unit.family.Row.{Row}
 use Rattle.byte_unit_base.specs.declared.unit.family.Family.{Family}
 use Rattle.byte_unit_base.specs.declared.unit.family.Family.TheVariants.{All, Bytes, Bits}
@@ -40,12 +39,6 @@ row_of unit = record { unit = unit; bits = bits unit; twos = twos unit; fives = 
 abbrev pub row_shape : Row → ShapeRow
 row_shape row = record { unit = shape_of row.unit; bits = row.bits; twos = row.twos; fives = row.fives }
 
--- the row of a unit with a prefix: its bits are its powers of two and of five, from 2^9 to 2^93
-pub record IsMultiple (row : Row) : Type 0 where
-  pub powers : row.bits ≡ 2 ^ row.twos * 5 ^ row.fives
-  pub large : 2 ^ 9 ≤ row.bits
-  pub small : row.bits ≤ unit_limit
-
 -- rows that have every unit of the family, from the largest, whose bits are not above these and whose prefix is one of
 -- so many first ones
 pub record ListsUnits (family : Family) (in_bits first : ℕ) (rows : List Row) : Type 0 where
@@ -54,11 +47,3 @@ pub record ListsUnits (family : Family) (in_bits first : ℕ) (rows : List Row) 
   pub rows_are : map row_shape rows ≡ map row_of (falling_from family prefixes)
   pub within : (unit : Shape) → HasPrefix current unit → bits unit ≤ in_bits → unit.power ≤ first
       → unit.power ≤ prefixes
-
--- a unit of the family, not above the size, with no more twos and fives than these
-pub record HasPowers (edition : Edition) (family : Family) (in_bits most_twos most_fives : ℕ) (unit : Shape)
-    : Type 0 where
-  pub member : InFamily edition family unit
-  pub not_above : bits unit ≤ in_bits
-  pub few_twos : twos unit ≤ most_twos
-  pub few_fives : fives unit ≤ most_fives

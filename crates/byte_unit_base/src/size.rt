@@ -44,14 +44,7 @@ pub fn from_signed(size: i128) -> Option<u128>
     ensures size { OfSigned (λ n answer. SomeIff answer (n < current.size_limit) n) size result }
     ensures small { IfSome result (λ n. n < current.size_limit) }
 {
-    bounded(natural(size)?)
-}
-
-/// The number, where it is not negative.
-fn natural(size: i128) -> Option<u128>
-    ensures { OfSigned (λ n answer. answer ≡ Some n) size result }
-{
-    u128::try_from(size).ok()
+    bounded(u128::try_from(size).ok()?)
 }
 
 /// The least number of the kind that holds so many bits.
@@ -89,18 +82,7 @@ pub fn signed_with_unit(size: i128, unit: Unit, kind: Kind) -> Option<u128>
         result }
     ensures small { IfSome result (λ n. n < current.size_limit) }
 {
-    with_unit(natural(size)?, unit, kind)
-}
-
-/// The least number of bits that no size of the kind holds.
-#[inline]
-fn bit_limit(kind: Kind) -> u128
-    ensures { result ≡ (current.size_limit - 1) * bits_in kind + 1 }
-{
-    match kind {
-        Kind::Byte => 8 * SIZE_LIMIT - 7,
-        Kind::Bit => SIZE_LIMIT,
-    }
+    with_unit(u128::try_from(size).ok()?, unit, kind)
 }
 
 /// The number times the unit exactly, rounded up once to a whole number of the kind. `None` exactly where that is not
@@ -115,7 +97,9 @@ pub fn from_decimal(number: Decimal, unit: Unit, kind: Kind) -> Option<u128>
     ensures size { IsSizeOrNone current (IsLeastOf kind number (shape_of unit)) result }
     ensures small { IfSome result (λ n. n < current.size_limit) }
 {
-    let in_bits = least_size(number, unit.as_bits_u128(), bit_limit(kind))?;
+    // The least number of bits that no size of the kind holds.
+    let limit = (SIZE_LIMIT - 1) * kind.bits() + 1;
+    let in_bits = least_size(number, unit.as_bits_u128(), limit)?;
     Some(holding(in_bits, kind))
 }
 

@@ -37,20 +37,12 @@ impl Family {
     {
         let digits = u128::BITS - in_bits.leading_zeros();
         let prefixes = PREFIXES.min((digits / 10).min(first) as usize);
-        let units = self.multiples();
-        &units[units.len() / PREFIXES * (PREFIXES - prefixes)..]
-    }
-
-    /// Its units from the largest.
-    #[inline(always)]
-    fn multiples(self) -> &'static [Row]
-        ensures { map row_shape result.now ≡ map row_of (falling_from self known_prefixes) }
-    {
-        match self {
+        let units: &[Row] = match self {
             Family::All => &ALL,
             Family::Bytes => &BYTES,
             Family::Bits => &BITS,
-        }
+        };
+        &units[units.len() / PREFIXES * (PREFIXES - prefixes)..]
     }
 }
 

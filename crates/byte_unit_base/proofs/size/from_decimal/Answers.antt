@@ -14,6 +14,6 @@ returns-clause-size c =
 
 pub returns-in_err-in_bits-clause-size : goal.returns-in_err-in_bits-clause-size
 returns-in_err-in_bits-clause-size c =
-    let none = rw (c.as_bits_u128.ensures.bits, c.bit_limit.ensures) at c.in_err-in_bits.ensures.none in
+    let none = rw (c.as_bits_u128.ensures.bits, c.bits.ensures.bits) at c.in_err-in_bits.ensures.none in
     rw c.from_residual.ensures (λ n h. least_above c.args.kind c.args.number (shape_of c.args.unit) current.size_limit n
     (omega arith) none h)

@@ -1,0 +1,11 @@
+use Rattle.std.proofs.Common.{◌≡◌, drop, map}
+use Rattle.byte_unit_base.proofs.Rows.{HasPowers}
+use Rattle.byte_unit_base.proofs.Falling.{Remain}
+use Rattle.byte_unit_base.proofs.Rows.{unit_in}
+use Rattle.byte_unit_base.proofs.choice.choose_unit.Given as goal
+
+abbrev pub invariant-loop-row : goal.invariant-loop-row
+invariant-loop-row l = record {
+  remain : Remain (HasPowers l.fn.family l.in_bits l.most_twos l.most_fives) (drop l.row-index (map unit_in l.row-items));
+  steps : l.steps ≡ l.initial.steps;
+}
