@@ -1,10 +1,9 @@
 -- Exact quotients at more places, and their product with the unit.
-use Rattle.std.proofs.Common.{◌≡◌, ℕ, ◌-◌, ◌*◌, ◌/◌, ◌^◌, ◌≤◌, ⊎_elim, Option, Some, IfSome, arith, sym, ap, ◌∙◌, subst}
+use Rattle.std.proofs.Common.{◌≡◌, ℕ, ◌-◌, ◌*◌, ◌/◌, ◌^◌, ◌≤◌, ⊎_elim, arith, sym, ap, ◌∙◌, subst}
 use Rattle.std.proofs.Math.Nat.{eq_of_mul-eq-mul_right}
 use Rattle.byte_unit_math.specs.Bounds.{places_of_decimal, one}
 use Rattle.byte_unit_math.specs.Exact.{IsExactAt, IsLeastPlaces, IsQuotient, IsFirstExact}
 use Rattle.byte_unit_math.proofs.Scales.{raise_power}
-use Rattle.byte_unit_base.specs.Shape.{Shape, bits}
 
 -- exact at some places, so at more
 pub exact_more : (size unit few more : ℕ) → few ≤ more → IsExactAt size unit few → IsExactAt size unit more
@@ -35,14 +34,6 @@ quotient_of_product size unit places number some room product exact =
       exact = exact.1;
       number = eq_of_mul-eq-mul_right unit (omega (arith, some)) number (exact.0 * behind) same;
     }
-
--- the quotient that was answered, by the unit's shape
-pub quotient_here : {answer : Option ℕ} {size places B number : ℕ} (unit : Shape) → B ≡ bits unit → answer ≡ Some number
-    → IfSome answer (IsQuotient size B places) → IsQuotient size (bits unit) places number
-quotient_here {answer} {size} {places} {B} {number} unit same made h =
-    let by_unit : ℕ → Type 0 = λ x. IsQuotient size x places number in
-    let answered : Option ℕ → Type 0 = λ q. IfSome q (IsQuotient size B places) in
-    subst by_unit same (subst answered made h)
 
 -- where the size is exact, its number is stated
 stated_where_exact : (size unit number digits : ℕ) → 1 ≤ unit → number * unit ≡ size * one → IsExactAt size unit digits
