@@ -8,11 +8,10 @@ use Rattle.byte_unit_math.specs.Steps.{raised}
 use Rattle.byte_unit_math.specs.Exact.{IsExactAt, IsLeastPlaces, IsQuotient}
 use Rattle.byte_unit_math.specs.Powers.{IsTwoFive}
 use Rattle.byte_unit_math.proofs.Powers.{exact_by_powers, has_two_five}
-use Rattle.byte_unit_math.proofs.TwosFives.{two_five_few}
 use Rattle.byte_unit_base.specs.Shape.{Shape, bits, twos, fives}
 use Rattle.byte_unit_base.specs.Edition.{current}
 use Rattle.byte_unit_base.specs.Kinds.{bits_in}
-use Rattle.byte_unit_base.specs.Choice.{IsLargest, NoneHas, States, IsChosen, CountsChoice, TakesSteps, most_steps, places_within}
+use Rattle.byte_unit_base.specs.Choice.{IsLargest, NoneHas, States, IsChosen, CountsChoice, TakesSteps, places_within}
 use Rattle.byte_unit_base.specs.ChoiceLaws.{SizesAreExactByPowers}
 use Rattle.byte_unit_base.proofs.Rows.{HasPowers, IsMultiple}
 use Rattle.byte_unit_base.specs.declared.kind.Kind.{Kind}
@@ -151,15 +150,6 @@ counted_choice {size} {number} {a} {b} {places} old mid new powers least trials 
       steps_are = refl;
     } in
     inr (a + b + 2 + places, steps, omega (arith, trials, division))
-
--- and they are no more than 129
-pub few_steps : {size number old new : ℕ} → size < current.size_limit → CountsChoice size number old new
-    → new ≤ raised old most_steps
-few_steps small (inl h) = omega (arith, h.1)
-few_steps {size} {number} {old} {new} small (inr (steps, t, e)) =
-    let powers = two_five_few size t.twos t.fives small t.powers in
-    let places = t.is_places.least places_of_decimal (number, refl) in
-    omega (arith, e, t.steps_are, powers, places)
 
 -- a size in its own unit takes no more places than none
 pub counted_whole : (size number old new : ℕ) → number ≡ size * one → CountsChoice size 0 old new → CountsChoice size number old new

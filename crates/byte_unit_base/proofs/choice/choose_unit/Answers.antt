@@ -7,7 +7,7 @@ use Rattle.byte_unit_base.proofs.Quotients.{places_of_quotient, quotient_of_prod
 use Rattle.byte_unit_base.proofs.Rows.{HasPowers, no_row, search_start, power_of_powers, row_multiple, row_there, row_powers, powers_in_row}
 use Rattle.byte_unit_base.proofs.Rows.{unit_found, unit_passed, none_found, none_true}
 use Rattle.byte_unit_base.proofs.SizePowers.{in_bits_powers, in_bits_product, chosen_by_powers, none_by_powers, exact_by_row, counted_choice}
-use Rattle.byte_unit_base.proofs.SizePowers.{count_fits, few_steps}
+use Rattle.byte_unit_base.proofs.SizePowers.{count_fits}
 use Rattle.byte_unit_base.proofs.choice.choose_unit.Goals as goal
 use Rattle.byte_unit_base.proofs.choice.choose_unit.Goals.{then-places-gt-FEW_PLACES, else-places-gt-FEW_PLACES}
 
@@ -122,7 +122,18 @@ returns-then-row-in_bits-clause-ticks c =
     counted_choice {places = counted.0} c.args.steps.now mid c.if-places-gt-FEW_PLACES.steps trials.powers counted.1 trials.ticks counted.2
 
 pub returns-then-row-in_bits-clause-few_ticks : goal.returns-then-row-in_bits-clause-few_ticks
-returns-then-row-in_bits-clause-few_ticks c = few_steps c.requires.small (returns-then-row-in_bits-clause-ticks c)
+returns-then-row-in_bits-clause-few_ticks c =
+    let trials = c.factors_of-left.ensures in
+    let unmoved = c.loop-row.invariant.steps in
+    elim c.if-places-gt-FEW_PLACES.branch [
+      | then-places-gt-FEW_PLACES w ↦
+          let digits = w.exact_quotient.ensures.ticks in
+          omega (arith, trials.few, trials.ticks, unmoved, w.steps-is, digits.2, digits.1.few)
+      | else-places-gt-FEW_PLACES w ↦
+          let places = w.factored_quotient-number.ensures.ticks in
+          let few = places.1.least places_of_decimal (w.factored_quotient-number.result, refl) in
+          omega (arith, trials.few, trials.ticks, unmoved, w.steps-is, places.2, few)
+    ]
 
 pub returns-clause-none : goal.returns-clause-none
 returns-clause-none c =
@@ -138,4 +149,6 @@ returns-clause-ticks_of_none c =
     counted_choice c.args.steps.now mid c.loop-row.steps trials.powers (whole_takes_none 0) trials.ticks still
 
 pub returns-clause-few_ticks : goal.returns-clause-few_ticks
-returns-clause-few_ticks c = few_steps c.requires.small (returns-clause-ticks_of_none c)
+returns-clause-few_ticks c =
+    let trials = c.factors_of-left.ensures in
+    omega (arith, trials.few, trials.ticks, c.loop-row.invariant.steps)
