@@ -11,7 +11,7 @@ use Rattle.byte_unit_lines.specs.Laws.{EachLineHasAnAnswer}
 use Rattle.byte_unit_lines.specs.Lines.{finished_lines, lines_of}
 use Rattle.byte_unit_lines.specs.Report.{AreAnswers, IsReport}
 use Rattle.byte_unit_lines.specs.Outcome.{IsBeginning, AnswerFirst, BeginsReport, IsWritten, IsWrittenAt}
-use Rattle.byte_unit_lines.specs.Progress.{ended_by, begun_by, BeginFirst, IsAnsweredAt, IsLineAnswered, IsLineAnsweredAt}
+use Rattle.byte_unit_lines.specs.Progress.{ended_by, begun_by, BeginFirst, IsAnsweredAt}
 use Rattle.byte_unit_lines.specs.declared.run.RunError.{RunError}
 use Rattle.byte_unit_lines.specs.declared.run.RunError.TheVariants.{Memory, Read, Write}
 use Rattle.byte_unit_lines.proofs.Answering.{answers_after, answers_one, all_have_answers, answered_after}
@@ -77,6 +77,18 @@ written_failed kind read written (Ok _) error is_error is_written = absurd is_er
 written_failed kind read written (Err _) error is_error is_written =
     subst (λ other. IsWrittenAt kind read other written) (sym is_error) is_written
 
+memory_is_not_write : Memory ≢ Write
+memory_is_not_write same = cc
+
+read_is_not_write : Read ≢ Write
+read_is_not_write same = cc
+
+-- what a call has done that writes these bytes, all of them or a beginning
+pub record IsWrittenBy (held holds : Option (List ℕ)) (bytes : List ℕ) (result : Result ⊤ RunError) : Type 0 where
+  pub whole : OnOk result (Appends held holds bytes)
+  pub part : OnErr result ((written : List ℕ) × Appends held holds written × IsBeginning written bytes)
+  pub error : IfErr result (λ error. error ≡ Write)
+
 module _ (kind : Kind) (course : Course) (served : IsServed kind course) where
   -- the lines of what was read and of a piece after it
   ended_with : (piece : List ℕ) → ended_by [] course.read ++ ended_by course.line piece ≡ ended_by [] (course.read ++ piece)
@@ -95,6 +107,10 @@ module _ (kind : Kind) (course : Course) (served : IsServed kind course) where
   -- what is written where no more is read
   pub answers_finished : AreAnswers kind (finished_lines course.read) course.written
   answers_finished = subst (λ lines. AreAnswers kind lines course.written) (sym (finished_lines_is course.read)) served.answered
+
+  -- the same where there was no memory for the next answer
+  pub answered_first : IsWrittenAt kind course.read Memory course.written
+  answered_first = (finished_lines course.read, ([], sym (append-nil (finished_lines course.read))), answers_finished)
 
   -- the report where nothing has begun, and where a line has
   pub report_ended : course.line ≡ [] → IsReport kind course.read course.written
@@ -115,29 +131,16 @@ module _ (kind : Kind) (course : Course) (served : IsServed kind course) where
       subst (λ lines. AreAnswers kind lines (course.written ++ answer)) (sym lines)
       (answers_after kind ended (course.line ∷ []) course.written answer served.answered (answers_one kind course.line answer is_answer))
 
-  -- an error while the last line was answered
-  written_at_last : course.line ≢ [] → (error : RunError) (written : List ℕ) → IsLineAnsweredAt kind course.line error written
-      → IsWrittenAt kind course.read error (course.written ++ written)
-  written_at_last some Memory written none =
-      let ended = ended_by [] course.read in
-      let same : course.written ≡ course.written ++ written =
-      sym (append-nil course.written) ∙ ap (λ last. course.written ++ last) (sym none) in (
-        ended,
-        ([], finished_lines_is course.read ∙ sym (append-nil ended)),
-        subst (AreAnswers kind ended) same served.answered,
-      )
-  written_at_last some Read written at = absurd at
-  written_at_last some Write written (answer, is_answer, is_beginning) = (
-    course.written ++ answer,
-    report_begun some answer is_answer,
-    beginning_after course.written written answer is_beginning,
-  )
-
-  -- what is written once the last line was answered, or was not
-  pub written_last : course.line ≢ [] → (result : Result ⊤ RunError) (written : List ℕ)
-      → IsLineAnswered kind course.line result written → IsWritten kind course.read result (course.written ++ written)
-  written_last some (Ok _) written is_answer = report_begun some written is_answer
-  written_last some (Err error) written at = written_at_last some error written at
+  -- what is written once the answer to the last line was, or a beginning of it
+  pub written_last : course.line ≢ [] → (answer : List ℕ) → IsAnswer kind course.line answer
+      → {held holds : Option (List ℕ)} (result : Result ⊤ RunError) → IsWrittenBy held holds answer result
+      → (written : List ℕ) × Appends held holds written × IsWritten kind course.read result (course.written ++ written)
+  written_last some answer is_answer (Ok _) by = (answer, by.whole, report_begun some answer is_answer)
+  written_last some answer is_answer (Err Memory) by = absurd (memory_is_not_write by.error)
+  written_last some answer is_answer (Err Read) by = absurd (read_is_not_write by.error)
+  written_last some answer is_answer (Err Write) by =
+      let begins = beginning_after course.written by.part.0 answer by.part.2 in
+      (by.part.0, by.part.1, (course.written ++ answer, report_begun some answer is_answer, begins))
 
 -- what begins the answers to the first lines that ended begins a report, since each line has an answer
 begins_report : EachLineHasAnAnswer → (kind : Kind) (read written : List ℕ) → BeginFirst kind (ended_by [] read) written
@@ -169,24 +172,3 @@ written_in_piece each kind course served piece error written at =
     written_at_ended each kind (course.read ++ piece) error (course.written ++ written)
     (subst (λ lines. IsAnsweredAt kind lines error (course.written ++ written)) (ended_with kind course served piece)
     (answered_after kind ended (ended_by course.line piece) course.written served.answered error written at))
-
-memory_is_not_write : Memory ≢ Write
-memory_is_not_write same = cc
-
-read_is_not_write : Read ≢ Write
-read_is_not_write same = cc
-
--- what a call has done that writes these bytes, all of them or a beginning
-pub record IsWrittenBy (held holds : Option (List ℕ)) (bytes : List ℕ) (result : Result ⊤ RunError) : Type 0 where
-  pub whole : OnOk result (Appends held holds bytes)
-  pub part : OnErr result ((written : List ℕ) × Appends held holds written × IsBeginning written bytes)
-  pub error : IfErr result (λ error. error ≡ Write)
-
--- what was written of the last line's answer
-pub last_written : (kind : Kind) (line answer : List ℕ) (held holds : Option (List ℕ)) (result : Result ⊤ RunError)
-    → IsAnswer kind line answer → IsWrittenBy held holds answer result
-    → (written : List ℕ) × Appends held holds written × IsLineAnswered kind line result written
-last_written kind line answer held holds (Ok _) is_answer by = (answer, by.whole, is_answer)
-last_written kind line answer held holds (Err Memory) is_answer by = absurd (memory_is_not_write by.error)
-last_written kind line answer held holds (Err Read) is_answer by = absurd (read_is_not_write by.error)
-last_written kind line answer held holds (Err Write) is_answer by = (by.part.0, by.part.1, (answer, is_answer, by.part.2))

@@ -47,13 +47,3 @@ IsAnsweredAt kind lines Write written = BeginFirst kind lines written
 abbrev pub IsAnswered : {T : Type 0} → Kind → List (List ℕ) → Result T RunError → List ℕ → Type 0
 IsAnswered kind lines (Ok _) written = AreAnswers kind lines written
 IsAnswered kind lines (Err error) written = IsAnsweredAt kind lines error written
-
--- the same of the last line, of whose answer nothing is written where there is no memory for it
-abbrev pub IsLineAnsweredAt : Kind → List ℕ → RunError → List ℕ → Type 0
-IsLineAnsweredAt kind line Memory written = written ≡ []
-IsLineAnsweredAt kind line Read written = ⊥
-IsLineAnsweredAt kind line Write written = (answer : List ℕ) × IsAnswer kind line answer × IsBeginning written answer
-
-abbrev pub IsLineAnswered : {T : Type 0} → Kind → List ℕ → Result T RunError → List ℕ → Type 0
-IsLineAnswered kind line (Ok _) written = IsAnswer kind line written
-IsLineAnswered kind line (Err error) written = IsLineAnsweredAt kind line error written

@@ -9,7 +9,7 @@ ghost use Rattle.std.specs.Io.KnownBytes.{Appends, IsAtEnd};
 ghost use Rattle.byte_unit_lines.specs.Lines.{line_end};
 ghost use Rattle.byte_unit_lines.specs.Outcome.{IsBeginning, IsRun};
 ghost use Rattle.byte_unit_lines.specs.Progress.{ended_by, begun_by, IsUnbroken, AddsAnswers, AddsFirst};
-ghost use Rattle.byte_unit_lines.specs.Progress.{IsAnswered, IsLineAnswered};
+ghost use Rattle.byte_unit_lines.specs.Progress.{IsAnswered};
 ghost use Rattle.byte_unit_lines.specs.Streams.{reader_of, reading_failed, writer_of, writing_failed};
 
 use crate::arguments::Kind;
@@ -109,7 +109,8 @@ pub fn run_in<A: Allocator, R: Read, W: Write>(
     if line.is_empty() {
         Ok(())
     } else {
-        answer_last(&line, kind, &mut waiting, writer)
+        add_answer(&line, kind, &mut waiting)?;
+        write_whole(writer, &waiting)
     }
 }
 
@@ -134,23 +135,6 @@ fn answer_piece<A: Allocator, W: Write>(
     write_whole(writer, waiting)?;
     waiting.clear();
     Ok(fed?)
-}
-
-/// Answers a last line that no line end ends.
-fn answer_last<A: Allocator, W: Write>(
-    line: &[u8],
-    kind: Kind,
-    waiting: &mut Vec<u8, A>,
-    writer: &mut Writing<W>,
-) -> Result<(), RunError>
-    requires { waiting.old.items ≡ [] }
-    ensures written { (written : List ℕ)
-        × Appends (W.contents (writer_of writer.old)) (W.contents (writer_of writer.new)) written
-        × IsLineAnswered kind line.now result written }
-    ensures failed { IsErrOf result RunError.Write → IsTrue (writing_failed writer.new) }
-{
-    add_answer(line, kind, waiting)?;
-    write_whole(writer, waiting)
 }
 
 /// Adds the answers to the lines that end in these bytes. `line` is what has come of the first, and

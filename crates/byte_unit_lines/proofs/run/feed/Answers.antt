@@ -26,8 +26,8 @@ loop-n-preserved g c =
           let none = nothing_begun front (vec_len c.loop-n.line) c.loop-n.line.ok.0 w.if-is_empty.ensures in
           record {
             ends = ends;
-            answer =
-                added_as c.args.kind (front ++ back) now.answers w.in_ok-add_answer.ensures.ok (ap (λ line. line ++ back) (sym none)) (ap (λ waiting. waiting.items) w.waiting-is);
+            answer = added_as c.args.kind (front ++ back) now.answers w.in_ok-add_answer.ensures.ok
+                (ap (λ line. line ++ back) (sym none)) (ap (λ waiting. waiting.items) w.waiting-is);
             line_is = ap (λ line. line.items) w.line-is ∙ none;
             rest_is = rest_is;
           }

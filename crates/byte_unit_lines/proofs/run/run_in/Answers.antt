@@ -1,9 +1,11 @@
-use Rattle.std.proofs.Common.{◌≢◌, [], ◌++◌, sym, ap, ◌∙◌, take, vec_len}
+use Rattle.std.proofs.Common.{◌≡◌, ◌≢◌, [], ◌++◌, sym, ap, subst, ◌∙◌, take, vec_len}
 use Rattle.std.proofs.KnownBytes.{Consumes-kept}
+use Rattle.byte_unit_lines.specs.Answer.{IsAnswer}
 use Rattle.byte_unit_lines.specs.Streams.{reader_of, writer_of}
+use Rattle.byte_unit_lines.specs.declared.run.RunError.TheVariants.{Memory}
 use Rattle.byte_unit_lines.proofs.Runs.{Course, IsServed, course_of, read_on, read_on_nothing, wrote_on, served_on, answers_finished}
 use Rattle.byte_unit_lines.proofs.Runs.{nothing_begun, something_begun, written_in_piece, written_failed}
-use Rattle.byte_unit_lines.proofs.Runs.{report_ended, written_last}
+use Rattle.byte_unit_lines.proofs.Runs.{report_ended, answered_first, IsWrittenBy, written_last}
 use Rattle.byte_unit_lines.proofs.run.run_in.Goals as goal
 
 pub returns-in-None-clause-run : goal.returns-in-None-clause-run
@@ -69,23 +71,47 @@ returns-then-is_empty-clause-run g c =
       is_written = report_ended c.args.kind (course_of so_far) so_far.served empty;
     }
 
-pub returns-clause-run : goal.returns-clause-run
-returns-clause-run g c =
+pub returns-in_err-add_answer-clause-run : goal.returns-in_err-add_answer-clause-run
+returns-in_err-add_answer-clause-run g c =
     let rest = g.R.Read.remaining (reader_of c.read.new.self) in
-    let holds = g.W.Write.contents (writer_of c.answer_last.new.writer) in
     let so_far = c.reads.invariant in
     let end = c.in-Some-eq0 in
     let none = ap (λ count. take count c.read.new.buf) end.field-0-test in
-    let answer = c.answer_last.ensures.written in
+    let error = c.from_residual-in_err-add_answer in
+    let at = answered_first c.args.kind (course_of so_far) so_far.served in record {
+      read = so_far.read;
+      written = so_far.written;
+      gave = read_on_nothing so_far rest (take end.field-0 c.read.new.buf) end.ensures.came none;
+      took = so_far.took;
+      is_written = written_failed c.args.kind so_far.read so_far.written error.result Memory error.ensures.1 at;
+    }
+
+pub returns-clause-run : goal.returns-clause-run
+returns-clause-run g c =
+    let rest = g.R.Read.remaining (reader_of c.read.new.self) in
+    let held = g.W.Write.contents (writer_of c.reads.writer) in
+    let holds = g.W.Write.contents (writer_of c.write_whole.new.writer) in
+    let so_far = c.reads.invariant in
+    let end = c.in-Some-eq0 in
+    let none = ap (λ count. take count c.read.new.buf) end.field-0-test in
     let line = c.deref.result.now in
     let begun = something_begun c.reads.line.items (vec_len c.reads.line) c.reads.line.ok.0 c.if-is_empty.ensures in
     let some : line ≢ [] = λ empty. begun (sym c.deref.ensures.value ∙ empty) in
     let course : Course = record { read = so_far.read; written = so_far.written; line = line } in
     let served : IsServed c.args.kind course =
-    record { answered = so_far.served.answered; begun = c.deref.ensures.value ∙ so_far.served.begun } in record {
+    record { answered = so_far.served.answered; begun = c.deref.ensures.value ∙ so_far.served.begun } in
+    let added = c.in_ok-add_answer.ensures.ok in
+    let bytes = c.deref-else-is_empty.result.now in
+    let same : added.0 ≡ bytes =
+    sym (c.deref-else-is_empty.ensures.value ∙ added.2 ∙ ap (λ before. before ++ added.0) so_far.none_wait) in
+    let is_answer = subst (IsAnswer c.args.kind line) same added.1 in
+    let write = c.write_whole.ensures in
+    let by : IsWrittenBy held holds bytes c.write_whole.result =
+    record { whole = write.ok; part = write.err; error = write.write } in
+    let answer = written_last c.args.kind course served some bytes is_answer c.write_whole.result by in record {
       read = so_far.read;
       written = so_far.written ++ answer.0;
       gave = read_on_nothing so_far rest (take end.field-0 c.read.new.buf) end.ensures.came none;
       took = wrote_on so_far holds answer.0 answer.1;
-      is_written = written_last c.args.kind course served some c.answer_last.result answer.0 answer.2;
+      is_written = answer.2;
     }
