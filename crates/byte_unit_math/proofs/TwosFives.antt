@@ -55,5 +55,12 @@ FivesOff-more number left twos fives fifth h parts =
       product = h.product ∙ (ap (λ n. n * (2 ^ twos * 5 ^ fives)) (sym parts) ∙ omega (arith, power));
     }
 
+pub FivesOff-joined :
+    (number left twos fives rest others : ℕ) → FivesOff number left twos fives → left ≡ rest * 5 ^ others → rest % 2 ≢ 0
+    → FivesOff number rest twos (fives + others)
+FivesOff-joined number left twos fives rest others h parts odd =
+    let power = ap (λ n. rest * (2 ^ twos * n)) (pow-add 5 fives others) in
+    record { odd = odd; product = h.product ∙ (ap (λ n. n * (2 ^ twos * 5 ^ fives)) parts ∙ omega (arith, power)) }
+
 pub FivesOff-few : (number left twos fives : ℕ) → number < size_limit → FivesOff number left twos fives → twos + fives ≤ 99
 FivesOff-few number left twos fives small h = few_both number left twos fives (above_zero left h.odd) h.product small

@@ -122,20 +122,34 @@ impl Decimal {
         requires digits { digits < 10 ^ places }
         ensures { result ≡ whole * one + digits * 10 ^ (places_of_decimal - places) }
     {
+        if digits >= 1 << 64 {
+            return Decimal::from_wide_digits(whole, digits, places);
+        }
+        // The zeros at the end go.
+        let mut short = digits as u64;
+        let mut left = places;
+        while left > 0 && short % 10 == 0 {
+            short /= 10;
+            left -= 1;
+        }
+        Decimal {
+            whole,
+            digits: u128::from(short),
+            places: left,
+        }
+    }
+
+    /// The same of digits that 64 bits do not hold, where a division takes more time.
+    fn from_wide_digits(whole: u128, digits: u128, places: u32) -> Decimal
+        requires whole { whole < whole_limit }
+        requires places { places ≤ places_of_decimal }
+        requires digits { digits < 10 ^ places }
+        ensures { result ≡ whole * one + digits * 10 ^ (places_of_decimal - places) }
+    {
         let mut short = digits;
         let mut left = places;
-        // The zeros at the end go.
-        while left > 0 {
-            // Where the digits fit 64 bits, so does the division, which then takes less time.
-            let tenth = if short < 1 << 64 {
-                u128::from(short as u64 / 10)
-            } else {
-                short / 10
-            };
-            if tenth * 10 != short {
-                break;
-            }
-            short = tenth;
+        while left > 0 && short % 10 == 0 {
+            short /= 10;
             left -= 1;
         }
         Decimal {

@@ -1,5 +1,5 @@
 //! How often two and five divide a size, and what is left of it.
-ghost use Rattle.std.specs.Prelude.{◌≡◌, ◌+◌, ◌<◌, ◌≤◌};
+ghost use Rattle.std.specs.Prelude.{◌≡◌, ◌≢◌, ◌+◌, ◌*◌, ◌%◌, ◌^◌, ◌<◌, ◌≤◌};
 ghost use Rattle.byte_unit_math.specs.Bounds.{size_limit};
 ghost use Rattle.byte_unit_math.specs.Factored.{value_of};
 ghost use Rattle.byte_unit_math.specs.Powers.{IsTwoFive};
@@ -58,19 +58,32 @@ pub fn factors_of(size: u128, steps: &mut Steps) -> Factors
     let twos = size.trailing_zeros();
     let mut left = size >> twos;
     let mut fives = 0;
-    loop {
-        // Where it fits 64 bits, so does the division, which then takes less time.
-        let fifth = if left < 1 << 64 {
-            u128::from(left as u64 / 5)
-        } else {
-            left / 5
-        };
-        if fifth * 5 != left {
-            break;
-        }
-        left = fifth;
+    // As soon as what is left fits 64 bits, so do the divisions, which then take less time.
+    while left >= 1 << 64 && left % 5 == 0 {
+        left /= 5;
         fives += 1;
+    }
+    if left < 1 << 64 {
+        let (short, others) = short_without_fives(left as u64);
+        left = u128::from(short);
+        fives += others;
     }
     steps.raise(twos + fives + 2);
     Factors { left, twos, fives }
+}
+
+/// What is left of an odd number without its fives, and how many they are.
+fn short_without_fives(number: u64) -> (u64, u32)
+    requires { number % 2 ≢ 0 }
+    ensures product { number ≡ result.0 * 5 ^ result.1 }
+    ensures odd { result.0 % 2 ≢ 0 }
+    ensures none { result.0 % 5 ≢ 0 }
+{
+    let mut left = number;
+    let mut fives = 0;
+    while left % 5 == 0 {
+        left /= 5;
+        fives += 1;
+    }
+    (left, fives)
 }
