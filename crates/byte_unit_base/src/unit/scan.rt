@@ -179,6 +179,7 @@ impl UnitScan {
     }
 
     /// The unit, where the spelling may end here.
+    #[inline(always)]
     pub fn unit(self, flags: Flags) -> Option<Unit>
         ensures { option_map shape_of result ≡ unit_of flags self }
     {
