@@ -32,6 +32,7 @@ mod tour;
 mod traits;
 mod unit_texts;
 mod units;
+mod usage;
 mod widest;
 mod without_memory;
 

@@ -9,5 +9,3 @@ pub mod message;
 pub mod quota;
 pub mod settings;
 pub mod shown;
-#[cfg(test)]
-mod tests;

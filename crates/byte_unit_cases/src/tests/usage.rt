@@ -1,10 +1,11 @@
-use crate::entry::{Entry, add, below};
-use crate::limit::{limit, limit_if_stated, limit_or, rate, read_or};
-use crate::message::limit_of_argument;
-use crate::quota::{QuotaError, left, share};
-use crate::settings::{SettingsError, read_settings};
-use crate::shown::{shown, shown_in, unit_of};
+//! What the uses of sizes in `byte_unit_usage` answer.
 use byte_unit::{Bit, Byte, FormatSpec, JsonSizeError, ParseError, Unit, ValueParseError};
+use byte_unit_usage::entry::{Entry, add, below};
+use byte_unit_usage::limit::{limit, limit_if_stated, limit_or, rate, read_or};
+use byte_unit_usage::message::limit_of_argument;
+use byte_unit_usage::quota::{QuotaError, left, share};
+use byte_unit_usage::settings::{SettingsError, read_settings};
+use byte_unit_usage::shown::{shown, shown_in, unit_of};
 use serde_json::Value;
 use std::alloc::{AllocError, Global};
 use std::test::Fail;
