@@ -14,7 +14,12 @@ pub invariant_of-result : goal.invariant_of-result
 invariant_of-result c =
     let fewer = c.loop-left.invariant in
     short_parts c.args.whole c.loop-left.short c.loop-left.left
-    (record { bound = c.requires.whole; few = omega (arith, fewer.few, c.requires.places); below = fewer.below; last = λ some. omega arith })
+    (record {
+      bound = c.requires.whole;
+      few = omega (arith, fewer.few, c.requires.places);
+      below = fewer.below;
+      last = λ some. omega arith;
+    })
 
 pub returns : goal.returns
 returns c =
