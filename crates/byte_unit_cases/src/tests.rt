@@ -1,5 +1,38 @@
 //! The worked cases, as tables.
 
+/// A spec with these fields, also in a constant.
+macro_rules! spec {
+    ($alternate:expr, $sign:expr, $precision:expr, $width:expr, $align:expr) => {
+        FormatSpec {
+            alternate: $alternate,
+            sign: $sign,
+            precision: $precision,
+            width: $width,
+            align: $align,
+        }
+    };
+}
+
+/// The plain form with this precision, also in a constant.
+macro_rules! places {
+    ($precision:literal) => {
+        FormatSpec {
+            precision: Some($precision),
+            ..FormatSpec::PLAIN
+        }
+    };
+}
+
+/// The alternate form with this precision, also in a constant.
+macro_rules! precise {
+    ($precision:literal) => {
+        FormatSpec {
+            precision: Some($precision),
+            ..FormatSpec::ALTERNATE
+        }
+    };
+}
+
 mod adjusted;
 mod answers;
 mod any_texts;
@@ -35,32 +68,3 @@ mod units;
 mod usage;
 mod widest;
 mod without_memory;
-
-use byte_unit::{Align, FormatSpec, Sign};
-
-/// A spec with these fields.
-fn spec(
-    alternate: bool,
-    sign: Sign,
-    precision: Option<u16>,
-    width: Option<u16>,
-    align: Option<Align>,
-) -> FormatSpec {
-    FormatSpec {
-        alternate,
-        sign,
-        precision,
-        width,
-        align,
-    }
-}
-
-/// The alternate form with this precision.
-fn precise(precision: u16) -> FormatSpec {
-    spec(true, Sign::Unset, Some(precision), None, None)
-}
-
-/// The plain form with this precision.
-fn places(precision: u16) -> FormatSpec {
-    spec(false, Sign::Unset, Some(precision), None, None)
-}

@@ -1,18 +1,19 @@
 //! The constants of both types, as written numbers.
+use super::traits::assert_is;
 use byte_unit::{Bit, Byte, Unit, laws};
 use std::process::Abort;
 
 /// Each constant in bytes is the number in its row.
 fn assert_bytes(rt: &impl Abort, rows: &[(Byte, u128)]) {
     for (constant, number) in rows {
-        assert_eq!(rt; constant.as_u128(), *number);
+        assert_is(rt, constant.as_u128(), *number);
     }
 }
 
 /// Each constant in bits is the number in its row.
 fn assert_bits(rt: &impl Abort, rows: &[(Bit, u128)]) {
     for (constant, number) in rows {
-        assert_eq!(rt; constant.as_u128(), *number);
+        assert_is(rt, constant.as_u128(), *number);
     }
 }
 
@@ -38,28 +39,12 @@ fn constants_without_a_prefix(rt: HostRuntime) {
 
 #[test]
 fn constants_by_their_unit(rt: HostRuntime) {
-    for (call, holds) in [
-        (
-            "GiB in bytes",
-            laws::byte_constant(Unit::GiB) == Some(Byte::GIBIBYTE),
-        ),
-        ("Bit in bytes", laws::byte_constant(Unit::Bit).is_none()),
-        (
-            "the bounds in bytes",
-            laws::byte_bounds() == (Byte::MIN, Byte::MAX),
-        ),
-        (
-            "GiB in bits",
-            laws::bit_constant(Unit::GiB) == Some(Bit::GIBIBYTE),
-        ),
-        ("B in bits", laws::bit_constant(Unit::B).is_none()),
-        (
-            "the bounds in bits",
-            laws::bit_bounds() == (Bit::MIN, Bit::MAX),
-        ),
-    ] {
-        assert!(rt; holds, "{call}");
-    }
+    assert_is(&rt, laws::byte_constant(Unit::GiB), Some(Byte::GIBIBYTE));
+    assert_is(&rt, laws::byte_constant(Unit::Bit), None);
+    assert_is(&rt, laws::byte_bounds(), (Byte::MIN, Byte::MAX));
+    assert_is(&rt, laws::bit_constant(Unit::GiB), Some(Bit::GIBIBYTE));
+    assert_is(&rt, laws::bit_constant(Unit::B), None);
+    assert_is(&rt, laws::bit_bounds(), (Bit::MIN, Bit::MAX));
 }
 
 #[test]

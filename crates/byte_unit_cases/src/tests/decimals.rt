@@ -1,55 +1,63 @@
 //! Decimals by their parts, and as texts.
 use super::shown::assert_display;
 use byte_unit::Decimal;
-use std::alloc::AllocError;
+use std::alloc::{AllocError, Global};
 use std::cmp::Ordering;
 use std::hash::{DefaultHasher, Hash, Hasher};
 use std::process::Abort;
 
-#[test]
-fn decimals_by_mantissa_and_scale(rt: HostRuntime) {
-    for (mantissa, scale, parts) in [
-        (5084, 2, Some((50, 8_400_000_000_000_000_000_000_000_000))),
-        (1000, 2, Some((10, 0))),
-        (1, 29, None),
-        (
-            u128::MAX,
-            28,
-            Some((34_028_236_692, 938_463_463_374_607_431_768_211_455)),
-        ),
-        (
-            u128::MAX,
-            10,
-            Some((
-                34_028_236_692_093_846_346_337_460_743,
-                1_768_211_455_000_000_000_000_000_000,
-            )),
-        ),
-        (
-            u128::MAX,
-            9,
-            Some((
-                340_282_366_920_938_463_463_374_607_431,
-                7_682_114_550_000_000_000_000_000_000,
-            )),
-        ),
-        (
-            u128::MAX,
-            5,
-            Some((
-                3_402_823_669_209_384_634_633_746_074_317_682,
-                1_145_500_000_000_000_000_000_000_000,
-            )),
-        ),
-        (u128::MAX, 4, None),
-    ] {
-        let number = Decimal::from_u128_with_scale(mantissa, scale);
-        assert!(rt; number.map(parts_of) == parts, "{mantissa} and {scale}");
+/// Mantissa, scale, and the parts of the decimal.
+const DECIMALS_BY_MANTISSA_AND_SCALE: &[(u128, u32, Option<(u128, u128)>)] = &[
+    (5084, 2, Some((50, 8_400_000_000_000_000_000_000_000_000))),
+    (1000, 2, Some((10, 0))),
+    (1, 29, None),
+    (
+        u128::MAX,
+        28,
+        Some((34_028_236_692, 938_463_463_374_607_431_768_211_455)),
+    ),
+    (
+        u128::MAX,
+        10,
+        Some((
+            34_028_236_692_093_846_346_337_460_743,
+            1_768_211_455_000_000_000_000_000_000,
+        )),
+    ),
+    (
+        u128::MAX,
+        9,
+        Some((
+            340_282_366_920_938_463_463_374_607_431,
+            7_682_114_550_000_000_000_000_000_000,
+        )),
+    ),
+    (
+        u128::MAX,
+        5,
+        Some((
+            3_402_823_669_209_384_634_633_746_074_317_682,
+            1_145_500_000_000_000_000_000_000_000,
+        )),
+    ),
+    (u128::MAX, 4, None),
+];
+
+/// Each decimal has the parts in its row.
+fn assert_parts(rt: &impl Abort, rows: &[(u128, u32, Option<(u128, u128)>)]) {
+    for (mantissa, scale, parts) in rows {
+        let number = Decimal::from_u128_with_scale(*mantissa, *scale);
+        assert!(rt; number.map(parts_of) == *parts, "{mantissa} and {scale}");
     }
 }
 
+#[test]
+fn decimals_by_mantissa_and_scale(rt: HostRuntime) {
+    assert_parts(&rt, DECIMALS_BY_MANTISSA_AND_SCALE);
+}
+
 /// The whole part, and the fraction in 28th places.
-fn parts_of(number: Decimal) -> (u128, u128) {
+pub fn parts_of(number: Decimal) -> (u128, u128) {
     (number.whole(), number.fraction())
 }
 
@@ -57,28 +65,40 @@ fn parts_of(number: Decimal) -> (u128, u128) {
 fn decimals_at_their_bounds(rt: HostRuntime) {
     let one = 10_000_000_000_000_000_000_000_000_000;
     let wholes = 5_192_296_858_534_827_628_530_496_329_220_096;
-    assert!(rt; Decimal::new(0, one).is_none());
-    assert!(rt; Decimal::new(wholes, 0).is_none());
-    assert!(rt; Decimal::from_u128(wholes).is_none());
+    let is_none = Decimal::new(0, one).is_none()
+        && Decimal::new(wholes, 0).is_none()
+        && Decimal::from_u128(wholes).is_none();
+    assert!(rt; is_none);
     let greatest = Decimal::new(wholes - 1, one - 1).expect(&rt, "a decimal");
-    assert!(rt; parts_of(greatest) == (wholes - 1, one - 1));
-    assert!(rt; greatest.places() == 28);
+    assert!(rt; parts_of(greatest) == (wholes - 1, one - 1) && greatest.places() == 28);
+}
+
+/// Mantissa, scale, and the text of the decimal.
+const DECIMALS_AS_TEXTS: &[(u128, u32, &str)] = &[
+    (5084, 2, "50.84"),
+    (1000, 2, "10"),
+    (0, 0, "0"),
+    (1, 28, "0.0000000000000000000000000001"),
+    (90, 2, "0.9"),
+    (1_000_000_001, 9, "1.000000001"),
+];
+
+/// What Display writes of each decimal is the text in its row.
+fn assert_decimals(
+    rt: &impl Abort,
+    alloc: Global,
+    rows: &[(u128, u32, &str)],
+) -> Result<(), AllocError> {
+    for (mantissa, scale, text) in rows {
+        let number = Decimal::from_u128_with_scale(*mantissa, *scale).expect(rt, "a decimal");
+        assert_display(rt, alloc, &number, text)?;
+    }
+    Ok(())
 }
 
 #[test]
 fn decimals_as_texts(rt: HostRuntime) -> Result<(), AllocError> {
-    for (mantissa, scale, text) in [
-        (5084, 2, "50.84"),
-        (1000, 2, "10"),
-        (0, 0, "0"),
-        (1, 28, "0.0000000000000000000000000001"),
-        (90, 2, "0.9"),
-        (1_000_000_001, 9, "1.000000001"),
-    ] {
-        let number = Decimal::from_u128_with_scale(mantissa, scale).expect(&rt, "a decimal");
-        assert_display(&rt, rt.alloc(), &number, text)?;
-    }
-    Ok(())
+    assert_decimals(&rt, rt.alloc(), DECIMALS_AS_TEXTS)
 }
 
 /// By the bounds alone, as a caller that is generic sees it.
@@ -103,30 +123,40 @@ fn the_order_is_that_of_the_numbers(rt: HostRuntime) {
 
 #[test]
 fn whole_numbers(rt: HostRuntime) {
-    let seven = Decimal::from(7u8);
-    for (number, holds) in [
-        ("u16", Decimal::from(7u16) == seven),
-        ("u32", Decimal::from(7u32) == seven),
-        ("u64", Decimal::from(7u64) == seven),
-        ("u128", Decimal::from_u128(7) == Some(seven)),
-        ("its places", seven.places() == 0),
-    ] {
-        assert!(rt; holds, "{number}");
-    }
+    let seven = (7, 0);
+    assert!(rt; parts_of(Decimal::from(7u8)) == seven, "u8");
+    let holds = parts_of(Decimal::from(7u16)) == seven
+        && parts_of(Decimal::from(7u32)) == seven
+        && parts_of(Decimal::from(7u64)) == seven
+        && Decimal::from_u128(7).map(parts_of) == Some(seven);
+    assert!(rt; holds);
+    assert!(rt; Decimal::from(7u8).places() == 0);
     assert!(rt; Decimal::from(u64::MAX).whole() == 18_446_744_073_709_551_615);
+}
+
+/// Mantissa, scale, the digits after the point, and how many they are.
+const DIGITS_AFTER_THE_POINT: &[(u128, u32, u128, u32)] = &[
+    (5084, 2, 84, 2),
+    (50_084, 3, 84, 3),
+    (1000, 2, 0, 0),
+    (90, 2, 9, 1),
+    (1, 28, 1, 28),
+];
+
+/// Each decimal has the digits in its row, and is what they make.
+fn assert_digits(rt: &impl Abort, rows: &[(u128, u32, u128, u32)]) {
+    for (mantissa, scale, digits, places) in rows {
+        let d = Decimal::from_u128_with_scale(*mantissa, *scale).expect(rt, "a decimal");
+        assert!(rt;
+            d.digits() == *digits && d.places() == *places,
+            "{mantissa}"
+        );
+        let made = Decimal::from_digits(d.whole(), d.digits(), d.places());
+        assert!(rt; parts_of(made) == parts_of(d), "{mantissa}");
+    }
 }
 
 #[test]
 fn digits_after_the_point(rt: HostRuntime) {
-    for (mantissa, scale, digits, places) in [
-        (5084, 2, 84, 2),
-        (50_084, 3, 84, 3),
-        (1000, 2, 0, 0),
-        (90, 2, 9, 1),
-        (1, 28, 1, 28),
-    ] {
-        let d = Decimal::from_u128_with_scale(mantissa, scale).expect(&rt, "a decimal");
-        assert!(rt; d.digits() == digits && d.places() == places, "{d}");
-        assert!(rt; Decimal::from_digits(d.whole(), digits, places) == d, "{d}");
-    }
+    assert_digits(&rt, DIGITS_AFTER_THE_POINT);
 }

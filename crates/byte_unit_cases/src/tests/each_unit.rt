@@ -1,4 +1,5 @@
 //! Each unit as it is written: its bits, its name and its flags.
+use super::shown::{assert_display, assert_same};
 use byte_unit::Unit;
 use std::alloc::{AllocError, Global};
 use std::process::Abort;
@@ -7,7 +8,7 @@ use std::process::Abort;
 /// exponents of two and of five in its bits.
 type Written = (Unit, u128, &'static str, bool, bool, (u32, u32));
 
-const TO_TERA: [Written; 18] = [
+const TO_TERA: &[Written] = &[
     (Unit::Bit, 1, "b", true, false, (0, 0)),
     (Unit::B, 8, "B", false, true, (3, 0)),
     (Unit::Kbit, 1000, "Kb", true, false, (3, 3)),
@@ -28,7 +29,7 @@ const TO_TERA: [Written; 18] = [
     (Unit::TiB, 8_796_093_022_208, "TiB", false, true, (43, 0)),
 ];
 
-const FROM_PETA: [Written; 20] = [
+const FROM_PETA: &[Written] = &[
     (
         Unit::Pbit,
         1_000_000_000_000_000,
@@ -192,38 +193,41 @@ const FROM_PETA: [Written; 20] = [
 ];
 
 /// The unit is what is written of it.
-fn assert_written(rt: &impl Abort, alloc: Global, written: &Written) -> Result<(), AllocError> {
-    let (unit, bits, name, is_bit, is_binary_multiples, powers) = *written;
-    assert!(rt;
-        unit.as_bits_u128() == bits && u128::from(unit) == bits,
-        "{name}"
-    );
-    assert!(rt;
-        unit.as_str() == name && format!(in alloc; "{unit}")?.as_str() == name,
-        "{name}"
-    );
-    assert!(rt; unit.is_bit() == is_bit, "{name}");
-    assert!(rt; unit.is_binary_multiples() == is_binary_multiples, "{name}");
-    assert!(rt; unit.powers() == powers, "{name}");
+fn is_written(unit: Unit, written: &Written) -> bool {
+    let (_, bits, name, is_bit, is_binary_multiples, powers) = *written;
+    unit.as_bits_u128() == bits
+        && u128::from(unit) == bits
+        && unit.as_str() == name
+        && unit.is_bit() == is_bit
+        && unit.is_binary_multiples() == is_binary_multiples
+        && unit.powers() == powers
+}
+
+/// Each unit is what is written of it, and Display writes its name.
+fn assert_written(rt: &impl Abort, alloc: Global, rows: &[Written]) -> Result<(), AllocError> {
+    for written in rows {
+        let (unit, name) = (written.0, written.2);
+        assert!(rt; is_written(unit, written), "{name}");
+        assert_display(rt, alloc, &unit, name)?;
+    }
     Ok(())
 }
 
 #[test]
 fn units_as_written_numbers(rt: HostRuntime) -> Result<(), AllocError> {
-    for written in &TO_TERA {
-        assert_written(&rt, rt.alloc(), written)?;
-    }
-    for written in &FROM_PETA {
-        assert_written(&rt, rt.alloc(), written)?;
-    }
-    Ok(())
+    assert_written(&rt, rt.alloc(), TO_TERA)?;
+    assert_written(&rt, rt.alloc(), FROM_PETA)
 }
 
 #[test]
 fn flags_of_a_formatter_change_nothing(rt: HostRuntime) -> Result<(), AllocError> {
     let unit = Unit::KiB;
-    assert!(rt; format!(in rt.alloc(); "{unit:>8}")?.as_str() == "KiB");
-    assert!(rt; format!(in rt.alloc(); "{unit:*^+#9.1}")?.as_str() == "KiB");
-    assert!(rt; format!(in rt.alloc(); "{unit:08}")?.as_str() == "KiB");
+    assert_same(&rt, format!(in rt.alloc(); "{unit:>8}")?.as_str(), "KiB");
+    assert_same(
+        &rt,
+        format!(in rt.alloc(); "{unit:*^+#9.1}")?.as_str(),
+        "KiB",
+    );
+    assert_same(&rt, format!(in rt.alloc(); "{unit:08}")?.as_str(), "KiB");
     Ok(())
 }

@@ -1,11 +1,14 @@
 //! The texts of the errors.
 use super::answers::TEN;
+use super::flags::assert_always_printed;
+use super::shown::assert_display;
 use byte_unit::{
     Decimal, ExceededBoundsError, JsonSizeError, JsonUnitError, ParseError, UnitParseError,
     ValueParseError,
 };
 use std::alloc::{AllocError, Global};
 use std::error::Error;
+use std::fmt::Display;
 use std::process::Abort;
 
 /// Compares the text of an error, through the bound that callers have on it.
@@ -15,9 +18,20 @@ pub fn assert_text<E: Error>(
     error: &E,
     wanted: &str,
 ) -> Result<(), AllocError> {
-    let text = format!(in alloc; "{error}")?;
-    assert_eq!(rt; text.as_str(), wanted);
-    Ok(())
+    assert_display(rt, alloc, error, wanted)
+}
+
+/// The answer is an error, which has this text.
+pub fn assert_refused<T: Drop, E: Display + Drop>(
+    rt: &impl Abort,
+    alloc: Global,
+    answer: Result<T, E>,
+    wanted: &str,
+) -> Result<(), AllocError> {
+    match answer {
+        Err(error) => assert_display(rt, alloc, &error, wanted),
+        Ok(_) => panic!(rt; "it is read, which was to be refused: {wanted}"),
+    }
 }
 
 /// Compares the text of an error as a formatter with each flag writes it: flags change nothing.
@@ -27,23 +41,7 @@ fn assert_with_flags<E: Error>(
     error: &E,
     wanted: &str,
 ) -> Result<(), AllocError> {
-    assert!(rt;
-        format!(in alloc; "{error:>200}")?.as_str() == wanted,
-        "{wanted}"
-    );
-    assert!(rt;
-        format!(in alloc; "{error:+}")?.as_str() == wanted,
-        "{wanted}"
-    );
-    assert!(rt;
-        format!(in alloc; "{error:.1}")?.as_str() == wanted,
-        "{wanted}"
-    );
-    assert!(rt;
-        format!(in alloc; "{error:#}")?.as_str() == wanted,
-        "{wanted}"
-    );
-    Ok(())
+    assert_always_printed(rt, alloc, error, wanted)
 }
 
 /// The error has this text by itself, as the error of a text, and as that of a JSON string.
@@ -63,31 +61,45 @@ pub fn assert_value_text(
 
 #[test]
 fn texts_of_faults_of_numbers(rt: HostRuntime) -> Result<(), AllocError> {
+    let alloc = rt.alloc();
     let price = Decimal::from_u128_with_scale(5084, 2).expect(&rt, "a decimal");
     let ronna = Decimal::from_u128(1_000_000_000_000_000_000_000_000_000).expect(&rt, "a decimal");
-    for (error, text) in [
-        (
-            ValueParseError::ExceededBounds(price),
-            "the value 50.84 exceeds the valid range",
-        ),
-        (
-            ValueParseError::ExceededBounds(ronna),
-            "the value 1000000000000000000000000000 exceeds the valid range",
-        ),
-        (
-            ValueParseError::NotNumber('é'),
-            "the character 'é' is not a number",
-        ),
-        (
-            ValueParseError::NotNumber('\t'),
-            "the character '\\t' is not a number",
-        ),
-        (ValueParseError::NoValue, "no value can be found"),
-        (ValueParseError::NumberTooLong, "value number is too long"),
-    ] {
-        assert_value_text(&rt, rt.alloc(), error, text)?;
-    }
-    Ok(())
+    assert_value_text(
+        &rt,
+        alloc,
+        ValueParseError::ExceededBounds(price),
+        "the value 50.84 exceeds the valid range",
+    )?;
+    assert_value_text(
+        &rt,
+        alloc,
+        ValueParseError::ExceededBounds(ronna),
+        "the value 1000000000000000000000000000 exceeds the valid range",
+    )?;
+    assert_value_text(
+        &rt,
+        alloc,
+        ValueParseError::NotNumber('é'),
+        "the character 'é' is not a number",
+    )?;
+    assert_value_text(
+        &rt,
+        alloc,
+        ValueParseError::NotNumber('\t'),
+        "the character '\\t' is not a number",
+    )?;
+    assert_value_text(
+        &rt,
+        alloc,
+        ValueParseError::NoValue,
+        "no value can be found",
+    )?;
+    assert_value_text(
+        &rt,
+        alloc,
+        ValueParseError::NumberTooLong,
+        "value number is too long",
+    )
 }
 
 /// The fault of a unit with these fields.
@@ -122,48 +134,59 @@ pub fn assert_unit_text(
     assert_text(rt, alloc, &stored, wanted)
 }
 
+/// The fault of a unit with the fields in each row has the text in the row.
+pub fn assert_unit_texts(
+    rt: &impl Abort,
+    alloc: Global,
+    rows: &[(char, &'static [char], bool, &str)],
+) -> Result<(), AllocError> {
+    for (character, expected, or_end, wanted) in rows {
+        assert_unit_text(rt, alloc, (*character, *expected, *or_end), wanted)?;
+    }
+    Ok(())
+}
+
 /// The text of an `x` where a unit could begin.
 const NO_UNIT: &str =
     "the character 'x' is incorrect ('B', 'K', 'M', 'G', 'T', 'P', 'E', 'Z', 'Y' or 'R' or no character is expected)";
 
+const TEXTS_OF_FAULTS_OF_UNITS: &[(char, &[char], bool, &str)] = &[
+    (
+        'é',
+        &['B', 'b'],
+        true,
+        "the character 'é' is incorrect ('B' or 'b' or no character is expected)",
+    ),
+    (
+        'x',
+        &['t'],
+        false,
+        "the character 'x' is incorrect ('t' is expected)",
+    ),
+    (
+        'x',
+        &['i'],
+        true,
+        "the character 'x' is incorrect ('i' or no character is expected)",
+    ),
+    (
+        'i',
+        &[],
+        true,
+        "the character 'i' is incorrect (no character is expected)",
+    ),
+    (
+        'x',
+        &['B', 'K', 'M'],
+        false,
+        "the character 'x' is incorrect ('B', 'K' or 'M' is expected)",
+    ),
+    ('x', &TEN, true, NO_UNIT),
+];
+
 #[test]
 fn texts_of_faults_of_units(rt: HostRuntime) -> Result<(), AllocError> {
-    for (character, expected, or_end, text) in [
-        (
-            'é',
-            &['B', 'b'] as &'static [char],
-            true,
-            "the character 'é' is incorrect ('B' or 'b' or no character is expected)",
-        ),
-        (
-            'x',
-            &['t'],
-            false,
-            "the character 'x' is incorrect ('t' is expected)",
-        ),
-        (
-            'x',
-            &['i'],
-            true,
-            "the character 'x' is incorrect ('i' or no character is expected)",
-        ),
-        (
-            'i',
-            &[],
-            true,
-            "the character 'i' is incorrect (no character is expected)",
-        ),
-        (
-            'x',
-            &['B', 'K', 'M'],
-            false,
-            "the character 'x' is incorrect ('B', 'K' or 'M' is expected)",
-        ),
-        ('x', &TEN, true, NO_UNIT),
-    ] {
-        assert_unit_text(&rt, rt.alloc(), (character, expected, or_end), text)?;
-    }
-    Ok(())
+    assert_unit_texts(&rt, rt.alloc(), TEXTS_OF_FAULTS_OF_UNITS)
 }
 
 #[test]

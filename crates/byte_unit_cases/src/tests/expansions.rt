@@ -1,26 +1,42 @@
 //! The digits of expansions, rounded or whole.
-ghost use Rattle.std.specs.Prelude.{◌<◌, ◌≤◌};
-ghost use Rattle.byte_unit_math.specs.Bounds.{expansion_places};
-
 use super::shown::assert_display;
 use byte_unit::{Decimal, Expansion, Ties};
 use std::alloc::AllocError;
+use std::process::Abort;
+
+/// Mantissa, scale, the whole part, the places, and the last digit.
+const DIGITS_OF_DECIMALS: &[(u128, u32, u128, u32, u8)] = &[
+    (0, 0, 0, 0, 0),
+    (1000, 2, 10, 0, 0),
+    (5084, 2, 50, 2, 4),
+    (1, 28, 0, 28, 1),
+    (99_990, 5, 0, 4, 9),
+];
+
+/// Each decimal has the digits in its row, and none past the last.
+fn assert_digits(rt: &impl Abort, rows: &[(u128, u32, u128, u32, u8)]) {
+    for (mantissa, scale, whole, places, last) in rows {
+        let d = Decimal::from_u128_with_scale(*mantissa, *scale).expect(rt, "a decimal");
+        let e = Expansion::from_decimal(d);
+        let is_so = e.whole() == *whole && e.places() == *places;
+        let is_past = e.digit(places.saturating_add(1)) == 0 && e.digit(u32::MAX) == 0;
+        assert!(rt;
+            is_so && e.digit((*places).max(1)) == *last && is_past,
+            "{mantissa}"
+        );
+    }
+}
 
 #[test]
 fn digits_of_decimals(rt: HostRuntime) {
-    for (mantissa, scale, whole, places, last) in [
-        (0, 0, 0, 0, 0),
-        (1000, 2, 10, 0, 0),
-        (5084, 2, 50, 2, 4),
-        (1, 28, 0, 28, 1),
-        (99_990, 5, 0, 4, 9),
-    ] {
-        let d = Decimal::from_u128_with_scale(mantissa, scale).expect(&rt, "a decimal");
-        let e = Expansion::from_decimal(d);
-        assert!(rt; e.whole() == whole && e.places() == places, "{d}");
-        assert!(rt; e.digit(places.max(1)) == last, "{d}");
-        // Past the last digit.
-        assert!(rt; e.digit(places + 1) == 0 && e.digit(u32::MAX) == 0, "{d}");
+    assert_digits(&rt, DIGITS_OF_DECIMALS);
+}
+
+/// The digits are these from the place on.
+fn assert_from(rt: &impl Abort, e: &Expansion, from: u32, digits: &[u8]) {
+    for (i, digit) in (from..u32::MAX).zip(digits.iter()) {
+        assert!(rt; i >= 1);
+        assert!(rt; e.digit(i) == *digit, "at {i}");
     }
 }
 
@@ -28,33 +44,15 @@ fn digits_of_decimals(rt: HostRuntime) {
 fn one_over_yobibytes_and_robibytes(rt: HostRuntime) {
     let e = Expansion::new(1, 83, 0);
     assert!(rt; e.whole() == 0 && e.places() == 83);
-    for i in 1..25u32 {
-        assert!(rt; e.digit(i) == 0);
-    }
+    assert_from(&rt, &e, 1, &[0; 24]);
     // 5^83 begins with 10339 and ends with 328125.
-    assert!(rt; five_digits(&e, 25) == [1, 0, 3, 3, 9]);
-    assert!(rt; five_digits(&e, 78) == [3, 2, 8, 1, 2]);
-    assert!(rt; e.digit(83) == 5);
+    assert_from(&rt, &e, 25, &[1, 0, 3, 3, 9]);
+    assert_from(&rt, &e, 78, &[3, 2, 8, 1, 2, 5]);
     let e = Expansion::new(1, 93, 0);
     assert!(rt; e.places() == 93);
     // 5^93 begins with 10097 and ends with 703125.
-    assert!(rt; five_digits(&e, 27) == [0, 1, 0, 0, 9]);
-    assert!(rt; five_digits(&e, 88) == [7, 0, 3, 1, 2]);
-    assert!(rt; e.digit(93) == 5);
-}
-
-/// The digits from this place on.
-fn five_digits(e: &Expansion, from: u32) -> [u8; 5]
-    requires first { 1 ≤ from }
-    requires last { from < expansion_places }
-{
-    [
-        e.digit(from),
-        e.digit(from + 1),
-        e.digit(from + 2),
-        e.digit(from + 3),
-        e.digit(from + 4),
-    ]
+    assert_from(&rt, &e, 27, &[0, 1, 0, 0, 9]);
+    assert_from(&rt, &e, 88, &[7, 0, 3, 1, 2, 5]);
 }
 
 #[test]
@@ -80,30 +78,39 @@ fn fractions_over_twos_and_fives(rt: HostRuntime) {
 }
 
 /// The whole part, the places that are left, and the first two digits.
-fn parts_of(e: &Expansion) -> (u128, u32, u8, u8) {
+fn parts_of(e: &Expansion) -> Rounded {
     (e.whole(), e.places(), e.digit(1), e.digit(2))
+}
+
+/// What is left of a rounded expansion: the whole part, the places, and the first two digits.
+type Rounded = (u128, u32, u8, u8);
+
+/// Mantissa, scale, places, and what is left with ties to even and with ties up.
+const ROUNDED_TO_EVEN_AND_UP: &[(u128, u32, u32, Rounded, Rounded)] = &[
+    (9996, 3, 2, (10, 0, 0, 0), (10, 0, 0, 0)),
+    (1005, 3, 2, (1, 0, 0, 0), (1, 2, 0, 1)),
+    (1015, 3, 2, (1, 2, 0, 2), (1, 2, 0, 2)),
+    (5, 1, 0, (0, 0, 0, 0), (1, 0, 0, 0)),
+    (15, 1, 0, (2, 0, 0, 0), (2, 0, 0, 0)),
+    (9999, 4, 3, (1, 0, 0, 0), (1, 0, 0, 0)),
+    // More places than it has.
+    (50, 2, 65_535, (0, 1, 5, 0), (0, 1, 5, 0)),
+];
+
+/// Each decimal is rounded to what is in its row.
+fn assert_rounded(rt: &impl Abort, rows: &[(u128, u32, u32, Rounded, Rounded)]) {
+    for (mantissa, scale, places, even, up) in rows {
+        let d = Decimal::from_u128_with_scale(*mantissa, *scale).expect(rt, "a decimal");
+        let e = Expansion::from_decimal(d);
+        let to_even = parts_of(&e.rounded(*places, Ties::Even));
+        let to_up = parts_of(&e.rounded(*places, Ties::Up));
+        assert!(rt; to_even == *even && to_up == *up, "{mantissa}");
+    }
 }
 
 #[test]
 fn rounded_to_even_and_up(rt: HostRuntime) {
-    for (mantissa, scale, places, even, up) in [
-        (9996, 3, 2, (10, 0, 0, 0), (10, 0, 0, 0)),
-        (1005, 3, 2, (1, 0, 0, 0), (1, 2, 0, 1)),
-        (1015, 3, 2, (1, 2, 0, 2), (1, 2, 0, 2)),
-        (5, 1, 0, (0, 0, 0, 0), (1, 0, 0, 0)),
-        (15, 1, 0, (2, 0, 0, 0), (2, 0, 0, 0)),
-        (9999, 4, 3, (1, 0, 0, 0), (1, 0, 0, 0)),
-        // More places than it has.
-        (50, 2, 65_535, (0, 1, 5, 0), (0, 1, 5, 0)),
-    ] {
-        let d = Decimal::from_u128_with_scale(mantissa, scale).expect(&rt, "a decimal");
-        let e = Expansion::from_decimal(d);
-        assert!(rt;
-            parts_of(&e.rounded(places, Ties::Even)) == even,
-            "{d} to even"
-        );
-        assert!(rt; parts_of(&e.rounded(places, Ties::Up)) == up, "{d} up");
-    }
+    assert_rounded(&rt, ROUNDED_TO_EVEN_AND_UP);
 }
 
 #[test]

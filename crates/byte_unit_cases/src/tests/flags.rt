@@ -2,17 +2,22 @@
 use byte_unit::{Bit, Byte, Decimal, Expansion, FormatSpec, Unit};
 use std::alloc::{AllocError, Global};
 use std::fmt::Display;
+use std::process::Abort;
 
-/// Whether the value is printed as this text, with each flag and with none.
-fn is_always<D: Display>(alloc: Global, value: &D, text: &str) -> Result<bool, AllocError> {
-    Ok(
-        format!(in alloc; "{value}")?.as_str() == text
-            && format!(in alloc; "{value:>40}")?.as_str() == text
-            && format!(in alloc; "{value:*^040}")?.as_str() == text
-            && format!(in alloc; "{value:+}")?.as_str() == text
-            && format!(in alloc; "{value:.1}")?.as_str() == text
-            && format!(in alloc; "{value:#}")?.as_str() == text,
-    )
+/// The value is printed as this text, which has no line feed, with no flag and with each.
+pub fn assert_always_printed<D: Display>(
+    rt: &impl Abort,
+    alloc: Global,
+    value: &D,
+    text: &str,
+) -> Result<(), AllocError> {
+    let printed = format!(in alloc;
+        "{value}\n{value:>200}\n{value:*^040}\n{value:+}\n{value:.1}\n{value:#}"
+    )?;
+    for line in printed.as_str().split('\n') {
+        assert!(rt; line == text, "{text}");
+    }
+    Ok(())
 }
 
 #[test]
@@ -21,13 +26,12 @@ fn flags_change_nothing(rt: HostRuntime) -> Result<(), AllocError> {
     let bytes = Byte::from_u64(1_555_000);
     let bits = Bit::from_u64(1_555_000);
     let number = Decimal::from_u128_with_scale(1555, 3).expect(&rt, "a decimal");
-    assert!(rt; is_always(alloc, &bytes, "1555000")?);
-    assert!(rt; is_always(alloc, &bits, "1555000")?);
-    assert!(rt; is_always(alloc, &bytes.get_adjusted_unit(Unit::MB), "1.555 MB")?);
-    assert!(rt; is_always(alloc, &bits.get_adjusted_unit(Unit::Mbit), "1.555 Mb")?);
-    assert!(rt; is_always(alloc, &number, "1.555")?);
-    assert!(rt; is_always(alloc, &Expansion::from_decimal(number), "1.555")?);
-    Ok(())
+    assert_always_printed(&rt, alloc, &bytes, "1555000")?;
+    assert_always_printed(&rt, alloc, &bits, "1555000")?;
+    assert_always_printed(&rt, alloc, &bytes.get_adjusted_unit(Unit::MB), "1.555 MB")?;
+    assert_always_printed(&rt, alloc, &bits.get_adjusted_unit(Unit::Mbit), "1.555 Mb")?;
+    assert_always_printed(&rt, alloc, &number, "1.555")?;
+    assert_always_printed(&rt, alloc, &Expansion::from_decimal(number), "1.555")
 }
 
 /// The default of a type.

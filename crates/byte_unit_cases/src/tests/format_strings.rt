@@ -1,26 +1,35 @@
 //! The specs that stand for format strings of the Rust crate: the table of the README.
-use super::{places, precise, spec};
-use byte_unit::{Align, Byte, FormatSpec, Sign, Unit};
+use super::shown::{assert_row, bytes, bytes_in};
+use byte_unit::{Align, FormatSpec, Sign, Unit};
 use std::alloc::AllocError;
+
+/// A format string, the spec that stands for it, the text of 15500 bytes by it, and their text in KiB.
+const SPECS_OF_FORMAT_STRINGS: &[(&str, FormatSpec, &str, &str)] = &[
+    ("{}", FormatSpec::PLAIN, "15500", "15.13671875 KiB"),
+    ("{:#}", FormatSpec::ALTERNATE, "15.5 KB", "15.13671875 KiB"),
+    ("{:.2}", places!(2), "15500", "15.14 KiB"),
+    ("{:#.0}", precise!(0), "15500 B", "15 KiB"),
+    (
+        "{:>+10}",
+        spec!(false, Sign::Plus, None, Some(10), Some(Align::Right)),
+        "    +15500",
+        "15.13671875 KiB",
+    ),
+    (
+        "{:#10}",
+        spec!(true, Sign::Unset, None, Some(10), None),
+        "15.5    KB",
+        "15.13671875 KiB",
+    ),
+];
 
 #[test]
 fn specs_of_format_strings(rt: HostRuntime) -> Result<(), AllocError> {
-    let size = Byte::from_u64(15_500);
-    let adjusted = size.get_adjusted_unit(Unit::KiB);
-    let right = spec(false, Sign::Plus, None, Some(10), Some(Align::Right));
-    let wide = spec(true, Sign::Unset, None, Some(10), None);
-    for (format, spec, text, in_kib) in [
-        ("{}", FormatSpec::PLAIN, "15500", "15.13671875 KiB"),
-        ("{:#}", FormatSpec::ALTERNATE, "15.5 KB", "15.13671875 KiB"),
-        ("{:.2}", places(2), "15500", "15.14 KiB"),
-        ("{:#.0}", precise(0), "15500 B", "15 KiB"),
-        ("{:>+10}", right, "    +15500", "15.13671875 KiB"),
-        ("{:#10}", wide, "15.5    KB", "15.13671875 KiB"),
-    ] {
-        let made = size.to_text(rt.alloc(), spec)?;
-        assert!(rt; made.as_str() == text, "{format}");
-        let made = adjusted.to_text(rt.alloc(), spec)?;
-        assert!(rt; made.as_str() == in_kib, "{format}");
+    let size = bytes(15_500);
+    let adjusted = bytes_in(15_500, Unit::KiB);
+    for (_, spec, text, in_kib) in SPECS_OF_FORMAT_STRINGS {
+        assert_row(&rt, rt.alloc(), &size, *spec, text)?;
+        assert_row(&rt, rt.alloc(), &adjusted, *spec, in_kib)?;
     }
     Ok(())
 }

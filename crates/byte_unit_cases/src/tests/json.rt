@@ -1,32 +1,32 @@
 //! JSON strings of sizes and units, and settings that hold them.
 use super::answers::Answer;
-use super::long_strings::assert_refused_by_each;
-use super::shown::{Shown, assert_stored, bits, bits_in, bytes, bytes_in, stored};
-use byte_unit::{AdjustedByte, Bit, Byte, Unit, unit_from_json, unit_to_json};
+use super::long_strings::{assert_refused_by_each, assert_unit, assert_unit_stored};
+use super::shown::{
+    Shown, assert_stored, assert_string, bits, bits_in, bytes, bytes_in, read_like, stored,
+};
+use byte_unit::{Bit, Byte, Unit, unit_to_json};
 use serde_json::{Map, Value};
 use std::alloc::{AllocError, Global};
 use std::process::Abort;
 use std::test::Fail;
 
+/// Sizes, and the string that each is stored as.
+fn sizes_and_strings() -> [(Shown, &'static str); 7] {
+    [
+        (bytes(15_500), "15.5 KB"),
+        (bytes(0), "0 B"),
+        (bytes(500), "500 B"),
+        (bytes(1536), "1.5 KiB"),
+        (bits(15_500), "15.5 Kb"),
+        (bits(0), "0 b"),
+        (bits(1536), "1.5 Kib"),
+    ]
+}
+
 #[test]
 fn sizes_and_units_as_strings(rt: HostRuntime) -> Result<(), AllocError> {
-    assert_stored(
-        &rt,
-        rt.alloc(),
-        &[
-            (bytes(15_500), "15.5 KB"),
-            (bytes(0), "0 B"),
-            (bytes(500), "500 B"),
-            (bytes(1536), "1.5 KiB"),
-            (bits(15_500), "15.5 Kb"),
-            (bits(0), "0 b"),
-            (bits(1536), "1.5 Kib"),
-        ],
-    )?;
-    let unit = unit_to_json(rt.alloc(), Unit::Kbit)?;
-    assert!(rt; unit.as_str() == Some("Kb"));
-    assert!(rt; unit_from_json(&unit).ok() == Some(Unit::Kbit));
-    Ok(())
+    assert_stored(&rt, rt.alloc(), &sizes_and_strings())?;
+    assert_unit_stored(&rt, rt.alloc(), Unit::Kbit, "Kb")
 }
 
 #[test]
@@ -65,7 +65,7 @@ fn assert_too_long(
     wanted: &str,
 ) -> Result<(), AllocError> {
     let value = stored(shown, alloc)?;
-    assert_eq!(rt; value.as_str(), Some(wanted));
+    assert_string(rt, &value, wanted);
     assert_refused_by_each(rt, &value, Answer::NumberTooLong);
     Ok(())
 }
@@ -102,8 +102,10 @@ fn adjusted_sizes_with_too_many_places(rt: HostRuntime) -> Result<(), AllocError
 #[test]
 fn the_greatest_size_of_the_first_version(rt: HostRuntime) -> Result<(), AllocError> {
     let old = Byte::from_u128(999_999_999_999_999_999_999_999_999).expect(&rt, "a size");
-    let value = old.get_adjusted_unit(Unit::YiB).to_json(rt.alloc())?;
-    assert!(rt; value.as_str().map(str::len) == Some(3 + 1 + 80 + 4));
+    let old = Shown::AdjustedByte(old.get_adjusted_unit(Unit::YiB));
+    let value = stored(&old, rt.alloc())?;
+    let len = value.as_str().map_or(0, str::len);
+    assert!(rt; len == 3 + 1 + 80 + 4);
     assert_refused_by_each(&rt, &value, Answer::NumberTooLong);
     Ok(())
 }
@@ -116,63 +118,73 @@ fn member<'a>(settings: &'a Value, name: &str, null: &'a Value) -> &'a Value {
     }
 }
 
-/// The size in bytes of a member of the settings.
-fn bytes_of(settings: &Value, name: &str) -> Option<Byte> {
-    Byte::from_json(member(settings, name, &Value::Null)).ok()
-}
-
-/// The size in bits of a member of the settings.
-fn bits_of(settings: &Value, name: &str) -> Option<Bit> {
-    Bit::from_json(member(settings, name, &Value::Null)).ok()
+/// The member is read, as the type of this size, as so many.
+fn assert_member(rt: &impl Abort, settings: &Value, name: &str, like: &Shown, wanted: u128) {
+    match read_like(like, member(settings, name, &Value::Null)) {
+        Ok(size) => assert!(rt; size == wanted, "{name}"),
+        Err(_) => panic!(rt; "{name} is refused"),
+    }
 }
 
 #[test]
 fn settings_from_their_text(rt: HostRuntime) -> Result<(), Fail> {
     let text = "{ \"cache\": \"1.5 GiB\", \"upload\": \"20 MB\", \"line\": \"100 Mb\" }";
     let settings = Value::from_str(rt.alloc(), text)?;
-    assert!(rt; bytes_of(&settings, "cache") == Some(Byte::from_u64(1_610_612_736)));
-    assert!(rt; bytes_of(&settings, "upload") == Some(Byte::from_u64(20_000_000)));
-    assert!(rt; bits_of(&settings, "line") == Some(Bit::from_u64(100_000_000)));
+    assert_member(&rt, &settings, "cache", &bytes(0), 1_610_612_736);
+    assert_member(&rt, &settings, "upload", &bytes(0), 20_000_000);
+    assert_member(&rt, &settings, "line", &bits(0), 100_000_000);
+    Ok(())
+}
+
+/// Adds a member to an object.
+fn put(
+    settings: &mut Map<String, Value>,
+    alloc: Global,
+    name: &str,
+    value: Value,
+) -> Result<(), AllocError> {
+    settings.insert(String::from_str(alloc, name)?, value)?;
     Ok(())
 }
 
 /// Settings with a value of each type: 1536 bytes, 100,000,000 bits, a unit, and 1536 bytes in a unit.
 fn settings_of_each_type(alloc: Global) -> Result<Value, AllocError> {
-    let cache = Byte::from_u64(1536);
-    let limit = Bit::from_u64(100_000_000);
-    let shown = cache.get_adjusted_unit(Unit::MB);
     let mut settings = Map::new(alloc);
-    settings.insert(String::from_str(alloc, "cache")?, cache.to_json(alloc)?)?;
-    settings.insert(String::from_str(alloc, "limit")?, limit.to_json(alloc)?)?;
-    settings.insert(
-        String::from_str(alloc, "unit")?,
+    put(&mut settings, alloc, "cache", stored(&bytes(1536), alloc)?)?;
+    put(
+        &mut settings,
+        alloc,
+        "limit",
+        stored(&bits(100_000_000), alloc)?,
+    )?;
+    put(
+        &mut settings,
+        alloc,
+        "unit",
         unit_to_json(alloc, Unit::MiB)?,
     )?;
-    settings.insert(String::from_str(alloc, "shown")?, shown.to_json(alloc)?)?;
+    put(
+        &mut settings,
+        alloc,
+        "shown",
+        stored(&bytes_in(1536, Unit::MB), alloc)?,
+    )?;
     Ok(Value::Object(settings))
+}
+
+/// They are read as what they were made of.
+fn assert_of_each_type(rt: &impl Abort, settings: &Value) {
+    assert_member(rt, settings, "cache", &bytes(0), 1536);
+    assert_member(rt, settings, "limit", &bits(0), 100_000_000);
+    assert_unit(rt, member(settings, "unit", &Value::Null), Unit::MiB);
+    assert_string(rt, member(settings, "shown", &Value::Null), "0.001536 MB");
+    assert_member(rt, settings, "shown", &bytes_in(0, Unit::B), 1536);
 }
 
 #[test]
 fn settings_through_their_text(rt: HostRuntime) -> Result<(), Fail> {
     let text = settings_of_each_type(rt.alloc())?.to_string(rt.alloc())?;
     let settings = Value::from_str(rt.alloc(), text.as_str())?;
-    let null = Value::Null;
-    assert!(rt;
-        bytes_of(&settings, "cache") == Some(Byte::from_u64(1536)),
-        "{text}"
-    );
-    assert!(rt;
-        bits_of(&settings, "limit") == Some(Bit::from_u64(100_000_000)),
-        "{text}"
-    );
-    let unit = unit_from_json(member(&settings, "unit", &null));
-    assert!(rt; unit.ok() == Some(Unit::MiB), "{text}");
-    let shown = member(&settings, "shown", &null);
-    assert!(rt; shown.as_str() == Some("0.001536 MB"), "{text}");
-    let read = AdjustedByte::from_json(shown).ok();
-    assert!(rt;
-        read.map(|size| size.get_byte()) == Some(Byte::from_u64(1536)),
-        "{text}"
-    );
+    assert_of_each_type(&rt, &settings);
     Ok(())
 }

@@ -1,136 +1,200 @@
 //! The least whole size that holds a decimal of a unit, exact quotients, and the powers of two and of five in a size.
+use super::decimals::parts_of;
 use byte_unit::{Decimal, Steps, exact_quotient, least_size, least_size_counted, two_five};
+use std::process::Abort;
 
 /// The greatest fraction of a decimal, in 28th places.
 const NINES: u128 = 9_999_999_999_999_999_999_999_999_999;
 
-#[test]
-fn rounded_up_below_the_limit(rt: HostRuntime) {
-    let above_nine = Decimal::new(9, 1).expect(&rt, "a decimal");
-    let half_more = Decimal::from_u128_with_scale(15, 1).expect(&rt, "a decimal");
-    let tenth = Decimal::from_u128_with_scale(1, 1).expect(&rt, "a decimal");
-    for (number, unit_size, limit, size) in [
-        (above_nine, 1, 11, Some(10)),
-        (above_nine, 1, 10, None),
-        (Decimal::ZERO, 1, 1, Some(0)),
-        (Decimal::ZERO, 1, 0, None),
-        (half_more, 1024, 2000, Some(1536)),
-        (tenth, 1024, 2000, Some(103)),
-    ] {
+/// The bits of the greatest unit.
+const ROBIBYTE: u128 = 9_903_520_314_283_042_199_192_993_792;
+
+/// Below so many bits each size lies.
+const BITS: u128 = 8_000_000_000_000_000_000_000_000_000_000;
+
+/// Whole part and fraction of the decimal, size of the unit, limit, and the least size if it lies below.
+type Least = (u128, u128, u128, u128, Option<u128>);
+
+/// The least size of each decimal of its unit is the one in its row.
+fn assert_least(rt: &impl Abort, rows: &[Least]) {
+    for (whole, fraction, unit_size, limit, size) in rows {
+        let (unit_size, limit) = (*unit_size, *limit);
+        let number = Decimal::new(*whole, *fraction).expect(rt, "a decimal");
+        assert!(rt; 1 <= unit_size && unit_size <= ROBIBYTE && limit <= BITS);
         assert!(rt;
-            least_size(number, unit_size, limit) == size,
-            "{number} below {limit}"
+            least_size(number, unit_size, limit) == *size,
+            "{whole} and {fraction}"
         );
     }
 }
+
+const HALF: u128 = 5_000_000_000_000_000_000_000_000_000;
+
+const TENTH: u128 = 1_000_000_000_000_000_000_000_000_000;
+
+const ROUNDED_UP_BELOW_THE_LIMIT: &[Least] = &[
+    (9, 1, 1, 11, Some(10)),
+    (9, 1, 1, 10, None),
+    (0, 0, 1, 1, Some(0)),
+    (0, 0, 1, 0, None),
+    (1, HALF, 1024, 2000, Some(1536)),
+    (0, TENTH, 1024, 2000, Some(103)),
+];
+
+#[test]
+fn rounded_up_below_the_limit(rt: HostRuntime) {
+    assert_least(&rt, ROUNDED_UP_BELOW_THE_LIMIT);
+}
+
+/// In four ticks each: the least size of the fraction of the unit.
+fn assert_least_in_four_ticks(rt: &impl Abort, rows: &[Least]) {
+    for (whole, fraction, unit_size, limit, size) in rows {
+        let (unit_size, limit) = (*unit_size, *limit);
+        let number = Decimal::new(*whole, *fraction).expect(rt, "a decimal");
+        assert!(rt; 1 <= unit_size && unit_size <= ROBIBYTE && limit <= BITS);
+        let mut steps = Steps::new();
+        let counted = least_size_counted(number, unit_size, limit, &mut steps);
+        assert!(rt; counted == *size && steps.count() == 4, "at {fraction}");
+    }
+}
+
+const YOBIBYTE: u128 = 9_671_406_556_917_033_397_649_408;
+
+const BITS_OF_THE_FIRST_VERSION: u128 = 8_000_000_000_000_000_000_000_000_000;
+
+const SEVENTH: u128 = 1_000_000_000_000_000_000_000;
+
+const FOUR_TICKS_EACH: &[Least] = &[
+    (0, SEVENTH, 10_000_000, 100, Some(1)),
+    (0, SEVENTH + 1, 10_000_000, 100, Some(2)),
+    (
+        0,
+        NINES,
+        YOBIBYTE,
+        BITS_OF_THE_FIRST_VERSION,
+        Some(YOBIBYTE),
+    ),
+    (0, 1, YOBIBYTE, 2, Some(1)),
+    (0, 1, YOBIBYTE, 1, None),
+    (0, 0, YOBIBYTE, 2, Some(0)),
+];
 
 #[test]
 fn four_ticks_each(rt: HostRuntime) {
-    let greatest = 9_671_406_556_917_033_397_649_408;
-    let limit = 8_000_000_000_000_000_000_000_000_000;
-    let seventh = 1_000_000_000_000_000_000_000;
-    for (fraction, unit_size, limit, size) in [
-        (seventh, 10_000_000, 100, Some(1)),
-        (seventh + 1, 10_000_000, 100, Some(2)),
-        (NINES, greatest, limit, Some(greatest)),
-        (1, greatest, 2, Some(1)),
-        (1, greatest, 1, None),
-        (0, greatest, 2, Some(0)),
-    ] {
-        let number = Decimal::new(0, fraction).expect(&rt, "a decimal");
-        let mut steps = Steps::new();
-        let counted = least_size_counted(number, unit_size, limit, &mut steps);
-        assert!(rt; counted == size && steps.count() == 4, "at {fraction}");
-        assert!(rt;
-            least_size(number, unit_size, limit) == size,
-            "at {fraction}"
-        );
-    }
+    assert_least_in_four_ticks(&rt, FOUR_TICKS_EACH);
+    assert_least(&rt, FOUR_TICKS_EACH);
 }
+
+/// The last two are past the limit, and past 128 bits.
+const IN_THE_GREATEST_UNIT: &[Least] = &[
+    (0, NINES, ROBIBYTE, BITS, Some(ROBIBYTE)),
+    (0, 1, ROBIBYTE, BITS, Some(1)),
+    (806, NINES, ROBIBYTE, BITS, Some(807 * ROBIBYTE)),
+    (807, NINES, ROBIBYTE, BITS, None),
+    (
+        5_192_296_858_534_827_628_530_496_329_220_095,
+        NINES,
+        ROBIBYTE,
+        BITS,
+        None,
+    ),
+];
 
 #[test]
 fn in_the_greatest_unit(rt: HostRuntime) {
-    let greatest = 9_903_520_314_283_042_199_192_993_792;
-    let limit = 8_000_000_000_000_000_000_000_000_000_000;
-    for (whole, fraction, size) in [
-        (0, NINES, Some(greatest)),
-        (0, 1, Some(1)),
-        (806, NINES, Some(807 * greatest)),
-        // Past the limit, and past 128 bits.
-        (807, NINES, None),
-        (5_192_296_858_534_827_628_530_496_329_220_095, NINES, None),
-    ] {
-        let number = Decimal::new(whole, fraction).expect(&rt, "a decimal");
-        assert!(rt; least_size(number, greatest, limit) == size, "{number}");
-    }
+    assert_least(&rt, IN_THE_GREATEST_UNIT);
 }
+
+const YOBI: u128 = 1_208_925_819_614_629_174_706_176;
+
+const BYTES_OF_THE_FIRST_VERSION: u128 = 1_000_000_000_000_000_000_000_000_000;
+
+const IN_THE_GREATEST_OF_THE_UNITS_OF_BYTES: &[Least] = &[
+    (0, NINES, YOBI, BYTES_OF_THE_FIRST_VERSION, Some(YOBI)),
+    (0, 1, YOBI, BYTES_OF_THE_FIRST_VERSION, Some(1)),
+];
 
 #[test]
 fn in_the_greatest_of_the_units_of_bytes(rt: HostRuntime) {
-    let yobi = 1_208_925_819_614_629_174_706_176;
-    let limit = 1_000_000_000_000_000_000_000_000_000;
-    let nines = Decimal::new(0, NINES).expect(&rt, "a decimal");
-    let smallest = Decimal::new(0, 1).expect(&rt, "a decimal");
-    assert!(rt; least_size(nines, yobi, limit) == Some(yobi));
-    assert!(rt; least_size(smallest, yobi, limit) == Some(1));
+    assert_least(&rt, IN_THE_GREATEST_OF_THE_UNITS_OF_BYTES);
 }
 
-#[test]
-fn quotients_with_their_ticks(rt: HostRuntime) {
-    let eighth = Decimal::from_u128_with_scale(125, 3).expect(&rt, "a decimal");
-    let power = Decimal::new(0, 37_252_902_984_619_140_625).expect(&rt, "a decimal");
-    let two_to_28 = 268_435_456;
-    for (size, unit, places, quotient, ticks) in [
-        (1, 8, 3, Some(eighth), 3),
-        (1, 8, 2, None, 2),
-        (1, 3, 28, None, 28),
-        (0, 7, 0, Some(Decimal::ZERO), 0),
-        (1, two_to_28, 28, Some(power), 28),
-        (1, two_to_28, 99, Some(power), 28),
-        (1, 2 * two_to_28, 99, None, 28),
-    ] {
+/// Size, unit, places, the quotient by its whole part and its fraction, and the ticks.
+type Quotient = (u128, u128, u32, Option<(u128, u128)>, u64);
+
+/// Each quotient is the one in its row, after as many ticks.
+fn assert_quotients(rt: &impl Abort, rows: &[Quotient]) {
+    for (size, unit, places, quotient, ticks) in rows {
+        let (size, unit) = (*size, *unit);
+        assert!(rt; size <= 1 && 1 <= unit && unit <= ROBIBYTE);
         let mut steps = Steps::new();
-        let made = exact_quotient(size, unit, places, &mut steps);
+        let made = exact_quotient(size, unit, *places, &mut steps);
         assert!(rt;
-            made == quotient && steps.count() == ticks,
+            made.map(parts_of) == *quotient && steps.count() == *ticks,
             "at {size} and {unit}"
         );
     }
 }
 
+const TWO_TO_28: u128 = 268_435_456;
+
+const EIGHTH: (u128, u128) = (0, 1_250_000_000_000_000_000_000_000_000);
+
+const POWER: (u128, u128) = (0, 37_252_902_984_619_140_625);
+
+const QUOTIENTS_WITH_THEIR_TICKS: &[Quotient] = &[
+    (1, 8, 3, Some(EIGHTH), 3),
+    (1, 8, 2, None, 2),
+    (1, 3, 28, None, 28),
+    (0, 7, 0, Some((0, 0)), 0),
+    (1, TWO_TO_28, 28, Some(POWER), 28),
+    (1, TWO_TO_28, 99, Some(POWER), 28),
+    (1, 2 * TWO_TO_28, 99, None, 28),
+];
+
 #[test]
-fn powers_with_their_ticks(rt: HostRuntime) {
-    for (size, powers, ticks) in [
-        (1, (0, 0), 2),
-        (7, (0, 0), 2),
-        (1_000, (3, 3), 8),
-        (15, (0, 1), 3),
-        (24, (3, 0), 5),
-    ] {
+fn quotients_with_their_ticks(rt: HostRuntime) {
+    assert_quotients(&rt, QUOTIENTS_WITH_THEIR_TICKS);
+}
+
+/// Each size has the powers of two and of five in its row, after as many ticks.
+fn assert_powers(rt: &impl Abort, rows: &[(u128, (u32, u32), u64)]) {
+    for (size, powers, ticks) in rows {
+        let size = *size;
+        assert!(rt; 1 <= size && size <= 999_999_999_999_999_999_999_999_999_999);
         let mut steps = Steps::new();
         assert!(rt;
-            two_five(size, &mut steps) == powers && steps.count() == ticks,
+            two_five(size, &mut steps) == *powers && steps.count() == *ticks,
             "at {size}"
         );
     }
 }
 
+const POWERS_WITH_THEIR_TICKS: &[(u128, (u32, u32), u64)] = &[
+    (1, (0, 0), 2),
+    (7, (0, 0), 2),
+    (1_000, (3, 3), 8),
+    (15, (0, 1), 3),
+    (24, (3, 0), 5),
+];
+
+#[test]
+fn powers_with_their_ticks(rt: HostRuntime) {
+    assert_powers(&rt, POWERS_WITH_THEIR_TICKS);
+}
+
+/// 2^89, 2^99, 5^38, 5^42, 10^24, 27 nines and 30 nines.
+const POWERS_OF_GREAT_SIZES_WITH_THEIR_TICKS: &[(u128, (u32, u32), u64)] = &[
+    (618_970_019_642_690_137_449_562_112, (89, 0), 91),
+    (633_825_300_114_114_700_748_351_602_688, (99, 0), 101),
+    (363_797_880_709_171_295_166_015_625, (0, 38), 40),
+    (227_373_675_443_232_059_478_759_765_625, (0, 42), 44),
+    (1_000_000_000_000_000_000_000_000, (24, 24), 50),
+    (999_999_999_999_999_999_999_999_999, (0, 0), 2),
+    (999_999_999_999_999_999_999_999_999_999, (0, 0), 2),
+];
+
 #[test]
 fn powers_of_great_sizes_with_their_ticks(rt: HostRuntime) {
-    for (size, powers, ticks) in [
-        // 2^89, 2^99, 5^38, 5^42, 10^24, 27 nines and 30 nines
-        (618_970_019_642_690_137_449_562_112, (89, 0), 91),
-        (633_825_300_114_114_700_748_351_602_688, (99, 0), 101),
-        (363_797_880_709_171_295_166_015_625, (0, 38), 40),
-        (227_373_675_443_232_059_478_759_765_625, (0, 42), 44),
-        (1_000_000_000_000_000_000_000_000, (24, 24), 50),
-        (999_999_999_999_999_999_999_999_999, (0, 0), 2),
-        (999_999_999_999_999_999_999_999_999_999, (0, 0), 2),
-    ] {
-        let mut steps = Steps::new();
-        assert!(rt;
-            two_five(size, &mut steps) == powers && steps.count() == ticks,
-            "at {size}"
-        );
-    }
+    assert_powers(&rt, POWERS_OF_GREAT_SIZES_WITH_THEIR_TICKS);
 }

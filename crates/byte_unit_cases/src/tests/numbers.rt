@@ -1,50 +1,54 @@
 //! Sizes from numbers and as numbers, each through the name or the bound that callers have.
 use byte_unit::{Bit, Byte, ExceededBoundsError, Kind, TryFromIntError};
 use std::cmp::Ordering;
+use std::process::Abort;
 
 /// The greatest size.
 const GREATEST: u128 = 999_999_999_999_999_999_999_999_999_999;
 
-#[test]
-fn numbers_in_and_out(rt: HostRuntime) {
-    let five = Byte::from_u64(5);
-    for (call, holds) in [
-        ("i64", Byte::from_i64(5) == Some(five)),
-        ("i64 below 0", Byte::from_i64(-5).is_none()),
-        ("i128", Byte::from_i128(5) == Some(five)),
-        ("i128 below 0", Byte::from_i128(i128::MIN).is_none()),
-        ("u128", Byte::from_u128(5) == Some(five)),
-        ("the greatest", Byte::from_u128(GREATEST) == Some(Byte::MAX)),
-        (
-            "u128 below the bound",
-            Byte::from_u128_unsafe(7).as_u128() == 7,
-        ),
-        ("as u64", five.as_u64() == 5),
-        ("as u64, checked", five.as_u64_checked() == Some(5)),
-    ] {
-        assert!(rt; holds, "{call}");
+/// What each call made is what is wanted.
+fn assert_each<A: PartialEq>(rt: &impl Abort, rows: &[(&str, A, A)]) {
+    for (call, made, wanted) in rows {
+        assert!(rt; *made == *wanted, "{call}");
     }
 }
 
 #[test]
+fn numbers_in_and_out(rt: HostRuntime) {
+    let five = Some(Byte::from_u64(5));
+    assert_each(
+        &rt,
+        &[
+            ("i64", Byte::from_i64(5), five),
+            ("i64 below 0", Byte::from_i64(-5), None),
+            ("i128", Byte::from_i128(5), five),
+            ("i128 below 0", Byte::from_i128(i128::MIN), None),
+            ("u128", Byte::from_u128(5), five),
+            ("the greatest", Byte::from_u128(GREATEST), Some(Byte::MAX)),
+        ],
+    );
+    let five = Byte::from_u64(5);
+    assert!(rt; five.as_u64() == 5 && five.as_u64_checked() == Some(5));
+    assert!(rt; Byte::from_u128_unsafe(7).as_u128() == 7);
+}
+
+#[test]
 fn numbers_in_and_out_of_bits(rt: HostRuntime) {
+    let five = Some(Bit::from_u64(5));
+    assert_each(
+        &rt,
+        &[
+            ("i64", Bit::from_i64(5), five),
+            ("i64 below 0", Bit::from_i64(-5), None),
+            ("i128", Bit::from_i128(5), five),
+            ("i128 below 0", Bit::from_i128(i128::MIN), None),
+            ("u128", Bit::from_u128(5), five),
+            ("the greatest", Bit::from_u128(GREATEST), Some(Bit::MAX)),
+        ],
+    );
     let five = Bit::from_u64(5);
-    for (call, holds) in [
-        ("i64", Bit::from_i64(5) == Some(five)),
-        ("i64 below 0", Bit::from_i64(-5).is_none()),
-        ("i128", Bit::from_i128(5) == Some(five)),
-        ("i128 below 0", Bit::from_i128(i128::MIN).is_none()),
-        ("u128", Bit::from_u128(5) == Some(five)),
-        ("the greatest", Bit::from_u128(GREATEST) == Some(Bit::MAX)),
-        (
-            "u128 below the bound",
-            Bit::from_u128_unsafe(7).as_u128() == 7,
-        ),
-        ("as u64", five.as_u64() == 5),
-        ("as u64, checked", five.as_u64_checked() == Some(5)),
-    ] {
-        assert!(rt; holds, "{call}");
-    }
+    assert!(rt; five.as_u64() == 5 && five.as_u64_checked() == Some(5));
+    assert!(rt; Bit::from_u128_unsafe(7).as_u128() == 7);
 }
 
 /// The size as a `u64`: cut at the greatest, and where it fits.
@@ -61,43 +65,80 @@ fn in_64_bits(kind: Kind, size: u128) -> Option<(u64, Option<u64>)> {
     }
 }
 
+/// Each size is this number in 64 bits.
+fn assert_in_64_bits(rt: &impl Abort, kind: Kind, rows: &[(u128, Option<(u64, Option<u64>)>)]) {
+    for (size, number) in rows {
+        assert!(rt; in_64_bits(kind, *size) == *number, "{size}");
+    }
+}
+
+const SIZES_IN_64_BITS: &[(u128, Option<(u64, Option<u64>)>)] = &[
+    (7, Some((7, Some(7)))),
+    (18_446_744_073_709_551_615, Some((u64::MAX, Some(u64::MAX)))),
+    (18_446_744_073_709_551_616, Some((u64::MAX, None))),
+    (1_000_000_000_000_000_000_000, Some((u64::MAX, None))),
+    (GREATEST, Some((u64::MAX, None))),
+    (GREATEST + 1, None),
+];
+
 #[test]
 fn sizes_in_64_bits(rt: HostRuntime) {
-    let most = u64::MAX;
-    for kind in [Kind::Byte, Kind::Bit] {
-        for (size, number) in [
-            (7, Some((7, Some(7)))),
-            (18_446_744_073_709_551_615, Some((most, Some(most)))),
-            (18_446_744_073_709_551_616, Some((most, None))),
-            // ZETTABIT in bytes, and as many bits as ZETTABYTE has.
-            (Byte::ZETTABIT.as_u128(), Some((most, None))),
-            (Bit::ZETTABYTE.as_u128(), Some((most, None))),
-            (1_000_000_000_000_000_000_000, Some((most, None))),
-            (GREATEST, Some((most, None))),
-            (GREATEST + 1, None),
-        ] {
-            assert!(rt; in_64_bits(kind, size) == number, "{size}");
-        }
-    }
+    // ZETTABIT in bytes, and as many bits as ZETTABYTE has.
+    let constants = [
+        (Byte::ZETTABIT.as_u128(), Some((u64::MAX, None))),
+        (Bit::ZETTABYTE.as_u128(), Some((u64::MAX, None))),
+    ];
+    assert_in_64_bits(&rt, Kind::Byte, SIZES_IN_64_BITS);
+    assert_in_64_bits(&rt, Kind::Bit, SIZES_IN_64_BITS);
+    assert_in_64_bits(&rt, Kind::Byte, &constants);
+    assert_in_64_bits(&rt, Kind::Bit, &constants);
+}
+
+/// How 1024 compares with each number.
+const ORDERS: &[(u64, Ordering)] = &[
+    (1025, Ordering::Less),
+    (1024, Ordering::Equal),
+    (1000, Ordering::Greater),
+];
+
+/// 1024 bytes and 1024 bits compare so with the number.
+fn assert_order(rt: &impl Abort, number: u64, order: Ordering) {
+    let (bytes, bits) = (Byte::from_u64(1024), Bit::from_u64(1024));
+    let wide = u128::from(number);
+    let is_equal = order.is_eq();
+    assert_each(
+        rt,
+        &[
+            ("bytes, 64 bits", bytes.cmp_u64(number), order),
+            ("bytes, 128 bits", bytes.cmp_u128(wide), order),
+            ("bits, 64 bits", bits.cmp_u64(number), order),
+            ("bits, 128 bits", bits.cmp_u128(wide), order),
+        ],
+    );
+    assert_each(
+        rt,
+        &[
+            ("bytes, 64 bits", bytes.eq_u64(number), is_equal),
+            ("bytes, 128 bits", bytes.eq_u128(wide), is_equal),
+            ("bits, 64 bits", bits.eq_u64(number), is_equal),
+            ("bits, 128 bits", bits.eq_u128(wide), is_equal),
+        ],
+    );
 }
 
 #[test]
 fn comparisons_with_numbers(rt: HostRuntime) {
-    let (bytes, bits) = (Byte::from_u64(1024), Bit::from_u64(1024));
-    for (number, order) in [
-        (1025, Ordering::Less),
-        (1024, Ordering::Equal),
-        (1000, Ordering::Greater),
-    ] {
-        let wide = u128::from(number);
-        assert!(rt; bytes.cmp_u64(number) == order && bytes.cmp_u128(wide) == order);
-        assert!(rt; bits.cmp_u64(number) == order && bits.cmp_u128(wide) == order);
-        let is_equal = order.is_eq();
-        assert!(rt; bytes.eq_u64(number) == is_equal && bytes.eq_u128(wide) == is_equal);
-        assert!(rt; bits.eq_u64(number) == is_equal && bits.eq_u128(wide) == is_equal);
+    for (number, order) in ORDERS {
+        assert_order(&rt, *number, *order);
     }
-    assert!(rt; bytes.cmp_u128(u128::MAX) == Ordering::Less);
-    assert!(rt; bits.cmp_u128(u128::MAX) == Ordering::Less);
+    let (bytes, bits) = (Byte::from_u64(1024), Bit::from_u64(1024));
+    assert_each(
+        &rt,
+        &[
+            ("bytes", bytes.cmp_u128(u128::MAX), Ordering::Less),
+            ("bits", bits.cmp_u128(u128::MAX), Ordering::Less),
+        ],
+    );
 }
 
 /// Each conversion through its bound alone.
@@ -112,66 +153,81 @@ fn tried<N, S: TryFrom<N>>(number: N) -> Result<S, S::Error> {
 #[test]
 fn numbers_become_bytes(rt: HostRuntime) {
     let five = Byte::from_u64(5);
-    let ronna = Ok(Byte::RONNABYTE);
-    for (number, holds) in [
-        ("u8", made::<u8, Byte>(5) == five),
-        ("u16", made::<u16, Byte>(5) == five),
-        ("u32", made::<u32, Byte>(5) == five),
-        ("u64", made::<u64, Byte>(5) == five),
-        ("usize", made::<usize, Byte>(5) == five),
-        ("i8", tried::<i8, Byte>(5) == Ok(five)),
-        ("i16", tried::<i16, Byte>(5) == Ok(five)),
-        ("i32", tried::<i32, Byte>(5) == Ok(five)),
-        ("isize", tried::<isize, Byte>(5) == Ok(five)),
-        ("i64", tried::<i64, Byte>(5) == Ok(five)),
-        ("i128", tried::<i128, Byte>(5) == Ok(five)),
-        ("u128", tried::<u128, Byte>(5) == Ok(five)),
-        (
-            "below 0",
-            tried::<i64, Byte>(-1) == Err(ExceededBoundsError),
-        ),
-        (
-            "10^27",
-            tried::<u128, Byte>(1_000_000_000_000_000_000_000_000_000) == ronna,
-        ),
-        (
-            "10^30",
-            tried::<u128, Byte>(GREATEST + 1) == Err(ExceededBoundsError),
-        ),
-    ] {
-        assert!(rt; holds, "{number}");
-    }
+    assert_each(
+        &rt,
+        &[
+            ("u8", made::<u8, Byte>(5), five),
+            ("u16", made::<u16, Byte>(5), five),
+            ("u32", made::<u32, Byte>(5), five),
+            ("u64", made::<u64, Byte>(5), five),
+            ("usize", made::<usize, Byte>(5), five),
+        ],
+    );
+    assert_each(
+        &rt,
+        &[
+            ("i8", tried::<i8, Byte>(5).ok(), Some(five)),
+            ("i16", tried::<i16, Byte>(5).ok(), Some(five)),
+            ("i32", tried::<i32, Byte>(5).ok(), Some(five)),
+            ("isize", tried::<isize, Byte>(5).ok(), Some(five)),
+            ("i64", tried::<i64, Byte>(5).ok(), Some(five)),
+            ("i128", tried::<i128, Byte>(5).ok(), Some(five)),
+            ("u128", tried::<u128, Byte>(5).ok(), Some(five)),
+            (
+                "10^27",
+                tried::<u128, Byte>(1_000_000_000_000_000_000_000_000_000).ok(),
+                Some(Byte::RONNABYTE),
+            ),
+        ],
+    );
+    let fault = Some(ExceededBoundsError);
+    assert_each(
+        &rt,
+        &[
+            ("below 0", tried::<i64, Byte>(-1).err(), fault),
+            ("10^30", tried::<u128, Byte>(GREATEST + 1).err(), fault),
+        ],
+    );
 }
 
 #[test]
 fn numbers_become_bits(rt: HostRuntime) {
     let five = Bit::from_u64(5);
-    let ronna = Ok(Bit::RONNABIT);
-    for (number, holds) in [
-        ("u8", made::<u8, Bit>(5) == five),
-        ("u16", made::<u16, Bit>(5) == five),
-        ("u32", made::<u32, Bit>(5) == five),
-        ("u64", made::<u64, Bit>(5) == five),
-        ("usize", made::<usize, Bit>(5) == five),
-        ("i8", tried::<i8, Bit>(5) == Ok(five)),
-        ("i16", tried::<i16, Bit>(5) == Ok(five)),
-        ("i32", tried::<i32, Bit>(5) == Ok(five)),
-        ("isize", tried::<isize, Bit>(5) == Ok(five)),
-        ("i64", tried::<i64, Bit>(5) == Ok(five)),
-        ("i128", tried::<i128, Bit>(5) == Ok(five)),
-        ("u128", tried::<u128, Bit>(5) == Ok(five)),
-        ("below 0", tried::<i64, Bit>(-1) == Err(ExceededBoundsError)),
-        (
-            "10^27",
-            tried::<u128, Bit>(1_000_000_000_000_000_000_000_000_000) == ronna,
-        ),
-        (
-            "10^30",
-            tried::<u128, Bit>(GREATEST + 1) == Err(ExceededBoundsError),
-        ),
-    ] {
-        assert!(rt; holds, "{number}");
-    }
+    assert_each(
+        &rt,
+        &[
+            ("u8", made::<u8, Bit>(5), five),
+            ("u16", made::<u16, Bit>(5), five),
+            ("u32", made::<u32, Bit>(5), five),
+            ("u64", made::<u64, Bit>(5), five),
+            ("usize", made::<usize, Bit>(5), five),
+        ],
+    );
+    assert_each(
+        &rt,
+        &[
+            ("i8", tried::<i8, Bit>(5).ok(), Some(five)),
+            ("i16", tried::<i16, Bit>(5).ok(), Some(five)),
+            ("i32", tried::<i32, Bit>(5).ok(), Some(five)),
+            ("isize", tried::<isize, Bit>(5).ok(), Some(five)),
+            ("i64", tried::<i64, Bit>(5).ok(), Some(five)),
+            ("i128", tried::<i128, Bit>(5).ok(), Some(five)),
+            ("u128", tried::<u128, Bit>(5).ok(), Some(five)),
+            (
+                "10^27",
+                tried::<u128, Bit>(1_000_000_000_000_000_000_000_000_000).ok(),
+                Some(Bit::RONNABIT),
+            ),
+        ],
+    );
+    let fault = Some(ExceededBoundsError);
+    assert_each(
+        &rt,
+        &[
+            ("below 0", tried::<i64, Bit>(-1).err(), fault),
+            ("10^30", tried::<u128, Bit>(GREATEST + 1).err(), fault),
+        ],
+    );
 }
 
 fn refuses<N, S: TryFrom<N, Error = TryFromIntError> + Drop>(size: N) -> bool {

@@ -1,94 +1,87 @@
 //! Sizes from texts and from numbers.
 use super::answers::{Answer, assert_all_bits, assert_all_bytes};
 use byte_unit::{Bit, Byte, Decimal, Kind, Unit};
+use std::process::Abort;
+
+const TEXTS_OF_BYTES: &[(&str, Answer)] = &[
+    ("0001", Answer::Size(1)),
+    ("9 b", Answer::Size(2)),
+    ("10 b", Answer::Size(2)),
+    ("12 BITS", Answer::Size(2)),
+    ("1.5 KiB", Answer::Size(1536)),
+    ("1kb", Answer::Size(125)),
+    ("1 K", Answer::Size(1000)),
+    ("1zb", Answer::Size(125_000_000_000_000_000_000)),
+    (
+        "999999999999999999999999999",
+        Answer::Size(999_999_999_999_999_999_999_999_999),
+    ),
+];
 
 #[test]
 fn texts_of_bytes(rt: HostRuntime) {
-    assert_all_bytes(
-        &rt,
-        false,
-        &[
-            ("0001", Answer::Size(1)),
-            ("9 b", Answer::Size(2)),
-            ("10 b", Answer::Size(2)),
-            ("12 BITS", Answer::Size(2)),
-            ("1.5 KiB", Answer::Size(1536)),
-            ("1kb", Answer::Size(125)),
-            ("1 K", Answer::Size(1000)),
-            ("1zb", Answer::Size(125_000_000_000_000_000_000)),
-            (
-                "999999999999999999999999999",
-                Answer::Size(999_999_999_999_999_999_999_999_999),
-            ),
-        ],
-    );
+    assert_all_bytes(&rt, false, TEXTS_OF_BYTES);
 }
+
+const TEXTS_OF_BYTES_WHATEVER_THE_CASE: &[(&str, Answer)] = &[
+    ("50.84 MB", Answer::Size(50_840_000)),
+    ("9.0000000000000000000000000001", Answer::Size(10)),
+    ("9 b", Answer::Size(9)),
+    ("12 bits", Answer::Size(2)),
+    ("1.5 KiB", Answer::Size(1536)),
+    ("1zb", Answer::Size(1_000_000_000_000_000_000_000)),
+];
 
 #[test]
 fn texts_of_bytes_whatever_the_case(rt: HostRuntime) {
-    assert_all_bytes(
-        &rt,
-        true,
-        &[
-            ("50.84 MB", Answer::Size(50_840_000)),
-            ("9.0000000000000000000000000001", Answer::Size(10)),
-            ("9 b", Answer::Size(9)),
-            ("12 bits", Answer::Size(2)),
-            ("1.5 KiB", Answer::Size(1536)),
-            ("1zb", Answer::Size(1_000_000_000_000_000_000_000)),
-        ],
-    );
+    assert_all_bytes(&rt, true, TEXTS_OF_BYTES_WHATEVER_THE_CASE);
 }
+
+const WHITE_SPACE_AROUND_SIZES_IN_BYTES: &[(&str, Answer)] = &[
+    ("\u{3000}1KB\u{a0}", Answer::Size(1000)),
+    ("\u{b}\u{c}1KB\u{85}\u{2028}\u{2029}", Answer::Size(1000)),
+    ("\u{2028}1KB\u{b}", Answer::Size(1000)),
+    ("\u{3000}1 K\u{85}", Answer::Size(1000)),
+];
+
+const WHITE_SPACE_AROUND_SIZES_IN_BITS: &[(&str, Answer)] = &[
+    ("\u{2028}1KB\u{b}", Answer::Size(8000)),
+    ("\u{b}\u{c}1Kb\u{85}\u{2028}\u{2029}", Answer::Size(1000)),
+];
 
 #[test]
 fn white_space_around_sizes(rt: HostRuntime) {
-    assert_all_bytes(
-        &rt,
-        false,
-        &[
-            ("\u{3000}1KB\u{a0}", Answer::Size(1000)),
-            ("\u{b}\u{c}1KB\u{85}\u{2028}\u{2029}", Answer::Size(1000)),
-            ("\u{2028}1KB\u{b}", Answer::Size(1000)),
-            ("\u{3000}1 K\u{85}", Answer::Size(1000)),
-        ],
-    );
-    assert_all_bits(
-        &rt,
-        &[
-            ("\u{2028}1KB\u{b}", Answer::Size(8000)),
-            ("\u{b}\u{c}1Kb\u{85}\u{2028}\u{2029}", Answer::Size(1000)),
-        ],
-    );
+    assert_all_bytes(&rt, false, WHITE_SPACE_AROUND_SIZES_IN_BYTES);
+    assert_all_bits(&rt, WHITE_SPACE_AROUND_SIZES_IN_BITS);
 }
+
+const TEXTS_OF_BITS: &[(&str, Answer)] = &[
+    ("1KiB", Answer::Size(8192)),
+    ("1K", Answer::Size(1000)),
+    ("1 B", Answer::Size(8)),
+    ("10 B", Answer::Size(80)),
+    ("0.1 b", Answer::Size(1)),
+    ("123Kib", Answer::Size(125_952)),
+    ("12", Answer::Size(12)),
+    ("1.5 Kib", Answer::Size(1536)),
+    ("1 K\u{85}", Answer::Size(1000)),
+    ("9 b", Answer::Size(9)),
+    ("12 bits", Answer::Size(12)),
+    ("50.84 Mb", Answer::Size(50_840_000)),
+    ("1zb", Answer::Size(1_000_000_000_000_000_000_000)),
+    (
+        "124.999999999999999999999999 YB",
+        Answer::Size(999_999_999_999_999_999_999_999_992),
+    ),
+    (
+        "999999999999999999999999999",
+        Answer::Size(999_999_999_999_999_999_999_999_999),
+    ),
+];
 
 #[test]
 fn texts_of_bits(rt: HostRuntime) {
-    assert_all_bits(
-        &rt,
-        &[
-            ("1KiB", Answer::Size(8192)),
-            ("1K", Answer::Size(1000)),
-            ("1 B", Answer::Size(8)),
-            ("10 B", Answer::Size(80)),
-            ("0.1 b", Answer::Size(1)),
-            ("123Kib", Answer::Size(125_952)),
-            ("12", Answer::Size(12)),
-            ("1.5 Kib", Answer::Size(1536)),
-            ("1 K\u{85}", Answer::Size(1000)),
-            ("9 b", Answer::Size(9)),
-            ("12 bits", Answer::Size(12)),
-            ("50.84 Mb", Answer::Size(50_840_000)),
-            ("1zb", Answer::Size(1_000_000_000_000_000_000_000)),
-            (
-                "124.999999999999999999999999 YB",
-                Answer::Size(999_999_999_999_999_999_999_999_992),
-            ),
-            (
-                "999999999999999999999999999",
-                Answer::Size(999_999_999_999_999_999_999_999_999),
-            ),
-        ],
-    );
+    assert_all_bits(&rt, TEXTS_OF_BITS);
 }
 
 #[test]
@@ -117,74 +110,66 @@ const YOTTA: u128 = 1_000_000_000_000_000_000_000_000;
 /// How many are in a ronnabyte.
 const RONNA: u128 = 1_000_000_000_000_000_000_000_000_000;
 
+const NUMBERS_OF_A_UNIT: &[(Kind, u128, Unit, Option<u128>)] = &[
+    (Kind::Byte, 17, Unit::Bit, Some(3)),
+    (Kind::Byte, 8 * OLD_GREATEST, Unit::Bit, Some(OLD_GREATEST)),
+    (Kind::Byte, 8 * OLD_GREATEST + 1, Unit::Bit, Some(RONNA)),
+    (Kind::Byte, 8 * GREATEST, Unit::Bit, Some(GREATEST)),
+    (Kind::Byte, 8 * GREATEST + 1, Unit::Bit, None),
+    (Kind::Byte, u128::MAX, Unit::B, None),
+    (Kind::Byte, 999, Unit::YB, Some(999 * YOTTA)),
+    (Kind::Byte, 1000, Unit::YB, Some(RONNA)),
+    (Kind::Byte, 827, Unit::YiB, Some(827 << 80)),
+    (Kind::Byte, 828, Unit::YiB, Some(828 << 80)),
+    (Kind::Byte, 999, Unit::RB, Some(999 * RONNA)),
+    (Kind::Byte, 1000, Unit::RB, None),
+    (Kind::Byte, 807, Unit::RiB, Some(807 << 90)),
+    (Kind::Byte, 808, Unit::RiB, None),
+    (Kind::Bit, 17, Unit::Bit, Some(17)),
+    (Kind::Bit, 3, Unit::B, Some(24)),
+    (Kind::Bit, 124, Unit::YB, Some(992 * YOTTA)),
+    (Kind::Bit, 125, Unit::YB, Some(RONNA)),
+    (Kind::Bit, 124, Unit::RB, Some(992 * RONNA)),
+    (Kind::Bit, 125, Unit::RB, None),
+    (Kind::Bit, u128::MAX, Unit::Bit, None),
+    (Kind::Bit, 999, Unit::Ybit, Some(999 * YOTTA)),
+];
+
 #[test]
 fn numbers_of_a_unit(rt: HostRuntime) {
-    for (kind, number, unit, size) in [
-        (Kind::Byte, 17, Unit::Bit, Some(3)),
-        (Kind::Byte, 8 * OLD_GREATEST, Unit::Bit, Some(OLD_GREATEST)),
-        (Kind::Byte, 8 * OLD_GREATEST + 1, Unit::Bit, Some(RONNA)),
-        (Kind::Byte, 8 * GREATEST, Unit::Bit, Some(GREATEST)),
-        (Kind::Byte, 8 * GREATEST + 1, Unit::Bit, None),
-        (Kind::Byte, u128::MAX, Unit::B, None),
-        (Kind::Byte, 999, Unit::YB, Some(999 * YOTTA)),
-        (Kind::Byte, 1000, Unit::YB, Some(RONNA)),
-        (Kind::Byte, 827, Unit::YiB, Some(827 << 80)),
-        (Kind::Byte, 828, Unit::YiB, Some(828 << 80)),
-        (Kind::Byte, 999, Unit::RB, Some(999 * RONNA)),
-        (Kind::Byte, 1000, Unit::RB, None),
-        (Kind::Byte, 807, Unit::RiB, Some(807 << 90)),
-        (Kind::Byte, 808, Unit::RiB, None),
-        (Kind::Bit, 17, Unit::Bit, Some(17)),
-        (Kind::Bit, 3, Unit::B, Some(24)),
-        (Kind::Bit, 124, Unit::YB, Some(992 * YOTTA)),
-        (Kind::Bit, 125, Unit::YB, Some(RONNA)),
-        (Kind::Bit, 124, Unit::RB, Some(992 * RONNA)),
-        (Kind::Bit, 125, Unit::RB, None),
-        (Kind::Bit, u128::MAX, Unit::Bit, None),
-        (Kind::Bit, 999, Unit::Ybit, Some(999 * YOTTA)),
-    ] {
-        assert!(rt; with_unit(kind, number, unit) == size, "{number} {unit}");
+    for (kind, number, unit, size) in NUMBERS_OF_A_UNIT {
+        let made = with_unit(*kind, *number, *unit);
+        assert!(rt; made == *size, "{number} {unit}");
+    }
+}
+
+/// Each of the sizes is this one.
+fn assert_each<S: PartialEq + Drop>(rt: &impl Abort, made: &[S], wanted: S) {
+    for (place, size) in made.iter().enumerate() {
+        assert!(rt; *size == wanted, "the size in place {place}");
     }
 }
 
 #[test]
 fn numbers_of_other_types_in_a_unit(rt: HostRuntime) {
-    let bytes = Some(Byte::from_u64(15_000));
-    let bits = Some(Bit::from_u64(15_000));
-    for (call, holds) in [
-        (
-            "bytes, u64",
-            Byte::from_u64_with_unit(15, Unit::KB) == bytes,
-        ),
-        (
-            "bytes, i128",
-            Byte::from_i128_with_unit(15, Unit::KB) == bytes,
-        ),
-        (
-            "bytes, i64",
-            Byte::from_i64_with_unit(15, Unit::KB) == bytes,
-        ),
-        (
-            "bytes, below 0",
-            Byte::from_i64_with_unit(-1, Unit::KB).is_none(),
-        ),
-        ("bits, u64", Bit::from_u64_with_unit(15, Unit::Kbit) == bits),
-        (
-            "bits, i128",
-            Bit::from_i128_with_unit(15, Unit::Kbit) == bits,
-        ),
-        ("bits, i64", Bit::from_i64_with_unit(15, Unit::Kbit) == bits),
-        (
-            "bits, below 0",
-            Bit::from_i64_with_unit(-1, Unit::KB).is_none(),
-        ),
-        (
-            "bits, below 0 Kb",
-            Bit::from_i64_with_unit(-1, Unit::Kbit).is_none(),
-        ),
-    ] {
-        assert!(rt; holds, "{call}");
-    }
+    let bytes = [
+        Byte::from_u64_with_unit(15, Unit::KB),
+        Byte::from_i128_with_unit(15, Unit::KB),
+        Byte::from_i64_with_unit(15, Unit::KB),
+    ];
+    assert_each(&rt, &bytes, Some(Byte::from_u64(15_000)));
+    let bits = [
+        Bit::from_u64_with_unit(15, Unit::Kbit),
+        Bit::from_i128_with_unit(15, Unit::Kbit),
+        Bit::from_i64_with_unit(15, Unit::Kbit),
+    ];
+    assert_each(&rt, &bits, Some(Bit::from_u64(15_000)));
+    assert_each(&rt, &[Byte::from_i64_with_unit(-1, Unit::KB)], None);
+    let below = [
+        Bit::from_i64_with_unit(-1, Unit::KB),
+        Bit::from_i64_with_unit(-1, Unit::Kbit),
+    ];
+    assert_each(&rt, &below, None);
 }
 
 /// So many of the unit by a decimal, as a size of the kind.
@@ -195,34 +180,36 @@ fn decimal_with_unit(kind: Kind, number: Decimal, unit: Unit) -> Option<u128> {
     }
 }
 
+/// A kind, a number as a mantissa over ten to the scale, a unit, and the size of the kind.
+const DECIMALS_OF_A_UNIT: &[(Kind, u128, u32, Unit, u128)] = &[
+    (
+        Kind::Byte,
+        9_999_999_999_999_999_999_999_999_999,
+        28,
+        Unit::YiB,
+        1_208_925_819_614_629_174_706_176,
+    ),
+    (Kind::Byte, 1, 28, Unit::YiB, 1),
+    (Kind::Byte, 5084, 2, Unit::B, 51),
+    (
+        Kind::Bit,
+        9_999_999_999_999_999_999_999_999_999,
+        28,
+        Unit::YiB,
+        9_671_406_556_917_033_397_649_408,
+    ),
+    (Kind::Bit, 1, 28, Unit::YiB, 1),
+    (Kind::Bit, 5084, 2, Unit::Bit, 51),
+];
+
 #[test]
 fn decimals_of_a_unit(rt: HostRuntime) {
-    let nines = Decimal::new(0, 9_999_999_999_999_999_999_999_999_999).expect(&rt, "a decimal");
-    let least = Decimal::new(0, 1).expect(&rt, "a decimal");
-    let price = Decimal::from_u128_with_scale(5084, 2).expect(&rt, "a decimal");
-    for (kind, number, unit, size) in [
-        (
-            Kind::Byte,
-            nines,
-            Unit::YiB,
-            1_208_925_819_614_629_174_706_176,
-        ),
-        (Kind::Byte, least, Unit::YiB, 1),
-        (Kind::Byte, price, Unit::B, 51),
-        (
-            Kind::Bit,
-            nines,
-            Unit::YiB,
-            9_671_406_556_917_033_397_649_408,
-        ),
-        (Kind::Bit, least, Unit::YiB, 1),
-        (Kind::Bit, price, Unit::Bit, 51),
-    ] {
-        assert!(rt;
-            decimal_with_unit(kind, number, unit) == Some(size),
-            "{number} {unit}"
-        );
+    for (kind, mantissa, scale, unit, size) in DECIMALS_OF_A_UNIT {
+        let number = Decimal::from_u128_with_scale(*mantissa, *scale).expect(&rt, "a decimal");
+        let made = decimal_with_unit(*kind, number, *unit);
+        assert!(rt; made == Some(*size), "{number} {unit}");
     }
-    assert!(rt; Byte::from_decimal(price) == Some(Byte::from_u64(51)));
-    assert!(rt; Bit::from_decimal(price) == Some(Bit::from_u64(51)));
+    let price = Decimal::from_u128_with_scale(5084, 2).expect(&rt, "a decimal");
+    assert_each(&rt, &[Byte::from_decimal(price)], Some(Byte::from_u64(51)));
+    assert_each(&rt, &[Bit::from_decimal(price)], Some(Bit::from_u64(51)));
 }

@@ -25,6 +25,11 @@ pub fn great_bytes(rt: &impl Abort, size: u128) -> Shown {
     Shown::Byte(Byte::from_u128(size).expect(rt, "a size"))
 }
 
+/// So many bits, of a size past 64 bits.
+pub fn great_bits(rt: &impl Abort, size: u128) -> Shown {
+    Shown::Bit(Bit::from_u128(size).expect(rt, "a size"))
+}
+
 /// So many bits.
 pub fn bits(size: u64) -> Shown {
     Shown::Bit(Bit::from_u64(size))
@@ -88,18 +93,23 @@ fn write(shown: &Shown, spec: FormatSpec, out: &mut [u8]) -> usize {
     }
 }
 
+/// The text is the one that is wanted.
+pub fn assert_same(rt: &impl Abort, text: &str, wanted: &str) {
+    assert!(rt; text == wanted, "{text} in place of {wanted}");
+}
+
 /// The text that is written is this one, where there is room for it.
 fn assert_written(rt: &impl Abort, shown: &Shown, spec: FormatSpec, wanted: &str) {
     let mut out = [0; 128];
-    assert!(rt; write(shown, spec, &mut out) == wanted.len(), "{wanted}");
+    let len = write(shown, spec, &mut out);
     assert!(rt;
-        wanted.len() > 128 || out.starts_with(wanted.as_bytes()),
+        len == wanted.len() && (len > 128 || out.starts_with(wanted.as_bytes())),
         "{wanted}"
     );
 }
 
 /// The text by the spec is this one: made, made by the sibling, appended, and as long as it is told to be.
-pub fn assert_text(
+fn assert_text(
     rt: &impl Abort,
     alloc: Global,
     shown: &Shown,
@@ -107,16 +117,27 @@ pub fn assert_text(
     wanted: &str,
 ) -> Result<(), AllocError> {
     assert!(rt; len_of(shown, spec) == wanted.len(), "{wanted}");
-    let made = text_of(shown, alloc, spec)?;
-    assert!(rt; made.as_str() == wanted, "{wanted}");
-    let made = text_in(shown, alloc, spec)?;
-    assert!(rt; made.as_str() == wanted, "{wanted}");
+    assert_same(rt, text_of(shown, alloc, spec)?.as_str(), wanted);
+    assert_same(rt, text_in(shown, alloc, spec)?.as_str(), wanted);
     let mut text = String::from_str(alloc, "is ")?;
     append(shown, spec, &mut text)?;
-    assert!(rt;
-        text.as_str().strip_prefix("is ") == Some(wanted),
-        "{wanted}"
-    );
+    match text.as_str().strip_prefix("is ") {
+        Some(appended) => assert_same(rt, appended, wanted),
+        None => panic!(rt; "what was there is gone"),
+    }
+    Ok(())
+}
+
+/// The text by the spec is this one, in each way to have it.
+pub fn assert_row(
+    rt: &impl Abort,
+    alloc: Global,
+    shown: &Shown,
+    spec: FormatSpec,
+    wanted: &str,
+) -> Result<(), AllocError> {
+    assert_text(rt, alloc, shown, spec, wanted)?;
+    assert_written(rt, shown, spec, wanted);
     Ok(())
 }
 
@@ -127,8 +148,7 @@ pub fn assert_texts(
     rows: &[(Shown, FormatSpec, &str)],
 ) -> Result<(), AllocError> {
     for (shown, spec, wanted) in rows {
-        assert_text(rt, alloc, shown, *spec, wanted)?;
-        assert_written(rt, shown, *spec, wanted);
+        assert_row(rt, alloc, shown, *spec, wanted)?;
     }
     Ok(())
 }
@@ -137,12 +157,11 @@ pub fn assert_texts(
 pub fn assert_texts_of_bytes(
     rt: &impl Abort,
     alloc: Global,
-    rows: &[(u64, FormatSpec, &str)],
+    rows: &[(u128, FormatSpec, &str)],
 ) -> Result<(), AllocError> {
     for (size, spec, wanted) in rows {
-        let shown = bytes(*size);
-        assert_text(rt, alloc, &shown, *spec, wanted)?;
-        assert_written(rt, &shown, *spec, wanted);
+        let shown = great_bytes(rt, *size);
+        assert_row(rt, alloc, &shown, *spec, wanted)?;
     }
     Ok(())
 }
@@ -151,12 +170,11 @@ pub fn assert_texts_of_bytes(
 pub fn assert_texts_of_bits(
     rt: &impl Abort,
     alloc: Global,
-    rows: &[(u64, FormatSpec, &str)],
+    rows: &[(u128, FormatSpec, &str)],
 ) -> Result<(), AllocError> {
     for (size, spec, wanted) in rows {
-        let shown = bits(*size);
-        assert_text(rt, alloc, &shown, *spec, wanted)?;
-        assert_written(rt, &shown, *spec, wanted);
+        let shown = great_bits(rt, *size);
+        assert_row(rt, alloc, &shown, *spec, wanted)?;
     }
     Ok(())
 }
@@ -169,8 +187,7 @@ pub fn assert_bytes_in(
 ) -> Result<(), AllocError> {
     for (size, unit, spec, wanted) in rows {
         let shown = bytes_in(*size, *unit);
-        assert_text(rt, alloc, &shown, *spec, wanted)?;
-        assert_written(rt, &shown, *spec, wanted);
+        assert_row(rt, alloc, &shown, *spec, wanted)?;
     }
     Ok(())
 }
@@ -183,8 +200,7 @@ pub fn assert_bits_in(
 ) -> Result<(), AllocError> {
     for (size, unit, spec, wanted) in rows {
         let shown = bits_in(*size, *unit);
-        assert_text(rt, alloc, &shown, *spec, wanted)?;
-        assert_written(rt, &shown, *spec, wanted);
+        assert_row(rt, alloc, &shown, *spec, wanted)?;
     }
     Ok(())
 }
@@ -197,7 +213,7 @@ pub fn assert_display<D: Display>(
     wanted: &str,
 ) -> Result<(), AllocError> {
     let text = format!(in alloc; "{value}")?;
-    assert_eq!(rt; text.as_str(), wanted);
+    assert_same(rt, text.as_str(), wanted);
     Ok(())
 }
 
@@ -256,6 +272,14 @@ fn bits_of(adjusted: AdjustedBit) -> u128 {
     adjusted.get_bit().as_u128()
 }
 
+/// The value is this JSON string.
+pub fn assert_string(rt: &impl Abort, value: &Value, wanted: &str) {
+    match value.as_str() {
+        Some(text) => assert_same(rt, text, wanted),
+        None => panic!(rt; "no string"),
+    }
+}
+
 /// Each size is stored as the text in its row, and is read from it again.
 pub fn assert_stored(
     rt: &impl Abort,
@@ -264,11 +288,11 @@ pub fn assert_stored(
 ) -> Result<(), AllocError> {
     for (shown, wanted) in rows {
         let value = stored(shown, alloc)?;
-        assert_eq!(rt; value.as_str(), Some(*wanted));
-        assert!(rt;
-            read_like(shown, &value).ok() == Some(number_of(shown)),
-            "{wanted}"
-        );
+        assert_string(rt, &value, wanted);
+        match read_like(shown, &value) {
+            Ok(size) => assert!(rt; size == number_of(shown), "{wanted}"),
+            Err(_) => panic!(rt; "{wanted} is refused"),
+        }
     }
     Ok(())
 }

@@ -1,13 +1,15 @@
 //! The library in short: reading, calculating, printing.
+use super::traits::assert_is;
 use byte_unit::{Bit, Byte, FormatSpec, ParseError, Unit, UnitType, ValueParseError};
 use std::alloc::AllocError;
+use std::process::Abort;
 
 #[test]
 fn reading(rt: HostRuntime) {
     let size = Byte::parse_str("1.5 KiB", false).ok();
-    assert!(rt; size == Some(Byte::from_u64(1536)));
+    assert_is(&rt, size, Some(Byte::from_u64(1536)));
     let size = Bit::parse_str("123Kib").ok();
-    assert!(rt; size == Some(Bit::from_u64(125_952)));
+    assert_is(&rt, size, Some(Bit::from_u64(125_952)));
     assert!(rt;
         matches!(
             "1.".parse::<Byte>(),
@@ -30,7 +32,8 @@ fn quota_of(text: &str) -> Result<Byte, SettingsError> {
 
 #[test]
 fn reading_into_an_error_of_the_caller(rt: HostRuntime) {
-    assert!(rt; quota_of("20 GB").ok() == Some(Byte::from_u64(20_000_000_000)));
+    let quota = quota_of("20 GB").ok();
+    assert_is(&rt, quota, Some(Byte::from_u64(20_000_000_000)));
     assert!(rt;
         matches!(
             quota_of("20 GX"),
@@ -43,22 +46,27 @@ fn reading_into_an_error_of_the_caller(rt: HostRuntime) {
 fn calculating(rt: HostRuntime) {
     let quota = Byte::GIBIBYTE;
     let used = Byte::from_u64(900_000_000);
-    assert!(rt; quota.subtract(used) == Some(Byte::from_u64(173_741_824)));
-    assert!(rt; used.subtract(quota).is_none());
+    assert_is(&rt, quota.subtract(used), Some(Byte::from_u64(173_741_824)));
+    assert_is(&rt, used.subtract(quota), None);
     assert!(rt; used.cmp_u64(1_000_000_000).is_lt());
+}
+
+/// What was printed is this text.
+fn assert_printed(rt: &impl Abort, text: String, wanted: &str) {
+    assert_is(rt, text.as_str(), wanted);
 }
 
 #[test]
 fn printing(rt: HostRuntime) -> Result<(), AllocError> {
     let size = Byte::from_u64(123_456);
     let plain = size.to_text(rt.alloc(), FormatSpec::PLAIN)?;
-    assert!(rt; plain.as_str() == "123456");
+    assert_printed(&rt, plain, "123456");
     let with_unit = size.to_text(rt.alloc(), FormatSpec::ALTERNATE)?;
-    assert!(rt; with_unit.as_str() == "123.456 KB");
+    assert_printed(&rt, with_unit, "123.456 KB");
     let adjusted = size.get_adjusted_unit(Unit::KiB);
     let in_kib = adjusted.to_text(rt.alloc(), FormatSpec::PLAIN)?;
-    assert!(rt; in_kib.as_str() == "120.5625 KiB");
+    assert_printed(&rt, in_kib, "120.5625 KiB");
     let appropriate = size.get_appropriate_unit(UnitType::Decimal);
-    assert!(rt; appropriate.get_unit() == Unit::KB);
+    assert_is(&rt, appropriate.get_unit(), Unit::KB);
     Ok(())
 }

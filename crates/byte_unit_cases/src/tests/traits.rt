@@ -4,10 +4,22 @@ use byte_unit::{AdjustedBit, AdjustedByte, Bit, Byte, Unit};
 use std::alloc::{AllocError, Global};
 use std::cmp::Ordering;
 use std::collections::HashSet;
-use std::fmt::Display;
+use std::fmt::{Debug, Display};
 use std::hash::Hash;
 use std::process::Abort;
 use std::str::FromStr;
+
+/// What was made is what was wanted.
+pub fn assert_is<S: PartialEq + Debug + Drop>(rt: &impl Abort, made: S, wanted: S) {
+    assert_eq!(rt; made, wanted);
+}
+
+/// What was made is what was wanted, in each row.
+pub fn assert_are<S: PartialEq + Debug>(rt: &impl Abort, rows: &[(S, S)]) {
+    for (made, wanted) in rows {
+        assert_eq!(rt; made, wanted);
+    }
+}
 
 fn first<S: Default>() -> S {
     S::default()
@@ -27,53 +39,38 @@ fn parsed<S: FromStr>(text: &str) -> Result<S, S::Err> {
 
 #[test]
 fn sizes_by_their_bounds(rt: HostRuntime) {
-    let less = Some(Ordering::Less);
-    for (bound, holds) in [
-        ("Default", first::<Byte>() == Byte::MIN),
-        (
-            "Ord",
-            greater(Byte::KILOBYTE, Byte::KIBIBYTE) == Byte::KIBIBYTE,
-        ),
-        (
-            "PartialOrd",
-            partial_order(&Byte::KILOBYTE, &Byte::KIBIBYTE) == less,
-        ),
-        (
-            "FromStr",
-            parsed::<Byte>("10 b").ok() == Some(Byte::from_u64(2)),
-        ),
-        ("Default of bits", first::<Bit>() == Bit::MIN),
-        (
-            "Ord of bits",
-            greater(Bit::KILOBIT, Bit::KIBIBIT) == Bit::KIBIBIT,
-        ),
-        (
-            "PartialOrd of bits",
-            partial_order(&Bit::KILOBIT, &Bit::KIBIBIT) == less,
-        ),
-        (
-            "FromStr of bits",
-            parsed::<Bit>("10 B").ok() == Some(Bit::from_u64(80)),
-        ),
-    ] {
-        assert!(rt; holds, "{bound}");
-    }
+    assert_is(&rt, first::<Byte>(), Byte::MIN);
+    assert_is(&rt, greater(Byte::KILOBYTE, Byte::KIBIBYTE), Byte::KIBIBYTE);
+    let order = partial_order(&Byte::KILOBYTE, &Byte::KIBIBYTE);
+    assert_is(&rt, order, Some(Ordering::Less));
+    assert_is(&rt, parsed::<Byte>("10 b").ok(), Some(Byte::from_u64(2)));
+    assert_is(&rt, first::<Bit>(), Bit::MIN);
+    assert_is(&rt, greater(Bit::KILOBIT, Bit::KIBIBIT), Bit::KIBIBIT);
+    let order = partial_order(&Bit::KILOBIT, &Bit::KIBIBIT);
+    assert_is(&rt, order, Some(Ordering::Less));
+    assert_is(&rt, parsed::<Bit>("10 B").ok(), Some(Bit::from_u64(80)));
 }
 
-fn are_distinct<S: Hash + Eq + Drop>(alloc: Global, left: S, right: S) -> Result<bool, AllocError> {
+/// The two sizes are two of a set, or one, as is wanted.
+fn assert_distinct<S: Hash + Eq + Drop>(
+    rt: &impl Abort,
+    alloc: Global,
+    (left, right): (S, S),
+    wanted: bool,
+) -> Result<(), AllocError> {
     let mut seen = HashSet::new(alloc);
     seen.insert(left)?;
-    Ok(seen.insert(right)?)
+    assert!(rt; seen.insert(right)? == wanted);
+    Ok(())
 }
 
 #[test]
 fn sizes_in_sets(rt: HostRuntime) -> Result<(), AllocError> {
     let alloc = rt.alloc();
-    assert!(rt; are_distinct(alloc, Byte::KILOBYTE, Byte::KIBIBYTE)?);
-    assert!(rt; !are_distinct(alloc, Byte::KILOBYTE, Byte::from_u64(1000))?);
-    assert!(rt; are_distinct(alloc, Bit::KILOBIT, Bit::KIBIBIT)?);
-    assert!(rt; !are_distinct(alloc, Bit::KILOBIT, Bit::from_u64(1000))?);
-    Ok(())
+    assert_distinct(&rt, alloc, (Byte::KILOBYTE, Byte::KIBIBYTE), true)?;
+    assert_distinct(&rt, alloc, (Byte::KILOBYTE, Byte::from_u64(1000)), false)?;
+    assert_distinct(&rt, alloc, (Bit::KILOBIT, Bit::KIBIBIT), true)?;
+    assert_distinct(&rt, alloc, (Bit::KILOBIT, Bit::from_u64(1000)), false)
 }
 
 /// Through its bound alone.
@@ -90,7 +87,7 @@ fn assert_ordered<S: Ord + PartialOrd + Copy>(rt: &impl Abort, less: S, size: S,
     assert!(rt; are_equal(&size, &same) && !are_equal(&size, &less));
     assert!(rt; order(&less, &size).is_lt() && order(&size, &same).is_eq());
     assert!(rt; order(&size, &less).is_gt());
-    assert!(rt; partial_order(&less, &size) == Some(Ordering::Less));
+    assert_is(rt, partial_order(&less, &size), Some(Ordering::Less));
 }
 
 #[test]
@@ -99,45 +96,33 @@ fn adjusted_sizes_compare_as_their_sizes(rt: HostRuntime) {
     let decimal = Byte::KIBIBYTE.get_adjusted_unit(Unit::GB);
     let less = Byte::KILOBYTE.get_adjusted_unit(Unit::B);
     assert_ordered(&rt, less, binary, decimal);
-    assert!(rt; greater(less, decimal).get_unit() == Unit::GB);
+    assert_is(&rt, greater(less, decimal).get_unit(), Unit::GB);
     let more = Byte::from_u64(1025).get_adjusted_unit(Unit::YB);
     assert!(rt; order(&binary, &more).is_lt());
     let binary = Bit::KIBIBIT.get_adjusted_unit(Unit::Kibit);
     let decimal = Bit::KIBIBIT.get_adjusted_unit(Unit::GB);
     let less = Bit::KILOBIT.get_adjusted_unit(Unit::Bit);
     assert_ordered(&rt, less, binary, decimal);
-    assert!(rt; greater(less, decimal).get_unit() == Unit::GB);
+    assert_is(&rt, greater(less, decimal).get_unit(), Unit::GB);
 }
 
 #[test]
 fn adjusted_sizes_from_and_into(rt: HostRuntime) {
     let bytes: AdjustedByte = made(Byte::from_u64(10_000));
-    let bits: AdjustedBit = made(Bit::from_u64(10_000));
+    assert_is(&rt, bytes.get_unit(), Unit::KiB);
+    assert_is(
+        &rt,
+        made::<AdjustedByte, Byte>(bytes),
+        Byte::from_u64(10_000),
+    );
+    assert_is(&rt, made::<AdjustedByte, Unit>(bytes), Unit::KiB);
     let kib = Byte::from_u64(1024).get_adjusted_unit(Unit::GB);
-    for (conversion, holds) in [
-        ("Byte in a unit", bytes.get_unit() == Unit::KiB),
-        (
-            "its size",
-            made::<AdjustedByte, Byte>(bytes) == Byte::from_u64(10_000),
-        ),
-        ("its unit", made::<AdjustedByte, Unit>(bytes) == Unit::KiB),
-        (
-            "the size in another unit",
-            Byte::from(kib) == Byte::from_u64(1024),
-        ),
-        ("another unit", Unit::from(kib) == Unit::GB),
-        ("Bit in a unit", bits.get_unit() == Unit::Kibit),
-        (
-            "its size in bits",
-            made::<AdjustedBit, Bit>(bits) == Bit::from_u64(10_000),
-        ),
-        (
-            "its unit of bits",
-            made::<AdjustedBit, Unit>(bits) == Unit::Kibit,
-        ),
-    ] {
-        assert!(rt; holds, "{conversion}");
-    }
+    assert_is(&rt, Byte::from(kib), Byte::from_u64(1024));
+    assert_is(&rt, Unit::from(kib), Unit::GB);
+    let bits: AdjustedBit = made(Bit::from_u64(10_000));
+    assert_is(&rt, bits.get_unit(), Unit::Kibit);
+    assert_is(&rt, made::<AdjustedBit, Bit>(bits), Bit::from_u64(10_000));
+    assert_is(&rt, made::<AdjustedBit, Unit>(bits), Unit::Kibit);
 }
 
 #[test]
@@ -145,14 +130,23 @@ fn adjusted_sizes_from_texts(rt: HostRuntime) {
     let bytes = parsed::<AdjustedByte>("50.84 MB")
         .ok()
         .expect(&rt, "a size");
-    assert!(rt; bytes.get_byte() == Byte::from_u64(50_840_000) && bytes.get_unit() == Unit::MiB);
+    assert_is(&rt, bytes.get_byte(), Byte::from_u64(50_840_000));
+    assert_is(&rt, bytes.get_unit(), Unit::MiB);
     let bits = parsed::<AdjustedBit>("50.84 Mb").ok().expect(&rt, "a size");
-    assert!(rt; bits.get_bit() == Bit::from_u64(50_840_000) && bits.get_unit() == Unit::Mibit);
+    assert_is(&rt, bits.get_bit(), Bit::from_u64(50_840_000));
+    assert_is(&rt, bits.get_unit(), Unit::Mibit);
 }
 
-/// With a width, a sign and a precision in the format string, which change nothing.
-fn shown_wide<D: Display>(alloc: Global, size: &D) -> Result<String, AllocError> {
-    format!(in alloc; "{size:>+12.1}")
+/// Written with a width, a sign and a precision in the format string, which change nothing, it is this text.
+fn assert_shown_wide<D: Display>(
+    rt: &impl Abort,
+    alloc: Global,
+    size: &D,
+    wanted: &str,
+) -> Result<(), AllocError> {
+    let text = format!(in alloc; "{size:>+12.1}")?;
+    assert!(rt; text.as_str() == wanted, "{wanted}");
+    Ok(())
 }
 
 #[test]
@@ -160,11 +154,10 @@ fn sizes_shown_with_flags(rt: HostRuntime) -> Result<(), AllocError> {
     let alloc = rt.alloc();
     let bytes = Byte::from_u64(1_555_000);
     let bits = Bit::from_u64(1_555_000);
-    assert!(rt; shown_wide(alloc, &bytes)?.as_str() == "1555000");
-    assert!(rt; shown_wide(alloc, &bits)?.as_str() == "1555000");
+    assert_shown_wide(&rt, alloc, &bytes, "1555000")?;
+    assert_shown_wide(&rt, alloc, &bits, "1555000")?;
     let bytes = Byte::from_u64(10_000).get_adjusted_unit(Unit::MB);
     let bits = Bit::from_u64(10_000).get_adjusted_unit(Unit::Mbit);
-    assert!(rt; shown_wide(alloc, &bytes)?.as_str() == "0.01 MB");
-    assert!(rt; shown_wide(alloc, &bits)?.as_str() == "0.01 Mb");
-    Ok(())
+    assert_shown_wide(&rt, alloc, &bytes, "0.01 MB")?;
+    assert_shown_wide(&rt, alloc, &bits, "0.01 Mb")
 }

@@ -16,36 +16,39 @@ fn exact(kind: Kind, size: u128, allow: bool) -> Option<(u128, Unit)> {
     }
 }
 
+const EXACT_UNITS: &[(Kind, u128, bool, u128, Unit)] = &[
+    (Kind::Byte, 50_840_000, false, 50_840, Unit::KB),
+    (Kind::Byte, 437_500, false, 437_500, Unit::B),
+    (Kind::Byte, 437_500, true, 3500, Unit::Kbit),
+    (Kind::Byte, 0, true, 0, Unit::B),
+    (Kind::Byte, 0, false, 0, Unit::B),
+    (Kind::Bit, 24_000_000, true, 3, Unit::MB),
+    (Kind::Bit, 24_000_000, false, 24, Unit::Mbit),
+    (Kind::Bit, 16, true, 16, Unit::Bit),
+    (Kind::Bit, 0, true, 0, Unit::Bit),
+    // Of both kinds it is a whole number of the greater `Rbit`.
+    (
+        Kind::Byte,
+        125_000_000_000_000_000_000_000_000,
+        true,
+        1,
+        Unit::Rbit,
+    ),
+    // As in the first version.
+    (
+        Kind::Byte,
+        125_000_000_000_000_000_000_000_000,
+        false,
+        125,
+        Unit::YB,
+    ),
+];
+
 #[test]
 fn exact_units(rt: HostRuntime) {
-    for (kind, size, allow, number, unit) in [
-        (Kind::Byte, 50_840_000, false, 50_840, Unit::KB),
-        (Kind::Byte, 437_500, false, 437_500, Unit::B),
-        (Kind::Byte, 437_500, true, 3500, Unit::Kbit),
-        (Kind::Byte, 0, true, 0, Unit::B),
-        (Kind::Byte, 0, false, 0, Unit::B),
-        (Kind::Bit, 24_000_000, true, 3, Unit::MB),
-        (Kind::Bit, 24_000_000, false, 24, Unit::Mbit),
-        (Kind::Bit, 16, true, 16, Unit::Bit),
-        (Kind::Bit, 0, true, 0, Unit::Bit),
-        // Of both kinds it is a whole number of the greater `Rbit`.
-        (
-            Kind::Byte,
-            125_000_000_000_000_000_000_000_000,
-            true,
-            1,
-            Unit::Rbit,
-        ),
-        // As in the first version.
-        (
-            Kind::Byte,
-            125_000_000_000_000_000_000_000_000,
-            false,
-            125,
-            Unit::YB,
-        ),
-    ] {
-        assert!(rt; exact(kind, size, allow) == Some((number, unit)), "{size}");
+    for (kind, size, allow, number, unit) in EXACT_UNITS {
+        let stated = exact(*kind, *size, *allow);
+        assert!(rt; stated == Some((*number, *unit)), "{size}");
     }
 }
 
@@ -94,135 +97,141 @@ fn assert_stated(rt: &impl Abort, rows: &[Stated]) {
     }
 }
 
+const RECOVERABLE_UNITS: &[Stated] = &[
+    (Kind::Byte, 50_840_000, false, 2, 5084, 2, Unit::MB),
+    (Kind::Byte, 50_840_000, false, 0, 50_840, 0, Unit::KB),
+    (Kind::Byte, 437_500, true, 3, 35, 1, Unit::Mbit),
+    (Kind::Byte, 437_500, false, 3, 4375, 1, Unit::KB),
+    (Kind::Byte, 500, true, 3, 4, 0, Unit::Kbit),
+    (Kind::Byte, 500, false, 3, 500, 0, Unit::B),
+    (Kind::Byte, 0, true, 28, 0, 0, Unit::B),
+    (Kind::Byte, 1023, false, 3, 1023, 3, Unit::KB),
+    (Kind::Byte, 1088, false, 3, 1088, 3, Unit::KB),
+    (Kind::Byte, 1088, false, 4, 10_625, 4, Unit::KiB),
+    (Kind::Byte, 3_211_776, false, 3, 31_365, 1, Unit::KiB),
+    (Kind::Byte, 3_211_776, false, 6, 3_211_776, 6, Unit::MB),
+    (Kind::Byte, 3_211_776, false, 0, 3_211_776, 0, Unit::B),
+];
+
 #[test]
 fn recoverable_units(rt: HostRuntime) {
-    assert_stated(
-        &rt,
-        &[
-            (Kind::Byte, 50_840_000, false, 2, 5084, 2, Unit::MB),
-            (Kind::Byte, 50_840_000, false, 0, 50_840, 0, Unit::KB),
-            (Kind::Byte, 437_500, true, 3, 35, 1, Unit::Mbit),
-            (Kind::Byte, 437_500, false, 3, 4375, 1, Unit::KB),
-            (Kind::Byte, 500, true, 3, 4, 0, Unit::Kbit),
-            (Kind::Byte, 500, false, 3, 500, 0, Unit::B),
-            (Kind::Byte, 0, true, 28, 0, 0, Unit::B),
-            (Kind::Byte, 1023, false, 3, 1023, 3, Unit::KB),
-            (Kind::Byte, 1088, false, 3, 1088, 3, Unit::KB),
-            (Kind::Byte, 1088, false, 4, 10_625, 4, Unit::KiB),
-            (Kind::Byte, 3_211_776, false, 3, 31_365, 1, Unit::KiB),
-            (Kind::Byte, 3_211_776, false, 6, 3_211_776, 6, Unit::MB),
-            (Kind::Byte, 3_211_776, false, 0, 3_211_776, 0, Unit::B),
-        ],
-    );
+    assert_stated(&rt, RECOVERABLE_UNITS);
 }
+
+const RECOVERABLE_UNITS_OF_BITS: &[Stated] = &[
+    (Kind::Bit, 0, true, 28, 0, 0, Unit::Bit),
+    (Kind::Bit, 3_211_776, false, 3, 31_365, 1, Unit::Kibit),
+    (Kind::Bit, 28_000_000, true, 3, 35, 1, Unit::MB),
+    (Kind::Bit, 3_670_016, false, 3, 35, 1, Unit::Mibit),
+    (Kind::Bit, 437_500, false, 3, 4375, 1, Unit::Kbit),
+];
 
 #[test]
 fn recoverable_units_of_bits(rt: HostRuntime) {
-    assert_stated(
-        &rt,
-        &[
-            (Kind::Bit, 0, true, 28, 0, 0, Unit::Bit),
-            (Kind::Bit, 3_211_776, false, 3, 31_365, 1, Unit::Kibit),
-            (Kind::Bit, 28_000_000, true, 3, 35, 1, Unit::MB),
-            (Kind::Bit, 3_670_016, false, 3, 35, 1, Unit::Mibit),
-            (Kind::Bit, 437_500, false, 3, 4375, 1, Unit::Kbit),
-        ],
-    );
+    assert_stated(&rt, RECOVERABLE_UNITS_OF_BITS);
 }
+
+/// 2^80 + 2^51.
+const NEAR: u128 = 1_208_925_821_866_428_988_391_424;
+
+/// 10^24 + 2^24.
+const SUM: u128 = 1_000_000_000_000_000_016_777_216;
+
+/// 5^38.
+const FIVES: u128 = 363_797_880_709_171_295_166_015_625;
+
+/// 5^42.
+const MORE_FIVES: u128 = 227_373_675_443_232_059_478_759_765_625;
+
+const RECOVERABLE_UNITS_OF_GREAT_SIZES: &[Stated] = &[
+    (Kind::Byte, GREATEST, true, 3, GREATEST, 3, Unit::KB),
+    (Kind::Byte, GREATEST, true, 10, GREATEST, 9, Unit::GB),
+    (Kind::Byte, GREATEST, true, 28, GREATEST, 27, Unit::RB),
+    (Kind::Byte, OLD_GREATEST, true, 3, OLD_GREATEST, 3, Unit::KB),
+    (
+        Kind::Byte,
+        OLD_GREATEST,
+        true,
+        10,
+        OLD_GREATEST,
+        9,
+        Unit::GB,
+    ),
+    (
+        Kind::Byte,
+        OLD_GREATEST,
+        false,
+        28,
+        OLD_GREATEST,
+        24,
+        Unit::YB,
+    ),
+    (Kind::Byte, NEAR, false, 29, NEAR, 24, Unit::YB),
+    (Kind::Byte, SUM, false, 28, SUM, 24, Unit::YB),
+    (
+        Kind::Byte,
+        SUM,
+        false,
+        10,
+        93_132_257_461_547_853_125,
+        5,
+        Unit::GiB,
+    ),
+    (
+        Kind::Byte,
+        SUM,
+        false,
+        3,
+        953_674_316_406_250_016,
+        0,
+        Unit::MiB,
+    ),
+    (
+        Kind::Byte,
+        618_970_019_642_690_137_449_562_112,
+        false,
+        3,
+        512,
+        0,
+        Unit::YiB,
+    ),
+    (
+        Kind::Byte,
+        633_825_300_114_114_700_748_351_602_688,
+        false,
+        3,
+        512,
+        0,
+        Unit::RiB,
+    ),
+    (Kind::Byte, FIVES, false, 28, FIVES, 24, Unit::YB),
+    (Kind::Byte, MORE_FIVES, false, 28, MORE_FIVES, 27, Unit::RB),
+];
 
 #[test]
 fn recoverable_units_of_great_sizes(rt: HostRuntime) {
-    // 2^80 + 2^51, where more than 28 places count as 28, 10^24 + 2^24, 2^89, 2^99, 5^38 and 5^42.
-    let near = 1_208_925_821_866_428_988_391_424;
-    let sum = 1_000_000_000_000_000_016_777_216;
-    let fives = 363_797_880_709_171_295_166_015_625;
-    let more_fives = 227_373_675_443_232_059_478_759_765_625;
-    assert_stated(
-        &rt,
-        &[
-            (Kind::Byte, GREATEST, true, 3, GREATEST, 3, Unit::KB),
-            (Kind::Byte, GREATEST, true, 10, GREATEST, 9, Unit::GB),
-            (Kind::Byte, GREATEST, true, 28, GREATEST, 27, Unit::RB),
-            (Kind::Byte, OLD_GREATEST, true, 3, OLD_GREATEST, 3, Unit::KB),
-            (
-                Kind::Byte,
-                OLD_GREATEST,
-                true,
-                10,
-                OLD_GREATEST,
-                9,
-                Unit::GB,
-            ),
-            (
-                Kind::Byte,
-                OLD_GREATEST,
-                false,
-                28,
-                OLD_GREATEST,
-                24,
-                Unit::YB,
-            ),
-            (Kind::Byte, near, false, 29, near, 24, Unit::YB),
-            (Kind::Byte, sum, false, 28, sum, 24, Unit::YB),
-            (
-                Kind::Byte,
-                sum,
-                false,
-                10,
-                93_132_257_461_547_853_125,
-                5,
-                Unit::GiB,
-            ),
-            (
-                Kind::Byte,
-                sum,
-                false,
-                3,
-                953_674_316_406_250_016,
-                0,
-                Unit::MiB,
-            ),
-            (
-                Kind::Byte,
-                618_970_019_642_690_137_449_562_112,
-                false,
-                3,
-                512,
-                0,
-                Unit::YiB,
-            ),
-            (
-                Kind::Byte,
-                633_825_300_114_114_700_748_351_602_688,
-                false,
-                3,
-                512,
-                0,
-                Unit::RiB,
-            ),
-            (Kind::Byte, fives, false, 28, fives, 24, Unit::YB),
-            (Kind::Byte, more_fives, false, 28, more_fives, 27, Unit::RB),
-        ],
-    );
+    assert_stated(&rt, RECOVERABLE_UNITS_OF_GREAT_SIZES);
 }
+
+const STEPS_OF_THE_CHOICE: &[(u128, bool, usize, u64)] = &[
+    (GREATEST, false, 28, 29),
+    (GREATEST, true, 28, 29),
+    (GREATEST, true, 0, 2),
+    (OLD_GREATEST, false, 28, 26),
+    (0, true, 28, 0),
+    // 2^89, 2^99, 5^38 and 5^42
+    (618_970_019_642_690_137_449_562_112, false, 3, 91),
+    (633_825_300_114_114_700_748_351_602_688, false, 3, 101),
+    (363_797_880_709_171_295_166_015_625, false, 28, 64),
+    (227_373_675_443_232_059_478_759_765_625, false, 28, 71),
+];
 
 #[test]
 fn steps_of_the_choice(rt: HostRuntime) {
-    for (size, allow, precision, count) in [
-        (GREATEST, false, 28, 29),
-        (GREATEST, true, 28, 29),
-        (GREATEST, true, 0, 2),
-        (OLD_GREATEST, false, 28, 26),
-        (0, true, 28, 0),
-        // 2^89, 2^99, 5^38 and 5^42
-        (618_970_019_642_690_137_449_562_112, false, 3, 91),
-        (633_825_300_114_114_700_748_351_602_688, false, 3, 101),
-        (363_797_880_709_171_295_166_015_625, false, 28, 64),
-        (227_373_675_443_232_059_478_759_765_625, false, 28, 71),
-    ] {
-        let stated = counted(Kind::Byte, size, allow, precision);
+    for (size, allow, precision, count) in STEPS_OF_THE_CHOICE {
+        let stated = counted(Kind::Byte, *size, *allow, *precision);
         assert!(rt;
-            stated.map(|pair| pair.1) == Some(count),
+            stated.map(|pair| pair.1) == Some(*count),
             "{size} at {precision}"
         );
     }

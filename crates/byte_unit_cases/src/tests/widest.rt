@@ -1,230 +1,349 @@
 //! The longest texts: the greatest width and the greatest precision, on each type.
-use super::shown::{Shown, assert_texts, bytes_in};
-use super::{places, spec};
+use super::shown::{Shown, assert_row, assert_same};
 use byte_unit::{
-    Align, Bit, Byte, Expansion, FormatSpec, Sign, Unit, append_layout, append_plain, layout_len,
-    plain_len,
+    Align, Bit, Byte, Expansion, FormatSpec, Kind, Sign, Unit, append_layout, append_plain,
+    layout_len, plain_len,
 };
 use std::alloc::{AllocError, Global};
+use std::process::Abort;
 
-/// So many spaces, and then the text.
-fn behind_spaces(alloc: Global, count: usize, text: &str) -> Result<String, AllocError> {
-    let spaces = " ".repeat(alloc, count)?;
-    format!(in alloc; "{spaces}{text}")
+/// Each of the texts, so many times.
+type Repeated = &'static [(&'static str, usize)];
+
+/// So many bytes or bits, the unit that they are shown in if in any, the spec, how long the text is, and the text.
+type Row = (Kind, u128, Option<Unit>, FormatSpec, usize, Repeated);
+
+/// The greatest size.
+const GREATEST: u128 = 999_999_999_999_999_999_999_999_999_999;
+
+fn repeated(alloc: Global, texts: Repeated) -> Result<String, AllocError> {
+    let mut all = String::new(alloc);
+    for (text, count) in texts {
+        all.push_str(text.repeat(alloc, *count)?.as_str())?;
+    }
+    Ok(all)
 }
 
-/// The front, so many zeros, and the end.
-fn with_zeros(alloc: Global, count: usize, front: &str, end: &str) -> Result<String, AllocError> {
-    let zeros = "0".repeat(alloc, count)?;
-    format!(in alloc; "{front}{zeros}{end}")
+/// So many bytes or bits, in the unit if in any.
+fn size_in(rt: &impl Abort, kind: Kind, size: u128, unit: Option<Unit>) -> Shown {
+    match kind {
+        Kind::Byte => {
+            let size = Byte::from_u128(size).expect(rt, "a size");
+            match unit {
+                Some(unit) => Shown::AdjustedByte(size.get_adjusted_unit(unit)),
+                None => Shown::Byte(size),
+            }
+        }
+        Kind::Bit => {
+            let size = Bit::from_u128(size).expect(rt, "a size");
+            match unit {
+                Some(unit) => Shown::AdjustedBit(size.get_adjusted_unit(unit)),
+                None => Shown::Bit(size),
+            }
+        }
+    }
 }
 
-#[test]
-fn the_greatest_precision(rt: HostRuntime) -> Result<(), AllocError> {
-    let alloc = rt.alloc();
-    let most = spec(false, Sign::Plus, Some(65_535), None, None);
-    let bytes = Shown::AdjustedByte(Byte::MAX.get_adjusted_unit(Unit::Kbit));
-    let in_bytes = with_zeros(alloc, 65_532, "7999999999999999999999999999.992", "  Kb")?;
-    let bits = Shown::AdjustedBit(Bit::MAX.get_adjusted_unit(Unit::Kbit));
-    let in_bits = with_zeros(alloc, 65_532, "999999999999999999999999999.999", "  Kb")?;
-    let whole = with_zeros(alloc, 65_535, "10.", " KB")?;
-    assert!(rt; in_bytes.len() == 65_568 && in_bits.len() == 65_567 && whole.len() == 65_541);
-    assert_texts(
-        &rt,
-        alloc,
-        &[
-            (bytes, most, in_bytes.as_str()),
-            (bits, most, in_bits.as_str()),
-            (bytes_in(10_000, Unit::KB), places(65_535), whole.as_str()),
-        ],
-    )
-}
-
-#[test]
-fn the_greatest_width_of_a_plain_text(rt: HostRuntime) -> Result<(), AllocError> {
-    let alloc = rt.alloc();
-    let wide = spec(false, Sign::Unset, None, Some(65_535), None);
-    let wanted = behind_spaces(alloc, 65_534, "0")?;
-    assert!(rt; wanted.len() == 65_535);
-    assert_texts(
-        &rt,
-        alloc,
-        &[
-            (Shown::Byte(Byte::MIN), wide, wanted.as_str()),
-            (Shown::Bit(Bit::MIN), wide, wanted.as_str()),
-        ],
-    )
-}
-
-#[test]
-fn the_greatest_width_with_a_unit(rt: HostRuntime) -> Result<(), AllocError> {
-    let alloc = rt.alloc();
-    let wide = spec(true, Sign::Unset, None, Some(65_535), Some(Align::Right));
-    let bytes = behind_spaces(alloc, 65_532, "0 B")?;
-    let bits = behind_spaces(alloc, 65_532, "0 b")?;
-    let in_bytes = Shown::AdjustedByte(Byte::MIN.get_adjusted_unit(Unit::B));
-    let in_bits = Shown::AdjustedBit(Bit::MIN.get_adjusted_unit(Unit::Bit));
-    assert!(rt; bytes.len() == 65_535 && bits.len() == 65_535);
-    assert_texts(
-        &rt,
-        alloc,
-        &[
-            (Shown::Byte(Byte::MIN), wide, bytes.as_str()),
-            (Shown::Bit(Bit::MIN), wide, bits.as_str()),
-            (in_bytes, wide, bytes.as_str()),
-            (in_bits, wide, bits.as_str()),
-        ],
-    )
-}
-
-/// The greatest width and the greatest precision, at the right.
-fn greatest(alternate: bool) -> FormatSpec {
-    spec(
-        alternate,
-        Sign::Unset,
-        Some(65_535),
-        Some(65_535),
-        Some(Align::Right),
-    )
-}
-
-#[test]
-fn both_for_sizes(rt: HostRuntime) -> Result<(), AllocError> {
-    let alloc = rt.alloc();
-    // A precision changes nothing of a plain text, and counts as 28 above 28.
-    let plain = behind_spaces(alloc, 65_505, "999999999999999999999999999999")?;
-    let bytes = behind_spaces(alloc, 65_501, "999.999999999999999999999999999 RB")?;
-    let bits = behind_spaces(alloc, 65_501, "999.999999999999999999999999999 Rb")?;
-    assert!(rt; bytes.len() == 65_535 && bits.len() == 65_535);
-    assert_texts(
-        &rt,
-        alloc,
-        &[
-            (Shown::Byte(Byte::MAX), greatest(false), plain.as_str()),
-            (Shown::Bit(Bit::MAX), greatest(false), plain.as_str()),
-            (Shown::Byte(Byte::MAX), greatest(true), bytes.as_str()),
-            (Shown::Bit(Bit::MAX), greatest(true), bits.as_str()),
-        ],
-    )
-}
-
-#[test]
-fn both_for_adjusted_sizes(rt: HostRuntime) -> Result<(), AllocError> {
-    let alloc = rt.alloc();
-    let bytes = Byte::MAX.get_adjusted_unit(Unit::KB);
-    let bits = Bit::MAX.get_adjusted_unit(Unit::Kbit);
-    // All the places that are asked for are longer than the width.
-    let long_bytes = with_zeros(alloc, 65_532, "999999999999999999999999999.999", " KB")?;
-    let long_bits = with_zeros(alloc, 65_532, "999999999999999999999999999.999", " Kb")?;
-    // In the alternate form a precision counts as 16 above 16.
-    let in_bytes = behind_spaces(alloc, 65_501, "999999999999999999999999999.999 KB")?;
-    let in_bits = behind_spaces(alloc, 65_501, "999999999999999999999999999.999 Kb")?;
-    assert_texts(
-        &rt,
-        alloc,
-        &[
-            (
-                Shown::AdjustedByte(bytes),
-                greatest(false),
-                long_bytes.as_str(),
-            ),
-            (
-                Shown::AdjustedBit(bits),
-                greatest(false),
-                long_bits.as_str(),
-            ),
-            (
-                Shown::AdjustedByte(bytes),
-                greatest(true),
-                in_bytes.as_str(),
-            ),
-            (Shown::AdjustedBit(bits), greatest(true), in_bits.as_str()),
-        ],
-    )
-}
-
-#[test]
-fn both_for_short_texts(rt: HostRuntime) -> Result<(), AllocError> {
-    let alloc = rt.alloc();
-    // In its own unit a precision is ignored where no alternate form is asked for.
-    let own = Shown::AdjustedBit(Bit::MAX.get_adjusted_unit(Unit::Bit));
-    let in_bits = behind_spaces(alloc, 65_503, "999999999999999999999999999999 b")?;
-    let sixteen = behind_spaces(alloc, 65_513, "0.0000009536743164 MiB")?;
-    assert!(rt; in_bits.len() == 65_535);
-    assert_texts(
-        &rt,
-        alloc,
-        &[
-            (own, greatest(false), in_bits.as_str()),
-            (bytes_in(1, Unit::MiB), greatest(true), sixteen.as_str()),
-        ],
-    )
-}
-
-#[test]
-fn the_greatest_width_at_each_side(rt: HostRuntime) -> Result<(), AllocError> {
-    let alloc = rt.alloc();
-    let to_left = spec(false, Sign::Unset, None, Some(65_535), Some(Align::Left));
-    let to_center = spec(false, Sign::Unset, None, Some(65_535), Some(Align::Center));
-    let spaces = " ".repeat(alloc, 65_534)?;
-    let left = format!(in alloc; "0{spaces}")?;
-    let half = " ".repeat(alloc, 32_767)?;
-    let center = format!(in alloc; "{half}0{half}")?;
-    assert_texts(
-        &rt,
-        alloc,
-        &[
-            (Shown::Byte(Byte::MIN), to_left, left.as_str()),
-            (Shown::Bit(Bit::MIN), to_left, left.as_str()),
-            (Shown::Byte(Byte::MIN), to_center, center.as_str()),
-            (Shown::Bit(Bit::MIN), to_center, center.as_str()),
-        ],
-    )
-}
-
-/// With a unit, spaces stand between number and unit on either of these sides.
-#[test]
-fn the_greatest_width_between_number_and_unit(rt: HostRuntime) -> Result<(), AllocError> {
-    let alloc = rt.alloc();
-    let left = spec(true, Sign::Unset, None, Some(65_535), Some(Align::Left));
-    let center = spec(true, Sign::Unset, None, Some(65_535), Some(Align::Center));
-    let adjusted = Byte::MIN.get_adjusted_unit(Unit::B);
-    let spaces = " ".repeat(alloc, 65_533)?;
-    let between = format!(in alloc; "0{spaces}B")?;
-    assert_texts(
-        &rt,
-        alloc,
-        &[
-            (Shown::Byte(Byte::MIN), left, between.as_str()),
-            (Shown::AdjustedByte(adjusted), left, between.as_str()),
-            (Shown::Byte(Byte::MIN), center, between.as_str()),
-            (Shown::AdjustedByte(adjusted), center, between.as_str()),
-        ],
-    )
-}
-
-#[test]
-fn the_greatest_appended_number(rt: HostRuntime) -> Result<(), AllocError> {
-    let alloc = rt.alloc();
-    let wide = spec(false, Sign::Plus, None, Some(65_535), None);
-    let wanted = behind_spaces(alloc, 65_495, "+340282366920938463463374607431768211455")?;
-    let mut text = String::new(alloc);
-    append_plain(u128::MAX, wide, &mut text)?;
-    assert!(rt; text.as_str() == wanted.as_str());
-    assert!(rt; plain_len(u128::MAX, wide) == 65_535);
+/// Each text by its spec is the one in its row, and as long.
+fn assert_widest(rt: &impl Abort, alloc: Global, rows: &[Row]) -> Result<(), AllocError> {
+    for (kind, size, unit, spec, len, texts) in rows {
+        let wanted = repeated(alloc, texts)?;
+        assert!(rt; wanted.len() == *len);
+        let shown = size_in(rt, *kind, *size, *unit);
+        assert_row(rt, alloc, &shown, *spec, wanted.as_str())?;
+    }
     Ok(())
 }
 
+const MOST_PLACES: FormatSpec = spec!(false, Sign::Plus, Some(65_535), None, None);
+
+const THE_GREATEST_PRECISION: &[Row] = &[
+    (
+        Kind::Byte,
+        GREATEST,
+        Some(Unit::Kbit),
+        MOST_PLACES,
+        65_568,
+        &[
+            ("7999999999999999999999999999.992", 1),
+            ("0", 65_532),
+            ("  Kb", 1),
+        ],
+    ),
+    (
+        Kind::Bit,
+        GREATEST,
+        Some(Unit::Kbit),
+        MOST_PLACES,
+        65_567,
+        &[
+            ("999999999999999999999999999.999", 1),
+            ("0", 65_532),
+            ("  Kb", 1),
+        ],
+    ),
+    (
+        Kind::Byte,
+        10_000,
+        Some(Unit::KB),
+        places!(65_535),
+        65_541,
+        &[("10.", 1), ("0", 65_535), (" KB", 1)],
+    ),
+];
+
+#[test]
+fn the_greatest_precision(rt: HostRuntime) -> Result<(), AllocError> {
+    assert_widest(&rt, rt.alloc(), THE_GREATEST_PRECISION)
+}
+
+const WIDE: FormatSpec = spec!(false, Sign::Unset, None, Some(65_535), None);
+
+const THE_GREATEST_WIDTH_OF_A_PLAIN_TEXT: &[Row] = &[
+    (
+        Kind::Byte,
+        0,
+        None,
+        WIDE,
+        65_535,
+        &[(" ", 65_534), ("0", 1)],
+    ),
+    (Kind::Bit, 0, None, WIDE, 65_535, &[(" ", 65_534), ("0", 1)]),
+];
+
+#[test]
+fn the_greatest_width_of_a_plain_text(rt: HostRuntime) -> Result<(), AllocError> {
+    assert_widest(&rt, rt.alloc(), THE_GREATEST_WIDTH_OF_A_PLAIN_TEXT)
+}
+
+const RIGHT: FormatSpec = spec!(true, Sign::Unset, None, Some(65_535), Some(Align::Right));
+
+/// A number before its unit.
+const ZERO_BYTES: Repeated = &[(" ", 65_532), ("0 B", 1)];
+
+const ZERO_BITS: Repeated = &[(" ", 65_532), ("0 b", 1)];
+
+const THE_GREATEST_WIDTH_WITH_A_UNIT: &[Row] = &[
+    (Kind::Byte, 0, None, RIGHT, 65_535, ZERO_BYTES),
+    (Kind::Bit, 0, None, RIGHT, 65_535, ZERO_BITS),
+    (Kind::Byte, 0, Some(Unit::B), RIGHT, 65_535, ZERO_BYTES),
+    (Kind::Bit, 0, Some(Unit::Bit), RIGHT, 65_535, ZERO_BITS),
+];
+
+#[test]
+fn the_greatest_width_with_a_unit(rt: HostRuntime) -> Result<(), AllocError> {
+    assert_widest(&rt, rt.alloc(), THE_GREATEST_WIDTH_WITH_A_UNIT)
+}
+
+/// The greatest width and the greatest precision, at the right, without a unit or with one.
+const BOTH: FormatSpec = spec!(
+    false,
+    Sign::Unset,
+    Some(65_535),
+    Some(65_535),
+    Some(Align::Right)
+);
+
+const BOTH_WITH_UNIT: FormatSpec = spec!(
+    true,
+    Sign::Unset,
+    Some(65_535),
+    Some(65_535),
+    Some(Align::Right)
+);
+
+/// A precision changes nothing of a plain text, and counts as 28 above 28.
+const BOTH_FOR_SIZES: &[Row] = &[
+    (
+        Kind::Byte,
+        GREATEST,
+        None,
+        BOTH,
+        65_535,
+        &[(" ", 65_505), ("999999999999999999999999999999", 1)],
+    ),
+    (
+        Kind::Bit,
+        GREATEST,
+        None,
+        BOTH,
+        65_535,
+        &[(" ", 65_505), ("999999999999999999999999999999", 1)],
+    ),
+    (
+        Kind::Byte,
+        GREATEST,
+        None,
+        BOTH_WITH_UNIT,
+        65_535,
+        &[(" ", 65_501), ("999.999999999999999999999999999 RB", 1)],
+    ),
+    (
+        Kind::Bit,
+        GREATEST,
+        None,
+        BOTH_WITH_UNIT,
+        65_535,
+        &[(" ", 65_501), ("999.999999999999999999999999999 Rb", 1)],
+    ),
+];
+
+#[test]
+fn both_for_sizes(rt: HostRuntime) -> Result<(), AllocError> {
+    assert_widest(&rt, rt.alloc(), BOTH_FOR_SIZES)
+}
+
+/// All the places that are asked for are longer than the width.
+const MORE_PLACES_THAN_WIDTH: &[Row] = &[
+    (
+        Kind::Byte,
+        GREATEST,
+        Some(Unit::KB),
+        BOTH,
+        65_566,
+        &[
+            ("999999999999999999999999999.999", 1),
+            ("0", 65_532),
+            (" KB", 1),
+        ],
+    ),
+    (
+        Kind::Bit,
+        GREATEST,
+        Some(Unit::Kbit),
+        BOTH,
+        65_566,
+        &[
+            ("999999999999999999999999999.999", 1),
+            ("0", 65_532),
+            (" Kb", 1),
+        ],
+    ),
+];
+
+/// In the alternate form a precision counts as 16 above 16.
+const SIXTEEN_PLACES: &[Row] = &[
+    (
+        Kind::Byte,
+        GREATEST,
+        Some(Unit::KB),
+        BOTH_WITH_UNIT,
+        65_535,
+        &[(" ", 65_501), ("999999999999999999999999999.999 KB", 1)],
+    ),
+    (
+        Kind::Bit,
+        GREATEST,
+        Some(Unit::Kbit),
+        BOTH_WITH_UNIT,
+        65_535,
+        &[(" ", 65_501), ("999999999999999999999999999.999 Kb", 1)],
+    ),
+];
+
+#[test]
+fn both_for_adjusted_sizes(rt: HostRuntime) -> Result<(), AllocError> {
+    assert_widest(&rt, rt.alloc(), MORE_PLACES_THAN_WIDTH)?;
+    assert_widest(&rt, rt.alloc(), SIXTEEN_PLACES)
+}
+
+/// In its own unit a precision is ignored where no alternate form is asked for.
+const BOTH_FOR_SHORT_TEXTS: &[Row] = &[
+    (
+        Kind::Bit,
+        GREATEST,
+        Some(Unit::Bit),
+        BOTH,
+        65_535,
+        &[(" ", 65_503), ("999999999999999999999999999999 b", 1)],
+    ),
+    (
+        Kind::Byte,
+        1,
+        Some(Unit::MiB),
+        BOTH_WITH_UNIT,
+        65_535,
+        &[(" ", 65_513), ("0.0000009536743164 MiB", 1)],
+    ),
+];
+
+#[test]
+fn both_for_short_texts(rt: HostRuntime) -> Result<(), AllocError> {
+    assert_widest(&rt, rt.alloc(), BOTH_FOR_SHORT_TEXTS)
+}
+
+const TO_LEFT: FormatSpec = spec!(false, Sign::Unset, None, Some(65_535), Some(Align::Left));
+
+const TO_CENTER: FormatSpec = spec!(false, Sign::Unset, None, Some(65_535), Some(Align::Center));
+
+const AT_LEFT: Repeated = &[("0", 1), (" ", 65_534)];
+
+const AT_CENTER: Repeated = &[(" ", 32_767), ("0", 1), (" ", 32_767)];
+
+const THE_GREATEST_WIDTH_AT_EACH_SIDE: &[Row] = &[
+    (Kind::Byte, 0, None, TO_LEFT, 65_535, AT_LEFT),
+    (Kind::Bit, 0, None, TO_LEFT, 65_535, AT_LEFT),
+    (Kind::Byte, 0, None, TO_CENTER, 65_535, AT_CENTER),
+    (Kind::Bit, 0, None, TO_CENTER, 65_535, AT_CENTER),
+];
+
+#[test]
+fn the_greatest_width_at_each_side(rt: HostRuntime) -> Result<(), AllocError> {
+    assert_widest(&rt, rt.alloc(), THE_GREATEST_WIDTH_AT_EACH_SIDE)
+}
+
+const LEFT: FormatSpec = spec!(true, Sign::Unset, None, Some(65_535), Some(Align::Left));
+
+const CENTER: FormatSpec = spec!(true, Sign::Unset, None, Some(65_535), Some(Align::Center));
+
+const BETWEEN: Repeated = &[("0", 1), (" ", 65_533), ("B", 1)];
+
+/// With a unit, spaces stand between number and unit on either of these sides.
+const THE_GREATEST_WIDTH_BETWEEN_NUMBER_AND_UNIT: &[Row] = &[
+    (Kind::Byte, 0, None, LEFT, 65_535, BETWEEN),
+    (Kind::Byte, 0, Some(Unit::B), LEFT, 65_535, BETWEEN),
+    (Kind::Byte, 0, None, CENTER, 65_535, BETWEEN),
+    (Kind::Byte, 0, Some(Unit::B), CENTER, 65_535, BETWEEN),
+];
+
+#[test]
+fn the_greatest_width_between_number_and_unit(rt: HostRuntime) -> Result<(), AllocError> {
+    assert_widest(&rt, rt.alloc(), THE_GREATEST_WIDTH_BETWEEN_NUMBER_AND_UNIT)
+}
+
+const WIDE_PLUS: FormatSpec = spec!(false, Sign::Plus, None, Some(65_535), None);
+
+const THE_GREATEST_NUMBER: Repeated = &[
+    (" ", 65_495),
+    ("+340282366920938463463374607431768211455", 1),
+];
+
+#[test]
+fn the_greatest_appended_number(rt: HostRuntime) -> Result<(), AllocError> {
+    let wanted = repeated(rt.alloc(), THE_GREATEST_NUMBER)?;
+    let mut text = String::new(rt.alloc());
+    append_plain(u128::MAX, WIDE_PLUS, &mut text)?;
+    assert_same(&rt, text.as_str(), wanted.as_str());
+    assert!(rt; plain_len(u128::MAX, WIDE_PLUS) == 65_535);
+    Ok(())
+}
+
+const WIDE_MINUS: FormatSpec = spec!(false, Sign::Minus, None, Some(65_535), None);
+
+const THE_GREATEST_EXPANSION: Repeated = &[
+    ("7999.999999999999999999999999999", 1),
+    ("0", 199_973),
+    ("KiB", 1),
+];
+
 #[test]
 fn the_greatest_appended_expansion(rt: HostRuntime) -> Result<(), AllocError> {
-    let alloc = rt.alloc();
     let greatest = Expansion::new(7_999_999_999_999_999_999_999_999_999_999, 27, 27);
-    let wanted = with_zeros(alloc, 199_973, "7999.999999999999999999999999999", "KiB")?;
-    let close = spec(false, Sign::Minus, None, Some(65_535), None);
-    let mut text = String::new(alloc);
-    append_layout(&greatest, 200_000, Unit::KiB, close, &mut text)?;
-    assert!(rt; text.as_str() == wanted.as_str());
-    assert!(rt; layout_len(&greatest, 200_000, Unit::KiB, close) == 200_008);
+    let wanted = repeated(rt.alloc(), THE_GREATEST_EXPANSION)?;
+    let mut text = String::new(rt.alloc());
+    append_layout(&greatest, 200_000, Unit::KiB, WIDE_MINUS, &mut text)?;
+    assert_same(&rt, text.as_str(), wanted.as_str());
+    assert!(rt; layout_len(&greatest, 200_000, Unit::KiB, WIDE_MINUS) == 200_008);
     Ok(())
 }
 
@@ -233,6 +352,6 @@ fn a_whole_number_with_its_unit(rt: HostRuntime) -> Result<(), AllocError> {
     let mut text = String::new(rt.alloc());
     let ten = Expansion::new(10, 0, 0);
     append_layout(&ten, 0, Unit::KB, FormatSpec::ALTERNATE, &mut text)?;
-    assert!(rt; text.as_str() == "10 KB");
+    assert_same(&rt, text.as_str(), "10 KB");
     Ok(())
 }

@@ -1,6 +1,6 @@
 //! Calls that ask for no memory. The functions here are handed neither an allocator nor the runtime, so what they call
 //! can ask for none; the tests compare what they answer.
-use super::precise;
+use super::traits::assert_is;
 use byte_unit::{
     AdjustedBit, AdjustedByte, Bit, Byte, Decimal, FormatSpec, Unit, UnitType, unit_from_json,
 };
@@ -17,14 +17,10 @@ fn sizes_of(text: &str) -> (Option<u128>, Option<u128>) {
 
 #[test]
 fn texts_are_read(rt: HostRuntime) {
-    for (text, sizes) in [
-        ("1.5 KiB", (Some(1536), Some(12_288))),
-        ("1kb", (Some(125), Some(1000))),
-        ("1KB x", (None, None)),
-        ("1.", (None, None)),
-    ] {
-        assert!(rt; sizes_of(text) == sizes, "{text}");
-    }
+    assert_is(&rt, sizes_of("1.5 KiB"), (Some(1536), Some(12_288)));
+    assert_is(&rt, sizes_of("1kb"), (Some(125), Some(1000)));
+    assert_is(&rt, sizes_of("1KB x"), (None, None));
+    assert_is(&rt, sizes_of("1."), (None, None));
 }
 
 /// The unit of a text, and the unit of a JSON value.
@@ -43,8 +39,12 @@ fn string(alloc: Global, text: &str) -> Result<Value, AllocError> {
 #[test]
 fn units_are_read(rt: HostRuntime) -> Result<(), AllocError> {
     let value = string(rt.alloc(), "Kb")?;
-    assert!(rt; units_of("MiB", &value) == (Some(Unit::MiB), Some(Unit::Kbit)));
-    assert!(rt; units_of("x", &Value::Null) == (None, None));
+    assert_is(
+        &rt,
+        units_of("MiB", &value),
+        (Some(Unit::MiB), Some(Unit::Kbit)),
+    );
+    assert_is(&rt, units_of("x", &Value::Null), (None, None));
     Ok(())
 }
 
@@ -104,10 +104,12 @@ fn units_of_bits(size: Bit) -> ((u128, Unit), (Decimal, Unit), Unit) {
 fn units_are_chosen(rt: HostRuntime) {
     let number = Decimal::from_u128_with_scale(5084, 2).expect(&rt, "a decimal");
     let bytes = Byte::from_u64(50_840_000);
-    assert!(rt; units_of_bytes(bytes) == ((50_840, Unit::KB), (number, Unit::MB), Unit::MiB));
+    let wanted = ((50_840, Unit::KB), (number, Unit::MB), Unit::MiB);
+    assert_is(&rt, units_of_bytes(bytes), wanted);
     let three = Decimal::from_u128(3).expect(&rt, "a decimal");
     let bits = Bit::from_u64(24_000_000);
-    assert!(rt; units_of_bits(bits) == ((3, Unit::MB), (three, Unit::MB), Unit::Mibit));
+    let wanted = ((3, Unit::MB), (three, Unit::MB), Unit::Mibit);
+    assert_is(&rt, units_of_bits(bits), wanted);
 }
 
 /// The lengths of the plain text, of that with a unit, and of that in `KB`, with two places.
@@ -115,7 +117,7 @@ fn lengths_of_bytes(size: Byte) -> (usize, usize, usize) {
     (
         size.text_len(FormatSpec::PLAIN),
         size.text_len(FormatSpec::ALTERNATE),
-        size.get_adjusted_unit(Unit::KB).text_len(precise(2)),
+        size.get_adjusted_unit(Unit::KB).text_len(precise!(2)),
     )
 }
 
@@ -124,14 +126,18 @@ fn lengths_of_bits(size: Bit) -> (usize, usize, usize) {
     (
         size.text_len(FormatSpec::PLAIN),
         size.text_len(FormatSpec::ALTERNATE),
-        size.get_adjusted_unit(Unit::B).text_len(precise(2)),
+        size.get_adjusted_unit(Unit::B).text_len(precise!(2)),
     )
 }
 
 #[test]
 fn lengths_are_told(rt: HostRuntime) {
     let bytes = lengths_of_bytes(Byte::from_u64(1005));
-    assert!(rt; bytes == ("1005".len(), "1.005 KB".len(), "1.01 KB".len()));
+    assert_is(
+        &rt,
+        bytes,
+        ("1005".len(), "1.005 KB".len(), "1.01 KB".len()),
+    );
     let bits = lengths_of_bits(Bit::from_u64(13));
-    assert!(rt; bits == ("13".len(), "13 b".len(), "1.63 B".len()));
+    assert_is(&rt, bits, ("13".len(), "13 b".len(), "1.63 B".len()));
 }
