@@ -9,6 +9,7 @@ use crate::writing::Writing;
 use std::alloc::Global;
 
 mod chunks;
+mod ended;
 mod endings;
 mod ends;
 mod hostile;

@@ -1,8 +1,10 @@
 //! Inputs and outputs of several chunks.
-use super::mixed::{ANSWERS, INPUT, answers_to, finished, ran, writer};
-use super::streams::{MemoryReader, Then};
+use super::ended::{Ended, ran};
+use super::mixed::{ANSWERS, INPUT, answers_to, finished};
+use super::streams::{FAILING, MemoryReader, MemoryWriter, Then};
 use super::*;
 use std::alloc::AllocError;
+use std::process::Abort;
 use std::test::Fail;
 
 /// How many bytes a run asks for at once.
@@ -26,32 +28,41 @@ fn long_report(alloc: Global, lines: usize) -> Result<Vec<u8>, AllocError> {
     Ok(report)
 }
 
-/// A reader of the input that gives all that is asked for, for some calls.
-fn by_chunks(input: &[u8], calls: usize, then: Then) -> MemoryReader<'_> {
-    MemoryReader {
-        rest: input,
-        step: usize::MAX,
-        calls,
-        then,
-    }
+/// What is written for the lines that end in the first bytes of that input.
+fn report_on(alloc: Global, input: &[u8], read: usize) -> Result<Vec<u8>, Fail> {
+    let front = input.get(..read).ok_or("a beginning")?;
+    Ok(long_report(alloc, finished(front))?)
+}
+
+/// A run over this input with a reader that gives all that is asked for, for some calls.
+fn read_by_chunks(alloc: Global, input: &[u8], calls: usize, then: Then) -> Ended {
+    let reader = MemoryReader::new(input, usize::MAX, calls, then);
+    ran(alloc, reader, MemoryWriter::open(alloc))
+}
+
+/// A run over this input with a writer that takes so many bytes a call, for some calls.
+fn written_by(alloc: Global, input: &[u8], step: usize, calls: usize, then: Then) -> Ended {
+    let reader = MemoryReader::new(input, usize::MAX, 0, Then::All);
+    ran(alloc, reader, MemoryWriter::new(alloc, step, calls, then))
 }
 
 #[test]
 fn each_slow_stream(rt: HostRuntime) -> Result<(), Fail> {
-    let input = long_input(rt.alloc())?;
-    assert!(rt; input.len() > 2 * CHUNK && input.len() < 3 * CHUNK);
-    let report = long_report(rt.alloc(), finished(&input))?;
-    for (reads, writes) in [
+    const PACES: &[(Then, Then)] = &[
         (Then::ByteByByte, Then::All),
         (Then::AllButOne, Then::All),
         (Then::All, Then::ByteByByte),
         (Then::All, Then::AllButOne),
         (Then::ByteByByte, Then::ByteByByte),
-    ] {
-        let output = writer(rt.alloc(), 0, 0, writes);
-        let (result, taken) = ran(rt.alloc(), by_chunks(&input, 0, reads), output);
-        assert_eq!(rt; result, Ok(()));
-        assert!(rt; taken.as_slice() == report.as_slice());
+    ];
+    let input = long_input(rt.alloc())?;
+    assert!(rt; input.len() > 2 * CHUNK && input.len() < 3 * CHUNK);
+    let report = long_report(rt.alloc(), finished(&input))?;
+    for (number, (reads, writes)) in PACES.iter().enumerate() {
+        let reader = MemoryReader::new(&input, usize::MAX, 0, *reads);
+        let writer = MemoryWriter::new(rt.alloc(), 0, 0, *writes);
+        let ended = ran(rt.alloc(), reader, writer);
+        ended.expect_long(&rt, Ok(()), &report, "paces", &[number]);
     }
     Ok(())
 }
@@ -59,47 +70,43 @@ fn each_slow_stream(rt: HostRuntime) -> Result<(), Fail> {
 #[test]
 fn each_failing_read(rt: HostRuntime) -> Result<(), Fail> {
     let input = long_input(rt.alloc())?;
+    let all = input.len();
     // Three reads bring the input, and a fourth its end.
-    for (calls, read) in [(0, 0), (1, CHUNK), (2, 2 * CHUNK), (3, input.len())] {
-        let output = writer(rt.alloc(), 0, 0, Then::All);
-        let (result, taken) = ran(rt.alloc(), by_chunks(&input, calls, Then::Fail), output);
-        let front = input.get(..read).ok_or("a beginning")?;
-        let report = long_report(rt.alloc(), finished(front))?;
-        assert_eq!(rt; result, Err(RunError::Read), "after {calls} reads");
-        assert!(rt;
-            taken.as_slice() == report.as_slice(),
-            "after {calls} reads"
-        );
+    for calls in 0..4 {
+        let ended = read_by_chunks(rt.alloc(), &input, calls, Then::Fail);
+        let report = report_on(rt.alloc(), &input, calls.saturating_mul(CHUNK).min(all))?;
+        ended.expect_long(&rt, Err(RunError::Read), &report, "reads before", &[calls]);
     }
-    let output = writer(rt.alloc(), 0, 0, Then::All);
-    let (result, taken) = ran(rt.alloc(), by_chunks(&input, 4, Then::Fail), output);
-    assert_eq!(rt; result, Ok(()));
-    let report = long_report(rt.alloc(), finished(&input))?;
-    assert!(rt; taken.as_slice() == report.as_slice());
+    let ended = read_by_chunks(rt.alloc(), &input, 4, Then::Fail);
+    let report = report_on(rt.alloc(), &input, all)?;
+    ended.expect_long(&rt, Ok(()), &report, "reads before", &[4]);
+    Ok(())
+}
+
+/// The writes of the answers to some chunks go well, and then each does this.
+fn failing_writes(
+    rt: &(impl Abort + AllocGlobal),
+    input: &[u8],
+    calls: usize,
+    then: Then,
+    wanted: Result<(), RunError>,
+) -> Result<(), Fail> {
+    let ended = written_by(rt.alloc(), input, usize::MAX, calls, then);
+    let read = calls.saturating_mul(CHUNK).min(input.len());
+    let report = report_on(rt.alloc(), input, read)?;
+    ended.expect_long(rt, wanted, &report, "writes before", &[calls]);
     Ok(())
 }
 
 #[test]
 fn each_failing_write(rt: HostRuntime) -> Result<(), Fail> {
     let input = long_input(rt.alloc())?;
-    for then in [Then::Fail, Then::TakeNothing] {
+    for then in FAILING {
         // The answers to a chunk are one write.
-        for (calls, read) in [(0, 0), (1, CHUNK), (2, 2 * CHUNK)] {
-            let output = writer(rt.alloc(), usize::MAX, calls, then);
-            let (result, taken) = ran(rt.alloc(), by_chunks(&input, 0, Then::All), output);
-            let front = input.get(..read).ok_or("a beginning")?;
-            let report = long_report(rt.alloc(), finished(front))?;
-            assert_eq!(rt; result, Err(RunError::Write), "after {calls} writes");
-            assert!(rt;
-                taken.as_slice() == report.as_slice(),
-                "after {calls} writes"
-            );
+        for calls in 0..3 {
+            failing_writes(&rt, &input, calls, *then, Err(RunError::Write))?;
         }
-        let output = writer(rt.alloc(), usize::MAX, 3, then);
-        let (result, taken) = ran(rt.alloc(), by_chunks(&input, 0, Then::All), output);
-        assert_eq!(rt; result, Ok(()));
-        let report = long_report(rt.alloc(), finished(&input))?;
-        assert!(rt; taken.as_slice() == report.as_slice());
+        failing_writes(&rt, &input, 3, *then, Ok(()))?;
     }
     Ok(())
 }
@@ -108,19 +115,19 @@ fn each_failing_write(rt: HostRuntime) -> Result<(), Fail> {
 fn each_failing_part_of_a_write(rt: HostRuntime) -> Result<(), Fail> {
     let input = long_input(rt.alloc())?;
     let report = long_report(rt.alloc(), finished(&input))?;
-    let mut before = None;
+    let mut least = 0;
     // All the answers are some 300,000 bytes.
     for calls in 0..100 {
-        let output = writer(rt.alloc(), 40_000, calls, Then::Fail);
-        let (result, taken) = ran(rt.alloc(), by_chunks(&input, 0, Then::All), output);
-        assert!(rt; report.starts_with(&taken), "after {calls} writes");
-        assert!(rt; Some(taken.len()) > before, "after {calls} writes");
-        if result.is_ok() {
-            assert_eq!(rt; taken.len(), report.len());
+        let ended = written_by(rt.alloc(), &input, 40_000, calls, Then::Fail);
+        let taken = ended.taken.len();
+        assert!(rt; taken >= least, "after {calls} writes");
+        if ended.result.is_ok() {
+            ended.expect_long(&rt, Ok(()), &report, "writes before", &[calls]);
             return Ok(());
         }
-        assert_eq!(rt; result, Err(RunError::Write), "after {calls} writes");
-        before = Some(taken.len());
+        let front = report.get(..taken).unwrap_or(&report);
+        ended.expect_long(&rt, Err(RunError::Write), front, "writes before", &[calls]);
+        least = taken.saturating_add(1);
     }
     Err("each run failed")?
 }

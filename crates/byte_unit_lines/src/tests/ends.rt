@@ -1,9 +1,12 @@
 //! Inputs in pieces, and streams that fail.
-use super::streams::{MemoryReader, MemoryWriter, Then};
+use super::ended::{Ended, expect_refusal, ran, ran_in};
+use super::mixed::finished;
+use super::streams::{FAILING, MemoryReader, MemoryWriter, Then};
 use super::*;
 use crate::refusing::Refusing;
 use crate::run::run_in;
-use std::io::{Read, Write};
+use std::io::{self, Read, Write};
+use std::process::Abort;
 use std::test::Fail;
 
 const INPUT: &[u8] = b"1.5 KiB\n\n1Kbi\nx\n1YB";
@@ -13,148 +16,93 @@ const OUTPUT: &[u8] =
 
 /// A reader that gives all that it is asked for.
 fn whole(input: &[u8]) -> MemoryReader<'_> {
-    MemoryReader {
-        rest: input,
-        step: input.len(),
-        calls: usize::MAX,
-        then: Then::Fail,
-    }
+    MemoryReader::new(input, input.len(), usize::MAX, Then::Fail)
 }
 
-/// A writer that takes all that it is given.
-fn open(alloc: Global) -> MemoryWriter {
-    MemoryWriter {
-        taken: Vec::new(alloc),
-        step: usize::MAX,
-        calls: usize::MAX,
-        then: Then::Fail,
-    }
+/// A run over the input in steps, for some calls.
+fn read_by(alloc: Global, step: usize, calls: usize, then: Then) -> Ended {
+    let reader = MemoryReader::new(INPUT, step, calls, then);
+    ran(alloc, reader, MemoryWriter::open(alloc))
 }
 
-/// How a run over these streams ended, and what was written.
-fn ran(
-    alloc: Global,
-    reader: MemoryReader<'_>,
-    writer: MemoryWriter,
-) -> (Result<(), RunError>, Vec<u8>) {
-    let mut reader = Reading::new(reader);
-    let mut writer = Writing::new(writer);
-    let result = run(alloc, &mut reader, &mut writer, Kind::Byte);
-    (result, writer.into_inner().into_taken())
+/// A run that writes in steps, for some calls.
+fn written_by(alloc: Global, step: usize, calls: usize, then: Then) -> Ended {
+    let writer = MemoryWriter::new(alloc, step, calls, then);
+    ran(alloc, whole(INPUT), writer)
 }
 
 #[test]
-fn each_cut_into_reads(rt: HostRuntime) -> Result<(), Fail> {
+fn each_cut_into_reads(rt: HostRuntime) {
     for step in 1..=INPUT.len() {
-        let mut reader = whole(INPUT);
-        reader.step = step;
-        let (result, taken) = ran(rt.alloc(), reader, open(rt.alloc()));
-        assert_eq!(rt; result, Ok(()));
-        assert_eq!(rt; taken.as_slice(), OUTPUT, "at {step} bytes a read");
+        let ended = read_by(rt.alloc(), step, usize::MAX, Then::Fail);
+        ended.expect(&rt, Ok(()), OUTPUT, "bytes a read", &[step]);
     }
     for calls in 0..10 {
-        let mut reader = whole(INPUT);
-        reader.step = 2;
-        reader.calls = calls;
-        reader.then = Then::ByteByByte;
-        let (result, taken) = ran(rt.alloc(), reader, open(rt.alloc()));
-        assert_eq!(rt; result, Ok(()));
-        assert_eq!(rt;
-            taken.as_slice(),
-            OUTPUT,
-            "byte by byte after {calls} reads"
-        );
+        let ended = read_by(rt.alloc(), 2, calls, Then::ByteByByte);
+        ended.expect(&rt, Ok(()), OUTPUT, "reads before byte by byte", &[calls]);
     }
-    Ok(())
 }
 
 #[test]
-fn each_cut_in_two(rt: HostRuntime) -> Result<(), Fail> {
+fn each_cut_in_two(rt: HostRuntime) {
     for cut in 1..=INPUT.len() {
-        let mut reader = whole(INPUT);
-        reader.step = cut;
-        reader.calls = 1;
-        reader.then = Then::All;
-        let (result, taken) = ran(rt.alloc(), reader, open(rt.alloc()));
-        assert_eq!(rt; result, Ok(()));
-        assert_eq!(rt; taken.as_slice(), OUTPUT, "cut at {cut}");
+        let ended = read_by(rt.alloc(), cut, 1, Then::All);
+        ended.expect(&rt, Ok(()), OUTPUT, "cut at", &[cut]);
     }
-    Ok(())
 }
 
 #[test]
-fn each_size_of_buffer(rt: HostRuntime) -> Result<(), Fail> {
+fn each_size_of_buffer(rt: HostRuntime) {
     let mut buffer = [0u8; 32];
     for size in 1..=buffer.len() {
         let mut reader = Reading::new(INPUT);
         let mut writer = Writing::new(Vec::new(rt.alloc()));
-        let result = run_in(
-            &rt.alloc(),
-            &mut buffer[..size],
-            &mut reader,
-            &mut writer,
-            Kind::Byte,
-        );
-        assert_eq!(rt; result, Ok(()));
-        assert_eq!(rt; writer.into_inner().as_slice(), OUTPUT, "at {size}");
+        let buffer = &mut buffer[..size];
+        let result = run_in(&rt.alloc(), buffer, &mut reader, &mut writer, Kind::Byte);
+        let taken = writer.into_inner();
+        let ended = Ended { result, taken };
+        ended.expect(&rt, Ok(()), OUTPUT, "size", &[size]);
     }
-    Ok(())
 }
 
 #[test]
-fn each_step_of_writing(rt: HostRuntime) -> Result<(), Fail> {
+fn each_step_of_writing(rt: HostRuntime) {
     for step in 1..=OUTPUT.len() {
-        let mut writer = open(rt.alloc());
-        writer.step = step;
-        let (result, taken) = ran(rt.alloc(), whole(INPUT), writer);
-        assert_eq!(rt; result, Ok(()));
-        assert_eq!(rt; taken.as_slice(), OUTPUT, "at {step} bytes a write");
+        let ended = written_by(rt.alloc(), step, usize::MAX, Then::Fail);
+        ended.expect(&rt, Ok(()), OUTPUT, "bytes a write", &[step]);
     }
-    Ok(())
 }
 
 #[test]
-fn each_writer_that_slows_down(rt: HostRuntime) -> Result<(), Fail> {
-    for step in [1, 7, OUTPUT.len()] {
+fn each_writer_that_slows_down(rt: HostRuntime) {
+    const STEPS: &[usize] = &[1, 7, OUTPUT.len()];
+    for step in STEPS {
         for calls in 0..10 {
-            let mut writer = open(rt.alloc());
-            writer.step = step;
-            writer.calls = calls;
-            writer.then = Then::ByteByByte;
-            let (result, taken) = ran(rt.alloc(), whole(INPUT), writer);
-            assert_eq!(rt; result, Ok(()));
-            assert_eq!(rt;
-                taken.as_slice(),
-                OUTPUT,
-                "byte by byte after {calls} writes"
-            );
+            let ended = written_by(rt.alloc(), *step, calls, Then::ByteByByte);
+            ended.expect(&rt, Ok(()), OUTPUT, "writes before byte by byte", &[calls]);
         }
     }
-    Ok(())
 }
 
-/// How many line ends are in these bytes.
-fn line_ends(bytes: &[u8]) -> usize {
-    bytes.iter().filter(|byte| **byte == b'\n').count()
-}
+/// The first lines of the output, by their number.
+const LINES: &[&[u8]] = &[
+    b"",
+    b"1536 = 1.5 KiB\n",
+    b"1536 = 1.5 KiB\nno value\n",
+    b"1536 = 1.5 KiB\nno value\nbad unit\n",
+    b"1536 = 1.5 KiB\nno value\nbad unit\nnot a number\n",
+];
 
-/// The first lines of the output.
+/// So many first lines of the output, or all of it.
 fn first_lines(count: usize) -> &'static [u8] {
-    let lines: [&'static [u8]; 5] = [
-        b"",
-        b"1536 = 1.5 KiB\n",
-        b"1536 = 1.5 KiB\nno value\n",
-        b"1536 = 1.5 KiB\nno value\nbad unit\n",
-        b"1536 = 1.5 KiB\nno value\nbad unit\nnot a number\n",
-    ];
-    match lines.get(count) {
+    match LINES.get(count) {
         Some(first) => *first,
         None => OUTPUT,
     }
 }
 
 /// The answer to the line that has begun after so many bytes of the input, or nothing where none has.
-const LAST: [&[u8]; 20] = [
+const LAST: &[&[u8]] = &[
     b"",
     b"1 = 1 B\n",
     b"not a number\n",
@@ -180,124 +128,102 @@ const LAST: [&[u8]; 20] = [
 #[test]
 fn each_end_of_the_input(rt: HostRuntime) -> Result<(), Fail> {
     for calls in 0..=INPUT.len() {
-        let mut reader = whole(INPUT);
-        reader.step = 1;
-        reader.calls = calls;
-        reader.then = Then::TakeNothing;
-        let (result, taken) = ran(rt.alloc(), reader, open(rt.alloc()));
-        assert_eq!(rt; result, Ok(()), "after {calls} reads");
-        let mut report = first_lines(line_ends(&INPUT[..calls])).to_vec(rt.alloc())?;
+        let ended = read_by(rt.alloc(), 1, calls, Then::TakeNothing);
+        let mut report = first_lines(finished(&INPUT[..calls])).to_vec(rt.alloc())?;
         report.extend_from_slice(LAST.get(calls).ok_or("an answer")?)?;
-        assert_eq!(rt; taken.as_slice(), report.as_slice(), "after {calls} reads");
+        ended.expect(&rt, Ok(()), &report, "reads before the end", &[calls]);
     }
     Ok(())
 }
 
 #[test]
-fn each_failing_read(rt: HostRuntime) -> Result<(), Fail> {
+fn each_failing_read(rt: HostRuntime) {
     for calls in 0..=INPUT.len() {
-        let mut reader = whole(INPUT);
-        reader.step = 1;
-        reader.calls = calls;
-        let (result, taken) = ran(rt.alloc(), reader, open(rt.alloc()));
-        assert_eq!(rt; result, Err(RunError::Read), "after {calls} reads");
-        let finished = first_lines(line_ends(&INPUT[..calls]));
-        assert_eq!(rt; taken.as_slice(), finished, "after {calls} reads");
+        let ended = read_by(rt.alloc(), 1, calls, Then::Fail);
+        let report = first_lines(finished(&INPUT[..calls]));
+        ended.expect(&rt, Err(RunError::Read), report, "reads before", &[calls]);
     }
-    Ok(())
 }
 
 #[test]
-fn each_failing_write(rt: HostRuntime) -> Result<(), Fail> {
-    for then in [Then::Fail, Then::TakeNothing] {
+fn each_failing_write(rt: HostRuntime) {
+    for then in FAILING {
         for calls in 0..OUTPUT.len() {
-            let mut writer = open(rt.alloc());
-            writer.step = 1;
-            writer.calls = calls;
-            writer.then = then;
-            let (result, taken) = ran(rt.alloc(), whole(INPUT), writer);
-            assert_eq!(rt; result, Err(RunError::Write), "after {calls} writes");
-            assert_eq!(rt; taken.as_slice(), &OUTPUT[..calls]);
+            let ended = written_by(rt.alloc(), 1, calls, *then);
+            let report = &OUTPUT[..calls];
+            ended.expect(&rt, Err(RunError::Write), report, "writes before", &[calls]);
         }
     }
-    Ok(())
 }
 
 #[test]
-fn each_refused_request(rt: HostRuntime) -> Result<(), Fail> {
+fn each_refused_request(rt: HostRuntime) {
     // How many lines are written at the first refusal, the second and so on. The first answer is kept by one request,
     // those after it by two more, then the line that has begun is kept; there is room for the last answer.
-    let finished = [0, 1, 2, 4];
+    const FINISHED: &[usize] = &[0, 1, 2, 4];
     let mut buffer = [0u8; 32];
     let mut number = 1u64;
-    for lines in finished {
-        for last in [number, u64::MAX] {
-            let heap = Refusing::new(rt.alloc(), number, last);
-            let mut reader = Reading::new(INPUT);
-            let mut writer = Writing::new(open(rt.alloc()));
-            let result = run_in(&heap, &mut buffer, &mut reader, &mut writer, Kind::Byte);
-            let taken = writer.into_inner().into_taken();
-            assert_eq!(rt; result, Err(RunError::Memory), "at {number}");
-            assert_eq!(rt; taken.as_slice(), first_lines(lines), "at {number}");
-            assert_eq!(rt; heap.asked(), number);
-        }
+    for lines in FINISHED {
+        let report = first_lines(*lines);
+        expect_refusal(&rt, &mut buffer, whole(INPUT), number, number, report);
+        expect_refusal(&rt, &mut buffer, whole(INPUT), number, u64::MAX, report);
         number = number.saturating_add(1);
     }
     let heap = Refusing::new(rt.alloc(), number, u64::MAX);
-    let mut reader = Reading::new(INPUT);
-    let mut writer = Writing::new(open(rt.alloc()));
-    let result = run_in(&heap, &mut buffer, &mut reader, &mut writer, Kind::Byte);
-    assert_eq!(rt; result, Ok(()));
-    assert_eq!(rt; writer.into_inner().into_taken().as_slice(), OUTPUT);
-    Ok(())
+    let ended = ran_in(
+        &heap,
+        &mut buffer,
+        whole(INPUT),
+        MemoryWriter::open(rt.alloc()),
+    );
+    ended.expect(&rt, Ok(()), OUTPUT, "refused nothing", &[]);
 }
 
 #[test]
-fn failing_after_a_piece(rt: HostRuntime) -> Result<(), Fail> {
-    let mut reader = whole(b"1KB\n2K");
-    reader.calls = 1;
-    let (result, taken) = ran(rt.alloc(), reader, open(rt.alloc()));
-    assert_eq!(rt; result, Err(RunError::Read));
-    assert_eq!(rt; taken.as_slice(), b"1000 = 1 KB\n".as_slice());
-    for then in [Then::Fail, Then::TakeNothing] {
-        let mut writer = open(rt.alloc());
-        writer.step = 5;
-        writer.calls = 1;
-        writer.then = then;
-        let (result, taken) = ran(rt.alloc(), whole(b"1KB"), writer);
-        assert_eq!(rt; result, Err(RunError::Write));
-        assert_eq!(rt; taken.as_slice(), b"1000 ".as_slice());
+fn failing_after_a_piece(rt: HostRuntime) {
+    let input = MemoryReader::new(b"1KB\n2K", 6, 1, Then::Fail);
+    let ended = ran(rt.alloc(), input, MemoryWriter::open(rt.alloc()));
+    ended.expect(&rt, Err(RunError::Read), b"1000 = 1 KB\n", "a read", &[]);
+    for then in FAILING {
+        let output = MemoryWriter::new(rt.alloc(), 5, 1, *then);
+        let ended = ran(rt.alloc(), whole(b"1KB"), output);
+        ended.expect(&rt, Err(RunError::Write), b"1000 ", "a write", &[]);
     }
+}
+
+/// What two calls gave, and whether the stream had failed behind each: the first call went well, the second failed.
+fn expect_failure(rt: &impl Abort, calls: [(Option<usize>, bool); 2], count: usize) {
+    assert_eq!(rt; calls, [(Some(count), false), (None, true)]);
+}
+
+fn a_failed_read(rt: &impl Abort) -> io::Result<()> {
+    let mut buffer = [0u8; 8];
+    let mut reader = Reading::new(MemoryReader::new(b"1KB", 1, 1, Then::Fail));
+    let first = (reader.read(&mut buffer), reader.failed());
+    let second = (reader.read(&mut buffer), reader.failed());
+    expect_failure(rt, [first, second], 1);
+    let mut inner = reader.into_inner();
+    inner.then = Then::ByteByByte;
+    assert_eq!(rt; inner.read(&mut buffer)?, 1);
+    Ok(())
+}
+
+fn a_failed_write(rt: &impl Abort, writer: MemoryWriter) -> io::Result<()> {
+    let mut writer = Writing::new(writer);
+    let first = (writer.write(b"12"), writer.failed());
+    let second = (writer.write(b"34"), writer.failed());
+    expect_failure(rt, [first, second], 2);
+    let mut inner = writer.into_inner();
+    inner.then = Then::ByteByByte;
+    let third = inner.write(b"56")?;
+    assert_eq!(rt; (third, inner.taken.as_slice()), (1, b"125".as_slice()));
     Ok(())
 }
 
 #[test]
 fn a_failure_is_remembered(rt: HostRuntime) -> Result<(), Fail> {
-    let mut reader = Reading::new(MemoryReader {
-        rest: b"1KB",
-        step: 1,
-        calls: 1,
-        then: Then::Fail,
-    });
-    let mut buffer = [0u8; 8];
-    assert_eq!(rt; reader.read(&mut buffer), Some(1));
-    assert!(rt; !reader.failed());
-    assert_eq!(rt; reader.read(&mut buffer), None);
-    assert!(rt; reader.failed());
-    let mut inner = reader.into_inner();
-    inner.then = Then::ByteByByte;
-    assert_eq!(rt; inner.read(&mut buffer)?, 1);
-
-    let mut writer = open(rt.alloc());
-    writer.calls = 1;
-    let mut writer = Writing::new(writer);
-    assert_eq!(rt; writer.write(b"12"), Some(2));
-    assert!(rt; !writer.failed());
-    assert_eq!(rt; writer.write(b"34"), None);
-    assert!(rt; writer.failed());
-    let mut inner = writer.into_inner();
-    inner.then = Then::ByteByByte;
-    assert_eq!(rt; inner.write(b"56")?, 1);
-    assert_eq!(rt; inner.taken.as_slice(), b"125".as_slice());
+    a_failed_read(&rt)?;
+    let writer = MemoryWriter::new(rt.alloc(), usize::MAX, 1, Then::Fail);
+    a_failed_write(&rt, writer)?;
     Ok(())
 }

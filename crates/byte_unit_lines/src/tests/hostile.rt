@@ -1,18 +1,21 @@
 //! Inputs that are cut anywhere, and streams that fail at any call.
-use super::mixed::{ANSWERS, INPUT, answers_to, finished, ran, reader, writer};
-use super::streams::Then;
+use super::ended::{ran, reported};
+use super::mixed::{ANSWERS, INPUT, answers_to, finished};
+use super::streams::{FAILING, MemoryReader, MemoryWriter, Then};
 use super::*;
+use std::alloc::AllocError;
 use std::test::Fail;
+
+/// The paces of a slow stream, and of one that is not.
+const PACES: &[Then] = &[Then::ByteByByte, Then::AllButOne, Then::All];
 
 #[test]
 fn each_cut_in_two(rt: HostRuntime) -> Result<(), Fail> {
     let report = answers_to(rt.alloc(), ANSWERS.len())?;
     for cut in 1..=INPUT.len() {
-        let input = reader(cut, 1, Then::All);
-        let output = writer(rt.alloc(), 0, 0, Then::All);
-        let (result, taken) = ran(rt.alloc(), input, output);
-        assert_eq!(rt; result, Ok(()), "cut at {cut}");
-        assert_eq!(rt; taken.as_slice(), report.as_slice(), "cut at {cut}");
+        let input = MemoryReader::new(INPUT, cut, 1, Then::All);
+        let ended = ran(rt.alloc(), input, MemoryWriter::open(rt.alloc()));
+        ended.expect(&rt, Ok(()), &report, "cut at", &[cut]);
     }
     Ok(())
 }
@@ -20,53 +23,52 @@ fn each_cut_in_two(rt: HostRuntime) -> Result<(), Fail> {
 #[test]
 fn each_slow_stream(rt: HostRuntime) -> Result<(), Fail> {
     let report = answers_to(rt.alloc(), ANSWERS.len())?;
-    let paces = [Then::ByteByByte, Then::AllButOne, Then::All];
-    for reads in paces {
-        for writes in paces {
-            let output = writer(rt.alloc(), 0, 0, writes);
-            let (result, taken) = ran(rt.alloc(), reader(0, 0, reads), output);
-            assert_eq!(rt; result, Ok(()));
-            assert_eq!(rt; taken.as_slice(), report.as_slice());
+    for (number, reads) in PACES.iter().enumerate() {
+        for (other, writes) in PACES.iter().enumerate() {
+            let input = MemoryReader::new(INPUT, 0, 0, *reads);
+            let output = MemoryWriter::new(rt.alloc(), 0, 0, *writes);
+            let ended = ran(rt.alloc(), input, output);
+            ended.expect(&rt, Ok(()), &report, "paces", &[number, other]);
         }
     }
     Ok(())
+}
+
+/// So many spaces and long lines, and what is written for them.
+fn spaces_and_lines(alloc: Global, spaces: usize) -> Result<(Vec<u8>, Vec<u8>), AllocError> {
+    let mut input = b" ".repeat(alloc, spaces)?;
+    input.extend_from_slice(&b"1.5 KiB\r\n".repeat(alloc, 7400)?)?;
+    let report = b"1536 = 1.5 KiB\n".repeat(alloc, 7400)?;
+    Ok((input, report))
 }
 
 #[test]
 fn lines_across_the_end_of_a_chunk(rt: HostRuntime) -> Result<(), Fail> {
     // A line has 9 bytes, so a chunk of 65,536 bytes ends at each place of a line and between them.
     for shift in 0..9 {
-        let mut input = Vec::new(rt.alloc());
-        let mut report = Vec::new(rt.alloc());
-        for _ in 0..shift {
-            input.push(b' ')?;
-        }
-        for _ in 0..7400 {
-            input.extend_from_slice(b"1.5 KiB\r\n")?;
-            report.extend_from_slice(b"1536 = 1.5 KiB\n")?;
-        }
-        let output = report_of(rt.alloc(), &input, Kind::Byte)?;
-        assert!(rt;
-            output.as_slice() == report.as_slice(),
-            "after {shift} spaces"
-        );
+        let (input, report) = spaces_and_lines(rt.alloc(), shift)?;
+        let ended = reported(rt.alloc(), &input);
+        ended.expect_long(&rt, Ok(()), &report, "spaces before", &[shift]);
     }
     Ok(())
 }
 
+/// A line of so many digits that ends so, and one more.
+fn digits_and_a_line(alloc: Global, digits: usize, end: &[u8]) -> Result<Vec<u8>, AllocError> {
+    let mut input = b"0".repeat(alloc, digits)?;
+    input.extend_from_slice(end)?;
+    input.extend_from_slice(b"1KB")?;
+    Ok(input)
+}
+
 #[test]
 fn a_line_that_ends_near_the_end_of_a_chunk(rt: HostRuntime) -> Result<(), Fail> {
+    const ENDS: &[&[u8]] = &[b"\n", b"\r\n"];
     for digits in 65_532..=65_538 {
-        for end in ["\n", "\r\n"] {
-            let mut input = Vec::new(rt.alloc());
-            for _ in 0..digits {
-                input.push(b'0')?;
-            }
-            input.extend_from_slice(end.as_bytes())?;
-            input.extend_from_slice(b"1KB")?;
-            let output = report_of(rt.alloc(), &input, Kind::Byte)?;
-            let report = b"0 = 0 B\n1000 = 1 KB\n";
-            assert_eq!(rt; output.as_slice(), report.as_slice(), "{digits} digits");
+        for end in ENDS {
+            let input = digits_and_a_line(rt.alloc(), digits, end)?;
+            let ended = reported(rt.alloc(), &input);
+            ended.expect(&rt, Ok(()), b"0 = 0 B\n1000 = 1 KB\n", "digits", &[digits]);
         }
     }
     Ok(())
@@ -77,17 +79,12 @@ fn each_failing_read(rt: HostRuntime) -> Result<(), Fail> {
     for step in 1..=INPUT.len() {
         for calls in 0..=INPUT.len() {
             let read = calls.saturating_mul(step).min(INPUT.len());
-            let input = reader(step, calls, Then::Fail);
-            let output = writer(rt.alloc(), 0, 0, Then::All);
-            let (result, taken) = ran(rt.alloc(), input, output);
+            let input = MemoryReader::new(INPUT, step, calls, Then::Fail);
+            let ended = ran(rt.alloc(), input, MemoryWriter::open(rt.alloc()));
             let report = answers_to(rt.alloc(), finished(&INPUT[..read]))?;
             if calls.saturating_mul(step) <= INPUT.len() {
-                assert_eq!(rt; result, Err(RunError::Read), "{calls} reads of {step}");
-                assert_eq!(rt;
-                    taken.as_slice(),
-                    report.as_slice(),
-                    "{calls} reads of {step}"
-                );
+                let wanted = Err(RunError::Read);
+                ended.expect(&rt, wanted, &report, "reads and their step", &[calls, step]);
             }
         }
     }
@@ -96,15 +93,20 @@ fn each_failing_read(rt: HostRuntime) -> Result<(), Fail> {
 
 #[test]
 fn each_failing_write(rt: HostRuntime) -> Result<(), Fail> {
-    for then in [Then::Fail, Then::TakeNothing] {
+    for then in FAILING {
         for lines in 0..ANSWERS.len() {
             // Read byte by byte, each answer is a write of its own.
-            let input = reader(1, usize::MAX, Then::Fail);
-            let output = writer(rt.alloc(), usize::MAX, lines, then);
-            let (result, taken) = ran(rt.alloc(), input, output);
+            let input = MemoryReader::new(INPUT, 1, usize::MAX, Then::Fail);
+            let output = MemoryWriter::new(rt.alloc(), usize::MAX, lines, *then);
+            let ended = ran(rt.alloc(), input, output);
             let report = answers_to(rt.alloc(), lines)?;
-            assert_eq!(rt; result, Err(RunError::Write), "after {lines} writes");
-            assert_eq!(rt; taken.as_slice(), report.as_slice(), "after {lines} writes");
+            ended.expect(
+                &rt,
+                Err(RunError::Write),
+                &report,
+                "writes before",
+                &[lines],
+            );
         }
     }
     Ok(())

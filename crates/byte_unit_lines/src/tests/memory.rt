@@ -6,7 +6,7 @@ use std::process::Abort;
 use std::test::Fail;
 
 /// A call that adds a text.
-#[derive(Debug, Clone, Copy)]
+#[derive(Clone, Copy)]
 enum Call {
     Bytes(FormatSpec),
     Bits(FormatSpec),
@@ -39,7 +39,7 @@ fn append<A: Allocator>(call: Call, text: &mut String<A>) -> Result<(), AllocErr
 }
 
 /// Each call, and the text `ab` with what it adds.
-const CALLS: [(Call, &str); 10] = [
+const CALLS: &[(Call, &str)] = &[
     (Call::Bytes(FormatSpec::PLAIN), "ab1536"),
     (Call::Bytes(FormatSpec::ALTERNATE), "ab1.5 KiB"),
     (Call::Bits(FormatSpec::PLAIN), "ab8192"),
@@ -52,8 +52,44 @@ const CALLS: [(Call, &str); 10] = [
     (Call::Layout, "ab10 KiB"),
 ];
 
-/// Refuses one request of the call after another, until a call meets none: the number of its requests. The text has
-/// this much room for `ab` and for what is added.
+/// A text, its room, and how many requests for memory there were.
+fn expect(rt: &impl Abort, found: (&str, usize, u64), wanted: (&str, usize, u64), whole: &str) {
+    assert_eq!(rt; found, wanted, "for {whole}");
+}
+
+/// The text `ab`, in this much room.
+fn in_room<A: Allocator>(heap: A, room: usize) -> Result<String<A>, AllocError> {
+    let mut text = String::new(heap);
+    text.try_reserve_exact(room)?;
+    text.push_str("ab")?;
+    Ok(text)
+}
+
+/// Whether the call meets no refusal in this memory, which refuses the request of one number. The text has this much
+/// room for `ab` and for what is added.
+fn is_granted<A: Allocator>(
+    rt: &impl Abort,
+    heap: &Refusing<A>,
+    number: u64,
+    call: Call,
+    room: usize,
+    whole: &str,
+) -> Result<bool, AllocError> {
+    let mut text = in_room(heap, room)?;
+    let capacity = text.capacity();
+    let granted = append(call, &mut text).is_ok();
+    if !granted {
+        let left = (text.as_str(), text.capacity(), heap.asked());
+        expect(rt, left, ("ab", capacity, number), whole);
+        // Asked again, it is as if nothing had been.
+        append(call, &mut text)?;
+    }
+    let end = (text.as_str(), 0, 0);
+    expect(rt, end, (whole, 0, 0), whole);
+    Ok(granted)
+}
+
+/// Refuses one request of the call after another, until a call meets none: the number of its requests.
 fn requests_of(
     rt: &(impl Abort + AllocGlobal),
     call: Call,
@@ -64,20 +100,9 @@ fn requests_of(
         // The text asked for its room by the first request.
         let number = requests.saturating_add(2);
         let heap = Refusing::new(rt.alloc(), number, number);
-        let mut text = String::new(&heap);
-        text.try_reserve_exact(room)?;
-        text.push_str("ab")?;
-        let capacity = text.capacity();
-        if append(call, &mut text).is_ok() {
-            assert_eq!(rt; text.as_str(), whole, "{call:?}");
+        if is_granted(rt, &heap, number, call, room, whole)? {
             return Ok(requests);
         }
-        assert_eq!(rt; heap.asked(), number, "{call:?}");
-        assert_eq!(rt; text.as_str(), "ab", "{call:?}");
-        assert_eq!(rt; text.capacity(), capacity, "{call:?}");
-        // Asked again, it is as if nothing had been.
-        assert_eq!(rt; append(call, &mut text), Ok(()), "{call:?}");
-        assert_eq!(rt; text.as_str(), whole, "{call:?}");
     }
     Err("each call was refused")?
 }
@@ -85,16 +110,16 @@ fn requests_of(
 #[test]
 fn appending_asks_once_or_never(rt: HostRuntime) -> Result<(), Fail> {
     for (call, whole) in CALLS {
-        assert_eq!(rt; requests_of(&rt, call, 2, whole)?, 1, "{call:?}");
-        let short = whole.len().saturating_sub(1);
-        assert_eq!(rt; requests_of(&rt, call, short, whole)?, 1, "{call:?}");
-        assert_eq!(rt; requests_of(&rt, call, whole.len(), whole)?, 0, "{call:?}");
+        let short = requests_of(&rt, *call, 2, whole)?;
+        let shorter_by_one = requests_of(&rt, *call, whole.len().saturating_sub(1), whole)?;
+        let none = requests_of(&rt, *call, whole.len(), whole)?;
+        assert_eq!(rt; (short, shorter_by_one, none), (1, 1, 0), "for {whole}");
     }
     Ok(())
 }
 
 /// A type that has texts.
-#[derive(Debug, Clone, Copy)]
+#[derive(Clone, Copy)]
 enum Type {
     Byte,
     Bit,
@@ -114,27 +139,35 @@ fn own_text<A: Allocator>(of: Type, alloc: A, spec: FormatSpec) -> Result<String
     }
 }
 
+/// Each type, and its texts as they are plain and as they are with `#`.
+const TYPES: &[(Type, &str, &str)] = &[
+    (Type::Byte, "1536", "1.5 KiB"),
+    (Type::Bit, "8192", "8 Kib"),
+    (Type::AdjustedByte, "1.536 KB", "1.536 KB"),
+    (Type::AdjustedBit, "8.192 Kb", "8.192 Kb"),
+];
+
+/// The first request is refused, and then the second is granted, and there is no third.
+fn asks_once(
+    rt: &(impl Abort + AllocGlobal),
+    of: Type,
+    spec: FormatSpec,
+    whole: &str,
+) -> Result<(), AllocError> {
+    let heap = Refusing::new(rt.alloc(), 1, 1);
+    let refused = own_text(of, &heap, spec).is_err();
+    assert_eq!(rt; (refused, heap.asked()), (true, 1), "for {whole}");
+    let text = own_text(of, &heap, spec)?;
+    let found = (text.as_str(), text.capacity(), heap.asked());
+    expect(rt, found, (whole, whole.len(), 2), whole);
+    Ok(())
+}
+
 #[test]
 fn a_text_of_its_own_asks_once(rt: HostRuntime) -> Result<(), Fail> {
-    for (of, plain, alternate) in [
-        (Type::Byte, "1536", "1.5 KiB"),
-        (Type::Bit, "8192", "8 Kib"),
-        (Type::AdjustedByte, "1.536 KB", "1.536 KB"),
-        (Type::AdjustedBit, "8.192 Kb", "8.192 Kb"),
-    ] {
-        for (spec, whole) in [
-            (FormatSpec::PLAIN, plain),
-            (FormatSpec::ALTERNATE, alternate),
-        ] {
-            let heap = Refusing::new(rt.alloc(), 1, 1);
-            assert!(rt; own_text(of, &heap, spec).is_err(), "{of:?}");
-            assert_eq!(rt; heap.asked(), 1, "{of:?}");
-            // The second request is granted, and there is no third.
-            let text = own_text(of, &heap, spec)?;
-            assert_eq!(rt; text.as_str(), whole, "{of:?}");
-            assert_eq!(rt; text.capacity(), whole.len(), "{of:?}");
-            assert_eq!(rt; heap.asked(), 2, "{of:?}");
-        }
+    for (of, plain, alternate) in TYPES {
+        asks_once(&rt, *of, FormatSpec::PLAIN, plain)?;
+        asks_once(&rt, *of, FormatSpec::ALTERNATE, alternate)?;
     }
     Ok(())
 }

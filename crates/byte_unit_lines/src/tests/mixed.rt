@@ -1,7 +1,5 @@
-//! Lines of every make, what is written for them, and runs over them.
-use super::streams::{MemoryReader, MemoryWriter, Then};
-use super::*;
-use std::alloc::AllocError;
+//! Lines of every make, and what is written for them.
+use std::alloc::{AllocError, Global};
 
 /// Lines of every make, with both line ends, the last with none.
 pub const INPUT: &[u8] =
@@ -32,36 +30,4 @@ pub fn answers_to(alloc: Global, lines: usize) -> Result<Vec<u8>, AllocError> {
 /// How many lines end in these bytes.
 pub fn finished(bytes: &[u8]) -> usize {
     bytes.iter().filter(|byte| **byte == b'\n').count()
-}
-
-/// A reader of the input.
-pub fn reader(step: usize, calls: usize, then: Then) -> MemoryReader<'static> {
-    MemoryReader {
-        rest: INPUT,
-        step,
-        calls,
-        then,
-    }
-}
-
-/// A writer that took nothing yet.
-pub fn writer(alloc: Global, step: usize, calls: usize, then: Then) -> MemoryWriter {
-    MemoryWriter {
-        taken: Vec::new(alloc),
-        step,
-        calls,
-        then,
-    }
-}
-
-/// How a run ended, and what was written.
-pub fn ran(
-    alloc: Global,
-    reader: MemoryReader<'_>,
-    writer: MemoryWriter,
-) -> (Result<(), RunError>, Vec<u8>) {
-    let mut reader = Reading::new(reader);
-    let mut writer = Writing::new(writer);
-    let result = run(alloc, &mut reader, &mut writer, Kind::Byte);
-    (result, writer.into_inner().into_taken())
 }

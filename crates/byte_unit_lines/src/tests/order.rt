@@ -1,10 +1,10 @@
 //! What is read and written by when.
-use super::streams::{CountingWriter, MemoryReader, MemoryWriter, NotingReader, Then};
+use super::streams::{CountingWriter, FAILING, MemoryReader, MemoryWriter, NotingReader, Then};
 use super::*;
 use crate::refusing::Refusing;
 use crate::run::run_in;
 use std::cell::Cell;
-use std::test::Fail;
+use std::process::Abort;
 
 const INPUT: &[u8] = b"1KB\n2KB\n3KB\n";
 
@@ -17,26 +17,29 @@ const PARTS: [(&[u8], &[u8]); 3] = [
 
 /// A reader that gives a line a call.
 fn by_line(input: &[u8]) -> MemoryReader<'_> {
-    MemoryReader {
-        rest: input,
-        step: 4,
-        calls: usize::MAX,
-        then: Then::Fail,
-    }
+    MemoryReader::new(input, 4, usize::MAX, Then::Fail)
 }
 
-/// A writer that takes all that it is given, for some calls.
-fn open_for(alloc: Global, calls: usize) -> MemoryWriter {
-    MemoryWriter {
-        taken: Vec::new(alloc),
-        step: usize::MAX,
-        calls,
-        then: Then::Fail,
-    }
+/// The run ended so, the writer has taken these answers, and the reader has this left.
+fn expect(
+    rt: &impl Abort,
+    run: (
+        Result<(), RunError>,
+        Reading<MemoryReader<'_>>,
+        Writing<MemoryWriter>,
+    ),
+    wanted: Result<(), RunError>,
+    part: (&[u8], &[u8]),
+    calls: usize,
+) {
+    let (result, reader, writer) = run;
+    let taken = writer.into_inner().into_taken();
+    let found = (result, taken.as_slice(), reader.into_inner().rest);
+    assert_eq!(rt; found, (wanted, part.0, part.1), "after {calls} writes");
 }
 
 #[test]
-fn answers_are_written_before_the_next_read(rt: HostRuntime) -> Result<(), Fail> {
+fn answers_are_written_before_the_next_read(rt: HostRuntime) {
     let taken = Cell::new(0);
     let mut reader = Reading::new(NotingReader {
         inner: by_line(b"1KB\n2KB\nx\n3KB"),
@@ -44,47 +47,38 @@ fn answers_are_written_before_the_next_read(rt: HostRuntime) -> Result<(), Fail>
         notes: Vec::new(rt.alloc()),
     });
     let mut writer = Writing::new(CountingWriter {
-        inner: open_for(rt.alloc(), usize::MAX),
+        inner: MemoryWriter::open(rt.alloc()),
         taken: &taken,
     });
     let result = run(rt.alloc(), &mut reader, &mut writer, Kind::Byte);
-    assert_eq!(rt; result, Ok(()));
     // The answers have 12, 12 and 13 bytes, and 12 of the last line, which is answered at the end.
     let notes = reader.into_inner().notes;
-    assert_eq!(rt; notes.as_slice(), [0, 12, 24, 37, 37].as_slice());
-    assert_eq!(rt; taken.get(), 49);
-    Ok(())
+    let found = (result, notes.as_slice(), taken.get());
+    assert_eq!(rt; found, (Ok(()), [0, 12, 24, 37, 37].as_slice(), 49));
 }
 
 #[test]
-fn nothing_is_read_after_a_failing_write(rt: HostRuntime) -> Result<(), Fail> {
-    for then in [Then::Fail, Then::TakeNothing] {
-        for (calls, (answers, left)) in PARTS.iter().enumerate() {
+fn nothing_is_read_after_a_failing_write(rt: HostRuntime) {
+    for then in FAILING {
+        for (calls, part) in PARTS.iter().enumerate() {
             let mut reader = Reading::new(by_line(INPUT));
-            let mut writer = open_for(rt.alloc(), calls);
-            writer.then = then;
+            let writer = MemoryWriter::new(rt.alloc(), usize::MAX, calls, *then);
             let mut writer = Writing::new(writer);
             let result = run(rt.alloc(), &mut reader, &mut writer, Kind::Byte);
-            assert_eq!(rt; result, Err(RunError::Write));
-            let taken = writer.into_inner().into_taken();
-            assert_eq!(rt; taken.as_slice(), *answers, "after {calls} writes");
-            assert_eq!(rt; reader.into_inner().rest, *left, "after {calls} writes");
+            let failed = Err(RunError::Write);
+            expect(&rt, (result, reader, writer), failed, *part, calls);
         }
     }
-    Ok(())
 }
 
 #[test]
-fn nothing_is_read_after_a_refusal(rt: HostRuntime) -> Result<(), Fail> {
+fn nothing_is_read_after_a_refusal(rt: HostRuntime) {
     let mut buffer = [0u8; 32];
     // The answers are kept in the memory of the first.
     let heap = Refusing::new(rt.alloc(), 1, u64::MAX);
     let mut reader = Reading::new(by_line(INPUT));
-    let mut writer = Writing::new(open_for(rt.alloc(), usize::MAX));
+    let mut writer = Writing::new(MemoryWriter::open(rt.alloc()));
     let result = run_in(&heap, &mut buffer, &mut reader, &mut writer, Kind::Byte);
-    assert_eq!(rt; result, Err(RunError::Memory));
-    let (answers, left) = PARTS[0];
-    assert_eq!(rt; writer.into_inner().into_taken().as_slice(), answers);
-    assert_eq!(rt; reader.into_inner().rest, left);
-    Ok(())
+    let refused = Err(RunError::Memory);
+    expect(&rt, (result, reader, writer), refused, PARTS[0], 0);
 }

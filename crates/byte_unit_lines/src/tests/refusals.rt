@@ -1,26 +1,25 @@
 //! Each request for memory of a run refused in turn.
-use super::mixed::{ANSWERS, INPUT, answers_to, reader, writer};
-use super::streams::{MemoryReader, Then};
+use super::ended::{expect_refusal, ran_in};
+use super::mixed::{ANSWERS, INPUT, answers_to};
+use super::streams::{MemoryReader, MemoryWriter, Then};
 use super::*;
 use crate::refusing::Refusing;
-use crate::run::run_in;
 use std::test::Fail;
 
 /// So many bytes are read at once.
-const STEPS: [usize; 5] = [1, 2, 3, 8, INPUT.len()];
+const STEPS: &[usize] = &[1, 2, 3, 8, INPUT.len()];
+
+/// A reader that gives so many of these bytes a call.
+fn in_steps(bytes: &[u8], step: usize) -> MemoryReader<'_> {
+    MemoryReader::new(bytes, step, usize::MAX, Then::Fail)
+}
 
 /// How many requests a run makes for this beginning of the input.
 fn requests(alloc: Global, beginning: &[u8], step: usize) -> u64 {
     let heap = Refusing::new(alloc, u64::MAX, u64::MAX);
-    let mut input = Reading::new(MemoryReader {
-        rest: beginning,
-        step,
-        calls: usize::MAX,
-        then: Then::Fail,
-    });
-    let mut output = Writing::new(writer(alloc, 0, 0, Then::All));
     let mut buffer = [0u8; 80];
-    match run_in(&heap, &mut buffer, &mut input, &mut output, Kind::Byte) {
+    let reader = in_steps(beginning, step);
+    match ran_in(&heap, &mut buffer, reader, MemoryWriter::open(alloc)).result {
         Ok(()) => heap.asked(),
         Err(_) => 0,
     }
@@ -46,23 +45,17 @@ fn requests_by_line(alloc: Global, step: usize) -> [u64; ANSWERS.len()] {
 fn each_refused_request(rt: HostRuntime) -> Result<(), Fail> {
     let mut buffer = [0u8; 80];
     for step in STEPS {
-        let asked = requests_by_line(rt.alloc(), step);
+        let asked = requests_by_line(rt.alloc(), *step);
         let most = asked[ANSWERS.len() - 1];
         assert!(rt; most > 0, "{step} bytes a read");
         for number in 1..=most {
             // The lines whose requests all came before are answered, and no other.
             let lines = asked.iter().filter(|asked| **asked < number).count();
             let report = answers_to(rt.alloc(), lines)?;
-            for last in [number, u64::MAX] {
-                let heap = Refusing::new(rt.alloc(), number, last);
-                let mut input = Reading::new(reader(step, usize::MAX, Then::Fail));
-                let mut output = Writing::new(writer(rt.alloc(), 0, 0, Then::All));
-                let result = run_in(&heap, &mut buffer, &mut input, &mut output, Kind::Byte);
-                assert_eq!(rt; result, Err(RunError::Memory), "at request {number}");
-                assert_eq!(rt; heap.asked(), number);
-                let taken = output.into_inner().into_taken();
-                assert_eq!(rt; taken.as_slice(), report.as_slice(), "at request {number}");
-            }
+            let reader = in_steps(INPUT, *step);
+            expect_refusal(&rt, &mut buffer, reader, number, number, &report);
+            let reader = in_steps(INPUT, *step);
+            expect_refusal(&rt, &mut buffer, reader, number, u64::MAX, &report);
         }
     }
     Ok(())
@@ -73,14 +66,11 @@ fn a_refusal_behind_the_last_request(rt: HostRuntime) -> Result<(), Fail> {
     let report = answers_to(rt.alloc(), ANSWERS.len())?;
     let mut buffer = [0u8; 80];
     for step in STEPS {
-        let most = requests(rt.alloc(), INPUT, step);
+        let most = requests(rt.alloc(), INPUT, *step);
         let heap = Refusing::new(rt.alloc(), most.saturating_add(1), u64::MAX);
-        let mut input = Reading::new(reader(step, usize::MAX, Then::Fail));
-        let mut output = Writing::new(writer(rt.alloc(), 0, 0, Then::All));
-        let result = run_in(&heap, &mut buffer, &mut input, &mut output, Kind::Byte);
-        assert_eq!(rt; result, Ok(()), "{step} bytes a read");
-        let taken = output.into_inner().into_taken();
-        assert_eq!(rt; taken.as_slice(), report.as_slice(), "{step} bytes a read");
+        let writer = MemoryWriter::open(rt.alloc());
+        let ended = ran_in(&heap, &mut buffer, in_steps(INPUT, *step), writer);
+        ended.expect(&rt, Ok(()), &report, "bytes a read", &[*step]);
     }
     Ok(())
 }

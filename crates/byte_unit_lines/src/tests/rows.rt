@@ -1,4 +1,5 @@
 //! Lines and their answers.
+use super::endings::words;
 use super::*;
 use std::process::Abort;
 use std::str;
@@ -15,18 +16,18 @@ fn give(rt: &impl Abort, alloc: Global, kind: Kind, rows: &[(&[u8], &str)]) -> R
 
 #[test]
 fn whole_sizes(rt: HostRuntime) -> Result<(), Fail> {
-    let rows: [(&[u8], &str); 4] = [
+    const ROWS: &[(&[u8], &str)] = &[
         (b"3 KB\n12\n\n", "3000 = 3 KB\n12 = 12 B\nno value\n"),
         (b"9 b\n7 Kb\n  12  \n", "2 = 2 B\n875 = 875 B\n12 = 12 B\n"),
         (b"1.5 KB\n1 K\n", "1500 = 1.5 KB\n1000 = 1 KB\n"),
         (b"", ""),
     ];
-    give(&rt, rt.alloc(), Kind::Byte, &rows)
+    give(&rt, rt.alloc(), Kind::Byte, ROWS)
 }
 
 #[test]
 fn fractions(rt: HostRuntime) -> Result<(), Fail> {
-    let rows: [(&[u8], &str); 2] = [
+    const ROWS: &[(&[u8], &str)] = &[
         (
             b"1.5 KiB\n1.\n1kb\n1zb\n1 K\n",
             "1536 = 1.5 KiB\nnot a number\n125 = 125 B\n125000000000000000000 = 125 EB\n1000 = 1 KB\n",
@@ -36,12 +37,12 @@ fn fractions(rt: HostRuntime) -> Result<(), Fail> {
             "1536 = 1.5 KiB\nno value\nbad unit\nnot a number\n1000000000000000000000000 = 1 YB\n",
         ),
     ];
-    give(&rt, rt.alloc(), Kind::Byte, &rows)
+    give(&rt, rt.alloc(), Kind::Byte, ROWS)
 }
 
 #[test]
 fn bounds(rt: HostRuntime) -> Result<(), Fail> {
-    let rows: [(&[u8], &str); 4] = [
+    const ROWS: &[(&[u8], &str)] = &[
         (
             b"999999999999999999999999999\n",
             "999999999999999999999999999 = 999999999999999999999999.999 KB\n",
@@ -59,13 +60,13 @@ fn bounds(rt: HostRuntime) -> Result<(), Fail> {
             "18446744073709551615 = 18446744073709551.615 KB\n18446744073709551616 = 16 EiB\n",
         ),
     ];
-    give(&rt, rt.alloc(), Kind::Byte, &rows)
+    give(&rt, rt.alloc(), Kind::Byte, ROWS)
 }
 
 /// What the first version refused, and the current one accepts.
 #[test]
 fn past_the_bounds_of_the_first_version(rt: HostRuntime) -> Result<(), Fail> {
-    let rows: [(&[u8], &str); 4] = [
+    const ROWS: &[(&[u8], &str)] = &[
         (
             b"79228162514264337593543950336\n1000 YB\n",
             "79228162514264337593543950336 = 64 RiB\n1000000000000000000000000000 = 1 RB\n",
@@ -83,12 +84,12 @@ fn past_the_bounds_of_the_first_version(rt: HostRuntime) -> Result<(), Fail> {
             "1237940039285380274899124224 = 1 RiB\n154742504910672534362390528 = 128 YiB\n",
         ),
     ];
-    give(&rt, rt.alloc(), Kind::Byte, &rows)
+    give(&rt, rt.alloc(), Kind::Byte, ROWS)
 }
 
 #[test]
 fn faults(rt: HostRuntime) -> Result<(), Fail> {
-    let rows: [(&[u8], &str); 5] = [
+    const ROWS: &[(&[u8], &str)] = &[
         (
             b"   \n1\tKB\nx\n-1\n",
             "no value\nbad unit\nnot a number\nnot a number\n",
@@ -101,12 +102,12 @@ fn faults(rt: HostRuntime) -> Result<(), Fail> {
             "1000 = 1 KB\nnot text\nnot text\nbad unit\n",
         ),
     ];
-    give(&rt, rt.alloc(), Kind::Byte, &rows)
+    give(&rt, rt.alloc(), Kind::Byte, ROWS)
 }
 
 #[test]
 fn documented_lines(rt: HostRuntime) -> Result<(), Fail> {
-    let rows: [(&[u8], &str); 10] = [
+    const ROWS: &[(&[u8], &str)] = &[
         (b"\xEF\xBB\xBF1 KB\n2 KB\n", "not a number\n2000 = 2 KB\n"),
         (
             b"100 MB\n100mB\n100 M\n",
@@ -133,47 +134,37 @@ fn documented_lines(rt: HostRuntime) -> Result<(), Fail> {
         (b"\n \t\n1 KB\r\n", "no value\nno value\n1000 = 1 KB\n"),
         (b"123456789\n", "123456789 = 123456.789 KB\n"),
     ];
-    give(&rt, rt.alloc(), Kind::Byte, &rows)
+    give(&rt, rt.alloc(), Kind::Byte, ROWS)
 }
 
 #[test]
 fn bits(rt: HostRuntime) -> Result<(), Fail> {
-    let rows: [(&[u8], &str); 1] = [(b"1KiB\n1K\n", "8192 = 8 Kib\n1000 = 1 Kb\n")];
-    give(&rt, rt.alloc(), Kind::Bit, &rows)
+    const ROWS: &[(&[u8], &str)] = &[(b"1KiB\n1K\n", "8192 = 8 Kib\n1000 = 1 Kb\n")];
+    give(&rt, rt.alloc(), Kind::Bit, ROWS)
 }
 
 #[test]
 fn kinds(rt: HostRuntime) -> Result<(), Fail> {
-    let rows: [(&[&str], Option<Kind>); 5] = [
-        (&[], Some(Kind::Byte)),
-        (&["byte"], Some(Kind::Byte)),
-        (&["bit"], Some(Kind::Bit)),
-        (&["bits"], None),
-        (&["bit", "bit"], None),
+    const ROWS: &[(&[&str], &str, Option<Kind>)] = &[
+        (&[], "none", Some(Kind::Byte)),
+        (&["byte"], "byte", Some(Kind::Byte)),
+        (&["bit"], "bit", Some(Kind::Bit)),
+        (&["bits"], "bits", None),
+        (&["bit", "bit"], "bit bit", None),
     ];
-    for (words, kind) in rows {
-        let mut texts = Vec::new(rt.alloc());
-        for word in words {
-            texts.push(String::from_str(rt.alloc(), word)?)?;
-        }
-        assert_eq!(rt; kind_of(&texts), kind, "for {words:?}");
+    for (asked, name, kind) in ROWS {
+        let words = words(rt.alloc(), asked)?;
+        assert_eq!(rt; kind_of(&words), *kind, "for {name}");
     }
     Ok(())
 }
 
 #[test]
 fn many_lines_and_long_lines(rt: HostRuntime) -> Result<(), Fail> {
-    let mut input = Vec::new(rt.alloc());
-    let mut output = String::new(rt.alloc());
-    for _ in 0..1000 {
-        input.extend_from_slice(b"1KB\n")?;
-        output.push_str("1000 = 1 KB\n")?;
-    }
-    for _ in 0..10000 {
-        input.push(b'0')?;
-    }
+    let mut input = b"1KB\n".repeat(rt.alloc(), 1000)?;
+    let mut output = "1000 = 1 KB\n".repeat(rt.alloc(), 1000)?;
+    input.extend_from_slice(&b"0".repeat(rt.alloc(), 10000)?)?;
     input.extend_from_slice(b"1\n")?;
     output.push_str("1 = 1 B\n")?;
-    let rows: [(&[u8], &str); 1] = [(&input, &output)];
-    give(&rt, rt.alloc(), Kind::Byte, &rows)
+    give(&rt, rt.alloc(), Kind::Byte, &[(&input, &output)])
 }

@@ -1,6 +1,10 @@
 //! A reader and a writer over memory, which go in steps and change their ways after some calls.
+use std::alloc::Global;
 use std::cell::Cell;
 use std::io::{self, Error, ErrorKind, Read, Write};
+
+/// What a writer does that fails.
+pub const FAILING: &[Then] = &[Then::Fail, Then::TakeNothing];
 
 /// What a stream does from a call on.
 #[derive(Clone, Copy)]
@@ -40,6 +44,16 @@ pub struct MemoryReader<'a> {
 }
 
 impl<'a> MemoryReader<'a> {
+    /// A reader of these bytes.
+    pub fn new(rest: &'a [u8], step: usize, calls: usize, then: Then) -> MemoryReader<'a> {
+        MemoryReader {
+            rest,
+            step,
+            calls,
+            then,
+        }
+    }
+
     fn gives(&mut self, asked: usize) -> io::Result<usize> {
         if self.calls > 0 {
             self.calls -= 1;
@@ -70,6 +84,21 @@ pub struct MemoryWriter {
 }
 
 impl MemoryWriter {
+    /// A writer that took nothing yet.
+    pub fn new(alloc: Global, step: usize, calls: usize, then: Then) -> MemoryWriter {
+        MemoryWriter {
+            taken: Vec::new(alloc),
+            step,
+            calls,
+            then,
+        }
+    }
+
+    /// A writer that took nothing yet, and takes all that it is given.
+    pub fn open(alloc: Global) -> MemoryWriter {
+        MemoryWriter::new(alloc, 0, 0, Then::All)
+    }
+
     fn takes(&mut self, asked: usize) -> io::Result<usize> {
         if self.calls > 0 {
             self.calls -= 1;
