@@ -19,6 +19,7 @@ pub mod Falling
 pub mod Choosing
 pub mod Rows
 pub mod SizePowers
+pub mod FewSteps
 pub mod SomeChoice
 pub mod LaterChoices
 pub mod OneChoice

@@ -36,7 +36,7 @@ quotient_of_product size unit places number some room product exact =
     }
 
 -- where the size is exact, its number is stated
-stated_where_exact : (size unit number digits : ℕ) → 1 ≤ unit → number * unit ≡ size * one → IsExactAt size unit digits
+pub stated_where_exact : (size unit number digits : ℕ) → 1 ≤ unit → number * unit ≡ size * one → IsExactAt size unit digits
     → IsExactAt number one digits
 stated_where_exact size unit number digits some product e =
     let p = ap (λ x. x * 10 ^ digits) product in

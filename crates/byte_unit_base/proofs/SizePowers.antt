@@ -34,7 +34,7 @@ sizes_by_powers kind size unit some =
     }
 
 -- a byte has three twos more
-eight_times : (size a b : ℕ) → IsTwoFive size a b → IsTwoFive (size * 8) (a + 3) b
+pub eight_times : (size a b : ℕ) → IsTwoFive size a b → IsTwoFive (size * 8) (a + 3) b
 eight_times size a b h =
     let e = ap (λ n. n * 8) h.product in
     let p = ap (λ n. h.left * (n * 5 ^ b)) (pow-add 2 a 3) in

@@ -9,6 +9,7 @@ use Rattle.byte_unit_base.specs.Edition.{Edition}
 use Rattle.byte_unit_base.specs.Kinds.{bits_in, own_unit, own_family}
 use Rattle.byte_unit_base.specs.Family.{InFamily, IsOfType}
 use Rattle.byte_unit_base.specs.declared.kind.Kind.{Kind}
+use Rattle.byte_unit_base.specs.declared.kind.Kind.TheVariants.{Byte, Bit}
 use Rattle.byte_unit_base.specs.declared.unit.family.Family.{Family}
 use Rattle.byte_unit_base.specs.declared.unit.family.Family.TheVariants.{All}
 use Rattle.byte_unit_base.specs.declared.unit.unit_type.UnitType.{UnitType}
@@ -74,9 +75,11 @@ abbrev pub CountsChoice : ℕ → ℕ → ℕ → ℕ → Type 0
 CountsChoice size number old new =
     (size ≡ 0) × (new ≡ old) ⊎ (steps : ℕ) × TakesSteps size number steps × (new ≡ raised old steps)
 
--- no choice takes more: two and five divide a size 99 times at most, and a number has 28 places at most
-abbrev pub most_steps : ℕ
-most_steps = 129
+-- the greatest step count of a choice for a size of this kind: 7 * 2^87 bytes take 116 steps at 27 places, and
+-- 7 * 2^90 bits take 119 there if units of bytes are allowed
+abbrev pub most_steps : Kind → ℕ
+most_steps Byte = 116
+most_steps Bit = 119
 
 -- a size of this kind is shown in the unit by a type: the largest of its family that suits it, or its kind's own
 abbrev pub IsAppropriate : Edition → Kind → UnitType → ℕ → Shape → Type 0

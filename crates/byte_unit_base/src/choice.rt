@@ -7,8 +7,10 @@ ghost use Rattle.byte_unit_math.specs.Factored.{value_of};
 ghost use Rattle.byte_unit_math.specs.Steps.{raised};
 ghost use Rattle.byte_unit_base.specs.Shape.{bits};
 ghost use Rattle.byte_unit_base.specs.Edition.{current};
+ghost use Rattle.byte_unit_base.specs.Kinds.{bits_in};
 ghost use Rattle.byte_unit_base.specs.Units.{shape_of};
 ghost use Rattle.byte_unit_base.specs.Choice.{IsLargest, NoneHas, States, IsChosen, Suits, CountsChoice, most_steps};
+ghost use Rattle.byte_unit_base.specs.declared.kind.Kind.{Kind};
 
 use crate::unit::Unit;
 use crate::unit::family::{Family, PREFIXES};
@@ -27,7 +29,8 @@ const FEW_PLACES: u32 = 5;
 /// than 28 places count as 28.
 ///
 /// `steps` rises as by `two_five` for the size as it is given, and by one for each place of the
-/// number: so by at most 129. A size of zero takes none.
+/// number. That is at most 116 steps for a size in bytes, as for `7 << 87` at 27 places, and at most
+/// 119 steps for a size in bits, as for `7 << 90` there in `RB`. A size of zero takes none.
 ///
 /// ```text
 /// choose_unit(1536, Family::Bytes, 8, 3, steps)      1.5 KiB, in 12 steps
@@ -50,7 +53,8 @@ pub fn choose_unit(
     ensures exact { IfSome result (λ c. c.0 * bits (shape_of c.1) ≡ size * divisor * one) }
     ensures ticks { IfSome result (λ c. CountsChoice size c.0 steps.old steps.new) }
     ensures ticks_of_none { IfNone result (CountsChoice size 0 steps.old steps.new) }
-    ensures few_ticks { steps.new ≤ raised steps.old most_steps }
+    ensures few_ticks { (kind : Kind) → divisor ≡ bits_in kind
+        → steps.new ≤ raised steps.old (most_steps kind) }
 {
     if size == 0 {
         return None;

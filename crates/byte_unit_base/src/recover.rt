@@ -20,7 +20,9 @@ use byte_unit_math::{Decimal, Steps};
 /// number; where there is none, the size itself in `B` or `Bit`.
 ///
 /// The unit is of the size's own kind, or of either where `allow` is set. The size is below 10^30. A
-/// precision above 28 counts as 28. `steps` rises as by `choose_unit`.
+/// precision above 28 counts as 28. `steps` rises as by `choose_unit`: by at most 116 for bytes and
+/// by at most 119 for bits. At precision 27, `7 << 87` bytes take 116 steps, and `7 << 90` bits take
+/// 119 if `allow` is set.
 ///
 /// ```text
 /// recoverable_unit(50_840_000, Kind::Byte, false, 2, steps)   50.84 MB
@@ -39,7 +41,7 @@ pub fn recoverable_unit(
     ensures recovered { IsRecovered current kind allow size precision (shape_of result.1) }
     ensures exact { result.0 * bits (shape_of result.1) ≡ size * bits_in kind * one }
     ensures ticks { CountsChoice size result.0 steps.old steps.new }
-    ensures few_ticks { steps.new ≤ raised steps.old most_steps }
+    ensures few_ticks { steps.new ≤ raised steps.old (most_steps kind) }
 {
     let family = family_for(kind, allow);
     match choose_unit(size, family, kind.bits(), precision, steps) {

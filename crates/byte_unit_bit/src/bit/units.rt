@@ -46,9 +46,10 @@ impl Bit {
         self.get_recoverable_unit_counted(allow_in_bytes, precision, &mut Steps::new())
     }
 
-    /// What `get_recoverable_unit` answers, and its work: `steps` rises by one for each two and each five that divides
-    /// the size, by two where they no longer do, and by one for each digit of the decimal after the point; so by at
-    /// most 129. A size of zero takes none. The count stays at its greatest value.
+    /// Returns what `get_recoverable_unit` returns, and counts its work: `steps` rises by one for each two and each
+    /// five that divides the size, by two for the trials that fail, and by one for each digit of the decimal after the
+    /// point. That is at most 119 steps, which `7 << 90` bits take at a precision of 27 if units of bytes are allowed;
+    /// a size of zero takes none. The count stays at its greatest value.
     pub fn get_recoverable_unit_counted(
         self,
         allow_in_bytes: bool,
@@ -58,7 +59,7 @@ impl Bit {
         ensures recovered { IsRecovered current InBits allow_in_bytes self precision (shape_of result.1) }
         ensures exact { result.0 * bits (shape_of result.1) ≡ self * bits_in InBits * one }
         ensures ticks { CountsChoice self result.0 steps.old steps.new }
-        ensures few_ticks { steps.new ≤ raised steps.old most_steps }
+        ensures few_ticks { steps.new ≤ raised steps.old (most_steps InBits) }
     {
         recoverable_unit(self.size, Kind::Bit, allow_in_bytes, precision, steps)
     }

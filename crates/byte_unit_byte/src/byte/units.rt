@@ -47,9 +47,10 @@ impl Byte {
         self.get_recoverable_unit_counted(allow_in_bits, precision, &mut Steps::new())
     }
 
-    /// What `get_recoverable_unit` answers, and its work: `steps` rises by one for each two and each five that divides
-    /// the size, by two where they no longer do, and by one for each digit of the decimal after the point; so by at
-    /// most 129. A size of zero takes none. The count stays at its greatest value.
+    /// Returns what `get_recoverable_unit` returns, and counts its work: `steps` rises by one for each two and each
+    /// five that divides the size, by two for the trials that fail, and by one for each digit of the decimal after the
+    /// point. That is at most 116 steps, which `7 << 87` bytes take at a precision of 27; a size of zero takes none.
+    /// The count stays at its greatest value.
     pub fn get_recoverable_unit_counted(
         self,
         allow_in_bits: bool,
@@ -59,7 +60,7 @@ impl Byte {
         ensures recovered { IsRecovered current InBytes allow_in_bits self precision (shape_of result.1) }
         ensures exact { result.0 * bits (shape_of result.1) ≡ self * bits_in InBytes * one }
         ensures ticks { CountsChoice self result.0 steps.old steps.new }
-        ensures few_ticks { steps.new ≤ raised steps.old most_steps }
+        ensures few_ticks { steps.new ≤ raised steps.old (most_steps InBytes) }
     {
         recoverable_unit(self.size, Kind::Byte, allow_in_bits, precision, steps)
     }

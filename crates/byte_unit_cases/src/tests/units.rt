@@ -213,23 +213,26 @@ fn recoverable_units_of_great_sizes(rt: HostRuntime) {
     assert_stated(&rt, RECOVERABLE_UNITS_OF_GREAT_SIZES);
 }
 
-const STEPS_OF_THE_CHOICE: &[(u128, bool, usize, u64)] = &[
-    (GREATEST, false, 28, 29),
-    (GREATEST, true, 28, 29),
-    (GREATEST, true, 0, 2),
-    (OLD_GREATEST, false, 28, 26),
-    (0, true, 28, 0),
-    // 2^89, 2^99, 5^38 and 5^42
-    (618_970_019_642_690_137_449_562_112, false, 3, 91),
-    (633_825_300_114_114_700_748_351_602_688, false, 3, 101),
-    (363_797_880_709_171_295_166_015_625, false, 28, 64),
-    (227_373_675_443_232_059_478_759_765_625, false, 28, 71),
+/// A size and its kind, whether units of the other kind are allowed, and the precision; then the step count.
+const STEPS_OF_THE_CHOICE: &[(Kind, u128, bool, usize, u64)] = &[
+    (Kind::Byte, GREATEST, false, 28, 29),
+    (Kind::Byte, GREATEST, true, 28, 29),
+    (Kind::Byte, GREATEST, true, 0, 2),
+    (Kind::Byte, OLD_GREATEST, false, 28, 26),
+    (Kind::Byte, 0, true, 28, 0),
+    (Kind::Byte, 1 << 89, false, 3, 91),
+    (Kind::Byte, 1 << 99, false, 3, 101),
+    (Kind::Byte, FIVES, false, 28, 64),
+    (Kind::Byte, MORE_FIVES, false, 28, 71),
+    // The greatest step counts, both in `RB`.
+    (Kind::Byte, 7 << 87, false, 27, 116),
+    (Kind::Bit, 7 << 90, true, 27, 119),
 ];
 
 #[test]
 fn steps_of_the_choice(rt: HostRuntime) {
-    for (size, allow, precision, count) in STEPS_OF_THE_CHOICE {
-        let stated = counted(Kind::Byte, *size, *allow, *precision);
+    for (kind, size, allow, precision, count) in STEPS_OF_THE_CHOICE {
+        let stated = counted(*kind, *size, *allow, *precision);
         assert!(rt;
             stated.map(|pair| pair.1) == Some(*count),
             "{size} at {precision}"

@@ -2,9 +2,12 @@ use Rattle.std.proofs.Common.{◌≡◌, ◌*◌, ◌^◌, ℕ, IfSome, get_or, 
 use Rattle.byte_unit_math.specs.Bounds.{one, places_of_decimal, whole_limit}
 use Rattle.byte_unit_math.specs.Exact.{IsLeastPlaces, IsQuotient}
 use Rattle.byte_unit_math.specs.Steps.{raised}
+use Rattle.byte_unit_base.specs.Edition.{current}
+use Rattle.byte_unit_base.specs.Choice.{IsChosen}
 use Rattle.byte_unit_base.proofs.Choosing.{is_some, some_bits}
+use Rattle.byte_unit_base.proofs.FewSteps.{few_of_choice, few_of_none}
 use Rattle.byte_unit_base.proofs.Quotients.{places_of_quotient, quotient_of_product, whole_takes_none}
-use Rattle.byte_unit_base.proofs.Rows.{HasPowers, no_row, search_start, power_of_powers, row_multiple, row_there, row_powers, powers_in_row}
+use Rattle.byte_unit_base.proofs.Rows.{HasPowers, no_row, unit_in, search_start, power_of_powers, row_multiple, row_there, row_powers, powers_in_row}
 use Rattle.byte_unit_base.proofs.Rows.{unit_found, unit_passed, none_found, none_true}
 use Rattle.byte_unit_base.proofs.SizePowers.{in_bits_powers, in_bits_product, chosen_by_powers, none_by_powers, exact_by_row, counted_choice}
 use Rattle.byte_unit_base.proofs.SizePowers.{count_fits}
@@ -122,18 +125,13 @@ returns-then-row-in_bits-clause-ticks c =
     counted_choice {places = counted.0} c.args.steps.now mid c.if-places-gt-FEW_PLACES.steps trials.powers counted.1 trials.ticks counted.2
 
 pub returns-then-row-in_bits-clause-few_ticks : goal.returns-then-row-in_bits-clause-few_ticks
-returns-then-row-in_bits-clause-few_ticks c =
-    let trials = c.factors_of-left.ensures in
-    let unmoved = c.loop-row.invariant.steps in
-    elim c.if-places-gt-FEW_PLACES.branch [
-      | then-places-gt-FEW_PLACES w ↦
-          let digits = w.exact_quotient.ensures.ticks in
-          omega (arith, trials.few, trials.ticks, unmoved, w.steps-is, digits.2, digits.1.few)
-      | else-places-gt-FEW_PLACES w ↦
-          let places = w.factored_quotient-number.ensures.ticks in
-          let few = places.1.least places_of_decimal (w.factored_quotient-number.result, refl) in
-          omega (arith, trials.few, trials.ticks, unmoved, w.steps-is, places.2, few)
-    ]
+returns-then-row-in_bits-clause-few_ticks c = λ kind same.
+    let unit = unit_in (get_or c.multiples_within-row-items.result.now c.loop-row.row-index no_row) in
+    let number = c.if-places-gt-FEW_PLACES.number in
+    let IsChosenIn : ℕ → Type 0 = λ n. IsChosen current c.args.family (c.args.size * n) c.args.places unit number in
+    let chosen = subst IsChosenIn same (returns-then-row-in_bits-clause-chosen c) in
+    let counted = returns-then-row-in_bits-clause-ticks c in
+    few_of_choice kind c.args.family c.args.size c.args.places number _ _ unit c.requires.small chosen counted
 
 pub returns-clause-none : goal.returns-clause-none
 returns-clause-none c =
@@ -149,6 +147,4 @@ returns-clause-ticks_of_none c =
     counted_choice c.args.steps.now mid c.loop-row.steps trials.powers (whole_takes_none 0) trials.ticks still
 
 pub returns-clause-few_ticks : goal.returns-clause-few_ticks
-returns-clause-few_ticks c =
-    let trials = c.factors_of-left.ensures in
-    omega (arith, trials.few, trials.ticks, c.loop-row.invariant.steps)
+returns-clause-few_ticks c = λ kind same. few_of_none kind c.args.size _ _ c.requires.small (returns-clause-ticks_of_none c)
