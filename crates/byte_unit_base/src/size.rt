@@ -1,6 +1,6 @@
 //! Sizes of either kind as numbers below their bound: what the size types share.
 
-ghost use Rattle.std.specs.Prelude.{◌≡◌, ℕ, Bool, List, ◌+◌, ◌-◌, ◌*◌, ◌/◌, ◌^◌, ◌<◌, ◌≤◌, SomeIff, IfSome, IfOk, min};
+ghost use Rattle.std.specs.Prelude.{◌≡◌, ℕ, Bool, List, ◌+◌, ◌*◌, ◌<◌, ◌≤◌, SomeIff, IfSome, IfOk};
 ghost use Rattle.byte_unit_math.specs.Bounds.{one};
 ghost use Rattle.byte_unit_base.specs.Shape.{bits};
 ghost use Rattle.byte_unit_base.specs.Edition.{current};
@@ -9,7 +9,7 @@ ghost use Rattle.byte_unit_base.specs.Kinds.{bits_in, flags_for};
 ghost use Rattle.byte_unit_base.specs.SizeText.{trimmed, IsSizeText};
 ghost use Rattle.byte_unit_base.specs.SizeReading.{IsSizeReading, IsBytesReading};
 ghost use Rattle.byte_unit_base.specs.LeastOfKind.{IsLeastOf};
-ghost use Rattle.byte_unit_base.specs.SizeOrNone.{IsSizeOrNone, OfSigned};
+ghost use Rattle.byte_unit_base.specs.SizeOrNone.{IsSizeOrNone};
 
 use crate::errors::{ParseError, ValueParseError};
 use crate::kind::Kind;
@@ -33,18 +33,6 @@ pub fn bounded(size: u128) -> Option<u128>
     ensures small { IfSome result (λ n. n < current.size_limit) }
 {
     (size < SIZE_LIMIT).then_some(size)
-}
-
-/// The number, where it is a size: from 0 to below 10^30. `None` exactly where it is negative or not below 10^30.
-///
-/// ```text
-/// from_signed(-1)    None
-/// ```
-pub fn from_signed(size: i128) -> Option<u128>
-    ensures size { OfSigned (λ n answer. SomeIff answer (n < current.size_limit) n) size result }
-    ensures small { IfSome result (λ n. n < current.size_limit) }
-{
-    bounded(u128::try_from(size).ok()?)
 }
 
 /// The least number of the kind that holds so many bits.
@@ -71,18 +59,6 @@ pub fn with_unit(size: u128, unit: Unit, kind: Kind) -> Option<u128>
 {
     let in_bits = size.checked_mul(unit.as_bits_u128())?;
     bounded(holding(in_bits, kind))
-}
-
-/// So many of the unit, as `with_unit` gives them. `None` exactly where the number is negative or that size is not
-/// below 10^30.
-pub fn signed_with_unit(size: i128, unit: Unit, kind: Kind) -> Option<u128>
-    ensures size { OfSigned
-        (λ n answer. IsSizeOrNone current (IsLeastOf kind (n * one) (shape_of unit)) answer)
-        size
-        result }
-    ensures small { IfSome result (λ n. n < current.size_limit) }
-{
-    with_unit(u128::try_from(size).ok()?, unit, kind)
 }
 
 /// The number times the unit exactly, rounded up once to a whole number of the kind. `None` exactly where that is not
@@ -190,60 +166,4 @@ fn flags_for(kind: Kind, ignore_case: bool) -> Flags
             prefer_byte: false,
         },
     }
-}
-
-/// The sum of two sizes. `None` exactly where it is not below 10^30.
-///
-/// The caller owes numbers below 10^30.
-pub fn sum(left: u128, right: u128) -> Option<u128>
-    requires left { left < current.size_limit }
-    requires right { right < current.size_limit }
-    ensures sum { SomeIff result (left + right < current.size_limit) (left + right) }
-    ensures small { IfSome result (λ n. n < current.size_limit) }
-{
-    bounded(left + right)
-}
-
-/// The product of a number and a factor. `None` exactly where it is not below 10^30.
-pub fn product(size: u128, factor: u128) -> Option<u128>
-    ensures product { SomeIff result (size * factor < current.size_limit) (size * factor) }
-    ensures small { IfSome result (λ n. n < current.size_limit) }
-{
-    bounded(size.checked_mul(factor)?)
-}
-
-/// The size less another number. `None` exactly where that is negative.
-///
-/// The caller owes a size below 10^30.
-pub fn difference(size: u128, less: u128) -> Option<u128>
-    requires { size < current.size_limit }
-    ensures difference { SomeIff result (less ≤ size) (size - less) }
-    ensures small { IfSome result (λ n. n < current.size_limit) }
-{
-    size.checked_sub(less)
-}
-
-/// The size divided by the divisor, rounded down. `None` exactly where the divisor is zero.
-///
-/// The caller owes a size below 10^30.
-pub fn quotient(size: u128, divisor: u128) -> Option<u128>
-    requires { size < current.size_limit }
-    ensures quotient { SomeIff result (0 < divisor) (size / divisor) }
-    ensures small { IfSome result (λ n. n < current.size_limit) }
-{
-    size.checked_div(divisor)
-}
-
-/// The number as a `u64`, or 2^64 - 1 for a larger number.
-pub fn saturated(size: u128) -> u64
-    ensures { result ≡ min size (2 ^ 64 - 1) }
-{
-    u64::try_from(size).unwrap_or(u64::MAX)
-}
-
-/// The number as a `u64`. `None` exactly where it is not below 2^64.
-pub fn fitting(size: u128) -> Option<u64>
-    ensures { SomeIff result (size < 2 ^ 64) size }
-{
-    u64::try_from(size).ok()
 }

@@ -93,8 +93,7 @@ impl Bit {
     pub fn from_i128(size: i128) -> Option<Bit>
         ensures { OfSigned (λ n answer. SomeIff answer (n < current.size_limit) n) size result }
     {
-        let size = size::from_signed(size)?;
-        Some(Bit { size })
+        Bit::from_u128(u128::try_from(size).ok()?)
     }
 
     /// So many bits. `None` where the number is negative.
@@ -146,8 +145,7 @@ impl Bit {
         ensures { OfSigned
             (λ n answer. IsSizeOrNone current (IsLeastOf InBits (n * one) (shape_of unit)) answer) size result }
     {
-        let size = size::signed_with_unit(size, unit, Kind::Bit)?;
-        Some(Bit { size })
+        Bit::from_u128_with_unit(u128::try_from(size).ok()?, unit)
     }
 
     /// So many of the unit, rounded up to a whole bit. `None` where the number is negative, and where the size is
@@ -187,7 +185,7 @@ impl Bit {
     pub fn as_u64(self) -> u64
         ensures { result ≡ min self (2 ^ 64 - 1) }
     {
-        size::saturated(self.size)
+        u64::try_from(self.size).unwrap_or(u64::MAX)
     }
 
     /// The number of bits. `None` where it is larger than 2^64 - 1.
@@ -199,7 +197,7 @@ impl Bit {
     pub fn as_u64_checked(self) -> Option<u64>
         ensures { SomeIff result (self < 2 ^ 64) self }
     {
-        size::fitting(self.size)
+        u64::try_from(self.size).ok()
     }
 }
 
@@ -244,8 +242,7 @@ impl Bit {
     pub fn add(self, rhs: Bit) -> Option<Bit>
         ensures { SomeIff result (self + rhs < current.size_limit) (self + rhs) }
     {
-        let size = size::sum(self.size, rhs.size)?;
-        Some(Bit { size })
+        Bit::from_u128(self.size + rhs.size)
     }
 
     /// The difference. `None` where it would be negative.
@@ -257,7 +254,7 @@ impl Bit {
     pub fn subtract(self, rhs: Bit) -> Option<Bit>
         ensures { SomeIff result (rhs ≤ self) (self - rhs) }
     {
-        let size = size::difference(self.size, rhs.size)?;
+        let size = self.size.checked_sub(rhs.size)?;
         Some(Bit { size })
     }
 
@@ -269,8 +266,7 @@ impl Bit {
     pub fn multiply(self, rhs: usize) -> Option<Bit>
         ensures { SomeIff result (self * rhs < current.size_limit) (self * rhs) }
     {
-        let size = size::product(self.size, rhs as u128)?;
-        Some(Bit { size })
+        Bit::from_u128(self.size.checked_mul(rhs as u128)?)
     }
 
     /// The quotient, rounded down. `None` where `rhs` is zero.
@@ -282,7 +278,7 @@ impl Bit {
     pub fn divide(self, rhs: usize) -> Option<Bit>
         ensures { SomeIff result (0 < rhs) (self / rhs) }
     {
-        let size = size::quotient(self.size, rhs as u128)?;
+        let size = self.size.checked_div(rhs as u128)?;
         Some(Bit { size })
     }
 }

@@ -94,8 +94,7 @@ impl Byte {
     pub fn from_i128(size: i128) -> Option<Byte>
         ensures { OfSigned (λ n answer. SomeIff answer (n < current.size_limit) n) size result }
     {
-        let size = size::from_signed(size)?;
-        Some(Byte { size })
+        Byte::from_u128(u128::try_from(size).ok()?)
     }
 
     /// So many bytes. `None` where the number is negative.
@@ -147,8 +146,7 @@ impl Byte {
         ensures { OfSigned
             (λ n answer. IsSizeOrNone current (IsLeastOf InBytes (n * one) (shape_of unit)) answer) size result }
     {
-        let size = size::signed_with_unit(size, unit, Kind::Byte)?;
-        Some(Byte { size })
+        Byte::from_u128_with_unit(u128::try_from(size).ok()?, unit)
     }
 
     /// So many of the unit, rounded up to a whole byte. `None` where the number is negative, and where the size is
@@ -188,7 +186,7 @@ impl Byte {
     pub fn as_u64(self) -> u64
         ensures { result ≡ min self (2 ^ 64 - 1) }
     {
-        size::saturated(self.size)
+        u64::try_from(self.size).unwrap_or(u64::MAX)
     }
 
     /// The number of bytes. `None` where it is larger than 2^64 - 1.
@@ -200,7 +198,7 @@ impl Byte {
     pub fn as_u64_checked(self) -> Option<u64>
         ensures { SomeIff result (self < 2 ^ 64) self }
     {
-        size::fitting(self.size)
+        u64::try_from(self.size).ok()
     }
 }
 
@@ -245,8 +243,7 @@ impl Byte {
     pub fn add(self, rhs: Byte) -> Option<Byte>
         ensures { SomeIff result (self + rhs < current.size_limit) (self + rhs) }
     {
-        let size = size::sum(self.size, rhs.size)?;
-        Some(Byte { size })
+        Byte::from_u128(self.size + rhs.size)
     }
 
     /// The difference. `None` where it would be negative.
@@ -258,7 +255,7 @@ impl Byte {
     pub fn subtract(self, rhs: Byte) -> Option<Byte>
         ensures { SomeIff result (rhs ≤ self) (self - rhs) }
     {
-        let size = size::difference(self.size, rhs.size)?;
+        let size = self.size.checked_sub(rhs.size)?;
         Some(Byte { size })
     }
 
@@ -270,8 +267,7 @@ impl Byte {
     pub fn multiply(self, rhs: usize) -> Option<Byte>
         ensures { SomeIff result (self * rhs < current.size_limit) (self * rhs) }
     {
-        let size = size::product(self.size, rhs as u128)?;
-        Some(Byte { size })
+        Byte::from_u128(self.size.checked_mul(rhs as u128)?)
     }
 
     /// The quotient, rounded down. `None` where `rhs` is zero.
@@ -283,7 +279,7 @@ impl Byte {
     pub fn divide(self, rhs: usize) -> Option<Byte>
         ensures { SomeIff result (0 < rhs) (self / rhs) }
     {
-        let size = size::quotient(self.size, rhs as u128)?;
+        let size = self.size.checked_div(rhs as u128)?;
         Some(Byte { size })
     }
 }
