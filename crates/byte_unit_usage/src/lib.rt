@@ -3,6 +3,7 @@
 //! takes.
 #![tactic(auto)]
 
+pub mod capped;
 pub mod entry;
 pub mod limit;
 pub mod message;
