@@ -4,6 +4,7 @@ use super::traits::assert_is;
 use byte_unit::{
     AdjustedByte, Bit, Byte, FormatSpec, JsonSizeError, ParseError, Unit, ValueParseError,
 };
+use byte_unit_usage::capped::{LimitError, limit_at_most, max_exceeded, read_limit};
 use byte_unit_usage::entry::{Entry, add, below};
 use byte_unit_usage::limit::{limit, limit_if_stated, limit_or, rate, read_or};
 use byte_unit_usage::message::limit_of_argument;
@@ -33,6 +34,25 @@ fn limits_of_texts(rt: HostRuntime) {
     assert_is(&rt, limit_or("much", Byte::MEBIBYTE), Byte::MEBIBYTE);
     assert_is(&rt, read_or(limit("1 MB"), Byte::KIBIBYTE), Byte::MEGABYTE);
     assert_is(&rt, read_or(limit("1 x"), Byte::KIBIBYTE), Byte::KIBIBYTE);
+}
+
+#[test]
+fn limits_with_a_maximum(rt: HostRuntime) {
+    let max = Byte::GIGABYTE;
+    let half = Byte::from_u64(500_000_000);
+    assert_is(&rt, limit_at_most("500 MB", max).ok(), Some(half));
+    assert_is(&rt, limit_at_most("1 GB", max).ok(), Some(max));
+    assert_is(&rt, limit_at_most("2 GB", max).ok(), Some(max));
+    assert!(rt;
+        matches!(
+            limit_at_most("", max),
+            Err(ParseError::Value(ValueParseError::NoValue))
+        )
+    );
+    assert_is(&rt, max_exceeded(&read_limit("2 GB", max)), Some(max));
+    assert_is(&rt, max_exceeded(&read_limit("1 GB", max)), None);
+    assert_is(&rt, max_exceeded(&read_limit("2 X", max)), None);
+    assert!(rt; matches!(read_limit("", max), Err(LimitError::Parse(_))));
 }
 
 #[test]
