@@ -12,4 +12,5 @@ pub mod AdjustedStrings
 pub mod Appending
 pub mod ShortExpansions
 pub mod Widths
+pub mod NarrowTexts
 pub mod LaterVersion

@@ -35,9 +35,10 @@ abbrev pub IsText : Edition → Kind → ℕ → FormatSpec → List ℕ → Typ
 IsText edition kind size spec text =
     MatchBool spec.alternate (IsSizeForm edition kind size spec text) (text ≡ plain size spec)
 
--- texts of sizes for which no width is asked are no longer than this many bytes
+-- the text of a size for which no width is set has at most this many bytes: 27 digits, the point, 5 places, a space and
+-- `KiB`, as in 976562499999999999999999999.96875 KiB
 abbrev pub narrow_text : ℕ
-narrow_text = 72
+narrow_text = 37
 
 -- texts are shorter than this many bytes
 abbrev pub text_limit : ℕ

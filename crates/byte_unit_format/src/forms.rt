@@ -18,7 +18,9 @@ use std::alloc::{AllocError, Allocator};
 /// The places that a size may take where no precision is set.
 const DEFAULT_PRECISION: usize = 3;
 
-/// How long the text of a size is, which is below 10^30. It takes no memory.
+/// Returns the length of the text of a size, in bytes: at most 37 if no width is set. It does not allocate.
+///
+/// Precondition: the size is below 10^30.
 ///
 /// ```text
 /// text_len(1536, Kind::Byte, FormatSpec::ALTERNATE)  // 7: "1.5 KiB"
@@ -27,6 +29,7 @@ pub fn text_len(size: u128, kind: Kind, spec: FormatSpec) -> usize
     requires { size < current.size_limit }
     ensures exact { (form : List ℕ) → IsText current kind size spec form → result ≡ length form }
     ensures small { result < text_limit }
+    ensures narrow { spec.width ≡ None → result ≤ narrow_text }
 {
     text_row(size, kind, spec).len
 }
@@ -54,8 +57,10 @@ pub fn append_text<A: Allocator>(
     text_row(size, kind, spec).append(text)
 }
 
-/// Writes the text of a size at the front of the bytes, as `append_text` adds it, and answers how long it is. Where it
-/// does not fit, nothing is written. It takes no memory. The size is below 10^30.
+/// Writes the text of a size to the front of the bytes, as `append_text` adds it, and returns its length: at most 37 if
+/// no width is set. If the text does not fit, nothing is written. It does not allocate.
+///
+/// Precondition: the size is below 10^30.
 ///
 /// ```text
 /// write_text(1536, Kind::Byte, FormatSpec::ALTERNATE, &mut out)  // 7: "1.5 KiB"
@@ -77,7 +82,6 @@ fn text_row(size: u128, kind: Kind, spec: FormatSpec) -> Row<'static>
     ensures text { IsText current kind size spec (row_text result) }
     ensures len { result.len ≡ length (row_text result) }
     ensures small { result.len < text_limit }
-    ensures narrow { spec.width ≡ None → result.len ≤ narrow_text }
     ensures ready { IsReady result }
 {
     if !spec.alternate {

@@ -86,7 +86,6 @@ pub(crate) fn layout_row<'a>(
         row_text result ≡ layout number (name current (shape_of unit)) spec }
     ensures len { result.len ≡ length (row_text result) }
     ensures small { result.len ≤ max u16.MAX (places_in fraction.entry + 44) }
-    ensures narrow { spec.width ≡ None → result.len ≤ places_in fraction.entry + 44 }
     ensures ready { IsReady result }
 {
     let number = decimal_len(whole) + fraction.len();

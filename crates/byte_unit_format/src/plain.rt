@@ -8,7 +8,7 @@ ghost use Rattle.byte_unit_format.specs.Written.{Writes};
 
 use crate::row::{Fraction, Row};
 use crate::spec::{Align, FormatSpec, Sign};
-use byte_unit_math::{NUMBER_DIGITS, decimal_len};
+use byte_unit_math::decimal_len;
 use std::alloc::{AllocError, Allocator};
 
 /// How long the plain form of a number is: its digits with their sign, padded to the width. It takes no memory.
@@ -61,7 +61,6 @@ pub(crate) fn plain_row(size: u128, spec: FormatSpec) -> Row<'static>
     ensures text { row_text result ≡ plain size spec }
     ensures len { result.len ≡ length (plain size spec) }
     ensures small { result.len ≤ u16.MAX }
-    ensures narrow { spec.width ≡ None → result.len ≤ NUMBER_DIGITS + 1 }
     ensures ready { IsReady result }
 {
     let sign = match spec.sign {
@@ -91,7 +90,6 @@ pub(crate) fn plain_row(size: u128, spec: FormatSpec) -> Row<'static>
 pub(crate) fn padding(columns: usize, width: Option<u16>) -> usize
     ensures exact { result ≡ missing width columns }
     ensures small { result + columns ≤ max u16.MAX columns }
-    ensures none { width ≡ None → result ≡ 0 }
 {
     match width {
         None => 0,
