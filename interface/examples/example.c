@@ -65,6 +65,13 @@ static void texts_are_read(void)
     line("1,000", false, false,
          "the character ',' is incorrect ('B', 'K', 'M', 'G', 'T', 'P', 'E', 'Z', 'Y' or 'R' or no character is expected)");
     line("-1", false, false, "the character '-' is not a number");
+    line("\xc3\xa9", false, false, "the character 'é' is not a number");
+    line("\xf0\x9f\x98\x80", false, false, "the character '😀' is not a number");
+    line("1.\xc3\xa9", true, false, "the character 'é' is not a number");
+    line("1\xc3\xa9", false, false,
+         "the character 'é' is incorrect ('B', 'K', 'M', 'G', 'T', 'P', 'E', 'Z', 'Y' or 'R' or no character is expected)");
+    line("1K\xf0\x9f\x98\x80", true, false, "the character '😀' is incorrect ('B' or 'b' or no character is expected)");
+    line("", false, false, "no value can be found");
     line("  ", false, false, "no value can be found");
     line("1.23456789012345678901234567890", false, false, "value number is too long");
     line("1000.00 RB", false, false, "the value 1000 exceeds the valid range");

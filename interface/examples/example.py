@@ -25,6 +25,12 @@ look("999 RB", line("999 RB"), "999000000000000000000000000000 = 999 RB")
 look("1 byte", line("1 byte"), "unit: the character 'y' is incorrect ('i' or no character is expected)")
 look("1 KÖB", line("1 KÖB"), "unit: the character 'Ö' is incorrect ('B' or 'b' or no character is expected)")
 look("-1", line("-1"), "not_number: the character '-' is not a number")
+look("é", line("é"), "not_number: the character 'é' is not a number")
+look("😀", line("😀"), "not_number: the character '😀' is not a number")
+look("1.é", line("1.é", in_bits=True), "not_number: the character 'é' is not a number")
+TEN = "'B', 'K', 'M', 'G', 'T', 'P', 'E', 'Z', 'Y' or 'R' or no character"
+look("1é", line("1é"), f"unit: the character 'é' is incorrect ({TEN} is expected)")
+look("1K😀", line("1K😀", ignore_case=True), "unit: the character '😀' is incorrect ('B' or no character is expected)")
 look("", line(""), "no_value: no value can be found")
 look("a byte of no text", line("\udcff"), "not_utf8: the text is not UTF-8")
 

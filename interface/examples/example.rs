@@ -28,6 +28,9 @@ fn main() {
         ("999 RB", "999000000000000000000000000000 = 999 RB"),
         ("", "no value can be found"),
         ("-1", "the character '-' is not a number"),
+        ("é", "the character 'é' is not a number"),
+        ("😀", "the character '😀' is not a number"),
+        ("1bi😀", "the character '😀' is incorrect ('t' is expected)"),
         ("1 byte", "the character 'y' is incorrect ('i' or no character is expected)"),
     ] {
         look(text, &line(text), wanted);
