@@ -42,6 +42,7 @@ mod constants;
 mod decimals;
 mod documented;
 mod each_unit;
+mod edges;
 mod error_texts;
 mod expansions;
 mod faults;

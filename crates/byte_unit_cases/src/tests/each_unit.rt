@@ -1,6 +1,8 @@
 //! Each unit as it is written: its bits, its name and its flags.
-use super::shown::{assert_display, assert_same};
-use byte_unit::Unit;
+use super::edges::assert_all_ok;
+use super::long_strings::assert_unit_stored;
+use super::shown::{Shown, assert_display, assert_same};
+use byte_unit::{Bit, Byte, Unit};
 use std::alloc::{AllocError, Global};
 use std::process::Abort;
 
@@ -203,12 +205,31 @@ fn is_written(unit: Unit, written: &Written) -> bool {
         && unit.powers() == powers
 }
 
-/// Each unit is what is written of it, and Display writes its name.
+/// One of the unit, which is a number of bits, is printed and stored as 1 with the name; as many bytes are 8 of it.
+fn assert_one_and_eight(
+    rt: &impl Abort,
+    alloc: Global,
+    written: &Written,
+) -> Result<(), AllocError> {
+    let (unit, bits, name) = (written.0, written.1, written.2);
+    let one = Bit::from_u128(bits).expect(rt, "a size");
+    let one = Shown::AdjustedBit(one.get_adjusted_unit(unit));
+    let text = format!(in alloc; "1 {name}")?;
+    assert_all_ok(rt, alloc, one, text.as_str(), text.as_str())?;
+    let eight = Byte::from_u128(bits).expect(rt, "a size");
+    let eight = Shown::AdjustedByte(eight.get_adjusted_unit(unit));
+    let text = format!(in alloc; "8 {name}")?;
+    assert_all_ok(rt, alloc, eight, text.as_str(), text.as_str())
+}
+
+/// Each unit is what is written of it, and its name is what Display writes and what it is stored as.
 fn assert_written(rt: &impl Abort, alloc: Global, rows: &[Written]) -> Result<(), AllocError> {
     for written in rows {
         let (unit, name) = (written.0, written.2);
         assert!(rt; is_written(unit, written), "{name}");
         assert_display(rt, alloc, &unit, name)?;
+        assert_unit_stored(rt, alloc, unit, name)?;
+        assert_one_and_eight(rt, alloc, written)?;
     }
     Ok(())
 }

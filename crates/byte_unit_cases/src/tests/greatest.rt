@@ -1,6 +1,7 @@
-//! The greatest values of each type as Display writes them, and those with the most places.
+//! The greatest values of each type as Display writes them, the least, and those with the most places.
+use super::error_texts::assert_value_text;
 use super::shown::{Shown, assert_display, assert_displays, bits, bytes, great_bytes};
-use byte_unit::{Bit, Byte, Decimal, Expansion, JsonSizeError, ParseError, Unit, ValueParseError};
+use byte_unit::{Bit, Byte, Decimal, Expansion, Unit, ValueParseError};
 use std::alloc::AllocError;
 
 /// The greatest whole part of a decimal: 2^112 - 1.
@@ -21,8 +22,22 @@ const DECIMALS: &[(u128, u128, &str)] = &[
         1,
         "5192296858534827628530496329220095.0000000000000000000000000001",
     ),
+    (0, 0, "0"),
+    (1, 0, "1"),
     (0, NINES, "0.9999999999999999999999999999"),
     (0, 1, "0.0000000000000000000000000001"),
+    (18_446_744_073_709_551_615, 0, "18446744073709551615"),
+    (18_446_744_073_709_551_616, 0, "18446744073709551616"),
+    (
+        1_000_000_000_000_000_000_000_000_000,
+        0,
+        "1000000000000000000000000000",
+    ),
+    (
+        999_999_999_999_999_999_999_999_999_999,
+        0,
+        "999999999999999999999999999999",
+    ),
     (
         18_446_744_073_709_551_616,
         18_446_744_073_709_551_616,
@@ -36,11 +51,25 @@ fn decimals(rt: HostRuntime) -> Result<(), AllocError> {
         let number = Decimal::new(*whole, *fraction).expect(&rt, "a decimal");
         assert_display(&rt, rt.alloc(), &number, text)?;
         assert_display(&rt, rt.alloc(), &Expansion::from_decimal(number), text)?;
+        let error = ValueParseError::ExceededBounds(number);
+        let text = format!(in rt.alloc(); "the value {text} exceeds the valid range")?;
+        assert_value_text(&rt, rt.alloc(), error, text.as_str())?;
     }
     Ok(())
 }
 
 const EXPANSIONS: &[(u128, u32, u32, &str)] = &[
+    (0, 0, 0, "0"),
+    (0, 93, 0, "0"),
+    (1, 0, 0, "1"),
+    (18_446_744_073_709_551_615, 0, 0, "18446744073709551615"),
+    (18_446_744_073_709_551_616, 0, 0, "18446744073709551616"),
+    (
+        1_000_000_000_000_000_000_000_000_000,
+        0,
+        0,
+        "1000000000000000000000000000",
+    ),
     (
         7_999_999_999_999_999_999_999_999_999_999,
         0,
@@ -150,16 +179,4 @@ fn bits_in_units(rt: HostRuntime) -> Result<(), AllocError> {
             ),
         ],
     )
-}
-
-#[test]
-fn errors_with_the_greatest_number(rt: HostRuntime) -> Result<(), AllocError> {
-    let number = Decimal::new(WHOLES, NINES).expect(&rt, "a decimal");
-    let text =
-        "the value 5192296858534827628530496329220095.9999999999999999999999999999 exceeds the valid range";
-    let error = ValueParseError::ExceededBounds(number);
-    assert_display(&rt, rt.alloc(), &error, text)?;
-    let read = ParseError::Value(error);
-    assert_display(&rt, rt.alloc(), &read, text)?;
-    assert_display(&rt, rt.alloc(), &JsonSizeError::Parse(read), text)
 }

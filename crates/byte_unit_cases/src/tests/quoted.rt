@@ -6,6 +6,13 @@ use std::alloc::{AllocError, Global};
 use std::process::Abort;
 
 const CHARACTERS_OF_A_NUMBER: &[(char, &str)] = &[
+    ('x', "the character 'x' is not a number"),
+    ('"', "the character '\"' is not a number"),
+    ('\\', "the character '\\\\' is not a number"),
+    ('\n', "the character '\\n' is not a number"),
+    ('\r', "the character '\\r' is not a number"),
+    ('\u{7F}', "the character '\\u{7f}' is not a number"),
+    ('\u{301}', "the character '\\u{301}' is not a number"),
     ('é', "the character 'é' is not a number"),
     ('\u{1F600}', "the character '\u{1F600}' is not a number"),
     ('\u{20000}', "the character '\u{20000}' is not a number"),
@@ -34,6 +41,48 @@ fn the_character_of_a_number(rt: HostRuntime) -> Result<(), AllocError> {
 }
 
 const CHARACTERS_OF_A_UNIT: &[(char, &[char], bool, &str)] = &[
+    (
+        'x',
+        &['B', 'b'],
+        true,
+        "the character 'x' is incorrect ('B' or 'b' or no character is expected)",
+    ),
+    (
+        '"',
+        &['B', 'b'],
+        true,
+        "the character '\"' is incorrect ('B' or 'b' or no character is expected)",
+    ),
+    (
+        '\\',
+        &['B', 'b'],
+        true,
+        "the character '\\\\' is incorrect ('B' or 'b' or no character is expected)",
+    ),
+    (
+        '\n',
+        &['B', 'b'],
+        true,
+        "the character '\\n' is incorrect ('B' or 'b' or no character is expected)",
+    ),
+    (
+        '\t',
+        &['B', 'b'],
+        true,
+        "the character '\\t' is incorrect ('B' or 'b' or no character is expected)",
+    ),
+    (
+        '\u{7F}',
+        &['B', 'b'],
+        true,
+        "the character '\\u{7f}' is incorrect ('B' or 'b' or no character is expected)",
+    ),
+    (
+        '\u{301}',
+        &['B', 'b'],
+        true,
+        "the character '\\u{301}' is incorrect ('B' or 'b' or no character is expected)",
+    ),
     (
         'é',
         &['B', 'b'],
@@ -90,6 +139,18 @@ fn the_character_of_a_unit(rt: HostRuntime) -> Result<(), AllocError> {
 }
 
 const THE_CHARACTERS_THAT_ARE_EXPECTED: &[(char, &[char], bool, &str)] = &[
+    (
+        'x',
+        &['\n', '\'', 'é'],
+        false,
+        "the character 'x' is incorrect ('\\n', '\\'' or 'é' is expected)",
+    ),
+    (
+        '\u{1F600}',
+        &[],
+        false,
+        "the character '\u{1F600}' is incorrect (no character is expected)",
+    ),
     (
         'x',
         &['\u{1F600}'],

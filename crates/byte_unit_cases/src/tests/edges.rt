@@ -1,0 +1,326 @@
+//! Sizes, expansions and numbers at the edges of their types.
+//!
+//! The contracts of the calls that make a text or a JSON string say which one it is if the call returns `Ok`, and those
+//! of `Display` do so too. Here memory is ample, and each call must return `Ok`.
+use super::shown::{
+    Shown, assert_displays, assert_row, assert_same, assert_string, great_bits, great_bytes, stored,
+};
+use byte_unit::{Bit, Byte, Expansion, FormatSpec, Unit, append_layout};
+use std::alloc::{AllocError, Global};
+use std::process::Abort;
+
+/// Each call returns the text of this value: the plain one, which is displayed too, and the one with a unit, which is
+/// its JSON string too.
+pub fn assert_all_ok(
+    rt: &impl Abort,
+    alloc: Global,
+    shown: Shown,
+    plain: &str,
+    with_unit: &str,
+) -> Result<(), AllocError> {
+    assert_row(rt, alloc, &shown, FormatSpec::PLAIN, plain)?;
+    assert_row(rt, alloc, &shown, FormatSpec::ALTERNATE, with_unit)?;
+    assert_displays(rt, alloc, &[(shown, plain)])?;
+    assert_string(rt, &stored(&shown, alloc)?, with_unit);
+    Ok(())
+}
+
+/// Sizes, their digits, and their texts with a unit: of bytes and of bits.
+const SIZES: &[(u128, &str, &str, &str)] = &[
+    (0, "0", "0 B", "0 b"),
+    (1, "1", "1 B", "1 b"),
+    (
+        18_446_744_073_709_551_615,
+        "18446744073709551615",
+        "18446744073709551.615 KB",
+        "18446744073709551.615 Kb",
+    ),
+    (
+        18_446_744_073_709_551_616,
+        "18446744073709551616",
+        "16 EiB",
+        "16 Eib",
+    ),
+    (
+        1_000_000_000_000_000_000_000_000_000,
+        "1000000000000000000000000000",
+        "1 RB",
+        "1 Rb",
+    ),
+    (
+        999_999_999_999_999_999_999_999_999_999,
+        "999999999999999999999999999999",
+        "999999999999999999999999999.999 KB",
+        "999999999999999999999999999.999 Kb",
+    ),
+];
+
+/// Numbers of bytes, a unit, and the text in it.
+const BYTES_IN_UNITS: &[(u128, Unit, &str)] = &[
+    (0, Unit::Bit, "0 b"),
+    (0, Unit::B, "0 B"),
+    (0, Unit::KB, "0 KB"),
+    (0, Unit::RiB, "0 RiB"),
+    (1, Unit::Bit, "8 b"),
+    (1, Unit::B, "1 B"),
+    (1, Unit::KB, "0.001 KB"),
+    (
+        1,
+        Unit::RiB,
+        "0.000000000000000000000000000807793566946316088741610050849573099185363389551639556884765625 RiB",
+    ),
+    (
+        18_446_744_073_709_551_615,
+        Unit::Bit,
+        "147573952589676412920 b",
+    ),
+    (
+        18_446_744_073_709_551_615,
+        Unit::B,
+        "18446744073709551615 B",
+    ),
+    (
+        18_446_744_073_709_551_615,
+        Unit::KB,
+        "18446744073709551.615 KB",
+    ),
+    (
+        18_446_744_073_709_551_615,
+        Unit::RiB,
+        "0.000000014901161193847656249192206433053683911258389949150426900814636610448360443115234375 RiB",
+    ),
+    (
+        18_446_744_073_709_551_616,
+        Unit::Bit,
+        "147573952589676412928 b",
+    ),
+    (
+        18_446_744_073_709_551_616,
+        Unit::B,
+        "18446744073709551616 B",
+    ),
+    (
+        18_446_744_073_709_551_616,
+        Unit::KB,
+        "18446744073709551.616 KB",
+    ),
+    (
+        18_446_744_073_709_551_616,
+        Unit::RiB,
+        "0.00000001490116119384765625 RiB",
+    ),
+    (
+        1_000_000_000_000_000_000_000_000_000,
+        Unit::Bit,
+        "8000000000000000000000000000 b",
+    ),
+    (
+        1_000_000_000_000_000_000_000_000_000,
+        Unit::B,
+        "1000000000000000000000000000 B",
+    ),
+    (
+        1_000_000_000_000_000_000_000_000_000,
+        Unit::KB,
+        "1000000000000000000000000 KB",
+    ),
+    (
+        1_000_000_000_000_000_000_000_000_000,
+        Unit::RiB,
+        "0.807793566946316088741610050849573099185363389551639556884765625 RiB",
+    ),
+    (
+        999_999_999_999_999_999_999_999_999_999,
+        Unit::KB,
+        "999999999999999999999999999.999 KB",
+    ),
+];
+
+/// Numbers of bits, a unit, and the text in it.
+const BITS_IN_UNITS: &[(u128, Unit, &str)] = &[
+    (0, Unit::B, "0 B"),
+    (0, Unit::Bit, "0 b"),
+    (0, Unit::Kbit, "0 Kb"),
+    (0, Unit::RiB, "0 RiB"),
+    (1, Unit::B, "0.125 B"),
+    (1, Unit::Bit, "1 b"),
+    (1, Unit::Kbit, "0.001 Kb"),
+    (
+        1,
+        Unit::RiB,
+        "0.000000000000000000000000000100974195868289511092701256356196637398170423693954944610595703125 RiB",
+    ),
+    (
+        18_446_744_073_709_551_615,
+        Unit::B,
+        "2305843009213693951.875 B",
+    ),
+    (
+        18_446_744_073_709_551_615,
+        Unit::Bit,
+        "18446744073709551615 b",
+    ),
+    (
+        18_446_744_073_709_551_615,
+        Unit::Kbit,
+        "18446744073709551.615 Kb",
+    ),
+    (
+        18_446_744_073_709_551_615,
+        Unit::RiB,
+        "0.000000001862645149230957031149025804131710488907298743643803362601829576306045055389404296875 RiB",
+    ),
+    (18_446_744_073_709_551_616, Unit::B, "2305843009213693952 B"),
+    (
+        18_446_744_073_709_551_616,
+        Unit::Bit,
+        "18446744073709551616 b",
+    ),
+    (
+        18_446_744_073_709_551_616,
+        Unit::Kbit,
+        "18446744073709551.616 Kb",
+    ),
+    (
+        18_446_744_073_709_551_616,
+        Unit::RiB,
+        "0.00000000186264514923095703125 RiB",
+    ),
+    (
+        1_000_000_000_000_000_000_000_000_000,
+        Unit::B,
+        "125000000000000000000000000 B",
+    ),
+    (
+        1_000_000_000_000_000_000_000_000_000,
+        Unit::Bit,
+        "1000000000000000000000000000 b",
+    ),
+    (
+        1_000_000_000_000_000_000_000_000_000,
+        Unit::Kbit,
+        "1000000000000000000000000 Kb",
+    ),
+    (
+        1_000_000_000_000_000_000_000_000_000,
+        Unit::RiB,
+        "0.100974195868289511092701256356196637398170423693954944610595703125 RiB",
+    ),
+    (
+        999_999_999_999_999_999_999_999_999_999,
+        Unit::Kbit,
+        "999999999999999999999999999.999 Kb",
+    ),
+];
+
+#[test]
+fn sizes(rt: HostRuntime) -> Result<(), AllocError> {
+    for (size, plain, in_bytes, in_bits) in SIZES {
+        let bytes = great_bytes(&rt, *size);
+        let bits = great_bits(&rt, *size);
+        assert_all_ok(&rt, rt.alloc(), bytes, plain, in_bytes)?;
+        assert_all_ok(&rt, rt.alloc(), bits, plain, in_bits)?;
+    }
+    Ok(())
+}
+
+#[test]
+fn bytes_in_units(rt: HostRuntime) -> Result<(), AllocError> {
+    for (size, unit, text) in BYTES_IN_UNITS {
+        let size = Byte::from_u128(*size).expect(&rt, "a size");
+        let adjusted = Shown::AdjustedByte(size.get_adjusted_unit(*unit));
+        assert_all_ok(&rt, rt.alloc(), adjusted, text, text)?;
+    }
+    Ok(())
+}
+
+#[test]
+fn bits_in_units(rt: HostRuntime) -> Result<(), AllocError> {
+    for (size, unit, text) in BITS_IN_UNITS {
+        let size = Bit::from_u128(*size).expect(&rt, "a size");
+        let adjusted = Shown::AdjustedBit(size.get_adjusted_unit(*unit));
+        assert_all_ok(&rt, rt.alloc(), adjusted, text, text)?;
+    }
+    Ok(())
+}
+
+/// A numerator, the exponents of 2 and of 5 in the denominator, the places, a unit, and the text of the number with it.
+const LAYOUTS: &[(u128, u32, u32, u32, Unit, &str)] = &[
+    (0, 0, 0, 0, Unit::B, "0 B"),
+    (1, 0, 0, 0, Unit::Bit, "1 b"),
+    (
+        18_446_744_073_709_551_615,
+        0,
+        0,
+        0,
+        Unit::KB,
+        "18446744073709551615 KB",
+    ),
+    (
+        18_446_744_073_709_551_616,
+        0,
+        0,
+        0,
+        Unit::EiB,
+        "18446744073709551616 EiB",
+    ),
+    (
+        1_000_000_000_000_000_000_000_000_000,
+        0,
+        0,
+        0,
+        Unit::RB,
+        "1000000000000000000000000000 RB",
+    ),
+    (
+        7_999_999_999_999_999_999_999_999_999_999,
+        0,
+        0,
+        0,
+        Unit::Kbit,
+        "7999999999999999999999999999999 Kb",
+    ),
+    (
+        0,
+        93,
+        0,
+        28,
+        Unit::KiB,
+        "0.0000000000000000000000000000 KiB",
+    ),
+    (
+        1,
+        93,
+        0,
+        93,
+        Unit::Ribit,
+        "0.000000000000000000000000000100974195868289511092701256356196637398170423693954944610595703125 Rib",
+    ),
+    (
+        7_999_999_999_999_999_999_999_999_999_999,
+        93,
+        0,
+        93,
+        Unit::RiB,
+        "807.793566946316088741610050849472124989495100040546855628409428362601829576306045055389404296875 RiB",
+    ),
+    (
+        7_999_999_999_999_999_999_999_999_999_999,
+        27,
+        27,
+        27,
+        Unit::RB,
+        "7999.999999999999999999999999999 RB",
+    ),
+];
+
+#[test]
+fn layouts(rt: HostRuntime) -> Result<(), AllocError> {
+    for (numerator, twos, fives, places, unit, wanted) in LAYOUTS {
+        let number = Expansion::new(*numerator, *twos, *fives);
+        let mut text = String::new(rt.alloc());
+        append_layout(&number, *places, *unit, FormatSpec::PLAIN, &mut text)?;
+        assert_same(&rt, text.as_str(), wanted);
+    }
+    Ok(())
+}
