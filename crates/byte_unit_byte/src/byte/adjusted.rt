@@ -85,9 +85,9 @@ impl AdjustedByte {
 
     /// Adds the text of the size in its unit.
     ///
-    /// With no precision, and for `Bit` and `B` without `alternate`, it has all digits. With a precision it is the
-    /// nearest decimal of exactly so many places, to the even digit of two that are as near; with `alternate` the
-    /// nearest of at most 16 places, the greater of two that are as near, without zeros at its end.
+    /// With no precision, and for `Unit::Bit` and `Unit::B` without `alternate`, it has all digits. With a precision it
+    /// is the nearest decimal of exactly so many places, to the even digit of two that are as near; with `alternate`
+    /// the nearest of at most 16 places, the greater of two that are as near, without zeros at its end.
     ///
     /// Sign, width and alignment lay it out as [`Byte::append_text`] does a number with its unit.
     ///
@@ -151,8 +151,8 @@ impl Byte {
         AdjustedByte { size: self, unit }
     }
 
-    /// This size, to be shown in the largest unit of bytes of the type that is not above it; in `B` where there is
-    /// none.
+    /// This size, to be shown in the largest unit of bytes of the type that is not above it, or in `Unit::B` if there
+    /// is none.
     ///
     /// ```text
     /// Byte::from_u64(10_000).get_appropriate_unit(UnitType::Both)        // 9.765625 KiB

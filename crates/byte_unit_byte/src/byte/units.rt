@@ -15,12 +15,14 @@ use byte_unit_base::{Kind, Unit, exact_unit, recoverable_unit};
 use byte_unit_math::{Decimal, Steps};
 
 impl Byte {
-    /// The largest unit that divides the size, with how many of it the size is. Where there is none, the size in `B`.
+    /// The largest unit that divides the size, with how many of it the size is. If there is none, the size in
+    /// `Unit::B`.
     ///
     /// The unit is a multiple of bytes, or with `allow_in_bits` of bytes or of bits.
     ///
     /// ```text
     /// Byte::from_u64(50_840_000).get_exact_unit(false)      // (50840, Unit::KB)
+    /// Byte::from_u64(375_000).get_exact_unit(true)          // (3, Unit::Mbit)
     /// ```
     pub fn get_exact_unit(self, allow_in_bits: bool) -> (u128, Unit)
         ensures recovered { IsRecovered current InBytes allow_in_bits self 0 (shape_of result.1) }
@@ -30,7 +32,7 @@ impl Byte {
     }
 
     /// The largest unit, not above the size, in which the size is a decimal of at most so many places, with that
-    /// decimal: number times unit is the size, exactly. Where there is none, the size in `B`.
+    /// decimal: number times unit is the size, exactly. If there is none, the size in `Unit::B`.
     ///
     /// The unit is a multiple of bytes, or with `allow_in_bits` of bytes or of bits. A precision above 28 counts as 28;
     /// 3 is the usual one.
