@@ -1,3 +1,4 @@
+// Rendered from crates/byte_unit_byte/src/byte.rt by tools/mirror. Do not edit.
 //! `Bit`, a size in bits: what makes one, what it gives back, and its arithmetic.
 
 ghost use Rattle.std.specs.Prelude.{◌≡◌, ◌+◌, ◌-◌, ◌*◌, ◌/◌, ◌^◌, ◌<◌, ◌≤◌, ◌↔◌, IsTrue, SomeIff, min};
@@ -27,8 +28,9 @@ pub use adjusted::AdjustedBit;
 /// A size in bits: a whole number below 10^30. A contract sees it as that number.
 ///
 /// ```text
-/// let line = Bit::parse_str("100 Mbit")?;
-/// line.divide(8)        // Some(12,500,000 bits)
+/// let limit = Bit::parse_str("1.5 Gib")?;
+/// let used = Bit::from_u64(900_000_000);
+/// limit.subtract(used)        // Some(710,612,736 bits)
 /// ```
 #[derive(Debug, Clone, Copy, PartialEq, Eq, PartialOrd, Ord, Hash)]
 pub struct Bit {
@@ -114,8 +116,8 @@ impl Bit {
     /// So many of the unit, rounded up to a whole bit. `None` where that is 10^30 or more.
     ///
     /// ```text
-    /// Bit::from_u128_with_unit(15, Unit::Mbit)    // Some(15,000,000 bits)
-    /// Bit::from_u128_with_unit(3, Unit::B)        // Some(24 bits)
+    /// Bit::from_u128_with_unit(15, Unit::Mbit)      // Some(15,000,000 bits)
+    /// Bit::from_u128_with_unit(3, Unit::B)          // Some(24 bits)
     /// ```
     pub fn from_u128_with_unit(size: u128, unit: Unit) -> Option<Bit>
         ensures { IsSizeOrNone current (IsLeastOf InBits (size * one) (shape_of unit)) result }

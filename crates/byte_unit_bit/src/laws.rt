@@ -1,3 +1,4 @@
+// Rendered from crates/byte_unit_byte/src/laws.rt by tools/mirror. Do not edit.
 //! What the constants of `Bit` are.
 
 ghost use Rattle.std.specs.Prelude.{◌≡◌, ◌*◌, ◌+◌, MatchOption};
@@ -10,49 +11,50 @@ ghost use Rattle.byte_unit_base.specs.declared.kind.Kind.TheVariants.{Bit as InB
 use crate::Bit;
 use byte_unit_base::Unit;
 
-/// The constant of `Bit` that is named after the unit: it has the unit's bits. None is named after `B`.
+/// Returns the constant of `Bit` that is named after the unit, and is as large. Returns `None` for `Unit::B`, since no
+/// constant is named after it.
 pub fn bit_constant(unit: Unit) -> Option<Bit>
     ensures { MatchOption result (unit ≡ Unit.B) (λ size. size * bits_in InBits ≡ bits (shape_of unit)) }
 {
     match unit {
-        Unit::Bit => Some(Bit::BIT),
         Unit::B => None,
-        Unit::Kbit => Some(Bit::KILOBIT),
-        Unit::Kibit => Some(Bit::KIBIBIT),
+        Unit::Bit => Some(Bit::BIT),
         Unit::KB => Some(Bit::KILOBYTE),
         Unit::KiB => Some(Bit::KIBIBYTE),
-        Unit::Mbit => Some(Bit::MEGABIT),
-        Unit::Mibit => Some(Bit::MEBIBIT),
+        Unit::Kbit => Some(Bit::KILOBIT),
+        Unit::Kibit => Some(Bit::KIBIBIT),
         Unit::MB => Some(Bit::MEGABYTE),
         Unit::MiB => Some(Bit::MEBIBYTE),
-        Unit::Gbit => Some(Bit::GIGABIT),
-        Unit::Gibit => Some(Bit::GIBIBIT),
+        Unit::Mbit => Some(Bit::MEGABIT),
+        Unit::Mibit => Some(Bit::MEBIBIT),
         Unit::GB => Some(Bit::GIGABYTE),
         Unit::GiB => Some(Bit::GIBIBYTE),
-        Unit::Tbit => Some(Bit::TERABIT),
-        Unit::Tibit => Some(Bit::TEBIBIT),
+        Unit::Gbit => Some(Bit::GIGABIT),
+        Unit::Gibit => Some(Bit::GIBIBIT),
         Unit::TB => Some(Bit::TERABYTE),
         Unit::TiB => Some(Bit::TEBIBYTE),
-        Unit::Pbit => Some(Bit::PETABIT),
-        Unit::Pibit => Some(Bit::PEBIBIT),
+        Unit::Tbit => Some(Bit::TERABIT),
+        Unit::Tibit => Some(Bit::TEBIBIT),
         Unit::PB => Some(Bit::PETABYTE),
         Unit::PiB => Some(Bit::PEBIBYTE),
-        Unit::Ebit => Some(Bit::EXABIT),
-        Unit::Eibit => Some(Bit::EXBIBIT),
+        Unit::Pbit => Some(Bit::PETABIT),
+        Unit::Pibit => Some(Bit::PEBIBIT),
         Unit::EB => Some(Bit::EXABYTE),
         Unit::EiB => Some(Bit::EXBIBYTE),
-        Unit::Zbit => Some(Bit::ZETTABIT),
-        Unit::Zibit => Some(Bit::ZEBIBIT),
+        Unit::Ebit => Some(Bit::EXABIT),
+        Unit::Eibit => Some(Bit::EXBIBIT),
         Unit::ZB => Some(Bit::ZETTABYTE),
         Unit::ZiB => Some(Bit::ZEBIBYTE),
-        Unit::Ybit => Some(Bit::YOTTABIT),
-        Unit::Yibit => Some(Bit::YOBIBIT),
+        Unit::Zbit => Some(Bit::ZETTABIT),
+        Unit::Zibit => Some(Bit::ZEBIBIT),
         Unit::YB => Some(Bit::YOTTABYTE),
         Unit::YiB => Some(Bit::YOBIBYTE),
-        Unit::Rbit => Some(Bit::RONNABIT),
-        Unit::Ribit => Some(Bit::ROBIBIT),
+        Unit::Ybit => Some(Bit::YOTTABIT),
+        Unit::Yibit => Some(Bit::YOBIBIT),
         Unit::RB => Some(Bit::RONNABYTE),
         Unit::RiB => Some(Bit::ROBIBYTE),
+        Unit::Rbit => Some(Bit::RONNABIT),
+        Unit::Ribit => Some(Bit::ROBIBIT),
     }
 }
 

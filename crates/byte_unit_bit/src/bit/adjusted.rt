@@ -1,3 +1,4 @@
+// Rendered from crates/byte_unit_byte/src/byte/adjusted.rt by tools/mirror. Do not edit.
 //! `AdjustedBit`, a size in bits with the unit that it is shown in.
 
 ghost use Rattle.std.specs.Prelude.{◌≡◌, ◌*◌, ◌<◌, ℕ, List, length, IfOk};
@@ -48,7 +49,7 @@ impl AdjustedBit {
     /// The size in its unit, as a fraction that is not reduced: its bits over the bits of the unit.
     ///
     /// ```text
-    /// Bit::from_u64(24).get_adjusted_unit(Unit::B).get_value()      // (24, 8)
+    /// Bit::from_u64(1024).get_adjusted_unit(Unit::Kibit).get_value()      // (1024, 1024)
     /// ```
     pub fn get_value(&self) -> (u128, u128)
         ensures numerator { result.0 ≡ self.now.size * bits_in InBits }
@@ -85,9 +86,9 @@ impl AdjustedBit {
 
     /// Adds the text of the size in its unit.
     ///
-    /// With no precision, and for `Bit` and `B` without `alternate`, it has all digits. With a precision it is the
-    /// nearest decimal of exactly so many places, to the even digit of two that are as near; with `alternate` the
-    /// nearest of at most 16 places, the greater of two that are as near, without zeros at its end.
+    /// With no precision, and for `Unit::B` and `Unit::Bit` without `alternate`, it has all digits. With a precision it
+    /// is the nearest decimal of exactly so many places, to the even digit of two that are as near; with `alternate`
+    /// the nearest of at most 16 places, the greater of two that are as near, without zeros at its end.
     ///
     /// Sign, width and alignment lay it out as [`Bit::append_text`] does a number with its unit.
     ///
@@ -151,8 +152,8 @@ impl Bit {
         AdjustedBit { size: self, unit }
     }
 
-    /// This size, to be shown in the largest unit of bits of the type that is not above it; in `Bit` where there is
-    /// none.
+    /// This size, to be shown in the largest unit of bits of the type that is not above it, or in `Unit::Bit` if there
+    /// is none.
     ///
     /// ```text
     /// Bit::from_u64(10_000).get_appropriate_unit(UnitType::Both)        // 9.765625 Kib

@@ -1,3 +1,4 @@
+// Rendered from crates/byte_unit_byte/src/byte/built_in_traits.rt by tools/mirror. Do not edit.
 //! The traits of std that `Bit` has.
 
 ghost use Rattle.std.specs.Prelude.{◌≡◌, ◌^◌, ◌<◌, ◌-◌, min, Some, OkIff, false};
@@ -35,7 +36,7 @@ impl fmt::Display for Bit {
     }
 }
 
-/// [`Bit::parse_str`].
+/// [`Bit::parse_str`], case sensitive.
 impl FromStr for Bit {
     type Err = ParseError;
 

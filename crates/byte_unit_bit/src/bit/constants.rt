@@ -1,3 +1,4 @@
+// Rendered from crates/byte_unit_byte/src/byte/constants.rt by tools/mirror. Do not edit.
 //! The constants of `Bit`, as written numbers. `laws` states that each is the unit that it is named after.
 
 use super::Bit;

@@ -1,3 +1,4 @@
+// Rendered from crates/byte_unit_byte/src/byte/decimal.rt by tools/mirror. Do not edit.
 //! Sizes in bits from decimals.
 
 ghost use Rattle.byte_unit_base.specs.Edition.{current};
@@ -28,7 +29,7 @@ impl Bit {
     ///
     /// ```text
     /// let number = Decimal::from_u128_with_scale(15, 1)?;      // 1.5
-    /// Bit::from_decimal_with_unit(number, Unit::KiB)      // Some(12,288 bits)
+    /// Bit::from_decimal_with_unit(number, Unit::Kibit)      // Some(1536 bits)
     /// ```
     pub fn from_decimal_with_unit(size: Decimal, unit: Unit) -> Option<Bit>
         ensures { IsSizeOrNone current (IsLeastOf InBits size (shape_of unit)) result }

@@ -1,3 +1,4 @@
+// Rendered from crates/byte_unit_byte/src/byte/parse.rt by tools/mirror. Do not edit.
 //! Reading sizes in bits.
 
 ghost use Rattle.std.specs.Prelude.{false};

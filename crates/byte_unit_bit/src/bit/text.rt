@@ -1,3 +1,4 @@
+// Rendered from crates/byte_unit_byte/src/byte/text.rt by tools/mirror. Do not edit.
 //! Sizes in bits as texts.
 
 ghost use Rattle.std.specs.Prelude.{◌≡◌, ◌<◌, ◌≤◌, ℕ, List, length, IfOk};
@@ -14,7 +15,8 @@ use byte_unit_format::FormatSpec;
 use std::alloc::{AllocError, Allocator, Global};
 
 impl Bit {
-    /// How many bytes the text of the size has under the spec: below 65,600. It asks for no memory.
+    /// Returns the length of the text of the size under the spec, in bytes: below 65,600, and at most 37 if no width is
+    /// set. It does not allocate.
     ///
     /// ```text
     /// Bit::from_u64(1536).text_len(FormatSpec::ALTERNATE)      // 7, of "1.5 Kib"
@@ -22,6 +24,7 @@ impl Bit {
     pub fn text_len(self, spec: FormatSpec) -> usize
         ensures exact { (form : List ℕ) → IsText current InBits self spec form → result ≡ length form }
         ensures small { result < text_limit }
+        ensures narrow { spec.width ≡ None → result ≤ narrow_text }
     {
         byte_unit_format::text_len(self.size, Kind::Bit, spec)
     }
@@ -53,8 +56,8 @@ impl Bit {
         byte_unit_format::append_text(self.size, Kind::Bit, spec, text)
     }
 
-    /// Writes the text of the size at the front of the bytes, as `append_text` adds it, and answers how many bytes it
-    /// has: at most 72 where no width is set. Where it does not fit, nothing is written. It asks for no memory.
+    /// Writes the text of the size to the front of the bytes, as `append_text` adds it, and returns its length: at most
+    /// 37 if no width is set. If the text does not fit, nothing is written. It does not allocate.
     ///
     /// ```text
     /// let mut out = [0; 16];

@@ -1,3 +1,4 @@
+// Rendered from crates/byte_unit_byte/src/byte/units.rt by tools/mirror. Do not edit.
 //! The units in which a size in bits is stated exactly.
 
 ghost use Rattle.std.specs.Prelude.{◌≡◌, ◌*◌, ◌≤◌};
@@ -15,12 +16,14 @@ use byte_unit_base::{Kind, Unit, exact_unit, recoverable_unit};
 use byte_unit_math::{Decimal, Steps};
 
 impl Bit {
-    /// The largest unit that divides the size, with how many of it the size is. Where there is none, the size in `Bit`.
+    /// The largest unit that divides the size, with how many of it the size is. If there is none, the size in
+    /// `Unit::Bit`.
     ///
     /// The unit is a multiple of bits, or with `allow_in_bytes` of bits or of bytes.
     ///
     /// ```text
-    /// Bit::from_u64(24_000_000).get_exact_unit(true)      // (3, Unit::MB)
+    /// Bit::from_u64(50_840_000).get_exact_unit(false)      // (50840, Unit::Kbit)
+    /// Bit::from_u64(24_000_000).get_exact_unit(true)       // (3, Unit::MB)
     /// ```
     pub fn get_exact_unit(self, allow_in_bytes: bool) -> (u128, Unit)
         ensures recovered { IsRecovered current InBits allow_in_bytes self 0 (shape_of result.1) }
@@ -30,7 +33,7 @@ impl Bit {
     }
 
     /// The largest unit, not above the size, in which the size is a decimal of at most so many places, with that
-    /// decimal: number times unit is the size, exactly. Where there is none, the size in `Bit`.
+    /// decimal: number times unit is the size, exactly. If there is none, the size in `Unit::Bit`.
     ///
     /// The unit is a multiple of bits, or with `allow_in_bytes` of bits or of bytes. A precision above 28 counts as 28;
     /// 3 is the usual one.
@@ -38,6 +41,7 @@ impl Bit {
     /// ```text
     /// Bit::from_u64(50_840_000).get_recoverable_unit(false, 2)     // (50.84, Unit::Mbit)
     /// Bit::from_u64(28_000_000).get_recoverable_unit(true, 3)      // (3.5, Unit::MB)
+    /// Bit::from_u64(437_500).get_recoverable_unit(false, 3)        // (437.5, Unit::Kbit)
     /// ```
     pub fn get_recoverable_unit(self, allow_in_bytes: bool, precision: usize) -> (Decimal, Unit)
         ensures recovered { IsRecovered current InBits allow_in_bytes self precision (shape_of result.1) }

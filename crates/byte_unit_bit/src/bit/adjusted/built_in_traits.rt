@@ -1,3 +1,4 @@
+// Rendered from crates/byte_unit_byte/src/byte/adjusted/built_in_traits.rt by tools/mirror. Do not edit.
 //! The traits of std that `AdjustedBit` has.
 
 ghost use Rattle.std.specs.Prelude.{◌≡◌, nat_eq, Some};

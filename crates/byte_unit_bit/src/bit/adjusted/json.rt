@@ -1,3 +1,4 @@
+// Rendered from crates/byte_unit_byte/src/byte/adjusted/json.rt by tools/mirror. Do not edit.
 //! Adjusted sizes in bits as JSON strings.
 
 ghost use Rattle.std.specs.Prelude.{◌≡◌, ℕ, List, IfOk};
@@ -24,7 +25,7 @@ impl AdjustedBit {
     /// a string with more is refused by its reader. `AllocError` where memory for it was refused.
     ///
     /// ```text
-    /// Bit::from_u64(4).get_adjusted_unit(Unit::Gibit).to_json(alloc)?   // "0.0000000037252902984619140625 Gib"
+    /// Bit::from_u64(4).get_adjusted_unit(Unit::Gibit).to_json(alloc)?     // "0.0000000037252902984619140625 Gib"
     /// ```
     pub fn to_json(self, alloc: Global) -> Result<Value, AllocError>
         ensures { IfOk result
