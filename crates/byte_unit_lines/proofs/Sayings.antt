@@ -1,6 +1,6 @@
 -- What is added for a line.
-use Rattle.std.proofs.Common.{◌≡◌, ℕ, ◌+◌, ◌≤◌, List, [], ◌∷◌, ◌++◌, false, if◌then◌else◌, codes, refl, sym, ap, ◌∙◌, append_assoc}
-use Rattle.std.proofs.Common.{◌-◌, drop, set}
+use Rattle.std.proofs.Common.{◌≡◌, ℕ, ◌+◌, ◌*◌, ◌≤◌, List, [], ◌∷◌, ◌++◌, false, if◌then◌else◌, codes, refl, sym, ap, ◌∙◌}
+use Rattle.std.proofs.Common.{append_assoc, ◌-◌, drop, set}
 use Rattle.std.proofs.Common.{Result, Ok, Err, OnOk, is_ok, length, take, arith}
 use Rattle.std.specs.Prelude.{⊤}
 use Rattle.std.specs.Str.{IsUtf8}
@@ -97,32 +97,39 @@ put_length at count old part fits long =
       length-drop {A = ℕ} at old,
     )
 
+-- the bytes in which an answer with a size is put together: two texts, ` = ` between them, and the line end
+abbrev pub answer_room : ℕ
+answer_room = 2 * narrow_text + 4
+
 -- the digits, the sign behind them, the size with a unit behind that, and the line end, as they are put into the bytes
 pub answer_put :
     (kind : Kind) (number : ℕ) {blank first sign second : List ℕ} {few many : ℕ}
     (digits : Writes (IsText current kind number plain_spec) blank first few) → few ≤ narrow_text → sign ≡ codes " = "
     → (form : Writes (IsText current kind number alternate_spec)
-    (take (148 - (few + 3)) (drop (few + 3) (put_mid few (few + 3 - few) first sign))) second many) → many ≤ narrow_text
-    → length blank ≡ 148
+    (take (answer_room - (few + 3)) (drop (few + 3) (put_mid few (few + 3 - few) first sign))) second many)
+    → many ≤ narrow_text → length blank ≡ answer_room
     → SaysParts kind number digits.form form.form
     (take (few + 3 + many + 1)
-    (set (put_mid (few + 3) (148 - (few + 3)) (put_mid few (few + 3 - few) first sign) second) (few + 3 + many) 10))
+    (set (put_mid (few + 3) (answer_room - (few + 3)) (put_mid few (few + 3 - few) first sign) second)
+    (few + 3 + many) 10))
 answer_put kind number {blank} {first} {sign} {second} {few} {many} digits narrow sign_is form narrow_form long =
     let at = few + 3 in
     let end = at + many in
     let signed = put_mid few (at - few) first sign in
     let room : few ≤ length blank = omega (arith, narrow, long) in
-    let first_length : length first ≡ 148 = written_length digits room ∙ long in
+    let first_length : length first ≡ answer_room = written_length digits room ∙ long in
     let sign_length : length sign ≡ 3 = ap (λ l. length l) sign_is in
-    let signed_length : length signed ≡ 148 =
+    let signed_length : length signed ≡ answer_room =
     put_length few (at - few) first sign (omega (arith, first_length, narrow)) (omega (arith, sign_length)) ∙ first_length in
-    let part = take (148 - at) (drop at signed) in
-    let part_length : length part ≡ 148 - at =
-    omega (arith, signed_length, length-take {A = ℕ} (148 - at) (drop at signed), length-drop {A = ℕ} at signed) in
+    let part = take (answer_room - at) (drop at signed) in
+    let part_length : length part ≡ answer_room - at =
+    let taken = length-take {A = ℕ} (answer_room - at) (drop at signed) in
+    omega (arith, signed_length, taken, length-drop {A = ℕ} at signed) in
     let part_room : many ≤ length part = omega (arith, part_length, narrow, narrow_form) in
-    let said = put_mid at (148 - at) signed second in
-    let said_length : length said ≡ 148 =
-    put_length at (148 - at) signed second (omega (arith, signed_length, narrow)) (written_length form part_room ∙ part_length)
+    let said = put_mid at (answer_room - at) signed second in
+    let said_length : length said ≡ answer_room =
+    put_length at (answer_room - at) signed second (omega (arith, signed_length, narrow))
+    (written_length form part_room ∙ part_length)
     ∙ signed_length in
     let is_signed : take at signed ≡ digits.form ++ codes " = " =
     put_behind few at first sign (codes " = ") [] _ sign_is (omega (arith, first_length, narrow)) refl

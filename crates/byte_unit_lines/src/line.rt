@@ -11,8 +11,8 @@ use crate::arguments::Kind;
 use byte_unit::{Bit, Byte, FormatSpec, ParseError, ValueParseError};
 use std::alloc::{AllocError, Allocator};
 
-/// The most bytes of an answer that says a size: two texts of 72, what stands between them, and the line end.
-const ROOM: usize = 148;
+/// The most bytes of an answer with a size: two texts of at most 37 bytes, ` = ` between them, and the line end.
+const ROOM: usize = 78;
 
 /// Adds the answer to a line, with its line end: all of it, or nothing where memory is refused.
 ///
