@@ -52,6 +52,7 @@ mod greatest;
 mod json;
 mod least;
 mod long_strings;
+mod longest;
 mod number_texts;
 mod numbers;
 mod quoted;

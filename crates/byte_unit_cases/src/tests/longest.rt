@@ -1,0 +1,166 @@
+//! The longest texts without a width: 37 bytes. In each binary unit but the last, the size is the greatest below 10^30
+//! that takes two places more than the decimal unit of the same prefix has zeros.
+use super::shown::{assert_texts_of_bits, assert_texts_of_bytes};
+use byte_unit::{Bit, Byte, FormatSpec, Sign};
+use std::alloc::AllocError;
+use std::process::Abort;
+
+/// The most bytes of a text without a width.
+const LONGEST: usize = 37;
+
+/// The greatest size below 10^30 that takes five places in `KiB`.
+const FIVE_PLACES: u128 = 999_999_999_999_999_999_999_999_999_968;
+
+const FIVE_AND_PLUS: FormatSpec = spec!(true, Sign::Plus, Some(5), None, None);
+
+const LONGEST_OF_BYTES: &[(u128, FormatSpec, &str)] = &[
+    (
+        FIVE_PLACES,
+        precise!(5),
+        "976562499999999999999999999.96875 KiB",
+    ),
+    (
+        FIVE_PLACES,
+        FIVE_AND_PLUS,
+        "976562499999999999999999999.96875 KiB",
+    ),
+    (
+        999_999_999_999_999_999_999_999_995_904,
+        precise!(8),
+        "953674316406249999999999.99609375 MiB",
+    ),
+    (
+        999_999_999_999_999_999_999_999_475_712,
+        precise!(11),
+        "931322574615478515624.99951171875 GiB",
+    ),
+    (
+        999_999_999_999_999_999_999_932_891_136,
+        precise!(14),
+        "909494701772928237.91497802734375 TiB",
+    ),
+    (
+        999_999_999_999_999_999_998_926_258_176,
+        precise!(17),
+        "888178419700125.23233795166015625 PiB",
+    ),
+    (
+        999_999_999_999_999_998_993_903_910_912,
+        precise!(20),
+        "867361737988.40354633331298828125 EiB",
+    ),
+    (
+        999_999_999_999_999_879_147_136_483_328,
+        precise!(23),
+        "847032947.25430023670196533203125 ZiB",
+    ),
+    (
+        999_999_999_999_985_101_710_859_173_888,
+        precise!(26),
+        "827180.61255301535129547119140625 YiB",
+    ),
+];
+
+const LONGEST_OF_BITS: &[(u128, FormatSpec, &str)] = &[
+    (
+        FIVE_PLACES,
+        precise!(5),
+        "976562499999999999999999999.96875 Kib",
+    ),
+    (
+        FIVE_PLACES,
+        FIVE_AND_PLUS,
+        "976562499999999999999999999.96875 Kib",
+    ),
+    (
+        999_999_999_999_999_999_999_999_995_904,
+        precise!(8),
+        "953674316406249999999999.99609375 Mib",
+    ),
+    (
+        999_999_999_999_999_999_999_999_475_712,
+        precise!(11),
+        "931322574615478515624.99951171875 Gib",
+    ),
+    (
+        999_999_999_999_999_999_999_932_891_136,
+        precise!(14),
+        "909494701772928237.91497802734375 Tib",
+    ),
+    (
+        999_999_999_999_999_999_998_926_258_176,
+        precise!(17),
+        "888178419700125.23233795166015625 Pib",
+    ),
+    (
+        999_999_999_999_999_998_993_903_910_912,
+        precise!(20),
+        "867361737988.40354633331298828125 Eib",
+    ),
+    (
+        999_999_999_999_999_879_147_136_483_328,
+        precise!(23),
+        "847032947.25430023670196533203125 Zib",
+    ),
+    (
+        999_999_999_999_985_101_710_859_173_888,
+        precise!(26),
+        "827180.61255301535129547119140625 Yib",
+    ),
+];
+
+/// Each text in the rows is as long as the longest.
+fn assert_longest(rt: &impl Abort, rows: &[(u128, FormatSpec, &str)]) {
+    for (_, _, text) in rows {
+        assert!(rt; text.len() == LONGEST, "{text}");
+    }
+}
+
+#[test]
+fn longest_texts_of_bytes(rt: HostRuntime) -> Result<(), AllocError> {
+    assert_longest(&rt, LONGEST_OF_BYTES);
+    assert_texts_of_bytes(&rt, rt.alloc(), LONGEST_OF_BYTES)
+}
+
+#[test]
+fn longest_texts_of_bits(rt: HostRuntime) -> Result<(), AllocError> {
+    assert_longest(&rt, LONGEST_OF_BITS);
+    assert_texts_of_bits(&rt, rt.alloc(), LONGEST_OF_BITS)
+}
+
+/// In the last unit 28 places are two fewer, and a plain text has at most 30 digits and a sign.
+const ALMOST_LONGEST: &[(u128, FormatSpec, &str)] = &[
+    (
+        999_999_999_999_534_741_748_122_124_288,
+        precise!(28),
+        "807.7935669459402561187744140625 RiB",
+    ),
+    (
+        999_999_999_999_999_999_999_999_999_999,
+        spec!(false, Sign::Plus, Some(28), None, None),
+        "+999999999999999999999999999999",
+    ),
+];
+
+#[test]
+fn almost_longest_texts(rt: HostRuntime) -> Result<(), AllocError> {
+    assert_texts_of_bytes(&rt, rt.alloc(), ALMOST_LONGEST)
+}
+
+#[test]
+fn longest_text_fits_37_bytes(rt: HostRuntime) {
+    let mut out = [0; LONGEST];
+    let bytes = Byte::from_u128(FIVE_PLACES).expect(&rt, "a size");
+    assert!(rt; bytes.write_text(precise!(5), &mut out) == LONGEST);
+    assert!(rt; out == *b"976562499999999999999999999.96875 KiB");
+    let bits = Bit::from_u128(FIVE_PLACES).expect(&rt, "a size");
+    assert!(rt; bits.write_text(precise!(5), &mut out) == LONGEST);
+    assert!(rt; out == *b"976562499999999999999999999.96875 Kib");
+}
+
+#[test]
+fn longest_text_does_not_fit_36_bytes(rt: HostRuntime) {
+    let mut out = [7; LONGEST - 1];
+    let bytes = Byte::from_u128(FIVE_PLACES).expect(&rt, "a size");
+    assert!(rt; bytes.write_text(precise!(5), &mut out) == LONGEST && out == [7; LONGEST - 1]);
+}
