@@ -19,22 +19,37 @@ fn behind(
     Ok(line)
 }
 
-/// A character, what stands behind many of it, and the report.
-const ROWS: &[(&str, &[u8], &[u8])] = &[
-    ("0", b"1", b"1 = 1 B\n"),
-    ("0", b"1.5 KiB\n2KB\n", b"1536 = 1.5 KiB\n2000 = 2 KB\n"),
-    (" ", b"1KB", b"1000 = 1 KB\n"),
-    ("1", b"", b"number too long\n"),
-    ("x", b"", b"not a number\n"),
-    ("0", b"\xFF\n1KB", b"not text\n1000 = 1 KB\n"),
+/// A character, how often it is repeated, what follows it, and the report. The lines are longer than one chunk, than
+/// three and than four.
+const ROWS: &[(&str, usize, &[u8], &[u8])] = &[
+    ("0", 100_000, b"1", b"1 = 1 B\n"),
+    (
+        "0",
+        100_000,
+        b"1.5 KiB\n2KB\n",
+        b"1536 = 1.5 KiB\n2000 = 2 KB\n",
+    ),
+    (" ", 100_000, b"1KB", b"1000 = 1 KB\n"),
+    ("1", 100_000, b"", b"number too long\n"),
+    ("x", 100_000, b"", b"not a number\n"),
+    ("0", 100_000, b"\xFF\n1KB", b"not text\n1000 = 1 KB\n"),
+    (
+        "0",
+        200_000,
+        b"1.5 KiB\n2KB\n",
+        b"1536 = 1.5 KiB\n2000 = 2 KB\n",
+    ),
+    ("x", 200_000, b"\n1KB", b"not a number\n1000 = 1 KB\n"),
+    ("0", 300_000, b"1", b"1 = 1 B\n"),
+    ("x", 300_000, b"", b"not a number\n"),
 ];
 
 #[test]
 fn long_lines(rt: HostRuntime) -> Result<(), Fail> {
-    for (character, end, wanted) in ROWS {
-        let input = behind(rt.alloc(), character, 100_000, end)?;
+    for (character, count, end, wanted) in ROWS {
+        let input = behind(rt.alloc(), character, *count, end)?;
         let ended = reported(rt.alloc(), &input);
-        ended.expect_long(&rt, Ok(()), wanted, character, &[]);
+        ended.expect_long(&rt, Ok(()), wanted, character, &[*count]);
     }
     Ok(())
 }

@@ -59,6 +59,10 @@ fn bounds(rt: HostRuntime) -> Result<(), Fail> {
             b"18446744073709551615\n18446744073709551616\n",
             "18446744073709551615 = 18446744073709551.615 KB\n18446744073709551616 = 16 EiB\n",
         ),
+        (
+            b"0\n999999999999999999999999999999\n",
+            "0 = 0 B\n999999999999999999999999999999 = 999999999999999999999999999.999 KB\n",
+        ),
     ];
     give(&rt, rt.alloc(), Kind::Byte, ROWS)
 }
@@ -139,7 +143,30 @@ fn documented_lines(rt: HostRuntime) -> Result<(), Fail> {
 
 #[test]
 fn bits(rt: HostRuntime) -> Result<(), Fail> {
-    const ROWS: &[(&[u8], &str)] = &[(b"1KiB\n1K\n", "8192 = 8 Kib\n1000 = 1 Kb\n")];
+    const ROWS: &[(&[u8], &str)] = &[
+        (b"1KiB\n1K\n", "8192 = 8 Kib\n1000 = 1 Kb\n"),
+        (
+            b"0\n18446744073709551615\n18446744073709551616\n",
+            "0 = 0 b\n18446744073709551615 = 18446744073709551.615 Kb\n18446744073709551616 = 16 Eib\n",
+        ),
+        (
+            b"1 Rb\n125 RB\n",
+            "1000000000000000000000000000 = 1 Rb\nout of range\n",
+        ),
+        (
+            b"999999999999999999999999999999\n",
+            "999999999999999999999999999999 = 999999999999999999999999999.999 Kb\n",
+        ),
+        (
+            b"   \n1\tKb\nx\n5192296858534827628530496329220096\n",
+            "no value\nbad unit\nnot a number\nnumber too long\n",
+        ),
+        (b"\xFF\n12\n", "not text\n12 = 12 b\n"),
+        (
+            b"1\xED\xA0\x80\n1\xC0\x80\n1\xFF\n1\xC3\n1\x00\n",
+            "not text\nnot text\nnot text\nnot text\nbad unit\n",
+        ),
+    ];
     give(&rt, rt.alloc(), Kind::Bit, ROWS)
 }
 
