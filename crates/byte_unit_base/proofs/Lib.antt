@@ -23,6 +23,7 @@ pub mod FewSteps
 pub mod SomeChoice
 pub mod LaterChoices
 pub mod OneChoice
+pub mod ErrorTexts
 pub mod NumberTexts
 pub mod LongFractions
 pub mod FastReads

@@ -250,12 +250,13 @@ fn write_expected<W: fmt::Write>(
 fn write_others<W: fmt::Write>(others: &[char], f: &mut fmt::Formatter<W>) -> fmt::Result
     ensures { DisplaysOnOk W.write_str_gives f.old result (others_text others.now) f.new }
 {
-    let [c, rest @ ..] = others else {
-        return Ok(());
-    };
-    let before = if rest.is_empty() { " or " } else { ", " };
-    write!(f, "{before}{c:?}")?;
-    write_others(rest, f)
+    let mut left = others;
+    while let [c, rest @ ..] = left {
+        let before = if rest.is_empty() { " or " } else { ", " };
+        write!(f, "{before}{c:?}")?;
+        left = rest;
+    }
+    Ok(())
 }
 
 impl fmt::Display for JsonSizeError {
