@@ -121,8 +121,9 @@ uint32_t byte_unit_parse(const char *text, size_t len, bool in_bits, bool ignore
 /* Writes why a text is refused, in words, at most 256 bytes of UTF-8. 0 where the text states a size. */
 size_t byte_unit_explain(const char *text, size_t len, bool in_bits, bool ignore_case, char *out, size_t room);
 
-/* Writes the text of a size: its digits, or in the alternate form with the largest unit that states it exactly within the
- * precision. 0 where the number is no size or the spec is none. */
+/* Writes the text of a size: its digits, or in the alternate form the size in the largest unit of its kind, not above
+ * it, that states it exactly within the precision (3 if none is set, 28 at most), or in B or b if there is none.
+ * Returns 0 if the number is not a size or the spec is invalid. */
 size_t byte_unit_text(byte_unit_number size, bool in_bits, byte_unit_spec spec, char *out, size_t room);
 
 /* Writes the text of a size in a unit. 0 where the number is no size, the spec none, or the code that of no unit. */
@@ -136,11 +137,12 @@ size_t byte_unit_unit_name(uint32_t unit, char *out, size_t room);
  * the type is none. */
 uint32_t byte_unit_appropriate_unit(byte_unit_number size, bool in_bits, uint32_t unit_type);
 
-/* The largest unit that divides the size, or the kind's own; how many of it is written. Of either kind's units with
- * `of_either`. BYTE_UNIT_NO_UNIT, and nothing is written, where the number is no size. */
+/* Returns the largest unit of the kind, not above the size, that divides it, or the kind's own, and writes how many of
+ * it; with `of_either`, of either kind's units. Returns BYTE_UNIT_NO_UNIT and writes nothing if the number is not a
+ * size. */
 uint32_t byte_unit_exact_unit(byte_unit_number size, bool in_bits, bool of_either, byte_unit_number *count);
 
-/* The same, with the largest unit, not above the size, that states it within so many places, 28 at most. */
+/* The same, with the largest unit, not above the size, that states it exactly within `precision` places, 28 at most. */
 uint32_t byte_unit_recoverable_unit(byte_unit_number size, bool in_bits, bool of_either, size_t precision,
                                     byte_unit_parts *count);
 

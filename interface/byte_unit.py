@@ -181,14 +181,21 @@ def appropriate_unit(size, in_bits=False, unit_type="both"):
 
 
 def exact_unit(size, in_bits=False, of_either=False):
-    """The largest unit that divides the size: how many of it, and its name."""
+    """Returns how many of the largest unit of its kind, not above it, that divides the size, and the unit's name.
+
+    If there is none, the unit is `B` or `b`. With `of_either` the units of both kinds count.
+    """
     count = Number()
     code = _exact_unit(_size(size), in_bits, of_either, count)
     return int(count), UNITS[code]
 
 
 def recoverable_unit(size, in_bits=False, of_either=False, precision=3):
-    """The largest unit that states the size within so many places: how many of it, as a text, and its name."""
+    """Returns how many of the largest unit of its kind, not above it, state the size exactly, and the unit's name.
+
+    The number is a string of at most `precision` places, 28 at most. If there is no such unit, it is `B` or `b`. With
+    `of_either` the units of both kinds count.
+    """
     count = Parts()
     code = _recoverable_unit(_size(size), in_bits, of_either, precision, count)
     return str(count), UNITS[code]

@@ -307,14 +307,16 @@ impl Size {
         unit_at(code).unwrap()
     }
 
-    /// The largest unit that divides the size, or the kind's own, with how many of it.
+    /// Returns how many of the largest unit of the kind, not above the size, that divides it, and the unit; or the size
+    /// and the kind's own unit.
     pub fn exact_unit(self, kind: Kind, of_either: bool) -> (u128, Unit) {
         let (size, mut count) = (raw::Number::new(self.0), raw::Number::default());
         let code = unsafe { raw::byte_unit_exact_unit(size, kind == Kind::Bit, of_either, &mut count) };
         (count.get(), unit_at(code).unwrap())
     }
 
-    /// The largest unit, not above the size, that states it within so many places, or the kind's own, with how many of it.
+    /// Returns how many of the largest unit of the kind, not above the size, that states it exactly within `precision`
+    /// places, 28 at most, and the unit; or the size and the kind's own unit.
     pub fn recoverable_unit(self, kind: Kind, of_either: bool, precision: usize) -> (Decimal, Unit) {
         let (size, mut count) = (raw::Number::new(self.0), raw::Parts::default());
         let in_bits = kind == Kind::Bit;

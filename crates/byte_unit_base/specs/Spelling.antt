@@ -28,7 +28,8 @@ pub record SpellsPrefix (edition : Edition) (text : List ℕ) (power : ℕ) (bin
   pub letter_is : IsPrefixLetter edition power letter
   pub infix_is : SpellsBinary infix_part binary
 
--- the text says bits or bytes
+-- the text says bits or bytes. An edition has no field for these suffixes: one more here changes the first version too,
+-- and the law on old meanings with it. Give `Edition` a field for them before one is added
 abbrev pub SpellsCount : Flags → List ℕ → Bool → Type 0
 SpellsCount flags text bit =
     (text ≡ []) × (bit ≡ not flags.prefer_byte)

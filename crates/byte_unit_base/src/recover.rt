@@ -50,8 +50,8 @@ pub fn recoverable_unit(
     }
 }
 
-/// The largest unit that divides the size, with the whole number of them; where there is none, the
-/// size itself in `B` or `Bit`.
+/// Returns how many of the largest unit, not above the size, that divides it the size is, and the unit; the size
+/// itself in `B` or `Bit` if there is none.
 ///
 /// The unit is of the size's own kind, or of either where `allow` is set. The size is below 10^30.
 ///

@@ -11,8 +11,8 @@ ghost use Rattle.byte_unit_base.specs.declared.kind.Kind.TheVariants.{Bit as InB
 use crate::Bit;
 use byte_unit_base::Unit;
 
-/// Returns the constant of `Bit` that is named after the unit, and is as large. Returns `None` for `Unit::B`, since no
-/// constant is named after it.
+/// Returns the constant of `Bit` that is named after the unit, and is as large. Returns `None` for `Unit::B`, since
+/// no constant is named after it.
 pub fn bit_constant(unit: Unit) -> Option<Bit>
     ensures { MatchOption result (unit ≡ Unit.B) (λ size. size * bits_in InBits ≡ bits (shape_of unit)) }
 {

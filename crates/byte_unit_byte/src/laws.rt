@@ -10,8 +10,8 @@ ghost use Rattle.byte_unit_base.specs.declared.kind.Kind.TheVariants.{Byte as In
 use crate::Byte;
 use byte_unit_base::Unit;
 
-/// Returns the constant of `Byte` that is named after the unit, and is as large. Returns `None` for `Unit::Bit`, since no
-/// constant is named after it.
+/// Returns the constant of `Byte` that is named after the unit, and is as large. Returns `None` for `Unit::Bit`, since
+/// no constant is named after it.
 pub fn byte_constant(unit: Unit) -> Option<Byte>
     ensures { MatchOption result (unit ≡ Unit.Bit) (λ size. size * bits_in InBytes ≡ bits (shape_of unit)) }
 {

@@ -20,9 +20,9 @@ use byte_unit_math::Steps;
 /// The code of no unit.
 pub const NO_UNIT: u32 = u32::MAX;
 
-/// The code of the largest unit that divides the size, or of the kind's own unit where none does. How many of it the
-/// size is, is written. The unit is of the kind, or of either kind with `of_either`. Where the number is no size the
-/// answer is `NO_UNIT`, and nothing is written.
+/// Returns the code of the largest unit, not above the size, that divides it, or of the kind's own unit if none does,
+/// and writes how many of it the size is. The unit is of the kind, or of either kind with `of_either`. Returns
+/// `NO_UNIT` and writes nothing if the number is not a size.
 ///
 /// ```text
 /// byte_unit_exact_unit(50840000, false, false, &count)    4, for KB; count is 50840

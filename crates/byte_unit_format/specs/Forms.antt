@@ -20,8 +20,8 @@ abbrev pub places_of : Option ℕ → ℕ
 places_of None = default_precision
 places_of (Some precision) = precision
 
--- the size in the largest unit of its own family that states it within the precision, or else in its kind's own unit,
--- without zeros at the end
+-- the size in the largest unit of its own family, not above it, that states it exactly within the precision, or else in
+-- its kind's own unit, without zeros at the end
 pub record IsSizeForm (edition : Edition) (kind : Kind) (size : ℕ) (spec : FormatSpec) (text : List ℕ) : Type 0 where
   pub unit : Shape
   -- in last places of a decimal

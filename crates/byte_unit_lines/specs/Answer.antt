@@ -9,7 +9,8 @@ use Rattle.byte_unit.specs.Forms.{IsText}
 use Rattle.byte_unit.specs.NamedSpecs.{plain_spec, alternate_spec}
 pub use Rattle.byte_unit.specs.declared.Kind.{Kind}
 
--- a size is said by its digits, and then in the largest unit of its kind that states it exactly
+-- a size is written as its digits, and then in the largest unit of its kind, not above it, that states it exactly
+-- within three places, or in its own unit if there is none
 pub record SaysSize (kind : Kind) (size : ℕ) (said : List ℕ) : Type 0 where
   pub digits : List ℕ
   pub form : List ℕ

@@ -19,8 +19,9 @@ pub struct Factors {
 ///
 /// The caller owes a size of at least 1 and below 10^30.
 ///
-/// A trial division by two or by five counts as a tick, whether it divides or not: so the ticks are the sum of both
-/// answers and 2, at most 101.
+/// Raises `steps` by as many steps as trial divisions would take, one for each division by two or by five that succeeds
+/// and one for each that fails: the sum of both results and 2, at most 101. No trial division by two is made: the twos
+/// are the zeros at the end of the binary digits.
 ///
 /// ```text
 /// two_five(1_000, &mut steps)    (3, 3), in 8 ticks

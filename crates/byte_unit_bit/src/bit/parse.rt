@@ -20,14 +20,14 @@ impl Bit {
     /// whole part from 2^112 on or more than 28 digits after the point. Or it is a `Unit`, for a wrong spelling.
     ///
     /// Where the size reaches 10^30 bits the `Value` is `ExceededBounds` with the number that was written:
-    /// `1000.00 Yb` reports 1000. It asks for no memory.
+    /// `1000.00 Rb` reports 1000. It asks for no memory.
     ///
     /// ```text
     /// Bit::parse_str("123Kib")         // Ok(125,952 bits)
     /// Bit::parse_str("1 KiB")          // Ok(8,192 bits)
     /// Bit::parse_str("1K")             // Ok(1,000 bits)
     /// Bit::parse_str("1.")             // Err(Value(NotNumber('.')))
-    /// Bit::parse_str("1000.00 Yb")     // Err(Value(ExceededBounds(1000)))
+    /// Bit::parse_str("1000.00 Rb")     // Err(Value(ExceededBounds(1000)))
     /// ```
     pub fn parse_str(s: &str) -> Result<Bit, ParseError>
         ensures { IsSizeReading InBits false s.now result }

@@ -16,8 +16,8 @@ use byte_unit_base::{Kind, Unit, exact_unit, recoverable_unit};
 use byte_unit_math::{Decimal, Steps};
 
 impl Bit {
-    /// The largest unit that divides the size, with how many of it the size is. If there is none, the size in
-    /// `Unit::Bit`.
+    /// Returns how many of the largest unit, not above the size, that divides it the size is, and the unit; the size in
+    /// `Unit::Bit` if there is none.
     ///
     /// The unit is a multiple of bits, or with `allow_in_bytes` of bits or of bytes.
     ///

@@ -18,7 +18,7 @@ impl Byte {
     /// whole part from 2^112 on or more than 28 digits after the point. Or it is a `Unit`, for a wrong spelling.
     ///
     /// Where the size reaches 10^30 bytes the `Value` is `ExceededBounds` with the number that was written:
-    /// `1000.00 YB` reports 1000. It asks for no memory.
+    /// `1000.00 RB` reports 1000. It asks for no memory.
     ///
     /// ```text
     /// Byte::parse_str("50.84 MB", true)        // Ok(50,840,000 bytes)
@@ -26,7 +26,7 @@ impl Byte {
     /// Byte::parse_str("9 b", true)             // Ok(9 bytes)
     /// Byte::parse_str("9 b", false)            // Ok(2 bytes)
     /// Byte::parse_str("1.", false)             // Err(Value(NotNumber('.')))
-    /// Byte::parse_str("1000.00 YB", false)     // Err(Value(ExceededBounds(1000)))
+    /// Byte::parse_str("1000.00 RB", false)     // Err(Value(ExceededBounds(1000)))
     /// ```
     pub fn parse_str(s: &str, ignore_case: bool) -> Result<Byte, ParseError>
         ensures { IsSizeReading InBytes ignore_case s.now result }

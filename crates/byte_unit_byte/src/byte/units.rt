@@ -15,8 +15,8 @@ use byte_unit_base::{Kind, Unit, exact_unit, recoverable_unit};
 use byte_unit_math::{Decimal, Steps};
 
 impl Byte {
-    /// The largest unit that divides the size, with how many of it the size is. If there is none, the size in
-    /// `Unit::B`.
+    /// Returns how many of the largest unit, not above the size, that divides it the size is, and the unit; the size in
+    /// `Unit::B` if there is none.
     ///
     /// The unit is a multiple of bytes, or with `allow_in_bits` of bytes or of bits.
     ///
