@@ -1,4 +1,4 @@
-//! Says what is left of each quota where 900 MB are used.
+//! Prints what is left of each quota if 900 MB are used.
 #![tactic(auto)]
 
 ghost use Rattle.std.specs.Prelude.{◌-◌, ◌≤◌, SomeIff};
@@ -7,14 +7,14 @@ use anyhow::{Context, Result};
 use byte_unit::{Byte, FormatSpec, UnitType};
 use std::alloc::Global;
 
-/// What is left of a quota. `None` where more is used.
+/// Returns what is left of a quota, `None` if more is used.
 fn left(quota: Byte, used: Byte) -> Option<Byte>
     ensures { SomeIff result (used ≤ quota) (quota - used) }
 {
     quota.subtract(used)
 }
 
-/// The report on the quota of a line.
+/// Returns the report on the quota of a line.
 fn report(alloc: Global, line: &str) -> Result<String> {
     let quota: Byte = line.parse()?;
     let free = left(quota, Byte::from_u64(900_000_000)).context("more is used")?;
