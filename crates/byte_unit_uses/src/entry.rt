@@ -19,7 +19,7 @@ pub struct Entry<'a> {
 /// The record of the fields. With a model of its own, an entry goes into an `Option` and a `Vec`; the borrow checker
 /// has no rule for passing on a visible reference beside a size.
 impl<'a> Model for Entry<'a> {
-    ghost use Rattle.byte_unit_usage.specs.EntrySeen.{EntrySeen};
+    ghost use Rattle.byte_unit_uses.specs.EntrySeen.{EntrySeen};
 
     ghost Value = { EntrySeen };
 

@@ -1,16 +1,16 @@
-//! What the uses of sizes in `byte_unit_usage` answer.
+//! What the uses of sizes in `byte_unit_uses` answer.
 use super::error_texts::assert_refused;
 use super::traits::assert_is;
 use byte_unit::{
     AdjustedByte, Bit, Byte, FormatSpec, JsonSizeError, ParseError, Unit, ValueParseError,
 };
-use byte_unit_usage::capped::{LimitError, limit_at_most, max_exceeded, read_limit};
-use byte_unit_usage::entry::{Entry, add, below};
-use byte_unit_usage::limit::{limit, limit_if_stated, limit_or, rate, read_or};
-use byte_unit_usage::message::limit_of_argument;
-use byte_unit_usage::quota::{QuotaError, left, share};
-use byte_unit_usage::settings::{Settings, SettingsError, read_settings};
-use byte_unit_usage::shown::{shown, shown_in, unit_of};
+use byte_unit_uses::capped::{LimitError, limit_at_most, max_exceeded, read_limit};
+use byte_unit_uses::entry::{Entry, add, below};
+use byte_unit_uses::limit::{limit, limit_if_stated, limit_or, rate, read_or};
+use byte_unit_uses::message::limit_of_argument;
+use byte_unit_uses::quota::{QuotaError, left, share};
+use byte_unit_uses::settings::{Settings, SettingsError, read_settings};
+use byte_unit_uses::shown::{shown, shown_in, unit_of};
 use serde_json::Value;
 use std::alloc::{AllocError, Global};
 use std::process::Abort;

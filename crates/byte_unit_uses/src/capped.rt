@@ -5,7 +5,7 @@ ghost use Rattle.byte_unit.specs.Accepted.{IsAccepted, IsRefused};
 ghost use Rattle.byte_unit.specs.Edition.{current};
 ghost use Rattle.byte_unit.specs.Errors.{size_fault};
 ghost use Rattle.byte_unit.specs.declared.Kind.TheVariants.{Byte as InBytes};
-ghost use Rattle.byte_unit_usage.specs.Capped.{IsLimitError, capped_limit, exceeded_max};
+ghost use Rattle.byte_unit_uses.specs.Capped.{IsLimitError, capped_limit, exceeded_max};
 
 use byte_unit::{Byte, ParseError};
 

@@ -1,5 +1,5 @@
 use Rattle.std.proofs.lemmas.Bool.{false≢true}
-use Rattle.byte_unit_usage.proofs.message.limit_of_argument.Goals as goal
+use Rattle.byte_unit_uses.proofs.message.limit_of_argument.Goals as goal
 
 pub returns-in_err-limit-clause-taken : goal.returns-in_err-limit-clause-taken
 returns-in_err-limit-clause-taken c = λ limit is_accepted.

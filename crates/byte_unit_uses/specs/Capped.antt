@@ -5,8 +5,8 @@ use Rattle.byte_unit.specs.Edition.{current}
 use Rattle.byte_unit.specs.Errors.{size_fault}
 use Rattle.byte_unit.specs.declared.ParseError.{ParseError}
 use Rattle.byte_unit.specs.declared.Kind.TheVariants.{Byte as InBytes}
-use Rattle.byte_unit_usage.specs.declared.capped.LimitError.{LimitError}
-use Rattle.byte_unit_usage.specs.declared.capped.LimitError.TheVariants.{Parse, Above}
+use Rattle.byte_unit_uses.specs.declared.capped.LimitError.{LimitError}
+use Rattle.byte_unit_uses.specs.declared.capped.LimitError.TheVariants.{Parse, Above}
 
 -- the string represents no size, with this error, or a size above the maximum, which the error holds
 abbrev pub IsLimitError : List ℕ → ℕ → LimitError → Type 0

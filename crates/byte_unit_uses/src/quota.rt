@@ -4,7 +4,7 @@ ghost use Rattle.std.specs.Prelude.{◌+◌, ◌/◌, ◌<◌, ℕ, IfOk, IfErr,
 ghost use Rattle.byte_unit.specs.Edition.{current};
 ghost use Rattle.byte_unit.specs.Accepted.{IsAccepted};
 ghost use Rattle.byte_unit.specs.declared.Kind.TheVariants.{Byte as InBytes};
-ghost use Rattle.byte_unit_usage.specs.Quota.{IsReason};
+ghost use Rattle.byte_unit_uses.specs.Quota.{IsReason};
 
 use byte_unit::{Byte, ParseError};
 use std::error::Error;
@@ -33,7 +33,7 @@ impl Error for QuotaError {}
 /// What `?` makes of a reader's error. A contract names it, so `from_gives` says it.
 impl From<ParseError> for QuotaError {
     ghost use Rattle.std.specs.Prelude.{◌≡◌};
-    ghost use Rattle.byte_unit_usage.specs.declared.quota.QuotaError.TheVariants.{Text};
+    ghost use Rattle.byte_unit_uses.specs.declared.quota.QuotaError.TheVariants.{Text};
 
     ghost from_gives = { λ error refusal. refusal ≡ Text error };
 

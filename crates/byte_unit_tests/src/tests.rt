@@ -67,6 +67,6 @@ mod tour;
 mod traits;
 mod unit_texts;
 mod units;
-mod usage;
+mod uses;
 mod widest;
 mod without_memory;

@@ -4,8 +4,8 @@ use Rattle.byte_unit.specs.Accepted.{IsAccepted, IsRefused}
 use Rattle.byte_unit.specs.Edition.{current}
 use Rattle.byte_unit.specs.Errors.{size_fault}
 use Rattle.byte_unit.specs.declared.Kind.TheVariants.{Byte as InBytes}
-use Rattle.byte_unit_usage.specs.declared.quota.QuotaError.{QuotaError}
-use Rattle.byte_unit_usage.specs.declared.quota.QuotaError.TheVariants.{Text, Exceeded}
+use Rattle.byte_unit_uses.specs.declared.quota.QuotaError.{QuotaError}
+use Rattle.byte_unit_uses.specs.declared.quota.QuotaError.TheVariants.{Text, Exceeded}
 
 -- the text is refused by this fault, or states less than is used
 abbrev pub IsReason : List ℕ → ℕ → QuotaError → Type 0

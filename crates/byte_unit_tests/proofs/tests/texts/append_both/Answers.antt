@@ -1,6 +1,6 @@
 use Rattle.std.proofs.Common.{Result, Ok, Err, OnErr, arith, refl}
 use Rattle.std.specs.Result.{IsOk}
-use Rattle.byte_unit_cases.proofs.tests.texts.append_both.Goals as goal
+use Rattle.byte_unit_tests.proofs.tests.texts.append_both.Goals as goal
 
 -- what is not refused is done
 not_refused : {T E P : Type 0} (result : Result T E) → OnErr result P → (P → ⊥) → IsOk result
