@@ -14,7 +14,7 @@ pub struct Number {
 }
 
 /// 2^64.
-const HALF: u128 = 1 << 64;
+const TWO_POW_64: u128 = 1 << 64;
 
 impl Number {
     pub const ZERO: Number = Number { low: 0, high: 0 };
@@ -24,8 +24,8 @@ impl Number {
         ensures { number_of result ≡ n }
     {
         Number {
-            low: (n % HALF) as u64,
-            high: (n / HALF) as u64,
+            low: (n % TWO_POW_64) as u64,
+            high: (n / TWO_POW_64) as u64,
         }
     }
 
@@ -33,7 +33,7 @@ impl Number {
     pub fn get(self) -> u128
         ensures { result ≡ number_of self }
     {
-        u128::from(self.high) * HALF + u128::from(self.low)
+        u128::from(self.high) * TWO_POW_64 + u128::from(self.low)
     }
 }
 

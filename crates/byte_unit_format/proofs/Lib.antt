@@ -3,7 +3,7 @@ pub mod WrittenDigits
 pub mod TrimmedTexts
 pub mod OneForm
 pub mod WrittenForms
-pub mod Rows
+pub mod TextParts
 pub mod SomeForm
 pub mod ReadBack
 pub mod AdjustedForms

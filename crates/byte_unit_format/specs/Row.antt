@@ -6,9 +6,9 @@ use Rattle.byte_unit_math.specs.Digits.{last_digits}
 use Rattle.byte_unit_math.specs.Numeral.{fraction_text}
 use Rattle.byte_unit_math.specs.Padded.{padded}
 use Rattle.byte_unit_format.specs.Plain.{spaces}
-use Rattle.byte_unit_format.specs.declared.row.Fraction.{Fraction}
-use Rattle.byte_unit_format.specs.declared.row.Fraction.TheVariants.{Last, First}
-use Rattle.byte_unit_format.specs.declared.row.Row.{Row}
+use Rattle.byte_unit_format.specs.declared.parts.Fraction.{Fraction}
+use Rattle.byte_unit_format.specs.declared.parts.Fraction.TheVariants.{Last, First}
+use Rattle.byte_unit_format.specs.declared.parts.TextParts.{TextParts}
 
 -- the digits after the point
 abbrev pub fraction_of : Fraction → List ℕ
@@ -24,12 +24,12 @@ abbrev pub IsShort : Fraction → Type 0
 IsShort (Last digits places) = (places ≤ places_of_decimal) × (digits < 10 ^ places)
 IsShort (First e places) = Unit {0}
 
-abbrev pub number_of : Row → List ℕ
+abbrev pub number_of : TextParts → List ℕ
 number_of row = row.sign.now ++ decimal row.whole ++ fraction_of row.fraction
 
-abbrev pub row_text : Row → List ℕ
+abbrev pub row_text : TextParts → List ℕ
 row_text row = spaces row.before ++ number_of row ++ spaces row.after ++ row.name.now
 
 -- a row that may be written: its fraction is short, and its sign and name are ASCII
-abbrev pub IsReady : Row → Type 0
+abbrev pub IsReady : TextParts → Type 0
 IsReady row = IsShort row.fraction × IsAscii row.sign.now × IsAscii row.name.now

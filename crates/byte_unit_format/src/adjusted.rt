@@ -43,7 +43,7 @@ pub fn adjusted_len(size: u128, kind: Kind, unit: Unit, spec: FormatSpec) -> usi
         → result ≡ length form }
     ensures small { result < text_limit }
 {
-    let shown = number_in(size, kind, unit, spec);
+    let shown = rounded_in_unit(size, kind, unit, spec);
     layout_len(&shown.decimal, shown.places, unit, spec)
 }
 
@@ -69,7 +69,7 @@ pub fn append_adjusted<A: Allocator>(
     requires { size < current.size_limit }
     ensures { Appends (IsAdjustedForm current kind size (shape_of unit) spec) text.old text.new result }
 {
-    let shown = number_in(size, kind, unit, spec);
+    let shown = rounded_in_unit(size, kind, unit, spec);
     append_layout(&shown.decimal, shown.places, unit, spec, text)
 }
 
@@ -84,7 +84,7 @@ pub fn write_adjusted(size: u128, kind: Kind, unit: Unit, spec: FormatSpec, out:
     ensures written { Writes (IsAdjustedForm current kind size (shape_of unit) spec) out.old out.new result }
     ensures small { result < text_limit }
 {
-    let shown = number_in(size, kind, unit, spec);
+    let shown = rounded_in_unit(size, kind, unit, spec);
     write_layout(&shown.decimal, shown.places, unit, spec, out)
 }
 
@@ -112,7 +112,7 @@ pub fn display_adjusted<W: fmt::Write>(
 }
 
 /// The digits that are shown of the size in the unit.
-fn number_in(size: u128, kind: Kind, unit: Unit, spec: FormatSpec) -> Shown
+fn rounded_in_unit(size: u128, kind: Kind, unit: Unit, spec: FormatSpec) -> Shown
     requires { size < current.size_limit }
     ensures number { let unit = shape_of unit in
         let text = text_of (padded result.places result.decimal) in

@@ -7,9 +7,9 @@ ghost use Rattle.byte_unit_format.specs.Row.{IsReady, row_text};
 ghost use Rattle.byte_unit_format.specs.Written.{Writes};
 ghost use Rattle.byte_unit_format.specs.Forms.{IsText, narrow_text, text_limit};
 
-use crate::layout::layout_row;
-use crate::plain::plain_row;
-use crate::row::{Fraction, Row};
+use crate::layout::layout_parts;
+use crate::plain::plain_parts;
+use crate::parts::{Fraction, TextParts};
 use crate::spec::FormatSpec;
 use byte_unit_base::{Kind, recoverable_unit};
 use byte_unit_math::Steps;
@@ -31,7 +31,7 @@ pub fn text_len(size: u128, kind: Kind, spec: FormatSpec) -> usize
     ensures small { result < text_limit }
     ensures narrow { spec.width ≡ None → result ≤ narrow_text }
 {
-    text_row(size, kind, spec).len
+    text_parts(size, kind, spec).len
 }
 
 /// Adds the text of a size: in the alternate form the size with the largest unit of its kind, not above it, that states
@@ -54,7 +54,7 @@ pub fn append_text<A: Allocator>(
     requires { size < current.size_limit }
     ensures { Appends (IsText current kind size spec) text.old text.new result }
 {
-    text_row(size, kind, spec).append(text)
+    text_parts(size, kind, spec).append(text)
 }
 
 /// Writes the text of a size to the front of the bytes, as `append_text` adds it, and returns its length: at most 37 if
@@ -72,12 +72,12 @@ pub fn write_text(size: u128, kind: Kind, spec: FormatSpec, out: &mut [u8]) -> u
     ensures small { result < text_limit }
     ensures narrow { spec.width ≡ None → result ≤ narrow_text }
 {
-    text_row(size, kind, spec).write(out)
+    text_parts(size, kind, spec).write(out)
 }
 
 /// The parts of the text of a size. In the alternate form the number has all its places.
 #[inline(always)]
-fn text_row(size: u128, kind: Kind, spec: FormatSpec) -> Row<'static>
+fn text_parts(size: u128, kind: Kind, spec: FormatSpec) -> TextParts<'static>
     requires { size < current.size_limit }
     ensures text { IsText current kind size spec (row_text result) }
     ensures len { result.len ≡ length (row_text result) }
@@ -85,7 +85,7 @@ fn text_row(size: u128, kind: Kind, spec: FormatSpec) -> Row<'static>
     ensures ready { IsReady result }
 {
     if !spec.alternate {
-        return plain_row(size, spec);
+        return plain_parts(size, spec);
     }
     let places = match spec.precision {
         Some(precision) => usize::from(precision),
@@ -93,5 +93,5 @@ fn text_row(size: u128, kind: Kind, spec: FormatSpec) -> Row<'static>
     };
     let (number, unit) = recoverable_unit(size, kind, false, places, &mut Steps::new());
     let fraction = Fraction::Last(number.digits(), number.places());
-    layout_row(number.whole(), fraction, unit, spec)
+    layout_parts(number.whole(), fraction, unit, spec)
 }

@@ -10,7 +10,7 @@ ghost use Rattle.byte_unit_format.specs.Row.{fraction_of, places_in, IsShort, Is
 ghost use Rattle.byte_unit_format.specs.Written.{Writes};
 
 use crate::plain::padding;
-use crate::row::{Fraction, Row};
+use crate::parts::{Fraction, TextParts};
 use crate::spec::{Align, FormatSpec, Sign};
 use byte_unit_base::Unit;
 use byte_unit_math::{Expansion, decimal_len};
@@ -26,7 +26,7 @@ pub fn layout_len(e: &Expansion, places: u32, unit: Unit, spec: FormatSpec) -> u
     // A whole part, the point, and the unit with its spaces take no more than 44 columns.
     ensures small { result ≤ max u16.MAX (places + 44) }
 {
-    layout_row(e.whole(), Fraction::First(e, places), unit, spec).len
+    layout_parts(e.whole(), Fraction::First(e, places), unit, spec).len
 }
 
 /// Adds a decimal with exactly so many places, and its unit. Where a width is set the number is padded with spaces
@@ -49,7 +49,7 @@ pub fn append_layout<A: Allocator>(
 ) -> Result<(), AllocError>
     ensures { Appends (λ form. form ≡ layout_of current e.now places (shape_of unit) spec) text.old text.new result }
 {
-    layout_row(e.whole(), Fraction::First(e, places), unit, spec).append(text)
+    layout_parts(e.whole(), Fraction::First(e, places), unit, spec).append(text)
 }
 
 /// Writes a decimal with exactly so many places, and its unit, at the front of the bytes, as `append_layout` adds them,
@@ -69,18 +69,18 @@ pub fn write_layout(
         Writes (λ form. form ≡ text) out.old out.new result }
     ensures small { result ≤ max u16.MAX (places + 44) }
 {
-    layout_row(e.whole(), Fraction::First(e, places), unit, spec).write(out)
+    layout_parts(e.whole(), Fraction::First(e, places), unit, spec).write(out)
 }
 
 /// The parts of a number with its unit.
 #[inline(always)]
 #[tactic(auto, using(crate::proofs::UnitNames::name_short))]
-pub(crate) fn layout_row<'a>(
+pub(crate) fn layout_parts<'a>(
     whole: u128,
     fraction: Fraction<'a>,
     unit: Unit,
     spec: FormatSpec,
-) -> Row<'a>
+) -> TextParts<'a>
     requires short { IsShort fraction }
     ensures text { let number = decimal whole ++ fraction_of fraction.entry in
         row_text result ≡ layout number (name current (shape_of unit)) spec }
@@ -102,7 +102,7 @@ pub(crate) fn layout_row<'a>(
         Some(Align::Right) => pad,
         Some(Align::Left) | Some(Align::Center) | None => 0,
     };
-    Row {
+    TextParts {
         before,
         sign: "",
         whole,

@@ -10,8 +10,8 @@ pub mod laws;
 mod layout;
 mod plain;
 mod put;
-mod room;
-mod row;
+mod capacity;
+mod parts;
 mod spec;
 
 pub use adjusted::{

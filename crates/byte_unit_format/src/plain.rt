@@ -6,7 +6,7 @@ ghost use Rattle.byte_unit_format.specs.Plain.{plain, missing};
 ghost use Rattle.byte_unit_format.specs.Row.{IsReady, row_text};
 ghost use Rattle.byte_unit_format.specs.Written.{Writes};
 
-use crate::row::{Fraction, Row};
+use crate::parts::{Fraction, TextParts};
 use crate::spec::{Align, FormatSpec, Sign};
 use byte_unit_math::decimal_len;
 use std::alloc::{AllocError, Allocator};
@@ -20,7 +20,7 @@ pub fn plain_len(size: u128, spec: FormatSpec) -> usize
     ensures exact { result ≡ length (plain size spec) }
     ensures small { result ≤ u16.MAX }
 {
-    plain_row(size, spec).len
+    plain_parts(size, spec).len
 }
 
 /// Adds the plain form of a number: `+` before its digits for the sign `Plus`, and spaces up to the width.
@@ -39,7 +39,7 @@ pub fn append_plain<A: Allocator>(
 ) -> Result<(), AllocError>
     ensures { Appends (λ form. form ≡ plain size spec) text.old text.new result }
 {
-    plain_row(size, spec).append(text)
+    plain_parts(size, spec).append(text)
 }
 
 /// Writes the plain form of a number at the front of the bytes, as `append_plain` adds it, and answers how long it is.
@@ -52,12 +52,12 @@ pub fn write_plain(size: u128, spec: FormatSpec, out: &mut [u8]) -> usize
     ensures written { Writes (λ form. form ≡ plain size spec) out.old out.new result }
     ensures small { result ≤ u16.MAX }
 {
-    plain_row(size, spec).write(out)
+    plain_parts(size, spec).write(out)
 }
 
 /// The parts of the plain form of a number.
 #[inline(always)]
-pub(crate) fn plain_row(size: u128, spec: FormatSpec) -> Row<'static>
+pub(crate) fn plain_parts(size: u128, spec: FormatSpec) -> TextParts<'static>
     ensures text { row_text result ≡ plain size spec }
     ensures len { result.len ≡ length (plain size spec) }
     ensures small { result.len ≤ u16.MAX }
@@ -74,7 +74,7 @@ pub(crate) fn plain_row(size: u128, spec: FormatSpec) -> Row<'static>
         Some(Align::Center) => pad / 2,
         Some(Align::Right) | None => pad,
     };
-    Row {
+    TextParts {
         before,
         sign,
         whole: size,

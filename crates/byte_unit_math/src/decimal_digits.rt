@@ -6,7 +6,7 @@ ghost use Rattle.byte_unit_math.specs.Bounds.{places_of_decimal};
 ghost use Rattle.byte_unit_math.specs.Digits.{last_digits};
 ghost use Rattle.byte_unit_math.specs.Numeral.{fraction_text, glyphs};
 
-use crate::dividing::{EIGHTEEN_DIGITS, split_at_eighteen};
+use crate::dividing::{TEN_POW_18, split_last_18_digits};
 use crate::tens::power_of_ten;
 use std::marker::Model;
 use std::{fmt, str};
@@ -15,7 +15,7 @@ use std::{fmt, str};
 pub const NUMBER_DIGITS: usize = 39;
 
 /// One place more, for the one before the last group.
-const ROOM: usize = NUMBER_DIGITS + 1;
+const BUFFER_LEN: usize = NUMBER_DIGITS + 1;
 
 /// The two digits of each number below a hundred.
 static PAIRS: [u8; 200] = *b"\
@@ -32,19 +32,19 @@ static PAIRS: [u8; 200] = *b"\
 /// ```
 #[derive(Drop)]
 pub struct DecimalDigits {
-    bytes: [u8; ROOM],
+    bytes: [u8; BUFFER_LEN],
     start: usize,
 }
 
 impl Model for DecimalDigits {
     ghost use Rattle.std.specs.Prelude.{ℕ, List, drop, ◌≤◌, ◌≡◌, length};
-    ghost use Rattle.byte_unit_math.specs.declared.decimal_digits.TheConstants.{ROOM};
+    ghost use Rattle.byte_unit_math.specs.declared.decimal_digits.TheConstants.{BUFFER_LEN};
 
     ghost Value = { List ℕ };
 
     ghost view = { λ d. drop d.start d.bytes };
 
-    ghost invariant = { λ d. (d.start ≤ ROOM) × (length d.bytes ≡ ROOM) };
+    ghost invariant = { λ d. (d.start ≤ BUFFER_LEN) × (length d.bytes ≡ BUFFER_LEN) };
 }
 
 impl DecimalDigits {
@@ -54,8 +54,8 @@ impl DecimalDigits {
         ensures ascii { IsAscii result }
         ensures few { length result ≤ NUMBER_DIGITS }
     {
-        let mut bytes = [b'0'; ROOM];
-        let start = put_decimal(n, &mut bytes, ROOM);
+        let mut bytes = [b'0'; BUFFER_LEN];
+        let start = put_u128(n, &mut bytes, BUFFER_LEN);
         DecimalDigits { bytes, start }
     }
 
@@ -64,7 +64,7 @@ impl DecimalDigits {
     pub fn len(&self) -> usize
         ensures { result ≡ length self.now }
     {
-        ROOM - self.start
+        BUFFER_LEN - self.start
     }
 
     /// The characters, from the first on.
@@ -79,9 +79,9 @@ impl DecimalDigits {
 /// Writes the digits of a number into a formatter, whose flags change nothing.
 ///
 /// ```text
-/// write_decimal(1536, f)    // "1536"
+/// fmt_u128(1536, f)    // "1536"
 /// ```
-pub fn write_decimal<W: fmt::Write>(n: u128, f: &mut fmt::Formatter<W>) -> fmt::Result
+pub fn fmt_u128<W: fmt::Write>(n: u128, f: &mut fmt::Formatter<W>) -> fmt::Result
     ensures plain { DisplaysOnOk W.write_str_gives f.old result (Some (decimal n)) f.new }
     ensures styled { DisplaysStyledOnOk W.write_str_gives f.old result (Some (decimal n)) f.new }
 {
@@ -114,10 +114,10 @@ pub fn decimal_len(n: u128) -> usize
 /// The caller owes room for them before the place.
 ///
 /// ```text
-/// put_decimal(1536, bytes, 6)    2, and the bytes from there on begin with "1536"
+/// put_u128(1536, bytes, 6)    2, and the bytes from there on begin with "1536"
 /// ```
 #[inline(always)]
-pub fn put_decimal(n: u128, bytes: &mut [u8], end: usize) -> usize
+pub fn put_u128(n: u128, bytes: &mut [u8], end: usize) -> usize
     requires room { length (decimal n) ≤ end }
     requires within { end ≤ length bytes.old }
     ensures begins { result + length (decimal n) ≡ end }
@@ -125,9 +125,9 @@ pub fn put_decimal(n: u128, bytes: &mut [u8], end: usize) -> usize
     ensures ascii { IsAscii (decimal n) }
 {
     if n <= u128::from(u64::MAX) {
-        return write_digits(n as u64, bytes, end);
+        return put_u64(n as u64, bytes, end);
     }
-    put_wide(n, bytes, end)
+    put_u128_wide(n, bytes, end)
 }
 
 /// Writes the point and so many digits of a number, zeros in front where it has fewer, so that they end before this
@@ -152,14 +152,14 @@ pub fn put_fraction(digits: u128, places: u32, bytes: &mut [u8], end: usize) -> 
         return end;
     }
     // A one in front keeps the zeros behind it, and becomes the point.
-    let point = put_decimal(power_of_ten(places) + digits, bytes, end);
+    let point = put_u128(power_of_ten(places) + digits, bytes, end);
     bytes[point] = b'.';
     point
 }
 
 /// Writes digits that end before this place, eighteen at a time, and answers where they begin.
 #[inline(never)]
-fn put_wide(n: u128, bytes: &mut [u8], end: usize) -> usize
+fn put_u128_wide(n: u128, bytes: &mut [u8], end: usize) -> usize
     requires room { length (decimal n) ≤ end }
     requires within { end ≤ length bytes.old }
     ensures begins { result + length (decimal n) ≡ end }
@@ -168,16 +168,16 @@ fn put_wide(n: u128, bytes: &mut [u8], end: usize) -> usize
     let mut start = end;
     let mut rest = n;
     while rest > u128::from(u64::MAX) {
-        let (before, last) = split_at_eighteen(rest);
+        let (before, last) = split_last_18_digits(rest);
         // A one before the last digits keeps the zeros they begin with; the next digits are written over it.
-        start = write_digits(EIGHTEEN_DIGITS + last, bytes, start) + 1;
+        start = put_u64(TEN_POW_18 + last, bytes, start) + 1;
         rest = before;
     }
-    write_digits(rest as u64, bytes, start)
+    put_u64(rest as u64, bytes, start)
 }
 
 /// Writes digits that end before this place, and answers where they begin.
-fn write_digits(n: u64, bytes: &mut [u8], end: usize) -> usize
+fn put_u64(n: u64, bytes: &mut [u8], end: usize) -> usize
     requires room { length (decimal n) ≤ end }
     requires within { end ≤ length bytes.old }
     ensures begins { result + length (decimal n) ≡ end }
@@ -186,16 +186,16 @@ fn write_digits(n: u64, bytes: &mut [u8], end: usize) -> usize
     let mut start = end;
     let mut rest = n;
     while rest >= 10_000 {
-        start = put_four((rest % 10_000) as u32, bytes, start);
+        start = put_4_digits((rest % 10_000) as u32, bytes, start);
         rest /= 10_000;
     }
     let mut few = rest as u32;
     if few >= 100 {
-        start = put_two(few % 100, bytes, start);
+        start = put_2_digits(few % 100, bytes, start);
         few /= 100;
     }
     if few >= 10 {
-        return put_two(few, bytes, start);
+        return put_2_digits(few, bytes, start);
     }
     start -= 1;
     bytes[start] = b'0' + few as u8;
@@ -204,20 +204,20 @@ fn write_digits(n: u64, bytes: &mut [u8], end: usize) -> usize
 
 /// Writes four digits, zeros in front among them, and answers where they begin.
 #[inline]
-fn put_four(n: u32, bytes: &mut [u8], end: usize) -> usize
+fn put_4_digits(n: u32, bytes: &mut [u8], end: usize) -> usize
     requires below { n < 10 ^ 4 }
     requires room { 4 ≤ end }
     requires within { end ≤ length bytes.old }
     ensures begins { result + 4 ≡ end }
     ensures digits { drop result bytes.new ≡ glyphs (last_digits 4 n) ++ drop end bytes.old }
 {
-    let middle = put_two(n % 100, bytes, end);
-    put_two(n / 100, bytes, middle)
+    let middle = put_2_digits(n % 100, bytes, end);
+    put_2_digits(n / 100, bytes, middle)
 }
 
 /// Writes two digits, a zero in front among them, and answers where they begin.
 #[inline]
-fn put_two(n: u32, bytes: &mut [u8], end: usize) -> usize
+fn put_2_digits(n: u32, bytes: &mut [u8], end: usize) -> usize
     requires below { n < 10 ^ 2 }
     requires room { 2 ≤ end }
     requires within { end ≤ length bytes.old }

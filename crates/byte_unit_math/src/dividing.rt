@@ -3,16 +3,16 @@ ghost use Rattle.std.specs.Prelude.{◌≡◌, ◌+◌, ◌*◌, ◌/◌, ◌%�
 ghost use Rattle.byte_unit_math.specs.Inverse.{HasInverse};
 
 /// Ten to the power of 18.
-pub(crate) const EIGHTEEN_DIGITS: u64 = 1_000_000_000_000_000_000;
+pub(crate) const TEN_POW_18: u64 = 1_000_000_000_000_000_000;
 
-/// The whole part of 2^123 / `EIGHTEEN_DIGITS`.
-const EIGHTEEN_DIGITS_INVERSE: u64 = 10_633_823_966_279_326_983;
+/// The whole part of 2^123 / `TEN_POW_18`.
+const TEN_POW_18_INVERSE: u64 = 10_633_823_966_279_326_983;
 
 /// The base of a long division by a number of 24 bits: each step fits 64 bits.
 const BASE: u64 = 1 << 40;
 
 /// The quotient and the rest. Where both numbers fit 64 bits, so does the division, which then takes less time.
-pub(crate) fn quotient_and_rest(dividend: u128, divisor: u128) -> (u128, u128)
+pub(crate) fn div_rem(dividend: u128, divisor: u128) -> (u128, u128)
     requires { 1 ≤ divisor }
     ensures quotient { result.0 ≡ dividend / divisor }
     ensures rest { result.1 ≡ dividend % divisor }
@@ -32,7 +32,7 @@ pub(crate) fn quotient_and_rest(dividend: u128, divisor: u128) -> (u128, u128)
 /// The quotient and the rest by a constant, with no division: the leading 64 bits of the dividend times the whole part
 /// of 2^(cut + shift) / divisor give an estimate, which is the quotient or one below it.
 #[inline(always)]
-pub(crate) fn quotient_by_inverse(
+pub(crate) fn div_rem_by_inverse(
     dividend: u128,
     divisor: u64,
     inverse: u64,
@@ -56,7 +56,7 @@ pub(crate) fn quotient_by_inverse(
 /// The quotient and the rest by a constant of at most 24 bits: a long division in base 2^40, each step of which takes a
 /// multiplication.
 #[inline(always)]
-pub(crate) fn quotient_by_short(dividend: u128, divisor: u64) -> (u128, u64)
+pub(crate) fn div_rem_u24(dividend: u128, divisor: u64) -> (u128, u64)
     requires some { 1 ≤ divisor }
     requires short { divisor ≤ 2 ^ 24 }
     requires small { dividend < 2 ^ 120 }
@@ -75,26 +75,26 @@ pub(crate) fn quotient_by_short(dividend: u128, divisor: u64) -> (u128, u64)
 
 /// What is before the last eighteen digits of a number, and these digits. Numbers of 122 bits take no division.
 #[inline(always)]
-pub(crate) fn split_at_eighteen(n: u128) -> (u128, u64)
+pub(crate) fn split_last_18_digits(n: u128) -> (u128, u64)
     ensures quotient { result.0 ≡ n / 10 ^ 18 }
     ensures rest { result.1 ≡ n % 10 ^ 18 }
 {
     if n < 1 << 122 {
-        let (before, last) = quotient_by_inverse(
+        let (before, last) = div_rem_by_inverse(
             n,
-            EIGHTEEN_DIGITS,
-            EIGHTEEN_DIGITS_INVERSE,
+            TEN_POW_18,
+            TEN_POW_18_INVERSE,
             58,
             65,
         );
         return (u128::from(before), last);
     }
-    let (before, last) = quotient_and_rest(n, u128::from(EIGHTEEN_DIGITS));
+    let (before, last) = div_rem(n, u128::from(TEN_POW_18));
     (before, last as u64)
 }
 
 /// The quotient where it is a digit, and the rest. Four comparisons take less time than a division of 128 bits.
-pub(crate) fn digit_and_rest(dividend: u128, divisor: u128) -> (u128, u128)
+pub(crate) fn div_rem_digit(dividend: u128, divisor: u128) -> (u128, u128)
     requires digit { dividend < 10 * divisor }
     requires small { 10 * divisor < 2 ^ 128 }
     ensures digit { result.0 ≡ dividend / divisor }
@@ -102,18 +102,18 @@ pub(crate) fn digit_and_rest(dividend: u128, divisor: u128) -> (u128, u128)
 {
     if divisor < 1 << 60 {
         // Ten times the divisor fits 64 bits.
-        let (digit, rest) = short_digit_and_rest(dividend as u64, divisor as u64);
+        let (digit, rest) = div_rem_digit_u64(dividend as u64, divisor as u64);
         return (u128::from(digit), u128::from(rest));
     }
-    let (eights, rest) = taken(dividend, 8, divisor);
-    let (fours, rest) = taken(rest, 4, divisor);
-    let (twos, rest) = taken(rest, 2, divisor);
-    let (ones, rest) = taken(rest, 1, divisor);
+    let (eights, rest) = subtract_multiple(dividend, 8, divisor);
+    let (fours, rest) = subtract_multiple(rest, 4, divisor);
+    let (twos, rest) = subtract_multiple(rest, 2, divisor);
+    let (ones, rest) = subtract_multiple(rest, 1, divisor);
     (eights + fours + twos + ones, rest)
 }
 
 /// So many times the divisor, or none where the dividend is below that; and what is left.
-fn taken(dividend: u128, times: u128, divisor: u128) -> (u128, u128)
+fn subtract_multiple(dividend: u128, times: u128, divisor: u128) -> (u128, u128)
     requires once { dividend < 2 * (times * divisor) }
     requires small { times * divisor < 2 ^ 128 }
     ensures few { result.0 ≤ times }
@@ -129,21 +129,21 @@ fn taken(dividend: u128, times: u128, divisor: u128) -> (u128, u128)
 }
 
 /// The same in 64 bits.
-fn short_digit_and_rest(dividend: u64, divisor: u64) -> (u64, u64)
+fn div_rem_digit_u64(dividend: u64, divisor: u64) -> (u64, u64)
     requires digit { dividend < 10 * divisor }
     requires small { 10 * divisor < 2 ^ 64 }
     ensures digit { result.0 ≡ dividend / divisor }
     ensures rest { result.1 ≡ dividend % divisor }
 {
-    let (eights, rest) = short_taken(dividend, 8, divisor);
-    let (fours, rest) = short_taken(rest, 4, divisor);
-    let (twos, rest) = short_taken(rest, 2, divisor);
-    let (ones, rest) = short_taken(rest, 1, divisor);
+    let (eights, rest) = subtract_multiple_u64(dividend, 8, divisor);
+    let (fours, rest) = subtract_multiple_u64(rest, 4, divisor);
+    let (twos, rest) = subtract_multiple_u64(rest, 2, divisor);
+    let (ones, rest) = subtract_multiple_u64(rest, 1, divisor);
     (eights + fours + twos + ones, rest)
 }
 
 /// So many times the divisor, or none, in 64 bits.
-fn short_taken(dividend: u64, times: u64, divisor: u64) -> (u64, u64)
+fn subtract_multiple_u64(dividend: u64, times: u64, divisor: u64) -> (u64, u64)
     requires once { dividend < 2 * (times * divisor) }
     requires small { times * divisor < 2 ^ 64 }
     ensures few { result.0 ≤ times }

@@ -11,8 +11,8 @@ ghost use Rattle.byte_unit_math.specs.Nearest.{IsNearest};
 ghost use Rattle.byte_unit_math.specs.Numeral.{fraction_text, glyphs, text_of};
 
 use crate::decimal::{Decimal, ONE};
-use crate::decimal_digits::write_decimal;
-use crate::dividing::digit_and_rest;
+use crate::decimal_digits::fmt_u128;
+use crate::dividing::div_rem_digit;
 use std::marker::Model;
 use std::{fmt, str};
 
@@ -128,9 +128,9 @@ impl Expansion {
         if self.places <= places {
             *self
         } else if self.rounds_up(places, ties) {
-            self.next_at(places)
+            self.ceil_to(places)
         } else {
-            self.cut(places)
+            self.floor_to(places)
         }
     }
 
@@ -170,7 +170,7 @@ impl Expansion {
     }
 
     /// How many of the first digits are left, where those at their end that are this one are taken off.
-    fn without(&self, places: u32, last: u8) -> u32
+    fn trim_end_len(&self, places: u32, last: u8) -> u32
         requires { places ≤ length self.now.digits }
         ensures few { result ≤ places }
         ensures same { take places self.now.digits ≡ take result self.now.digits ++ replicate (places - result) last }
@@ -184,7 +184,7 @@ impl Expansion {
     }
 
     /// So many digits, and then zeros.
-    fn front(&self, places: u32) -> [u8; EXPANSION_PLACES]
+    fn leading_digits(&self, places: u32) -> [u8; EXPANSION_PLACES]
         requires { places ≤ length self.now.digits }
         ensures size { length result ≡ expansion_places }
         ensures front { take places result ≡ take places self.now.digits }
@@ -201,26 +201,26 @@ impl Expansion {
     }
 
     /// The number cut after so many digits.
-    fn cut(&self, places: u32) -> Expansion
+    fn floor_to(&self, places: u32) -> Expansion
         requires { places ≤ length self.now.digits }
         ensures { IsExpansion (scaled (cut_after places self.now)) (10 ^ places) result }
     {
-        let kept = self.without(places, 0);
+        let kept = self.trim_end_len(places, 0);
         Expansion {
             whole: self.whole,
-            digits: self.front(kept),
+            digits: self.leading_digits(kept),
             places: kept,
         }
     }
 
     /// The next number with so many places above the one that is cut.
-    fn next_at(&self, places: u32) -> Expansion
+    fn ceil_to(&self, places: u32) -> Expansion
         requires { places < length self.now.digits }
         ensures { IsExpansion (scaled (cut_after places self.now) + 1) (10 ^ places) result }
     {
         // Nines at the end become zeros, and the digit before them one more.
-        let kept = self.without(places, 9);
-        let mut digits = self.front(kept);
+        let kept = self.trim_end_len(places, 9);
+        let mut digits = self.leading_digits(kept);
         if kept == 0 {
             Expansion {
                 whole: self.whole + 1,
@@ -250,13 +250,13 @@ impl fmt::Display for Expansion {
     ghost styled_output = { λ e spec. Some (text_of e) };
 
     fn fmt<W: fmt::Write>(&self, f: &mut fmt::Formatter<W>) -> fmt::Result {
-        write_decimal(self.whole, f)?;
-        write_fraction(self, f)
+        fmt_u128(self.whole, f)?;
+        fmt_fraction(self, f)
     }
 }
 
 /// Writes the point and the digits behind it, or nothing where there are none.
-fn write_fraction<W: fmt::Write>(e: &Expansion, f: &mut fmt::Formatter<W>) -> fmt::Result
+fn fmt_fraction<W: fmt::Write>(e: &Expansion, f: &mut fmt::Formatter<W>) -> fmt::Result
     ensures plain { DisplaysOnOk W.write_str_gives f.old result (Some (fraction_text e.now.digits)) f.new }
     ensures styled { DisplaysStyledOnOk W.write_str_gives f.old result (Some (fraction_text e.now.digits)) f.new }
 {
@@ -304,7 +304,7 @@ fn divide(whole: u128, remainder: u128, den: u128) -> Expansion
     let mut digits = [0u8; EXPANSION_PLACES];
     let mut places: u32 = 0;
     while rest != 0 {
-        let (digit, left) = digit_and_rest(rest * 10, den);
+        let (digit, left) = div_rem_digit(rest * 10, den);
         digits[places as usize] = digit as u8;
         rest = left;
         places += 1;

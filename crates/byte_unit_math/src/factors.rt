@@ -65,16 +65,16 @@ pub fn factors_of(size: u128, steps: &mut Steps) -> Factors
         fives += 1;
     }
     if left < 1 << 64 {
-        let (short, others) = short_without_fives(left as u64);
+        let (short, others) = divide_out_fives(left as u64);
         left = u128::from(short);
         fives += others;
     }
-    steps.raise(twos + fives + 2);
+    steps.advance_by(twos + fives + 2);
     Factors { left, twos, fives }
 }
 
 /// What is left of an odd number without its fives, and how many they are.
-fn short_without_fives(number: u64) -> (u64, u32)
+fn divide_out_fives(number: u64) -> (u64, u32)
     requires { number % 2 ≢ 0 }
     ensures product { number ≡ result.0 * 5 ^ result.1 }
     ensures odd { result.0 % 2 ≢ 0 }

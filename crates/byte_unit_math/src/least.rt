@@ -6,7 +6,7 @@ ghost use Rattle.byte_unit_math.specs.RoundedUp.{group_limit, half_limit, IsRoun
 ghost use Rattle.byte_unit_math.specs.Steps.{raised};
 
 use crate::decimal::{DECIMAL_PLACES, Decimal};
-use crate::dividing::{quotient_by_inverse, quotient_by_short};
+use crate::dividing::{div_rem_by_inverse, div_rem_u24};
 use crate::steps::Steps;
 use crate::tens::power_of_ten;
 
@@ -14,10 +14,10 @@ use crate::tens::power_of_ten;
 const GROUP: u64 = 10_000_000;
 
 /// Above two groups, half the digits of a fraction: so many fit a `u64`.
-const HALF: u64 = 100_000_000_000_000;
+const TEN_POW_14: u64 = 100_000_000_000_000;
 
-/// The whole part of 2^110 / `HALF`.
-const HALF_INVERSE: u64 = 12_980_742_146_337_069_071;
+/// The whole part of 2^110 / `TEN_POW_14`.
+const TEN_POW_14_INVERSE: u64 = 12_980_742_146_337_069_071;
 
 /// How many digits half of them are.
 const HALF_PLACES: u32 = 14;
@@ -66,14 +66,14 @@ pub fn least_size_counted(
 {
     let (digits, places) = (d.digits(), d.places());
     let part = if digits == 0 {
-        steps.raise(4);
+        steps.advance_by(4);
         0
     } else {
-        let (high, low) = halves(digits, places);
-        let part = over_group(low % GROUP, unit_size, 0, steps);
-        let part = over_group(low / GROUP, unit_size, part, steps);
-        let part = over_group(high % GROUP, unit_size, part, steps);
-        over_group(high / GROUP, unit_size, part, steps)
+        let (high, low) = split_fraction(digits, places);
+        let part = carry_of_group(low % GROUP, unit_size, 0, steps);
+        let part = carry_of_group(low / GROUP, unit_size, part, steps);
+        let part = carry_of_group(high % GROUP, unit_size, part, steps);
+        carry_of_group(high / GROUP, unit_size, part, steps)
     };
     // A number past 128 bits is past each limit.
     let size = d.whole().checked_mul(unit_size)?.checked_add(part)?;
@@ -82,7 +82,7 @@ pub fn least_size_counted(
 
 /// The first and the last 14 digits of a fraction, of which so many digits are given.
 #[inline(always)]
-fn halves(digits: u128, places: u32) -> (u64, u64)
+fn split_fraction(digits: u128, places: u32) -> (u64, u64)
     requires digits { digits < 10 ^ places }
     requires places { places ≤ places_of_decimal }
     ensures high { result.0 ≡ digits * 10 ^ (places_of_decimal - places) / half_limit }
@@ -93,27 +93,27 @@ fn halves(digits: u128, places: u32) -> (u64, u64)
         return (digits as u64 * power_of_ten(HALF_PLACES - places) as u64, 0);
     }
     let fraction = digits * power_of_ten(DECIMAL_PLACES - places);
-    quotient_by_inverse(fraction, HALF, HALF_INVERSE, 30, 80)
+    div_rem_by_inverse(fraction, TEN_POW_14, TEN_POW_14_INVERSE, 30, 80)
 }
 
-/// The product of a group of digits and the unit's size, and what the digits behind came to, rounded up.
+/// The product of a group of digits and the unit's size, and what the digits carry came to, rounded up.
 #[inline(always)]
-fn over_group(digits: u64, unit_size: u128, behind: u128, steps: &mut Steps) -> u128
+fn carry_of_group(digits: u64, unit_size: u128, carry: u128, steps: &mut Steps) -> u128
     requires digits { digits < group_limit }
     requires small_unit { unit_size ≤ unit_limit }
-    requires behind { behind ≤ unit_size }
-    ensures rounded { IsRoundedUp (digits * unit_size + behind) group_limit result }
+    requires carry { carry ≤ unit_size }
+    ensures rounded { IsRoundedUp (digits * unit_size + carry) group_limit result }
     ensures bound { result ≤ unit_size }
     ensures ticks { steps.new ≡ raised steps.old 1 }
 {
-    steps.raise(1);
-    if digits == 0 && behind == 0 {
-        // A group of zeros with nothing behind it costs no division.
+    steps.advance_by(1);
+    if digits == 0 && carry == 0 {
+        // A group of zeros with nothing carry it costs no division.
         0
     } else if unit_size < 1 << 40 {
-        u128::from((digits * unit_size as u64 + behind as u64).div_ceil(GROUP))
+        u128::from((digits * unit_size as u64 + carry as u64).div_ceil(GROUP))
     } else {
-        let product = u128::from(digits) * unit_size + behind;
-        quotient_by_short(product + u128::from(GROUP - 1), GROUP).0
+        let product = u128::from(digits) * unit_size + carry;
+        div_rem_u24(product + u128::from(GROUP - 1), GROUP).0
     }
 }

@@ -4,7 +4,7 @@
 
 pub use crate::decimal::{DECIMAL_PLACES, Decimal};
 pub use crate::decimal_digits::{
-    DecimalDigits, NUMBER_DIGITS, decimal_len, put_decimal, put_fraction, write_decimal,
+    DecimalDigits, NUMBER_DIGITS, decimal_len, put_u128, put_fraction, fmt_u128,
 };
 pub use crate::expansion::{EXPANSION_PLACES, Expansion, Ties, glyphs_of};
 pub use crate::factors::{Factors, factors_of, two_five};

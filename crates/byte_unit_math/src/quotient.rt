@@ -6,13 +6,13 @@ ghost use Rattle.byte_unit_math.specs.Exact.{IsExactAt, IsLeastPlaces, IsQuotien
 ghost use Rattle.byte_unit_math.specs.Factored.{value_of};
 
 use crate::decimal::{DECIMAL_PLACES, Decimal};
-use crate::dividing::{digit_and_rest, quotient_and_rest, quotient_by_short};
+use crate::dividing::{div_rem_digit, div_rem, div_rem_u24};
 use crate::factors::Factors;
 use crate::steps::Steps;
 use crate::tens::{POWERS_OF_FIVE, power_of_ten};
 
 /// Numbers below this fit 64 bits.
-const SHORT: u128 = 1 << 64;
+const TWO_POW_64: u128 = 1 << 64;
 
 /// `size / unit`, where that is a decimal of at most so many places, else None. More than 28 places count as 28.
 ///
@@ -37,12 +37,12 @@ pub fn exact_quotient(size: u128, unit: u128, places: u32, steps: &mut Steps) ->
         × (steps.new ≡ raised steps.old digits) }
 {
     let most = places.min(DECIMAL_PLACES);
-    let (whole, mut rest) = quotient_and_rest(size, unit);
+    let (whole, mut rest) = div_rem(size, unit);
     let mut fraction = 0;
     let mut digits = 0;
     while rest > 0 && digits < most {
-        steps.raise(1);
-        let (digit, left) = digit_and_rest(rest * 10, unit);
+        steps.advance_by(1);
+        let (digit, left) = div_rem_digit(rest * 10, unit);
         fraction = fraction * 10 + digit;
         rest = left;
         digits += 1;
@@ -84,29 +84,29 @@ pub fn factored_quotient(
     let (whole, digits) = match places {
         0 => (count, 0),
         // A division by a constant takes a multiplication or a few.
-        1 => at_place(count, 10),
-        2 => at_place(count, 100),
-        3 => at_place(count, 1000),
-        _ => quotient_and_rest(count, power_of_ten(places)),
+        1 => div_rem_small(count, 10),
+        2 => div_rem_small(count, 100),
+        3 => div_rem_small(count, 1000),
+        _ => div_rem(count, power_of_ten(places)),
     };
     let quotient = Decimal::from_digits(whole, digits, places);
-    steps.raise(quotient.places());
+    steps.advance_by(quotient.places());
     quotient
 }
 
 /// The parts before and behind the point of so many units of a place, by the number of them that one is, a constant.
 #[inline(always)]
-fn at_place(count: u128, one: u64) -> (u128, u128)
-    requires some { 1 ≤ one }
-    requires few { one ≤ 1000 }
+fn div_rem_small(count: u128, divisor: u64) -> (u128, u128)
+    requires some { 1 ≤ divisor }
+    requires few { divisor ≤ 1000 }
     requires small { count < whole_limit }
-    ensures whole { result.0 ≡ count / one }
-    ensures digits { result.1 ≡ count % one }
+    ensures whole { result.0 ≡ count / divisor }
+    ensures digits { result.1 ≡ count % divisor }
 {
-    if count < SHORT {
+    if count < TWO_POW_64 {
         let count = count as u64;
-        return (u128::from(count / one), u128::from(count % one));
+        return (u128::from(count / divisor), u128::from(count % divisor));
     }
-    let (whole, digits) = quotient_by_short(count, one);
+    let (whole, digits) = div_rem_u24(count, divisor);
     (whole, u128::from(digits))
 }

@@ -36,9 +36,9 @@ impl Steps {
     }
 
     /// So many ticks more.
-    pub(crate) fn raise(&mut self, ticks: u32)
-        ensures { self.new ≡ raised self.old ticks }
+    pub(crate) fn advance_by(&mut self, steps: u32)
+        ensures { self.new ≡ raised self.old steps }
     {
-        self.count = self.count.saturating_add(u64::from(ticks));
+        self.count = self.count.saturating_add(u64::from(steps));
     }
 }

@@ -10,7 +10,7 @@ ghost use Rattle.byte_unit_base.specs.declared.kind.Kind.TheVariants.{Bit as InB
 
 use super::Bit;
 use byte_unit_base::{ExceededBoundsError, ParseError};
-use byte_unit_math::write_decimal;
+use byte_unit_math::fmt_u128;
 use std::fmt;
 use std::num::TryFromIntError;
 use std::str::FromStr;
@@ -32,7 +32,7 @@ impl fmt::Display for Bit {
     ghost styled_output = { λ size spec. Some (decimal size) };
 
     fn fmt<W: fmt::Write>(&self, f: &mut fmt::Formatter<W>) -> fmt::Result {
-        write_decimal(self.as_u128(), f)
+        fmt_u128(self.as_u128(), f)
     }
 }
 

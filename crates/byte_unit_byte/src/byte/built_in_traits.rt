@@ -9,7 +9,7 @@ ghost use Rattle.byte_unit_base.specs.declared.kind.Kind.TheVariants.{Byte as In
 
 use super::Byte;
 use byte_unit_base::{ExceededBoundsError, ParseError};
-use byte_unit_math::write_decimal;
+use byte_unit_math::fmt_u128;
 use std::fmt;
 use std::num::TryFromIntError;
 use std::str::FromStr;
@@ -31,7 +31,7 @@ impl fmt::Display for Byte {
     ghost styled_output = { λ size spec. Some (decimal size) };
 
     fn fmt<W: fmt::Write>(&self, f: &mut fmt::Formatter<W>) -> fmt::Result {
-        write_decimal(self.as_u128(), f)
+        fmt_u128(self.as_u128(), f)
     }
 }
 

@@ -5,8 +5,8 @@ use Rattle.byte_unit_format.proofs.adjusted.adjusted_len.Goals as goal
 
 pub returns-clause-exact : goal.returns-clause-exact
 returns-clause-exact c = λ form is_form.
-    let number = c.number_in-shown.result in
+    let number = c.rounded_in_unit-shown.result in
     let unit = shape_of c.args.unit in
     let shown : IsShown c.args.kind c.args.size unit c.args.spec number.decimal number.places =
-    record { is_numeral = c.number_in-shown.ensures.number } in
+    record { is_numeral = c.rounded_in_unit-shown.ensures.number } in
     c.layout_len.ensures.exact ∙ sym (adjusted_length shown form is_form)

@@ -12,9 +12,9 @@ returns g c =
     let size = c.args.size in
     let spec = c.args.spec in
     let unit = shape_of c.args.unit in
-    let number = c.number_in-shown.result in
+    let number = c.rounded_in_unit-shown.result in
     let shown : IsShown kind size unit spec number.decimal number.places =
-    record { is_numeral = c.number_in-shown.ensures.number } in
+    record { is_numeral = c.rounded_in_unit-shown.ensures.number } in
     appends_form (IsAdjustedForm current kind size unit spec) c.args.text.now c.append_layout.new.text c.append_layout.result
     (layout_of current number.decimal number.places unit spec)
     (adjusted_form shown) (adjusted_length shown) c.append_layout.ensures

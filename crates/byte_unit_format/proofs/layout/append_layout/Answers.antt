@@ -13,5 +13,5 @@ returns g c =
     let fraction = fraction_text (padded c.args.places c.args.e.now).digits in
     let unit = name current (shape_of c.args.unit) in
     appends_same
-    (c.layout_row.ensures.text ∙ ap (λ whole. layout (decimal whole ++ fraction) unit c.args.spec) c.whole.ensures)
+    (c.layout_parts.ensures.text ∙ ap (λ whole. layout (decimal whole ++ fraction) unit c.args.spec) c.whole.ensures)
     c.append.ensures

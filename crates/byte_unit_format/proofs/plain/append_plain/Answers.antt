@@ -2,4 +2,4 @@ use Rattle.byte_unit_format.proofs.Appending.{appends_same}
 use Rattle.byte_unit_format.proofs.plain.append_plain.Goals as goal
 
 pub returns : goal.returns
-returns g c = appends_same c.plain_row.ensures.text c.append.ensures
+returns g c = appends_same c.plain_parts.ensures.text c.append.ensures

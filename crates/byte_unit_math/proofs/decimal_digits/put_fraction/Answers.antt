@@ -13,8 +13,8 @@ overflow_add-power_of_ten c =
     let most : 10 ^ c.args.places ≤ 10 ^ 28 = pow-le-pow_right {n = 10} (omega arith) c.requires.few in
     omega (arith, most, c.requires.below, c.power_of_ten.ensures)
 
-pub put_decimal-point-requires-clause-room : goal.put_decimal-point-requires-clause-room
-put_decimal-point-requires-clause-room c =
+pub put_u128-point-requires-clause-room : goal.put_u128-point-requires-clause-room
+put_u128-point-requires-clause-room c =
     let some : 0 < c.args.places = omega (arith, c.if-places-eq0.false) in
     let number = ap (λ n. length (decimal (n + c.args.digits))) c.power_of_ten.ensures in
     let long = length_behind_one c.args.places c.args.digits some c.requires.below c.requires.few in
@@ -25,22 +25,22 @@ returns-clause-begins c =
     let some : 0 < c.args.places = omega (arith, c.if-places-eq0.false) in
     let number = ap (λ n. length (decimal (n + c.args.digits))) c.power_of_ten.ensures in
     let long = length_behind_one c.args.places c.args.digits some c.requires.below c.requires.few in
-    omega (arith, number, long.0, c.put_decimal-point.ensures.begins)
+    omega (arith, number, long.0, c.put_u128-point.ensures.begins)
 
 pub bounds-bytes-point : goal.bounds-bytes-point
 bounds-bytes-point c =
     let some : 0 < c.args.places = omega (arith, c.if-places-eq0.false) in
     let number = ap (λ n. length (decimal (n + c.args.digits))) c.power_of_ten.ensures in
     let long = length_behind_one c.args.places c.args.digits some c.requires.below c.requires.few in
-    omega (arith, number, long.0, long.1, c.put_decimal-point.ensures.begins)
+    omega (arith, number, long.0, long.1, c.put_u128-point.ensures.begins)
 
 pub returns-clause-digits : goal.returns-clause-digits
 returns-clause-digits c =
     let some : 0 < c.args.places = omega (arith, c.if-places-eq0.false) in
     let behind = drop c.args.end c.args.bytes.now in
     let number = ap (λ n. decimal (n + c.args.digits) ++ behind) c.power_of_ten.ensures in
-    point_put c.args.places c.args.digits c.put_decimal-point.result c.put_decimal-point.new.bytes behind
-    (some, c.requires.below, c.requires.few) (bounds-bytes-point c) (c.put_decimal-point.ensures.digits ∙ number)
+    point_put c.args.places c.args.digits c.put_u128-point.result c.put_u128-point.new.bytes behind
+    (some, c.requires.below, c.requires.few) (bounds-bytes-point c) (c.put_u128-point.ensures.digits ∙ number)
 
 pub returns-then-places-eq0-clause-ascii : goal.returns-then-places-eq0-clause-ascii
 returns-then-places-eq0-clause-ascii c =
@@ -52,4 +52,4 @@ returns-clause-ascii c =
     let some : 0 < c.args.places = omega (arith, c.if-places-eq0.false) in
     let number = ap (λ n. decimal (n + c.args.digits)) c.power_of_ten.ensures in
     fraction_ascii c.args.places c.args.digits (some, c.requires.below, c.requires.few)
-    (subst IsAscii number c.put_decimal-point.ensures.ascii)
+    (subst IsAscii number c.put_u128-point.ensures.ascii)

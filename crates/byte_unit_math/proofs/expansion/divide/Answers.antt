@@ -19,7 +19,7 @@ loop-rest-smaller c =
 
 pub loop-rest-preserved : goal.loop-rest-preserved
 loop-rest-preserved c =
-    rw (c.digit_and_rest-digit.ensures.digit, c.digit_and_rest-digit.ensures.rest)
+    rw (c.div_rem_digit-digit.ensures.digit, c.div_rem_digit-digit.ensures.rest)
     (IsDividing-more _ _ _ c.loop-rest.rest c.loop-rest.places c.loop-rest.digits
     (record { so_far = c.loop-rest.invariant; ends = c.requires.ends; some = c.loop-rest-test.true }))
 

@@ -15,7 +15,7 @@ loop-left-preserved c = FivesOff-more _ _ _ _ _ c.loop-left.invariant (omega ari
 
 pub overflow_add-fives-then-left : goal.overflow_add-fives-then-left
 overflow_add-fives-then-left c =
-    let short = c.short_without_fives-short in
+    let short = c.divide_out_fives-short in
     let off = FivesOff-joined _ _ _ _ short.result.0 short.result.1 c.loop-left.invariant
     (omega (arith, short.ensures.product, c.if-left.true)) short.ensures.odd in
     omega (arith, FivesOff-few _ _ _ _ c.requires.small off)
@@ -27,7 +27,7 @@ all_off c =
     let twos = trailing_zeros w128 number in
     elim c.if-left.branch [
       | then-left w ↦
-          let short = w.short_without_fives-short in
+          let short = w.divide_out_fives-short in
           let off = FivesOff-joined _ _ _ _ short.result.0 short.result.1 c.loop-left.invariant
           (omega (arith, short.ensures.product, w.if-left.true)) short.ensures.odd in
           let e : short.result.0 ≡ c.if-left.left = omega (arith, w.left-is, w.from-left.ensures) in
@@ -41,7 +41,7 @@ all_off c =
 no_five : (c : Joined-left) → c.if-left.left % 5 ≢ 0
 no_five c = λ five.
     elim c.if-left.branch [
-      | then-left w ↦ w.short_without_fives-short.ensures.none (omega (arith, w.left-is, w.from-left.ensures, five))
+      | then-left w ↦ w.divide_out_fives-short.ensures.none (omega (arith, w.left-is, w.from-left.ensures, five))
       | else-left w ↦ elim c.loop-left-test.branch [
         | then-loop-left-test+else-left-eq0 v ↦ omega (arith, v.if-left-eq0.false, w.left-is, five)
         | else-loop-left-test v ↦ omega (arith, v.loop-left-test.false, w.if-left.false)

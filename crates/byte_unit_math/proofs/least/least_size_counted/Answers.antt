@@ -16,14 +16,14 @@ fraction_least c =
     elim c.if-digits-eq0.branch [
       | then-digits-eq0 w ↦ rw w.part-is (IsLeastSize-none _ _ unit w.if-digits-eq0.true)
       | else-digits-eq0 w ↦
-          let part = w.over_group-part-else-digits-eq0 in
-          let size = w.over_group-part-else-digits-eq0-3 in
-          let low = IsRoundedUp-groups _ unit _ _ _ w.over_group-part.ensures.rounded part.ensures.rounded in
-          let high = IsRoundedUp-groups _ unit _ _ _ w.over_group-part-else-digits-eq0-2.ensures.rounded size.ensures.rounded in
+          let part = w.carry_of_group-part-else-digits-eq0 in
+          let size = w.carry_of_group-part-else-digits-eq0-3 in
+          let low = IsRoundedUp-groups _ unit _ _ _ w.carry_of_group-part.ensures.rounded part.ensures.rounded in
+          let high = IsRoundedUp-groups _ unit _ _ _ w.carry_of_group-part-else-digits-eq0-2.ensures.rounded size.ensures.rounded in
           let Low : ℕ → Type 0 = λ n. IsRoundedUp (n * unit + 0) half_limit part.result in
           let High : ℕ → Type 0 = λ n. IsRoundedUp (n * unit + part.result) half_limit size.result in
-          rw w.part-is (IsLeastSize-halves fraction unit part.result size.result (subst Low w.halves-high.ensures.low low)
-          (subst High w.halves-high.ensures.high high))
+          rw w.part-is (IsLeastSize-halves fraction unit part.result size.result (subst Low w.split_fraction-high.ensures.low low)
+          (subst High w.split_fraction-high.ensures.high high))
     ]
 
 -- and of the whole decimal

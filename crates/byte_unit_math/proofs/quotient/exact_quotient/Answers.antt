@@ -24,9 +24,9 @@ loop-rest-preserved c =
     record {
       few = omega arith;
       divides =
-          rw (c.digit_and_rest-digit.ensures.digit, c.digit_and_rest-digit.ensures.rest)
+          rw (c.div_rem_digit-digit.ensures.digit, c.div_rem_digit-digit.ensures.rest)
           (Dividing-more _ _ loop.rest loop.fraction loop.digits (omega arith) (omega arith) loop.invariant.divides);
-      ticks = omega (arith, c.raise.ensures, loop.invariant.ticks);
+      ticks = omega (arith, c.advance_by.ensures, loop.invariant.ticks);
     }
 
 pub returns-then-rest-gt0-clause-none : goal.returns-then-rest-gt0-clause-none
@@ -41,7 +41,7 @@ returns-then-rest-gt0-clause-none c = λ exact.
 
 pub from_digits-requires-clause-whole : goal.from_digits-requires-clause-whole
 from_digits-requires-clause-whole c =
-    rw c.quotient_and_rest-whole.ensures.quotient (whole_fits c.args.size c.args.unit c.requires.small_size)
+    rw c.div_rem-whole.ensures.quotient (whole_fits c.args.size c.args.unit c.requires.small_size)
 
 pub returns-clause-quotient : goal.returns-clause-quotient
 returns-clause-quotient c =
@@ -50,7 +50,7 @@ returns-clause-quotient c =
     let number =
     IsQuotient-digits c.args.size c.args.unit loop.fraction loop.digits places (omega (arith, c.min-most.ensures, loop.invariant.few))
     (omega arith) (Dividing-ended _ _ _ _ _ loop.invariant.divides (omega arith)) in
-    rw (c.from_digits.ensures, c.quotient_and_rest-whole.ensures.quotient) number
+    rw (c.from_digits.ensures, c.div_rem-whole.ensures.quotient) number
 
 pub returns-clause-exact : goal.returns-clause-exact
 returns-clause-exact c =

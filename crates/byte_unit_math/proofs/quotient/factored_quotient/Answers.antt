@@ -43,20 +43,20 @@ overflow_mul-count c =
     let s = (goal.at.overflow_mul-count c).Start in
     let fits : Fits w128 (count_of s) = omega (arith, small s) in subst (λ n. Fits w128 n) (sym (product s)) fits
 
-pub at_place-requires-clause-small : goal.at_place-requires-clause-small
-at_place-requires-clause-small c =
-    let s = (goal.at.at_place-requires-clause-small c).Start in subst (λ n. n < whole_limit) (sym (product s)) (small s)
+pub div_rem_small-requires-clause-small : goal.div_rem_small-requires-clause-small
+div_rem_small-requires-clause-small c =
+    let s = (goal.at.div_rem_small-requires-clause-small c).Start in subst (λ n. n < whole_limit) (sym (product s)) (small s)
 
-pub at_place-requires-in-2-clause-small : goal.at_place-requires-in-2-clause-small
-at_place-requires-in-2-clause-small c =
-    let s = (goal.at.at_place-requires-in-2-clause-small c).Start in subst (λ n. n < whole_limit) (sym (product s)) (small s)
+pub div_rem_small-requires-in-2-clause-small : goal.div_rem_small-requires-in-2-clause-small
+div_rem_small-requires-in-2-clause-small c =
+    let s = (goal.at.div_rem_small-requires-in-2-clause-small c).Start in subst (λ n. n < whole_limit) (sym (product s)) (small s)
 
-pub at_place-requires-in-3-clause-small : goal.at_place-requires-in-3-clause-small
-at_place-requires-in-3-clause-small c =
-    let s = (goal.at.at_place-requires-in-3-clause-small c).Start in subst (λ n. n < whole_limit) (sym (product s)) (small s)
+pub div_rem_small-requires-in-3-clause-small : goal.div_rem_small-requires-in-3-clause-small
+div_rem_small-requires-in-3-clause-small c =
+    let s = (goal.at.div_rem_small-requires-in-3-clause-small c).Start in subst (λ n. n < whole_limit) (sym (product s)) (small s)
 
-pub quotient_and_rest-requires : goal.quotient_and_rest-requires
-quotient_and_rest-requires c = omega (arith, c.power_of_ten.ensures, power_bounds c.args.places c.requires.places)
+pub div_rem-requires : goal.div_rem-requires
+div_rem-requires c = omega (arith, c.power_of_ten.ensures, power_bounds c.args.places c.requires.places)
 
 -- the count is cut at the point
 
@@ -70,13 +70,13 @@ parts c =
     let Power : ℕ → ℕ = λ n. 10 ^ n in
     elim c.match-places.branch [
       | in-0 w ↦ cut_at is_count (sym (ap Power w.in-0.is)) w.whole-is (omega arith, omega arith)
-      | in-1 w ↦ cut_at is_count (sym (ap Power w.in-1.is)) w.whole-is (w.at_place.ensures.whole, w.at_place.ensures.digits)
+      | in-1 w ↦ cut_at is_count (sym (ap Power w.in-1.is)) w.whole-is (w.div_rem_small.ensures.whole, w.div_rem_small.ensures.digits)
       | in-2 w ↦
-          cut_at is_count (sym (ap Power w.in-2.is)) w.whole-is (w.at_place-in-2.ensures.whole, w.at_place-in-2.ensures.digits)
+          cut_at is_count (sym (ap Power w.in-2.is)) w.whole-is (w.div_rem_small-in-2.ensures.whole, w.div_rem_small-in-2.ensures.digits)
       | in-3 w ↦
-          cut_at is_count (sym (ap Power w.in-3.is)) w.whole-is (w.at_place-in-3.ensures.whole, w.at_place-in-3.ensures.digits)
+          cut_at is_count (sym (ap Power w.in-3.is)) w.whole-is (w.div_rem_small-in-3.ensures.whole, w.div_rem_small-in-3.ensures.digits)
       | in_default w ↦
-          cut_at is_count w.power_of_ten.ensures w.whole-is (w.quotient_and_rest.ensures.quotient, w.quotient_and_rest.ensures.rest)
+          cut_at is_count w.power_of_ten.ensures w.whole-is (w.div_rem.ensures.quotient, w.div_rem.ensures.rest)
     ]
 
 pub from_digits-quotient-requires-clause-whole : goal.from_digits-quotient-requires-clause-whole

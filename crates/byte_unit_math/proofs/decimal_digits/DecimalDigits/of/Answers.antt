@@ -5,18 +5,18 @@ use Rattle.std.proofs.lemmas.Fmt.{IsAscii-decimal_wide}
 use Rattle.byte_unit_math.proofs.WrittenDigits.{length_few}
 use Rattle.byte_unit_math.proofs.decimal_digits.DecimalDigits.of.Goals as goal
 
-pub put_decimal-start-requires-clause-room : goal.put_decimal-start-requires-clause-room
-put_decimal-start-requires-clause-room c = omega (arith, length_few c.args.n (omega arith))
+pub put_u128-start-requires-clause-room : goal.put_u128-start-requires-clause-room
+put_u128-start-requires-clause-room c = omega (arith, length_few c.args.n (omega arith))
 
 pub returns-clause-digits : goal.returns-clause-digits
-returns-clause-digits c = c.put_decimal-start.ensures.digits ∙ append-nil (decimal c.args.n)
+returns-clause-digits c = c.put_u128-start.ensures.digits ∙ append-nil (decimal c.args.n)
 
 pub returns-clause-ascii : goal.returns-clause-ascii
 returns-clause-ascii c =
-    let same = c.put_decimal-start.ensures.digits ∙ append-nil (decimal c.args.n) in
+    let same = c.put_u128-start.ensures.digits ∙ append-nil (decimal c.args.n) in
     subst IsAscii (sym same) (IsAscii-decimal_wide c.args.n (omega arith))
 
 pub returns-clause-few : goal.returns-clause-few
 returns-clause-few c =
-    let same = c.put_decimal-start.ensures.digits ∙ append-nil (decimal c.args.n) in
+    let same = c.put_u128-start.ensures.digits ∙ append-nil (decimal c.args.n) in
     omega (arith, ap length same, length_few c.args.n (omega arith))

@@ -1,0 +1,210 @@
+//! The parts of a text, and writing them in their order.
+
+ghost use Rattle.std.specs.Prelude.{◌≡◌, ◌+◌, ◌^◌, ◌<◌, ◌≤◌, ◌++◌, length, drop, IsAscii};
+ghost use Rattle.std.specs.String.{string_bytes};
+ghost use Rattle.byte_unit_math.specs.Bounds.{places_of_decimal};
+ghost use Rattle.byte_unit_math.specs.Digits.{last_digits};
+ghost use Rattle.byte_unit_math.specs.Numeral.{fraction_text};
+ghost use Rattle.byte_unit_math.specs.Padded.{padded};
+ghost use Rattle.byte_unit_format.specs.Room.{spare, Appends};
+ghost use Rattle.byte_unit_format.specs.Row.{fraction_of, places_in, IsShort, IsReady, row_text};
+ghost use Rattle.byte_unit_format.specs.Written.{Writes};
+
+use crate::put::{put, put_run};
+use crate::capacity::{push, push_ascii, push_run, reserve};
+use byte_unit_math::{DecimalDigits, Expansion, glyphs_of, put_u128, put_fraction};
+use std::alloc::{AllocError, Allocator};
+
+/// Rows of no more bytes are added to a text in one piece.
+const BUFFER_LEN: usize = 96;
+
+/// The digits after the point, so many of them.
+#[derive(Clone, Copy)]
+pub(crate) enum Fraction<'a> {
+    /// The last digits of a number, 28 at most, zeros in front where it has fewer.
+    Last(u128, u32),
+    /// The first digits of an expansion, zeros behind where it has fewer.
+    First(&'a Expansion, u32),
+}
+
+/// The parts of a text in their order, and how long they are together.
+#[derive(Clone, Copy)]
+pub(crate) struct TextParts<'a> {
+    /// Spaces before the number.
+    pub before: usize,
+    /// A plus sign, or nothing.
+    pub sign: &'static str,
+    pub whole: u128,
+    pub fraction: Fraction<'a>,
+    /// Spaces behind the number.
+    pub after: usize,
+    /// The name of a unit, or nothing.
+    pub name: &'static str,
+    pub len: usize,
+}
+
+impl TextParts<'_> {
+    /// Writes the row at the front of the bytes, where it fits, and answers how long it is.
+    #[inline(always)]
+    pub(crate) fn write(&self, out: &mut [u8]) -> usize
+        requires len { self.now.len ≡ length (row_text self.now) }
+        requires ready { IsReady self.now }
+        ensures written { Writes (λ form. form ≡ row_text self.now) out.old out.new result }
+        ensures len { result ≡ self.now.len }
+    {
+        if self.len <= out.len() {
+            self.put(out, self.len);
+        }
+        self.len
+    }
+
+    /// Adds the row at the end of a text. It asks for memory once at most, before it writes.
+    pub(crate) fn append<A: Allocator>(&self, text: &mut String<A>) -> Result<(), AllocError>
+        requires len { self.now.len ≡ length (row_text self.now) }
+        requires ready { IsReady self.now }
+        ensures { Appends (λ form. form ≡ row_text self.now) text.old text.new result }
+    {
+        reserve(text, self.len)?;
+        if self.len <= BUFFER_LEN {
+            self.push_whole(text);
+        } else {
+            self.push_parts(text);
+        }
+        Ok(())
+    }
+
+    /// Adds the row in one piece.
+    fn push_whole<A: Allocator>(&self, text: &mut String<A>)
+        requires few { length (row_text self.now) ≤ BUFFER_LEN }
+        requires ready { IsReady self.now }
+        requires room { length (row_text self.now) ≤ spare text.old }
+        ensures bytes { string_bytes text.new ≡ string_bytes text.old ++ row_text self.now }
+        ensures spare { spare text.old ≤ spare text.new + length (row_text self.now) }
+    {
+        let mut bytes = [0; BUFFER_LEN];
+        let start = self.put(&mut bytes, BUFFER_LEN);
+        push_ascii(text, &bytes[start..]);
+    }
+
+    /// Adds the parts of the row one after another.
+    fn push_parts<A: Allocator>(&self, text: &mut String<A>)
+        requires ready { IsReady self.now }
+        requires room { length (row_text self.now) ≤ spare text.old }
+        ensures bytes { string_bytes text.new ≡ string_bytes text.old ++ row_text self.now }
+        ensures spare { spare text.old ≤ spare text.new + length (row_text self.now) }
+    {
+        push_run(text, b' ', self.before);
+        text.push_str(self.sign).unwrap();
+        push_ascii(text, DecimalDigits::of(self.whole).as_slice());
+        self.fraction.push(text);
+        push_run(text, b' ', self.after);
+        text.push_str(self.name).unwrap();
+    }
+
+    /// Puts the row so that it ends before this place, and answers where it begins.
+    #[inline(always)]
+    fn put(&self, out: &mut [u8], end: usize) -> usize
+        requires room { length (row_text self.now) ≤ end }
+        requires within { end ≤ length out.old }
+        requires ready { IsReady self.now }
+        ensures begins { result + length (row_text self.now) ≡ end }
+        ensures bytes { drop result out.new ≡ row_text self.now ++ drop end out.old }
+        ensures ascii { IsAscii (row_text self.now) }
+    {
+        let name = put(self.name.as_bytes(), out, end);
+        let behind = put_run(b' ', self.after, out, name);
+        let point = self.fraction.put(out, behind);
+        let digits = put_u128(self.whole, out, point);
+        let sign = put(self.sign.as_bytes(), out, digits);
+        put_run(b' ', self.before, out, sign)
+    }
+}
+
+impl Fraction<'_> {
+    /// How many columns the point and the digits take.
+    #[inline(always)]
+    #[tactic(auto, using(crate::proofs::TextParts::fraction_long))]
+    pub(crate) fn len(&self) -> usize
+        ensures exact { result ≡ length (fraction_of self.now) }
+        ensures small { result ≤ places_in self.now + 1 }
+        ensures bound { result ≤ 2 ^ 32 }
+    {
+        let places = match self {
+            Fraction::Last(_, places) | Fraction::First(_, places) => *places,
+        };
+        if places == 0 { 0 } else { 1 + places as usize }
+    }
+
+    /// Adds the point and the digits.
+    fn push<A: Allocator>(&self, text: &mut String<A>)
+        requires short { IsShort self.now }
+        requires room { length (fraction_of self.now) ≤ spare text.old }
+        ensures bytes { string_bytes text.new ≡ string_bytes text.old ++ fraction_of self.now }
+        ensures spare { spare text.old ≤ spare text.new + length (fraction_of self.now) }
+    {
+        match self {
+            Fraction::Last(digits, places) => push_last(text, *digits, *places),
+            Fraction::First(e, places) => push_first(text, e, *places),
+        }
+    }
+
+    /// Puts the point and the digits so that they end before this place, and answers where they begin.
+    #[inline(always)]
+    fn put(&self, out: &mut [u8], end: usize) -> usize
+        requires room { length (fraction_of self.now) ≤ end }
+        requires within { end ≤ length out.old }
+        requires short { IsShort self.now }
+        ensures begins { result + length (fraction_of self.now) ≡ end }
+        ensures bytes { drop result out.new ≡ fraction_of self.now ++ drop end out.old }
+        ensures ascii { IsAscii (fraction_of self.now) }
+    {
+        match self {
+            Fraction::Last(digits, places) => put_fraction(*digits, *places, out, end),
+            Fraction::First(e, places) => put_first(e, *places, out, end),
+        }
+    }
+}
+
+/// Puts the point and so many digits of an expansion, or nothing where there are to be none.
+fn put_first(e: &Expansion, places: u32, out: &mut [u8], end: usize) -> usize
+    requires room { length (fraction_text (padded places e.now).digits) ≤ end }
+    requires within { end ≤ length out.old }
+    ensures begins { result + length (fraction_text (padded places e.now).digits) ≡ end }
+    ensures bytes { drop result out.new ≡ fraction_text (padded places e.now).digits ++ drop end out.old }
+    ensures ascii { IsAscii (fraction_text (padded places e.now).digits) }
+{
+    if places == 0 {
+        return end;
+    }
+    let shown = places.min(e.places()) as usize;
+    let zeros = put_run(b'0', places as usize - shown, out, end);
+    let digits = put(&glyphs_of(e)[..shown], out, zeros);
+    put_run(b'.', 1, out, digits)
+}
+
+/// Adds the point and so many last digits of a number.
+fn push_last<A: Allocator>(text: &mut String<A>, digits: u128, places: u32)
+    requires short { (places ≤ places_of_decimal) × (digits < 10 ^ places) }
+    requires room { length (fraction_text (last_digits places digits)) ≤ spare text.old }
+    ensures bytes { string_bytes text.new ≡ string_bytes text.old ++ fraction_text (last_digits places digits) }
+    ensures spare { spare text.old ≤ spare text.new + length (fraction_text (last_digits places digits)) }
+{
+    let mut bytes = [0; BUFFER_LEN];
+    let start = put_fraction(digits, places, &mut bytes, BUFFER_LEN);
+    push_ascii(text, &bytes[start..]);
+}
+
+/// Adds the point and so many digits of an expansion, or nothing where there are to be none.
+#[tactic(auto, using(crate::proofs::WrittenForms::fraction_length))]
+fn push_first<A: Allocator>(text: &mut String<A>, e: &Expansion, places: u32)
+    requires room { length (fraction_text (padded places e.now).digits) ≤ spare text.old }
+    ensures bytes { string_bytes text.new ≡ string_bytes text.old ++ fraction_text (padded places e.now).digits }
+    ensures spare { spare text.old ≤ spare text.new + length (fraction_text (padded places e.now).digits) }
+{
+    if places > 0 {
+        let shown = places.min(e.places()) as usize;
+        push(text, '.');
+        push_ascii(text, &glyphs_of(e)[..shown]);
+        push_run(text, b'0', places as usize - shown);
+    }
+}

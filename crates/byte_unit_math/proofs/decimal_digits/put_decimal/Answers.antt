@@ -1,9 +1,0 @@
-use Rattle.std.proofs.Common.{arith}
-use Rattle.std.proofs.lemmas.Fmt.{IsAscii-decimal_wide}
-use Rattle.byte_unit_math.proofs.decimal_digits.put_decimal.Goals as goal
-
-pub returns-clause-ascii : goal.returns-clause-ascii
-returns-clause-ascii c = IsAscii-decimal_wide c.args.n (omega arith)
-
-pub returns-then-n-from-clause-ascii : goal.returns-then-n-from-clause-ascii
-returns-then-n-from-clause-ascii c = IsAscii-decimal_wide c.args.n (omega arith)

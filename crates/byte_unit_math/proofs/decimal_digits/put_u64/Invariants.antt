@@ -1,0 +1,8 @@
+use Rattle.byte_unit_math.proofs.WrittenDigits.{IsWritten}
+use Rattle.byte_unit_math.proofs.decimal_digits.put_u64.Given as goal
+
+abbrev pub invariant-loop-rest : goal.invariant-loop-rest
+invariant-loop-rest l = IsWritten l.n l.end l.fn.bytes l.rest l.start l.bytes
+
+abbrev pub decreases-loop-rest : goal.decreases-loop-rest
+decreases-loop-rest l = l.rest

@@ -1,0 +1,19 @@
+use Rattle.std.proofs.Common.{◌≡◌, ◌+◌, ◌*◌, ◌/◌, ◌%◌, arith, ap, sym, ◌∙◌}
+use Rattle.std.proofs.lemmas.Nat.{div-mul-add, mod-mul-add}
+use Rattle.byte_unit_math.proofs.dividing.div_rem_digit_u64.Goals as goal
+
+pub returns : goal.returns
+returns c =
+    let eights = c.subtract_multiple_u64-eights in
+    let fours = c.subtract_multiple_u64-fours in
+    let twos = c.subtract_multiple_u64-twos in
+    let ones = c.subtract_multiple_u64-ones in
+    let digit = eights.result.0 + fours.result.0 + twos.result.0 + ones.result.0 in
+    let parts : digit * c.args.divisor + ones.result.1 ≡ c.args.dividend =
+    omega (arith, eights.ensures.parts, fours.ensures.parts, twos.ensures.parts, ones.ensures.parts) in
+    let below = ones.ensures.below in
+    record {
+      digit =
+          sym (ap (λ n. n / c.args.divisor) (sym parts) ∙ div-mul-add digit c.args.divisor ones.result.1 (omega (arith, below)));
+      rest = sym (ap (λ n. n % c.args.divisor) (sym parts) ∙ mod-mul-add digit c.args.divisor ones.result.1 (omega (arith, below)));
+    }

@@ -1,0 +1,22 @@
+use Rattle.std.proofs.Common.{ap, ◌≡◌, ◌^◌, ℕ, sym, subst, take}
+use Rattle.byte_unit_math.specs.Finite.{IsExpansion, scaled, cut_after}
+use Rattle.byte_unit_math.proofs.Cut.{shown_by}
+use Rattle.byte_unit_math.proofs.Kept.{cut_is_expansion}
+use Rattle.byte_unit_math.proofs.expansion.Expansion.floor_to.Goals as goal
+
+pub returns : goal.returns
+returns c =
+    let e = c.args.self.now in
+    let p = c.args.places in
+    let kept = c.trim_end_len-kept.result in
+    let whole : e.whole ≡ c.self.inside.whole = sym (ap (λ v. v.whole) c.self.view_is) in
+    let P : ℕ → Type 0 = λ w. IsExpansion (scaled (cut_after p e)) (10 ^ p) (record { whole = w; digits = take kept c.leading_digits.result }) in
+    subst P whole
+    (cut_is_expansion e p kept c.leading_digits.result (shown_by c.self.inside e c.self.invariant c.self.view_is)
+    (record {
+      within = c.requires;
+      few = c.trim_end_len-kept.ensures.few;
+      same = c.trim_end_len-kept.ensures.same;
+      stops = c.trim_end_len-kept.ensures.stops;
+    })
+    (record { size = c.leading_digits.ensures.size; front = c.leading_digits.ensures.front; small = c.leading_digits.ensures.small }))

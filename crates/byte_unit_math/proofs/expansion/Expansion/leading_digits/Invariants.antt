@@ -1,0 +1,5 @@
+use Rattle.byte_unit_math.proofs.Kept.{IsCopied}
+use Rattle.byte_unit_math.proofs.expansion.Expansion.leading_digits.Given as goal
+
+abbrev pub invariant-loop-i : goal.invariant-loop-i
+invariant-loop-i l = IsCopied l.digits l.self.digits l.i
