@@ -1,4 +1,4 @@
-//! Exact decimals of 28 places.
+//! Exact decimals with 28 places.
 ghost use Rattle.std.specs.Prelude.{◌≡◌, ℕ, ◌+◌, ◌*◌, ◌-◌, ◌^◌, ◌/◌, ◌%◌, ◌<◌, ◌≤◌, nat_eq, Some, SomeIff};
 ghost use Rattle.std.specs.Cmp.{partial_order_from_own_ties, partial_equiv_from_equiv};
 ghost use Rattle.std.specs.Cmp.Rules.{comparing};
@@ -14,25 +14,24 @@ use std::cmp::Ordering;
 use std::fmt;
 use std::marker::Model;
 
-/// The digits after the point of a decimal.
+/// The most digits after the point of a [`Decimal`].
 pub const DECIMAL_PLACES: u32 = 28;
 
-/// One, counted in last places.
+/// One, scaled by 10^28.
 pub(crate) const ONE: u128 = 10_000_000_000_000_000_000_000_000_000;
 
-/// Whole parts are below this, 2^112.
+/// The limit of whole parts, 2^112.
 const WHOLE_LIMIT: u128 = 5_192_296_858_534_827_628_530_496_329_220_096;
 
-/// A number with 28 digits after the point, never negative. Its whole part is below 2^112.
+/// A non-negative decimal with at most 28 digits after the point and a whole part below 2^112.
 ///
-/// A contract sees it as the number of its last places: `1.5` is 15 * 10^27. Equality, order and hash are those of the
-/// numbers.
+/// In contracts it is its value scaled by 10^28: `1.5` is 15 * 10^27. Equality, order and hash are those of the value.
 #[derive(Clone, Copy, Debug, Hash)]
 pub struct Decimal {
     whole: u128,
-    /// The digits after the point as a number. The last of them is not 0.
+    /// The digits after the point as a number, without trailing zeros.
     digits: u128,
-    /// How many they are.
+    /// The number of digits after the point.
     places: u32,
 }
 
@@ -51,19 +50,29 @@ impl Model for Decimal {
 
     ghost inverse = { fields_of };
 
-    // A number has no other fields.
+    // Without trailing zeros, the fields are unique.
     ghost inverse_ok = { λ d h. h.only };
 }
 
 impl Decimal {
-    /// Zero.
+    /// The number 0.
     pub const ZERO: Decimal = Decimal {
         whole: 0,
         digits: 0,
         places: 0,
     };
 
-    /// `whole + fraction / 10^28`. None exactly where the whole part is 2^112 or more, or the fraction 10^28 or more.
+    /// Creates `whole + fraction / 10^28`. Returns `None` if `whole` is 2^112 or more, or `fraction` 10^28 or more.
+    ///
+    /// # Examples
+    ///
+    /// ```rust
+    /// use byte_unit_math::Decimal;
+    ///
+    /// let half = Decimal::new(1, 5 * 10u128.pow(27)).unwrap();
+    /// assert_eq!(rt; half.digits(), 5);
+    /// assert_eq!(rt; Decimal::new(1, 10u128.pow(28)), None);
+    /// ```
     pub fn new(whole: u128, fraction: u128) -> Option<Decimal>
         ensures { SomeIff result ((whole < whole_limit) × (fraction < one)) (whole * one + fraction) }
     {
@@ -74,7 +83,16 @@ impl Decimal {
         }
     }
 
-    /// A whole number. None exactly where it is 2^112 or more.
+    /// Creates a whole number. Returns `None` if it is 2^112 or more.
+    ///
+    /// # Examples
+    ///
+    /// ```rust
+    /// use byte_unit_math::Decimal;
+    ///
+    /// assert_eq!(rt; Decimal::from_u128(7), Some(Decimal::from(7u8)));
+    /// assert_eq!(rt; Decimal::from_u128(1 << 112), None);
+    /// ```
     pub fn from_u128(n: u128) -> Option<Decimal>
         ensures { SomeIff result (n < whole_limit) (n * one) }
     {
@@ -85,11 +103,16 @@ impl Decimal {
         }
     }
 
-    /// `mantissa / 10^scale`. None exactly where the scale is above 28, or the whole part 2^112 or more.
+    /// Creates `mantissa / 10^scale`. Returns `None` if `scale` exceeds 28 or the whole part is 2^112 or more.
     ///
-    /// ```text
-    /// from_u128_with_scale(5084, 2)    50.84
-    /// from_u128_with_scale(1, 29)      None
+    /// # Examples
+    ///
+    /// ```rust
+    /// use byte_unit_math::Decimal;
+    ///
+    /// let d = Decimal::from_u128_with_scale(5084, 2).unwrap();
+    /// assert_eq!(rt; (d.whole(), d.digits(), d.places()), (50, 84, 2));
+    /// assert_eq!(rt; Decimal::from_u128_with_scale(1, 29), None);
     /// ```
     pub fn from_u128_with_scale(mantissa: u128, scale: u32) -> Option<Decimal>
         ensures { SomeIff result
@@ -108,12 +131,17 @@ impl Decimal {
         }
     }
 
-    /// The whole part, and so many digits after the point as a number: `whole + digits / 10^places`.
+    /// Creates `whole + digits / 10^places`.
     ///
-    /// The caller owes a whole part below 2^112, at most 28 places, and digits below `10^places`.
+    /// Precondition (proved at every call): `whole < 2^112`, `places <= 28` and `digits < 10^places`.
     ///
-    /// ```text
-    /// from_digits(50, 84, 3)    50.084
+    /// # Examples
+    ///
+    /// ```rust
+    /// use byte_unit_math::Decimal;
+    ///
+    /// assert_eq!(rt; Some(Decimal::from_digits(50, 84, 3)), Decimal::from_u128_with_scale(50_084, 3));
+    /// assert_eq!(rt; Decimal::from_digits(1, 500, 3).places(), 1);
     /// ```
     #[inline(always)]
     pub fn from_digits(whole: u128, digits: u128, places: u32) -> Decimal
@@ -125,7 +153,7 @@ impl Decimal {
         if digits >= 1 << 64 {
             return Decimal::from_wide_digits(whole, digits, places);
         }
-        // The zeros at the end go.
+        // Trailing zeros are removed, so that equal numbers have equal fields.
         let mut short = digits as u64;
         let mut left = places;
         while left > 0 && short % 10 == 0 {
@@ -139,7 +167,7 @@ impl Decimal {
         }
     }
 
-    /// The same of digits that 64 bits do not hold, where a division takes more time.
+    /// Creates the same number from digits that need more than 64 bits, whose divisions take longer.
     fn from_wide_digits(whole: u128, digits: u128, places: u32) -> Decimal
         requires whole { whole < whole_limit }
         requires places { places ≤ places_of_decimal }
@@ -159,7 +187,16 @@ impl Decimal {
         }
     }
 
-    /// The part before the point, below 2^112.
+    /// Returns the part before the point, below 2^112.
+    ///
+    /// # Examples
+    ///
+    /// ```rust
+    /// use byte_unit_math::Decimal;
+    ///
+    /// assert_eq!(rt; Decimal::from_digits(50, 84, 3).whole(), 50);
+    /// assert_eq!(rt; Decimal::ZERO.whole(), 0);
+    /// ```
     pub fn whole(self) -> u128
         ensures value { result ≡ self / one }
         ensures bound { result < whole_limit }
@@ -167,7 +204,16 @@ impl Decimal {
         self.whole
     }
 
-    /// The part after the point, in last places: below 10^28.
+    /// Returns the part after the point scaled by 10^28, below 10^28.
+    ///
+    /// # Examples
+    ///
+    /// ```rust
+    /// use byte_unit_math::Decimal;
+    ///
+    /// assert_eq!(rt; Decimal::from_digits(1, 5, 1).fraction(), 5 * 10u128.pow(27));
+    /// assert_eq!(rt; Decimal::from(7u8).fraction(), 0);
+    /// ```
     pub fn fraction(self) -> u128
         ensures value { result ≡ self % one }
         ensures bound { result < one }
@@ -175,7 +221,16 @@ impl Decimal {
         self.digits * power_of_ten(DECIMAL_PLACES - self.places)
     }
 
-    /// The least number of places that state it, 0 to 28.
+    /// Returns the least number of places that represents it exactly, 0 to 28.
+    ///
+    /// # Examples
+    ///
+    /// ```rust
+    /// use byte_unit_math::Decimal;
+    ///
+    /// assert_eq!(rt; Decimal::from_digits(50, 840, 4).places(), 3);
+    /// assert_eq!(rt; Decimal::from(7u8).places(), 0);
+    /// ```
     pub fn places(self) -> u32
         ensures bound { result ≤ places_of_decimal }
         ensures least { IsLeastPlaces self one result }
@@ -183,11 +238,15 @@ impl Decimal {
         self.places
     }
 
-    /// The digits after the point as a number: of as many digits as it has places, the first of which may be zeros.
+    /// Returns the digits after the point as a number of `places()` digits, leading zeros included.
     ///
-    /// ```text
-    /// 50.084    84, of 3 places
-    /// 7         0, of no places
+    /// # Examples
+    ///
+    /// ```rust
+    /// use byte_unit_math::Decimal;
+    ///
+    /// assert_eq!(rt; Decimal::from_digits(50, 84, 3).digits(), 84);
+    /// assert_eq!(rt; Decimal::from(7u8).digits(), 0);
     /// ```
     pub fn digits(self) -> u128
         ensures value { (places : ℕ) → IsLeastPlaces self one places
@@ -278,7 +337,7 @@ impl PartialOrd for Decimal {
     }
 }
 
-/// The whole part, and where the fraction is not zero a point and its digits without the zeros at the end.
+/// Writes the whole part and, if the fraction is not zero, a point and its digits without trailing zeros.
 impl fmt::Display for Decimal {
     ghost output = { λ d. Some (short d places_of_decimal) };
 

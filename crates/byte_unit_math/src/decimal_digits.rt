@@ -1,4 +1,4 @@
-//! The decimal digits of a number.
+//! The decimal digits of a number, as ASCII.
 
 ghost use Rattle.std.specs.Prelude.{◌≡◌, ◌+◌, ◌^◌, ◌≤◌, ◌<◌, ◌++◌, length, drop, IsAscii, Some};
 ghost use Rattle.std.specs.Fmt.{decimal, DisplaysOnOk, DisplaysStyledOnOk};
@@ -11,13 +11,13 @@ use crate::tens::power_of_ten;
 use std::marker::Model;
 use std::{fmt, str};
 
-/// The most decimal digits of a number of 128 bits.
+/// The most decimal digits of a `u128`.
 pub const NUMBER_DIGITS: usize = 39;
 
-/// One place more, for the one before the last group.
+/// The length of the buffer: one byte more, for the 1 before the last group of digits.
 const BUFFER_LEN: usize = NUMBER_DIGITS + 1;
 
-/// The two digits of each number below a hundred.
+/// The two digits of each number below 100.
 static PAIRS: [u8; 200] = *b"\
     0001020304050607080910111213141516171819\
     2021222324252627282930313233343536373839\
@@ -25,10 +25,15 @@ static PAIRS: [u8; 200] = *b"\
     6061626364656667686970717273747576777879\
     8081828384858687888990919293949596979899";
 
-/// The decimal digits of a number, as characters. A contract sees the list of them.
+/// The decimal digits of a number, as ASCII. In contracts it is the list of these bytes.
 ///
-/// ```text
-/// DecimalDigits::of(1536).as_slice()    b"1536"
+/// # Examples
+///
+/// ```rust
+/// use byte_unit_math::DecimalDigits;
+///
+/// assert_eq!(rt; DecimalDigits::of(1536).as_slice(), b"1536".as_slice());
+/// assert_eq!(rt; DecimalDigits::of(0).as_slice(), b"0".as_slice());
 /// ```
 #[derive(Drop)]
 pub struct DecimalDigits {
@@ -48,7 +53,13 @@ impl Model for DecimalDigits {
 }
 
 impl DecimalDigits {
-    /// The digits of this number.
+    /// Creates the digits of a number.
+    ///
+    /// # Examples
+    ///
+    /// ```rust
+    /// assert_eq!(rt; byte_unit_math::DecimalDigits::of(1536).as_slice(), b"1536".as_slice());
+    /// ```
     pub fn of(n: u128) -> DecimalDigits
         ensures digits { result ≡ decimal n }
         ensures ascii { IsAscii result }
@@ -59,7 +70,14 @@ impl DecimalDigits {
         DecimalDigits { bytes, start }
     }
 
-    /// How many there are: at most 39.
+    /// Returns the number of digits, 1 to 39.
+    ///
+    /// # Examples
+    ///
+    /// ```rust
+    /// assert_eq!(rt; byte_unit_math::DecimalDigits::of(1536).len(), 4);
+    /// assert_eq!(rt; byte_unit_math::DecimalDigits::of(u128::MAX).len(), 39);
+    /// ```
     #[inline]
     pub fn len(&self) -> usize
         ensures { result ≡ length self.now }
@@ -67,7 +85,13 @@ impl DecimalDigits {
         BUFFER_LEN - self.start
     }
 
-    /// The characters, from the first on.
+    /// Returns the digits as a slice.
+    ///
+    /// # Examples
+    ///
+    /// ```rust
+    /// assert_eq!(rt; byte_unit_math::DecimalDigits::of(1000).as_slice(), b"1000".as_slice());
+    /// ```
     #[inline]
     pub fn as_slice(&self) -> &[u8]
         ensures { result.now ≡ self.now }
@@ -76,10 +100,25 @@ impl DecimalDigits {
     }
 }
 
-/// Writes the digits of a number into a formatter, whose flags change nothing.
+/// Writes the digits of a number to a formatter, and ignores its flags.
 ///
-/// ```text
-/// fmt_u128(1536, f)    // "1536"
+/// # Errors
+///
+/// Returns `fmt::Error` if the writer does.
+///
+/// # Examples
+///
+/// ```rust
+/// use byte_unit_math::fmt_u128;
+/// use std::fmt;
+///
+/// struct Number(u128);
+/// impl fmt::Display for Number {
+///     fn fmt<W: fmt::Write>(&self, f: &mut fmt::Formatter<W>) -> fmt::Result {
+///         fmt_u128(self.0, f)
+///     }
+/// }
+/// assert_eq!(rt; format!(in alloc; "{}", Number(1536))?.as_str(), "1536");
 /// ```
 pub fn fmt_u128<W: fmt::Write>(n: u128, f: &mut fmt::Formatter<W>) -> fmt::Result
     ensures plain { DisplaysOnOk W.write_str_gives f.old result (Some (decimal n)) f.new }
@@ -89,10 +128,15 @@ pub fn fmt_u128<W: fmt::Write>(n: u128, f: &mut fmt::Formatter<W>) -> fmt::Resul
     f.write_str(str::from_utf8(digits.as_slice()).unwrap())
 }
 
-/// How many decimal digits a number has: at most 39.
+/// Returns the number of decimal digits of a number, 1 to 39.
 ///
-/// ```text
-/// decimal_len(1536)    4
+/// # Examples
+///
+/// ```rust
+/// use byte_unit_math::decimal_len;
+///
+/// assert_eq!(rt; decimal_len(1536), 4);
+/// assert_eq!(rt; decimal_len(0), 1);
 /// ```
 pub fn decimal_len(n: u128) -> usize
     ensures exact { result ≡ length (decimal n) }
@@ -101,7 +145,7 @@ pub fn decimal_len(n: u128) -> usize
     if n < 10 {
         return 1;
     }
-    // The count of binary digits leaves the choice between so many decimal ones and one more.
+    // 1,233 / 4,096 is about log10(2): the binary digits leave a choice between two lengths.
     let few = (u128::BITS - n.leading_zeros()) * 1_233 / 4_096;
     if n < power_of_ten(few) {
         return few as usize;
@@ -109,12 +153,18 @@ pub fn decimal_len(n: u128) -> usize
     few as usize + 1
 }
 
-/// Writes the digits of a number so that they end before this place, and answers where they begin.
+/// Writes the digits of a number so that they end before the index `end`, and returns the index where they begin.
 ///
-/// The caller owes room for them before the place.
+/// Precondition (proved at every call): the digits fit before `end`, and `end <= bytes.len()`.
 ///
-/// ```text
-/// put_u128(1536, bytes, 6)    2, and the bytes from there on begin with "1536"
+/// # Examples
+///
+/// ```rust
+/// use byte_unit_math::put_u128;
+///
+/// let mut bytes = *b"......";
+/// assert_eq!(rt; put_u128(1536, &mut bytes, 5), 1);
+/// assert_eq!(rt; &bytes, b".1536.");
 /// ```
 #[inline(always)]
 pub fn put_u128(n: u128, bytes: &mut [u8], end: usize) -> usize
@@ -130,13 +180,21 @@ pub fn put_u128(n: u128, bytes: &mut [u8], end: usize) -> usize
     put_u128_wide(n, bytes, end)
 }
 
-/// Writes the point and so many digits of a number, zeros in front where it has fewer, so that they end before this
-/// place, and answers where they begin. Where there are to be none it writes nothing.
+/// Writes a point and `places` digits of a number, with leading zeros, so that they end before the index `end`, and
+/// returns the index where they begin. Writes nothing if `places` is 0.
 ///
-/// The caller owes a number of no more than 28 digits, and room before the place.
+/// Precondition (proved at every call): `places <= 28`, `digits < 10^places`, the text fits before `end`, and
+/// `end <= bytes.len()`.
 ///
-/// ```text
-/// put_fraction(5, 2, bytes, 6)    3, and the bytes from there on begin with ".05"
+/// # Examples
+///
+/// ```rust
+/// use byte_unit_math::put_fraction;
+///
+/// let mut bytes = *b"1.....";
+/// assert_eq!(rt; put_fraction(5, 2, &mut bytes, 4), 1);
+/// assert_eq!(rt; &bytes, b"1.05..");
+/// assert_eq!(rt; put_fraction(0, 0, &mut bytes, 4), 4);
 /// ```
 #[inline(always)]
 pub fn put_fraction(digits: u128, places: u32, bytes: &mut [u8], end: usize) -> usize
@@ -151,13 +209,13 @@ pub fn put_fraction(digits: u128, places: u32, bytes: &mut [u8], end: usize) -> 
     if places == 0 {
         return end;
     }
-    // A one in front keeps the zeros behind it, and becomes the point.
+    // A leading 1 keeps the zeros after it, and becomes the point.
     let point = put_u128(power_of_ten(places) + digits, bytes, end);
     bytes[point] = b'.';
     point
 }
 
-/// Writes digits that end before this place, eighteen at a time, and answers where they begin.
+/// Writes digits as `put_u128`, 18 at a time: the slow path, for numbers of more than 64 bits.
 #[inline(never)]
 fn put_u128_wide(n: u128, bytes: &mut [u8], end: usize) -> usize
     requires room { length (decimal n) ≤ end }
@@ -169,14 +227,14 @@ fn put_u128_wide(n: u128, bytes: &mut [u8], end: usize) -> usize
     let mut rest = n;
     while rest > u128::from(u64::MAX) {
         let (before, last) = split_last_18_digits(rest);
-        // A one before the last digits keeps the zeros they begin with; the next digits are written over it.
+        // A leading 1 keeps the zeros after it; the next digits overwrite it.
         start = put_u64(TEN_POW_18 + last, bytes, start) + 1;
         rest = before;
     }
     put_u64(rest as u64, bytes, start)
 }
 
-/// Writes digits that end before this place, and answers where they begin.
+/// Writes the digits of a number of 64 bits as `put_u128`.
 fn put_u64(n: u64, bytes: &mut [u8], end: usize) -> usize
     requires room { length (decimal n) ≤ end }
     requires within { end ≤ length bytes.old }
@@ -202,7 +260,7 @@ fn put_u64(n: u64, bytes: &mut [u8], end: usize) -> usize
     start
 }
 
-/// Writes four digits, zeros in front among them, and answers where they begin.
+/// Writes four digits, leading zeros included, and returns the index where they begin.
 #[inline]
 fn put_4_digits(n: u32, bytes: &mut [u8], end: usize) -> usize
     requires below { n < 10 ^ 4 }
@@ -215,7 +273,7 @@ fn put_4_digits(n: u32, bytes: &mut [u8], end: usize) -> usize
     put_2_digits(n / 100, bytes, middle)
 }
 
-/// Writes two digits, a zero in front among them, and answers where they begin.
+/// Writes two digits, a leading zero included, and returns the index where they begin.
 #[inline]
 fn put_2_digits(n: u32, bytes: &mut [u8], end: usize) -> usize
     requires below { n < 10 ^ 2 }

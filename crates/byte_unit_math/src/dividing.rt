@@ -1,17 +1,17 @@
-//! A division, one by a constant, and a digit of a long one.
+//! Division with remainder: of 128 bits, by constants, and for one digit of a long division.
 ghost use Rattle.std.specs.Prelude.{◌≡◌, ◌+◌, ◌*◌, ◌/◌, ◌%◌, ◌^◌, ◌<◌, ◌≤◌};
 ghost use Rattle.byte_unit_math.specs.Inverse.{HasInverse};
 
-/// Ten to the power of 18.
+/// The radix of groups of 18 digits.
 pub(crate) const TEN_POW_18: u64 = 1_000_000_000_000_000_000;
 
-/// The whole part of 2^123 / `TEN_POW_18`.
+/// The reciprocal of `TEN_POW_18`: 2^123 / 10^18, rounded down.
 const TEN_POW_18_INVERSE: u64 = 10_633_823_966_279_326_983;
 
-/// The base of a long division by a number of 24 bits: each step fits 64 bits.
+/// The base of a long division by a number of at most 24 bits: each step fits 64 bits.
 const BASE: u64 = 1 << 40;
 
-/// The quotient and the rest. Where both numbers fit 64 bits, so does the division, which then takes less time.
+/// Returns the quotient and the remainder. If both numbers fit 64 bits, the division is the faster one of 64 bits.
 pub(crate) fn div_rem(dividend: u128, divisor: u128) -> (u128, u128)
     requires { 1 ≤ divisor }
     ensures quotient { result.0 ≡ dividend / divisor }
@@ -29,8 +29,8 @@ pub(crate) fn div_rem(dividend: u128, divisor: u128) -> (u128, u128)
     }
 }
 
-/// The quotient and the rest by a constant, with no division: the leading 64 bits of the dividend times the whole part
-/// of 2^(cut + shift) / divisor give an estimate, which is the quotient or one below it.
+/// Returns the quotient and the remainder by a constant, without division: the leading 64 bits of the dividend times
+/// `inverse`, 2^(cut + shift) / divisor rounded down, give an estimate, which is the quotient or one less.
 #[inline(always)]
 pub(crate) fn div_rem_by_inverse(
     dividend: u128,
@@ -53,8 +53,8 @@ pub(crate) fn div_rem_by_inverse(
     }
 }
 
-/// The quotient and the rest by a constant of at most 24 bits: a long division in base 2^40, each step of which takes a
-/// multiplication.
+/// Returns the quotient and the remainder by a constant of at most 2^24: a long division in base 2^40, each step of
+/// which LLVM compiles to multiplications.
 #[inline(always)]
 pub(crate) fn div_rem_u24(dividend: u128, divisor: u64) -> (u128, u64)
     requires some { 1 ≤ divisor }
@@ -73,27 +73,21 @@ pub(crate) fn div_rem_u24(dividend: u128, divisor: u64) -> (u128, u64)
     )
 }
 
-/// What is before the last eighteen digits of a number, and these digits. Numbers of 122 bits take no division.
+/// Splits a number into its last 18 digits and those before them. Numbers below 2^122 take no division.
 #[inline(always)]
 pub(crate) fn split_last_18_digits(n: u128) -> (u128, u64)
     ensures quotient { result.0 ≡ n / 10 ^ 18 }
     ensures rest { result.1 ≡ n % 10 ^ 18 }
 {
     if n < 1 << 122 {
-        let (before, last) = div_rem_by_inverse(
-            n,
-            TEN_POW_18,
-            TEN_POW_18_INVERSE,
-            58,
-            65,
-        );
+        let (before, last) = div_rem_by_inverse(n, TEN_POW_18, TEN_POW_18_INVERSE, 58, 65);
         return (u128::from(before), last);
     }
     let (before, last) = div_rem(n, u128::from(TEN_POW_18));
     (before, last as u64)
 }
 
-/// The quotient where it is a digit, and the rest. Four comparisons take less time than a division of 128 bits.
+/// Returns the quotient, which is a digit, and the remainder. Four comparisons are faster than a division of 128 bits.
 pub(crate) fn div_rem_digit(dividend: u128, divisor: u128) -> (u128, u128)
     requires digit { dividend < 10 * divisor }
     requires small { 10 * divisor < 2 ^ 128 }
@@ -101,7 +95,7 @@ pub(crate) fn div_rem_digit(dividend: u128, divisor: u128) -> (u128, u128)
     ensures rest { result.1 ≡ dividend % divisor }
 {
     if divisor < 1 << 60 {
-        // Ten times the divisor fits 64 bits.
+        // Ten times the divisor fits 64 bits, and so does the dividend.
         let (digit, rest) = div_rem_digit_u64(dividend as u64, divisor as u64);
         return (u128::from(digit), u128::from(rest));
     }
@@ -112,7 +106,7 @@ pub(crate) fn div_rem_digit(dividend: u128, divisor: u128) -> (u128, u128)
     (eights + fours + twos + ones, rest)
 }
 
-/// So many times the divisor, or none where the dividend is below that; and what is left.
+/// Subtracts `times * divisor` if the dividend is at least that. Returns `times`, or else 0, and what is left.
 fn subtract_multiple(dividend: u128, times: u128, divisor: u128) -> (u128, u128)
     requires once { dividend < 2 * (times * divisor) }
     requires small { times * divisor < 2 ^ 128 }
@@ -128,7 +122,7 @@ fn subtract_multiple(dividend: u128, times: u128, divisor: u128) -> (u128, u128)
     }
 }
 
-/// The same in 64 bits.
+/// Returns the same as `div_rem_digit`, in 64 bits.
 fn div_rem_digit_u64(dividend: u64, divisor: u64) -> (u64, u64)
     requires digit { dividend < 10 * divisor }
     requires small { 10 * divisor < 2 ^ 64 }
@@ -142,7 +136,7 @@ fn div_rem_digit_u64(dividend: u64, divisor: u64) -> (u64, u64)
     (eights + fours + twos + ones, rest)
 }
 
-/// So many times the divisor, or none, in 64 bits.
+/// Subtracts as `subtract_multiple`, in 64 bits.
 fn subtract_multiple_u64(dividend: u64, times: u64, divisor: u64) -> (u64, u64)
     requires once { dividend < 2 * (times * divisor) }
     requires small { times * divisor < 2 ^ 64 }

@@ -1,4 +1,4 @@
-//! Finite decimals, digit by digit: a whole part and at most 93 digits after the point.
+//! Terminating decimal expansions: a whole part and at most 93 digits after the point.
 ghost use Rattle.std.specs.Prelude.{◌≡◌, ◌≢◌, ◌+◌, ◌-◌, ◌*◌, ◌%◌, ◌^◌, ◌≤◌, ◌<◌, ◌++◌, ℕ, length, take, drop};
 ghost use Rattle.std.specs.Prelude.{replicate, slice_index, IsAscii, Some};
 ghost use Rattle.std.specs.List.{All};
@@ -16,21 +16,21 @@ use crate::dividing::div_rem_digit;
 use std::marker::Model;
 use std::{fmt, str};
 
-/// The most digits after the point of an expansion.
+/// The most digits after the point of an [`Expansion`].
 pub const EXPANSION_PLACES: usize = 93;
 
-/// Which of two equally near decimals is taken.
+/// How to round a number halfway between two decimals.
 #[derive(Debug, Clone, Copy, PartialEq, Eq)]
 pub enum Ties {
-    /// The one whose last digit is even.
+    /// To the one whose last digit is even.
     Even,
-    /// The greater one.
+    /// To the greater one.
     Up,
 }
 
-/// A number with at most 93 digits after the point, the last of which is not 0.
+/// A terminating decimal expansion with at most 93 digits after the point, the last of which is not 0.
 ///
-/// A contract sees it as its whole part and its digits.
+/// In contracts it is its whole part and the list of its digits.
 #[derive(Debug, Clone, Copy)]
 pub struct Expansion {
     whole: u128,
@@ -54,18 +54,23 @@ impl Model for Expansion {
 
     ghost inverse = { fields_of };
 
-    // The digits that are seen and the zeros behind them are all that is stored.
+    // The array holds the digits of the model and then zeros.
     ghost inverse_ok = { λ e h. let few = subst (λ n. e.places ≤ n) (sym h.size) h.few in
         rw (length-take-le e.places e.digits few, sym h.rest, take-append-drop e.places e.digits) refl };
 }
 
 impl Expansion {
-    /// `numerator / (2^twos * 5^fives)`.
+    /// Creates the expansion of `numerator / (2^twos * 5^fives)`.
     ///
-    /// The caller owes a numerator below 8 * 10^30, and a product of the powers of at most 2^93.
+    /// Precondition (proved at every call): `numerator < 8 * 10^30` and `2^twos * 5^fives <= 2^93`.
     ///
-    /// ```text
-    /// Expansion::new(13, 3, 0)    1.625
+    /// # Examples
+    ///
+    /// ```rust
+    /// use byte_unit_math::Expansion;
+    ///
+    /// assert_eq!(rt; format!(in alloc; "{}", Expansion::new(13, 3, 0))?.as_str(), "1.625");
+    /// assert_eq!(rt; format!(in alloc; "{}", Expansion::new(8, 3, 0))?.as_str(), "1");
     /// ```
     #[tactic(auto, using(crate::proofs::Expanding::powers))]
     pub fn new(numerator: u128, twos: u32, fives: u32) -> Expansion
@@ -77,21 +82,43 @@ impl Expansion {
         divide(numerator / den, numerator % den, den)
     }
 
-    /// The same number.
+    /// Creates the expansion of a decimal.
+    ///
+    /// # Examples
+    ///
+    /// ```rust
+    /// use byte_unit_math::{Decimal, Expansion};
+    ///
+    /// let e = Expansion::from_decimal(Decimal::from_digits(50, 84, 3));
+    /// assert_eq!(rt; (e.whole(), e.places(), e.digit(3)), (50, 3, 4));
+    /// ```
     pub fn from_decimal(d: Decimal) -> Expansion
         ensures { IsExpansion d one result }
     {
         divide(d.whole(), d.fraction(), ONE)
     }
 
-    /// The part before the point.
+    /// Returns the part before the point.
+    ///
+    /// # Examples
+    ///
+    /// ```rust
+    /// assert_eq!(rt; byte_unit_math::Expansion::new(13, 3, 0).whole(), 1);
+    /// ```
     pub fn whole(&self) -> u128
         ensures { result ≡ self.now.whole }
     {
         self.whole
     }
 
-    /// The digits after the point: the least number of places that state it, at most 93.
+    /// Returns the number of digits after the point, without trailing zeros: at most 93.
+    ///
+    /// # Examples
+    ///
+    /// ```rust
+    /// assert_eq!(rt; byte_unit_math::Expansion::new(13, 3, 0).places(), 3);
+    /// assert_eq!(rt; byte_unit_math::Expansion::new(1, 93, 0).places(), 93);
+    /// ```
     pub fn places(&self) -> u32
         ensures exact { result ≡ length self.now.digits }
         ensures few { result ≤ expansion_places }
@@ -99,9 +126,16 @@ impl Expansion {
         self.places
     }
 
-    /// The i-th digit after the point, counted from 1. Past the last it is 0.
+    /// Returns the i-th digit after the point, counted from 1, or 0 if it is past the last.
     ///
-    /// The caller owes an i of at least 1.
+    /// Precondition (proved at every call): `1 <= i`.
+    ///
+    /// # Examples
+    ///
+    /// ```rust
+    /// let e = byte_unit_math::Expansion::new(13, 3, 0);
+    /// assert_eq!(rt; (e.digit(1), e.digit(3), e.digit(4)), (6, 5, 0));
+    /// ```
     pub fn digit(&self, i: u32) -> u8
         requires { 1 ≤ i }
         ensures exact { result ≡ slice_index self.now.digits (i - 1) }
@@ -114,11 +148,17 @@ impl Expansion {
         }
     }
 
-    /// The nearest decimal with at most so many places; where two are equally near, the one that `ties` says.
+    /// Rounds to the nearest decimal with at most `places` digits after the point, ties as `ties` says.
     ///
-    /// ```text
-    /// 9.996 at 2 places    10
-    /// 1.005 at 2 places    1 by Even, 1.01 by Up
+    /// # Examples
+    ///
+    /// ```rust
+    /// use byte_unit_math::{Expansion, Ties};
+    ///
+    /// assert_eq!(rt; Expansion::new(9_996, 3, 3).rounded(2, Ties::Even).whole(), 10);
+    /// let tie = Expansion::new(1_005, 3, 3);
+    /// assert_eq!(rt; format!(in alloc; "{}", tie.rounded(2, Ties::Even))?.as_str(), "1");
+    /// assert_eq!(rt; format!(in alloc; "{}", tie.rounded(2, Ties::Up))?.as_str(), "1.01");
     /// ```
     pub fn rounded(&self, places: u32, ties: Ties) -> Expansion
         ensures { (q : ℕ)
@@ -134,7 +174,7 @@ impl Expansion {
         }
     }
 
-    /// Whether the decimal with so many places above this one is the nearest.
+    /// Returns whether rounding to `places` digits goes up.
     fn rounds_up(&self, places: u32, ties: Ties) -> bool
         requires { places < length self.now.digits }
         ensures { let nearest = IsNearest (scaled self.now) (10 ^ length self.now.digits) places ties in
@@ -146,7 +186,7 @@ impl Expansion {
         if next != 5 {
             next > 5
         } else if count > places + 1 {
-            // More than half: the last digit is not 0.
+            // More than half, since the last digit is not 0.
             true
         } else {
             match ties {
@@ -156,7 +196,7 @@ impl Expansion {
         }
     }
 
-    /// Whether the number cut after so many digits is odd, in units of its last place.
+    /// Returns whether the last digit is odd if the number is rounded down to `places` digits.
     fn is_odd_at(&self, places: u32) -> bool
         requires { places < length self.now.digits }
         ensures { let cut = scaled (cut_after places self.now) in
@@ -169,7 +209,7 @@ impl Expansion {
         }
     }
 
-    /// How many of the first digits are left, where those at their end that are this one are taken off.
+    /// Returns the length of the first `places` digits without those at their end that equal `last`.
     fn trim_end_len(&self, places: u32, last: u8) -> u32
         requires { places ≤ length self.now.digits }
         ensures few { result ≤ places }
@@ -183,7 +223,7 @@ impl Expansion {
         kept
     }
 
-    /// So many digits, and then zeros.
+    /// Returns the first `places` digits, and then zeros.
     fn leading_digits(&self, places: u32) -> [u8; EXPANSION_PLACES]
         requires { places ≤ length self.now.digits }
         ensures size { length result ≡ expansion_places }
@@ -200,7 +240,7 @@ impl Expansion {
         digits
     }
 
-    /// The number cut after so many digits.
+    /// Rounds down to `places` digits after the point.
     fn floor_to(&self, places: u32) -> Expansion
         requires { places ≤ length self.now.digits }
         ensures { IsExpansion (scaled (cut_after places self.now)) (10 ^ places) result }
@@ -213,12 +253,12 @@ impl Expansion {
         }
     }
 
-    /// The next number with so many places above the one that is cut.
+    /// Rounds up to `places` digits after the point, of which the number has more.
     fn ceil_to(&self, places: u32) -> Expansion
         requires { places < length self.now.digits }
         ensures { IsExpansion (scaled (cut_after places self.now) + 1) (10 ^ places) result }
     {
-        // Nines at the end become zeros, and the digit before them one more.
+        // The carry turns trailing nines into zeros, and adds one to the digit before them.
         let kept = self.trim_end_len(places, 9);
         let mut digits = self.leading_digits(kept);
         if kept == 0 {
@@ -238,12 +278,7 @@ impl Expansion {
     }
 }
 
-/// The whole part, and where there are digits after the point a point and them.
-///
-/// ```text
-/// Expansion::new(13, 3, 0)    1.625
-/// Expansion::new(8, 3, 0)     1
-/// ```
+/// Writes the whole part and, if there are digits after the point, a point and these.
 impl fmt::Display for Expansion {
     ghost output = { λ e. Some (text_of e) };
 
@@ -255,7 +290,7 @@ impl fmt::Display for Expansion {
     }
 }
 
-/// Writes the point and the digits behind it, or nothing where there are none.
+/// Writes the point and the digits after it, or nothing if there are none.
 fn fmt_fraction<W: fmt::Write>(e: &Expansion, f: &mut fmt::Formatter<W>) -> fmt::Result
     ensures plain { DisplaysOnOk W.write_str_gives f.old result (Some (fraction_text e.now.digits)) f.new }
     ensures styled { DisplaysStyledOnOk W.write_str_gives f.old result (Some (fraction_text e.now.digits)) f.new }
@@ -267,10 +302,14 @@ fn fmt_fraction<W: fmt::Write>(e: &Expansion, f: &mut fmt::Formatter<W>) -> fmt:
     f.write_str(str::from_utf8(&glyphs_of(e)[..e.places() as usize]).unwrap())
 }
 
-/// The digits of an expansion as characters, and zeros behind them.
+/// Returns the digits after the point as ASCII, followed by zeros (`b'0'`).
 ///
-/// ```text
-/// glyphs_of(&Expansion::new(13, 3, 0))[..3]    b"625"
+/// # Examples
+///
+/// ```rust
+/// use byte_unit_math::{Expansion, glyphs_of};
+///
+/// assert_eq!(rt; &glyphs_of(&Expansion::new(13, 3, 0))[..4], b"6250".as_slice());
 /// ```
 pub fn glyphs_of(e: &Expansion) -> [u8; EXPANSION_PLACES]
     ensures front { take (length e.now.digits) result ≡ glyphs e.now.digits }
@@ -283,7 +322,7 @@ pub fn glyphs_of(e: &Expansion) -> [u8; EXPANSION_PLACES]
     glyphs
 }
 
-/// A power that is no greater than a unit.
+/// Returns `base^exponent`.
 fn power(base: u128, exponent: u32) -> u128
     requires { base ^ exponent ≤ unit_limit }
     ensures { result ≡ base ^ exponent }
@@ -291,11 +330,11 @@ fn power(base: u128, exponent: u32) -> u128
     base.pow(exponent)
 }
 
-/// `whole + remainder / den`, by long division to its end.
+/// Expands `whole + remainder / den` by long division.
 fn divide(whole: u128, remainder: u128, den: u128) -> Expansion
     requires whole { whole < whole_limit }
     requires below { remainder < den }
-    // A digit's dividend fits.
+    // The dividend of each digit fits 128 bits.
     requires small { 10 * den < 2 ^ 128 }
     requires ends { IsExactAt (whole * den + remainder) den expansion_places }
     ensures { IsExpansion (whole * den + remainder) den result }

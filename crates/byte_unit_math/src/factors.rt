@@ -1,4 +1,4 @@
-//! How often two and five divide a size, and what is left of it.
+//! The exponents of 2 and 5 in a size, and its cofactor.
 ghost use Rattle.std.specs.Prelude.{◌≡◌, ◌≢◌, ◌+◌, ◌*◌, ◌%◌, ◌^◌, ◌<◌, ◌≤◌};
 ghost use Rattle.byte_unit_math.specs.Bounds.{size_limit};
 ghost use Rattle.byte_unit_math.specs.Factored.{value_of};
@@ -7,7 +7,7 @@ ghost use Rattle.byte_unit_math.specs.Steps.{raised};
 
 use crate::steps::Steps;
 
-/// A number by its factors: `left * 2^twos * 5^fives`.
+/// A factored number: `left * 2^twos * 5^fives`.
 #[derive(Clone, Copy, Debug)]
 pub struct Factors {
     pub left: u128,
@@ -15,17 +15,22 @@ pub struct Factors {
     pub fives: u32,
 }
 
-/// How often two and how often five divide the size.
+/// Returns the exponents of 2 and of 5 in the size.
 ///
-/// The caller owes a size of at least 1 and below 10^30.
+/// Precondition (proved at every call): `1 <= size < 10^30`.
 ///
-/// Raises `steps` by as many steps as trial divisions would take, one for each division by two or by five that succeeds
-/// and one for each that fails: the sum of both results and 2, at most 101. No trial division by two is made: the twos
-/// are the zeros at the end of the binary digits.
+/// Counts the steps of trial division: one for each division by 2 or 5 that succeeds, and one for each of the two that
+/// fail, at most 101 in all. The exponent of 2 is read from the trailing zero bits, without division.
 ///
-/// ```text
-/// two_five(1_000, &mut steps)    (3, 3), in 8 ticks
-/// two_five(7, &mut steps)        (0, 0), in 2 ticks
+/// # Examples
+///
+/// ```rust
+/// use byte_unit_math::{Steps, two_five};
+///
+/// let mut steps = Steps::new();
+/// assert_eq!(rt; two_five(1_000, &mut steps), (3, 3));
+/// assert_eq!(rt; two_five(7, &mut steps), (0, 0));
+/// assert_eq!(rt; steps.count(), 8 + 2);
 /// ```
 pub fn two_five(size: u128, steps: &mut Steps) -> (u32, u32)
     requires some { 1 ≤ size }
@@ -42,10 +47,17 @@ pub fn two_five(size: u128, steps: &mut Steps) -> (u32, u32)
     (twos, fives)
 }
 
-/// The size by its factors, under the same conditions and in as many ticks.
+/// Returns the size as its factors, with the precondition and the step count of [`two_five`].
 ///
-/// ```text
-/// factors_of(7_000, &mut steps)    7 is left, with 3 twos and 3 fives, in 8 ticks
+/// # Examples
+///
+/// ```rust
+/// use byte_unit_math::{Steps, factors_of};
+///
+/// let mut steps = Steps::new();
+/// let factors = factors_of(7_000, &mut steps);
+/// assert_eq!(rt; (factors.left, factors.twos, factors.fives), (7, 3, 3));
+/// assert_eq!(rt; steps.count(), 8);
 /// ```
 #[inline(always)]
 pub fn factors_of(size: u128, steps: &mut Steps) -> Factors
@@ -59,7 +71,7 @@ pub fn factors_of(size: u128, steps: &mut Steps) -> Factors
     let twos = size.trailing_zeros();
     let mut left = size >> twos;
     let mut fives = 0;
-    // As soon as what is left fits 64 bits, so do the divisions, which then take less time.
+    // Divisions of 64 bits are faster, so they take over as soon as the cofactor fits.
     while left >= 1 << 64 && left % 5 == 0 {
         left /= 5;
         fives += 1;
@@ -73,7 +85,7 @@ pub fn factors_of(size: u128, steps: &mut Steps) -> Factors
     Factors { left, twos, fives }
 }
 
-/// What is left of an odd number without its fives, and how many they are.
+/// Divides out the factors 5 of an odd number, and returns the cofactor and the exponent of 5.
 fn divide_out_fives(number: u64) -> (u64, u32)
     requires { number % 2 ≢ 0 }
     ensures product { number ≡ result.0 * 5 ^ result.1 }

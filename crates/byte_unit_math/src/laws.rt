@@ -1,35 +1,36 @@
-//! Laws over the definitions. Each function does nothing: its contract is the law.
+//! Laws of the definitions. Each function does nothing: its contract is the law.
 ghost use Rattle.byte_unit_math.specs.NumberLaws.{ExactByPowers, NumbersHaveTwosAndFives, PlacesByPowers};
 ghost use Rattle.byte_unit_math.specs.NumberLaws.{ZeroTakesNoPlaces, ExpansionsAreFoundByDivision};
 ghost use Rattle.byte_unit_math.specs.NumberLaws.{NumeralsAreExact, ShortNumeralsAreExpansions};
 ghost use Rattle.byte_unit_math.specs.CountLaws.{GreatestCountStays};
 
-/// `num / (2^a * 5^b)`, where it is not zero, is exact at p places exactly where neither exponent is greater than p and
-/// what the numerator has of it.
+/// Proves that a nonzero `num / (2^a * 5^b)` is exact within `p` places if and only if neither exponent exceeds `p`
+/// plus the numerator's own exponent.
 pub fn exact_by_powers()
     ensures { ExactByPowers }
 {}
 
-/// It takes as many places as the numerator lacks of two or of five, whichever is more. Zero takes none.
+/// Proves that the quotient needs as many places as the numerator lacks factors of 2 or of 5, whichever is more. Zero
+/// needs none.
 pub fn places_by_powers()
     ensures some { NumbersHaveTwosAndFives }
     ensures places { PlacesByPowers }
     ensures zero { ZeroTakesNoPlaces }
 {}
 
-/// Where `num / den` is exact at 93 places, a decimal is its expansion exactly where it is what division finds.
+/// Proves that if `num / den` is exact within 93 places, its expansion is the one that long division finds.
 pub fn expansions_are_found_by_division()
     ensures { ExpansionsAreFoundByDivision }
 {}
 
-/// The numeral of `number / 10^places` with all its places is that number, and without the zeros at its end its
-/// decimal.
+/// Proves that the numeral of `number / 10^places` with all its places represents that number, and is its terminating
+/// decimal expansion if trailing zeros are removed.
 pub fn numerals_are_exact()
     ensures all { NumeralsAreExact }
     ensures short { ShortNumeralsAreExpansions }
 {}
 
-/// Once a count of ticks is the greatest, it stays, however many more there are.
+/// Proves that a step count at its maximum stays there, whatever number of steps is added.
 pub fn greatest_count_stays()
     ensures { GreatestCountStays }
 {}

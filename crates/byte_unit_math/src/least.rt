@@ -1,4 +1,4 @@
-//! A decimal of units, rounded up to a whole size.
+//! Products of a decimal and a unit's size, rounded up to a whole number.
 ghost use Rattle.std.specs.Prelude.{◌≡◌, ℕ, ◌+◌, ◌-◌, ◌*◌, ◌/◌, ◌%◌, ◌^◌, ◌<◌, ◌≤◌, IfSome, IfNone};
 ghost use Rattle.byte_unit_math.specs.Bounds.{bits_limit, places_of_decimal, unit_limit};
 ghost use Rattle.byte_unit_math.specs.Least.{IsLeastSize};
@@ -10,25 +10,30 @@ use crate::dividing::{div_rem_by_inverse, div_rem_u24};
 use crate::steps::Steps;
 use crate::tens::power_of_ten;
 
-/// Above each group of seven digits: a group's product with a unit of less than 40 bits fits a `u64`.
+/// The radix of groups of seven digits: the product of a group and a unit of less than 40 bits fits a `u64`.
 const GROUP: u64 = 10_000_000;
 
-/// Above two groups, half the digits of a fraction: so many fit a `u64`.
+/// The radix of half the digits of a fraction, which fit a `u64`.
 const TEN_POW_14: u64 = 100_000_000_000_000;
 
-/// The whole part of 2^110 / `TEN_POW_14`.
+/// The reciprocal of `TEN_POW_14`: 2^110 / 10^14, rounded down.
 const TEN_POW_14_INVERSE: u64 = 12_980_742_146_337_069_071;
 
-/// How many digits half of them are.
+/// The number of digits of half a fraction.
 const HALF_PLACES: u32 = 14;
 
-/// The least whole number that is not below `d * unit_size`. None exactly where that number reaches the limit.
+/// Returns `d * unit_size` rounded up to a whole number. Returns `None` if that is `limit` or more.
 ///
-/// The caller owes a unit size from 1 to 2^93, and a limit of at most 8 * 10^30.
+/// Precondition (proved at every call): `1 <= unit_size <= 2^93` and `limit <= 8 * 10^30`.
 ///
-/// ```text
-/// least_size(1.5, 1024, limit)    1536
-/// least_size(0.1, 1024, limit)    103
+/// # Examples
+///
+/// ```rust
+/// use byte_unit_math::{Decimal, least_size};
+///
+/// assert_eq!(rt; least_size(Decimal::from_digits(1, 5, 1), 1024, 2000), Some(1536));
+/// assert_eq!(rt; least_size(Decimal::from_digits(0, 1, 1), 1024, 2000), Some(103));
+/// assert_eq!(rt; least_size(Decimal::from_digits(1, 5, 1), 1024, 1536), None);
 /// ```
 #[inline(always)]
 pub fn least_size(d: Decimal, unit_size: u128, limit: u128) -> Option<u128>
@@ -37,17 +42,23 @@ pub fn least_size(d: Decimal, unit_size: u128, limit: u128) -> Option<u128>
     requires small_limit { limit ≤ bits_limit }
     ensures least { IfSome result (IsLeastSize d unit_size) }
     ensures below { IfSome result (λ n. n < limit) }
-    // No size below the limit is enough.
+    // No size below the limit is at least the product.
     ensures none { IfNone result ((n : ℕ) → IsLeastSize d unit_size n → limit ≤ n) }
 {
     least_size_counted(d, unit_size, limit, &mut Steps::new())
 }
 
-/// The same number under the same conditions, with the ticks of the way to it: one for each of the four groups of seven
-/// digits of the fraction, which are gone through from the last.
+/// Returns the same as [`least_size`], with the same precondition, and counts one step for each of the four
+/// seven-digit groups of the fraction, least significant first.
 ///
-/// ```text
-/// least_size_counted(1.5, 1024, limit, &mut steps)    1536, in 4 ticks
+/// # Examples
+///
+/// ```rust
+/// use byte_unit_math::{Decimal, Steps, least_size_counted};
+///
+/// let mut steps = Steps::new();
+/// assert_eq!(rt; least_size_counted(Decimal::from_digits(1, 5, 1), 1024, 2000, &mut steps), Some(1536));
+/// assert_eq!(rt; steps.count(), 4);
 /// ```
 #[inline(always)]
 pub fn least_size_counted(
@@ -75,12 +86,12 @@ pub fn least_size_counted(
         let part = carry_of_group(high % GROUP, unit_size, part, steps);
         carry_of_group(high / GROUP, unit_size, part, steps)
     };
-    // A number past 128 bits is past each limit.
+    // A number of more than 128 bits exceeds each limit.
     let size = d.whole().checked_mul(unit_size)?.checked_add(part)?;
     (size < limit).then_some(size)
 }
 
-/// The first and the last 14 digits of a fraction, of which so many digits are given.
+/// Splits the fraction `digits / 10^places`, as 28 digits, into its first and its last 14.
 #[inline(always)]
 fn split_fraction(digits: u128, places: u32) -> (u64, u64)
     requires digits { digits < 10 ^ places }
@@ -89,14 +100,15 @@ fn split_fraction(digits: u128, places: u32) -> (u64, u64)
     ensures low { result.1 ≡ digits * 10 ^ (places_of_decimal - places) % half_limit }
 {
     if places <= HALF_PLACES {
-        // They are all in the first half, and fit 64 bits.
+        // All digits are in the first half, and fit 64 bits.
         return (digits as u64 * power_of_ten(HALF_PLACES - places) as u64, 0);
     }
     let fraction = digits * power_of_ten(DECIMAL_PLACES - places);
     div_rem_by_inverse(fraction, TEN_POW_14, TEN_POW_14_INVERSE, 30, 80)
 }
 
-/// The product of a group of digits and the unit's size, and what the digits carry came to, rounded up.
+/// Returns the carry into the next group: the product of a group and the unit's size, plus the carry of the less
+/// significant groups, divided by the radix and rounded up.
 #[inline(always)]
 fn carry_of_group(digits: u64, unit_size: u128, carry: u128, steps: &mut Steps) -> u128
     requires digits { digits < group_limit }
@@ -108,7 +120,7 @@ fn carry_of_group(digits: u64, unit_size: u128, carry: u128, steps: &mut Steps) 
 {
     steps.advance_by(1);
     if digits == 0 && carry == 0 {
-        // A group of zeros with nothing carry it costs no division.
+        // A zero group without a carry needs no division.
         0
     } else if unit_size < 1 << 40 {
         u128::from((digits * unit_size as u64 + carry as u64).div_ceil(GROUP))

@@ -1,10 +1,10 @@
-//! Numbers of sizes: exact decimals, products rounded up, exact quotients with counted steps, and decimals digit by
-//! digit.
+//! The arithmetic of sizes: exact decimals, products rounded up, exact quotients with a step count, and decimal
+//! expansions.
 #![tactic(auto)]
 
 pub use crate::decimal::{DECIMAL_PLACES, Decimal};
 pub use crate::decimal_digits::{
-    DecimalDigits, NUMBER_DIGITS, decimal_len, put_u128, put_fraction, fmt_u128,
+    DecimalDigits, NUMBER_DIGITS, decimal_len, fmt_u128, put_fraction, put_u128,
 };
 pub use crate::expansion::{EXPANSION_PLACES, Expansion, Ties, glyphs_of};
 pub use crate::factors::{Factors, factors_of, two_five};

@@ -1,4 +1,4 @@
-//! Exact quotients, by long division and by factors.
+//! Exact quotients by long division and by factors.
 ghost use Rattle.std.specs.Prelude.{◌≡◌, ℕ, ◌+◌, ◌*◌, ◌-◌, ◌/◌, ◌%◌, ◌^◌, ◌<◌, ◌≤◌, min, IfSome, IfNone};
 ghost use Rattle.byte_unit_math.specs.Bounds.{one, places_of_decimal, unit_limit, whole_limit};
 ghost use Rattle.byte_unit_math.specs.Steps.{raised};
@@ -6,24 +6,30 @@ ghost use Rattle.byte_unit_math.specs.Exact.{IsExactAt, IsLeastPlaces, IsQuotien
 ghost use Rattle.byte_unit_math.specs.Factored.{value_of};
 
 use crate::decimal::{DECIMAL_PLACES, Decimal};
-use crate::dividing::{div_rem_digit, div_rem, div_rem_u24};
+use crate::dividing::{div_rem, div_rem_digit, div_rem_u24};
 use crate::factors::Factors;
 use crate::steps::Steps;
 use crate::tens::{POWERS_OF_FIVE, power_of_ten};
 
-/// Numbers below this fit 64 bits.
+/// The limit of numbers of 64 bits.
 const TWO_POW_64: u128 = 1 << 64;
 
-/// `size / unit`, where that is a decimal of at most so many places, else None. More than 28 places count as 28.
+/// Returns `size / unit` if it is exact within `places` digits after the point, else `None`. At most 28 count.
 ///
-/// The caller owes a unit from 1 to 2^93 and a size below 2^112.
+/// Precondition (proved at every call): `1 <= unit <= 2^93` and `size < 2^112`.
 ///
-/// Long division takes one tick for each digit after the point, so at most 28. It stops at the first number of places
-/// at which the quotient is exact; where there is none, it takes all the places that were asked for.
+/// Long division counts one step for each digit after the point, at most 28. It stops at the first number of places
+/// at which the quotient is exact, or else after all of them.
 ///
-/// ```text
-/// exact_quotient(1, 8, 3, &mut steps)    0.125, in 3 ticks
-/// exact_quotient(1, 8, 2, &mut steps)    None, in 2 ticks
+/// # Examples
+///
+/// ```rust
+/// use byte_unit_math::{Decimal, Steps, exact_quotient};
+///
+/// let mut steps = Steps::new();
+/// assert_eq!(rt; exact_quotient(1, 8, 3, &mut steps), Some(Decimal::from_digits(0, 125, 3)));
+/// assert_eq!(rt; exact_quotient(1, 8, 2, &mut steps), None);
+/// assert_eq!(rt; steps.count(), 3 + 2);
 /// ```
 pub fn exact_quotient(size: u128, unit: u128, places: u32, steps: &mut Steps) -> Option<Decimal>
     requires some_unit { 1 ≤ unit }
@@ -53,15 +59,22 @@ pub fn exact_quotient(size: u128, unit: u128, places: u32, steps: &mut Steps) ->
     Some(Decimal::from_digits(whole, fraction, digits))
 }
 
-/// A number over `2^twos * 5^fives`, where it is a decimal of at most so many places. A quotient of numbers by their
-/// factors takes no long division.
+/// Returns `number / (2^twos * 5^fives)`, from the factors, without long division.
 ///
-/// The caller owes a number of at least 1, places at which the quotient is exact, 28 at most, and a quotient below
-/// 2^112 in units of that place. It takes one tick for each place of the answer.
+/// Precondition (proved at every call): the number is at least 1, `places <= 28`, and the quotient is exact within
+/// `places` digits after the point and below 2^112 if scaled by `10^places`.
 ///
-/// ```text
+/// Counts one step for each digit after the point of the result.
+///
+/// # Examples
+///
+/// ```rust
+/// use byte_unit_math::{Decimal, Factors, Steps, factored_quotient};
+///
+/// let mut steps = Steps::new();
 /// let twelve = Factors { left: 3, twos: 2, fives: 0 };
-/// factored_quotient(twelve, 3, 0, 1, &mut steps)    1.5, in one tick
+/// assert_eq!(rt; factored_quotient(twelve, 3, 0, 1, &mut steps), Decimal::from_digits(1, 5, 1));
+/// assert_eq!(rt; steps.count(), 1);
 /// ```
 #[inline(always)]
 pub fn factored_quotient(
@@ -83,7 +96,7 @@ pub fn factored_quotient(
     let count = (number.left << (number.twos + places - twos)) * power;
     let (whole, digits) = match places {
         0 => (count, 0),
-        // A division by a constant takes a multiplication or a few.
+        // LLVM compiles a division by a constant to multiplications.
         1 => div_rem_small(count, 10),
         2 => div_rem_small(count, 100),
         3 => div_rem_small(count, 1000),
@@ -94,7 +107,7 @@ pub fn factored_quotient(
     quotient
 }
 
-/// The parts before and behind the point of so many units of a place, by the number of them that one is, a constant.
+/// Splits a fixed-point value into its integer and fractional parts; `divisor`, its scale, is a constant.
 #[inline(always)]
 fn div_rem_small(count: u128, divisor: u64) -> (u128, u128)
     requires some { 1 ≤ divisor }

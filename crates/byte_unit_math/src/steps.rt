@@ -1,10 +1,20 @@
-//! A count of the turns that a computation takes.
+//! A step counter for complexity contracts.
 ghost use Rattle.std.specs.Prelude.{◌≡◌, ℕ};
 ghost use Rattle.byte_unit_math.specs.Steps.{raised};
 
 use std::marker::Model;
 
-/// A count of ticks. It starts at zero and never falls; at `u64::MAX` it stays.
+/// A step count. It starts at 0, never falls, and saturates at `u64::MAX`.
+///
+/// # Examples
+///
+/// ```rust
+/// use byte_unit_math::{Steps, two_five};
+///
+/// let mut steps = Steps::new();
+/// assert_eq!(rt; two_five(1_000, &mut steps), (3, 3));
+/// assert_eq!(rt; steps.count(), 8);
+/// ```
 #[derive(Clone, Copy, Debug)]
 pub struct Steps {
     count: u64,
@@ -21,21 +31,37 @@ impl Model for Steps {
 }
 
 impl Steps {
-    /// No tick yet.
+    /// Creates a step count of 0.
+    ///
+    /// # Examples
+    ///
+    /// ```rust
+    /// assert_eq!(rt; byte_unit_math::Steps::new().count(), 0);
+    /// ```
     pub fn new() -> Steps
         ensures { result ≡ 0 }
     {
         Steps { count: 0 }
     }
 
-    /// The ticks so far.
+    /// Returns the number of steps counted so far.
+    ///
+    /// # Examples
+    ///
+    /// ```rust
+    /// use byte_unit_math::{Steps, two_five};
+    ///
+    /// let mut steps = Steps::new();
+    /// two_five(7, &mut steps);
+    /// assert_eq!(rt; steps.count(), 2);
+    /// ```
     pub fn count(&self) -> u64
         ensures { result ≡ self.now }
     {
         self.count
     }
 
-    /// So many ticks more.
+    /// Adds a number of steps, saturating.
     pub(crate) fn advance_by(&mut self, steps: u32)
         ensures { self.new ≡ raised self.old steps }
     {

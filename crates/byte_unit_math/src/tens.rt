@@ -1,7 +1,7 @@
-//! Powers of ten and of five.
+//! Powers of 10 and of 5.
 ghost use Rattle.std.specs.Prelude.{◌≡◌, ◌^◌, ◌≤◌};
 
-/// Ten to each power that 128 bits hold.
+/// The powers of 10 that fit 128 bits.
 const POWERS: [u128; 39] = [
     1,
     10,
@@ -44,11 +44,15 @@ const POWERS: [u128; 39] = [
     100_000_000_000_000_000_000_000_000_000_000_000_000,
 ];
 
-/// Ten to a power of at most 38, the greatest that 128 bits hold. It is looked up, since to work a power out takes
-/// longer than to read a short text.
+/// Returns `10^exponent`, from a table: to compute a power takes longer than to parse a short string.
 ///
-/// ```text
-/// power_of_ten(3)    1000
+/// Precondition (proved at every call): `exponent <= 38`, the greatest whose power fits 128 bits.
+///
+/// # Examples
+///
+/// ```rust
+/// assert_eq!(rt; byte_unit_math::power_of_ten(3), 1_000);
+/// assert_eq!(rt; byte_unit_math::power_of_ten(38), 10u128.pow(38));
 /// ```
 #[inline]
 pub fn power_of_ten(exponent: u32) -> u128
@@ -58,7 +62,7 @@ pub fn power_of_ten(exponent: u32) -> u128
     POWERS[exponent as usize]
 }
 
-/// Five to each power below 2^112.
+/// The powers of 5 below 2^112.
 pub(crate) const POWERS_OF_FIVE: [u128; 49] = [
     1,
     5,
