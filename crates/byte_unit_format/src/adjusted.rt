@@ -1,4 +1,4 @@
-//! The text of a size in a given unit.
+//! Formatting of a size in a given unit.
 
 ghost use Rattle.std.specs.Prelude.{◌≡◌, ℕ, ◌*◌, ◌<◌, ◌≤◌, List, length, Some};
 ghost use Rattle.std.specs.Fmt.{DisplaysOnOk, DisplaysStyledOnOk};
@@ -22,20 +22,28 @@ use std::alloc::{AllocError, Allocator};
 use std::fmt;
 use std::fmt::Display;
 
-/// The most places of the alternate form.
+/// The most digits after the point in the alternate form.
 const ALTERNATE_PLACES: u16 = 16;
 
-/// A decimal, and how many of its places are shown.
+/// A decimal, and the number of digits after the point that are shown.
 #[derive(Clone, Copy)]
 struct Shown {
     decimal: Expansion,
     places: u32,
 }
 
-/// How long the text of a size in a unit is. The size is below 10^30. It takes no memory.
+/// Returns the length in bytes of a size formatted in a unit. Does not allocate.
 ///
-/// ```text
-/// adjusted_len(1536, Kind::Byte, Unit::KB, FormatSpec::PLAIN)  // 8: "1.536 KB"
+/// Precondition (proved at every call): the size is below 10^30.
+///
+/// # Examples
+///
+/// ```rust
+/// use byte_unit_base::{Kind, Unit};
+/// use byte_unit_format::{FormatSpec, adjusted_len};
+///
+/// let unset = FormatSpec::PLAIN;
+/// assert_eq!(rt; adjusted_len(1536, Kind::Byte, Unit::KB, unset), "1.536 KB".len());
 /// ```
 pub fn adjusted_len(size: u128, kind: Kind, unit: Unit, spec: FormatSpec) -> usize
     requires { size < current.size_limit }
@@ -47,17 +55,29 @@ pub fn adjusted_len(size: u128, kind: Kind, unit: Unit, spec: FormatSpec) -> usi
     layout_len(&shown.decimal, shown.places, unit, spec)
 }
 
-/// Adds the text of a size in a unit: all its digits where no precision is set or the unit has no prefix, else the
-/// nearest decimal with exactly so many places, to the even digit where two are as near. In the alternate form a
-/// precision always counts, as 16 at most; of two that are as near the greater is taken, and zeros at the end are left
-/// out. The size is below 10^30.
+/// Appends a size formatted in a unit.
 ///
-/// It asks for memory once at most, before it writes. `AllocError` comes only where the room that the text has left
-/// is less than `adjusted_len`, and leaves the text and its room as they were.
+/// Without a precision, or if the unit has no prefix, all digits are shown. Else the number is rounded to exactly
+/// `precision` places, ties to even. In the alternate form a precision counts for each unit, is at most 16, ties go up,
+/// and trailing zeros are left out.
 ///
-/// ```text
+/// Precondition (proved at every call): the size is below 10^30.
+///
+/// # Errors
+///
+/// Returns `AllocError` if the string's spare capacity is below `adjusted_len` and allocation fails; the string and its
+/// capacity are then unchanged. It allocates at most once, before it writes.
+///
+/// # Examples
+///
+/// ```rust
+/// use byte_unit_base::{Kind, Unit};
+/// use byte_unit_format::{FormatSpec, append_adjusted};
+///
 /// let two = FormatSpec { precision: Some(2), ..FormatSpec::PLAIN };
-/// append_adjusted(1005, Kind::Byte, Unit::KB, two, &mut text)?;  // "1.00 KB"
+/// let mut text = String::new(alloc);
+/// append_adjusted(1005, Kind::Byte, Unit::KB, two, &mut text)?;
+/// assert_eq!(rt; text.as_str(), "1.00 KB");
 /// ```
 pub fn append_adjusted<A: Allocator>(
     size: u128,
@@ -73,11 +93,20 @@ pub fn append_adjusted<A: Allocator>(
     append_layout(&shown.decimal, shown.places, unit, spec, text)
 }
 
-/// Writes the text of a size in a unit at the front of the bytes, as `append_adjusted` adds it, and answers how long it
-/// is. Where it does not fit, nothing is written. It takes no memory. The size is below 10^30.
+/// Writes what `append_adjusted` appends to the beginning of `out`, and returns its length. Writes nothing if it does
+/// not fit. Does not allocate.
 ///
-/// ```text
-/// write_adjusted(1536, Kind::Byte, Unit::KB, FormatSpec::PLAIN, &mut out)  // 8: "1.536 KB"
+/// Precondition (proved at every call): the size is below 10^30.
+///
+/// # Examples
+///
+/// ```rust
+/// use byte_unit_base::{Kind, Unit};
+/// use byte_unit_format::{FormatSpec, write_adjusted};
+///
+/// let mut out = [b'.'; 9];
+/// assert_eq!(rt; write_adjusted(1536, Kind::Byte, Unit::KB, FormatSpec::PLAIN, &mut out), 8);
+/// assert!(rt; out == *b"1.536 KB.");
 /// ```
 pub fn write_adjusted(size: u128, kind: Kind, unit: Unit, spec: FormatSpec, out: &mut [u8]) -> usize
     requires { size < current.size_limit }
@@ -88,12 +117,13 @@ pub fn write_adjusted(size: u128, kind: Kind, unit: Unit, spec: FormatSpec, out:
     write_layout(&shown.decimal, shown.places, unit, spec, out)
 }
 
-/// Writes the text of a size in a unit into a formatter, as `FormatSpec::PLAIN` lays it out, whatever the formatter's
-/// flags. The size is below 10^30.
+/// Writes a size in a unit to a formatter, as `FormatSpec::PLAIN` formats it, and ignores the formatter's flags.
 ///
-/// ```text
-/// display_adjusted(1536, Kind::Byte, Unit::KiB, f)    // "1.5 KiB"
-/// ```
+/// Precondition (proved at every call): the size is below 10^30.
+///
+/// # Errors
+///
+/// Returns `fmt::Error` if the writer does.
 pub fn display_adjusted<W: fmt::Write>(
     size: u128,
     kind: Kind,
@@ -111,7 +141,7 @@ pub fn display_adjusted<W: fmt::Write>(
     f.write_str(unit.as_str())
 }
 
-/// The digits that are shown of the size in the unit.
+/// Returns the size in the unit, rounded as the spec says.
 fn rounded_in_unit(size: u128, kind: Kind, unit: Unit, spec: FormatSpec) -> Shown
     requires { size < current.size_limit }
     ensures number { let unit = shape_of unit in
@@ -139,7 +169,7 @@ fn rounded_in_unit(size: u128, kind: Kind, unit: Unit, spec: FormatSpec) -> Show
     }
 }
 
-/// A decimal with all its places.
+/// Shows all digits of a decimal.
 #[tactic(auto, using(crate::proofs::WrittenForms::all_places))]
 fn all_places(decimal: Expansion) -> Shown
     ensures text { text_of (padded result.places result.decimal) ≡ text_of decimal }
@@ -149,13 +179,19 @@ fn all_places(decimal: Expansion) -> Shown
     Shown { decimal, places }
 }
 
-/// The size in the unit, with all its digits: at most 93 after the point.
+/// Returns the size in the unit, exactly: with at most 93 digits after the point.
 ///
-/// The caller owes a size below 10^30.
+/// Precondition (proved at every call): the size is below 10^30.
 ///
-/// ```text
-/// number_in_unit(1536, Kind::Byte, Unit::KiB)    1.5
-/// number_in_unit(1, Kind::Bit, Unit::KB)         0.000125
+/// # Examples
+///
+/// ```rust
+/// use byte_unit_base::{Kind, Unit};
+/// use byte_unit_format::number_in_unit;
+///
+/// let number = number_in_unit(1536, Kind::Byte, Unit::KiB);
+/// assert_eq!(rt; (number.whole(), number.digit(1)), (1, 5));
+/// assert_eq!(rt; number_in_unit(1, Kind::Bit, Unit::KB).places(), 6);
 /// ```
 pub fn number_in_unit(size: u128, kind: Kind, unit: Unit) -> Expansion
     requires { size < current.size_limit }
@@ -165,7 +201,7 @@ pub fn number_in_unit(size: u128, kind: Kind, unit: Unit) -> Expansion
     Expansion::new(size * kind.bits(), twos, fives)
 }
 
-/// Whether the unit has no prefix.
+/// Returns whether the unit has no prefix.
 fn is_single(unit: Unit) -> bool
     ensures { result ≡ is_single (shape_of unit) }
 {

@@ -1,4 +1,4 @@
-//! Writing into room that a text has already.
+//! Writing into the spare capacity of a string.
 
 ghost use Rattle.std.specs.Prelude.{◌≡◌, ◌+◌, ◌≤◌, ◌<◌, [], ◌∷◌, ◌++◌, length, replicate, OnOk, OnErr, IsAscii};
 ghost use Rattle.std.specs.String.{string_bytes};
@@ -7,11 +7,11 @@ ghost use Rattle.byte_unit_format.specs.Room.{spare};
 use std::alloc::{AllocError, Allocator};
 use std::str;
 
-/// How many of one character are added at once.
+/// The most copies of a character that are appended at once.
 const RUN: usize = 64;
 
-/// Sees that there is room for so many bytes more. It is the one request for memory of an appending call, and asks for
-/// none where the room is there. `AllocError` leaves the text and its room as they were.
+/// Reserves capacity for `len` more bytes: the one allocation of an appending call, which is not made if the spare
+/// capacity suffices. If it fails, the string and its capacity are unchanged.
 pub(crate) fn reserve<A: Allocator>(text: &mut String<A>, len: usize) -> Result<(), AllocError>
     ensures bytes { string_bytes text.new ≡ string_bytes text.old }
     ensures ok { OnOk result (len ≤ spare text.new) }
@@ -22,7 +22,7 @@ pub(crate) fn reserve<A: Allocator>(text: &mut String<A>, len: usize) -> Result<
     text.try_reserve_exact(len)
 }
 
-/// Adds bytes of ASCII.
+/// Appends ASCII bytes.
 pub(crate) fn push_ascii<A: Allocator>(text: &mut String<A>, ascii: &[u8])
     requires ascii { IsAscii ascii.now }
     requires room { length ascii.now ≤ spare text.old }
@@ -33,7 +33,7 @@ pub(crate) fn push_ascii<A: Allocator>(text: &mut String<A>, ascii: &[u8])
         .unwrap();
 }
 
-/// Adds one character of ASCII.
+/// Appends an ASCII character.
 pub(crate) fn push<A: Allocator>(text: &mut String<A>, c: char)
     requires ascii { c < 128 }
     requires room { 1 ≤ spare text.old }
@@ -43,7 +43,7 @@ pub(crate) fn push<A: Allocator>(text: &mut String<A>, c: char)
     text.push(c).unwrap();
 }
 
-/// Adds so many of one character of ASCII.
+/// Appends `count` copies of an ASCII character.
 pub(crate) fn push_run<A: Allocator>(text: &mut String<A>, byte: u8, count: usize)
     requires ascii { byte < 128 }
     requires room { count ≤ spare text.old }

@@ -1,4 +1,4 @@
-//! The text of a size: its plain form, or its form with a unit.
+//! Formatting of a size: digits only, or with a unit.
 
 ghost use Rattle.std.specs.Prelude.{◌≡◌, ℕ, ◌<◌, ◌≤◌, List, length};
 ghost use Rattle.byte_unit_base.specs.Edition.{current};
@@ -8,23 +8,19 @@ ghost use Rattle.byte_unit_format.specs.Written.{Writes};
 ghost use Rattle.byte_unit_format.specs.Forms.{IsText, narrow_text, text_limit};
 
 use crate::layout::layout_parts;
-use crate::plain::plain_parts;
 use crate::parts::{Fraction, TextParts};
+use crate::plain::plain_parts;
 use crate::spec::FormatSpec;
 use byte_unit_base::{Kind, recoverable_unit};
 use byte_unit_math::Steps;
 use std::alloc::{AllocError, Allocator};
 
-/// The places that a size may take where no precision is set.
+/// The precision if none is set.
 const DEFAULT_PRECISION: usize = 3;
 
-/// Returns the length of the text of a size, in bytes: at most 37 if no width is set. It does not allocate.
+/// Returns the length in bytes of a formatted size: at most 37 if no width is set. Does not allocate.
 ///
-/// Precondition: the size is below 10^30.
-///
-/// ```text
-/// text_len(1536, Kind::Byte, FormatSpec::ALTERNATE)  // 7: "1.5 KiB"
-/// ```
+/// Precondition (proved at every call): the size is below 10^30.
 pub fn text_len(size: u128, kind: Kind, spec: FormatSpec) -> usize
     requires { size < current.size_limit }
     ensures exact { (form : List ℕ) → IsText current kind size spec form → result ≡ length form }
@@ -34,16 +30,27 @@ pub fn text_len(size: u128, kind: Kind, spec: FormatSpec) -> usize
     text_parts(size, kind, spec).len
 }
 
-/// Adds the text of a size: in the alternate form the size with the largest unit of its kind, not above it, that states
-/// it exactly within the precision (three places where none is set, 28 at most), else its digits. Where no unit does,
-/// the size stands in `B` or `Bit`. It is below 10^30.
+/// Appends a formatted size: its digits, or in the alternate form the size in the largest unit of its kind, not above
+/// it, that represents it exactly within the precision (3 places if none is set, at most 28). If no unit does, the unit
+/// is `B` or `Bit`.
 ///
-/// It asks for memory once at most, before it writes. `AllocError` comes only where the room that the text has left
-/// is less than `text_len`, and leaves the text and its room as they were.
+/// Precondition (proved at every call): the size is below 10^30.
 ///
-/// ```text
-/// append_text(1536, Kind::Byte, FormatSpec::PLAIN, &mut text)?;      // "1536"
-/// append_text(1536, Kind::Byte, FormatSpec::ALTERNATE, &mut text)?;  // "1.5 KiB"
+/// # Errors
+///
+/// Returns `AllocError` if the string's spare capacity is below `text_len` and allocation fails; the string and its
+/// capacity are then unchanged. It allocates at most once, before it writes.
+///
+/// # Examples
+///
+/// ```rust
+/// use byte_unit_base::Kind;
+/// use byte_unit_format::{FormatSpec, append_text};
+///
+/// let mut text = String::new(alloc);
+/// append_text(1536, Kind::Byte, FormatSpec::ALTERNATE, &mut text)?;
+/// append_text(1536, Kind::Byte, FormatSpec::PLAIN, &mut text)?;
+/// assert_eq!(rt; text.as_str(), "1.5 KiB1536");
 /// ```
 pub fn append_text<A: Allocator>(
     size: u128,
@@ -57,13 +64,20 @@ pub fn append_text<A: Allocator>(
     text_parts(size, kind, spec).append(text)
 }
 
-/// Writes the text of a size to the front of the bytes, as `append_text` adds it, and returns its length: at most 37 if
-/// no width is set. If the text does not fit, nothing is written. It does not allocate.
+/// Writes what `append_text` appends to the beginning of `out`, and returns its length: at most 37 if no width is set.
+/// Writes nothing if it does not fit. Does not allocate.
 ///
-/// Precondition: the size is below 10^30.
+/// Precondition (proved at every call): the size is below 10^30.
 ///
-/// ```text
-/// write_text(1536, Kind::Byte, FormatSpec::ALTERNATE, &mut out)  // 7: "1.5 KiB"
+/// # Examples
+///
+/// ```rust
+/// use byte_unit_base::Kind;
+/// use byte_unit_format::{FormatSpec, write_text};
+///
+/// let mut out = [b'.'; 8];
+/// assert_eq!(rt; write_text(1536, Kind::Byte, FormatSpec::ALTERNATE, &mut out), 7);
+/// assert!(rt; out == *b"1.5 KiB.");
 /// ```
 #[inline(always)]
 pub fn write_text(size: u128, kind: Kind, spec: FormatSpec, out: &mut [u8]) -> usize
@@ -75,7 +89,7 @@ pub fn write_text(size: u128, kind: Kind, spec: FormatSpec, out: &mut [u8]) -> u
     text_parts(size, kind, spec).write(out)
 }
 
-/// The parts of the text of a size. In the alternate form the number has all its places.
+/// Returns the parts of a formatted size. In the alternate form all digits of the number are shown.
 #[inline(always)]
 fn text_parts(size: u128, kind: Kind, spec: FormatSpec) -> TextParts<'static>
     requires { size < current.size_limit }

@@ -1,4 +1,4 @@
-//! A number with its unit.
+//! Formatting of a number with its unit.
 
 ghost use Rattle.std.specs.Prelude.{◌≡◌, ◌+◌, ◌≤◌, ◌++◌, length, max};
 ghost use Rattle.std.specs.Fmt.{decimal};
@@ -9,36 +9,43 @@ ghost use Rattle.byte_unit_format.specs.Layout.{layout, layout_of};
 ghost use Rattle.byte_unit_format.specs.Row.{fraction_of, places_in, IsShort, IsReady, row_text};
 ghost use Rattle.byte_unit_format.specs.Written.{Writes};
 
-use crate::plain::padding;
 use crate::parts::{Fraction, TextParts};
+use crate::plain::padding;
 use crate::spec::{Align, FormatSpec, Sign};
 use byte_unit_base::Unit;
 use byte_unit_math::{Expansion, decimal_len};
 use std::alloc::{AllocError, Allocator};
 
-/// How long a decimal of so many places is with its unit. It takes no memory.
-///
-/// ```text
-/// layout_len(&Expansion::new(10, 0, 0), 0, Unit::KB, FormatSpec::ALTERNATE)  // 5: "10 KB"
-/// ```
+/// Returns the length in bytes of a decimal with `places` digits after the point and its unit. Does not allocate.
 pub fn layout_len(e: &Expansion, places: u32, unit: Unit, spec: FormatSpec) -> usize
     ensures exact { result ≡ length (layout_of current e.now places (shape_of unit) spec) }
-    // A whole part, the point, and the unit with its spaces take no more than 44 columns.
+    // The integer part, the point and the unit with its spaces take at most 44 columns.
     ensures small { result ≤ max u16.MAX (places + 44) }
 {
     layout_parts(e.whole(), Fraction::First(e, places), unit, spec).len
 }
 
-/// Adds a decimal with exactly so many places, and its unit. Where a width is set the number is padded with spaces
-/// to the columns that the unit leaves: before it where it is aligned to the right, and else after it.
-/// Between number and unit stand as many spaces as the sign says; a sign is never printed.
+/// Appends a decimal with exactly `places` digits after the point, and its unit.
 ///
-/// It asks for memory once at most, before it writes. `AllocError` comes only where the room that the text has left
-/// is less than `layout_len`, and leaves the text and its room as they were.
+/// If a width is set, spaces pad the text to it: before the number if it is aligned right, else between number and
+/// unit. The sign sets the spaces between number and unit, and is never printed.
 ///
-/// ```text
+/// # Errors
+///
+/// Returns `AllocError` if the string's spare capacity is below `layout_len` and allocation fails; the string and its
+/// capacity are then unchanged. It allocates at most once, before it writes.
+///
+/// # Examples
+///
+/// ```rust
+/// use byte_unit_base::Unit;
+/// use byte_unit_format::{FormatSpec, append_layout};
+/// use byte_unit_math::Expansion;
+///
 /// let ten = FormatSpec { width: Some(10), ..FormatSpec::ALTERNATE };
-/// append_layout(&Expansion::new(10, 0, 0), 0, Unit::KiB, ten, &mut text)?;  // "10     KiB"
+/// let mut text = String::new(alloc);
+/// append_layout(&Expansion::new(10, 0, 0), 0, Unit::KiB, ten, &mut text)?;
+/// assert_eq!(rt; text.as_str(), "10     KiB");
 /// ```
 pub fn append_layout<A: Allocator>(
     e: &Expansion,
@@ -52,12 +59,8 @@ pub fn append_layout<A: Allocator>(
     layout_parts(e.whole(), Fraction::First(e, places), unit, spec).append(text)
 }
 
-/// Writes a decimal with exactly so many places, and its unit, at the front of the bytes, as `append_layout` adds them,
-/// and answers how long they are. Where they do not fit, nothing is written. It takes no memory.
-///
-/// ```text
-/// write_layout(&Expansion::new(10, 0, 0), 0, Unit::KiB, FormatSpec::ALTERNATE, &mut out)  // 6: "10 KiB"
-/// ```
+/// Writes what `append_layout` appends to the beginning of `out`, and returns its length. Writes nothing if it does not
+/// fit. Does not allocate.
 pub fn write_layout(
     e: &Expansion,
     places: u32,
@@ -72,7 +75,7 @@ pub fn write_layout(
     layout_parts(e.whole(), Fraction::First(e, places), unit, spec).write(out)
 }
 
-/// The parts of a number with its unit.
+/// Returns the parts of a number with its unit.
 #[inline(always)]
 #[tactic(auto, using(crate::proofs::UnitNames::name_short))]
 pub(crate) fn layout_parts<'a>(
@@ -89,7 +92,7 @@ pub(crate) fn layout_parts<'a>(
     ensures ready { IsReady result }
 {
     let number = decimal_len(whole) + fraction.len();
-    // Not asked for first: there the compiler makes a jump of the unit, and here it reads a table.
+    // Looked up late on purpose: earlier, LLVM emits a jump table instead of a load.
     let name = unit.as_str();
     let gap = match spec.sign {
         Sign::Unset => 1,

@@ -1,17 +1,16 @@
-//! Texts of sizes: how a text is laid out, the plain form of a number, a number with its unit, the text of a size and
-//! that of a size in a given unit.
+//! Formatting of sizes: digits only, a number with its unit, a size, and a size in a given unit.
 //!
-//! What sizes in bytes and in bits share stands here once, over their `Kind`.
+//! Sizes in bytes and in bits share these functions, which take their `Kind`.
 #![tactic(auto)]
 
 mod adjusted;
+mod capacity;
 mod forms;
 pub mod laws;
 mod layout;
+mod parts;
 mod plain;
 mod put;
-mod capacity;
-mod parts;
 mod spec;
 
 pub use adjusted::{

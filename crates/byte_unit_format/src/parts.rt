@@ -1,4 +1,4 @@
-//! The parts of a text, and writing them in their order.
+//! The parts of a formatted text, and how they are written.
 
 ghost use Rattle.std.specs.Prelude.{◌≡◌, ◌+◌, ◌^◌, ◌<◌, ◌≤◌, ◌++◌, length, drop, IsAscii};
 ghost use Rattle.std.specs.String.{string_bytes};
@@ -10,41 +10,41 @@ ghost use Rattle.byte_unit_format.specs.Room.{spare, Appends};
 ghost use Rattle.byte_unit_format.specs.Row.{fraction_of, places_in, IsShort, IsReady, row_text};
 ghost use Rattle.byte_unit_format.specs.Written.{Writes};
 
-use crate::put::{put, put_run};
 use crate::capacity::{push, push_ascii, push_run, reserve};
-use byte_unit_math::{DecimalDigits, Expansion, glyphs_of, put_u128, put_fraction};
+use crate::put::{put, put_run};
+use byte_unit_math::{DecimalDigits, Expansion, glyphs_of, put_fraction, put_u128};
 use std::alloc::{AllocError, Allocator};
 
-/// Rows of no more bytes are added to a text in one piece.
+/// The length of the buffer on the stack, in which texts that fit it are put together.
 const BUFFER_LEN: usize = 96;
 
-/// The digits after the point, so many of them.
+/// The digits after the point, and their number.
 #[derive(Clone, Copy)]
 pub(crate) enum Fraction<'a> {
-    /// The last digits of a number, 28 at most, zeros in front where it has fewer.
+    /// The last digits of a number, at most 28, with leading zeros.
     Last(u128, u32),
-    /// The first digits of an expansion, zeros behind where it has fewer.
+    /// The first digits of an expansion, with trailing zeros.
     First(&'a Expansion, u32),
 }
 
-/// The parts of a text in their order, and how long they are together.
+/// The parts of a formatted text in their order, and its length.
 #[derive(Clone, Copy)]
 pub(crate) struct TextParts<'a> {
     /// Spaces before the number.
     pub before: usize,
-    /// A plus sign, or nothing.
+    /// A plus sign, or the empty string.
     pub sign: &'static str,
     pub whole: u128,
     pub fraction: Fraction<'a>,
-    /// Spaces behind the number.
+    /// Spaces after the number.
     pub after: usize,
-    /// The name of a unit, or nothing.
+    /// The name of a unit, or the empty string.
     pub name: &'static str,
     pub len: usize,
 }
 
 impl TextParts<'_> {
-    /// Writes the row at the front of the bytes, where it fits, and answers how long it is.
+    /// Writes the parts to the beginning of `out` if they fit, and returns their length.
     #[inline(always)]
     pub(crate) fn write(&self, out: &mut [u8]) -> usize
         requires len { self.now.len ≡ length (row_text self.now) }
@@ -58,7 +58,7 @@ impl TextParts<'_> {
         self.len
     }
 
-    /// Adds the row at the end of a text. It asks for memory once at most, before it writes.
+    /// Appends the parts to a string. Allocates at most once, before it writes.
     pub(crate) fn append<A: Allocator>(&self, text: &mut String<A>) -> Result<(), AllocError>
         requires len { self.now.len ≡ length (row_text self.now) }
         requires ready { IsReady self.now }
@@ -73,7 +73,7 @@ impl TextParts<'_> {
         Ok(())
     }
 
-    /// Adds the row in one piece.
+    /// Appends the parts by one copy from a buffer on the stack.
     fn push_whole<A: Allocator>(&self, text: &mut String<A>)
         requires few { length (row_text self.now) ≤ BUFFER_LEN }
         requires ready { IsReady self.now }
@@ -86,7 +86,7 @@ impl TextParts<'_> {
         push_ascii(text, &bytes[start..]);
     }
 
-    /// Adds the parts of the row one after another.
+    /// Appends the parts one after another.
     fn push_parts<A: Allocator>(&self, text: &mut String<A>)
         requires ready { IsReady self.now }
         requires room { length (row_text self.now) ≤ spare text.old }
@@ -101,7 +101,7 @@ impl TextParts<'_> {
         text.push_str(self.name).unwrap();
     }
 
-    /// Puts the row so that it ends before this place, and answers where it begins.
+    /// Writes the parts so that they end before the index `end`, and returns the index where they begin.
     #[inline(always)]
     fn put(&self, out: &mut [u8], end: usize) -> usize
         requires room { length (row_text self.now) ≤ end }
@@ -121,7 +121,7 @@ impl TextParts<'_> {
 }
 
 impl Fraction<'_> {
-    /// How many columns the point and the digits take.
+    /// Returns the length of the point and the digits.
     #[inline(always)]
     #[tactic(auto, using(crate::proofs::TextParts::fraction_long))]
     pub(crate) fn len(&self) -> usize
@@ -135,7 +135,7 @@ impl Fraction<'_> {
         if places == 0 { 0 } else { 1 + places as usize }
     }
 
-    /// Adds the point and the digits.
+    /// Appends the point and the digits.
     fn push<A: Allocator>(&self, text: &mut String<A>)
         requires short { IsShort self.now }
         requires room { length (fraction_of self.now) ≤ spare text.old }
@@ -148,7 +148,7 @@ impl Fraction<'_> {
         }
     }
 
-    /// Puts the point and the digits so that they end before this place, and answers where they begin.
+    /// Writes the point and the digits so that they end before `end`, and returns the index where they begin.
     #[inline(always)]
     fn put(&self, out: &mut [u8], end: usize) -> usize
         requires room { length (fraction_of self.now) ≤ end }
@@ -165,7 +165,7 @@ impl Fraction<'_> {
     }
 }
 
-/// Puts the point and so many digits of an expansion, or nothing where there are to be none.
+/// Writes the point and `places` digits of an expansion, or nothing if `places` is 0.
 fn put_first(e: &Expansion, places: u32, out: &mut [u8], end: usize) -> usize
     requires room { length (fraction_text (padded places e.now).digits) ≤ end }
     requires within { end ≤ length out.old }
@@ -182,7 +182,7 @@ fn put_first(e: &Expansion, places: u32, out: &mut [u8], end: usize) -> usize
     put_run(b'.', 1, out, digits)
 }
 
-/// Adds the point and so many last digits of a number.
+/// Appends the point and the last `places` digits of a number.
 fn push_last<A: Allocator>(text: &mut String<A>, digits: u128, places: u32)
     requires short { (places ≤ places_of_decimal) × (digits < 10 ^ places) }
     requires room { length (fraction_text (last_digits places digits)) ≤ spare text.old }
@@ -194,7 +194,7 @@ fn push_last<A: Allocator>(text: &mut String<A>, digits: u128, places: u32)
     push_ascii(text, &bytes[start..]);
 }
 
-/// Adds the point and so many digits of an expansion, or nothing where there are to be none.
+/// Appends the point and `places` digits of an expansion, or nothing if `places` is 0.
 #[tactic(auto, using(crate::proofs::WrittenForms::fraction_length))]
 fn push_first<A: Allocator>(text: &mut String<A>, e: &Expansion, places: u32)
     requires room { length (fraction_text (padded places e.now).digits) ≤ spare text.old }

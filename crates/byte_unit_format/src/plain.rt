@@ -1,4 +1,4 @@
-//! A whole number without a unit.
+//! Formatting of a whole number: digits only.
 
 ghost use Rattle.std.specs.Prelude.{◌≡◌, ◌+◌, ◌≤◌, length, max};
 ghost use Rattle.byte_unit_format.specs.Room.{Appends};
@@ -11,11 +11,7 @@ use crate::spec::{Align, FormatSpec, Sign};
 use byte_unit_math::decimal_len;
 use std::alloc::{AllocError, Allocator};
 
-/// How long the plain form of a number is: its digits with their sign, padded to the width. It takes no memory.
-///
-/// ```text
-/// plain_len(10240, FormatSpec { width: Some(8), ..FormatSpec::PLAIN })  // 8
-/// ```
+/// Returns the length in bytes of a number's digits with their sign, padded to the width. Does not allocate.
 pub fn plain_len(size: u128, spec: FormatSpec) -> usize
     ensures exact { result ≡ length (plain size spec) }
     ensures small { result ≤ u16.MAX }
@@ -23,14 +19,22 @@ pub fn plain_len(size: u128, spec: FormatSpec) -> usize
     plain_parts(size, spec).len
 }
 
-/// Adds the plain form of a number: `+` before its digits for the sign `Plus`, and spaces up to the width.
-/// They stand before it where no alignment is set.
+/// Appends the digits of a number, after a `+` for `Sign::Plus`, padded with spaces to the width. Without an alignment
+/// the spaces are on the left.
 ///
-/// It asks for memory once at most, before it writes. `AllocError` comes only where the room that the text has left
-/// is less than `plain_len`, and leaves the text and its room as they were.
+/// # Errors
 ///
-/// ```text
-/// append_plain(10240, FormatSpec { width: Some(8), ..FormatSpec::PLAIN }, &mut text)?;  // "   10240"
+/// Returns `AllocError` if the string's spare capacity is below `plain_len` and allocation fails; the string and its
+/// capacity are then unchanged. It allocates at most once, before it writes.
+///
+/// # Examples
+///
+/// ```rust
+/// use byte_unit_format::{FormatSpec, append_plain};
+///
+/// let mut text = String::new(alloc);
+/// append_plain(10240, FormatSpec { width: Some(8), ..FormatSpec::PLAIN }, &mut text)?;
+/// assert_eq!(rt; text.as_str(), "   10240");
 /// ```
 pub fn append_plain<A: Allocator>(
     size: u128,
@@ -42,12 +46,8 @@ pub fn append_plain<A: Allocator>(
     plain_parts(size, spec).append(text)
 }
 
-/// Writes the plain form of a number at the front of the bytes, as `append_plain` adds it, and answers how long it is.
-/// Where it does not fit, nothing is written. It takes no memory.
-///
-/// ```text
-/// write_plain(10240, FormatSpec { width: Some(8), ..FormatSpec::PLAIN }, &mut out)  // 8: "   10240"
-/// ```
+/// Writes what `append_plain` appends to the beginning of `out`, and returns its length. Writes nothing if it does not
+/// fit. Does not allocate.
 pub fn write_plain(size: u128, spec: FormatSpec, out: &mut [u8]) -> usize
     ensures written { Writes (λ form. form ≡ plain size spec) out.old out.new result }
     ensures small { result ≤ u16.MAX }
@@ -55,7 +55,7 @@ pub fn write_plain(size: u128, spec: FormatSpec, out: &mut [u8]) -> usize
     plain_parts(size, spec).write(out)
 }
 
-/// The parts of the plain form of a number.
+/// Returns the parts of a number's digits with their sign and padding.
 #[inline(always)]
 pub(crate) fn plain_parts(size: u128, spec: FormatSpec) -> TextParts<'static>
     ensures text { row_text result ≡ plain size spec }
@@ -85,7 +85,7 @@ pub(crate) fn plain_parts(size: u128, spec: FormatSpec) -> TextParts<'static>
     }
 }
 
-/// How many spaces make so many columns as wide as is asked for.
+/// Returns the padding needed to reach the requested width.
 #[inline(always)]
 pub(crate) fn padding(columns: usize, width: Option<u16>) -> usize
     ensures exact { result ≡ missing width columns }

@@ -1,8 +1,8 @@
-//! Writing before a place of bytes that are there already.
+//! Writing backwards into a buffer.
 
 ghost use Rattle.std.specs.Prelude.{◌≡◌, ◌+◌, ◌≤◌, ◌++◌, length, drop, replicate};
 
-/// Puts bytes so that they end before this place, and answers where they begin.
+/// Writes bytes so that they end before the index `end`, and returns the index where they begin.
 #[inline(always)]
 pub(crate) fn put(bytes: &[u8], out: &mut [u8], end: usize) -> usize
     requires room { length bytes.now ≤ end }
@@ -15,7 +15,7 @@ pub(crate) fn put(bytes: &[u8], out: &mut [u8], end: usize) -> usize
     start
 }
 
-/// Puts so many of one byte so that they end before this place, and answers where they begin.
+/// Writes `count` copies of a byte so that they end before the index `end`, and returns the index where they begin.
 #[inline(always)]
 pub(crate) fn put_run(byte: u8, count: usize, out: &mut [u8], end: usize) -> usize
     requires room { count ≤ end }

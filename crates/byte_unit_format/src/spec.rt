@@ -1,49 +1,54 @@
-//! How a text is laid out.
+//! The options of formatting.
 
 ghost use Rattle.std.specs.Prelude.{◌≡◌};
 
-/// A sign before a plain number, or how far a unit stands from its number.
+/// The sign of digits without a unit, or the spacing between a number and its unit.
 #[derive(Debug, Clone, Copy, PartialEq, Eq)]
 pub enum Sign {
-    /// No sign. One space stands before a unit.
+    /// No sign. One space before a unit.
     Unset,
-    /// A plus sign before a plain number. Spaces and unit together take four columns.
+    /// A plus sign before digits without a unit. With a unit, unit and spacing are padded to four columns.
     Plus,
-    /// No sign. No space stands before a unit.
+    /// No sign. No space before a unit.
     Minus,
 }
 
-/// On which side of the columns that are asked for the number stands.
+/// The alignment of a number within the width.
 #[derive(Debug, Clone, Copy, PartialEq, Eq)]
 pub enum Align {
-    /// On the left, with the spaces behind it.
+    /// On the left, with the spaces after it.
     Left,
-    /// In the middle of a plain text, an odd space behind it. A number with a unit stands on the left.
+    /// Digits without a unit are centered, with the extra space on the right. A number with a unit is on the left.
     Center,
     /// On the right, with the spaces before it.
     Right,
 }
 
-/// What a format such as `{:>+#10.2}` asks for: here alignment to the right, a plus sign, the alternate form,
-/// ten columns and two places.
+/// The options of a format such as `{:>+#10.2}`: here right alignment, a plus sign, the alternate form, a width of 10 and
+/// a precision of 2.
 ///
-/// ```text
+/// # Examples
+///
+/// ```rust
+/// use byte_unit_format::FormatSpec;
+///
 /// let wide = FormatSpec { width: Some(10), ..FormatSpec::ALTERNATE };
+/// assert!(rt; wide.alternate && wide.precision == None);
 /// ```
 #[derive(Debug, Clone, Copy, PartialEq, Eq)]
 pub struct FormatSpec {
-    /// Whether a size is printed with a unit; an adjusted size always is. An adjusted size with a precision is then
-    /// rounded to so many places, 16 at most, to the greater of two that are as near, and has no zeros at its end.
+    /// Whether a size is printed with a unit; an adjusted size always is. If set, an adjusted size with a precision is
+    /// rounded to at most 16 places, ties up, without trailing zeros.
     pub alternate: bool,
     /// The sign.
     pub sign: Sign,
-    /// How many digits stand after the point. A size with its unit has at most so many, 28 at most, and 3 at most where
-    /// none is set. An adjusted size has exactly so many where its unit has a prefix, in the alternate form at most so
-    /// many in each unit, and else all its digits. A plain text ignores it.
+    /// The number of digits after the point. A size with its unit has at most this number, and never more than 28; 3 if
+    /// unset. An adjusted size has exactly this number if its unit has a prefix, in the alternate form at most this
+    /// number in each unit, and else all its digits. Digits without a unit ignore it.
     pub precision: Option<u16>,
-    /// The least number of columns, filled with spaces.
+    /// The least number of columns, padded with spaces.
     pub width: Option<u16>,
-    /// Where the spaces go.
+    /// The alignment. If unset, digits without a unit are on the right, a number with a unit on the left.
     pub align: Option<Align>,
 }
 
@@ -59,7 +64,7 @@ impl Default for FormatSpec {
 }
 
 impl FormatSpec {
-    /// No flag, and nothing set: `{}`.
+    /// No options set: `{}`.
     pub const PLAIN: FormatSpec = FormatSpec {
         alternate: false,
         sign: Sign::Unset,
@@ -68,7 +73,7 @@ impl FormatSpec {
         align: None,
     };
 
-    /// The alternate form, and nothing else set: `{:#}`.
+    /// The alternate form, with nothing else set: `{:#}`.
     pub const ALTERNATE: FormatSpec = FormatSpec {
         alternate: true,
         ..FormatSpec::PLAIN

@@ -195,7 +195,7 @@ impl Decimal {
     /// use byte_unit_math::Decimal;
     ///
     /// assert_eq!(rt; Decimal::from_digits(50, 84, 3).whole(), 50);
-    /// assert_eq!(rt; Decimal::ZERO.whole(), 0);
+    /// assert_eq!(rt; Decimal::from(7u8).whole(), 7);
     /// ```
     pub fn whole(self) -> u128
         ensures value { result ≡ self / one }
