@@ -39,13 +39,9 @@ exact_where_recovered kind both size unit (inr h) =
     let same = ap (λ n. size * n) (own_bits kind) in
     subst exact (sym h.1) (size, omega (arith, same))
 
-pub if_none : {A : Type 0} {P : Type 0} (answer : Option A) → P → IfNone answer P
-if_none None h = h
-if_none (Some x) h = tt
-
-pub is_some : {A : Type 0} {P : Type 0} (answer : Option A) → IfNone answer (¬ P) → P → IsSome answer
-is_some None none h = absurd (none h)
-is_some (Some x) none h = refl
+pub some_if_holds : {A : Type 0} {Fact : Type 0} (answer : Option A) → IfNone answer (¬ Fact) → Fact → IsSome answer
+some_if_holds None none h = absurd (none h)
+some_if_holds (Some x) none h = refl
 
 -- the size in the unit that is one of its kind
 pub own_number : (kind : Kind) (size number : ℕ) (unit : Shape) → number ≡ size * one → unit ≡ own_unit kind

@@ -19,7 +19,7 @@ use Rattle.byte_unit_base.specs.FastReading.{AreDigits}
 use Rattle.byte_unit_base.specs.declared.unit.scan.Prefix.{Prefix}
 use Rattle.byte_unit_base.specs.declared.unit.scan.Multiple.TheVariants.{Decimal, Binary}
 use Rattle.byte_unit_base.proofs.Lists.{push_append}
-use Rattle.byte_unit_base.proofs.UnitReached.{prefix_found, is_true}
+use Rattle.byte_unit_base.proofs.UnitReached.{prefix_found, eq_if_test_true}
 
 -- digits
 
@@ -145,5 +145,5 @@ binary_text (c ∷ d ∷ cs) prefix some is with_i =
       infix_part = d ∷ [];
       text_is = refl;
       letter_is = prefix_found c prefix is;
-      infix_is = inr (ap (λ x. x ∷ []) (is_true _ _ with_i), refl);
+      infix_is = inr (ap (λ x. x ∷ []) (eq_if_test_true _ _ with_i), refl);
     }

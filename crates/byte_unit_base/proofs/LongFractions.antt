@@ -21,7 +21,7 @@ use Rattle.byte_unit_base.specs.Scan.{read}
 use Rattle.byte_unit_base.specs.SizeScan.{size_step, size_scan}
 use Rattle.byte_unit_base.specs.declared.read.scan.SizeScan.TheVariants.{Beginning, Whole, Point, Fraction}
 use Rattle.byte_unit_base.proofs.NumberTexts.{IsBounded, glyph_value, glyph_digits, whole_text}
-use Rattle.byte_unit_base.proofs.Scans.{answers, IsAnswer, read_some, read_none, read_through}
+use Rattle.byte_unit_base.proofs.Scans.{reads_meaning_or_fault, IsAnswer, read_some, read_none, read_through}
 use Rattle.byte_unit_base.proofs.SizeReads.{size_scan_is}
 use Rattle.byte_unit_base.proofs.SizeRuns.{step_point, run_whole, run_places}
 
@@ -35,9 +35,9 @@ record LongDigits (count : ℕ) (digits : List ℕ) : Type 0 where
   small : All (λ digit. digit < 10) front
   next_small : next < 10
 
-cut : (count : ℕ) (digits : List ℕ) → All (λ digit. digit < 10) digits → count < length digits → LongDigits count digits
-cut count [] small long = absurd (omega (arith, long))
-cut zero (digit ∷ digits) small long =
+long_digits_of : (count : ℕ) (digits : List ℕ) → All (λ digit. digit < 10) digits → count < length digits → LongDigits count digits
+long_digits_of count [] small long = absurd (omega (arith, long))
+long_digits_of zero (digit ∷ digits) small long =
     record {
       front =
           [];
@@ -50,8 +50,8 @@ cut zero (digit ∷ digits) small long =
       small = All-nil (λ digit. digit < 10);
       next_small = All-head (λ digit. digit < 10) digit digits small;
     }
-cut (suc count) (digit ∷ digits) small long =
-    let behind = cut count digits (All-tail (λ digit. digit < 10) digit digits small) (omega (arith, long)) in
+long_digits_of (suc count) (digit ∷ digits) small long =
+    let behind = long_digits_of count digits (All-tail (λ digit. digit < 10) digit digits small) (omega (arith, long)) in
     record {
       front =
           digit ∷ behind.front;
@@ -116,8 +116,8 @@ long_text whole digits tail some long =
 pub long_fault : (flags : Flags) (e : Finite) (tail text : List ℕ) → IsBounded e → places_of_decimal < length e.digits
     → text ≡ text_of e ++ tail → IsSizeFault current flags text too_long
 long_fault flags e tail text bounded many text_is =
-    let long = cut places_of_decimal e.digits bounded.small many in
+    let long = long_digits_of places_of_decimal e.digits bounded.small many in
     let is_long =
     ap (read (size_scan flags) Beginning) (text_is ∙ long_text e.whole e.digits tail (omega (arith, many)) long)
     ∙ read_long flags e.whole e.digits long (glyphs long.rest ++ tail) bounded.bound in
-    subst (IsAnswer (States flags text) (IsSizeFault current flags text)) is_long (answers (size_scan_is flags) text)
+    subst (IsAnswer (States flags text) (IsSizeFault current flags text)) is_long (reads_meaning_or_fault (size_scan_is flags) text)

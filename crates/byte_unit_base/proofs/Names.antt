@@ -61,8 +61,8 @@ letter_found : (power : ℕ) → 0 < power → power ≤ length current.letters
 letter_found power some known =
     let c = letter_at power in
     let all = AllPass-from_list_all is_letter current.letters are_letters in
-    let P : ℕ → Type 0 = λ x. is_letter x ≡ true in
-    let here = and_parts _ _ (All-get_or P current.letters (power - 1) 0 (omega (arith, some, known)) all) in
+    let IsLetter : ℕ → Type 0 = λ x. is_letter x ≡ true in
+    let here = and_parts _ _ (All-get_or IsLetter current.letters (power - 1) 0 (omega (arith, some, known)) all) in
     (eqb-true (to_ascii_uppercase c) c here.0, ltb-true c 128 here.1)
 
 infix_spells : (binary : Bool) → SpellsBinary (infix_of binary) binary
@@ -118,10 +118,10 @@ spells_multiple flags s h says some = inr record {
 
 spells_plain : (flags : Flags) (s : Shape) → IsKnown s → SaysKind flags s.bit → s.power ≤ 0 → Spells current flags (name current s) s
 spells_plain flags s h says none =
-    let P : List ℕ → Type 0 = λ text. SpellsCount flags text s.bit in
+    let SpellsKind : List ℕ → Type 0 = λ text. SpellsCount flags text s.bit in
     let zero : s.power ≡ 0 = omega (arith, none) in
     inl record {
-      count_is = subst P (sym (without_prefix s none)) (count_spells flags s.bit says);
+      count_is = subst SpellsKind (sym (without_prefix s none)) (count_spells flags s.bit says);
       power_is = zero;
       binary_is = h.alone zero;
     }

@@ -44,12 +44,12 @@ whole_text whole bound =
     (numeral.0, sym numeral.1, bound)
 
 -- how many last places a decimal is, of no more places than those
-abbrev pub number_of : ℕ → List ℕ → ℕ
-number_of whole digits = whole * one + value_of digits * 10 ^ (places_of_decimal - length digits)
+abbrev pub fixed_point_of : ℕ → List ℕ → ℕ
+fixed_point_of whole digits = whole * one + value_of digits * 10 ^ (places_of_decimal - length digits)
 
 pub number_text :
     (whole : ℕ) (digits : List ℕ) → All (λ digit. digit < 10) digits → length digits ≤ places_of_decimal → whole < whole_limit
-    → IsNumberText current (decimal whole ++ fraction_text digits) (number_of whole digits)
+    → IsNumberText current (decimal whole ++ fraction_text digits) (fixed_point_of whole digits)
 number_text whole [] small few bound =
     inl (whole, subst (λ text. IsWholePart current text whole) (sym (append-nil (decimal whole))) (whole_text whole bound), omega arith)
 number_text whole (digit ∷ digits) small few bound = inr record {

@@ -63,9 +63,9 @@ pub places_of_quotient : (size unit places digits number : ℕ) → IsDivided si
 places_of_quotient size unit places digits number divided =
     let quotient = divided.quotient in
     let product = number_times_unit size unit places number divided.room quotient in
-    let P : ℕ → Type 0 = λ j. IsExactAt size unit j in
+    let IsExactSize : ℕ → Type 0 = λ j. IsExactAt size unit j in
     let exact : IsExactAt size unit digits =
-    ⊎_elim (λ e. e) (λ e. subst P (sym e) (quotient.count, quotient.exact)) divided.first.ends in
+    ⊎_elim (λ e. e) (λ e. subst IsExactSize (sym e) (quotient.count, quotient.exact)) divided.first.ends in
     record {
       has = stated_where_exact size unit number digits divided.some product exact;
       least = λ fewer e. divided.first.first fewer (exact_where_stated size unit number fewer product e);

@@ -46,26 +46,26 @@ least_below Byte limit b n small low some = omega (arith, small, low, some)
 least_below Bit limit b n small low some = omega (arith, small, low, some)
 
 -- a least number is one
-pub least_is_one : (kind : Kind) (N : ℕ) (unit : Shape) (m n : ℕ) → IsLeastOf kind N unit m → IsLeastOf kind N unit n → m ≡ n
-least_is_one kind N unit m n a b =
+pub least_is_unique : (kind : Kind) (N : ℕ) (unit : Shape) (m n : ℕ) → IsLeastOf kind N unit m → IsLeastOf kind N unit n → m ≡ n
+least_is_unique kind N unit m n a b =
     let up = a.least n b.has in
     let down = b.least m a.has in
     omega (arith, up, down)
 
 -- there is one
-pub least_of : (kind : Kind) (N : ℕ) (unit : Shape) → (n : ℕ) × IsLeastOf kind N unit n
-least_of Byte N unit =
+pub least_exists : (kind : Kind) (N : ℕ) (unit : Shape) → (n : ℕ) × IsLeastOf kind N unit n
+least_exists Byte N unit =
     let b = least_bits N (bits unit) in
     let n = (b.0 + 7) / 8 in
     (n, least_holding Byte N unit b.0 n b.1 (omega arith) (omega arith))
-least_of Bit N unit =
+least_exists Bit N unit =
     let b = least_bits N (bits unit) in
     (b.0, least_holding Bit N unit b.0 b.0 b.1 (omega arith) (omega arith))
 
 pub one_least_size : EachNumberHasOneLeastSize
 one_least_size kind number unit =
-    let least = least_of kind number unit in
-    record { size = least.0; is_least = least.1; one = λ other h. least_is_one kind number unit other least.0 h least.1 }
+    let least = least_exists kind number unit in
+    record { size = least.0; is_least = least.1; one = λ other h. least_is_unique kind number unit other least.0 h least.1 }
 
 -- what covers more covers less
 pub more_covers_more : GreaterNumbersGiveNoSmallerSizes

@@ -20,7 +20,7 @@ use Rattle.byte_unit_base.specs.declared.unit.family.Family.{Family}
 use Rattle.byte_unit_base.specs.declared.unit.family.Family.TheVariants.{All, Bytes, Bits}
 use Rattle.byte_unit_base.proofs.Choosing.{small_bits, some_bits}
 use Rattle.byte_unit_base.proofs.Falling.{IsIn, IsIn-at, Remain, falls, in_falling, from_falling, current_falls, largest_found}
-use Rattle.byte_unit_base.proofs.Falling.{Remain-behind, Remain-at_end, width, drop_prefixes}
+use Rattle.byte_unit_base.proofs.Falling.{Remain-after, Remain-at_end, units_per_prefix, drop_prefixes}
 
 -- the unit of a row as the code has it
 abbrev pub unit_in : Row → Shape
@@ -45,23 +45,23 @@ pub record HasPowers (family : Family) (in_bits most_twos most_fives : ℕ) (uni
   pub few_fives : fives unit ≤ most_fives
 
 -- a unit of the n-th prefix has 10 n binary digits
-abbrev reach : List Shape → Bool
-reach [] = true
-reach (x ∷ xs) = leb (2 ^ (10 * x.power - 1)) (bits x) && reach xs
+abbrev all_reach_prefix : List Shape → Bool
+all_reach_prefix [] = true
+all_reach_prefix (x ∷ xs) = leb (2 ^ (10 * x.power - 1)) (bits x) && all_reach_prefix xs
 
-reaches : (units : List Shape) (unit : Shape) → reach units ≡ true → IsIn unit units → 2 ^ (10 * unit.power - 1) ≤ bits unit
-reaches [] unit h i = absurd i
-reaches (x ∷ xs) unit h i =
-    let parts = and_parts (leb (2 ^ (10 * x.power - 1)) (bits x)) (reach xs) h in
-    let P : Shape → Type 0 = λ s. 2 ^ (10 * s.power - 1) ≤ bits s in
-    ⊎_elim (λ e. subst P e (leb-true (2 ^ (10 * x.power - 1)) (bits x) parts.0)) (λ later. reaches xs unit parts.1 later) i
+listed_reaches_prefix : (units : List Shape) (unit : Shape) → all_reach_prefix units ≡ true → IsIn unit units → 2 ^ (10 * unit.power - 1) ≤ bits unit
+listed_reaches_prefix [] unit h i = absurd i
+listed_reaches_prefix (x ∷ xs) unit h i =
+    let parts = and_parts (leb (2 ^ (10 * x.power - 1)) (bits x)) (all_reach_prefix xs) h in
+    let ReachesPrefix : Shape → Type 0 = λ s. 2 ^ (10 * s.power - 1) ≤ bits s in
+    ⊎_elim (λ e. subst ReachesPrefix e (leb-true (2 ^ (10 * x.power - 1)) (bits x) parts.0)) (λ later. listed_reaches_prefix xs unit parts.1 later) i
 
-all_reach : reach (falling_from All known_prefixes) ≡ true
-all_reach = refl
+known_units_reach_prefix : all_reach_prefix (falling_from All known_prefixes) ≡ true
+known_units_reach_prefix = refl
 
 reaches_its_prefix : (unit : Shape) → HasPrefix current unit → 2 ^ (10 * unit.power - 1) ≤ bits unit
 reaches_its_prefix unit prefix =
-    reaches (falling_from All known_prefixes) unit all_reach (in_falling All known_prefixes unit tt prefix.some prefix.known)
+    listed_reaches_prefix (falling_from All known_prefixes) unit known_units_reach_prefix (in_falling All known_prefixes unit tt prefix.some prefix.known)
 
 -- so its prefix is among the first that the digits of a size allow
 pub prefix_within : (in_bits digits : ℕ) (unit : Shape) → in_bits < 2 ^ 128 → digits ≡ 128 - leading_zeros w128 in_bits
@@ -78,7 +78,7 @@ prefix_within in_bits digits unit small count prefix not_above =
     (cases_lt digits (10 * unit.power))
 
 -- the rows of the last prefixes
-length_of_all : (family : Family) → length (falling_from family known_prefixes) / known_prefixes ≡ width family
+length_of_all : (family : Family) → length (falling_from family known_prefixes) / known_prefixes ≡ units_per_prefix family
 length_of_all All = omega arith
 length_of_all Bytes = omega arith
 length_of_all Bits = omega arith
@@ -90,11 +90,11 @@ pub rows_behind : (family : Family) (rows : List Row) (prefixes skipped : ℕ)
 rows_behind family rows prefixes skipped all few count =
     let units = falling_from family known_prefixes in
     let lengths : length rows ≡ length units = sym (length-map rows row_shape) ∙ (ap length all ∙ length-map units row_of) in
-    let across : length rows / known_prefixes ≡ width family = ap (λ n. n / known_prefixes) lengths ∙ length_of_all family in
-    let here : skipped ≡ width family * (known_prefixes - prefixes) = count ∙ ap (λ n. n * (known_prefixes - prefixes)) across in
+    let across : length rows / known_prefixes ≡ units_per_prefix family = ap (λ n. n / known_prefixes) lengths ∙ length_of_all family in
+    let here : skipped ≡ units_per_prefix family * (known_prefixes - prefixes) = count ∙ ap (λ n. n * (known_prefixes - prefixes)) across in
     let total : (known_prefixes - prefixes) + prefixes ≡ known_prefixes = omega (arith, few) in
-    let P : ℕ → Type 0 = λ n. drop (width family * (known_prefixes - prefixes)) (falling_from family n) ≡ falling_from family prefixes in
-    let behind = subst P total (drop_prefixes family (known_prefixes - prefixes) prefixes) in
+    let DropsToUnits : ℕ → Type 0 = λ n. drop (units_per_prefix family * (known_prefixes - prefixes)) (falling_from family n) ≡ falling_from family prefixes in
+    let behind = subst DropsToUnits total (drop_prefixes family (known_prefixes - prefixes) prefixes) in
     sym (drop-map row_shape skipped rows)
     ∙ (ap (drop skipped) all
     ∙ (drop-map row_of skipped units
@@ -120,9 +120,9 @@ pub search_start : (Has : Shape → Type 0) (family : Family) (in_bits first : �
     → Remain Has (drop 0 (map unit_in rows))
 search_start Has family in_bits first rows h within = λ unit has.
     let m = within unit has in
-    let P : List Shape → Type 0 = λ l. IsIn unit l in
+    let IsAmong : List Shape → Type 0 = λ l. IsIn unit l in
     let known = h.within unit m.0.prefix m.1 m.2 in
-    subst P (sym (listed_units family in_bits _ rows h)) (in_falling family h.prefixes unit m.0.kind m.0.prefix.some known)
+    subst IsAmong (sym (listed_units family in_bits _ rows h)) (in_falling family h.prefixes unit m.0.kind m.0.prefix.some known)
 
 -- what a row says of its unit
 pub record IsRow (family : Family) (row : Row) : Type 0 where
@@ -131,9 +131,9 @@ pub record IsRow (family : Family) (row : Row) : Type 0 where
   pub twos_are : row.twos ≡ twos (unit_in row)
   pub fives_are : row.fives ≡ fives (unit_in row)
 
-pub row_there : {family : Family} {in_bits first : ℕ} {rows : List Row} (i : ℕ) (d : Row) → ListsUnits family in_bits first rows
+pub row_at_is_row : {family : Family} {in_bits first : ℕ} {rows : List Row} (i : ℕ) (d : Row) → ListsUnits family in_bits first rows
     → i < length rows → IsRow family (get_or rows i d)
-row_there {family} {in_bits} {first} {rows} i d h within =
+row_at_is_row {family} {in_bits} {first} {rows} i d h within =
     let units = falling_from family h.prefixes in
     let row = get_or rows i d in
     let lengths : length rows ≡ length units =
@@ -184,8 +184,8 @@ pub unit_found : {family : Family} {in_bits first : ℕ} {rows : List Row} (Has 
     → IsLargest Has (unit_in (get_or rows i d))
 unit_found {family} {in_bits} {first} {rows} Has i d h remain within has =
     let unit = unit_in (get_or rows i d) in
-    let P : List Shape → Type 0 = λ l. falls unit_limit l ≡ true in
-    let fall = subst P (sym (listed_units family in_bits _ rows h)) (current_falls family h.prefixes h.few) in
+    let UnitsFall : List Shape → Type 0 = λ l. falls unit_limit l ≡ true in
+    let fall = subst UnitsFall (sym (listed_units family in_bits _ rows h)) (current_falls family h.prefixes h.few) in
     let there : i < length (map unit_in rows) = omega (arith, length-map rows unit_in, within) in
     largest_found Has (map unit_in rows) i unit fall remain (there, get_or-map unit_in rows i d unit within) has
 
@@ -194,14 +194,14 @@ pub unit_passed : (Has : Shape → Type 0) (rows : List Row) (i : ℕ) (d : Row)
 unit_passed Has rows i d remain within without =
     let unit = unit_in (get_or rows i d) in
     let there : i < length (map unit_in rows) = omega (arith, length-map rows unit_in, within) in
-    Remain-behind Has (map unit_in rows) i unit remain there (get_or-map unit_in rows i d unit within) without
+    Remain-after Has (map unit_in rows) i unit remain there (get_or-map unit_in rows i d unit within) without
 
 pub none_found : (Has : Shape → Type 0) (rows : List Row) (i : ℕ) → length rows ≤ i → Remain Has (drop i (map unit_in rows))
     → NoneHas Has
 none_found Has rows i done remain = Remain-at_end Has (map unit_in rows) i (omega (arith, length-map rows unit_in, done)) remain
 
-pub none_true : (b : Bool) (P : Type 0) → b ≡ false → (P → b ≡ true) → ¬ P
-none_true b P e h p = let t = h p in let k : ⊥ = cc in k
+pub not_if_test_fails : (b : Bool) (Fact : Type 0) → b ≡ false → (Fact → b ≡ true) → ¬ Fact
+not_if_test_fails b Fact e h p = let t = h p in let k : ⊥ = cc in k
 
 -- the tests of a row are those of its unit
 pub row_powers : {family : Family} {row : Row} (in_bits a b : ℕ) → IsRow family row

@@ -8,22 +8,22 @@ use Rattle.byte_unit_base.specs.Front.{Place}
 use Rattle.byte_unit_base.specs.Fault.{Fault, fault_at, fault_at_end, IsFaultAfter, IsFirstFault}
 use Rattle.byte_unit_base.specs.ReaderLaws.{IsOneAnswer, Begins}
 use Rattle.byte_unit_base.specs.Scan.{Scan, run, read, seen}
-use Rattle.byte_unit_base.proofs.Lists.{at_next, push_append}
+use Rattle.byte_unit_base.proofs.Lists.{rest_starts_with_next, push_append}
 use Rattle.byte_unit_base.proofs.Options.{some_passed}
 
 -- the state behind a text
 
 module _ {S : Type 0} (step : S → ℕ → Option S) where
-  run_on : (xs ys : List ℕ) → ((t : S) → run step t (xs ++ ys) ≡ option_and_then (λ u. run step u ys) (run step t xs))
+  run_append_from : (xs ys : List ℕ) → ((t : S) → run step t (xs ++ ys) ≡ option_and_then (λ u. run step u ys) (run step t xs))
       → (o : Option S) → option_and_then (λ t. run step t (xs ++ ys)) o ≡ option_and_then (λ u. run step u ys)
       (option_and_then (λ t. run step t xs) o)
-  run_on xs ys next None = refl
-  run_on xs ys next (Some t) = next t
+  run_append_from xs ys next None = refl
+  run_append_from xs ys next (Some t) = next t
 
   -- two texts, one after the other
   pub run-append : (s : S) (xs ys : List ℕ) → run step s (xs ++ ys) ≡ option_and_then (λ u. run step u ys) (run step s xs)
   run-append s [] ys = refl
-  run-append s (c ∷ xs) ys = run_on xs ys (λ t. run-append t xs ys) (step s c)
+  run-append s (c ∷ xs) ys = run_append_from xs ys (λ t. run-append t xs ys) (step s c)
 
   pub run_through : (s t : S) (xs ys : List ℕ) → run step s xs ≡ Some t → run step s (xs ++ ys) ≡ run step t ys
   run_through s t xs ys e = run-append s xs ys ∙ ap (option_and_then (λ u. run step u ys)) e
@@ -38,19 +38,19 @@ module _ {S : Type 0} (step : S → ℕ → Option S) where
       (t.0, t.1)
 
 -- what each step keeps holds behind a text
-module _ {S : Type 0} (step : S → ℕ → Option S) (P : S → List ℕ → Type 0)
-    (keeps : (s t : S) (c : ℕ) (text : List ℕ) → step s c ≡ Some t → P s text → P t (text ++ c ∷ [])) where
-  pub run_keeps : (xs front : List ℕ) (s t : S) → run step s xs ≡ Some t → P s front → P t (front ++ xs)
-  run_keeps [] front s t e p = let k : s ≡ t = cc in subst (λ u. P u (front ++ [])) k (subst (P s) (sym (append-nil front)) p)
+module _ {S : Type 0} (step : S → ℕ → Option S) (Holds : S → List ℕ → Type 0)
+    (keeps : (s t : S) (c : ℕ) (text : List ℕ) → step s c ≡ Some t → Holds s text → Holds t (text ++ c ∷ [])) where
+  pub run_keeps : (xs front : List ℕ) (s t : S) → run step s xs ≡ Some t → Holds s front → Holds t (front ++ xs)
+  run_keeps [] front s t e p = let k : s ≡ t = cc in subst (λ u. Holds u (front ++ [])) k (subst (Holds s) (sym (append-nil front)) p)
   run_keeps (c ∷ xs) front s t e p =
       let u = some_passed (λ v. run step v xs) t (step s c) e in
-      subst (P t) (push_append front xs c) (run_keeps xs (front ++ c ∷ []) u.0 t u.2 (keeps s u.0 c front u.1 p))
+      subst (Holds t) (push_append front xs c) (run_keeps xs (front ++ c ∷ []) u.0 t u.2 (keeps s u.0 c front u.1 p))
 
 -- where a scan stops: at the end of the text, or before a character that is no step
 
 module _ {S : Type 0} (step : S → ℕ → Option S) where
   abbrev pub CannotStep : S → List ℕ → Type 0
-  CannotStep s [] = Unit {0}
+  CannotStep s [] = ⊤
   CannotStep s (c ∷ rest) = step s c ≡ None
 
   pub record Stop (s : S) (text : List ℕ) : Type 0 where
@@ -97,12 +97,12 @@ module _ {S Meaning : Type 0} (scan : Scan S Meaning) where
   -- the reader's loop goes on
   pub read_more : (s t : S) (cs : List ℕ) (n c : ℕ) → (n < length cs) × (c ≡ get_or cs n c) → scan.step s c ≡ Some t
       → read scan t (drop (n + 1) cs) ≡ read scan s (drop n cs)
-  read_more s t cs n c h e = sym (at_next (read scan s) cs n c h ∙ read_some s t c (drop (n + 1) cs) e)
+  read_more s t cs n c h e = sym (rest_starts_with_next (read scan s) cs n c h ∙ read_some s t c (drop (n + 1) cs) e)
 
   -- it stops
   pub read_stop : (s : S) (cs : List ℕ) (n c : ℕ) → (n < length cs) × (c ≡ get_or cs n c) → scan.step s c ≡ None
       → Err (fault_at current scan.flags (scan.place s) c) ≡ read scan s (drop n cs)
-  read_stop s cs n c h e = sym (at_next (read scan s) cs n c h ∙ read_none s c (drop (n + 1) cs) e)
+  read_stop s cs n c h e = sym (rest_starts_with_next (read scan s) cs n c h ∙ read_none s c (drop (n + 1) cs) e)
 
   -- the text ends
   pub read_end : (s : S) (cs : List ℕ) (n : ℕ) → length cs ≡ n → scan.at_end s ≡ read scan s (drop n cs)
@@ -190,22 +190,22 @@ module _ {S Meaning : Type 0} {scan : Scan S Meaning} {Reached : S → List ℕ 
   answer_where_stopped : (s : S) (text front rest : List ℕ) → text ≡ front ++ rest → run scan.step scan.start front ≡ Some s
       → CannotStep scan.step s rest → IsAnswer (Means text) (IsFirstFault IsFront current scan.flags text) (read scan s rest)
   answer_where_stopped s text front [] t e stops =
-      let P : List ℕ → Type 0 = λ x. IsAnswer (Means x) (IsFirstFault IsFront current scan.flags x) (scan.at_end s) in
+      let IsAnswerFor : List ℕ → Type 0 = λ x. IsAnswer (Means x) (IsFirstFault IsFront current scan.flags x) (scan.at_end s) in
       let here = answer_at_end s front e (fault_at_end (scan.place s)) refl (is.ends s front (reached front s e)) in
-      subst P (sym (t ∙ append-nil front)) here
+      subst IsAnswerFor (sym (t ∙ append-nil front)) here
   answer_where_stopped s text front (c ∷ cs) t e stops =
-      let P : Result Meaning Fault → Type 0 = IsAnswer (Means text) (IsFirstFault IsFront current scan.flags text) in
+      let IsAnswerFor : Result Meaning Fault → Type 0 = IsAnswer (Means text) (IsFirstFault IsFront current scan.flags text) in
       let stop : Stop scan.step scan.start text =
       record { front = front; rest = c ∷ cs; state = s; text_is = t; run_is = e; stops = stops } in
-      subst P (sym (read_none scan s c cs stops)) (first_fault text stop (fault_at current scan.flags (scan.place s) c) refl)
+      subst IsAnswerFor (sym (read_none scan s c cs stops)) (first_fault text stop (fault_at current scan.flags (scan.place s) c) refl)
 
   -- what a text is read as is its meaning or its fault
-  pub answers : (text : List ℕ) → IsAnswer (Means text) (IsFirstFault IsFront current scan.flags text) (read scan scan.start text)
-  answers text =
+  pub reads_meaning_or_fault : (text : List ℕ) → IsAnswer (Means text) (IsFirstFault IsFront current scan.flags text) (read scan scan.start text)
+  reads_meaning_or_fault text =
       let stop = stop_of scan.step scan.start text in
-      let P : Result Meaning Fault → Type 0 = IsAnswer (Means text) (IsFirstFault IsFront current scan.flags text) in
+      let IsItsAnswer : Result Meaning Fault → Type 0 = IsAnswer (Means text) (IsFirstFault IsFront current scan.flags text) in
       let same = ap (read scan scan.start) stop.text_is ∙ read_through scan scan.start stop.state stop.front stop.rest stop.run_is in
-      subst P (sym same) (answer_where_stopped stop.state text stop.front stop.rest stop.text_is stop.run_is stop.stops)
+      subst IsItsAnswer (sym same) (answer_where_stopped stop.state text stop.front stop.rest stop.text_is stop.run_is stop.stops)
 
   -- a text with a meaning is read as it
   pub reads_meaning : (text : List ℕ) (meaning : Meaning) → Means text meaning → read scan scan.start text ≡ Ok meaning
@@ -238,9 +238,9 @@ module _ {S Meaning : Type 0} {scan : Scan S Meaning} {Reached : S → List ℕ 
       → read scan scan.start text ≡ Err fault
   reads_fault text fault h =
       let r = is.front_read h.place h.front h.longest.is_front in
-      let P : Place → Type 0 = λ place. IsFaultAfter current scan.flags place h.rest fault in
+      let IsFaultIn : Place → Type 0 = λ place. IsFaultAfter current scan.flags place h.rest fault in
       let rest = fault_of_rest r.state h.front h.rest fault (reached h.front r.state r.run_is) h.longest.longest
-      (subst P (sym r.place_is) h.fault_is) in
+      (subst IsFaultIn (sym r.place_is) h.fault_is) in
       ap (read scan scan.start) h.longest.text_is ∙ (read_through scan scan.start r.state h.front h.rest r.run_is ∙ rest)
 
   some_answer : (text : List ℕ) (answer : Result Meaning Fault)
@@ -252,7 +252,7 @@ module _ {S Meaning : Type 0} {scan : Scan S Meaning} {Reached : S → List ℕ 
   -- each text has one meaning or one fault
   pub one_answer : (text : List ℕ) → IsOneAnswer Meaning (Means text) (IsFirstFault IsFront current scan.flags text)
   one_answer text = record {
-    some = some_answer text (read scan scan.start text) (answers text);
+    some = some_answer text (read scan scan.start text) (reads_meaning_or_fault text);
     one_meaning = λ m n h k. let e = sym (reads_meaning text m h) ∙ reads_meaning text n k in cc;
     one_fault = λ f g h k. let e = sym (reads_fault text f h) ∙ reads_fault text g k in cc;
     not_both = λ m f h k. let e = sym (reads_meaning text m h) ∙ reads_fault text f k in absurd (let z : ⊥ = cc in z);
@@ -264,7 +264,7 @@ module _ {S Meaning : Type 0} {scan : Scan S Meaning} {Reached : S → List ℕ 
       let g = is.goes_on r.state in
       let whole = text ++ g.0 in
       let e = read_through scan scan.start r.state text g.0 r.run_is ∙ g.2 in
-      (g.0, g.1, subst (IsAnswer (Means whole) (IsFirstFault IsFront current scan.flags whole)) e (answers whole))
+      (g.0, g.1, subst (IsAnswer (Means whole) (IsFirstFault IsFront current scan.flags whole)) e (reads_meaning_or_fault whole))
 
   beginning_is_front : (text rest : List ℕ) (meaning : Meaning) → Means (text ++ rest) meaning → (place : Place) × IsFront place text
   beginning_is_front text rest meaning h =
@@ -279,13 +279,13 @@ module _ {S Meaning : Type 0} {scan : Scan S Meaning} {Reached : S → List ℕ 
   -- the clauses of a reader's callers
   module _ {R E : Type 0} (meaning : R → Meaning) (fault : E → Fault) (text : List ℕ) where
     pub read_found : (r : Result R E) → seen meaning fault r ≡ read scan scan.start text → IfOk r (λ value. Means text (meaning value))
-    read_found (Ok value) e = subst (IsAnswer (Means text) (IsFirstFault IsFront current scan.flags text)) (sym e) (answers text)
+    read_found (Ok value) e = subst (IsAnswer (Means text) (IsFirstFault IsFront current scan.flags text)) (sym e) (reads_meaning_or_fault text)
     read_found (Err error) e = tt
 
     pub read_refused : (r : Result R E) → seen meaning fault r ≡ read scan scan.start text
         → IfErr r (λ error. IsFirstFault IsFront current scan.flags text (fault error))
     read_refused (Ok value) e = tt
-    read_refused (Err error) e = subst (IsAnswer (Means text) (IsFirstFault IsFront current scan.flags text)) (sym e) (answers text)
+    read_refused (Err error) e = subst (IsAnswer (Means text) (IsFirstFault IsFront current scan.flags text)) (sym e) (reads_meaning_or_fault text)
 
     pub read_meant : (r : Result R E) (m : Meaning) → seen meaning fault r ≡ read scan scan.start text → Means text m
         → IsOkAnd r (λ value. meaning value ≡ m)

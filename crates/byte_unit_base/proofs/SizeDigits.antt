@@ -16,7 +16,7 @@ use Rattle.byte_unit_base.specs.FastReading.{AreDigits, AreScanned}
 use Rattle.byte_unit_base.specs.declared.read.scan.SizeScan.{SizeScan}
 use Rattle.byte_unit_base.specs.declared.read.scan.SizeScan.TheVariants.{Beginning, Whole, Point, Fraction, Gap, Unit as UnitAt}
 use Rattle.byte_unit_base.proofs.Scans.{run_through, run_step, run_keeps, read_through}
-use Rattle.byte_unit_base.proofs.SizeSteps.{step_is, step_keeps}
+use Rattle.byte_unit_base.proofs.SizeSteps.{step_cases, step_keeps}
 use Rattle.byte_unit_base.proofs.SizeReached.{SizeReached, SizeReached-step, fraction_number}
 use Rattle.byte_unit_base.proofs.SizeRuns.{step_point, run_whole, run_places}
 use Rattle.byte_unit_base.proofs.SizeAscii.{number_ascii}
@@ -68,7 +68,7 @@ precise_scanned bytes end whole places fraction number within =
 
 pub scanned_bounds : (bytes : List ℕ) (end : ℕ) (state : SizeScan) → AreScanned bytes end state → IsScan state
 scanned_bounds bytes end state scanned =
-    run_keeps size_step (λ s text. IsScan s) (λ s t c text e h. step_keeps s t c h (step_is s t c e)) (take end bytes) (take 0 bytes)
+    run_keeps size_step (λ s text. IsScan s) (λ s t c text e h. step_keeps s t c h (step_cases s t c e)) (take end bytes) (take 0 bytes)
     Beginning state scanned.run_is tt
 
 pub scanned_boundary : (bytes : List ℕ) (end : ℕ) (state : SizeScan) → IsUtf8 bytes → AreScanned bytes end state → IsCharBoundary bytes end
@@ -102,5 +102,5 @@ pub number_scanned : (bytes : List ℕ) (end : ℕ) (state : SizeScan) → AreSc
     → IfSome (number_of state) (λ number. IsNumberText current (take end bytes) number)
 number_scanned bytes end state scanned =
     number_reached state (take end bytes)
-    (run_keeps size_step SizeReached (λ s t c text e r. SizeReached-step s t c text (step_is s t c e) r) (take end bytes) [] Beginning
+    (run_keeps size_step SizeReached (λ s t c text e r. SizeReached-step s t c text (step_cases s t c e) r) (take end bytes) [] Beginning
     state scanned.run_is refl)

@@ -11,7 +11,7 @@ use Rattle.byte_unit_base.specs.Accepted.{IsRead, IsAccepted, Exceeds, HasFault,
 use Rattle.byte_unit_base.specs.SizeLaws.{IsOneOfThree, EachTextIsOneOfThree, TextsAreAcceptedOrRefused}
 use Rattle.byte_unit_base.specs.ReaderLaws.{IsOneAnswer, States}
 use Rattle.byte_unit_base.specs.declared.kind.Kind.{Kind}
-use Rattle.byte_unit_base.proofs.Rounding.{least_of, least_is_one}
+use Rattle.byte_unit_base.proofs.Rounding.{least_exists, least_is_unique}
 use Rattle.byte_unit_base.proofs.SizeReads.{size_texts_have_one_answer}
 
 -- two readings of a text are of one number and one size
@@ -28,8 +28,8 @@ module _ (kind : Kind) (ignore_case : Bool) (text : List ℕ) where
   same_read number other n m a b =
       let same : ◌≡◌ {A = ℕ × Shape} (number, a.unit) (other, b.unit) =
       one_answer.one_meaning (number, a.unit) (other, b.unit) a.is_size b.is_size in
-      let P : ℕ × Shape → Type 0 = λ r. IsLeastOf kind r.0 r.1 n in
-      record { numbers = ap (λ r. r.0) same; sizes = least_is_one kind other b.unit n m (subst P same a.is_least) b.is_least }
+      let HasLeastSize : ℕ × Shape → Type 0 = λ r. IsLeastOf kind r.0 r.1 n in
+      record { numbers = ap (λ r. r.0) same; sizes = least_is_unique kind other b.unit n m (subst HasLeastSize same a.is_least) b.is_least }
 
   -- a text that is read has no fault of its characters
   no_fault : (number n : ℕ) (fault : Fault) → IsRead current kind ignore_case text number n
@@ -45,7 +45,7 @@ module _ (kind : Kind) (ignore_case : Bool) (text : List ℕ) where
   some_of_three : ((n : ℕ) × IsAccepted current kind ignore_case text n)
       ⊎ (((number : ℕ) × Exceeds current kind ignore_case text number) ⊎ ((fault : Fault) × HasFault current kind ignore_case text fault))
   some_of_three =
-      ⊎_elim (λ read. let least = least_of kind read.0.0 read.0.1 in
+      ⊎_elim (λ read. let least = least_exists kind read.0.0 read.0.1 in
       let is_read : IsRead current kind ignore_case text read.0.0 least.0 =
       record { unit = read.0.1; is_size = read.1; is_least = least.1 } in
       ⊎_elim (λ below. inl (least.0, record { number = read.0.0; is_read = is_read; below = below }))
@@ -54,9 +54,9 @@ module _ (kind : Kind) (ignore_case : Bool) (text : List ℕ) where
       (λ fault. inr (inr fault))
       one_answer.some
 
-  pub three : IsOneOfThree
+  pub is_one_of_three : IsOneOfThree
       (IsAccepted current kind ignore_case text) (Exceeds current kind ignore_case text) (HasFault current kind ignore_case text)
-  three = record {
+  is_one_of_three = record {
     some = some_of_three;
     one_size = λ n other a b. (same_read a.number b.number n other a.is_read b.is_read).sizes;
     one_number = λ number other a b. (same_read number other a.size b.size a.is_read b.is_read).numbers;
@@ -74,25 +74,25 @@ module _ (kind : Kind) (ignore_case : Bool) (text : List ℕ) where
 
   one_refusal : (fault other : Fault) → IsRefused current kind ignore_case text fault → IsRefused current kind ignore_case text other
       → fault ≡ other
-  one_refusal fault other (inl e) (inl x) = e.1 ∙ (ap exceeded (three.one_number e.0 x.0 e.2 x.2) ∙ sym x.1)
-  one_refusal fault other (inl e) (inr f) = absurd (three.no_fault_of_excess e.0 other e.2 f)
-  one_refusal fault other (inr f) (inl e) = absurd (three.no_fault_of_excess e.0 fault e.2 f)
-  one_refusal fault other (inr f) (inr g) = three.one_fault fault other f g
+  one_refusal fault other (inl e) (inl x) = e.1 ∙ (ap exceeded (is_one_of_three.one_number e.0 x.0 e.2 x.2) ∙ sym x.1)
+  one_refusal fault other (inl e) (inr f) = absurd (is_one_of_three.no_fault_of_excess e.0 other e.2 f)
+  one_refusal fault other (inr f) (inl e) = absurd (is_one_of_three.no_fault_of_excess e.0 fault e.2 f)
+  one_refusal fault other (inr f) (inr g) = is_one_of_three.one_fault fault other f g
 
   no_refusal : (n : ℕ) (fault : Fault) → IsAccepted current kind ignore_case text n → ¬ (IsRefused current kind ignore_case text fault)
-  no_refusal n fault a (inl e) = three.no_excess n e.0 a e.2
-  no_refusal n fault a (inr f) = three.no_fault n fault a f
+  no_refusal n fault a (inl e) = is_one_of_three.no_excess n e.0 a e.2
+  no_refusal n fault a (inr f) = is_one_of_three.no_fault n fault a f
 
   pub accepted_or_not : IsOneAnswer ℕ (IsAccepted current kind ignore_case text) (IsRefused current kind ignore_case text)
   accepted_or_not = record {
-    some = ⊎_elim (λ a. inl a) (λ r. inr (refusal r)) three.some;
-    one_meaning = three.one_size;
+    some = ⊎_elim (λ a. inl a) (λ r. inr (refusal r)) is_one_of_three.some;
+    one_meaning = is_one_of_three.one_size;
     one_fault = one_refusal;
     not_both = no_refusal;
   }
 
 pub one_of_three : EachTextIsOneOfThree
-one_of_three kind ignore_case text = three kind ignore_case text
+one_of_three kind ignore_case text = is_one_of_three kind ignore_case text
 
 pub accepted_or_refused : TextsAreAcceptedOrRefused
 accepted_or_refused kind ignore_case text = accepted_or_not kind ignore_case text

@@ -51,50 +51,50 @@ one_zeros = refl
 pub in_bits_powers : (size divisor a b : ℕ) → (divisor ≡ 8) ⊎ (divisor ≡ 1) → IsTwoFive size a b
     → IsTwoFive (size * divisor) (a + trailing_zeros w128 divisor) b
 in_bits_powers size divisor a b kind h =
-    let P : ℕ → Type 0 = λ d. IsTwoFive (size * d) (a + trailing_zeros w128 d) b in
-    let eight : P 8 = subst (λ n. IsTwoFive (size * 8) (a + n) b) (sym eight_zeros) (eight_times size a b h) in
+    let HasPowersTimes : ℕ → Type 0 = λ d. IsTwoFive (size * d) (a + trailing_zeros w128 d) b in
+    let eight : HasPowersTimes 8 = subst (λ n. IsTwoFive (size * 8) (a + n) b) (sym eight_zeros) (eight_times size a b h) in
     let once : size ≡ size * 1 = omega arith in
     let none : a ≡ a + 0 = omega arith in
     let same = subst (λ n. IsTwoFive (size * 1) n b) none (subst (λ n. IsTwoFive n a b) once h) in
-    let by_one : P 1 = subst (λ n. IsTwoFive (size * 1) (a + n) b) (sym one_zeros) same in
-    ⊎_elim (λ e. subst P (sym e) eight) (λ e. subst P (sym e) by_one) kind
+    let by_one : HasPowersTimes 1 = subst (λ n. IsTwoFive (size * 1) (a + n) b) (sym one_zeros) same in
+    ⊎_elim (λ e. subst HasPowersTimes (sym e) eight) (λ e. subst HasPowersTimes (sym e) by_one) kind
 
 -- the same of its factors
 pub in_bits_product : (size divisor left a b : ℕ) → (divisor ≡ 8) ⊎ (divisor ≡ 1) → left * (2 ^ a * 5 ^ b) ≡ size
     → left * (2 ^ (a + trailing_zeros w128 divisor) * 5 ^ b) ≡ size * divisor
 in_bits_product size divisor left a b kind h =
-    let P : ℕ → Type 0 = λ d. left * (2 ^ (a + trailing_zeros w128 d) * 5 ^ b) ≡ size * d in
-    let eight : P 8 = ap (λ n. left * (2 ^ (a + n) * 5 ^ b)) eight_zeros
+    let IsProductTimes : ℕ → Type 0 = λ d. left * (2 ^ (a + trailing_zeros w128 d) * 5 ^ b) ≡ size * d in
+    let eight : IsProductTimes 8 = ap (λ n. left * (2 ^ (a + n) * 5 ^ b)) eight_zeros
     ∙ (ap (λ n. left * (n * 5 ^ b)) (pow-add 2 a 3) ∙ omega (arith, ap (λ n. n * 8) h)) in
     let none : a + 0 ≡ a = omega arith in
-    let by_one : P 1 = ap (λ n. left * (2 ^ (a + n) * 5 ^ b)) one_zeros
+    let by_one : IsProductTimes 1 = ap (λ n. left * (2 ^ (a + n) * 5 ^ b)) one_zeros
     ∙ (ap (λ n. left * (2 ^ n * 5 ^ b)) none ∙ (h ∙ omega arith)) in
-    ⊎_elim (λ e. subst P (sym e) eight) (λ e. subst P (sym e) by_one) kind
+    ⊎_elim (λ e. subst IsProductTimes (sym e) eight) (λ e. subst IsProductTimes (sym e) by_one) kind
 
 -- the units that the powers of the size allow are those that state it
 module _ (family : Family) (in_bits precision a b : ℕ) (powers : IsTwoFive in_bits a b) where
-  abbrev few : Shape → Type 0
-  few = HasPowers family in_bits (a + places_within precision) (b + places_within precision)
+  abbrev HasFewPowers : Shape → Type 0
+  HasFewPowers = HasPowers family in_bits (a + places_within precision) (b + places_within precision)
 
-  pub states_of_powers : (unit : Shape) → few unit → States current family in_bits precision unit
+  pub states_of_powers : (unit : Shape) → HasFewPowers unit → States current family in_bits precision unit
   states_of_powers unit h = record {
     member = h.member;
     not_above = h.not_above;
     exact = (exact_by_powers in_bits (twos unit) (fives unit) a b (places_within precision) powers).1 (h.few_twos, h.few_fives);
   }
 
-  pub powers_of_states : (unit : Shape) → States current family in_bits precision unit → few unit
+  pub powers_of_states : (unit : Shape) → States current family in_bits precision unit → HasFewPowers unit
   powers_of_states unit s =
       let h = (exact_by_powers in_bits (twos unit) (fives unit) a b (places_within precision) powers).0 s.exact in
       record { member = s.member; not_above = s.not_above; few_twos = h.0; few_fives = h.1 }
 
-  pub largest_of_powers : (unit : Shape) → IsLargest few unit → IsLargest (States current family in_bits precision) unit
+  pub largest_of_powers : (unit : Shape) → IsLargest HasFewPowers unit → IsLargest (States current family in_bits precision) unit
   largest_of_powers unit h = record {
     has = states_of_powers unit h.has;
     largest = λ other s. h.largest other (powers_of_states other s);
   }
 
-  pub none_of_powers : NoneHas few → NoneHas (States current family in_bits precision)
+  pub none_of_powers : NoneHas HasFewPowers → NoneHas (States current family in_bits precision)
   none_of_powers none = λ unit s. none unit (powers_of_states unit s)
 
 -- so the largest with few powers is chosen, at as many places as the precision leaves

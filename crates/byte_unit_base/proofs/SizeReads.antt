@@ -31,7 +31,7 @@ use Rattle.byte_unit_base.specs.declared.read.scan.SizeScan.TheVariants.{Beginni
 use Rattle.byte_unit_base.proofs.Scans.{EndsIn, IsScanOf, read_found, read_meant, read_refused, reads_meaning, one_answer, fronts_are_beginnings}
 use Rattle.byte_unit_base.proofs.UnitReached.{Reached-start, Spells-reached}
 use Rattle.byte_unit_base.proofs.UnitReads.{unit_front, unit_ends}
-use Rattle.byte_unit_base.proofs.SizeSteps.{step_is}
+use Rattle.byte_unit_base.proofs.SizeSteps.{step_cases}
 use Rattle.byte_unit_base.proofs.SizeReached.{SizeReached, SizeReached-step, UnitReached, fraction_number}
 use Rattle.byte_unit_base.proofs.SizeRuns.{size_text_runs, size_front_runs}
 
@@ -50,14 +50,14 @@ front_in_unit n s place text r h =
       unit_is = h;
     }
 
-unit_at : (n : ℕ) (m : Multiple) (w : Word) (text : List ℕ) (r : UnitReached n (scan_of m w) text) → 0 < length r.unit_part
+size_front_in_unit : (n : ℕ) (m : Multiple) (w : Word) (text : List ℕ) (r : UnitReached n (scan_of m w) text) → 0 < length r.unit_part
     → IsSizeFront current (word_place m w) text
-unit_at n One Empty text r some =
+size_front_in_unit n One Empty text r some =
     let none : r.unit_part ≡ [] = r.reached.text_is ∙ (ap (λ x. x ++ r.reached.word) r.reached.front_is ∙ r.reached.word_is) in
     absurd (omega (arith, some, ap length none))
-unit_at n (Decimal p) Empty text r some = front_in_unit n _ after_prefix text r (unit_front (Decimal p) Empty r.unit_part r.reached)
-unit_at n (Binary p) Empty text r some = front_in_unit n _ after_prefix text r (unit_front (Binary p) Empty r.unit_part r.reached)
-unit_at n m w text r some = front_in_unit n _ (word_place m w) text r (unit_front m w r.unit_part r.reached)
+size_front_in_unit n (Decimal p) Empty text r some = front_in_unit n _ after_prefix text r (unit_front (Decimal p) Empty r.unit_part r.reached)
+size_front_in_unit n (Binary p) Empty text r some = front_in_unit n _ after_prefix text r (unit_front (Binary p) Empty r.unit_part r.reached)
+size_front_in_unit n m w text r some = front_in_unit n _ (word_place m w) text r (unit_front m w r.unit_part r.reached)
 
 size_front : (s : SizeScan) (text : List ℕ) → SizeReached s text → IsSizeFront current (size_place s) text
 size_front Beginning text r = r
@@ -76,7 +76,7 @@ size_front (Gap n) text r = (
   },
   r.some,
 )
-size_front (UnitAt n s) text r = unit_at n s.multiple s.word text r.0 r.1
+size_front (UnitAt n s) text r = size_front_in_unit n s.multiple s.word text r.0 r.1
 
 -- what a text that ends there is read as
 
@@ -149,7 +149,7 @@ size_goes_on flags (UnitAt n s) = goes_on_in_unit flags n s.multiple s.word
 pub size_scan_is : (flags : Flags) → IsScanOf (size_scan flags) SizeReached (IsSizeFront current) (States flags)
 size_scan_is flags = record {
   starts = refl;
-  steps = λ s t c text e r. SizeReached-step s t c text (step_is s t c e) r;
+  steps = λ s t c text e r. SizeReached-step s t c text (step_cases s t c e) r;
   front = size_front;
   front_read = size_front_runs flags;
   ends = size_ends flags;

@@ -114,10 +114,10 @@ AtNumber n (Fraction w f j) = precise w f j ≡ n
 AtNumber n (Gap m) = m ≡ n
 AtNumber n _ = ⊥
 
-pub record RunsTo (P : SizeScan → Type 0) (s : SizeScan) (text : List ℕ) : Type 0 where
+pub record RunsTo (Holds : SizeScan → Type 0) (s : SizeScan) (text : List ℕ) : Type 0 where
   pub state : SizeScan
   pub run : run size_step s text ≡ Some state
-  pub holds : P state
+  pub holds : Holds state
 
 run_precise : (text : List ℕ) (n : ℕ) → IsPrecise current text n → RunsTo (λ s. AtNumber n s × (size_place s ≡ in_fraction)) Beginning text
 run_precise text n h =
@@ -169,8 +169,8 @@ unit_bounds : (c : ℕ) (u : UnitScan) → unit_step unit_start c ≡ Some u →
 unfolding unit_step
 unit_bounds c u h = first_bounds c u (prefix_at c) refl h
 
-no_digit : (c : ℕ) → 65 ≤ to_ascii_uppercase c → to_ascii_uppercase c ≤ 90 → 10 ≤ digit_value c
-no_digit c h k = grind (arith, nat_tests)
+letter_is_no_digit : (c : ℕ) → 65 ≤ to_ascii_uppercase c → to_ascii_uppercase c ≤ 90 → 10 ≤ digit_value c
+letter_is_no_digit c h k = grind (arith, nat_tests)
 
 from_upper : (c : ℕ) → 65 ≤ to_ascii_uppercase c → 65 ≤ c
 from_upper c h = grind (arith, nat_tests)
@@ -183,7 +183,7 @@ pub record NoNumber (c : ℕ) : Type 0 where
 no_number : (c : ℕ) (u : UnitScan) → unit_step unit_start c ≡ Some u → NoNumber c
 no_number c u h =
     let k = unit_bounds c u h in
-    let d = no_digit c k.0 k.1 in
+    let d = letter_is_no_digit c k.0 k.1 in
     let l = from_upper c k.0 in
     record { digit = grind (arith, nat_tests); point = grind (arith, nat_tests); space = grind (arith, nat_tests) }
 
@@ -246,8 +246,8 @@ step_in_unit n c s t e = ap (option_map (UnitAt n)) e
 run_in_unit : (n : ℕ) (u : UnitScan) (cs : List ℕ) (s : UnitScan) → run unit_step s cs ≡ Some u
     → run size_step (UnitAt n s) cs ≡ Some (UnitAt n u)
 run_in_unit n u cs s h =
-    let P : UnitScan → List ℕ → Type 0 = λ t text. run size_step (UnitAt n s) text ≡ Some (UnitAt n t) in
-    run_keeps unit_step P
+    let RunsInUnit : UnitScan → List ℕ → Type 0 = λ t text. run size_step (UnitAt n s) text ≡ Some (UnitAt n t) in
+    run_keeps unit_step RunsInUnit
     (λ t v c text e p. run_through size_step (UnitAt n s) (UnitAt n t) text (c ∷ []) p
     ∙ run_step size_step (UnitAt n t) (UnitAt n v) c [] (step_in_unit n c t v e))
     cs [] s u h refl

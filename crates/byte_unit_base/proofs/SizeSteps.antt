@@ -13,7 +13,7 @@ use Rattle.byte_unit_base.specs.declared.unit.scan.UnitScan.{UnitScan}
 use Rattle.byte_unit_base.specs.declared.read.scan.SizeScan.{SizeScan}
 use Rattle.byte_unit_base.specs.declared.read.scan.SizeScan.TheVariants.{Beginning, Whole, Point, Fraction, Gap, Unit as UnitAt}
 use Rattle.byte_unit_base.proofs.Options.{some_mapped}
-use Rattle.byte_unit_base.proofs.UnitReached.{guard_some, is_true}
+use Rattle.byte_unit_base.proofs.UnitReached.{guard_some, eq_if_test_true}
 
 -- a step by cases
 
@@ -34,34 +34,34 @@ StepOf (Fraction w f j) c t =
 StepOf (Gap n) c t = AfterNumber n c t
 StepOf (UnitAt n s) c t = UnitStep n s c t
 
-cond_is : {X : Type 0} (t : Bool) (x y z : X) → cond t x y ≡ z → ((t ≡ true) × (x ≡ z)) ⊎ ((t ≡ false) × (y ≡ z))
-cond_is true x y z e = inl (refl, e)
-cond_is false x y z e = inr (refl, e)
+cond_cases : {X : Type 0} (t : Bool) (x y z : X) → cond t x y ≡ z → ((t ≡ true) × (x ≡ z)) ⊎ ((t ≡ false) × (y ≡ z))
+cond_cases true x y z e = inl (refl, e)
+cond_cases false x y z e = inr (refl, e)
 
-after_number_is : (n c : ℕ) (t : SizeScan) → after_number n c ≡ Some t → AfterNumber n c t
-after_number_is n c t e =
-    ⊎_elim (λ h. inl (is_true _ _ h.0, cc)) (λ h. inr (some_mapped (UnitAt n) t (unit_step unit_start c) h.1))
-    (cond_is (eqb c 32) (Some (Gap n)) (option_map (UnitAt n) (unit_step unit_start c)) (Some t) e)
+after_number_cases : (n c : ℕ) (t : SizeScan) → after_number n c ≡ Some t → AfterNumber n c t
+after_number_cases n c t e =
+    ⊎_elim (λ h. inl (eq_if_test_true _ _ h.0, cc)) (λ h. inr (some_mapped (UnitAt n) t (unit_step unit_start c) h.1))
+    (cond_cases (eqb c 32) (Some (Gap n)) (option_map (UnitAt n) (unit_step unit_start c)) (Some t) e)
 
-pub step_is : (s t : SizeScan) (c : ℕ) → size_step s c ≡ Some t → StepOf s c t
+pub step_cases : (s t : SizeScan) (c : ℕ) → size_step s c ≡ Some t → StepOf s c t
 unfolding size_step
-step_is Beginning t c e = let g = guard_some (is_digit c) (Whole (digit_value c)) t e in (ltb-true _ _ g.0, g.1)
-step_is (Whole w) t c e =
+step_cases Beginning t c e = let g = guard_some (is_digit c) (Whole (digit_value c)) t e in (ltb-true _ _ g.0, g.1)
+step_cases (Whole w) t c e =
     ⊎_elim (λ h. let g = guard_some (ltb (w * 10 + digit_value c) whole_limit) (Whole (w * 10 + digit_value c)) t h.1 in inl
     (ltb-true _ _ h.0, ltb-true _ _ g.0, g.1))
-    (λ h. inr (⊎_elim (λ k. inl (is_true _ _ k.0, cc)) (λ k. inr (after_number_is (w * one) c t k.1))
-    (cond_is (eqb c 46) (Some (Point w)) (after_number (w * one) c) (Some t) h.1)))
-    (cond_is (is_digit c) (cond (ltb (w * 10 + digit_value c) whole_limit) (Some (Whole (w * 10 + digit_value c))) None)
+    (λ h. inr (⊎_elim (λ k. inl (eq_if_test_true _ _ k.0, cc)) (λ k. inr (after_number_cases (w * one) c t k.1))
+    (cond_cases (eqb c 46) (Some (Point w)) (after_number (w * one) c) (Some t) h.1)))
+    (cond_cases (is_digit c) (cond (ltb (w * 10 + digit_value c) whole_limit) (Some (Whole (w * 10 + digit_value c))) None)
     (cond (eqb c 46) (Some (Point w)) (after_number (w * one) c)) (Some t) e)
-step_is (Point w) t c e = let g = guard_some (is_digit c) (Fraction w (digit_value c) 1) t e in (ltb-true _ _ g.0, g.1)
-step_is (Fraction w f j) t c e =
+step_cases (Point w) t c e = let g = guard_some (is_digit c) (Fraction w (digit_value c) 1) t e in (ltb-true _ _ g.0, g.1)
+step_cases (Fraction w f j) t c e =
     ⊎_elim (λ h. let g = guard_some (ltb j places_of_decimal) (Fraction w (f * 10 + digit_value c) (j + 1)) t h.1 in inl
     (ltb-true _ _ h.0, ltb-true _ _ g.0, g.1))
-    (λ h. inr (after_number_is (precise w f j) c t h.1))
-    (cond_is (is_digit c) (cond (ltb j places_of_decimal) (Some (Fraction w (f * 10 + digit_value c) (j + 1))) None)
+    (λ h. inr (after_number_cases (precise w f j) c t h.1))
+    (cond_cases (is_digit c) (cond (ltb j places_of_decimal) (Some (Fraction w (f * 10 + digit_value c) (j + 1))) None)
     (after_number (precise w f j) c) (Some t) e)
-step_is (Gap n) t c e = after_number_is n c t e
-step_is (UnitAt n s) t c e = some_mapped (UnitAt n) t (unit_step s c) e
+step_cases (Gap n) t c e = after_number_cases n c t e
+step_cases (UnitAt n s) t c e = some_mapped (UnitAt n) t (unit_step s c) e
 
 -- a step keeps the bounds of a scan
 

@@ -16,10 +16,10 @@ use Rattle.byte_unit_base.specs.declared.unit.family.Family.TheVariants.{All, By
 use Rattle.byte_unit_base.proofs.Falling.{IsIn, in_falling}
 
 abbrev Decided : Type 0 → Type 0
-Decided P = P ⊎ ¬ P
+Decided Fact = Fact ⊎ ¬ Fact
 
-both_decided : (P Q : Type 0) → Decided P → Decided Q → Decided (P × Q)
-both_decided P Q p q = ⊎_elim (λ a. ⊎_elim (λ b. inl (a, b)) (λ no. inr (λ h. no h.1)) q) (λ no. inr (λ h. no h.0)) p
+both_decided : (First Second : Type 0) → Decided First → Decided Second → Decided (First × Second)
+both_decided First Second p q = ⊎_elim (λ a. ⊎_elim (λ b. inl (a, b)) (λ no. inr (λ h. no h.1)) q) (λ no. inr (λ h. no h.0)) p
 
 le_decided : (a b : ℕ) → Decided (a ≤ b)
 le_decided a b = ⊎_elim (λ l. inr (λ h. omega (arith, l, h))) (λ h. inl h) (cases_lt b a)
@@ -69,9 +69,9 @@ abbrev AreNoLarger : (Shape → Type 0) → List Shape → ℕ → Type 0
 AreNoLarger Has units bound = (other : Shape) → IsIn other units → Has other → bits other ≤ bound
 
 -- what is no larger among the first and the others is no larger among all
-each_of : (Has : Shape → Type 0) (x : Shape) (xs : List Shape) (bound : ℕ) → bits x ≤ bound → AreNoLarger Has xs bound
+no_larger_with_first : (Has : Shape → Type 0) (x : Shape) (xs : List Shape) (bound : ℕ) → bits x ≤ bound → AreNoLarger Has xs bound
     → AreNoLarger Has (x ∷ xs) bound
-each_of Has x xs bound first rest other i h = ⊎_elim (λ e. omega (arith, ap bits e, first)) (λ later. rest other later h) i
+no_larger_with_first Has x xs bound first rest other i h = ⊎_elim (λ e. omega (arith, ap bits e, first)) (λ later. rest other later h) i
 
 -- among units one with the property is the largest, or none has it
 largest_or_none : (Has : Shape → Type 0) → ((unit : Shape) → Decided (Has unit)) → (units : List Shape)
@@ -87,18 +87,18 @@ largest_or_none Has decided (x ∷ xs) =
       found.0,
       record {
         has = found.1.has;
-        largest = each_of Has x xs (bits found.0) (omega (arith, smaller)) found.1.largest;
+        largest = no_larger_with_first Has x xs (bits found.0) (omega (arith, smaller)) found.1.largest;
       },
     ))
     (λ larger. inl (
       x,
       record {
         has = h;
-        largest = each_of Has x xs (bits x) (omega arith) (λ other i k. omega (arith, found.1.largest other i k, larger));
+        largest = no_larger_with_first Has x xs (bits x) (omega arith) (λ other i k. omega (arith, found.1.largest other i k, larger));
       },
     ))
     (cases_lt (bits x) (bits found.0)))
-    (λ none. inl (x, record { has = h; largest = each_of Has x xs (bits x) (omega arith) (λ other i k. absurd (none other i k)) }))
+    (λ none. inl (x, record { has = h; largest = no_larger_with_first Has x xs (bits x) (omega arith) (λ other i k. absurd (none other i k)) }))
     rest in
     let without_first = λ (no : ¬ (Has x)).
     ⊎_elim

@@ -50,14 +50,14 @@ pub record EndsWithoutSpace (text : List ℕ) : Type 0 where
 
 -- what trimming keeps
 
-not_zero : (number : ℕ) → nat_eq (suc number) 0 ≡ false
-not_zero number = grind (arith, nat_tests)
+suc_is_not_zero : (number : ℕ) → nat_eq (suc number) 0 ≡ false
+suc_is_not_zero number = grind (arith, nat_tests)
 
 not_empty : (white : Bool) (front : List ℕ) (last : ℕ) (kept : List ℕ)
     → cond (white && nat_eq (length (front ++ last ∷ [])) 0) [] kept ≡ kept
 not_empty false front last kept = refl
 not_empty true [] last kept = refl
-not_empty true (next ∷ front) last kept = ap (λ empty. cond empty [] kept) (not_zero (length (front ++ last ∷ [])))
+not_empty true (next ∷ front) last kept = ap (λ empty. cond empty [] kept) (suc_is_not_zero (length (front ++ last ∷ [])))
 
 pub keep_last : (front : List ℕ) (last : ℕ) → is_whitespace last ≡ false
     → drop_trailing_whitespace (front ++ last ∷ []) ≡ front ++ last ∷ []

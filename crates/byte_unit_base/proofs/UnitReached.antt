@@ -61,8 +61,8 @@ pub guard_some : {X : Type 0} (t : Bool) (x y : X) → cond t (Some x) None ≡ 
 guard_some true x y e = (refl, cc)
 guard_some false x y e = absurd (let h : ⊥ = cc in h)
 
-pub is_true : (a b : ℕ) → eqb a b ≡ true → a ≡ b
-is_true a b e = grind (arith, nat_tests)
+pub eq_if_test_true : (a b : ℕ) → eqb a b ≡ true → a ≡ b
+eq_if_test_true a b e = grind (arith, nat_tests)
 
 -- one character more of the prefix
 multiple_grows_from_one : (c : ℕ) (n : Multiple) → option_map Decimal (prefix_at c) ≡ Some n → IsMultipleText n (c ∷ [])
@@ -92,7 +92,7 @@ multiple_grows (Decimal p) n c text e h =
       infix_part = c ∷ [];
       text_is = ap (λ x. x ++ c ∷ []) whole;
       letter_is = h.letter_is;
-      infix_is = inr (ap (λ x. x ∷ []) (is_true _ _ g.0), refl);
+      infix_is = inr (ap (λ x. x ∷ []) (eq_if_test_true _ _ g.0), refl);
     } in
     subst (λ m. IsMultipleText m (text ++ c ∷ [])) g.1 with_i
 multiple_grows (Binary p) n c text e h = absurd (let k : ⊥ = cc in k)
@@ -113,17 +113,17 @@ first_grows Bits c e = grind (arith, nat_tests)
 word_grows : (w v : Word) (c : ℕ) (text : List ℕ) → word_step w c ≡ Some v → IsWordText w text → IsWordText v (text ++ c ∷ [])
 word_grows Empty v c text e h = rw h (first_grows v c e)
 word_grows UpperB v c text e h =
-    let g = guard_some (is_i c) Bi v e in rw h (subst (λ w. IsWordText w (66 ∷ c ∷ [])) g.1 (ap (λ x. 98 ∷ x ∷ []) (is_true _ _ g.0)))
+    let g = guard_some (is_i c) Bi v e in rw h (subst (λ w. IsWordText w (66 ∷ c ∷ [])) g.1 (ap (λ x. 98 ∷ x ∷ []) (eq_if_test_true _ _ g.0)))
 word_grows LowerB v c text e h =
-    let g = guard_some (is_i c) Bi v e in rw h (subst (λ w. IsWordText w (98 ∷ c ∷ [])) g.1 (ap (λ x. 98 ∷ x ∷ []) (is_true _ _ g.0)))
+    let g = guard_some (is_i c) Bi v e in rw h (subst (λ w. IsWordText w (98 ∷ c ∷ [])) g.1 (ap (λ x. 98 ∷ x ∷ []) (eq_if_test_true _ _ g.0)))
 word_grows Bi v c text e h =
     let g = guard_some (eqb (to_ascii_lowercase c) 116) Bit v e in
     subst (λ w. IsWordText w (text ++ c ∷ [])) g.1
-    (lower_push text c ∙ (ap (λ t. t ++ to_ascii_lowercase c ∷ []) h ∙ ap (λ x. 98 ∷ 105 ∷ x ∷ []) (is_true _ _ g.0)))
+    (lower_push text c ∙ (ap (λ t. t ++ to_ascii_lowercase c ∷ []) h ∙ ap (λ x. 98 ∷ 105 ∷ x ∷ []) (eq_if_test_true _ _ g.0)))
 word_grows Bit v c text e h =
     let g = guard_some (eqb (to_ascii_lowercase c) 115) Bits v e in
     subst (λ w. IsWordText w (text ++ c ∷ [])) g.1
-    (lower_push text c ∙ (ap (λ t. t ++ to_ascii_lowercase c ∷ []) h ∙ ap (λ x. 98 ∷ 105 ∷ 116 ∷ x ∷ []) (is_true _ _ g.0)))
+    (lower_push text c ∙ (ap (λ t. t ++ to_ascii_lowercase c ∷ []) h ∙ ap (λ x. 98 ∷ 105 ∷ 116 ∷ x ∷ []) (eq_if_test_true _ _ g.0)))
 word_grows Bits v c text e h = absurd (let k : ⊥ = cc in k)
 
 -- one character more of the scan
@@ -177,17 +177,17 @@ count_spelled flags Bi text bit e h = absurd (let k : ⊥ = cc in k)
 count_spelled flags Bit text bit e h = inr (inr (inr (inl (h, cc))))
 count_spelled flags Bits text bit e h = inr (inr (inr (inr (h, cc))))
 
-spelled : (flags : Flags) (m : Multiple) (front word : List ℕ) (bit : Bool) → IsMultipleText m front → SpellsCount flags word bit
+parts_spell_unit : (flags : Flags) (m : Multiple) (front word : List ℕ) (bit : Bool) → IsMultipleText m front → SpellsCount flags word bit
     → Spells current flags (front ++ word) (multiple_shape m bit)
-spelled flags One front word bit h k = rw h (inl (record { count_is = k; power_is = refl; binary_is = refl }))
-spelled flags (Decimal p) front word bit h k =
+parts_spell_unit flags One front word bit h k = rw h (inl (record { count_is = k; power_is = refl; binary_is = refl }))
+parts_spell_unit flags (Decimal p) front word bit h k =
     inr (record { prefix_part = front; count_part = word; text_is = refl; prefix_is = h; count_is = k })
-spelled flags (Binary p) front word bit h k =
+parts_spell_unit flags (Binary p) front word bit h k =
     inr (record { prefix_part = front; count_part = word; text_is = refl; prefix_is = h; count_is = k })
 
 pub Spells-reached : (flags : Flags) (m : Multiple) (w : Word) (text : List ℕ) (unit : Shape)
     → unit_of flags (scan_of m w) ≡ Some unit → Reached (scan_of m w) text → Spells current flags text unit
 Spells-reached flags m w text unit e r =
     let bit = some_mapped (multiple_shape m) unit (count_of flags w) e in
-    let spells = spelled flags m r.front r.word bit.0 r.front_is (count_spelled flags w r.word bit.0 bit.1 r.word_is) in
+    let spells = parts_spell_unit flags m r.front r.word bit.0 r.front_is (count_spelled flags w r.word bit.0 bit.1 r.word_is) in
     subst (Spells current flags text) bit.2 (subst (λ x. Spells current flags x (multiple_shape m bit.0)) (sym r.text_is) spells)

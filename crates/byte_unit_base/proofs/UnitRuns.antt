@@ -25,27 +25,27 @@ use Rattle.byte_unit_base.proofs.Scans.{run_through, run_step, IsScanned}
 
 -- the steps that a spelling takes
 
-at_upper : (m : Multiple) → unit_step (scan_of m Empty) 66 ≡ Some (scan_of m UpperB)
+step_upper_b : (m : Multiple) → unit_step (scan_of m Empty) 66 ≡ Some (scan_of m UpperB)
 unfolding unit_step
-at_upper One = refl
-at_upper (Decimal p) = refl
-at_upper (Binary p) = refl
+step_upper_b One = refl
+step_upper_b (Decimal p) = refl
+step_upper_b (Binary p) = refl
 
-at_lower : (m : Multiple) → unit_step (scan_of m Empty) 98 ≡ Some (scan_of m LowerB)
+step_lower_b : (m : Multiple) → unit_step (scan_of m Empty) 98 ≡ Some (scan_of m LowerB)
 unfolding unit_step
-at_lower One = refl
-at_lower (Decimal p) = refl
-at_lower (Binary p) = refl
+step_lower_b One = refl
+step_lower_b (Decimal p) = refl
+step_lower_b (Binary p) = refl
 
 abbrev IsB : Word → Type 0
 IsB w = (w ≡ UpperB) ⊎ (w ≡ LowerB)
 
 step_b : (m : Multiple) (c : ℕ) → to_ascii_lowercase c ≡ 98 → (w : Word) × (unit_step (scan_of m Empty) c ≡ Some (scan_of m w)) × IsB w
 step_b m c e = ⊎_elim
-    (λ h. let P : ℕ → Type 0 = λ x. (w : Word) × (unit_step (scan_of m Empty) x ≡ Some (scan_of m w)) × IsB w in subst P (sym h)
-    (LowerB, at_lower m, inr refl))
-    (λ h. let k : 66 ≡ c = omega arith in let P : ℕ
-    → Type 0 = λ x. (w : Word) × (unit_step (scan_of m Empty) x ≡ Some (scan_of m w)) × IsB w in subst P k (UpperB, at_upper m, inl refl))
+    (λ h. let StepsToB : ℕ → Type 0 = λ x. (w : Word) × (unit_step (scan_of m Empty) x ≡ Some (scan_of m w)) × IsB w in subst StepsToB (sym h)
+    (LowerB, step_lower_b m, inr refl))
+    (λ h. let k : 66 ≡ c = omega arith in let StepsToB : ℕ
+    → Type 0 = λ x. (w : Word) × (unit_step (scan_of m Empty) x ≡ Some (scan_of m w)) × IsB w in subst StepsToB k (UpperB, step_upper_b m, inl refl))
     (from_lowercase c 98 (omega arith) (omega arith) e)
 
 step_i : (m : Multiple) (w : Word) (c : ℕ) → IsB w → to_ascii_lowercase c ≡ 105 → unit_step (scan_of m w) c ≡ Some (scan_of m Bi)
@@ -117,13 +117,13 @@ run_count flags m text bit (inl h) = (Empty, ap (run unit_step (scan_of m Empty)
 run_count flags m text bit (inr (inl h)) = (
   UpperB,
   ap (run unit_step (scan_of m Empty)) h.0
-      ∙ run_step unit_step (scan_of m Empty) (scan_of m UpperB) 66 [] (at_upper m),
+      ∙ run_step unit_step (scan_of m Empty) (scan_of m UpperB) 66 [] (step_upper_b m),
   ap Some (sym h.1),
 )
 run_count flags m text bit (inr (inr (inl h))) = (
   LowerB,
   ap (run unit_step (scan_of m Empty)) h.0
-      ∙ run_step unit_step (scan_of m Empty) (scan_of m LowerB) 98 [] (at_lower m),
+      ∙ run_step unit_step (scan_of m Empty) (scan_of m LowerB) 98 [] (step_lower_b m),
   ap Some (sym h.1),
 )
 run_count flags m text bit (inr (inr (inr (inl h)))) = (Bit, run_bit m text h.0, ap Some (sym h.1))
@@ -188,20 +188,20 @@ run_prefix text power binary h =
 
 -- a spelling is read to its end
 
-pub record Runs (flags : Flags) (text : List ℕ) (s : Shape) : Type 0 where
+pub record RunsToUnit (flags : Flags) (text : List ℕ) (s : Shape) : Type 0 where
   pub multiple : Multiple
   pub word : Word
   pub run : run unit_step start text ≡ Some (scan_of multiple word)
   pub unit : unit_of flags (scan_of multiple word) ≡ Some s
 
-run_plain : (flags : Flags) (text : List ℕ) (s : Shape) → SpellsPlain flags text s → Runs flags text s
+run_plain : (flags : Flags) (text : List ℕ) (s : Shape) → SpellsPlain flags text s → RunsToUnit flags text s
 run_plain flags text s h =
     let r = run_count flags One text s.bit h.count_is in
     let same : shape 0 (not s.bit) s.bit ≡ s = ap (λ k. shape k (not s.bit) s.bit) (sym h.power_is)
     ∙ ap (λ x. shape s.power x s.bit) (sym h.binary_is) in
     record { multiple = One; word = r.0; run = r.1; unit = ap (option_map (multiple_shape One)) r.2 ∙ ap Some same }
 
-run_multiple : (flags : Flags) (text : List ℕ) (s : Shape) → SpellsMultiple current flags text s → Runs flags text s
+run_multiple : (flags : Flags) (text : List ℕ) (s : Shape) → SpellsMultiple current flags text s → RunsToUnit flags text s
 run_multiple flags text s h =
     let p = run_prefix h.prefix_part s.power s.binary h.prefix_is in
     let r = run_count flags p.multiple h.count_part s.bit h.count_is in
@@ -213,7 +213,7 @@ run_multiple flags text s h =
       unit = ap (option_map (multiple_shape p.multiple)) r.2 ∙ ap Some (p.shape_is s.bit);
     }
 
-pub spelling_runs : (flags : Flags) (text : List ℕ) (s : Shape) → Spells current flags text s → Runs flags text s
+pub spelling_runs : (flags : Flags) (text : List ℕ) (s : Shape) → Spells current flags text s → RunsToUnit flags text s
 spelling_runs flags text s (inl h) = run_plain flags text s h
 spelling_runs flags text s (inr h) = run_multiple flags text s h
 

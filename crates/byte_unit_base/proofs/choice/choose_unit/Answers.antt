@@ -4,11 +4,11 @@ use Rattle.byte_unit_math.specs.Exact.{IsLeastPlaces, IsQuotient}
 use Rattle.byte_unit_math.specs.Steps.{raised}
 use Rattle.byte_unit_base.specs.Edition.{current}
 use Rattle.byte_unit_base.specs.Choice.{IsChosen}
-use Rattle.byte_unit_base.proofs.Choosing.{is_some, some_bits}
+use Rattle.byte_unit_base.proofs.Choosing.{some_if_holds, some_bits}
 use Rattle.byte_unit_base.proofs.FewSteps.{few_of_choice, few_of_none}
 use Rattle.byte_unit_base.proofs.Quotients.{places_of_quotient, quotient_of_product, whole_takes_none}
-use Rattle.byte_unit_base.proofs.Rows.{HasPowers, no_row, unit_in, search_start, power_of_powers, row_multiple, row_there, row_powers, powers_in_row}
-use Rattle.byte_unit_base.proofs.Rows.{unit_found, unit_passed, none_found, none_true}
+use Rattle.byte_unit_base.proofs.Rows.{HasPowers, no_row, unit_in, search_start, power_of_powers, row_multiple, row_at_is_row, row_powers, powers_in_row}
+use Rattle.byte_unit_base.proofs.Rows.{unit_found, unit_passed, none_found, not_if_test_fails}
 use Rattle.byte_unit_base.proofs.SizePowers.{in_bits_powers, in_bits_product, chosen_by_powers, none_by_powers, exact_by_row, counted_choice}
 use Rattle.byte_unit_base.proofs.SizePowers.{count_fits}
 use Rattle.byte_unit_base.proofs.choice.choose_unit.Goals as goal
@@ -36,8 +36,8 @@ loop-row-preserved c =
     let in_bits = c.args.size * c.args.divisor in
     let rows = c.multiples_within-row-items.result.now in
     let i = c.loop-row.row-index in
-    let is_row = row_there i no_row c.multiples_within-row-items.ensures c.loop-row-test.true in
-    let without = none_true _ _ c.if-row-in_bits.false (powers_in_row in_bits _ _ is_row) in
+    let is_row = row_at_is_row i no_row c.multiples_within-row-items.ensures c.loop-row-test.true in
+    let without = not_if_test_fails _ _ c.if-row-in_bits.false (powers_in_row in_bits _ _ is_row) in
     record {
       remain = unit_passed _ rows i no_row c.loop-row.invariant.remain c.loop-row-test.true without;
       steps = c.loop-row.invariant.steps;
@@ -45,24 +45,24 @@ loop-row-preserved c =
 
 pub exact_quotient-requires-clause-some_unit : goal.exact_quotient-requires-clause-some_unit
 exact_quotient-requires-clause-some_unit c =
-    let multiple = row_multiple (row_there c.loop-row.row-index no_row c.multiples_within-row-items.ensures c.loop-row-test.true) in
+    let multiple = row_multiple (row_at_is_row c.loop-row.row-index no_row c.multiples_within-row-items.ensures c.loop-row-test.true) in
     omega (arith, multiple.large)
 
 pub exact_quotient-requires-clause-small_unit : goal.exact_quotient-requires-clause-small_unit
 exact_quotient-requires-clause-small_unit c =
-    (row_multiple (row_there c.loop-row.row-index no_row c.multiples_within-row-items.ensures c.loop-row-test.true)).small
+    (row_multiple (row_at_is_row c.loop-row.row-index no_row c.multiples_within-row-items.ensures c.loop-row-test.true)).small
 
 pub unwrap-number-requires : goal.unwrap-number-requires
 unwrap-number-requires c =
-    let is_row = row_there c.loop-row.row-index no_row c.multiples_within-row-items.ensures c.loop-row-test.true in
+    let is_row = row_at_is_row c.loop-row.row-index no_row c.multiples_within-row-items.ensures c.loop-row-test.true in
     let has = row_powers (c.args.size * c.args.divisor) _ _ is_row c.if-row-in_bits.true in
     let powers = in_bits_powers c.args.size c.args.divisor _ _ c.requires.divisor c.factors_of-left.ensures.powers in
-    is_some c.exact_quotient.result c.exact_quotient.ensures.none
+    some_if_holds c.exact_quotient.result c.exact_quotient.ensures.none
     (exact_by_row _ (omega (arith, c.min-most.ensures)) is_row.bits_are powers has)
 
 pub factored_quotient-number-requires-clause-small : goal.factored_quotient-number-requires-clause-small
 factored_quotient-number-requires-clause-small c =
-    let multiple = row_multiple (row_there c.loop-row.row-index no_row c.multiples_within-row-items.ensures c.loop-row-test.true) in
+    let multiple = row_multiple (row_at_is_row c.loop-row.row-index no_row c.multiples_within-row-items.ensures c.loop-row-test.true) in
     let product = in_bits_product c.args.size c.args.divisor _ _ _ c.requires.divisor c.factors_of-left.ensures.product in
     let few = c.max-places.result in
     let fits = count_fits c.args.size c.args.divisor few multiple c.requires.divisor c.requires.small (omega arith) in
@@ -71,7 +71,7 @@ factored_quotient-number-requires-clause-small c =
 pub returns-then-row-in_bits-clause-exact : goal.returns-then-row-in_bits-clause-exact
 returns-then-row-in_bits-clause-exact c =
     let in_bits = c.args.size * c.args.divisor in
-    let is_row = row_there c.loop-row.row-index no_row c.multiples_within-row-items.ensures c.loop-row-test.true in
+    let is_row = row_at_is_row c.loop-row.row-index no_row c.multiples_within-row-items.ensures c.loop-row-test.true in
     let multiple = row_multiple is_row in
     let product = in_bits_product c.args.size c.args.divisor _ _ _ c.requires.divisor c.factors_of-left.ensures.product in
     ap (λ n. c.if-places-gt-FEW_PLACES.number * n) (sym is_row.bits_are) ∙
@@ -90,7 +90,7 @@ returns-then-row-in_bits-clause-chosen c =
     let in_bits = c.args.size * c.args.divisor in
     let listed = c.multiples_within-row-items.ensures in
     let i = c.loop-row.row-index in
-    let has = row_powers in_bits _ _ (row_there i no_row listed c.loop-row-test.true) c.if-row-in_bits.true in
+    let has = row_powers in_bits _ _ (row_at_is_row i no_row listed c.loop-row-test.true) c.if-row-in_bits.true in
     let found = unit_found _ i no_row listed c.loop-row.invariant.remain c.loop-row-test.true has in
     let powers = in_bits_powers c.args.size c.args.divisor _ _ c.requires.divisor c.factors_of-left.ensures.powers in
     let exact = exact_by_row _ (omega (arith, c.min-most.ensures)) refl powers has in
@@ -101,7 +101,7 @@ pub returns-then-row-in_bits-clause-ticks : goal.returns-then-row-in_bits-clause
 returns-then-row-in_bits-clause-ticks c =
     let in_bits = c.args.size * c.args.divisor in
     let row = get_or c.multiples_within-row-items.result.now c.loop-row.row-index no_row in
-    let multiple = row_multiple (row_there c.loop-row.row-index no_row c.multiples_within-row-items.ensures c.loop-row-test.true) in
+    let multiple = row_multiple (row_at_is_row c.loop-row.row-index no_row c.multiples_within-row-items.ensures c.loop-row-test.true) in
     let most = min c.min-most.result places_of_decimal in
     let mid = c.factors_of-left.new.steps in
     let trials = c.factors_of-left.ensures in

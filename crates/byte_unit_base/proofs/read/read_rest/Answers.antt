@@ -5,7 +5,7 @@ use Rattle.std.proofs.lemmas.List.{length_push}
 use Rattle.std.specs.Str.{chars}
 use Rattle.byte_unit_base.specs.SizeScan.{size_scan}
 use Rattle.byte_unit_base.proofs.Scans.{read_more, read_stop, read_end}
-use Rattle.byte_unit_base.proofs.SizeSteps.{step_is, step_keeps}
+use Rattle.byte_unit_base.proofs.SizeSteps.{step_cases, step_keeps}
 use Rattle.byte_unit_base.proofs.read.read_rest.Goals as goal
 
 pub loop-c-preserved : goal.loop-c-preserved
@@ -14,7 +14,7 @@ loop-c-preserved c =
     c.in-Some.is c.next.ensures.steps in
     let step = sym c.step.ensures ∙ c.in-Some-step.is in
     let e = read_more (size_scan c.args.flags) c.loop-c.scan c.in-Some-step.next (chars c.args.rest.now) _ _ t step in (
-      step_keeps _ _ _ c.loop-c.invariant.0 (step_is c.loop-c.scan c.in-Some-step.next c.in-Some.c step),
+      step_keeps _ _ _ c.loop-c.invariant.0 (step_cases c.loop-c.scan c.in-Some-step.next c.in-Some.c step),
       rw (length_push c.loop-c.yielded c.in-Some.c) (e ∙ c.loop-c.invariant.1),
     )
 

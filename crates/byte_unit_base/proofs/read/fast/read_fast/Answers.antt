@@ -29,7 +29,7 @@ stated c =
     let spaces = c.spaces_at_front.result in
     let spelling = slice_range behind spaces (length behind) in
     let read = c.multiple_at_front-multiple in
-    let P : Option ℕ → Type 0 = λ found. IfSome found (λ number. IsNumberText current (take end bytes) number) in
+    let IsNumberRead : Option ℕ → Type 0 = λ found. IfSome found (λ number. IsNumberText current (take end bytes) number) in
     record {
       number_part = take end bytes;
       spaces = spaces;
@@ -37,7 +37,7 @@ stated c =
       text_is =
           joined bytes end
           ∙ ap (λ rest. take end bytes ++ rest) (joined behind spaces ∙ ap (λ gap. gap ++ spelling) c.spaces_at_front.ensures.spaces);
-      number_is = subst P (sym c.in_ok-number.ensures) (number_scanned bytes end scan.result.0 scan.ensures);
+      number_is = subst IsNumberRead (sym c.in_ok-number.ensures) (number_scanned bytes end scan.result.0 scan.ensures);
       unit_is = Spells-reached c.args.flags read.result.0 c.in_ok-word.word spelling (shape_of c.in_ok-unit.unit) (sym c.in_ok-unit.ensures)
           record {
             front = take read.result.1 spelling;
