@@ -1,7 +1,7 @@
 -- A scan that goes over a text one step a character, over any state: what it reads, its longest front and its fault.
 use Rattle.std.proofs.Common.{◌≡◌, ℕ, ◌+◌, ◌<◌, ◌⊎◌, inl, inr, List, [], ◌∷◌, ◌++◌, Option, Some, None, Result, Ok, Err, option_and_then}
 use Rattle.std.proofs.Common.{length, drop, get_or, sym, refl, ap, subst, ◌∙◌, arith, append-nil}
-use Rattle.std.specs.Prelude.{◌↔◌, IfOk, IfErr, IsOkAnd}
+use Rattle.std.specs.Prelude.{◌↔◌, ⊤, IfOk, IfErr, IsOkAnd}
 use Rattle.std.proofs.lemmas.List.{at_drop_all}
 use Rattle.byte_unit_base.specs.Edition.{current}
 use Rattle.byte_unit_base.specs.Front.{Place}
