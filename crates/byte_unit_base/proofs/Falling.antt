@@ -1,4 +1,4 @@
--- The units of a family from the largest, and a search along them.
+-- The units of a unit set from the largest to the smallest, and the search for the largest that has a property.
 use Rattle.std.proofs.Common.{◌≡◌, ℕ, ◌+◌, ◌*◌, ◌<◌, ◌≤◌, ◌⊎◌, ⊎_elim, inl, inr, zero, suc, Bool, true, false, List, [], ◌∷◌, ◌++◌}
 use Rattle.std.proofs.Common.{length, drop, get_or, ◌&&◌, leb, add-one, drop-cons, arith, sym, ap, ◌∙◌, subst, refl}
 use Rattle.std.proofs.lemmas.List.{drop_all}
@@ -16,12 +16,12 @@ abbrev pub IsIn : Shape → List Shape → Type 0
 IsIn unit [] = ⊥
 IsIn unit (x ∷ xs) = (x ≡ unit) ⊎ IsIn unit xs
 
--- the units fall in size, from this bound
+-- no unit is larger than the bound or than the unit before it
 abbrev pub falls : ℕ → List Shape → Bool
 falls bound [] = true
 falls bound (x ∷ xs) = leb (bits x) bound && falls (bits x) xs
 
--- every unit with the property is one of these
+-- each unit that has the property is one of these
 abbrev pub Remain : (Shape → Type 0) → List Shape → Type 0
 Remain Has units = (unit : Shape) → Has unit → IsIn unit units
 
@@ -47,7 +47,7 @@ in_prefix Bits power false true k = inr (inl refl)
 in_prefix Bits power true false k = absurd (let b : ⊥ = cc in b)
 in_prefix Bits power false false k = absurd (let b : ⊥ = cc in b)
 
--- every unit of the family with one of these prefixes is there
+-- a unit of the set with one of the first n prefix letters is in their list
 pub in_falling : (family : Family) (n : ℕ) (unit : Shape) → HasKind family unit.bit → 1 ≤ unit.power → unit.power ≤ n
     → IsIn unit (falling_from family n)
 in_falling family zero unit kind some known = absurd (omega (arith, some, known))
@@ -82,7 +82,7 @@ of_one_prefix Bits n unit (inl e) = (sym (ap (λ s. s.power) e), sym (ap (λ s. 
 of_one_prefix Bits n unit (inr (inl e)) = (sym (ap (λ s. s.power) e), sym (ap (λ s. s.bit) e))
 of_one_prefix Bits n unit (inr (inr e)) = absurd e
 
--- and what is there is of the family, and has one of these prefixes
+-- a unit in the list of the first n prefix letters has one of these letters, and is of the set
 pub from_falling : (family : Family) (n : ℕ) (unit : Shape) → IsIn unit (falling_from family n)
     → (1 ≤ unit.power) × (unit.power ≤ n) × HasKind family unit.bit
 from_falling family zero unit h = absurd h
@@ -92,12 +92,13 @@ from_falling family (suc n) unit h =
     (λ later. let r = from_falling family n unit later in (r.0, omega (arith, r.1), r.2))
     (IsIn-parts (of_prefix family (suc n)) (falling_from family n) unit h)
 
+-- the unit at an index of a list is one of the list
 pub IsIn-at : (xs : List Shape) (i : ℕ) (d : Shape) → i < length xs → IsIn (get_or xs i d) xs
 IsIn-at [] i d h = absurd (omega (arith, h))
 IsIn-at (x ∷ xs) zero d h = inl refl
 IsIn-at (x ∷ xs) (suc i) d h = inr (IsIn-at xs i d (omega (arith, h)))
 
--- none is above the bound
+-- no unit of a falling list is larger than the bound
 pub le_of_falls : (xs : List Shape) (bound : ℕ) (unit : Shape) → falls bound xs ≡ true → IsIn unit xs → bits unit ≤ bound
 le_of_falls [] bound unit h i = absurd i
 le_of_falls (x ∷ xs) bound unit h i =
@@ -105,7 +106,7 @@ le_of_falls (x ∷ xs) bound unit h i =
     let first = leb-true (bits x) bound parts.0 in
     ⊎_elim (λ e. omega (arith, ap bits e, first)) (λ k. omega (arith, first, le_of_falls xs (bits x) unit parts.1 k)) i
 
--- so from any place on
+-- the units after any index of a falling list fall from the unit at the index
 falls_after : (xs : List Shape) (bound i : ℕ) (x : Shape) (rest : List Shape) → falls bound xs ≡ true → drop i xs ≡ x ∷ rest
     → falls (bits x) rest ≡ true
 falls_after [] bound zero x rest h e = absurd (let k : ⊥ = cc in k)
@@ -118,7 +119,7 @@ falls_after (y ∷ ys) bound zero x rest h e =
     subst RestFallsFrom a (subst FallAfterFirst b (and_parts (leb (bits y) bound) (falls (bits y) ys) h).1)
 falls_after (y ∷ ys) bound (suc i) x rest h e = falls_after ys (bits y) i x rest (and_parts (leb (bits y) bound) (falls (bits y) ys) h).1 e
 
--- the units of this many prefixes fall, and so do those of fewer
+-- the units of the first n prefix letters fall, and so do those of fewer
 abbrev prefixes_fall : Family → ℕ → Bool
 prefixes_fall family zero = true
 prefixes_fall family (suc n) = falls unit_limit (falling_from family (suc n)) && prefixes_fall family n
@@ -141,11 +142,12 @@ known_prefixes_fall All = refl
 known_prefixes_fall Bytes = refl
 known_prefixes_fall Bits = refl
 
--- the units of the current version do
+-- the lists of the units of the current edition fall
 pub current_falls : (family : Family) (n : ℕ) → n ≤ known_prefixes → falls unit_limit (falling_from family n) ≡ true
 current_falls family n few = fewer_fall family known_prefixes n (known_prefixes_fall family) few
 
--- the first with the property is the largest
+-- the first unit of a falling list that has the property is the largest that has it, if each unit that has it is at
+-- this index or later
 pub largest_found : (Has : Shape → Type 0) (units : List Shape) (i : ℕ) (x : Shape) → falls unit_limit units ≡ true
     → Remain Has (drop i units) → (i < length units) × (get_or units i x ≡ x) → Has x → IsLargest Has x
 largest_found Has units i x fall remain at has =
@@ -161,7 +163,7 @@ largest_found Has units i x fall remain at has =
           (subst IsAmong e (remain unit h));
     }
 
--- one without it is left behind
+-- if the unit at an index does not have the property, each unit that has it is at a later index
 pub Remain-after : (Has : Shape → Type 0) (units : List Shape) (i : ℕ) (x : Shape) → Remain Has (drop i units) → i < length units
     → get_or units i x ≡ x → ¬ (Has x) → Remain Has (drop (i + 1) units)
 Remain-after Has units i x remain within at without = λ unit h.
@@ -169,19 +171,20 @@ Remain-after Has units i x remain within at without = λ unit h.
     let IsAmong : List Shape → Type 0 = λ l. IsIn unit l in
     rw add-one (⊎_elim (λ same. absurd (without (subst Has (sym same) h))) (λ later. later) (subst IsAmong e (remain unit h)))
 
--- none is left at the end
+-- if each unit that has the property is after the end of the list, no unit has it
 pub Remain-at_end : (Has : Shape → Type 0) (units : List Shape) (i : ℕ) → length units ≤ i → Remain Has (drop i units) → NoneHas Has
 Remain-at_end Has units i done remain unit h =
     let IsAmong : List Shape → Type 0 = λ l. IsIn unit l in
     let e : drop i units ≡ [] = drop_all i units done in
     subst IsAmong e (remain unit h)
 
--- the units of the last prefixes stand behind those of the others
+-- the number of units of a unit set that have the same prefix letter
 abbrev pub units_per_prefix : Family → ℕ
 units_per_prefix All = 4
 units_per_prefix Bytes = 2
 units_per_prefix Bits = 2
 
+-- without the units of its last prefix letters, the list of units is that of the other letters
 pub drop_prefixes : (family : Family) (dropped n : ℕ)
     → drop (units_per_prefix family * dropped) (falling_from family (dropped + n)) ≡ falling_from family n
 drop_prefixes All zero n = ap (falling_from All) (let none : 0 + n ≡ n = omega arith in none)

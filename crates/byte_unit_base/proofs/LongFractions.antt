@@ -1,4 +1,4 @@
--- A number with more digits after the point than a decimal has is refused at the first that is too many.
+-- A number with more than 28 digits after the point is rejected at the 29th.
 use Rattle.std.proofs.Common.{◌≡◌, ℕ, zero, suc, ◌+◌, ◌<◌, true, false, ltb, List, [], ◌∷◌, ◌++◌, None, Err, length, refl, ap, subst, ◌∙◌}
 use Rattle.std.proofs.Common.{arith, append_assoc}
 use Rattle.std.specs.Prelude.{if◌then◌else◌, nat_lt}
@@ -25,7 +25,7 @@ use Rattle.byte_unit_base.proofs.Scans.{reads_meaning_or_fault, IsAnswer, read_s
 use Rattle.byte_unit_base.proofs.SizeReads.{size_scan_is}
 use Rattle.byte_unit_base.proofs.SizeRuns.{step_point, run_whole, run_places}
 
--- more digits than so many: the first of these, the next, and the rest
+-- more than `count` digits: the first `count`, the next one, and the rest
 record LongDigits (count : ℕ) (digits : List ℕ) : Type 0 where
   front : List ℕ
   next : ℕ
@@ -81,7 +81,7 @@ digit_fault character is_digit =
     let digit : nat_lt (digit_value character) 10 ≡ true = grind (arith, nat_tests) in
     ap (λ yes. if yes then too_long else no_unit current character) digit
 
--- the scan of a whole part, a point, as many digits as a decimal has, and a digit more
+-- the state machine of sizes rejects a whole part, a point, 28 digits and one digit more as too long
 read_long : (flags : Flags) (whole : ℕ) (digits : List ℕ) (long : LongDigits places_of_decimal digits) (behind : List ℕ)
     → whole < whole_limit
     → read (size_scan flags) Beginning (decimal whole ++ (46 ∷ (glyphs long.front ++ ((48 + long.next) ∷ behind)))) ≡ Err too_long
@@ -113,6 +113,7 @@ long_text whole digits tail some long =
     ∙ (append_assoc (decimal whole) (46 ∷ (glyphs long.front ++ (next ∷ glyphs long.rest))) tail
     ∙ ap (λ text. decimal whole ++ (46 ∷ text)) (append_assoc (glyphs long.front) (next ∷ glyphs long.rest) tail))
 
+-- a text that begins with a number of more than 28 digits after the point has the error of a number that is too long
 pub long_fault : (flags : Flags) (e : Finite) (tail text : List ℕ) → IsBounded e → places_of_decimal < length e.digits
     → text ≡ text_of e ++ tail → IsSizeFault current flags text too_long
 long_fault flags e tail text bounded many text_is =

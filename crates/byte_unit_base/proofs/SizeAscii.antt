@@ -1,4 +1,4 @@
--- The texts of numbers and units are ASCII. So with visible ends they are their own trimmed texts.
+-- The inputs of the grammar of sizes are ASCII. So with visible characters at their ends there is nothing to trim.
 use Rattle.std.proofs.Common.{◌≡◌, ℕ, ◌+◌, ◌-◌, ◌<◌, Bool, true, false, inl, inr, List, [], ◌∷◌, ◌++◌, length, take, get_or, replicate}
 use Rattle.std.proofs.Common.{refl, sym, subst, ◌∙◌, arith}
 use Rattle.std.specs.Prelude.{codes}
@@ -92,6 +92,7 @@ spelling_ascii flags text unit (inr h) =
 
 -- numbers and sizes
 
+-- the text of a number is ASCII
 pub number_ascii : (text : List ℕ) (number : ℕ) → IsNumberText current text number → IsAscii text
 number_ascii text number (inl h) = IsAscii-from_digits text h.1.0.1
 number_ascii text number (inr h) =
@@ -99,6 +100,7 @@ number_ascii text number (inr h) =
     (IsAscii-append h.whole (46 ∷ h.fraction) (IsAscii-from_digits h.whole h.whole_is.0.1)
     (IsAscii-cons 46 h.fraction (omega arith) (IsAscii-from_digits h.fraction h.fraction_is.0.1)))
 
+-- the text of a number and a unit is ASCII
 size_ascii : (flags : Flags) (text : List ℕ) (number : ℕ) (unit : Shape) → IsSizeText current flags text number unit → IsAscii text
 size_ascii flags text number unit h =
     let gap = IsAscii-from_all (replicate h.spaces space) (All-replicate (λ c. c < 128) h.spaces space (omega arith)) in
@@ -126,11 +128,13 @@ visible_end bytes ends =
       last_is = visible_not_white (get_or bytes last 0) ends.end;
     }
 
+-- if bytes with visible characters at their ends are a number and a unit, they are so when trimmed
 pub trimmed_size : (flags : Flags) (bytes : List ℕ) (number : ℕ) (unit : Shape) → HasVisibleEnds bytes
     → IsSizeText current flags bytes number unit → IsSizeText current flags (trimmed bytes) number unit
 trimmed_size flags bytes number unit ends h =
     subst (λ text. IsSizeText current flags text number unit)
     (sym (trimmed_same bytes (visible_start bytes ends) (visible_end bytes ends) (size_ascii flags bytes number unit h))) h
 
+-- bytes that are a number and a unit are UTF-8
 pub size_utf8 : (flags : Flags) (bytes : List ℕ) (number : ℕ) (unit : Shape) → IsSizeText current flags bytes number unit → IsUtf8 bytes
 size_utf8 flags bytes number unit h = IsUtf8-from_ascii bytes (size_ascii flags bytes number unit h)

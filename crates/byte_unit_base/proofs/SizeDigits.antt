@@ -1,5 +1,4 @@
--- The digits with which a text begins lead the scan of a size to their state. What the rest of the text is read as from there, the
--- whole text is read as.
+-- The fast path reads the digits of a number at once, and gets to the state that the state machine has after them.
 use Rattle.std.proofs.Common.{◌≡◌, ℕ, ◌+◌, ◌*◌, ◌<◌, ◌≤◌, inl, inr, List, [], ◌∷◌, ◌++◌, Some, IfSome, length, take, drop, refl, sym, ap, ◌∙◌, arith}
 use Rattle.std.proofs.Common.{take-append-drop}
 use Rattle.std.specs.Str.{chars, IsUtf8, IsCharBoundary}
@@ -22,12 +21,11 @@ use Rattle.byte_unit_base.proofs.SizeRuns.{step_point, run_whole, run_places}
 use Rattle.byte_unit_base.proofs.SizeAscii.{number_ascii}
 use Rattle.byte_unit_base.proofs.FastReads.{are_numeral, ArePrecise, precise_text, precise_number}
 
--- the digits of a number
-
 whole_part : (bytes : List ℕ) (end whole : ℕ) → AreDigits bytes end whole → 0 < end → whole < whole_limit
     → IsWholePart current (take end bytes) whole
 whole_part bytes end whole digits some below = ((are_numeral bytes end whole digits some, digits.digits), digits.value_is, below)
 
+-- after the digits of a whole part, the state machine is in the state of this whole part
 pub whole_scanned : (bytes : List ℕ) (end whole : ℕ) → AreDigits bytes end whole → 0 < end → whole < whole_limit
     → AreScanned bytes end (Whole whole)
 whole_scanned bytes end whole digits some below =
@@ -38,6 +36,7 @@ whole_scanned bytes end whole digits some below =
       run_is = run_whole (take end bytes) whole part;
     }
 
+-- after a whole part, a point and a fraction, the state machine is in the state of these
 precise_run : (bytes : List ℕ) (end whole places fraction : ℕ) → ArePrecise bytes end whole places fraction
     → run size_step Beginning (take (end + 1 + places) bytes) ≡ Some (Fraction whole fraction places)
 precise_run bytes end whole places fraction number =
@@ -54,6 +53,7 @@ precise_run bytes end whole places fraction number =
     ∙ (ap (λ value. Some (Fraction whole value behind.0)) (sym number.fraction_is.value_is)
     ∙ ap (λ count. Some (Fraction whole fraction count)) (behind.2 ∙ few)))))
 
+-- after a whole part, a point and a fraction, all ASCII, the state machine is in the state of these
 pub precise_scanned : (bytes : List ℕ) (end whole places fraction : ℕ) → ArePrecise bytes end whole places fraction
     → end + 1 + places ≤ length bytes → AreScanned bytes (end + 1 + places) (Fraction whole fraction places)
 precise_scanned bytes end whole places fraction number within =
@@ -64,17 +64,18 @@ precise_scanned bytes end whole places fraction number within =
       run_is = precise_run bytes end whole places fraction number;
     }
 
--- the text behind them
-
+-- the invariant of states holds at the state after the digits
 pub scanned_bounds : (bytes : List ℕ) (end : ℕ) (state : SizeScan) → AreScanned bytes end state → IsScan state
 scanned_bounds bytes end state scanned =
     run_keeps size_step (λ s text. IsScan s) (λ s t c text e h. step_keeps s t c h (step_cases s t c e)) (take end bytes) (take 0 bytes)
     Beginning state scanned.run_is tt
 
+-- the digits end at a boundary of characters
 pub scanned_boundary : (bytes : List ℕ) (end : ℕ) (state : SizeScan) → IsUtf8 bytes → AreScanned bytes end state → IsCharBoundary bytes end
 scanned_boundary bytes end state utf8 scanned =
     IsCharBoundary-from_take bytes end utf8 scanned.within (IsUtf8-from_ascii (take end bytes) scanned.ascii)
 
+-- the result for the rest, from the state after the digits, is that for all the bytes from the beginning
 pub rest_read : (flags : Flags) (bytes : List ℕ) (end : ℕ) (state : SizeScan) → AreScanned bytes end state
     → read (size_scan flags) state (chars (drop end bytes)) ≡ read (size_scan flags) Beginning (chars bytes)
 rest_read flags bytes end state scanned =
@@ -87,8 +88,6 @@ rest_read flags bytes end state scanned =
     sym (ap (read (size_scan flags) Beginning) text
     ∙ read_through (size_scan flags) Beginning state front (chars rest) scanned.run_is)
 
--- the number that the digits make
-
 number_reached : (state : SizeScan) (text : List ℕ) → SizeReached state text
     → IfSome (number_of state) (λ number. IsNumberText current text number)
 number_reached Beginning text r = tt
@@ -98,6 +97,7 @@ number_reached (Fraction w f j) text r = inr (fraction_number w f j text r)
 number_reached (Gap n) text r = tt
 number_reached (UnitAt n s) text r = tt
 
+-- the number of the state after the digits is that of their text
 pub number_scanned : (bytes : List ℕ) (end : ℕ) (state : SizeScan) → AreScanned bytes end state
     → IfSome (number_of state) (λ number. IsNumberText current (take end bytes) number)
 number_scanned bytes end state scanned =

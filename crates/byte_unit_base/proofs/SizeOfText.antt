@@ -1,4 +1,4 @@
--- What the reader of a size answers, by what the reader of its number and unit answers.
+-- What the parser of a size returns, by the result of parsing its number and unit.
 use Rattle.std.proofs.Common.{◌≡◌, ℕ, Bool, List, Option, Some, None, Ok, Err, sym, ap, subst, arith, inl, inr, refl}
 use Rattle.std.specs.Option.{ok_or}
 use Rattle.byte_unit_base.specs.Shape.{Shape}
@@ -18,7 +18,7 @@ use Rattle.byte_unit_base.specs.Accepted.{IsRead}
 use Rattle.byte_unit_base.specs.SizeReading.{IsSizeReading}
 use Rattle.byte_unit_base.proofs.Rounding.{least_is_unique, least_exists}
 
--- a text that is read has the number and the unit that the reader answers
+-- an input has only the number and unit that the parser found, so each of its sizes is that number rounded up
 found_as_read :
     (kind : Kind) (ignore_case : Bool) (bytes : List ℕ) (found : ℕ × UnitName) (number n : ℕ)
     → IsNumberReading (flags_for kind ignore_case) bytes (Ok found)
@@ -29,7 +29,7 @@ found_as_read kind ignore_case bytes found number n reading read =
     let IsLeastOfUnit : Shape → Type 0 = λ s. IsLeastOf kind number s n in
     (same.0, subst IsLeastOfNumber (sym same.0) (subst IsLeastOfUnit (sym same.1) read.is_least))
 
--- the answer where the number and the unit give a size
+-- the result if the number and unit give a size
 pub reading_of_size :
     (kind : Kind) (ignore_case : Bool) (bytes : List ℕ) (found : ℕ × UnitName) (n : ℕ)
     → IsNumberReading (flags_for kind ignore_case) bytes (Ok found)
@@ -49,7 +49,7 @@ reading_of_size kind ignore_case bytes found n reading size = record {
   fault = tt;
 }
 
--- the answer where the size of the number and the unit reaches the bound
+-- the result if the size of the number and unit reaches the limit: an error with the number
 pub reading_of_excess :
     (kind : Kind) (ignore_case : Bool) (bytes : List ℕ) (found : ℕ × UnitName)
     → ((n : ℕ) × IsLeastOf kind found.0 (shape_of found.1) n)
@@ -73,7 +73,7 @@ reading_of_excess kind ignore_case bytes found least reading none = record {
   );
 }
 
--- the answer by the size of the number and the unit, if it is one
+-- the result by the size of the number and unit, or `None` if it reaches the limit
 pub reading_of_number :
     (kind : Kind) (ignore_case : Bool) (bytes : List ℕ) (found : ℕ × UnitName) (size : Option ℕ)
     → IsNumberReading (flags_for kind ignore_case) bytes (Ok found)
@@ -84,7 +84,7 @@ reading_of_number kind ignore_case bytes found (Some n) reading size =
 reading_of_number kind ignore_case bytes found None reading none =
     reading_of_excess kind ignore_case bytes found (least_exists kind found.0 (shape_of found.1)) reading none
 
--- the answer where there is no number and unit
+-- the result if the input is not a number and a unit: its error
 pub reading_of_fault :
     (kind : Kind) (ignore_case : Bool) (bytes : List ℕ) (error : ParseError)
     → IsNumberReading (flags_for kind ignore_case) bytes (Err error)

@@ -1,4 +1,4 @@
--- Each text is accepted as one size or refused by one fault.
+-- Each input is accepted as one size, or rejected with one error.
 use Rattle.std.proofs.Common.{◌≡◌, ℕ, Bool, List, ◌⊎◌, inl, inr, ⊎_elim, sym, ap, subst, arith, ◌∙◌, refl}
 use Rattle.std.proofs.lemmas.Bool.{cases_lt}
 use Rattle.byte_unit_base.specs.Shape.{Shape}
@@ -14,7 +14,7 @@ use Rattle.byte_unit_base.specs.declared.kind.Kind.{Kind}
 use Rattle.byte_unit_base.proofs.Rounding.{least_exists, least_is_unique}
 use Rattle.byte_unit_base.proofs.SizeReads.{size_texts_have_one_answer}
 
--- two readings of a text are of one number and one size
+-- two readings of an input have the same number and the same size
 record IsSame (number other n m : ℕ) : Type 0 where
   numbers : number ≡ other
   sizes : n ≡ m
@@ -31,12 +31,12 @@ module _ (kind : Kind) (ignore_case : Bool) (text : List ℕ) where
       let HasLeastSize : ℕ × Shape → Type 0 = λ r. IsLeastOf kind r.0 r.1 n in
       record { numbers = ap (λ r. r.0) same; sizes = least_is_unique kind other b.unit n m (subst HasLeastSize same a.is_least) b.is_least }
 
-  -- a text that is read has no fault of its characters
+  -- an input in the grammar has no error of its characters
   no_fault : (number n : ℕ) (fault : Fault) → IsRead current kind ignore_case text number n
       → ¬ (HasFault current kind ignore_case text fault)
   no_fault number n fault a f = one_answer.not_both (number, a.unit) fault a.is_size f
 
-  -- a text that is accepted has no number whose size is too large
+  -- an input that is accepted has no number whose size is too large
   no_excess : (n number : ℕ) → IsAccepted current kind ignore_case text n → ¬ (Exceeds current kind ignore_case text number)
   no_excess n number a e =
       let same = same_read a.number number n e.size a.is_read e.is_read in
@@ -54,6 +54,7 @@ module _ (kind : Kind) (ignore_case : Bool) (text : List ℕ) where
       (λ fault. inr (inr fault))
       one_answer.some
 
+  -- an input is accepted as one size, or its size is too large, or it has one error of its characters
   pub is_one_of_three : IsOneOfThree
       (IsAccepted current kind ignore_case text) (Exceeds current kind ignore_case text) (HasFault current kind ignore_case text)
   is_one_of_three = record {
@@ -66,7 +67,7 @@ module _ (kind : Kind) (ignore_case : Bool) (text : List ℕ) where
     no_fault_of_excess = λ number fault e f. no_fault number e.size fault e.is_read f;
   }
 
-  -- so each is accepted or refused
+  -- an input whose size is too large, or that has an error of its characters, is rejected
   refusal : ((number : ℕ) × Exceeds current kind ignore_case text number) ⊎ ((fault : Fault) × HasFault current kind ignore_case text fault)
       → (fault : Fault) × IsRefused current kind ignore_case text fault
   refusal (inl e) = (exceeded e.0, inl (e.0, refl, e.1))
@@ -83,6 +84,7 @@ module _ (kind : Kind) (ignore_case : Bool) (text : List ℕ) where
   no_refusal n fault a (inl e) = is_one_of_three.no_excess n e.0 a e.2
   no_refusal n fault a (inr f) = is_one_of_three.no_fault n fault a f
 
+  -- an input is accepted as one size, or rejected with one error
   pub accepted_or_not : IsOneAnswer ℕ (IsAccepted current kind ignore_case text) (IsRefused current kind ignore_case text)
   accepted_or_not = record {
     some = ⊎_elim (λ a. inl a) (λ r. inr (refusal r)) is_one_of_three.some;
@@ -91,8 +93,10 @@ module _ (kind : Kind) (ignore_case : Bool) (text : List ℕ) where
     not_both = no_refusal;
   }
 
+-- each input is accepted as one size, or its size is too large, or it has one error of its characters
 pub one_of_three : EachTextIsOneOfThree
 one_of_three kind ignore_case text = is_one_of_three kind ignore_case text
 
+-- each input is accepted as one size, or rejected with one error, and not both
 pub accepted_or_refused : TextsAreAcceptedOrRefused
 accepted_or_refused kind ignore_case text = accepted_or_not kind ignore_case text

@@ -1,4 +1,5 @@
--- The scan of a size and the texts of sizes are one: what the scan has read, and what it reads.
+-- What is known of the text that led to a state of the state machine of sizes, and that each step adds its character to
+-- it.
 use Rattle.std.proofs.Common.{◌≡◌, ℕ, zero, suc, ◌+◌, ◌-◌, ◌*◌, ◌^◌, ◌<◌, ◌≤◌, inl, inr, List, [], ◌∷◌, ◌++◌, length, replicate, sym, refl}
 use Rattle.std.proofs.Common.{ap, subst, ◌∙◌, arith, append_assoc, append-nil, length-append}
 use Rattle.std.specs.Char.{digit_value}
@@ -16,8 +17,7 @@ use Rattle.byte_unit_base.proofs.UnitReached.{Reached, Reached-step, Reached-sta
 use Rattle.byte_unit_base.proofs.SizeSteps.{UnitStep, AfterNumber, StepOf}
 use Rattle.byte_unit_base.proofs.Lists.{push_last}
 
--- what has been read at a state of the scan
-
+-- the text is a whole part `w`, a point, and `j` digits of value `f`
 pub record FractionReached (w f j : ℕ) (text : List ℕ) : Type 0 where
   pub whole : List ℕ
   pub fraction : List ℕ
@@ -28,6 +28,7 @@ pub record FractionReached (w f j : ℕ) (text : List ℕ) : Type 0 where
   pub length_is : length fraction ≡ j
   pub few : j ≤ places_of_decimal
 
+-- the text is the number `n`, scaled by 10^28, and at least one space
 pub record GapReached (n : ℕ) (text : List ℕ) : Type 0 where
   pub number_part : List ℕ
   pub spaces : ℕ
@@ -35,6 +36,7 @@ pub record GapReached (n : ℕ) (text : List ℕ) : Type 0 where
   pub text_is : text ≡ number_part ++ replicate spaces 32
   pub number_is : IsNumberText current number_part n
 
+-- the text is the number `n`, scaled by 10^28, any number of spaces, and what led the state machine of units to `s`
 pub record UnitReached (n : ℕ) (s : UnitScan) (text : List ℕ) : Type 0 where
   pub number_part : List ℕ
   pub spaces : ℕ
@@ -43,6 +45,7 @@ pub record UnitReached (n : ℕ) (s : UnitScan) (text : List ℕ) : Type 0 where
   pub number_is : IsNumberText current number_part n
   pub reached : Reached s unit_part
 
+-- what is known of the text that led to a state; that the state machine accepts the inputs of the grammar rests on it
 abbrev pub SizeReached : SizeScan → List ℕ → Type 0
 SizeReached Beginning text = text ≡ []
 SizeReached (Whole w) text = IsWholePart current text w
@@ -51,6 +54,7 @@ SizeReached (Fraction w f j) text = FractionReached w f j text
 SizeReached (Gap n) text = GapReached n text
 SizeReached (UnitAt n s) text = (r : UnitReached n s text) × (0 < length r.unit_part)
 
+-- the text of a whole part, a point and a fraction is their number
 pub fraction_number : (w f j : ℕ) (text : List ℕ) → FractionReached w f j text → IsPrecise current text (precise w f j)
 fraction_number w f j text r =
     record {
@@ -136,6 +140,7 @@ one_digit c = omega arith
 digits_push_is : (text : List ℕ) (c : ℕ) → IsNumeral 10 text → digit_value c < 10 → IsNumeral 10 (text ++ c ∷ [])
 digits_push_is text c h k = (omega (arith, length-append text (c ∷ [])), digits_push 10 text c h.1 k)
 
+-- if a step leads from a state to the next, what is known of the text holds with its character added
 pub SizeReached-step : (s t : SizeScan) (c : ℕ) (text : List ℕ) → StepOf s c t → SizeReached s text → SizeReached t (text ++ c ∷ [])
 SizeReached-step Beginning t c text k r =
     subst (λ x. SizeReached x (text ++ c ∷ [])) k.1

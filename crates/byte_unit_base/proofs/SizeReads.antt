@@ -1,5 +1,5 @@
--- The reader of a number and a unit: its scan is that of their texts, so it answers what a text states, and else the first
--- fault.
+-- The parser of a number and a unit: its state machine accepts exactly the inputs of the grammar, so it returns the
+-- number and unit of an input, or its error.
 use Rattle.std.proofs.Common.{◌≡◌, ◌≢◌, ℕ, ◌<◌, Bool, true, false, cond, ◌*◌, inl, inr, List, [], ◌∷◌, ◌++◌, Option, Some, None, Result, Ok}
 use Rattle.std.proofs.Common.{Err, IfErr, length, replicate, sym, refl, ap, ◌∙◌, arith, append-nil}
 use Rattle.std.specs.Prelude.{IsOkAnd}
@@ -35,7 +35,7 @@ use Rattle.byte_unit_base.proofs.SizeSteps.{step_cases}
 use Rattle.byte_unit_base.proofs.SizeReached.{SizeReached, SizeReached-step, UnitReached, fraction_number}
 use Rattle.byte_unit_base.proofs.SizeRuns.{size_text_runs, size_front_runs}
 
--- what has been read is a front
+-- the text that led to a state is a viable prefix
 
 front_in_unit : (n : ℕ) (s : UnitScan) (place : Place) (text : List ℕ) (r : UnitReached n s text) → IsUnitFront current place r.unit_part
     → IsSizedFront current place text
@@ -78,7 +78,7 @@ size_front (Gap n) text r = (
 )
 size_front (UnitAt n s) text r = size_front_in_unit n s.multiple s.word text r.0 r.1
 
--- what a text that ends there is read as
+-- the result for an input that ends in a state
 
 number_at_end : (flags : Flags) (n : ℕ) (text number : List ℕ) (k : ℕ) → text ≡ number ++ replicate k 32 → IsNumberText current number n
     → EndsIn (States flags text) None (sized n (unit_of flags unit_start))
@@ -95,7 +95,7 @@ number_at_end flags n text number k e h = (
   refl,
 )
 
--- with its number, a unit ends as it does alone
+-- an input that ends after a number and a unit has the result that the unit has alone, with the number
 unit_at_end_of : (flags : Flags) (n : ℕ) (text unit_part : List ℕ)
     → ((unit : Shape) → Spells current flags unit_part unit → IsSizeText current flags text n unit)
     → (fault : Option Fault) (unit : Option Shape) → EndsIn (Spells current flags unit_part) fault (unit_at_end unit)
@@ -127,8 +127,10 @@ size_ends flags (UnitAt n s) text r =
     })
     (fault_at_end (word_place s.multiple s.word)) (unit_of flags s) (unit_ends flags s.multiple s.word u.unit_part u.reached)
 
--- a digit makes a number at the beginning and behind the point, a t a unit behind `bi`, and nothing is needed elsewhere
+-- a digit completes a number at the beginning and after the point, a `t` completes `bi`, and elsewhere nothing is missing
 
+-- the input can be completed: from this state some rest, or none, gives a number and a unit. That viable prefixes are
+-- exactly the beginnings of valid inputs rests on it
 abbrev GoesOn : Flags → SizeScan → Type 0
 GoesOn flags s = (rest : List ℕ) × (found : ℕ × Shape) × (read (size_scan flags) s rest ≡ Ok found)
 
@@ -146,6 +148,8 @@ size_goes_on flags (Fraction w f j) = ([], (_, _), refl)
 size_goes_on flags (Gap n) = ([], (n, _), refl)
 size_goes_on flags (UnitAt n s) = goes_on_in_unit flags n s.multiple s.word
 
+-- the state machine of sizes accepts exactly the numbers and units of the grammar, and its states are those after the
+-- viable prefixes
 pub size_scan_is : (flags : Flags) → IsScanOf (size_scan flags) SizeReached (IsSizeFront current) (States flags)
 size_scan_is flags = record {
   starts = refl;
@@ -157,7 +161,7 @@ size_scan_is flags = record {
   goes_on = size_goes_on flags;
 }
 
--- no place has the fault of a size that is too large
+-- no parser state gives the error of a size that is too large
 digit_bounds : (t : Bool) (c n : ℕ) → cond t too_long (no_unit current c) ≢ exceeded n
 digit_bounds true c n = λ e. cc
 digit_bounds false c n = λ e. cc
@@ -186,13 +190,14 @@ read_no_bounds flags text (Err x) e = λ n.
     let f = read_refused (size_scan_is flags) stated size_fault text (Err x) e in
     no_bounds_after flags f.place f.rest (size_fault x) n f.fault_is
 
--- the clauses of the reader's callers, and its laws
+-- what the contracts of the parsers say, and the laws
 
 parts_meant : (r : Result (ℕ × UnitName) ParseError) (n : ℕ) (unit : Shape) → IsOkAnd r (λ found. stated found ≡ (n, unit))
     → IsOkAnd r (λ found. (found.0 ≡ n) × (shape_of found.1 ≡ unit))
 parts_meant (Ok found) n unit e = (ap (λ x. x.0) e, ap (λ x. x.1) e)
 parts_meant (Err error) n unit e = absurd e
 
+-- a parser that returns the result of the state machine returns the number and unit of the input, or its error
 pub number_reading : (flags : Flags) (bytes : List ℕ) (r : Result (ℕ × UnitName) ParseError)
     → size_seen r ≡ read (size_scan flags) Beginning (trimmed bytes)
     → IsNumberReading flags bytes r
@@ -203,13 +208,15 @@ number_reading flags bytes r e = record {
   no_bounds = read_no_bounds flags (trimmed bytes) r e;
 }
 
+-- each input is exactly one number and unit, or has exactly one error, and not both
 pub size_texts_have_one_answer : SizeTextsHaveOneAnswer
 size_texts_have_one_answer flags text = one_answer (size_scan_is flags) text
 
+-- the viable prefixes of sizes are exactly the beginnings of the inputs in the grammar
 pub size_fronts_are_beginnings : SizeFrontsAreBeginnings
 size_fronts_are_beginnings flags text = fronts_are_beginnings (size_scan_is flags) text
 
--- what a text states may be answered
+-- a parser that returns the number and unit of the input is right, however it found them
 pub stated_reading : (flags : Flags) (bytes : List ℕ) (found : ℕ × UnitName)
     → IsSizeText current flags (trimmed bytes) found.0 (shape_of found.1)
     → IsNumberReading flags bytes (Ok found)

@@ -1,4 +1,4 @@
--- The scan goes over each text of a size and each of their fronts to its end.
+-- The state machine of sizes reads each number and unit, and each of their viable prefixes, to its end.
 use Rattle.std.proofs.Common.{◌≡◌, ◌≢◌, ℕ, zero, suc, ◌+◌, ◌-◌, ◌*◌, ◌^◌, ◌<◌, ◌≤◌, inl, inr, List, [], ◌∷◌, ◌++◌, Option, Some, None, Ok}
 use Rattle.std.proofs.Common.{length, replicate, sym, refl, ap, ◌∙◌, arith, true, false, cond, eqb, ltb, append-nil}
 use Rattle.std.specs.Option.{option_map}
@@ -42,6 +42,7 @@ step_whole w c h k =
     let e : ltb (digit_value c) 10 ≡ true = grind (arith, nat_tests) in
     let f : ltb (w * 10 + digit_value c) whole_limit ≡ true = grind (arith, nat_tests) in rw (e, f) refl
 
+-- the point follows a whole part
 pub step_point : (w : ℕ) → size_step (Whole w) 46 ≡ Some (Point w)
 unfolding size_step
 step_point w = refl
@@ -69,6 +70,7 @@ run_digits (c ∷ cs) v h k =
     run_step size_step (Whole v) (Whole (v * 10 + digit_value c)) c cs (step_whole v c h.0 small)
     ∙ run_digits cs (v * 10 + digit_value c) h.1 k
 
+-- after the digits of a whole part, the state is that of this whole part
 pub run_whole : (text : List ℕ) (w : ℕ) → IsWholePart current text w → run size_step Beginning text ≡ Some (Whole w)
 run_whole [] w h = absurd (omega (arith, h.0.0))
 run_whole (c ∷ cs) w h =
@@ -94,6 +96,7 @@ run_pointed text w h =
     ∙ (run_through size_step Beginning (Whole w) h.whole (46 ∷ []) (run_whole h.whole w h.whole_is)
     ∙ run_step size_step (Whole w) (Point w) 46 [] (step_point w))
 
+-- after a point and at most 28 digits, the state is that of these digits as a fraction
 pub run_places : (text : List ℕ) (w : ℕ) → IsNumeral 10 text → length text ≤ places_of_decimal
     → (k : ℕ) × (run size_step (Point w) text ≡ Some (Fraction w (digits_value 10 text) k)) × (k ≡ length text)
 run_places [] w h l = absurd (omega (arith, h.0))
@@ -106,14 +109,14 @@ run_places (c ∷ cs) w h l =
       omega (arith, r.2),
     )
 
--- a number, spaces, and a unit
-
+-- the state is after the number `n`, scaled by 10^28, or after spaces that follow it
 abbrev pub AtNumber : ℕ → SizeScan → Type 0
 AtNumber n (Whole w) = w * one ≡ n
 AtNumber n (Fraction w f j) = precise w f j ≡ n
 AtNumber n (Gap m) = m ≡ n
 AtNumber n _ = ⊥
 
+-- from the state `s`, the state after the text exists and has the property
 pub record RunsTo (Holds : SizeScan → Type 0) (s : SizeScan) (text : List ℕ) : Type 0 where
   pub state : SizeScan
   pub run : run size_step s text ≡ Some state
@@ -175,6 +178,7 @@ letter_is_no_digit c h k = grind (arith, nat_tests)
 from_upper : (c : ℕ) → 65 ≤ to_ascii_uppercase c → 65 ≤ c
 from_upper c h = grind (arith, nat_tests)
 
+-- the character is not a digit, a point or a space
 pub record NoNumber (c : ℕ) : Type 0 where
   pub digit : ltb (digit_value c) 10 ≡ false
   pub point : eqb c 46 ≡ false
@@ -187,7 +191,7 @@ no_number c u h =
     let l = from_upper c k.0 in
     record { digit = grind (arith, nat_tests); point = grind (arith, nat_tests); space = grind (arith, nat_tests) }
 
--- from a number on
+-- the steps after a number
 
 step_space : (n : ℕ) (s : SizeScan) → AtNumber n s → size_step s 32 ≡ Some (Gap n)
 unfolding size_step
@@ -215,7 +219,7 @@ number_end flags n Beginning h = absurd h
 number_end flags n (Point w) h = absurd h
 number_end flags n (UnitAt m s) h = absurd h
 
--- a state between a number and a unit
+-- the state is after the number `n` and at least one space
 abbrev pub AtGap : ℕ → SizeScan → Type 0
 AtGap n s = AtNumber n s × (size_place s ≡ before_unit)
 
@@ -252,7 +256,7 @@ run_in_unit n u cs s h =
     ∙ run_step size_step (UnitAt n t) (UnitAt n v) c [] (step_in_unit n c t v e))
     cs [] s u h refl
 
--- a state that ends as a number and this unit, at its place if there is more of it than nothing
+-- the state gives the result of the number `n` and the unit of `u`, and has the parser state of `u` if a unit has begun
 pub record EndsAs (n : ℕ) (u : UnitScan) (t : SizeScan) : Type 0 where
   pub ends : (flags : Flags) → size_at_end flags t ≡ sized n (unit_of flags u)
   pub place : place_of u ≢ before_unit → size_place t ≡ place_of u
@@ -277,7 +281,7 @@ run_unit n u s (c ∷ cs) h k =
       holds = record { ends = λ flags. refl; place = λ moved. refl };
     }
 
--- a number, spaces and what can still become a spelling
+-- the text is the number `n`, any number of spaces, and what a unit begins with
 pub record IsNumbered (n : ℕ) (unit_part text : List ℕ) : Type 0 where
   pub number_part : List ℕ
   pub spaces : ℕ
@@ -299,8 +303,7 @@ run_numbered n u unit text h r =
       holds = c.holds;
     }
 
--- a size text is read to its end
-
+-- the state machine reads a number and a unit to its end, and gives them as the result
 pub size_text_runs : (flags : Flags) (text : List ℕ) (n : ℕ) (s : Shape) → IsSizeText current flags text n s
     → RunsTo (λ t. size_at_end flags t ≡ Ok (n, s)) Beginning text
 size_text_runs flags text n s h =
@@ -309,8 +312,6 @@ size_text_runs flags text n s h =
     record { number_part = h.number_part; spaces = h.spaces; text_is = h.text_is; number_is = h.number_is } in
     let r = run_numbered n (scan_of u.multiple u.word) h.unit_part text numbered u.run in
     record { state = r.state; run = r.run; holds = r.holds.ends flags ∙ ap (sized n) u.unit }
-
--- a front is scanned to its end
 
 sized_front : (flags : Flags) (place : Place) (text : List ℕ) → place ≢ before_unit → IsSizedFront current place text
     → IsScanned (size_scan flags) place text
@@ -321,6 +322,7 @@ sized_front flags place text moved h =
     let r = run_numbered h.number u.state h.unit_part text numbered u.run_is in
     record { state = r.state; run_is = r.run; place_is = r.holds.place (λ e. moved (sym u.place_is ∙ e)) ∙ u.place_is }
 
+-- the state machine reads each viable prefix to its end, and has its parser state there
 pub size_front_runs : (flags : Flags) (place : Place) (text : List ℕ) → IsSizeFront current place text
     → IsScanned (size_scan flags) place text
 size_front_runs flags beginning text h = record { state = Beginning; run_is = ap (run size_step Beginning) h; place_is = refl }

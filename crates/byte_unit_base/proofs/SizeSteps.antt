@@ -1,4 +1,4 @@
--- One step of the scan of a size, by cases, and the scan of a whole text.
+-- The steps of the state machine of sizes by cases, and that each keeps the invariant of states.
 use Rattle.std.proofs.Common.{◌≡◌, ℕ, ◌+◌, ◌*◌, ◌^◌, ◌<◌, ◌⊎◌, inl, inr, ⊎_elim, Some, None, refl, subst, arith, Bool, true, false, cond}
 use Rattle.std.proofs.Common.{eqb, ltb}
 use Rattle.std.specs.Option.{option_map}
@@ -15,14 +15,15 @@ use Rattle.byte_unit_base.specs.declared.read.scan.SizeScan.TheVariants.{Beginni
 use Rattle.byte_unit_base.proofs.Options.{some_mapped}
 use Rattle.byte_unit_base.proofs.UnitReached.{guard_some, eq_if_test_true}
 
--- a step by cases
-
+-- after the number `n`, the character continues the unit `s`
 abbrev pub UnitStep : ℕ → UnitScan → ℕ → SizeScan → Type 0
 UnitStep n s c t = (u : UnitScan) × (unit_step s c ≡ Some u) × (UnitAt n u ≡ t)
 
+-- after the number `n`, the character is a space, or begins a unit
 abbrev pub AfterNumber : ℕ → ℕ → SizeScan → Type 0
 AfterNumber n c t = ((c ≡ 32) × (Gap n ≡ t)) ⊎ UnitStep n unit_start c t
 
+-- the cases in which the character leads from one state to the other
 abbrev pub StepOf : SizeScan → ℕ → SizeScan → Type 0
 StepOf Beginning c t = (digit_value c < 10) × (Whole (digit_value c) ≡ t)
 StepOf (Whole w) c t =
@@ -43,6 +44,7 @@ after_number_cases n c t e =
     ⊎_elim (λ h. inl (eq_if_test_true _ _ h.0, cc)) (λ h. inr (some_mapped (UnitAt n) t (unit_step unit_start c) h.1))
     (cond_cases (eqb c 32) (Some (Gap n)) (option_map (UnitAt n) (unit_step unit_start c)) (Some t) e)
 
+-- if a state has a step for a character, one of its cases holds
 pub step_cases : (s t : SizeScan) (c : ℕ) → size_step s c ≡ Some t → StepOf s c t
 unfolding size_step
 step_cases Beginning t c e = let g = guard_some (is_digit c) (Whole (digit_value c)) t e in (ltb-true _ _ g.0, g.1)
@@ -63,8 +65,6 @@ step_cases (Fraction w f j) t c e =
 step_cases (Gap n) t c e = after_number_cases n c t e
 step_cases (UnitAt n s) t c e = some_mapped (UnitAt n) t (unit_step s c) e
 
--- a step keeps the bounds of a scan
-
 number_keeps : (n c : ℕ) (t : SizeScan) → AfterNumber n c t → IsScan t
 number_keeps n c t (inl h) = subst IsScan h.1 tt
 number_keeps n c t (inr h) = subst IsScan h.2 tt
@@ -72,6 +72,7 @@ number_keeps n c t (inr h) = subst IsScan h.2 tt
 digits_more : (f d j : ℕ) → f < 10 ^ j → d < 10 → f * 10 + d < 10 ^ (j + 1)
 digits_more f d j h k = let e : 10 ^ (j + 1) ≡ 10 * 10 ^ j = rw add-one (pow-succ' 10 j) in omega (arith, e)
 
+-- a step keeps the invariant of states
 pub step_keeps : (s t : SizeScan) (c : ℕ) → IsScan s → StepOf s c t → IsScan t
 step_keeps Beginning t c h k = subst IsScan k.1 (omega (arith, k.0))
 step_keeps (Whole w) t c h (inl k) = subst IsScan k.2 k.1

@@ -1,4 +1,4 @@
--- A size has a chosen unit, or no unit states it.
+-- A size has a chosen unit and number, or it is exact in no unit at the precision.
 use Rattle.std.proofs.Common.{◌≡◌, ℕ, ◌*◌, ◌/◌, ◌%◌, ◌^◌, ◌-◌, ◌≤◌, ◌⊎◌, ⊎_elim, inl, inr, Bool, true, false, List, [], ◌∷◌, length, arith}
 use Rattle.std.proofs.Common.{refl, sym, ap, ◌∙◌, subst}
 use Rattle.std.proofs.Math.Nat.{div-add-mod', mul-mod_left}
@@ -15,6 +15,7 @@ use Rattle.byte_unit_base.specs.declared.unit.family.Family.{Family}
 use Rattle.byte_unit_base.specs.declared.unit.family.Family.TheVariants.{All, Bytes, Bits}
 use Rattle.byte_unit_base.proofs.Falling.{IsIn, in_falling}
 
+-- the fact holds, or it does not
 abbrev Decided : Type 0 → Type 0
 Decided Fact = Fact ⊎ ¬ Fact
 
@@ -31,7 +32,7 @@ kind_decided Bytes false = inl refl
 kind_decided Bits true = inl refl
 kind_decided Bits false = inr (λ e. let b : ⊥ = cc in b)
 
--- exact where the division leaves no rest
+-- a size is exact in a unit at some places, or it is not: the division leaves no remainder, or one
 exact_decided : (size unit places : ℕ) → Decided (IsExactAt size unit places)
 exact_decided size unit places =
     let scaled = size * 10 ^ places in
@@ -64,16 +65,16 @@ record IsLargestOf (Has : Shape → Type 0) (units : List Shape) (unit : Shape) 
   has : Has unit
   largest : (other : Shape) → IsIn other units → Has other → bits other ≤ bits unit
 
--- those among the units that have the property are no larger
+-- those among the units that have the property are no larger than the bound
 abbrev AreNoLarger : (Shape → Type 0) → List Shape → ℕ → Type 0
 AreNoLarger Has units bound = (other : Shape) → IsIn other units → Has other → bits other ≤ bound
 
--- what is no larger among the first and the others is no larger among all
+-- if neither the first unit nor the others that have the property are larger than the bound, none is
 no_larger_with_first : (Has : Shape → Type 0) (x : Shape) (xs : List Shape) (bound : ℕ) → bits x ≤ bound → AreNoLarger Has xs bound
     → AreNoLarger Has (x ∷ xs) bound
 no_larger_with_first Has x xs bound first rest other i h = ⊎_elim (λ e. omega (arith, ap bits e, first)) (λ later. rest other later h) i
 
--- among units one with the property is the largest, or none has it
+-- one of the units that have the property is the largest, or none has it
 largest_or_none : (Has : Shape → Type 0) → ((unit : Shape) → Decided (Has unit)) → (units : List Shape)
     → ((unit : Shape) × IsLargestOf Has units unit) ⊎ ((unit : Shape) → IsIn unit units → ¬ (Has unit))
 largest_or_none Has decided [] = inr (λ unit i h. i)
@@ -113,6 +114,7 @@ largest_or_none Has decided (x ∷ xs) =
     rest in
     ⊎_elim with_first without_first (decided x)
 
+-- a size has a chosen unit and number, or it is exact in no unit at the precision
 pub choice_or_none : EachSizeHasAChoiceOrNone
 choice_or_none edition family in_bits precision =
     let Has : Shape → Type 0 = States edition family in_bits precision in

@@ -1,4 +1,4 @@
--- The characters of a trimmed text.
+-- Trimming: the characters of a trimmed string, and texts that it does not change.
 use Rattle.std.proofs.Common.{◌≡◌, ℕ, suc, List, [], ◌∷◌, ◌++◌, length, refl, sym, ap, ◌∙◌, arith, Bool, true, false, cond, ◌&&◌, nat_eq}
 use Rattle.std.specs.Str.{chars, trim, trim_start, trim_end, skip_leading_whitespace, drop_trailing_whitespace, IsUtf8, IsAscii, all_scalars}
 use Rattle.std.specs.Str.{encode_utf8_all}
@@ -26,6 +26,7 @@ chars-trim_start : (bs : List ℕ) → IsUtf8 bs → chars (trim_start bs) ≡ s
 unfolding trim_start
 chars-trim_start bs u = chars-encodes (skip_leading_whitespace (chars bs)) (scalars_skip (chars bs) (scalars-chars bs u))
 
+-- the characters of a string that std trims are the characters without the white space at both ends
 pub chars-trim : (bs : List ℕ) → IsUtf8 bs → chars (trim bs) ≡ trimmed bs
 unfolding trim_end
 chars-trim bs u =
@@ -34,21 +35,19 @@ chars-trim bs u =
     ∙ chars-encodes (drop_trailing_whitespace (skip_leading_whitespace (chars bs)))
     (scalars_drop (skip_leading_whitespace (chars bs)) (scalars_skip (chars bs) (scalars-chars bs u)))
 
--- texts that trimming keeps at one end
-
+-- the text is not empty, and its first character is not white space
 pub record StartsWithoutSpace (text : List ℕ) : Type 0 where
   pub head : ℕ
   pub tail : List ℕ
   pub text_is : text ≡ head ∷ tail
   pub head_is : is_whitespace head ≡ false
 
+-- the text is not empty, and its last character is not white space
 pub record EndsWithoutSpace (text : List ℕ) : Type 0 where
   pub front : List ℕ
   pub last : ℕ
   pub text_is : text ≡ front ++ last ∷ []
   pub last_is : is_whitespace last ≡ false
-
--- what trimming keeps
 
 suc_is_not_zero : (number : ℕ) → nat_eq (suc number) 0 ≡ false
 suc_is_not_zero number = grind (arith, nat_tests)
@@ -59,6 +58,7 @@ not_empty false front last kept = refl
 not_empty true [] last kept = refl
 not_empty true (next ∷ front) last kept = ap (λ empty. cond empty [] kept) (suc_is_not_zero (length (front ++ last ∷ [])))
 
+-- a text whose last character is not white space has no white space to drop at its end
 pub keep_last : (front : List ℕ) (last : ℕ) → is_whitespace last ≡ false
     → drop_trailing_whitespace (front ++ last ∷ []) ≡ front ++ last ∷ []
 keep_last [] last is_none = ap (λ white. cond (white && true) [] (last ∷ [])) is_none
@@ -66,7 +66,7 @@ keep_last (next ∷ front) last is_none =
     ap (λ rest. cond (is_whitespace next && nat_eq (length rest) 0) [] (next ∷ rest)) (keep_last front last is_none)
     ∙ not_empty (is_whitespace next) front last (next ∷ (front ++ last ∷ []))
 
--- a text of ASCII with a character that isn't white space at each end
+-- trimming does not change ASCII that has a character other than white space at each end
 pub trimmed_same : (text : List ℕ) → StartsWithoutSpace text → EndsWithoutSpace text → IsAscii text → trimmed text ≡ text
 trimmed_same text start end ascii =
     let skipped : skip_leading_whitespace text ≡ text =

@@ -1,4 +1,5 @@
--- The scan of a spelling and the spellings are one: what the scan has read, and what it reads.
+-- What is known of the text that led to a state of the state machine of units, and that the unit of a state is spelled
+-- by it.
 use Rattle.std.proofs.Common.{◌≡◌, ℕ, ◌-◌, inl, inr, List, [], ◌∷◌, ◌++◌, Option, Some, None, sym, refl, ap, subst, ◌∙◌, arith, Bool, true}
 use Rattle.std.proofs.Common.{false, cond, eqb, append-nil}
 use Rattle.std.specs.Prelude.{slice_index}
@@ -21,8 +22,7 @@ use Rattle.byte_unit_base.specs.declared.unit.scan.UnitScan.{UnitScan}
 use Rattle.byte_unit_base.proofs.Lists.{push_last}
 use Rattle.byte_unit_base.proofs.Options.{some_mapped}
 
--- what has been read at a state of the scan
-
+-- the text is one that leads to the prefix of the state, and one that leads to its suffix
 pub record Reached (s : UnitScan) (text : List ℕ) : Type 0 where
   pub front : List ℕ
   pub word : List ℕ
@@ -46,6 +46,7 @@ letter_found u Zetta e = grind (arith, nat_tests)
 letter_found u Yotta e = grind (arith, nat_tests)
 letter_found u Ronna e = grind (arith, nat_tests)
 
+-- a character for which a prefix is found is its letter, in either case
 pub prefix_found : (c : ℕ) (p : Prefix) → prefix_at c ≡ Some p → IsPrefixLetter current (power_of p) c
 prefix_found c Kilo e = (omega arith, omega arith, letter_found (to_ascii_uppercase c) Kilo e)
 prefix_found c Mega e = (omega arith, omega arith, letter_found (to_ascii_uppercase c) Mega e)
@@ -57,10 +58,12 @@ prefix_found c Zetta e = (omega arith, omega arith, letter_found (to_ascii_upper
 prefix_found c Yotta e = (omega arith, omega arith, letter_found (to_ascii_uppercase c) Yotta e)
 prefix_found c Ronna e = (omega arith, omega arith, letter_found (to_ascii_uppercase c) Ronna e)
 
+-- if a guarded value is there, its test holds, and it is this value
 pub guard_some : {X : Type 0} (t : Bool) (x y : X) → cond t (Some x) None ≡ Some y → (t ≡ true) × (x ≡ y)
 guard_some true x y e = (refl, cc)
 guard_some false x y e = absurd (let h : ⊥ = cc in h)
 
+-- if the test of equality holds, the numbers are equal
 pub eq_if_test_true : (a b : ℕ) → eqb a b ≡ true → a ≡ b
 eq_if_test_true a b e = grind (arith, nat_tests)
 
@@ -97,7 +100,7 @@ multiple_grows (Decimal p) n c text e h =
     subst (λ m. IsMultipleText m (text ++ c ∷ [])) g.1 with_i
 multiple_grows (Binary p) n c text e h = absurd (let k : ⊥ = cc in k)
 
--- one character more of the word
+-- one character more of the suffix
 lower_push : (text : List ℕ) (c : ℕ) → str_to_ascii_lowercase (text ++ c ∷ []) ≡ str_to_ascii_lowercase text ++ to_ascii_lowercase c ∷ []
 lower_push [] c = refl
 lower_push (x ∷ xs) c = ap (λ t. to_ascii_lowercase x ∷ t) (lower_push xs c)
@@ -126,7 +129,7 @@ word_grows Bit v c text e h =
     (lower_push text c ∙ (ap (λ t. t ++ to_ascii_lowercase c ∷ []) h ∙ ap (λ x. 98 ∷ 105 ∷ 116 ∷ x ∷ []) (eq_if_test_true _ _ g.0)))
 word_grows Bits v c text e h = absurd (let k : ⊥ = cc in k)
 
--- one character more of the scan
+-- one character more of the prefix or of the suffix
 reached_by_word : (m : Multiple) (w : Word) (t : UnitScan) (c : ℕ) (text : List ℕ) → option_map (scan_of m) (word_step w c) ≡ Some t
     → Reached (scan_of m w) text → Reached t (text ++ c ∷ [])
 reached_by_word m w t c text h r =
@@ -153,6 +156,7 @@ reached_by_prefix m t c text (Some n) e h r =
       word_is = refl;
     })
 
+-- if a step leads from a state to the next, what is known of the text holds with its character added
 pub Reached-step : (m : Multiple) (w : Word) (t : UnitScan) (c : ℕ) (text : List ℕ) → unit_step (scan_of m w) c ≡ Some t
     → Reached (scan_of m w) text → Reached t (text ++ c ∷ [])
 unfolding unit_step
@@ -163,10 +167,11 @@ Reached-step m Bi t c text h r = reached_by_word m Bi t c text h r
 Reached-step m Bit t c text h r = reached_by_word m Bit t c text h r
 Reached-step m Bits t c text h r = reached_by_word m Bits t c text h r
 
+-- no character has led to the first state
 pub Reached-start : Reached start []
 Reached-start = record { front = []; word = []; text_is = refl; front_is = refl; word_is = refl }
 
--- what stands at the end of a scan
+-- the unit at the end of an input
 
 count_spelled : (flags : Flags) (w : Word) (text : List ℕ) (bit : Bool) → count_of flags w ≡ Some bit → IsWordText w text
     → SpellsCount flags text bit
@@ -185,6 +190,7 @@ parts_spell_unit flags (Decimal p) front word bit h k =
 parts_spell_unit flags (Binary p) front word bit h k =
     inr (record { prefix_part = front; count_part = word; text_is = refl; prefix_is = h; count_is = k })
 
+-- if a state has a unit, the text that led to it spells this unit
 pub Spells-reached : (flags : Flags) (m : Multiple) (w : Word) (text : List ℕ) (unit : Shape)
     → unit_of flags (scan_of m w) ≡ Some unit → Reached (scan_of m w) text → Spells current flags text unit
 Spells-reached flags m w text unit e r =

@@ -1,4 +1,4 @@
--- The scan goes over each spelling and each of their fronts to its end.
+-- The state machine of units reads each spelling, and each of their viable prefixes, to its end.
 use Rattle.std.proofs.Common.{◌≡◌, ℕ, zero, suc, ◌⊎◌, inl, inr, ⊎_elim, List, [], ◌∷◌, ◌++◌, Some, sym, refl, ap, subst, ◌∙◌, arith, Bool}
 use Rattle.std.proofs.Common.{not}
 use Rattle.std.specs.Prelude.{codes}
@@ -22,8 +22,6 @@ use Rattle.byte_unit_base.specs.declared.unit.scan.Multiple.{Multiple}
 use Rattle.byte_unit_base.specs.declared.unit.scan.Multiple.TheVariants.{One, Decimal, Binary}
 use Rattle.byte_unit_base.proofs.Lists.{from_lowercase, lower_cons, lower_nil}
 use Rattle.byte_unit_base.proofs.Scans.{run_through, run_step, IsScanned}
-
--- the steps that a spelling takes
 
 step_upper_b : (m : Multiple) → unit_step (scan_of m Empty) 66 ≡ Some (scan_of m UpperB)
 unfolding unit_step
@@ -61,7 +59,7 @@ step_s : (m : Multiple) (c : ℕ) → to_ascii_lowercase c ≡ 115 → unit_step
 unfolding unit_step
 step_s m c e = rw e refl
 
--- the words, from any prefix on
+-- the suffix `b` or `B` is read after any prefix
 run_b : (m : Multiple) (text : List ℕ) → str_to_ascii_lowercase text ≡ codes "b"
     → (w : Word) × (run unit_step (scan_of m Empty) text ≡ Some (scan_of m w)) × IsB w
 run_b m text e =
@@ -110,7 +108,7 @@ run_bits m text e =
     r.2 ∙ (ap (run unit_step (scan_of m Bit)) (k.text_is ∙ ap (λ t. k.head ∷ t) (lower_nil k.tail k.tail_is))
     ∙ run_step unit_step (scan_of m Bit) (scan_of m Bits) k.head [] (step_s m k.head k.head_is))
 
--- bits or bytes
+-- a suffix is read after any prefix, and means bits or bytes
 run_count : (flags : Flags) (m : Multiple) (text : List ℕ) (bit : Bool) → SpellsCount flags text bit
     → (w : Word) × (run unit_step (scan_of m Empty) text ≡ Some (scan_of m w)) × (count_of flags w ≡ Some bit)
 run_count flags m text bit (inl h) = (Empty, ap (run unit_step (scan_of m Empty)) h.0, ap Some (sym h.1))
@@ -129,7 +127,7 @@ run_count flags m text bit (inr (inr (inl h))) = (
 run_count flags m text bit (inr (inr (inr (inl h)))) = (Bit, run_bit m text h.0, ap Some (sym h.1))
 run_count flags m text bit (inr (inr (inr (inr h)))) = (Bits, run_bits m text h.0, ap Some (sym h.1))
 
--- the prefix
+-- a prefix letter is read at the beginning
 step_prefix : (c : ℕ) (p : Prefix) → prefix_at c ≡ Some p → unit_step start c ≡ Some (scan_of (Decimal p) Empty)
 unfolding unit_step
 step_prefix c p e = rw (e, prefix_at) refl
@@ -138,6 +136,7 @@ step_infix : (p : Prefix) (c : ℕ) → to_ascii_lowercase c ≡ 105 → unit_st
 unfolding unit_step
 step_infix p c e = rw e refl
 
+-- each letter at a place of the edition is that of a prefix of the code, with this place
 letter_prefix : (c power : ℕ) → IsPrefixLetter current power c → (p : Prefix) × (prefix_at c ≡ Some p) × (power_of p ≡ power)
 letter_prefix c zero h = absurd (omega (arith, h.0))
 letter_prefix c (suc zero) h = (Kilo, rw h.2 refl, refl)
@@ -151,7 +150,7 @@ letter_prefix c (suc (suc (suc (suc (suc (suc (suc (suc zero)))))))) h = (Yotta,
 letter_prefix c (suc (suc (suc (suc (suc (suc (suc (suc (suc zero))))))))) h = (Ronna, rw h.2 refl, refl)
 letter_prefix c (suc (suc (suc (suc (suc (suc (suc (suc (suc (suc n)))))))))) h = absurd (omega (arith, h.1))
 
--- the prefix and an i or none
+-- the letter of a prefix is followed by an `i` or by nothing
 run_infix : (p : Prefix) (text : List ℕ) (binary : Bool) → SpellsBinary text binary
     → (m : Multiple) × (run unit_step (scan_of (Decimal p) Empty) text ≡ Some (scan_of m Empty)) ×
     ((bit : Bool) → multiple_shape m bit ≡ shape (power_of p) binary bit) × (empty_place m ≡ after_prefix)
@@ -167,13 +166,14 @@ run_infix p text binary (inr h) =
       refl,
     )
 
--- a whole prefix
+-- the state after the text is that of this prefix, before a suffix
 pub record RunsToPrefix (text : List ℕ) (power : ℕ) (binary : Bool) : Type 0 where
   pub multiple : Multiple
   pub run : run unit_step start text ≡ Some (scan_of multiple Empty)
   pub shape_is : (bit : Bool) → multiple_shape multiple bit ≡ shape power binary bit
   pub place_is : empty_place multiple ≡ after_prefix
 
+-- a prefix is read to its end
 run_prefix : (text : List ℕ) (power : ℕ) (binary : Bool) → SpellsPrefix current text power binary → RunsToPrefix text power binary
 run_prefix text power binary h =
     let p = letter_prefix h.letter power h.letter_is in
@@ -186,8 +186,7 @@ run_prefix text power binary h =
       place_is = i.3;
     }
 
--- a spelling is read to its end
-
+-- the state after the text is that of this unit
 pub record RunsToUnit (flags : Flags) (text : List ℕ) (s : Shape) : Type 0 where
   pub multiple : Multiple
   pub word : Word
@@ -213,11 +212,10 @@ run_multiple flags text s h =
       unit = ap (option_map (multiple_shape p.multiple)) r.2 ∙ ap Some (p.shape_is s.bit);
     }
 
+-- the state machine reads a spelling to its end, and has its unit there
 pub spelling_runs : (flags : Flags) (text : List ℕ) (s : Shape) → Spells current flags text s → RunsToUnit flags text s
 spelling_runs flags text s (inl h) = run_plain flags text s h
 spelling_runs flags text s (inr h) = run_multiple flags text s h
-
--- a front is scanned to its end
 
 run_word : (place : Place) (m : Multiple) (text : List ℕ) → IsWord place text
     → (w : Word) × (run unit_step (scan_of m Empty) text ≡ Some (scan_of m w)) × (word_place m w ≡ place)
@@ -239,6 +237,7 @@ run_word_front flags place text h =
     record { state = scan_of p.multiple r.0; run_is = ap (run unit_step start) h.text_is ∙ (through ∙ r.1); place_is = r.2 })
     h.prefix_is
 
+-- the state machine reads each viable prefix to its end, and has its parser state there
 pub unit_front_runs : (flags : Flags) (place : Place) (text : List ℕ) → IsUnitFront current place text
     → IsScanned (unit_scan flags) place text
 unit_front_runs flags before_unit text h = record { state = start; run_is = ap (run unit_step start) h; place_is = refl }

@@ -65,8 +65,8 @@ EachSizeHasAChoiceOrNone =
     → ((unit : Shape) × (number : ℕ) × IsChosen edition family in_bits precision unit number)
     ⊎ NoneHas (States edition family in_bits precision)
 
--- the exponents of 2 and 5 in the size decide whether it is exact in the unit: it is so with this many digits after the
--- point if and only if neither exponent of the unit is greater than that of the size plus the number of digits
+-- the size is exact in the unit at this many digits after the point if and only if the exponents of 2 and 5 in the unit
+-- are at most those in the size plus that number of digits
 pub record IsExactByPowers (in_bits : ℕ) (unit : Shape) : Type 0 where
   pub size_twos : ℕ
   pub size_fives : ℕ

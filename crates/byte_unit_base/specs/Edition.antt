@@ -18,8 +18,8 @@ pub record Edition : Type 0 where
 abbrev pub old : Edition
 old = record { letters = codes "KMGTPEZY"; whole_limit = 2 ^ 96; size_limit = 10 ^ 27 }
 
--- v2, which the code implements: it adds ronna, which the SI has since 2022, so a size is below 10^30, and a whole part
--- is below 2^112
+-- v2, which the code implements: it adds ronna, which the SI has since 2022. A size is below 10^30, which is 1000 RB,
+-- and a whole part is below 2^112
 abbrev pub current : Edition
 current = record { letters = codes "KMGTPEZYR"; whole_limit = Bounds.whole_limit; size_limit = Bounds.size_limit }
 

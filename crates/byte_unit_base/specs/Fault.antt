@@ -16,7 +16,7 @@ pub data Fault : Type 0 where
   exceeded : ℕ → Fault
   -- this character is not a digit, but only a digit can be at its place
   not_number : ℕ → Fault
-  -- the input is empty
+  -- the input ends before a number
   no_value : Fault
   -- the number has a digit too many
   too_long : Fault

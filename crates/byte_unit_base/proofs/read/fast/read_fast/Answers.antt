@@ -16,10 +16,11 @@ use Rattle.byte_unit_base.proofs.read.fast.read_fast.Goals as goal
 pub number-requires : goal.number-requires
 number-requires c = scanned_bounds _ _ _ c.scan_digits-scan.ensures
 
+-- the bytes are the first n, and the rest
 joined : (bytes : List ℕ) (n : ℕ) → bytes ≡ take n bytes ++ slice_range bytes n (length bytes)
 joined bytes n = sym (take-append-drop n bytes) ∙ ap (λ rest. take n bytes ++ rest) (sym (take_rest bytes n))
 
--- all the bytes state it
+-- the bytes as a whole are the number and unit that were read
 stated : (c : In_ok-unit) → IsSizeText current c.args.flags c.args.bytes.now c.in_ok-number.number (shape_of c.in_ok-unit.unit)
 stated c =
     let bytes = c.args.bytes.now in
