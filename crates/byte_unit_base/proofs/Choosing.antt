@@ -34,7 +34,8 @@ own_bits Byte = refl
 own_bits Bit = refl
 
 -- a size is a whole number of the unit that is its exact unit at a precision of 0
-pub exact_where_recovered : (kind : Kind) (both : Bool) (size : ℕ) (unit : Shape) → IsRecovered current kind both size 0 unit
+pub exact_where_recovered : (kind : Kind) (both : Bool) (size : ℕ) (unit : Shape)
+    → IsRecovered current kind both size 0 unit
     → IsExactAt (size * bits_in kind) (bits unit) 0
 exact_where_recovered kind both size unit (inl h) = h.has.exact
 exact_where_recovered kind both size unit (inr h) =

@@ -1,5 +1,6 @@
 -- The units of a unit set from the largest to the smallest, and the search for the largest that has a property.
-use Rattle.std.proofs.Common.{◌≡◌, ℕ, ◌+◌, ◌*◌, ◌<◌, ◌≤◌, ◌⊎◌, ⊎_elim, inl, inr, zero, suc, Bool, true, false, List, [], ◌∷◌, ◌++◌}
+use Rattle.std.proofs.Common.{◌≡◌, ℕ, ◌+◌, ◌*◌, ◌<◌, ◌≤◌, ◌⊎◌, ⊎_elim, inl, inr, zero, suc, Bool, true, false, List, []}
+use Rattle.std.proofs.Common.{◌∷◌, ◌++◌}
 use Rattle.std.proofs.Common.{length, drop, get_or, ◌&&◌, leb, add-one, drop-cons, arith, sym, ap, ◌∙◌, subst, refl}
 use Rattle.std.proofs.lemmas.List.{drop_all}
 use Rattle.std.proofs.lemmas.Bool.{and_parts, cases_lt, leb-true}
@@ -33,7 +34,8 @@ IsIn-right : (xs ys : List Shape) (unit : Shape) → IsIn unit ys → IsIn unit 
 IsIn-right [] ys unit h = h
 IsIn-right (x ∷ xs) ys unit h = inr (IsIn-right xs ys unit h)
 
-in_prefix : (family : Family) (power : ℕ) (binary bit : Bool) → HasKind family bit → IsIn (shape power binary bit) (of_prefix family power)
+in_prefix : (family : Family) (power : ℕ) (binary bit : Bool) → HasKind family bit
+    → IsIn (shape power binary bit) (of_prefix family power)
 in_prefix All power true false k = inl refl
 in_prefix All power false false k = inr (inl refl)
 in_prefix All power true true k = inr (inr (inl refl))
@@ -64,7 +66,8 @@ in_falling family (suc n) unit kind some known =
 
 IsIn-parts : (xs ys : List Shape) (unit : Shape) → IsIn unit (xs ++ ys) → IsIn unit xs ⊎ IsIn unit ys
 IsIn-parts [] ys unit h = inr h
-IsIn-parts (x ∷ xs) ys unit h = ⊎_elim (λ e. inl (inl e)) (λ k. ⊎_elim (λ a. inl (inr a)) inr (IsIn-parts xs ys unit k)) h
+IsIn-parts (x ∷ xs) ys unit h =
+    ⊎_elim (λ e. inl (inl e)) (λ k. ⊎_elim (λ a. inl (inr a)) inr (IsIn-parts xs ys unit k)) h
 
 abbrev IsOfPrefix : Family → ℕ → Shape → Type 0
 IsOfPrefix family n unit = (unit.power ≡ n) × HasKind family unit.bit
@@ -99,7 +102,8 @@ IsIn-at (x ∷ xs) zero d h = inl refl
 IsIn-at (x ∷ xs) (suc i) d h = inr (IsIn-at xs i d (omega (arith, h)))
 
 -- no unit of a falling list is larger than the bound
-pub le_of_falls : (xs : List Shape) (bound : ℕ) (unit : Shape) → falls bound xs ≡ true → IsIn unit xs → bits unit ≤ bound
+pub le_of_falls : (xs : List Shape) (bound : ℕ) (unit : Shape) → falls bound xs ≡ true → IsIn unit xs
+    → bits unit ≤ bound
 le_of_falls [] bound unit h i = absurd i
 le_of_falls (x ∷ xs) bound unit h i =
     let parts = and_parts (leb (bits x) bound) (falls (bits x) xs) h in
@@ -107,7 +111,8 @@ le_of_falls (x ∷ xs) bound unit h i =
     ⊎_elim (λ e. omega (arith, ap bits e, first)) (λ k. omega (arith, first, le_of_falls xs (bits x) unit parts.1 k)) i
 
 -- the units after any index of a falling list fall from the unit at the index
-falls_after : (xs : List Shape) (bound i : ℕ) (x : Shape) (rest : List Shape) → falls bound xs ≡ true → drop i xs ≡ x ∷ rest
+falls_after : (xs : List Shape) (bound i : ℕ) (x : Shape) (rest : List Shape) → falls bound xs ≡ true
+    → drop i xs ≡ x ∷ rest
     → falls (bits x) rest ≡ true
 falls_after [] bound zero x rest h e = absurd (let k : ⊥ = cc in k)
 falls_after [] bound (suc i) x rest h e = absurd (let k : ⊥ = cc in k)
@@ -117,14 +122,16 @@ falls_after (y ∷ ys) bound zero x rest h e =
     let RestFallsFrom : Shape → Type 0 = λ s. falls (bits s) rest ≡ true in
     let FallAfterFirst : List Shape → Type 0 = λ l. falls (bits y) l ≡ true in
     subst RestFallsFrom a (subst FallAfterFirst b (and_parts (leb (bits y) bound) (falls (bits y) ys) h).1)
-falls_after (y ∷ ys) bound (suc i) x rest h e = falls_after ys (bits y) i x rest (and_parts (leb (bits y) bound) (falls (bits y) ys) h).1 e
+falls_after (y ∷ ys) bound (suc i) x rest h e =
+    falls_after ys (bits y) i x rest (and_parts (leb (bits y) bound) (falls (bits y) ys) h).1 e
 
 -- the units of the first n prefix letters fall, and so do those of fewer
 abbrev prefixes_fall : Family → ℕ → Bool
 prefixes_fall family zero = true
 prefixes_fall family (suc n) = falls unit_limit (falling_from family (suc n)) && prefixes_fall family n
 
-fewer_fall : (family : Family) (m n : ℕ) → prefixes_fall family m ≡ true → n ≤ m → falls unit_limit (falling_from family n) ≡ true
+fewer_fall : (family : Family) (m n : ℕ) → prefixes_fall family m ≡ true → n ≤ m
+    → falls unit_limit (falling_from family n) ≡ true
 fewer_fall family zero n h few =
     let UnitsFall : ℕ → Type 0 = λ k. falls unit_limit (falling_from family k) ≡ true in
     let none : 0 ≡ n = omega (arith, few) in
@@ -164,15 +171,18 @@ largest_found Has units i x fall remain at has =
     }
 
 -- if the unit at an index does not have the property, each unit that has it is at a later index
-pub Remain-after : (Has : Shape → Type 0) (units : List Shape) (i : ℕ) (x : Shape) → Remain Has (drop i units) → i < length units
+pub Remain-after : (Has : Shape → Type 0) (units : List Shape) (i : ℕ) (x : Shape) → Remain Has (drop i units)
+    → i < length units
     → get_or units i x ≡ x → ¬ (Has x) → Remain Has (drop (i + 1) units)
 Remain-after Has units i x remain within at without = λ unit h.
     let e : drop i units ≡ x ∷ drop (suc i) units = drop-cons units i x within ∙ ap (λ y. y ∷ drop (suc i) units) at in
     let IsAmong : List Shape → Type 0 = λ l. IsIn unit l in
-    rw add-one (⊎_elim (λ same. absurd (without (subst Has (sym same) h))) (λ later. later) (subst IsAmong e (remain unit h)))
+    rw add-one (⊎_elim (λ same. absurd (without (subst Has (sym same) h)))
+    (λ later. later) (subst IsAmong e (remain unit h)))
 
 -- if each unit that has the property is after the end of the list, no unit has it
-pub Remain-at_end : (Has : Shape → Type 0) (units : List Shape) (i : ℕ) → length units ≤ i → Remain Has (drop i units) → NoneHas Has
+pub Remain-at_end : (Has : Shape → Type 0) (units : List Shape) (i : ℕ) → length units ≤ i → Remain Has (drop i units)
+    → NoneHas Has
 Remain-at_end Has units i done remain unit h =
     let IsAmong : List Shape → Type 0 = λ l. IsIn unit l in
     let e : drop i units ≡ [] = drop_all i units done in

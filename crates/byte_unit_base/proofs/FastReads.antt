@@ -33,13 +33,15 @@ digits_to_the_end (d ∷ ds) digits =
     rw ((is_digit d digit.0 digit.1).0) (omega (arith, digits_to_the_end ds digits.1))
 
 -- the bytes of a run of digits that std finds are decimal digits
-pub digits_of_run : (bytes : List ℕ) (count : ℕ) → count ≡ 0 + digits_len (drop 0 bytes) → AllDigits 10 (take count bytes)
+pub digits_of_run : (bytes : List ℕ) (count : ℕ) → count ≡ 0 + digits_len (drop 0 bytes)
+    → AllDigits 10 (take count bytes)
 digits_of_run bytes count is = AllDigits-digits_len bytes count (omega (arith, is))
 
 -- a run of at most 19 digits has the value that std reads modulo 2^64
 pub short_run :
     (bytes : List ℕ) (count value : ℕ) → count ≡ 0 + digits_len (drop 0 bytes) → count ≤ length bytes → count ≤ 19
-    → value ≡ (0 * 10 ^ (count - 0) + digits_value 10 (slice_range bytes 0 count)) % 2 ^ 64 → AreDigits bytes count value
+    → value ≡ (0 * 10 ^ (count - 0) + digits_value 10 (slice_range bytes 0 count)) % 2 ^ 64
+    → AreDigits bytes count value
 short_run bytes count value count_is within few value_is =
     let digits = digits_of_run bytes count count_is in
     let length_is = length-take-le count bytes within in
@@ -48,11 +50,16 @@ short_run bytes count value count_is within few value_is =
     let same : slice_range bytes 0 count ≡ take count bytes = ap (λ n. take n bytes) from_the_first in
     let below : digits_value 10 (take count bytes) < 10 ^ count =
     subst (λ n. digits_value 10 (take count bytes) < 10 ^ n) length_is (digits_value-lt 10 (take count bytes) digits) in
-    let all : 0 * 10 ^ (count - 0) + digits_value 10 (slice_range bytes 0 count) ≡ digits_value 10 (slice_range bytes 0 count) =
+    let all : 0 * 10 ^ (count - 0) + digits_value 10 (slice_range bytes 0 count) ≡ digits_value 10
+    (slice_range bytes 0 count) =
     omega arith in
     let small : 0 * 10 ^ (count - 0) + digits_value 10 (slice_range bytes 0 count) < 2 ^ 64 =
     omega (arith, all, ap (digits_value 10) same, below, power) in
-    record { within = within; digits = digits; value_is = value_is ∙ (mod-eq_of_lt small ∙ (all ∙ ap (digits_value 10) same)) }
+    record {
+      within = within;
+      digits = digits;
+      value_is = value_is ∙ (mod-eq_of_lt small ∙ (all ∙ ap (digits_value 10) same));
+    }
 
 -- both parts of a text of digits are digits
 pub both_digits : (front behind : List ℕ) → AllDigits 10 (front ++ behind) → AllDigits 10 front × AllDigits 10 behind
@@ -84,7 +91,8 @@ digits_below bytes count value read =
 -- numbers
 
 -- the text of at least one digit is not empty
-pub are_numeral : (bytes : List ℕ) (count value : ℕ) → AreDigits bytes count value → 0 < count → 0 < length (take count bytes)
+pub are_numeral : (bytes : List ℕ) (count value : ℕ) → AreDigits bytes count value → 0 < count
+    → 0 < length (take count bytes)
 are_numeral bytes count value read some = omega (arith, length-take-le count bytes read.within, some)
 
 -- the bytes begin with a whole part of `end` digits, a point, and `places` digits of a fraction
@@ -119,11 +127,16 @@ precise_number bytes end whole places fraction read =
       value = whole;
       part = fraction * 10 ^ (places_of_decimal - places);
       text_is = precise_text bytes end whole places fraction read;
-      whole_is = ((are_numeral bytes end whole read.whole_is read.some, read.whole_is.digits), read.whole_is.value_is, read.below);
+      whole_is = (
+        (are_numeral bytes end whole read.whole_is read.some, read.whole_is.digits),
+        read.whole_is.value_is,
+        read.below,
+      );
       fraction_is = (
         (are_numeral (drop (end + 1) bytes) places fraction read.fraction_is read.some_places, read.fraction_is.digits),
         subst (λ n. n ≤ places_of_decimal) (sym few) read.few_places,
-        subst (λ n. fraction * 10 ^ (places_of_decimal - places) ≡ n * 10 ^ (places_of_decimal - length digits)) read.fraction_is.value_is
+        subst (λ n. fraction * 10 ^ (places_of_decimal - places) ≡ n * 10 ^ (places_of_decimal - length digits))
+            read.fraction_is.value_is
             (ap (λ n. fraction * 10 ^ (places_of_decimal - n)) (sym few)),
       );
       number_is = refl;
@@ -135,7 +148,13 @@ pub decimal_text :
     → IsMultipleText (Decimal prefix) (take 1 bytes)
 decimal_text [] prefix some is = absurd (omega (arith, some))
 decimal_text (c ∷ cs) prefix some is =
-    record { letter = c; infix_part = []; text_is = refl; letter_is = prefix_found c prefix is; infix_is = inl (refl, refl) }
+    record {
+      letter = c;
+      infix_part = [];
+      text_is = refl;
+      letter_is = prefix_found c prefix is;
+      infix_is = inl (refl, refl);
+    }
 
 -- if the first byte is a prefix letter and the second an `i`, the text of both is a binary prefix
 pub binary_text :

@@ -1,5 +1,6 @@
 -- The name of a unit spells it: its prefix letter, an `i` or nothing, and the letter of its kind.
-use Rattle.std.proofs.Common.{◌≡◌, ℕ, ◌-◌, ◌<◌, ◌≤◌, Bool, true, false, not, ◌&&◌, eqb, ltb, List, [], ◌∷◌, ◌++◌, length}
+use Rattle.std.proofs.Common.{◌≡◌, ℕ, ◌-◌, ◌<◌, ◌≤◌, Bool, true, false, not, ◌&&◌, eqb, ltb, List, [], ◌∷◌, ◌++◌}
+use Rattle.std.proofs.Common.{length}
 use Rattle.std.proofs.Common.{⊎_elim, inl, inr, arith, refl, sym, ap, subst}
 use Rattle.std.specs.Prelude.{codes, slice_index, if◌then◌else◌, nat_lt}
 use Rattle.std.specs.List.{list_all}
@@ -91,14 +92,17 @@ count_end false = (66, refl, refl)
 with_prefix : (s : Shape) → 0 < s.power → name current s ≡ letter_at s.power ∷ (infix_of s.binary ++ count_of s.bit)
 with_prefix s h =
     let some : nat_lt 0 s.power ≡ true = grind (arith, nat_tests) in
-    ap (λ b. (if b then letter_at s.power ∷ [] else []) ++ (if b && s.binary then codes "i" else []) ++ count_of s.bit) some
+    ap (λ b. (if b then letter_at s.power ∷ [] else []) ++ (if b && s.binary then codes "i" else []) ++ count_of s.bit)
+    some
 
 without_prefix : (s : Shape) → s.power ≤ 0 → name current s ≡ count_of s.bit
 without_prefix s h =
     let none : nat_lt 0 s.power ≡ false = grind (arith, nat_tests) in
-    ap (λ b. (if b then letter_at s.power ∷ [] else []) ++ (if b && s.binary then codes "i" else []) ++ count_of s.bit) none
+    ap (λ b. (if b then letter_at s.power ∷ [] else []) ++ (if b && s.binary then codes "i" else []) ++ count_of s.bit)
+    none
 
-spells_multiple : (flags : Flags) (s : Shape) → IsKnown s → SaysKind flags s.bit → 0 < s.power → Spells current flags (name current s) s
+spells_multiple : (flags : Flags) (s : Shape) → IsKnown s → SaysKind flags s.bit → 0 < s.power
+    → Spells current flags (name current s) s
 spells_multiple flags s h says some = inr record {
   prefix_part = letter_at s.power ∷ infix_of s.binary;
   count_part = count_of s.bit;
@@ -113,7 +117,8 @@ spells_multiple flags s h says some = inr record {
   count_is = count_spells flags s.bit says;
 }
 
-spells_plain : (flags : Flags) (s : Shape) → IsKnown s → SaysKind flags s.bit → s.power ≤ 0 → Spells current flags (name current s) s
+spells_plain : (flags : Flags) (s : Shape) → IsKnown s → SaysKind flags s.bit → s.power ≤ 0
+    → Spells current flags (name current s) s
 spells_plain flags s h says none =
     let SpellsKind : List ℕ → Type 0 = λ text. SpellsCount flags text s.bit in
     let zero : s.power ≡ 0 = omega (arith, none) in
@@ -124,7 +129,8 @@ spells_plain flags s h says none =
     }
 
 -- the name of a unit spells it, if its last letter tells the kind
-pub name_spells : (flags : Flags) (s : Shape) → IsKnown s → SaysKind flags s.bit → Spells current flags (name current s) s
+pub name_spells : (flags : Flags) (s : Shape) → IsKnown s → SaysKind flags s.bit
+    → Spells current flags (name current s) s
 name_spells flags s h says = ⊎_elim (spells_multiple flags s h says) (spells_plain flags s h says) (cases_lt 0 s.power)
 
 -- the name of a unit is ASCII

@@ -1,5 +1,6 @@
 -- A decimal, as it is printed, is a number of the grammar with the same value.
-use Rattle.std.proofs.Common.{◌≡◌, ℕ, ◌+◌, ◌-◌, ◌*◌, ◌^◌, ◌<◌, ◌≤◌, inl, inr, List, [], ◌∷◌, ◌++◌, length, refl, sym, ap, subst, ◌∙◌, arith}
+use Rattle.std.proofs.Common.{◌≡◌, ℕ, ◌+◌, ◌-◌, ◌*◌, ◌^◌, ◌<◌, ◌≤◌, inl, inr, List, [], ◌∷◌, ◌++◌, length, refl, sym}
+use Rattle.std.proofs.Common.{ap, subst, ◌∙◌, arith}
 use Rattle.std.proofs.Common.{false, append-nil}
 use Rattle.std.proofs.lemmas.List.{length-map}
 use Rattle.std.specs.List.{fold, All}
@@ -28,8 +29,11 @@ glyph_value digit small = grind (arith, nat_tests)
 pub glyph_digits : (digits : List ℕ) → All (λ digit. digit < 10) digits → AllDigits 10 (glyphs digits)
 glyph_digits [] small = tt
 glyph_digits (digit ∷ digits) small =
-    let below : digit < 10 = All-head (λ digit. digit < 10) digit digits small in
-    (omega (arith, below, glyph_value digit below), glyph_digits digits (All-tail (λ digit. digit < 10) digit digits small))
+    let below : digit < 10 = All-head (λ digit. digit < 10) digit digits small in (
+      omega (arith, below, glyph_value digit below),
+      glyph_digits digits
+          (All-tail (λ digit. digit < 10) digit digits small),
+    )
 
 -- the characters of digits have the value of the digits
 pub glyphs_value :
@@ -53,10 +57,16 @@ fixed_point_of whole digits = whole * one + value_of digits * 10 ^ (places_of_de
 
 -- the text of a whole part and at most 28 digits after the point is a number of the grammar, with their value
 pub number_text :
-    (whole : ℕ) (digits : List ℕ) → All (λ digit. digit < 10) digits → length digits ≤ places_of_decimal → whole < whole_limit
+    (whole : ℕ) (digits : List ℕ) → All (λ digit. digit < 10) digits → length digits ≤ places_of_decimal
+    → whole < whole_limit
     → IsNumberText current (decimal whole ++ fraction_text digits) (fixed_point_of whole digits)
 number_text whole [] small few bound =
-    inl (whole, subst (λ text. IsWholePart current text whole) (sym (append-nil (decimal whole))) (whole_text whole bound), omega arith)
+    inl (
+      whole,
+      subst (λ text. IsWholePart current text whole) (sym (append-nil (decimal whole)))
+          (whole_text whole bound),
+      omega arith,
+    )
 number_text whole (digit ∷ digits) small few bound = inr record {
   whole = decimal whole;
   fraction = glyphs (digit ∷ digits);
@@ -93,7 +103,12 @@ starts_with_digit (character ∷ rest) numeral =
 pub number_start : (whole : ℕ) (rest : List ℕ) → whole < whole_limit → StartsWithoutSpace (decimal whole ++ rest)
 number_start whole rest bound =
     let start = starts_with_digit (decimal whole) (whole_text whole bound).0 in
-    record { head = start.head; tail = start.tail ++ rest; text_is = ap (λ text. text ++ rest) start.text_is; head_is = start.head_is }
+    record {
+      head = start.head;
+      tail = start.tail ++ rest;
+      text_is = ap (λ text. text ++ rest) start.text_is;
+      head_is = start.head_is;
+    }
 
 fraction_ascii : (digits : List ℕ) → All (λ digit. digit < 10) digits → IsAscii (fraction_text digits)
 fraction_ascii [] small = IsAscii-nil

@@ -14,7 +14,12 @@ use Rattle.byte_unit_base.proofs.Choosing.{some_bits}
 
 -- 2^a * 5^b has the exponents a of 2 and b of 5
 pure_powers : (a b : ℕ) → IsTwoFive (2 ^ a * 5 ^ b) a b
-pure_powers a b = record { left = 1; product = omega arith; odd = λ e. let k : ⊥ = cc in k; no_five = λ e. let k : ⊥ = cc in k }
+pure_powers a b = record {
+  left = 1;
+  product = omega arith;
+  odd = λ e. let k : ⊥ = cc in k;
+  no_five = λ e. let k : ⊥ = cc in k;
+}
 
 -- if 2^c * 5^d is 2^a * 5^b, then c and d are no greater than a and b
 no_greater : (a b c d : ℕ) → 2 ^ a * 5 ^ b ≡ 2 ^ c * 5 ^ d → (c ≤ a) × (d ≤ b)
@@ -50,23 +55,31 @@ same_unit unit other prefix other_prefix same =
     let low = no_greater (twos unit) (fives unit) (twos other) (fives other) same in
     let high = no_greater (twos other) (fives other) (twos unit) (fives unit) (sym same) in
     let powers : HaveSamePowers unit other =
-    record { some = prefix; other_some = other_prefix; twos = omega (arith, low.0, high.0); fives = omega (arith, low.1, high.1) } in
+    record {
+      some = prefix;
+      other_some = other_prefix;
+      twos = omega (arith, low.0, high.0);
+      fives = omega (arith, low.1, high.1);
+    } in
     same_fields unit.power unit.binary unit.bit other.power other.binary other.bit powers
 
 -- there is only one largest unit in which a size is exact
 pub one_largest : (edition : Edition) (family : Family) (in_bits precision : ℕ) (unit other : Shape)
-    → IsLargest (States edition family in_bits precision) unit → IsLargest (States edition family in_bits precision) other → unit ≡ other
+    → IsLargest (States edition family in_bits precision) unit
+    → IsLargest (States edition family in_bits precision) other → unit ≡ other
 one_largest edition family in_bits precision unit other largest other_largest =
     let low = largest.largest other other_largest.has in
     let high = other_largest.largest unit largest.has in
     same_unit unit other largest.has.member.prefix.some other_largest.has.member.prefix.some (omega (arith, low, high))
 
 -- an exact quotient has only one value
-same_number : (size places unit number other : ℕ) → 1 ≤ unit → IsQuotient size unit places number → IsQuotient size unit places other
+same_number : (size places unit number other : ℕ) → 1 ≤ unit → IsQuotient size unit places number
+    → IsQuotient size unit places other
     → number ≡ other
 same_number size places unit number other some quotient other_quotient =
     let count =
-    eq_of_mul-eq-mul_right unit (omega (arith, some)) quotient.count other_quotient.count (sym quotient.exact ∙ other_quotient.exact) in
+    eq_of_mul-eq-mul_right unit (omega (arith, some)) quotient.count other_quotient.count (sym quotient.exact
+    ∙ other_quotient.exact) in
     quotient.number ∙ (ap (λ count. count * 10 ^ (places_of_decimal - places)) count ∙ sym other_quotient.number)
 
 -- a size has at most one chosen unit and number

@@ -3,7 +3,8 @@ use Rattle.std.proofs.Common.{◌≡◌, Option, Some, None, option_and_then, re
 use Rattle.std.specs.Option.{option_map}
 
 -- if an option that is mapped is `Some(b)`, then it was a value that the function takes to `b`
-pub some_mapped : {A B : Type 0} (f : A → B) (b : B) (o : Option A) → option_map f o ≡ Some b → (a : A) × (o ≡ Some a) × (f a ≡ b)
+pub some_mapped : {A B : Type 0} (f : A → B) (b : B) (o : Option A) → option_map f o ≡ Some b
+    → (a : A) × (o ≡ Some a) × (f a ≡ b)
 some_mapped f b None e = absurd (let k : ⊥ = cc in k)
 some_mapped f b (Some a) e = (a, refl, cc)
 

@@ -22,7 +22,8 @@ number_times_unit size unit places number room h =
     n ∙ omega (arith, e, p)
 
 -- if a number times the unit is the size, it is the exact quotient at each number of places at which the size is exact
-pub quotient_of_product : (size unit places number : ℕ) → 1 ≤ unit → places ≤ places_of_decimal → number * unit ≡ size * one
+pub quotient_of_product : (size unit places number : ℕ) → 1 ≤ unit → places ≤ places_of_decimal
+    → number * unit ≡ size * one
     → IsExactAt size unit places → IsQuotient size unit places number
 quotient_of_product size unit places number some room product exact =
     let behind = 10 ^ (places_of_decimal - places) in
@@ -36,7 +37,8 @@ quotient_of_product size unit places number some room product exact =
     }
 
 -- an exact quotient needs no more digits after the point than those at which the size is exact
-pub stated_where_exact : (size unit number digits : ℕ) → 1 ≤ unit → number * unit ≡ size * one → IsExactAt size unit digits
+pub stated_where_exact : (size unit number digits : ℕ) → 1 ≤ unit → number * unit ≡ size * one
+    → IsExactAt size unit digits
     → IsExactAt number one digits
 stated_where_exact size unit number digits some product e =
     let p = ap (λ x. x * 10 ^ digits) product in
@@ -44,7 +46,8 @@ stated_where_exact size unit number digits some product e =
     (e.0, eq_of_mul-eq-mul_right unit (omega (arith, some)) (number * 10 ^ digits) (e.0 * one) (omega (arith, p, q)))
 
 -- if an exact quotient needs at most these digits after the point, the size is exact at them
-exact_where_stated : (size unit number digits : ℕ) → number * unit ≡ size * one → IsExactAt number one digits → IsExactAt size unit digits
+exact_where_stated : (size unit number digits : ℕ) → number * unit ≡ size * one → IsExactAt number one digits
+    → IsExactAt size unit digits
 exact_where_stated size unit number digits product e =
     let p = ap (λ x. x * 10 ^ digits) product in
     let q = ap (λ x. x * unit) e.1 in
@@ -81,6 +84,7 @@ pub whole_number : (in_bits unit number : ℕ) → 1 ≤ unit → number * unit 
     → number / one * unit ≡ in_bits
 whole_number in_bits unit number some product e =
     let p = ap (λ n. n * one) e.1 in
-    let whole : number ≡ e.0 * one = eq_of_mul-eq-mul_right unit (omega (arith, some)) number (e.0 * one) (omega (arith, product, p)) in
+    let whole : number ≡ e.0 * one =
+    eq_of_mul-eq-mul_right unit (omega (arith, some)) number (e.0 * one) (omega (arith, product, p)) in
     let parts : number / one ≡ e.0 = omega (arith, whole) in
     ap (λ n. n * unit) parts ∙ omega (arith, e.1)

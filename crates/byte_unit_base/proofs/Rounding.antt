@@ -41,13 +41,15 @@ least_above Bit N unit limit n some none h =
     omega (arith, enough, none least.0 least.1, some)
 
 -- if the least bits are below the limit in bits, the least number of bytes or bits that holds them is below the limit
-pub least_below : (kind : Kind) (limit b n : ℕ) → b < (limit - 1) * bits_in kind + 1 → n * bits_in kind < b + bits_in kind → 1 ≤ limit
+pub least_below : (kind : Kind) (limit b n : ℕ) → b < (limit - 1) * bits_in kind + 1
+    → n * bits_in kind < b + bits_in kind → 1 ≤ limit
     → n < limit
 least_below Byte limit b n small low some = omega (arith, small, low, some)
 least_below Bit limit b n small low some = omega (arith, small, low, some)
 
 -- a number of a unit is rounded up to only one size
-pub least_is_unique : (kind : Kind) (N : ℕ) (unit : Shape) (m n : ℕ) → IsLeastOf kind N unit m → IsLeastOf kind N unit n → m ≡ n
+pub least_is_unique : (kind : Kind) (N : ℕ) (unit : Shape) (m n : ℕ) → IsLeastOf kind N unit m
+    → IsLeastOf kind N unit n → m ≡ n
 least_is_unique kind N unit m n a b =
     let up = a.least n b.has in
     let down = b.least m a.has in
@@ -67,7 +69,11 @@ least_exists Bit N unit =
 pub one_least_size : EachNumberHasOneLeastSize
 one_least_size kind number unit =
     let least = least_exists kind number unit in
-    record { size = least.0; is_least = least.1; one = λ other h. least_is_unique kind number unit other least.0 h least.1 }
+    record {
+      size = least.0;
+      is_least = least.1;
+      one = λ other h. least_is_unique kind number unit other least.0 h least.1;
+    }
 
 -- a greater number of a unit is not rounded up to a smaller size
 pub more_covers_more : GreaterNumbersGiveNoSmallerSizes

@@ -1,5 +1,6 @@
 -- The rows of the table of units that a size can have, and the search for the largest that has a property.
-use Rattle.std.proofs.Common.{◌≡◌, ℕ, ◌+◌, ◌-◌, ◌*◌, ◌/◌, ◌^◌, ◌<◌, ◌≤◌, ⊎_elim, suc, Bool, true, false, List, [], ◌∷◌, length, map, max}
+use Rattle.std.proofs.Common.{◌≡◌, ℕ, ◌+◌, ◌-◌, ◌*◌, ◌/◌, ◌^◌, ◌<◌, ◌≤◌, ⊎_elim, suc, Bool, true, false, List, [], ◌∷◌}
+use Rattle.std.proofs.Common.{length, map, max}
 use Rattle.std.proofs.Common.{drop, get_or}
 use Rattle.std.proofs.Common.{◌&&◌, leb, arith, sym, ap, ◌∙◌, subst, refl}
 use Rattle.std.proofs.Math.Nat.{pow-le-pow_right}
@@ -19,7 +20,8 @@ use Rattle.byte_unit_base.specs.declared.unit.family.Row.{Row}
 use Rattle.byte_unit_base.specs.declared.unit.family.Family.{Family}
 use Rattle.byte_unit_base.specs.declared.unit.family.Family.TheVariants.{All, Bytes, Bits}
 use Rattle.byte_unit_base.proofs.Choosing.{small_bits, some_bits}
-use Rattle.byte_unit_base.proofs.Falling.{IsIn, IsIn-at, Remain, falls, in_falling, from_falling, current_falls, largest_found}
+use Rattle.byte_unit_base.proofs.Falling.{IsIn, IsIn-at, Remain, falls, in_falling, from_falling, current_falls}
+use Rattle.byte_unit_base.proofs.Falling.{largest_found}
 use Rattle.byte_unit_base.proofs.Falling.{Remain-after, Remain-at_end, units_per_prefix, drop_prefixes}
 
 -- the unit of a row of the table, as a `Shape`
@@ -49,19 +51,22 @@ abbrev all_reach_prefix : List Shape → Bool
 all_reach_prefix [] = true
 all_reach_prefix (x ∷ xs) = leb (2 ^ (10 * x.power - 1)) (bits x) && all_reach_prefix xs
 
-listed_reaches_prefix : (units : List Shape) (unit : Shape) → all_reach_prefix units ≡ true → IsIn unit units → 2 ^ (10 * unit.power - 1) ≤ bits unit
+listed_reaches_prefix : (units : List Shape) (unit : Shape) → all_reach_prefix units ≡ true → IsIn unit units
+    → 2 ^ (10 * unit.power - 1) ≤ bits unit
 listed_reaches_prefix [] unit h i = absurd i
 listed_reaches_prefix (x ∷ xs) unit h i =
     let parts = and_parts (leb (2 ^ (10 * x.power - 1)) (bits x)) (all_reach_prefix xs) h in
     let ReachesPrefix : Shape → Type 0 = λ s. 2 ^ (10 * s.power - 1) ≤ bits s in
-    ⊎_elim (λ e. subst ReachesPrefix e (leb-true (2 ^ (10 * x.power - 1)) (bits x) parts.0)) (λ later. listed_reaches_prefix xs unit parts.1 later) i
+    ⊎_elim (λ e. subst ReachesPrefix e (leb-true (2 ^ (10 * x.power - 1)) (bits x) parts.0))
+    (λ later. listed_reaches_prefix xs unit parts.1 later) i
 
 known_units_reach_prefix : all_reach_prefix (falling_from All known_prefixes) ≡ true
 known_units_reach_prefix = refl
 
 reaches_its_prefix : (unit : Shape) → HasPrefix current unit → 2 ^ (10 * unit.power - 1) ≤ bits unit
 reaches_its_prefix unit prefix =
-    listed_reaches_prefix (falling_from All known_prefixes) unit known_units_reach_prefix (in_falling All known_prefixes unit tt prefix.some prefix.known)
+    listed_reaches_prefix (falling_from All known_prefixes) unit known_units_reach_prefix
+    (in_falling All known_prefixes unit tt prefix.some prefix.known)
 
 -- if a unit is not above a size of this many binary digits, ten times the place of its prefix is at most their number
 pub prefix_within : (in_bits digits : ℕ) (unit : Shape) → in_bits < 2 ^ 128 → digits ≡ 128 - leading_zeros w128 in_bits
@@ -72,13 +77,15 @@ prefix_within in_bits digits unit small count prefix not_above =
     let reached = reaches_its_prefix unit prefix in
     ⊎_elim
     (λ fewer.
-    let more = pow-le-pow_right {n = 2} (omega arith) {i = suc top.0} {j = 10 * unit.power - 1} (omega (arith, fewer, count, top.1)) in
+    let more = pow-le-pow_right {n = 2} (omega arith) {i = suc top.0} {j = 10 * unit.power - 1}
+    (omega (arith, fewer, count, top.1)) in
     absurd (omega (arith, more, reached, not_above, top.3)))
     (λ k. k)
     (cases_lt digits (10 * unit.power))
 
 -- the number of all units of a set is a multiple of the number of prefix letters
-length_of_all : (family : Family) → length (falling_from family known_prefixes) / known_prefixes ≡ units_per_prefix family
+length_of_all : (family : Family) → length (falling_from family known_prefixes) / known_prefixes
+    ≡ units_per_prefix family
 length_of_all All = omega arith
 length_of_all Bytes = omega arith
 length_of_all Bits = omega arith
@@ -90,18 +97,24 @@ pub rows_behind : (family : Family) (rows : List Row) (prefixes skipped : ℕ)
     → map row_shape (drop skipped rows) ≡ map row_of (falling_from family prefixes)
 rows_behind family rows prefixes skipped all few count =
     let units = falling_from family known_prefixes in
-    let lengths : length rows ≡ length units = sym (length-map rows row_shape) ∙ (ap length all ∙ length-map units row_of) in
-    let across : length rows / known_prefixes ≡ units_per_prefix family = ap (λ n. n / known_prefixes) lengths ∙ length_of_all family in
-    let here : skipped ≡ units_per_prefix family * (known_prefixes - prefixes) = count ∙ ap (λ n. n * (known_prefixes - prefixes)) across in
+    let lengths : length rows ≡ length units =
+    sym (length-map rows row_shape) ∙ (ap length all ∙ length-map units row_of) in
+    let across : length rows / known_prefixes ≡ units_per_prefix family =
+    ap (λ n. n / known_prefixes) lengths ∙ length_of_all family in
+    let here : skipped ≡ units_per_prefix family * (known_prefixes - prefixes) =
+    count ∙ ap (λ n. n * (known_prefixes - prefixes)) across in
     let total : (known_prefixes - prefixes) + prefixes ≡ known_prefixes = omega (arith, few) in
-    let DropsToUnits : ℕ → Type 0 = λ n. drop (units_per_prefix family * (known_prefixes - prefixes)) (falling_from family n) ≡ falling_from family prefixes in
+    let DropsToUnits : ℕ → Type 0 =
+    λ n. drop (units_per_prefix family * (known_prefixes - prefixes))
+    (falling_from family n) ≡ falling_from family prefixes in
     let behind = subst DropsToUnits total (drop_prefixes family (known_prefixes - prefixes) prefixes) in
     sym (drop-map row_shape skipped rows)
     ∙ (ap (drop skipped) all
     ∙ (drop-map row_of skipped units
     ∙ ap (map row_of) (ap (λ n. drop n units) here ∙ behind)))
 
-units_of_rows : (rows : List Row) (units : List Shape) → map row_shape rows ≡ map row_of units → map unit_in rows ≡ units
+units_of_rows : (rows : List Row) (units : List Shape) → map row_shape rows ≡ map row_of units
+    → map unit_in rows ≡ units
 units_of_rows [] [] e = refl
 units_of_rows [] (x ∷ xs) e = absurd (let k : ⊥ = cc in k)
 units_of_rows (r ∷ rs) [] e = absurd (let k : ⊥ = cc in k)
@@ -117,14 +130,16 @@ pub listed_units : (family : Family) (in_bits first : ℕ) (rows : List Row) (h 
 listed_units family in_bits first rows h = units_of_rows rows (falling_from family h.prefixes) h.rows_are
 
 -- at the start of the search, each unit that has the property is among the rows
-pub search_start : (Has : Shape → Type 0) (family : Family) (in_bits first : ℕ) (rows : List Row) → ListsUnits family in_bits first rows
+pub search_start : (Has : Shape → Type 0) (family : Family) (in_bits first : ℕ) (rows : List Row)
+    → ListsUnits family in_bits first rows
     → ((unit : Shape) → Has unit → InFamily current family unit × (bits unit ≤ in_bits) × (unit.power ≤ first))
     → Remain Has (drop 0 (map unit_in rows))
 search_start Has family in_bits first rows h within = λ unit has.
     let m = within unit has in
     let IsAmong : List Shape → Type 0 = λ l. IsIn unit l in
     let known = h.within unit m.0.prefix m.1 m.2 in
-    subst IsAmong (sym (listed_units family in_bits _ rows h)) (in_falling family h.prefixes unit m.0.kind m.0.prefix.some known)
+    subst IsAmong (sym (listed_units family in_bits _ rows h))
+    (in_falling family h.prefixes unit m.0.kind m.0.prefix.some known)
 
 -- the unit of the row is in the unit set, and the row has its bits and exponents
 pub record IsRow (family : Family) (row : Row) : Type 0 where
@@ -134,7 +149,8 @@ pub record IsRow (family : Family) (row : Row) : Type 0 where
   pub fives_are : row.fives ≡ fives (unit_in row)
 
 -- the row at an index of the listed rows is the row of a unit of the set
-pub row_at_is_row : {family : Family} {in_bits first : ℕ} {rows : List Row} (i : ℕ) (d : Row) → ListsUnits family in_bits first rows
+pub row_at_is_row : {family : Family} {in_bits first : ℕ} {rows : List Row} (i : ℕ) (d : Row)
+    → ListsUnits family in_bits first rows
     → i < length rows → IsRow family (get_or rows i d)
 row_at_is_row {family} {in_bits} {first} {rows} i d h within =
     let units = falling_from family h.prefixes in
@@ -159,7 +175,8 @@ row_at_is_row {family} {in_bits} {first} {rows} i d h within =
       fives_are = ap (λ row. row.fives) same ∙ ap fives (sym is_unit);
     }
 
-few_prefixes : (power a b : ℕ) (binary bit : Bool) → twos (shape power binary bit) ≤ a → fives (shape power binary bit) ≤ b
+few_prefixes : (power a b : ℕ) (binary bit : Bool) → twos (shape power binary bit) ≤ a
+    → fives (shape power binary bit) ≤ b
     → power ≤ max (a / 10) (b / 3)
 few_prefixes power a b true bit few_twos few_fives = omega (arith, few_twos)
 few_prefixes power a b false bit few_twos few_fives = omega (arith, few_fives)
@@ -172,7 +189,8 @@ power_of_powers unit a b = few_prefixes unit.power a b unit.binary unit.bit
 pub row_multiple : {family : Family} {row : Row} → IsRow family row → IsMultiple row
 row_multiple {family} {row} is =
     let member = is.member in
-    let first = pow-le-pow_right {n = 2} (omega arith) {i = 9} {j = 10 * (unit_in row).power - 1} (omega (arith, member.prefix.some)) in
+    let first = pow-le-pow_right {n = 2} (omega arith) {i = 9} {j = 10 * (unit_in row).power - 1}
+    (omega (arith, member.prefix.some)) in
     let twos_same = ap (λ n. 2 ^ n * 5 ^ fives (unit_in row)) (sym is.twos_are) in
     let fives_same = ap (λ n. 2 ^ row.twos * 5 ^ n) (sym is.fives_are) in
     record {
@@ -183,7 +201,8 @@ row_multiple {family} {row} is =
 
 -- the unit of the first row that has the property is the largest unit that has it
 pub unit_found : {family : Family} {in_bits first : ℕ} {rows : List Row} (Has : Shape → Type 0) (i : ℕ) (d : Row)
-    → ListsUnits family in_bits first rows → Remain Has (drop i (map unit_in rows)) → i < length rows → Has (unit_in (get_or rows i d))
+    → ListsUnits family in_bits first rows → Remain Has (drop i (map unit_in rows)) → i < length rows
+    → Has (unit_in (get_or rows i d))
     → IsLargest Has (unit_in (get_or rows i d))
 unit_found {family} {in_bits} {first} {rows} Has i d h remain within has =
     let unit = unit_in (get_or rows i d) in
@@ -201,9 +220,11 @@ unit_passed Has rows i d remain within without =
     Remain-after Has (map unit_in rows) i unit remain there (get_or-map unit_in rows i d unit within) without
 
 -- if no row is left, no unit has the property
-pub none_found : (Has : Shape → Type 0) (rows : List Row) (i : ℕ) → length rows ≤ i → Remain Has (drop i (map unit_in rows))
+pub none_found : (Has : Shape → Type 0) (rows : List Row) (i : ℕ) → length rows ≤ i
+    → Remain Has (drop i (map unit_in rows))
     → NoneHas Has
-none_found Has rows i done remain = Remain-at_end Has (map unit_in rows) i (omega (arith, length-map rows unit_in, done)) remain
+none_found Has rows i done remain =
+    Remain-at_end Has (map unit_in rows) i (omega (arith, length-map rows unit_in, done)) remain
 
 -- a fact does not hold if a test that holds with it has failed
 pub not_if_test_fails : (b : Bool) (Fact : Type 0) → b ≡ false → (Fact → b ≡ true) → ¬ Fact

@@ -1,6 +1,7 @@
 -- A state machine that reads an input character by character, over any set of states: what it returns, the longest
 -- viable prefix and the error after it.
-use Rattle.std.proofs.Common.{◌≡◌, ℕ, ◌+◌, ◌<◌, ◌⊎◌, inl, inr, List, [], ◌∷◌, ◌++◌, Option, Some, None, Result, Ok, Err, option_and_then}
+use Rattle.std.proofs.Common.{◌≡◌, ℕ, ◌+◌, ◌<◌, ◌⊎◌, inl, inr, List, [], ◌∷◌, ◌++◌, Option, Some, None, Result, Ok, Err}
+use Rattle.std.proofs.Common.{option_and_then}
 use Rattle.std.proofs.Common.{length, drop, get_or, sym, refl, ap, subst, ◌∙◌, arith, append-nil}
 use Rattle.std.specs.Prelude.{◌↔◌, ⊤, IfOk, IfErr, IsOkAnd}
 use Rattle.std.proofs.lemmas.List.{at_drop_all}
@@ -15,14 +16,16 @@ use Rattle.byte_unit_base.proofs.Options.{some_passed}
 -- the state after a text
 
 module _ {S : Type 0} (step : S → ℕ → Option S) where
-  run_append_from : (xs ys : List ℕ) → ((t : S) → run step t (xs ++ ys) ≡ option_and_then (λ u. run step u ys) (run step t xs))
+  run_append_from : (xs ys : List ℕ) → ((t : S)
+      → run step t (xs ++ ys) ≡ option_and_then (λ u. run step u ys) (run step t xs))
       → (o : Option S) → option_and_then (λ t. run step t (xs ++ ys)) o ≡ option_and_then (λ u. run step u ys)
       (option_and_then (λ t. run step t xs) o)
   run_append_from xs ys next None = refl
   run_append_from xs ys next (Some t) = next t
 
   -- the state after two texts is that after the second, from the state after the first
-  pub run-append : (s : S) (xs ys : List ℕ) → run step s (xs ++ ys) ≡ option_and_then (λ u. run step u ys) (run step s xs)
+  pub run-append : (s : S) (xs ys : List ℕ)
+      → run step s (xs ++ ys) ≡ option_and_then (λ u. run step u ys) (run step s xs)
   run-append s [] ys = refl
   run-append s (c ∷ xs) ys = run_append_from xs ys (λ t. run-append t xs ys) (step s c)
 
@@ -44,7 +47,8 @@ module _ {S : Type 0} (step : S → ℕ → Option S) (Holds : S → List ℕ �
     (keeps : (s t : S) (c : ℕ) (text : List ℕ) → step s c ≡ Some t → Holds s text → Holds t (text ++ c ∷ [])) where
   -- what holds at the start, and after each step if before it, holds at the state after a text
   pub run_keeps : (xs front : List ℕ) (s t : S) → run step s xs ≡ Some t → Holds s front → Holds t (front ++ xs)
-  run_keeps [] front s t e p = let k : s ≡ t = cc in subst (λ u. Holds u (front ++ [])) k (subst (Holds s) (sym (append-nil front)) p)
+  run_keeps [] front s t e p =
+      let k : s ≡ t = cc in subst (λ u. Holds u (front ++ [])) k (subst (Holds s) (sym (append-nil front)) p)
   run_keeps (c ∷ xs) front s t e p =
       let u = some_passed (λ v. run step v xs) t (step s c) e in
       subst (Holds t) (push_append front xs c) (run_keeps xs (front ++ c ∷ []) u.0 t u.2 (keeps s u.0 c front u.1 p))
@@ -66,7 +70,14 @@ module _ {S : Type 0} (step : S → ℕ → Option S) where
     pub stops : CannotStep state rest
 
   stop_after : (s : S) (c : ℕ) (cs : List ℕ) → ((t : S) → Stop t cs) → (o : Option S) → step s c ≡ o → Stop s (c ∷ cs)
-  stop_after s c cs next None e = record { front = []; rest = c ∷ cs; state = s; text_is = refl; run_is = refl; stops = e }
+  stop_after s c cs next None e = record {
+    front = [];
+    rest = c ∷ cs;
+    state = s;
+    text_is = refl;
+    run_is = refl;
+    stops = e;
+  }
   stop_after s c cs next (Some t) e =
       let n = next t in
       record {
@@ -137,7 +148,8 @@ pub record IsScanned {S Meaning : Type 0} (scan : Scan S Meaning) (place : Place
 
 -- the state machine accepts exactly the inputs that have a meaning, and its states are exactly those after the viable
 -- prefixes. `Reached` is what is known of the text that led to a state. All the laws of the parsers rest on it
-pub record IsScanOf {S Meaning : Type 0} (scan : Scan S Meaning) (Reached : S → List ℕ → Type 0) (IsFront : Place → List ℕ → Type 0)
+pub record IsScanOf {S Meaning : Type 0} (scan : Scan S Meaning) (Reached : S → List ℕ → Type 0)
+    (IsFront : Place → List ℕ → Type 0)
     (Means : List ℕ → Meaning → Type 0) : Type 0 where
   -- the first state is that of no text, and each step adds its character to the text
   pub starts : Reached scan.start []
@@ -146,34 +158,39 @@ pub record IsScanOf {S Meaning : Type 0} (scan : Scan S Meaning) (Reached : S �
   pub front : (s : S) (text : List ℕ) → Reached s text → IsFront (scan.place s) text
   pub front_read : (place : Place) (text : List ℕ) → IsFront place text → IsScanned scan place text
   -- an input that ends in a state has the error of its parser state, or a meaning
-  pub ends : (s : S) (text : List ℕ) → Reached s text → EndsIn (Means text) (fault_at_end (scan.place s)) (scan.at_end s)
+  pub ends : (s : S) (text : List ℕ) → Reached s text
+      → EndsIn (Means text) (fault_at_end (scan.place s)) (scan.at_end s)
   -- the result for an input that has a meaning is this meaning
   pub meaning_read : (text : List ℕ) (meaning : Meaning) → Means text meaning
       → (s : S) × (run scan.step scan.start text ≡ Some s) × (scan.at_end s ≡ Ok meaning)
   -- each state can be completed: with some rest, the input has a meaning
   pub goes_on : (s : S) → (rest : List ℕ) × (meaning : Meaning) × (read scan s rest ≡ Ok meaning)
 
-module _ {S Meaning : Type 0} {scan : Scan S Meaning} {Reached : S → List ℕ → Type 0} {IsFront : Place → List ℕ → Type 0}
+module _ {S Meaning : Type 0} {scan : Scan S Meaning} {Reached : S → List ℕ → Type 0}
+    {IsFront : Place → List ℕ → Type 0}
     {Means : List ℕ → Meaning → Type 0} (is : IsScanOf scan Reached IsFront Means) where
   -- what is known at a state holds of the text that led to it
   reached : (text : List ℕ) (s : S) → run scan.step scan.start text ≡ Some s → Reached s text
   reached text s e = run_keeps scan.step Reached is.steps text [] scan.start s e is.starts
 
   -- if the state machine stops after a text, no longer beginning of the input is a viable prefix
-  no_longer_front : (s : S) (front rest : List ℕ) → run scan.step scan.start front ≡ Some s → CannotStep scan.step s rest
+  no_longer_front : (s : S) (front rest : List ℕ) → run scan.step scan.start front ≡ Some s
+      → CannotStep scan.step s rest
       → NoLongerFront IsFront front rest
   no_longer_front s front rest e stops farther [] others r f = refl
   no_longer_front s front [] e stops farther (x ∷ xs) others r f = absurd (let k : ⊥ = cc in k)
   no_longer_front s front (c ∷ cs) e stops farther (x ∷ xs) others r f =
       let g = is.front_read farther (front ++ x ∷ xs) f in
       let same : c ≡ x = cc in
-      let gone : run scan.step s (x ∷ xs) ≡ None = ap (option_and_then (λ u. run scan.step u xs)) (ap (scan.step s) (sym same) ∙ stops) in
+      let gone : run scan.step s (x ∷ xs) ≡ None =
+      ap (option_and_then (λ u. run scan.step u xs)) (ap (scan.step s) (sym same) ∙ stops) in
       let both : Some g.state ≡ None = sym g.run_is ∙ (run_through scan.step scan.start s front (x ∷ xs) e ∙ gone) in
       absurd (let k : ⊥ = cc in k)
 
   -- the error where the state machine stops is the error of the input
   first_fault : (text : List ℕ) (stop : Stop scan.step scan.start text) (fault : Fault)
-      → IsFaultAfter current scan.flags (scan.place stop.state) stop.rest fault → IsFirstFault IsFront current scan.flags text fault
+      → IsFaultAfter current scan.flags (scan.place stop.state) stop.rest fault
+      → IsFirstFault IsFront current scan.flags text fault
   first_fault text stop fault h = record {
     place = scan.place stop.state;
     front = stop.front;
@@ -186,34 +203,46 @@ module _ {S Meaning : Type 0} {scan : Scan S Meaning} {Reached : S → List ℕ 
     fault_is = h;
   }
 
-  answer_at_end : (s : S) (text : List ℕ) → run scan.step scan.start text ≡ Some s → (o : Option Fault) → fault_at_end (scan.place s) ≡ o
-      → EndsIn (Means text) o (scan.at_end s) → IsAnswer (Means text) (IsFirstFault IsFront current scan.flags text) (scan.at_end s)
+  answer_at_end : (s : S) (text : List ℕ) → run scan.step scan.start text ≡ Some s → (o : Option Fault)
+      → fault_at_end (scan.place s) ≡ o
+      → EndsIn (Means text) o (scan.at_end s)
+      → IsAnswer (Means text) (IsFirstFault IsFront current scan.flags text) (scan.at_end s)
   answer_at_end s text e None at ends =
       subst (IsAnswer (Means text) (IsFirstFault IsFront current scan.flags text)) (sym ends.2) ends.1
   answer_at_end s text e (Some fault) at ends =
       let stop : Stop scan.step scan.start text =
       record { front = text; rest = []; state = s; text_is = sym (append-nil text); run_is = e; stops = tt } in
-      subst (IsAnswer (Means text) (IsFirstFault IsFront current scan.flags text)) (sym ends) (first_fault text stop fault at)
+      subst (IsAnswer (Means text) (IsFirstFault IsFront current scan.flags text)) (sym ends)
+      (first_fault text stop fault at)
 
-  answer_where_stopped : (s : S) (text front rest : List ℕ) → text ≡ front ++ rest → run scan.step scan.start front ≡ Some s
-      → CannotStep scan.step s rest → IsAnswer (Means text) (IsFirstFault IsFront current scan.flags text) (read scan s rest)
+  answer_where_stopped : (s : S) (text front rest : List ℕ) → text ≡ front ++ rest
+      → run scan.step scan.start front ≡ Some s
+      → CannotStep scan.step s rest → IsAnswer (Means text) (IsFirstFault IsFront current scan.flags text)
+      (read scan s rest)
   answer_where_stopped s text front [] t e stops =
-      let IsAnswerFor : List ℕ → Type 0 = λ x. IsAnswer (Means x) (IsFirstFault IsFront current scan.flags x) (scan.at_end s) in
+      let IsAnswerFor : List ℕ → Type 0 =
+      λ x. IsAnswer (Means x) (IsFirstFault IsFront current scan.flags x) (scan.at_end s) in
       let here = answer_at_end s front e (fault_at_end (scan.place s)) refl (is.ends s front (reached front s e)) in
       subst IsAnswerFor (sym (t ∙ append-nil front)) here
   answer_where_stopped s text front (c ∷ cs) t e stops =
-      let IsAnswerFor : Result Meaning Fault → Type 0 = IsAnswer (Means text) (IsFirstFault IsFront current scan.flags text) in
+      let IsAnswerFor : Result Meaning Fault → Type 0 =
+      IsAnswer (Means text) (IsFirstFault IsFront current scan.flags text) in
       let stop : Stop scan.step scan.start text =
       record { front = front; rest = c ∷ cs; state = s; text_is = t; run_is = e; stops = stops } in
-      subst IsAnswerFor (sym (read_none scan s c cs stops)) (first_fault text stop (fault_at current scan.flags (scan.place s) c) refl)
+      subst IsAnswerFor (sym (read_none scan s c cs stops))
+      (first_fault text stop (fault_at current scan.flags (scan.place s) c) refl)
 
   -- the result for an input is its meaning or its error
-  pub reads_meaning_or_fault : (text : List ℕ) → IsAnswer (Means text) (IsFirstFault IsFront current scan.flags text) (read scan scan.start text)
+  pub reads_meaning_or_fault : (text : List ℕ)
+      → IsAnswer (Means text) (IsFirstFault IsFront current scan.flags text) (read scan scan.start text)
   reads_meaning_or_fault text =
       let stop = stop_of scan.step scan.start text in
-      let IsItsAnswer : Result Meaning Fault → Type 0 = IsAnswer (Means text) (IsFirstFault IsFront current scan.flags text) in
-      let same = ap (read scan scan.start) stop.text_is ∙ read_through scan scan.start stop.state stop.front stop.rest stop.run_is in
-      subst IsItsAnswer (sym same) (answer_where_stopped stop.state text stop.front stop.rest stop.text_is stop.run_is stop.stops)
+      let IsItsAnswer : Result Meaning Fault → Type 0 =
+      IsAnswer (Means text) (IsFirstFault IsFront current scan.flags text) in
+      let same = ap (read scan scan.start) stop.text_is
+      ∙ read_through scan scan.start stop.state stop.front stop.rest stop.run_is in
+      subst IsItsAnswer (sym same) (answer_where_stopped stop.state text stop.front stop.rest stop.text_is stop.run_is
+      stop.stops)
 
   -- the result for an input that has a meaning is this meaning
   pub reads_meaning : (text : List ℕ) (meaning : Meaning) → Means text meaning → read scan scan.start text ≡ Ok meaning
@@ -221,7 +250,8 @@ module _ {S Meaning : Type 0} {scan : Scan S Meaning} {Reached : S → List ℕ 
       let r = is.meaning_read text meaning h in
       ap (read scan scan.start) (sym (append-nil text)) ∙ (read_through scan scan.start r.0 text [] r.1 ∙ r.2)
 
-  fault_of_end : (Here : Meaning → Type 0) (o : Option Fault) (answer : Result Meaning Fault) (fault : Fault) → EndsIn Here o answer
+  fault_of_end : (Here : Meaning → Type 0) (o : Option Fault) (answer : Result Meaning Fault) (fault : Fault)
+      → EndsIn Here o answer
       → o ≡ Some fault → answer ≡ Err fault
   fault_of_end Here None answer fault ends e = absurd (let k : ⊥ = cc in k)
   fault_of_end Here (Some other) answer fault ends e = let same : other ≡ fault = cc in ends ∙ ap Err same
@@ -231,7 +261,8 @@ module _ {S Meaning : Type 0} {scan : Scan S Meaning} {Reached : S → List ℕ 
       → (o : Option S) → scan.step s c ≡ o → scan.step s c ≡ None
   no_step s front cs c r longest None e = e
   no_step s front cs c r longest (Some t) e =
-      let none : c ∷ [] ≡ [] = longest (scan.place t) (c ∷ []) cs refl (is.front t (front ++ c ∷ []) (is.steps s t c front e r)) in
+      let none : c ∷ [] ≡ [] = longest (scan.place t) (c ∷ []) cs refl
+      (is.front t (front ++ c ∷ []) (is.steps s t c front e r)) in
       absurd (let k : ⊥ = cc in k)
 
   fault_of_rest : (s : S) (front rest : List ℕ) (fault : Fault) → Reached s front → NoLongerFront IsFront front rest
@@ -249,11 +280,13 @@ module _ {S Meaning : Type 0} {scan : Scan S Meaning} {Reached : S → List ℕ 
       let IsFaultIn : Place → Type 0 = λ place. IsFaultAfter current scan.flags place h.rest fault in
       let rest = fault_of_rest r.state h.front h.rest fault (reached h.front r.state r.run_is) h.longest.longest
       (subst IsFaultIn (sym r.place_is) h.fault_is) in
-      ap (read scan scan.start) h.longest.text_is ∙ (read_through scan scan.start r.state h.front h.rest r.run_is ∙ rest)
+      ap (read scan scan.start) h.longest.text_is
+      ∙ (read_through scan scan.start r.state h.front h.rest r.run_is ∙ rest)
 
   some_answer : (text : List ℕ) (answer : Result Meaning Fault)
       → IsAnswer (Means text) (IsFirstFault IsFront current scan.flags text) answer
-      → ((meaning : Meaning) × Means text meaning) ⊎ ((fault : Fault) × IsFirstFault IsFront current scan.flags text fault)
+      → ((meaning : Meaning) × Means text meaning)
+      ⊎ ((fault : Fault) × IsFirstFault IsFront current scan.flags text fault)
   some_answer text (Ok meaning) h = inl (meaning, h)
   some_answer text (Err fault) h = inr (fault, h)
 
@@ -271,10 +304,15 @@ module _ {S Meaning : Type 0} {scan : Scan S Meaning} {Reached : S → List ℕ 
       let r = is.front_read place text h in
       let g = is.goes_on r.state in
       let whole = text ++ g.0 in
-      let e = read_through scan scan.start r.state text g.0 r.run_is ∙ g.2 in
-      (g.0, g.1, subst (IsAnswer (Means whole) (IsFirstFault IsFront current scan.flags whole)) e (reads_meaning_or_fault whole))
+      let e = read_through scan scan.start r.state text g.0 r.run_is ∙ g.2 in (
+        g.0,
+        g.1,
+        subst (IsAnswer (Means whole) (IsFirstFault IsFront current scan.flags whole)) e
+            (reads_meaning_or_fault whole),
+      )
 
-  beginning_is_front : (text rest : List ℕ) (meaning : Meaning) → Means (text ++ rest) meaning → (place : Place) × IsFront place text
+  beginning_is_front : (text rest : List ℕ) (meaning : Meaning) → Means (text ++ rest) meaning
+      → (place : Place) × IsFront place text
   beginning_is_front text rest meaning h =
       let r = is.meaning_read (text ++ rest) meaning h in
       let t = run_before scan.step scan.start r.0 text rest r.1 in
@@ -287,18 +325,24 @@ module _ {S Meaning : Type 0} {scan : Scan S Meaning} {Reached : S → List ℕ 
   -- what the contract of a parser says
   module _ {R E : Type 0} (meaning : R → Meaning) (fault : E → Fault) (text : List ℕ) where
     -- what a parser returns, if it returns the result of the state machine, is a meaning of the input
-    pub read_found : (r : Result R E) → seen meaning fault r ≡ read scan scan.start text → IfOk r (λ value. Means text (meaning value))
-    read_found (Ok value) e = subst (IsAnswer (Means text) (IsFirstFault IsFront current scan.flags text)) (sym e) (reads_meaning_or_fault text)
+    pub read_found : (r : Result R E) → seen meaning fault r ≡ read scan scan.start text
+        → IfOk r (λ value. Means text (meaning value))
+    read_found (Ok value) e =
+        subst (IsAnswer (Means text) (IsFirstFault IsFront current scan.flags text)) (sym e)
+        (reads_meaning_or_fault text)
     read_found (Err error) e = tt
 
     -- the error that a parser returns, if it returns the result of the state machine, is that of the input
     pub read_refused : (r : Result R E) → seen meaning fault r ≡ read scan scan.start text
         → IfErr r (λ error. IsFirstFault IsFront current scan.flags text (fault error))
     read_refused (Ok value) e = tt
-    read_refused (Err error) e = subst (IsAnswer (Means text) (IsFirstFault IsFront current scan.flags text)) (sym e) (reads_meaning_or_fault text)
+    read_refused (Err error) e =
+        subst (IsAnswer (Means text) (IsFirstFault IsFront current scan.flags text)) (sym e)
+        (reads_meaning_or_fault text)
 
     -- if the input has a meaning, a parser that returns the result of the state machine returns it
     pub read_meant : (r : Result R E) (m : Meaning) → seen meaning fault r ≡ read scan scan.start text → Means text m
         → IsOkAnd r (λ value. meaning value ≡ m)
     read_meant (Ok value) m e h = let k : Ok (meaning value) ≡ Ok m = e ∙ reads_meaning text m h in cc
-    read_meant (Err error) m e h = let k : Err (fault error) ≡ Ok m = e ∙ reads_meaning text m h in absurd (let z : ⊥ = cc in z)
+    read_meant (Err error) m e h =
+        let k : Err (fault error) ≡ Ok m = e ∙ reads_meaning text m h in absurd (let z : ⊥ = cc in z)

@@ -1,5 +1,6 @@
 -- The fast path reads the digits of a number at once, and gets to the state that the state machine has after them.
-use Rattle.std.proofs.Common.{◌≡◌, ℕ, ◌+◌, ◌*◌, ◌<◌, ◌≤◌, inl, inr, List, [], ◌∷◌, ◌++◌, Some, IfSome, length, take, drop, refl, sym, ap, ◌∙◌, arith}
+use Rattle.std.proofs.Common.{◌≡◌, ℕ, ◌+◌, ◌*◌, ◌<◌, ◌≤◌, inl, inr, List, [], ◌∷◌, ◌++◌, Some, IfSome, length, take}
+use Rattle.std.proofs.Common.{drop, refl, sym, ap, ◌∙◌, arith}
 use Rattle.std.proofs.Common.{take-append-drop}
 use Rattle.std.specs.Str.{chars, IsUtf8, IsCharBoundary}
 use Rattle.std.specs.Str.Parse.{IsNumeral}
@@ -13,7 +14,8 @@ use Rattle.byte_unit_base.specs.Scan.{run, read}
 use Rattle.byte_unit_base.specs.SizeScan.{IsScan, size_step, size_scan, precise, number_of}
 use Rattle.byte_unit_base.specs.FastReading.{AreDigits, AreScanned}
 use Rattle.byte_unit_base.specs.declared.read.scan.SizeScan.{SizeScan}
-use Rattle.byte_unit_base.specs.declared.read.scan.SizeScan.TheVariants.{Beginning, Whole, Point, Fraction, Gap, Unit as UnitAt}
+use Rattle.byte_unit_base.specs.declared.read.scan.SizeScan.TheVariants.{Beginning, Whole, Point, Fraction, Gap}
+use Rattle.byte_unit_base.specs.declared.read.scan.SizeScan.TheVariants.{Unit as UnitAt}
 use Rattle.byte_unit_base.proofs.Scans.{run_through, run_step, run_keeps, read_through}
 use Rattle.byte_unit_base.proofs.SizeSteps.{step_cases, step_keeps}
 use Rattle.byte_unit_base.proofs.SizeReached.{SizeReached, SizeReached-step, fraction_number}
@@ -23,7 +25,8 @@ use Rattle.byte_unit_base.proofs.FastReads.{are_numeral, ArePrecise, precise_tex
 
 whole_part : (bytes : List ℕ) (end whole : ℕ) → AreDigits bytes end whole → 0 < end → whole < whole_limit
     → IsWholePart current (take end bytes) whole
-whole_part bytes end whole digits some below = ((are_numeral bytes end whole digits some, digits.digits), digits.value_is, below)
+whole_part bytes end whole digits some below =
+    ((are_numeral bytes end whole digits some, digits.digits), digits.value_is, below)
 
 -- after the digits of a whole part, the state machine is in the state of this whole part
 pub whole_scanned : (bytes : List ℕ) (end whole : ℕ) → AreDigits bytes end whole → 0 < end → whole < whole_limit
@@ -42,10 +45,13 @@ precise_run : (bytes : List ℕ) (end whole places fraction : ℕ) → ArePrecis
 precise_run bytes end whole places fraction number =
     let digits = take places (drop (end + 1) bytes) in
     let few = length-take-le places (drop (end + 1) bytes) number.fraction_is.within in
-    let numeral : IsNumeral 10 digits =
-    (are_numeral (drop (end + 1) bytes) places fraction number.fraction_is number.some_places, number.fraction_is.digits) in
+    let numeral : IsNumeral 10 digits = (
+      are_numeral (drop (end + 1) bytes) places fraction number.fraction_is number.some_places,
+      number.fraction_is.digits,
+    ) in
     let behind = run_places digits whole numeral (omega (arith, few, number.few_places)) in
-    let front = run_whole (take end bytes) whole (whole_part bytes end whole number.whole_is number.some number.below) in
+    let front = run_whole (take end bytes) whole
+    (whole_part bytes end whole number.whole_is number.some number.below) in
     ap (run size_step Beginning) (precise_text bytes end whole places fraction number)
     ∙ (run_through size_step Beginning (Whole whole) (take end bytes) (point ∷ digits) front
     ∙ (run_step size_step (Whole whole) (Point whole) point digits (step_point whole)
@@ -67,11 +73,13 @@ precise_scanned bytes end whole places fraction number within =
 -- the invariant of states holds at the state after the digits
 pub scanned_bounds : (bytes : List ℕ) (end : ℕ) (state : SizeScan) → AreScanned bytes end state → IsScan state
 scanned_bounds bytes end state scanned =
-    run_keeps size_step (λ s text. IsScan s) (λ s t c text e h. step_keeps s t c h (step_cases s t c e)) (take end bytes) (take 0 bytes)
+    run_keeps size_step (λ s text. IsScan s)
+    (λ s t c text e h. step_keeps s t c h (step_cases s t c e)) (take end bytes) (take 0 bytes)
     Beginning state scanned.run_is tt
 
 -- the digits end at a boundary of characters
-pub scanned_boundary : (bytes : List ℕ) (end : ℕ) (state : SizeScan) → IsUtf8 bytes → AreScanned bytes end state → IsCharBoundary bytes end
+pub scanned_boundary : (bytes : List ℕ) (end : ℕ) (state : SizeScan) → IsUtf8 bytes → AreScanned bytes end state
+    → IsCharBoundary bytes end
 scanned_boundary bytes end state utf8 scanned =
     IsCharBoundary-from_take bytes end utf8 scanned.within (IsUtf8-from_ascii (take end bytes) scanned.ascii)
 
@@ -102,5 +110,6 @@ pub number_scanned : (bytes : List ℕ) (end : ℕ) (state : SizeScan) → AreSc
     → IfSome (number_of state) (λ number. IsNumberText current (take end bytes) number)
 number_scanned bytes end state scanned =
     number_reached state (take end bytes)
-    (run_keeps size_step SizeReached (λ s t c text e r. SizeReached-step s t c text (step_cases s t c e) r) (take end bytes) [] Beginning
+    (run_keeps size_step SizeReached (λ s t c text e r. SizeReached-step s t c text (step_cases s t c e) r)
+    (take end bytes) [] Beginning
     state scanned.run_is refl)

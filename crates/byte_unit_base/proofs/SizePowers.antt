@@ -1,5 +1,6 @@
 -- Whether a size is exact in a unit follows from their exponents of 2 and 5; so does the unit that is chosen.
-use Rattle.std.proofs.Common.{◌≡◌, ◌≢◌, ℕ, ◌+◌, ◌*◌, ◌^◌, ◌<◌, ◌≤◌, ◌⊎◌, ⊎_elim, inl, inr, arith, refl, sym, ap, ◌∙◌, subst}
+use Rattle.std.proofs.Common.{◌≡◌, ◌≢◌, ℕ, ◌+◌, ◌*◌, ◌^◌, ◌<◌, ◌≤◌, ◌⊎◌, ⊎_elim, inl, inr, arith, refl, sym, ap, ◌∙◌}
+use Rattle.std.proofs.Common.{subst}
 use Rattle.std.proofs.Math.Nat.{pow-le-pow_right, mul-le-mul_left}
 use Rattle.std.proofs.lemmas.Nat.{pow-add}
 use Rattle.std.specs.Int.{w128, trailing_zeros}
@@ -54,7 +55,8 @@ pub in_bits_powers : (size divisor a b : ℕ) → (divisor ≡ 8) ⊎ (divisor �
     → IsTwoFive (size * divisor) (a + trailing_zeros w128 divisor) b
 in_bits_powers size divisor a b kind h =
     let HasPowersTimes : ℕ → Type 0 = λ d. IsTwoFive (size * d) (a + trailing_zeros w128 d) b in
-    let eight : HasPowersTimes 8 = subst (λ n. IsTwoFive (size * 8) (a + n) b) (sym eight_zeros) (eight_times size a b h) in
+    let eight : HasPowersTimes 8 = subst (λ n. IsTwoFive (size * 8) (a + n) b) (sym eight_zeros)
+    (eight_times size a b h) in
     let once : size ≡ size * 1 = omega arith in
     let none : a ≡ a + 0 = omega arith in
     let same = subst (λ n. IsTwoFive (size * 1) n b) none (subst (λ n. IsTwoFive n a b) once h) in
@@ -82,7 +84,8 @@ module _ (family : Family) (in_bits precision a b : ℕ) (powers : IsTwoFive in_
   states_of_powers unit h = record {
     member = h.member;
     not_above = h.not_above;
-    exact = (exact_by_powers in_bits (twos unit) (fives unit) a b (places_within precision) powers).1 (h.few_twos, h.few_fives);
+    exact = (exact_by_powers in_bits (twos unit) (fives unit) a b (places_within precision) powers).1
+        (h.few_twos, h.few_fives);
   }
 
   pub powers_of_states : (unit : Shape) → States current family in_bits precision unit → HasFewPowers unit
@@ -90,7 +93,8 @@ module _ (family : Family) (in_bits precision a b : ℕ) (powers : IsTwoFive in_
       let h = (exact_by_powers in_bits (twos unit) (fives unit) a b (places_within precision) powers).0 s.exact in
       record { member = s.member; not_above = s.not_above; few_twos = h.0; few_fives = h.1 }
 
-  pub largest_of_powers : (unit : Shape) → IsLargest HasFewPowers unit → IsLargest (States current family in_bits precision) unit
+  pub largest_of_powers : (unit : Shape) → IsLargest HasFewPowers unit
+      → IsLargest (States current family in_bits precision) unit
   largest_of_powers unit h = record {
     has = states_of_powers unit h.has;
     largest = λ other s. h.largest other (powers_of_states other s);
@@ -100,7 +104,8 @@ module _ (family : Family) (in_bits precision a b : ℕ) (powers : IsTwoFive in_
   none_of_powers none = λ unit s. none unit (powers_of_states unit s)
 
 -- the largest unit with no greater exponents than those of the size plus the places is chosen, with its quotient
-pub chosen_by_powers : {family : Family} {in_bits most a b number : ℕ} (precision : ℕ) (unit : Shape) → most ≡ places_within precision
+pub chosen_by_powers : {family : Family} {in_bits most a b number : ℕ} (precision : ℕ) (unit : Shape)
+    → most ≡ places_within precision
     → IsTwoFive in_bits a b → IsLargest (HasPowers family in_bits (a + most) (b + most)) unit
     → IsQuotient in_bits (bits unit) (places_within most) number → IsChosen current family in_bits precision unit number
 chosen_by_powers {family} {in_bits} {most} {a} {b} {number} precision unit same powers h q =
@@ -113,7 +118,8 @@ chosen_by_powers {family} {in_bits} {most} {a} {b} {number} precision unit same 
     }
 
 -- if no unit has exponents that are small enough, the size is exact in no unit
-pub none_by_powers : {family : Family} {in_bits most a b : ℕ} (precision : ℕ) → most ≡ places_within precision → IsTwoFive in_bits a b
+pub none_by_powers : {family : Family} {in_bits most a b : ℕ} (precision : ℕ) → most ≡ places_within precision
+    → IsTwoFive in_bits a b
     → NoneHas (HasPowers family in_bits (a + most) (b + most)) → NoneHas (States current family in_bits precision)
 none_by_powers {family} {in_bits} {most} {a} {b} precision same powers h =
     let none : ℕ → Type 0 = λ n. NoneHas (HasPowers family in_bits (a + n) (b + n)) in
@@ -131,7 +137,8 @@ exact_by_row {family} {in_bits} {most} {a} {b} {B} unit room same powers h =
     subst exact (sym same) (subst places within there)
 
 -- with at most five digits after the point, a size divided by a unit stays below the limit of a whole part
-pub count_fits : {row : Row} (size divisor places : ℕ) → IsMultiple row → (divisor ≡ 8) ⊎ (divisor ≡ 1) → size < current.size_limit
+pub count_fits : {row : Row} (size divisor places : ℕ) → IsMultiple row → (divisor ≡ 8) ⊎ (divisor ≡ 1)
+    → size < current.size_limit
     → places ≤ 5 → size * divisor * 10 ^ places < whole_limit * row.bits
 count_fits {row} size divisor places multiple kind small few =
     let tens = pow-le-pow_right {n = 10} (omega arith) {i = places} {j = 5} few in
@@ -141,7 +148,8 @@ count_fits {row} size divisor places multiple kind small few =
     omega (arith, scaled, in_bits, multiple.large)
 
 -- the steps of the two trials, and then of the division, are the step count of a choice
-pub counted_choice : {size number a b places : ℕ} (old mid new : ℕ) → IsTwoFive size a b → IsLeastPlaces number one places
+pub counted_choice : {size number a b places : ℕ} (old mid new : ℕ) → IsTwoFive size a b
+    → IsLeastPlaces number one places
     → mid ≡ raised old (a + b + 2) → new ≡ raised mid places → CountsChoice size number old new
 counted_choice {size} {number} {a} {b} {places} old mid new powers least trials division =
     let steps : TakesSteps size number (a + b + 2 + places) = record {
@@ -155,7 +163,8 @@ counted_choice {size} {number} {a} {b} {places} old mid new powers least trials 
     inr (a + b + 2 + places, steps, omega (arith, trials, division))
 
 -- a size in its own unit has the step count of a size for which no unit is chosen
-pub counted_whole : (size number old new : ℕ) → number ≡ size * one → CountsChoice size 0 old new → CountsChoice size number old new
+pub counted_whole : (size number old new : ℕ) → number ≡ size * one → CountsChoice size 0 old new
+    → CountsChoice size number old new
 counted_whole size number old new value (inl h) = inl h
 counted_whole size number old new value (inr (steps, t, e)) =
     let none : t.places ≤ 0 = t.is_places.least 0 (0, omega arith) in

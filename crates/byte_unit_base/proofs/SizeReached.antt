@@ -1,6 +1,7 @@
 -- What is known of the text that led to a state of the state machine of sizes, and that each step adds its character to
 -- it.
-use Rattle.std.proofs.Common.{◌≡◌, ℕ, zero, suc, ◌+◌, ◌-◌, ◌*◌, ◌^◌, ◌<◌, ◌≤◌, inl, inr, List, [], ◌∷◌, ◌++◌, length, replicate, sym, refl}
+use Rattle.std.proofs.Common.{◌≡◌, ℕ, zero, suc, ◌+◌, ◌-◌, ◌*◌, ◌^◌, ◌<◌, ◌≤◌, inl, inr, List, [], ◌∷◌, ◌++◌, length}
+use Rattle.std.proofs.Common.{replicate, sym, refl}
 use Rattle.std.proofs.Common.{ap, subst, ◌∙◌, arith, append_assoc, append-nil, length-append}
 use Rattle.std.specs.Char.{digit_value}
 use Rattle.std.specs.Str.Parse.{IsNumeral, digits_value}
@@ -12,7 +13,8 @@ use Rattle.byte_unit_base.specs.UnitScan.{start as unit_start}
 use Rattle.byte_unit_base.specs.SizeScan.{precise}
 use Rattle.byte_unit_base.specs.declared.unit.scan.UnitScan.{UnitScan}
 use Rattle.byte_unit_base.specs.declared.read.scan.SizeScan.{SizeScan}
-use Rattle.byte_unit_base.specs.declared.read.scan.SizeScan.TheVariants.{Beginning, Whole, Point, Fraction, Gap, Unit as UnitAt}
+use Rattle.byte_unit_base.specs.declared.read.scan.SizeScan.TheVariants.{Beginning, Whole, Point, Fraction, Gap}
+use Rattle.byte_unit_base.specs.declared.read.scan.SizeScan.TheVariants.{Unit as UnitAt}
 use Rattle.byte_unit_base.proofs.UnitReached.{Reached, Reached-step, Reached-start}
 use Rattle.byte_unit_base.proofs.SizeSteps.{UnitStep, AfterNumber, StepOf}
 use Rattle.byte_unit_base.proofs.Lists.{push_last}
@@ -95,7 +97,8 @@ unit_grows n c s t text r k =
     } in
     subst (λ x. SizeReached x (text ++ c ∷ [])) k.2 (grown, omega (arith, length-append r.unit_part (c ∷ [])))
 
-number_grows : (n c : ℕ) (t : SizeScan) (text : List ℕ) → IsNumberText current text n → AfterNumber n c t → SizeReached t (text ++ c ∷ [])
+number_grows : (n c : ℕ) (t : SizeScan) (text : List ℕ) → IsNumberText current text n → AfterNumber n c t
+    → SizeReached t (text ++ c ∷ [])
 number_grows n c t text h (inl k) =
     subst (λ x. SizeReached x (text ++ c ∷ [])) k.1 (record {
       number_part = text;
@@ -114,14 +117,16 @@ number_grows n c t text h (inr k) =
       reached = Reached-start;
     }) k
 
-gap_grows : (n c : ℕ) (t : SizeScan) (text : List ℕ) → GapReached n text → AfterNumber n c t → SizeReached t (text ++ c ∷ [])
+gap_grows : (n c : ℕ) (t : SizeScan) (text : List ℕ) → GapReached n text → AfterNumber n c t
+    → SizeReached t (text ++ c ∷ [])
 gap_grows n c t text r (inl k) =
     subst (λ x. SizeReached x (text ++ c ∷ [])) k.1 (record {
       number_part = r.number_part;
       spaces = suc r.spaces;
       some = omega arith;
       text_is = push_last text r.number_part (replicate r.spaces 32) c r.text_is
-          ∙ (ap (λ x. r.number_part ++ (replicate r.spaces 32 ++ x ∷ [])) k.0 ∙ ap (λ g. r.number_part ++ g) (replicate_push r.spaces 32));
+          ∙ (ap (λ x. r.number_part ++ (replicate r.spaces 32 ++ x ∷ [])) k.0
+          ∙ ap (λ g. r.number_part ++ g) (replicate_push r.spaces 32));
       number_is = r.number_is;
     })
 gap_grows n c t text r (inr k) =
@@ -141,7 +146,8 @@ digits_push_is : (text : List ℕ) (c : ℕ) → IsNumeral 10 text → digit_val
 digits_push_is text c h k = (omega (arith, length-append text (c ∷ [])), digits_push 10 text c h.1 k)
 
 -- if a step leads from a state to the next, what is known of the text holds with its character added
-pub SizeReached-step : (s t : SizeScan) (c : ℕ) (text : List ℕ) → StepOf s c t → SizeReached s text → SizeReached t (text ++ c ∷ [])
+pub SizeReached-step : (s t : SizeScan) (c : ℕ) (text : List ℕ) → StepOf s c t → SizeReached s text
+    → SizeReached t (text ++ c ∷ [])
 SizeReached-step Beginning t c text k r =
     subst (λ x. SizeReached x (text ++ c ∷ [])) k.1
     (subst (λ x. IsWholePart current (x ++ c ∷ []) (digit_value c)) (sym r)
@@ -150,7 +156,11 @@ SizeReached-step (Whole w) t c text (inl k) r =
     subst (λ x. SizeReached x (text ++ c ∷ [])) k.2
     (digits_push_is text c r.0 k.0, ap (λ x. x * 10 + digit_value c) r.1 ∙ sym (digits_value_push 10 text c), k.1)
 SizeReached-step (Whole w) t c text (inr (inl k)) r =
-    subst (λ x. SizeReached x (text ++ c ∷ [])) k.1 (record { whole = text; text_is = ap (λ x. text ++ x ∷ []) k.0; whole_is = r })
+    subst (λ x. SizeReached x (text ++ c ∷ [])) k.1 (record {
+      whole = text;
+      text_is = ap (λ x. text ++ x ∷ []) k.0;
+      whole_is = r;
+    })
 SizeReached-step (Whole w) t c text (inr (inr k)) r = number_grows (w * one) c t text (inl (w, r, refl)) k
 SizeReached-step (Point w) t c text k r =
     subst (λ x. SizeReached x (text ++ c ∷ [])) k.1 (record {
@@ -174,6 +184,7 @@ SizeReached-step (Fraction w f j) t c text (inl k) r =
       length_is = omega (arith, length-append r.fraction (c ∷ []), r.length_is);
       few = omega (arith, k.1);
     })
-SizeReached-step (Fraction w f j) t c text (inr k) r = number_grows (precise w f j) c t text (inr (fraction_number w f j text r)) k
+SizeReached-step (Fraction w f j) t c text (inr k) r =
+    number_grows (precise w f j) c t text (inr (fraction_number w f j text r)) k
 SizeReached-step (Gap n) t c text k r = gap_grows n c t text r k
 SizeReached-step (UnitAt n s) t c text k r = unit_grows n c s t text r.0 k

@@ -1,6 +1,7 @@
 -- The parser of a number and a unit: its state machine accepts exactly the inputs of the grammar, so it returns the
 -- number and unit of an input, or its error.
-use Rattle.std.proofs.Common.{◌≡◌, ◌≢◌, ℕ, ◌<◌, Bool, true, false, cond, ◌*◌, inl, inr, List, [], ◌∷◌, ◌++◌, Option, Some, None, Result, Ok}
+use Rattle.std.proofs.Common.{◌≡◌, ◌≢◌, ℕ, ◌<◌, Bool, true, false, cond, ◌*◌, inl, inr, List, [], ◌∷◌, ◌++◌, Option}
+use Rattle.std.proofs.Common.{Some, None, Result, Ok}
 use Rattle.std.proofs.Common.{Err, IfErr, length, replicate, sym, refl, ap, ◌∙◌, arith, append-nil}
 use Rattle.std.specs.Prelude.{IsOkAnd}
 use Rattle.byte_unit_math.specs.Bounds.{one}
@@ -11,14 +12,16 @@ use Rattle.byte_unit_base.specs.Spelling.{Flags, Spells}
 use Rattle.byte_unit_base.specs.Number.{IsNumberText}
 use Rattle.byte_unit_base.specs.SizeText.{trimmed, IsSizeText}
 use Rattle.byte_unit_base.specs.Readings.{IsNumberReading}
-use Rattle.byte_unit_base.specs.Front.{Place, beginning, in_whole, after_point, in_fraction, after_prefix, after_bi, IsUnitFront}
+use Rattle.byte_unit_base.specs.Front.{Place, beginning, in_whole, after_point, in_fraction, after_prefix, after_bi}
+use Rattle.byte_unit_base.specs.Front.{IsUnitFront}
 use Rattle.byte_unit_base.specs.Front.{IsSizedFront, IsSizeFront}
 use Rattle.byte_unit_base.specs.Fault.{Fault, IsFaultAfter, fault_at, fault_at_end, no_unit, too_long, exceeded}
 use Rattle.byte_unit_base.specs.Errors.{size_fault}
 use Rattle.byte_unit_base.specs.ReaderLaws.{States, SizeTextsHaveOneAnswer, SizeFrontsAreBeginnings}
 use Rattle.byte_unit_base.specs.Scan.{read}
 use Rattle.byte_unit_base.specs.UnitScan.{unit_step, unit_of, unit_at_end, word_place, scan_of, start as unit_start}
-use Rattle.byte_unit_base.specs.SizeScan.{is_digit, size_step, size_scan, size_seen, stated, size_at_end, size_place, sized, precise}
+use Rattle.byte_unit_base.specs.SizeScan.{is_digit, size_step, size_scan, size_seen, stated, size_at_end, size_place}
+use Rattle.byte_unit_base.specs.SizeScan.{sized, precise}
 use Rattle.byte_unit_base.specs.declared.unit.Unit.{Unit as UnitName}
 use Rattle.byte_unit_base.specs.declared.errors.ParseError.{ParseError}
 use Rattle.byte_unit_base.specs.declared.unit.scan.UnitScan.{UnitScan}
@@ -27,8 +30,10 @@ use Rattle.byte_unit_base.specs.declared.unit.scan.Multiple.TheVariants.{One, De
 use Rattle.byte_unit_base.specs.declared.unit.scan.Word.{Word}
 use Rattle.byte_unit_base.specs.declared.unit.scan.Word.TheVariants.{Empty, Bi}
 use Rattle.byte_unit_base.specs.declared.read.scan.SizeScan.{SizeScan}
-use Rattle.byte_unit_base.specs.declared.read.scan.SizeScan.TheVariants.{Beginning, Whole, Point, Fraction, Gap, Unit as UnitAt}
-use Rattle.byte_unit_base.proofs.Scans.{EndsIn, IsScanOf, read_found, read_meant, read_refused, reads_meaning, one_answer, fronts_are_beginnings}
+use Rattle.byte_unit_base.specs.declared.read.scan.SizeScan.TheVariants.{Beginning, Whole, Point, Fraction, Gap}
+use Rattle.byte_unit_base.specs.declared.read.scan.SizeScan.TheVariants.{Unit as UnitAt}
+use Rattle.byte_unit_base.proofs.Scans.{EndsIn, IsScanOf, read_found, read_meant, read_refused, reads_meaning}
+use Rattle.byte_unit_base.proofs.Scans.{one_answer, fronts_are_beginnings}
 use Rattle.byte_unit_base.proofs.UnitReached.{Reached-start, Spells-reached}
 use Rattle.byte_unit_base.proofs.UnitReads.{unit_front, unit_ends}
 use Rattle.byte_unit_base.proofs.SizeSteps.{step_cases}
@@ -37,7 +42,8 @@ use Rattle.byte_unit_base.proofs.SizeRuns.{size_text_runs, size_front_runs}
 
 -- the text that led to a state is a viable prefix
 
-front_in_unit : (n : ℕ) (s : UnitScan) (place : Place) (text : List ℕ) (r : UnitReached n s text) → IsUnitFront current place r.unit_part
+front_in_unit : (n : ℕ) (s : UnitScan) (place : Place) (text : List ℕ) (r : UnitReached n s text)
+    → IsUnitFront current place r.unit_part
     → IsSizedFront current place text
 front_in_unit n s place text r h =
     record {
@@ -50,13 +56,17 @@ front_in_unit n s place text r h =
       unit_is = h;
     }
 
-size_front_in_unit : (n : ℕ) (m : Multiple) (w : Word) (text : List ℕ) (r : UnitReached n (scan_of m w) text) → 0 < length r.unit_part
+size_front_in_unit : (n : ℕ) (m : Multiple) (w : Word) (text : List ℕ) (r : UnitReached n (scan_of m w) text)
+    → 0 < length r.unit_part
     → IsSizeFront current (word_place m w) text
 size_front_in_unit n One Empty text r some =
-    let none : r.unit_part ≡ [] = r.reached.text_is ∙ (ap (λ x. x ++ r.reached.word) r.reached.front_is ∙ r.reached.word_is) in
+    let none : r.unit_part ≡ [] = r.reached.text_is
+    ∙ (ap (λ x. x ++ r.reached.word) r.reached.front_is ∙ r.reached.word_is) in
     absurd (omega (arith, some, ap length none))
-size_front_in_unit n (Decimal p) Empty text r some = front_in_unit n _ after_prefix text r (unit_front (Decimal p) Empty r.unit_part r.reached)
-size_front_in_unit n (Binary p) Empty text r some = front_in_unit n _ after_prefix text r (unit_front (Binary p) Empty r.unit_part r.reached)
+size_front_in_unit n (Decimal p) Empty text r some =
+    front_in_unit n _ after_prefix text r (unit_front (Decimal p) Empty r.unit_part r.reached)
+size_front_in_unit n (Binary p) Empty text r some =
+    front_in_unit n _ after_prefix text r (unit_front (Binary p) Empty r.unit_part r.reached)
 size_front_in_unit n m w text r some = front_in_unit n _ (word_place m w) text r (unit_front m w r.unit_part r.reached)
 
 size_front : (s : SizeScan) (text : List ℕ) → SizeReached s text → IsSizeFront current (size_place s) text
@@ -80,7 +90,8 @@ size_front (UnitAt n s) text r = size_front_in_unit n s.multiple s.word text r.0
 
 -- the result for an input that ends in a state
 
-number_at_end : (flags : Flags) (n : ℕ) (text number : List ℕ) (k : ℕ) → text ≡ number ++ replicate k 32 → IsNumberText current number n
+number_at_end : (flags : Flags) (n : ℕ) (text number : List ℕ) (k : ℕ) → text ≡ number ++ replicate k 32
+    → IsNumberText current number n
     → EndsIn (States flags text) None (sized n (unit_of flags unit_start))
 number_at_end flags n text number k e h = (
   (n, _),
@@ -125,9 +136,11 @@ size_ends flags (UnitAt n s) text r =
       number_is = u.number_is;
       unit_is = h;
     })
-    (fault_at_end (word_place s.multiple s.word)) (unit_of flags s) (unit_ends flags s.multiple s.word u.unit_part u.reached)
+    (fault_at_end (word_place s.multiple s.word)) (unit_of flags s)
+    (unit_ends flags s.multiple s.word u.unit_part u.reached)
 
--- a digit completes a number at the beginning and after the point, a `t` completes `bi`, and elsewhere nothing is missing
+-- a digit completes a number at the beginning and after the point, a `t` completes `bi`, and nothing is missing
+-- elsewhere
 
 -- the input can be completed: from this state some rest, or none, gives a number and a unit. That viable prefixes are
 -- exactly the beginnings of valid inputs rests on it
@@ -177,7 +190,8 @@ no_bounds_at_end after_point n = λ e. cc
 no_bounds_at_end after_bi n = λ e. cc
 no_bounds_at_end _ n = λ e. cc
 
-no_bounds_after : (flags : Flags) (place : Place) (rest : List ℕ) (fault : Fault) (n : ℕ) → IsFaultAfter current flags place rest fault
+no_bounds_after : (flags : Flags) (place : Place) (rest : List ℕ) (fault : Fault) (n : ℕ)
+    → IsFaultAfter current flags place rest fault
     → fault ≢ exceeded n
 no_bounds_after flags place [] fault n h = λ e. no_bounds_at_end place n (h ∙ ap Some e)
 no_bounds_after flags place (c ∷ cs) fault n h = λ e. no_bounds_at flags place c n (sym h ∙ e)
@@ -192,7 +206,8 @@ read_no_bounds flags text (Err x) e = λ n.
 
 -- what the contracts of the parsers say, and the laws
 
-parts_meant : (r : Result (ℕ × UnitName) ParseError) (n : ℕ) (unit : Shape) → IsOkAnd r (λ found. stated found ≡ (n, unit))
+parts_meant : (r : Result (ℕ × UnitName) ParseError) (n : ℕ) (unit : Shape)
+    → IsOkAnd r (λ found. stated found ≡ (n, unit))
     → IsOkAnd r (λ found. (found.0 ≡ n) × (shape_of found.1 ≡ unit))
 parts_meant (Ok found) n unit e = (ap (λ x. x.0) e, ap (λ x. x.1) e)
 parts_meant (Err error) n unit e = absurd e
@@ -203,7 +218,8 @@ pub number_reading : (flags : Flags) (bytes : List ℕ) (r : Result (ℕ × Unit
     → IsNumberReading flags bytes r
 number_reading flags bytes r e = record {
   found = read_found (size_scan_is flags) stated size_fault (trimmed bytes) r e;
-  reads = λ n unit h. parts_meant r n unit (read_meant (size_scan_is flags) stated size_fault (trimmed bytes) r (n, unit) e h);
+  reads = λ n unit h. parts_meant r n unit
+      (read_meant (size_scan_is flags) stated size_fault (trimmed bytes) r (n, unit) e h);
   fault = read_refused (size_scan_is flags) stated size_fault (trimmed bytes) r e;
   no_bounds = read_no_bounds flags (trimmed bytes) r e;
 }

@@ -1,5 +1,6 @@
 -- The steps of the state machine of sizes by cases, and that each keeps the invariant of states.
-use Rattle.std.proofs.Common.{◌≡◌, ℕ, ◌+◌, ◌*◌, ◌^◌, ◌<◌, ◌⊎◌, inl, inr, ⊎_elim, Some, None, refl, subst, arith, Bool, true, false, cond}
+use Rattle.std.proofs.Common.{◌≡◌, ℕ, ◌+◌, ◌*◌, ◌^◌, ◌<◌, ◌⊎◌, inl, inr, ⊎_elim, Some, None, refl, subst, arith, Bool}
+use Rattle.std.proofs.Common.{true, false, cond}
 use Rattle.std.proofs.Common.{eqb, ltb}
 use Rattle.std.specs.Option.{option_map}
 use Rattle.std.specs.Char.{digit_value}
@@ -11,7 +12,8 @@ use Rattle.byte_unit_base.specs.UnitScan.{unit_step, start as unit_start}
 use Rattle.byte_unit_base.specs.SizeScan.{IsScan, size_step, after_number, precise, is_digit}
 use Rattle.byte_unit_base.specs.declared.unit.scan.UnitScan.{UnitScan}
 use Rattle.byte_unit_base.specs.declared.read.scan.SizeScan.{SizeScan}
-use Rattle.byte_unit_base.specs.declared.read.scan.SizeScan.TheVariants.{Beginning, Whole, Point, Fraction, Gap, Unit as UnitAt}
+use Rattle.byte_unit_base.specs.declared.read.scan.SizeScan.TheVariants.{Beginning, Whole, Point, Fraction, Gap}
+use Rattle.byte_unit_base.specs.declared.read.scan.SizeScan.TheVariants.{Unit as UnitAt}
 use Rattle.byte_unit_base.proofs.Options.{some_mapped}
 use Rattle.byte_unit_base.proofs.UnitReached.{guard_some, eq_if_test_true}
 
@@ -31,7 +33,8 @@ StepOf (Whole w) c t =
     ⊎ (((c ≡ 46) × (Point w ≡ t)) ⊎ AfterNumber (w * one) c t)
 StepOf (Point w) c t = (digit_value c < 10) × (Fraction w (digit_value c) 1 ≡ t)
 StepOf (Fraction w f j) c t =
-    ((digit_value c < 10) × (j < places_of_decimal) × (Fraction w (f * 10 + digit_value c) (j + 1) ≡ t)) ⊎ AfterNumber (precise w f j) c t
+    ((digit_value c < 10) × (j < places_of_decimal) × (Fraction w (f * 10 + digit_value c) (j + 1) ≡ t))
+    ⊎ AfterNumber (precise w f j) c t
 StepOf (Gap n) c t = AfterNumber n c t
 StepOf (UnitAt n s) c t = UnitStep n s c t
 
@@ -49,13 +52,16 @@ pub step_cases : (s t : SizeScan) (c : ℕ) → size_step s c ≡ Some t → Ste
 unfolding size_step
 step_cases Beginning t c e = let g = guard_some (is_digit c) (Whole (digit_value c)) t e in (ltb-true _ _ g.0, g.1)
 step_cases (Whole w) t c e =
-    ⊎_elim (λ h. let g = guard_some (ltb (w * 10 + digit_value c) whole_limit) (Whole (w * 10 + digit_value c)) t h.1 in inl
+    ⊎_elim (λ h. let g = guard_some (ltb (w * 10 + digit_value c) whole_limit)
+    (Whole (w * 10 + digit_value c)) t h.1 in inl
     (ltb-true _ _ h.0, ltb-true _ _ g.0, g.1))
     (λ h. inr (⊎_elim (λ k. inl (eq_if_test_true _ _ k.0, cc)) (λ k. inr (after_number_cases (w * one) c t k.1))
     (cond_cases (eqb c 46) (Some (Point w)) (after_number (w * one) c) (Some t) h.1)))
-    (cond_cases (is_digit c) (cond (ltb (w * 10 + digit_value c) whole_limit) (Some (Whole (w * 10 + digit_value c))) None)
+    (cond_cases (is_digit c) (cond (ltb (w * 10 + digit_value c) whole_limit)
+    (Some (Whole (w * 10 + digit_value c))) None)
     (cond (eqb c 46) (Some (Point w)) (after_number (w * one) c)) (Some t) e)
-step_cases (Point w) t c e = let g = guard_some (is_digit c) (Fraction w (digit_value c) 1) t e in (ltb-true _ _ g.0, g.1)
+step_cases (Point w) t c e =
+    let g = guard_some (is_digit c) (Fraction w (digit_value c) 1) t e in (ltb-true _ _ g.0, g.1)
 step_cases (Fraction w f j) t c e =
     ⊎_elim (λ h. let g = guard_some (ltb j places_of_decimal) (Fraction w (f * 10 + digit_value c) (j + 1)) t h.1 in inl
     (ltb-true _ _ h.0, ltb-true _ _ g.0, g.1))
@@ -79,7 +85,8 @@ step_keeps (Whole w) t c h (inl k) = subst IsScan k.2 k.1
 step_keeps (Whole w) t c h (inr (inl k)) = subst IsScan k.1 h
 step_keeps (Whole w) t c h (inr (inr k)) = number_keeps (w * one) c t k
 step_keeps (Point w) t c h k = subst IsScan k.1 (h, omega (arith, k.0), omega arith)
-step_keeps (Fraction w f j) t c h (inl k) = subst IsScan k.2 (h.0, digits_more f (digit_value c) j h.1 k.0, omega (arith, k.1))
+step_keeps (Fraction w f j) t c h (inl k) =
+    subst IsScan k.2 (h.0, digits_more f (digit_value c) j h.1 k.0, omega (arith, k.1))
 step_keeps (Fraction w f j) t c h (inr k) = number_keeps (precise w f j) c t k
 step_keeps (Gap n) t c h k = number_keeps n c t k
 step_keeps (UnitAt n s) t c h k = subst IsScan k.2 tt

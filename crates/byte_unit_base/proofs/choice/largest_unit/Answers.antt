@@ -6,7 +6,8 @@ use Rattle.byte_unit_base.proofs.Choosing.{small_bits}
 use Rattle.byte_unit_base.proofs.Rows.{no_row, search_start, row_at_is_row}
 use Rattle.byte_unit_base.proofs.Rows.{unit_found, unit_passed, not_if_test_fails}
 use Rattle.byte_unit_base.proofs.choice.largest_unit.Goals as goal
-use Rattle.byte_unit_base.proofs.choice.largest_unit.Goals.{else-row-in_bits-via-then-row-in_bits+else-takes, else-row-in_bits-via-else-row-in_bits}
+use Rattle.byte_unit_base.proofs.choice.largest_unit.Goals.{else-row-in_bits-via-then-row-in_bits+else-takes}
+use Rattle.byte_unit_base.proofs.choice.largest_unit.Goals.{else-row-in_bits-via-else-row-in_bits}
 
 pub loop-row-init : goal.loop-row-init
 loop-row-init c =
@@ -32,7 +33,15 @@ loop-row-preserved c =
           let taken = subst (IsOfType c.args.unit_type) (sym w.is_binary_multiples.ensures) h.of_type in
           not_if_test_fails _ _ w.if-takes.false w.takes.ensures.1 taken
       | else-row-in_bits-via-else-row-in_bits w ↦
-          absurd (omega (arith, w.if-row-in_bits, is_row.bits_are, cut, h.not_above, small_bits c.args.family _ h.member))
+          absurd (omega (
+            arith,
+            w.if-row-in_bits,
+            is_row.bits_are,
+            cut,
+            h.not_above,
+            small_bits c.args.family _
+                h.member,
+          ))
     ])
 
 pub returns-then-takes-clause-found : goal.returns-then-takes-clause-found

@@ -13,7 +13,8 @@ pub range_from-requires : goal.range_from-requires
 range_from-requires c =
     let scan = c.scan_digits-scan in
     let IsScannedIn : List ℕ → Type 0 = λ bytes. AreScanned bytes scan.result.1 scan.result.0 in
-    λ some. scanned_boundary c.trim-text.result.now _ _ c.trim-text.utf8 (subst IsScannedIn c.as_bytes.ensures.value scan.ensures)
+    λ some. scanned_boundary c.trim-text.result.now _ _ c.trim-text.utf8
+    (subst IsScannedIn c.as_bytes.ensures.value scan.ensures)
 
 pub read_rest-requires : goal.read_rest-requires
 read_rest-requires c = scanned_bounds _ _ _ c.scan_digits-scan.ensures
@@ -27,5 +28,6 @@ returns c =
     number_reading flags c.args.s.now c.read_rest.result
     (c.read_rest.ensures
     ∙ (ap (λ rest. read (size_scan flags) scan.result.0 (chars rest)) c.range_from.ensures.value
-    ∙ (rest_read flags text.result.now scan.result.1 scan.result.0 (subst IsScannedIn c.as_bytes.ensures.value scan.ensures)
+    ∙ (rest_read flags text.result.now scan.result.1 scan.result.0
+    (subst IsScannedIn c.as_bytes.ensures.value scan.ensures)
     ∙ ap (read (size_scan flags) Beginning) (ap chars text.ensures.trim ∙ chars-trim c.args.s.now c.utf8.s))))

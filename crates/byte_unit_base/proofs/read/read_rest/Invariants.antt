@@ -8,4 +8,5 @@ use Rattle.byte_unit_base.proofs.read.read_rest.Given as goal
 abbrev pub invariant-loop-c : goal.invariant-loop-c
 invariant-loop-c l =
     IsScan l.scan
-    × (read (size_scan l.flags) l.scan (drop (length l.yielded) (chars l.rest)) ≡ read (size_scan l.flags) l.fn.start (chars l.rest))
+    × (read (size_scan l.flags) l.scan (drop (length l.yielded) (chars l.rest)) ≡ read (size_scan l.flags) l.fn.start
+    (chars l.rest))

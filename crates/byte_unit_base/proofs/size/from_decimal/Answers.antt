@@ -8,7 +8,8 @@ pub returns-clause-size : goal.returns-clause-size
 returns-clause-size c =
     let in_bits = c.in_ok-in_bits.in_bits in
     let low = c.holding.ensures.least in (
-      least_holding c.args.kind c.args.number (shape_of c.args.unit) in_bits c.holding.result (search rules) c.holding.ensures.holds low,
+      least_holding c.args.kind c.args.number (shape_of c.args.unit) in_bits c.holding.result
+          (search rules) c.holding.ensures.holds low,
       least_below c.args.kind current.size_limit in_bits c.holding.result (search rules) low (omega arith),
     )
 

@@ -16,5 +16,6 @@ returns-in-Some-clause-reading c = λ ignore_case bytes stated.
 pub returns-in-None-clause-reading : goal.returns-in-None-clause-reading
 returns-in-None-clause-reading c = λ ignore_case bytes stated.
     let found : ℕ × UnitName = (c.args.number, c.args.unit) in
-    reading_of_excess c.args.kind ignore_case bytes found (least_exists c.args.kind c.args.number (shape_of c.args.unit))
+    reading_of_excess c.args.kind ignore_case bytes found
+    (least_exists c.args.kind c.args.number (shape_of c.args.unit))
     (stated_reading (flags_for c.args.kind ignore_case) bytes found stated) c.in-None.ensures.size
