@@ -75,7 +75,7 @@ pub record TakesSteps (size number steps : ℕ) : Type 0 where
   -- factor, and one for each digit after the point
   pub steps_are : steps ≡ twos + fives + 2 + places
 
--- `new` is the step counter `old` after choosing a unit; a size of zero takes no step
+-- `new` is the step counter `old` after choosing a unit; it saturates at 2^64 - 1. A size of zero takes no step
 abbrev pub CountsChoice : ℕ → ℕ → ℕ → ℕ → Type 0
 CountsChoice size number old new =
     (size ≡ 0) × (new ≡ old) ⊎ (steps : ℕ) × TakesSteps size number steps × (new ≡ raised old steps)

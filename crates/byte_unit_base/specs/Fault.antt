@@ -14,11 +14,11 @@ use Rattle.byte_unit_base.specs.Front.{IsLongestFront}
 pub data Fault : Type 0 where
   -- the size is too large; its number, scaled by 10^28. A parser of a number and a unit does not return this error
   exceeded : ℕ → Fault
-  -- this character is not a digit, but only a digit can be at its place
+  -- a digit is missing: this character is in its place, or is the point in which the input ends
   not_number : ℕ → Fault
   -- the input ends before a number
   no_value : Fault
-  -- the number has a digit too many
+  -- a digit too many: with it the whole part reaches its limit, or it is the 29th after the point
   too_long : Fault
   -- this character cannot continue a unit; the characters that the message names as expected, in this order, and
   -- whether the input could end there. Other characters can be valid too: the other case of a letter, an `i` after a

@@ -19,8 +19,7 @@ of_prefix All power =
 of_prefix Bytes power = shape power true false ∷ shape power false false ∷ []
 of_prefix Bits power = shape power true true ∷ shape power false true ∷ []
 
--- the units of a unit set whose prefix letter is among the first ones, as many as this number, from the largest to the
--- smallest
+-- the units of a unit set that have one of the first n prefix letters, from the largest to the smallest
 abbrev pub falling_from : Family → ℕ → List Shape
 falling_from family zero = []
 falling_from family (suc power) = of_prefix family (suc power) ++ falling_from family power
@@ -40,8 +39,8 @@ row_of unit = record { unit = unit; bits = bits unit; twos = twos unit; fives = 
 abbrev pub row_shape : Row → ShapeRow
 row_shape row = record { unit = shape_of row.unit; bits = row.bits; twos = row.twos; fives = row.fives }
 
--- the rows are those of the units with one of the first `prefixes` prefix letters, from the largest. No unit of the set
--- is missing that has at most `in_bits` bits and one of the `first` first prefix letters
+-- the rows are those of the units of the set with one of the first `prefixes` prefix letters, from the largest. Each
+-- unit of the set that has at most `in_bits` bits, and one of the `first` first prefix letters, is among them
 pub record ListsUnits (family : Family) (in_bits first : ℕ) (rows : List Row) : Type 0 where
   pub prefixes : ℕ
   pub few : prefixes ≤ known_prefixes

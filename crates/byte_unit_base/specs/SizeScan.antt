@@ -54,7 +54,7 @@ size_step (Fraction w f j) c =
 size_step (Gap n) c = after_number n c
 size_step (UnitAt n s) c = option_map (UnitAt n) (unit_step s c)
 
--- the parser state of a state
+-- the parser state that belongs to a state of the machine
 abbrev pub size_place : SizeScan → Place
 size_place Beginning = beginning
 size_place (Whole w) = in_whole

@@ -48,13 +48,13 @@ prefix_at c =
 abbrev pub is_i : ℕ → Bool
 is_i c = to_ascii_lowercase c == 105
 
--- the prefix after one character more: none, a letter, a letter and an `i`
+-- the prefix after one character more: a letter, and then an `i`; `None` if the character does not continue it
 abbrev pub multiple_step : Multiple → ℕ → Option Multiple
 multiple_step One c = option_map Decimal (prefix_at c)
 multiple_step (Decimal p) c = if is_i c then Some (Binary p) else None
 multiple_step (Binary p) c = None
 
--- the suffix after one character more: `B`, or a beginning of `bits`
+-- the suffix after one character more: `B`, or a beginning of `bits`; `None` if the character does not continue it
 abbrev pub word_step : Word → ℕ → Option Word
 word_step Empty c = if c == 66 then Some UpperB else (if c == 98 then Some LowerB else None)
 word_step UpperB c = if is_i c then Some Bi else None
@@ -133,7 +133,7 @@ word_place m Bi = after_bi
 word_place m Bit = after_bit
 word_place m Bits = after_bits
 
--- the parser state of a state
+-- the parser state that belongs to a state of the machine
 abbrev pub place_of : UnitScan → Place
 place_of s = word_place s.multiple s.word
 
