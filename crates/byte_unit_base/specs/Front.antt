@@ -1,4 +1,5 @@
--- Viable prefixes: the beginnings of an input that some rest can complete to a unit, or to a number and a unit.
+-- Viable prefixes: the texts that can be completed to a unit, or to a number and a unit, and the parser state after
+-- each.
 use Rattle.std.specs.Prelude.{◌≡◌, ℕ, ◌<◌, Bool, ◌⊎◌, List, [], ◌++◌, replicate, codes}
 use Rattle.std.specs.Str.{str_to_ascii_lowercase}
 use Rattle.byte_unit_base.specs.Edition.{Edition}

@@ -26,8 +26,8 @@ abbrev pub own_family : Kind → Family
 own_family Byte = Bytes
 own_family Bit = Bits
 
--- how the parser of this kind reads a unit: bytes prefer bytes; bits prefer bits, and case is always significant for
--- them
+-- how the parser of this kind reads a unit: for sizes in bytes, bytes are preferred; for sizes in bits, bits are, and
+-- case is always significant
 abbrev pub flags_for : Kind → Bool → Flags
 flags_for Byte ignore_case = reading ignore_case true
 flags_for Bit ignore_case = reading false false

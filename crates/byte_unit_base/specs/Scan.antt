@@ -26,7 +26,7 @@ read scan s [] = scan.at_end s
 read scan s (c ∷ cs) =
     elim (scan.step s c) [ Some t ↦ read scan t cs | None ↦ Err (fault_at current scan.flags (scan.place s) c) ]
 
--- a result of the code, as the specification has it: by the meaning of its value and the error that its error is
+-- a result of the code, as the specification has it: `meaning` translates its value, and `fault` its error
 abbrev pub seen : {R E Meaning : Type 0} → (R → Meaning) → (E → Fault) → Result R E → Result Meaning Fault
 seen meaning fault (Ok value) = Ok (meaning value)
 seen meaning fault (Err error) = Err (fault error)

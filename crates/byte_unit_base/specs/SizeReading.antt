@@ -8,8 +8,9 @@ use Rattle.byte_unit_base.specs.declared.errors.ParseError.{ParseError}
 use Rattle.byte_unit_base.specs.declared.kind.Kind.{Kind}
 use Rattle.byte_unit_base.specs.Accepted.{IsAccepted, Exceeds, IsRefused}
 
--- the result is the size that the input is accepted as; if the size is too large, the error with the number as written,
--- scaled by 10^28; and for every other input its error. What is returned is right, and what is right is returned
+-- the result is the size that the input is accepted as, the error of a size that is too large (with its number, scaled
+-- by 10^28), or the error of an input that is not in the grammar. What is returned is right, and what is right is
+-- returned
 pub record IsSizeReading
     (kind : Kind) (ignore_case : Bool) (bytes : List ℕ) (result : Result ℕ ParseError) : Type 0 where
   pub found : IfOk result (IsAccepted current kind ignore_case bytes)
