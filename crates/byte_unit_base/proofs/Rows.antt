@@ -15,7 +15,7 @@ use Rattle.byte_unit_base.specs.Family.{HasPrefix, InFamily}
 use Rattle.byte_unit_base.specs.Choice.{IsLargest, NoneHas}
 use Rattle.byte_unit_base.specs.Multiples.{ListsUnits, falling_from, known_prefixes, row_of, row_shape}
 use Rattle.byte_unit_base.specs.declared.unit.Unit.TheVariants.{Bit}
-use Rattle.byte_unit_base.specs.declared.unit.family.Row.{Row}
+use Rattle.byte_unit_base.specs.declared.unit.family.UnitRow.{UnitRow}
 use Rattle.byte_unit_base.specs.declared.unit.family.Family.{Family}
 use Rattle.byte_unit_base.specs.declared.unit.family.Family.TheVariants.{All, Bytes, Bits}
 use Rattle.byte_unit_base.proofs.Choosing.{small_bits, some_bits}
@@ -23,15 +23,15 @@ use Rattle.byte_unit_base.proofs.Falling.{IsIn, IsIn-at, Remain, falls, in_falli
 use Rattle.byte_unit_base.proofs.Falling.{Remain-behind, Remain-at_end, width, drop_prefixes}
 
 -- the unit of a row as the code has it
-abbrev pub unit_in : Row → Shape
+abbrev pub unit_in : UnitRow → Shape
 unit_in row = shape_of row.unit
 
 -- what stands behind the rows
-abbrev pub no_row : Row
+abbrev pub no_row : UnitRow
 no_row = record { unit = Bit; bits = 0; twos = 0; fives = 0 }
 
 -- the row of a unit with a prefix: its bits are its powers of two and of five, from 2^9 to 2^93
-pub record IsMultiple (row : Row) : Type 0 where
+pub record IsMultiple (row : UnitRow) : Type 0 where
   pub powers : row.bits ≡ 2 ^ row.twos * 5 ^ row.fives
   pub large : 2 ^ 9 ≤ row.bits
   pub small : row.bits ≤ unit_limit
@@ -83,7 +83,7 @@ length_of_all All = omega arith
 length_of_all Bytes = omega arith
 length_of_all Bits = omega arith
 
-pub rows_behind : (family : Family) (rows : List Row) (prefixes skipped : ℕ)
+pub rows_behind : (family : Family) (rows : List UnitRow) (prefixes skipped : ℕ)
     → map row_shape rows ≡ map row_of (falling_from family known_prefixes) → prefixes ≤ known_prefixes
     → skipped ≡ length rows / known_prefixes * (known_prefixes - prefixes)
     → map row_shape (drop skipped rows) ≡ map row_of (falling_from family prefixes)
@@ -100,7 +100,7 @@ rows_behind family rows prefixes skipped all few count =
     ∙ (drop-map row_of skipped units
     ∙ ap (map row_of) (ap (λ n. drop n units) here ∙ behind)))
 
-units_of_rows : (rows : List Row) (units : List Shape) → map row_shape rows ≡ map row_of units → map unit_in rows ≡ units
+units_of_rows : (rows : List UnitRow) (units : List Shape) → map row_shape rows ≡ map row_of units → map unit_in rows ≡ units
 units_of_rows [] [] e = refl
 units_of_rows [] (x ∷ xs) e = absurd (let k : ⊥ = cc in k)
 units_of_rows (r ∷ rs) [] e = absurd (let k : ⊥ = cc in k)
@@ -110,12 +110,12 @@ units_of_rows (r ∷ rs) (x ∷ xs) e =
     let unit : unit_in r ≡ x = ap (λ row. row.unit) first in
     ap (λ s. s ∷ map unit_in rs) unit ∙ ap (λ l. x ∷ l) (units_of_rows rs xs rest)
 
-pub listed_units : (family : Family) (in_bits first : ℕ) (rows : List Row) (h : ListsUnits family in_bits first rows)
+pub listed_units : (family : Family) (in_bits first : ℕ) (rows : List UnitRow) (h : ListsUnits family in_bits first rows)
     → map unit_in rows ≡ falling_from family h.prefixes
 listed_units family in_bits first rows h = units_of_rows rows (falling_from family h.prefixes) h.rows_are
 
 -- at the start no unit with the property is left out
-pub search_start : (Has : Shape → Type 0) (family : Family) (in_bits first : ℕ) (rows : List Row) → ListsUnits family in_bits first rows
+pub search_start : (Has : Shape → Type 0) (family : Family) (in_bits first : ℕ) (rows : List UnitRow) → ListsUnits family in_bits first rows
     → ((unit : Shape) → Has unit → InFamily current family unit × (bits unit ≤ in_bits) × (unit.power ≤ first))
     → Remain Has (drop 0 (map unit_in rows))
 search_start Has family in_bits first rows h within = λ unit has.
@@ -125,13 +125,13 @@ search_start Has family in_bits first rows h within = λ unit has.
     subst P (sym (listed_units family in_bits _ rows h)) (in_falling family h.prefixes unit m.0.kind m.0.prefix.some known)
 
 -- what a row says of its unit
-pub record IsRow (family : Family) (row : Row) : Type 0 where
+pub record IsRow (family : Family) (row : UnitRow) : Type 0 where
   pub member : InFamily current family (unit_in row)
   pub bits_are : row.bits ≡ bits (unit_in row)
   pub twos_are : row.twos ≡ twos (unit_in row)
   pub fives_are : row.fives ≡ fives (unit_in row)
 
-pub row_there : {family : Family} {in_bits first : ℕ} {rows : List Row} (i : ℕ) (d : Row) → ListsUnits family in_bits first rows
+pub row_there : {family : Family} {in_bits first : ℕ} {rows : List UnitRow} (i : ℕ) (d : UnitRow) → ListsUnits family in_bits first rows
     → i < length rows → IsRow family (get_or rows i d)
 row_there {family} {in_bits} {first} {rows} i d h within =
     let units = falling_from family h.prefixes in
@@ -166,7 +166,7 @@ pub power_of_powers : (unit : Shape) (a b : ℕ) → twos unit ≤ a → fives u
 power_of_powers unit a b = few_prefixes unit.power a b unit.binary unit.bit
 
 -- and its bits are its powers
-pub row_multiple : {family : Family} {row : Row} → IsRow family row → IsMultiple row
+pub row_multiple : {family : Family} {row : UnitRow} → IsRow family row → IsMultiple row
 row_multiple {family} {row} is =
     let member = is.member in
     let first = pow-le-pow_right {n = 2} (omega arith) {i = 9} {j = 10 * (unit_in row).power - 1} (omega (arith, member.prefix.some)) in
@@ -179,7 +179,7 @@ row_multiple {family} {row} is =
     }
 
 -- the search along the units of rows
-pub unit_found : {family : Family} {in_bits first : ℕ} {rows : List Row} (Has : Shape → Type 0) (i : ℕ) (d : Row)
+pub unit_found : {family : Family} {in_bits first : ℕ} {rows : List UnitRow} (Has : Shape → Type 0) (i : ℕ) (d : UnitRow)
     → ListsUnits family in_bits first rows → Remain Has (drop i (map unit_in rows)) → i < length rows → Has (unit_in (get_or rows i d))
     → IsLargest Has (unit_in (get_or rows i d))
 unit_found {family} {in_bits} {first} {rows} Has i d h remain within has =
@@ -189,14 +189,14 @@ unit_found {family} {in_bits} {first} {rows} Has i d h remain within has =
     let there : i < length (map unit_in rows) = omega (arith, length-map rows unit_in, within) in
     largest_found Has (map unit_in rows) i unit fall remain (there, get_or-map unit_in rows i d unit within) has
 
-pub unit_passed : (Has : Shape → Type 0) (rows : List Row) (i : ℕ) (d : Row) → Remain Has (drop i (map unit_in rows))
+pub unit_passed : (Has : Shape → Type 0) (rows : List UnitRow) (i : ℕ) (d : UnitRow) → Remain Has (drop i (map unit_in rows))
     → i < length rows → ¬ (Has (unit_in (get_or rows i d))) → Remain Has (drop (i + 1) (map unit_in rows))
 unit_passed Has rows i d remain within without =
     let unit = unit_in (get_or rows i d) in
     let there : i < length (map unit_in rows) = omega (arith, length-map rows unit_in, within) in
     Remain-behind Has (map unit_in rows) i unit remain there (get_or-map unit_in rows i d unit within) without
 
-pub none_found : (Has : Shape → Type 0) (rows : List Row) (i : ℕ) → length rows ≤ i → Remain Has (drop i (map unit_in rows))
+pub none_found : (Has : Shape → Type 0) (rows : List UnitRow) (i : ℕ) → length rows ≤ i → Remain Has (drop i (map unit_in rows))
     → NoneHas Has
 none_found Has rows i done remain = Remain-at_end Has (map unit_in rows) i (omega (arith, length-map rows unit_in, done)) remain
 
@@ -204,7 +204,7 @@ pub none_true : (b : Bool) (P : Type 0) → b ≡ false → (P → b ≡ true) �
 none_true b P e h p = let t = h p in let k : ⊥ = cc in k
 
 -- the tests of a row are those of its unit
-pub row_powers : {family : Family} {row : Row} (in_bits a b : ℕ) → IsRow family row
+pub row_powers : {family : Family} {row : UnitRow} (in_bits a b : ℕ) → IsRow family row
     → ((leb row.bits in_bits && leb row.twos a) && leb row.fives b) ≡ true → HasPowers family in_bits a b (unit_in row)
 row_powers {family} {row} in_bits a b is h =
     let parts = and_parts (leb row.bits in_bits && leb row.twos a) (leb row.fives b) h in
@@ -216,7 +216,7 @@ row_powers {family} {row} in_bits a b is h =
       few_fives = omega (arith, is.fives_are, leb-true row.fives b parts.1);
     }
 
-pub powers_in_row : {family : Family} {row : Row} (in_bits a b : ℕ) → IsRow family row
+pub powers_in_row : {family : Family} {row : UnitRow} (in_bits a b : ℕ) → IsRow family row
     → HasPowers family in_bits a b (unit_in row) → ((leb row.bits in_bits && leb row.twos a) && leb row.fives b) ≡ true
 powers_in_row {family} {row} in_bits a b is h =
     let below = le-leb row.bits in_bits (omega (arith, is.bits_are, h.not_above)) in

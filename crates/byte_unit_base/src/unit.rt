@@ -96,59 +96,84 @@ pub enum Unit {
     RiB,
 }
 
-/// The bits of each unit, in the order of the units. A `match` over them would be a jump by a table, which takes longer
-/// where the units change from text to text.
-static BITS: [u128; 38] = [
-    1,
-    8,
-    1000,
-    1024,
-    8000,
-    8192,
-    1_000_000,
-    1_048_576,
-    8_000_000,
-    8_388_608,
-    1_000_000_000,
-    1_073_741_824,
-    8_000_000_000,
-    8_589_934_592,
-    1_000_000_000_000,
-    1_099_511_627_776,
-    8_000_000_000_000,
-    8_796_093_022_208,
-    1_000_000_000_000_000,
-    1_125_899_906_842_624,
-    8_000_000_000_000_000,
-    9_007_199_254_740_992,
-    1_000_000_000_000_000_000,
-    1_152_921_504_606_846_976,
-    8_000_000_000_000_000_000,
-    9_223_372_036_854_775_808,
-    1_000_000_000_000_000_000_000,
-    1_180_591_620_717_411_303_424,
-    8_000_000_000_000_000_000_000,
-    9_444_732_965_739_290_427_392,
-    1_000_000_000_000_000_000_000_000,
-    1_208_925_819_614_629_174_706_176,
-    8_000_000_000_000_000_000_000_000,
-    9_671_406_556_917_033_397_649_408,
-    1_000_000_000_000_000_000_000_000_000,
-    1_237_940_039_285_380_274_899_124_224,
-    8_000_000_000_000_000_000_000_000_000,
-    9_903_520_314_283_042_199_192_993_792,
-];
-
-/// What a unit is made of.
+/// The prefix and the base unit of a unit.
 #[derive(Clone, Copy)]
 struct Shape {
-    /// The place of its prefix among the letters, from 1 for K, or 0 for none.
+    /// The position of the prefix letter, from 1 for K, or 0 if there is no prefix.
     power: u32,
-    /// Whether it goes by powers of two.
+    /// Whether the prefix is binary (IEC).
     binary: bool,
-    /// Whether it counts bits, and not bytes.
+    /// Whether the unit counts bits, and not bytes.
     bit: bool,
 }
+
+/// The name and the shape of a unit.
+#[derive(Clone, Copy)]
+struct UnitData {
+    name: &'static str,
+    shape: Shape,
+}
+
+/// Calls a macro with each prefix: its letter, its position, and its value as a decimal and as a binary prefix.
+macro_rules! with_prefixes {
+    ($table:ident) => {
+        $table![
+            "K" 1 1_000 1_024,
+            "M" 2 1_000_000 1_048_576,
+            "G" 3 1_000_000_000 1_073_741_824,
+            "T" 4 1_000_000_000_000 1_099_511_627_776,
+            "P" 5 1_000_000_000_000_000 1_125_899_906_842_624,
+            "E" 6 1_000_000_000_000_000_000 1_152_921_504_606_846_976,
+            "Z" 7 1_000_000_000_000_000_000_000 1_180_591_620_717_411_303_424,
+            "Y" 8 1_000_000_000_000_000_000_000_000 1_208_925_819_614_629_174_706_176,
+            "R" 9 1_000_000_000_000_000_000_000_000_000 1_237_940_039_285_380_274_899_124_224
+        ]
+    };
+}
+
+/// Writes the data of one unit.
+macro_rules! unit {
+    ($name:expr, $power:literal, $binary:literal, $bit:literal) => {
+        UnitData {
+            name: $name,
+            shape: Shape {
+                power: $power,
+                binary: $binary,
+                bit: $bit,
+            },
+        }
+    };
+}
+
+/// Writes the data of the units, in the order of the variants.
+macro_rules! units {
+    ($($letter:literal $power:literal $decimal:literal $binary:literal),*) => {
+        [
+            unit!("b", 0, false, true),
+            unit!("B", 0, true, false),
+            $(
+                unit!(concat!($letter, "b"), $power, false, true),
+                unit!(concat!($letter, "ib"), $power, true, true),
+                unit!(concat!($letter, "B"), $power, false, false),
+                unit!(concat!($letter, "iB"), $power, true, false),
+            )*
+        ]
+    };
+}
+
+/// Writes the bits of the units, in the order of the variants.
+macro_rules! unit_bits {
+    ($($letter:literal $power:literal $decimal:literal $binary:literal),*) => {
+        [1, 8, $($decimal, $binary, $decimal * 8, $binary * 8),*]
+    };
+}
+
+// Lookups in tables are loads. LLVM makes a jump table of a `match` over the units, which is slower if the units change
+// from one string to the next.
+
+static UNITS: [UnitData; 38] = with_prefixes!(units);
+
+static UNIT_BITS: [u128; 38] = with_prefixes!(unit_bits);
 
 impl Unit {
     ghost use Rattle.byte_unit_base.specs.Units.{shape_of};
@@ -163,7 +188,7 @@ impl Unit {
         ensures some { 1 ≤ result }
         ensures small { result ≤ unit_limit }
     {
-        BITS[self as usize]
+        UNIT_BITS[self as usize]
     }
 
     /// Its name, of one to three ASCII letters: the prefix letter, an `i` where that is a power of two, and `b` for
@@ -175,46 +200,7 @@ impl Unit {
     pub fn as_str(self) -> &'static str
         ensures { result.now ≡ name current (shape_of self) }
     {
-        match self {
-            Unit::Bit => "b",
-            Unit::B => "B",
-            Unit::Kbit => "Kb",
-            Unit::Kibit => "Kib",
-            Unit::KB => "KB",
-            Unit::KiB => "KiB",
-            Unit::Mbit => "Mb",
-            Unit::Mibit => "Mib",
-            Unit::MB => "MB",
-            Unit::MiB => "MiB",
-            Unit::Gbit => "Gb",
-            Unit::Gibit => "Gib",
-            Unit::GB => "GB",
-            Unit::GiB => "GiB",
-            Unit::Tbit => "Tb",
-            Unit::Tibit => "Tib",
-            Unit::TB => "TB",
-            Unit::TiB => "TiB",
-            Unit::Pbit => "Pb",
-            Unit::Pibit => "Pib",
-            Unit::PB => "PB",
-            Unit::PiB => "PiB",
-            Unit::Ebit => "Eb",
-            Unit::Eibit => "Eib",
-            Unit::EB => "EB",
-            Unit::EiB => "EiB",
-            Unit::Zbit => "Zb",
-            Unit::Zibit => "Zib",
-            Unit::ZB => "ZB",
-            Unit::ZiB => "ZiB",
-            Unit::Ybit => "Yb",
-            Unit::Yibit => "Yib",
-            Unit::YB => "YB",
-            Unit::YiB => "YiB",
-            Unit::Rbit => "Rb",
-            Unit::Ribit => "Rib",
-            Unit::RB => "RB",
-            Unit::RiB => "RiB",
-        }
+        UNITS[self as usize].name
     }
 
     /// Whether it counts bits, and not bytes.
@@ -263,47 +249,7 @@ impl Unit {
         ensures binary { result.binary ≡ (shape_of self).binary }
         ensures bit { result.bit ≡ (shape_of self).bit }
     {
-        let (power, binary, bit) = match self {
-            Unit::Bit => (0, false, true),
-            Unit::B => (0, true, false),
-            Unit::Kbit => (1, false, true),
-            Unit::Kibit => (1, true, true),
-            Unit::KB => (1, false, false),
-            Unit::KiB => (1, true, false),
-            Unit::Mbit => (2, false, true),
-            Unit::Mibit => (2, true, true),
-            Unit::MB => (2, false, false),
-            Unit::MiB => (2, true, false),
-            Unit::Gbit => (3, false, true),
-            Unit::Gibit => (3, true, true),
-            Unit::GB => (3, false, false),
-            Unit::GiB => (3, true, false),
-            Unit::Tbit => (4, false, true),
-            Unit::Tibit => (4, true, true),
-            Unit::TB => (4, false, false),
-            Unit::TiB => (4, true, false),
-            Unit::Pbit => (5, false, true),
-            Unit::Pibit => (5, true, true),
-            Unit::PB => (5, false, false),
-            Unit::PiB => (5, true, false),
-            Unit::Ebit => (6, false, true),
-            Unit::Eibit => (6, true, true),
-            Unit::EB => (6, false, false),
-            Unit::EiB => (6, true, false),
-            Unit::Zbit => (7, false, true),
-            Unit::Zibit => (7, true, true),
-            Unit::ZB => (7, false, false),
-            Unit::ZiB => (7, true, false),
-            Unit::Ybit => (8, false, true),
-            Unit::Yibit => (8, true, true),
-            Unit::YB => (8, false, false),
-            Unit::YiB => (8, true, false),
-            Unit::Rbit => (9, false, true),
-            Unit::Ribit => (9, true, true),
-            Unit::RB => (9, false, false),
-            Unit::RiB => (9, true, false),
-        };
-        Shape { power, binary, bit }
+        UNITS[self as usize].shape
     }
 }
 
