@@ -12,10 +12,19 @@ mod parse;
 pub(crate) mod scan;
 pub(crate) mod unit_type;
 
-/// A unit of bits or bytes, with one of the prefixes of the SI or of the IEC or with none.
+/// A unit of bits or bytes, with a decimal (SI) prefix, with a binary (IEC) prefix, or without one.
 ///
-/// The prefixes rise from K to R. Within a prefix the units rise in the order in which they stand here, and each prefix
-/// lies wholly above the one before.
+/// The variants are in ascending order of their prefixes, from K to R, and within a prefix in ascending order of their
+/// bits.
+///
+/// # Examples
+///
+/// ```rust
+/// use byte_unit::Unit;
+///
+/// assert_eq!(rt; Unit::KiB.as_bits_u128(), 8192);
+/// assert_eq!(rt; Unit::parse_str("kib", true, true)?, Unit::KiB);
+/// ```
 #[derive(Clone, Copy, Debug, PartialEq, Eq)]
 pub enum Unit {
     /// One bit.
@@ -178,10 +187,15 @@ static UNIT_BITS: [u128; 38] = with_prefixes!(unit_bits);
 impl Unit {
     ghost use Rattle.byte_unit_base.specs.Units.{shape_of};
 
-    /// How many bits the unit is: from 1 to 2^93.
+    /// Returns the number of bits of the unit: from 1 to 2^93.
     ///
-    /// ```text
-    /// Unit::KiB.as_bits_u128() == 8192
+    /// # Examples
+    ///
+    /// ```rust
+    /// use byte_unit::Unit;
+    ///
+    /// assert_eq!(rt; Unit::KiB.as_bits_u128(), 8192);
+    /// assert_eq!(rt; Unit::RiB.as_bits_u128(), 1 << 93);
     /// ```
     pub fn as_bits_u128(self) -> u128
         ensures bits { result ≡ bits (shape_of self) }
@@ -191,11 +205,16 @@ impl Unit {
         UNIT_BITS[self as usize]
     }
 
-    /// Its name, of one to three ASCII letters: the prefix letter, an `i` where that is a power of two, and `b` for
-    /// bits or `B` for bytes.
+    /// Returns the name of the unit, of one to three ASCII letters: the prefix letter, an `i` if the prefix is binary,
+    /// and `b` for bits or `B` for bytes.
     ///
-    /// ```text
-    /// Unit::Kibit.as_str() == "Kib"
+    /// # Examples
+    ///
+    /// ```rust
+    /// use byte_unit::Unit;
+    ///
+    /// assert_eq!(rt; Unit::Kibit.as_str(), "Kib");
+    /// assert_eq!(rt; Unit::MB.as_str(), "MB");
     /// ```
     pub fn as_str(self) -> &'static str
         ensures { result.now ≡ name current (shape_of self) }
@@ -203,10 +222,15 @@ impl Unit {
         UNITS[self as usize].name
     }
 
-    /// Whether it counts bits, and not bytes.
+    /// Returns `true` if the unit counts bits, and `false` if it counts bytes.
     ///
-    /// ```text
-    /// Unit::Kbit.is_bit() == true
+    /// # Examples
+    ///
+    /// ```rust
+    /// use byte_unit::Unit;
+    ///
+    /// assert!(rt; Unit::Kbit.is_bit());
+    /// assert!(rt; !Unit::KB.is_bit());
     /// ```
     pub fn is_bit(self) -> bool
         ensures { result ≡ (shape_of self).bit }
@@ -214,10 +238,17 @@ impl Unit {
         self.shape().bit
     }
 
-    /// Whether it goes by powers of two. `B` does, and `Bit` does not.
+    /// Returns `true` if the prefix is binary (IEC). Of the units without a prefix, `B` counts as binary and `Bit` does
+    /// not.
     ///
-    /// ```text
-    /// Unit::KiB.is_binary_multiples() == true
+    /// # Examples
+    ///
+    /// ```rust
+    /// use byte_unit::Unit;
+    ///
+    /// assert!(rt; Unit::KiB.is_binary_multiples());
+    /// assert!(rt; !Unit::KB.is_binary_multiples());
+    /// assert!(rt; Unit::B.is_binary_multiples() && !Unit::Bit.is_binary_multiples());
     /// ```
     pub fn is_binary_multiples(self) -> bool
         ensures { result ≡ (shape_of self).binary }
@@ -225,10 +256,16 @@ impl Unit {
         self.shape().binary
     }
 
-    /// The exponents of two and of five in its bits.
+    /// Returns the exponents of 2 and of 5 in the number of bits of the unit, which has no other prime factor.
     ///
-    /// ```text
-    /// Unit::KB.powers() == (6, 3), since 8000 is 2^6 * 5^3
+    /// # Examples
+    ///
+    /// ```rust
+    /// use byte_unit::Unit;
+    ///
+    /// // 8000 is 2^6 * 5^3.
+    /// assert_eq!(rt; Unit::KB.powers(), (6, 3));
+    /// assert_eq!(rt; Unit::KiB.powers(), (13, 0));
     /// ```
     pub fn powers(self) -> (u32, u32)
         ensures twos { result.0 ≡ twos (shape_of self) }
@@ -243,7 +280,7 @@ impl Unit {
         }
     }
 
-    /// Its shape. The name, the bits and all else follow from it.
+    /// Returns the shape of the unit, which determines its name and its bits.
     fn shape(self) -> Shape
         ensures power { result.power ≡ (shape_of self).power }
         ensures binary { result.binary ≡ (shape_of self).binary }
@@ -253,7 +290,7 @@ impl Unit {
     }
 }
 
-/// The bits of the unit, as `as_bits_u128` gives them.
+/// Converts a unit to its number of bits, as `as_bits_u128` does.
 impl From<Unit> for u128 {
     ghost use Rattle.byte_unit_base.specs.Units.{shape_of};
 
@@ -264,7 +301,7 @@ impl From<Unit> for u128 {
     }
 }
 
-/// Writes the name. Flags of the formatter change nothing.
+/// Writes the name of the unit. The flags of the formatter are ignored.
 impl fmt::Display for Unit {
     ghost use Rattle.std.specs.Prelude.{Some};
     ghost use Rattle.byte_unit_base.specs.Units.{shape_of};

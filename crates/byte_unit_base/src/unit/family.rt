@@ -1,22 +1,32 @@
-//! Families of units, and the tables of their units.
+//! Unit sets: which units a choice may take, and their tables.
 
 ghost use Rattle.std.specs.Prelude.{◌≡◌, map};
 ghost use Rattle.byte_unit_base.specs.Multiples.{ListsUnits, falling_from, known_prefixes, row_of, row_shape};
 
 use crate::unit::Unit;
 
-/// Which units a choice may take. A family has multiples alone: `Bit` and `B` are in none.
+/// The set of units that a choice may take. All of them have a prefix: `Bit` and `B` are in no set.
+///
+/// # Examples
+///
+/// ```rust
+/// use byte_unit::{Family, Unit, UnitType, largest_unit};
+///
+/// assert_eq!(rt; largest_unit(1000, Family::All, UnitType::Both, 8), Some(Unit::KB));
+/// assert_eq!(rt; largest_unit(1000, Family::Bits, UnitType::Both, 8), Some(Unit::Kibit));
+/// assert_eq!(rt; largest_unit(7, Family::Bits, UnitType::Both, 8), None);
+/// ```
 #[derive(Clone, Copy, Debug, PartialEq, Eq)]
 pub enum Family {
-    /// The multiples of both kinds.
+    /// All units with a prefix.
     All,
-    /// The multiples of bytes, as `KB` and `KiB`.
+    /// Those of bytes, as `KB` and `KiB`.
     Bytes,
-    /// The multiples of bits, as `Kbit` and `Kibit`.
+    /// Those of bits, as `Kbit` and `Kibit`.
     Bits,
 }
 
-/// A row of a table: a unit with its bits, and the exponents of two and of five in them.
+/// A row of a table: a unit, its number of bits, and the exponents of 2 and of 5 in that number.
 #[derive(Clone, Copy)]
 pub(crate) struct UnitRow {
     pub(crate) unit: Unit,
@@ -25,12 +35,14 @@ pub(crate) struct UnitRow {
     pub(crate) fives: u32,
 }
 
-/// The prefixes. A family has as many units of each.
+/// The number of prefixes. A unit set has the same number of units for each.
 pub(crate) const PREFIXES: usize = 9;
 
 impl Family {
-    /// Its units of the first prefixes, so many, from the largest, but for those whose prefix is too large for so many
-    /// bits: a unit of the n-th prefix has no fewer than 10 n binary digits.
+    /// Returns the units of the first `first` prefixes, the largest first, without those whose prefix is too large for
+    /// a size of `in_bits` bits: the number of bits of a unit of the n-th prefix has at least 10 n binary digits.
+    ///
+    /// `#[inline(always)]`: most callers have a constant unit set.
     #[inline(always)]
     pub(crate) fn multiples_within(self, in_bits: u128, first: u32) -> &'static [UnitRow]
         ensures { ListsUnits self in_bits first result.now }
@@ -46,25 +58,23 @@ impl Family {
     }
 }
 
-/// The multiples of bytes and of bits, from the largest.
+/// The units of bytes and of bits, the largest first.
 static ALL: [UnitRow; 36] = [
     RIB, RB, RIBIT, RBIT, YIB, YB, YIBIT, YBIT, ZIB, ZB, ZIBIT, ZBIT, EIB, EB, EIBIT, EBIT, PIB,
     PB, PIBIT, PBIT, TIB, TB, TIBIT, TBIT, GIB, GB, GIBIT, GBIT, MIB, MB, MIBIT, MBIT, KIB, KB,
     KIBIT, KBIT,
 ];
 
-/// The multiples of bytes, from the largest.
+/// The units of bytes, the largest first.
 static BYTES: [UnitRow; 18] = [
     RIB, RB, YIB, YB, ZIB, ZB, EIB, EB, PIB, PB, TIB, TB, GIB, GB, MIB, MB, KIB, KB,
 ];
 
-/// The multiples of bits, from the largest.
+/// The units of bits, the largest first.
 static BITS: [UnitRow; 18] = [
     RIBIT, RBIT, YIBIT, YBIT, ZIBIT, ZBIT, EIBIT, EBIT, PIBIT, PBIT, TIBIT, TBIT, GIBIT, GBIT,
     MIBIT, MBIT, KIBIT, KBIT,
 ];
-
-// The rows, each once.
 
 /// Writes the row of one unit.
 macro_rules! row {
