@@ -58,7 +58,7 @@ pub enum ValueParseError {
 ///     Ok(_) => assert!(rt; false),
 ///     Err(error) => {
 ///         assert_eq!(rt; error.character, 'x');
-///         assert!(rt; error.expected_characters == ['B', 'b']);
+///         assert!(rt; error.expected_characters == ['B', 'b'].as_slice());
 ///         assert!(rt; error.also_expect_no_character);
 ///     }
 /// }

@@ -85,8 +85,8 @@ pub fn exact_unit(size: u128, kind: Kind, allow: bool) -> (u128, Unit)
     (number.whole(), unit)
 }
 
-/// Returns the largest unit of the size's own kind and of the type that is not above the size. If there is none, returns
-/// `B` or `Bit`.
+/// Returns the largest unit of the size's own kind and of the type that is not above the size. If there is none,
+/// returns `B` or `Bit`.
 ///
 /// # Examples
 ///

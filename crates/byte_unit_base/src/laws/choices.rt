@@ -1,7 +1,7 @@
 //! Laws of the choice of a unit. Each function does nothing; its contract is the law.
 //!
 //! They hold for every unit set, every size in bits, every precision, and in every version of the grammar. The chosen
-//! unit is the largest of the unit set, not above the size, in which the size is exact within the precision. A precision
+//! unit is the largest of the set, not above the size, in which the size is exact within the precision. A precision
 //! above 28 counts as 28.
 
 ghost use Rattle.byte_unit_base.specs.ChoiceLaws.{ChoicesAreOne, EachSizeHasAChoiceOrNone, NumberTimesUnitIsSize};
