@@ -16,7 +16,7 @@ use Rattle.byte_unit_base.specs.Family.{HasPrefix, InFamily}
 use Rattle.byte_unit_base.specs.Choice.{IsLargest, NoneHas}
 use Rattle.byte_unit_base.specs.Multiples.{ListsUnits, falling_from, known_prefixes, row_of, row_shape}
 use Rattle.byte_unit_base.specs.declared.unit.Unit.TheVariants.{Bit}
-use Rattle.byte_unit_base.specs.declared.unit.family.Row.{Row}
+use Rattle.byte_unit_base.specs.declared.unit.family.UnitRow.{UnitRow}
 use Rattle.byte_unit_base.specs.declared.unit.family.Family.{Family}
 use Rattle.byte_unit_base.specs.declared.unit.family.Family.TheVariants.{All, Bytes, Bits}
 use Rattle.byte_unit_base.proofs.Choosing.{small_bits, some_bits}
@@ -25,15 +25,15 @@ use Rattle.byte_unit_base.proofs.Falling.{largest_found}
 use Rattle.byte_unit_base.proofs.Falling.{Remain-after, Remain-at_end, units_per_prefix, drop_prefixes}
 
 -- the unit of a row of the table, as a `Shape`
-abbrev pub unit_in : Row → Shape
+abbrev pub unit_in : UnitRow → Shape
 unit_in row = shape_of row.unit
 
 -- the row that is read past the end of the table
-abbrev pub no_row : Row
+abbrev pub no_row : UnitRow
 no_row = record { unit = Bit; bits = 0; twos = 0; fives = 0 }
 
 -- the bits of the row are 2 and 5 to its exponents, and are from 2^9 to the limit of a unit
-pub record IsMultiple (row : Row) : Type 0 where
+pub record IsMultiple (row : UnitRow) : Type 0 where
   pub powers : row.bits ≡ 2 ^ row.twos * 5 ^ row.fives
   pub large : 2 ^ 9 ≤ row.bits
   pub small : row.bits ≤ unit_limit
@@ -91,7 +91,7 @@ length_of_all Bytes = omega arith
 length_of_all Bits = omega arith
 
 -- without the rows of its last prefix letters, the table has the rows of the other letters
-pub rows_behind : (family : Family) (rows : List Row) (prefixes skipped : ℕ)
+pub rows_behind : (family : Family) (rows : List UnitRow) (prefixes skipped : ℕ)
     → map row_shape rows ≡ map row_of (falling_from family known_prefixes) → prefixes ≤ known_prefixes
     → skipped ≡ length rows / known_prefixes * (known_prefixes - prefixes)
     → map row_shape (drop skipped rows) ≡ map row_of (falling_from family prefixes)
@@ -113,7 +113,7 @@ rows_behind family rows prefixes skipped all few count =
     ∙ (drop-map row_of skipped units
     ∙ ap (map row_of) (ap (λ n. drop n units) here ∙ behind)))
 
-units_of_rows : (rows : List Row) (units : List Shape) → map row_shape rows ≡ map row_of units
+units_of_rows : (rows : List UnitRow) (units : List Shape) → map row_shape rows ≡ map row_of units
     → map unit_in rows ≡ units
 units_of_rows [] [] e = refl
 units_of_rows [] (x ∷ xs) e = absurd (let k : ⊥ = cc in k)
@@ -125,12 +125,12 @@ units_of_rows (r ∷ rs) (x ∷ xs) e =
     ap (λ s. s ∷ map unit_in rs) unit ∙ ap (λ l. x ∷ l) (units_of_rows rs xs rest)
 
 -- the units of listed rows are the units of the first prefix letters
-pub listed_units : (family : Family) (in_bits first : ℕ) (rows : List Row) (h : ListsUnits family in_bits first rows)
+pub listed_units : (family : Family) (in_bits first : ℕ) (rows : List UnitRow) (h : ListsUnits family in_bits first rows)
     → map unit_in rows ≡ falling_from family h.prefixes
 listed_units family in_bits first rows h = units_of_rows rows (falling_from family h.prefixes) h.rows_are
 
 -- at the start of the search, each unit that has the property is among the rows
-pub search_start : (Has : Shape → Type 0) (family : Family) (in_bits first : ℕ) (rows : List Row)
+pub search_start : (Has : Shape → Type 0) (family : Family) (in_bits first : ℕ) (rows : List UnitRow)
     → ListsUnits family in_bits first rows
     → ((unit : Shape) → Has unit → InFamily current family unit × (bits unit ≤ in_bits) × (unit.power ≤ first))
     → Remain Has (drop 0 (map unit_in rows))
@@ -142,14 +142,14 @@ search_start Has family in_bits first rows h within = λ unit has.
     (in_falling family h.prefixes unit m.0.kind m.0.prefix.some known)
 
 -- the unit of the row is in the unit set, and the row has its bits and exponents
-pub record IsRow (family : Family) (row : Row) : Type 0 where
+pub record IsRow (family : Family) (row : UnitRow) : Type 0 where
   pub member : InFamily current family (unit_in row)
   pub bits_are : row.bits ≡ bits (unit_in row)
   pub twos_are : row.twos ≡ twos (unit_in row)
   pub fives_are : row.fives ≡ fives (unit_in row)
 
 -- the row at an index of the listed rows is the row of a unit of the set
-pub row_at_is_row : {family : Family} {in_bits first : ℕ} {rows : List Row} (i : ℕ) (d : Row)
+pub row_at_is_row : {family : Family} {in_bits first : ℕ} {rows : List UnitRow} (i : ℕ) (d : UnitRow)
     → ListsUnits family in_bits first rows
     → i < length rows → IsRow family (get_or rows i d)
 row_at_is_row {family} {in_bits} {first} {rows} i d h within =
@@ -186,7 +186,7 @@ pub power_of_powers : (unit : Shape) (a b : ℕ) → twos unit ≤ a → fives u
 power_of_powers unit a b = few_prefixes unit.power a b unit.binary unit.bit
 
 -- the bits of a row are 2 and 5 to its exponents, and within the limits
-pub row_multiple : {family : Family} {row : Row} → IsRow family row → IsMultiple row
+pub row_multiple : {family : Family} {row : UnitRow} → IsRow family row → IsMultiple row
 row_multiple {family} {row} is =
     let member = is.member in
     let first = pow-le-pow_right {n = 2} (omega arith) {i = 9} {j = 10 * (unit_in row).power - 1}
@@ -200,7 +200,7 @@ row_multiple {family} {row} is =
     }
 
 -- the unit of the first row that has the property is the largest unit that has it
-pub unit_found : {family : Family} {in_bits first : ℕ} {rows : List Row} (Has : Shape → Type 0) (i : ℕ) (d : Row)
+pub unit_found : {family : Family} {in_bits first : ℕ} {rows : List UnitRow} (Has : Shape → Type 0) (i : ℕ) (d : UnitRow)
     → ListsUnits family in_bits first rows → Remain Has (drop i (map unit_in rows)) → i < length rows
     → Has (unit_in (get_or rows i d))
     → IsLargest Has (unit_in (get_or rows i d))
@@ -212,7 +212,7 @@ unit_found {family} {in_bits} {first} {rows} Has i d h remain within has =
     largest_found Has (map unit_in rows) i unit fall remain (there, get_or-map unit_in rows i d unit within) has
 
 -- if the unit of a row does not have the property, each unit that has it is in a later row
-pub unit_passed : (Has : Shape → Type 0) (rows : List Row) (i : ℕ) (d : Row) → Remain Has (drop i (map unit_in rows))
+pub unit_passed : (Has : Shape → Type 0) (rows : List UnitRow) (i : ℕ) (d : UnitRow) → Remain Has (drop i (map unit_in rows))
     → i < length rows → ¬ (Has (unit_in (get_or rows i d))) → Remain Has (drop (i + 1) (map unit_in rows))
 unit_passed Has rows i d remain within without =
     let unit = unit_in (get_or rows i d) in
@@ -220,7 +220,7 @@ unit_passed Has rows i d remain within without =
     Remain-after Has (map unit_in rows) i unit remain there (get_or-map unit_in rows i d unit within) without
 
 -- if no row is left, no unit has the property
-pub none_found : (Has : Shape → Type 0) (rows : List Row) (i : ℕ) → length rows ≤ i
+pub none_found : (Has : Shape → Type 0) (rows : List UnitRow) (i : ℕ) → length rows ≤ i
     → Remain Has (drop i (map unit_in rows))
     → NoneHas Has
 none_found Has rows i done remain =
@@ -231,7 +231,7 @@ pub not_if_test_fails : (b : Bool) (Fact : Type 0) → b ≡ false → (Fact →
 not_if_test_fails b Fact e h p = let t = h p in let k : ⊥ = cc in k
 
 -- if the tests of a row hold, its unit is not above the size and has no greater exponents
-pub row_powers : {family : Family} {row : Row} (in_bits a b : ℕ) → IsRow family row
+pub row_powers : {family : Family} {row : UnitRow} (in_bits a b : ℕ) → IsRow family row
     → ((leb row.bits in_bits && leb row.twos a) && leb row.fives b) ≡ true → HasPowers family in_bits a b (unit_in row)
 row_powers {family} {row} in_bits a b is h =
     let parts = and_parts (leb row.bits in_bits && leb row.twos a) (leb row.fives b) h in
@@ -244,7 +244,7 @@ row_powers {family} {row} in_bits a b is h =
     }
 
 -- if the unit of a row is not above the size and has no greater exponents, the tests of the row hold
-pub powers_in_row : {family : Family} {row : Row} (in_bits a b : ℕ) → IsRow family row
+pub powers_in_row : {family : Family} {row : UnitRow} (in_bits a b : ℕ) → IsRow family row
     → HasPowers family in_bits a b (unit_in row) → ((leb row.bits in_bits && leb row.twos a) && leb row.fives b) ≡ true
 powers_in_row {family} {row} in_bits a b is h =
     let below = le-leb row.bits in_bits (omega (arith, is.bits_are, h.not_above)) in

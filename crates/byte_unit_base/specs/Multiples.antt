@@ -4,7 +4,7 @@ use Rattle.byte_unit_base.specs.Shape.{Shape, shape, bits, twos, fives}
 use Rattle.byte_unit_base.specs.Units.{shape_of}
 use Rattle.byte_unit_base.specs.Edition.{current}
 use Rattle.byte_unit_base.specs.Family.{HasPrefix}
-use Rattle.byte_unit_base.specs.declared.unit.family.Row.{Row}
+use Rattle.byte_unit_base.specs.declared.unit.family.UnitRow.{UnitRow}
 use Rattle.byte_unit_base.specs.declared.unit.family.Family.{Family}
 use Rattle.byte_unit_base.specs.declared.unit.family.Family.TheVariants.{All, Bytes, Bits}
 
@@ -36,12 +36,12 @@ abbrev pub row_of : Shape → ShapeRow
 row_of unit = record { unit = unit; bits = bits unit; twos = twos unit; fives = fives unit }
 
 -- a row of the table in the code, as a `ShapeRow`
-abbrev pub row_shape : Row → ShapeRow
+abbrev pub row_shape : UnitRow → ShapeRow
 row_shape row = record { unit = shape_of row.unit; bits = row.bits; twos = row.twos; fives = row.fives }
 
 -- the rows are those of the units of the set with one of the first `prefixes` prefix letters, from the largest. Each
 -- unit of the set that has at most `in_bits` bits, and one of the `first` first prefix letters, is among them
-pub record ListsUnits (family : Family) (in_bits first : ℕ) (rows : List Row) : Type 0 where
+pub record ListsUnits (family : Family) (in_bits first : ℕ) (rows : List UnitRow) : Type 0 where
   pub prefixes : ℕ
   pub few : prefixes ≤ known_prefixes
   pub rows_are : map row_shape rows ≡ map row_of (falling_from family prefixes)

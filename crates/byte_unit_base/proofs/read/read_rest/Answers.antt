@@ -24,7 +24,7 @@ returns-in-None-step c =
     let t = YieldsList-turn (YieldsList-from_chars c.args.rest.now c.utf8.rest cc) c.loop-c.yielded _
     c.loop-c.yielded_by _ _ c.in-Some.c
     c.in-Some.is c.next.ensures.steps in
-    ap Err c.fault.ensures ∙ (read_stop (size_scan c.args.flags) c.loop-c.scan (chars c.args.rest.now) _ _ t
+    ap Err c.error_at.ensures ∙ (read_stop (size_scan c.args.flags) c.loop-c.scan (chars c.args.rest.now) _ _ t
     (sym c.step.ensures ∙ c.in-None-step.is) ∙ c.loop-c.invariant.1)
 
 pub returns : goal.returns

@@ -28,9 +28,9 @@ stated c =
     let scan = c.scan_digits-scan in
     let end = scan.result.1 in
     let behind = slice_range bytes end (length bytes) in
-    let spaces = c.spaces_at_front.result in
+    let spaces = c.leading_spaces.result in
     let spelling = slice_range behind spaces (length behind) in
-    let read = c.multiple_at_front-multiple in
+    let read = c.leading_multiple-multiple in
     let IsNumberRead : Option ℕ → Type 0 =
     λ found. IfSome found (λ number. IsNumberText current (take end bytes) number) in
     record {
@@ -40,7 +40,7 @@ stated c =
       text_is =
           joined bytes end
           ∙ ap (λ rest. take end bytes ++ rest) (joined behind spaces
-          ∙ ap (λ gap. gap ++ spelling) c.spaces_at_front.ensures.spaces);
+          ∙ ap (λ gap. gap ++ spelling) c.leading_spaces.ensures.spaces);
       number_is = subst IsNumberRead (sym c.in_ok-number.ensures) (number_scanned bytes end scan.result.0 scan.ensures);
       unit_is = Spells-reached c.args.flags read.result.0 c.in_ok-word.word spelling (shape_of c.in_ok-unit.unit)
           (sym c.in_ok-unit.ensures)

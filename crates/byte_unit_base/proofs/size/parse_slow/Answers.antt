@@ -3,7 +3,7 @@ use Rattle.std.proofs.lemmas.Result.{err_from_is_err_and}
 use Rattle.byte_unit_base.specs.Readings.{IsNumberReading}
 use Rattle.byte_unit_base.specs.Spelling.{Flags}
 use Rattle.byte_unit_base.proofs.SizeOfText.{reading_of_fault}
-use Rattle.byte_unit_base.proofs.size.parse_by_steps.Goals as goal
+use Rattle.byte_unit_base.proofs.size.parse_slow.Goals as goal
 
 pub returns-clause-reading : goal.returns-clause-reading
 returns-clause-reading c =

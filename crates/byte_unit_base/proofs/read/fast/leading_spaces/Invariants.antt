@@ -1,6 +1,6 @@
 use Rattle.std.proofs.Common.{length, ◌-◌, ◌≡◌, ◌≤◌, take, replicate}
 use Rattle.byte_unit_base.specs.SizeText.{space}
-use Rattle.byte_unit_base.proofs.read.fast.spaces_at_front.Given as goal
+use Rattle.byte_unit_base.proofs.read.fast.leading_spaces.Given as goal
 
 -- the first `count` bytes are spaces
 abbrev pub invariant-spaces : goal.invariant-spaces

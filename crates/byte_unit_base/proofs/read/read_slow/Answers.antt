@@ -7,7 +7,7 @@ use Rattle.byte_unit_base.specs.declared.read.scan.SizeScan.TheVariants.{Beginni
 use Rattle.byte_unit_base.proofs.Trim.{chars-trim}
 use Rattle.byte_unit_base.proofs.SizeDigits.{scanned_bounds, scanned_boundary, rest_read}
 use Rattle.byte_unit_base.proofs.SizeReads.{number_reading}
-use Rattle.byte_unit_base.proofs.read.read_by_steps.Goals as goal
+use Rattle.byte_unit_base.proofs.read.read_slow.Goals as goal
 
 pub range_from-requires : goal.range_from-requires
 range_from-requires c =
