@@ -1,4 +1,4 @@
--- The bits of units, and a size in its own unit.
+-- The number of bits of a unit, and a size in its own unit.
 use Rattle.std.proofs.Common.{◌≡◌, ℕ, ◌*◌, ◌≤◌, Bool, Option, Some, None, IfNone, arith, ap, inl}
 use Rattle.std.proofs.Common.{inr, refl}
 use Rattle.std.proofs.Common.{subst, sym, ◌∙◌}
@@ -17,21 +17,25 @@ use Rattle.byte_unit_base.specs.declared.kind.Kind.TheVariants.{Byte, Bit}
 use Rattle.byte_unit_base.specs.declared.unit.family.Family.{Family}
 use Rattle.byte_unit_base.proofs.Falling.{in_falling, le_of_falls, current_falls}
 
+-- a unit has at least one bit
 pub some_bits : (unit : Shape) → 1 ≤ bits unit
 some_bits unit = one-le-mul (one-le-pow (twos unit) 2 (omega arith)) (one-le-pow (fives unit) 5 (omega arith))
 
+-- a unit of a unit set has at most as many bits as the limit of a unit
 pub small_bits : (family : Family) (unit : Shape) → InFamily current family unit → bits unit ≤ unit_limit
 small_bits family unit h =
     let units = falling_from family known_prefixes in
     let is_in = in_falling family known_prefixes unit h.kind h.prefix.some h.prefix.known in
     le_of_falls units unit_limit unit (current_falls family known_prefixes (omega arith)) is_in
 
+-- the own unit of a kind has as many bits as a size of 1 of that kind
 pub own_bits : (kind : Kind) → bits (own_unit kind) ≡ bits_in kind
 own_bits Byte = refl
 own_bits Bit = refl
 
--- a size is whole in the unit in which it is recovered at no places
-pub exact_where_recovered : (kind : Kind) (both : Bool) (size : ℕ) (unit : Shape) → IsRecovered current kind both size 0 unit
+-- a size is a whole number of the unit that is its exact unit at a precision of 0
+pub exact_where_recovered : (kind : Kind) (both : Bool) (size : ℕ) (unit : Shape)
+    → IsRecovered current kind both size 0 unit
     → IsExactAt (size * bits_in kind) (bits unit) 0
 exact_where_recovered kind both size unit (inl h) = h.has.exact
 exact_where_recovered kind both size unit (inr h) =
@@ -39,15 +43,12 @@ exact_where_recovered kind both size unit (inr h) =
     let same = ap (λ n. size * n) (own_bits kind) in
     subst exact (sym h.1) (size, omega (arith, same))
 
-pub if_none : {A : Type 0} {P : Type 0} (answer : Option A) → P → IfNone answer P
-if_none None h = h
-if_none (Some x) h = tt
+-- a result that is `None` only if a fact fails is not `None` if the fact holds
+pub some_if_holds : {A : Type 0} {Fact : Type 0} (answer : Option A) → IfNone answer (¬ Fact) → Fact → IsSome answer
+some_if_holds None none h = absurd (none h)
+some_if_holds (Some x) none h = refl
 
-pub is_some : {A : Type 0} {P : Type 0} (answer : Option A) → IfNone answer (¬ P) → P → IsSome answer
-is_some None none h = absurd (none h)
-is_some (Some x) none h = refl
-
--- the size in the unit that is one of its kind
+-- a size, scaled by 10^28, is the number of its own unit in it
 pub own_number : (kind : Kind) (size number : ℕ) (unit : Shape) → number ≡ size * one → unit ≡ own_unit kind
     → number * bits unit ≡ size * bits_in kind * one
 own_number kind size number unit value own =

@@ -1,4 +1,4 @@
--- The texts of errors, part by part.
+-- The list of expected characters in the message of an error is written character by character.
 use Rattle.std.proofs.Common.{◌≡◌, ℕ, ◌-◌, ◌≤◌, List, [], ◌∷◌, length, take, drop, get_or, take_all}
 use Rattle.std.proofs.Common.{Some, arith, ap, ◌∙◌}
 use Rattle.std.proofs.Output.{then_text_assoc}
@@ -6,11 +6,12 @@ use Rattle.std.specs.Prelude.{if◌then◌else◌, ◌==◌, codes}
 use Rattle.std.specs.Fmt.{debug_char, ◌++?◌}
 use Rattle.byte_unit_base.specs.FaultText.{others_text}
 
--- what precedes a character that is expected, by those that follow it
+-- what is written before an expected character, by those that follow it
 abbrev pub separator : List ℕ → List ℕ
 separator rest = if length rest == 0 then codes " or " else codes ", "
 
--- the text of the expected characters that are left: their first, what precedes it, and the others
+-- the message of the expected characters that are left is the first of them with what is written before it, and then
+-- the message of the others
 pub left_text : (left before : List ℕ) (first : ℕ) → 1 ≤ length left → first ≡ get_or left 0 first
     → before ≡ separator (take (length left - 1) (drop 1 left))
     → (Some before ++? debug_char first) ++? others_text (take (length left - 1) (drop 1 left)) ≡ others_text left

@@ -1,5 +1,6 @@
--- The units of a family from the largest, and a search along them.
-use Rattle.std.proofs.Common.{◌≡◌, ℕ, ◌+◌, ◌*◌, ◌<◌, ◌≤◌, ◌⊎◌, ⊎_elim, inl, inr, zero, suc, Bool, true, false, List, [], ◌∷◌, ◌++◌}
+-- The units of a unit set from the largest to the smallest, and the search for the largest that has a property.
+use Rattle.std.proofs.Common.{◌≡◌, ℕ, ◌+◌, ◌*◌, ◌<◌, ◌≤◌, ◌⊎◌, ⊎_elim, inl, inr, zero, suc, Bool, true, false, List, []}
+use Rattle.std.proofs.Common.{◌∷◌, ◌++◌}
 use Rattle.std.proofs.Common.{length, drop, get_or, ◌&&◌, leb, add-one, drop-cons, arith, sym, ap, ◌∙◌, subst, refl}
 use Rattle.std.proofs.lemmas.List.{drop_all}
 use Rattle.std.proofs.lemmas.Bool.{and_parts, cases_lt, leb-true}
@@ -16,12 +17,12 @@ abbrev pub IsIn : Shape → List Shape → Type 0
 IsIn unit [] = ⊥
 IsIn unit (x ∷ xs) = (x ≡ unit) ⊎ IsIn unit xs
 
--- the units fall in size, from this bound
+-- no unit is larger than the bound or than the unit before it
 abbrev pub falls : ℕ → List Shape → Bool
 falls bound [] = true
 falls bound (x ∷ xs) = leb (bits x) bound && falls (bits x) xs
 
--- every unit with the property is one of these
+-- each unit that has the property is one of these
 abbrev pub Remain : (Shape → Type 0) → List Shape → Type 0
 Remain Has units = (unit : Shape) → Has unit → IsIn unit units
 
@@ -33,7 +34,8 @@ IsIn-right : (xs ys : List Shape) (unit : Shape) → IsIn unit ys → IsIn unit 
 IsIn-right [] ys unit h = h
 IsIn-right (x ∷ xs) ys unit h = inr (IsIn-right xs ys unit h)
 
-in_prefix : (family : Family) (power : ℕ) (binary bit : Bool) → HasKind family bit → IsIn (shape power binary bit) (of_prefix family power)
+in_prefix : (family : Family) (power : ℕ) (binary bit : Bool) → HasKind family bit
+    → IsIn (shape power binary bit) (of_prefix family power)
 in_prefix All power true false k = inl refl
 in_prefix All power false false k = inr (inl refl)
 in_prefix All power true true k = inr (inr (inl refl))
@@ -47,7 +49,7 @@ in_prefix Bits power false true k = inr (inl refl)
 in_prefix Bits power true false k = absurd (let b : ⊥ = cc in b)
 in_prefix Bits power false false k = absurd (let b : ⊥ = cc in b)
 
--- every unit of the family with one of these prefixes is there
+-- a unit of the set with one of the first n prefix letters is in their list
 pub in_falling : (family : Family) (n : ℕ) (unit : Shape) → HasKind family unit.bit → 1 ≤ unit.power → unit.power ≤ n
     → IsIn unit (falling_from family n)
 in_falling family zero unit kind some known = absurd (omega (arith, some, known))
@@ -58,13 +60,14 @@ in_falling family (suc n) unit kind some known =
     (λ below. IsIn-right here later unit (in_falling family n unit kind some (omega (arith, below))))
     (λ above.
     let same : unit.power ≡ suc n = omega (arith, above, known) in
-    let P : ℕ → Type 0 = λ k. IsIn unit (of_prefix family k) in
-    IsIn-left here later unit (subst P same (in_prefix family unit.power unit.binary unit.bit kind)))
+    let IsInPrefix : ℕ → Type 0 = λ k. IsIn unit (of_prefix family k) in
+    IsIn-left here later unit (subst IsInPrefix same (in_prefix family unit.power unit.binary unit.bit kind)))
     (cases_lt unit.power (suc n))
 
 IsIn-parts : (xs ys : List Shape) (unit : Shape) → IsIn unit (xs ++ ys) → IsIn unit xs ⊎ IsIn unit ys
 IsIn-parts [] ys unit h = inr h
-IsIn-parts (x ∷ xs) ys unit h = ⊎_elim (λ e. inl (inl e)) (λ k. ⊎_elim (λ a. inl (inr a)) inr (IsIn-parts xs ys unit k)) h
+IsIn-parts (x ∷ xs) ys unit h =
+    ⊎_elim (λ e. inl (inl e)) (λ k. ⊎_elim (λ a. inl (inr a)) inr (IsIn-parts xs ys unit k)) h
 
 abbrev IsOfPrefix : Family → ℕ → Shape → Type 0
 IsOfPrefix family n unit = (unit.power ≡ n) × HasKind family unit.bit
@@ -82,7 +85,7 @@ of_one_prefix Bits n unit (inl e) = (sym (ap (λ s. s.power) e), sym (ap (λ s. 
 of_one_prefix Bits n unit (inr (inl e)) = (sym (ap (λ s. s.power) e), sym (ap (λ s. s.bit) e))
 of_one_prefix Bits n unit (inr (inr e)) = absurd e
 
--- and what is there is of the family, and has one of these prefixes
+-- a unit in the list of the first n prefix letters has one of these letters, and is of the set
 pub from_falling : (family : Family) (n : ℕ) (unit : Shape) → IsIn unit (falling_from family n)
     → (1 ≤ unit.power) × (unit.power ≤ n) × HasKind family unit.bit
 from_falling family zero unit h = absurd h
@@ -92,60 +95,66 @@ from_falling family (suc n) unit h =
     (λ later. let r = from_falling family n unit later in (r.0, omega (arith, r.1), r.2))
     (IsIn-parts (of_prefix family (suc n)) (falling_from family n) unit h)
 
+-- the unit at an index of a list is one of the list
 pub IsIn-at : (xs : List Shape) (i : ℕ) (d : Shape) → i < length xs → IsIn (get_or xs i d) xs
 IsIn-at [] i d h = absurd (omega (arith, h))
 IsIn-at (x ∷ xs) zero d h = inl refl
 IsIn-at (x ∷ xs) (suc i) d h = inr (IsIn-at xs i d (omega (arith, h)))
 
--- none is above the bound
-pub le_of_falls : (xs : List Shape) (bound : ℕ) (unit : Shape) → falls bound xs ≡ true → IsIn unit xs → bits unit ≤ bound
+-- no unit of a falling list is larger than the bound
+pub le_of_falls : (xs : List Shape) (bound : ℕ) (unit : Shape) → falls bound xs ≡ true → IsIn unit xs
+    → bits unit ≤ bound
 le_of_falls [] bound unit h i = absurd i
 le_of_falls (x ∷ xs) bound unit h i =
     let parts = and_parts (leb (bits x) bound) (falls (bits x) xs) h in
     let first = leb-true (bits x) bound parts.0 in
     ⊎_elim (λ e. omega (arith, ap bits e, first)) (λ k. omega (arith, first, le_of_falls xs (bits x) unit parts.1 k)) i
 
--- so from any place on
-falls_on : (xs : List Shape) (bound i : ℕ) (x : Shape) (rest : List Shape) → falls bound xs ≡ true → drop i xs ≡ x ∷ rest
+-- the units after any index of a falling list fall from the unit at the index
+falls_after : (xs : List Shape) (bound i : ℕ) (x : Shape) (rest : List Shape) → falls bound xs ≡ true
+    → drop i xs ≡ x ∷ rest
     → falls (bits x) rest ≡ true
-falls_on [] bound zero x rest h e = absurd (let k : ⊥ = cc in k)
-falls_on [] bound (suc i) x rest h e = absurd (let k : ⊥ = cc in k)
-falls_on (y ∷ ys) bound zero x rest h e =
+falls_after [] bound zero x rest h e = absurd (let k : ⊥ = cc in k)
+falls_after [] bound (suc i) x rest h e = absurd (let k : ⊥ = cc in k)
+falls_after (y ∷ ys) bound zero x rest h e =
     let a : y ≡ x = cc in
     let b : ys ≡ rest = cc in
-    let P : Shape → Type 0 = λ s. falls (bits s) rest ≡ true in
-    let Q : List Shape → Type 0 = λ l. falls (bits y) l ≡ true in
-    subst P a (subst Q b (and_parts (leb (bits y) bound) (falls (bits y) ys) h).1)
-falls_on (y ∷ ys) bound (suc i) x rest h e = falls_on ys (bits y) i x rest (and_parts (leb (bits y) bound) (falls (bits y) ys) h).1 e
+    let RestFallsFrom : Shape → Type 0 = λ s. falls (bits s) rest ≡ true in
+    let FallAfterFirst : List Shape → Type 0 = λ l. falls (bits y) l ≡ true in
+    subst RestFallsFrom a (subst FallAfterFirst b (and_parts (leb (bits y) bound) (falls (bits y) ys) h).1)
+falls_after (y ∷ ys) bound (suc i) x rest h e =
+    falls_after ys (bits y) i x rest (and_parts (leb (bits y) bound) (falls (bits y) ys) h).1 e
 
--- the units of this many prefixes fall, and so do those of fewer
-abbrev fall_to : Family → ℕ → Bool
-fall_to family zero = true
-fall_to family (suc n) = falls unit_limit (falling_from family (suc n)) && fall_to family n
+-- the units of the first n prefix letters fall, and so do those of fewer
+abbrev prefixes_fall : Family → ℕ → Bool
+prefixes_fall family zero = true
+prefixes_fall family (suc n) = falls unit_limit (falling_from family (suc n)) && prefixes_fall family n
 
-fewer_fall : (family : Family) (m n : ℕ) → fall_to family m ≡ true → n ≤ m → falls unit_limit (falling_from family n) ≡ true
+fewer_fall : (family : Family) (m n : ℕ) → prefixes_fall family m ≡ true → n ≤ m
+    → falls unit_limit (falling_from family n) ≡ true
 fewer_fall family zero n h few =
-    let P : ℕ → Type 0 = λ k. falls unit_limit (falling_from family k) ≡ true in
+    let UnitsFall : ℕ → Type 0 = λ k. falls unit_limit (falling_from family k) ≡ true in
     let none : 0 ≡ n = omega (arith, few) in
-    subst P none refl
+    subst UnitsFall none refl
 fewer_fall family (suc m) n h few =
-    let parts = and_parts (falls unit_limit (falling_from family (suc m))) (fall_to family m) h in
-    let P : ℕ → Type 0 = λ k. falls unit_limit (falling_from family k) ≡ true in
+    let parts = and_parts (falls unit_limit (falling_from family (suc m))) (prefixes_fall family m) h in
+    let UnitsFall : ℕ → Type 0 = λ k. falls unit_limit (falling_from family k) ≡ true in
     ⊎_elim
     (λ below. fewer_fall family m n parts.1 (omega (arith, below)))
-    (λ above. let same : suc m ≡ n = omega (arith, above, few) in subst P same parts.0)
+    (λ above. let same : suc m ≡ n = omega (arith, above, few) in subst UnitsFall same parts.0)
     (cases_lt n (suc m))
 
-all_fall : (family : Family) → fall_to family known_prefixes ≡ true
-all_fall All = refl
-all_fall Bytes = refl
-all_fall Bits = refl
+known_prefixes_fall : (family : Family) → prefixes_fall family known_prefixes ≡ true
+known_prefixes_fall All = refl
+known_prefixes_fall Bytes = refl
+known_prefixes_fall Bits = refl
 
--- the units of the current version do
+-- the lists of the units of the current edition fall
 pub current_falls : (family : Family) (n : ℕ) → n ≤ known_prefixes → falls unit_limit (falling_from family n) ≡ true
-current_falls family n few = fewer_fall family known_prefixes n (all_fall family) few
+current_falls family n few = fewer_fall family known_prefixes n (known_prefixes_fall family) few
 
--- the first with the property is the largest
+-- the first unit of a falling list that has the property is the largest that has it, if each unit that has it is at
+-- this index or later
 pub largest_found : (Has : Shape → Type 0) (units : List Shape) (i : ℕ) (x : Shape) → falls unit_limit units ≡ true
     → Remain Has (drop i units) → (i < length units) × (get_or units i x ≡ x) → Has x → IsLargest Has x
 largest_found Has units i x fall remain at has =
@@ -154,36 +163,40 @@ largest_found Has units i x fall remain at has =
     record {
       has = has;
       largest = λ unit h.
-          let P : List Shape → Type 0 = λ l. IsIn unit l in
+          let IsAmong : List Shape → Type 0 = λ l. IsIn unit l in
           ⊎_elim
           (λ same. omega (arith, ap bits same))
-          (λ later. le_of_falls rest (bits x) unit (falls_on units unit_limit i x rest fall e) later)
-          (subst P e (remain unit h));
+          (λ later. le_of_falls rest (bits x) unit (falls_after units unit_limit i x rest fall e) later)
+          (subst IsAmong e (remain unit h));
     }
 
--- one without it is left behind
-pub Remain-behind : (Has : Shape → Type 0) (units : List Shape) (i : ℕ) (x : Shape) → Remain Has (drop i units) → i < length units
+-- if the unit at an index does not have the property, each unit that has it is at a later index
+pub Remain-after : (Has : Shape → Type 0) (units : List Shape) (i : ℕ) (x : Shape) → Remain Has (drop i units)
+    → i < length units
     → get_or units i x ≡ x → ¬ (Has x) → Remain Has (drop (i + 1) units)
-Remain-behind Has units i x remain within at without = λ unit h.
+Remain-after Has units i x remain within at without = λ unit h.
     let e : drop i units ≡ x ∷ drop (suc i) units = drop-cons units i x within ∙ ap (λ y. y ∷ drop (suc i) units) at in
-    let P : List Shape → Type 0 = λ l. IsIn unit l in
-    rw add-one (⊎_elim (λ same. absurd (without (subst Has (sym same) h))) (λ later. later) (subst P e (remain unit h)))
+    let IsAmong : List Shape → Type 0 = λ l. IsIn unit l in
+    rw add-one (⊎_elim (λ same. absurd (without (subst Has (sym same) h)))
+    (λ later. later) (subst IsAmong e (remain unit h)))
 
--- none is left at the end
-pub Remain-at_end : (Has : Shape → Type 0) (units : List Shape) (i : ℕ) → length units ≤ i → Remain Has (drop i units) → NoneHas Has
+-- if each unit that has the property is after the end of the list, no unit has it
+pub Remain-at_end : (Has : Shape → Type 0) (units : List Shape) (i : ℕ) → length units ≤ i → Remain Has (drop i units)
+    → NoneHas Has
 Remain-at_end Has units i done remain unit h =
-    let P : List Shape → Type 0 = λ l. IsIn unit l in
+    let IsAmong : List Shape → Type 0 = λ l. IsIn unit l in
     let e : drop i units ≡ [] = drop_all i units done in
-    subst P e (remain unit h)
+    subst IsAmong e (remain unit h)
 
--- the units of the last prefixes stand behind those of the others
-abbrev pub width : Family → ℕ
-width All = 4
-width Bytes = 2
-width Bits = 2
+-- the number of units of a unit set that have the same prefix letter
+abbrev pub units_per_prefix : Family → ℕ
+units_per_prefix All = 4
+units_per_prefix Bytes = 2
+units_per_prefix Bits = 2
 
+-- without the units of its last prefix letters, the list of units is that of the other letters
 pub drop_prefixes : (family : Family) (dropped n : ℕ)
-    → drop (width family * dropped) (falling_from family (dropped + n)) ≡ falling_from family n
+    → drop (units_per_prefix family * dropped) (falling_from family (dropped + n)) ≡ falling_from family n
 drop_prefixes All zero n = ap (falling_from All) (let none : 0 + n ≡ n = omega arith in none)
 drop_prefixes Bytes zero n = ap (falling_from Bytes) (let none : 0 + n ≡ n = omega arith in none)
 drop_prefixes Bits zero n = ap (falling_from Bits) (let none : 0 + n ≡ n = omega arith in none)

@@ -1,4 +1,4 @@
--- The greatest step count of a choice.
+-- The greatest step count of choosing a unit.
 use Rattle.std.proofs.Common.{◌≡◌, ◌≢◌, ℕ, zero, suc, ◌+◌, ◌-◌, ◌*◌, ◌%◌, ◌^◌, ◌<◌, ◌≤◌, ⊎_elim, inl, inr}
 use Rattle.std.proofs.Common.{Bool, true, false, max, arith, ap, ◌∙◌, subst}
 use Rattle.std.proofs.Math.Nat.{mul-le-mul, mul-le-mul_left, mul-le-mul_right}
@@ -33,12 +33,12 @@ powers_below n a b h =
     let some = some_of_odd h.left h.odd in
     omega (arith, mul-le-mul_right {m = 1} {n = h.left} (2 ^ a * 5 ^ b) some, h.product)
 
--- so it is at least its power of two
+-- a number is at least its power of two
 twos_below : (n a b : ℕ) → IsTwoFive n a b → 2 ^ a ≤ n
 twos_below n a b h =
     omega (arith, powers_below n a b h, mul-le-mul_left {m = 1} {n = 5 ^ b} (2 ^ a) (one-le-pow b 5 (omega arith)))
 
--- a five is greater than two twos, so below 2^103 there is room for 102 twos, or half as many fives
+-- a + 2 b <= 102 for the exponents a of 2 and b of 5 in a number below 2^103, since 5 is greater than 2^2
 few_powers : (n a b : ℕ) → IsTwoFive n a b → n < 2 ^ 103 → a + 2 * b ≤ 102
 few_powers n a b h small =
     let fours = pow-le-pow_left {n = 4} {m = 5} (omega arith) b in
@@ -67,15 +67,15 @@ decimal_bits power false known =
     (pow-le-pow_right {n = 2} (omega arith) {i = 3 * power + 3} {j = 30} (omega (arith, known)))
     (pow-le-pow_right {n = 5} (omega arith) {i = 3 * power} {j = 27} (omega (arith, known)))
 
--- the greatest binary unit of the same kind is larger
+-- each decimal unit is smaller than the greatest binary unit of the same kind
 decimal_below : (power : ℕ) (bit : Bool) → power ≤ 9 → bits (shape power false bit) < bits (greatest bit)
 decimal_below power true known = omega (arith, decimal_bits power true known)
 decimal_below power false known = omega (arith, decimal_bits power false known)
 
--- a size in bits with so many twos and fives, for which a decimal unit is chosen
+-- a size in bits with the exponents `a` of 2 and `b` of 5, for which a decimal unit is chosen
 module _ (family : Family) (in_bits precision a b power : ℕ) (bit : Bool) (powers : IsTwoFive in_bits a b)
     (chosen : IsLargest (States current family in_bits precision) (shape power false bit)) where
-  -- the size is below the greatest binary unit, if that unit has few enough twos to state it
+  -- the size is below the greatest binary unit, if that unit has few enough twos for the size to be exact in it
   below_greatest : twos (greatest bit) ≤ a + places_within precision → in_bits < bits (greatest bit)
   below_greatest few =
       ⊎_elim (λ below. below)
@@ -90,7 +90,7 @@ module _ (family : Family) (in_bits precision a b power : ℕ) (bit : Bool) (pow
       absurd (omega (arith, larger, decimal_below power bit chosen.has.member.prefix.known)))
       (cases_lt in_bits (bits (greatest bit)))
 
-  -- so the size has fewer twos than that unit
+  -- the size has fewer twos than the greatest binary unit of the same kind
   fewer_twos : a < twos (greatest bit)
   fewer_twos =
       ⊎_elim (λ fewer. fewer)
@@ -108,7 +108,7 @@ no_multiple n a b h many above = λ below.
     let multiple : n ≡ h.left * (2 ^ (a - 91) * 5 ^ b) * 2 ^ 91 = omega (arith, h.product, parts) in
     omega (arith, multiple, above, below)
 
--- so a size in bits has fewer than 91 twos if RB is chosen
+-- a size in bits has fewer than 91 twos if RB is chosen
 few_twos_in_RB : (family : Family) (in_bits precision a b : ℕ) → IsTwoFive in_bits a b → in_bits < 2 ^ 103
     → IsLargest (States current family in_bits precision) (shape 9 false false) → a ≤ 90
 few_twos_in_RB family in_bits precision a b powers small chosen =
@@ -121,7 +121,7 @@ few_twos_in_RB family in_bits precision a b powers small chosen =
     (λ k. k)
     (cases_lt 90 a)
 
--- the twos and fives of a size in bits, and the places that it takes in its unit, are 117 at most
+-- the exponents of 2 and 5 in a size in bits, and the places that they leave to its unit, are 117 at most
 few_together : (family : Family) (in_bits precision a b power : ℕ) (binary bit : Bool)
     → IsTwoFive in_bits a b → in_bits < 2 ^ 103
     → IsLargest (States current family in_bits precision) (shape power binary bit)
@@ -157,7 +157,7 @@ few_places family in_bits precision number places a b unit powers chosen least =
     let exact = (places_by_powers in_bits (twos unit) (fives unit) a b powers).has in
     least.least lacking (stated_where_exact in_bits (bits unit) number lacking (some_bits unit) product exact)
 
--- the same of the places of the number
+-- the exponents of 2 and 5 in a size in bits, and the places of its chosen number, are 117 at most
 few_in_all : (family : Family) (in_bits precision number places a b : ℕ) (unit : Shape)
     → in_bits < 2 ^ 103 → IsTwoFive in_bits a b
     → IsChosen current family in_bits precision unit number → IsLeastPlaces number one places → a + b + places ≤ 117
@@ -181,7 +181,7 @@ few_steps Bit family size precision number steps unit small chosen t =
     let few = few_in_all family (size * 1) precision number t.places t.twos t.fives unit in
     omega (arith, t.steps_are, few (omega (arith, small)) powers chosen t.is_places)
 
--- a count rises by no more than the greatest step count if a unit is chosen
+-- if a unit is chosen, the step counter rises by at most the greatest step count of its kind
 pub few_of_choice : (kind : Kind) (family : Family) (size precision number old new : ℕ) (unit : Shape)
     → size < current.size_limit
     → IsChosen current family (size * bits_in kind) precision unit number → CountsChoice size number old new
@@ -195,7 +195,7 @@ few_trials : (kind : Kind) → 104 ≤ most_steps kind
 few_trials Byte = omega arith
 few_trials Bit = omega arith
 
--- and if none is chosen
+-- if no unit is chosen, the step counter rises by at most the greatest step count of its kind
 pub few_of_none : (kind : Kind) (size old new : ℕ) → size < current.size_limit → CountsChoice size 0 old new
     → new ≤ raised old (most_steps kind)
 few_of_none kind size old new small (inl h) = omega (arith, h.1)

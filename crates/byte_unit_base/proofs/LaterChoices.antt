@@ -1,4 +1,4 @@
--- The choice at no places, and at more places.
+-- The laws of the chosen unit at a precision of 0, at higher precisions, and of its product with the number.
 use Rattle.std.proofs.Common.{◌≡◌, ℕ, ◌*◌, ◌<◌, ◌≤◌, ⊎_elim, arith, ap, ◌∙◌}
 use Rattle.std.proofs.Math.Nat.{mul-le-mul_right}
 use Rattle.std.proofs.lemmas.Bool.{cases_lt}
@@ -6,12 +6,14 @@ use Rattle.byte_unit_base.specs.Shape.{Shape, bits}
 use Rattle.byte_unit_base.specs.Edition.{Edition}
 use Rattle.byte_unit_base.specs.Family.{InFamily}
 use Rattle.byte_unit_base.specs.Choice.{IsLargest, States, places_within}
-use Rattle.byte_unit_base.specs.ChoiceLaws.{Divides, ChoicesAtNoPlacesAreWhole, MorePlacesGiveNoSmallerUnit, NumberTimesUnitIsSize}
+use Rattle.byte_unit_base.specs.ChoiceLaws.{Divides, ChoicesAtNoPlacesAreWhole, MorePlacesGiveNoSmallerUnit}
+use Rattle.byte_unit_base.specs.ChoiceLaws.{NumberTimesUnitIsSize}
 use Rattle.byte_unit_base.specs.declared.unit.family.Family.{Family}
 use Rattle.byte_unit_base.proofs.Quotients.{exact_more, number_times_unit}
 use Rattle.byte_unit_base.proofs.Choosing.{some_bits}
 use Rattle.byte_unit_base.proofs.SomeChoice.{choice_or_none}
 
+-- a unit of the set that is larger than the one chosen at a precision of 0 does not divide the size
 no_larger_divides : (edition : Edition) (family : Family) (in_bits : ℕ) (unit : Shape)
     → IsLargest (States edition family in_bits 0) unit
     → (other : Shape) → InFamily edition family other → bits unit < bits other → ¬ (Divides other in_bits)
@@ -23,23 +25,34 @@ no_larger_divides edition family in_bits unit h other member larger = λ d.
     (λ k. k)
     (cases_lt d.0 1) in
     let fits = mul-le-mul_right {m = 1} {n = d.0} (bits other) times in
-    let k = h.largest other (record { member = member; not_above = omega (arith, fits, d.1); exact = (d.0, omega (arith, d.1)) }) in
+    let k = h.largest other (record {
+      member = member;
+      not_above = omega (arith, fits, d.1);
+      exact = (d.0, omega (arith, d.1));
+    }) in
     omega (arith, larger, k)
 
+-- at a precision of 0 the chosen number is whole, and no larger unit divides the size
 pub whole_choices : ChoicesAtNoPlacesAreWhole
 whole_choices edition family in_bits number unit h =
-    record { whole = (h.number_is.count, h.number_is.number); no_larger = no_larger_divides edition family in_bits unit h.unit_is }
+    record {
+      whole = (h.number_is.count, h.number_is.number);
+      no_larger = no_larger_divides edition family in_bits unit h.unit_is;
+    }
 
+-- a higher precision does not choose a smaller unit, and it chooses one if the lower does
 pub no_smaller : MorePlacesGiveNoSmallerUnit
 no_smaller edition family in_bits low high number unit le h =
     let s = h.unit_is.has in
     let exact = exact_more in_bits (bits unit) (places_within low) (places_within high) (omega (arith, le)) s.exact in
-    let states : States edition family in_bits high unit = record { member = s.member; not_above = s.not_above; exact = exact } in
+    let states : States edition family in_bits high unit =
+    record { member = s.member; not_above = s.not_above; exact = exact } in
     record {
       some = ⊎_elim (λ found. found) (λ none. absurd (none unit states)) (choice_or_none edition family in_bits high);
       larger = λ other n k. k.unit_is.largest unit states;
     }
 
+-- the chosen number times the chosen unit is the size, scaled by 10^28
 pub number_times_chosen : NumberTimesUnitIsSize
 number_times_chosen edition family in_bits precision number unit h =
     number_times_unit in_bits (bits unit) (places_within precision) number (omega arith) h.number_is

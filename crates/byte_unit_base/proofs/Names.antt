@@ -1,5 +1,6 @@
--- The name of a unit spells it: its prefix letter, an `i` or none, and a letter for what it counts.
-use Rattle.std.proofs.Common.{◌≡◌, ℕ, ◌-◌, ◌<◌, ◌≤◌, Bool, true, false, not, ◌&&◌, eqb, ltb, List, [], ◌∷◌, ◌++◌, length}
+-- The name of a unit spells it: its prefix letter, an `i` or nothing, and the letter of its kind.
+use Rattle.std.proofs.Common.{◌≡◌, ℕ, ◌-◌, ◌<◌, ◌≤◌, Bool, true, false, not, ◌&&◌, eqb, ltb, List, [], ◌∷◌, ◌++◌}
+use Rattle.std.proofs.Common.{length}
 use Rattle.std.proofs.Common.{⊎_elim, inl, inr, arith, refl, sym, ap, subst}
 use Rattle.std.specs.Prelude.{codes, slice_index, if◌then◌else◌, nat_lt}
 use Rattle.std.specs.List.{list_all}
@@ -21,7 +22,7 @@ use Rattle.byte_unit_base.specs.declared.unit.Unit.{Unit as UnitName}
 use Rattle.byte_unit_base.specs.declared.unit.Unit.TheVariants.{Bit, B}
 use Rattle.byte_unit_base.proofs.Trim.{EndsWithoutSpace}
 
--- a known prefix, or a byte or a bit alone
+-- the current edition knows the prefix of the unit; without a prefix, the unit is a byte (binary) or a bit (decimal)
 pub record IsKnown (s : Shape) : Type 0 where
   pub known : s.power ≤ length current.letters
   pub alone : s.power ≡ 0 → s.binary ≡ not s.bit
@@ -35,10 +36,9 @@ unit_power : (unit : UnitName) → (shape_of unit).power ≤ length current.lett
 unit_power Bit = omega arith
 unit_power _ = omega arith
 
+-- the prefix of each unit of the crate is known
 pub unit_known : (unit : UnitName) → IsKnown (shape_of unit)
 unit_known unit = record { known = unit_power unit; alone = unit_alone unit }
-
--- the letters
 
 abbrev letter_at : ℕ → ℕ
 letter_at power = slice_index current.letters (power - 1)
@@ -61,15 +61,15 @@ letter_found : (power : ℕ) → 0 < power → power ≤ length current.letters
 letter_found power some known =
     let c = letter_at power in
     let all = AllPass-from_list_all is_letter current.letters are_letters in
-    let P : ℕ → Type 0 = λ x. is_letter x ≡ true in
-    let here = and_parts _ _ (All-get_or P current.letters (power - 1) 0 (omega (arith, some, known)) all) in
+    let IsLetter : ℕ → Type 0 = λ x. is_letter x ≡ true in
+    let here = and_parts _ _ (All-get_or IsLetter current.letters (power - 1) 0 (omega (arith, some, known)) all) in
     (eqb-true (to_ascii_uppercase c) c here.0, ltb-true c 128 here.1)
 
 infix_spells : (binary : Bool) → SpellsBinary (infix_of binary) binary
 infix_spells true = inr (refl, refl)
 infix_spells false = inl (refl, refl)
 
--- `b` says bits where case counts, and `B` always says bytes
+-- the last letter of the name tells the kind: `b` means bits only if case is significant, and `B` always means bytes
 abbrev pub SaysKind : Flags → Bool → Type 0
 SaysKind flags bit = bit ≡ true → flags.ignore_case ≡ false
 
@@ -89,19 +89,20 @@ count_end : (bit : Bool) → (last : ℕ) × (count_of bit ≡ last ∷ []) × (
 count_end true = (98, refl, refl)
 count_end false = (66, refl, refl)
 
--- the name, with a prefix and without
-
 with_prefix : (s : Shape) → 0 < s.power → name current s ≡ letter_at s.power ∷ (infix_of s.binary ++ count_of s.bit)
 with_prefix s h =
     let some : nat_lt 0 s.power ≡ true = grind (arith, nat_tests) in
-    ap (λ b. (if b then letter_at s.power ∷ [] else []) ++ (if b && s.binary then codes "i" else []) ++ count_of s.bit) some
+    ap (λ b. (if b then letter_at s.power ∷ [] else []) ++ (if b && s.binary then codes "i" else []) ++ count_of s.bit)
+    some
 
 without_prefix : (s : Shape) → s.power ≤ 0 → name current s ≡ count_of s.bit
 without_prefix s h =
     let none : nat_lt 0 s.power ≡ false = grind (arith, nat_tests) in
-    ap (λ b. (if b then letter_at s.power ∷ [] else []) ++ (if b && s.binary then codes "i" else []) ++ count_of s.bit) none
+    ap (λ b. (if b then letter_at s.power ∷ [] else []) ++ (if b && s.binary then codes "i" else []) ++ count_of s.bit)
+    none
 
-spells_multiple : (flags : Flags) (s : Shape) → IsKnown s → SaysKind flags s.bit → 0 < s.power → Spells current flags (name current s) s
+spells_multiple : (flags : Flags) (s : Shape) → IsKnown s → SaysKind flags s.bit → 0 < s.power
+    → Spells current flags (name current s) s
 spells_multiple flags s h says some = inr record {
   prefix_part = letter_at s.power ∷ infix_of s.binary;
   count_part = count_of s.bit;
@@ -116,19 +117,23 @@ spells_multiple flags s h says some = inr record {
   count_is = count_spells flags s.bit says;
 }
 
-spells_plain : (flags : Flags) (s : Shape) → IsKnown s → SaysKind flags s.bit → s.power ≤ 0 → Spells current flags (name current s) s
+spells_plain : (flags : Flags) (s : Shape) → IsKnown s → SaysKind flags s.bit → s.power ≤ 0
+    → Spells current flags (name current s) s
 spells_plain flags s h says none =
-    let P : List ℕ → Type 0 = λ text. SpellsCount flags text s.bit in
+    let SpellsKind : List ℕ → Type 0 = λ text. SpellsCount flags text s.bit in
     let zero : s.power ≡ 0 = omega (arith, none) in
     inl record {
-      count_is = subst P (sym (without_prefix s none)) (count_spells flags s.bit says);
+      count_is = subst SpellsKind (sym (without_prefix s none)) (count_spells flags s.bit says);
       power_is = zero;
       binary_is = h.alone zero;
     }
 
-pub name_spells : (flags : Flags) (s : Shape) → IsKnown s → SaysKind flags s.bit → Spells current flags (name current s) s
+-- the name of a unit spells it, if its last letter tells the kind
+pub name_spells : (flags : Flags) (s : Shape) → IsKnown s → SaysKind flags s.bit
+    → Spells current flags (name current s) s
 name_spells flags s h says = ⊎_elim (spells_multiple flags s h says) (spells_plain flags s h says) (cases_lt 0 s.power)
 
+-- the name of a unit is ASCII
 pub name_ascii : (s : Shape) → s.power ≤ length current.letters → IsAscii (name current s)
 name_ascii s known =
     let rest = infix_of s.binary ++ count_of s.bit in
@@ -139,7 +144,7 @@ name_ascii s known =
     (λ none. subst IsAscii (sym (without_prefix s none)) (count_ascii s.bit))
     (cases_lt 0 s.power)
 
--- a name ends in no white space
+-- the name of a unit does not end in white space
 pub name_end : (s : Shape) → EndsWithoutSpace (name current s)
 name_end s =
     let end = count_end s.bit in
@@ -152,6 +157,7 @@ unfolding chars
 is_trimmed Bit = refl
 is_trimmed _ = refl
 
+-- the name of each unit of the crate spells it if case is significant, and has no white space at its ends
 pub names_spell_their_units : NamesSpellTheirUnits
 names_spell_their_units unit prefer_byte = record {
   spells = name_spells (reading false prefer_byte) (shape_of unit) (unit_known unit) (λ bit. refl);

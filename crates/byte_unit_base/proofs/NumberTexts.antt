@@ -1,5 +1,6 @@
--- The texts of numbers, as the grammar reads them.
-use Rattle.std.proofs.Common.{◌≡◌, ℕ, ◌+◌, ◌-◌, ◌*◌, ◌^◌, ◌<◌, ◌≤◌, inl, inr, List, [], ◌∷◌, ◌++◌, length, refl, sym, ap, subst, ◌∙◌, arith}
+-- A decimal, as it is printed, is a number of the grammar with the same value.
+use Rattle.std.proofs.Common.{◌≡◌, ℕ, ◌+◌, ◌-◌, ◌*◌, ◌^◌, ◌<◌, ◌≤◌, inl, inr, List, [], ◌∷◌, ◌++◌, length, refl, sym}
+use Rattle.std.proofs.Common.{ap, subst, ◌∙◌, arith}
 use Rattle.std.proofs.Common.{false, append-nil}
 use Rattle.std.proofs.lemmas.List.{length-map}
 use Rattle.std.specs.List.{fold, All}
@@ -20,15 +21,21 @@ use Rattle.byte_unit_math.specs.Finite.{Finite, value_of}
 use Rattle.byte_unit_math.specs.Numeral.{glyphs, fraction_text}
 use Rattle.byte_unit_base.proofs.Trim.{StartsWithoutSpace}
 
+-- the character of a digit has the value of the digit
 pub glyph_value : (digit : ℕ) → digit < 10 → digit_value (48 + digit) ≡ digit
 glyph_value digit small = grind (arith, nat_tests)
 
+-- the characters of digits are decimal digits
 pub glyph_digits : (digits : List ℕ) → All (λ digit. digit < 10) digits → AllDigits 10 (glyphs digits)
 glyph_digits [] small = tt
 glyph_digits (digit ∷ digits) small =
-    let below : digit < 10 = All-head (λ digit. digit < 10) digit digits small in
-    (omega (arith, below, glyph_value digit below), glyph_digits digits (All-tail (λ digit. digit < 10) digit digits small))
+    let below : digit < 10 = All-head (λ digit. digit < 10) digit digits small in (
+      omega (arith, below, glyph_value digit below),
+      glyph_digits digits
+          (All-tail (λ digit. digit < 10) digit digits small),
+    )
 
+-- the characters of digits have the value of the digits
 pub glyphs_value :
     (value : ℕ) (digits : List ℕ) → All (λ digit. digit < 10) digits
     → digits_value_after 10 value (glyphs digits) ≡ fold (λ value digit. value * 10 + digit) value digits
@@ -38,20 +45,28 @@ glyphs_value value (digit ∷ digits) small =
     ap (λ next. digits_value_after 10 (value * 10 + next) (glyphs digits)) (glyph_value digit below)
     ∙ (glyphs_value (value * 10 + digit) digits (All-tail (λ digit. digit < 10) digit digits small))
 
+-- the digits of a number below the limit are a whole part of this value
 pub whole_text : (whole : ℕ) → whole < whole_limit → IsWholePart current (decimal whole) whole
 whole_text whole bound =
     let numeral = decimal_is_IsNumeral_wide whole (omega arith) in
     (numeral.0, sym numeral.1, bound)
 
--- how many last places a decimal is, of no more places than those
-abbrev pub number_of : ℕ → List ℕ → ℕ
-number_of whole digits = whole * one + value_of digits * 10 ^ (places_of_decimal - length digits)
+-- the number with this whole part and these digits after the point, scaled by 10^28
+abbrev pub fixed_point_of : ℕ → List ℕ → ℕ
+fixed_point_of whole digits = whole * one + value_of digits * 10 ^ (places_of_decimal - length digits)
 
+-- the text of a whole part and at most 28 digits after the point is a number of the grammar, with their value
 pub number_text :
-    (whole : ℕ) (digits : List ℕ) → All (λ digit. digit < 10) digits → length digits ≤ places_of_decimal → whole < whole_limit
-    → IsNumberText current (decimal whole ++ fraction_text digits) (number_of whole digits)
+    (whole : ℕ) (digits : List ℕ) → All (λ digit. digit < 10) digits → length digits ≤ places_of_decimal
+    → whole < whole_limit
+    → IsNumberText current (decimal whole ++ fraction_text digits) (fixed_point_of whole digits)
 number_text whole [] small few bound =
-    inl (whole, subst (λ text. IsWholePart current text whole) (sym (append-nil (decimal whole))) (whole_text whole bound), omega arith)
+    inl (
+      whole,
+      subst (λ text. IsWholePart current text whole) (sym (append-nil (decimal whole)))
+          (whole_text whole bound),
+      omega arith,
+    )
 number_text whole (digit ∷ digits) small few bound = inr record {
   whole = decimal whole;
   fraction = glyphs (digit ∷ digits);
@@ -69,25 +84,31 @@ number_text whole (digit ∷ digits) small few bound = inr record {
   number_is = refl;
 }
 
--- a decimal whose digits are below ten and whose whole part the grammar takes
+-- a decimal whose digits are below ten, and whose whole part is below the limit
 pub record IsBounded (e : Finite) : Type 0 where
   pub small : All (λ digit. digit < 10) e.digits
   pub bound : e.whole < whole_limit
 
--- characters
-
+-- a decimal digit is not white space
 pub not_white : (character : ℕ) → digit_value character < 10 → is_whitespace character ≡ false
 not_white character is_digit = let value = digit_from_value character is_digit in grind (arith, nat_tests, value)
 
+-- a text of decimal digits does not start with white space
 pub starts_with_digit : (text : List ℕ) → IsNumeral 10 text → StartsWithoutSpace text
 starts_with_digit [] numeral = absurd (omega (arith, numeral.0))
 starts_with_digit (character ∷ rest) numeral =
     record { head = character; tail = rest; text_is = refl; head_is = not_white character numeral.1.0 }
 
+-- a text that starts with the digits of a whole part does not start with white space
 pub number_start : (whole : ℕ) (rest : List ℕ) → whole < whole_limit → StartsWithoutSpace (decimal whole ++ rest)
 number_start whole rest bound =
     let start = starts_with_digit (decimal whole) (whole_text whole bound).0 in
-    record { head = start.head; tail = start.tail ++ rest; text_is = ap (λ text. text ++ rest) start.text_is; head_is = start.head_is }
+    record {
+      head = start.head;
+      tail = start.tail ++ rest;
+      text_is = ap (λ text. text ++ rest) start.text_is;
+      head_is = start.head_is;
+    }
 
 fraction_ascii : (digits : List ℕ) → All (λ digit. digit < 10) digits → IsAscii (fraction_text digits)
 fraction_ascii [] small = IsAscii-nil
@@ -95,9 +116,11 @@ fraction_ascii (digit ∷ digits) small =
     IsAscii-cons 46 (glyphs (digit ∷ digits)) (omega arith)
     (IsAscii-from_digits (glyphs (digit ∷ digits)) (glyph_digits (digit ∷ digits) small))
 
+-- the digits of a whole part are ASCII
 pub decimal_ascii : (whole : ℕ) → whole < whole_limit → IsAscii (decimal whole)
 decimal_ascii whole bound = IsAscii-from_digits (decimal whole) (whole_text whole bound).0.1
 
+-- the text of a whole part and a fraction is ASCII
 pub number_ascii :
     (whole : ℕ) (digits : List ℕ) → All (λ digit. digit < 10) digits → whole < whole_limit
     → IsAscii (decimal whole ++ fraction_text digits)

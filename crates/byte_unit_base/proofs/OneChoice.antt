@@ -1,4 +1,4 @@
--- One choice for each size.
+-- A size has at most one chosen unit and number.
 use Rattle.std.proofs.Common.{◌≡◌, ℕ, ◌*◌, ◌^◌, ◌-◌, ◌≤◌, Bool, true, false, arith, sym, ap, ◌∙◌, subst}
 use Rattle.std.proofs.Math.Nat.{eq_of_mul-eq-mul_right}
 use Rattle.byte_unit_math.specs.Exact.{IsQuotient}
@@ -12,24 +12,29 @@ use Rattle.byte_unit_base.specs.Edition.{Edition}
 use Rattle.byte_unit_base.specs.declared.unit.family.Family.{Family}
 use Rattle.byte_unit_base.proofs.Choosing.{some_bits}
 
--- a product of a power of two and one of five has these powers
+-- 2^a * 5^b has the exponents a of 2 and b of 5
 pure_powers : (a b : ℕ) → IsTwoFive (2 ^ a * 5 ^ b) a b
-pure_powers a b = record { left = 1; product = omega arith; odd = λ e. let k : ⊥ = cc in k; no_five = λ e. let k : ⊥ = cc in k }
+pure_powers a b = record {
+  left = 1;
+  product = omega arith;
+  odd = λ e. let k : ⊥ = cc in k;
+  no_five = λ e. let k : ⊥ = cc in k;
+}
 
--- and no greater ones divide it
+-- if 2^c * 5^d is 2^a * 5^b, then c and d are no greater than a and b
 no_greater : (a b c d : ℕ) → 2 ^ a * 5 ^ b ≡ 2 ^ c * 5 ^ d → (c ≤ a) × (d ≤ b)
 no_greater a b c d e =
     let h = (exact_by_powers (2 ^ a * 5 ^ b) c d a b 0 (pure_powers a b)).0 (1, omega (arith, e)) in
     (omega (arith, h.0), omega (arith, h.1))
 
--- two units have a prefix and the same powers
+-- two units have a prefix, and the same exponents of 2 and 5
 record HaveSamePowers (unit other : Shape) : Type 0 where
   some : 1 ≤ unit.power
   other_some : 1 ≤ other.power
   twos : twos unit ≡ twos other
   fives : fives unit ≡ fives other
 
--- such units have the same fields
+-- two units with a prefix and the same exponents are the same
 same_fields : (power : ℕ) (binary bit : Bool) (other : ℕ) (other_binary other_bit : Bool)
     → HaveSamePowers (shape power binary bit) (shape other other_binary other_bit)
     → shape power binary bit ≡ shape other other_binary other_bit
@@ -44,30 +49,40 @@ same_fields power false false other false false h = ap (λ n. shape n false fals
 same_fields power false true other false false h = absurd (omega (arith, h.twos, h.fives))
 same_fields power false false other false true h = absurd (omega (arith, h.twos, h.fives))
 
--- so units with a prefix and the same bits are one
+-- two units with a prefix and the same number of bits are the same
 same_unit : (unit other : Shape) → 1 ≤ unit.power → 1 ≤ other.power → bits unit ≡ bits other → unit ≡ other
 same_unit unit other prefix other_prefix same =
     let low = no_greater (twos unit) (fives unit) (twos other) (fives other) same in
     let high = no_greater (twos other) (fives other) (twos unit) (fives unit) (sym same) in
     let powers : HaveSamePowers unit other =
-    record { some = prefix; other_some = other_prefix; twos = omega (arith, low.0, high.0); fives = omega (arith, low.1, high.1) } in
+    record {
+      some = prefix;
+      other_some = other_prefix;
+      twos = omega (arith, low.0, high.0);
+      fives = omega (arith, low.1, high.1);
+    } in
     same_fields unit.power unit.binary unit.bit other.power other.binary other.bit powers
 
--- of two largest units the one is the other
+-- there is only one largest unit in which a size is exact
 pub one_largest : (edition : Edition) (family : Family) (in_bits precision : ℕ) (unit other : Shape)
-    → IsLargest (States edition family in_bits precision) unit → IsLargest (States edition family in_bits precision) other → unit ≡ other
+    → IsLargest (States edition family in_bits precision) unit
+    → IsLargest (States edition family in_bits precision) other → unit ≡ other
 one_largest edition family in_bits precision unit other largest other_largest =
     let low = largest.largest other other_largest.has in
     let high = other_largest.largest unit largest.has in
     same_unit unit other largest.has.member.prefix.some other_largest.has.member.prefix.some (omega (arith, low, high))
 
-same_number : (size places unit number other : ℕ) → 1 ≤ unit → IsQuotient size unit places number → IsQuotient size unit places other
+-- an exact quotient has only one value
+same_number : (size places unit number other : ℕ) → 1 ≤ unit → IsQuotient size unit places number
+    → IsQuotient size unit places other
     → number ≡ other
 same_number size places unit number other some quotient other_quotient =
     let count =
-    eq_of_mul-eq-mul_right unit (omega (arith, some)) quotient.count other_quotient.count (sym quotient.exact ∙ other_quotient.exact) in
+    eq_of_mul-eq-mul_right unit (omega (arith, some)) quotient.count other_quotient.count (sym quotient.exact
+    ∙ other_quotient.exact) in
     quotient.number ∙ (ap (λ count. count * 10 ^ (places_of_decimal - places)) count ∙ sym other_quotient.number)
 
+-- a size has at most one chosen unit and number
 pub one_choice : ChoicesAreOne
 one_choice edition family in_bits precision number other_number unit other_unit chosen other =
     let same = one_largest edition family in_bits precision unit other_unit chosen.unit_is other.unit_is in

@@ -1,18 +1,18 @@
--- Exact quotients at more places, and their product with the unit.
+-- A size as an exact quotient: at more places, and times its unit.
 use Rattle.std.proofs.Common.{◌≡◌, ℕ, ◌-◌, ◌*◌, ◌/◌, ◌^◌, ◌≤◌, ⊎_elim, arith, sym, ap, ◌∙◌, subst}
 use Rattle.std.proofs.Math.Nat.{eq_of_mul-eq-mul_right}
 use Rattle.byte_unit_math.specs.Bounds.{places_of_decimal, one}
 use Rattle.byte_unit_math.specs.Exact.{IsExactAt, IsLeastPlaces, IsQuotient, IsFirstExact}
 use Rattle.byte_unit_math.proofs.Scales.{raise_power}
 
--- exact at some places, so at more
+-- a size that is exact at some number of places is exact at each greater number of places
 pub exact_more : (size unit few more : ℕ) → few ≤ more → IsExactAt size unit few → IsExactAt size unit more
 exact_more size unit few more h e =
     let p = ap (λ n. size * n) (raise_power few more h) in
     let q = ap (λ n. n * 10 ^ (more - few)) e.1 in
     (e.0 * 10 ^ (more - few), p ∙ omega (arith, q))
 
--- the number times the unit is the size
+-- an exact quotient times the unit is the size, scaled by 10^28
 pub number_times_unit : (size unit places number : ℕ) → places ≤ places_of_decimal → IsQuotient size unit places number
     → number * unit ≡ size * one
 number_times_unit size unit places number room h =
@@ -21,8 +21,9 @@ number_times_unit size unit places number room h =
     let p = ap (λ x. size * x) (raise_power places places_of_decimal room) in
     n ∙ omega (arith, e, p)
 
--- a number that gives the size with the unit is the quotient, at each place at which it is exact
-pub quotient_of_product : (size unit places number : ℕ) → 1 ≤ unit → places ≤ places_of_decimal → number * unit ≡ size * one
+-- if a number times the unit is the size, it is the exact quotient at each number of places at which the size is exact
+pub quotient_of_product : (size unit places number : ℕ) → 1 ≤ unit → places ≤ places_of_decimal
+    → number * unit ≡ size * one
     → IsExactAt size unit places → IsQuotient size unit places number
 quotient_of_product size unit places number some room product exact =
     let behind = 10 ^ (places_of_decimal - places) in
@@ -35,51 +36,55 @@ quotient_of_product size unit places number some room product exact =
       number = eq_of_mul-eq-mul_right unit (omega (arith, some)) number (exact.0 * behind) same;
     }
 
--- where the size is exact, its number is stated
-pub stated_where_exact : (size unit number digits : ℕ) → 1 ≤ unit → number * unit ≡ size * one → IsExactAt size unit digits
+-- an exact quotient needs no more digits after the point than those at which the size is exact
+pub stated_where_exact : (size unit number digits : ℕ) → 1 ≤ unit → number * unit ≡ size * one
+    → IsExactAt size unit digits
     → IsExactAt number one digits
 stated_where_exact size unit number digits some product e =
     let p = ap (λ x. x * 10 ^ digits) product in
     let q = ap (λ x. x * one) e.1 in
     (e.0, eq_of_mul-eq-mul_right unit (omega (arith, some)) (number * 10 ^ digits) (e.0 * one) (omega (arith, p, q)))
 
--- and where its number is stated, the size is exact
-exact_where_stated : (size unit number digits : ℕ) → number * unit ≡ size * one → IsExactAt number one digits → IsExactAt size unit digits
+-- if an exact quotient needs at most these digits after the point, the size is exact at them
+exact_where_stated : (size unit number digits : ℕ) → number * unit ≡ size * one → IsExactAt number one digits
+    → IsExactAt size unit digits
 exact_where_stated size unit number digits product e =
     let p = ap (λ x. x * 10 ^ digits) product in
     let q = ap (λ x. x * unit) e.1 in
     (e.0, eq_of_mul-eq-mul_right one (omega arith) (size * 10 ^ digits) (e.0 * unit) (omega (arith, p, q)))
 
--- a number is the quotient at so many places, after this first count of digits
+-- the number is the exact quotient at this number of places, and `digits` is the first count of digits at which a
+-- division ends
 pub record IsDivided (size unit places digits number : ℕ) : Type 0 where
   pub some : 1 ≤ unit
   pub room : places ≤ places_of_decimal
   pub quotient : IsQuotient size unit places number
   pub first : IsFirstExact size unit places digits
 
--- so the digits of a division are the places of its number
+-- the digits of the division are the least number of digits after the point that the quotient needs
 pub places_of_quotient : (size unit places digits number : ℕ) → IsDivided size unit places digits number
     → IsLeastPlaces number one digits
 places_of_quotient size unit places digits number divided =
     let quotient = divided.quotient in
     let product = number_times_unit size unit places number divided.room quotient in
-    let P : ℕ → Type 0 = λ j. IsExactAt size unit j in
+    let IsExactSize : ℕ → Type 0 = λ j. IsExactAt size unit j in
     let exact : IsExactAt size unit digits =
-    ⊎_elim (λ e. e) (λ e. subst P (sym e) (quotient.count, quotient.exact)) divided.first.ends in
+    ⊎_elim (λ e. e) (λ e. subst IsExactSize (sym e) (quotient.count, quotient.exact)) divided.first.ends in
     record {
       has = stated_where_exact size unit number digits divided.some product exact;
       least = λ fewer e. divided.first.first fewer (exact_where_stated size unit number fewer product e);
     }
 
--- a whole number takes no places
+-- a whole number needs no digits after the point
 pub whole_takes_none : (whole : ℕ) → IsLeastPlaces (whole * one) one 0
 whole_takes_none whole = record { has = (whole, omega arith); least = λ p e. omega arith }
 
--- a number that states a size at no places is whole
+-- if a size is a whole number of the unit, then its quotient without the fraction times the unit is the size
 pub whole_number : (in_bits unit number : ℕ) → 1 ≤ unit → number * unit ≡ in_bits * one → IsExactAt in_bits unit 0
     → number / one * unit ≡ in_bits
 whole_number in_bits unit number some product e =
     let p = ap (λ n. n * one) e.1 in
-    let whole : number ≡ e.0 * one = eq_of_mul-eq-mul_right unit (omega (arith, some)) number (e.0 * one) (omega (arith, product, p)) in
+    let whole : number ≡ e.0 * one =
+    eq_of_mul-eq-mul_right unit (omega (arith, some)) number (e.0 * one) (omega (arith, product, p)) in
     let parts : number / one ≡ e.0 = omega (arith, whole) in
     ap (λ n. n * unit) parts ∙ omega (arith, e.1)

@@ -1,4 +1,4 @@
--- The least size of a kind, by way of the least number of bits.
+-- Rounding up to whole bytes or bits, by way of the least number of bits.
 use Rattle.std.proofs.Common.{◌≡◌, ℕ, ◌+◌, ◌-◌, ◌*◌, ◌/◌, ◌<◌, ◌≤◌, arith}
 use Rattle.std.proofs.Math.Nat.{mul-le-mul_right}
 use Rattle.byte_unit_math.specs.Bounds.{one}
@@ -10,13 +10,13 @@ use Rattle.byte_unit_base.specs.Kinds.{bits_in}
 use Rattle.byte_unit_base.specs.SizeLaws.{EachNumberHasOneLeastSize, GreaterNumbersGiveNoSmallerSizes}
 use Rattle.byte_unit_base.specs.LeastOfKind.{IsLeastOf, Covers}
 
--- there is a least number of bits
+-- a number of a unit, rounded up to whole bits, exists
 pub least_bits : (N unit : ℕ) → (b : ℕ) × IsLeastSize N unit b
 least_bits N unit =
     let b = (N * unit + (one - 1)) / one in
     (b, record { has = omega arith; least = λ m r. omega (arith, r) })
 
--- the kind's least number that holds them
+-- the least number of bytes or bits that holds the least bits is the number of the unit, rounded up
 pub least_holding : (kind : Kind) (N : ℕ) (unit : Shape) (b n : ℕ) → IsLeastSize N (bits unit) b → b ≤ n * bits_in kind
     → n * bits_in kind < b + bits_in kind → IsLeastOf kind N unit n
 least_holding Byte N unit b n h holds low = record {
@@ -28,7 +28,7 @@ least_holding Bit N unit b n h holds low = record {
   least = λ m r. omega (arith, h.least (m * 1) r, low);
 }
 
--- where the least bits reach the limit, the least number of the kind does
+-- if the least bits reach the limit in bits, the number of the unit, rounded up, reaches the limit
 pub least_above : (kind : Kind) (N : ℕ) (unit : Shape) (limit n : ℕ) → 1 ≤ limit
     → ((b : ℕ) → IsLeastSize N (bits unit) b → (limit - 1) * bits_in kind + 1 ≤ b) → IsLeastOf kind N unit n → limit ≤ n
 least_above Byte N unit limit n some none h =
@@ -40,34 +40,42 @@ least_above Bit N unit limit n some none h =
     let enough = least.1.least (n * 1) h.has in
     omega (arith, enough, none least.0 least.1, some)
 
-pub least_below : (kind : Kind) (limit b n : ℕ) → b < (limit - 1) * bits_in kind + 1 → n * bits_in kind < b + bits_in kind → 1 ≤ limit
+-- if the least bits are below the limit in bits, the least number of bytes or bits that holds them is below the limit
+pub least_below : (kind : Kind) (limit b n : ℕ) → b < (limit - 1) * bits_in kind + 1
+    → n * bits_in kind < b + bits_in kind → 1 ≤ limit
     → n < limit
 least_below Byte limit b n small low some = omega (arith, small, low, some)
 least_below Bit limit b n small low some = omega (arith, small, low, some)
 
--- a least number is one
-pub least_is_one : (kind : Kind) (N : ℕ) (unit : Shape) (m n : ℕ) → IsLeastOf kind N unit m → IsLeastOf kind N unit n → m ≡ n
-least_is_one kind N unit m n a b =
+-- a number of a unit is rounded up to only one size
+pub least_is_unique : (kind : Kind) (N : ℕ) (unit : Shape) (m n : ℕ) → IsLeastOf kind N unit m
+    → IsLeastOf kind N unit n → m ≡ n
+least_is_unique kind N unit m n a b =
     let up = a.least n b.has in
     let down = b.least m a.has in
     omega (arith, up, down)
 
--- there is one
-pub least_of : (kind : Kind) (N : ℕ) (unit : Shape) → (n : ℕ) × IsLeastOf kind N unit n
-least_of Byte N unit =
+-- a number of a unit, rounded up to whole bytes or bits, exists
+pub least_exists : (kind : Kind) (N : ℕ) (unit : Shape) → (n : ℕ) × IsLeastOf kind N unit n
+least_exists Byte N unit =
     let b = least_bits N (bits unit) in
     let n = (b.0 + 7) / 8 in
     (n, least_holding Byte N unit b.0 n b.1 (omega arith) (omega arith))
-least_of Bit N unit =
+least_exists Bit N unit =
     let b = least_bits N (bits unit) in
     (b.0, least_holding Bit N unit b.0 b.0 b.1 (omega arith) (omega arith))
 
+-- each number of each unit, rounded up, is exactly one size
 pub one_least_size : EachNumberHasOneLeastSize
 one_least_size kind number unit =
-    let least = least_of kind number unit in
-    record { size = least.0; is_least = least.1; one = λ other h. least_is_one kind number unit other least.0 h least.1 }
+    let least = least_exists kind number unit in
+    record {
+      size = least.0;
+      is_least = least.1;
+      one = λ other h. least_is_unique kind number unit other least.0 h least.1;
+    }
 
--- what covers more covers less
+-- a greater number of a unit is not rounded up to a smaller size
 pub more_covers_more : GreaterNumbersGiveNoSmallerSizes
 more_covers_more kind unit few many small large more a b =
     let covers : Covers kind few unit large = omega (arith, mul-le-mul_right (bits unit) more, b.has) in

@@ -1,58 +1,66 @@
--- A scan that goes over a text one step a character, over any state: what it reads, its longest front and its fault.
-use Rattle.std.proofs.Common.{◌≡◌, ℕ, ◌+◌, ◌<◌, ◌⊎◌, inl, inr, List, [], ◌∷◌, ◌++◌, Option, Some, None, Result, Ok, Err, option_and_then}
+-- A state machine that reads an input character by character, over any set of states: what it returns, the longest
+-- viable prefix and the error after it.
+use Rattle.std.proofs.Common.{◌≡◌, ℕ, ◌+◌, ◌<◌, ◌⊎◌, inl, inr, List, [], ◌∷◌, ◌++◌, Option, Some, None, Result, Ok, Err}
+use Rattle.std.proofs.Common.{option_and_then}
 use Rattle.std.proofs.Common.{length, drop, get_or, sym, refl, ap, subst, ◌∙◌, arith, append-nil}
-use Rattle.std.specs.Prelude.{◌↔◌, IfOk, IfErr, IsOkAnd}
+use Rattle.std.specs.Prelude.{◌↔◌, ⊤, IfOk, IfErr, IsOkAnd}
 use Rattle.std.proofs.lemmas.List.{at_drop_all}
 use Rattle.byte_unit_base.specs.Edition.{current}
 use Rattle.byte_unit_base.specs.Front.{Place}
 use Rattle.byte_unit_base.specs.Fault.{Fault, fault_at, fault_at_end, IsFaultAfter, IsFirstFault}
 use Rattle.byte_unit_base.specs.ReaderLaws.{IsOneAnswer, Begins}
 use Rattle.byte_unit_base.specs.Scan.{Scan, run, read, seen}
-use Rattle.byte_unit_base.proofs.Lists.{at_next, push_append}
+use Rattle.byte_unit_base.proofs.Lists.{rest_starts_with_next, push_append}
 use Rattle.byte_unit_base.proofs.Options.{some_passed}
 
--- the state behind a text
+-- the state after a text
 
 module _ {S : Type 0} (step : S → ℕ → Option S) where
-  run_on : (xs ys : List ℕ) → ((t : S) → run step t (xs ++ ys) ≡ option_and_then (λ u. run step u ys) (run step t xs))
+  run_append_from : (xs ys : List ℕ) → ((t : S)
+      → run step t (xs ++ ys) ≡ option_and_then (λ u. run step u ys) (run step t xs))
       → (o : Option S) → option_and_then (λ t. run step t (xs ++ ys)) o ≡ option_and_then (λ u. run step u ys)
       (option_and_then (λ t. run step t xs) o)
-  run_on xs ys next None = refl
-  run_on xs ys next (Some t) = next t
+  run_append_from xs ys next None = refl
+  run_append_from xs ys next (Some t) = next t
 
-  -- two texts, one after the other
-  pub run-append : (s : S) (xs ys : List ℕ) → run step s (xs ++ ys) ≡ option_and_then (λ u. run step u ys) (run step s xs)
+  -- the state after two texts is that after the second, from the state after the first
+  pub run-append : (s : S) (xs ys : List ℕ)
+      → run step s (xs ++ ys) ≡ option_and_then (λ u. run step u ys) (run step s xs)
   run-append s [] ys = refl
-  run-append s (c ∷ xs) ys = run_on xs ys (λ t. run-append t xs ys) (step s c)
+  run-append s (c ∷ xs) ys = run_append_from xs ys (λ t. run-append t xs ys) (step s c)
 
+  -- if there is a state after the first of two texts, the second is read from there
   pub run_through : (s t : S) (xs ys : List ℕ) → run step s xs ≡ Some t → run step s (xs ++ ys) ≡ run step t ys
   run_through s t xs ys e = run-append s xs ys ∙ ap (option_and_then (λ u. run step u ys)) e
 
+  -- if the first character has a step, the rest is read from the next state
   pub run_step : (s t : S) (c : ℕ) (xs : List ℕ) → step s c ≡ Some t → run step s (c ∷ xs) ≡ run step t xs
   run_step s t c xs e = ap (option_and_then (λ u. run step u xs)) e
 
-  -- there is a state behind the beginning of a text, where there is one behind the text
+  -- there is a state after the beginning of a text, if there is one after the text
   pub run_before : (s u : S) (xs ys : List ℕ) → run step s (xs ++ ys) ≡ Some u → (t : S) × (run step s xs ≡ Some t)
   run_before s u xs ys e =
       let t = some_passed (λ v. run step v ys) u (run step s xs) (sym (run-append s xs ys) ∙ e) in
       (t.0, t.1)
 
--- what each step keeps holds behind a text
-module _ {S : Type 0} (step : S → ℕ → Option S) (P : S → List ℕ → Type 0)
-    (keeps : (s t : S) (c : ℕ) (text : List ℕ) → step s c ≡ Some t → P s text → P t (text ++ c ∷ [])) where
-  pub run_keeps : (xs front : List ℕ) (s t : S) → run step s xs ≡ Some t → P s front → P t (front ++ xs)
-  run_keeps [] front s t e p = let k : s ≡ t = cc in subst (λ u. P u (front ++ [])) k (subst (P s) (sym (append-nil front)) p)
+module _ {S : Type 0} (step : S → ℕ → Option S) (Holds : S → List ℕ → Type 0)
+    (keeps : (s t : S) (c : ℕ) (text : List ℕ) → step s c ≡ Some t → Holds s text → Holds t (text ++ c ∷ [])) where
+  -- what holds at the start, and after each step if before it, holds at the state after a text
+  pub run_keeps : (xs front : List ℕ) (s t : S) → run step s xs ≡ Some t → Holds s front → Holds t (front ++ xs)
+  run_keeps [] front s t e p =
+      let k : s ≡ t = cc in subst (λ u. Holds u (front ++ [])) k (subst (Holds s) (sym (append-nil front)) p)
   run_keeps (c ∷ xs) front s t e p =
       let u = some_passed (λ v. run step v xs) t (step s c) e in
-      subst (P t) (push_append front xs c) (run_keeps xs (front ++ c ∷ []) u.0 t u.2 (keeps s u.0 c front u.1 p))
-
--- where a scan stops: at the end of the text, or before a character that is no step
+      subst (Holds t) (push_append front xs c) (run_keeps xs (front ++ c ∷ []) u.0 t u.2 (keeps s u.0 c front u.1 p))
 
 module _ {S : Type 0} (step : S → ℕ → Option S) where
+  -- no further character is read: the rest is empty, or its first character has no step
   abbrev pub CannotStep : S → List ℕ → Type 0
-  CannotStep s [] = Unit {0}
+  CannotStep s [] = ⊤
   CannotStep s (c ∷ rest) = step s c ≡ None
 
+  -- where a state machine stops in a text: at its end, or before the first character that has no step. The error of an
+  -- input that is not in the grammar rests on it
   pub record Stop (s : S) (text : List ℕ) : Type 0 where
     pub front : List ℕ
     pub rest : List ℕ
@@ -62,7 +70,14 @@ module _ {S : Type 0} (step : S → ℕ → Option S) where
     pub stops : CannotStep state rest
 
   stop_after : (s : S) (c : ℕ) (cs : List ℕ) → ((t : S) → Stop t cs) → (o : Option S) → step s c ≡ o → Stop s (c ∷ cs)
-  stop_after s c cs next None e = record { front = []; rest = c ∷ cs; state = s; text_is = refl; run_is = refl; stops = e }
+  stop_after s c cs next None e = record {
+    front = [];
+    rest = c ∷ cs;
+    state = s;
+    text_is = refl;
+    run_is = refl;
+    stops = e;
+  }
   stop_after s c cs next (Some t) e =
       let n = next t in
       record {
@@ -74,98 +89,108 @@ module _ {S : Type 0} (step : S → ℕ → Option S) where
         stops = n.stops;
       }
 
+  -- a state machine stops at exactly such a place in each text
   pub stop_of : (s : S) (text : List ℕ) → Stop s text
   stop_of s [] = record { front = []; rest = []; state = s; text_is = refl; run_is = refl; stops = tt }
   stop_of s (c ∷ cs) = stop_after s c cs (λ t. stop_of t cs) (step s c) refl
 
--- what the rest of a text is read as
-
 module _ {S Meaning : Type 0} (scan : Scan S Meaning) where
+  -- if the next character has a step, the result is that of the rest from the next state
   pub read_some : (s t : S) (c : ℕ) (cs : List ℕ) → scan.step s c ≡ Some t → read scan s (c ∷ cs) ≡ read scan t cs
   read_some s t c cs e = rw (e, read) refl
 
+  -- if the next character has no step, the result is the error at it, by the parser state
   pub read_none : (s : S) (c : ℕ) (cs : List ℕ) → scan.step s c ≡ None
       → read scan s (c ∷ cs) ≡ Err (fault_at current scan.flags (scan.place s) c)
   read_none s c cs e = rw (e, read) refl
 
+  -- the result for two texts is that for the second, from the state after the first
   pub read_through : (s t : S) (xs ys : List ℕ) → run scan.step s xs ≡ Some t → read scan s (xs ++ ys) ≡ read scan t ys
   read_through s t [] ys h = let e : s ≡ t = cc in ap (λ u. read scan u ys) e
   read_through s t (c ∷ xs) ys h =
       let u = some_passed (λ v. run scan.step v xs) t (scan.step s c) h in
       read_some s u.0 c (xs ++ ys) u.1 ∙ read_through u.0 t xs ys u.2
 
-  -- the reader's loop goes on
+  -- the loop of the parser after a step: the result for what is left stays the same
   pub read_more : (s t : S) (cs : List ℕ) (n c : ℕ) → (n < length cs) × (c ≡ get_or cs n c) → scan.step s c ≡ Some t
       → read scan t (drop (n + 1) cs) ≡ read scan s (drop n cs)
-  read_more s t cs n c h e = sym (at_next (read scan s) cs n c h ∙ read_some s t c (drop (n + 1) cs) e)
+  read_more s t cs n c h e = sym (rest_starts_with_next (read scan s) cs n c h ∙ read_some s t c (drop (n + 1) cs) e)
 
-  -- it stops
+  -- the loop of the parser at a character that has no step: its error is the result
   pub read_stop : (s : S) (cs : List ℕ) (n c : ℕ) → (n < length cs) × (c ≡ get_or cs n c) → scan.step s c ≡ None
       → Err (fault_at current scan.flags (scan.place s) c) ≡ read scan s (drop n cs)
-  read_stop s cs n c h e = sym (at_next (read scan s) cs n c h ∙ read_none s c (drop (n + 1) cs) e)
+  read_stop s cs n c h e = sym (rest_starts_with_next (read scan s) cs n c h ∙ read_none s c (drop (n + 1) cs) e)
 
-  -- the text ends
+  -- the loop of the parser at the end of the input: the result of the last state is the result
   pub read_end : (s : S) (cs : List ℕ) (n : ℕ) → length cs ≡ n → scan.at_end s ≡ read scan s (drop n cs)
   read_end s cs n h = sym (at_drop_all (read scan s) cs n (omega arith))
 
--- what makes a scan that of texts with a meaning
-
--- a text that ends here has this fault, or it has none and a meaning
+-- the result for an input that ends here: this error, or if there is none (`None`), a meaning of the input
 abbrev pub EndsIn : {Meaning : Type 0} → (Meaning → Type 0) → Option Fault → Result Meaning Fault → Type 0
 EndsIn Means (Some fault) answer = answer ≡ Err fault
 EndsIn {Meaning} Means None answer = (meaning : Meaning) × Means meaning × (answer ≡ Ok meaning)
 
--- the answer is a meaning, or a fault
+-- the result is a meaning of the input, or its error
 abbrev pub IsAnswer : {Meaning : Type 0} → (Meaning → Type 0) → (Fault → Type 0) → Result Meaning Fault → Type 0
 IsAnswer Means Fails (Ok meaning) = Means meaning
 IsAnswer Means Fails (Err fault) = Fails fault
 
--- no front goes on from this one into the rest
+-- no longer beginning of the input is a viable prefix
 abbrev pub NoLongerFront : (Place → List ℕ → Type 0) → List ℕ → List ℕ → Type 0
 NoLongerFront IsFront front rest =
     (farther : Place) (next others : List ℕ) → rest ≡ next ++ others → IsFront farther (front ++ next) → next ≡ []
 
--- behind the text is a state of the scan, at this place
+-- after the text the state machine has a state, which has this parser state
 pub record IsScanned {S Meaning : Type 0} (scan : Scan S Meaning) (place : Place) (text : List ℕ) : Type 0 where
   pub state : S
   pub run_is : run scan.step scan.start text ≡ Some state
   pub place_is : scan.place state ≡ place
 
-pub record IsScanOf {S Meaning : Type 0} (scan : Scan S Meaning) (Reached : S → List ℕ → Type 0) (IsFront : Place → List ℕ → Type 0)
+-- the state machine accepts exactly the inputs that have a meaning, and its states are exactly those after the viable
+-- prefixes. `Reached` is what is known of the text that led to a state. All the laws of the parsers rest on it
+pub record IsScanOf {S Meaning : Type 0} (scan : Scan S Meaning) (Reached : S → List ℕ → Type 0)
+    (IsFront : Place → List ℕ → Type 0)
     (Means : List ℕ → Meaning → Type 0) : Type 0 where
-  -- what has been read at a state: nothing at the first, and one character more behind a step
+  -- the first state is that of no text, and each step adds its character to the text
   pub starts : Reached scan.start []
   pub steps : (s t : S) (c : ℕ) (text : List ℕ) → scan.step s c ≡ Some t → Reached s text → Reached t (text ++ c ∷ [])
-  -- that is a front at the place of the state, and each front is read
+  -- the text that led to a state is a viable prefix with its parser state, and there is a state after each such prefix
   pub front : (s : S) (text : List ℕ) → Reached s text → IsFront (scan.place s) text
   pub front_read : (place : Place) (text : List ℕ) → IsFront place text → IsScanned scan place text
-  -- at its end a text has the fault of the place, or a meaning
-  pub ends : (s : S) (text : List ℕ) → Reached s text → EndsIn (Means text) (fault_at_end (scan.place s)) (scan.at_end s)
-  -- a text with a meaning is read to it
+  -- an input that ends in a state has the error of its parser state, or a meaning
+  pub ends : (s : S) (text : List ℕ) → Reached s text
+      → EndsIn (Means text) (fault_at_end (scan.place s)) (scan.at_end s)
+  -- the result for an input that has a meaning is this meaning
   pub meaning_read : (text : List ℕ) (meaning : Meaning) → Means text meaning
       → (s : S) × (run scan.step scan.start text ≡ Some s) × (scan.at_end s ≡ Ok meaning)
-  -- and from each state something more makes such a text
+  -- each state can be completed: with some rest, the input has a meaning
   pub goes_on : (s : S) → (rest : List ℕ) × (meaning : Meaning) × (read scan s rest ≡ Ok meaning)
 
-module _ {S Meaning : Type 0} {scan : Scan S Meaning} {Reached : S → List ℕ → Type 0} {IsFront : Place → List ℕ → Type 0}
+module _ {S Meaning : Type 0} {scan : Scan S Meaning} {Reached : S → List ℕ → Type 0}
+    {IsFront : Place → List ℕ → Type 0}
     {Means : List ℕ → Meaning → Type 0} (is : IsScanOf scan Reached IsFront Means) where
+  -- what is known at a state holds of the text that led to it
   reached : (text : List ℕ) (s : S) → run scan.step scan.start text ≡ Some s → Reached s text
   reached text s e = run_keeps scan.step Reached is.steps text [] scan.start s e is.starts
 
-  no_longer_front : (s : S) (front rest : List ℕ) → run scan.step scan.start front ≡ Some s → CannotStep scan.step s rest
+  -- if the state machine stops after a text, no longer beginning of the input is a viable prefix
+  no_longer_front : (s : S) (front rest : List ℕ) → run scan.step scan.start front ≡ Some s
+      → CannotStep scan.step s rest
       → NoLongerFront IsFront front rest
   no_longer_front s front rest e stops farther [] others r f = refl
   no_longer_front s front [] e stops farther (x ∷ xs) others r f = absurd (let k : ⊥ = cc in k)
   no_longer_front s front (c ∷ cs) e stops farther (x ∷ xs) others r f =
       let g = is.front_read farther (front ++ x ∷ xs) f in
       let same : c ≡ x = cc in
-      let gone : run scan.step s (x ∷ xs) ≡ None = ap (option_and_then (λ u. run scan.step u xs)) (ap (scan.step s) (sym same) ∙ stops) in
+      let gone : run scan.step s (x ∷ xs) ≡ None =
+      ap (option_and_then (λ u. run scan.step u xs)) (ap (scan.step s) (sym same) ∙ stops) in
       let both : Some g.state ≡ None = sym g.run_is ∙ (run_through scan.step scan.start s front (x ∷ xs) e ∙ gone) in
       absurd (let k : ⊥ = cc in k)
 
-  -- the fault where a scan stops
+  -- the error where the state machine stops is the error of the input
   first_fault : (text : List ℕ) (stop : Stop scan.step scan.start text) (fault : Fault)
-      → IsFaultAfter current scan.flags (scan.place stop.state) stop.rest fault → IsFirstFault IsFront current scan.flags text fault
+      → IsFaultAfter current scan.flags (scan.place stop.state) stop.rest fault
+      → IsFirstFault IsFront current scan.flags text fault
   first_fault text stop fault h = record {
     place = scan.place stop.state;
     front = stop.front;
@@ -178,52 +203,66 @@ module _ {S Meaning : Type 0} {scan : Scan S Meaning} {Reached : S → List ℕ 
     fault_is = h;
   }
 
-  answer_at_end : (s : S) (text : List ℕ) → run scan.step scan.start text ≡ Some s → (o : Option Fault) → fault_at_end (scan.place s) ≡ o
-      → EndsIn (Means text) o (scan.at_end s) → IsAnswer (Means text) (IsFirstFault IsFront current scan.flags text) (scan.at_end s)
+  answer_at_end : (s : S) (text : List ℕ) → run scan.step scan.start text ≡ Some s → (o : Option Fault)
+      → fault_at_end (scan.place s) ≡ o
+      → EndsIn (Means text) o (scan.at_end s)
+      → IsAnswer (Means text) (IsFirstFault IsFront current scan.flags text) (scan.at_end s)
   answer_at_end s text e None at ends =
       subst (IsAnswer (Means text) (IsFirstFault IsFront current scan.flags text)) (sym ends.2) ends.1
   answer_at_end s text e (Some fault) at ends =
       let stop : Stop scan.step scan.start text =
       record { front = text; rest = []; state = s; text_is = sym (append-nil text); run_is = e; stops = tt } in
-      subst (IsAnswer (Means text) (IsFirstFault IsFront current scan.flags text)) (sym ends) (first_fault text stop fault at)
+      subst (IsAnswer (Means text) (IsFirstFault IsFront current scan.flags text)) (sym ends)
+      (first_fault text stop fault at)
 
-  answer_where_stopped : (s : S) (text front rest : List ℕ) → text ≡ front ++ rest → run scan.step scan.start front ≡ Some s
-      → CannotStep scan.step s rest → IsAnswer (Means text) (IsFirstFault IsFront current scan.flags text) (read scan s rest)
+  answer_where_stopped : (s : S) (text front rest : List ℕ) → text ≡ front ++ rest
+      → run scan.step scan.start front ≡ Some s
+      → CannotStep scan.step s rest → IsAnswer (Means text) (IsFirstFault IsFront current scan.flags text)
+      (read scan s rest)
   answer_where_stopped s text front [] t e stops =
-      let P : List ℕ → Type 0 = λ x. IsAnswer (Means x) (IsFirstFault IsFront current scan.flags x) (scan.at_end s) in
+      let IsAnswerFor : List ℕ → Type 0 =
+      λ x. IsAnswer (Means x) (IsFirstFault IsFront current scan.flags x) (scan.at_end s) in
       let here = answer_at_end s front e (fault_at_end (scan.place s)) refl (is.ends s front (reached front s e)) in
-      subst P (sym (t ∙ append-nil front)) here
+      subst IsAnswerFor (sym (t ∙ append-nil front)) here
   answer_where_stopped s text front (c ∷ cs) t e stops =
-      let P : Result Meaning Fault → Type 0 = IsAnswer (Means text) (IsFirstFault IsFront current scan.flags text) in
+      let IsAnswerFor : Result Meaning Fault → Type 0 =
+      IsAnswer (Means text) (IsFirstFault IsFront current scan.flags text) in
       let stop : Stop scan.step scan.start text =
       record { front = front; rest = c ∷ cs; state = s; text_is = t; run_is = e; stops = stops } in
-      subst P (sym (read_none scan s c cs stops)) (first_fault text stop (fault_at current scan.flags (scan.place s) c) refl)
+      subst IsAnswerFor (sym (read_none scan s c cs stops))
+      (first_fault text stop (fault_at current scan.flags (scan.place s) c) refl)
 
-  -- what a text is read as is its meaning or its fault
-  pub answers : (text : List ℕ) → IsAnswer (Means text) (IsFirstFault IsFront current scan.flags text) (read scan scan.start text)
-  answers text =
+  -- the result for an input is its meaning or its error
+  pub reads_meaning_or_fault : (text : List ℕ)
+      → IsAnswer (Means text) (IsFirstFault IsFront current scan.flags text) (read scan scan.start text)
+  reads_meaning_or_fault text =
       let stop = stop_of scan.step scan.start text in
-      let P : Result Meaning Fault → Type 0 = IsAnswer (Means text) (IsFirstFault IsFront current scan.flags text) in
-      let same = ap (read scan scan.start) stop.text_is ∙ read_through scan scan.start stop.state stop.front stop.rest stop.run_is in
-      subst P (sym same) (answer_where_stopped stop.state text stop.front stop.rest stop.text_is stop.run_is stop.stops)
+      let IsItsAnswer : Result Meaning Fault → Type 0 =
+      IsAnswer (Means text) (IsFirstFault IsFront current scan.flags text) in
+      let same = ap (read scan scan.start) stop.text_is
+      ∙ read_through scan scan.start stop.state stop.front stop.rest stop.run_is in
+      subst IsItsAnswer (sym same) (answer_where_stopped stop.state text stop.front stop.rest stop.text_is stop.run_is
+      stop.stops)
 
-  -- a text with a meaning is read as it
+  -- the result for an input that has a meaning is this meaning
   pub reads_meaning : (text : List ℕ) (meaning : Meaning) → Means text meaning → read scan scan.start text ≡ Ok meaning
   reads_meaning text meaning h =
       let r = is.meaning_read text meaning h in
       ap (read scan scan.start) (sym (append-nil text)) ∙ (read_through scan scan.start r.0 text [] r.1 ∙ r.2)
 
-  fault_of_end : (Here : Meaning → Type 0) (o : Option Fault) (answer : Result Meaning Fault) (fault : Fault) → EndsIn Here o answer
+  fault_of_end : (Here : Meaning → Type 0) (o : Option Fault) (answer : Result Meaning Fault) (fault : Fault)
+      → EndsIn Here o answer
       → o ≡ Some fault → answer ≡ Err fault
   fault_of_end Here None answer fault ends e = absurd (let k : ⊥ = cc in k)
   fault_of_end Here (Some other) answer fault ends e = let same : other ≡ fault = cc in ends ∙ ap Err same
 
-  -- there is no step past the longest front
+  -- no character has a step after the longest viable prefix
   no_step : (s : S) (front cs : List ℕ) (c : ℕ) → Reached s front → NoLongerFront IsFront front (c ∷ cs)
       → (o : Option S) → scan.step s c ≡ o → scan.step s c ≡ None
   no_step s front cs c r longest None e = e
   no_step s front cs c r longest (Some t) e =
-      let none : c ∷ [] ≡ [] = longest (scan.place t) (c ∷ []) cs refl (is.front t (front ++ c ∷ []) (is.steps s t c front e r)) in
+      let none : c ∷ [] ≡ [] = longest (scan.place t) (c ∷ []) cs refl
+      (is.front t (front ++ c ∷ []) (is.steps s t c front e r)) in
       absurd (let k : ⊥ = cc in k)
 
   fault_of_rest : (s : S) (front rest : List ℕ) (fault : Fault) → Reached s front → NoLongerFront IsFront front rest
@@ -233,26 +272,28 @@ module _ {S Meaning : Type 0} {scan : Scan S Meaning} {Reached : S → List ℕ 
   fault_of_rest s front (c ∷ cs) fault r longest h =
       read_none scan s c cs (no_step s front cs c r longest (scan.step s c) refl) ∙ ap Err (sym h)
 
-  -- a text with a fault is read as it
+  -- the result for an input that has an error is this error
   pub reads_fault : (text : List ℕ) (fault : Fault) → IsFirstFault IsFront current scan.flags text fault
       → read scan scan.start text ≡ Err fault
   reads_fault text fault h =
       let r = is.front_read h.place h.front h.longest.is_front in
-      let P : Place → Type 0 = λ place. IsFaultAfter current scan.flags place h.rest fault in
+      let IsFaultIn : Place → Type 0 = λ place. IsFaultAfter current scan.flags place h.rest fault in
       let rest = fault_of_rest r.state h.front h.rest fault (reached h.front r.state r.run_is) h.longest.longest
-      (subst P (sym r.place_is) h.fault_is) in
-      ap (read scan scan.start) h.longest.text_is ∙ (read_through scan scan.start r.state h.front h.rest r.run_is ∙ rest)
+      (subst IsFaultIn (sym r.place_is) h.fault_is) in
+      ap (read scan scan.start) h.longest.text_is
+      ∙ (read_through scan scan.start r.state h.front h.rest r.run_is ∙ rest)
 
   some_answer : (text : List ℕ) (answer : Result Meaning Fault)
       → IsAnswer (Means text) (IsFirstFault IsFront current scan.flags text) answer
-      → ((meaning : Meaning) × Means text meaning) ⊎ ((fault : Fault) × IsFirstFault IsFront current scan.flags text fault)
+      → ((meaning : Meaning) × Means text meaning)
+      ⊎ ((fault : Fault) × IsFirstFault IsFront current scan.flags text fault)
   some_answer text (Ok meaning) h = inl (meaning, h)
   some_answer text (Err fault) h = inr (fault, h)
 
-  -- each text has one meaning or one fault
+  -- each input has exactly one meaning, or exactly one error, and not both
   pub one_answer : (text : List ℕ) → IsOneAnswer Meaning (Means text) (IsFirstFault IsFront current scan.flags text)
   one_answer text = record {
-    some = some_answer text (read scan scan.start text) (answers text);
+    some = some_answer text (read scan scan.start text) (reads_meaning_or_fault text);
     one_meaning = λ m n h k. let e = sym (reads_meaning text m h) ∙ reads_meaning text n k in cc;
     one_fault = λ f g h k. let e = sym (reads_fault text f h) ∙ reads_fault text g k in cc;
     not_both = λ m f h k. let e = sym (reads_meaning text m h) ∙ reads_fault text f k in absurd (let z : ⊥ = cc in z);
@@ -263,31 +304,45 @@ module _ {S Meaning : Type 0} {scan : Scan S Meaning} {Reached : S → List ℕ 
       let r = is.front_read place text h in
       let g = is.goes_on r.state in
       let whole = text ++ g.0 in
-      let e = read_through scan scan.start r.state text g.0 r.run_is ∙ g.2 in
-      (g.0, g.1, subst (IsAnswer (Means whole) (IsFirstFault IsFront current scan.flags whole)) e (answers whole))
+      let e = read_through scan scan.start r.state text g.0 r.run_is ∙ g.2 in (
+        g.0,
+        g.1,
+        subst (IsAnswer (Means whole) (IsFirstFault IsFront current scan.flags whole)) e
+            (reads_meaning_or_fault whole),
+      )
 
-  beginning_is_front : (text rest : List ℕ) (meaning : Meaning) → Means (text ++ rest) meaning → (place : Place) × IsFront place text
+  beginning_is_front : (text rest : List ℕ) (meaning : Meaning) → Means (text ++ rest) meaning
+      → (place : Place) × IsFront place text
   beginning_is_front text rest meaning h =
       let r = is.meaning_read (text ++ rest) meaning h in
       let t = run_before scan.step scan.start r.0 text rest r.1 in
       (scan.place t.0, is.front t.0 text (reached text t.0 t.1))
 
-  -- the fronts are exactly the beginnings of the texts with a meaning
+  -- the viable prefixes are exactly the beginnings of the inputs that have a meaning
   pub fronts_are_beginnings : (text : List ℕ) → ((place : Place) × IsFront place text) ↔ Begins Meaning Means text
   fronts_are_beginnings text = (λ f. front_begins text f.0 f.1, λ b. beginning_is_front text b.0 b.1 b.2)
 
-  -- the clauses of a reader's callers
+  -- what the contract of a parser says
   module _ {R E : Type 0} (meaning : R → Meaning) (fault : E → Fault) (text : List ℕ) where
-    pub read_found : (r : Result R E) → seen meaning fault r ≡ read scan scan.start text → IfOk r (λ value. Means text (meaning value))
-    read_found (Ok value) e = subst (IsAnswer (Means text) (IsFirstFault IsFront current scan.flags text)) (sym e) (answers text)
+    -- what a parser returns, if it returns the result of the state machine, is a meaning of the input
+    pub read_found : (r : Result R E) → seen meaning fault r ≡ read scan scan.start text
+        → IfOk r (λ value. Means text (meaning value))
+    read_found (Ok value) e =
+        subst (IsAnswer (Means text) (IsFirstFault IsFront current scan.flags text)) (sym e)
+        (reads_meaning_or_fault text)
     read_found (Err error) e = tt
 
+    -- the error that a parser returns, if it returns the result of the state machine, is that of the input
     pub read_refused : (r : Result R E) → seen meaning fault r ≡ read scan scan.start text
         → IfErr r (λ error. IsFirstFault IsFront current scan.flags text (fault error))
     read_refused (Ok value) e = tt
-    read_refused (Err error) e = subst (IsAnswer (Means text) (IsFirstFault IsFront current scan.flags text)) (sym e) (answers text)
+    read_refused (Err error) e =
+        subst (IsAnswer (Means text) (IsFirstFault IsFront current scan.flags text)) (sym e)
+        (reads_meaning_or_fault text)
 
+    -- if the input has a meaning, a parser that returns the result of the state machine returns it
     pub read_meant : (r : Result R E) (m : Meaning) → seen meaning fault r ≡ read scan scan.start text → Means text m
         → IsOkAnd r (λ value. meaning value ≡ m)
     read_meant (Ok value) m e h = let k : Ok (meaning value) ≡ Ok m = e ∙ reads_meaning text m h in cc
-    read_meant (Err error) m e h = let k : Err (fault error) ≡ Ok m = e ∙ reads_meaning text m h in absurd (let z : ⊥ = cc in z)
+    read_meant (Err error) m e h =
+        let k : Err (fault error) ≡ Ok m = e ∙ reads_meaning text m h in absurd (let z : ⊥ = cc in z)

@@ -1,5 +1,6 @@
--- The texts of numbers and units are ASCII. So with visible ends they are their own trimmed texts.
-use Rattle.std.proofs.Common.{◌≡◌, ℕ, ◌+◌, ◌-◌, ◌<◌, Bool, true, false, inl, inr, List, [], ◌∷◌, ◌++◌, length, take, get_or, replicate}
+-- The inputs of the grammar of sizes are ASCII. So with visible characters at their ends there is nothing to trim.
+use Rattle.std.proofs.Common.{◌≡◌, ℕ, ◌+◌, ◌-◌, ◌<◌, Bool, true, false, inl, inr, List, [], ◌∷◌, ◌++◌, length, take}
+use Rattle.std.proofs.Common.{get_or, replicate}
 use Rattle.std.proofs.Common.{refl, sym, subst, ◌∙◌, arith}
 use Rattle.std.specs.Prelude.{codes}
 use Rattle.std.specs.List.{All}
@@ -30,7 +31,8 @@ upper_small c small = grind (arith, nat_tests)
 lower_all : (text : List ℕ) → All (λ c. c < 128) (str_to_ascii_lowercase text) → All (λ c. c < 128) text
 lower_all [] small = All-nil (λ c. c < 128)
 lower_all (c ∷ cs) small =
-    All-cons (λ c. c < 128) c cs (lower_small c (All-head (λ c. c < 128) (to_ascii_lowercase c) (str_to_ascii_lowercase cs) small))
+    All-cons (λ c. c < 128) c cs (lower_small c
+    (All-head (λ c. c < 128) (to_ascii_lowercase c) (str_to_ascii_lowercase cs) small))
     (lower_all cs (All-tail (λ c. c < 128) (to_ascii_lowercase c) (str_to_ascii_lowercase cs) small))
 
 lower_ascii : (text word : List ℕ) → All (λ c. c < 128) word → str_to_ascii_lowercase text ≡ word → IsAscii text
@@ -80,8 +82,10 @@ letters_ascii =
 
 prefix_ascii : (text : List ℕ) (power : ℕ) (binary : Bool) → SpellsPrefix current text power binary → IsAscii text
 prefix_ascii text power binary h =
-    let small : h.letter < 128 = upper_small h.letter (subst (λ c. c < 128) (sym h.letter_is.2) (letters_ascii (power - 1))) in
-    subst IsAscii (sym h.text_is) (IsAscii-cons h.letter h.infix_part small (binary_ascii h.infix_part binary h.infix_is))
+    let small : h.letter < 128 = upper_small h.letter
+    (subst (λ c. c < 128) (sym h.letter_is.2) (letters_ascii (power - 1))) in
+    subst IsAscii (sym h.text_is) (IsAscii-cons h.letter h.infix_part small
+    (binary_ascii h.infix_part binary h.infix_is))
 
 spelling_ascii : (flags : Flags) (text : List ℕ) (unit : Shape) → Spells current flags text unit → IsAscii text
 spelling_ascii flags text unit (inl h) = count_ascii flags text unit.bit h.count_is
@@ -92,6 +96,7 @@ spelling_ascii flags text unit (inr h) =
 
 -- numbers and sizes
 
+-- the text of a number is ASCII
 pub number_ascii : (text : List ℕ) (number : ℕ) → IsNumberText current text number → IsAscii text
 number_ascii text number (inl h) = IsAscii-from_digits text h.1.0.1
 number_ascii text number (inr h) =
@@ -99,11 +104,14 @@ number_ascii text number (inr h) =
     (IsAscii-append h.whole (46 ∷ h.fraction) (IsAscii-from_digits h.whole h.whole_is.0.1)
     (IsAscii-cons 46 h.fraction (omega arith) (IsAscii-from_digits h.fraction h.fraction_is.0.1)))
 
-size_ascii : (flags : Flags) (text : List ℕ) (number : ℕ) (unit : Shape) → IsSizeText current flags text number unit → IsAscii text
+-- the text of a number and a unit is ASCII
+size_ascii : (flags : Flags) (text : List ℕ) (number : ℕ) (unit : Shape) → IsSizeText current flags text number unit
+    → IsAscii text
 size_ascii flags text number unit h =
     let gap = IsAscii-from_all (replicate h.spaces space) (All-replicate (λ c. c < 128) h.spaces space (omega arith)) in
     subst IsAscii (sym h.text_is)
-    (IsAscii-append h.number_part (replicate h.spaces space ++ h.unit_part) (number_ascii h.number_part number h.number_is)
+    (IsAscii-append h.number_part (replicate h.spaces space ++ h.unit_part)
+    (number_ascii h.number_part number h.number_is)
     (IsAscii-append (replicate h.spaces space) h.unit_part gap (spelling_ascii flags h.unit_part unit h.unit_is)))
 
 -- visible ends
@@ -126,11 +134,15 @@ visible_end bytes ends =
       last_is = visible_not_white (get_or bytes last 0) ends.end;
     }
 
+-- if bytes with visible characters at their ends are a number and a unit, they are so when trimmed
 pub trimmed_size : (flags : Flags) (bytes : List ℕ) (number : ℕ) (unit : Shape) → HasVisibleEnds bytes
     → IsSizeText current flags bytes number unit → IsSizeText current flags (trimmed bytes) number unit
 trimmed_size flags bytes number unit ends h =
     subst (λ text. IsSizeText current flags text number unit)
-    (sym (trimmed_same bytes (visible_start bytes ends) (visible_end bytes ends) (size_ascii flags bytes number unit h))) h
+    (sym (trimmed_same bytes (visible_start bytes ends) (visible_end bytes ends)
+    (size_ascii flags bytes number unit h))) h
 
-pub size_utf8 : (flags : Flags) (bytes : List ℕ) (number : ℕ) (unit : Shape) → IsSizeText current flags bytes number unit → IsUtf8 bytes
+-- bytes that are a number and a unit are UTF-8
+pub size_utf8 : (flags : Flags) (bytes : List ℕ) (number : ℕ) (unit : Shape)
+    → IsSizeText current flags bytes number unit → IsUtf8 bytes
 size_utf8 flags bytes number unit h = IsUtf8-from_ascii bytes (size_ascii flags bytes number unit h)

@@ -1,4 +1,4 @@
--- What the reader of a size answers, by what the reader of its number and unit answers.
+-- What the parser of a size returns, by the result of parsing its number and unit.
 use Rattle.std.proofs.Common.{◌≡◌, ℕ, Bool, List, Option, Some, None, Ok, Err, sym, ap, subst, arith, inl, inr, refl}
 use Rattle.std.specs.Option.{ok_or}
 use Rattle.byte_unit_base.specs.Shape.{Shape}
@@ -16,20 +16,20 @@ use Rattle.byte_unit_base.specs.Kinds.{flags_for}
 use Rattle.byte_unit_base.specs.Readings.{IsNumberReading}
 use Rattle.byte_unit_base.specs.Accepted.{IsRead}
 use Rattle.byte_unit_base.specs.SizeReading.{IsSizeReading}
-use Rattle.byte_unit_base.proofs.Rounding.{least_is_one, least_of}
+use Rattle.byte_unit_base.proofs.Rounding.{least_is_unique, least_exists}
 
--- a text that is read has the number and the unit that the reader answers
-of_read :
+-- an input has only the number and unit that the parser found, so each of its sizes is that number rounded up
+found_as_read :
     (kind : Kind) (ignore_case : Bool) (bytes : List ℕ) (found : ℕ × UnitName) (number n : ℕ)
     → IsNumberReading (flags_for kind ignore_case) bytes (Ok found)
     → IsRead current kind ignore_case bytes number n → (found.0 ≡ number) × IsLeastOf kind found.0 (shape_of found.1) n
-of_read kind ignore_case bytes found number n reading read =
+found_as_read kind ignore_case bytes found number n reading read =
     let same = reading.reads number read.unit read.is_size in
-    let P : ℕ → Type 0 = λ m. IsLeastOf kind m (shape_of found.1) n in
-    let Q : Shape → Type 0 = λ s. IsLeastOf kind number s n in
-    (same.0, subst P (sym same.0) (subst Q (sym same.1) read.is_least))
+    let IsLeastOfNumber : ℕ → Type 0 = λ m. IsLeastOf kind m (shape_of found.1) n in
+    let IsLeastOfUnit : Shape → Type 0 = λ s. IsLeastOf kind number s n in
+    (same.0, subst IsLeastOfNumber (sym same.0) (subst IsLeastOfUnit (sym same.1) read.is_least))
 
--- the answer where the number and the unit give a size
+-- the result if the number and unit give a size
 pub reading_of_size :
     (kind : Kind) (ignore_case : Bool) (bytes : List ℕ) (found : ℕ × UnitName) (n : ℕ)
     → IsNumberReading (flags_for kind ignore_case) bytes (Ok found)
@@ -41,15 +41,15 @@ reading_of_size kind ignore_case bytes found n reading size = record {
     is_read = record { unit = shape_of found.1; is_size = reading.found; is_least = size.0 };
     below = size.1;
   };
-  reads = λ m a. let other = of_read kind ignore_case bytes found a.number m reading a.is_read in
-      ap (λ k. Ok k) (least_is_one kind found.0 (shape_of found.1) n m size.0 other.1);
-  exceeds = λ number e. let other = of_read kind ignore_case bytes found number e.size reading e.is_read in
-      let same = least_is_one kind found.0 (shape_of found.1) n e.size size.0 other.1 in
+  reads = λ m a. let other = found_as_read kind ignore_case bytes found a.number m reading a.is_read in
+      ap (λ k. Ok k) (least_is_unique kind found.0 (shape_of found.1) n m size.0 other.1);
+  exceeds = λ number e. let other = found_as_read kind ignore_case bytes found number e.size reading e.is_read in
+      let same = least_is_unique kind found.0 (shape_of found.1) n e.size size.0 other.1 in
       absurd (omega (arith, same, size.1, e.above));
   fault = tt;
 }
 
--- the answer where the size of the number and the unit reaches the bound
+-- the result if the size of the number and unit reaches the limit: an error with the number
 pub reading_of_excess :
     (kind : Kind) (ignore_case : Bool) (bytes : List ℕ) (found : ℕ × UnitName)
     → ((n : ℕ) × IsLeastOf kind found.0 (shape_of found.1) n)
@@ -58,9 +58,9 @@ pub reading_of_excess :
     → IsSizeReading kind ignore_case bytes (Err (Value (ExceededBounds found.0)))
 reading_of_excess kind ignore_case bytes found least reading none = record {
   found = tt;
-  reads = λ m a. let other = of_read kind ignore_case bytes found a.number m reading a.is_read in
+  reads = λ m a. let other = found_as_read kind ignore_case bytes found a.number m reading a.is_read in
       absurd (omega (arith, none m other.1, a.below));
-  exceeds = λ number e. let other = of_read kind ignore_case bytes found number e.size reading e.is_read in
+  exceeds = λ number e. let other = found_as_read kind ignore_case bytes found number e.size reading e.is_read in
       ap exceeded other.0;
   fault = inl (
     found.0,
@@ -73,7 +73,7 @@ reading_of_excess kind ignore_case bytes found least reading none = record {
   );
 }
 
--- the answer by the size of the number and the unit, if it is one
+-- the result by the size of the number and unit, or `None` if it reaches the limit
 pub reading_of_number :
     (kind : Kind) (ignore_case : Bool) (bytes : List ℕ) (found : ℕ × UnitName) (size : Option ℕ)
     → IsNumberReading (flags_for kind ignore_case) bytes (Ok found)
@@ -82,9 +82,9 @@ pub reading_of_number :
 reading_of_number kind ignore_case bytes found (Some n) reading size =
     reading_of_size kind ignore_case bytes found n reading size
 reading_of_number kind ignore_case bytes found None reading none =
-    reading_of_excess kind ignore_case bytes found (least_of kind found.0 (shape_of found.1)) reading none
+    reading_of_excess kind ignore_case bytes found (least_exists kind found.0 (shape_of found.1)) reading none
 
--- the answer where there is no number and unit
+-- the result if the input is not a number and a unit: its error
 pub reading_of_fault :
     (kind : Kind) (ignore_case : Bool) (bytes : List ℕ) (error : ParseError)
     → IsNumberReading (flags_for kind ignore_case) bytes (Err error)

@@ -1,4 +1,4 @@
--- Each text is accepted as one size or refused by one fault.
+-- Each input is accepted as one size, or rejected with one error.
 use Rattle.std.proofs.Common.{◌≡◌, ℕ, Bool, List, ◌⊎◌, inl, inr, ⊎_elim, sym, ap, subst, arith, ◌∙◌, refl}
 use Rattle.std.proofs.lemmas.Bool.{cases_lt}
 use Rattle.byte_unit_base.specs.Shape.{Shape}
@@ -11,41 +11,48 @@ use Rattle.byte_unit_base.specs.Accepted.{IsRead, IsAccepted, Exceeds, HasFault,
 use Rattle.byte_unit_base.specs.SizeLaws.{IsOneOfThree, EachTextIsOneOfThree, TextsAreAcceptedOrRefused}
 use Rattle.byte_unit_base.specs.ReaderLaws.{IsOneAnswer, States}
 use Rattle.byte_unit_base.specs.declared.kind.Kind.{Kind}
-use Rattle.byte_unit_base.proofs.Rounding.{least_of, least_is_one}
+use Rattle.byte_unit_base.proofs.Rounding.{least_exists, least_is_unique}
 use Rattle.byte_unit_base.proofs.SizeReads.{size_texts_have_one_answer}
 
--- two readings of a text are of one number and one size
+-- two readings of an input have the same number and the same size
 record IsSame (number other n m : ℕ) : Type 0 where
   numbers : number ≡ other
   sizes : n ≡ m
 
 module _ (kind : Kind) (ignore_case : Bool) (text : List ℕ) where
-  one_answer : IsOneAnswer (ℕ × Shape) (States (flags_for kind ignore_case) (trimmed text)) (HasFault current kind ignore_case text)
+  one_answer : IsOneAnswer (ℕ × Shape) (States (flags_for kind ignore_case) (trimmed text))
+      (HasFault current kind ignore_case text)
   one_answer = size_texts_have_one_answer (flags_for kind ignore_case) (trimmed text)
 
-  same_read : (number other n m : ℕ) → IsRead current kind ignore_case text number n → IsRead current kind ignore_case text other m
+  same_read : (number other n m : ℕ) → IsRead current kind ignore_case text number n
+      → IsRead current kind ignore_case text other m
       → IsSame number other n m
   same_read number other n m a b =
       let same : ◌≡◌ {A = ℕ × Shape} (number, a.unit) (other, b.unit) =
       one_answer.one_meaning (number, a.unit) (other, b.unit) a.is_size b.is_size in
-      let P : ℕ × Shape → Type 0 = λ r. IsLeastOf kind r.0 r.1 n in
-      record { numbers = ap (λ r. r.0) same; sizes = least_is_one kind other b.unit n m (subst P same a.is_least) b.is_least }
+      let HasLeastSize : ℕ × Shape → Type 0 = λ r. IsLeastOf kind r.0 r.1 n in
+      record {
+        numbers = ap (λ r. r.0) same;
+        sizes = least_is_unique kind other b.unit n m (subst HasLeastSize same a.is_least) b.is_least;
+      }
 
-  -- a text that is read has no fault of its characters
+  -- an input in the grammar has no error of its characters
   no_fault : (number n : ℕ) (fault : Fault) → IsRead current kind ignore_case text number n
       → ¬ (HasFault current kind ignore_case text fault)
   no_fault number n fault a f = one_answer.not_both (number, a.unit) fault a.is_size f
 
-  -- a text that is accepted has no number whose size is too large
-  no_excess : (n number : ℕ) → IsAccepted current kind ignore_case text n → ¬ (Exceeds current kind ignore_case text number)
+  -- an input that is accepted has no number whose size is too large
+  no_excess : (n number : ℕ) → IsAccepted current kind ignore_case text n
+      → ¬ (Exceeds current kind ignore_case text number)
   no_excess n number a e =
       let same = same_read a.number number n e.size a.is_read e.is_read in
       omega (arith, same.sizes, a.below, e.above)
 
   some_of_three : ((n : ℕ) × IsAccepted current kind ignore_case text n)
-      ⊎ (((number : ℕ) × Exceeds current kind ignore_case text number) ⊎ ((fault : Fault) × HasFault current kind ignore_case text fault))
+      ⊎ (((number : ℕ) × Exceeds current kind ignore_case text number)
+      ⊎ ((fault : Fault) × HasFault current kind ignore_case text fault))
   some_of_three =
-      ⊎_elim (λ read. let least = least_of kind read.0.0 read.0.1 in
+      ⊎_elim (λ read. let least = least_exists kind read.0.0 read.0.1 in
       let is_read : IsRead current kind ignore_case text read.0.0 least.0 =
       record { unit = read.0.1; is_size = read.1; is_least = least.1 } in
       ⊎_elim (λ below. inl (least.0, record { number = read.0.0; is_read = is_read; below = below }))
@@ -54,9 +61,11 @@ module _ (kind : Kind) (ignore_case : Bool) (text : List ℕ) where
       (λ fault. inr (inr fault))
       one_answer.some
 
-  pub three : IsOneOfThree
-      (IsAccepted current kind ignore_case text) (Exceeds current kind ignore_case text) (HasFault current kind ignore_case text)
-  three = record {
+  -- an input is accepted as one size, or its size is too large, or it has one error of its characters
+  pub is_one_of_three : IsOneOfThree
+      (IsAccepted current kind ignore_case text) (Exceeds current kind ignore_case text)
+      (HasFault current kind ignore_case text)
+  is_one_of_three = record {
     some = some_of_three;
     one_size = λ n other a b. (same_read a.number b.number n other a.is_read b.is_read).sizes;
     one_number = λ number other a b. (same_read number other a.size b.size a.is_read b.is_read).numbers;
@@ -66,33 +75,40 @@ module _ (kind : Kind) (ignore_case : Bool) (text : List ℕ) where
     no_fault_of_excess = λ number fault e f. no_fault number e.size fault e.is_read f;
   }
 
-  -- so each is accepted or refused
-  refusal : ((number : ℕ) × Exceeds current kind ignore_case text number) ⊎ ((fault : Fault) × HasFault current kind ignore_case text fault)
+  -- an input whose size is too large, or that has an error of its characters, is rejected
+  refusal : ((number : ℕ) × Exceeds current kind ignore_case text number)
+      ⊎ ((fault : Fault) × HasFault current kind ignore_case text fault)
       → (fault : Fault) × IsRefused current kind ignore_case text fault
   refusal (inl e) = (exceeded e.0, inl (e.0, refl, e.1))
   refusal (inr f) = (f.0, inr f.1)
 
-  one_refusal : (fault other : Fault) → IsRefused current kind ignore_case text fault → IsRefused current kind ignore_case text other
+  one_refusal : (fault other : Fault) → IsRefused current kind ignore_case text fault
+      → IsRefused current kind ignore_case text other
       → fault ≡ other
-  one_refusal fault other (inl e) (inl x) = e.1 ∙ (ap exceeded (three.one_number e.0 x.0 e.2 x.2) ∙ sym x.1)
-  one_refusal fault other (inl e) (inr f) = absurd (three.no_fault_of_excess e.0 other e.2 f)
-  one_refusal fault other (inr f) (inl e) = absurd (three.no_fault_of_excess e.0 fault e.2 f)
-  one_refusal fault other (inr f) (inr g) = three.one_fault fault other f g
+  one_refusal fault other (inl e) (inl x) = e.1 ∙ (ap exceeded (is_one_of_three.one_number e.0 x.0 e.2 x.2) ∙ sym x.1)
+  one_refusal fault other (inl e) (inr f) = absurd (is_one_of_three.no_fault_of_excess e.0 other e.2 f)
+  one_refusal fault other (inr f) (inl e) = absurd (is_one_of_three.no_fault_of_excess e.0 fault e.2 f)
+  one_refusal fault other (inr f) (inr g) = is_one_of_three.one_fault fault other f g
 
-  no_refusal : (n : ℕ) (fault : Fault) → IsAccepted current kind ignore_case text n → ¬ (IsRefused current kind ignore_case text fault)
-  no_refusal n fault a (inl e) = three.no_excess n e.0 a e.2
-  no_refusal n fault a (inr f) = three.no_fault n fault a f
+  no_refusal : (n : ℕ) (fault : Fault) → IsAccepted current kind ignore_case text n
+      → ¬ (IsRefused current kind ignore_case text fault)
+  no_refusal n fault a (inl e) = is_one_of_three.no_excess n e.0 a e.2
+  no_refusal n fault a (inr f) = is_one_of_three.no_fault n fault a f
 
-  pub accepted_or_not : IsOneAnswer ℕ (IsAccepted current kind ignore_case text) (IsRefused current kind ignore_case text)
+  -- an input is accepted as one size, or rejected with one error
+  pub accepted_or_not : IsOneAnswer ℕ (IsAccepted current kind ignore_case text)
+      (IsRefused current kind ignore_case text)
   accepted_or_not = record {
-    some = ⊎_elim (λ a. inl a) (λ r. inr (refusal r)) three.some;
-    one_meaning = three.one_size;
+    some = ⊎_elim (λ a. inl a) (λ r. inr (refusal r)) is_one_of_three.some;
+    one_meaning = is_one_of_three.one_size;
     one_fault = one_refusal;
     not_both = no_refusal;
   }
 
+-- each input is accepted as one size, or its size is too large, or it has one error of its characters
 pub one_of_three : EachTextIsOneOfThree
-one_of_three kind ignore_case text = three kind ignore_case text
+one_of_three kind ignore_case text = is_one_of_three kind ignore_case text
 
+-- each input is accepted as one size, or rejected with one error, and not both
 pub accepted_or_refused : TextsAreAcceptedOrRefused
 accepted_or_refused kind ignore_case text = accepted_or_not kind ignore_case text

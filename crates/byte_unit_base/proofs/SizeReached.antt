@@ -1,5 +1,7 @@
--- The scan of a size and the texts of sizes are one: what the scan has read, and what it reads.
-use Rattle.std.proofs.Common.{◌≡◌, ℕ, zero, suc, ◌+◌, ◌-◌, ◌*◌, ◌^◌, ◌<◌, ◌≤◌, inl, inr, List, [], ◌∷◌, ◌++◌, length, replicate, sym, refl}
+-- What is known of the text that led to a state of the state machine of sizes, and that each step adds its character to
+-- it.
+use Rattle.std.proofs.Common.{◌≡◌, ℕ, zero, suc, ◌+◌, ◌-◌, ◌*◌, ◌^◌, ◌<◌, ◌≤◌, inl, inr, List, [], ◌∷◌, ◌++◌, length}
+use Rattle.std.proofs.Common.{replicate, sym, refl}
 use Rattle.std.proofs.Common.{ap, subst, ◌∙◌, arith, append_assoc, append-nil, length-append}
 use Rattle.std.specs.Char.{digit_value}
 use Rattle.std.specs.Str.Parse.{IsNumeral, digits_value}
@@ -11,13 +13,13 @@ use Rattle.byte_unit_base.specs.UnitScan.{start as unit_start}
 use Rattle.byte_unit_base.specs.SizeScan.{precise}
 use Rattle.byte_unit_base.specs.declared.unit.scan.UnitScan.{UnitScan}
 use Rattle.byte_unit_base.specs.declared.read.scan.SizeScan.{SizeScan}
-use Rattle.byte_unit_base.specs.declared.read.scan.SizeScan.TheVariants.{Beginning, Whole, Point, Fraction, Gap, Unit as UnitAt}
+use Rattle.byte_unit_base.specs.declared.read.scan.SizeScan.TheVariants.{Beginning, Whole, Point, Fraction, Gap}
+use Rattle.byte_unit_base.specs.declared.read.scan.SizeScan.TheVariants.{Unit as UnitAt}
 use Rattle.byte_unit_base.proofs.UnitReached.{Reached, Reached-step, Reached-start}
 use Rattle.byte_unit_base.proofs.SizeSteps.{UnitStep, AfterNumber, StepOf}
 use Rattle.byte_unit_base.proofs.Lists.{push_last}
 
--- what has been read at a state of the scan
-
+-- the text is a whole part `w`, a point, and `j` digits of value `f`
 pub record FractionReached (w f j : ℕ) (text : List ℕ) : Type 0 where
   pub whole : List ℕ
   pub fraction : List ℕ
@@ -28,6 +30,7 @@ pub record FractionReached (w f j : ℕ) (text : List ℕ) : Type 0 where
   pub length_is : length fraction ≡ j
   pub few : j ≤ places_of_decimal
 
+-- the text is the number `n`, scaled by 10^28, and at least one space
 pub record GapReached (n : ℕ) (text : List ℕ) : Type 0 where
   pub number_part : List ℕ
   pub spaces : ℕ
@@ -35,6 +38,7 @@ pub record GapReached (n : ℕ) (text : List ℕ) : Type 0 where
   pub text_is : text ≡ number_part ++ replicate spaces 32
   pub number_is : IsNumberText current number_part n
 
+-- the text is the number `n`, scaled by 10^28, any number of spaces, and what led the state machine of units to `s`
 pub record UnitReached (n : ℕ) (s : UnitScan) (text : List ℕ) : Type 0 where
   pub number_part : List ℕ
   pub spaces : ℕ
@@ -43,6 +47,7 @@ pub record UnitReached (n : ℕ) (s : UnitScan) (text : List ℕ) : Type 0 where
   pub number_is : IsNumberText current number_part n
   pub reached : Reached s unit_part
 
+-- what is known of the text that led to a state; that the state machine accepts the inputs of the grammar rests on it
 abbrev pub SizeReached : SizeScan → List ℕ → Type 0
 SizeReached Beginning text = text ≡ []
 SizeReached (Whole w) text = IsWholePart current text w
@@ -51,6 +56,7 @@ SizeReached (Fraction w f j) text = FractionReached w f j text
 SizeReached (Gap n) text = GapReached n text
 SizeReached (UnitAt n s) text = (r : UnitReached n s text) × (0 < length r.unit_part)
 
+-- the text of a whole part, a point and a fraction is their number
 pub fraction_number : (w f j : ℕ) (text : List ℕ) → FractionReached w f j text → IsPrecise current text (precise w f j)
 fraction_number w f j text r =
     record {
@@ -91,7 +97,8 @@ unit_grows n c s t text r k =
     } in
     subst (λ x. SizeReached x (text ++ c ∷ [])) k.2 (grown, omega (arith, length-append r.unit_part (c ∷ [])))
 
-number_grows : (n c : ℕ) (t : SizeScan) (text : List ℕ) → IsNumberText current text n → AfterNumber n c t → SizeReached t (text ++ c ∷ [])
+number_grows : (n c : ℕ) (t : SizeScan) (text : List ℕ) → IsNumberText current text n → AfterNumber n c t
+    → SizeReached t (text ++ c ∷ [])
 number_grows n c t text h (inl k) =
     subst (λ x. SizeReached x (text ++ c ∷ [])) k.1 (record {
       number_part = text;
@@ -110,14 +117,16 @@ number_grows n c t text h (inr k) =
       reached = Reached-start;
     }) k
 
-gap_grows : (n c : ℕ) (t : SizeScan) (text : List ℕ) → GapReached n text → AfterNumber n c t → SizeReached t (text ++ c ∷ [])
+gap_grows : (n c : ℕ) (t : SizeScan) (text : List ℕ) → GapReached n text → AfterNumber n c t
+    → SizeReached t (text ++ c ∷ [])
 gap_grows n c t text r (inl k) =
     subst (λ x. SizeReached x (text ++ c ∷ [])) k.1 (record {
       number_part = r.number_part;
       spaces = suc r.spaces;
       some = omega arith;
       text_is = push_last text r.number_part (replicate r.spaces 32) c r.text_is
-          ∙ (ap (λ x. r.number_part ++ (replicate r.spaces 32 ++ x ∷ [])) k.0 ∙ ap (λ g. r.number_part ++ g) (replicate_push r.spaces 32));
+          ∙ (ap (λ x. r.number_part ++ (replicate r.spaces 32 ++ x ∷ [])) k.0
+          ∙ ap (λ g. r.number_part ++ g) (replicate_push r.spaces 32));
       number_is = r.number_is;
     })
 gap_grows n c t text r (inr k) =
@@ -136,7 +145,9 @@ one_digit c = omega arith
 digits_push_is : (text : List ℕ) (c : ℕ) → IsNumeral 10 text → digit_value c < 10 → IsNumeral 10 (text ++ c ∷ [])
 digits_push_is text c h k = (omega (arith, length-append text (c ∷ [])), digits_push 10 text c h.1 k)
 
-pub SizeReached-step : (s t : SizeScan) (c : ℕ) (text : List ℕ) → StepOf s c t → SizeReached s text → SizeReached t (text ++ c ∷ [])
+-- if a step leads from a state to the next, what is known of the text holds with its character added
+pub SizeReached-step : (s t : SizeScan) (c : ℕ) (text : List ℕ) → StepOf s c t → SizeReached s text
+    → SizeReached t (text ++ c ∷ [])
 SizeReached-step Beginning t c text k r =
     subst (λ x. SizeReached x (text ++ c ∷ [])) k.1
     (subst (λ x. IsWholePart current (x ++ c ∷ []) (digit_value c)) (sym r)
@@ -145,7 +156,11 @@ SizeReached-step (Whole w) t c text (inl k) r =
     subst (λ x. SizeReached x (text ++ c ∷ [])) k.2
     (digits_push_is text c r.0 k.0, ap (λ x. x * 10 + digit_value c) r.1 ∙ sym (digits_value_push 10 text c), k.1)
 SizeReached-step (Whole w) t c text (inr (inl k)) r =
-    subst (λ x. SizeReached x (text ++ c ∷ [])) k.1 (record { whole = text; text_is = ap (λ x. text ++ x ∷ []) k.0; whole_is = r })
+    subst (λ x. SizeReached x (text ++ c ∷ [])) k.1 (record {
+      whole = text;
+      text_is = ap (λ x. text ++ x ∷ []) k.0;
+      whole_is = r;
+    })
 SizeReached-step (Whole w) t c text (inr (inr k)) r = number_grows (w * one) c t text (inl (w, r, refl)) k
 SizeReached-step (Point w) t c text k r =
     subst (λ x. SizeReached x (text ++ c ∷ [])) k.1 (record {
@@ -169,6 +184,7 @@ SizeReached-step (Fraction w f j) t c text (inl k) r =
       length_is = omega (arith, length-append r.fraction (c ∷ []), r.length_is);
       few = omega (arith, k.1);
     })
-SizeReached-step (Fraction w f j) t c text (inr k) r = number_grows (precise w f j) c t text (inr (fraction_number w f j text r)) k
+SizeReached-step (Fraction w f j) t c text (inr k) r =
+    number_grows (precise w f j) c t text (inr (fraction_number w f j text r)) k
 SizeReached-step (Gap n) t c text k r = gap_grows n c t text r k
 SizeReached-step (UnitAt n s) t c text k r = unit_grows n c s t text r.0 k

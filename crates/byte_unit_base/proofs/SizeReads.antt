@@ -1,6 +1,7 @@
--- The reader of a number and a unit: its scan is that of their texts, so it answers what a text states, and else the first
--- fault.
-use Rattle.std.proofs.Common.{◌≡◌, ◌≢◌, ℕ, ◌<◌, Bool, true, false, cond, ◌*◌, inl, inr, List, [], ◌∷◌, ◌++◌, Option, Some, None, Result, Ok}
+-- The parser of a number and a unit: its state machine accepts exactly the inputs of the grammar, so it returns the
+-- number and unit of an input, or its error.
+use Rattle.std.proofs.Common.{◌≡◌, ◌≢◌, ℕ, ◌<◌, Bool, true, false, cond, ◌*◌, inl, inr, List, [], ◌∷◌, ◌++◌, Option}
+use Rattle.std.proofs.Common.{Some, None, Result, Ok}
 use Rattle.std.proofs.Common.{Err, IfErr, length, replicate, sym, refl, ap, ◌∙◌, arith, append-nil}
 use Rattle.std.specs.Prelude.{IsOkAnd}
 use Rattle.byte_unit_math.specs.Bounds.{one}
@@ -11,14 +12,16 @@ use Rattle.byte_unit_base.specs.Spelling.{Flags, Spells}
 use Rattle.byte_unit_base.specs.Number.{IsNumberText}
 use Rattle.byte_unit_base.specs.SizeText.{trimmed, IsSizeText}
 use Rattle.byte_unit_base.specs.Readings.{IsNumberReading}
-use Rattle.byte_unit_base.specs.Front.{Place, beginning, in_whole, after_point, in_fraction, after_prefix, after_bi, IsUnitFront}
+use Rattle.byte_unit_base.specs.Front.{Place, beginning, in_whole, after_point, in_fraction, after_prefix, after_bi}
+use Rattle.byte_unit_base.specs.Front.{IsUnitFront}
 use Rattle.byte_unit_base.specs.Front.{IsSizedFront, IsSizeFront}
 use Rattle.byte_unit_base.specs.Fault.{Fault, IsFaultAfter, fault_at, fault_at_end, no_unit, too_long, exceeded}
 use Rattle.byte_unit_base.specs.Errors.{size_fault}
 use Rattle.byte_unit_base.specs.ReaderLaws.{States, SizeTextsHaveOneAnswer, SizeFrontsAreBeginnings}
 use Rattle.byte_unit_base.specs.Scan.{read}
 use Rattle.byte_unit_base.specs.UnitScan.{unit_step, unit_of, unit_at_end, word_place, scan_of, start as unit_start}
-use Rattle.byte_unit_base.specs.SizeScan.{is_digit, size_step, size_scan, size_seen, stated, size_at_end, size_place, sized, precise}
+use Rattle.byte_unit_base.specs.SizeScan.{is_digit, size_step, size_scan, size_seen, stated, size_at_end, size_place}
+use Rattle.byte_unit_base.specs.SizeScan.{sized, precise}
 use Rattle.byte_unit_base.specs.declared.unit.Unit.{Unit as UnitName}
 use Rattle.byte_unit_base.specs.declared.errors.ParseError.{ParseError}
 use Rattle.byte_unit_base.specs.declared.unit.scan.UnitScan.{UnitScan}
@@ -27,17 +30,20 @@ use Rattle.byte_unit_base.specs.declared.unit.scan.Multiple.TheVariants.{One, De
 use Rattle.byte_unit_base.specs.declared.unit.scan.Word.{Word}
 use Rattle.byte_unit_base.specs.declared.unit.scan.Word.TheVariants.{Empty, Bi}
 use Rattle.byte_unit_base.specs.declared.read.scan.SizeScan.{SizeScan}
-use Rattle.byte_unit_base.specs.declared.read.scan.SizeScan.TheVariants.{Beginning, Whole, Point, Fraction, Gap, Unit as UnitAt}
-use Rattle.byte_unit_base.proofs.Scans.{EndsIn, IsScanOf, read_found, read_meant, read_refused, reads_meaning, one_answer, fronts_are_beginnings}
+use Rattle.byte_unit_base.specs.declared.read.scan.SizeScan.TheVariants.{Beginning, Whole, Point, Fraction, Gap}
+use Rattle.byte_unit_base.specs.declared.read.scan.SizeScan.TheVariants.{Unit as UnitAt}
+use Rattle.byte_unit_base.proofs.Scans.{EndsIn, IsScanOf, read_found, read_meant, read_refused, reads_meaning}
+use Rattle.byte_unit_base.proofs.Scans.{one_answer, fronts_are_beginnings}
 use Rattle.byte_unit_base.proofs.UnitReached.{Reached-start, Spells-reached}
 use Rattle.byte_unit_base.proofs.UnitReads.{unit_front, unit_ends}
-use Rattle.byte_unit_base.proofs.SizeSteps.{step_is}
+use Rattle.byte_unit_base.proofs.SizeSteps.{step_cases}
 use Rattle.byte_unit_base.proofs.SizeReached.{SizeReached, SizeReached-step, UnitReached, fraction_number}
 use Rattle.byte_unit_base.proofs.SizeRuns.{size_text_runs, size_front_runs}
 
--- what has been read is a front
+-- the text that led to a state is a viable prefix
 
-front_in_unit : (n : ℕ) (s : UnitScan) (place : Place) (text : List ℕ) (r : UnitReached n s text) → IsUnitFront current place r.unit_part
+front_in_unit : (n : ℕ) (s : UnitScan) (place : Place) (text : List ℕ) (r : UnitReached n s text)
+    → IsUnitFront current place r.unit_part
     → IsSizedFront current place text
 front_in_unit n s place text r h =
     record {
@@ -50,14 +56,18 @@ front_in_unit n s place text r h =
       unit_is = h;
     }
 
-unit_at : (n : ℕ) (m : Multiple) (w : Word) (text : List ℕ) (r : UnitReached n (scan_of m w) text) → 0 < length r.unit_part
+size_front_in_unit : (n : ℕ) (m : Multiple) (w : Word) (text : List ℕ) (r : UnitReached n (scan_of m w) text)
+    → 0 < length r.unit_part
     → IsSizeFront current (word_place m w) text
-unit_at n One Empty text r some =
-    let none : r.unit_part ≡ [] = r.reached.text_is ∙ (ap (λ x. x ++ r.reached.word) r.reached.front_is ∙ r.reached.word_is) in
+size_front_in_unit n One Empty text r some =
+    let none : r.unit_part ≡ [] = r.reached.text_is
+    ∙ (ap (λ x. x ++ r.reached.word) r.reached.front_is ∙ r.reached.word_is) in
     absurd (omega (arith, some, ap length none))
-unit_at n (Decimal p) Empty text r some = front_in_unit n _ after_prefix text r (unit_front (Decimal p) Empty r.unit_part r.reached)
-unit_at n (Binary p) Empty text r some = front_in_unit n _ after_prefix text r (unit_front (Binary p) Empty r.unit_part r.reached)
-unit_at n m w text r some = front_in_unit n _ (word_place m w) text r (unit_front m w r.unit_part r.reached)
+size_front_in_unit n (Decimal p) Empty text r some =
+    front_in_unit n _ after_prefix text r (unit_front (Decimal p) Empty r.unit_part r.reached)
+size_front_in_unit n (Binary p) Empty text r some =
+    front_in_unit n _ after_prefix text r (unit_front (Binary p) Empty r.unit_part r.reached)
+size_front_in_unit n m w text r some = front_in_unit n _ (word_place m w) text r (unit_front m w r.unit_part r.reached)
 
 size_front : (s : SizeScan) (text : List ℕ) → SizeReached s text → IsSizeFront current (size_place s) text
 size_front Beginning text r = r
@@ -76,11 +86,12 @@ size_front (Gap n) text r = (
   },
   r.some,
 )
-size_front (UnitAt n s) text r = unit_at n s.multiple s.word text r.0 r.1
+size_front (UnitAt n s) text r = size_front_in_unit n s.multiple s.word text r.0 r.1
 
--- what a text that ends there is read as
+-- the result for an input that ends in a state
 
-number_at_end : (flags : Flags) (n : ℕ) (text number : List ℕ) (k : ℕ) → text ≡ number ++ replicate k 32 → IsNumberText current number n
+number_at_end : (flags : Flags) (n : ℕ) (text number : List ℕ) (k : ℕ) → text ≡ number ++ replicate k 32
+    → IsNumberText current number n
     → EndsIn (States flags text) None (sized n (unit_of flags unit_start))
 number_at_end flags n text number k e h = (
   (n, _),
@@ -95,7 +106,7 @@ number_at_end flags n text number k e h = (
   refl,
 )
 
--- with its number, a unit ends as it does alone
+-- an input that ends after a number and a unit has the result that the unit has alone, with the number
 unit_at_end_of : (flags : Flags) (n : ℕ) (text unit_part : List ℕ)
     → ((unit : Shape) → Spells current flags unit_part unit → IsSizeText current flags text n unit)
     → (fault : Option Fault) (unit : Option Shape) → EndsIn (Spells current flags unit_part) fault (unit_at_end unit)
@@ -125,10 +136,14 @@ size_ends flags (UnitAt n s) text r =
       number_is = u.number_is;
       unit_is = h;
     })
-    (fault_at_end (word_place s.multiple s.word)) (unit_of flags s) (unit_ends flags s.multiple s.word u.unit_part u.reached)
+    (fault_at_end (word_place s.multiple s.word)) (unit_of flags s)
+    (unit_ends flags s.multiple s.word u.unit_part u.reached)
 
--- a digit makes a number at the beginning and behind the point, a t a unit behind `bi`, and nothing is needed elsewhere
+-- a digit completes a number at the beginning and after the point, a `t` completes `bi`, and nothing is missing
+-- elsewhere
 
+-- the input can be completed: from this state some rest, or none, gives a number and a unit. That viable prefixes are
+-- exactly the beginnings of valid inputs rests on it
 abbrev GoesOn : Flags → SizeScan → Type 0
 GoesOn flags s = (rest : List ℕ) × (found : ℕ × Shape) × (read (size_scan flags) s rest ≡ Ok found)
 
@@ -146,10 +161,12 @@ size_goes_on flags (Fraction w f j) = ([], (_, _), refl)
 size_goes_on flags (Gap n) = ([], (n, _), refl)
 size_goes_on flags (UnitAt n s) = goes_on_in_unit flags n s.multiple s.word
 
+-- the state machine of sizes accepts exactly the numbers and units of the grammar, and its states are those after the
+-- viable prefixes
 pub size_scan_is : (flags : Flags) → IsScanOf (size_scan flags) SizeReached (IsSizeFront current) (States flags)
 size_scan_is flags = record {
   starts = refl;
-  steps = λ s t c text e r. SizeReached-step s t c text (step_is s t c e) r;
+  steps = λ s t c text e r. SizeReached-step s t c text (step_cases s t c e) r;
   front = size_front;
   front_read = size_front_runs flags;
   ends = size_ends flags;
@@ -157,7 +174,7 @@ size_scan_is flags = record {
   goes_on = size_goes_on flags;
 }
 
--- no place has the fault of a size that is too large
+-- no parser state gives the error of a size that is too large
 digit_bounds : (t : Bool) (c n : ℕ) → cond t too_long (no_unit current c) ≢ exceeded n
 digit_bounds true c n = λ e. cc
 digit_bounds false c n = λ e. cc
@@ -173,7 +190,8 @@ no_bounds_at_end after_point n = λ e. cc
 no_bounds_at_end after_bi n = λ e. cc
 no_bounds_at_end _ n = λ e. cc
 
-no_bounds_after : (flags : Flags) (place : Place) (rest : List ℕ) (fault : Fault) (n : ℕ) → IsFaultAfter current flags place rest fault
+no_bounds_after : (flags : Flags) (place : Place) (rest : List ℕ) (fault : Fault) (n : ℕ)
+    → IsFaultAfter current flags place rest fault
     → fault ≢ exceeded n
 no_bounds_after flags place [] fault n h = λ e. no_bounds_at_end place n (h ∙ ap Some e)
 no_bounds_after flags place (c ∷ cs) fault n h = λ e. no_bounds_at flags place c n (sym h ∙ e)
@@ -186,30 +204,35 @@ read_no_bounds flags text (Err x) e = λ n.
     let f = read_refused (size_scan_is flags) stated size_fault text (Err x) e in
     no_bounds_after flags f.place f.rest (size_fault x) n f.fault_is
 
--- the clauses of the reader's callers, and its laws
+-- what the contracts of the parsers say, and the laws
 
-parts_meant : (r : Result (ℕ × UnitName) ParseError) (n : ℕ) (unit : Shape) → IsOkAnd r (λ found. stated found ≡ (n, unit))
+parts_meant : (r : Result (ℕ × UnitName) ParseError) (n : ℕ) (unit : Shape)
+    → IsOkAnd r (λ found. stated found ≡ (n, unit))
     → IsOkAnd r (λ found. (found.0 ≡ n) × (shape_of found.1 ≡ unit))
 parts_meant (Ok found) n unit e = (ap (λ x. x.0) e, ap (λ x. x.1) e)
 parts_meant (Err error) n unit e = absurd e
 
+-- a parser that returns the result of the state machine returns the number and unit of the input, or its error
 pub number_reading : (flags : Flags) (bytes : List ℕ) (r : Result (ℕ × UnitName) ParseError)
     → size_seen r ≡ read (size_scan flags) Beginning (trimmed bytes)
     → IsNumberReading flags bytes r
 number_reading flags bytes r e = record {
   found = read_found (size_scan_is flags) stated size_fault (trimmed bytes) r e;
-  reads = λ n unit h. parts_meant r n unit (read_meant (size_scan_is flags) stated size_fault (trimmed bytes) r (n, unit) e h);
+  reads = λ n unit h. parts_meant r n unit
+      (read_meant (size_scan_is flags) stated size_fault (trimmed bytes) r (n, unit) e h);
   fault = read_refused (size_scan_is flags) stated size_fault (trimmed bytes) r e;
   no_bounds = read_no_bounds flags (trimmed bytes) r e;
 }
 
+-- each input is exactly one number and unit, or has exactly one error, and not both
 pub size_texts_have_one_answer : SizeTextsHaveOneAnswer
 size_texts_have_one_answer flags text = one_answer (size_scan_is flags) text
 
+-- the viable prefixes of sizes are exactly the beginnings of the inputs in the grammar
 pub size_fronts_are_beginnings : SizeFrontsAreBeginnings
 size_fronts_are_beginnings flags text = fronts_are_beginnings (size_scan_is flags) text
 
--- what a text states may be answered
+-- a parser that returns the number and unit of the input is right, however it found them
 pub stated_reading : (flags : Flags) (bytes : List ℕ) (found : ℕ × UnitName)
     → IsSizeText current flags (trimmed bytes) found.0 (shape_of found.1)
     → IsNumberReading flags bytes (Ok found)

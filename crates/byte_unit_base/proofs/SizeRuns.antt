@@ -1,5 +1,6 @@
--- The scan goes over each text of a size and each of their fronts to its end.
-use Rattle.std.proofs.Common.{◌≡◌, ◌≢◌, ℕ, zero, suc, ◌+◌, ◌-◌, ◌*◌, ◌^◌, ◌<◌, ◌≤◌, inl, inr, List, [], ◌∷◌, ◌++◌, Option, Some, None, Ok}
+-- The state machine of sizes reads each number and unit, and each of their viable prefixes, to its end.
+use Rattle.std.proofs.Common.{◌≡◌, ◌≢◌, ℕ, zero, suc, ◌+◌, ◌-◌, ◌*◌, ◌^◌, ◌<◌, ◌≤◌, inl, inr, List, [], ◌∷◌, ◌++◌}
+use Rattle.std.proofs.Common.{Option, Some, None, Ok}
 use Rattle.std.proofs.Common.{length, replicate, sym, refl, ap, ◌∙◌, arith, true, false, cond, eqb, ltb, append-nil}
 use Rattle.std.specs.Option.{option_map}
 use Rattle.std.specs.Char.{digit_value, to_ascii_uppercase}
@@ -11,19 +12,23 @@ use Rattle.byte_unit_base.specs.Edition.{current}
 use Rattle.byte_unit_base.specs.Spelling.{Flags}
 use Rattle.byte_unit_base.specs.Number.{IsWholePart, IsPointed, IsPrecise, IsNumberText}
 use Rattle.byte_unit_base.specs.SizeText.{space, IsSizeText}
-use Rattle.byte_unit_base.specs.Front.{Place, beginning, in_whole, after_point, in_fraction, before_unit, after_prefix, after_b, after_bi}
+use Rattle.byte_unit_base.specs.Front.{Place, beginning, in_whole, after_point, in_fraction, before_unit, after_prefix}
+use Rattle.byte_unit_base.specs.Front.{after_b, after_bi}
 use Rattle.byte_unit_base.specs.Front.{after_bit, after_bits, IsSizedFront, IsSizeFront}
 use Rattle.byte_unit_base.specs.Scan.{run}
-use Rattle.byte_unit_base.specs.UnitScan.{unit_step, scan_of, place_of, unit_of, prefix_at, word_step, or_word, start as unit_start}
+use Rattle.byte_unit_base.specs.UnitScan.{unit_step, scan_of, place_of, unit_of, prefix_at, word_step, or_word}
+use Rattle.byte_unit_base.specs.UnitScan.{start as unit_start}
 use Rattle.byte_unit_base.specs.SizeScan.{size_step, size_scan, size_at_end, size_place, sized, precise}
 use Rattle.byte_unit_base.specs.declared.unit.scan.Prefix.{Prefix}
-use Rattle.byte_unit_base.specs.declared.unit.scan.Prefix.TheVariants.{Kilo, Mega, Giga, Tera, Peta, Exa, Zetta, Yotta, Ronna}
+use Rattle.byte_unit_base.specs.declared.unit.scan.Prefix.TheVariants.{Kilo, Mega, Giga, Tera, Peta, Exa, Zetta, Yotta}
+use Rattle.byte_unit_base.specs.declared.unit.scan.Prefix.TheVariants.{Ronna}
 use Rattle.byte_unit_base.specs.declared.unit.scan.UnitScan.{UnitScan}
 use Rattle.byte_unit_base.specs.declared.unit.scan.Multiple.TheVariants.{One, Decimal}
 use Rattle.byte_unit_base.specs.declared.unit.scan.Word.{Word}
 use Rattle.byte_unit_base.specs.declared.unit.scan.Word.TheVariants.{Empty, UpperB, LowerB}
 use Rattle.byte_unit_base.specs.declared.read.scan.SizeScan.{SizeScan}
-use Rattle.byte_unit_base.specs.declared.read.scan.SizeScan.TheVariants.{Beginning, Whole, Point, Fraction, Gap, Unit as UnitAt}
+use Rattle.byte_unit_base.specs.declared.read.scan.SizeScan.TheVariants.{Beginning, Whole, Point, Fraction, Gap}
+use Rattle.byte_unit_base.specs.declared.read.scan.SizeScan.TheVariants.{Unit as UnitAt}
 use Rattle.byte_unit_base.proofs.Options.{some_passed}
 use Rattle.byte_unit_base.proofs.UnitReached.{prefix_found}
 use Rattle.byte_unit_base.proofs.Scans.{run_through, run_step, run_keeps, IsScanned}
@@ -42,6 +47,7 @@ step_whole w c h k =
     let e : ltb (digit_value c) 10 ≡ true = grind (arith, nat_tests) in
     let f : ltb (w * 10 + digit_value c) whole_limit ≡ true = grind (arith, nat_tests) in rw (e, f) refl
 
+-- the point follows a whole part
 pub step_point : (w : ℕ) → size_step (Whole w) 46 ≡ Some (Point w)
 unfolding size_step
 step_point w = refl
@@ -69,6 +75,7 @@ run_digits (c ∷ cs) v h k =
     run_step size_step (Whole v) (Whole (v * 10 + digit_value c)) c cs (step_whole v c h.0 small)
     ∙ run_digits cs (v * 10 + digit_value c) h.1 k
 
+-- after the digits of a whole part, the state is that of this whole part
 pub run_whole : (text : List ℕ) (w : ℕ) → IsWholePart current text w → run size_step Beginning text ≡ Some (Whole w)
 run_whole [] w h = absurd (omega (arith, h.0.0))
 run_whole (c ∷ cs) w h =
@@ -78,12 +85,14 @@ run_whole (c ∷ cs) w h =
     ∙ (run_digits cs (digit_value c) h.0.1.1 (omega (arith, value, h.2)) ∙ ap (λ v. Some (Whole v)) value)
 
 run_more_places : (ds : List ℕ) (w f j : ℕ) → AllDigits 10 ds → j + length ds ≤ places_of_decimal
-    → (k : ℕ) × (run size_step (Fraction w f j) ds ≡ Some (Fraction w (digits_value_after 10 f ds) k)) × (k ≡ j + length ds)
+    → (k : ℕ) × (run size_step (Fraction w f j) ds ≡ Some (Fraction w (digits_value_after 10 f ds) k))
+    × (k ≡ j + length ds)
 run_more_places [] w f j h k = (j, refl, omega arith)
 run_more_places (c ∷ cs) w f j h k =
     let r = run_more_places cs w (f * 10 + digit_value c) (j + 1) h.1 (omega arith) in (
       r.0,
-      run_step size_step (Fraction w f j) (Fraction w (f * 10 + digit_value c) (j + 1)) c cs (step_fraction w f j c h.0 (omega arith))
+      run_step size_step (Fraction w f j) (Fraction w (f * 10 + digit_value c) (j + 1)) c cs
+          (step_fraction w f j c h.0 (omega arith))
           ∙ r.1,
       omega (arith, r.2),
     )
@@ -94,6 +103,7 @@ run_pointed text w h =
     ∙ (run_through size_step Beginning (Whole w) h.whole (46 ∷ []) (run_whole h.whole w h.whole_is)
     ∙ run_step size_step (Whole w) (Point w) 46 [] (step_point w))
 
+-- after a point and at most 28 digits, the state is that of these digits as a fraction
 pub run_places : (text : List ℕ) (w : ℕ) → IsNumeral 10 text → length text ≤ places_of_decimal
     → (k : ℕ) × (run size_step (Point w) text ≡ Some (Fraction w (digits_value 10 text) k)) × (k ≡ length text)
 run_places [] w h l = absurd (omega (arith, h.0))
@@ -106,20 +116,21 @@ run_places (c ∷ cs) w h l =
       omega (arith, r.2),
     )
 
--- a number, spaces, and a unit
-
+-- the state is after the number `n`, scaled by 10^28, or after spaces that follow it
 abbrev pub AtNumber : ℕ → SizeScan → Type 0
 AtNumber n (Whole w) = w * one ≡ n
 AtNumber n (Fraction w f j) = precise w f j ≡ n
 AtNumber n (Gap m) = m ≡ n
 AtNumber n _ = ⊥
 
-pub record RunsTo (P : SizeScan → Type 0) (s : SizeScan) (text : List ℕ) : Type 0 where
+-- from the state `s`, the state after the text exists and has the property
+pub record RunsTo (Holds : SizeScan → Type 0) (s : SizeScan) (text : List ℕ) : Type 0 where
   pub state : SizeScan
   pub run : run size_step s text ≡ Some state
-  pub holds : P state
+  pub holds : Holds state
 
-run_precise : (text : List ℕ) (n : ℕ) → IsPrecise current text n → RunsTo (λ s. AtNumber n s × (size_place s ≡ in_fraction)) Beginning text
+run_precise : (text : List ℕ) (n : ℕ) → IsPrecise current text n
+    → RunsTo (λ s. AtNumber n s × (size_place s ≡ in_fraction)) Beginning text
 run_precise text n h =
     let p = run_places h.fraction h.value h.fraction_is.0 h.fraction_is.1 in
     let whole = run_whole h.whole h.value h.whole_is in
@@ -161,20 +172,23 @@ word_bounds c u None e h = absurd (let k : ⊥ = cc in k)
 word_bounds c u (Some w) e h = b_bounds c w e
 
 first_bounds : (c : ℕ) (u : UnitScan) (o : Option Prefix) → prefix_at c ≡ o
-    → or_word One (option_map Decimal o) (word_step Empty c) ≡ Some u → (65 ≤ to_ascii_uppercase c) × (to_ascii_uppercase c ≤ 90)
+    → or_word One (option_map Decimal o) (word_step Empty c) ≡ Some u
+    → (65 ≤ to_ascii_uppercase c) × (to_ascii_uppercase c ≤ 90)
 first_bounds c u None e h = word_bounds c u (word_step Empty c) refl h
 first_bounds c u (Some p) e h = letter_bounds c p e
 
-unit_bounds : (c : ℕ) (u : UnitScan) → unit_step unit_start c ≡ Some u → (65 ≤ to_ascii_uppercase c) × (to_ascii_uppercase c ≤ 90)
+unit_bounds : (c : ℕ) (u : UnitScan) → unit_step unit_start c ≡ Some u
+    → (65 ≤ to_ascii_uppercase c) × (to_ascii_uppercase c ≤ 90)
 unfolding unit_step
 unit_bounds c u h = first_bounds c u (prefix_at c) refl h
 
-no_digit : (c : ℕ) → 65 ≤ to_ascii_uppercase c → to_ascii_uppercase c ≤ 90 → 10 ≤ digit_value c
-no_digit c h k = grind (arith, nat_tests)
+letter_is_no_digit : (c : ℕ) → 65 ≤ to_ascii_uppercase c → to_ascii_uppercase c ≤ 90 → 10 ≤ digit_value c
+letter_is_no_digit c h k = grind (arith, nat_tests)
 
 from_upper : (c : ℕ) → 65 ≤ to_ascii_uppercase c → 65 ≤ c
 from_upper c h = grind (arith, nat_tests)
 
+-- the character is not a digit, a point or a space
 pub record NoNumber (c : ℕ) : Type 0 where
   pub digit : ltb (digit_value c) 10 ≡ false
   pub point : eqb c 46 ≡ false
@@ -183,11 +197,11 @@ pub record NoNumber (c : ℕ) : Type 0 where
 no_number : (c : ℕ) (u : UnitScan) → unit_step unit_start c ≡ Some u → NoNumber c
 no_number c u h =
     let k = unit_bounds c u h in
-    let d = no_digit c k.0 k.1 in
+    let d = letter_is_no_digit c k.0 k.1 in
     let l = from_upper c k.0 in
     record { digit = grind (arith, nat_tests); point = grind (arith, nat_tests); space = grind (arith, nat_tests) }
 
--- from a number on
+-- the steps after a number
 
 step_space : (n : ℕ) (s : SizeScan) → AtNumber n s → size_step s 32 ≡ Some (Gap n)
 unfolding size_step
@@ -198,16 +212,20 @@ step_space n Beginning h = absurd h
 step_space n (Point w) h = absurd h
 step_space n (UnitAt m s) h = absurd h
 
-step_unit : (n c : ℕ) (s : SizeScan) (u : UnitScan) → AtNumber n s → unit_step unit_start c ≡ Some u → size_step s c ≡ Some (UnitAt n u)
+step_unit : (n c : ℕ) (s : SizeScan) (u : UnitScan) → AtNumber n s → unit_step unit_start c ≡ Some u
+    → size_step s c ≡ Some (UnitAt n u)
 unfolding size_step
-step_unit n c (Whole w) u h e = let k = no_number c u e in rw (k.digit, k.point, k.space, e) (ap (λ x. Some (UnitAt x u)) h)
-step_unit n c (Fraction w f j) u h e = let k = no_number c u e in rw (k.digit, k.space, e) (ap (λ x. Some (UnitAt x u)) h)
+step_unit n c (Whole w) u h e =
+    let k = no_number c u e in rw (k.digit, k.point, k.space, e) (ap (λ x. Some (UnitAt x u)) h)
+step_unit n c (Fraction w f j) u h e =
+    let k = no_number c u e in rw (k.digit, k.space, e) (ap (λ x. Some (UnitAt x u)) h)
 step_unit n c (Gap m) u h e = let k = no_number c u e in rw (k.space, e) (ap (λ x. Some (UnitAt x u)) h)
 step_unit n c Beginning u h e = absurd h
 step_unit n c (Point w) u h e = absurd h
 step_unit n c (UnitAt m s) u h e = absurd h
 
-number_end : (flags : Flags) (n : ℕ) (s : SizeScan) → AtNumber n s → size_at_end flags s ≡ sized n (unit_of flags unit_start)
+number_end : (flags : Flags) (n : ℕ) (s : SizeScan) → AtNumber n s
+    → size_at_end flags s ≡ sized n (unit_of flags unit_start)
 number_end flags n (Whole w) h = ap (λ x. sized x (unit_of flags unit_start)) h
 number_end flags n (Fraction w f j) h = ap (λ x. sized x (unit_of flags unit_start)) h
 number_end flags n (Gap m) h = ap (λ x. sized x (unit_of flags unit_start)) h
@@ -215,7 +233,7 @@ number_end flags n Beginning h = absurd h
 number_end flags n (Point w) h = absurd h
 number_end flags n (UnitAt m s) h = absurd h
 
--- a state between a number and a unit
+-- the state is after the number `n` and at least one space
 abbrev pub AtGap : ℕ → SizeScan → Type 0
 AtGap n s = AtNumber n s × (size_place s ≡ before_unit)
 
@@ -233,11 +251,16 @@ run_some_spaces : (n k : ℕ) (s : SizeScan) → 0 < k → AtNumber n s → Runs
 run_some_spaces n zero s some h = absurd (omega (arith, some))
 run_some_spaces n (suc k) s some h =
     let r = run_gap n k in
-    record { state = r.state; run = run_step size_step s (Gap n) space (replicate k space) (step_space n s h) ∙ r.run; holds = r.holds }
+    record {
+      state = r.state;
+      run = run_step size_step s (Gap n) space (replicate k space) (step_space n s h) ∙ r.run;
+      holds = r.holds;
+    }
 
 run_spaces : (n k : ℕ) (s : SizeScan) → AtNumber n s → RunsTo (AtNumber n) s (replicate k space)
 run_spaces n zero s h = record { state = s; run = refl; holds = h }
-run_spaces n (suc k) s h = let r = run_some_spaces n (suc k) s (omega arith) h in record { state = r.state; run = r.run; holds = r.holds.0 }
+run_spaces n (suc k) s h =
+    let r = run_some_spaces n (suc k) s (omega arith) h in record { state = r.state; run = r.run; holds = r.holds.0 }
 
 step_in_unit : (n c : ℕ) (s t : UnitScan) → unit_step s c ≡ Some t → size_step (UnitAt n s) c ≡ Some (UnitAt n t)
 unfolding size_step
@@ -246,13 +269,13 @@ step_in_unit n c s t e = ap (option_map (UnitAt n)) e
 run_in_unit : (n : ℕ) (u : UnitScan) (cs : List ℕ) (s : UnitScan) → run unit_step s cs ≡ Some u
     → run size_step (UnitAt n s) cs ≡ Some (UnitAt n u)
 run_in_unit n u cs s h =
-    let P : UnitScan → List ℕ → Type 0 = λ t text. run size_step (UnitAt n s) text ≡ Some (UnitAt n t) in
-    run_keeps unit_step P
+    let RunsInUnit : UnitScan → List ℕ → Type 0 = λ t text. run size_step (UnitAt n s) text ≡ Some (UnitAt n t) in
+    run_keeps unit_step RunsInUnit
     (λ t v c text e p. run_through size_step (UnitAt n s) (UnitAt n t) text (c ∷ []) p
     ∙ run_step size_step (UnitAt n t) (UnitAt n v) c [] (step_in_unit n c t v e))
     cs [] s u h refl
 
--- a state that ends as a number and this unit, at its place if there is more of it than nothing
+-- the state gives the result of the number `n` and the unit of `u`, and has the parser state of `u` if a unit has begun
 pub record EndsAs (n : ℕ) (u : UnitScan) (t : SizeScan) : Type 0 where
   pub ends : (flags : Flags) → size_at_end flags t ≡ sized n (unit_of flags u)
   pub place : place_of u ≢ before_unit → size_place t ≡ place_of u
@@ -277,14 +300,15 @@ run_unit n u s (c ∷ cs) h k =
       holds = record { ends = λ flags. refl; place = λ moved. refl };
     }
 
--- a number, spaces and what can still become a spelling
+-- the text is the number `n`, any number of spaces, and what a unit begins with
 pub record IsNumbered (n : ℕ) (unit_part text : List ℕ) : Type 0 where
   pub number_part : List ℕ
   pub spaces : ℕ
   pub text_is : text ≡ number_part ++ (replicate spaces space ++ unit_part)
   pub number_is : IsNumberText current number_part n
 
-run_numbered : (n : ℕ) (u : UnitScan) (unit text : List ℕ) → IsNumbered n unit text → run unit_step unit_start unit ≡ Some u
+run_numbered : (n : ℕ) (u : UnitScan) (unit text : List ℕ) → IsNumbered n unit text
+    → run unit_step unit_start unit ≡ Some u
     → RunsTo (EndsAs n u) Beginning text
 run_numbered n u unit text h r =
     let spaces = replicate h.spaces space in
@@ -299,8 +323,7 @@ run_numbered n u unit text h r =
       holds = c.holds;
     }
 
--- a size text is read to its end
-
+-- the state machine reads a number and a unit to its end, and gives them as the result
 pub size_text_runs : (flags : Flags) (text : List ℕ) (n : ℕ) (s : Shape) → IsSizeText current flags text n s
     → RunsTo (λ t. size_at_end flags t ≡ Ok (n, s)) Beginning text
 size_text_runs flags text n s h =
@@ -309,8 +332,6 @@ size_text_runs flags text n s h =
     record { number_part = h.number_part; spaces = h.spaces; text_is = h.text_is; number_is = h.number_is } in
     let r = run_numbered n (scan_of u.multiple u.word) h.unit_part text numbered u.run in
     record { state = r.state; run = r.run; holds = r.holds.ends flags ∙ ap (sized n) u.unit }
-
--- a front is scanned to its end
 
 sized_front : (flags : Flags) (place : Place) (text : List ℕ) → place ≢ before_unit → IsSizedFront current place text
     → IsScanned (size_scan flags) place text
@@ -321,11 +342,20 @@ sized_front flags place text moved h =
     let r = run_numbered h.number u.state h.unit_part text numbered u.run_is in
     record { state = r.state; run_is = r.run; place_is = r.holds.place (λ e. moved (sym u.place_is ∙ e)) ∙ u.place_is }
 
+-- the state machine reads each viable prefix to its end, and has its parser state there
 pub size_front_runs : (flags : Flags) (place : Place) (text : List ℕ) → IsSizeFront current place text
     → IsScanned (size_scan flags) place text
-size_front_runs flags beginning text h = record { state = Beginning; run_is = ap (run size_step Beginning) h; place_is = refl }
+size_front_runs flags beginning text h = record {
+  state = Beginning;
+  run_is = ap (run size_step Beginning) h;
+  place_is = refl;
+}
 size_front_runs flags in_whole text h = record { state = Whole h.0; run_is = run_whole text h.0 h.1; place_is = refl }
-size_front_runs flags after_point text h = record { state = Point h.0; run_is = run_pointed text h.0 h.1; place_is = refl }
+size_front_runs flags after_point text h = record {
+  state = Point h.0;
+  run_is = run_pointed text h.0 h.1;
+  place_is = refl;
+}
 size_front_runs flags in_fraction text h =
     let r = run_precise text h.0 h.1 in record { state = r.state; run_is = r.run; place_is = r.holds.1 }
 size_front_runs flags before_unit text h =
@@ -337,7 +367,8 @@ size_front_runs flags before_unit text h =
     ∙ ap (λ x. f.number_part ++ x) (ap (λ x. spaces ++ x) f.unit_is ∙ append-nil spaces) in
     record {
       state = b.state;
-      run_is = ap (run size_step Beginning) e ∙ (run_through size_step Beginning a.state f.number_part spaces a.run ∙ b.run);
+      run_is = ap (run size_step Beginning) e
+          ∙ (run_through size_step Beginning a.state f.number_part spaces a.run ∙ b.run);
       place_is = b.holds.1;
     }
 size_front_runs flags after_prefix text h = sized_front flags after_prefix text (λ e. cc) h

@@ -1,5 +1,6 @@
--- One step of the scan of a size, by cases, and the scan of a whole text.
-use Rattle.std.proofs.Common.{◌≡◌, ℕ, ◌+◌, ◌*◌, ◌^◌, ◌<◌, ◌⊎◌, inl, inr, ⊎_elim, Some, None, refl, subst, arith, Bool, true, false, cond}
+-- The steps of the state machine of sizes by cases, and that each keeps the invariant of states.
+use Rattle.std.proofs.Common.{◌≡◌, ℕ, ◌+◌, ◌*◌, ◌^◌, ◌<◌, ◌⊎◌, inl, inr, ⊎_elim, Some, None, refl, subst, arith, Bool}
+use Rattle.std.proofs.Common.{true, false, cond}
 use Rattle.std.proofs.Common.{eqb, ltb}
 use Rattle.std.specs.Option.{option_map}
 use Rattle.std.specs.Char.{digit_value}
@@ -11,18 +12,20 @@ use Rattle.byte_unit_base.specs.UnitScan.{unit_step, start as unit_start}
 use Rattle.byte_unit_base.specs.SizeScan.{IsScan, size_step, after_number, precise, is_digit}
 use Rattle.byte_unit_base.specs.declared.unit.scan.UnitScan.{UnitScan}
 use Rattle.byte_unit_base.specs.declared.read.scan.SizeScan.{SizeScan}
-use Rattle.byte_unit_base.specs.declared.read.scan.SizeScan.TheVariants.{Beginning, Whole, Point, Fraction, Gap, Unit as UnitAt}
+use Rattle.byte_unit_base.specs.declared.read.scan.SizeScan.TheVariants.{Beginning, Whole, Point, Fraction, Gap}
+use Rattle.byte_unit_base.specs.declared.read.scan.SizeScan.TheVariants.{Unit as UnitAt}
 use Rattle.byte_unit_base.proofs.Options.{some_mapped}
-use Rattle.byte_unit_base.proofs.UnitReached.{guard_some, is_true}
+use Rattle.byte_unit_base.proofs.UnitReached.{guard_some, eq_if_test_true}
 
--- a step by cases
-
+-- after the number `n`, the character continues the unit `s`
 abbrev pub UnitStep : ℕ → UnitScan → ℕ → SizeScan → Type 0
 UnitStep n s c t = (u : UnitScan) × (unit_step s c ≡ Some u) × (UnitAt n u ≡ t)
 
+-- after the number `n`, the character is a space, or begins a unit
 abbrev pub AfterNumber : ℕ → ℕ → SizeScan → Type 0
 AfterNumber n c t = ((c ≡ 32) × (Gap n ≡ t)) ⊎ UnitStep n unit_start c t
 
+-- the cases in which the character leads from one state to the other
 abbrev pub StepOf : SizeScan → ℕ → SizeScan → Type 0
 StepOf Beginning c t = (digit_value c < 10) × (Whole (digit_value c) ≡ t)
 StepOf (Whole w) c t =
@@ -30,40 +33,43 @@ StepOf (Whole w) c t =
     ⊎ (((c ≡ 46) × (Point w ≡ t)) ⊎ AfterNumber (w * one) c t)
 StepOf (Point w) c t = (digit_value c < 10) × (Fraction w (digit_value c) 1 ≡ t)
 StepOf (Fraction w f j) c t =
-    ((digit_value c < 10) × (j < places_of_decimal) × (Fraction w (f * 10 + digit_value c) (j + 1) ≡ t)) ⊎ AfterNumber (precise w f j) c t
+    ((digit_value c < 10) × (j < places_of_decimal) × (Fraction w (f * 10 + digit_value c) (j + 1) ≡ t))
+    ⊎ AfterNumber (precise w f j) c t
 StepOf (Gap n) c t = AfterNumber n c t
 StepOf (UnitAt n s) c t = UnitStep n s c t
 
-cond_is : {X : Type 0} (t : Bool) (x y z : X) → cond t x y ≡ z → ((t ≡ true) × (x ≡ z)) ⊎ ((t ≡ false) × (y ≡ z))
-cond_is true x y z e = inl (refl, e)
-cond_is false x y z e = inr (refl, e)
+cond_cases : {X : Type 0} (t : Bool) (x y z : X) → cond t x y ≡ z → ((t ≡ true) × (x ≡ z)) ⊎ ((t ≡ false) × (y ≡ z))
+cond_cases true x y z e = inl (refl, e)
+cond_cases false x y z e = inr (refl, e)
 
-after_number_is : (n c : ℕ) (t : SizeScan) → after_number n c ≡ Some t → AfterNumber n c t
-after_number_is n c t e =
-    ⊎_elim (λ h. inl (is_true _ _ h.0, cc)) (λ h. inr (some_mapped (UnitAt n) t (unit_step unit_start c) h.1))
-    (cond_is (eqb c 32) (Some (Gap n)) (option_map (UnitAt n) (unit_step unit_start c)) (Some t) e)
+after_number_cases : (n c : ℕ) (t : SizeScan) → after_number n c ≡ Some t → AfterNumber n c t
+after_number_cases n c t e =
+    ⊎_elim (λ h. inl (eq_if_test_true _ _ h.0, cc)) (λ h. inr (some_mapped (UnitAt n) t (unit_step unit_start c) h.1))
+    (cond_cases (eqb c 32) (Some (Gap n)) (option_map (UnitAt n) (unit_step unit_start c)) (Some t) e)
 
-pub step_is : (s t : SizeScan) (c : ℕ) → size_step s c ≡ Some t → StepOf s c t
+-- if a state has a step for a character, one of its cases holds
+pub step_cases : (s t : SizeScan) (c : ℕ) → size_step s c ≡ Some t → StepOf s c t
 unfolding size_step
-step_is Beginning t c e = let g = guard_some (is_digit c) (Whole (digit_value c)) t e in (ltb-true _ _ g.0, g.1)
-step_is (Whole w) t c e =
-    ⊎_elim (λ h. let g = guard_some (ltb (w * 10 + digit_value c) whole_limit) (Whole (w * 10 + digit_value c)) t h.1 in inl
+step_cases Beginning t c e = let g = guard_some (is_digit c) (Whole (digit_value c)) t e in (ltb-true _ _ g.0, g.1)
+step_cases (Whole w) t c e =
+    ⊎_elim (λ h. let g = guard_some (ltb (w * 10 + digit_value c) whole_limit)
+    (Whole (w * 10 + digit_value c)) t h.1 in inl
     (ltb-true _ _ h.0, ltb-true _ _ g.0, g.1))
-    (λ h. inr (⊎_elim (λ k. inl (is_true _ _ k.0, cc)) (λ k. inr (after_number_is (w * one) c t k.1))
-    (cond_is (eqb c 46) (Some (Point w)) (after_number (w * one) c) (Some t) h.1)))
-    (cond_is (is_digit c) (cond (ltb (w * 10 + digit_value c) whole_limit) (Some (Whole (w * 10 + digit_value c))) None)
+    (λ h. inr (⊎_elim (λ k. inl (eq_if_test_true _ _ k.0, cc)) (λ k. inr (after_number_cases (w * one) c t k.1))
+    (cond_cases (eqb c 46) (Some (Point w)) (after_number (w * one) c) (Some t) h.1)))
+    (cond_cases (is_digit c) (cond (ltb (w * 10 + digit_value c) whole_limit)
+    (Some (Whole (w * 10 + digit_value c))) None)
     (cond (eqb c 46) (Some (Point w)) (after_number (w * one) c)) (Some t) e)
-step_is (Point w) t c e = let g = guard_some (is_digit c) (Fraction w (digit_value c) 1) t e in (ltb-true _ _ g.0, g.1)
-step_is (Fraction w f j) t c e =
+step_cases (Point w) t c e =
+    let g = guard_some (is_digit c) (Fraction w (digit_value c) 1) t e in (ltb-true _ _ g.0, g.1)
+step_cases (Fraction w f j) t c e =
     ⊎_elim (λ h. let g = guard_some (ltb j places_of_decimal) (Fraction w (f * 10 + digit_value c) (j + 1)) t h.1 in inl
     (ltb-true _ _ h.0, ltb-true _ _ g.0, g.1))
-    (λ h. inr (after_number_is (precise w f j) c t h.1))
-    (cond_is (is_digit c) (cond (ltb j places_of_decimal) (Some (Fraction w (f * 10 + digit_value c) (j + 1))) None)
+    (λ h. inr (after_number_cases (precise w f j) c t h.1))
+    (cond_cases (is_digit c) (cond (ltb j places_of_decimal) (Some (Fraction w (f * 10 + digit_value c) (j + 1))) None)
     (after_number (precise w f j) c) (Some t) e)
-step_is (Gap n) t c e = after_number_is n c t e
-step_is (UnitAt n s) t c e = some_mapped (UnitAt n) t (unit_step s c) e
-
--- a step keeps the bounds of a scan
+step_cases (Gap n) t c e = after_number_cases n c t e
+step_cases (UnitAt n s) t c e = some_mapped (UnitAt n) t (unit_step s c) e
 
 number_keeps : (n c : ℕ) (t : SizeScan) → AfterNumber n c t → IsScan t
 number_keeps n c t (inl h) = subst IsScan h.1 tt
@@ -72,13 +78,15 @@ number_keeps n c t (inr h) = subst IsScan h.2 tt
 digits_more : (f d j : ℕ) → f < 10 ^ j → d < 10 → f * 10 + d < 10 ^ (j + 1)
 digits_more f d j h k = let e : 10 ^ (j + 1) ≡ 10 * 10 ^ j = rw add-one (pow-succ' 10 j) in omega (arith, e)
 
+-- a step keeps the invariant of states
 pub step_keeps : (s t : SizeScan) (c : ℕ) → IsScan s → StepOf s c t → IsScan t
 step_keeps Beginning t c h k = subst IsScan k.1 (omega (arith, k.0))
 step_keeps (Whole w) t c h (inl k) = subst IsScan k.2 k.1
 step_keeps (Whole w) t c h (inr (inl k)) = subst IsScan k.1 h
 step_keeps (Whole w) t c h (inr (inr k)) = number_keeps (w * one) c t k
 step_keeps (Point w) t c h k = subst IsScan k.1 (h, omega (arith, k.0), omega arith)
-step_keeps (Fraction w f j) t c h (inl k) = subst IsScan k.2 (h.0, digits_more f (digit_value c) j h.1 k.0, omega (arith, k.1))
+step_keeps (Fraction w f j) t c h (inl k) =
+    subst IsScan k.2 (h.0, digits_more f (digit_value c) j h.1 k.0, omega (arith, k.1))
 step_keeps (Fraction w f j) t c h (inr k) = number_keeps (precise w f j) c t k
 step_keeps (Gap n) t c h k = number_keeps n c t k
 step_keeps (UnitAt n s) t c h k = subst IsScan k.2 tt

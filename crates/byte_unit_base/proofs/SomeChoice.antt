@@ -1,5 +1,6 @@
--- A size has a chosen unit, or no unit states it.
-use Rattle.std.proofs.Common.{◌≡◌, ℕ, ◌*◌, ◌/◌, ◌%◌, ◌^◌, ◌-◌, ◌≤◌, ◌⊎◌, ⊎_elim, inl, inr, Bool, true, false, List, [], ◌∷◌, length, arith}
+-- A size has a chosen unit and number, or it is exact in no unit at the precision.
+use Rattle.std.proofs.Common.{◌≡◌, ℕ, ◌*◌, ◌/◌, ◌%◌, ◌^◌, ◌-◌, ◌≤◌, ◌⊎◌, ⊎_elim, inl, inr, Bool, true, false, List, []}
+use Rattle.std.proofs.Common.{◌∷◌, length, arith}
 use Rattle.std.proofs.Common.{refl, sym, ap, ◌∙◌, subst}
 use Rattle.std.proofs.Math.Nat.{div-add-mod', mul-mod_left}
 use Rattle.std.proofs.lemmas.Bool.{cases_lt}
@@ -15,11 +16,13 @@ use Rattle.byte_unit_base.specs.declared.unit.family.Family.{Family}
 use Rattle.byte_unit_base.specs.declared.unit.family.Family.TheVariants.{All, Bytes, Bits}
 use Rattle.byte_unit_base.proofs.Falling.{IsIn, in_falling}
 
+-- the fact holds, or it does not
 abbrev Decided : Type 0 → Type 0
-Decided P = P ⊎ ¬ P
+Decided Fact = Fact ⊎ ¬ Fact
 
-both_decided : (P Q : Type 0) → Decided P → Decided Q → Decided (P × Q)
-both_decided P Q p q = ⊎_elim (λ a. ⊎_elim (λ b. inl (a, b)) (λ no. inr (λ h. no h.1)) q) (λ no. inr (λ h. no h.0)) p
+both_decided : (First Second : Type 0) → Decided First → Decided Second → Decided (First × Second)
+both_decided First Second p q =
+    ⊎_elim (λ a. ⊎_elim (λ b. inl (a, b)) (λ no. inr (λ h. no h.1)) q) (λ no. inr (λ h. no h.0)) p
 
 le_decided : (a b : ℕ) → Decided (a ≤ b)
 le_decided a b = ⊎_elim (λ l. inr (λ h. omega (arith, l, h))) (λ h. inl h) (cases_lt b a)
@@ -31,14 +34,15 @@ kind_decided Bytes false = inl refl
 kind_decided Bits true = inl refl
 kind_decided Bits false = inr (λ e. let b : ⊥ = cc in b)
 
--- exact where the division leaves no rest
+-- a size is exact in a unit at some places, or it is not: the division leaves no remainder, or one
 exact_decided : (size unit places : ℕ) → Decided (IsExactAt size unit places)
 exact_decided size unit places =
     let scaled = size * 10 ^ places in
     let parts = div-add-mod' scaled unit in
     ⊎_elim
     (λ none. inl (scaled / unit, omega (arith, parts, none)))
-    (λ some. inr (λ e. let none : scaled % unit ≡ 0 = ap (λ n. n % unit) e.1 ∙ mul-mod_left e.0 unit in omega (arith, none, some)))
+    (λ some. inr (λ e. let none : scaled % unit ≡ 0 = ap (λ n. n % unit) e.1
+    ∙ mul-mod_left e.0 unit in omega (arith, none, some)))
     (cases_lt (scaled % unit) 1)
 
 states_decided : (edition : Edition) (family : Family) (in_bits precision : ℕ) (unit : Shape)
@@ -46,14 +50,20 @@ states_decided : (edition : Edition) (family : Family) (in_bits precision : ℕ)
 states_decided edition family in_bits precision unit =
     let places = places_within precision in
     let last = length edition.letters in
-    let prefix = both_decided (1 ≤ unit.power) (unit.power ≤ last) (le_decided 1 unit.power) (le_decided unit.power last) in
+    let prefix = both_decided (1 ≤ unit.power) (unit.power ≤ last) (le_decided 1 unit.power)
+    (le_decided unit.power last) in
     let in_family = (1 ≤ unit.power) × (unit.power ≤ last) in
     let member = both_decided in_family (HasKind family unit.bit) prefix (kind_decided family unit.bit) in
     let exact = exact_decided in_bits (bits unit) places in
-    let rest = both_decided (bits unit ≤ in_bits) (IsExactAt in_bits (bits unit) places) (le_decided (bits unit) in_bits) exact in
+    let rest = both_decided (bits unit ≤ in_bits) (IsExactAt in_bits (bits unit) places)
+    (le_decided (bits unit) in_bits) exact in
     ⊎_elim
     (λ m. ⊎_elim
-    (λ s. inl (record { member = record { prefix = record { some = m.0.0; known = m.0.1 }; kind = m.1 }; not_above = s.0; exact = s.1 }))
+    (λ s. inl (record {
+      member = record { prefix = record { some = m.0.0; known = m.0.1 }; kind = m.1 };
+      not_above = s.0;
+      exact = s.1;
+    }))
     (λ no. inr (λ s. no (s.not_above, s.exact)))
     rest)
     (λ no. inr (λ s. no ((s.member.prefix.some, s.member.prefix.known), s.member.kind)))
@@ -64,16 +74,18 @@ record IsLargestOf (Has : Shape → Type 0) (units : List Shape) (unit : Shape) 
   has : Has unit
   largest : (other : Shape) → IsIn other units → Has other → bits other ≤ bits unit
 
--- those among the units that have the property are no larger
+-- those among the units that have the property are no larger than the bound
 abbrev AreNoLarger : (Shape → Type 0) → List Shape → ℕ → Type 0
 AreNoLarger Has units bound = (other : Shape) → IsIn other units → Has other → bits other ≤ bound
 
--- what is no larger among the first and the others is no larger among all
-each_of : (Has : Shape → Type 0) (x : Shape) (xs : List Shape) (bound : ℕ) → bits x ≤ bound → AreNoLarger Has xs bound
+-- if neither the first unit nor the others that have the property are larger than the bound, none is
+no_larger_with_first : (Has : Shape → Type 0) (x : Shape) (xs : List Shape) (bound : ℕ) → bits x ≤ bound
+    → AreNoLarger Has xs bound
     → AreNoLarger Has (x ∷ xs) bound
-each_of Has x xs bound first rest other i h = ⊎_elim (λ e. omega (arith, ap bits e, first)) (λ later. rest other later h) i
+no_larger_with_first Has x xs bound first rest other i h =
+    ⊎_elim (λ e. omega (arith, ap bits e, first)) (λ later. rest other later h) i
 
--- among units one with the property is the largest, or none has it
+-- one of the units that have the property is the largest, or none has it
 largest_or_none : (Has : Shape → Type 0) → ((unit : Shape) → Decided (Has unit)) → (units : List Shape)
     → ((unit : Shape) × IsLargestOf Has units unit) ⊎ ((unit : Shape) → IsIn unit units → ¬ (Has unit))
 largest_or_none Has decided [] = inr (λ unit i h. i)
@@ -87,18 +99,26 @@ largest_or_none Has decided (x ∷ xs) =
       found.0,
       record {
         has = found.1.has;
-        largest = each_of Has x xs (bits found.0) (omega (arith, smaller)) found.1.largest;
+        largest = no_larger_with_first Has x xs (bits found.0) (omega (arith, smaller)) found.1.largest;
       },
     ))
     (λ larger. inl (
       x,
       record {
         has = h;
-        largest = each_of Has x xs (bits x) (omega arith) (λ other i k. omega (arith, found.1.largest other i k, larger));
+        largest =
+            no_larger_with_first Has x xs (bits x) (omega arith)
+            (λ other i k. omega (arith, found.1.largest other i k, larger));
       },
     ))
     (cases_lt (bits x) (bits found.0)))
-    (λ none. inl (x, record { has = h; largest = each_of Has x xs (bits x) (omega arith) (λ other i k. absurd (none other i k)) }))
+    (λ none. inl (
+      x,
+      record {
+        has = h;
+        largest = no_larger_with_first Has x xs (bits x) (omega arith) (λ other i k. absurd (none other i k));
+      },
+    ))
     rest in
     let without_first = λ (no : ¬ (Has x)).
     ⊎_elim
@@ -106,13 +126,15 @@ largest_or_none Has decided (x ∷ xs) =
       found.0,
       record {
         has = found.1.has;
-        largest = λ other i k. ⊎_elim (λ e. absurd (no (subst Has (sym e) k))) (λ later. found.1.largest other later k) i;
+        largest =
+            λ other i k. ⊎_elim (λ e. absurd (no (subst Has (sym e) k))) (λ later. found.1.largest other later k) i;
       },
     ))
     (λ none. inr (λ other i k. ⊎_elim (λ e. no (subst Has (sym e) k)) (λ later. none other later k) i))
     rest in
     ⊎_elim with_first without_first (decided x)
 
+-- a size has a chosen unit and number, or it is exact in no unit at the precision
 pub choice_or_none : EachSizeHasAChoiceOrNone
 choice_or_none edition family in_bits precision =
     let Has : Shape → Type 0 = States edition family in_bits precision in
@@ -131,4 +153,5 @@ choice_or_none edition family in_bits precision =
       },
     ))
     (λ none. inr (λ unit s. none unit (there unit s) s))
-    (largest_or_none Has (states_decided edition family in_bits precision) (falling_from family (length edition.letters)))
+    (largest_or_none Has (states_decided edition family in_bits precision)
+    (falling_from family (length edition.letters)))

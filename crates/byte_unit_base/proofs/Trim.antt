@@ -1,6 +1,8 @@
--- The characters of a trimmed text.
-use Rattle.std.proofs.Common.{◌≡◌, ℕ, suc, List, [], ◌∷◌, ◌++◌, length, refl, sym, ap, ◌∙◌, arith, Bool, true, false, cond, ◌&&◌, nat_eq}
-use Rattle.std.specs.Str.{chars, trim, trim_start, trim_end, skip_leading_whitespace, drop_trailing_whitespace, IsUtf8, IsAscii, all_scalars}
+-- Trimming: the characters of a trimmed string, and texts that it does not change.
+use Rattle.std.proofs.Common.{◌≡◌, ℕ, suc, List, [], ◌∷◌, ◌++◌, length, refl, sym, ap, ◌∙◌, arith, Bool, true, false}
+use Rattle.std.proofs.Common.{cond, ◌&&◌, nat_eq}
+use Rattle.std.specs.Str.{chars, trim, trim_start, trim_end, skip_leading_whitespace, drop_trailing_whitespace, IsUtf8}
+use Rattle.std.specs.Str.{IsAscii, all_scalars}
 use Rattle.std.specs.Str.{encode_utf8_all}
 use Rattle.std.specs.Char.{is_whitespace}
 use Rattle.std.proofs.lemmas.Bool.{and_from, and_parts}
@@ -8,7 +10,8 @@ use Rattle.std.proofs.lemmas.Bool.Decides.{nat_tests}
 use Rattle.std.proofs.lemmas.Str.{chars-encodes, scalars-chars, chars-IsAscii}
 use Rattle.byte_unit_base.specs.SizeText.{trimmed}
 
-scalars_cond : (t : Bool) (xs ys : List ℕ) → all_scalars xs ≡ true → all_scalars ys ≡ true → all_scalars (cond t xs ys) ≡ true
+scalars_cond : (t : Bool) (xs ys : List ℕ) → all_scalars xs ≡ true → all_scalars ys ≡ true
+    → all_scalars (cond t xs ys) ≡ true
 scalars_cond true xs ys e f = e
 scalars_cond false xs ys e f = f
 
@@ -24,8 +27,10 @@ scalars_drop (c ∷ cs) e =
 
 chars-trim_start : (bs : List ℕ) → IsUtf8 bs → chars (trim_start bs) ≡ skip_leading_whitespace (chars bs)
 unfolding trim_start
-chars-trim_start bs u = chars-encodes (skip_leading_whitespace (chars bs)) (scalars_skip (chars bs) (scalars-chars bs u))
+chars-trim_start bs u =
+    chars-encodes (skip_leading_whitespace (chars bs)) (scalars_skip (chars bs) (scalars-chars bs u))
 
+-- the characters of a string that std trims are the characters without the white space at both ends
 pub chars-trim : (bs : List ℕ) → IsUtf8 bs → chars (trim bs) ≡ trimmed bs
 unfolding trim_end
 chars-trim bs u =
@@ -34,31 +39,31 @@ chars-trim bs u =
     ∙ chars-encodes (drop_trailing_whitespace (skip_leading_whitespace (chars bs)))
     (scalars_drop (skip_leading_whitespace (chars bs)) (scalars_skip (chars bs) (scalars-chars bs u)))
 
--- texts that trimming keeps at one end
-
+-- the text is not empty, and its first character is not white space
 pub record StartsWithoutSpace (text : List ℕ) : Type 0 where
   pub head : ℕ
   pub tail : List ℕ
   pub text_is : text ≡ head ∷ tail
   pub head_is : is_whitespace head ≡ false
 
+-- the text is not empty, and its last character is not white space
 pub record EndsWithoutSpace (text : List ℕ) : Type 0 where
   pub front : List ℕ
   pub last : ℕ
   pub text_is : text ≡ front ++ last ∷ []
   pub last_is : is_whitespace last ≡ false
 
--- what trimming keeps
-
-not_zero : (number : ℕ) → nat_eq (suc number) 0 ≡ false
-not_zero number = grind (arith, nat_tests)
+suc_is_not_zero : (number : ℕ) → nat_eq (suc number) 0 ≡ false
+suc_is_not_zero number = grind (arith, nat_tests)
 
 not_empty : (white : Bool) (front : List ℕ) (last : ℕ) (kept : List ℕ)
     → cond (white && nat_eq (length (front ++ last ∷ [])) 0) [] kept ≡ kept
 not_empty false front last kept = refl
 not_empty true [] last kept = refl
-not_empty true (next ∷ front) last kept = ap (λ empty. cond empty [] kept) (not_zero (length (front ++ last ∷ [])))
+not_empty true (next ∷ front) last kept =
+    ap (λ empty. cond empty [] kept) (suc_is_not_zero (length (front ++ last ∷ [])))
 
+-- a text whose last character is not white space has no white space to drop at its end
 pub keep_last : (front : List ℕ) (last : ℕ) → is_whitespace last ≡ false
     → drop_trailing_whitespace (front ++ last ∷ []) ≡ front ++ last ∷ []
 keep_last [] last is_none = ap (λ white. cond (white && true) [] (last ∷ [])) is_none
@@ -66,12 +71,14 @@ keep_last (next ∷ front) last is_none =
     ap (λ rest. cond (is_whitespace next && nat_eq (length rest) 0) [] (next ∷ rest)) (keep_last front last is_none)
     ∙ not_empty (is_whitespace next) front last (next ∷ (front ++ last ∷ []))
 
--- a text of ASCII with a character that isn't white space at each end
-pub trimmed_same : (text : List ℕ) → StartsWithoutSpace text → EndsWithoutSpace text → IsAscii text → trimmed text ≡ text
+-- trimming does not change ASCII that has a character other than white space at each end
+pub trimmed_same : (text : List ℕ) → StartsWithoutSpace text → EndsWithoutSpace text → IsAscii text
+    → trimmed text ≡ text
 trimmed_same text start end ascii =
     let skipped : skip_leading_whitespace text ≡ text =
     ap skip_leading_whitespace start.text_is
-    ∙ (ap (λ white. cond white (skip_leading_whitespace start.tail) (start.head ∷ start.tail)) start.head_is ∙ sym start.text_is) in
+    ∙ (ap (λ white. cond white (skip_leading_whitespace start.tail) (start.head ∷ start.tail)) start.head_is
+    ∙ sym start.text_is) in
     let kept : drop_trailing_whitespace text ≡ text =
     ap drop_trailing_whitespace end.text_is ∙ (keep_last end.front end.last end.last_is ∙ sym end.text_is) in
     ap (λ text. drop_trailing_whitespace (skip_leading_whitespace text)) (chars-IsAscii text ascii)

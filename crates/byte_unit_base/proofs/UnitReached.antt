@@ -1,5 +1,7 @@
--- The scan of a spelling and the spellings are one: what the scan has read, and what it reads.
-use Rattle.std.proofs.Common.{◌≡◌, ℕ, ◌-◌, inl, inr, List, [], ◌∷◌, ◌++◌, Option, Some, None, sym, refl, ap, subst, ◌∙◌, arith, Bool, true}
+-- What is known of the text that led to a state of the state machine of units, and that the unit of a state is spelled
+-- by it.
+use Rattle.std.proofs.Common.{◌≡◌, ℕ, ◌-◌, inl, inr, List, [], ◌∷◌, ◌++◌, Option, Some, None, sym, refl, ap, subst, ◌∙◌}
+use Rattle.std.proofs.Common.{arith, Bool, true}
 use Rattle.std.proofs.Common.{false, cond, eqb, append-nil}
 use Rattle.std.specs.Prelude.{slice_index}
 use Rattle.std.specs.Option.{option_map}
@@ -9,10 +11,12 @@ use Rattle.std.proofs.lemmas.Bool.Decides.{nat_tests}
 use Rattle.byte_unit_base.specs.Shape.{Shape}
 use Rattle.byte_unit_base.specs.Edition.{current}
 use Rattle.byte_unit_base.specs.Spelling.{Flags, IsPrefixLetter, SpellsBinary, SpellsCount, Spells}
-use Rattle.byte_unit_base.specs.UnitScan.{unit_step, unit_of, start, scan_of, power_of, prefix_at, is_i, multiple_step, word_step, or_word}
+use Rattle.byte_unit_base.specs.UnitScan.{unit_step, unit_of, start, scan_of, power_of, prefix_at, is_i, multiple_step}
+use Rattle.byte_unit_base.specs.UnitScan.{word_step, or_word}
 use Rattle.byte_unit_base.specs.UnitScan.{count_of, multiple_shape, IsMultipleText, IsWordText}
 use Rattle.byte_unit_base.specs.declared.unit.scan.Prefix.{Prefix}
-use Rattle.byte_unit_base.specs.declared.unit.scan.Prefix.TheVariants.{Kilo, Mega, Giga, Tera, Peta, Exa, Zetta, Yotta, Ronna}
+use Rattle.byte_unit_base.specs.declared.unit.scan.Prefix.TheVariants.{Kilo, Mega, Giga, Tera, Peta, Exa, Zetta, Yotta}
+use Rattle.byte_unit_base.specs.declared.unit.scan.Prefix.TheVariants.{Ronna}
 use Rattle.byte_unit_base.specs.declared.unit.scan.Word.{Word}
 use Rattle.byte_unit_base.specs.declared.unit.scan.Word.TheVariants.{Empty, UpperB, LowerB, Bi, Bit, Bits}
 use Rattle.byte_unit_base.specs.declared.unit.scan.Multiple.{Multiple}
@@ -21,8 +25,7 @@ use Rattle.byte_unit_base.specs.declared.unit.scan.UnitScan.{UnitScan}
 use Rattle.byte_unit_base.proofs.Lists.{push_last}
 use Rattle.byte_unit_base.proofs.Options.{some_mapped}
 
--- what has been read at a state of the scan
-
+-- the text is one that leads to the prefix of the state, and one that leads to its suffix
 pub record Reached (s : UnitScan) (text : List ℕ) : Type 0 where
   pub front : List ℕ
   pub word : List ℕ
@@ -46,6 +49,7 @@ letter_found u Zetta e = grind (arith, nat_tests)
 letter_found u Yotta e = grind (arith, nat_tests)
 letter_found u Ronna e = grind (arith, nat_tests)
 
+-- a character for which a prefix is found is its letter, in either case
 pub prefix_found : (c : ℕ) (p : Prefix) → prefix_at c ≡ Some p → IsPrefixLetter current (power_of p) c
 prefix_found c Kilo e = (omega arith, omega arith, letter_found (to_ascii_uppercase c) Kilo e)
 prefix_found c Mega e = (omega arith, omega arith, letter_found (to_ascii_uppercase c) Mega e)
@@ -57,12 +61,14 @@ prefix_found c Zetta e = (omega arith, omega arith, letter_found (to_ascii_upper
 prefix_found c Yotta e = (omega arith, omega arith, letter_found (to_ascii_uppercase c) Yotta e)
 prefix_found c Ronna e = (omega arith, omega arith, letter_found (to_ascii_uppercase c) Ronna e)
 
+-- if a guarded value is there, its test holds, and it is this value
 pub guard_some : {X : Type 0} (t : Bool) (x y : X) → cond t (Some x) None ≡ Some y → (t ≡ true) × (x ≡ y)
 guard_some true x y e = (refl, cc)
 guard_some false x y e = absurd (let h : ⊥ = cc in h)
 
-pub is_true : (a b : ℕ) → eqb a b ≡ true → a ≡ b
-is_true a b e = grind (arith, nat_tests)
+-- if the test of equality holds, the numbers are equal
+pub eq_if_test_true : (a b : ℕ) → eqb a b ≡ true → a ≡ b
+eq_if_test_true a b e = grind (arith, nat_tests)
 
 -- one character more of the prefix
 multiple_grows_from_one : (c : ℕ) (n : Multiple) → option_map Decimal (prefix_at c) ≡ Some n → IsMultipleText n (c ∷ [])
@@ -92,17 +98,19 @@ multiple_grows (Decimal p) n c text e h =
       infix_part = c ∷ [];
       text_is = ap (λ x. x ++ c ∷ []) whole;
       letter_is = h.letter_is;
-      infix_is = inr (ap (λ x. x ∷ []) (is_true _ _ g.0), refl);
+      infix_is = inr (ap (λ x. x ∷ []) (eq_if_test_true _ _ g.0), refl);
     } in
     subst (λ m. IsMultipleText m (text ++ c ∷ [])) g.1 with_i
 multiple_grows (Binary p) n c text e h = absurd (let k : ⊥ = cc in k)
 
--- one character more of the word
-lower_push : (text : List ℕ) (c : ℕ) → str_to_ascii_lowercase (text ++ c ∷ []) ≡ str_to_ascii_lowercase text ++ to_ascii_lowercase c ∷ []
+-- one character more of the suffix
+lower_push : (text : List ℕ) (c : ℕ) → str_to_ascii_lowercase (text ++ c ∷ [])
+    ≡ str_to_ascii_lowercase text ++ to_ascii_lowercase c ∷ []
 lower_push [] c = refl
 lower_push (x ∷ xs) c = ap (λ t. to_ascii_lowercase x ∷ t) (lower_push xs c)
 
-first_grows : (v : Word) (c : ℕ) → cond (eqb c 66) (Some UpperB) (cond (eqb c 98) (Some LowerB) None) ≡ Some v → IsWordText v (c ∷ [])
+first_grows : (v : Word) (c : ℕ) → cond (eqb c 66) (Some UpperB) (cond (eqb c 98) (Some LowerB) None) ≡ Some v
+    → IsWordText v (c ∷ [])
 first_grows Empty c e = grind (arith, nat_tests)
 first_grows UpperB c e = let k : c ≡ 66 = grind (arith, nat_tests) in ap (λ x. x ∷ []) k
 first_grows LowerB c e = let k : c ≡ 98 = grind (arith, nat_tests) in ap (λ x. x ∷ []) k
@@ -110,24 +118,30 @@ first_grows Bi c e = grind (arith, nat_tests)
 first_grows Bit c e = grind (arith, nat_tests)
 first_grows Bits c e = grind (arith, nat_tests)
 
-word_grows : (w v : Word) (c : ℕ) (text : List ℕ) → word_step w c ≡ Some v → IsWordText w text → IsWordText v (text ++ c ∷ [])
+word_grows : (w v : Word) (c : ℕ) (text : List ℕ) → word_step w c ≡ Some v → IsWordText w text
+    → IsWordText v (text ++ c ∷ [])
 word_grows Empty v c text e h = rw h (first_grows v c e)
 word_grows UpperB v c text e h =
-    let g = guard_some (is_i c) Bi v e in rw h (subst (λ w. IsWordText w (66 ∷ c ∷ [])) g.1 (ap (λ x. 98 ∷ x ∷ []) (is_true _ _ g.0)))
+    let g = guard_some (is_i c) Bi v e in rw h
+    (subst (λ w. IsWordText w (66 ∷ c ∷ [])) g.1 (ap (λ x. 98 ∷ x ∷ []) (eq_if_test_true _ _ g.0)))
 word_grows LowerB v c text e h =
-    let g = guard_some (is_i c) Bi v e in rw h (subst (λ w. IsWordText w (98 ∷ c ∷ [])) g.1 (ap (λ x. 98 ∷ x ∷ []) (is_true _ _ g.0)))
+    let g = guard_some (is_i c) Bi v e in rw h
+    (subst (λ w. IsWordText w (98 ∷ c ∷ [])) g.1 (ap (λ x. 98 ∷ x ∷ []) (eq_if_test_true _ _ g.0)))
 word_grows Bi v c text e h =
     let g = guard_some (eqb (to_ascii_lowercase c) 116) Bit v e in
     subst (λ w. IsWordText w (text ++ c ∷ [])) g.1
-    (lower_push text c ∙ (ap (λ t. t ++ to_ascii_lowercase c ∷ []) h ∙ ap (λ x. 98 ∷ 105 ∷ x ∷ []) (is_true _ _ g.0)))
+    (lower_push text c ∙ (ap (λ t. t ++ to_ascii_lowercase c ∷ []) h
+    ∙ ap (λ x. 98 ∷ 105 ∷ x ∷ []) (eq_if_test_true _ _ g.0)))
 word_grows Bit v c text e h =
     let g = guard_some (eqb (to_ascii_lowercase c) 115) Bits v e in
     subst (λ w. IsWordText w (text ++ c ∷ [])) g.1
-    (lower_push text c ∙ (ap (λ t. t ++ to_ascii_lowercase c ∷ []) h ∙ ap (λ x. 98 ∷ 105 ∷ 116 ∷ x ∷ []) (is_true _ _ g.0)))
+    (lower_push text c ∙ (ap (λ t. t ++ to_ascii_lowercase c ∷ []) h
+    ∙ ap (λ x. 98 ∷ 105 ∷ 116 ∷ x ∷ []) (eq_if_test_true _ _ g.0)))
 word_grows Bits v c text e h = absurd (let k : ⊥ = cc in k)
 
--- one character more of the scan
-reached_by_word : (m : Multiple) (w : Word) (t : UnitScan) (c : ℕ) (text : List ℕ) → option_map (scan_of m) (word_step w c) ≡ Some t
+-- one character more of the prefix or of the suffix
+reached_by_word : (m : Multiple) (w : Word) (t : UnitScan) (c : ℕ) (text : List ℕ)
+    → option_map (scan_of m) (word_step w c) ≡ Some t
     → Reached (scan_of m w) text → Reached t (text ++ c ∷ [])
 reached_by_word m w t c text h r =
     let v = some_mapped (scan_of m) t (word_step w c) h in
@@ -153,6 +167,7 @@ reached_by_prefix m t c text (Some n) e h r =
       word_is = refl;
     })
 
+-- if a step leads from a state to the next, what is known of the text holds with its character added
 pub Reached-step : (m : Multiple) (w : Word) (t : UnitScan) (c : ℕ) (text : List ℕ) → unit_step (scan_of m w) c ≡ Some t
     → Reached (scan_of m w) text → Reached t (text ++ c ∷ [])
 unfolding unit_step
@@ -163,12 +178,14 @@ Reached-step m Bi t c text h r = reached_by_word m Bi t c text h r
 Reached-step m Bit t c text h r = reached_by_word m Bit t c text h r
 Reached-step m Bits t c text h r = reached_by_word m Bits t c text h r
 
+-- no character has led to the first state
 pub Reached-start : Reached start []
 Reached-start = record { front = []; word = []; text_is = refl; front_is = refl; word_is = refl }
 
--- what stands at the end of a scan
+-- the unit at the end of an input
 
-count_spelled : (flags : Flags) (w : Word) (text : List ℕ) (bit : Bool) → count_of flags w ≡ Some bit → IsWordText w text
+count_spelled : (flags : Flags) (w : Word) (text : List ℕ) (bit : Bool) → count_of flags w ≡ Some bit
+    → IsWordText w text
     → SpellsCount flags text bit
 count_spelled flags Empty text bit e h = inl (h, cc)
 count_spelled flags UpperB text bit e h = inr (inl (h, cc))
@@ -177,17 +194,21 @@ count_spelled flags Bi text bit e h = absurd (let k : ⊥ = cc in k)
 count_spelled flags Bit text bit e h = inr (inr (inr (inl (h, cc))))
 count_spelled flags Bits text bit e h = inr (inr (inr (inr (h, cc))))
 
-spelled : (flags : Flags) (m : Multiple) (front word : List ℕ) (bit : Bool) → IsMultipleText m front → SpellsCount flags word bit
+parts_spell_unit : (flags : Flags) (m : Multiple) (front word : List ℕ) (bit : Bool) → IsMultipleText m front
+    → SpellsCount flags word bit
     → Spells current flags (front ++ word) (multiple_shape m bit)
-spelled flags One front word bit h k = rw h (inl (record { count_is = k; power_is = refl; binary_is = refl }))
-spelled flags (Decimal p) front word bit h k =
+parts_spell_unit flags One front word bit h k = rw h (inl (record { count_is = k; power_is = refl; binary_is = refl }))
+parts_spell_unit flags (Decimal p) front word bit h k =
     inr (record { prefix_part = front; count_part = word; text_is = refl; prefix_is = h; count_is = k })
-spelled flags (Binary p) front word bit h k =
+parts_spell_unit flags (Binary p) front word bit h k =
     inr (record { prefix_part = front; count_part = word; text_is = refl; prefix_is = h; count_is = k })
 
+-- if a state has a unit, the text that led to it spells this unit
 pub Spells-reached : (flags : Flags) (m : Multiple) (w : Word) (text : List ℕ) (unit : Shape)
     → unit_of flags (scan_of m w) ≡ Some unit → Reached (scan_of m w) text → Spells current flags text unit
 Spells-reached flags m w text unit e r =
     let bit = some_mapped (multiple_shape m) unit (count_of flags w) e in
-    let spells = spelled flags m r.front r.word bit.0 r.front_is (count_spelled flags w r.word bit.0 bit.1 r.word_is) in
-    subst (Spells current flags text) bit.2 (subst (λ x. Spells current flags x (multiple_shape m bit.0)) (sym r.text_is) spells)
+    let spells = parts_spell_unit flags m r.front r.word bit.0 r.front_is
+    (count_spelled flags w r.word bit.0 bit.1 r.word_is) in
+    subst (Spells current flags text) bit.2
+    (subst (λ x. Spells current flags x (multiple_shape m bit.0)) (sym r.text_is) spells)

@@ -1,5 +1,7 @@
--- The reader of a unit: its scan is that of the spellings, so it answers the unit of a spelling, and else the first fault.
-use Rattle.std.proofs.Common.{◌≡◌, ℕ, ◌⊎◌, inl, inr, List, [], ◌∷◌, ◌++◌, Result, Ok, Some, None, ap, subst, sym, ◌∙◌, refl, append-nil}
+-- The parser of a unit: its state machine accepts exactly the spellings of units, so it returns the unit of an input,
+-- or its error.
+use Rattle.std.proofs.Common.{◌≡◌, ℕ, ◌⊎◌, inl, inr, List, [], ◌∷◌, ◌++◌, Result, Ok, Some, None, ap, subst, sym, ◌∙◌}
+use Rattle.std.proofs.Common.{refl, append-nil}
 use Rattle.std.proofs.Common.{false, true}
 use Rattle.std.specs.Str.{str_to_ascii_lowercase}
 use Rattle.byte_unit_base.specs.Shape.{Shape}
@@ -8,12 +10,14 @@ use Rattle.byte_unit_base.specs.Units.{shape_of}
 use Rattle.byte_unit_base.specs.Errors.{unit_fault}
 use Rattle.byte_unit_base.specs.Spelling.{Flags, Spells}
 use Rattle.byte_unit_base.specs.SizeText.{trimmed}
-use Rattle.byte_unit_base.specs.Front.{Place, after_b, after_bi, after_bit, after_bits, IsWord, IsPrefix, IsWordFront, IsUnitFront}
+use Rattle.byte_unit_base.specs.Front.{Place, after_b, after_bi, after_bit, after_bits, IsWord, IsPrefix, IsWordFront}
+use Rattle.byte_unit_base.specs.Front.{IsUnitFront}
 use Rattle.byte_unit_base.specs.Fault.{fault_at_end}
 use Rattle.byte_unit_base.specs.Readings.{IsUnitReading}
 use Rattle.byte_unit_base.specs.ReaderLaws.{UnitTextsHaveOneAnswer, UnitFrontsAreBeginnings}
 use Rattle.byte_unit_base.specs.Scan.{read}
-use Rattle.byte_unit_base.specs.UnitScan.{unit_step, unit_scan, unit_of, unit_at_end, unit_seen, start, scan_of, power_of, word_place}
+use Rattle.byte_unit_base.specs.UnitScan.{unit_step, unit_scan, unit_of, unit_at_end, unit_seen, start, scan_of}
+use Rattle.byte_unit_base.specs.UnitScan.{power_of, word_place}
 use Rattle.byte_unit_base.specs.UnitScan.{empty_place, IsMultipleText}
 use Rattle.byte_unit_base.specs.declared.unit.Unit.{Unit as UnitName}
 use Rattle.byte_unit_base.specs.declared.errors.UnitParseError.{UnitParseError}
@@ -21,11 +25,10 @@ use Rattle.byte_unit_base.specs.declared.unit.scan.Word.{Word}
 use Rattle.byte_unit_base.specs.declared.unit.scan.Word.TheVariants.{Empty, UpperB, LowerB, Bi, Bit, Bits}
 use Rattle.byte_unit_base.specs.declared.unit.scan.Multiple.{Multiple}
 use Rattle.byte_unit_base.specs.declared.unit.scan.Multiple.TheVariants.{One, Decimal, Binary}
-use Rattle.byte_unit_base.proofs.Scans.{EndsIn, IsScanOf, read_found, read_meant, read_refused, one_answer, fronts_are_beginnings}
+use Rattle.byte_unit_base.proofs.Scans.{EndsIn, IsScanOf, read_found, read_meant, read_refused, one_answer}
+use Rattle.byte_unit_base.proofs.Scans.{fronts_are_beginnings}
 use Rattle.byte_unit_base.proofs.UnitReached.{Reached, Reached-step, Reached-start, Spells-reached}
 use Rattle.byte_unit_base.proofs.UnitRuns.{spelling_runs, unit_front_runs}
-
--- what has been read is a front
 
 empty_front : (m : Multiple) (text : List ℕ) → IsMultipleText m text → IsUnitFront current (empty_place m) text
 empty_front One text h = h
@@ -37,12 +40,21 @@ some_prefix One text h = inl h
 some_prefix (Decimal p) text h = inr (power_of p, false, h)
 some_prefix (Binary p) text h = inr (power_of p, true, h)
 
-word_front : (place : Place) (m : Multiple) (w : Word) (text : List ℕ) (r : Reached (scan_of m w) text) → IsWord place r.word
+word_front : (place : Place) (m : Multiple) (w : Word) (text : List ℕ) (r : Reached (scan_of m w) text)
+    → IsWord place r.word
     → IsWordFront current place text
 word_front place m w text r h =
-    record { prefix_part = r.front; word_part = r.word; text_is = r.text_is; prefix_is = some_prefix m r.front r.front_is; word_is = h }
+    record {
+      prefix_part = r.front;
+      word_part = r.word;
+      text_is = r.text_is;
+      prefix_is = some_prefix m r.front r.front_is;
+      word_is = h;
+    }
 
-pub unit_front : (m : Multiple) (w : Word) (text : List ℕ) → Reached (scan_of m w) text → IsUnitFront current (word_place m w) text
+-- the text that led to a state is a viable prefix of a unit, with the parser state of the state
+pub unit_front : (m : Multiple) (w : Word) (text : List ℕ) → Reached (scan_of m w) text
+    → IsUnitFront current (word_place m w) text
 unit_front m Empty text r =
     let e : text ≡ r.front = r.text_is ∙ (ap (λ w. r.front ++ w) r.word_is ∙ append-nil r.front) in
     subst (IsUnitFront current (empty_place m)) (sym e) (empty_front m r.front r.front_is)
@@ -52,12 +64,14 @@ unit_front m Bi text r = word_front after_bi m Bi text r r.word_is
 unit_front m Bit text r = word_front after_bit m Bit text r r.word_is
 unit_front m Bits text r = word_front after_bits m Bits text r r.word_is
 
--- what a text that ends there is read as
+-- the result for an input that ends in a state
 
-spelled_at_end : (flags : Flags) (m : Multiple) (w : Word) (text : List ℕ) (unit : Shape) → unit_of flags (scan_of m w) ≡ Some unit
+spelled_at_end : (flags : Flags) (m : Multiple) (w : Word) (text : List ℕ) (unit : Shape)
+    → unit_of flags (scan_of m w) ≡ Some unit
     → Reached (scan_of m w) text → EndsIn (Spells current flags text) None (unit_at_end (unit_of flags (scan_of m w)))
 spelled_at_end flags m w text unit e r = (unit, Spells-reached flags m w text unit e r, ap unit_at_end e)
 
+-- an input that ends in a state spells the unit of the state, or has the error of its parser state
 pub unit_ends : (flags : Flags) (m : Multiple) (w : Word) (text : List ℕ) → Reached (scan_of m w) text
     → EndsIn (Spells current flags text) (fault_at_end (word_place m w)) (unit_at_end (unit_of flags (scan_of m w)))
 unit_ends flags One Empty text r = spelled_at_end flags One Empty text _ refl r
@@ -66,13 +80,14 @@ unit_ends flags (Binary p) Empty text r = spelled_at_end flags (Binary p) Empty 
 unit_ends flags m Bi text r = refl
 unit_ends flags m w text r = spelled_at_end flags m w text _ refl r
 
--- a t behind `bi` makes a spelling, and nothing does elsewhere
+-- each state can be completed: a `t` makes a unit after `bi`, and elsewhere nothing is missing
 unit_goes_on : (flags : Flags) (m : Multiple) (w : Word)
     → (rest : List ℕ) × (unit : Shape) × (read (unit_scan flags) (scan_of m w) rest ≡ Ok unit)
 unfolding unit_step
 unit_goes_on flags m Bi = (116 ∷ [], _, refl)
 unit_goes_on flags m w = ([], _, refl)
 
+-- the state machine of units accepts exactly the spellings of units, and its states are those after the viable prefixes
 pub unit_scan_is : (flags : Flags) → IsScanOf (unit_scan flags) Reached (IsUnitFront current) (Spells current flags)
 unit_scan_is flags = record {
   starts = Reached-start;
@@ -80,12 +95,12 @@ unit_scan_is flags = record {
   front = λ s text r. unit_front s.multiple s.word text r;
   front_read = unit_front_runs flags;
   ends = λ s text r. unit_ends flags s.multiple s.word text r;
-  meaning_read = λ text unit h. let r = spelling_runs flags text unit h in (scan_of r.multiple r.word, r.run, ap unit_at_end r.unit);
+  meaning_read = λ text unit h. let r = spelling_runs flags text unit h in
+      (scan_of r.multiple r.word, r.run, ap unit_at_end r.unit);
   goes_on = λ s. unit_goes_on flags s.multiple s.word;
 }
 
--- the clauses of the reader's callers, and its laws
-
+-- a parser that returns the result of the state machine returns the unit that the input spells, or its error
 pub unit_reading : (flags : Flags) (bytes : List ℕ) (r : Result UnitName UnitParseError)
     → unit_seen r ≡ read (unit_scan flags) start (trimmed bytes)
     → IsUnitReading flags bytes r
@@ -95,8 +110,10 @@ unit_reading flags bytes r e = record {
   fault = read_refused (unit_scan_is flags) shape_of unit_fault (trimmed bytes) r e;
 }
 
+-- each input spells exactly one unit, or has exactly one error, and not both
 pub unit_texts_have_one_answer : UnitTextsHaveOneAnswer
 unit_texts_have_one_answer flags text = one_answer (unit_scan_is flags) text
 
+-- the viable prefixes of a unit are exactly the beginnings of the spellings of units
 pub unit_fronts_are_beginnings : UnitFrontsAreBeginnings
 unit_fronts_are_beginnings flags text = fronts_are_beginnings (unit_scan_is flags) text

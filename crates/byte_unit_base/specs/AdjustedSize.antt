@@ -1,4 +1,4 @@
--- An adjusted size, and how its texts are read.
+-- Adjusted sizes, which have the unit that they are shown in, and how they are parsed.
 use Rattle.std.specs.Prelude.{ℕ, false, List, Result, Ok, Err, IfOk}
 use Rattle.byte_unit_base.specs.Edition.{current}
 use Rattle.byte_unit_base.specs.Units.{shape_of}
@@ -9,17 +9,18 @@ use Rattle.byte_unit_base.specs.declared.kind.Kind.{Kind}
 use Rattle.byte_unit_base.specs.declared.unit.unit_type.UnitType.TheVariants.{Both}
 use Rattle.byte_unit_base.specs.declared.unit.Unit.{Unit as UnitName}
 
--- a size, and the unit that it is shown in
+-- a number of bytes or bits, and the unit that it is shown in
 pub record AdjustedSize : Type 0 where
   pub size : ℕ
   pub unit : UnitName
 
--- the answer without the unit
+-- the result of parsing an adjusted size, without its unit
 abbrev pub size_answer : Result AdjustedSize ParseError → Result ℕ ParseError
 size_answer (Ok adjusted) = Ok adjusted.size
 size_answer (Err error) = Err error
 
--- a text is read as its size, in the largest unit of either type that is not above it
+-- the result of parsing an adjusted size: the size is that of the ordinary parser, and the unit is the largest that is
+-- not above it, binary or decimal
 pub record IsAdjustedReading (kind : Kind) (bytes : List ℕ) (result : Result AdjustedSize ParseError) : Type 0 where
   pub size : IsSizeReading kind false bytes (size_answer result)
   pub unit : IfOk result (λ adjusted. IsAppropriate current kind Both adjusted.size (shape_of adjusted.unit))

@@ -1,4 +1,4 @@
--- Which unit states a size. A size is put in bits here, save where a kind stands beside it.
+-- Which unit a size is shown in. A size is in bits here, unless a kind (bytes or bits) is given with it.
 use Rattle.std.specs.Prelude.{◌≡◌, ℕ, ◌+◌, ◌*◌, ◌≤◌, ◌⊎◌, min, Bool, true, false}
 use Rattle.byte_unit_math.specs.Bounds.{one, places_of_decimal}
 use Rattle.byte_unit_math.specs.Steps.{raised}
@@ -14,7 +14,7 @@ use Rattle.byte_unit_base.specs.declared.unit.family.Family.{Family}
 use Rattle.byte_unit_base.specs.declared.unit.family.Family.TheVariants.{All}
 use Rattle.byte_unit_base.specs.declared.unit.unit_type.UnitType.{UnitType}
 
--- the unit has the property, and no larger one has it
+-- the unit has the property, and no larger unit has it
 pub record IsLargest (Has : Shape → Type 0) (unit : Shape) : Type 0 where
   pub has : Has unit
   pub largest : (other : Shape) → Has other → bits other ≤ bits unit
@@ -23,65 +23,71 @@ pub record IsLargest (Has : Shape → Type 0) (unit : Shape) : Type 0 where
 abbrev pub NoneHas : (Shape → Type 0) → Type 0
 NoneHas Has = (unit : Shape) → ¬ (Has unit)
 
--- the largest unit that has the property, or the kind's own where none has it
+-- the largest unit that has the property, or, if none has it, the own unit of the kind: a byte or a bit
 abbrev pub IsLargestOrOwn : Kind → (Shape → Type 0) → Shape → Type 0
 IsLargestOrOwn kind Has unit = IsLargest Has unit ⊎ NoneHas Has × (unit ≡ own_unit kind)
 
--- the places that a number may take within the precision: a decimal has no more than its own
+-- the number of digits after the point that a precision allows, which is at most the 28 of a decimal
 abbrev pub places_within : ℕ → ℕ
 places_within precision = min precision places_of_decimal
 
--- a unit of the family, not above the size, in which the size is exact within the precision
+-- the size is exact in this unit of the unit set: the unit is not above the size, and their quotient has no more digits
+-- after the point than the precision allows
 pub record States (edition : Edition) (family : Family) (in_bits precision : ℕ) (unit : Shape) : Type 0 where
   pub member : InFamily edition family unit
   pub not_above : bits unit ≤ in_bits
   pub exact : IsExactAt in_bits (bits unit) (places_within precision)
 
--- the largest such unit, with the number
+-- the largest unit in which the size is exact, and the number of it in the size, scaled by 10^28
 pub record IsChosen (edition : Edition) (family : Family) (in_bits precision : ℕ) (unit : Shape) (number : ℕ)
     : Type 0 where
   pub unit_is : IsLargest (States edition family in_bits precision) unit
   pub number_is : IsQuotient in_bits (bits unit) (places_within precision) number
 
--- a unit of the family and of the type, not above the size
+-- a unit of this unit set and of this type (binary, decimal or both) that is not above the size
 pub record Suits (edition : Edition) (family : Family) (unit_type : UnitType) (in_bits : ℕ) (unit : Shape)
     : Type 0 where
   pub member : InFamily edition family unit
   pub of_type : IsOfType unit_type unit.binary
   pub not_above : bits unit ≤ in_bits
 
--- the family for a size of a kind: its own, or with leave both kinds' units
+-- the unit set for a size of this kind: the multiples of its own unit, or, if the flag is set, those of bytes and of
+-- bits
 abbrev pub family_for : Kind → Bool → Family
 family_for kind false = own_family kind
 family_for kind true = All
 
--- a size of this kind is recovered in the unit: the largest that states it, of its own family or of both, or its own
+-- the exact unit of a size: the largest unit in which it is exact within the precision, or the own unit of its kind if
+-- there is none. `both` says whether the units of the other kind are allowed
 abbrev pub IsRecovered : Edition → Kind → Bool → ℕ → ℕ → Shape → Type 0
 IsRecovered edition kind both size precision =
     IsLargestOrOwn kind (States edition (family_for kind both) (size * bits_in kind) precision)
 
--- the steps of a choice, by the size as it is counted in its kind, and the number that is answered, or 0 for none
+-- the step count of choosing a unit for a size that is not zero, counted in its kind. `number` is the chosen number,
+-- scaled by 10^28, or 0 if no unit is chosen
 pub record TakesSteps (size number steps : ℕ) : Type 0 where
   pub twos : ℕ
   pub fives : ℕ
   pub places : ℕ
   pub powers : IsTwoFive size twos fives
   pub is_places : IsLeastPlaces number one places
-  -- one for each two and each five in the size, one each for the trial that finds none, and one for each place
+  -- one step for each factor 2 and each factor 5 of the size, one for each of the two trials that find no further
+  -- factor, and one for each digit after the point
   pub steps_are : steps ≡ twos + fives + 2 + places
 
--- a count that rises by the steps of a choice, and for a size of zero by none
+-- `new` is the step counter `old` after choosing a unit; it saturates at 2^64 - 1. A size of zero takes no step
 abbrev pub CountsChoice : ℕ → ℕ → ℕ → ℕ → Type 0
 CountsChoice size number old new =
     (size ≡ 0) × (new ≡ old) ⊎ (steps : ℕ) × TakesSteps size number steps × (new ≡ raised old steps)
 
--- the greatest step count of a choice for a size of this kind: 7 * 2^87 bytes take 116 steps at 27 places, and
--- 7 * 2^90 bits take 119 there if units of bytes are allowed
+-- the greatest step count of choosing a unit for a size of this kind. At a precision of 27, 7 * 2^87 bytes take 116
+-- steps, and 7 * 2^90 bits take 119 if units of bytes are allowed
 abbrev pub most_steps : Kind → ℕ
 most_steps Byte = 116
 most_steps Bit = 119
 
--- a size of this kind is shown in the unit by a type: the largest of its family that suits it, or its kind's own
+-- the unit in which an adjusted size is shown: the largest of its kind and of this type that is not above the size, or
+-- the own unit of the kind if there is none
 abbrev pub IsAppropriate : Edition → Kind → UnitType → ℕ → Shape → Type 0
 IsAppropriate edition kind unit_type size =
     IsLargestOrOwn kind (Suits edition (own_family kind) unit_type (size * bits_in kind))

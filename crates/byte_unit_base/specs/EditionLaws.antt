@@ -1,8 +1,9 @@
--- How the current version stands to the first.
+-- How v2 of the grammar extends v1.
 use Rattle.std.specs.Prelude.{◌≡◌, ◌*◌, ◌^◌, ◌++◌, codes}
 use Rattle.byte_unit_base.specs.Edition.{old, current}
 
--- it has one letter more, and bounds as many times wider
+-- law: v2 has one prefix letter more than v1, its limit of a whole part is 2^16 times as large, and its limit of a size
+-- is 1000 times as large
 pub record ExtendsOld : Type 0 where
   pub letters : current.letters ≡ old.letters ++ codes "R"
   pub whole_limit : current.whole_limit ≡ old.whole_limit * 2 ^ 16

@@ -1,4 +1,4 @@
--- Families of units, and types of units.
+-- Unit sets (of bytes, of bits, or of both) and types of units (binary, decimal, or both).
 use Rattle.std.specs.Prelude.{◌≡◌, ◌≤◌, Bool, true, false, length, ⊤}
 use Rattle.byte_unit_base.specs.Shape.{Shape}
 use Rattle.byte_unit_base.specs.Edition.{Edition}
@@ -7,24 +7,24 @@ use Rattle.byte_unit_base.specs.declared.unit.family.Family.TheVariants.{All, By
 use Rattle.byte_unit_base.specs.declared.unit.unit_type.UnitType.{UnitType}
 use Rattle.byte_unit_base.specs.declared.unit.unit_type.UnitType.TheVariants.{Binary, Decimal, Both}
 
--- a family has units of bits, or of bytes
+-- the unit set has the units that count bits (`bit` is true), or those that count bytes
 abbrev pub HasKind : Family → Bool → Type 0
 HasKind All bit = ⊤
 HasKind Bytes bit = bit ≡ false
 HasKind Bits bit = bit ≡ true
 
--- powers of two, or of ten, are of a type
+-- the type has the units with a binary (IEC) prefix, or those with a decimal (SI) prefix
 abbrev pub IsOfType : UnitType → Bool → Type 0
 IsOfType Binary binary = binary ≡ true
 IsOfType Decimal binary = binary ≡ false
 IsOfType Both binary = ⊤
 
--- the unit has a prefix that the edition knows
+-- the unit has a prefix, and the edition knows this prefix
 pub record HasPrefix (edition : Edition) (unit : Shape) : Type 0 where
   pub some : 1 ≤ unit.power
   pub known : unit.power ≤ length edition.letters
 
--- the units of a family are those of its kind that have a prefix
+-- the unit is in the unit set: it has a prefix that the edition knows, and is of the kind of the set
 pub record InFamily (edition : Edition) (family : Family) (unit : Shape) : Type 0 where
   pub prefix : HasPrefix edition unit
   pub kind : HasKind family unit.bit

@@ -1,4 +1,5 @@
--- Which fault a text has that is refused: the first from the left, by the place where its longest front ends.
+-- The error of an input that is not in the grammar: that of the first wrong character, by the parser state after the
+-- longest viable prefix.
 use Rattle.std.specs.Prelude.{◌≡◌, ℕ, Bool, true, false, if◌then◌else◌, nat_lt, List, [], ◌∷◌, ◌++◌, Option, Some, None}
 use Rattle.std.specs.Prelude.{codes}
 use Rattle.std.specs.Char.{digit_value}
@@ -9,30 +10,36 @@ use Rattle.byte_unit_base.specs.Front.{Place, beginning, in_whole, after_point, 
 use Rattle.byte_unit_base.specs.Front.{after_b, after_bi, after_bit, after_bits, IsUnitFront, IsSizeFront}
 use Rattle.byte_unit_base.specs.Front.{IsLongestFront}
 
+-- the error of an input, as the specification has it
 pub data Fault : Type 0 where
-  -- the size of a number of so many last places is too large; no reader of a number and a unit answers it
+  -- the size is too large; its number, scaled by 10^28. A parser of a number and a unit does not return this error
   exceeded : ℕ → Fault
+  -- a digit is missing: this character is in its place, or is the point in which the input ends
   not_number : ℕ → Fault
+  -- the input ends before a number
   no_value : Fault
+  -- a digit too many: with it the whole part reaches its limit, or it is the 29th after the point
   too_long : Fault
-  -- a character, those that are named to the user in its place in this order, and whether the text could end there;
-  -- others could stand there too, such as the other case of a letter, or an i after a prefix
+  -- this character cannot continue a unit; the characters that the message names as expected, in this order, and
+  -- whether the input could end there. Other characters can be valid too: the other case of a letter, an `i` after a
+  -- prefix
   bad_unit : ℕ → List ℕ → Bool → Fault
 
--- a character that begins no unit
+-- the error at a character that cannot begin a unit
 abbrev pub no_unit : Edition → ℕ → Fault
 no_unit edition c = bad_unit c (codes "B" ++ edition.letters) true
 
--- a digit too many, or a character that begins no unit
+-- the error at a character after a digit: a digit too many, or a character that cannot begin a unit
 abbrev pub after_digit : Edition → ℕ → Fault
 after_digit edition c = if nat_lt (digit_value c) 10 then too_long else no_unit edition c
 
--- what is named after a prefix: both letters where case counts, else B where bytes are preferred and b where bits are
+-- the characters that an error after a prefix names: both letters if case is significant, and otherwise `B` if bytes
+-- are preferred, or `b` if bits are
 abbrev pub expected_after_prefix : Flags → List ℕ
 expected_after_prefix flags =
     if flags.ignore_case then (if flags.prefer_byte then codes "B" else codes "b") else codes "Bb"
 
--- the fault of the character after the longest front
+-- the error at the character `c` that follows the longest viable prefix, by the parser state after that prefix
 abbrev pub fault_at : Edition → Flags → Place → ℕ → Fault
 fault_at edition flags beginning c = not_number c
 fault_at edition flags in_whole c = after_digit edition c
@@ -49,23 +56,23 @@ fault_at edition flags after_bits c = bad_unit c [] true
 abbrev pub letter_i : ℕ
 letter_i = 105
 
--- the fault of a text that stops after `bi`: it could have stopped before the i
+-- the error of an input that ends in `bi`: it could have ended before the `i`
 abbrev pub stops_at_bi : Fault
 stops_at_bi = bad_unit letter_i [] true
 
--- the fault of a text that is a front to its end, if it has one
+-- the error of an input that is a viable prefix as a whole, by the parser state at its end; `None` if it can end there
 abbrev pub fault_at_end : Place → Option Fault
 fault_at_end beginning = Some no_value
 fault_at_end after_point = Some (not_number point)
 fault_at_end after_bi = Some stops_at_bi
 fault_at_end _ = None
 
--- the fault by the place of the longest front, and what follows it
+-- the error by the parser state after the longest viable prefix, and by the rest of the input
 abbrev pub IsFaultAfter : Edition → Flags → Place → List ℕ → Fault → Type 0
 IsFaultAfter edition flags place [] fault = fault_at_end place ≡ Some fault
 IsFaultAfter edition flags place (c ∷ rest) fault = fault ≡ fault_at edition flags place c
 
--- the fault of a text that is refused, by what is a front
+-- the error of an input is that after its longest viable prefix; `IsFront` says what a viable prefix is
 pub record IsFirstFault
     (IsFront : Place → List ℕ → Type 0) (edition : Edition) (flags : Flags) (text : List ℕ) (fault : Fault)
     : Type 0 where
@@ -75,10 +82,10 @@ pub record IsFirstFault
   pub longest : IsLongestFront IsFront text place front rest
   pub fault_is : IsFaultAfter edition flags place rest fault
 
--- the fault of a text that spells no unit
+-- the error of an input that does not spell a unit
 abbrev pub IsUnitFault : Edition → Flags → List ℕ → Fault → Type 0
 IsUnitFault edition = IsFirstFault (IsUnitFront edition) edition
 
--- the fault of a text that is no number and unit
+-- the error of an input that is not a number and a unit
 abbrev pub IsSizeFault : Edition → Flags → List ℕ → Fault → Type 0
 IsSizeFault edition = IsFirstFault (IsSizeFront edition) edition

@@ -1,5 +1,5 @@
--- The texts of errors. A character is quoted as std quotes it for programmers; std says nothing of that past ASCII, and
--- then nothing is said here of the text.
+-- The messages of errors. A character is quoted as by its `Debug` in std; std specifies that for ASCII only, so for
+-- other characters nothing is said of the message (`None`).
 use Rattle.std.specs.Prelude.{ℕ, Bool, if◌then◌else◌, ◌==◌, length, List, [], ◌∷◌, ◌++◌, Option, Some, None, codes}
 use Rattle.std.specs.Fmt.{debug_char, ◌++?◌}
 use Rattle.byte_unit_math.specs.Bounds.{places_of_decimal}
@@ -14,9 +14,11 @@ use Rattle.byte_unit_base.specs.declared.errors.ParseError.TheVariants.{Value, U
 use Rattle.byte_unit_base.specs.declared.errors.JsonSizeError.{JsonSizeError}
 use Rattle.byte_unit_base.specs.declared.errors.JsonSizeError.TheVariants.{NotString, Parse}
 
+-- the message of a number that fits no size
 abbrev pub exceeded_text : ExceededBoundsError → Option (List ℕ)
 exceeded_text e = Some (codes "value exceeds the valid range")
 
+-- the message of an error in the number
 abbrev pub value_text : ValueParseError → Option (List ℕ)
 value_text (ExceededBounds n) =
     Some (codes "the value " ++ short n places_of_decimal ++ codes " exceeds the valid range")
@@ -29,39 +31,43 @@ abbrev pub others_text : List ℕ → Option (List ℕ)
 others_text [] = Some []
 others_text (c ∷ cs) = Some (if length cs == 0 then codes " or " else codes ", ") ++? debug_char c ++? others_text cs
 
--- what is expected: these characters, or also none
+-- what is expected: one of these characters, or (if the flag is set) the end of the input
 abbrev pub expected_text : List ℕ → Bool → Option (List ℕ)
 expected_text [] none = Some (codes " (no character is expected)")
 expected_text (c ∷ cs) none =
     Some (codes " (") ++? debug_char c ++? others_text cs
     ++? Some (if none then codes " or no character" else []) ++? Some (codes " is expected)")
 
+-- the message of an error in the unit
 abbrev pub unit_text : UnitParseError → Option (List ℕ)
 unit_text e =
     Some (codes "the character ") ++? debug_char e.character ++? Some (codes " is incorrect")
     ++? expected_text e.expected_characters.now e.also_expect_no_character
 
+-- the message of an error of a parser of sizes
 abbrev pub parse_text : ParseError → Option (List ℕ)
 parse_text (Value e) = value_text e
 parse_text (UnitError e) = unit_text e
 
+-- the message of an error of a parser of JSON values
 abbrev pub json_text : JsonSizeError → Option (List ℕ)
 json_text NotString = Some (codes "not a JSON string")
 json_text (Parse e) = parse_text e
 
--- The texts under a formatter's flags, which change nothing. Nothing is said here of those that quote a character,
--- since
--- std says nothing of a quoted one under flags.
+-- the message of an error in the number, under the flags of a formatter, which change nothing. Nothing is said of a
+-- message that quotes a character, since std does not specify a quoted character under flags
 abbrev pub styled_value_text : ValueParseError → Option (List ℕ)
 styled_value_text (ExceededBounds n) = value_text (ExceededBounds n)
 styled_value_text (NotNumber c) = None
 styled_value_text NoValue = value_text NoValue
 styled_value_text NumberTooLong = value_text NumberTooLong
 
+-- the message of an error of a parser of sizes, under the flags of a formatter
 abbrev pub styled_parse_text : ParseError → Option (List ℕ)
 styled_parse_text (Value e) = styled_value_text e
 styled_parse_text (UnitError e) = None
 
+-- the message of an error of a parser of JSON values, under the flags of a formatter
 abbrev pub styled_json_text : JsonSizeError → Option (List ℕ)
 styled_json_text NotString = json_text NotString
 styled_json_text (Parse e) = styled_parse_text e

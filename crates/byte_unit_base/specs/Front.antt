@@ -1,4 +1,5 @@
--- The fronts of a text: what can still become a spelling, or a number and a unit, and where it ends.
+-- Viable prefixes: the texts that can be completed to a unit, or to a number and a unit, and the parser state after
+-- each.
 use Rattle.std.specs.Prelude.{◌≡◌, ℕ, ◌<◌, Bool, ◌⊎◌, List, [], ◌++◌, replicate, codes}
 use Rattle.std.specs.Str.{str_to_ascii_lowercase}
 use Rattle.byte_unit_base.specs.Edition.{Edition}
@@ -6,11 +7,12 @@ use Rattle.byte_unit_base.specs.Spelling.{SpellsPrefix}
 use Rattle.byte_unit_base.specs.Number.{IsWholePart, IsPointed, IsPrecise, IsNumberText}
 use Rattle.byte_unit_base.specs.SizeText.{space}
 
--- where a front ends; before a unit is behind spaces, and where a unit stands alone at its beginning
+-- the parser state after a viable prefix. `before_unit` is after the spaces that follow a number, and, if a unit is
+-- parsed alone, at the beginning
 pub data Place : Type 0 where
   beginning in_whole after_point in_fraction before_unit after_prefix after_b after_bi after_bit after_bits : Place
 
--- the text is the letters of `bits` up to such a place
+-- the text is a beginning of `bits`, in either case, and leads to this parser state
 abbrev pub IsWord : Place → List ℕ → Type 0
 IsWord after_b word = str_to_ascii_lowercase word ≡ codes "b"
 IsWord after_bi word = str_to_ascii_lowercase word ≡ codes "bi"
@@ -18,11 +20,11 @@ IsWord after_bit word = str_to_ascii_lowercase word ≡ codes "bit"
 IsWord after_bits word = str_to_ascii_lowercase word ≡ codes "bits"
 IsWord _ word = ⊥
 
--- the text is a prefix
+-- the text is a prefix of a unit, such as `k` or `Ki`
 abbrev pub IsPrefix : Edition → List ℕ → Type 0
 IsPrefix edition text = (power : ℕ) × (binary : Bool) × SpellsPrefix edition text power binary
 
--- the text is a prefix or none, and some letters of `bits`
+-- the text is a prefix of a unit or nothing, and then a beginning of `bits`, and leads to this parser state
 pub record IsWordFront (edition : Edition) (place : Place) (text : List ℕ) : Type 0 where
   pub prefix_part : List ℕ
   pub word_part : List ℕ
@@ -30,13 +32,13 @@ pub record IsWordFront (edition : Edition) (place : Place) (text : List ℕ) : T
   pub prefix_is : (prefix_part ≡ []) ⊎ IsPrefix edition prefix_part
   pub word_is : IsWord place word_part
 
--- the text can still become a spelling
+-- the text is a viable prefix of a unit, and leads to this parser state
 abbrev pub IsUnitFront : Edition → Place → List ℕ → Type 0
 IsUnitFront edition before_unit text = text ≡ []
 IsUnitFront edition after_prefix text = IsPrefix edition text
 IsUnitFront edition place text = IsWordFront edition place text
 
--- the text is a number, spaces or none, and what can still become a spelling
+-- the text is a number, any number of spaces, and a viable prefix of a unit, and leads to this parser state
 pub record IsSizedFront (edition : Edition) (place : Place) (text : List ℕ) : Type 0 where
   pub number_part : List ℕ
   pub number : ℕ
@@ -46,7 +48,7 @@ pub record IsSizedFront (edition : Edition) (place : Place) (text : List ℕ) : 
   pub number_is : IsNumberText edition number_part number
   pub unit_is : IsUnitFront edition place unit_part
 
--- the text can still become a number and a unit
+-- the text is a viable prefix of a number and a unit, and leads to this parser state
 abbrev pub IsSizeFront : Edition → Place → List ℕ → Type 0
 IsSizeFront edition beginning text = text ≡ []
 IsSizeFront edition in_whole text = (value : ℕ) × IsWholePart edition text value
@@ -55,7 +57,7 @@ IsSizeFront edition in_fraction text = (number : ℕ) × IsPrecise edition text 
 IsSizeFront edition before_unit text = (front : IsSizedFront edition before_unit text) × (0 < front.spaces)
 IsSizeFront edition place text = IsSizedFront edition place text
 
--- the text is front and rest, the front ends at this place, and no longer one is a front
+-- the input is `front` and then `rest`, and `front` is its longest viable prefix, with this parser state after it
 pub record IsLongestFront
     (IsFront : Place → List ℕ → Type 0) (text : List ℕ) (place : Place) (front rest : List ℕ) : Type 0 where
   pub text_is : text ≡ front ++ rest

@@ -1,4 +1,4 @@
--- What bytes and bits differ in.
+-- How sizes in bytes and sizes in bits differ.
 use Rattle.std.specs.Prelude.{ℕ, Bool, true, false, not}
 use Rattle.byte_unit_base.specs.Shape.{Shape, shape}
 use Rattle.byte_unit_base.specs.Spelling.{Flags, reading}
@@ -7,26 +7,27 @@ use Rattle.byte_unit_base.specs.declared.kind.Kind.TheVariants.{Byte, Bit}
 use Rattle.byte_unit_base.specs.declared.unit.family.Family.{Family}
 use Rattle.byte_unit_base.specs.declared.unit.family.Family.TheVariants.{Bytes, Bits}
 
--- the bits in one of the kind
+-- the number of bits that a size of 1 has: 8 for bytes, 1 for bits
 abbrev pub bits_in : Kind → ℕ
 bits_in Byte = 8
 bits_in Bit = 1
 
--- whether it counts bits
+-- whether the kind is bits
 abbrev pub counts_bits : Kind → Bool
 counts_bits Byte = false
 counts_bits Bit = true
 
--- the unit that is one of the kind; it has no prefix
+-- the own unit of the kind: a byte or a bit, without a prefix
 abbrev pub own_unit : Kind → Shape
 own_unit kind = shape 0 (not (counts_bits kind)) (counts_bits kind)
 
--- its multiples
+-- the unit set of the multiples of the own unit
 abbrev pub own_family : Kind → Family
 own_family Byte = Bytes
 own_family Bit = Bits
 
--- how its texts are read: bytes are preferred by bytes, bits by bits, whose texts are always case sensitive
+-- how the parser of this kind reads a unit: for sizes in bytes, bytes are preferred; for sizes in bits, bits are, and
+-- case is always significant
 abbrev pub flags_for : Kind → Bool → Flags
 flags_for Byte ignore_case = reading ignore_case true
 flags_for Bit ignore_case = reading false false

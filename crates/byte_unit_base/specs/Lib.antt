@@ -1,3 +1,4 @@
+-- The definitions that the contracts of this crate are written in.
 pub mod Shape
 pub mod Edition
 pub mod Units
@@ -23,6 +24,7 @@ pub mod ReaderLaws
 pub mod ChoiceLaws
 pub mod SizeLaws
 pub mod EditionLaws
+-- private: no public contract cites these
 pub mod Scan
 pub mod UnitScan
 pub mod SizeScan

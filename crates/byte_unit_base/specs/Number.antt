@@ -1,4 +1,5 @@
--- The text of a number. A text is the list of its characters, and a number is how many last places of a decimal it has.
+-- The text of a number. A text is the list of its characters, and a number is scaled by 10^28 unless it is a whole
+-- part.
 use Rattle.std.specs.Prelude.{◌≡◌, ℕ, ◌+◌, ◌-◌, ◌*◌, ◌^◌, ◌<◌, ◌≤◌, ◌⊎◌, List, [], ◌∷◌, ◌++◌, length}
 use Rattle.std.specs.Str.Parse.{IsNumeral, digits_value}
 use Rattle.byte_unit_math.specs.Bounds.{one, places_of_decimal}
@@ -8,24 +9,24 @@ use Rattle.byte_unit_base.specs.Edition.{Edition}
 abbrev pub point : ℕ
 point = 46
 
--- the text is the digits of a whole part of this value
+-- the text is decimal digits of this value, which is below the limit of a whole part
 abbrev pub IsWholePart : Edition → List ℕ → ℕ → Type 0
 IsWholePart edition text value = IsNumeral 10 text × (value ≡ digits_value 10 text) × (value < edition.whole_limit)
 
--- the text is the digits after a point, no more than a decimal has places, which add this many last places
+-- the text is the digits after a point, at most 28; `n` is the fraction, scaled by 10^28
 abbrev pub IsFraction : List ℕ → ℕ → Type 0
 IsFraction text n =
     IsNumeral 10 text
     × (length text ≤ places_of_decimal)
     × (n ≡ digits_value 10 text * 10 ^ (places_of_decimal - length text))
 
--- the text is a whole part and a point
+-- the text is a whole part of this value, and a point
 pub record IsPointed (edition : Edition) (text : List ℕ) (value : ℕ) : Type 0 where
   pub whole : List ℕ
   pub text_is : text ≡ whole ++ point ∷ []
   pub whole_is : IsWholePart edition whole value
 
--- the text is a whole part, a point and a fraction, together n last places
+-- the text is a whole part, a point and a fraction; `n` is the number, scaled by 10^28
 pub record IsPrecise (edition : Edition) (text : List ℕ) (n : ℕ) : Type 0 where
   pub whole : List ℕ
   pub fraction : List ℕ
@@ -36,7 +37,7 @@ pub record IsPrecise (edition : Edition) (text : List ℕ) (n : ℕ) : Type 0 wh
   pub fraction_is : IsFraction fraction part
   pub number_is : n ≡ value * one + part
 
--- the text is a number of n last places, with a fraction or without
+-- the text is a number, with or without a fraction; `n` is its value, scaled by 10^28
 abbrev pub IsNumberText : Edition → List ℕ → ℕ → Type 0
 IsNumberText edition text n =
     ((value : ℕ) × IsWholePart edition text value × (n ≡ value * one)) ⊎ IsPrecise edition text n

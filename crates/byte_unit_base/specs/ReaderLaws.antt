@@ -1,4 +1,4 @@
--- Laws of the readers, over the texts that are read. A text is the list of its characters.
+-- The laws of the parsers. An input is the list of its characters.
 use Rattle.std.specs.Prelude.{◌≡◌, ◌↔◌, ℕ, Bool, false, ◌⊎◌, List, ◌++◌}
 use Rattle.byte_unit_base.specs.Shape.{Shape}
 use Rattle.byte_unit_base.specs.Edition.{current, name}
@@ -9,47 +9,49 @@ use Rattle.byte_unit_base.specs.Front.{Place, IsUnitFront, IsSizeFront}
 use Rattle.byte_unit_base.specs.Fault.{Fault, IsUnitFault, IsSizeFault}
 use Rattle.byte_unit_base.specs.declared.unit.Unit.{Unit as UnitName}
 
--- there is one meaning or one fault, and not both
+-- an input has exactly one meaning, or exactly one error, and not both
 pub record IsOneAnswer (Meaning : Type 0) (Means : Meaning → Type 0) (Fails : Fault → Type 0) : Type 0 where
   pub some : ((meaning : Meaning) × Means meaning) ⊎ ((fault : Fault) × Fails fault)
   pub one_meaning : (meaning other : Meaning) → Means meaning → Means other → meaning ≡ other
   pub one_fault : (fault other : Fault) → Fails fault → Fails other → fault ≡ other
   pub not_both : (meaning : Meaning) (fault : Fault) → Means meaning → ¬ (Fails fault)
 
--- each text spells one unit or has one fault, and not both
+-- law: each input spells exactly one unit, or has exactly one error, and not both
 abbrev pub UnitTextsHaveOneAnswer : Type 0
 UnitTextsHaveOneAnswer =
     (flags : Flags) (text : List ℕ) → IsOneAnswer Shape (Spells current flags text) (IsUnitFault current flags text)
 
--- the text states this number of this unit
+-- the input is this number (scaled by 10^28) of this unit
 abbrev pub States : Flags → List ℕ → ℕ × Shape → Type 0
 States flags text stated = IsSizeText current flags text stated.0 stated.1
 
--- each text states one number and unit or has one fault, and not both
+-- law: each input is exactly one number and unit, or has exactly one error, and not both
 abbrev pub SizeTextsHaveOneAnswer : Type 0
 SizeTextsHaveOneAnswer =
     (flags : Flags) (text : List ℕ) → IsOneAnswer (ℕ × Shape) (States flags text) (IsSizeFault current flags text)
 
--- something can follow the text, or nothing, that gives it a meaning
+-- the text can be completed: with some rest, or with nothing, it has a meaning
 abbrev pub Begins : (Meaning : Type 0) → (List ℕ → Meaning → Type 0) → List ℕ → Type 0
 Begins Meaning Means text = (rest : List ℕ) × (meaning : Meaning) × Means (text ++ rest) meaning
 
--- the fronts of units are exactly the beginnings of their spellings
+-- law: the viable prefixes of a unit are exactly the beginnings of the spellings of units
 abbrev pub UnitFrontsAreBeginnings : Type 0
 UnitFrontsAreBeginnings =
     (flags : Flags) (text : List ℕ)
     → ((place : Place) × IsUnitFront current place text) ↔ Begins Shape (Spells current flags) text
 
--- the fronts of sizes are exactly the beginnings of their texts
+-- law: the viable prefixes of a number and a unit are exactly the beginnings of the inputs in the grammar
 abbrev pub SizeFrontsAreBeginnings : Type 0
 SizeFrontsAreBeginnings =
     (flags : Flags) (text : List ℕ)
     → ((place : Place) × IsSizeFront current place text) ↔ Begins (ℕ × Shape) (States flags) text
 
--- the name of a unit spells it where case counts, whatever is preferred, and has no white space at its ends
+-- the name of the unit spells it if case is significant, whether bytes or bits are preferred, and has no white space at
+-- its ends
 pub record IsSpelledByItsName (unit : UnitName) (prefer_byte : Bool) : Type 0 where
   pub spells : Spells current (reading false prefer_byte) (name current (shape_of unit)) (shape_of unit)
   pub trimmed_is : trimmed (name current (shape_of unit)) ≡ name current (shape_of unit)
 
+-- law: the name of each unit is parsed as this unit
 abbrev pub NamesSpellTheirUnits : Type 0
 NamesSpellTheirUnits = (unit : UnitName) (prefer_byte : Bool) → IsSpelledByItsName unit prefer_byte

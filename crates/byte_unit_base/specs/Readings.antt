@@ -1,4 +1,5 @@
--- What the readers answer for a text, given as its bytes: one record each, in both directions.
+-- What the parsers of a unit, and of a number and a unit, return for an input, given by its UTF-8 bytes. Each record
+-- says both that what is returned is right, and that what is right is returned.
 use Rattle.std.specs.Prelude.{◌≡◌, ◌≢◌, ℕ, List, Result, IfOk, IfErr, IsOkAnd}
 use Rattle.byte_unit_base.specs.Shape.{Shape}
 use Rattle.byte_unit_base.specs.Edition.{current}
@@ -11,23 +12,23 @@ use Rattle.byte_unit_base.specs.declared.unit.Unit.{Unit as UnitName}
 use Rattle.byte_unit_base.specs.declared.errors.UnitParseError.{UnitParseError}
 use Rattle.byte_unit_base.specs.declared.errors.ParseError.{ParseError}
 
--- the unit that the text spells, or the first fault of a text that spells none
+-- the result is the unit that the input spells, or the error of an input that spells none
 pub record IsUnitReading (flags : Flags) (bytes : List ℕ) (result : Result UnitName UnitParseError) : Type 0 where
-  -- what is answered is spelled
+  -- the input spells the unit that is returned
   pub found : IfOk result (λ unit. Spells current flags (trimmed bytes) (shape_of unit))
-  -- what is spelled is answered
+  -- the unit that the input spells is returned
   pub reads : (unit : Shape) → Spells current flags (trimmed bytes) unit → IsOkAnd result (λ name. shape_of name ≡ unit)
-  -- a refusal is the fault of the text
+  -- an error that is returned is that of the input
   pub fault : IfErr result (λ error. IsUnitFault current flags (trimmed bytes) (unit_fault error))
 
--- the number, in last places, and the unit that the text states, or the first fault of a text that states none
+-- the result is the number (scaled by 10^28) and the unit of the input, or the error of an input that is none
 pub record IsNumberReading (flags : Flags) (bytes : List ℕ) (result : Result (ℕ × UnitName) ParseError) : Type 0 where
-  -- what is answered is stated
+  -- the input is the number and unit that are returned
   pub found : IfOk result (λ r. IsSizeText current flags (trimmed bytes) r.0 (shape_of r.1))
-  -- what is stated is answered
+  -- the number and unit of the input are returned
   pub reads : (number : ℕ) (unit : Shape) → IsSizeText current flags (trimmed bytes) number unit
       → IsOkAnd result (λ r. (r.0 ≡ number) × (shape_of r.1 ≡ unit))
-  -- a refusal is the fault of the text
+  -- an error that is returned is that of the input
   pub fault : IfErr result (λ error. IsSizeFault current flags (trimmed bytes) (size_fault error))
-  -- and never that of a size which is too large
+  -- the error is never that of a size which is too large
   pub no_bounds : IfErr result (λ error. (number : ℕ) → size_fault error ≢ exceeded number)

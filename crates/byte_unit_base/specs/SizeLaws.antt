@@ -1,4 +1,4 @@
--- Laws of sizes, over the definitions. A text is given by its bytes.
+-- The laws of sizes. An input is given by its UTF-8 bytes, and a number of a unit is scaled by 10^28.
 use Rattle.std.specs.Prelude.{◌≡◌, ℕ, ◌≤◌, ◌⊎◌, Bool, List}
 use Rattle.byte_unit_base.specs.Shape.{Shape}
 use Rattle.byte_unit_base.specs.Edition.{current}
@@ -8,23 +8,24 @@ use Rattle.byte_unit_base.specs.Accepted.{IsAccepted, Exceeds, HasFault, IsRefus
 use Rattle.byte_unit_base.specs.ReaderLaws.{IsOneAnswer}
 use Rattle.byte_unit_base.specs.declared.kind.Kind.{Kind}
 
--- a greater number never gives a smaller least size in the same unit
+-- law: a greater number of the same unit never gives a smaller size when both are rounded up
 abbrev pub GreaterNumbersGiveNoSmallerSizes : Type 0
 GreaterNumbersGiveNoSmallerSizes =
     (kind : Kind) (unit : Shape) (few many small large : ℕ)
     → few ≤ many → IsLeastOf kind few unit small → IsLeastOf kind many unit large → small ≤ large
 
--- there is a least size of so many of the unit, and no other
+-- a number of a unit, rounded up to whole bytes or bits, is exactly one size
 pub record HasOneLeastSize (kind : Kind) (number : ℕ) (unit : Shape) : Type 0 where
   pub size : ℕ
   pub is_least : IsLeastOf kind number unit size
   pub one : (other : ℕ) → IsLeastOf kind number unit other → other ≡ size
 
--- each number of each unit has one least size of each kind
+-- law: each number of each unit, rounded up to whole bytes or bits, is exactly one size
 abbrev pub EachNumberHasOneLeastSize : Type 0
 EachNumberHasOneLeastSize = (kind : Kind) (number : ℕ) (unit : Shape) → HasOneLeastSize kind number unit
 
--- a text is accepted as one size, or it exceeds the bound by one number, or it fails by one fault, and no two of these
+-- an input is accepted as exactly one size, or its size is too large and it has exactly one number, or it has exactly
+-- one error; no two of these hold
 pub record IsOneOfThree (Accepts Exceeds : ℕ → Type 0) (Fails : Fault → Type 0) : Type 0 where
   pub some : ((n : ℕ) × Accepts n) ⊎ (((number : ℕ) × Exceeds number) ⊎ ((fault : Fault) × Fails fault))
   pub one_size : (n other : ℕ) → Accepts n → Accepts other → n ≡ other
@@ -34,8 +35,8 @@ pub record IsOneOfThree (Accepts Exceeds : ℕ → Type 0) (Fails : Fault → Ty
   pub no_fault : (n : ℕ) (fault : Fault) → Accepts n → ¬ (Fails fault)
   pub no_fault_of_excess : (number : ℕ) (fault : Fault) → Exceeds number → ¬ (Fails fault)
 
--- each text is accepted as one size, or is in the grammar with one number whose size is too large, or has one fault of
--- its characters, and no two of these
+-- law: each input is accepted as one size, or is in the grammar but its size is too large, or is not in the grammar and
+-- has one error; no two of these hold
 abbrev pub EachTextIsOneOfThree : Type 0
 EachTextIsOneOfThree =
     (kind : Kind) (ignore_case : Bool) (text : List ℕ)
@@ -44,7 +45,8 @@ EachTextIsOneOfThree =
     (Exceeds current kind ignore_case text)
     (HasFault current kind ignore_case text)
 
--- each text is accepted as one size or refused by one fault, and not both; a size that is too large is a fault here
+-- law: each input is accepted as exactly one size, or rejected with exactly one error, and not both. Here a size that
+-- is too large is an error
 abbrev pub TextsAreAcceptedOrRefused : Type 0
 TextsAreAcceptedOrRefused =
     (kind : Kind) (ignore_case : Bool) (text : List ℕ)

@@ -1,4 +1,4 @@
--- What the readers of a size answer for a text, and for bytes.
+-- What the parsers of a size return, for a string and for bytes.
 use Rattle.std.specs.Prelude.{◌≡◌, ℕ, Bool, List, Option, MatchOption, Result, Ok, IfOk, IfErr, IsErrAnd}
 use Rattle.std.specs.Str.{IsUtf8}
 use Rattle.byte_unit_base.specs.Edition.{current}
@@ -8,8 +8,9 @@ use Rattle.byte_unit_base.specs.declared.errors.ParseError.{ParseError}
 use Rattle.byte_unit_base.specs.declared.kind.Kind.{Kind}
 use Rattle.byte_unit_base.specs.Accepted.{IsAccepted, Exceeds, IsRefused}
 
--- the size that the text is accepted as, the bounds fault with the number of a text whose size is too large, and of
--- every other text its fault; both ways
+-- the result is the size that the input is accepted as, the error of a size that is too large (with its number, scaled
+-- by 10^28), or the error of an input that is not in the grammar. What is returned is right, and what is right is
+-- returned
 pub record IsSizeReading
     (kind : Kind) (ignore_case : Bool) (bytes : List ℕ) (result : Result ℕ ParseError) : Type 0 where
   pub found : IfOk result (IsAccepted current kind ignore_case bytes)
@@ -18,7 +19,7 @@ pub record IsSizeReading
       → IsErrAnd result (λ error. size_fault error ≡ exceeded number)
   pub fault : IfErr result (λ error. IsRefused current kind ignore_case bytes (size_fault error))
 
--- nothing where the bytes are no text, and else the reading of the text that they are
+-- `None` if the bytes are not UTF-8, and otherwise the result of parsing them as a string
 abbrev pub IsBytesReading : Kind → Bool → List ℕ → Option (Result ℕ ParseError) → Type 0
 IsBytesReading kind ignore_case bytes result =
     MatchOption result (¬ IsUtf8 bytes) (λ answer. IsUtf8 bytes × IsSizeReading kind ignore_case bytes answer)

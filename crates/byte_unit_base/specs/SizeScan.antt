@@ -1,5 +1,5 @@
--- Private: how the reader goes over a number and a unit, one step a character. No public contract cites this file; that
--- what it comes to is the texts and faults of the other files is proved.
+-- Private: the state machine that reads a number and a unit, character by character. No public contract cites this
+-- file; it is proved that it accepts the inputs, and gives the errors, of the other files.
 use Rattle.std.specs.Prelude.{ℕ, ◌+◌, ◌-◌, ◌*◌, ◌^◌, ◌<◌, ◌≤◌, ⊤, Bool, if◌then◌else◌, ◌==◌, nat_lt, Option, Some, None}
 use Rattle.std.specs.Prelude.{Result, Ok, Err}
 use Rattle.std.specs.Option.{option_map}
@@ -21,23 +21,26 @@ use Rattle.byte_unit_base.specs.declared.read.scan.SizeScan.{SizeScan}
 use Rattle.byte_unit_base.specs.declared.read.scan.SizeScan.TheVariants.{Beginning, Whole, Point, Fraction, Gap}
 use Rattle.byte_unit_base.specs.declared.read.scan.SizeScan.TheVariants.{Unit as UnitAt}
 
--- the numbers of a scan are those of texts
+-- the invariant of a state: its whole part is below the limit, and its fraction is below 10^j and has at most 28 digits
 abbrev pub IsScan : SizeScan → Type 0
 IsScan (Whole w) = w < whole_limit
 IsScan (Point w) = w < whole_limit
 IsScan (Fraction w f j) = (w < whole_limit) × (f < 10 ^ j) × (j ≤ places_of_decimal)
 IsScan _ = ⊤
 
+-- whether the character is a decimal digit
 abbrev pub is_digit : ℕ → Bool
 is_digit c = nat_lt (digit_value c) 10
 
--- a space, or the beginning of a unit, after a number of n last places
+-- the state after a space, or after the first character of a unit, that follows the number `n`, scaled by 10^28
 abbrev pub after_number : ℕ → ℕ → Option SizeScan
 after_number n c = if c == space then Some (Gap n) else option_map (UnitAt n) (unit_step unit_start c)
 
+-- the number with the whole part `w` and with `f` as the `j` digits after the point, scaled by 10^28
 abbrev pub precise : ℕ → ℕ → ℕ → ℕ
 precise w f j = w * one + f * 10 ^ (places_of_decimal - j)
 
+-- the state after one character more, or `None` if it cannot follow
 unfoldable pub size_step : SizeScan → ℕ → Option SizeScan
 size_step Beginning c = if is_digit c then Some (Whole (digit_value c)) else None
 size_step (Whole w) c =
@@ -51,6 +54,7 @@ size_step (Fraction w f j) c =
 size_step (Gap n) c = after_number n c
 size_step (UnitAt n s) c = option_map (UnitAt n) (unit_step s c)
 
+-- the parser state that belongs to a state of the machine
 abbrev pub size_place : SizeScan → Place
 size_place Beginning = beginning
 size_place (Whole w) = in_whole
@@ -59,17 +63,18 @@ size_place (Fraction w f j) = in_fraction
 size_place (Gap n) = before_unit
 size_place (UnitAt n s) = place_of s
 
--- the number at whose last digit a scan may be
+-- the number, scaled by 10^28, if the last character was one of its digits, and otherwise `None`
 abbrev pub number_of : SizeScan → Option ℕ
 number_of (Whole w) = Some (w * one)
 number_of (Fraction w f j) = Some (precise w f j)
 number_of _ = None
 
--- a number and its unit at the end of a text
+-- the result for an input that ends after this number and this unit, or (`None`) within a unit, in `bi`
 abbrev pub sized : ℕ → Option Shape → Result (ℕ × Shape) Fault
 sized n (Some s) = Ok (n, s)
 sized n None = Err stops_at_bi
 
+-- the result for an input that ends in this state
 abbrev pub size_at_end : Flags → SizeScan → Result (ℕ × Shape) Fault
 size_at_end flags Beginning = Err no_value
 size_at_end flags (Whole w) = sized (w * one) (unit_of flags unit_start)
@@ -78,6 +83,7 @@ size_at_end flags (Fraction w f j) = sized (precise w f j) (unit_of flags unit_s
 size_at_end flags (Gap n) = sized n (unit_of flags unit_start)
 size_at_end flags (UnitAt n s) = sized n (unit_of flags s)
 
+-- the state machine of a number and a unit
 abbrev pub size_scan : Flags → Scan SizeScan (ℕ × Shape)
 size_scan flags = record {
   flags = flags;
@@ -87,9 +93,10 @@ size_scan flags = record {
   at_end = size_at_end flags;
 }
 
--- the answer of the code
+-- the number and unit that the code returns, with the unit as a `Shape`
 abbrev pub stated : ℕ × UnitName → ℕ × Shape
 stated found = (found.0, shape_of found.1)
 
+-- a result of the code, as the specification has it
 abbrev pub size_seen : Result (ℕ × UnitName) ParseError → Result (ℕ × Shape) Fault
 size_seen = seen stated size_fault

@@ -6,15 +6,15 @@ use Rattle.byte_unit_base.specs.Edition.{Edition}
 use Rattle.byte_unit_base.specs.Spelling.{Flags, Spells}
 use Rattle.byte_unit_base.specs.Number.{IsNumberText}
 
--- the characters of a text, given as its bytes, without the white space at both its ends
+-- the characters of an input, given by its UTF-8 bytes, without the white space at both its ends
 abbrev pub trimmed : List ℕ → List ℕ
 trimmed bytes = drop_trailing_whitespace (skip_leading_whitespace (chars bytes))
 
--- the character that may stand between a number and a unit
+-- the space, the one character that can be between a number and a unit
 abbrev pub space : ℕ
 space = 32
 
--- the text is this number of last places, any number of spaces, and the spelling of a unit
+-- the text is this number (scaled by 10^28), any number of spaces, and a spelling of this unit
 pub record IsSizeText (edition : Edition) (flags : Flags) (text : List ℕ) (number : ℕ) (unit : Shape) : Type 0 where
   pub number_part : List ℕ
   pub spaces : ℕ

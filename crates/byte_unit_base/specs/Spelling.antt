@@ -7,20 +7,21 @@ use Rattle.byte_unit_base.specs.Shape.{Shape}
 use Rattle.byte_unit_base.specs.Edition.{Edition}
 pub use Rattle.byte_unit_base.specs.declared.unit.scan.Flags.{Flags}
 
--- how a text is read: whether `b` means bytes, and whether bytes are meant where nothing says
+-- how a unit is read: whether case is ignored, so that `b` means bytes as `B` does, and whether a unit without a suffix
+-- means bytes
 abbrev pub reading : Bool → Bool → Flags
 reading ignore_case prefer_byte = record { ignore_case = ignore_case; prefer_byte = prefer_byte }
 
--- c is the letter of the prefix of this power, in either case
+-- `c` is the prefix letter at this place, in either case
 abbrev pub IsPrefixLetter : Edition → ℕ → ℕ → Type 0
 IsPrefixLetter edition power c =
     (0 < power) × (power ≤ length edition.letters) × (to_ascii_uppercase c ≡ slice_index edition.letters (power - 1))
 
--- the text says powers of two, by an i, or powers of ten
+-- the text is `i`, in either case, for a binary prefix, and empty for a decimal one
 abbrev pub SpellsBinary : List ℕ → Bool → Type 0
 SpellsBinary text binary = (text ≡ []) × (binary ≡ false) ⊎ (str_to_ascii_lowercase text ≡ codes "i") × (binary ≡ true)
 
--- the text is a prefix: the letter of its power, and then what says powers of two or of ten
+-- the text is a prefix: the letter at this place, and an `i` if the prefix is binary
 pub record SpellsPrefix (edition : Edition) (text : List ℕ) (power : ℕ) (binary : Bool) : Type 0 where
   pub letter : ℕ
   pub infix_part : List ℕ
@@ -28,8 +29,9 @@ pub record SpellsPrefix (edition : Edition) (text : List ℕ) (power : ℕ) (bin
   pub letter_is : IsPrefixLetter edition power letter
   pub infix_is : SpellsBinary infix_part binary
 
--- the text says bits or bytes. An edition has no field for these suffixes: one more here changes the first version too,
--- and the law on old meanings with it. Give `Edition` a field for them before one is added
+-- the text is a suffix (nothing, `B`, `b`, `bit` or `bits`) that means bits, or bytes if `bit` is false. An edition has
+-- no field for the suffixes, so one more here would change v1 too, and the law that v2 extends v1: give `Edition` a
+-- field for them first
 abbrev pub SpellsCount : Flags → List ℕ → Bool → Type 0
 SpellsCount flags text bit =
     (text ≡ []) × (bit ≡ not flags.prefer_byte)
@@ -38,13 +40,13 @@ SpellsCount flags text bit =
     ⊎ ((str_to_ascii_lowercase text ≡ codes "bit") × (bit ≡ true)
     ⊎ (str_to_ascii_lowercase text ≡ codes "bits") × (bit ≡ true))))
 
--- the text says bits or bytes, and no more; bytes go by powers of two, and bits do not
+-- the text is a suffix alone, and the unit has no prefix; a byte then counts as binary, and a bit as decimal
 pub record SpellsPlain (flags : Flags) (text : List ℕ) (unit : Shape) : Type 0 where
   pub count_is : SpellsCount flags text unit.bit
   pub power_is : unit.power ≡ 0
   pub binary_is : unit.binary ≡ not unit.bit
 
--- the text is a prefix, and then says bits or bytes
+-- the text is a prefix and then a suffix
 pub record SpellsMultiple (edition : Edition) (flags : Flags) (text : List ℕ) (unit : Shape) : Type 0 where
   pub prefix_part : List ℕ
   pub count_part : List ℕ

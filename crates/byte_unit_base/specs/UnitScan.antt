@@ -1,5 +1,5 @@
--- Private: how the reader goes over a spelling, one step a character. No public contract cites this file; that what it
--- comes to is the spellings and faults of the other files is proved.
+-- Private: the state machine that reads a unit, character by character. No public contract cites this file; it is
+-- proved that it accepts the inputs, and gives the errors, of the other files.
 use Rattle.std.specs.Prelude.{◌≡◌, ℕ, Bool, true, false, not, if◌then◌else◌, ◌==◌, List, [], Option, Some, None, Result}
 use Rattle.std.specs.Prelude.{Ok, Err, codes}
 use Rattle.std.specs.Str.{str_to_ascii_lowercase}
@@ -24,6 +24,7 @@ use Rattle.byte_unit_base.specs.declared.unit.scan.Multiple.{Multiple}
 use Rattle.byte_unit_base.specs.declared.unit.scan.Multiple.TheVariants.{One, Decimal, Binary}
 use Rattle.byte_unit_base.specs.declared.unit.scan.UnitScan.{UnitScan}
 
+-- the place of a prefix among the prefix letters, counted from 1
 abbrev pub power_of : Prefix → ℕ
 power_of Kilo = 1
 power_of Mega = 2
@@ -35,7 +36,7 @@ power_of Zetta = 7
 power_of Yotta = 8
 power_of Ronna = 9
 
--- the prefix of a letter
+-- the prefix that has this letter, in either case
 abbrev pub prefix_at : ℕ → Option Prefix
 prefix_at c =
     let u = to_ascii_uppercase c in
@@ -43,14 +44,17 @@ prefix_at c =
     else (if u == 84 then Some Tera else (if u == 80 then Some Peta else (if u == 69 then Some Exa
     else (if u == 90 then Some Zetta else (if u == 89 then Some Yotta else (if u == 82 then Some Ronna else None))))))))
 
+-- whether the character is `i` or `I`
 abbrev pub is_i : ℕ → Bool
 is_i c = to_ascii_lowercase c == 105
 
+-- the prefix after one character more: a letter, and then an `i`; `None` if the character does not continue it
 abbrev pub multiple_step : Multiple → ℕ → Option Multiple
 multiple_step One c = option_map Decimal (prefix_at c)
 multiple_step (Decimal p) c = if is_i c then Some (Binary p) else None
 multiple_step (Binary p) c = None
 
+-- the suffix after one character more: `B`, or a beginning of `bits`; `None` if the character does not continue it
 abbrev pub word_step : Word → ℕ → Option Word
 word_step Empty c = if c == 66 then Some UpperB else (if c == 98 then Some LowerB else None)
 word_step UpperB c = if is_i c then Some Bi else None
@@ -59,30 +63,35 @@ word_step Bi c = if to_ascii_lowercase c == 116 then Some Bit else None
 word_step Bit c = if to_ascii_lowercase c == 115 then Some Bits else None
 word_step Bits c = None
 
+-- the state with this prefix and this suffix
 abbrev pub scan_of : Multiple → Word → UnitScan
 scan_of m w = record { multiple = m; word = w }
 
--- a character of the prefix, or else of the word
+-- the state after a character that continues the prefix, or else the suffix
 abbrev pub or_word : Multiple → Option Multiple → Option Word → Option UnitScan
 or_word m (Some n) w = Some (scan_of n Empty)
 or_word m None w = option_map (scan_of m) w
 
+-- the prefix after one character more, if no suffix has begun
 abbrev pub prefix_step : Multiple → Word → ℕ → Option Multiple
 prefix_step m Empty c = multiple_step m c
 prefix_step m _ c = None
 
+-- the state after one character more, or `None` if it cannot follow
 unfoldable pub unit_step : UnitScan → ℕ → Option UnitScan
 unit_step s c = or_word s.multiple (prefix_step s.multiple s.word c) (word_step s.word c)
 
+-- the state at the beginning
 abbrev pub start : UnitScan
 start = scan_of One Empty
 
--- the texts that are read as a prefix, and as the letters behind it
+-- the texts after which the state has this prefix
 abbrev pub IsMultipleText : Multiple → List ℕ → Type 0
 IsMultipleText One text = text ≡ []
 IsMultipleText (Decimal p) text = SpellsPrefix current text (power_of p) false
 IsMultipleText (Binary p) text = SpellsPrefix current text (power_of p) true
 
+-- the texts after which the state has this suffix
 abbrev pub IsWordText : Word → List ℕ → Type 0
 IsWordText Empty text = text ≡ []
 IsWordText UpperB text = text ≡ codes "B"
@@ -91,7 +100,7 @@ IsWordText Bi text = str_to_ascii_lowercase text ≡ codes "bi"
 IsWordText Bit text = str_to_ascii_lowercase text ≡ codes "bit"
 IsWordText Bits text = str_to_ascii_lowercase text ≡ codes "bits"
 
--- whether a word says bits; it may stop within the word
+-- whether the suffix means bits, or `None` for `bi`, which is no suffix
 abbrev pub count_of : Flags → Word → Option Bool
 count_of flags Empty = Some (not flags.prefer_byte)
 count_of flags UpperB = Some false
@@ -100,18 +109,22 @@ count_of flags Bi = None
 count_of flags Bit = Some true
 count_of flags Bits = Some true
 
+-- the unit with this prefix that counts bits, or bytes if `bit` is false
 abbrev pub multiple_shape : Multiple → Bool → Shape
 multiple_shape One bit = shape 0 (not bit) bit
 multiple_shape (Decimal p) bit = shape (power_of p) false bit
 multiple_shape (Binary p) bit = shape (power_of p) true bit
 
+-- the unit of an input that ends in this state, or `None` if it cannot end there
 abbrev pub unit_of : Flags → UnitScan → Option Shape
 unit_of flags s = option_map (multiple_shape s.multiple) (count_of flags s.word)
 
+-- the parser state after this prefix, before a suffix
 abbrev pub empty_place : Multiple → Place
 empty_place One = before_unit
 empty_place _ = after_prefix
 
+-- the parser state after this prefix and this suffix
 abbrev pub word_place : Multiple → Word → Place
 word_place m Empty = empty_place m
 word_place m UpperB = after_b
@@ -120,14 +133,16 @@ word_place m Bi = after_bi
 word_place m Bit = after_bit
 word_place m Bits = after_bits
 
+-- the parser state that belongs to a state of the machine
 abbrev pub place_of : UnitScan → Place
 place_of s = word_place s.multiple s.word
 
--- what a spelling is read as at its end
+-- the result for an input that ends after this unit, or (`None`) in `bi`
 abbrev pub unit_at_end : Option Shape → Result Shape Fault
 unit_at_end (Some s) = Ok s
 unit_at_end None = Err stops_at_bi
 
+-- the state machine of a unit
 abbrev pub unit_scan : Flags → Scan UnitScan Shape
 unit_scan flags = record {
   flags = flags;
@@ -137,6 +152,6 @@ unit_scan flags = record {
   at_end = λ s. unit_at_end (unit_of flags s);
 }
 
--- the answer of the code
+-- a result of the code, as the specification has it
 abbrev pub unit_seen : Result UnitName UnitParseError → Result Shape Fault
 unit_seen = seen shape_of unit_fault

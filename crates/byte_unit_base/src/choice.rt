@@ -19,24 +19,32 @@ use byte_unit_math::{
     DECIMAL_PLACES, Decimal, Factors, Steps, exact_quotient, factored_quotient, factors_of,
 };
 
-/// Numbers of no more places are found from the factors of a size: in any unit the product of these then fits 128 bits.
+/// Up to this many places a number is computed from the factors of the size: in any unit their product fits 128 bits.
 const FEW_PLACES: u32 = 5;
 
-/// The largest unit of the family that is not above the size and states it exactly within these
-/// places, with its number. `None` exactly where no unit of the family does.
+/// Chooses the largest unit of the unit set, not above the size, in which the size is exact within `places` decimal
+/// places. Returns the number and the unit. Returns `None` if no unit of the set is such.
 ///
-/// The size is of bytes where the divisor is 8, and of bits where it is 1. It is below 10^30. More
-/// than 28 places count as 28.
+/// The size is in bytes if the divisor is 8, and in bits if it is 1. More than 28 places count as 28.
 ///
-/// `steps` rises as by `two_five` for the size as it is given, and by one for each place of the
-/// number. That is at most 116 steps for a size in bytes, as for `7 << 87` at 27 places, and at most
-/// 119 steps for a size in bits, as for `7 << 90` there in `RB`. A size of zero takes none.
+/// Preconditions (proved at every call): `size < 10^30`; the divisor is 8 or 1.
 ///
-/// ```text
-/// choose_unit(1536, Family::Bytes, 8, 3, steps)      1.5 KiB, in 12 steps
-/// choose_unit(1000, Family::Bytes, 8, 0, steps)      1 KB, in 8 steps
-/// choose_unit(999, Family::Bytes, 8, 3, steps)       None, in 2 steps
-/// choose_unit(437_500, Family::All, 8, 3, steps)     3.5 Mbit, in 11 steps
+/// `steps` is raised as by `two_five` for the size as it is given, and by one for each place of the number: by at most
+/// 116 for a size in bytes, as for `7 << 87` at 27 places, and by at most 119 for a size in bits, as for `7 << 90`
+/// there in `RB`. A size of zero takes no step.
+///
+/// # Examples
+///
+/// ```rust
+/// use byte_unit::{Decimal, Family, Steps, Unit, choose_unit};
+///
+/// let mut steps = Steps::new();
+/// let chosen = choose_unit(1536, Family::Bytes, 8, 3, &mut steps);
+/// assert_eq!(rt; chosen, Some((Decimal::from_digits(1, 5, 1), Unit::KiB)));
+/// assert_eq!(rt; steps.count(), 12);
+/// let chosen = choose_unit(437_500, Family::All, 8, 3, &mut Steps::new());
+/// assert_eq!(rt; chosen, Some((Decimal::from_digits(3, 5, 1), Unit::Mbit)));
+/// assert_eq!(rt; choose_unit(999, Family::Bytes, 8, 3, &mut Steps::new()), None);
 /// ```
 #[inline(always)]
 pub fn choose_unit(
@@ -62,19 +70,20 @@ pub fn choose_unit(
     let most = places.min(DECIMAL_PLACES as usize) as u32;
     let in_bits = size * divisor;
     let Factors { left, twos, fives } = factors_of(size, steps);
-    // In bits it has as many twos more as the divisor has.
+    // The exponent of 2 of the size in bits.
     let twos = twos + divisor.trailing_zeros();
     let most_twos = twos + most;
     let most_fives = fives + most;
-    // A unit of the n-th prefix has 10 n twos or 3 n fives, so that few prefixes are left for most sizes.
+    // A unit of the n-th prefix has an exponent of 2 of 10 n or more, or one of 5 of 3 n. For most sizes that leaves
+    // few prefixes.
     let first = (most_twos / 10).max(most_fives / 3);
     for row in family.multiples_within(in_bits, first) {
-        // All three are compared at once: a jump for each takes longer.
+        // Non-short-circuiting `&` avoids three unpredictable branches.
         if (row.bits <= in_bits) & (row.twos <= most_twos) & (row.fives <= most_fives) {
             let lacking = row.twos.saturating_sub(twos);
             let places = lacking.max(row.fives.saturating_sub(fives));
             let number = if places > FEW_PLACES {
-                // The size is exact in the unit, so there is a quotient.
+                // The size is exact in the unit, so this is `Some`.
                 exact_quotient(in_bits, row.bits, most, steps).unwrap()
             } else {
                 let factors = Factors { left, twos, fives };
@@ -86,16 +95,21 @@ pub fn choose_unit(
     None
 }
 
-/// The largest unit of the family and of the type that is not above the size. `None` exactly where
-/// there is none.
+/// Returns the largest unit of the unit set and of the type that is not above the size. Returns `None` if there is
+/// none.
 ///
-/// The size is of bytes where the divisor is 8, and of bits where it is 1.
+/// The size is in bytes if the divisor is 8, and in bits if it is 1.
 ///
-/// ```text
-/// largest_unit(10_000, Family::Bytes, UnitType::Both, 8)        KiB
-/// largest_unit(1000, Family::Bytes, UnitType::Both, 8)          KB
-/// largest_unit(1_048_575, Family::Bytes, UnitType::Binary, 8)   KiB
-/// largest_unit(999, Family::Bytes, UnitType::Both, 8)           None
+/// Precondition (proved at every call): the divisor is 8 or 1.
+///
+/// # Examples
+///
+/// ```rust
+/// use byte_unit::{Family, Unit, UnitType, largest_unit};
+///
+/// assert_eq!(rt; largest_unit(10_000, Family::Bytes, UnitType::Both, 8), Some(Unit::KiB));
+/// assert_eq!(rt; largest_unit(1000, Family::Bytes, UnitType::Both, 8), Some(Unit::KB));
+/// assert_eq!(rt; largest_unit(1000, Family::Bytes, UnitType::Binary, 8), None);
 /// ```
 pub fn largest_unit(size: u128, family: Family, unit_type: UnitType, divisor: u128) -> Option<Unit>
     requires { (divisor ≡ 8) ⊎ (divisor ≡ 1) }
@@ -103,7 +117,7 @@ pub fn largest_unit(size: u128, family: Family, unit_type: UnitType, divisor: u1
         IsLargest (Suits current family unit_type (size * divisor)) (shape_of unit)) }
     ensures none { IfNone result (NoneHas (Suits current family unit_type (size * divisor))) }
 {
-    // No unit is near the greatest u128, so a cut there changes nothing.
+    // Every unit is far below `u128::MAX`, so saturation changes nothing.
     let in_bits = size.saturating_mul(divisor);
     for row in family.multiples_within(in_bits, PREFIXES as u32) {
         if row.bits <= in_bits && unit_type.takes(row.unit.is_binary_multiples()) {

@@ -1,4 +1,4 @@
-//! The errors of the readers, and that of a number which fits no size.
+//! The errors of the parsers and of conversions to sizes.
 
 ghost use Rattle.std.specs.Prelude.{◌≡◌, ⊤};
 ghost use Rattle.std.specs.Fmt.{DisplaysOnOk};
@@ -10,39 +10,73 @@ use std::error::Error;
 use std::fmt;
 use std::marker::Model;
 
-/// A number is negative, or too large for a size.
+/// The error returned when a number is negative or exceeds the maximum size.
+///
+/// # Examples
+///
+/// ```rust
+/// use byte_unit::{Byte, ExceededBoundsError};
+///
+/// assert!(rt; matches!(Byte::try_from(-1i8), Err(ExceededBoundsError)));
+/// assert!(rt; matches!(Byte::try_from(u128::MAX), Err(ExceededBoundsError)));
+/// ```
 #[derive(Clone, Copy, Debug, PartialEq, Eq)]
 pub struct ExceededBoundsError;
 
-/// Why the number of a text is refused.
+/// The error of the number of a string.
+///
+/// # Examples
+///
+/// ```rust
+/// use byte_unit::{Byte, ParseError, ValueParseError};
+///
+/// let error = Byte::parse_str("x KB", false);
+/// assert!(rt; matches!(error, Err(ParseError::Value(ValueParseError::NotNumber('x')))));
+/// let error = Byte::parse_str("1000 RB", false);
+/// assert!(rt; matches!(error, Err(ParseError::Value(ValueParseError::ExceededBounds(_)))));
+/// ```
 #[derive(Clone, Copy, Debug)]
 pub enum ValueParseError {
-    /// The text states a size that is too large: its number as it was written, without its unit. `read_size` never
-    /// answers it.
+    /// The size is 10^30 or more. Holds the number as it was written, without its unit. `read_size` never returns it.
     ExceededBounds(Decimal),
-    /// A digit has to stand where this character is, or after it where the text ends in a point.
+    /// A digit is required in place of this character, or after it if the string ends in a point.
     NotNumber(char),
-    /// The text is empty or white space alone.
+    /// The string is empty or white space alone.
     NoValue,
-    /// The whole part is above 2^112 - 1, or more than 28 digits follow the point.
+    /// The whole part exceeds 2^112 - 1, or more than 28 digits follow the point.
     NumberTooLong,
 }
 
-/// Why the spelling of a unit is refused.
+/// The error of the unit of a string.
+///
+/// # Examples
+///
+/// ```rust
+/// use byte_unit::Unit;
+///
+/// match Unit::parse_str("Kx", false, true) {
+///     Ok(_) => assert!(rt; false),
+///     Err(error) => {
+///         assert_eq!(rt; error.character, 'x');
+///         assert!(rt; error.expected_characters == ['B', 'b'].as_slice());
+///         assert!(rt; error.also_expect_no_character);
+///     }
+/// }
+/// ```
 #[derive(Copy, Debug)]
 pub struct UnitParseError {
-    /// The first character that goes on with no spelling; the character `i`, also for an `I`, where the text stops
-    /// after the `bi` of a b-part.
+    /// The first character that cannot continue a unit. If the string ends after the `bi` of a suffix, the character is
+    /// `i`, also for an `I`.
     pub character: char,
-    /// The characters that are named to the user in its place, in this order. Others could stand there
-    /// too, such as the other case of a letter, or an `i` after a prefix.
+    /// The characters that the message names as expected in its place, in this order. Others are valid there too, such
+    /// as the other case of a letter, or an `i` after a prefix.
     pub expected_characters: &'static [char],
-    /// Whether the text could end in its place.
+    /// Whether the string could end in its place.
     pub also_expect_no_character: bool,
 }
 
-/// The record of the fields. A model hides the reference from the borrow checker, which has no rule for passing on an
-/// answer that holds one beside a size.
+/// The model is the record of the fields. It hides the reference from the borrow checker, which has no rule for passing
+/// on a result that holds one beside a size.
 impl Model for UnitParseError {
     ghost use Rattle.byte_unit_base.specs.UnitRefusal.{UnitRefusal};
 
@@ -61,32 +95,47 @@ impl Model for UnitParseError {
     } };
 }
 
-/// Why the text of a number and a unit is refused: the first fault from the left.
+/// The error of a string that is no size: the first error from the left.
 ///
-/// ```text
-/// let limit: Byte = text.parse()?;                                  // in a function that answers this error
-/// let limit = Byte::parse_str(text, false).map_err(SettingsError::Limit)?;
-/// let limit = text.parse().unwrap_or(Byte::GIBIBYTE);
+/// # Examples
+///
+/// ```rust
+/// use byte_unit::{Byte, ParseError};
+///
+/// let limit: Byte = "20 MB".parse()?;
+/// assert_eq!(rt; limit, Byte::from_u64(20_000_000));
+/// let limit = Byte::parse_str("20 mB?", false).unwrap_or(Byte::GIBIBYTE);
+/// assert_eq!(rt; limit, Byte::GIBIBYTE);
+/// assert!(rt; matches!(Byte::parse_str("20 mB?", false), Err(ParseError::Unit(_))));
 /// ```
 #[derive(Copy, Debug)]
 pub enum ParseError {
-    /// The number is refused.
+    /// The number is invalid, or the size is too large.
     Value(ValueParseError),
-    /// The unit is refused.
+    /// The unit is invalid.
     Unit(UnitParseError),
 }
 
-/// Why a JSON value is no size.
+/// The error of a JSON value that is no size.
+///
+/// # Examples
+///
+/// ```rust
+/// use byte_unit::{Byte, JsonSizeError};
+/// use serde_json::Value;
+///
+/// assert!(rt; matches!(Byte::from_json(&Value::Bool(true)), Err(JsonSizeError::NotString)));
+/// ```
 #[derive(Copy, Debug)]
 pub enum JsonSizeError {
-    /// The value is no string.
+    /// The value is not a string.
     NotString,
-    /// The string is refused.
+    /// The string is no size.
     Parse(ParseError),
 }
 
 impl UnitParseError {
-    /// The error of a spelling that stops after the `bi` of a b-part: it could have stopped before that `i`.
+    /// The error of a string that ends after the `bi` of a suffix: it could have ended before that `i`.
     pub(crate) const STOPS_AT_BI: UnitParseError = UnitParseError {
         character: 'i',
         expected_characters: &[],
@@ -94,8 +143,8 @@ impl UnitParseError {
     };
 }
 
-// `Clone` of what holds a reference behind a model is written by hand: a derived `clone` of a type that is `Copy` is a
-// copy, and the borrow checker has no rule for one here.
+// `Clone` is written by hand where a model hides a reference: a derived `clone` of a type that is `Copy` is a copy, and
+// the borrow checker has no rule for one here.
 
 impl Clone for UnitParseError {
     ghost is_clone = { λ error copy. copy ≡ error };
@@ -161,7 +210,7 @@ impl fmt::Display for ValueParseError {
     fn fmt<W: fmt::Write>(&self, f: &mut fmt::Formatter<W>) -> fmt::Result {
         match self {
             ValueParseError::ExceededBounds(value) => {
-                // Not by `write!`, which says nothing of a formatter's flags.
+                // Not by `write!`, whose contract leaves out the flags of the formatter.
                 f.write_str("the value ")?;
                 fmt::Display::fmt(value, f)?;
                 f.write_str(" exceeds the valid range")
@@ -225,7 +274,7 @@ impl fmt::Display for ParseError {
 
 impl Error for ParseError {}
 
-/// Writes what is expected in the place of a character.
+/// Writes the part of the message that names the expected characters.
 fn write_expected<W: fmt::Write>(
     expected: &[char],
     also_expect_no_character: bool,

@@ -1,11 +1,20 @@
-//! Bytes and bits, as what a size counts.
+//! The kind of a size: bytes or bits.
 
 ghost use Rattle.std.specs.Prelude.{◌≡◌, ◌≤◌};
 ghost use Rattle.byte_unit_base.specs.Units.{shape_of};
 
 use crate::unit::Unit;
 
-/// What a size counts.
+/// The kind of a size: what it counts.
+///
+/// # Examples
+///
+/// ```rust
+/// use byte_unit::{Kind, Unit};
+///
+/// assert_eq!(rt; Kind::Byte.bits(), 8);
+/// assert_eq!(rt; Kind::Bit.unit(), Unit::Bit);
+/// ```
 #[derive(Debug, Clone, Copy, PartialEq, Eq)]
 pub enum Kind {
     /// Bytes, of eight bits each.
@@ -17,10 +26,15 @@ pub enum Kind {
 impl Kind {
     ghost use Rattle.byte_unit_base.specs.Kinds.{bits_in, own_unit};
 
-    /// How many bits one of the kind is: 8 or 1.
+    /// Returns the number of bits in one of the kind: 8 or 1.
     ///
-    /// ```text
-    /// Kind::Byte.bits() == 8
+    /// # Examples
+    ///
+    /// ```rust
+    /// use byte_unit::Kind;
+    ///
+    /// assert_eq!(rt; Kind::Byte.bits(), 8);
+    /// assert_eq!(rt; Kind::Bit.bits(), 1);
     /// ```
     pub fn bits(self) -> u128
         ensures bits { result ≡ bits_in self }
@@ -33,10 +47,15 @@ impl Kind {
         }
     }
 
-    /// The unit that is one of the kind: `B` or `Bit`.
+    /// Returns the unit without a prefix of the kind: `B` or `Bit`.
     ///
-    /// ```text
-    /// Kind::Bit.unit() == Unit::Bit
+    /// # Examples
+    ///
+    /// ```rust
+    /// use byte_unit::{Kind, Unit};
+    ///
+    /// assert_eq!(rt; Kind::Byte.unit(), Unit::B);
+    /// assert_eq!(rt; Kind::Bit.unit(), Unit::Bit);
     /// ```
     pub fn unit(self) -> Unit
         ensures { shape_of result ≡ own_unit self }

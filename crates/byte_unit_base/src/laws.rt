@@ -1,4 +1,4 @@
-//! Laws over the definitions. Each function does nothing: its contract is the law.
+//! Laws of the definitions. Each function does nothing; its contract is the law.
 
 pub mod choices;
 pub mod editions;

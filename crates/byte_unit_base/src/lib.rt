@@ -1,6 +1,6 @@
-//! Units of bits and bytes, the readers of units and sizes, and the choice of a unit for a size.
+//! Units of bits and bytes, the parsers of units and sizes, and the choice of a unit for a size.
 //!
-//! What sizes in bytes and in bits share stands here once, over their [`Kind`].
+//! What sizes in bytes and in bits have in common is here once, as functions that take the [`Kind`].
 #![tactic(auto)]
 
 pub use crate::choice::{choose_unit, largest_unit};

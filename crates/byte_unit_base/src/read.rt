@@ -1,4 +1,4 @@
-//! The reader of a number and a unit.
+//! The parser of a number and a unit: a fast path for common ASCII input, and a slow path.
 
 ghost use Rattle.std.specs.Prelude.{◌≡◌};
 ghost use Rattle.std.specs.Str.{chars};
@@ -19,21 +19,34 @@ mod digits;
 mod fast;
 mod scan;
 
-/// The number and the unit that the text states, without the white space at its ends.
+/// Parses a number and a unit from a string. White space at its ends is ignored.
 ///
-/// The text is a whole part of ASCII digits, at most 2^112 - 1, with any number of leading zeros; optionally a point
-/// and 1 to 28 digits; any number of the character space; and the spelling of a unit, as `Unit::parse_str` reads it
-/// but without another trim. Every digit is kept, and nothing is rounded.
+/// The grammar: a whole part of ASCII digits, at most 2^112 - 1, with any number of leading zeros; optionally a point
+/// and 1 to 28 digits; any number of the character space; and the spelling of a unit, as in `Unit::parse_str` but
+/// without another trim. Every digit is kept, and nothing is rounded. The limit of sizes is not checked.
 ///
-/// Every other text is refused by its first fault from the left: `NoValue` where it is empty or white space alone,
-/// `NotNumber` where a digit has to stand and none does, `NumberTooLong` at the digit that makes the number too long,
-/// and `Unit` at the first character that goes on with no unit. Bounds of sizes are not looked at, so `ExceededBounds`
-/// is never answered.
+/// # Errors
 ///
-/// ```text
-/// read_size("1.5 KiB", false, true) is Ok of 1.5 and Unit::KiB
-/// read_size("1.", false, true) is Err of NotNumber('.')
-/// read_size("1 x", false, true) is refused by 'x', where a unit could begin or the text could end
+/// Returns the first error from the left:
+///
+/// - `NoValue` if the string is empty or white space alone.
+/// - `NotNumber` at a character where a digit is required, and `NotNumber('.')` if the string ends in its point.
+/// - `NumberTooLong` at the digit that makes the number too long.
+/// - `Unit` at the first character that cannot continue a unit.
+///
+/// Never returns `ExceededBounds`.
+///
+/// # Examples
+///
+/// ```rust
+/// use byte_unit::{Decimal, ParseError, Unit, ValueParseError, read_size};
+///
+/// let (number, unit) = read_size("1.5 KiB", false, true)?;
+/// assert_eq!(rt; number, Decimal::from_digits(1, 5, 1));
+/// assert_eq!(rt; unit, Unit::KiB);
+/// let error = read_size("1.", false, true);
+/// assert!(rt; matches!(error, Err(ParseError::Value(ValueParseError::NotNumber('.')))));
+/// assert!(rt; matches!(read_size("1 x", false, true), Err(ParseError::Unit(_))));
 /// ```
 pub fn read_size(
     s: &str,
@@ -47,15 +60,16 @@ pub fn read_size(
         prefer_byte,
     };
     match read_fast(s.as_bytes(), flags) {
-        Some(stated) => Ok(stated),
-        None => read_by_steps(s, flags),
+        Some(parsed) => Ok(parsed),
+        None => read_slow(s, flags),
     }
 }
 
-/// What `read_size` answers, by steps of a character.
+/// Parses as `read_size` does, on the slow path: the digits by the loops of the fast path, the rest character by
+/// character.
 #[cold]
 #[inline(never)]
-pub(crate) fn read_by_steps(s: &str, flags: Flags) -> Result<(Decimal, Unit), ParseError>
+pub(crate) fn read_slow(s: &str, flags: Flags) -> Result<(Decimal, Unit), ParseError>
     ensures { IsNumberReading flags s.now result }
 {
     let text = s.trim();
@@ -63,7 +77,7 @@ pub(crate) fn read_by_steps(s: &str, flags: Flags) -> Result<(Decimal, Unit), Pa
     read_rest(scan, &text[end..], flags)
 }
 
-/// The number and the unit of a text that is read this far, and goes on with this rest.
+/// Parses the rest of a string, from the state that the characters before it lead to.
 fn read_rest(start: SizeScan, rest: &str, flags: Flags) -> Result<(Decimal, Unit), ParseError>
     requires { IsScan start }
     ensures { size_seen result ≡ read (size_scan flags) start (chars rest.now) }
@@ -72,7 +86,7 @@ fn read_rest(start: SizeScan, rest: &str, flags: Flags) -> Result<(Decimal, Unit
     for c in rest.chars() {
         match scan.step(c) {
             Some(next) => scan = next,
-            None => return Err(scan.fault(flags, c)),
+            None => return Err(scan.error_at(flags, c)),
         }
     }
     scan.finish(flags)

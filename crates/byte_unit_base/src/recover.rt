@@ -1,4 +1,4 @@
-//! The unit of a size: the one that states it best or suits it best, or its own.
+//! The unit of a size: the exact unit within a precision, the appropriate unit, or `B` or `Bit`.
 
 ghost use Rattle.std.specs.Prelude.{◌≡◌, ◌*◌, ◌<◌, ◌≤◌};
 ghost use Rattle.byte_unit_math.specs.Bounds.{one};
@@ -16,18 +16,28 @@ use crate::unit::family::Family;
 use crate::unit::unit_type::UnitType;
 use byte_unit_math::{Decimal, Steps};
 
-/// The largest unit, not above the size, that states it exactly within the precision, with its
-/// number; where there is none, the size itself in `B` or `Bit`.
+/// Returns the size in the largest unit, not above it, in which it is exact within `precision` decimal places: the
+/// number and the unit. If there is no such unit, returns the size itself in `B` or `Bit`.
 ///
-/// The unit is of the size's own kind, or of either where `allow` is set. The size is below 10^30. A
-/// precision above 28 counts as 28. `steps` rises as by `choose_unit`: by at most 116 for bytes and
-/// by at most 119 for bits. At precision 27, `7 << 87` bytes take 116 steps, and `7 << 90` bits take
-/// 119 if `allow` is set.
+/// The unit is of the size's own kind, or of either kind if `allow` is set. A precision above 28 counts as 28.
 ///
-/// ```text
-/// recoverable_unit(50_840_000, Kind::Byte, false, 2, steps)   50.84 MB
-/// recoverable_unit(437_500, Kind::Byte, true, 3, steps)       3.5 Mbit
-/// recoverable_unit(500, Kind::Byte, false, 3, steps)          500 B
+/// Precondition (proved at every call): `size < 10^30`.
+///
+/// `steps` is raised as by `choose_unit`: by at most 116 for bytes and by at most 119 for bits. At precision 27,
+/// `7 << 87` bytes take 116 steps, and `7 << 90` bits take 119 if `allow` is set.
+///
+/// # Examples
+///
+/// ```rust
+/// use byte_unit_base::{Kind, Unit, recoverable_unit};
+/// use byte_unit_math::{Decimal, Steps};
+///
+/// let (number, unit) = recoverable_unit(50_840_000, Kind::Byte, false, 2, &mut Steps::new());
+/// assert!(rt; number == Decimal::from_digits(50, 84, 2) && unit == Unit::MB);
+/// let (number, unit) = recoverable_unit(437_500, Kind::Byte, true, 3, &mut Steps::new());
+/// assert!(rt; number == Decimal::from_digits(3, 5, 1) && unit == Unit::Mbit);
+/// let (number, unit) = recoverable_unit(500, Kind::Byte, false, 3, &mut Steps::new());
+/// assert!(rt; number == Decimal::from_digits(500, 0, 0) && unit == Unit::B);
 /// ```
 #[inline(always)]
 pub fn recoverable_unit(
@@ -50,15 +60,21 @@ pub fn recoverable_unit(
     }
 }
 
-/// Returns how many of the largest unit, not above the size, that divides it the size is, and the unit; the size
-/// itself in `B` or `Bit` if there is none.
+/// Returns the size in the largest unit, not above it, that divides it: the number and the unit. If there is no such
+/// unit, returns the size itself in `B` or `Bit`.
 ///
-/// The unit is of the size's own kind, or of either where `allow` is set. The size is below 10^30.
+/// The unit is of the size's own kind, or of either kind if `allow` is set.
 ///
-/// ```text
-/// exact_unit(50_840_000, Kind::Byte, false)    50840 KB
-/// exact_unit(24_000_000, Kind::Bit, true)      3 MB
-/// exact_unit(16, Kind::Bit, true)              16 Bit
+/// Precondition (proved at every call): `size < 10^30`.
+///
+/// # Examples
+///
+/// ```rust
+/// use byte_unit_base::{Kind, Unit, exact_unit};
+///
+/// assert_eq!(rt; exact_unit(50_840_000, Kind::Byte, false), (50_840, Unit::KB));
+/// assert_eq!(rt; exact_unit(24_000_000, Kind::Bit, true), (3, Unit::MB));
+/// assert_eq!(rt; exact_unit(16, Kind::Bit, true), (16, Unit::Bit));
 /// ```
 pub fn exact_unit(size: u128, kind: Kind, allow: bool) -> (u128, Unit)
     requires { size < current.size_limit }
@@ -69,12 +85,16 @@ pub fn exact_unit(size: u128, kind: Kind, allow: bool) -> (u128, Unit)
     (number.whole(), unit)
 }
 
-/// The largest unit of the size's own kind and of the type that is not above the size; where there is none, `B` or
-/// `Bit`.
+/// Returns the largest unit of the size's own kind and of the type that is not above the size. If there is none,
+/// returns `B` or `Bit`.
 ///
-/// ```text
-/// appropriate_unit(10_000, Kind::Byte, UnitType::Both)      KiB
-/// appropriate_unit(1000, Kind::Byte, UnitType::Binary)      B
+/// # Examples
+///
+/// ```rust
+/// use byte_unit_base::{Kind, Unit, UnitType, appropriate_unit};
+///
+/// assert_eq!(rt; appropriate_unit(10_000, Kind::Byte, UnitType::Both), Unit::KiB);
+/// assert_eq!(rt; appropriate_unit(1000, Kind::Byte, UnitType::Binary), Unit::B);
 /// ```
 pub fn appropriate_unit(size: u128, kind: Kind, unit_type: UnitType) -> Unit
     ensures { IsAppropriate current kind unit_type size (shape_of result) }
@@ -85,7 +105,7 @@ pub fn appropriate_unit(size: u128, kind: Kind, unit_type: UnitType) -> Unit
     }
 }
 
-/// The multiples that a size of the kind may stand in.
+/// Returns the unit set for sizes of the kind: its own units, or all if `allow` is set.
 #[inline(always)]
 fn family_for(kind: Kind, allow: bool) -> Family
     ensures { result ≡ family_for kind allow }

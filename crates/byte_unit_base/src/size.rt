@@ -1,4 +1,4 @@
-//! Sizes of either kind as numbers below their bound: what the size types share.
+//! Sizes of either kind, as numbers below the limit: what the size types have in common.
 
 ghost use Rattle.std.specs.Prelude.{◌≡◌, ℕ, Bool, List, ◌+◌, ◌*◌, ◌<◌, ◌≤◌, SomeIff, IfSome, IfOk};
 ghost use Rattle.byte_unit_math.specs.Bounds.{one};
@@ -13,20 +13,24 @@ ghost use Rattle.byte_unit_base.specs.SizeOrNone.{IsSizeOrNone};
 
 use crate::errors::{ParseError, ValueParseError};
 use crate::kind::Kind;
-use crate::read::{read_by_steps, read_fast};
+use crate::read::{read_fast, read_slow};
 use crate::unit::Unit;
 use crate::unit::scan::Flags;
 use byte_unit_math::{Decimal, least_size};
 use std::str;
 
-/// Sizes are below this: 10^30.
+/// The limit of sizes: 10^30 is the least number that is no size.
 const SIZE_LIMIT: u128 = 1_000_000_000_000_000_000_000_000_000_000;
 
-/// The number, where it is a size: below 10^30. `None` exactly where it is not.
+/// Returns the number if it is a size, that is below 10^30. Returns `None` if it is 10^30 or more.
 ///
-/// ```text
-/// bounded(1536)         Some(1536)
-/// bounded(u128::MAX)    None
+/// # Examples
+///
+/// ```rust
+/// use byte_unit_base::size::bounded;
+///
+/// assert_eq!(rt; bounded(1536), Some(1536));
+/// assert_eq!(rt; bounded(1_000_000_000_000_000_000_000_000_000_000), None);
 /// ```
 pub fn bounded(size: u128) -> Option<u128>
     ensures size { SomeIff result (size < current.size_limit) size }
@@ -35,9 +39,9 @@ pub fn bounded(size: u128) -> Option<u128>
     (size < SIZE_LIMIT).then_some(size)
 }
 
-/// The least number of the kind that holds so many bits.
+/// Rounds a number of bits up to a whole number of the kind.
 #[inline]
-fn holding(in_bits: u128, kind: Kind) -> u128
+fn ceil_to_kind(in_bits: u128, kind: Kind) -> u128
     ensures holds { in_bits ≤ result * bits_in kind }
     ensures least { result * bits_in kind < in_bits + bits_in kind }
 {
@@ -47,51 +51,77 @@ fn holding(in_bits: u128, kind: Kind) -> u128
     }
 }
 
-/// So many of the unit, rounded up to a whole number of the kind. `None` exactly where that is not below 10^30.
+/// Converts a number of a unit to a size, rounded up to a whole number of the kind. Returns `None` if the size would be
+/// 10^30 or more.
 ///
-/// ```text
-/// with_unit(3, Unit::KB, Kind::Byte)    Some(3000)
-/// with_unit(9, Unit::Bit, Kind::Byte)   Some(2)
+/// # Examples
+///
+/// ```rust
+/// use byte_unit_base::size::with_unit;
+/// use byte_unit_base::{Kind, Unit};
+///
+/// assert_eq!(rt; with_unit(3, Unit::KB, Kind::Byte), Some(3000));
+/// assert_eq!(rt; with_unit(9, Unit::Bit, Kind::Byte), Some(2));
+/// assert_eq!(rt; with_unit(1000, Unit::RB, Kind::Byte), None);
 /// ```
 pub fn with_unit(size: u128, unit: Unit, kind: Kind) -> Option<u128>
     ensures size { IsSizeOrNone current (IsLeastOf kind (size * one) (shape_of unit)) result }
     ensures small { IfSome result (λ n. n < current.size_limit) }
 {
     let in_bits = size.checked_mul(unit.as_bits_u128())?;
-    bounded(holding(in_bits, kind))
+    bounded(ceil_to_kind(in_bits, kind))
 }
 
-/// The number times the unit exactly, rounded up once to a whole number of the kind. `None` exactly where that is not
-/// below 10^30.
+/// Converts a decimal number of a unit to a size: the exact product, rounded up to a whole number of the kind. Returns
+/// `None` if the size would be 10^30 or more.
 ///
-/// ```text
-/// from_decimal(1.5, Unit::KiB, Kind::Byte)    Some(1536)
-/// from_decimal(0.1, Unit::B, Kind::Byte)      Some(1)
+/// # Examples
+///
+/// ```rust
+/// use byte_unit_base::size::from_decimal;
+/// use byte_unit_base::{Kind, Unit};
+/// use byte_unit_math::Decimal;
+///
+/// let half = Decimal::from_digits(0, 5, 1);
+/// assert_eq!(rt; from_decimal(half, Unit::KiB, Kind::Byte), Some(512));
+/// assert_eq!(rt; from_decimal(half, Unit::B, Kind::Byte), Some(1));
+/// assert_eq!(rt; from_decimal(Decimal::from_digits(1000, 0, 0), Unit::RB, Kind::Byte), None);
 /// ```
 #[inline(always)]
 pub fn from_decimal(number: Decimal, unit: Unit, kind: Kind) -> Option<u128>
     ensures size { IsSizeOrNone current (IsLeastOf kind number (shape_of unit)) result }
     ensures small { IfSome result (λ n. n < current.size_limit) }
 {
-    // The least number of bits that no size of the kind holds.
+    // One bit more than the greatest size. The product is rounded up twice, to bits and to the kind, which is the same
+    // as once: ceil(ceil(x) / 8) = ceil(x / 8).
     let limit = (SIZE_LIMIT - 1) * kind.bits() + 1;
     let in_bits = least_size(number, unit.as_bits_u128(), limit)?;
-    Some(holding(in_bits, kind))
+    Some(ceil_to_kind(in_bits, kind))
 }
 
-/// The size that the text states, rounded up once to a whole number of the kind. It is below 10^30.
+/// Parses a size from a string: the exact product of its number and its unit, rounded up to a whole number of the kind.
 ///
-/// The text is one that `read_size` reads. Where it names no unit it states bytes for `Kind::Byte`, and bits for
-/// `Kind::Bit`. With `ignore_case` a `b` means bytes; texts of bits are always case sensitive, so there it does
-/// nothing.
+/// The grammar is that of [`read_size`](crate::read_size). If the string names no unit, its number is in bytes for
+/// `Kind::Byte`, and in bits for `Kind::Bit`. With `ignore_case` a `b` means bytes. For `Kind::Bit` case always counts,
+/// and `ignore_case` has no effect.
 ///
-/// Every other text is refused by the error of `read_size`: `NoValue`, `NotNumber` or `NumberTooLong` for the number,
-/// or `Unit`. A text whose size is not below 10^30 is refused by `ExceededBounds`, with its number as it was written.
+/// # Errors
 ///
-/// ```text
-/// parse("1.5 KiB", false, Kind::Byte) is Ok(1536)
-/// parse("9 bits", false, Kind::Byte) is Ok(2)
-/// parse("1.", false, Kind::Byte) is Err of NotNumber('.')
+/// Returns the error of `read_size` if the string is not in the grammar: `NoValue`, `NotNumber` or `NumberTooLong` for
+/// its number, or `Unit`. Returns `ExceededBounds`, with the number as it was written, if the size would be 10^30 or
+/// more.
+///
+/// # Examples
+///
+/// ```rust
+/// use byte_unit_base::size::parse;
+/// use byte_unit_base::{Kind, ParseError, ValueParseError};
+///
+/// assert_eq!(rt; parse("1.5 KiB", false, Kind::Byte)?, 1536);
+/// assert_eq!(rt; parse("9 bits", false, Kind::Byte)?, 2);
+/// assert_eq!(rt; parse("9", false, Kind::Bit)?, 9);
+/// let error = parse("1.", false, Kind::Byte);
+/// assert!(rt; matches!(error, Err(ParseError::Value(ValueParseError::NotNumber('.')))));
 /// ```
 pub fn parse(s: &str, ignore_case: bool, kind: Kind) -> Result<u128, ParseError>
     ensures reading { IsSizeReading kind ignore_case s.now result }
@@ -99,45 +129,55 @@ pub fn parse(s: &str, ignore_case: bool, kind: Kind) -> Result<u128, ParseError>
 {
     match read_fast(s.as_bytes(), flags_for(kind, ignore_case)) {
         Some((number, unit)) => size_of(number, unit, kind),
-        None => parse_by_steps(s, ignore_case, kind),
+        None => parse_slow(s, ignore_case, kind),
     }
 }
 
-/// What `parse` answers for the text that the bytes are. `None` exactly where they are not UTF-8.
+/// Parses a size from bytes, as [`parse`] does from a string. Returns `None` if the bytes are not UTF-8.
 ///
-/// ```text
-/// parse_bytes(b"1.5 KiB", false, Kind::Byte) is Some(Ok(1536))
-/// parse_bytes(b"1.", false, Kind::Byte) is Some(Err) of NotNumber('.')
-/// parse_bytes(b"1 KiB\xFF", false, Kind::Byte) is None
+/// # Errors
+///
+/// Returns `Some` with the error of `parse` if the bytes are UTF-8 and `parse` rejects the string.
+///
+/// # Examples
+///
+/// ```rust
+/// use byte_unit_base::Kind;
+/// use byte_unit_base::size::parse_bytes;
+///
+/// assert!(rt; matches!(parse_bytes(b"1.5 KiB", false, Kind::Byte), Some(Ok(1536))));
+/// assert!(rt; matches!(parse_bytes(b"1.", false, Kind::Byte), Some(Err(_))));
+/// assert!(rt; parse_bytes(b"1 KiB\xFF", false, Kind::Byte).is_none());
 /// ```
 #[inline(always)]
 pub fn parse_bytes(bytes: &[u8], ignore_case: bool, kind: Kind) -> Option<Result<u128, ParseError>>
     ensures reading { IsBytesReading kind ignore_case bytes.now result }
     ensures small { IfSome result (λ answer. IfOk answer (λ n. n < current.size_limit)) }
 {
-    // A text that is read at once is ASCII, and takes no test for UTF-8.
+    // What the fast path accepts is ASCII, so the test for UTF-8 is skipped.
     if let Some((number, unit)) = read_fast(bytes, flags_for(kind, ignore_case)) {
         return Some(size_of(number, unit, kind));
     }
     match str::from_utf8(bytes) {
-        Ok(text) => Some(parse_by_steps(text, ignore_case, kind)),
+        Ok(text) => Some(parse_slow(text, ignore_case, kind)),
         Err(_) => None,
     }
 }
 
-/// What `parse` answers, by steps of a character.
+/// Parses as `parse` does, on the slow path.
 #[cold]
 #[inline(never)]
-fn parse_by_steps(s: &str, ignore_case: bool, kind: Kind) -> Result<u128, ParseError>
+fn parse_slow(s: &str, ignore_case: bool, kind: Kind) -> Result<u128, ParseError>
     ensures reading { IsSizeReading kind ignore_case s.now result }
     ensures small { IfOk result (λ n. n < current.size_limit) }
 {
-    let (number, unit) = read_by_steps(s, flags_for(kind, ignore_case))?;
+    let (number, unit) = read_slow(s, flags_for(kind, ignore_case))?;
     size_of(number, unit, kind)
 }
 
-/// What `parse` answers for each text that states this number and this unit. It is inlined by force: a call would move
-/// the whole answer through memory.
+/// Returns the result of `parse` for a string with this number and this unit.
+///
+/// `#[inline(always)]`: a call would return the result through memory.
 #[inline(always)]
 fn size_of(number: Decimal, unit: Unit, kind: Kind) -> Result<u128, ParseError>
     ensures reading { (ignore_case : Bool) (bytes : List ℕ)
@@ -151,7 +191,7 @@ fn size_of(number: Decimal, unit: Unit, kind: Kind) -> Result<u128, ParseError>
     }
 }
 
-/// How a text of the kind is read. One of bits is always case sensitive.
+/// Returns the flags for parsing a size of the kind. For bits case always counts.
 #[inline]
 fn flags_for(kind: Kind, ignore_case: bool) -> Flags
     ensures { result ≡ flags_for kind ignore_case }

@@ -12,10 +12,19 @@ mod parse;
 pub(crate) mod scan;
 pub(crate) mod unit_type;
 
-/// A unit of bits or bytes, with one of the prefixes of the SI or of the IEC or with none.
+/// A unit of bits or bytes, with a decimal (SI) prefix, with a binary (IEC) prefix, or without one.
 ///
-/// The prefixes rise from K to R. Within a prefix the units rise in the order in which they stand here, and each prefix
-/// lies wholly above the one before.
+/// The variants are in ascending order of their prefixes, from K to R, and within a prefix in ascending order of their
+/// bits.
+///
+/// # Examples
+///
+/// ```rust
+/// use byte_unit::Unit;
+///
+/// assert_eq!(rt; Unit::KiB.as_bits_u128(), 8192);
+/// assert_eq!(rt; Unit::parse_str("kib", true, true)?, Unit::KiB);
+/// ```
 #[derive(Clone, Copy, Debug, PartialEq, Eq)]
 pub enum Unit {
     /// One bit.
@@ -96,131 +105,132 @@ pub enum Unit {
     RiB,
 }
 
-/// The bits of each unit, in the order of the units. A `match` over them would be a jump by a table, which takes longer
-/// where the units change from text to text.
-static BITS: [u128; 38] = [
-    1,
-    8,
-    1000,
-    1024,
-    8000,
-    8192,
-    1_000_000,
-    1_048_576,
-    8_000_000,
-    8_388_608,
-    1_000_000_000,
-    1_073_741_824,
-    8_000_000_000,
-    8_589_934_592,
-    1_000_000_000_000,
-    1_099_511_627_776,
-    8_000_000_000_000,
-    8_796_093_022_208,
-    1_000_000_000_000_000,
-    1_125_899_906_842_624,
-    8_000_000_000_000_000,
-    9_007_199_254_740_992,
-    1_000_000_000_000_000_000,
-    1_152_921_504_606_846_976,
-    8_000_000_000_000_000_000,
-    9_223_372_036_854_775_808,
-    1_000_000_000_000_000_000_000,
-    1_180_591_620_717_411_303_424,
-    8_000_000_000_000_000_000_000,
-    9_444_732_965_739_290_427_392,
-    1_000_000_000_000_000_000_000_000,
-    1_208_925_819_614_629_174_706_176,
-    8_000_000_000_000_000_000_000_000,
-    9_671_406_556_917_033_397_649_408,
-    1_000_000_000_000_000_000_000_000_000,
-    1_237_940_039_285_380_274_899_124_224,
-    8_000_000_000_000_000_000_000_000_000,
-    9_903_520_314_283_042_199_192_993_792,
-];
-
-/// What a unit is made of.
+/// The prefix and the base unit of a unit.
 #[derive(Clone, Copy)]
 struct Shape {
-    /// The place of its prefix among the letters, from 1 for K, or 0 for none.
+    /// The position of the prefix letter, from 1 for K, or 0 if there is no prefix.
     power: u32,
-    /// Whether it goes by powers of two.
+    /// Whether the prefix is binary (IEC).
     binary: bool,
-    /// Whether it counts bits, and not bytes.
+    /// Whether the unit counts bits, and not bytes.
     bit: bool,
 }
+
+/// The name and the shape of a unit.
+#[derive(Clone, Copy)]
+struct UnitData {
+    name: &'static str,
+    shape: Shape,
+}
+
+/// Calls a macro with each prefix: its letter, its position, and its value as a decimal and as a binary prefix.
+macro_rules! with_prefixes {
+    ($table:ident) => {
+        $table![
+            "K" 1 1_000 1_024,
+            "M" 2 1_000_000 1_048_576,
+            "G" 3 1_000_000_000 1_073_741_824,
+            "T" 4 1_000_000_000_000 1_099_511_627_776,
+            "P" 5 1_000_000_000_000_000 1_125_899_906_842_624,
+            "E" 6 1_000_000_000_000_000_000 1_152_921_504_606_846_976,
+            "Z" 7 1_000_000_000_000_000_000_000 1_180_591_620_717_411_303_424,
+            "Y" 8 1_000_000_000_000_000_000_000_000 1_208_925_819_614_629_174_706_176,
+            "R" 9 1_000_000_000_000_000_000_000_000_000 1_237_940_039_285_380_274_899_124_224
+        ]
+    };
+}
+
+/// Writes the data of one unit.
+macro_rules! unit {
+    ($name:expr, $power:literal, $binary:literal, $bit:literal) => {
+        UnitData {
+            name: $name,
+            shape: Shape {
+                power: $power,
+                binary: $binary,
+                bit: $bit,
+            },
+        }
+    };
+}
+
+/// Writes the data of the units, in the order of the variants.
+macro_rules! units {
+    ($($letter:literal $power:literal $decimal:literal $binary:literal),*) => {
+        [
+            unit!("b", 0, false, true),
+            unit!("B", 0, true, false),
+            $(
+                unit!(concat!($letter, "b"), $power, false, true),
+                unit!(concat!($letter, "ib"), $power, true, true),
+                unit!(concat!($letter, "B"), $power, false, false),
+                unit!(concat!($letter, "iB"), $power, true, false),
+            )*
+        ]
+    };
+}
+
+/// Writes the bits of the units, in the order of the variants.
+macro_rules! unit_bits {
+    ($($letter:literal $power:literal $decimal:literal $binary:literal),*) => {
+        [1, 8, $($decimal, $binary, $decimal * 8, $binary * 8),*]
+    };
+}
+
+// Lookups in tables are loads. LLVM makes a jump table of a `match` over the units, which is slower if the units change
+// from one string to the next.
+
+static UNITS: [UnitData; 38] = with_prefixes!(units);
+
+static UNIT_BITS: [u128; 38] = with_prefixes!(unit_bits);
 
 impl Unit {
     ghost use Rattle.byte_unit_base.specs.Units.{shape_of};
 
-    /// How many bits the unit is: from 1 to 2^93.
+    /// Returns the number of bits of the unit: from 1 to 2^93.
     ///
-    /// ```text
-    /// Unit::KiB.as_bits_u128() == 8192
+    /// # Examples
+    ///
+    /// ```rust
+    /// use byte_unit::Unit;
+    ///
+    /// assert_eq!(rt; Unit::KiB.as_bits_u128(), 8192);
+    /// assert_eq!(rt; Unit::RiB.as_bits_u128(), 1 << 93);
     /// ```
     pub fn as_bits_u128(self) -> u128
         ensures bits { result ≡ bits (shape_of self) }
         ensures some { 1 ≤ result }
         ensures small { result ≤ unit_limit }
     {
-        BITS[self as usize]
+        UNIT_BITS[self as usize]
     }
 
-    /// Its name, of one to three ASCII letters: the prefix letter, an `i` where that is a power of two, and `b` for
-    /// bits or `B` for bytes.
+    /// Returns the name of the unit, of one to three ASCII letters: the prefix letter, an `i` if the prefix is binary,
+    /// and `b` for bits or `B` for bytes.
     ///
-    /// ```text
-    /// Unit::Kibit.as_str() == "Kib"
+    /// # Examples
+    ///
+    /// ```rust
+    /// use byte_unit::Unit;
+    ///
+    /// assert_eq!(rt; Unit::Kibit.as_str(), "Kib");
+    /// assert_eq!(rt; Unit::MB.as_str(), "MB");
     /// ```
     pub fn as_str(self) -> &'static str
         ensures { result.now ≡ name current (shape_of self) }
     {
-        match self {
-            Unit::Bit => "b",
-            Unit::B => "B",
-            Unit::Kbit => "Kb",
-            Unit::Kibit => "Kib",
-            Unit::KB => "KB",
-            Unit::KiB => "KiB",
-            Unit::Mbit => "Mb",
-            Unit::Mibit => "Mib",
-            Unit::MB => "MB",
-            Unit::MiB => "MiB",
-            Unit::Gbit => "Gb",
-            Unit::Gibit => "Gib",
-            Unit::GB => "GB",
-            Unit::GiB => "GiB",
-            Unit::Tbit => "Tb",
-            Unit::Tibit => "Tib",
-            Unit::TB => "TB",
-            Unit::TiB => "TiB",
-            Unit::Pbit => "Pb",
-            Unit::Pibit => "Pib",
-            Unit::PB => "PB",
-            Unit::PiB => "PiB",
-            Unit::Ebit => "Eb",
-            Unit::Eibit => "Eib",
-            Unit::EB => "EB",
-            Unit::EiB => "EiB",
-            Unit::Zbit => "Zb",
-            Unit::Zibit => "Zib",
-            Unit::ZB => "ZB",
-            Unit::ZiB => "ZiB",
-            Unit::Ybit => "Yb",
-            Unit::Yibit => "Yib",
-            Unit::YB => "YB",
-            Unit::YiB => "YiB",
-            Unit::Rbit => "Rb",
-            Unit::Ribit => "Rib",
-            Unit::RB => "RB",
-            Unit::RiB => "RiB",
-        }
+        UNITS[self as usize].name
     }
 
-    /// Whether it counts bits, and not bytes.
+    /// Returns `true` if the unit counts bits, and `false` if it counts bytes.
     ///
-    /// ```text
-    /// Unit::Kbit.is_bit() == true
+    /// # Examples
+    ///
+    /// ```rust
+    /// use byte_unit::Unit;
+    ///
+    /// assert!(rt; Unit::Kbit.is_bit());
+    /// assert!(rt; !Unit::KB.is_bit());
     /// ```
     pub fn is_bit(self) -> bool
         ensures { result ≡ (shape_of self).bit }
@@ -228,10 +238,17 @@ impl Unit {
         self.shape().bit
     }
 
-    /// Whether it goes by powers of two. `B` does, and `Bit` does not.
+    /// Returns `true` if the prefix is binary (IEC). Of the units without a prefix, `B` counts as binary and `Bit` does
+    /// not.
     ///
-    /// ```text
-    /// Unit::KiB.is_binary_multiples() == true
+    /// # Examples
+    ///
+    /// ```rust
+    /// use byte_unit::Unit;
+    ///
+    /// assert!(rt; Unit::KiB.is_binary_multiples());
+    /// assert!(rt; !Unit::KB.is_binary_multiples());
+    /// assert!(rt; Unit::B.is_binary_multiples() && !Unit::Bit.is_binary_multiples());
     /// ```
     pub fn is_binary_multiples(self) -> bool
         ensures { result ≡ (shape_of self).binary }
@@ -239,10 +256,16 @@ impl Unit {
         self.shape().binary
     }
 
-    /// The exponents of two and of five in its bits.
+    /// Returns the exponents of 2 and of 5 in the number of bits of the unit, which has no other prime factor.
     ///
-    /// ```text
-    /// Unit::KB.powers() == (6, 3), since 8000 is 2^6 * 5^3
+    /// # Examples
+    ///
+    /// ```rust
+    /// use byte_unit::Unit;
+    ///
+    /// // 8000 is 2^6 * 5^3.
+    /// assert_eq!(rt; Unit::KB.powers(), (6, 3));
+    /// assert_eq!(rt; Unit::KiB.powers(), (13, 0));
     /// ```
     pub fn powers(self) -> (u32, u32)
         ensures twos { result.0 ≡ twos (shape_of self) }
@@ -257,57 +280,17 @@ impl Unit {
         }
     }
 
-    /// Its shape. The name, the bits and all else follow from it.
+    /// Returns the shape of the unit, which determines its name and its bits.
     fn shape(self) -> Shape
         ensures power { result.power ≡ (shape_of self).power }
         ensures binary { result.binary ≡ (shape_of self).binary }
         ensures bit { result.bit ≡ (shape_of self).bit }
     {
-        let (power, binary, bit) = match self {
-            Unit::Bit => (0, false, true),
-            Unit::B => (0, true, false),
-            Unit::Kbit => (1, false, true),
-            Unit::Kibit => (1, true, true),
-            Unit::KB => (1, false, false),
-            Unit::KiB => (1, true, false),
-            Unit::Mbit => (2, false, true),
-            Unit::Mibit => (2, true, true),
-            Unit::MB => (2, false, false),
-            Unit::MiB => (2, true, false),
-            Unit::Gbit => (3, false, true),
-            Unit::Gibit => (3, true, true),
-            Unit::GB => (3, false, false),
-            Unit::GiB => (3, true, false),
-            Unit::Tbit => (4, false, true),
-            Unit::Tibit => (4, true, true),
-            Unit::TB => (4, false, false),
-            Unit::TiB => (4, true, false),
-            Unit::Pbit => (5, false, true),
-            Unit::Pibit => (5, true, true),
-            Unit::PB => (5, false, false),
-            Unit::PiB => (5, true, false),
-            Unit::Ebit => (6, false, true),
-            Unit::Eibit => (6, true, true),
-            Unit::EB => (6, false, false),
-            Unit::EiB => (6, true, false),
-            Unit::Zbit => (7, false, true),
-            Unit::Zibit => (7, true, true),
-            Unit::ZB => (7, false, false),
-            Unit::ZiB => (7, true, false),
-            Unit::Ybit => (8, false, true),
-            Unit::Yibit => (8, true, true),
-            Unit::YB => (8, false, false),
-            Unit::YiB => (8, true, false),
-            Unit::Rbit => (9, false, true),
-            Unit::Ribit => (9, true, true),
-            Unit::RB => (9, false, false),
-            Unit::RiB => (9, true, false),
-        };
-        Shape { power, binary, bit }
+        UNITS[self as usize].shape
     }
 }
 
-/// The bits of the unit, as `as_bits_u128` gives them.
+/// Converts a unit to its number of bits, as `as_bits_u128` does.
 impl From<Unit> for u128 {
     ghost use Rattle.byte_unit_base.specs.Units.{shape_of};
 
@@ -318,7 +301,7 @@ impl From<Unit> for u128 {
     }
 }
 
-/// Writes the name. Flags of the formatter change nothing.
+/// Writes the name of the unit. The flags of the formatter are ignored.
 impl fmt::Display for Unit {
     ghost use Rattle.std.specs.Prelude.{Some};
     ghost use Rattle.byte_unit_base.specs.Units.{shape_of};

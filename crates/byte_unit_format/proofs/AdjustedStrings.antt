@@ -24,7 +24,7 @@ use Rattle.byte_unit_format.specs.declared.spec.TheConstants.FormatSpec.{ALTERNA
 use Rattle.byte_unit_base.specs.declared.kind.Kind.{Kind}
 use Rattle.byte_unit_base.specs.declared.unit.Unit.{Unit as UnitName}
 use Rattle.byte_unit_base.proofs.Choosing.{some_bits}
-use Rattle.byte_unit_base.proofs.NumberTexts.{IsBounded, number_of}
+use Rattle.byte_unit_base.proofs.NumberTexts.{IsBounded, fixed_point_of}
 use Rattle.byte_unit_base.proofs.LongFractions.{long_fault}
 use Rattle.byte_unit_base.proofs.Quotients.{exact_more}
 use Rattle.byte_unit_format.proofs.ReadBack.{IsStatement, good_name, bits_bound, number_scaled, trimmed_layout, layout_accepted}
@@ -48,13 +48,13 @@ expansion_bounded kind size unit e below expansion =
 
 -- in last places
 expansion_product : (num den : ℕ) (e : Finite) → IsExpansion num den e → length e.digits ≤ places_of_decimal
-    → number_of e.whole e.digits * den ≡ num * one
+    → fixed_point_of e.whole e.digits * den ≡ num * one
 expansion_product num den e expansion few =
     let places = length e.digits in
     let rest = 10 ^ (places_of_decimal - places) in
     let split : places_of_decimal ≡ places + (places_of_decimal - places) = omega arith in
     let power : one ≡ 10 ^ places * rest = ap (λ places. 10 ^ places) split ∙ pow-add 10 places (places_of_decimal - places) in
-    let number : number_of e.whole e.digits ≡ scaled e * rest =
+    let number : fixed_point_of e.whole e.digits ≡ scaled e * rest =
     number_scaled e.whole (value_of e.digits) (scaled e * rest) places few refl in
     let of_rest = ap (λ number. number * rest) expansion.exact in
     let of_power = ap (λ power. num * power) power in

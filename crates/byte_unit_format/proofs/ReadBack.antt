@@ -34,7 +34,7 @@ use Rattle.byte_unit_format.specs.Layout.{layout, layout_padding, before_layout,
 use Rattle.byte_unit_format.specs.Plain.{spaces, plus_of, plain, plain_padding, before_plain}
 use Rattle.byte_unit_format.specs.Forms.{places_of}
 use Rattle.byte_unit_format.specs.FormLaws.{SizeFormReadsBack, PlainFormReadsBack}
-use Rattle.byte_unit_base.proofs.NumberTexts.{number_of, number_text, number_start, number_ascii, decimal_ascii, whole_text}
+use Rattle.byte_unit_base.proofs.NumberTexts.{fixed_point_of, number_text, number_start, number_ascii, decimal_ascii, whole_text}
 use Rattle.byte_unit_base.proofs.NumberTexts.{IsBounded, not_white, starts_with_digit}
 use Rattle.byte_unit_base.proofs.Trim.{StartsWithoutSpace, EndsWithoutSpace}
 use Rattle.byte_unit_format.proofs.TrimmedTexts.{trim_between, spaces_ascii}
@@ -148,7 +148,7 @@ pub record IsStatement (kind : Kind) (ignore_case : Bool) (size : ℕ) (e : Fini
   pub bounded : IsBounded e
   pub few : length e.digits ≤ places_of_decimal
   pub good : IsGoodName kind ignore_case unit
-  pub exact : number_of e.whole e.digits * bits unit ≡ size * bits_in kind * one
+  pub exact : fixed_point_of e.whole e.digits * bits unit ≡ size * bits_in kind * one
   pub below : size < current.size_limit
 
 pub layout_accepted :
@@ -158,7 +158,7 @@ pub layout_accepted :
 layout_accepted kind ignore_case size spec e unit states =
     let layout = trimmed_layout kind ignore_case spec e unit states.bounded states.good in
     record {
-      number = number_of e.whole e.digits;
+      number = fixed_point_of e.whole e.digits;
       is_read =
           record {
             unit =
@@ -177,7 +177,7 @@ layout_accepted kind ignore_case size spec e unit states =
                   unit_is = states.good.spells;
                 };
             is_least
-                = least_size kind (number_of e.whole e.digits) size unit states.exact;
+                = least_size kind (fixed_point_of e.whole e.digits) size unit states.exact;
           };
       below = states.below;
     }

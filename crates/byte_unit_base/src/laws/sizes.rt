@@ -3,24 +3,24 @@
 ghost use Rattle.byte_unit_base.specs.SizeLaws.{GreaterNumbersGiveNoSmallerSizes, EachNumberHasOneLeastSize};
 ghost use Rattle.byte_unit_base.specs.SizeLaws.{EachTextIsOneOfThree, TextsAreAcceptedOrRefused};
 
-/// A greater number never gives a smaller least size in the same unit.
+/// States that of two numbers of one unit the greater has no smaller size.
 pub fn greater_numbers_give_no_smaller_sizes()
     ensures { GreaterNumbersGiveNoSmallerSizes }
 {}
 
-/// Each number of each unit has one least size in bytes, and one in bits.
+/// States that each number of each unit has one size in bytes, and one in bits: its exact value, rounded up.
 pub fn each_number_has_one_least_size()
     ensures { EachNumberHasOneLeastSize }
 {}
 
-/// Each text is accepted as one size of the kind, or is in the grammar with one number whose size is too large, or has
-/// one fault of its characters, and no two of these.
+/// States that each string is accepted as one size of the kind, or is in the grammar with one number whose size is too
+/// large, or has one error of its characters, and no two of these.
 pub fn each_text_is_one_of_three()
     ensures { EachTextIsOneOfThree }
 {}
 
-/// Each text is accepted as one size of the kind or refused by one fault, and not both. A size that is too large is a
-/// fault here, with the number as it was written.
+/// States that each string is accepted as one size of the kind or rejected with one error, and not both. A size that is
+/// too large is an error here, with the number as it was written.
 pub fn texts_are_accepted_or_refused()
     ensures { TextsAreAcceptedOrRefused }
 {}

@@ -1,4 +1,4 @@
-//! The digits with which a text begins: read many at a time, as the scan reads them one by one.
+//! Parses leading digits, many at a time, as the state machine does one by one.
 
 ghost use Rattle.std.specs.Prelude.{◌≡◌, ◌≤◌, ◌%◌, ◌^◌, length};
 ghost use Rattle.std.specs.Str.Parse.{AllDigits, digits_value};
@@ -8,29 +8,32 @@ use crate::read::scan::{SizeScan, WHOLE_LIMIT};
 use byte_unit_math::DECIMAL_PLACES;
 use core::dec2flt::read_digits;
 
-/// How many digits a `u64` holds, whichever they are.
+/// The number of digits of which a `u64` holds any: 19.
 const SHORT_DIGITS: usize = 19;
 
-/// Above each number of so many digits.
+/// 10^19.
 const NINETEEN_DIGITS: u128 = 10_000_000_000_000_000_000;
 
-/// How many digits the greatest whole part has.
+/// The number of digits of the greatest whole part, 2^112 - 1.
 const WHOLE_DIGITS: usize = 34;
 
-/// How far the digits of a number lead, with the point between them, and how many bytes they are. Digits past the most
-/// that a number has, and those of a whole part that is too long, are left to the steps of a character.
+/// Parses the leading digits of a number, with the point between them. Returns the parser state after them, and their
+/// length in bytes.
+///
+/// It returns a state since both paths use it: the slow path goes on from there. Parts with more digits than a number
+/// may have, and a whole part that is too large, are left to the state machine.
 #[inline(always)]
 pub fn scan_digits(bytes: &[u8]) -> (SizeScan, usize)
     ensures { AreScanned bytes.now result.1 result.0 }
 {
-    let (whole, end) = digits_at_front(bytes, WHOLE_DIGITS);
+    let (whole, end) = leading_digits(bytes, WHOLE_DIGITS);
     if end == 0 || whole >= WHOLE_LIMIT {
         return (SizeScan::Beginning, 0);
     }
     if end == bytes.len() || bytes[end] != b'.' {
         return (SizeScan::Whole(whole), end);
     }
-    let (fraction, places) = digits_at_front(&bytes[end + 1..], DECIMAL_PLACES as usize);
+    let (fraction, places) = leading_digits(&bytes[end + 1..], DECIMAL_PLACES as usize);
     if places == 0 {
         return (SizeScan::Whole(whole), end);
     }
@@ -40,10 +43,9 @@ pub fn scan_digits(bytes: &[u8]) -> (SizeScan, usize)
     )
 }
 
-/// The digits with which the bytes begin: their value, and how many they are. None of them where they are more than
-/// so many.
+/// Parses the leading digits. Returns their value and their number, or 0 for both if there are more than `most`.
 #[inline(always)]
-fn digits_at_front(bytes: &[u8], most: usize) -> (u128, usize)
+fn leading_digits(bytes: &[u8], most: usize) -> (u128, usize)
     requires { (SHORT_DIGITS ≤ most) × (most ≤ 38) }
     ensures few { result.1 ≤ most }
     ensures read { AreDigits bytes.now result.1 result.0 }
@@ -58,7 +60,7 @@ fn digits_at_front(bytes: &[u8], most: usize) -> (u128, usize)
     }
 }
 
-/// The value of digits that are more than a `u64` holds, of which the last 64 bits are known.
+/// Returns the value of 19 to 38 digits, from the last 64 bits of that value.
 #[inline(never)]
 fn long_value(digits: &[u8], last_bits: u64) -> u128
     requires digits { AllDigits 10 digits.now }
@@ -70,6 +72,6 @@ fn long_value(digits: &[u8], last_bits: u64) -> u128
     let (front, _) = digits.split_at(digits.len() - SHORT_DIGITS);
     let (_, high) = read_digits(front, 0, 0);
     let product = u128::from(high) * NINETEEN_DIGITS;
-    // The other nineteen digits fit 64 bits, so that these bits tell them.
+    // The value of the last 19 digits fits 64 bits, so it follows from these bits.
     product + u128::from(last_bits.wrapping_sub((product % (1 << 64)) as u64))
 }

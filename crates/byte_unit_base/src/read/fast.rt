@@ -1,4 +1,4 @@
-//! The reader of numbers and units by loops over bytes. It answers most texts that state one, and else leaves it open.
+//! Fast path: parses common ASCII input by loops over bytes. `None` means fall back to the slow path.
 
 ghost use Rattle.std.specs.Prelude.{◌≡◌, ◌≤◌, IfSome, length, take, replicate};
 ghost use Rattle.std.specs.Str.{IsUtf8};
@@ -12,16 +12,16 @@ use crate::unit::Unit;
 use crate::unit::scan::{Flags, Multiple, Prefix, UnitScan, Word};
 use byte_unit_math::Decimal;
 
-/// The number and the unit that the bytes of a text state, without the white space at its ends. Where there is no
-/// answer, they may state one or not: so are all texts with a fault, with a character past ASCII, with white space at
-/// an end, with a whole part of more digits than the greatest has, or with `bit` or `bits` in capital letters.
+/// Parses a number and a unit from bytes. Returns `None` if the slow path has to decide: for every invalid input, and
+/// for valid input with a character outside ASCII, with white space at an end, with more than 34 digits before the
+/// point, or with `bit` or `bits` in capital letters.
 #[inline(always)]
 pub fn read_fast(bytes: &[u8], flags: Flags) -> Option<(Decimal, Unit)>
     ensures stated { IfSome result
         (λ stated. IsSizeText current flags (trimmed bytes.now) stated.0 (shape_of stated.1)) }
     ensures text { IfSome result (λ stated. IsUtf8 bytes.now) }
 {
-    // Between visible characters there is nothing to trim.
+    // With a visible character at each end there is nothing to trim.
     if bytes.is_empty()
         || !bytes[0].is_ascii_graphic()
         || !bytes[bytes.len() - 1].is_ascii_graphic()
@@ -30,16 +30,16 @@ pub fn read_fast(bytes: &[u8], flags: Flags) -> Option<(Decimal, Unit)>
     }
     let (scan, end) = scan_digits(bytes);
     let number = scan.number()?;
-    let behind = &bytes[end..];
-    let spelling = &behind[spaces_at_front(behind)..];
-    let (multiple, start) = multiple_at_front(spelling);
-    let word = word_of(&spelling[start..])?;
+    let rest = &bytes[end..];
+    let spelling = &rest[leading_spaces(rest)..];
+    let (multiple, start) = leading_multiple(spelling);
+    let word = parse_word(&spelling[start..])?;
     let unit = UnitScan { multiple, word }.unit(flags)?;
     Some((number, unit))
 }
 
-/// How many spaces the bytes begin with.
-fn spaces_at_front(bytes: &[u8]) -> usize
+/// Returns the number of leading spaces.
+fn leading_spaces(bytes: &[u8]) -> usize
     ensures within { result ≤ length bytes.now }
     ensures spaces { take result bytes.now ≡ replicate result space }
 {
@@ -50,8 +50,8 @@ fn spaces_at_front(bytes: &[u8]) -> usize
     count
 }
 
-/// The prefix with which the bytes begin, and where it ends.
-fn multiple_at_front(bytes: &[u8]) -> (Multiple, usize)
+/// Parses a leading prefix. Returns it and its length in bytes.
+fn leading_multiple(bytes: &[u8]) -> (Multiple, usize)
     ensures within { result.1 ≤ length bytes.now }
     ensures read { IsMultipleText result.0 (take result.1 bytes.now) }
 {
@@ -70,8 +70,8 @@ fn multiple_at_front(bytes: &[u8]) -> (Multiple, usize)
     }
 }
 
-/// What the letters behind a prefix say.
-fn word_of(bytes: &[u8]) -> Option<Word>
+/// Parses the suffix after a prefix. Returns `None` if the slow path has to decide.
+fn parse_word(bytes: &[u8]) -> Option<Word>
     ensures { IfSome result (λ word. IsWordText word bytes.now) }
 {
     match bytes {

@@ -1,4 +1,4 @@
-//! The scan of a number and a unit: one step a character.
+//! The state machine that parses a number and a unit, character by character.
 
 ghost use Rattle.std.specs.Prelude.{◌≡◌};
 ghost use Rattle.byte_unit_base.specs.Edition.{current};
@@ -11,29 +11,30 @@ use crate::unit::Unit;
 use crate::unit::scan::{Flags, UnitScan};
 use byte_unit_math::{DECIMAL_PLACES, Decimal};
 
-/// How far a number and a unit are read.
+/// The state of the parser of a number and a unit.
 #[derive(Clone, Copy)]
 pub enum SizeScan {
+    /// Nothing.
     Beginning,
     /// The whole part so far.
     Whole(u128),
-    /// The whole part, and a point after it.
+    /// The whole part, and the point after it.
     Point(u128),
-    /// The whole part, the digits after the point as a number, and how many they are.
+    /// The whole part, the value of the digits after the point, and their number.
     Fraction(u128, u128, u32),
     /// The number, and spaces after it.
     Gap(Decimal),
-    /// The number, and how far the unit is read, which is not empty.
+    /// The number, and the state of the unit, of which at least one character is read.
     Unit(Decimal, UnitScan),
 }
 
-/// Whole parts are below this.
+/// The limit of whole parts: 2^112.
 pub const WHOLE_LIMIT: u128 = 5_192_296_858_534_827_628_530_496_329_220_096;
 
 impl SizeScan {
     ghost use Rattle.byte_unit_base.specs.SizeScan.{IsScan, size_step, size_place, size_at_end, number_of};
 
-    /// What has been read with one character more, or `None` where that goes on with no number and unit.
+    /// Returns the state after one more character. Returns `None` if the character cannot continue a size.
     #[tactic(auto, unfolding(crate::specs::SizeScan::size_step))]
     pub fn step(&self, c: char) -> Option<SizeScan>
         requires { IsScan self.now }
@@ -64,8 +65,8 @@ impl SizeScan {
         }
     }
 
-    /// The fault of a character that goes on with no size.
-    pub fn fault(&self, flags: Flags, c: char) -> ParseError
+    /// Returns the error of a character that cannot continue a size.
+    pub fn error_at(&self, flags: Flags, c: char) -> ParseError
         requires { IsScan self.now }
         ensures { size_fault result ≡ fault_at current flags (size_place self.now) c }
     {
@@ -75,14 +76,14 @@ impl SizeScan {
             }
             SizeScan::Whole(_) | SizeScan::Fraction(_, _, _) => match c.to_digit(10) {
                 Some(_) => ParseError::Value(ValueParseError::NumberTooLong),
-                None => ParseError::Unit(UnitScan::START.fault(flags, c)),
+                None => ParseError::Unit(UnitScan::START.error_at(flags, c)),
             },
-            SizeScan::Gap(_) => ParseError::Unit(UnitScan::START.fault(flags, c)),
-            SizeScan::Unit(_, scan) => ParseError::Unit(scan.fault(flags, c)),
+            SizeScan::Gap(_) => ParseError::Unit(UnitScan::START.error_at(flags, c)),
+            SizeScan::Unit(_, scan) => ParseError::Unit(scan.error_at(flags, c)),
         }
     }
 
-    /// The number whose last digit has just been read, or could be.
+    /// Returns the number read so far. Returns `None` if the last character is not one of its digits.
     #[inline(always)]
     pub fn number(&self) -> Option<Decimal>
         requires { IsScan self.now }
@@ -97,7 +98,11 @@ impl SizeScan {
         }
     }
 
-    /// The number and the unit of a text that ends here.
+    /// Returns the number and the unit of a string that ends here.
+    ///
+    /// # Errors
+    ///
+    /// Returns `NoValue` for an empty string, `NotNumber('.')` after the point, and `Unit` if the unit is incomplete.
     pub fn finish(&self, flags: Flags) -> Result<(Decimal, Unit), ParseError>
         requires { IsScan self.now }
         ensures { size_seen result ≡ size_at_end flags self.now }
@@ -119,7 +124,8 @@ impl SizeScan {
     }
 }
 
-/// A space or the beginning of a unit, after a number.
+/// Returns the state after a number and one more character. Returns `None` if that is neither a space nor the start of
+/// a unit.
 fn after_number(number: Decimal, c: char) -> Option<SizeScan>
     ensures { result ≡ after_number number c }
 {

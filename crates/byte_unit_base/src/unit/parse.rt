@@ -1,4 +1,4 @@
-//! The reader of a unit.
+//! The parser of a unit.
 
 ghost use Rattle.std.specs.Prelude.{◌≡◌};
 ghost use Rattle.std.specs.Str.{chars};
@@ -14,22 +14,28 @@ use std::str::FromStr;
 impl Unit {
     ghost use Rattle.byte_unit_base.specs.Readings.{IsUnitReading};
 
-    /// The unit that the text spells, without the white space at its ends.
+    /// Parses a unit from a string. White space at its ends is ignored.
     ///
-    /// A spelling is empty, a b-part, or a prefix letter in either case with an optional `i` or `I` and an optional
-    /// b-part after it. A b-part is `B` for bytes, `b` for bits or, with `ignore_case`, for bytes, or `bit` or `bits`
-    /// in any case for bits. Where there is none, bytes are meant with `prefer_byte`, and else bits.
+    /// A unit is an optional prefix and an optional suffix. The prefix is a letter in either case, optionally followed
+    /// by `i` or `I`. The suffix is `B` for bytes; `b` for bits, or with `ignore_case` for bytes; or `bit` or `bits` in
+    /// any case for bits. Without a suffix the unit is of bytes if `prefer_byte` is set, and else of bits.
     ///
-    /// Every other text is refused by the first character, from the left, that goes on with no spelling. The error
-    /// names characters that could stand there, though not each one, such as the other case of a letter or an `i` after
-    /// a prefix, and says whether the text could end there. A text that stops after the `bi` of a b-part is refused
-    /// with the character `i`, also for an `I`.
+    /// # Errors
     ///
-    /// ```text
-    /// Unit::parse_str("Kib", false, true) is Ok(Unit::Kibit)
-    /// Unit::parse_str("Kib", true, true) is Ok(Unit::KiB)
-    /// Unit::parse_str("K", false, true) is Ok(Unit::KB)
-    /// Unit::parse_str("Kx", false, true) is refused by 'x', and names 'B', 'b' and the end
+    /// Returns the first character, from the left, that cannot continue a unit, with characters that are valid in its
+    /// place, and whether the string could end there. The characters are not all that are valid: the other case of a
+    /// letter and an `i` after a prefix are left out. If the string ends after the `bi` of a suffix, the character is
+    /// `i`, also for an `I`.
+    ///
+    /// # Examples
+    ///
+    /// ```rust
+    /// use byte_unit::Unit;
+    ///
+    /// assert_eq!(rt; Unit::parse_str("Kib", false, true)?, Unit::Kibit);
+    /// assert_eq!(rt; Unit::parse_str("Kib", true, true)?, Unit::KiB);
+    /// assert_eq!(rt; Unit::parse_str("K", false, true)?, Unit::KB);
+    /// assert!(rt; Unit::parse_str("Kx", false, true).is_err());
     /// ```
     pub fn parse_str(s: &str, ignore_case: bool, prefer_byte: bool) -> Result<Unit, UnitParseError>
         ensures { IsUnitReading (reading ignore_case prefer_byte) s.now result }
@@ -42,7 +48,7 @@ impl Unit {
     }
 }
 
-/// Reads as `Unit::parse_str` does where case counts and bytes are preferred.
+/// Parses as `Unit::parse_str` does with `ignore_case` unset and `prefer_byte` set.
 impl FromStr for Unit {
     type Err = UnitParseError;
 
@@ -56,7 +62,11 @@ impl FromStr for Unit {
     }
 }
 
-/// The unit that the whole text spells.
+/// Parses a unit from the whole string.
+///
+/// # Errors
+///
+/// As `Unit::parse_str`.
 fn read_unit(text: &str, flags: Flags) -> Result<Unit, UnitParseError>
     ensures { unit_seen result ≡ read (unit_scan flags) start (chars text.now) }
 {
@@ -64,7 +74,7 @@ fn read_unit(text: &str, flags: Flags) -> Result<Unit, UnitParseError>
     for c in text.chars() {
         match scan.step(c) {
             Some(next) => scan = next,
-            None => return Err(scan.fault(flags, c)),
+            None => return Err(scan.error_at(flags, c)),
         }
     }
     scan.unit(flags).ok_or(UnitParseError::STOPS_AT_BI)

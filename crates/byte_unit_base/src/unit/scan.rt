@@ -1,4 +1,4 @@
-//! The scan of a unit's spelling: one step a character.
+//! The state machine that parses a unit, character by character.
 
 ghost use Rattle.std.specs.Prelude.{◌≡◌};
 ghost use Rattle.std.specs.Option.{option_map};
@@ -7,7 +7,7 @@ ghost use Rattle.byte_unit_base.specs.UnitScan.{is_i};
 use crate::errors::UnitParseError;
 use crate::unit::Unit;
 
-/// A prefix, of the powers of ten or of two.
+/// A prefix letter, of a decimal or a binary prefix.
 #[derive(Clone, Copy)]
 pub enum Prefix {
     Kilo,
@@ -21,7 +21,7 @@ pub enum Prefix {
     Ronna,
 }
 
-/// The prefix so far, and whether an `i` came after it.
+/// The prefix read so far, and whether an `i` came after it.
 #[derive(Clone, Copy)]
 pub enum Multiple {
     One,
@@ -29,7 +29,7 @@ pub enum Multiple {
     Binary(Prefix),
 }
 
-/// What stands so far of `b`, `bit` or `bits`.
+/// The part of a suffix (`B`, `b`, `bit`, `bits`) read so far.
 #[derive(Clone, Copy)]
 pub enum Word {
     Empty,
@@ -40,19 +40,19 @@ pub enum Word {
     Bits,
 }
 
-/// How far a unit's spelling is read.
+/// The state of the parser of a unit.
 #[derive(Clone, Copy)]
 pub struct UnitScan {
     pub multiple: Multiple,
     pub word: Word,
 }
 
-/// How a text is read.
+/// The options of the parsers.
 #[derive(Clone, Copy)]
 pub struct Flags {
-    /// Whether `b` means bytes.
+    /// Whether the suffix `b` means bytes.
     pub ignore_case: bool,
-    /// Whether bytes are meant where nothing says.
+    /// Whether a unit without a suffix is of bytes.
     pub prefer_byte: bool,
 }
 
@@ -61,7 +61,7 @@ impl Prefix {
     ghost use Rattle.byte_unit_base.specs.Shape.{shape};
     ghost use Rattle.byte_unit_base.specs.Units.{shape_of};
 
-    /// The prefix of a letter in either case.
+    /// Returns the prefix of a letter in either case. Returns `None` if the character is no prefix letter.
     pub fn from_char(c: char) -> Option<Prefix>
         ensures { result ≡ prefix_at c }
     {
@@ -79,7 +79,7 @@ impl Prefix {
         }
     }
 
-    /// The unit with this prefix.
+    /// Returns the unit with this prefix.
     fn unit(self, binary: bool, bit: bool) -> Unit
         ensures { shape_of result ≡ shape (power_of self) binary bit }
     {
@@ -106,7 +106,7 @@ impl Prefix {
 impl Multiple {
     ghost use Rattle.byte_unit_base.specs.UnitScan.{multiple_step};
 
-    /// The prefix so far with one character more, or `None` where that goes on with no prefix.
+    /// Returns the prefix with one more character. Returns `None` if the character cannot continue a prefix.
     fn step(self, c: char) -> Option<Multiple>
         ensures { result ≡ multiple_step self c }
     {
@@ -121,7 +121,7 @@ impl Multiple {
 impl Word {
     ghost use Rattle.byte_unit_base.specs.UnitScan.{word_step};
 
-    /// The letters so far with one character more, or `None` where that goes on with no `bits`.
+    /// Returns the suffix with one more character. Returns `None` if the character cannot continue a suffix.
     fn step(self, c: char) -> Option<Word>
         ensures { result ≡ word_step self c }
     {
@@ -139,7 +139,7 @@ impl Word {
     }
 }
 
-/// Whether it is an `i`, in either case.
+/// Returns `true` if the character is an `i`, in either case.
 fn is_i(c: char) -> bool
     ensures { result ≡ is_i c }
 {
@@ -153,13 +153,13 @@ impl UnitScan {
     ghost use Rattle.byte_unit_base.specs.Fault.{fault_at};
     ghost use Rattle.byte_unit_base.specs.Errors.{unit_fault};
 
-    /// Nothing is read.
+    /// The state in which nothing is read.
     pub const START: UnitScan = UnitScan {
         multiple: Multiple::One,
         word: Word::Empty,
     };
 
-    /// What has been read with one character more, or `None` where that goes on with no spelling.
+    /// Returns the state after one more character. Returns `None` if the character cannot continue a unit.
     #[tactic(auto, unfolding(crate::specs::UnitScan::unit_step))]
     pub fn step(self, c: char) -> Option<UnitScan>
         ensures { result ≡ unit_step self c }
@@ -178,7 +178,7 @@ impl UnitScan {
         })
     }
 
-    /// The unit, where the spelling may end here.
+    /// Returns the unit of a string that ends here. Returns `None` if the suffix is incomplete: `bi`.
     #[inline(always)]
     pub fn unit(self, flags: Flags) -> Option<Unit>
         ensures { option_map shape_of result ≡ unit_of flags self }
@@ -198,14 +198,14 @@ impl UnitScan {
         })
     }
 
-    /// The fault of a character that goes on with no spelling.
-    pub fn fault(self, flags: Flags, character: char) -> UnitParseError
+    /// Returns the error of a character that cannot continue a unit.
+    pub fn error_at(self, flags: Flags, character: char) -> UnitParseError
         ensures { unit_fault result ≡ fault_at current flags (place_of self) character }
     {
         let expected_characters: &'static [char] = match self.word {
             Word::Empty => match self.multiple {
                 Multiple::One => &BEGINNINGS,
-                // After a prefix both letters where case counts, and else the one of what is preferred.
+                // After a prefix both letters if case counts, and else the letter of the preferred kind.
                 _ if !flags.ignore_case => &['B', 'b'],
                 _ if flags.prefer_byte => &['B'],
                 _ => &['b'],
@@ -224,5 +224,5 @@ impl UnitScan {
     }
 }
 
-/// The capital letters that begin a unit.
+/// The capital letters with which a unit can begin.
 static BEGINNINGS: [char; 10] = ['B', 'K', 'M', 'G', 'T', 'P', 'E', 'Z', 'Y', 'R'];

@@ -1,21 +1,31 @@
-//! Units of powers of two and units of powers of ten.
+//! Binary and decimal units.
 
 ghost use Rattle.std.specs.Prelude.{◌↔◌, IsTrue};
 ghost use Rattle.byte_unit_base.specs.Family.{IsOfType};
 
-/// Which powers the prefix of a unit may stand for.
+/// The type of the prefixes that a choice may take.
+///
+/// # Examples
+///
+/// ```rust
+/// use byte_unit::{Family, Unit, UnitType, largest_unit};
+///
+/// assert_eq!(rt; largest_unit(2000, Family::Bytes, UnitType::Binary, 8), Some(Unit::KiB));
+/// assert_eq!(rt; largest_unit(2000, Family::Bytes, UnitType::Decimal, 8), Some(Unit::KB));
+/// assert_eq!(rt; largest_unit(1000, Family::Bytes, UnitType::Binary, 8), None);
+/// ```
 #[derive(Clone, Copy, Debug, PartialEq, Eq)]
 pub enum UnitType {
-    /// Powers of two, as `KiB`.
+    /// Binary (IEC) prefixes, as in `KiB`.
     Binary,
-    /// Powers of ten, as `KB`.
+    /// Decimal (SI) prefixes, as in `KB`.
     Decimal,
-    /// Either: the largest not above the size, be it binary or decimal.
+    /// Either: the largest unit not above the size, binary or decimal.
     Both,
 }
 
 impl UnitType {
-    /// Whether it takes the units of powers of two, or those of powers of ten.
+    /// Returns whether the type includes binary prefixes, if `binary` is set, or decimal ones, if it is not.
     pub(crate) fn takes(self, binary: bool) -> bool
         ensures { IsTrue result ↔ IsOfType self binary }
     {

@@ -4,12 +4,14 @@ use Rattle.byte_unit_math.specs.Exact.{IsLeastPlaces, IsQuotient}
 use Rattle.byte_unit_math.specs.Steps.{raised}
 use Rattle.byte_unit_base.specs.Edition.{current}
 use Rattle.byte_unit_base.specs.Choice.{IsChosen}
-use Rattle.byte_unit_base.proofs.Choosing.{is_some, some_bits}
+use Rattle.byte_unit_base.proofs.Choosing.{some_if_holds, some_bits}
 use Rattle.byte_unit_base.proofs.FewSteps.{few_of_choice, few_of_none}
 use Rattle.byte_unit_base.proofs.Quotients.{places_of_quotient, quotient_of_product, whole_takes_none}
-use Rattle.byte_unit_base.proofs.Rows.{HasPowers, no_row, unit_in, search_start, power_of_powers, row_multiple, row_there, row_powers, powers_in_row}
-use Rattle.byte_unit_base.proofs.Rows.{unit_found, unit_passed, none_found, none_true}
-use Rattle.byte_unit_base.proofs.SizePowers.{in_bits_powers, in_bits_product, chosen_by_powers, none_by_powers, exact_by_row, counted_choice}
+use Rattle.byte_unit_base.proofs.Rows.{HasPowers, no_row, unit_in, search_start, power_of_powers, row_multiple}
+use Rattle.byte_unit_base.proofs.Rows.{row_at_is_row, row_powers, powers_in_row}
+use Rattle.byte_unit_base.proofs.Rows.{unit_found, unit_passed, none_found, not_if_test_fails}
+use Rattle.byte_unit_base.proofs.SizePowers.{in_bits_powers, in_bits_product, chosen_by_powers, none_by_powers}
+use Rattle.byte_unit_base.proofs.SizePowers.{exact_by_row, counted_choice}
 use Rattle.byte_unit_base.proofs.SizePowers.{count_fits}
 use Rattle.byte_unit_base.proofs.choice.choose_unit.Goals as goal
 use Rattle.byte_unit_base.proofs.choice.choose_unit.Goals.{then-places-gt-FEW_PLACES, else-places-gt-FEW_PLACES}
@@ -24,7 +26,8 @@ loop-row-init c =
     let in_bits = c.args.size * c.args.divisor in
     let few = HasPowers c.args.family in_bits _ _ in
     record {
-      remain = search_start few c.args.family in_bits _ c.multiples_within-row-items.result.now c.multiples_within-row-items.ensures
+      remain = search_start few c.args.family in_bits _ c.multiples_within-row-items.result.now
+          c.multiples_within-row-items.ensures
           (λ unit h.
           let among = power_of_powers unit _ _ h.few_twos h.few_fives in
           (h.member, h.not_above, omega (arith, among, c.max-first.ensures)));
@@ -36,8 +39,8 @@ loop-row-preserved c =
     let in_bits = c.args.size * c.args.divisor in
     let rows = c.multiples_within-row-items.result.now in
     let i = c.loop-row.row-index in
-    let is_row = row_there i no_row c.multiples_within-row-items.ensures c.loop-row-test.true in
-    let without = none_true _ _ c.if-row-in_bits.false (powers_in_row in_bits _ _ is_row) in
+    let is_row = row_at_is_row i no_row c.multiples_within-row-items.ensures c.loop-row-test.true in
+    let without = not_if_test_fails _ _ c.if-row-in_bits.false (powers_in_row in_bits _ _ is_row) in
     record {
       remain = unit_passed _ rows i no_row c.loop-row.invariant.remain c.loop-row-test.true without;
       steps = c.loop-row.invariant.steps;
@@ -45,25 +48,29 @@ loop-row-preserved c =
 
 pub exact_quotient-requires-clause-some_unit : goal.exact_quotient-requires-clause-some_unit
 exact_quotient-requires-clause-some_unit c =
-    let multiple = row_multiple (row_there c.loop-row.row-index no_row c.multiples_within-row-items.ensures c.loop-row-test.true) in
+    let multiple = row_multiple (row_at_is_row c.loop-row.row-index no_row c.multiples_within-row-items.ensures
+    c.loop-row-test.true) in
     omega (arith, multiple.large)
 
 pub exact_quotient-requires-clause-small_unit : goal.exact_quotient-requires-clause-small_unit
 exact_quotient-requires-clause-small_unit c =
-    (row_multiple (row_there c.loop-row.row-index no_row c.multiples_within-row-items.ensures c.loop-row-test.true)).small
+    (row_multiple (row_at_is_row c.loop-row.row-index no_row c.multiples_within-row-items.ensures
+    c.loop-row-test.true)).small
 
 pub unwrap-number-requires : goal.unwrap-number-requires
 unwrap-number-requires c =
-    let is_row = row_there c.loop-row.row-index no_row c.multiples_within-row-items.ensures c.loop-row-test.true in
+    let is_row = row_at_is_row c.loop-row.row-index no_row c.multiples_within-row-items.ensures c.loop-row-test.true in
     let has = row_powers (c.args.size * c.args.divisor) _ _ is_row c.if-row-in_bits.true in
     let powers = in_bits_powers c.args.size c.args.divisor _ _ c.requires.divisor c.factors_of-left.ensures.powers in
-    is_some c.exact_quotient.result c.exact_quotient.ensures.none
+    some_if_holds c.exact_quotient.result c.exact_quotient.ensures.none
     (exact_by_row _ (omega (arith, c.min-most.ensures)) is_row.bits_are powers has)
 
 pub factored_quotient-number-requires-clause-small : goal.factored_quotient-number-requires-clause-small
 factored_quotient-number-requires-clause-small c =
-    let multiple = row_multiple (row_there c.loop-row.row-index no_row c.multiples_within-row-items.ensures c.loop-row-test.true) in
-    let product = in_bits_product c.args.size c.args.divisor _ _ _ c.requires.divisor c.factors_of-left.ensures.product in
+    let multiple = row_multiple (row_at_is_row c.loop-row.row-index no_row c.multiples_within-row-items.ensures
+    c.loop-row-test.true) in
+    let product = in_bits_product c.args.size c.args.divisor _ _ _ c.requires.divisor
+    c.factors_of-left.ensures.product in
     let few = c.max-places.result in
     let fits = count_fits c.args.size c.args.divisor few multiple c.requires.divisor c.requires.small (omega arith) in
     omega (arith, fits, ap (λ n. n * 10 ^ few) product, ap (λ n. whole_limit * n) multiple.powers)
@@ -71,14 +78,16 @@ factored_quotient-number-requires-clause-small c =
 pub returns-then-row-in_bits-clause-exact : goal.returns-then-row-in_bits-clause-exact
 returns-then-row-in_bits-clause-exact c =
     let in_bits = c.args.size * c.args.divisor in
-    let is_row = row_there c.loop-row.row-index no_row c.multiples_within-row-items.ensures c.loop-row-test.true in
+    let is_row = row_at_is_row c.loop-row.row-index no_row c.multiples_within-row-items.ensures c.loop-row-test.true in
     let multiple = row_multiple is_row in
-    let product = in_bits_product c.args.size c.args.divisor _ _ _ c.requires.divisor c.factors_of-left.ensures.product in
+    let product = in_bits_product c.args.size c.args.divisor _ _ _ c.requires.divisor
+    c.factors_of-left.ensures.product in
     ap (λ n. c.if-places-gt-FEW_PLACES.number * n) (sym is_row.bits_are) ∙
     elim c.if-places-gt-FEW_PLACES.branch [
       | then-places-gt-FEW_PLACES w ↦
           ap (λ n. n * _) w.number-is
-          ∙ subst (λ answer. IfSome answer (λ n. n * _ ≡ in_bits * one)) w.unwrap-number.ensures w.exact_quotient.ensures.exact
+          ∙ subst (λ answer. IfSome answer (λ n. n * _ ≡ in_bits * one)) w.unwrap-number.ensures
+          w.exact_quotient.ensures.exact
       | else-places-gt-FEW_PLACES w ↦
           ap (λ n. n * _) w.number-is
           ∙ (ap (λ n. w.factored_quotient-number.result * n) multiple.powers
@@ -90,31 +99,40 @@ returns-then-row-in_bits-clause-chosen c =
     let in_bits = c.args.size * c.args.divisor in
     let listed = c.multiples_within-row-items.ensures in
     let i = c.loop-row.row-index in
-    let has = row_powers in_bits _ _ (row_there i no_row listed c.loop-row-test.true) c.if-row-in_bits.true in
+    let has = row_powers in_bits _ _ (row_at_is_row i no_row listed c.loop-row-test.true) c.if-row-in_bits.true in
     let found = unit_found _ i no_row listed c.loop-row.invariant.remain c.loop-row-test.true has in
     let powers = in_bits_powers c.args.size c.args.divisor _ _ c.requires.divisor c.factors_of-left.ensures.powers in
     let exact = exact_by_row _ (omega (arith, c.min-most.ensures)) refl powers has in
-    let quotient = quotient_of_product _ _ _ _ (some_bits _) (omega arith) (returns-then-row-in_bits-clause-exact c) exact in
+    let quotient = quotient_of_product _ _ _ _ (some_bits _) (omega arith)
+    (returns-then-row-in_bits-clause-exact c) exact in
     chosen_by_powers c.args.places _ c.min-most.ensures powers found quotient
 
 pub returns-then-row-in_bits-clause-ticks : goal.returns-then-row-in_bits-clause-ticks
 returns-then-row-in_bits-clause-ticks c =
     let in_bits = c.args.size * c.args.divisor in
     let row = get_or c.multiples_within-row-items.result.now c.loop-row.row-index no_row in
-    let multiple = row_multiple (row_there c.loop-row.row-index no_row c.multiples_within-row-items.ensures c.loop-row-test.true) in
+    let multiple = row_multiple (row_at_is_row c.loop-row.row-index no_row c.multiples_within-row-items.ensures
+    c.loop-row-test.true) in
     let most = min c.min-most.result places_of_decimal in
     let mid = c.factors_of-left.new.steps in
     let trials = c.factors_of-left.ensures in
     let unmoved = c.loop-row.invariant.steps in
     let number = c.if-places-gt-FEW_PLACES.number in
-    let counted : (places : ℕ) × IsLeastPlaces number one places × (c.if-places-gt-FEW_PLACES.steps ≡ raised mid places) =
+    let counted : (places : ℕ) × IsLeastPlaces number one places
+    × (c.if-places-gt-FEW_PLACES.steps ≡ raised mid places) =
     elim c.if-places-gt-FEW_PLACES.branch [
       | then-places-gt-FEW_PLACES w ↦
           let digits = w.exact_quotient.ensures.ticks in
           let quotient =
-          subst (λ answer. IfSome answer (IsQuotient in_bits row.bits most)) w.unwrap-number.ensures w.exact_quotient.ensures.quotient in
+          subst (λ answer. IfSome answer (IsQuotient in_bits row.bits most)) w.unwrap-number.ensures
+          w.exact_quotient.ensures.quotient in
           let least = places_of_quotient in_bits row.bits most digits.0 w.unwrap-number.result
-          (record { some = omega (arith, multiple.large); room = omega arith; quotient = quotient; first = digits.1 }) in
+          (record {
+            some = omega (arith, multiple.large);
+            room = omega arith;
+            quotient = quotient;
+            first = digits.1;
+          }) in
           let same = subst (λ n. IsLeastPlaces n one digits.0) (sym w.number-is) least in
           (digits.0, same, omega (arith, w.steps-is, digits.2, unmoved))
       | else-places-gt-FEW_PLACES w ↦
@@ -122,7 +140,8 @@ returns-then-row-in_bits-clause-ticks c =
           let same = subst (λ n. IsLeastPlaces n one places.0) (sym w.number-is) places.1 in
           (places.0, same, omega (arith, w.steps-is, places.2, unmoved))
     ] in
-    counted_choice {places = counted.0} c.args.steps.now mid c.if-places-gt-FEW_PLACES.steps trials.powers counted.1 trials.ticks counted.2
+    counted_choice {places = counted.0} c.args.steps.now mid c.if-places-gt-FEW_PLACES.steps trials.powers counted.1
+    trials.ticks counted.2
 
 pub returns-then-row-in_bits-clause-few_ticks : goal.returns-then-row-in_bits-clause-few_ticks
 returns-then-row-in_bits-clause-few_ticks c = λ kind same.
@@ -137,7 +156,8 @@ pub returns-clause-none : goal.returns-clause-none
 returns-clause-none c =
     let powers = in_bits_powers c.args.size c.args.divisor _ _ c.requires.divisor c.factors_of-left.ensures.powers in
     none_by_powers c.args.places c.min-most.ensures powers
-    (none_found _ c.multiples_within-row-items.result.now c.loop-row.row-index c.loop-row-test.false c.loop-row.invariant.remain)
+    (none_found _ c.multiples_within-row-items.result.now c.loop-row.row-index c.loop-row-test.false
+    c.loop-row.invariant.remain)
 
 pub returns-clause-ticks_of_none : goal.returns-clause-ticks_of_none
 returns-clause-ticks_of_none c =
@@ -147,4 +167,5 @@ returns-clause-ticks_of_none c =
     counted_choice c.args.steps.now mid c.loop-row.steps trials.powers (whole_takes_none 0) trials.ticks still
 
 pub returns-clause-few_ticks : goal.returns-clause-few_ticks
-returns-clause-few_ticks c = λ kind same. few_of_none kind c.args.size _ _ c.requires.small (returns-clause-ticks_of_none c)
+returns-clause-few_ticks c =
+    λ kind same. few_of_none kind c.args.size _ _ c.requires.small (returns-clause-ticks_of_none c)

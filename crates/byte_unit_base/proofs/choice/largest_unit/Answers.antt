@@ -3,10 +3,11 @@ use Rattle.byte_unit_base.specs.Edition.{current}
 use Rattle.byte_unit_base.specs.Choice.{Suits}
 use Rattle.byte_unit_base.specs.Family.{IsOfType}
 use Rattle.byte_unit_base.proofs.Choosing.{small_bits}
-use Rattle.byte_unit_base.proofs.Rows.{no_row, search_start, row_there}
-use Rattle.byte_unit_base.proofs.Rows.{unit_found, unit_passed, none_true}
+use Rattle.byte_unit_base.proofs.Rows.{no_row, search_start, row_at_is_row}
+use Rattle.byte_unit_base.proofs.Rows.{unit_found, unit_passed, not_if_test_fails}
 use Rattle.byte_unit_base.proofs.choice.largest_unit.Goals as goal
-use Rattle.byte_unit_base.proofs.choice.largest_unit.Goals.{else-row-in_bits-via-then-row-in_bits+else-takes, else-row-in_bits-via-else-row-in_bits}
+use Rattle.byte_unit_base.proofs.choice.largest_unit.Goals.{else-row-in_bits-via-then-row-in_bits+else-takes}
+use Rattle.byte_unit_base.proofs.choice.largest_unit.Goals.{else-row-in_bits-via-else-row-in_bits}
 
 pub loop-row-init : goal.loop-row-init
 loop-row-init c =
@@ -24,15 +25,23 @@ loop-row-preserved c =
     let fit = Suits current c.args.family c.args.unit_type (c.args.size * c.args.divisor) in
     let rows = c.multiples_within-row-items.result.now in
     let i = c.loop-row.row-index in
-    let is_row = row_there i no_row c.multiples_within-row-items.ensures c.loop-row-test.true in
+    let is_row = row_at_is_row i no_row c.multiples_within-row-items.ensures c.loop-row-test.true in
     let cut = c.saturating_mul-in_bits.ensures in
     unit_passed fit rows i no_row c.loop-row.invariant c.loop-row-test.true (λ h.
     elim c.else-row-in_bits.branch [
       | else-row-in_bits-via-then-row-in_bits+else-takes w ↦
           let taken = subst (IsOfType c.args.unit_type) (sym w.is_binary_multiples.ensures) h.of_type in
-          none_true _ _ w.if-takes.false w.takes.ensures.1 taken
+          not_if_test_fails _ _ w.if-takes.false w.takes.ensures.1 taken
       | else-row-in_bits-via-else-row-in_bits w ↦
-          absurd (omega (arith, w.if-row-in_bits, is_row.bits_are, cut, h.not_above, small_bits c.args.family _ h.member))
+          absurd (omega (
+            arith,
+            w.if-row-in_bits,
+            is_row.bits_are,
+            cut,
+            h.not_above,
+            small_bits c.args.family _
+                h.member,
+          ))
     ])
 
 pub returns-then-takes-clause-found : goal.returns-then-takes-clause-found
@@ -40,7 +49,7 @@ returns-then-takes-clause-found c =
     let in_bits = c.args.size * c.args.divisor in
     let i = c.loop-row.row-index in
     let listed = c.multiples_within-row-items.ensures in
-    let is_row = row_there i no_row listed c.loop-row-test.true in
+    let is_row = row_at_is_row i no_row listed c.loop-row-test.true in
     let has : Suits current c.args.family c.args.unit_type in_bits _ = record {
       member = is_row.member;
       of_type = subst (IsOfType c.args.unit_type) c.is_binary_multiples.ensures (c.takes.ensures.0 c.if-takes.true);

@@ -5,7 +5,7 @@ use Rattle.byte_unit_base.proofs.ErrorTexts.{left_text, separator}
 use Rattle.byte_unit_base.proofs.errors.write_others.Goals as goal
 use Rattle.byte_unit_base.proofs.errors.write_others.Goals.{then-is_empty, else-is_empty}
 
--- a character that is written, with what precedes it, leaves the others
+-- after a character is written, with what is written before it, the others are left
 pub loop-left-preserved : goal.loop-left-preserved
 loop-left-preserved g c = λ result done later.
     let left = c.loop-left.left.now in

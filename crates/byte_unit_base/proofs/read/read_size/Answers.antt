@@ -9,6 +9,6 @@ use Rattle.byte_unit_base.proofs.read.read_size.Goals as goal
 pub returns-in-Some : goal.returns-in-Some
 returns-in-Some c =
     let flags = reading c.args.ignore_case c.args.prefer_byte in
-    let found = c.in-Some.stated in
-    let P : List ℕ → Type 0 = λ bytes. IsSizeText current flags (trimmed bytes) found.0 (shape_of found.1) in
-    stated_reading flags c.args.s.now found (subst P c.as_bytes.ensures.value c.in-Some.ensures.stated)
+    let found = c.in-Some.parsed in
+    let IsFoundIn : List ℕ → Type 0 = λ bytes. IsSizeText current flags (trimmed bytes) found.0 (shape_of found.1) in
+    stated_reading flags c.args.s.now found (subst IsFoundIn c.as_bytes.ensures.value c.in-Some.ensures.stated)

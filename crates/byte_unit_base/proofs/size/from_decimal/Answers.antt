@@ -7,9 +7,10 @@ use Rattle.byte_unit_base.proofs.size.from_decimal.Goals as goal
 pub returns-clause-size : goal.returns-clause-size
 returns-clause-size c =
     let in_bits = c.in_ok-in_bits.in_bits in
-    let low = c.holding.ensures.least in (
-      least_holding c.args.kind c.args.number (shape_of c.args.unit) in_bits c.holding.result (search rules) c.holding.ensures.holds low,
-      least_below c.args.kind current.size_limit in_bits c.holding.result (search rules) low (omega arith),
+    let low = c.ceil_to_kind.ensures.least in (
+      least_holding c.args.kind c.args.number (shape_of c.args.unit) in_bits c.ceil_to_kind.result
+          (search rules) c.ceil_to_kind.ensures.holds low,
+      least_below c.args.kind current.size_limit in_bits c.ceil_to_kind.result (search rules) low (omega arith),
     )
 
 pub returns-in_err-in_bits-clause-size : goal.returns-in_err-in_bits-clause-size

@@ -2,7 +2,7 @@ use Rattle.std.proofs.Common.{ℕ}
 use Rattle.byte_unit_base.specs.Kinds.{flags_for}
 use Rattle.byte_unit_base.specs.Units.{shape_of}
 use Rattle.byte_unit_base.specs.declared.unit.Unit.{Unit as UnitName}
-use Rattle.byte_unit_base.proofs.Rounding.{least_of}
+use Rattle.byte_unit_base.proofs.Rounding.{least_exists}
 use Rattle.byte_unit_base.proofs.SizeReads.{stated_reading}
 use Rattle.byte_unit_base.proofs.SizeOfText.{reading_of_size, reading_of_excess}
 use Rattle.byte_unit_base.proofs.size.size_of.Goals as goal
@@ -16,5 +16,6 @@ returns-in-Some-clause-reading c = λ ignore_case bytes stated.
 pub returns-in-None-clause-reading : goal.returns-in-None-clause-reading
 returns-in-None-clause-reading c = λ ignore_case bytes stated.
     let found : ℕ × UnitName = (c.args.number, c.args.unit) in
-    reading_of_excess c.args.kind ignore_case bytes found (least_of c.args.kind c.args.number (shape_of c.args.unit))
+    reading_of_excess c.args.kind ignore_case bytes found
+    (least_exists c.args.kind c.args.number (shape_of c.args.unit))
     (stated_reading (flags_for c.args.kind ignore_case) bytes found stated) c.in-None.ensures.size

@@ -10,7 +10,8 @@ returns c =
     let parts = c.split_at.result in
     let joined = c.split_at.ensures.by_index.0 in
     let digits = both_digits parts.0.now parts.1.now (subst (AllDigits 10) joined c.requires.digits) in
-    let high = short_value parts.0.now _ _ digits.0 c.read_digits-high.ensures.end (omega arith) c.read_digits-high.ensures.value in
+    let high = short_value parts.0.now _ _ digits.0 c.read_digits-high.ensures.end
+    (omega arith) c.read_digits-high.ensures.value in
     let last : length parts.1.now ≡ 19 = omega arith in
     let below : digits_value 10 parts.1.now < 10 ^ 19 =
     subst (λ n. digits_value 10 parts.1.now < 10 ^ n) last (digits_value-lt 10 parts.1.now digits.1) in

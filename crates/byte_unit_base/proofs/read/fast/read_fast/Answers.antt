@@ -16,29 +16,34 @@ use Rattle.byte_unit_base.proofs.read.fast.read_fast.Goals as goal
 pub number-requires : goal.number-requires
 number-requires c = scanned_bounds _ _ _ c.scan_digits-scan.ensures
 
+-- the bytes are the first n, and the rest
 joined : (bytes : List ℕ) (n : ℕ) → bytes ≡ take n bytes ++ slice_range bytes n (length bytes)
 joined bytes n = sym (take-append-drop n bytes) ∙ ap (λ rest. take n bytes ++ rest) (sym (take_rest bytes n))
 
--- all the bytes state it
-stated : (c : In_ok-unit) → IsSizeText current c.args.flags c.args.bytes.now c.in_ok-number.number (shape_of c.in_ok-unit.unit)
+-- the bytes as a whole are the number and unit that were read
+stated : (c : In_ok-unit) → IsSizeText current c.args.flags c.args.bytes.now c.in_ok-number.number
+    (shape_of c.in_ok-unit.unit)
 stated c =
     let bytes = c.args.bytes.now in
     let scan = c.scan_digits-scan in
     let end = scan.result.1 in
     let behind = slice_range bytes end (length bytes) in
-    let spaces = c.spaces_at_front.result in
+    let spaces = c.leading_spaces.result in
     let spelling = slice_range behind spaces (length behind) in
-    let read = c.multiple_at_front-multiple in
-    let P : Option ℕ → Type 0 = λ found. IfSome found (λ number. IsNumberText current (take end bytes) number) in
+    let read = c.leading_multiple-multiple in
+    let IsNumberRead : Option ℕ → Type 0 =
+    λ found. IfSome found (λ number. IsNumberText current (take end bytes) number) in
     record {
       number_part = take end bytes;
       spaces = spaces;
       unit_part = spelling;
       text_is =
           joined bytes end
-          ∙ ap (λ rest. take end bytes ++ rest) (joined behind spaces ∙ ap (λ gap. gap ++ spelling) c.spaces_at_front.ensures.spaces);
-      number_is = subst P (sym c.in_ok-number.ensures) (number_scanned bytes end scan.result.0 scan.ensures);
-      unit_is = Spells-reached c.args.flags read.result.0 c.in_ok-word.word spelling (shape_of c.in_ok-unit.unit) (sym c.in_ok-unit.ensures)
+          ∙ ap (λ rest. take end bytes ++ rest) (joined behind spaces
+          ∙ ap (λ gap. gap ++ spelling) c.leading_spaces.ensures.spaces);
+      number_is = subst IsNumberRead (sym c.in_ok-number.ensures) (number_scanned bytes end scan.result.0 scan.ensures);
+      unit_is = Spells-reached c.args.flags read.result.0 c.in_ok-word.word spelling (shape_of c.in_ok-unit.unit)
+          (sym c.in_ok-unit.ensures)
           record {
             front = take read.result.1 spelling;
             word = slice_range spelling read.result.1 (length spelling);
@@ -60,4 +65,5 @@ returns-clause-stated c =
     trimmed_size c.args.flags c.args.bytes.now c.in_ok-number.number (shape_of c.in_ok-unit.unit) ends (stated c)
 
 pub returns-clause-text : goal.returns-clause-text
-returns-clause-text c = size_utf8 c.args.flags c.args.bytes.now c.in_ok-number.number (shape_of c.in_ok-unit.unit) (stated c)
+returns-clause-text c =
+    size_utf8 c.args.flags c.args.bytes.now c.in_ok-number.number (shape_of c.in_ok-unit.unit) (stated c)

@@ -25,7 +25,7 @@ pub returns-in-None-step : goal.returns-in-None-step
 returns-in-None-step c =
     let t = YieldsList-turn (YieldsList-from_chars c.args.text.now c.utf8.text cc) c.loop-c.yielded _ c.loop-c.yielded_by _ _ c.in-Some.c
     c.in-Some.is c.next.ensures.steps in
-    ap Err c.fault.ensures ∙ (read_stop (unit_scan c.args.flags) c.loop-c.scan (chars c.args.text.now) _ _ t
+    ap Err c.error_at.ensures ∙ (read_stop (unit_scan c.args.flags) c.loop-c.scan (chars c.args.text.now) _ _ t
     (sym c.step.ensures ∙ c.in-None-step.is) ∙ c.loop-c.invariant)
 
 -- a spelling that may end, and one that stops after `bi`

@@ -12,4 +12,9 @@ pub overflow_add-result : goal.overflow_add-result
 overflow_add-result c =
     let scan = subst IsScan c.in-Fraction.is c.requires in
     let digit = c.in-Some-to_digit.ensures.value in
-    omega (arith, digits_small c.in-Fraction.digits c.in-Fraction.places scan.1 scan.2, digit, c.from-in-Some-to_digit.ensures)
+    omega (
+      arith,
+      digits_small c.in-Fraction.digits c.in-Fraction.places scan.1 scan.2,
+      digit,
+      c.from-in-Some-to_digit.ensures,
+    )

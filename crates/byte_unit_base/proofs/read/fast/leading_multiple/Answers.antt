@@ -2,7 +2,7 @@ use Rattle.std.proofs.Common.{◌<◌, length, ap, sym, arith, ◌∙◌}
 use Rattle.std.proofs.lemmas.Bool.Decides.{nat_tests}
 use Rattle.byte_unit_base.specs.UnitScan.{prefix_at}
 use Rattle.byte_unit_base.proofs.FastReads.{decimal_text}
-use Rattle.byte_unit_base.proofs.read.fast.multiple_at_front.Goals as goal
+use Rattle.byte_unit_base.proofs.read.fast.leading_multiple.Goals as goal
 
 pub returns-else-bytes-gt1-clause-read : goal.returns-else-bytes-gt1-clause-read
 returns-else-bytes-gt1-clause-read c =

@@ -1,6 +1,6 @@
 use Rattle.std.proofs.Common.{◌∙◌}
 use Rattle.byte_unit_base.proofs.FastReads.{digits_of_run, short_run}
-use Rattle.byte_unit_base.proofs.read.digits.digits_at_front.Goals as goal
+use Rattle.byte_unit_base.proofs.read.digits.leading_digits.Goals as goal
 
 pub long_value-requires-clause-digits : goal.long_value-requires-clause-digits
 long_value-requires-clause-digits c = digits_of_run c.args.bytes.now _ c.read_digits-count.ensures.end
