@@ -38,13 +38,13 @@ letter_stays (suc (suc (suc (suc (suc (suc (suc (suc zero)))))))) some known = r
 letter_stays (suc (suc (suc (suc (suc (suc (suc (suc (suc more))))))))) some known = absurd (omega (arith, known))
 
 -- so an old unit has the name that it had
-named : (power : ℕ) (binary bit : Bool) → power ≤ length old.letters
+name_of_shape_stays : (power : ℕ) (binary bit : Bool) → power ≤ length old.letters
     → name old (shape power binary bit) ≡ name current (shape power binary bit)
-named zero binary bit known = refl
-named (suc power) binary bit known = rw (letter_stays (suc power) (omega arith) known) refl
+name_of_shape_stays zero binary bit known = refl
+name_of_shape_stays (suc power) binary bit known = rw (letter_stays (suc power) (omega arith) known) refl
 
 name_stays : (unit : Shape) → unit.power ≤ length old.letters → name old unit ≡ name current unit
-name_stays unit known = named unit.power unit.binary unit.bit known
+name_stays unit known = name_of_shape_stays unit.power unit.binary unit.bit known
 
 -- a letter that the old version knows is known
 known_stays : (power : ℕ) → power ≤ length old.letters → power ≤ length current.letters
@@ -73,26 +73,26 @@ spelling_stays kind ignore_case text unit (inr h) = inr (record {
   count_is = h.count_is;
 })
 
-whole_stays : (text : List ℕ) (value : ℕ) → IsWholePart old text value → IsWholePart current text value
-whole_stays text value h = (h.0, h.1, omega (arith, h.2))
+whole_part_stays : (text : List ℕ) (value : ℕ) → IsWholePart old text value → IsWholePart current text value
+whole_part_stays text value h = (h.0, h.1, omega (arith, h.2))
 
 number_stays : (text : List ℕ) (number : ℕ) → IsNumberText old text number → IsNumberText current text number
-number_stays text number (inl h) = inl (h.0, whole_stays text h.0 h.1, h.2)
+number_stays text number (inl h) = inl (h.0, whole_part_stays text h.0 h.1, h.2)
 number_stays text number (inr h) = inr (record {
   whole = h.whole;
   fraction = h.fraction;
   value = h.value;
   part = h.part;
   text_is = h.text_is;
-  whole_is = whole_stays h.whole h.value h.whole_is;
+  whole_is = whole_part_stays h.whole h.value h.whole_is;
   fraction_is = h.fraction_is;
   number_is = h.number_is;
 })
 
-text_stays : (kind : Kind) (ignore_case : Bool) (text : List ℕ) (number : ℕ) (unit : Shape)
+size_text_stays : (kind : Kind) (ignore_case : Bool) (text : List ℕ) (number : ℕ) (unit : Shape)
     → IsSizeText old (flags_for kind ignore_case) text number unit
     → IsSizeText current (flags_for kind ignore_case) text number unit
-text_stays kind ignore_case text number unit h = record {
+size_text_stays kind ignore_case text number unit h = record {
   number_part = h.number_part;
   spaces = h.spaces;
   unit_part = h.unit_part;
@@ -106,39 +106,39 @@ accepted_stays kind ignore_case text size h = record {
   number = h.number;
   is_read = record {
     unit = h.is_read.unit;
-    is_size = text_stays kind ignore_case _ h.number h.is_read.unit h.is_read.is_size;
+    is_size = size_text_stays kind ignore_case _ h.number h.is_read.unit h.is_read.is_size;
     is_least = h.is_read.is_least;
   };
   below = omega (arith, h.below);
 }
 
 -- a unit of the last letter is above each old size of its kind
-above_old : (kind : Kind) (binary bit : Bool) → HasKind (own_family kind) bit
+last_prefix_above_old : (kind : Kind) (binary bit : Bool) → HasKind (own_family kind) bit
     → old.size_limit * bits_in kind ≤ bits (shape (length current.letters) binary bit)
-above_old Byte true true h = absurd (let k : ⊥ = cc in k)
-above_old Byte false true h = absurd (let k : ⊥ = cc in k)
-above_old Byte true false h = omega arith
-above_old Byte false false h = omega arith
-above_old Bit true true h = omega arith
-above_old Bit false true h = omega arith
-above_old Bit true false h = absurd (let k : ⊥ = cc in k)
-above_old Bit false false h = absurd (let k : ⊥ = cc in k)
+last_prefix_above_old Byte true true h = absurd (let k : ⊥ = cc in k)
+last_prefix_above_old Byte false true h = absurd (let k : ⊥ = cc in k)
+last_prefix_above_old Byte true false h = omega arith
+last_prefix_above_old Byte false false h = omega arith
+last_prefix_above_old Bit true true h = omega arith
+last_prefix_above_old Bit false true h = omega arith
+last_prefix_above_old Bit true false h = absurd (let k : ⊥ = cc in k)
+last_prefix_above_old Bit false false h = absurd (let k : ⊥ = cc in k)
 
-below_limit : (kind : Kind) (size bound : ℕ) → size < old.size_limit → bound ≤ size * bits_in kind
+bound_below_old_limit : (kind : Kind) (size bound : ℕ) → size < old.size_limit → bound ≤ size * bits_in kind
     → ¬ (old.size_limit * bits_in kind ≤ bound)
-below_limit Byte size bound small within above = omega (arith, small, within, above)
-below_limit Bit size bound small within above = omega (arith, small, within, above)
+bound_below_old_limit Byte size bound small within above = omega (arith, small, within, above)
+bound_below_old_limit Bit size bound small within above = omega (arith, small, within, above)
 
 -- so a unit that is not above an old size is an old unit
-old_unit : (kind : Kind) (size : ℕ) (unit : Shape) → size < old.size_limit → InFamily current (own_family kind) unit
+unit_is_old : (kind : Kind) (size : ℕ) (unit : Shape) → size < old.size_limit → InFamily current (own_family kind) unit
     → bits unit ≤ size * bits_in kind → unit.power ≤ length old.letters
-old_unit kind size unit small h not_above =
+unit_is_old kind size unit small h not_above =
     ⊎_elim
     (λ last.
     let power : unit.power ≡ length current.letters = omega (arith, last, h.prefix.known) in
-    let P : ℕ → Type 0 = λ p. old.size_limit * bits_in kind ≤ bits (shape p unit.binary unit.bit) in
-    let above = subst P (sym power) (above_old kind unit.binary unit.bit h.kind) in
-    absurd (below_limit kind size (bits unit) small not_above above))
+    let IsAboveOld : ℕ → Type 0 = λ p. old.size_limit * bits_in kind ≤ bits (shape p unit.binary unit.bit) in
+    let above = subst IsAboveOld (sym power) (last_prefix_above_old kind unit.binary unit.bit h.kind) in
+    absurd (bound_below_old_limit kind size (bits unit) small not_above above))
     (λ known. known)
     (cases_lt (length old.letters) unit.power)
 
@@ -147,10 +147,10 @@ member_stays family unit h =
     record { prefix = record { some = h.prefix.some; known = known_stays unit.power h.prefix.known }; kind = h.kind }
 
 -- a member that is not above an old size was one
-old_member : (kind : Kind) (size : ℕ) (unit : Shape) → size < old.size_limit → InFamily current (own_family kind) unit
+member_is_old : (kind : Kind) (size : ℕ) (unit : Shape) → size < old.size_limit → InFamily current (own_family kind) unit
     → bits unit ≤ size * bits_in kind → InFamily old (own_family kind) unit
-old_member kind size unit small h not_above =
-    record { prefix = record { some = h.prefix.some; known = old_unit kind size unit small h not_above }; kind = h.kind }
+member_is_old kind size unit small h not_above =
+    record { prefix = record { some = h.prefix.some; known = unit_is_old kind size unit small h not_above }; kind = h.kind }
 
 -- where the same units have a property, the largest of them or the kind's own is the same
 same_largest : (kind : Kind) (Has Had : Shape → Type 0) (unit : Shape) → ((other : Shape) → Has other → Had other)
@@ -168,7 +168,7 @@ stated_before : (kind : Kind) (size precision : ℕ) (unit : Shape) → size < o
     → States current (own_family kind) (size * bits_in kind) precision unit
     → States old (own_family kind) (size * bits_in kind) precision unit
 stated_before kind size precision unit small h =
-    record { member = old_member kind size unit small h.member h.not_above; not_above = h.not_above; exact = h.exact }
+    record { member = member_is_old kind size unit small h.member h.not_above; not_above = h.not_above; exact = h.exact }
 
 suits_stays : (kind : Kind) (unit_type : UnitType) (size : ℕ) (unit : Shape)
     → Suits old (own_family kind) unit_type (size * bits_in kind) unit
@@ -180,7 +180,7 @@ suited_before : (kind : Kind) (unit_type : UnitType) (size : ℕ) (unit : Shape)
     → Suits current (own_family kind) unit_type (size * bits_in kind) unit
     → Suits old (own_family kind) unit_type (size * bits_in kind) unit
 suited_before kind unit_type size unit small h =
-    record { member = old_member kind size unit small h.member h.not_above; of_type = h.of_type; not_above = h.not_above }
+    record { member = member_is_old kind size unit small h.member h.not_above; of_type = h.of_type; not_above = h.not_above }
 
 pub appropriate_stays : AppropriateUnitsStay
 appropriate_stays kind unit_type size unit small =

@@ -14,8 +14,8 @@ use Rattle.byte_unit_math.specs.Digits.{at_places, shortened}
 use Rattle.byte_unit_math.specs.Exact.{IsExactAt}
 use Rattle.byte_unit_math.specs.Finite.{Finite}
 use Rattle.byte_unit_math.specs.Numeral.{fraction_text, text_of, short}
-use Rattle.byte_unit_math.proofs.Scales.{raise_power}
-use Rattle.byte_unit_math.proofs.Texts.{short_expansion}
+use Rattle.byte_unit_math.proofs.Scales.{pow10_split}
+use Rattle.byte_unit_math.proofs.Texts.{short_numeral_is_expansion}
 use Rattle.byte_unit_base.specs.Shape.{Shape, shape, bits}
 use Rattle.byte_unit_base.specs.Edition.{current, name}
 use Rattle.byte_unit_base.specs.Family.{HasKind}
@@ -32,8 +32,8 @@ use Rattle.byte_unit_format.specs.Plain.{plain, plus_of}
 use Rattle.byte_unit_format.specs.FormLaws.{least_columns}
 use Rattle.byte_unit_format.specs.Forms.{IsSizeForm, IsText, places_of, narrow_text}
 use Rattle.byte_unit_format.proofs.UnitNames.{name_short}
-use Rattle.byte_unit_format.proofs.Widths.{plain_long, layout_long}
-use Rattle.byte_unit_format.proofs.WrittenForms.{text_length}
+use Rattle.byte_unit_format.proofs.Widths.{plain_form_fills_width, layout_fills_width}
+use Rattle.byte_unit_format.proofs.WrittenForms.{length_of_fraction_text}
 
 -- the bits of the units of a kind
 
@@ -185,7 +185,7 @@ size_lt_next {kind} {size} {precision} {unit} {number} stated few places =
       not_above = omega (arith, next_bits, mul-le-mul_right (bits_in kind) above);
       exact = (
         size * rest,
-        ap (λ n. size * bits_in kind * n) (raise_power zeros (places_within precision) places)
+        ap (λ n. size * bits_in kind * n) (pow10_split zeros (places_within precision) places)
             ∙ (omega arith ∙ ap (λ n. size * rest * n) (sym next_bits)),
       );
     } in
@@ -203,7 +203,7 @@ decimal_length whole digits some few small =
 -- a numeral is its whole part, a point at most, and its places
 numeral_length : (e : Finite) → length (text_of e) ≤ length (decimal e.whole) + length e.digits + 1
 numeral_length e =
-    omega (arith, length-append {A = ℕ} (decimal e.whole) (fraction_text e.digits), text_length e.digits)
+    omega (arith, length-append {A = ℕ} (decimal e.whole) (fraction_text e.digits), length_of_fraction_text e.digits)
 
 -- so is that of a number without zeros at its end
 short_length :
@@ -224,13 +224,13 @@ prefixed_length {kind} {size} {precision} {unit} {number} stated =
     let places = length (shortened (at_places places_of_decimal number)).digits in
     let known : power ≤ 9 = stated.largest.has.member.prefix.known in
     let few : places ≤ places_within precision =
-    (short_expansion number places_of_decimal).least (places_within precision) (number_exact stated) in
+    (short_numeral_is_expansion number places_of_decimal).least (places_within precision) (number_exact stated) in
     let product = whole_times_prefix stated in
     let sum = short_length number in
     ⊎_elim
     (λ less.
     let digits = 30 - 3 * power in
-    let limit : 10 ^ 30 ≡ prefix * 10 ^ digits = raise_power (3 * power) 30 (omega (arith, known)) in
+    let limit : 10 ^ 30 ≡ prefix * 10 ^ digits = pow10_split (3 * power) 30 (omega (arith, known)) in
     let small : whole < 10 ^ digits =
     ⊎_elim
     (λ below. below)
@@ -256,7 +256,7 @@ own_length kind size number unit below own number_is =
     ap (λ bits. number * bits) (sym (ap bits own ∙ own_bits kind)) ∙ number_is ∙ omega arith in
     let same : number ≡ size * one =
     eq_of_mul-eq-mul_right (bits_in kind) (bits_in_positive kind) number (size * one) own_number in
-    let no_places = (short_expansion number places_of_decimal).least 0 (size, omega (arith, same)) in
+    let no_places = (short_numeral_is_expansion number places_of_decimal).least 0 (size, omega (arith, same)) in
     let small : number / one < 10 ^ 30 = omega (arith, same, below) in
     let digits = decimal_length (number / one) 30 (omega arith) (omega arith) small in
     omega (arith, no_places, short_length number, digits)
@@ -295,7 +295,7 @@ form_narrow kind size spec text below none form =
     let places = places_of spec.precision in
     let numeral = recovered_length kind size places form.number form.unit below form.is_recovered form.number_is in
     let gap = gap_length spec.sign unit (name_short form.unit) in
-    omega (arith, ap length form.text_is, layout_long number unit spec, no_columns spec.width none, numeral, gap)
+    omega (arith, ap length form.text_is, layout_fills_width number unit spec, no_columns spec.width none, numeral, gap)
 
 -- a sign is at most one character
 sign_length : (sign : Sign) → length (plus_of sign) ≤ 1
@@ -310,7 +310,7 @@ plain_narrow :
 plain_narrow size spec below none =
     let columns = length-append {A = ℕ} (plus_of spec.sign) (decimal size) in
     let digits = decimal_length size 30 (omega arith) (omega arith) below in
-    omega (arith, plain_long size spec, no_columns spec.width none, columns, digits, sign_length spec.sign)
+    omega (arith, plain_form_fills_width size spec, no_columns spec.width none, columns, digits, sign_length spec.sign)
 
 -- the one or the other, as the alternate form is asked for or not
 either_narrow :
@@ -322,8 +322,8 @@ either_narrow false kind size spec text below none form =
     omega (arith, ap length form, plain_narrow size spec below none)
 
 -- the text of a size for which no width is set
-pub text_narrow :
+pub text_without_width_narrow :
     (kind : Kind) (size : ℕ) (spec : FormatSpec) (text : List ℕ) → size < current.size_limit → spec.width ≡ None
     → IsText current kind size spec text → length text ≤ narrow_text
-text_narrow kind size spec text below none is_text =
+text_without_width_narrow kind size spec text below none is_text =
     either_narrow spec.alternate kind size spec text below none is_text

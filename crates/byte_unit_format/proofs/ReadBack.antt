@@ -16,7 +16,7 @@ use Rattle.byte_unit_base.specs.SizeText.{trimmed}
 use Rattle.byte_unit_math.specs.Finite.{Finite, value_of}
 use Rattle.byte_unit_math.specs.Digits.{at_places, shortened}
 use Rattle.byte_unit_math.specs.Numeral.{fraction_text, text_of}
-use Rattle.byte_unit_math.proofs.Digits.{short_of}
+use Rattle.byte_unit_math.proofs.Digits.{ShortOf-shortened}
 use Rattle.byte_unit_base.specs.declared.kind.Kind.{Kind}
 use Rattle.byte_unit_base.specs.declared.kind.Kind.TheVariants.{Byte, Bit}
 use Rattle.byte_unit_format.specs.declared.spec.FormatSpec.{FormatSpec}
@@ -47,9 +47,9 @@ pub record IsGoodName (kind : Kind) (ignore_case : Bool) (unit : Shape) : Type 0
   ascii : IsAscii (name current unit)
   spells : Spells current (flags_for kind ignore_case) (name current unit) unit
 
-named : (kind : Kind) (ignore_case : Bool) (unit : Shape) → IsKnown unit → SaysKind (flags_for kind ignore_case) unit.bit
+IsGoodName-known : (kind : Kind) (ignore_case : Bool) (unit : Shape) → IsKnown unit → SaysKind (flags_for kind ignore_case) unit.bit
     → IsGoodName kind ignore_case unit
-named kind ignore_case unit known says = record {
+IsGoodName-known kind ignore_case unit known says = record {
   end = name_end unit;
   ascii = name_ascii unit known.known;
   spells = name_spells (flags_for kind ignore_case) unit known says;
@@ -69,35 +69,35 @@ multiple_name : (kind : Kind) (ignore_case : Bool) (unit : Shape) → InFamily c
 multiple_name kind ignore_case unit member =
     let known : IsKnown unit =
     record { known = member.prefix.known; alone = λ none. absurd (omega (arith, none, member.prefix.some)) } in
-    named kind ignore_case unit known (own_says kind ignore_case unit.bit member.kind)
+    IsGoodName-known kind ignore_case unit known (own_says kind ignore_case unit.bit member.kind)
 
 own_name : (kind : Kind) (ignore_case : Bool) → IsGoodName kind ignore_case (own_unit kind)
 own_name kind ignore_case =
     let known : IsKnown (own_unit kind) = record { known = omega arith; alone = λ none. refl } in
-    named kind ignore_case (own_unit kind) known (own_says kind ignore_case (counts_bits kind) (own_kind kind))
+    IsGoodName-known kind ignore_case (own_unit kind) known (own_says kind ignore_case (counts_bits kind) (own_kind kind))
 
 case_counts : (kind : Kind) → (flags_for kind false).ignore_case ≡ false
 case_counts Byte = refl
 case_counts Bit = refl
 
 -- the names of all units are good where case counts
-pub good_name : (kind : Kind) (unit : UnitName) → IsGoodName kind false (shape_of unit)
-good_name kind unit = named kind false (shape_of unit) (unit_known unit) (λ bit. case_counts kind)
+pub IsGoodName-unit : (kind : Kind) (unit : UnitName) → IsGoodName kind false (shape_of unit)
+IsGoodName-unit kind unit = IsGoodName-known kind false (shape_of unit) (unit_known unit) (λ bit. case_counts kind)
 
 -- the least size
 
-least_size : (kind : Kind) (number size : ℕ) (unit : Shape) → number * bits unit ≡ size * bits_in kind * one
+IsLeastOf-exact : (kind : Kind) (number size : ℕ) (unit : Shape) → number * bits unit ≡ size * bits_in kind * one
     → IsLeastOf kind number unit size
-least_size Byte number size unit exact = record { has = omega (arith, exact); least = λ other covers. omega (arith, exact, covers) }
-least_size Bit number size unit exact = record { has = omega (arith, exact); least = λ other covers. omega (arith, exact, covers) }
+IsLeastOf-exact Byte number size unit exact = record { has = omega (arith, exact); least = λ other covers. omega (arith, exact, covers) }
+IsLeastOf-exact Bit number size unit exact = record { has = omega (arith, exact); least = λ other covers. omega (arith, exact, covers) }
 
 -- a layout is accepted
 
-regroup :
+layout_regrouped :
     (before behind gap : ℕ) (number unit : List ℕ)
     → (((spaces before ++ number) ++ spaces behind) ++ spaces gap) ++ unit
     ≡ spaces before ++ ((number ++ (spaces (behind + gap) ++ unit)) ++ spaces 0)
-regroup before behind gap number unit =
+layout_regrouped before behind gap number unit =
     rw (← replicate-append-replicate {A = ℕ} behind gap 32) (simp (append_assoc {A = ℕ}, append-nil {A = ℕ}))
 
 trim_layout :
@@ -139,7 +139,7 @@ trimmed_layout kind ignore_case spec e unit bounded good =
     record {
       spaces_between = between;
       trims =
-          ap trimmed (regroup before (pad - before) gap (text_of e) (name current unit))
+          ap trimmed (layout_regrouped before (pad - before) gap (text_of e) (name current unit))
           ∙ trim_layout before between (text_of e) (name current unit) start good.end ascii good.ascii;
     }
 
@@ -177,7 +177,7 @@ layout_accepted kind ignore_case size spec e unit states =
                   unit_is = states.good.spells;
                 };
             is_least
-                = least_size kind (number_of e.whole e.digits) size unit states.exact;
+                = IsLeastOf-exact kind (number_of e.whole e.digits) size unit states.exact;
           };
       below = states.below;
     }
@@ -185,20 +185,20 @@ layout_accepted kind ignore_case size spec e unit states =
 -- the numbers of the two forms
 
 -- a number that is cut at the point and has no zeros at its end, in last places again
-pub number_scaled :
+pub fixed_point_of_digits :
     (whole part number places : ℕ) → places ≤ places_of_decimal
     → number ≡ (whole * 10 ^ places + part) * 10 ^ (places_of_decimal - places)
     → whole * one + part * 10 ^ (places_of_decimal - places) ≡ number
-number_scaled whole part number places few scaled_is =
+fixed_point_of_digits whole part number places few scaled_is =
     let split : places_of_decimal ≡ places + (places_of_decimal - places) = omega arith in
     let power : one ≡ 10 ^ places * 10 ^ (places_of_decimal - places) =
     ap (λ places. 10 ^ places) split ∙ pow-add 10 places (places_of_decimal - places) in
     let of_whole = ap (λ power. whole * power) power in
     omega (arith, of_whole, scaled_is)
 
-pub bits_bound : (kind : Kind) (size : ℕ) → size < current.size_limit → size * bits_in kind < bits_limit
-bits_bound Byte size below = omega (arith, below)
-bits_bound Bit size below = omega (arith, below)
+pub bits_of_size_bound : (kind : Kind) (size : ℕ) → size < current.size_limit → size * bits_in kind < bits_limit
+bits_of_size_bound Byte size below = omega (arith, below)
+bits_of_size_bound Bit size below = omega (arith, below)
 
 -- the size form
 
@@ -214,16 +214,16 @@ whole_bound :
     (kind : Kind) (size number unit : ℕ) → size < current.size_limit → 1 ≤ unit → number * unit ≡ size * bits_in kind * one
     → number / one < whole_limit
 whole_bound kind size number unit below some exact =
-    let few : size * bits_in kind < bits_limit = bits_bound kind size below in
+    let few : size * bits_in kind < bits_limit = bits_of_size_bound kind size below in
     let not_above : number ≤ number * unit = omega (arith, mul-le number 1 number unit (omega arith) some) in
     omega (arith, few, not_above, exact)
 
-pub size_form_back : SizeFormReadsBack
-size_form_back kind size spec ignore_case text below form =
+pub size_form_reads_back : SizeFormReadsBack
+size_form_reads_back kind size spec ignore_case text below form =
     let e = shortened (at_places places_of_decimal form.number) in
-    let short = short_of form.number places_of_decimal in
+    let short = ShortOf-shortened form.number places_of_decimal in
     let bound = whole_bound kind size form.number (bits form.unit) below (some_bits form.unit) form.number_is in
-    let number = number_scaled e.whole (value_of e.digits) form.number (length e.digits) short.few short.scaled_is in
+    let number = fixed_point_of_digits e.whole (value_of e.digits) form.number (length e.digits) short.few short.scaled_is in
     let states : IsStatement kind ignore_case size e form.unit =
     record {
       bounded = record { small = short.small; bound = bound };
@@ -266,8 +266,8 @@ trim_number before behind whole bound =
     ap trimmed (append_assoc (spaces before) (decimal whole) (spaces behind))
     ∙ trim_between before behind (decimal whole) start (subst EndsWithoutSpace (sym start.text_is) end) (decimal_ascii whole bound)
 
-pub plain_back : PlainFormReadsBack
-plain_back kind size spec ignore_case below sign =
+pub plain_form_reads_back : PlainFormReadsBack
+plain_form_reads_back kind size spec ignore_case below sign =
     let bound : size < whole_limit = omega (arith, below) in
     let pad = plain_padding size spec in
     let before = before_plain spec.align pad in
@@ -295,7 +295,7 @@ plain_back kind size spec ignore_case below sign =
                       inl (size, whole_text size bound, refl);
                   unit_is = no_unit kind ignore_case;
                 };
-            is_least = least_size kind (size * one) size (own_unit kind) (omega (arith, own));
+            is_least = IsLeastOf-exact kind (size * one) size (own_unit kind) (omega (arith, own));
           };
       below = below;
     }

@@ -12,13 +12,13 @@ use Rattle.std.proofs.lemmas.Str.Ascii.{IsAscii-from_all}
 use Rattle.byte_unit_math.specs.Numeral.{fraction_text, glyphs}
 use Rattle.byte_unit_format.proofs.WrittenForms.{fraction_some}
 
-pub run_ascii : (byte next : ℕ) (run : List ℕ) → byte < 128 → run ≡ replicate 64 byte → IsAscii (take next run)
-run_ascii byte next run small all =
+pub run_part_ascii : (byte next : ℕ) (run : List ℕ) → byte < 128 → run ≡ replicate 64 byte → IsAscii (take next run)
+run_part_ascii byte next run small all =
     let of_byte = IsAscii-from_all (replicate 64 byte) (All-replicate (λ byte. byte < 128) 64 byte small) in
     IsAscii-take run next (subst IsAscii (sym all) of_byte)
 
-pub length-run : (byte left next : ℕ) (run : List ℕ) → next ≡ min left 64 → run ≡ replicate 64 byte → length (take next run) ≡ next
-length-run byte left next run is all =
+pub length_of_run_part : (byte left next : ℕ) (run : List ℕ) → next ≡ min left 64 → run ≡ replicate 64 byte → length (take next run) ≡ next
+length_of_run_part byte left next run is all =
     let few : next ≤ 64 = omega (arith, is) in
     ap (λ run. length (take next run)) all ∙ (ap length (take-replicate next 64 byte few) ∙ length-replicate next byte)
 
@@ -45,8 +45,8 @@ run_more {byte} {count} {left} {next} {run} old before after part before_is afte
 
 -- the digits of an expansion
 
-pub digits_ascii : (shown : ℕ) (characters : List ℕ) → IsAscii characters → IsAscii (take shown characters)
-digits_ascii shown characters ascii = IsAscii-take characters shown ascii
+pub shown_digits_ascii : (shown : ℕ) (characters : List ℕ) → IsAscii characters → IsAscii (take shown characters)
+shown_digits_ascii shown characters ascii = IsAscii-take characters shown ascii
 
 -- so many digits are shown of those that there are, and these are their characters
 pub record AreShown (places shown : ℕ) (digits characters : List ℕ) : Type 0 where
@@ -54,11 +54,11 @@ pub record AreShown (places shown : ℕ) (digits characters : List ℕ) : Type 0
   pub shown_is : shown ≡ min places (length digits)
   pub characters_are : take (length digits) characters ≡ glyphs digits
 
-pub fraction_shown :
+pub fraction_text_of_shown :
     {places shown : ℕ} {digits characters : List ℕ} → AreShown places shown digits characters
     → 46 ∷ (take shown characters ++ replicate (places - shown) 48)
     ≡ fraction_text (take places digits ++ replicate (places - length digits) 0)
-fraction_shown {places} {shown} {digits} {characters} are =
+fraction_text_of_shown {places} {shown} {digits} {characters} are =
     let few : shown ≤ length digits = omega (arith, are.shown_is) in
     let rest : places - shown ≡ places - length digits = omega (arith, are.shown_is) in
     let here : take shown digits ≡ take places digits =
@@ -79,17 +79,17 @@ pub record AddsFraction (places shown : ℕ) (characters old new : List ℕ) : T
   pub digits_are : with_digits ≡ with_point ++ take shown characters
   pub zeros_are : new ≡ with_digits ++ replicate (places - shown) 48
 
-pub pushed_fraction :
+pub fraction_added :
     {places shown : ℕ} {digits characters old new : List ℕ} → AreShown places shown digits characters
     → AddsFraction places shown characters old new
     → new ≡ old ++ fraction_text (take places digits ++ replicate (places - length digits) 0)
-pushed_fraction {places} {shown} {digits} {characters} {old} are adds =
+fraction_added {places} {shown} {digits} {characters} {old} are adds =
     let these = take shown characters in
     let zeros = replicate (places - shown) 48 in
     adds.zeros_are ∙ (ap (λ text. text ++ zeros) (adds.digits_are ∙ ap (λ text. text ++ these) adds.point_is)
     ∙ (append_assoc (old ++ 46 ∷ []) these zeros
     ∙ (append_assoc old (46 ∷ []) (these ++ zeros)
-    ∙ ap (λ text. old ++ text) (fraction_shown are))))
+    ∙ ap (λ text. old ++ text) (fraction_text_of_shown are))))
 
 pub length_shown :
     (shown : ℕ) (digits characters : List ℕ) → shown ≤ length digits → take (length digits) characters ≡ glyphs digits

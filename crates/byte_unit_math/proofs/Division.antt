@@ -7,13 +7,13 @@ use Rattle.std.proofs.lemmas.Bool.{cases_lt}
 use Rattle.std.proofs.Math.Numerals.{add-one}
 use Rattle.byte_unit_math.specs.Bounds.{one, places_of_decimal, whole_limit}
 use Rattle.byte_unit_math.specs.Exact.{IsExactAt, IsLeastPlaces, IsQuotient}
-use Rattle.byte_unit_math.proofs.Scales.{power_bounds, power_parts, raise_power}
+use Rattle.byte_unit_math.proofs.Scales.{pow10_bounds, pow10_times_rest, pow10_split}
 
 -- exact, so no rest
-pub no_rest :
+pub rest_is_zero :
     (size unit places count rest : ℕ) → size * 10 ^ places ≡ count * unit + rest → rest < unit → IsExactAt size unit places
     → rest ≡ 0
-no_rest size unit places count rest product small exact =
+rest_is_zero size unit places count rest product small exact =
     sym (mod-eq_of_lt small)
     ∙ (sym (mul-add-mod_self_right count unit rest) ∙ (ap (λ n. n % unit) (sym product ∙ exact.1) ∙ mul-mod_left exact.0 unit))
 
@@ -22,24 +22,24 @@ pub record NextDigit (size unit power count rest digit left : ℕ) : Type 0 wher
   pub so_far : size * power ≡ count * unit + rest
   pub next : digit * unit + left ≡ rest * 10
 
-pub one_place_more :
+pub divide_one_more_digit :
     (size unit power count rest digit left : ℕ) → NextDigit size unit power count rest digit left
     → size * (10 * power) ≡ (count * 10 + digit) * unit + left
-one_place_more size unit power count rest digit left h = omega (arith, ap (λ n. n * 10) h.so_far, h.next)
+divide_one_more_digit size unit power count rest digit left h = omega (arith, ap (λ n. n * 10) h.so_far, h.next)
 
 -- a digit behind the last of a number
-pub digit_behind : (whole power value digit : ℕ) → (whole * power + value) * 10 + digit ≡ whole * (10 * power) + (value * 10 + digit)
-digit_behind whole power value digit = omega arith
+pub append_digit : (whole power value digit : ℕ) → (whole * power + value) * 10 + digit ≡ whole * (10 * power) + (value * 10 + digit)
+append_digit whole power value digit = omega arith
 
 -- a count of units of a place whose last digit isn't zero states a number in the fewest places
 
-ten_times : (count power : ℕ) → (count * (10 * power)) % 10 ≡ 0
-ten_times count power = omega arith
+last_digit_of_tens : (count power : ℕ) → (count * (10 * power)) % 10 ≡ 0
+last_digit_of_tens count power = omega arith
 
-less_places :
+last_digit_zero :
     (size unit count places fewer : ℕ) → 0 < unit → size * 10 ^ places ≡ count * unit → (fewer < places) × IsExactAt size unit fewer
     → count % 10 ≡ 0
-less_places size unit count places fewer positive product h =
+last_digit_zero size unit count places fewer positive product h =
     let last : ℕ = places - fewer - 1 in
     let total : fewer + suc last ≡ places = omega (arith, h.0) in
     let power : 10 ^ places ≡ 10 ^ fewer * (10 * 10 ^ last) =
@@ -48,7 +48,7 @@ less_places size unit count places fewer positive product h =
     let raised = ap (λ n. n * (10 * 10 ^ last)) h.1.1 in
     let tens : count ≡ h.1.0 * (10 * 10 ^ last) =
     eq_of_mul-eq-mul_right unit positive count (h.1.0 * (10 * 10 ^ last)) (omega (arith, stated, raised, product)) in
-    ap (λ n. n % 10) tens ∙ ten_times h.1.0 (10 ^ last)
+    ap (λ n. n % 10) tens ∙ last_digit_of_tens h.1.0 (10 ^ last)
 
 pub IsLeastPlaces-last_digit :
     (size unit count places : ℕ) → 0 < unit → size * 10 ^ places ≡ count * unit → (0 < places → 0 < count % 10)
@@ -58,7 +58,7 @@ IsLeastPlaces-last_digit size unit count places positive product last =
       has = (count, product);
       least = λ fewer exact.
           ⊎_elim (λ below. let some = last (omega (arith, below)) in
-          let none = less_places size unit count places fewer positive product (below, exact) in
+          let none = last_digit_zero size unit count places fewer positive product (below, exact) in
           absurd (omega (arith, some, none)))
           (λ enough. enough) (cases_lt fewer places);
     }
@@ -73,7 +73,7 @@ pub record Dividing (size unit rest fraction digits : ℕ) : Type 0 where
 -- while something is left, it isn't exact
 pub not_exact : (size unit rest fraction digits : ℕ) → Dividing size unit rest fraction digits → 0 < rest → ¬ IsExactAt size unit digits
 not_exact size unit rest fraction digits h left exact =
-    let none = no_rest size unit digits (size / unit * 10 ^ digits + fraction) rest h.product h.small exact in
+    let none = rest_is_zero size unit digits (size / unit * 10 ^ digits + fraction) rest h.product h.small exact in
     omega (arith, none, left)
 
 pub Dividing-more :
@@ -85,9 +85,9 @@ Dividing-more size unit rest fraction digits some left h =
     let below = h.below in
     let count = size / unit * 10 ^ digits + fraction in
     let product =
-    one_place_more size unit (10 ^ digits) count rest (rest * 10 / unit) (rest * 10 % unit)
+    divide_one_more_digit size unit (10 ^ digits) count rest (rest * 10 / unit) (rest * 10 % unit)
     (record { so_far = h.product; next = div-add-mod' (rest * 10) unit }) in
-    let parts = digit_behind (size / unit) (10 ^ digits) fraction (rest * 10 / unit) in
+    let parts = append_digit (size / unit) (10 ^ digits) fraction (rest * 10 / unit) in
     record {
       product = rw power (product ∙ ap (λ n. n * unit + rest * 10 % unit) parts);
       small = mod_below (rest * 10) unit (omega arith);
@@ -115,9 +115,9 @@ pub IsQuotient-digits :
     → IsQuotient size unit places (size / unit * one + fraction * 10 ^ (places_of_decimal - digits))
 IsQuotient-digits size unit fraction digits places few room product =
     let count = size / unit * 10 ^ digits + fraction in
-    let power = ap (λ n. size * n) (raise_power digits places few) in
+    let power = ap (λ n. size * n) (pow10_split digits places few) in
     let raised = ap (λ n. n * 10 ^ (places - digits)) product in
-    let parts = ap (λ n. size / unit * n) (power_parts digits (omega (arith, few))) in
+    let parts = ap (λ n. size / unit * n) (pow10_times_rest digits (omega (arith, few))) in
     let split = ap (λ n. count * n) (split_power digits places places_of_decimal few room) in
     record {
       count = count * 10 ^ (places - digits);
@@ -130,20 +130,20 @@ pub IsQuotient-times :
     (size unit places N : ℕ) → places ≤ places_of_decimal → IsQuotient size unit places N → N * unit ≡ size * one
 IsQuotient-times size unit places N few h =
     let exact = ap (λ n. n * 10 ^ (places_of_decimal - places)) h.exact in
-    let parts = ap (λ n. size * n) (power_parts places few) in
+    let parts = ap (λ n. size * n) (pow10_times_rest places few) in
     ap (λ n. n * unit) h.number ∙ omega (arith, exact, parts)
 
 -- digits at their places stay below one
-pub part_below :
+pub fraction_below_one :
     (fraction digits : ℕ) → digits ≤ places_of_decimal → fraction < 10 ^ digits → fraction * 10 ^ (places_of_decimal - digits) < one
-part_below fraction digits room small =
-    let bound = power_bounds (places_of_decimal - digits) (omega arith) in
+fraction_below_one fraction digits room small =
+    let bound = pow10_bounds (places_of_decimal - digits) (omega arith) in
     let product = mul-le-mul_right {m = fraction + 1} {n = 10 ^ digits} (10 ^ (places_of_decimal - digits)) (omega arith) in
-    omega (arith, product, power_parts digits room, bound.0)
+    omega (arith, product, pow10_times_rest digits room, bound.0)
 
 -- and so do they as a number
-pub digits_below : (fraction digits : ℕ) → digits ≤ places_of_decimal → fraction < 10 ^ digits → fraction < one
-digits_below fraction digits room small = omega (arith, small, power_bounds digits room)
+pub digits_below_one : (fraction digits : ℕ) → digits ≤ places_of_decimal → fraction < 10 ^ digits → fraction < one
+digits_below_one fraction digits room small = omega (arith, small, pow10_bounds digits room)
 
-pub whole_fits : (size unit : ℕ) → size < whole_limit → size / unit < whole_limit
-whole_fits size unit h = let few = div-le_self size unit in omega (arith, few)
+pub quotient_below_whole_limit : (size unit : ℕ) → size < whole_limit → size / unit < whole_limit
+quotient_below_whole_limit size unit h = let few = div-le_self size unit in omega (arith, few)

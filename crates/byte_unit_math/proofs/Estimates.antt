@@ -13,15 +13,15 @@ pub record IsEstimate (n divisor estimate : ℕ) : Type 0 where
 abbrev pub estimate_of : ℕ → ℕ → ℕ → ℕ → ℕ
 estimate_of n inverse cut shift = n / 2 ^ cut * inverse / 2 ^ shift
 
-pub leading_fits : {n divisor inverse cut shift : ℕ} → HasInverse n divisor inverse cut shift → n / 2 ^ cut < 2 ^ 64
-leading_fits {n} {divisor} {inverse} {cut} {shift} h =
+pub leading_bits_fit : {n divisor inverse cut shift : ℕ} → HasInverse n divisor inverse cut shift → n / 2 ^ cut < 2 ^ 64
+leading_bits_fit {n} {divisor} {inverse} {cut} {shift} h =
     let some : 0 < 2 ^ cut = one-le-pow cut 2 (omega arith) in
     (div-lt_iff_lt-mul {k = 2 ^ cut} {x = n} {y = 2 ^ 64} some).1 (subst (λ m. n < m) (pow-add 2 64 cut) h.leading)
 
 pub product_fits :
     {n divisor inverse cut shift : ℕ} → HasInverse n divisor inverse cut shift → n / 2 ^ cut * inverse < 2 ^ 128
 product_fits {n} {divisor} {inverse} {cut} {shift} h =
-    let leading = leading_fits h in
+    let leading = leading_bits_fit h in
     let product = mul-le-mul_right {m = n / 2 ^ cut} {n = 2 ^ 64} inverse (omega (arith, leading)) in
     omega (arith, product, h.fits)
 
@@ -56,7 +56,7 @@ IsEstimate-inverse n divisor inverse cut shift h =
     mul-le-mul_right {m = 2 ^ (cut + shift) + 1} {n = inverse * divisor + divisor} leading (omega (arith, inverse_high)) in
     let past_estimate =
     mul-le-mul_right {m = leading * inverse + 1} {n = estimate * 2 ^ shift + 2 ^ shift} divisor (omega (arith, estimate_high)) in
-    let few_leading = mul-le-mul_right {m = leading + 1} {n = 2 ^ 64} divisor (omega (arith, leading_fits h)) in
+    let few_leading = mul-le-mul_right {m = leading + 1} {n = 2 ^ 64} divisor (omega (arith, leading_bits_fit h)) in
     let powers = ap (λ m. m * leading) power in
     record {
       enough = le_of_mul-le-mul_right (omega (arith, estimate_parts, inverse_parts, leading_parts, powers)) some_shift;
@@ -66,14 +66,14 @@ IsEstimate-inverse n divisor inverse cut shift h =
     }
 
 -- from the estimate to the quotient, and to the rest
-pub quotient_is : (n divisor quotient : ℕ) → quotient * divisor ≤ n → n - quotient * divisor < divisor → quotient ≡ n / divisor
-quotient_is n divisor quotient enough close =
+pub quotient_from_bounds : (n divisor quotient : ℕ) → quotient * divisor ≤ n → n - quotient * divisor < divisor → quotient ≡ n / divisor
+quotient_from_bounds n divisor quotient enough close =
     sym (div-eq_of_lt-le {k = quotient} divisor {m = n} enough (omega (arith, enough, close)))
 
-pub rest_is :
+pub rest_from_bounds :
     (n divisor quotient : ℕ) → quotient * divisor ≤ n → n - quotient * divisor < divisor → n - quotient * divisor ≡ n % divisor
-rest_is n divisor quotient enough close =
-    ap (λ q. n - q * divisor) (quotient_is n divisor quotient enough close) ∙ sym (mod-eq-sub-div-mul n divisor)
+rest_from_bounds n divisor quotient enough close =
+    ap (λ q. n - q * divisor) (quotient_from_bounds n divisor quotient enough close) ∙ sym (mod-eq-sub-div-mul n divisor)
 
 -- the estimate as it is worked out, a step at a time
 pub IsEstimate-steps :
@@ -104,4 +104,4 @@ long_division n divisor middle low some middle_is low_is =
     let enough : quotient * divisor ≤ n = omega (arith, parts) in
     let close : n - quotient * divisor < divisor = omega (arith, parts, left) in
     let rest : low % divisor ≡ n - quotient * divisor = omega (arith, parts) in
-    (quotient_is n divisor quotient enough close, rest ∙ rest_is n divisor quotient enough close)
+    (quotient_from_bounds n divisor quotient enough close, rest ∙ rest_from_bounds n divisor quotient enough close)

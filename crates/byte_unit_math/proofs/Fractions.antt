@@ -2,10 +2,10 @@
 use Rattle.std.proofs.Common.{◌≡◌, ℕ, ◌<◌, List, [], ◌∷◌, length, arith, refl}
 use Rattle.byte_unit_math.specs.Numeral.{fraction_text, glyphs}
 
-pub text_none : (ds : List ℕ) → length ds ≡ 0 → fraction_text ds ≡ []
-text_none [] h = refl
-text_none (d ∷ ds) h = absurd (omega (arith, h))
+pub fraction_text_none : (ds : List ℕ) → length ds ≡ 0 → fraction_text ds ≡ []
+fraction_text_none [] h = refl
+fraction_text_none (d ∷ ds) h = absurd (omega (arith, h))
 
-pub text_some : (ds : List ℕ) → 0 < length ds → fraction_text ds ≡ 46 ∷ glyphs ds
-text_some [] h = absurd (omega (arith, h))
-text_some (d ∷ ds) h = refl
+pub fraction_text_some : (ds : List ℕ) → 0 < length ds → fraction_text ds ≡ 46 ∷ glyphs ds
+fraction_text_some [] h = absurd (omega (arith, h))
+fraction_text_some (d ∷ ds) h = refl

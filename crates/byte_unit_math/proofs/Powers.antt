@@ -7,16 +7,16 @@ use Rattle.byte_unit_math.specs.Exact.{IsExactAt}
 use Rattle.byte_unit_math.specs.Powers.{IsTwoFive, HasTwoFive}
 use Rattle.byte_unit_math.specs.NumberLaws.{ExactByPowers, NumbersHaveTwosAndFives, PlacesByPowers, ZeroTakesNoPlaces}
 
-odd_times : (left n : ℕ) → left % 2 ≢ 0 → (left * 5 ^ n) % 2 ≢ 0
-odd_times left zero h = λ k. h (omega (arith, k))
-odd_times left (suc n) h =
-    λ k. odd_times left n h
+odd_times_fives : (left n : ℕ) → left % 2 ≢ 0 → (left * 5 ^ n) % 2 ≢ 0
+odd_times_fives left zero h = λ k. h (omega (arith, k))
+odd_times_fives left (suc n) h =
+    λ k. odd_times_fives left n h
     (let e : left * 5 ^ suc n ≡ 5 * (left * 5 ^ n) = rw (pow-succ' 5 n) (omega arith) in omega (arith, k, e))
 
-five_times : (left n : ℕ) → left % 5 ≢ 0 → (left * 2 ^ n) % 5 ≢ 0
-five_times left zero h = λ k. h (omega (arith, k))
-five_times left (suc n) h =
-    λ k. five_times left n h
+no_five_times_twos : (left n : ℕ) → left % 5 ≢ 0 → (left * 2 ^ n) % 5 ≢ 0
+no_five_times_twos left zero h = λ k. h (omega (arith, k))
+no_five_times_twos left (suc n) h =
+    λ k. no_five_times_twos left n h
     (let e : left * 2 ^ suc n ≡ 2 * (left * 2 ^ n) = rw (pow-succ' 2 n) (omega arith) in omega (arith, k, e))
 
 next_power : (base m a : ℕ) → m < a → base ^ a ≡ base ^ m * (base * base ^ (a - m - 1))
@@ -71,36 +71,36 @@ cancel_fives left others fives count more rest some e =
     eq_of_mul-eq-mul_right fives some (left * others) (5 * (count * more * rest)) (omega (arith, e)) in
     omega (arith, same)
 
-needs_twos : (num a b twos fives p : ℕ) → IsTwoFive num twos fives → IsExactAt num (2 ^ a * 5 ^ b) p → a ≤ twos + p
-needs_twos num a b twos fives p h e = ⊎_elim
+enough_twos : (num a b twos fives p : ℕ) → IsTwoFive num twos fives → IsExactAt num (2 ^ a * 5 ^ b) p → a ≤ twos + p
+enough_twos num a b twos fives p h e = ⊎_elim
     (λ l. let T = 2 ^ (twos + p) in
     let K = 2 ^ (a - (twos + p) - 1) in
     let f = sym (times_tens num twos fives p h) ∙ (e.1 ∙ ap (λ n. e.0 * (n * 5 ^ b)) (next_power 2 (twos + p) a l)) in
-    absurd (odd_times h.left (fives + p) h.odd
+    absurd (odd_times_fives h.left (fives + p) h.odd
     (cancel_twos h.left T (5 ^ (fives + p)) e.0 K (5 ^ b) (omega (arith, one-le-pow (twos + p) 2 (omega arith))) f)))
     (λ k. k) (cases_lt (twos + p) a)
 
-needs_fives : (num a b twos fives p : ℕ) → IsTwoFive num twos fives → IsExactAt num (2 ^ a * 5 ^ b) p → b ≤ fives + p
-needs_fives num a b twos fives p h e = ⊎_elim
+enough_fives : (num a b twos fives p : ℕ) → IsTwoFive num twos fives → IsExactAt num (2 ^ a * 5 ^ b) p → b ≤ fives + p
+enough_fives num a b twos fives p h e = ⊎_elim
     (λ l. let F = 5 ^ (fives + p) in
     let K = 5 ^ (b - (fives + p) - 1) in
     let f = sym (times_tens num twos fives p h) ∙ (e.1 ∙ ap (λ n. e.0 * (2 ^ a * n)) (next_power 5 (fives + p) b l)) in
-    absurd (five_times h.left (twos + p) h.no_five
+    absurd (no_five_times_twos h.left (twos + p) h.no_five
     (cancel_fives h.left (2 ^ (twos + p)) F e.0 K (2 ^ a) (omega (arith, one-le-pow (fives + p) 5 (omega arith))) f)))
     (λ k. k) (cases_lt (fives + p) b)
 
 pub exact_by_powers : ExactByPowers
 exact_by_powers num a b twos fives p h =
-    (λ e. (needs_twos num a b twos fives p h e, needs_fives num a b twos fives p h e), λ few. exact_with_powers num a b twos fives p h few)
+    (λ e. (enough_twos num a b twos fives p h e, enough_fives num a b twos fives p h e), λ few. exact_with_powers num a b twos fives p h few)
 
 pub places_by_powers : PlacesByPowers
 places_by_powers num a b twos fives h = record {
   has = exact_with_powers num a b twos fives (max (a - twos) (b - fives)) h (omega arith, omega arith);
-  least = λ p exact. omega (arith, needs_twos num a b twos fives p h exact, needs_fives num a b twos fives p h exact);
+  least = λ p exact. omega (arith, enough_twos num a b twos fives p h exact, enough_fives num a b twos fives p h exact);
 }
 
-pub no_places : ZeroTakesNoPlaces
-no_places den = record { has = (0, omega arith); least = λ p e. omega arith }
+pub zero_takes_no_places : ZeroTakesNoPlaces
+zero_takes_no_places den = record { has = (0, omega arith); least = λ p e. omega arith }
 
 nothing_left : (n left twos fives : ℕ) → n ≡ left * (2 ^ twos * 5 ^ fives) → 0 < left % 2 → 0 < left % 5 → HasTwoFive n
 nothing_left n left twos fives e odd no_five =

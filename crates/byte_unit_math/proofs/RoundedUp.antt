@@ -8,7 +8,7 @@ use Rattle.std.proofs.lemmas.Bool.Decides.{nat_tests}
 use Rattle.byte_unit_math.specs.Bounds.{one, places_of_decimal}
 use Rattle.byte_unit_math.specs.Least.{IsLeastSize}
 use Rattle.byte_unit_math.specs.RoundedUp.{group_limit, half_places, half_limit, IsRoundedUp}
-use Rattle.byte_unit_math.proofs.Scales.{raise_power}
+use Rattle.byte_unit_math.proofs.Scales.{pow10_split}
 
 -- the two groups of half the digits
 pub IsRoundedUp-groups : (digits unit behind part size : ℕ) → IsRoundedUp (digits % group_limit * unit + behind) group_limit part
@@ -28,12 +28,12 @@ pub record InFirstHalf (digits places : ℕ) : Type 0 where
   pub first : digits * 10 ^ (half_places - places) < half_limit
   pub all : digits * 10 ^ (places_of_decimal - places) ≡ digits * 10 ^ (half_places - places) * half_limit
 
-pub first_half : (digits places : ℕ) → places ≤ half_places → digits < 10 ^ places → InFirstHalf digits places
-first_half digits places few small =
-    let parts : 10 ^ half_places ≡ 10 ^ places * 10 ^ (half_places - places) = raise_power places half_places few in
+pub InFirstHalf-places : (digits places : ℕ) → places ≤ half_places → digits < 10 ^ places → InFirstHalf digits places
+InFirstHalf-places digits places few small =
+    let parts : 10 ^ half_places ≡ 10 ^ places * 10 ^ (half_places - places) = pow10_split places half_places few in
     let left : places_of_decimal - places - (half_places - places) ≡ half_places = omega (arith, few) in
     let scale : 10 ^ (places_of_decimal - places) ≡ 10 ^ (half_places - places) * half_limit =
-    raise_power (half_places - places) (places_of_decimal - places) (omega (arith, few))
+    pow10_split (half_places - places) (places_of_decimal - places) (omega (arith, few))
     ∙ ap (λ n. 10 ^ (half_places - places) * 10 ^ n) left in
     let product = ap (λ n. digits * n) scale in
     let below = mul-le-mul_right {m = digits + 1} {n = 10 ^ places} (10 ^ (half_places - places)) (omega (arith, small)) in
@@ -88,20 +88,20 @@ IsLeastSize-parts N unit whole fraction part h =
     subst (λ number. IsLeastSize number unit (whole * unit + part)) parts (IsLeastSize-whole whole fraction unit part h.least)
 
 -- where the least size reaches the limit, so does each size that is enough
-pub none_below :
+pub least_size_not_below :
     (N unit size limit : ℕ) → IsLeastSize N unit size → limit ≤ size → (enough : ℕ) → IsLeastSize N unit enough → limit ≤ enough
-none_below N unit size limit h reached enough k = omega (arith, reached, h.least enough k.has)
+least_size_not_below N unit size limit h reached enough k = omega (arith, reached, h.least enough k.has)
 
-pub IfNone-always : {T : Type 0} (o : Option T) (P : Type 0) → P → IfNone o P
-IfNone-always None P p = p
-IfNone-always (Some x) P p = tt
+pub IfNone-always : {T : Type 0} (o : Option T) (Fact : Type 0) → Fact → IfNone o Fact
+IfNone-always None Fact fact = fact
+IfNone-always (Some x) Fact fact = tt
 
-pub IfSome-then_some : (is : Bool) (size : ℕ) (P : ℕ → Type 0) → P size → IfSome (then_some is size) P
-IfSome-then_some true size P p = p
-IfSome-then_some false size P p = tt
+pub IfSome-then_some : (is : Bool) (size : ℕ) (Holds : ℕ → Type 0) → Holds size → IfSome (then_some is size) Holds
+IfSome-then_some true size Holds holds = holds
+IfSome-then_some false size Holds holds = tt
 
-pub IfNone-below : (size limit : ℕ) (P : Type 0) → (limit ≤ size → P) → IfNone (then_some (ltb size limit) size) P
-IfNone-below size limit P reached =
+pub IfNone-below : (size limit : ℕ) (Fact : Type 0) → (limit ≤ size → Fact) → IfNone (then_some (ltb size limit) size) Fact
+IfNone-below size limit Fact reached =
     ⊎_elim (λ below. let yes : ltb size limit ≡ true = grind (arith, nat_tests) in
-    subst (λ is. IfNone (then_some is size) P) (sym yes) tt)
-    (λ above. IfNone-always (then_some (ltb size limit) size) P (reached above)) (cases_lt size limit)
+    subst (λ is. IfNone (then_some is size) Fact) (sym yes) tt)
+    (λ above. IfNone-always (then_some (ltb size limit) size) Fact (reached above)) (cases_lt size limit)

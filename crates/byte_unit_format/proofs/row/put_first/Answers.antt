@@ -5,7 +5,7 @@ use Rattle.std.proofs.lemmas.List.{length-take}
 use Rattle.std.proofs.lemmas.Str.{IsAscii-take, IsAscii-append}
 use Rattle.std.proofs.lemmas.Str.Ascii.{IsAscii-cons}
 use Rattle.byte_unit_format.proofs.WrittenForms.{fraction_length}
-use Rattle.byte_unit_format.proofs.WrittenDigits.{AreShown, fraction_shown, length_shown}
+use Rattle.byte_unit_format.proofs.WrittenDigits.{AreShown, fraction_text_of_shown, length_shown}
 use Rattle.byte_unit_format.proofs.Rows.{run_ascii}
 use Rattle.byte_unit_format.proofs.row.put_first.Goals as goal
 
@@ -44,7 +44,7 @@ returns-clause-bytes c =
     c.put_run.ensures.bytes
     ∙ (ap (λ l. 46 ∷ l)
     (c.put-digits.ensures.bytes ∙ (ap (λ l. front ++ l) c.put_run-zeros.ensures.bytes ∙ sym (append_assoc front zeros behind)))
-    ∙ ap (λ l. l ++ behind) (fraction_shown are))
+    ∙ ap (λ l. l ++ behind) (fraction_text_of_shown are))
 
 pub returns-clause-ascii : goal.returns-clause-ascii
 returns-clause-ascii c =
@@ -60,4 +60,4 @@ returns-clause-ascii c =
     let front = IsAscii-take characters shown c.glyphs_of.ensures.ascii in
     let zeros = run_ascii (places - shown) 48 (omega arith) in
     let digits = IsAscii-append (take shown characters) (replicate (places - shown) 48) front zeros in
-    subst IsAscii (fraction_shown are) (IsAscii-cons 46 (take shown characters ++ replicate (places - shown) 48) (omega arith) digits)
+    subst IsAscii (fraction_text_of_shown are) (IsAscii-cons 46 (take shown characters ++ replicate (places - shown) 48) (omega arith) digits)

@@ -1,11 +1,11 @@
 use Rattle.std.proofs.Common.{◌≡◌, ◌≢◌, ◌%◌, arith, subst, sym}
 use Rattle.std.specs.Int.{trailing_zeros, w128}
-use Rattle.byte_unit_math.proofs.TwosFives.{FivesOff, FivesOff-none, FivesOff-more, FivesOff-joined, FivesOff-few}
+use Rattle.byte_unit_math.proofs.TwosFives.{FivesOff, FivesOff-trailing_zeros, FivesOff-more, FivesOff-joined, FivesOff-few}
 use Rattle.byte_unit_math.proofs.factors.factors_of.Goals.{Joined-left, then-left, else-left, then-loop-left-test+else-left-eq0, else-loop-left-test}
 use Rattle.byte_unit_math.proofs.factors.factors_of.Goals as goal
 
 pub loop-left-init : goal.loop-left-init
-loop-left-init c = FivesOff-none c.args.size c.requires.some (omega arith)
+loop-left-init c = FivesOff-trailing_zeros c.args.size c.requires.some (omega arith)
 
 pub overflow_add-fives : goal.overflow_add-fives
 overflow_add-fives c = omega (arith, FivesOff-few _ _ _ _ c.requires.small c.loop-left.invariant)

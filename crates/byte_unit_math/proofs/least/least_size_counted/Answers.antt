@@ -3,7 +3,7 @@ use Rattle.byte_unit_math.specs.Bounds.{places_of_decimal}
 use Rattle.byte_unit_math.specs.Least.{IsLeastSize}
 use Rattle.byte_unit_math.specs.RoundedUp.{half_limit, IsRoundedUp}
 use Rattle.byte_unit_math.proofs.RoundedUp.{IsRoundedUp-groups, IsLeastSize-halves, IsLeastSize-none, IsLeastSize-parts}
-use Rattle.byte_unit_math.proofs.RoundedUp.{none_below, IfNone-always, IfSome-then_some, IfNone-below}
+use Rattle.byte_unit_math.proofs.RoundedUp.{least_size_not_below, IfNone-always, IfSome-then_some, IfNone-below}
 use Rattle.byte_unit_math.proofs.least.least_size_counted.Goals.{After-whole, then-digits-eq0, else-digits-eq0}
 use Rattle.byte_unit_math.proofs.least.least_size_counted.Goals as goal
 
@@ -39,13 +39,13 @@ size_least c =
 pub returns-in_err-checked_mul-clause-none : goal.returns-in_err-checked_mul-clause-none
 returns-in_err-checked_mul-clause-none c =
     let least = size_least (goal.at.returns-in_err-checked_mul-clause-none c).After-whole in
-    IfNone-always _ _ (none_below c.args.d c.args.unit_size (c.whole.result * c.args.unit_size + c.if-digits-eq0.part)
+    IfNone-always _ _ (least_size_not_below c.args.d c.args.unit_size (c.whole.result * c.args.unit_size + c.if-digits-eq0.part)
     c.args.limit least (omega (arith, c.in_err-checked_mul.ensures)))
 
 pub returns-in_err-size-clause-none : goal.returns-in_err-size-clause-none
 returns-in_err-size-clause-none c =
     let least = size_least (goal.at.returns-in_err-size-clause-none c).After-whole in
-    IfNone-always _ _ (none_below c.args.d c.args.unit_size (c.whole.result * c.args.unit_size + c.if-digits-eq0.part)
+    IfNone-always _ _ (least_size_not_below c.args.d c.args.unit_size (c.whole.result * c.args.unit_size + c.if-digits-eq0.part)
     c.args.limit least (omega (arith, c.in_err-size.ensures, c.in_ok-checked_mul.ensures)))
 
 pub returns-clause-least : goal.returns-clause-least
@@ -58,5 +58,5 @@ pub returns-clause-none : goal.returns-clause-none
 returns-clause-none c =
     let least = size_least (goal.at.returns-clause-none c).After-whole in
     rw c.then_some.ensures (IfNone-below c.in_ok-size.size c.args.limit _ (λ reached.
-    none_below c.args.d c.args.unit_size (c.whole.result * c.args.unit_size + c.if-digits-eq0.part)
+    least_size_not_below c.args.d c.args.unit_size (c.whole.result * c.args.unit_size + c.if-digits-eq0.part)
     c.args.limit least (omega (arith, reached, c.in_ok-size.ensures, c.in_ok-checked_mul.ensures))))

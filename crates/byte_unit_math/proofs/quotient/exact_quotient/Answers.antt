@@ -2,7 +2,7 @@ use Rattle.std.proofs.Common.{◌≡◌, min, arith, subst}
 use Rattle.byte_unit_math.specs.Bounds.{places_of_decimal}
 use Rattle.byte_unit_math.specs.Exact.{IsExactAt}
 use Rattle.byte_unit_math.proofs.quotient.exact_quotient.Goals.{then-loop-rest-test+else-digits-most, else-loop-rest-test}
-use Rattle.byte_unit_math.proofs.Division.{Dividing-more, Dividing-ended, digits_below, not_exact, whole_fits}
+use Rattle.byte_unit_math.proofs.Division.{Dividing-more, Dividing-ended, digits_below_one, not_exact, quotient_below_whole_limit}
 use Rattle.byte_unit_math.proofs.Division.{IsQuotient-digits, IsQuotient-times}
 use Rattle.byte_unit_math.proofs.quotient.exact_quotient.Goals as goal
 
@@ -10,13 +10,13 @@ pub overflow_mul-fraction : goal.overflow_mul-fraction
 overflow_mul-fraction c =
     let loop = c.loop-rest in
     let next = Dividing-more _ _ loop.rest loop.fraction loop.digits (omega arith) (omega arith) loop.invariant.divides in
-    omega (arith, digits_below _ _ (omega arith) next.below)
+    omega (arith, digits_below_one _ _ (omega arith) next.below)
 
 pub overflow_add-fraction : goal.overflow_add-fraction
 overflow_add-fraction c =
     let loop = c.loop-rest in
     let next = Dividing-more _ _ loop.rest loop.fraction loop.digits (omega arith) (omega arith) loop.invariant.divides in
-    omega (arith, digits_below _ _ (omega arith) next.below)
+    omega (arith, digits_below_one _ _ (omega arith) next.below)
 
 pub loop-rest-preserved : goal.loop-rest-preserved
 loop-rest-preserved c =
@@ -41,7 +41,7 @@ returns-then-rest-gt0-clause-none c = λ exact.
 
 pub from_digits-requires-clause-whole : goal.from_digits-requires-clause-whole
 from_digits-requires-clause-whole c =
-    rw c.quotient_and_rest-whole.ensures.quotient (whole_fits c.args.size c.args.unit c.requires.small_size)
+    rw c.quotient_and_rest-whole.ensures.quotient (quotient_below_whole_limit c.args.size c.args.unit c.requires.small_size)
 
 pub returns-clause-quotient : goal.returns-clause-quotient
 returns-clause-quotient c =
