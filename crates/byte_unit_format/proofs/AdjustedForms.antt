@@ -1,5 +1,6 @@
 -- The form of a size in a given unit.
-use Rattle.std.proofs.Common.{◌≡◌, ℕ, ◌+◌, ◌*◌, ◌/◌, ◌%◌, ◌^◌, ◌<◌, ⊎_elim, min, Bool, true, false, List, length, arith, ap, sym, refl}
+use Rattle.std.proofs.Common.{◌≡◌, ℕ, ◌+◌, ◌*◌, ◌/◌, ◌%◌, ◌^◌, ◌<◌, ⊎_elim, min, Bool, true, false, List, length, arith}
+use Rattle.std.proofs.Common.{ap, sym, refl}
 use Rattle.std.proofs.Common.{subst, ◌∙◌, Some, None}
 use Rattle.std.specs.Prelude.{if◌then◌else◌}
 use Rattle.std.proofs.Math.Nat.{div-add-mod'}
@@ -13,8 +14,10 @@ use Rattle.byte_unit_math.specs.Padded.{padded}
 use Rattle.byte_unit_math.specs.declared.expansion.Ties.{Ties}
 use Rattle.byte_unit_math.specs.declared.expansion.Ties.TheVariants.{Even, Up}
 use Rattle.byte_unit_math.proofs.Digits.{one_le_pow10}
-use Rattle.byte_unit_math.proofs.Nearest.{LiesAbove, nearest_down, nearest_up, tie_up_next, tie_even_next, tie_even_this}
-use Rattle.byte_unit_math.proofs.Texts.{expansion_unique, nearest_unique, short_numeral_is_expansion, expansion_of_same_fraction}
+use Rattle.byte_unit_math.proofs.Nearest.{LiesAbove, nearest_down, nearest_up, tie_up_next, tie_even_next}
+use Rattle.byte_unit_math.proofs.Nearest.{tie_even_this}
+use Rattle.byte_unit_math.proofs.Texts.{expansion_unique, nearest_unique, short_numeral_is_expansion}
+use Rattle.byte_unit_math.proofs.Texts.{expansion_of_same_fraction}
 use Rattle.byte_unit_base.specs.Shape.{Shape, bits, twos, fives}
 use Rattle.byte_unit_base.specs.Edition.{Edition, current, name}
 use Rattle.byte_unit_base.proofs.Choosing.{some_bits}
@@ -28,29 +31,36 @@ use Rattle.byte_unit_format.specs.FormLaws.{SizeHasOneAdjustedForm}
 
 -- which numeral is written
 
-pub numeral_by_same_rule : {rule other : Rule} (num den : ℕ) (text : List ℕ) → rule ≡ other → IsNumeralBy other num den text
+pub numeral_by_same_rule : {rule other : Rule} (num den : ℕ) (text : List ℕ) → rule ≡ other
+    → IsNumeralBy other num den text
     → IsNumeralBy rule num den text
 numeral_by_same_rule num den text same numeral = subst (λ rule. IsNumeralBy rule num den text) (sym same) numeral
 
-pub rule_without_precision : (spec : FormatSpec) (unit : Shape) → spec.precision ≡ None → rule_of spec.precision spec.alternate unit ≡ full
+pub rule_without_precision : (spec : FormatSpec) (unit : Shape) → spec.precision ≡ None
+    → rule_of spec.precision spec.alternate unit ≡ full
 rule_without_precision spec unit unset = ap (λ precision. rule_of precision spec.alternate unit) unset
 
 rule_set : (spec : FormatSpec) (unit : Shape) (precision : ℕ) (alternate : Bool) → spec.precision ≡ Some precision
     → spec.alternate ≡ alternate
     → rule_of spec.precision spec.alternate unit ≡ rule_of (Some precision) alternate unit
 rule_set spec unit precision alternate set flag =
-    ap (λ precision. rule_of precision spec.alternate unit) set ∙ ap (λ alternate. rule_of (Some precision) alternate unit) flag
+    ap (λ precision. rule_of precision spec.alternate unit) set
+    ∙ ap (λ alternate. rule_of (Some precision) alternate unit) flag
 
-pub rule_of_alternate : (spec : FormatSpec) (unit : Shape) (precision places : ℕ) → spec.precision ≡ Some precision → spec.alternate ≡ true
+pub rule_of_alternate : (spec : FormatSpec) (unit : Shape) (precision places : ℕ) → spec.precision ≡ Some precision
+    → spec.alternate ≡ true
     → places ≡ min precision alternate_places → rule_of spec.precision spec.alternate unit ≡ short_to places
-rule_of_alternate spec unit precision places set flag few = rule_set spec unit precision true set flag ∙ ap short_to (sym few)
+rule_of_alternate spec unit precision places set flag few =
+    rule_set spec unit precision true set flag ∙ ap short_to (sym few)
 
-pub rule_without_prefix : (spec : FormatSpec) (unit : Shape) (precision : ℕ) → spec.precision ≡ Some precision → spec.alternate ≡ false
+pub rule_without_prefix : (spec : FormatSpec) (unit : Shape) (precision : ℕ) → spec.precision ≡ Some precision
+    → spec.alternate ≡ false
     → is_single unit ≡ true → rule_of spec.precision spec.alternate unit ≡ full
 rule_without_prefix spec unit precision set flag single =
     rule_set spec unit precision false set flag ∙ ap (λ single. if single then full else round_to precision) single
 
-pub rule_with_precision : (spec : FormatSpec) (unit : Shape) (precision places : ℕ) → spec.precision ≡ Some precision → spec.alternate ≡ false
+pub rule_with_precision : (spec : FormatSpec) (unit : Shape) (precision places : ℕ) → spec.precision ≡ Some precision
+    → spec.alternate ≡ false
     → is_single unit ≡ false → places ≡ precision → rule_of spec.precision spec.alternate unit ≡ round_to places
 rule_with_precision spec unit precision places set flag prefixed same =
     rule_set spec unit precision false set flag
@@ -58,24 +68,29 @@ rule_with_precision spec unit precision places set flag prefixed same =
 
 -- one numeral
 
-numeral_unique : (rule : Rule) (num den : ℕ) (text other : List ℕ) → 0 < den → IsNumeralBy rule num den text → IsNumeralBy rule num den other
+numeral_unique : (rule : Rule) (num den : ℕ) (text other : List ℕ) → 0 < den → IsNumeralBy rule num den text
+    → IsNumeralBy rule num den other
     → text ≡ other
 numeral_unique full num den text other some of_text of_other =
     of_text.2 ∙ (ap text_of (expansion_unique num den of_text.0 of_other.0 some of_text.1 of_other.1) ∙ sym of_other.2)
 numeral_unique (round_to places) num den text other some of_text of_other =
-    let same = nearest_unique num den places Even of_text.0 of_other.0 (record { positive = some; this = of_text.1; other = of_other.1 }) in
+    let same = nearest_unique num den places Even of_text.0 of_other.0
+    (record { positive = some; this = of_text.1; other = of_other.1 }) in
     of_text.2 ∙ (ap (λ nearest. numeral nearest places) same ∙ sym of_other.2)
 numeral_unique (short_to places) num den text other some of_text of_other =
-    let same = nearest_unique num den places Up of_text.0 of_other.0 (record { positive = some; this = of_text.1; other = of_other.1 }) in
+    let same = nearest_unique num den places Up of_text.0 of_other.0
+    (record { positive = some; this = of_text.1; other = of_other.1 }) in
     of_text.2 ∙ (ap (λ nearest. short nearest places) same ∙ sym of_other.2)
 
-pub adjusted_form_unique : {edition : Edition} {kind : Kind} {size : ℕ} {unit : Shape} {spec : FormatSpec} {text other : List ℕ}
+pub adjusted_form_unique : {edition : Edition} {kind : Kind} {size : ℕ} {unit : Shape} {spec : FormatSpec}
+    {text other : List ℕ}
     → IsAdjustedForm edition kind size unit spec text → IsAdjustedForm edition kind size unit spec other → text ≡ other
 adjusted_form_unique {edition} {kind} {size} {unit} {spec} form other =
     let rule = rule_of spec.precision spec.alternate unit in
     let some : 0 < bits unit = omega (arith, some_bits unit) in
     let same =
-    numeral_unique rule (size * bits_in kind) (bits unit) form.number other.number some form.number_is other.number_is in
+    numeral_unique rule (size * bits_in kind) (bits unit) form.number other.number some form.number_is
+    other.number_is in
     form.text_is ∙ (ap (λ number. layout number (name edition unit) spec) same ∙ sym other.text_is)
 
 -- there is one
@@ -89,9 +104,11 @@ even_below_one number even = omega (arith, even)
 
 nearest_at_tie : (num den places below rest : ℕ) (ties : Ties) → LiesAbove num den places below rest → 2 * rest ≡ den
     → HasNearest num den places ties
-nearest_at_tie num den places below rest Up lies tie = record { number = below + 1; is_nearest = tie_up_next num den places below rest lies tie }
+nearest_at_tie num den places below rest Up lies tie =
+    record { number = below + 1; is_nearest = tie_up_next num den places below rest lies tie }
 nearest_at_tie num den places below rest Even lies tie =
-    ⊎_elim (λ even. record { number = below; is_nearest = tie_even_this num den places below rest lies tie (even_below_one below even) })
+    ⊎_elim (λ even. record { number = below;
+    is_nearest = tie_even_this num den places below rest lies tie (even_below_one below even) })
     (λ odd.
     let is_odd : below % 2 ≡ 1 = omega (arith, odd) in
     record { number = below + 1; is_nearest = tie_even_next num den places below rest lies tie is_odd })
@@ -109,7 +126,8 @@ nearest_exists num den places ties some =
     (λ at_least.
     ⊎_elim
     (λ more. record { number = below + 1; is_nearest = nearest_up num den places below rest lies ties more })
-    (λ at_most. nearest_at_tie num den places below rest ties lies (let tie : 2 * rest ≡ den = omega (arith, at_least, at_most) in tie))
+    (λ at_most. nearest_at_tie num den places below rest ties lies
+    (let tie : 2 * rest ≡ den = omega (arith, at_least, at_most) in tie))
     (cases_lt den (2 * rest)))
     (cases_lt (2 * rest) den)
 
@@ -136,14 +154,16 @@ expansion_exists num twos fives some =
       e = shortened (at_places places number);
       is_expansion =
           expansion_of_same_fraction number (10 ^ places) num den (shortened (at_places places number))
-          (record { positive = omega (arith, one_le_pow10 places); positive' = some; same = same }) (short_numeral_is_expansion number places);
+          (record { positive = omega (arith, one_le_pow10 places); positive' = some; same = same })
+          (short_numeral_is_expansion number places);
     }
 
 record HasNumeral (rule : Rule) (num den : ℕ) : Type 0 where
   number : List ℕ
   is_numeral : IsNumeralBy rule num den number
 
-numeral_exists : (rule : Rule) (num twos fives : ℕ) → 0 < 2 ^ twos * 5 ^ fives → HasNumeral rule num (2 ^ twos * 5 ^ fives)
+numeral_exists : (rule : Rule) (num twos fives : ℕ) → 0 < 2 ^ twos * 5 ^ fives
+    → HasNumeral rule num (2 ^ twos * 5 ^ fives)
 numeral_exists full num twos fives some =
     let found = expansion_exists num twos fives some in
     record { number = text_of found.e; is_numeral = (found.e, found.is_expansion, refl) }
@@ -157,7 +177,8 @@ numeral_exists (short_to places) num twos fives some =
 pub has_one_adjusted_form : SizeHasOneAdjustedForm
 has_one_adjusted_form edition kind size unit spec =
     let some : 0 < bits unit = omega (arith, some_bits unit) in
-    let found = numeral_exists (rule_of spec.precision spec.alternate unit) (size * bits_in kind) (twos unit) (fives unit) some in
+    let found = numeral_exists (rule_of spec.precision spec.alternate unit) (size * bits_in kind) (twos unit)
+    (fives unit) some in
     let form = layout found.number (name edition unit) spec in
     let is_form : IsAdjustedForm edition kind size unit spec form =
     record { number = found.number; number_is = found.is_numeral; text_is = refl } in
@@ -168,16 +189,20 @@ has_one_adjusted_form edition kind size unit spec =
 -- a decimal with so many places is the numeral that the spec asks for
 pub record IsShown (kind : Kind) (size : ℕ) (unit : Shape) (spec : FormatSpec) (e : Finite) (places : ℕ) : Type 0 where
   pub is_numeral :
-      IsNumeralBy (rule_of spec.precision spec.alternate unit) (size * bits_in kind) (bits unit) (text_of (padded places e))
+      IsNumeralBy (rule_of spec.precision spec.alternate unit) (size * bits_in kind) (bits unit)
+      (text_of (padded places e))
 
 pub shown_is_adjusted_form :
-    {kind : Kind} {size : ℕ} {unit : Shape} {spec : FormatSpec} {e : Finite} {places : ℕ} → IsShown kind size unit spec e places
+    {kind : Kind} {size : ℕ} {unit : Shape} {spec : FormatSpec} {e : Finite} {places : ℕ}
+    → IsShown kind size unit spec e places
     → IsAdjustedForm current kind size unit spec (layout_of current e places unit spec)
 shown_is_adjusted_form {kind} {size} {unit} {spec} {e} {places} shown =
     record { number = text_of (padded places e); number_is = shown.is_numeral; text_is = refl }
 
 -- each form is as long
 pub adjusted_form_length :
-    {kind : Kind} {size : ℕ} {unit : Shape} {spec : FormatSpec} {e : Finite} {places : ℕ} → IsShown kind size unit spec e places
-    → (form : List ℕ) → IsAdjustedForm current kind size unit spec form → length form ≡ length (layout_of current e places unit spec)
+    {kind : Kind} {size : ℕ} {unit : Shape} {spec : FormatSpec} {e : Finite} {places : ℕ}
+    → IsShown kind size unit spec e places
+    → (form : List ℕ) → IsAdjustedForm current kind size unit spec form
+    → length form ≡ length (layout_of current e places unit spec)
 adjusted_form_length shown form is_form = ap length (adjusted_form_unique is_form (shown_is_adjusted_form shown))

@@ -27,7 +27,8 @@ use Rattle.byte_unit_base.proofs.Choosing.{some_bits}
 use Rattle.byte_unit_base.proofs.NumberTexts.{IsBounded, number_of}
 use Rattle.byte_unit_base.proofs.LongFractions.{long_fault}
 use Rattle.byte_unit_base.proofs.Quotients.{exact_more}
-use Rattle.byte_unit_format.proofs.ReadBack.{IsStatement, IsGoodName-unit, bits_of_size_bound, fixed_point_of_digits, trimmed_layout, layout_accepted}
+use Rattle.byte_unit_format.proofs.ReadBack.{IsStatement, IsGoodName-unit, bits_of_size_bound, fixed_point_of_digits}
+use Rattle.byte_unit_format.proofs.ReadBack.{trimmed_layout, layout_accepted}
 use Rattle.byte_unit_format.proofs.ReadBack.{size_form_reads_back}
 
 -- an expansion
@@ -37,7 +38,8 @@ whole_not_above num den e some expansion =
     let scale = 10 ^ length e.digits in
     let not_above = mul-le (scaled e) 1 (scaled e) den (omega arith) some in
     let scaled_whole : e.whole * scale ≤ num * scale = omega (arith, not_above, expansion.exact) in
-    le_of_mul-le-mul_right scaled_whole (let positive : 0 < scale = omega (arith, one_le_pow10 (length e.digits)) in positive)
+    le_of_mul-le-mul_right scaled_whole
+    (let positive : 0 < scale = omega (arith, one_le_pow10 (length e.digits)) in positive)
 
 -- that of a size is one that the grammar takes
 expansion_bounded : (kind : Kind) (size : ℕ) (unit : Shape) (e : Finite) → size < current.size_limit
@@ -53,7 +55,8 @@ expansion_product num den e expansion few =
     let places = length e.digits in
     let rest = 10 ^ (places_of_decimal - places) in
     let split : places_of_decimal ≡ places + (places_of_decimal - places) = omega arith in
-    let power : one ≡ 10 ^ places * rest = ap (λ places. 10 ^ places) split ∙ pow-add 10 places (places_of_decimal - places) in
+    let power : one ≡ 10 ^ places * rest =
+    ap (λ places. 10 ^ places) split ∙ pow-add 10 places (places_of_decimal - places) in
     let number : number_of e.whole e.digits ≡ scaled e * rest =
     fixed_point_of_digits e.whole (value_of e.digits) (scaled e * rest) places few refl in
     let of_rest = ap (λ number. number * rest) expansion.exact in
@@ -93,27 +96,36 @@ form_rejected kind size unit text below form long =
     let many : places_of_decimal < length e.digits =
     ⊎_elim (λ many. many)
     (λ few.
-    absurd (long (exact_more (size * bits_in kind) (bits shape) (length e.digits) places_of_decimal few (scaled e, expansion.exact))))
+    absurd (long (exact_more (size * bits_in kind) (bits shape) (length e.digits) places_of_decimal few
+    (scaled e, expansion.exact))))
     (cases_lt places_of_decimal (length e.digits)) in
     let bounded = expansion_bounded kind size shape e below expansion in
     let layout_is = trimmed_layout kind false ALTERNATE e shape bounded (IsGoodName-unit kind unit) in
     let text_is =
-    ap trimmed (form.text_is ∙ ap (λ number. layout number (name current shape) ALTERNATE) form.number_is.2) ∙ layout_is.trims in
-    long_fault (flags_for kind false) e (spaces layout_is.spaces_between ++ name current shape) (trimmed text) bounded many text_is
+    ap trimmed (form.text_is ∙ ap (λ number. layout number (name current shape) ALTERNATE) form.number_is.2)
+    ∙ layout_is.trims in
+    long_fault (flags_for kind false) e (spaces layout_is.spaces_between ++ name current shape) (trimmed text) bounded
+    many text_is
 
 string_accepted : (kind : Kind) (size : ℕ) (unit : UnitName) (text : List ℕ) → size < current.size_limit
     → IsAdjustedString current kind size (shape_of unit) text → FitsDecimal current kind size (shape_of unit)
     → IsAccepted current kind false text size
-string_accepted kind size unit text below (inl greatest) fits = size_form_reads_back kind size ALTERNATE false text below greatest.1
+string_accepted kind size unit text below (inl greatest) fits =
+    size_form_reads_back kind size ALTERNATE false text below greatest.1
 string_accepted kind size unit text below (inr other) (inl greatest) = absurd (other.0 greatest)
-string_accepted kind size unit text below (inr other) (inr exact) = form_accepted kind size unit text below other.1 exact
+string_accepted kind size unit text below (inr other) (inr exact) =
+    form_accepted kind size unit text below other.1 exact
 
 string_rejected : (kind : Kind) (size : ℕ) (unit : UnitName) (text : List ℕ) → size < current.size_limit
     → IsAdjustedString current kind size (shape_of unit) text → ¬ (FitsDecimal current kind size (shape_of unit))
     → IsRefused current kind false text too_long
 string_rejected kind size unit text below (inl greatest) long = absurd (long (inl greatest.0))
-string_rejected kind size unit text below (inr other) long = inr (form_rejected kind size unit text below other.1 (λ exact. long (inr exact)))
+string_rejected kind size unit text below (inr other) long =
+    inr (form_rejected kind size unit text below other.1 (λ exact. long (inr exact)))
 
 pub adjusted_string_reads_back : AdjustedStringReadsBack
 adjusted_string_reads_back kind size unit text below string =
-    record { accepted = string_accepted kind size unit text below string; refused = string_rejected kind size unit text below string }
+    record {
+      accepted = string_accepted kind size unit text below string;
+      refused = string_rejected kind size unit text below string;
+    }

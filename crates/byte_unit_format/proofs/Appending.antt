@@ -6,14 +6,18 @@ use Rattle.std.proofs.lemmas.Result.{on_ok_weaker, on_err_weaker}
 use Rattle.byte_unit_format.specs.Room.{Appends}
 
 -- what has added this form has added a form, where every other is as long
-pub appends_form : {Z E R : Type 0} (IsForm : List ℕ → Type 0) (old new : String Z) (result : Result R E) (form : List ℕ) → IsForm form
+pub appends_form : {Z E R : Type 0} (IsForm : List ℕ → Type 0) (old new : String Z) (result : Result R E)
+    (form : List ℕ) → IsForm form
     → ((other : List ℕ) → IsForm other → length other ≡ length form) → Appends (λ other. other ≡ form) old new result
     → Appends IsForm old new result
 appends_form IsForm old new result form is_form as_long this = record {
-  added = on_ok_weaker result (λ added. (form, is_form, added.2 ∙ ap (λ other. string_bytes old ++ other) added.1)) this.added;
-  used = on_ok_weaker result (λ used other is_other. let room = used form refl in omega (arith, room, as_long other is_other)) this.used;
+  added = on_ok_weaker result (λ added. (form, is_form, added.2 ∙ ap (λ other. string_bytes old ++ other) added.1))
+      this.added;
+  used = on_ok_weaker result (λ used other is_other. let room = used form refl in
+      omega (arith, room, as_long other is_other)) this.used;
   refused =
-      on_err_weaker result (λ refused. (form, is_form, let same = ap length refused.1 in omega (arith, same, refused.2))) this.refused;
+      on_err_weaker result (λ refused.
+      (form, is_form, let same = ap length refused.1 in omega (arith, same, refused.2))) this.refused;
   unchanged = this.unchanged;
   kept = this.kept;
 }

@@ -16,7 +16,8 @@ use Rattle.byte_unit_base.specs.Choice.{IsLargestOrOwn, States, Suits, IsRecover
 use Rattle.byte_unit_format.specs.Layout.{layout}
 use Rattle.byte_unit_format.specs.Forms.{IsSizeForm, places_of}
 use Rattle.byte_unit_format.specs.Adjusted.{IsAdjustedForm}
-use Rattle.byte_unit_format.specs.VersionLaws.{AcceptedTextsStay, SizeFormsStay, AppropriateUnitsStay, AdjustedFormsStay}
+use Rattle.byte_unit_format.specs.VersionLaws.{AcceptedTextsStay, SizeFormsStay, AppropriateUnitsStay}
+use Rattle.byte_unit_format.specs.VersionLaws.{AdjustedFormsStay}
 use Rattle.byte_unit_base.specs.declared.kind.Kind.{Kind}
 use Rattle.byte_unit_base.specs.declared.unit.family.Family.{Family}
 use Rattle.byte_unit_base.specs.declared.kind.Kind.TheVariants.{Byte, Bit}
@@ -53,7 +54,8 @@ known_stays power known = omega (arith, known)
 prefix_letter : (power c : ℕ) → IsPrefixLetter old power c → IsPrefixLetter current power c
 prefix_letter power c h = (h.0, known_stays power h.1, h.2 ∙ letter_stays power h.0 h.1)
 
-prefix_stays : (text : List ℕ) (power : ℕ) (binary : Bool) → SpellsPrefix old text power binary → SpellsPrefix current text power binary
+prefix_stays : (text : List ℕ) (power : ℕ) (binary : Bool) → SpellsPrefix old text power binary
+    → SpellsPrefix current text power binary
 prefix_stays text power binary h = record {
   letter = h.letter;
   infix_part = h.infix_part;
@@ -147,10 +149,14 @@ member_stays family unit h =
     record { prefix = record { some = h.prefix.some; known = known_stays unit.power h.prefix.known }; kind = h.kind }
 
 -- a member that is not above an old size was one
-member_is_old : (kind : Kind) (size : ℕ) (unit : Shape) → size < old.size_limit → InFamily current (own_family kind) unit
+member_is_old : (kind : Kind) (size : ℕ) (unit : Shape) → size < old.size_limit
+    → InFamily current (own_family kind) unit
     → bits unit ≤ size * bits_in kind → InFamily old (own_family kind) unit
 member_is_old kind size unit small h not_above =
-    record { prefix = record { some = h.prefix.some; known = unit_is_old kind size unit small h not_above }; kind = h.kind }
+    record {
+      prefix = record { some = h.prefix.some; known = unit_is_old kind size unit small h not_above };
+      kind = h.kind;
+    }
 
 -- where the same units have a property, the largest of them or the kind's own is the same
 same_largest : (kind : Kind) (Has Had : Shape → Type 0) (unit : Shape) → ((other : Shape) → Has other → Had other)
@@ -159,7 +165,8 @@ same_largest kind Has Had unit there back (inl h) =
     inl (record { has = there unit h.has; largest = λ other had. h.largest other (back other had) })
 same_largest kind Has Had unit there back (inr h) = inr ((λ other had. h.0 other (back other had)), h.1)
 
-states_stays : (kind : Kind) (size precision : ℕ) (unit : Shape) → States old (own_family kind) (size * bits_in kind) precision unit
+states_stays : (kind : Kind) (size precision : ℕ) (unit : Shape)
+    → States old (own_family kind) (size * bits_in kind) precision unit
     → States current (own_family kind) (size * bits_in kind) precision unit
 states_stays kind size precision unit h =
     record { member = member_stays (own_family kind) unit h.member; not_above = h.not_above; exact = h.exact }
@@ -168,7 +175,11 @@ stated_before : (kind : Kind) (size precision : ℕ) (unit : Shape) → size < o
     → States current (own_family kind) (size * bits_in kind) precision unit
     → States old (own_family kind) (size * bits_in kind) precision unit
 stated_before kind size precision unit small h =
-    record { member = member_is_old kind size unit small h.member h.not_above; not_above = h.not_above; exact = h.exact }
+    record {
+      member = member_is_old kind size unit small h.member h.not_above;
+      not_above = h.not_above;
+      exact = h.exact;
+    }
 
 suits_stays : (kind : Kind) (unit_type : UnitType) (size : ℕ) (unit : Shape)
     → Suits old (own_family kind) unit_type (size * bits_in kind) unit
@@ -180,7 +191,11 @@ suited_before : (kind : Kind) (unit_type : UnitType) (size : ℕ) (unit : Shape)
     → Suits current (own_family kind) unit_type (size * bits_in kind) unit
     → Suits old (own_family kind) unit_type (size * bits_in kind) unit
 suited_before kind unit_type size unit small h =
-    record { member = member_is_old kind size unit small h.member h.not_above; of_type = h.of_type; not_above = h.not_above }
+    record {
+      member = member_is_old kind size unit small h.member h.not_above;
+      of_type = h.of_type;
+      not_above = h.not_above;
+    }
 
 pub appropriate_stays : AppropriateUnitsStay
 appropriate_stays kind unit_type size unit small =
@@ -235,15 +250,21 @@ form_before kind size spec text small h =
 pub forms_stay : SizeFormsStay
 forms_stay kind size spec text small = (form_stays kind size spec text small, form_before kind size spec text small)
 
-adjusted_stays : (kind : Kind) (size : ℕ) (unit : Shape) (spec : FormatSpec) (text : List ℕ) → unit.power ≤ length old.letters
+adjusted_stays : (kind : Kind) (size : ℕ) (unit : Shape) (spec : FormatSpec) (text : List ℕ)
+    → unit.power ≤ length old.letters
     → IsAdjustedForm old kind size unit spec text → IsAdjustedForm current kind size unit spec text
 adjusted_stays kind size unit spec text known h =
     record { number = h.number; number_is = h.number_is; text_is = h.text_is ∙ layout_stays h.number unit spec known }
 
-adjusted_before : (kind : Kind) (size : ℕ) (unit : Shape) (spec : FormatSpec) (text : List ℕ) → unit.power ≤ length old.letters
+adjusted_before : (kind : Kind) (size : ℕ) (unit : Shape) (spec : FormatSpec) (text : List ℕ)
+    → unit.power ≤ length old.letters
     → IsAdjustedForm current kind size unit spec text → IsAdjustedForm old kind size unit spec text
 adjusted_before kind size unit spec text known h =
-    record { number = h.number; number_is = h.number_is; text_is = h.text_is ∙ sym (layout_stays h.number unit spec known) }
+    record {
+      number = h.number;
+      number_is = h.number_is;
+      text_is = h.text_is ∙ sym (layout_stays h.number unit spec known);
+    }
 
 pub adjusted_forms_stay : AdjustedFormsStay
 adjusted_forms_stay kind size unit spec text known =

@@ -22,7 +22,8 @@ pub recovered_unit_unique :
 recovered_unit_unique edition kind size precision unit other (inl largest) (inl other_largest) =
     one_largest edition (family_for kind false) (size * bits_in kind) precision unit other largest other_largest
 recovered_unit_unique edition kind size precision unit other (inl largest) (inr none) = absurd (none.0 unit largest.has)
-recovered_unit_unique edition kind size precision unit other (inr none) (inl largest) = absurd (none.0 other largest.has)
+recovered_unit_unique edition kind size precision unit other (inr none) (inl largest) =
+    absurd (none.0 other largest.has)
 recovered_unit_unique edition kind size precision unit other (inr own) (inr other_own) = own.1 ∙ sym other_own.1
 
 pub size_form_unique : (edition : Edition) (kind : Kind) (size : ℕ) (spec : FormatSpec) (text other : List ℕ)
@@ -30,7 +31,8 @@ pub size_form_unique : (edition : Edition) (kind : Kind) (size : ℕ) (spec : Fo
     → IsSizeForm edition kind size spec other → text ≡ other
 size_form_unique edition kind size spec text other form other_form =
     let unit =
-    recovered_unit_unique edition kind size (places_of spec.precision) form.unit other_form.unit form.is_recovered other_form.is_recovered in
+    recovered_unit_unique edition kind size (places_of spec.precision) form.unit other_form.unit form.is_recovered
+    other_form.is_recovered in
     let product : Shape → Type 0 = λ unit. other_form.number * bits unit ≡ size * bits_in kind * one in
     let number =
     let same = form.number_is ∙ sym (subst product (sym unit) other_form.number_is) in

@@ -1,5 +1,6 @@
 -- What a form says is read as the size that it was made of.
-use Rattle.std.proofs.Common.{◌≡◌, ◌≢◌, ℕ, ◌+◌, ◌-◌, ◌*◌, ◌/◌, ◌^◌, ◌<◌, ◌≤◌, inl, inr, List, [], ◌∷◌, ◌++◌, length, refl, sym, ap, subst}
+use Rattle.std.proofs.Common.{◌≡◌, ◌≢◌, ℕ, ◌+◌, ◌-◌, ◌*◌, ◌/◌, ◌^◌, ◌<◌, ◌≤◌, inl, inr, List, [], ◌∷◌, ◌++◌, length}
+use Rattle.std.proofs.Common.{refl, sym, ap, subst}
 use Rattle.std.proofs.Common.{◌∙◌, arith, Bool, false, append-nil, append_assoc}
 use Rattle.std.specs.Fmt.{decimal}
 use Rattle.std.specs.Str.{IsAscii}
@@ -34,7 +35,8 @@ use Rattle.byte_unit_format.specs.Layout.{layout, layout_padding, before_layout,
 use Rattle.byte_unit_format.specs.Plain.{spaces, plus_of, plain, plain_padding, before_plain}
 use Rattle.byte_unit_format.specs.Forms.{places_of}
 use Rattle.byte_unit_format.specs.FormLaws.{SizeFormReadsBack, PlainFormReadsBack}
-use Rattle.byte_unit_base.proofs.NumberTexts.{number_of, number_text, number_start, number_ascii, decimal_ascii, whole_text}
+use Rattle.byte_unit_base.proofs.NumberTexts.{number_of, number_text, number_start, number_ascii, decimal_ascii}
+use Rattle.byte_unit_base.proofs.NumberTexts.{whole_text}
 use Rattle.byte_unit_base.proofs.NumberTexts.{IsBounded, not_white, starts_with_digit}
 use Rattle.byte_unit_base.proofs.Trim.{StartsWithoutSpace, EndsWithoutSpace}
 use Rattle.byte_unit_format.proofs.TrimmedTexts.{trim_between, spaces_ascii}
@@ -47,7 +49,8 @@ pub record IsGoodName (kind : Kind) (ignore_case : Bool) (unit : Shape) : Type 0
   ascii : IsAscii (name current unit)
   spells : Spells current (flags_for kind ignore_case) (name current unit) unit
 
-IsGoodName-known : (kind : Kind) (ignore_case : Bool) (unit : Shape) → IsKnown unit → SaysKind (flags_for kind ignore_case) unit.bit
+IsGoodName-known : (kind : Kind) (ignore_case : Bool) (unit : Shape) → IsKnown unit
+    → SaysKind (flags_for kind ignore_case) unit.bit
     → IsGoodName kind ignore_case unit
 IsGoodName-known kind ignore_case unit known says = record {
   end = name_end unit;
@@ -56,7 +59,8 @@ IsGoodName-known kind ignore_case unit known says = record {
 }
 
 -- so in a kind's own family, since case counts where bits are read
-own_says : (kind : Kind) (ignore_case bit : Bool) → HasKind (own_family kind) bit → SaysKind (flags_for kind ignore_case) bit
+own_says : (kind : Kind) (ignore_case bit : Bool) → HasKind (own_family kind) bit
+    → SaysKind (flags_for kind ignore_case) bit
 own_says Byte ignore_case bit has is_bit = absurd (let never : ⊥ = cc in never)
 own_says Bit ignore_case bit has is_bit = refl
 
@@ -74,7 +78,8 @@ multiple_name kind ignore_case unit member =
 own_name : (kind : Kind) (ignore_case : Bool) → IsGoodName kind ignore_case (own_unit kind)
 own_name kind ignore_case =
     let known : IsKnown (own_unit kind) = record { known = omega arith; alone = λ none. refl } in
-    IsGoodName-known kind ignore_case (own_unit kind) known (own_says kind ignore_case (counts_bits kind) (own_kind kind))
+    IsGoodName-known kind ignore_case (own_unit kind) known
+    (own_says kind ignore_case (counts_bits kind) (own_kind kind))
 
 case_counts : (kind : Kind) → (flags_for kind false).ignore_case ≡ false
 case_counts Byte = refl
@@ -88,8 +93,10 @@ IsGoodName-unit kind unit = IsGoodName-known kind false (shape_of unit) (unit_kn
 
 IsLeastOf-exact : (kind : Kind) (number size : ℕ) (unit : Shape) → number * bits unit ≡ size * bits_in kind * one
     → IsLeastOf kind number unit size
-IsLeastOf-exact Byte number size unit exact = record { has = omega (arith, exact); least = λ other covers. omega (arith, exact, covers) }
-IsLeastOf-exact Bit number size unit exact = record { has = omega (arith, exact); least = λ other covers. omega (arith, exact, covers) }
+IsLeastOf-exact Byte number size unit exact =
+    record { has = omega (arith, exact); least = λ other covers. omega (arith, exact, covers) }
+IsLeastOf-exact Bit number size unit exact =
+    record { has = omega (arith, exact); least = λ other covers. omega (arith, exact, covers) }
 
 -- a layout is accepted
 
@@ -101,12 +108,14 @@ layout_regrouped before behind gap number unit =
     rw (← replicate-append-replicate {A = ℕ} behind gap 32) (simp (append_assoc {A = ℕ}, append-nil {A = ℕ}))
 
 trim_layout :
-    (before between : ℕ) (number unit : List ℕ) → StartsWithoutSpace number → EndsWithoutSpace unit → IsAscii number → IsAscii unit
+    (before between : ℕ) (number unit : List ℕ) → StartsWithoutSpace number → EndsWithoutSpace unit → IsAscii number
+    → IsAscii unit
     → trimmed (spaces before ++ ((number ++ (spaces between ++ unit)) ++ spaces 0)) ≡ number ++ (spaces between ++ unit)
 trim_layout before between number unit start end number_ascii unit_ascii =
     let behind = spaces between ++ unit in
     let ascii : IsAscii (number ++ behind) =
-    IsAscii-append number behind number_ascii (IsAscii-append (spaces between) unit (spaces_ascii between) unit_ascii) in
+    IsAscii-append number behind number_ascii
+    (IsAscii-append (spaces between) unit (spaces_ascii between) unit_ascii) in
     let starts : StartsWithoutSpace (number ++ behind) =
     record {
       head = start.head;
@@ -118,7 +127,12 @@ trim_layout before between number unit start end number_ascii unit_ascii =
     ap (λ text. number ++ (spaces between ++ text)) end.text_is
     ∙ simp (append_assoc {A = ℕ} number (spaces between ++ end.front) (end.last ∷ []), append_assoc {A = ℕ}) in
     let ends : EndsWithoutSpace (number ++ behind) =
-    record { front = number ++ (spaces between ++ end.front); last = end.last; text_is = parts; last_is = end.last_is } in
+    record {
+      front = number ++ (spaces between ++ end.front);
+      last = end.last;
+      text_is = parts;
+      last_is = end.last_is;
+    } in
     trim_between before 0 (number ++ behind) starts ends ascii
 
 -- without the spaces at its ends it is number, spaces and unit
@@ -127,7 +141,8 @@ pub record TrimmedLayout (text number unit : List ℕ) : Type 0 where
   pub trims : trimmed text ≡ number ++ (spaces spaces_between ++ unit)
 
 pub trimmed_layout :
-    (kind : Kind) (ignore_case : Bool) (spec : FormatSpec) (e : Finite) (unit : Shape) → IsBounded e → IsGoodName kind ignore_case unit
+    (kind : Kind) (ignore_case : Bool) (spec : FormatSpec) (e : Finite) (unit : Shape) → IsBounded e
+    → IsGoodName kind ignore_case unit
     → TrimmedLayout (layout (text_of e) (name current unit) spec) (text_of e) (name current unit)
 trimmed_layout kind ignore_case spec e unit bounded good =
     let pad = layout_padding (text_of e) (name current unit) spec in
@@ -204,14 +219,17 @@ bits_of_size_bound Bit size below = omega (arith, below)
 
 -- the unit's name is read as the unit
 recovered_name :
-    (kind : Kind) (ignore_case : Bool) (size precision : ℕ) (unit : Shape) → IsRecovered current kind false size precision unit
+    (kind : Kind) (ignore_case : Bool) (size precision : ℕ) (unit : Shape)
+    → IsRecovered current kind false size precision unit
     → IsGoodName kind ignore_case unit
-recovered_name kind ignore_case size precision unit (inl largest) = multiple_name kind ignore_case unit largest.has.member
+recovered_name kind ignore_case size precision unit (inl largest) =
+    multiple_name kind ignore_case unit largest.has.member
 recovered_name kind ignore_case size precision unit (inr own) =
     subst (IsGoodName kind ignore_case) (sym own.1) (own_name kind ignore_case)
 
 whole_bound :
-    (kind : Kind) (size number unit : ℕ) → size < current.size_limit → 1 ≤ unit → number * unit ≡ size * bits_in kind * one
+    (kind : Kind) (size number unit : ℕ) → size < current.size_limit → 1 ≤ unit
+    → number * unit ≡ size * bits_in kind * one
     → number / one < whole_limit
 whole_bound kind size number unit below some exact =
     let few : size * bits_in kind < bits_limit = bits_of_size_bound kind size below in
@@ -223,7 +241,8 @@ size_form_reads_back kind size spec ignore_case text below form =
     let e = shortened (at_places places_of_decimal form.number) in
     let short = ShortOf-shortened form.number places_of_decimal in
     let bound = whole_bound kind size form.number (bits form.unit) below (some_bits form.unit) form.number_is in
-    let number = fixed_point_of_digits e.whole (value_of e.digits) form.number (length e.digits) short.few short.scaled_is in
+    let number = fixed_point_of_digits e.whole (value_of e.digits) form.number (length e.digits) short.few
+    short.scaled_is in
     let states : IsStatement kind ignore_case size e form.unit =
     record {
       bounded = record { small = short.small; bound = bound };
@@ -264,7 +283,8 @@ trim_number before behind whole bound =
     let start = starts_with_digit (decimal whole) text.0 in
     let end = last_digit start.head start.tail (subst (AllDigits 10) start.text_is text.0.1) in
     ap trimmed (append_assoc (spaces before) (decimal whole) (spaces behind))
-    ∙ trim_between before behind (decimal whole) start (subst EndsWithoutSpace (sym start.text_is) end) (decimal_ascii whole bound)
+    ∙ trim_between before behind (decimal whole) start (subst EndsWithoutSpace (sym start.text_is) end)
+    (decimal_ascii whole bound)
 
 pub plain_form_reads_back : PlainFormReadsBack
 plain_form_reads_back kind size spec ignore_case below sign =

@@ -20,14 +20,17 @@ use Rattle.byte_unit_format.specs.declared.row.Fraction.TheVariants.{Last, First
 use Rattle.byte_unit_format.proofs.WrittenForms.{fraction_length, length_of_fraction_text}
 
 -- the columns of the point and the digits
-pub fraction_long : (fraction : Fraction) → length (fraction_of fraction) ≡ places_in fraction + min 1 (places_in fraction)
-fraction_long (Last digits places) = length_of_fraction_text (last_digits places digits) ∙ omega (arith, length_last_digits places digits)
+pub fraction_long : (fraction : Fraction)
+    → length (fraction_of fraction) ≡ places_in fraction + min 1 (places_in fraction)
+fraction_long (Last digits places) =
+    length_of_fraction_text (last_digits places digits) ∙ omega (arith, length_last_digits places digits)
 fraction_long (First e places) = fraction_length places e.now.digits
 
 -- the spaces behind the number are those of the padding and those of the gap
 pub gap_after_padding :
     (before behind gap : ℕ) (number name : List ℕ)
-    → spaces before ++ number ++ spaces (behind + gap) ++ name ≡ spaces before ++ number ++ spaces behind ++ spaces gap ++ name
+    → spaces before ++ number ++ spaces (behind + gap) ++ name
+    ≡ spaces before ++ number ++ spaces behind ++ spaces gap ++ name
 gap_after_padding before behind gap number name =
     ap (λ both. both ++ name)
     (ap (λ run. spaces before ++ number ++ run) (sym (replicate-append-replicate behind gap 32))
@@ -50,7 +53,8 @@ pub layout_of_parts :
     → before ≡ before_layout spec.align pad → gap ≡ gap_of spec.sign name
     → spaces before ++ number ++ spaces (pad - before + gap) ++ name ≡ layout number name spec
 layout_of_parts number name spec pad before gap pad_is before_is gap_is =
-    let of : ℕ → ℕ → ℕ → List ℕ = λ pad before gap. spaces before ++ number ++ spaces (pad - before) ++ spaces gap ++ name in
+    let of : ℕ → ℕ → ℕ → List ℕ =
+    λ pad before gap. spaces before ++ number ++ spaces (pad - before) ++ spaces gap ++ name in
     gap_after_padding before (pad - before) gap number name
     ∙ (ap (λ gap. of pad before gap) gap_is
     ∙ (ap (λ before. of pad before (gap_of spec.sign name)) before_is
@@ -59,9 +63,11 @@ layout_of_parts number name spec pad before gap pad_is before_is gap_is =
 -- text
 
 pub run_ascii : (count byte : ℕ) → byte < 128 → IsAscii (replicate count byte)
-run_ascii count byte small = IsAscii-from_all (replicate count byte) (All-replicate (λ byte. byte < 128) count byte small)
+run_ascii count byte small = IsAscii-from_all (replicate count byte)
+    (All-replicate (λ byte. byte < 128) count byte small)
 
-pub row_ascii : (row : Row) → IsReady row → IsAscii (decimal row.whole) → IsAscii (fraction_of row.fraction) → IsAscii (row_text row)
+pub row_ascii : (row : Row) → IsReady row → IsAscii (decimal row.whole) → IsAscii (fraction_of row.fraction)
+    → IsAscii (row_text row)
 row_ascii row ready whole fraction =
     let number = IsAscii-append _ _ (IsAscii-append _ _ ready.1 whole) fraction in
     let front = IsAscii-append _ _ (run_ascii row.before 32 (omega arith)) number in
@@ -75,6 +81,8 @@ piece_of_array room start text bytes behind begins put =
     ap (λ l. take (room - start) l) put ∙ take_at text behind (room - start) (omega (arith, begins))
 
 pub piece_ascii :
-    (room start : ℕ) (text bytes behind : List ℕ) → start + length text ≡ room → drop start bytes ≡ text ++ behind → IsAscii text
+    (room start : ℕ) (text bytes behind : List ℕ) → start + length text ≡ room → drop start bytes ≡ text ++ behind
+    → IsAscii text
     → IsAscii (take (room - start) (drop start bytes))
-piece_ascii room start text bytes behind begins put ascii = subst IsAscii (sym (piece_of_array room start text bytes behind begins put)) ascii
+piece_ascii room start text bytes behind begins put ascii =
+    subst IsAscii (sym (piece_of_array room start text bytes behind begins put)) ascii

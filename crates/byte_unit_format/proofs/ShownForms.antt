@@ -26,13 +26,15 @@ unit_below_limit Bit = refl
 unit_below_limit _ = refl
 
 pub exact_in_unit : (num : ℕ) (unit : UnitName) → IsExactAt num (bits (shape_of unit)) expansion_places
-exact_in_unit num unit = powers_are_exact num (twos (shape_of unit)) (fives (shape_of unit)) (leb-true _ _ (unit_below_limit unit))
+exact_in_unit num unit = powers_are_exact num (twos (shape_of unit)) (fives (shape_of unit))
+    (leb-true _ _ (unit_below_limit unit))
 
 -- the expansion of a number in a unit is found by division
 pub number_by_division : (num : ℕ) (unit : UnitName) (e : Finite) → IsExpansion num (bits (shape_of unit)) e
     → e ≡ expansion_of num (bits (shape_of unit))
 number_by_division num unit e expansion =
-    expansion_is_by_division num (bits (shape_of unit)) e (omega (arith, some_bits (shape_of unit))) (exact_in_unit num unit) expansion
+    expansion_is_by_division num (bits (shape_of unit)) e (omega (arith, some_bits (shape_of unit)))
+    (exact_in_unit num unit) expansion
 
 -- a number and a name with one space between them
 plain_layout : (number unit : List ℕ) → number ++ codes " " ++ unit ≡ layout number unit PLAIN

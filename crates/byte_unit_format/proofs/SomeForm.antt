@@ -25,7 +25,8 @@ own_number : (kind : Kind) (size : ℕ) → size * one * bits (own_unit kind) �
 own_number Byte size = omega arith
 own_number Bit size = omega arith
 
-recovered_unit_exists : (edition : Edition) (kind : Kind) (size precision : ℕ) → HasRecoveredUnit edition kind size precision
+recovered_unit_exists : (edition : Edition) (kind : Kind) (size precision : ℕ)
+    → HasRecoveredUnit edition kind size precision
 recovered_unit_exists edition kind size precision =
     ⊎_elim
     (λ found. record {
@@ -34,7 +35,8 @@ recovered_unit_exists edition kind size precision =
       is_recovered = inl found.2.unit_is;
       number_is = number_times_chosen edition (own_family kind) (size * bits_in kind) precision found.1 found.0 found.2;
     })
-    (λ none. record { unit = own_unit kind; number = size * one; is_recovered = inr (none, refl); number_is = own_number kind size })
+    (λ none. record { unit = own_unit kind; number = size * one; is_recovered = inr (none, refl);
+    number_is = own_number kind size })
     (choice_or_none edition (own_family kind) (size * bits_in kind) precision)
 
 pub has_one_form : SizeHasOneForm
@@ -49,4 +51,8 @@ has_one_form edition kind size spec =
       number_is = found.number_is;
       text_is = refl;
     } in
-    record { form = form; is_form = is_form; one = λ other is_other. size_form_unique edition kind size spec other form is_other is_form }
+    record {
+      form = form;
+      is_form = is_form;
+      one = λ other is_other. size_form_unique edition kind size spec other form is_other is_form;
+    }

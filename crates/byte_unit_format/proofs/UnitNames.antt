@@ -6,7 +6,8 @@ use Rattle.byte_unit_base.specs.Edition.{name, current}
 
 parts_short : (prefix binary bit : Bool) (letter : ℕ)
     → length
-    ((if prefix then letter ∷ [] else []) ++ (if prefix && binary then codes "i" else []) ++ (if bit then codes "b" else codes "B"))
+    ((if prefix then letter ∷ [] else []) ++ (if prefix && binary then codes "i" else [])
+    ++ (if bit then codes "b" else codes "B"))
     ≤ 3
 parts_short true true true letter = omega arith
 parts_short true true false letter = omega arith

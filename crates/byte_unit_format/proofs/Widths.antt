@@ -19,11 +19,13 @@ before_layout_le (Some Left) pad = omega arith
 before_layout_le (Some Center) pad = omega arith
 before_layout_le (Some Right) pad = omega arith
 
-padding_fills_width : (width : Option ℕ) (columns : ℕ) → missing width columns + columns ≡ max (least_columns width) columns
+padding_fills_width : (width : Option ℕ) (columns : ℕ)
+    → missing width columns + columns ≡ max (least_columns width) columns
 padding_fills_width None columns = omega arith
 padding_fills_width (Some width) columns = omega arith
 
-length_between_spaces : (before behind : ℕ) (text : List ℕ) → length (spaces before ++ text ++ spaces behind) ≡ before + length text + behind
+length_between_spaces : (before behind : ℕ) (text : List ℕ)
+    → length (spaces before ++ text ++ spaces behind) ≡ before + length text + behind
 length_between_spaces before behind text = omega (arith, length-append {A = ℕ}, length-replicate {A = ℕ})
 
 pub plain_form_fills_width : PlainFormFillsWidth
@@ -32,10 +34,12 @@ plain_form_fills_width size spec =
     let pad = plain_padding size spec in
     let before = before_plain_le spec.align pad in
     let fill = padding_fills_width spec.width (length text) in
-    length_between_spaces (before_plain spec.align pad) (pad - before_plain spec.align pad) text ∙ omega (arith, before, fill)
+    length_between_spaces (before_plain spec.align pad) (pad - before_plain spec.align pad) text
+    ∙ omega (arith, before, fill)
 
 length_of_layout : (before behind gap : ℕ) (number name : List ℕ)
-    → length (spaces before ++ number ++ spaces behind ++ spaces gap ++ name) ≡ before + length number + behind + gap + length name
+    → length (spaces before ++ number ++ spaces behind ++ spaces gap ++ name)
+    ≡ before + length number + behind + gap + length name
 length_of_layout before behind gap number name = omega (arith, length-append {A = ℕ}, length-replicate {A = ℕ})
 
 pub layout_fills_width : LayoutFillsWidth
@@ -44,4 +48,5 @@ layout_fills_width number name spec =
     let gap = gap_of spec.sign name in
     let before = before_layout_le spec.align pad in
     let fill = padding_fills_width spec.width (length number + gap + length name) in
-    length_of_layout (before_layout spec.align pad) (pad - before_layout spec.align pad) gap number name ∙ omega (arith, before, fill)
+    length_of_layout (before_layout spec.align pad) (pad - before_layout spec.align pad) gap number name
+    ∙ omega (arith, before, fill)

@@ -17,7 +17,8 @@ run_part_ascii byte next run small all =
     let of_byte = IsAscii-from_all (replicate 64 byte) (All-replicate (λ byte. byte < 128) 64 byte small) in
     IsAscii-take run next (subst IsAscii (sym all) of_byte)
 
-pub length_of_run_part : (byte left next : ℕ) (run : List ℕ) → next ≡ min left 64 → run ≡ replicate 64 byte → length (take next run) ≡ next
+pub length_of_run_part : (byte left next : ℕ) (run : List ℕ) → next ≡ min left 64 → run ≡ replicate 64 byte
+    → length (take next run) ≡ next
 length_of_run_part byte left next run is all =
     let few : next ≤ 64 = omega (arith, is) in
     ap (λ run. length (take next run)) all ∙ (ap length (take-replicate next 64 byte few) ∙ length-replicate next byte)
@@ -35,7 +36,8 @@ pub run_more :
     → after ≡ old ++ replicate (count - (left - next)) byte
 run_more {byte} {count} {left} {next} {run} old before after part before_is after_is =
     let few : next ≤ 64 = omega (arith, part.next_is) in
-    let these : take next run ≡ replicate next byte = ap (λ run. take next run) part.run_is ∙ take-replicate next 64 byte few in
+    let these : take next run ≡ replicate next byte =
+    ap (λ run. take next run) part.run_is ∙ take-replicate next 64 byte few in
     let count_is : (count - left) + next ≡ count - (left - next) = omega (arith, part.next_is, part.few) in
     let one_run = replicate-append-replicate (count - left) next byte ∙ ap (λ count. replicate count byte) count_is in
     let added = ap (λ run. replicate (count - left) byte ++ run) these ∙ one_run in
@@ -62,14 +64,17 @@ fraction_text_of_shown {places} {shown} {digits} {characters} are =
     let few : shown ≤ length digits = omega (arith, are.shown_is) in
     let rest : places - shown ≡ places - length digits = omega (arith, are.shown_is) in
     let here : take shown digits ≡ take places digits =
-    ⊎_elim (λ cut. ap (λ count. take count digits) (let same : shown ≡ places = omega (arith, are.shown_is, cut) in same))
+    ⊎_elim (λ cut. ap (λ count. take count digits)
+    (let same : shown ≡ places = omega (arith, are.shown_is, cut) in same))
     (λ whole. take_all shown digits (omega (arith, are.shown_is, whole)) ∙ sym (take_all places digits whole))
     (cases_lt places (length digits)) in
     let these : take shown characters ≡ glyphs (take places digits) =
     sym (take-take shown (length digits) characters few)
-    ∙ (ap (λ list. take shown list) are.characters_are ∙ (take-map (λ digit. 48 + digit) shown digits ∙ ap glyphs here)) in
+    ∙ (ap (λ list. take shown list) are.characters_are
+    ∙ (take-map (λ digit. 48 + digit) shown digits ∙ ap glyphs here)) in
     ap (λ front. 46 ∷ (front ++ replicate (places - shown) 48)) these
-    ∙ (ap (λ count. 46 ∷ (glyphs (take places digits) ++ replicate count 48)) rest ∙ sym (fraction_some places digits are.some))
+    ∙ (ap (λ count. 46 ∷ (glyphs (take places digits) ++ replicate count 48)) rest
+    ∙ sym (fraction_some places digits are.some))
 
 -- a text to which the point, then the digits, then zeros are added
 pub record AddsFraction (places shown : ℕ) (characters old new : List ℕ) : Type 0 where

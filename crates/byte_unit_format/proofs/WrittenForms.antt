@@ -34,7 +34,8 @@ glyphs_of_zeros (suc count) = ap (λ list. 48 ∷ list) (glyphs_of_zeros count)
 
 -- a decimal with no places has no point
 pub fraction_none :
-    (places : ℕ) (digits : List ℕ) → places ≡ 0 → fraction_text (take places digits ++ replicate (places - length digits) 0) ≡ []
+    (places : ℕ) (digits : List ℕ) → places ≡ 0
+    → fraction_text (take places digits ++ replicate (places - length digits) 0) ≡ []
 fraction_none zero digits none =
     fraction_text_none (take 0 digits ++ replicate (0 - length digits) 0)
     (omega (
@@ -64,7 +65,8 @@ fraction_some places digits positive =
     ) in
     fraction_text_some (front ++ back) some
     ∙ ap (λ text. 46 ∷ text)
-    (map-append (λ digit. 48 + digit) front back ∙ ap (λ text. glyphs front ++ text) (glyphs_of_zeros (places - length digits)))
+    (map-append (λ digit. 48 + digit) front back
+    ∙ ap (λ text. glyphs front ++ text) (glyphs_of_zeros (places - length digits)))
 
 -- a point stands before the digits where there are any
 pub length_of_fraction_text : (digits : List ℕ) → length (fraction_text digits) ≡ length digits + min 1 (length digits)
@@ -109,7 +111,8 @@ parts_expansion {number} {whole} {digits} {places} parts =
     let len : length these ≡ places = length_last_digits places digits in
     let value : value_of these ≡ digits = value_of_last_digits places digits ∙ mod-eq_of_lt parts.below in
     let product = ap (λ power. digits * power) (pow10_split places places_of_decimal parts.few) in
-    let split : number ≡ whole * one + digits * 10 ^ (places_of_decimal - places) = omega (arith, parts.whole_is, parts.digits_are) in
+    let split : number ≡ whole * one + digits * 10 ^ (places_of_decimal - places) =
+    omega (arith, parts.whole_is, parts.digits_are) in
     let times = ap (λ number. number * 10 ^ places) split in
     let Exact : ℕ → Type 0 = λ places. number * 10 ^ places ≡ (whole * 10 ^ places + value_of these) * one in
     let Least : ℕ → Type 0 = λ places. (p : ℕ) → IsExactAt number one p → places ≤ p in
@@ -120,12 +123,14 @@ parts_expansion {number} {whole} {digits} {places} parts =
     }
 
 -- all digits of the number are its form
-pub size_form_of_parts : (kind : Kind) (size : ℕ) (spec : FormatSpec) {unit : Shape} {number places whole digits count : ℕ}
+pub size_form_of_parts : (kind : Kind) (size : ℕ) (spec : FormatSpec) {unit : Shape}
+    {number places whole digits count : ℕ}
     → places ≡ places_of spec.precision
     → IsRecovered current kind false size places unit
     → number * bits unit ≡ size * bits_in kind * one
     → AreParts number whole digits count
-    → IsSizeForm current kind size spec (layout (decimal whole ++ fraction_text (last_digits count digits)) (name current unit) spec)
+    → IsSizeForm current kind size spec
+    (layout (decimal whole ++ fraction_text (last_digits count digits)) (name current unit) spec)
 size_form_of_parts kind size spec {unit} {number} {places} {whole} {digits} {count} places_are recovered product parts =
     let within : ℕ → Type 0 = λ places. IsRecovered current kind false size places unit in
     let e : Finite = record { whole = whole; digits = last_digits count digits } in
@@ -134,15 +139,18 @@ size_form_of_parts kind size spec {unit} {number} {places} {whole} {digits} {cou
       number = number;
       is_recovered = subst within places_are recovered;
       number_is = product;
-      text_is = ap (λ number. layout number (name current unit) spec) (text_of_short_numeral number places_of_decimal e (parts_expansion parts));
+      text_is = ap (λ number. layout number (name current unit) spec)
+          (text_of_short_numeral number places_of_decimal e (parts_expansion parts));
     }
 
 -- the text of a size under the alternate form
 pub size_form_is_text :
-    (kind : Kind) (size : ℕ) (spec : FormatSpec) {text : List ℕ} → spec.alternate ≡ true → IsSizeForm current kind size spec text
+    (kind : Kind) (size : ℕ) (spec : FormatSpec) {text : List ℕ} → spec.alternate ≡ true
+    → IsSizeForm current kind size spec text
     → IsText current kind size spec text
 size_form_is_text kind size spec {text} alternate form =
-    let Text : Bool → Type 0 = λ alternate. MatchBool alternate (IsSizeForm current kind size spec text) (text ≡ plain size spec) in
+    let Text : Bool → Type 0 =
+    λ alternate. MatchBool alternate (IsSizeForm current kind size spec text) (text ≡ plain size spec) in
     subst Text (sym alternate) form
 
 -- a size has one text
@@ -150,7 +158,8 @@ text_unique :
     (alternate : Bool) (kind : Kind) (size : ℕ) (spec : FormatSpec) (text other : List ℕ)
     → MatchBool alternate (IsSizeForm current kind size spec text) (text ≡ plain size spec)
     → MatchBool alternate (IsSizeForm current kind size spec other) (other ≡ plain size spec) → other ≡ text
-text_unique true kind size spec text other is_text is_other = size_form_unique current kind size spec other text is_other is_text
+text_unique true kind size spec text other is_text is_other =
+    size_form_unique current kind size spec other text is_other is_text
 text_unique false kind size spec text other is_text is_other = is_other ∙ sym is_text
 
 pub text_length_unique :

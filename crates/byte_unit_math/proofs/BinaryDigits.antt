@@ -1,7 +1,8 @@
 -- How many decimal digits a number has, by its binary ones.
 use Rattle.std.specs.Fmt.{decimal}
 use Rattle.std.specs.Int.{w128, leading_zeros}
-use Rattle.std.proofs.Common.{◌≡◌, ℕ, zero, suc, Bool, true, ◌&&◌, leb, ◌+◌, ◌-◌, ◌*◌, ◌/◌, ◌^◌, ◌<◌, ◌≤◌, ⊎_elim, length}
+use Rattle.std.proofs.Common.{◌≡◌, ℕ, zero, suc, Bool, true, ◌&&◌, leb, ◌+◌, ◌-◌, ◌*◌, ◌/◌, ◌^◌, ◌<◌, ◌≤◌, ⊎_elim}
+use Rattle.std.proofs.Common.{length}
 use Rattle.std.proofs.Common.{arith, ap, sym, subst, refl, ◌∙◌}
 use Rattle.std.proofs.Math.Nat.{pow-succ', one-le-pow}
 use Rattle.std.proofs.lemmas.Bool.{and_parts, cases_lt, leb-true}
@@ -15,7 +16,8 @@ digits_estimate binary = binary * 1233 / 4096
 abbrev estimate_holds_below : ℕ → Bool
 estimate_holds_below zero = true
 estimate_holds_below (suc j) =
-    leb (10 ^ (digits_estimate (suc j) - 1)) (2 ^ j) && (leb (2 ^ suc j) (10 ^ suc (digits_estimate (suc j))) && estimate_holds_below j)
+    leb (10 ^ (digits_estimate (suc j) - 1)) (2 ^ j) &&
+    (leb (2 ^ suc j) (10 ^ suc (digits_estimate (suc j))) && estimate_holds_below j)
 
 estimate_holds_below_128 : estimate_holds_below 128 ≡ true
 estimate_holds_below_128 = refl
@@ -44,14 +46,16 @@ decimal_length_between (suc k) n low high small =
     let this : 10 ^ suc k ≡ 10 * 10 ^ k = pow-succ' 10 k in
     let next : 10 ^ suc (suc k) ≡ 10 * 10 ^ suc k = pow-succ' 10 (suc k) in
     let wide : 10 ≤ n = omega (arith, low, this, one-le-pow k 10 (omega arith)) in
-    let rest = decimal_length_between k (n / 10) (omega (arith, low, this)) (omega (arith, high, next)) (omega (arith, small)) in
+    let rest = decimal_length_between k (n / 10) (omega (arith, low, this)) (omega (arith, high, next))
+    (omega (arith, small)) in
     decimal_length_step n wide small ∙ omega (arith, rest)
 
 pub record LengthBy (n few : ℕ) : Type 0 where
   pub fewer : n < 10 ^ few → length (decimal n) ≡ few
   pub more : 10 ^ few ≤ n → length (decimal n) ≡ few + 1
 
-pub LengthBy-leading_zeros : (n few : ℕ) → 10 ≤ n → n < 2 ^ 128 → few ≡ (128 - leading_zeros w128 n) * 1233 / 4096 → LengthBy n few
+pub LengthBy-leading_zeros : (n few : ℕ) → 10 ≤ n → n < 2 ^ 128 → few ≡ (128 - leading_zeros w128 n) * 1233 / 4096
+    → LengthBy n few
 unfolding IsBetween
 LengthBy-leading_zeros n few wide small count =
     let top = leading_top 128 n (omega (arith, wide)) small in

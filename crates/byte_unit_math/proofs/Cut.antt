@@ -1,5 +1,6 @@
 -- Decimals that are cut after some digits, and which of two the nearest is.
-use Rattle.std.proofs.Common.{◌≢◌, ◌≡◌, ◌+◌, ◌-◌, ◌*◌, ◌^◌, ◌%◌, ◌<◌, ◌≤◌, ⊎_elim, ℕ, suc, List, [], ◌∷◌, ◌++◌, length, take, drop}
+use Rattle.std.proofs.Common.{◌≢◌, ◌≡◌, ◌+◌, ◌-◌, ◌*◌, ◌^◌, ◌%◌, ◌<◌, ◌≤◌, ⊎_elim, ℕ, suc, List, [], ◌∷◌, ◌++◌, length}
+use Rattle.std.proofs.Common.{take, drop}
 use Rattle.std.proofs.Common.{get_or, arith, ap, sym, subst, ◌∙◌, add-one, length-take-le, take-append-drop}
 use Rattle.std.proofs.Common.{length-drop, drop-cons}
 use Rattle.std.specs.List.{All}
@@ -20,7 +21,8 @@ use Rattle.byte_unit_math.proofs.Digits.{one_le_pow10, fold_digits_from, value_c
 use Rattle.std.specs.Bool.{MatchBool}
 use Rattle.std.proofs.Common.{Bool, true, false, ltb, nat_eq}
 use Rattle.std.proofs.lemmas.Bool.Decides.{nat_tests}
-use Rattle.byte_unit_math.proofs.Nearest.{LiesAbove, nearest_down, nearest_up, tie_up_next, tie_even_next, tie_even_this}
+use Rattle.byte_unit_math.proofs.Nearest.{LiesAbove, nearest_down, nearest_up, tie_up_next, tie_even_next}
+use Rattle.byte_unit_math.proofs.Nearest.{tie_even_this}
 use Rattle.byte_unit_math.proofs.Expanding.{expansion_of_digits, value_by_last_digit}
 use Rattle.byte_unit_math.proofs.Scales.{pow10_split}
 
@@ -30,10 +32,12 @@ value_below_power (d ∷ ds) h =
     let m =
     mul-le-mul_right {m = d + 1} {n = 10} (10 ^ length ds)
     (let k : d < 10 = All-get_or (λ d. d < 10) (d ∷ ds) 0 0 (omega arith) h in omega (arith, k)) in
-    rw (pow-succ' 10 (length ds)) (omega (arith, m, value_cons d ds, value_below_power ds (All-drop (λ d. d < 10) 1 (d ∷ ds) h)))
+    rw (pow-succ' 10 (length ds))
+    (omega (arith, m, value_cons d ds, value_below_power ds (All-drop (λ d. d < 10) 1 (d ∷ ds) h)))
 
 -- a number cut after p digits
-value_parts : (p : ℕ) (ds : List ℕ) → value_of ds ≡ value_of (take p ds) * 10 ^ length (drop p ds) + value_of (drop p ds)
+value_parts : (p : ℕ) (ds : List ℕ)
+    → value_of ds ≡ value_of (take p ds) * 10 ^ length (drop p ds) + value_of (drop p ds)
 value_parts p ds =
     ap value_of (sym (take-append-drop p ds))
     ∙ (fold-append (λ n d. n * 10 + d) 0 (take p ds) (drop p ds) ∙ fold_digits_from (value_of (take p ds)) (drop p ds))
@@ -45,7 +49,8 @@ cut_split e p h =
     let ds = e.digits in
     let len : length (take p ds) ≡ p = length-take-le p ds h in
     let total : length ds ≡ p + length (drop p ds) = omega (arith, length-drop p ds, h) in
-    let power : 10 ^ length ds ≡ 10 ^ p * 10 ^ length (drop p ds) = ap (λ n. 10 ^ n) total ∙ pow-add 10 p (length (drop p ds)) in
+    let power : 10 ^ length ds ≡ 10 ^ p * 10 ^ length (drop p ds) =
+    ap (λ n. 10 ^ n) total ∙ pow-add 10 p (length (drop p ds)) in
     let a = ap (λ n. n * 10 ^ p) (value_parts p ds) in
     let b = ap (λ n. value_of (take p ds) * n) power in
     rw len (omega (arith, a, b))
@@ -64,7 +69,8 @@ IsShown-stored i h =
     record {
       few = omega (arith, len, h.few);
       small = All-take (λ d. d < 10) p ds h.small;
-      last = subst LastIsPositive (sym len) (λ k. subst (λ n. 0 < n) (sym (get_or-take p ds (p - 1) 0 (omega (arith, k)))) (h.last k));
+      last = subst LastIsPositive (sym len)
+          (λ k. subst (λ n. 0 < n) (sym (get_or-take p ds (p - 1) 0 (omega (arith, k)))) (h.last k));
     }
 
 -- what is cut off, against one half
@@ -88,17 +94,20 @@ module _ (e : Finite) (p : ℕ) (h : IsShown e) (l : p < length e.digits) where
   cut_value_is =
       ap value_of (drop-cons all_digits p 0 l)
       ∙ (value_cons (get_or all_digits p 0) (drop (suc p) all_digits)
-      ∙ ap (λ n. get_or all_digits p 0 * 10 ^ length (drop n all_digits) + value_of (drop n all_digits)) (sym (add-one p)))
+      ∙ ap (λ n. get_or all_digits p 0 * 10 ^ length (drop n all_digits) + value_of (drop n all_digits))
+      (sym (add-one p)))
 
   behind_small : behind_value < behind_power
   behind_small = value_below_power (drop (p + 1) all_digits) (All-drop (λ d. d < 10) (p + 1) all_digits h.small)
 
   power_is : 10 ^ length all_digits ≡ 10 ^ p * (10 * behind_power)
   power_is =
-      let total : length all_digits ≡ p + (length (drop (p + 1) all_digits) + 1) = omega (arith, length-drop (p + 1) all_digits, l) in
+      let total : length all_digits ≡ p + (length (drop (p + 1) all_digits) + 1) =
+      omega (arith, length-drop (p + 1) all_digits, l) in
       ap (λ n. 10 ^ n) total
       ∙ (pow-add 10 p (length (drop (p + 1) all_digits) + 1)
-      ∙ ap (λ n. 10 ^ p * n) (ap (λ n. 10 ^ n) (add-one (length (drop (p + 1) all_digits))) ∙ pow-succ' 10 (length (drop (p + 1) all_digits))))
+      ∙ ap (λ n. 10 ^ p * n) (ap (λ n. 10 ^ n) (add-one (length (drop (p + 1) all_digits)))
+      ∙ pow-succ' 10 (length (drop (p + 1) all_digits))))
 
   cut_parts : scaled e * 10 ^ p ≡ scaled (cut_after p e) * 10 ^ length all_digits + cut_value * 10 ^ p
   cut_parts = cut_split e p (omega (arith, l))
@@ -122,7 +131,8 @@ module _ (e : Finite) (p : ℕ) (h : IsShown e) (l : p < length e.digits) where
   below_half small =
       let digit = mul-le-mul_right {m = get_or all_digits p 0} {n = 4} behind_power (omega (arith, small)) in
       let product =
-      mul-le-mul_right {m = 2 * cut_value + 1} {n = 10 * behind_power} (10 ^ p) (omega (arith, digit, cut_value_is, behind_small)) in
+      mul-le-mul_right {m = 2 * cut_value + 1} {n = 10 * behind_power} (10 ^ p)
+      (omega (arith, digit, cut_value_is, behind_small)) in
       omega (arith, product, power_is, one_le_pow10 p)
 
   above_half_from : 10 * behind_power < 2 * cut_value → 10 ^ length all_digits < 2 * (cut_value * 10 ^ p)
@@ -144,12 +154,14 @@ module _ (e : Finite) (p : ℕ) (h : IsShown e) (l : p < length e.digits) where
       get_or-drop (p + 1) all_digits (n - 1) 0 ∙ ap (λ i. get_or all_digits i 0) same in
       omega (arith, value_by_last_digit (drop (p + 1) all_digits) some, at, h.last (omega (arith, l)))
 
-  pub above_half_behind_five : get_or all_digits p 0 ≡ 5 → p + 1 < length all_digits → 10 ^ length all_digits < 2 * (cut_value * 10 ^ p)
+  pub above_half_behind_five : get_or all_digits p 0 ≡ 5 → p + 1 < length all_digits
+      → 10 ^ length all_digits < 2 * (cut_value * 10 ^ p)
   above_half_behind_five five k =
       let digit = ap (λ n. n * behind_power) five in
       above_half_from (omega (arith, digit, cut_value_is, some_behind k))
 
-  pub just_half : get_or all_digits p 0 ≡ 5 → length all_digits ≤ p + 1 → 2 * (cut_value * 10 ^ p) ≡ 10 ^ length all_digits
+  pub just_half : get_or all_digits p 0 ≡ 5 → length all_digits ≤ p + 1
+      → 2 * (cut_value * 10 ^ p) ≡ 10 ^ length all_digits
   just_half five k =
       let digit = ap (λ n. n * behind_power) five in
       let none : length (drop (p + 1) all_digits) ≡ 0 = omega (arith, length-drop (p + 1) all_digits, k) in
@@ -184,35 +196,45 @@ nearest_by_digit e p next ties h l same other =
     (above_half e p h l (omega (arith, same, k, other))))) (cases_lt next 5)
 
 pub nearest_after_five :
-    (e : Finite) (p : ℕ) (ties : Ties) → IsShown e → p < length e.digits → get_or e.digits p 0 ≡ 5 → p + 1 < length e.digits → NextIsNearest e p ties
+    (e : Finite) (p : ℕ) (ties : Ties) → IsShown e → p < length e.digits → get_or e.digits p 0 ≡ 5
+    → p + 1 < length e.digits → NextIsNearest e p ties
 nearest_after_five e p ties h l five k =
-    nearest_up (scaled e) (10 ^ length e.digits) p (scaled (cut_after p e)) (value_of (drop p e.digits) * 10 ^ p) (cut_lies e p h l) ties
+    nearest_up (scaled e) (10 ^ length e.digits) p (scaled (cut_after p e)) (value_of (drop p e.digits) * 10 ^ p)
+    (cut_lies e p h l) ties
     (above_half_behind_five e p h l five k)
 
 pub tie_goes_up :
-    (e : Finite) (p : ℕ) → IsShown e → p < length e.digits → get_or e.digits p 0 ≡ 5 → length e.digits ≤ p + 1 → NextIsNearest e p Up
+    (e : Finite) (p : ℕ) → IsShown e → p < length e.digits → get_or e.digits p 0 ≡ 5 → length e.digits ≤ p + 1
+    → NextIsNearest e p Up
 tie_goes_up e p h l five k =
-    tie_up_next (scaled e) (10 ^ length e.digits) p (scaled (cut_after p e)) (value_of (drop p e.digits) * 10 ^ p) (cut_lies e p h l)
+    tie_up_next (scaled e) (10 ^ length e.digits) p (scaled (cut_after p e)) (value_of (drop p e.digits) * 10 ^ p)
+    (cut_lies e p h l)
     (just_half e p h l five k)
 
 pub tie_goes_even :
-    (is_odd : Bool) (e : Finite) (p : ℕ) → IsShown e → p < length e.digits → get_or e.digits p 0 ≡ 5 → length e.digits ≤ p + 1
-    → MatchBool is_odd (scaled (cut_after p e) % 2 ≡ 1) (scaled (cut_after p e) % 2 ≡ 0) → MatchBool is_odd (NextIsNearest e p Even) (CutIsNearest e p Even)
+    (is_odd : Bool) (e : Finite) (p : ℕ) → IsShown e → p < length e.digits → get_or e.digits p 0 ≡ 5
+    → length e.digits ≤ p + 1
+    → MatchBool is_odd (scaled (cut_after p e) % 2 ≡ 1) (scaled (cut_after p e) % 2 ≡ 0)
+    → MatchBool is_odd (NextIsNearest e p Even) (CutIsNearest e p Even)
 tie_goes_even true e p h l five k odd =
-    tie_even_next (scaled e) (10 ^ length e.digits) p (scaled (cut_after p e)) (value_of (drop p e.digits) * 10 ^ p) (cut_lies e p h l)
+    tie_even_next (scaled e) (10 ^ length e.digits) p (scaled (cut_after p e)) (value_of (drop p e.digits) * 10 ^ p)
+    (cut_lies e p h l)
     (just_half e p h l five k) odd
 tie_goes_even false e p h l five k even =
-    tie_even_this (scaled e) (10 ^ length e.digits) p (scaled (cut_after p e)) (value_of (drop p e.digits) * 10 ^ p) (cut_lies e p h l)
+    tie_even_this (scaled e) (10 ^ length e.digits) p (scaled (cut_after p e)) (value_of (drop p e.digits) * 10 ^ p)
+    (cut_lies e p h l)
     (just_half e p h l five k) even
 
 -- the last digit says whether a number is odd
-pub odd_by_last_digit : (e : Finite) (p : ℕ) → 0 < p → p ≤ length e.digits → scaled (cut_after p e) % 2 ≡ get_or e.digits (p - 1) 0 % 2
+pub odd_by_last_digit : (e : Finite) (p : ℕ) → 0 < p → p ≤ length e.digits
+    → scaled (cut_after p e) % 2 ≡ get_or e.digits (p - 1) 0 % 2
 odd_by_last_digit e p some h =
     let ds = e.digits in
     let before : ℕ = p - 1 in
     let len : length (take p ds) ≡ p = length-take-le p ds h in
     let whole : take p ds ≡ take before ds ++ get_or ds before 0 ∷ [] =
-    ap (λ k. take k ds) (let k : p ≡ before + 1 = omega (arith, some) in k) ∙ take_more ds before 0 (omega (arith, some, h)) in
+    ap (λ k. take k ds) (let k : p ≡ before + 1 = omega (arith, some) in k)
+    ∙ take_more ds before 0 (omega (arith, some, h)) in
     let value : value_of (take p ds) ≡ value_of (take before ds) * 10 + get_or ds before 0 =
     ap value_of whole ∙ fold-append (λ n d. n * 10 + d) 0 (take before ds) (get_or ds before 0 ∷ []) in
     let power : 10 ^ length (take p ds) ≡ 10 * 10 ^ before =
@@ -233,7 +255,8 @@ rounded_to_itself e p ties h few =
     let product = ap (λ n. scaled e * n) (pow10_split len p few) in
     let exact : scaled e * 10 ^ p ≡ q * 10 ^ len + 0 = omega (arith, product) in (
       q,
-      nearest_down (scaled e) (10 ^ len) p q 0 (record { split = exact; below = omega (arith, one_le_pow10 len) }) ties (omega (arith, one_le_pow10 len)),
+      nearest_down (scaled e) (10 ^ len) p q 0 (record { split = exact; below = omega (arith, one_le_pow10 len) }) ties
+      (omega (arith, one_le_pow10 len)),
       expansion_of_digits q (10 ^ p) e.whole e.digits (omega (arith, one_le_pow10 p))
           (record { small = h.small; exact = omega (arith, product); last = h.last }),
     )
@@ -241,8 +264,10 @@ rounded_to_itself e p ties h few =
 pub is_odd_by_digit : (d t : ℕ) → t % 2 ≡ d % 2 → MatchBool (nat_eq (d % 2) 1) (t % 2 ≡ 1) (t % 2 ≡ 0)
 is_odd_by_digit d t same =
     let OddBy : Bool → Type 0 = λ b. MatchBool b (t % 2 ≡ 1) (t % 2 ≡ 0) in
-    ⊎_elim (λ k. let no : nat_eq (d % 2) 1 ≡ false = grind (arith, nat_tests) in subst OddBy (sym no) (omega (arith, same, k)))
-    (λ k. let yes : nat_eq (d % 2) 1 ≡ true = grind (arith, nat_tests) in subst OddBy (sym yes) (omega (arith, same, k))) (cases_lt (d % 2) 1)
+    ⊎_elim (λ k. let no : nat_eq (d % 2) 1 ≡ false = grind (arith, nat_tests) in
+    subst OddBy (sym no) (omega (arith, same, k)))
+    (λ k. let yes : nat_eq (d % 2) 1 ≡ true = grind (arith, nat_tests) in
+    subst OddBy (sym yes) (omega (arith, same, k))) (cases_lt (d % 2) 1)
 
 -- what a function knows of its own fields
 
@@ -250,7 +275,8 @@ pub IsShown-view : (i : Inside) (e : Finite) → IsStored i → view_of i ≡ e 
 IsShown-view i e h v = subst IsShown v (IsShown-stored i h)
 
 pub length_of_view : (i : Inside) (e : Finite) → IsStored i → view_of i ≡ e → length e.digits ≡ i.places
-length_of_view i e h v = ap (λ x. length x.digits) (sym v) ∙ length-take-le i.places i.digits (omega (arith, h.few, h.size))
+length_of_view i e h v = ap (λ x. length x.digits) (sym v)
+    ∙ length-take-le i.places i.digits (omega (arith, h.few, h.size))
 
 -- the digit behind the first p, and how many digits there are
 pub record IsCutAt (e : Finite) (p digit places : ℕ) : Type 0 where

@@ -1,5 +1,6 @@
 -- The number that digits spell.
-use Rattle.std.proofs.Common.{◌≡◌, ℕ, zero, suc, ◌+◌, ◌-◌, ◌*◌, ◌/◌, ◌%◌, ◌^◌, ◌<◌, ◌≤◌, List, [], ◌∷◌, ◌++◌, length, replicate, refl, sym}
+use Rattle.std.proofs.Common.{◌≡◌, ℕ, zero, suc, ◌+◌, ◌-◌, ◌*◌, ◌/◌, ◌%◌, ◌^◌, ◌<◌, ◌≤◌, List, [], ◌∷◌, ◌++◌, length}
+use Rattle.std.proofs.Common.{replicate, refl, sym}
 use Rattle.std.proofs.Common.{ap, ◌∙◌, arith, length-append}
 use Rattle.std.specs.List.{fold, All}
 use Rattle.std.proofs.Math.Nat.{pow-succ', one-le-pow}
@@ -15,7 +16,8 @@ one_le_pow10 p = one-le-pow p 10 (omega arith)
 
 pub fold_digits_from : (n : ℕ) (ds : List ℕ) → fold (λ n d. n * 10 + d) n ds ≡ n * 10 ^ length ds + value_of ds
 fold_digits_from n [] = omega arith
-fold_digits_from n (d ∷ ds) = rw (pow-succ' 10 (length ds)) (omega (arith, fold_digits_from (n * 10 + d) ds, fold_digits_from (0 * 10 + d) ds))
+fold_digits_from n (d ∷ ds) = rw (pow-succ' 10 (length ds))
+    (omega (arith, fold_digits_from (n * 10 + d) ds, fold_digits_from (0 * 10 + d) ds))
 
 pub value_cons : (d : ℕ) (ds : List ℕ) → value_of (d ∷ ds) ≡ d * 10 ^ length ds + value_of ds
 value_cons d ds = omega (arith, fold_digits_from (0 * 10 + d) ds)
@@ -38,7 +40,8 @@ length_last_digits (suc p) q = ap suc (length_last_digits p q)
 
 pub last_digits_below_ten : (p q : ℕ) → All (λ d. d < 10) (last_digits p q)
 last_digits_below_ten zero q = All-nil (λ d. d < 10)
-last_digits_below_ten (suc p) q = All-cons (λ d. d < 10) (q / 10 ^ p % 10) (last_digits p q) (omega arith) (last_digits_below_ten p q)
+last_digits_below_ten (suc p) q =
+    All-cons (λ d. d < 10) (q / 10 ^ p % 10) (last_digits p q) (omega arith) (last_digits_below_ten p q)
 
 pub mod_next_power : (q power : ℕ) → 1 ≤ power → q % (10 * power) ≡ q / power % 10 * power + q % power
 mod_next_power q power one =
@@ -48,14 +51,17 @@ mod_next_power q power one =
     let product = ap (λ n. n * power) tens in
     let digit : q / power % 10 ≤ 9 = omega arith in
     let few : q / power % 10 * power + q % power < 10 * power = grind (arith, digit, low) in
-    let whole : q ≡ q / power / 10 * (10 * power) + (q / power % 10 * power + q % power) = omega (arith, parts, product) in
-    ap (λ n. n % (10 * power)) whole ∙ mod-mul-add (q / power / 10) (10 * power) (q / power % 10 * power + q % power) few
+    let whole : q ≡ q / power / 10 * (10 * power) + (q / power % 10 * power + q % power) =
+    omega (arith, parts, product) in
+    ap (λ n. n % (10 * power)) whole
+    ∙ mod-mul-add (q / power / 10) (10 * power) (q / power % 10 * power + q % power) few
 
 pub value_of_last_digits : (p q : ℕ) → value_of (last_digits p q) ≡ q % 10 ^ p
 value_of_last_digits zero q = omega arith
 value_of_last_digits (suc p) q =
     value_cons (q / 10 ^ p % 10) (last_digits p q)
-    ∙ rw (length_last_digits p q, value_of_last_digits p q, pow-succ' 10 p) (sym (mod_next_power q (10 ^ p) (one_le_pow10 p)))
+    ∙ rw (length_last_digits p q, value_of_last_digits p q, pow-succ' 10 p)
+    (sym (mod_next_power q (10 ^ p) (one_le_pow10 p)))
 
 pub scaled_at_places : (p q : ℕ) → scaled (at_places p q) ≡ q
 scaled_at_places p q = rw (length_last_digits p q, value_of_last_digits p q) (omega (arith, one_le_pow10 p))
@@ -85,7 +91,8 @@ small_before_digit (suc d) (e ∷ es) h k = All-cons (λ d. d < 10) (suc d) (e �
 pub small_without_zeros : (ds : List ℕ) → All (λ d. d < 10) ds → All (λ d. d < 10) (without_zeros ds)
 small_without_zeros [] h = h
 small_without_zeros (d ∷ ds) h =
-    small_before_digit d (without_zeros ds) (All-head (λ d. d < 10) d ds h) (small_without_zeros ds (All-tail (λ d. d < 10) d ds h))
+    small_before_digit d (without_zeros ds) (All-head (λ d. d < 10) d ds h)
+    (small_without_zeros ds (All-tail (λ d. d < 10) d ds h))
 
 -- the digits of q at p places are those of its short form, and zeros
 pub record ShortOf (q p : ℕ) (e : Finite) : Type 0 where
@@ -107,7 +114,8 @@ ShortOf-shortened q p =
     ) in
     let left : p - length (without_zeros ds) ≡ behind.zeros = omega (arith, len) in
     let value : q % 10 ^ p ≡ value_of (without_zeros ds) * 10 ^ behind.zeros =
-    sym (value_of_last_digits p q) ∙ (ap value_of behind.list_is ∙ value_append_zeros (without_zeros ds) behind.zeros) in
+    sym (value_of_last_digits p q)
+    ∙ (ap value_of behind.list_is ∙ value_append_zeros (without_zeros ds) behind.zeros) in
     let power : 10 ^ p ≡ 10 ^ length (without_zeros ds) * 10 ^ behind.zeros =
     ap (λ n. 10 ^ n) (sym len) ∙ pow-add 10 (length (without_zeros ds)) behind.zeros in
     let product = ap (λ n. q / 10 ^ p * n) power in

@@ -1,6 +1,7 @@
 -- Long division, a digit a step.
 use Rattle.std.proofs.Common.{◌≡◌, ℕ, suc, ◌+◌, ◌-◌, ◌*◌, ◌/◌, ◌%◌, ◌^◌, ◌<◌, ◌≤◌, ⊎_elim, arith, sym, ap, ◌∙◌, subst}
-use Rattle.std.proofs.Math.Nat.{pow-succ', mul-add-mod_self_right, mod-eq_of_lt, mul-mod_left, div-le_self, div-add-mod', mul-le-mul_right}
+use Rattle.std.proofs.Math.Nat.{pow-succ', mul-add-mod_self_right, mod-eq_of_lt, mul-mod_left, div-le_self}
+use Rattle.std.proofs.Math.Nat.{div-add-mod', mul-le-mul_right}
 use Rattle.std.proofs.Math.Nat.{eq_of_mul-eq-mul_right}
 use Rattle.std.proofs.lemmas.Nat.{pow-add, div_below, mod_below}
 use Rattle.std.proofs.lemmas.Bool.{cases_lt}
@@ -11,11 +12,13 @@ use Rattle.byte_unit_math.proofs.Scales.{pow10_bounds, pow10_times_rest, pow10_s
 
 -- exact, so no rest
 pub rest_is_zero :
-    (size unit places count rest : ℕ) → size * 10 ^ places ≡ count * unit + rest → rest < unit → IsExactAt size unit places
+    (size unit places count rest : ℕ) → size * 10 ^ places ≡ count * unit + rest → rest < unit
+    → IsExactAt size unit places
     → rest ≡ 0
 rest_is_zero size unit places count rest product small exact =
     sym (mod-eq_of_lt small)
-    ∙ (sym (mul-add-mod_self_right count unit rest) ∙ (ap (λ n. n % unit) (sym product ∙ exact.1) ∙ mul-mod_left exact.0 unit))
+    ∙ (sym (mul-add-mod_self_right count unit rest)
+    ∙ (ap (λ n. n % unit) (sym product ∙ exact.1) ∙ mul-mod_left exact.0 unit))
 
 -- a division so far, by units of a place, and its next digit
 pub record NextDigit (size unit power count rest digit left : ℕ) : Type 0 where
@@ -28,7 +31,8 @@ pub divide_one_more_digit :
 divide_one_more_digit size unit power count rest digit left h = omega (arith, ap (λ n. n * 10) h.so_far, h.next)
 
 -- a digit behind the last of a number
-pub append_digit : (whole power value digit : ℕ) → (whole * power + value) * 10 + digit ≡ whole * (10 * power) + (value * 10 + digit)
+pub append_digit : (whole power value digit : ℕ)
+    → (whole * power + value) * 10 + digit ≡ whole * (10 * power) + (value * 10 + digit)
 append_digit whole power value digit = omega arith
 
 -- a count of units of a place whose last digit isn't zero states a number in the fewest places
@@ -37,7 +41,8 @@ last_digit_of_tens : (count power : ℕ) → (count * (10 * power)) % 10 ≡ 0
 last_digit_of_tens count power = omega arith
 
 last_digit_zero :
-    (size unit count places fewer : ℕ) → 0 < unit → size * 10 ^ places ≡ count * unit → (fewer < places) × IsExactAt size unit fewer
+    (size unit count places fewer : ℕ) → 0 < unit → size * 10 ^ places ≡ count * unit
+    → (fewer < places) × IsExactAt size unit fewer
     → count % 10 ≡ 0
 last_digit_zero size unit count places fewer positive product h =
     let last : ℕ = places - fewer - 1 in
@@ -71,7 +76,8 @@ pub record Dividing (size unit rest fraction digits : ℕ) : Type 0 where
   pub least : (fewer : ℕ) → IsExactAt size unit fewer → digits ≤ fewer
 
 -- while something is left, it isn't exact
-pub not_exact : (size unit rest fraction digits : ℕ) → Dividing size unit rest fraction digits → 0 < rest → ¬ IsExactAt size unit digits
+pub not_exact : (size unit rest fraction digits : ℕ) → Dividing size unit rest fraction digits → 0 < rest
+    → ¬ IsExactAt size unit digits
 not_exact size unit rest fraction digits h left exact =
     let none = rest_is_zero size unit digits (size / unit * 10 ^ digits + fraction) rest h.product h.small exact in
     omega (arith, none, left)
@@ -95,7 +101,8 @@ Dividing-more size unit rest fraction digits some left h =
       least = λ fewer exact.
           ⊎_elim (λ more. omega (arith, more)) (λ few.
           let same : fewer ≡ digits = omega (arith, few, h.least fewer exact) in
-          absurd (not_exact size unit rest fraction digits h left (subst (IsExactAt size unit) same exact))) (cases_lt digits fewer);
+          absurd (not_exact size unit rest fraction digits h left (subst (IsExactAt size unit) same exact)))
+          (cases_lt digits fewer);
     }
 
 -- the digits with nothing left
@@ -104,7 +111,8 @@ pub Dividing-ended :
     → size * 10 ^ digits ≡ (size / unit * 10 ^ digits + fraction) * unit
 Dividing-ended size unit rest fraction digits h none = omega (arith, h.product, none)
 
-split_power : (few more most : ℕ) → few ≤ more → more ≤ most → 10 ^ (most - few) ≡ 10 ^ (more - few) * 10 ^ (most - more)
+split_power : (few more most : ℕ) → few ≤ more → more ≤ most
+    → 10 ^ (most - few) ≡ 10 ^ (more - few) * 10 ^ (most - more)
 split_power few more most h k =
     let total : most - few ≡ (more - few) + (most - more) = omega arith in
     ap (λ n. 10 ^ n) total ∙ pow-add 10 (more - few) (most - more)
@@ -135,10 +143,12 @@ IsQuotient-times size unit places N few h =
 
 -- digits at their places stay below one
 pub fraction_below_one :
-    (fraction digits : ℕ) → digits ≤ places_of_decimal → fraction < 10 ^ digits → fraction * 10 ^ (places_of_decimal - digits) < one
+    (fraction digits : ℕ) → digits ≤ places_of_decimal → fraction < 10 ^ digits
+    → fraction * 10 ^ (places_of_decimal - digits) < one
 fraction_below_one fraction digits room small =
     let bound = pow10_bounds (places_of_decimal - digits) (omega arith) in
-    let product = mul-le-mul_right {m = fraction + 1} {n = 10 ^ digits} (10 ^ (places_of_decimal - digits)) (omega arith) in
+    let product = mul-le-mul_right {m = fraction + 1} {n = 10 ^ digits} (10 ^ (places_of_decimal - digits))
+    (omega arith) in
     omega (arith, product, pow10_times_rest digits room, bound.0)
 
 -- and so do they as a number

@@ -1,6 +1,7 @@
 -- A quotient by a constant: estimated by one multiplication, and by a long division.
 use Rattle.std.proofs.Common.{◌≡◌, ℕ, ◌+◌, ◌-◌, ◌*◌, ◌/◌, ◌%◌, ◌^◌, ◌<◌, ◌≤◌, arith, ap, sym, ◌∙◌, subst}
-use Rattle.std.proofs.Math.Nat.{mul-le-mul_right, le_of_mul-le-mul_right, div-mul-le_self, lt_of_mul-lt-mul_right, lt-div-mul-add, div-lt_iff_lt-mul}
+use Rattle.std.proofs.Math.Nat.{mul-le-mul_right, le_of_mul-le-mul_right, div-mul-le_self, lt_of_mul-lt-mul_right}
+use Rattle.std.proofs.Math.Nat.{lt-div-mul-add, div-lt_iff_lt-mul}
 use Rattle.std.proofs.Math.Nat.{div-add-mod, div-eq_of_lt-le, mod-eq-sub-div-mul, mod-lt, one-le-pow, pow-le-pow_right}
 use Rattle.std.proofs.lemmas.Nat.{pow-add}
 use Rattle.byte_unit_math.specs.Inverse.{HasInverse}
@@ -26,7 +27,8 @@ product_fits {n} {divisor} {inverse} {cut} {shift} h =
     omega (arith, product, h.fits)
 
 pub estimate_fits :
-    {n divisor inverse cut shift : ℕ} → HasInverse n divisor inverse cut shift → estimate_of n inverse cut shift < 2 ^ 63
+    {n divisor inverse cut shift : ℕ} → HasInverse n divisor inverse cut shift
+    → estimate_of n inverse cut shift < 2 ^ 63
 estimate_fits {n} {divisor} {inverse} {cut} {shift} h =
     let power = pow-le-pow_right {n = 2} (omega arith) {i = 65} {j = shift} (omega (arith, h.shift_fits.0)) in
     let few = mul-le-mul_right {m = 2 ^ 65} {n = 2 ^ shift} (2 ^ 63) power in
@@ -51,11 +53,14 @@ IsEstimate-inverse n divisor inverse cut shift h =
     let estimate_parts = mul-le-mul_right divisor (div-mul-le_self (leading * inverse) (2 ^ shift)) in
     let inverse_parts = mul-le-mul_right leading inverse_low in
     let leading_parts = mul-le-mul_right (2 ^ shift) (div-mul-le_self n (2 ^ cut)) in
-    let past_leading = mul-le-mul_right {m = n + 1} {n = leading * 2 ^ cut + 2 ^ cut} (2 ^ shift) (omega (arith, leading_high)) in
+    let past_leading = mul-le-mul_right {m = n + 1} {n = leading * 2 ^ cut + 2 ^ cut} (2 ^ shift)
+    (omega (arith, leading_high)) in
     let past_inverse =
-    mul-le-mul_right {m = 2 ^ (cut + shift) + 1} {n = inverse * divisor + divisor} leading (omega (arith, inverse_high)) in
+    mul-le-mul_right {m = 2 ^ (cut + shift) + 1} {n = inverse * divisor + divisor} leading
+    (omega (arith, inverse_high)) in
     let past_estimate =
-    mul-le-mul_right {m = leading * inverse + 1} {n = estimate * 2 ^ shift + 2 ^ shift} divisor (omega (arith, estimate_high)) in
+    mul-le-mul_right {m = leading * inverse + 1} {n = estimate * 2 ^ shift + 2 ^ shift} divisor
+    (omega (arith, estimate_high)) in
     let few_leading = mul-le-mul_right {m = leading + 1} {n = 2 ^ 64} divisor (omega (arith, leading_bits_fit h)) in
     let powers = ap (λ m. m * leading) power in
     record {
@@ -66,29 +71,36 @@ IsEstimate-inverse n divisor inverse cut shift h =
     }
 
 -- from the estimate to the quotient, and to the rest
-pub quotient_from_bounds : (n divisor quotient : ℕ) → quotient * divisor ≤ n → n - quotient * divisor < divisor → quotient ≡ n / divisor
+pub quotient_from_bounds : (n divisor quotient : ℕ) → quotient * divisor ≤ n → n - quotient * divisor < divisor
+    → quotient ≡ n / divisor
 quotient_from_bounds n divisor quotient enough close =
     sym (div-eq_of_lt-le {k = quotient} divisor {m = n} enough (omega (arith, enough, close)))
 
 pub rest_from_bounds :
-    (n divisor quotient : ℕ) → quotient * divisor ≤ n → n - quotient * divisor < divisor → n - quotient * divisor ≡ n % divisor
+    (n divisor quotient : ℕ) → quotient * divisor ≤ n → n - quotient * divisor < divisor
+    → n - quotient * divisor ≡ n % divisor
 rest_from_bounds n divisor quotient enough close =
-    ap (λ q. n - q * divisor) (quotient_from_bounds n divisor quotient enough close) ∙ sym (mod-eq-sub-div-mul n divisor)
+    ap (λ q. n - q * divisor) (quotient_from_bounds n divisor quotient enough close)
+    ∙ sym (mod-eq-sub-div-mul n divisor)
 
 -- the estimate as it is worked out, a step at a time
 pub IsEstimate-steps :
-    {n divisor inverse cut shift leading factor estimate : ℕ} → HasInverse n divisor inverse cut shift → leading ≡ n / 2 ^ cut
+    {n divisor inverse cut shift leading factor estimate : ℕ} → HasInverse n divisor inverse cut shift
+    → leading ≡ n / 2 ^ cut
     → factor ≡ inverse → estimate ≡ leading * factor / 2 ^ shift → IsEstimate n divisor estimate
-IsEstimate-steps {n} {divisor} {inverse} {cut} {shift} {leading} {factor} {estimate} h leading_is factor_is estimate_is =
+IsEstimate-steps {n} {divisor} {inverse} {cut} {shift} {leading} {factor} {estimate} h leading_is factor_is estimate_is
+    =
     let product : leading * factor ≡ n / 2 ^ cut * inverse =
     ap (λ m. m * factor) leading_is ∙ ap (λ m. n / 2 ^ cut * m) factor_is in
-    subst (IsEstimate n divisor) (sym (estimate_is ∙ ap (λ m. m / 2 ^ shift) product)) (IsEstimate-inverse n divisor inverse cut shift h)
+    subst (IsEstimate n divisor) (sym (estimate_is ∙ ap (λ m. m / 2 ^ shift) product))
+    (IsEstimate-inverse n divisor inverse cut shift h)
 
 -- a long division in base 2^40: the quotient, and what is left
 pub long_division :
     (n divisor middle low : ℕ) → 1 ≤ divisor → middle ≡ n / 2 ^ 80 % divisor * 2 ^ 40 + n / 2 ^ 40 % 2 ^ 40
     → low ≡ middle % divisor * 2 ^ 40 + n % 2 ^ 40
-    → ((n / 2 ^ 80 / divisor * 2 ^ 40 + middle / divisor) * 2 ^ 40 + low / divisor ≡ n / divisor) × (low % divisor ≡ n % divisor)
+    → ((n / 2 ^ 80 / divisor * 2 ^ 40 + middle / divisor) * 2 ^ 40 + low / divisor ≡ n / divisor)
+    × (low % divisor ≡ n % divisor)
 long_division n divisor middle low some middle_is low_is =
     let quotient = (n / 2 ^ 80 / divisor * 2 ^ 40 + middle / divisor) * 2 ^ 40 + low / divisor in
     let left : low % divisor < divisor = mod-lt low some in

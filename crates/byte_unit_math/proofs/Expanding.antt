@@ -1,9 +1,11 @@
 -- Long division, digit by digit, to its end.
-use Rattle.std.proofs.Common.{◌≢◌, ◌≡◌, ◌+◌, ◌-◌, ◌*◌, ◌^◌, ◌/◌, ◌%◌, ◌<◌, ◌≤◌, ⊎_elim, ℕ, zero, suc, List, [], ◌∷◌, length, take, drop}
+use Rattle.std.proofs.Common.{◌≢◌, ◌≡◌, ◌+◌, ◌-◌, ◌*◌, ◌^◌, ◌/◌, ◌%◌, ◌<◌, ◌≤◌, ⊎_elim, ℕ, zero, suc, List, [], ◌∷◌}
+use Rattle.std.proofs.Common.{length, take, drop}
 use Rattle.std.proofs.Common.{set, get_or, replicate, arith, ap, sym, refl, subst, ◌∙◌, add-one, length-take-le}
 use Rattle.std.specs.List.{All}
 use Rattle.std.proofs.lemmas.Bool.{cases_lt}
-use Rattle.std.proofs.lemmas.List.{take_more, take_more_set, drop-set-lt, drop-drop, drop-replicate, length-set, length-replicate}
+use Rattle.std.proofs.lemmas.List.{take_more, take_more_set, drop-set-lt, drop-drop, drop-replicate, length-set}
+use Rattle.std.proofs.lemmas.List.{length-replicate}
 use Rattle.std.proofs.lemmas.List.{get_or-set_same, get_or-take, take_all}
 use Rattle.std.proofs.lemmas.List.Elements.{All-set, All-replicate, All-take, All-get_or}
 use Rattle.std.proofs.lemmas.List.Sums.{fold-append}
@@ -15,10 +17,12 @@ use Rattle.byte_unit_math.specs.Finite.{value_of, IsExpansion}
 use Rattle.byte_unit_math.proofs.Division.{rest_is_zero, divide_one_more_digit, append_digit, IsLeastPlaces-last_digit}
 
 -- zeros stay behind a digit that is set
-pub zeros_behind_set : (n i d : ℕ) (ds : List ℕ) → drop i ds ≡ replicate (n - i) 0 → drop (i + 1) (set ds i d) ≡ replicate (n - (i + 1)) 0
+pub zeros_behind_set : (n i d : ℕ) (ds : List ℕ) → drop i ds ≡ replicate (n - i) 0
+    → drop (i + 1) (set ds i d) ≡ replicate (n - (i + 1)) 0
 zeros_behind_set n i d ds h =
     let fewer : n - i - 1 ≡ n - (i + 1) = omega arith in
-    let behind : drop (i + 1) ds ≡ replicate (n - i - 1) 0 = sym (drop-drop 1 i ds) ∙ (ap (drop 1) h ∙ drop-replicate 1 (n - i) 0) in
+    let behind : drop (i + 1) ds ≡ replicate (n - i - 1) 0 =
+    sym (drop-drop 1 i ds) ∙ (ap (drop 1) h ∙ drop-replicate 1 (n - i) 0) in
     drop-set-lt (i + 1) ds i d (omega arith) ∙ (behind ∙ ap (λ k. replicate k 0) fewer)
 
 -- the digits so far, and what is left
@@ -44,12 +48,15 @@ pub record IsUnfinished (numerator den whole rest places : ℕ) (digits : List �
   pub ends : IsExactAt numerator den expansion_places
   pub some : rest ≢ 0
 
-module _ (numerator den whole rest places : ℕ) (digits : List ℕ) (h : IsUnfinished numerator den whole rest places digits) where
+module _ (numerator den whole rest places : ℕ) (digits : List ℕ)
+    (h : IsUnfinished numerator den whole rest places digits) where
   pub IsUnfinished-room : places < expansion_places
-  IsUnfinished-room = ⊎_elim (λ room. room) (λ k. let full : places ≡ expansion_places = omega (arith, k, h.so_far.few) in
+  IsUnfinished-room = ⊎_elim (λ room. room)
+      (λ k. let full : places ≡ expansion_places = omega (arith, k, h.so_far.few) in
       let ExactAt : ℕ → Type 0 = λ p. numerator * 10 ^ p ≡ (whole * 10 ^ p + value_of (take p digits)) * den + rest in
       let count = whole * 10 ^ expansion_places + value_of (take expansion_places digits) in
-      absurd (h.some (rest_is_zero numerator den expansion_places count rest (subst ExactAt full h.so_far.exact) h.so_far.below h.ends)))
+      absurd (h.some (rest_is_zero numerator den expansion_places count rest (subst ExactAt full h.so_far.exact)
+      h.so_far.below h.ends)))
       (cases_lt places expansion_places)
 
   next_below_ten : rest * 10 / den < 10
@@ -57,7 +64,8 @@ module _ (numerator den whole rest places : ℕ) (digits : List ℕ) (h : IsUnfi
       digit_below_ten rest den (rest * 10 / den) (rest * 10 % den) h.so_far.below
       (let positive : 0 < den = omega (arith, h.so_far.below) in omega arith)
 
-  pub IsDividing-more : IsDividing numerator den whole (rest * 10 % den) (places + 1) (set digits places (rest * 10 / den))
+  pub IsDividing-more : IsDividing numerator den whole (rest * 10 % den) (places + 1)
+      (set digits places (rest * 10 / den))
   IsDividing-more =
       let digit = rest * 10 / den in
       let now = h.so_far in
@@ -67,7 +75,8 @@ module _ (numerator den whole rest places : ℕ) (digits : List ℕ) (h : IsUnfi
       let power : 10 ^ (places + 1) ≡ 10 * 10 ^ places = ap (λ n. 10 ^ n) (add-one places) ∙ pow-succ' 10 places in
       let front = value_of (take places digits) in
       let value : value_of (take (places + 1) (set digits places digit)) ≡ front * 10 + digit =
-      ap value_of (take_more_set digits places digit fits) ∙ fold-append (λ n d. n * 10 + d) 0 (take places digits) (digit ∷ []) in
+      ap value_of (take_more_set digits places digit fits)
+      ∙ fold-append (λ n d. n * 10 + d) 0 (take places digits) (digit ∷ []) in
       let product =
       divide_one_more_digit numerator den (10 ^ places) (whole * 10 ^ places + front) rest digit (rest * 10 % den)
       (record { so_far = now.exact; next = div-add-mod' (rest * 10) den }) in
@@ -86,7 +95,8 @@ module _ (numerator den whole rest places : ℕ) (digits : List ℕ) (h : IsUnfi
       }
 
 -- before the first digit
-pub IsDividing-start : (whole rest den : ℕ) → rest < den → IsDividing (whole * den + rest) den whole rest 0 (replicate expansion_places 0)
+pub IsDividing-start : (whole rest den : ℕ) → rest < den
+    → IsDividing (whole * den + rest) den whole rest 0 (replicate expansion_places 0)
 IsDividing-start whole rest den below = record {
   few = omega arith;
   size = length-replicate {A = ℕ} expansion_places 0;
@@ -99,13 +109,15 @@ IsDividing-start whole rest den below = record {
 
 -- no digit less
 
-pub value_by_last_digit : (ds : List ℕ) → 0 < length ds → value_of ds ≡ value_of (take (length ds - 1) ds) * 10 + get_or ds (length ds - 1) 0
+pub value_by_last_digit : (ds : List ℕ) → 0 < length ds
+    → value_of ds ≡ value_of (take (length ds - 1) ds) * 10 + get_or ds (length ds - 1) 0
 value_by_last_digit ds h =
     let n = length ds - 1 in
     let whole : take (n + 1) ds ≡ ds =
     ap (λ k. take k ds) (let k : n + 1 ≡ length ds = omega arith in k)
     ∙ take_all (length ds) ds (let k : length ds ≤ length ds = omega arith in k) in
-    ap value_of (sym whole ∙ take_more ds n 0 (omega arith)) ∙ fold-append (λ n d. n * 10 + d) 0 (take n ds) (get_or ds n 0 ∷ [])
+    ap value_of (sym whole ∙ take_more ds n 0 (omega arith))
+    ∙ fold-append (λ n d. n * 10 + d) 0 (take n ds) (get_or ds n 0 ∷ [])
 
 -- digits that state a fraction, the last of them not zero
 pub record StatesByDigits (num den whole : ℕ) (digits : List ℕ) : Type 0 where
@@ -131,9 +143,11 @@ expansion_of_digits num den whole digits positive h =
     ap (λ n. 10 ^ n) (let e : places ≡ suc before = omega (arith, some) in e) ∙ pow-succ' 10 before in
     let parts : count ≡ (whole * 10 ^ before + front) * 10 + last =
     ap (λ n. whole * n + value_of digits) power
-    ∙ (ap (λ n. whole * (10 * 10 ^ before) + n) (value_by_last_digit digits some) ∙ sym (append_digit whole (10 ^ before) front last)) in
+    ∙ (ap (λ n. whole * (10 * 10 ^ before) + n) (value_by_last_digit digits some)
+    ∙ sym (append_digit whole (10 ^ before) front last)) in
     let small : last < 10 = All-get_or (λ d. d < 10) digits before 0 (omega (arith, some)) h.small in
-    subst (λ n. 0 < n) (sym (last_digit_of_value (whole * 10 ^ before + front) count last small parts)) (h.last some)) in
+    subst (λ n. 0 < n) (sym (last_digit_of_value (whole * 10 ^ before + front) count last small parts))
+    (h.last some)) in
     record { small = h.small; exact = h.exact; least = least.least }
 
 -- digits in the front of an array that state a fraction, the last of them not zero
@@ -157,7 +171,8 @@ expansion_of_front num den whole places digits positive h =
       exact = subst ExactAt (sym len) h.exact;
       last =
           subst LastIsPositive (sym len)
-          (λ some. subst (λ n. 0 < n) (sym (get_or-take places digits (places - 1) 0 (omega (arith, some)))) (h.last some));
+          (λ some. subst (λ n. 0 < n) (sym (get_or-take places digits (places - 1) 0 (omega (arith, some))))
+          (h.last some));
     })
 
 pub IsDividing-ended :
@@ -165,7 +180,8 @@ pub IsDividing-ended :
     → IsExpansion num den (record { whole = whole; digits = take places digits })
 IsDividing-ended num den whole rest places digits h none =
     expansion_of_front num den whole places digits (omega (arith, h.below))
-    (record { few = omega (arith, h.few, h.size); small = h.small; exact = omega (arith, h.exact, none); last = h.last none })
+    (record { few = omega (arith, h.few, h.size); small = h.small; exact = omega (arith, h.exact, none);
+    last = h.last none })
 
 -- where it ends
 
@@ -175,17 +191,21 @@ two_below_five (suc b) = rw (pow-succ' 2 b, pow-succ' 5 b) (omega (arith, two_be
 
 pub factors_within_limit : (a b : ℕ) → 2 ^ a * 5 ^ b ≤ unit_limit → (2 ^ a ≤ unit_limit) × (5 ^ b ≤ unit_limit)
 factors_within_limit a b h = (
-  omega (arith, h, mul-le (2 ^ a) 1 (2 ^ a) (5 ^ b) (let k : 2 ^ a ≤ 2 ^ a = omega arith in k) (one-le-pow b 5 (omega arith))),
-  omega (arith, h, mul-le 1 (5 ^ b) (2 ^ a) (5 ^ b) (one-le-pow a 2 (omega arith)) (let k : 5 ^ b ≤ 5 ^ b = omega arith in k)),
+  omega (arith, h, mul-le (2 ^ a) 1 (2 ^ a) (5 ^ b) (let k : 2 ^ a ≤ 2 ^ a = omega arith in k)
+      (one-le-pow b 5 (omega arith))),
+  omega (arith, h, mul-le 1 (5 ^ b) (2 ^ a) (5 ^ b) (one-le-pow a 2 (omega arith))
+      (let k : 5 ^ b ≤ 5 ^ b = omega arith in k)),
 )
 
 exponents_within_places : (a b : ℕ) → 2 ^ a * 5 ^ b ≤ unit_limit → (a ≤ expansion_places) × (b ≤ expansion_places)
 exponents_within_places a b h =
     let small = factors_within_limit a b h in
     let z = two_below_five b in (
-      ⊎_elim (λ l. absurd (omega (arith, small.0, pow_below expansion_places a l))) (λ k. k) (cases_lt expansion_places a),
+      ⊎_elim (λ l. absurd (omega (arith, small.0, pow_below expansion_places a l))) (λ k. k)
+      (cases_lt expansion_places a),
       ⊎_elim
-          (λ l. absurd (omega (arith, small.1, z, pow_below expansion_places b l))) (λ k. k) (cases_lt expansion_places b),
+          (λ l. absurd (omega (arith, small.1, z, pow_below expansion_places b l))) (λ k. k)
+          (cases_lt expansion_places b),
     )
 
 pub powers_are_exact : (num a b : ℕ) → 2 ^ a * 5 ^ b ≤ unit_limit → IsExactAt num (2 ^ a * 5 ^ b) expansion_places

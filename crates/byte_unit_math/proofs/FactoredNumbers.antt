@@ -6,7 +6,8 @@ use Rattle.byte_unit_math.specs.Bounds.{one, places_of_decimal, whole_limit}
 use Rattle.byte_unit_math.proofs.Scales.{pow10_times_rest, powers_from, powers_from_at}
 
 -- a power below the limit has few factors
-few_in_power : (base most exponent : ℕ) → 1 ≤ base → base ^ exponent < whole_limit → whole_limit ≤ base ^ (most + 1) → exponent ≤ most
+few_in_power : (base most exponent : ℕ) → 1 ≤ base → base ^ exponent < whole_limit → whole_limit ≤ base ^ (most + 1)
+    → exponent ≤ most
 few_in_power base most exponent some small large = ⊎_elim
     (λ more.
     let high = pow-le-pow_right {n = base} some {i = most + 1} {j = exponent} (omega (arith, more)) in
@@ -19,7 +20,8 @@ pub record FewFactors (left twos fives : ℕ) : Type 0 where
   pub few_fives : fives ≤ 48
   pub unshifted : left * 2 ^ twos % 2 ^ 128 ≡ left * 2 ^ twos
 
-pub FewFactors-below_limit : (left twos fives : ℕ) → 1 ≤ left → left * (2 ^ twos * 5 ^ fives) < whole_limit → FewFactors left twos fives
+pub FewFactors-below_limit : (left twos fives : ℕ) → 1 ≤ left → left * (2 ^ twos * 5 ^ fives) < whole_limit
+    → FewFactors left twos fives
 FewFactors-below_limit left twos fives some small =
     let some_fives = one-le-pow fives 5 (omega arith) in
     let some_twos = one-le-pow twos 2 (omega arith) in
@@ -40,7 +42,8 @@ pub product_by_table :
 product_by_table left twos fives some small =
     let few = FewFactors-below_limit left twos fives some small in
     let power = powers_from_at 5 49 1 fives (omega (arith, few.few_fives)) in
-    ap (λ n. n * get_or (powers_from 5 49 1) fives 0) few.unshifted ∙ (ap (λ n. left * 2 ^ twos * n) power ∙ omega arith)
+    ap (λ n. n * get_or (powers_from 5 49 1) fives 0) few.unshifted
+    ∙ (ap (λ n. left * 2 ^ twos * n) power ∙ omega arith)
 
 -- a number in units of a place, as a count of another unit
 module _ (number unit count places : ℕ) (same : number * 10 ^ places ≡ count * unit) where
@@ -56,5 +59,6 @@ module _ (number unit count places : ℕ) (same : number * 10 ^ places ≡ count
 -- a quotient and a rest by the same numbers
 pub quotient_and_rest_of_equal :
     {product count power scale : ℕ} {parts quotient : ℕ × ℕ} → product ≡ count → power ≡ scale → parts ≡ quotient
-    → (quotient.0 ≡ product / power) × (quotient.1 ≡ product % power) → (parts.0 ≡ count / scale) × (parts.1 ≡ count % scale)
+    → (quotient.0 ≡ product / power) × (quotient.1 ≡ product % power)
+    → (parts.0 ≡ count / scale) × (parts.1 ≡ count % scale)
 quotient_and_rest_of_equal is_count is_scale is_quotient divides = rw (sym is_count, sym is_scale, is_quotient) divides

@@ -1,5 +1,6 @@
 -- The digits that are kept where a decimal is cut, without the zeros or the nines at their end.
-use Rattle.std.proofs.Common.{◌≢◌, ◌≡◌, ◌+◌, ◌-◌, ◌*◌, ◌^◌, ◌<◌, ◌≤◌, ℕ, zero, suc, List, [], ◌∷◌, ◌++◌, length, take, drop}
+use Rattle.std.proofs.Common.{◌≢◌, ◌≡◌, ◌+◌, ◌-◌, ◌*◌, ◌^◌, ◌<◌, ◌≤◌, ℕ, zero, suc, List, [], ◌∷◌, ◌++◌, length, take}
+use Rattle.std.proofs.Common.{drop}
 use Rattle.std.proofs.Common.{set, get_or, replicate, arith, ap, sym, refl, subst, ◌∙◌, length-take-le}
 use Rattle.std.specs.List.{All, fold}
 use Rattle.std.proofs.lemmas.List.{take_more, take_more_set, length-set, length-replicate, get_or-take, get_or-set_same}
@@ -28,7 +29,8 @@ pub record BeginsWith (e : Finite) (kept : ℕ) (ds : List ℕ) : Type 0 where
   pub front : take kept ds ≡ take kept e.digits
   pub small : All (λ d. d < 10) ds
 
-scaled_cut : (e : Finite) (p : ℕ) → p ≤ length e.digits → scaled (cut_after p e) ≡ e.whole * 10 ^ p + value_of (take p e.digits)
+scaled_cut : (e : Finite) (p : ℕ) → p ≤ length e.digits
+    → scaled (cut_after p e) ≡ e.whole * 10 ^ p + value_of (take p e.digits)
 scaled_cut e p within = ap (λ n. e.whole * 10 ^ n + value_of (take p e.digits)) (length-take-le p e.digits within)
 
 -- zeros
@@ -56,13 +58,15 @@ scaled_nines e p kept h =
 
 -- the last digit of those that are kept is in the array too
 same_last_digit :
-    (e : Finite) (kept : ℕ) (ds : List ℕ) → BeginsWith e kept ds → 0 < kept → get_or ds (kept - 1) 0 ≡ get_or e.digits (kept - 1) 0
+    (e : Finite) (kept : ℕ) (ds : List ℕ) → BeginsWith e kept ds → 0 < kept
+    → get_or ds (kept - 1) 0 ≡ get_or e.digits (kept - 1) 0
 same_last_digit e kept ds h some =
     sym (get_or-take kept ds (kept - 1) 0 (omega (arith, some)))
     ∙ (ap (λ l. get_or l (kept - 1) 0) h.front ∙ get_or-take kept e.digits (kept - 1) 0 (omega (arith, some)))
 
 pow10_on_both_sides : (count kept p : ℕ) → kept ≤ p → count * 10 ^ (p - kept) * 10 ^ kept ≡ count * 10 ^ p
-pow10_on_both_sides count kept p few = let product = ap (λ n. count * n) (pow10_split kept p few) in omega (arith, product)
+pow10_on_both_sides count kept p few = let product = ap (λ n. count * n) (pow10_split kept p few) in
+    omega (arith, product)
 
 pub cut_is_expansion :
     (e : Finite) (p kept : ℕ) (ds : List ℕ) → IsShown e → EndsInRunOf e p kept 0 → BeginsWith e kept ds
@@ -71,13 +75,15 @@ cut_is_expansion e p kept ds shown h array =
     let count = e.whole * 10 ^ kept + value_of (take kept e.digits) in
     let exact : scaled (cut_after p e) * 10 ^ kept ≡ count * 10 ^ p =
     ap (λ n. n * 10 ^ kept) (scaled_zeros e p kept h) ∙ pow10_on_both_sides count kept p h.few in
-    let Exact : List ℕ → Type 0 = λ l. scaled (cut_after p e) * 10 ^ kept ≡ (e.whole * 10 ^ kept + value_of l) * 10 ^ p in
+    let Exact : List ℕ → Type 0 =
+    λ l. scaled (cut_after p e) * 10 ^ kept ≡ (e.whole * 10 ^ kept + value_of l) * 10 ^ p in
     expansion_of_front (scaled (cut_after p e)) (10 ^ p) e.whole kept ds (omega (arith, one_le_pow10 p))
     (record {
       few = omega (arith, array.size, h.few, h.within, shown.few);
       small = array.small;
       exact = subst Exact (sym array.front) exact;
-      last = λ some. let digit = same_last_digit e kept ds array some in let other = h.stops some in omega (arith, digit, other);
+      last = λ some. let digit = same_last_digit e kept ds array some in let other = h.stops some in
+          omega (arith, digit, other);
     })
 
 -- nines alone, so the whole part is one more
@@ -88,7 +94,8 @@ next_whole_is_expansion e p kept h none =
     let nines = scaled_nines e p 0 (subst (λ k. EndsInRunOf e p k 9) none h) in
     let inner : e.whole * 10 ^ 0 + (value_of (take 0 e.digits) + 1) ≡ e.whole + 1 = omega arith in
     let all : scaled (cut_after p e) + 1 ≡ (e.whole + 1) * 10 ^ p =
-    nines ∙ (ap (λ n. n * 10 ^ (p - 0)) inner ∙ ap (λ n. (e.whole + 1) * 10 ^ n) (let same : p - 0 ≡ p = omega arith in same)) in
+    nines ∙ (ap (λ n. n * 10 ^ (p - 0)) inner
+    ∙ ap (λ n. (e.whole + 1) * 10 ^ n) (let same : p - 0 ≡ p = omega arith in same)) in
     expansion_of_digits (scaled (cut_after p e) + 1) (10 ^ p) (e.whole + 1) [] (omega (arith, one_le_pow10 p))
     (record { small = All-nil (λ d. d < 10); exact = omega (arith, all); last = λ some. absurd (omega (arith, some)) })
 
@@ -120,7 +127,8 @@ next_digit_is_expansion e p kept ds shown h array some =
     let count = e.whole * 10 ^ kept + (value_of (take kept e.digits) + 1) in
     let exact : (scaled (cut_after p e) + 1) * 10 ^ kept ≡ count * 10 ^ p =
     ap (λ n. n * 10 ^ kept) (scaled_nines e p kept h) ∙ pow10_on_both_sides count kept p h.few in
-    let Exact : ℕ → Type 0 = λ value. (scaled (cut_after p e) + 1) * 10 ^ kept ≡ (e.whole * 10 ^ kept + value) * 10 ^ p in
+    let Exact : ℕ → Type 0 = λ value. (scaled (cut_after p e) + 1) * 10 ^ kept
+    ≡ (e.whole * 10 ^ kept + value) * 10 ^ p in
     let small : digit < 10 = All-get_or (λ d. d < 10) ds last 0 fits array.small in
     let other = h.stops some in
     let nine : digit + 1 < 10 = omega (arith, small, same_last_digit e kept ds array some, other) in
@@ -158,11 +166,13 @@ pub record IsDigitAt (es : List ℕ) (i d : ℕ) : Type 0 where
   pub small : d < 10
 
 pub one_more_digit_copied :
-    (ds es : List ℕ) (i d : ℕ) → IsCopied ds es i → i < expansion_places → IsDigitAt es i d → IsCopied (set ds i d) es (i + 1)
+    (ds es : List ℕ) (i d : ℕ) → IsCopied ds es i → i < expansion_places → IsDigitAt es i d
+    → IsCopied (set ds i d) es (i + 1)
 one_more_digit_copied ds es i d h room digit =
     let fits : i < length ds = omega (arith, h.size, room) in
     let same : d ≡ get_or es i 0 = digit.is ∙ ap (λ k. get_or es k 0) (let k : i + 1 - 1 ≡ i = omega arith in k) in
-    let behind = ap (λ l. l ++ d ∷ []) h.front ∙ (ap (λ x. take i es ++ x ∷ []) same ∙ sym (take_more es i 0 digit.within)) in
+    let behind = ap (λ l. l ++ d ∷ []) h.front
+    ∙ (ap (λ x. take i es ++ x ∷ []) same ∙ sym (take_more es i 0 digit.within)) in
     record {
       size = length-set ds i d ∙ h.size;
       front = take_more_set ds i d fits ∙ behind;

@@ -16,7 +16,8 @@ cases_around count Holds lower at next upper other =
     (λ k.
     ⊎_elim (λ l. subst Holds (let e : count ≡ other = omega (arith, k, l) in e) at)
     (λ m.
-    ⊎_elim (λ l. subst Holds (let e : count + 1 ≡ other = omega (arith, m, l) in e) next) (λ n. upper other (omega (arith, n)))
+    ⊎_elim (λ l. subst Holds (let e : count + 1 ≡ other = omega (arith, m, l) in e) next)
+    (λ n. upper other (omega (arith, n)))
     (cases_lt other (count + 2))) (cases_lt other (count + 1))) (cases_lt other count)
 
 -- the number is low above so many multiples of den
@@ -52,13 +53,16 @@ module _ (num den p count low : ℕ) (lies : LiesAbove num den p count low) wher
 
   this_is_nearest : 2 * low ≤ den → (other : ℕ) → distance count ≤ distance other
   this_is_nearest h =
-      cases_around count (λ other. distance count ≤ distance other) (λ other l. omega (arith, at_count, lower_is_far other l)) (omega arith)
+      cases_around count (λ other. distance count ≤ distance other)
+      (λ other l. omega (arith, at_count, lower_is_far other l)) (omega arith)
       (omega (arith, at_count, at_next, h)) (λ other l. omega (arith, at_count, upper_is_far other l, h))
 
   next_is_nearest : den ≤ 2 * low → (other : ℕ) → distance (count + 1) ≤ distance other
   next_is_nearest h =
-      cases_around count (λ other. distance (count + 1) ≤ distance other) (λ other l. omega (arith, at_next, lower_is_far other l))
-      (omega (arith, at_count, at_next, h)) (omega arith) (λ other l. omega (arith, at_next, upper_is_far other l, lies.below))
+      cases_around count (λ other. distance (count + 1) ≤ distance other)
+      (λ other l. omega (arith, at_next, lower_is_far other l))
+      (omega (arith, at_count, at_next, h)) (omega arith)
+      (λ other l. omega (arith, at_next, upper_is_far other l, lies.below))
 
   pub nearest_down : (ties : Ties) → 2 * low < den → IsNearest num den p ties count
   nearest_down ties h = record {
@@ -74,7 +78,8 @@ module _ (num den p count low : ℕ) (lies : LiesAbove num den p count low) wher
   nearest_up ties h = record {
     nearest = next_is_nearest (omega (arith, h));
     tie =
-        cases_around count (λ other. other ≢ count + 1 → distance other ≡ distance (count + 1) → WinsTie ties (count + 1) other)
+        cases_around count (λ other. other ≢ count + 1 → distance other ≡ distance (count + 1)
+        → WinsTie ties (count + 1) other)
         (λ other l n e. absurd (omega (arith, e, at_next, lower_is_far other l, h, lies.below)))
         (λ n e. absurd (omega (arith, e, at_count, at_next, h))) (λ n e. absurd (n refl))
         (λ other l n e. absurd (omega (arith, e, at_next, upper_is_far other l, h, lies.below)));
@@ -84,7 +89,8 @@ module _ (num den p count low : ℕ) (lies : LiesAbove num den p count low) wher
   tie_up_next h = record {
     nearest = next_is_nearest (omega (arith, h));
     tie =
-        cases_around count (λ other. other ≢ count + 1 → distance other ≡ distance (count + 1) → WinsTie Up (count + 1) other)
+        cases_around count (λ other. other ≢ count + 1 → distance other ≡ distance (count + 1)
+        → WinsTie Up (count + 1) other)
         (λ other l n e. omega (arith, l)) (λ n e. omega arith) (λ n e. omega arith)
         (λ other l n e. absurd (omega (arith, e, at_next, upper_is_far other l, h, lies.below)));
   }

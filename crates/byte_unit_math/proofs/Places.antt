@@ -45,7 +45,8 @@ FewerZeros-less digits all rest places tenth h some parts =
     }
 
 -- N in units of the place
-number_at_places : (N rest places : ℕ) → FractionEndsAt N rest places → N * 10 ^ places ≡ (N / one * 10 ^ places + rest) * one
+number_at_places : (N rest places : ℕ) → FractionEndsAt N rest places
+    → N * 10 ^ places ≡ (N / one * 10 ^ places + rest) * one
 number_at_places N rest places h =
     let whole : N ≡ N / one * one + N % one = omega arith in
     let product = ap (λ n. n * 10 ^ places) (whole ∙ ap (λ fraction. N / one * one + fraction) h.fraction_is) in
@@ -60,19 +61,25 @@ last_digit_kept whole rest places some last =
     omega (arith, product, last)
 
 -- no fewer places state it, where the last digit isn't zero
-pub FractionEndsAt-least : (N rest places : ℕ) → FractionEndsAt N rest places → (0 < places → 0 < rest % 10) → IsLeastPlaces N one places
+pub FractionEndsAt-least : (N rest places : ℕ) → FractionEndsAt N rest places → (0 < places → 0 < rest % 10)
+    → IsLeastPlaces N one places
 FractionEndsAt-least N rest places h last =
-    IsLeastPlaces-last_digit N one (N / one * 10 ^ places + rest) places (omega arith) (number_at_places N rest places h)
+    IsLeastPlaces-last_digit N one (N / one * 10 ^ places + rest) places (omega arith)
+    (number_at_places N rest places h)
     (λ some. last_digit_kept (N / one) rest places some (last some))
 
 -- a fraction without the zeros at its end
-pub fraction_ends_at_shortened : (N short places : ℕ) → IsShortened (N % one) places_of_decimal short places → FractionEndsAt N short places
+pub fraction_ends_at_shortened : (N short places : ℕ) → IsShortened (N % one) places_of_decimal short places
+    → FractionEndsAt N short places
 fraction_ends_at_shortened N short places h = record { few = h.fewer.few; fraction_is = h.fewer.same }
 
-pub least_places_of_shortened : (N short places : ℕ) → IsShortened (N % one) places_of_decimal short places → IsLeastPlaces N one places
-least_places_of_shortened N short places h = FractionEndsAt-least N short places (fraction_ends_at_shortened N short places h) h.last
+pub least_places_of_shortened : (N short places : ℕ) → IsShortened (N % one) places_of_decimal short places
+    → IsLeastPlaces N one places
+least_places_of_shortened N short places h =
+    FractionEndsAt-least N short places (fraction_ends_at_shortened N short places h) h.last
 
-pub least_places_unique : (N places others : ℕ) → IsLeastPlaces N one places → IsLeastPlaces N one others → places ≡ others
+pub least_places_unique : (N places others : ℕ) → IsLeastPlaces N one places → IsLeastPlaces N one others
+    → places ≡ others
 least_places_unique N places others h k = omega (arith, h.least others k.has, k.least places h.has)
 
 pub value_of_shortened :
@@ -80,4 +87,5 @@ pub value_of_shortened :
     → (short * 10 ^ (places_of_decimal - least) ≡ N % one) × (short < 10 ^ least)
 value_of_shortened N short places least h k =
     let same = least_places_unique N places least (least_places_of_shortened N short places h) k in
-    subst (λ n. (short * 10 ^ (places_of_decimal - n) ≡ N % one) × (short < 10 ^ n)) same (sym h.fewer.same, h.fewer.below)
+    subst (λ n. (short * 10 ^ (places_of_decimal - n) ≡ N % one) × (short < 10 ^ n)) same
+    (sym h.fewer.same, h.fewer.below)

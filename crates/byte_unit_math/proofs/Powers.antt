@@ -1,5 +1,6 @@
 -- How many places a fraction over powers of two and five takes.
-use Rattle.std.proofs.Common.{◌≡◌, ◌≢◌, ◌+◌, ◌-◌, ◌*◌, ◌^◌, ◌/◌, ◌%◌, ◌<◌, ◌≤◌, ⊎_elim, ℕ, zero, suc, max, arith, ap, sym, ◌∙◌}
+use Rattle.std.proofs.Common.{◌≡◌, ◌≢◌, ◌+◌, ◌-◌, ◌*◌, ◌^◌, ◌/◌, ◌%◌, ◌<◌, ◌≤◌, ⊎_elim, ℕ, zero, suc, max, arith, ap}
+use Rattle.std.proofs.Common.{sym, ◌∙◌}
 use Rattle.std.proofs.lemmas.Bool.{cases_lt}
 use Rattle.std.proofs.lemmas.Nat.{pow-add, mul-pow}
 use Rattle.std.proofs.Math.Nat.{pow-succ', eq_of_mul-eq-mul_right, one-le-pow}
@@ -25,7 +26,8 @@ next_power base m a l =
     ap (λ n. base ^ n) total ∙ (pow-add base m (suc (a - m - 1)) ∙ ap (λ n. base ^ m * n) (pow-succ' base (a - m - 1)))
 
 -- a number by its factors, times a power of ten: so many more of both
-tens_of_factors : (left twos fives p : ℕ) → left * (2 ^ twos * 5 ^ fives) * 10 ^ p ≡ left * (2 ^ (twos + p) * 5 ^ (fives + p))
+tens_of_factors : (left twos fives p : ℕ)
+    → left * (2 ^ twos * 5 ^ fives) * 10 ^ p ≡ left * (2 ^ (twos + p) * 5 ^ (fives + p))
 tens_of_factors left twos fives p =
     let ten : 10 ^ p ≡ 2 ^ p * 5 ^ p = mul-pow 2 5 p in
     let powers = ap (λ n. left * (2 ^ twos * 5 ^ fives) * n) ten in
@@ -39,16 +41,19 @@ count_of_units left twos fives a b p few =
     let two_parts : 2 ^ (twos + p) ≡ 2 ^ (twos + p - a) * 2 ^ a =
     ap (λ n. 2 ^ n) (let e : twos + p ≡ (twos + p - a) + a = omega (arith, few.0) in e) ∙ pow-add 2 (twos + p - a) a in
     let five_parts : 5 ^ (fives + p) ≡ 5 ^ (fives + p - b) * 5 ^ b =
-    ap (λ n. 5 ^ n) (let e : fives + p ≡ (fives + p - b) + b = omega (arith, few.1) in e) ∙ pow-add 5 (fives + p - b) b in
+    ap (λ n. 5 ^ n) (let e : fives + p ≡ (fives + p - b) + b = omega (arith, few.1) in e)
+    ∙ pow-add 5 (fives + p - b) b in
     let twos_apart = ap (λ n. left * (n * 5 ^ (fives + p))) two_parts in
     let fives_apart = ap (λ n. left * (2 ^ (twos + p - a) * 2 ^ a * n)) five_parts in
     tens_of_factors left twos fives p ∙ (twos_apart ∙ (fives_apart ∙ omega arith))
 
-times_tens : (num twos fives p : ℕ) (h : IsTwoFive num twos fives) → num * 10 ^ p ≡ h.left * (2 ^ (twos + p) * 5 ^ (fives + p))
+times_tens : (num twos fives p : ℕ) (h : IsTwoFive num twos fives)
+    → num * 10 ^ p ≡ h.left * (2 ^ (twos + p) * 5 ^ (fives + p))
 times_tens num twos fives p h = ap (λ n. n * 10 ^ p) h.product ∙ tens_of_factors h.left twos fives p
 
 exact_with_powers :
-    (num a b twos fives p : ℕ) → IsTwoFive num twos fives → (a ≤ twos + p) × (b ≤ fives + p) → IsExactAt num (2 ^ a * 5 ^ b) p
+    (num a b twos fives p : ℕ) → IsTwoFive num twos fives → (a ≤ twos + p) × (b ≤ fives + p)
+    → IsExactAt num (2 ^ a * 5 ^ b) p
 exact_with_powers num a b twos fives p h few = (
   h.left * (2 ^ (twos + p - a) * 5 ^ (fives + p - b)),
   ap (λ n. n * 10 ^ p) h.product ∙ count_of_units h.left twos fives a b p few,
@@ -64,7 +69,8 @@ cancel_twos left twos others count more rest some e =
     omega (arith, same)
 
 cancel_fives :
-    (left others fives count more rest : ℕ) → 0 < fives → left * (others * fives) ≡ count * (rest * (fives * (5 * more)))
+    (left others fives count more rest : ℕ) → 0 < fives
+    → left * (others * fives) ≡ count * (rest * (fives * (5 * more)))
     → (left * others) % 5 ≡ 0
 cancel_fives left others fives count more rest some e =
     let same : left * others ≡ 5 * (count * more * rest) =
@@ -91,7 +97,8 @@ enough_fives num a b twos fives p h e = ⊎_elim
 
 pub exact_by_powers : ExactByPowers
 exact_by_powers num a b twos fives p h =
-    (λ e. (enough_twos num a b twos fives p h e, enough_fives num a b twos fives p h e), λ few. exact_with_powers num a b twos fives p h few)
+    (λ e. (enough_twos num a b twos fives p h e, enough_fives num a b twos fives p h e),
+    λ few. exact_with_powers num a b twos fives p h few)
 
 pub places_by_powers : PlacesByPowers
 places_by_powers num a b twos fives h = record {
@@ -104,7 +111,8 @@ zero_takes_no_places den = record { has = (0, omega arith); least = λ p e. omeg
 
 nothing_left : (n left twos fives : ℕ) → n ≡ left * (2 ^ twos * 5 ^ fives) → 0 < left % 2 → 0 < left % 5 → HasTwoFive n
 nothing_left n left twos fives e odd no_five =
-    (twos, fives, record { left = left; product = e; odd = λ k. omega (arith, odd, k); no_five = λ k. omega (arith, no_five, k) })
+    (twos, fives, record { left = left; product = e; odd = λ k. omega (arith, odd, k);
+    no_five = λ k. omega (arith, no_five, k) })
 
 -- two and five are taken off as long as they divide what is left
 taken_off : (turns n left twos fives : ℕ) → left ≤ turns → 0 < left → n ≡ left * (2 ^ twos * 5 ^ fives) → HasTwoFive n
@@ -128,4 +136,5 @@ taken_off (suc turns) n left twos fives few some e =
 -- a number that is not zero has powers of two and five, and something left
 pub has_two_five : NumbersHaveTwosAndFives
 has_two_five n some =
-    taken_off n n n 0 0 (omega arith) (⊎_elim (λ l. l) (λ k. absurd (some (omega (arith, k)))) (cases_lt 0 n)) (omega arith)
+    taken_off n n n 0 0 (omega arith) (⊎_elim (λ l. l) (λ k. absurd (some (omega (arith, k)))) (cases_lt 0 n))
+    (omega arith)

@@ -1,5 +1,6 @@
 -- A product that is rounded up from its last places, a group of digits a step.
-use Rattle.std.proofs.Common.{◌≡◌, ℕ, ◌+◌, ◌-◌, ◌*◌, ◌^◌, ◌/◌, ◌%◌, ◌<◌, ◌≤◌, arith, subst, sym, ap, ◌∙◌, ⊎_elim, Option, Some, None, IfSome, IfNone}
+use Rattle.std.proofs.Common.{◌≡◌, ℕ, ◌+◌, ◌-◌, ◌*◌, ◌^◌, ◌/◌, ◌%◌, ◌<◌, ◌≤◌, arith, subst, sym, ap, ◌∙◌, ⊎_elim}
+use Rattle.std.proofs.Common.{Option, Some, None, IfSome, IfNone}
 use Rattle.std.proofs.Common.{Bool, true, false, ltb}
 use Rattle.std.specs.Bool.{then_some}
 use Rattle.std.proofs.Math.Nat.{one-le-pow, pow-le-pow_right, mul-le-mul_right}
@@ -11,8 +12,10 @@ use Rattle.byte_unit_math.specs.RoundedUp.{group_limit, half_places, half_limit,
 use Rattle.byte_unit_math.proofs.Scales.{pow10_split}
 
 -- the two groups of half the digits
-pub IsRoundedUp-groups : (digits unit behind part size : ℕ) → IsRoundedUp (digits % group_limit * unit + behind) group_limit part
-    → IsRoundedUp (digits / group_limit * unit + part) group_limit size → IsRoundedUp (digits * unit + behind) half_limit size
+pub IsRoundedUp-groups : (digits unit behind part size : ℕ)
+    → IsRoundedUp (digits % group_limit * unit + behind) group_limit part
+    → IsRoundedUp (digits / group_limit * unit + part) group_limit size
+    → IsRoundedUp (digits * unit + behind) half_limit size
 IsRoundedUp-groups digits unit behind part size low high =
     let parts : group_limit * (digits / group_limit) + digits % group_limit ≡ digits = omega arith in
     let product = ap (λ n. n * unit) parts in
@@ -36,7 +39,8 @@ InFirstHalf-places digits places few small =
     pow10_split (half_places - places) (places_of_decimal - places) (omega (arith, few))
     ∙ ap (λ n. 10 ^ (half_places - places) * 10 ^ n) left in
     let product = ap (λ n. digits * n) scale in
-    let below = mul-le-mul_right {m = digits + 1} {n = 10 ^ places} (10 ^ (half_places - places)) (omega (arith, small)) in
+    let below = mul-le-mul_right {m = digits + 1} {n = 10 ^ places} (10 ^ (half_places - places))
+    (omega (arith, small)) in
     let some = one-le-pow (half_places - places) 10 (omega arith) in
     record {
       digits_fit = omega (arith, small, pow-le-pow_right {n = 10} (omega arith) {i = places} {j = half_places} few);
@@ -65,7 +69,8 @@ IsLeastSize-none digits power unit none =
 
 -- the whole part's product beside the fraction's least size
 pub IsLeastSize-whole :
-    (whole fraction unit part : ℕ) → IsLeastSize fraction unit part → IsLeastSize (whole * one + fraction) unit (whole * unit + part)
+    (whole fraction unit part : ℕ) → IsLeastSize fraction unit part
+    → IsLeastSize (whole * one + fraction) unit (whole * unit + part)
 IsLeastSize-whole whole fraction unit part h =
     record {
       has = omega (arith, h.has);
@@ -82,14 +87,17 @@ pub record InParts (N unit whole fraction part : ℕ) : Type 0 where
   pub fraction_is : fraction ≡ N % one
   pub least : IsLeastSize fraction unit part
 
-pub IsLeastSize-parts : (N unit whole fraction part : ℕ) → InParts N unit whole fraction part → IsLeastSize N unit (whole * unit + part)
+pub IsLeastSize-parts : (N unit whole fraction part : ℕ) → InParts N unit whole fraction part
+    → IsLeastSize N unit (whole * unit + part)
 IsLeastSize-parts N unit whole fraction part h =
     let parts : whole * one + fraction ≡ N = omega (arith, h.whole_is, h.fraction_is) in
-    subst (λ number. IsLeastSize number unit (whole * unit + part)) parts (IsLeastSize-whole whole fraction unit part h.least)
+    subst (λ number. IsLeastSize number unit (whole * unit + part)) parts
+    (IsLeastSize-whole whole fraction unit part h.least)
 
 -- where the least size reaches the limit, so does each size that is enough
 pub least_size_not_below :
-    (N unit size limit : ℕ) → IsLeastSize N unit size → limit ≤ size → (enough : ℕ) → IsLeastSize N unit enough → limit ≤ enough
+    (N unit size limit : ℕ) → IsLeastSize N unit size → limit ≤ size → (enough : ℕ) → IsLeastSize N unit enough
+    → limit ≤ enough
 least_size_not_below N unit size limit h reached enough k = omega (arith, reached, h.least enough k.has)
 
 pub IfNone-always : {T : Type 0} (o : Option T) (Fact : Type 0) → Fact → IfNone o Fact
@@ -100,7 +108,8 @@ pub IfSome-then_some : (is : Bool) (size : ℕ) (Holds : ℕ → Type 0) → Hol
 IfSome-then_some true size Holds holds = holds
 IfSome-then_some false size Holds holds = tt
 
-pub IfNone-below : (size limit : ℕ) (Fact : Type 0) → (limit ≤ size → Fact) → IfNone (then_some (ltb size limit) size) Fact
+pub IfNone-below : (size limit : ℕ) (Fact : Type 0) → (limit ≤ size → Fact)
+    → IfNone (then_some (ltb size limit) size) Fact
 IfNone-below size limit Fact reached =
     ⊎_elim (λ below. let yes : ltb size limit ≡ true = grind (arith, nat_tests) in
     subst (λ is. IfNone (then_some is size) Fact) (sym yes) tt)

@@ -1,5 +1,6 @@
 -- The fields of a decimal: its whole part, and its digits after the point without zeros at their end.
-use Rattle.std.proofs.Common.{◌≡◌, ℕ, zero, suc, ◌+◌, ◌-◌, ◌*◌, ◌/◌, ◌%◌, ◌^◌, ◌<◌, ◌≤◌, Bool, true, false, nat_eq, arith, ap, refl, sym, subst, ◌∙◌}
+use Rattle.std.proofs.Common.{◌≡◌, ℕ, zero, suc, ◌+◌, ◌-◌, ◌*◌, ◌/◌, ◌%◌, ◌^◌, ◌<◌, ◌≤◌, Bool, true, false, nat_eq}
+use Rattle.std.proofs.Common.{arith, ap, refl, sym, subst, ◌∙◌}
 use Rattle.std.specs.Prelude.{if◌then◌else◌}
 use Rattle.std.proofs.Math.Nat.{pow-succ'}
 use Rattle.std.proofs.lemmas.Bool.Decides.{nat_tests}
@@ -18,11 +19,17 @@ fraction_of_fields_below_one d h = fraction_below_one d.digits d.places h.few h.
 pub whole_of_fields : (N : ℕ) (d : Inside) → IsShort d → number_of d ≡ N → d.whole ≡ N / one
 whole_of_fields N d h view = let part = fraction_of_fields_below_one d h in omega (arith, part, view)
 
-pub fraction_of_fields : (N : ℕ) (d : Inside) → IsShort d → number_of d ≡ N → d.digits * 10 ^ (places_of_decimal - d.places) ≡ N % one
+pub fraction_of_fields : (N : ℕ) (d : Inside) → IsShort d → number_of d ≡ N
+    → d.digits * 10 ^ (places_of_decimal - d.places) ≡ N % one
 fraction_of_fields N d h view = let part = fraction_of_fields_below_one d h in omega (arith, part, view)
 
-pub fields_are_shortened : (N : ℕ) (d : Inside) → IsShort d → number_of d ≡ N → IsShortened (N % one) places_of_decimal d.digits d.places
-fields_are_shortened N d h view = record { fewer = record { few = h.few; same = sym (fraction_of_fields N d h view); below = h.below }; last = h.last }
+pub fields_are_shortened : (N : ℕ) (d : Inside) → IsShort d → number_of d ≡ N
+    → IsShortened (N % one) places_of_decimal d.digits d.places
+fields_are_shortened N d h view =
+    record {
+      fewer = record { few = h.few; same = sym (fraction_of_fields N d h view); below = h.below };
+      last = h.last;
+    }
 
 -- digits without the zeros at their end are found again
 
@@ -32,10 +39,12 @@ digits_kept zero digits last = refl
 digits_kept (suc places) digits last =
     let some = last (omega arith) in
     let no : nat_eq (digits % 10) 0 ≡ false = grind (arith, nat_tests) in
-    let Trims : Bool → Type 0 = λ b. (if b then shortened_digits places (digits / 10) else (digits, suc places)) ≡ (digits, suc places) in
+    let Trims : Bool → Type 0 =
+    λ b. (if b then shortened_digits places (digits / 10) else (digits, suc places)) ≡ (digits, suc places) in
     subst Trims (sym no) refl
 
-zero_dropped : (places digits : ℕ) → digits % 10 ≡ 0 → shortened_digits (suc places) digits ≡ shortened_digits places (digits / 10)
+zero_dropped : (places digits : ℕ) → digits % 10 ≡ 0
+    → shortened_digits (suc places) digits ≡ shortened_digits places (digits / 10)
 unfolding shortened_digits
 zero_dropped places digits none =
     let yes : nat_eq (digits % 10) 0 ≡ true = grind (arith, nat_tests) in
@@ -44,7 +53,8 @@ zero_dropped places digits none =
     subst Trims (sym yes) refl
 
 zeros_dropped :
-    (behind all places digits rest : ℕ) → all ≡ behind + places → rest ≡ digits * 10 ^ behind → (0 < places → 0 < digits % 10)
+    (behind all places digits rest : ℕ) → all ≡ behind + places → rest ≡ digits * 10 ^ behind
+    → (0 < places → 0 < digits % 10)
     → shortened_digits all rest ≡ (digits, places)
 zeros_dropped zero all places digits rest count product last =
     let e : places ≡ all = omega (arith, count) in
@@ -58,10 +68,12 @@ zeros_dropped (suc behind) (suc all) places digits rest count product last =
     zero_dropped all rest (omega (arith, tens))
     ∙ zeros_dropped behind all places digits (rest / 10) (omega (arith, count)) (omega (arith, tens)) last
 
-short_fraction_is : (rest : ℕ) (pair : ℕ × ℕ) → shortened_digits places_of_decimal rest ≡ pair → short_fraction rest ≡ pair
+short_fraction_is : (rest : ℕ) (pair : ℕ × ℕ) → shortened_digits places_of_decimal rest ≡ pair
+    → short_fraction rest ≡ pair
 short_fraction_is zero pair h =
     let none : shortened_digits places_of_decimal 0 ≡ (0, 0) =
-    zeros_dropped places_of_decimal places_of_decimal 0 0 0 (omega arith) (omega arith) (λ some. absurd (omega (arith, some))) in
+    zeros_dropped places_of_decimal places_of_decimal 0 0 0 (omega arith) (omega arith)
+    (λ some. absurd (omega (arith, some))) in
     sym none ∙ h
 short_fraction_is (suc rest) pair h = h
 
@@ -74,7 +86,8 @@ pub record AreParts (whole digits places : ℕ) : Type 0 where
   pub last : 0 < places → 0 < digits % 10
 
 pub IsShort-parts :
-    (whole digits places : ℕ) → AreParts whole digits places → IsShort (record { whole = whole; digits = digits; places = places })
+    (whole digits places : ℕ) → AreParts whole digits places
+    → IsShort (record { whole = whole; digits = digits; places = places })
 IsShort-parts whole digits places h =
     let n = whole * one + digits * 10 ^ (places_of_decimal - places) in
     let part = fraction_below_one digits places h.few h.below in
@@ -82,10 +95,18 @@ IsShort-parts whole digits places h =
     let behind : n % one ≡ digits * 10 ^ (places_of_decimal - places) = omega (arith, part) in
     let short : short_fraction (n % one) ≡ (digits, places) =
     short_fraction_is (n % one) (digits, places)
-    (zeros_dropped (places_of_decimal - places) places_of_decimal places digits (n % one) (omega (arith, h.few)) behind h.last) in
-    let of_whole : ℕ → Inside = λ w. record { whole = w; digits = (short_fraction (n % one)).0; places = (short_fraction (n % one)).1 } in
+    (zeros_dropped (places_of_decimal - places) places_of_decimal places digits (n % one) (omega (arith, h.few)) behind
+    h.last) in
+    let of_whole : ℕ → Inside =
+    λ w. record { whole = w; digits = (short_fraction (n % one)).0; places = (short_fraction (n % one)).1 } in
     let of_short : ℕ × ℕ → Inside = λ pair. record { whole = whole; digits = pair.0; places = pair.1 } in
-    record { bound = h.bound; few = h.few; below = h.below; last = h.last; only = ap of_whole front ∙ ap of_short short }
+    record {
+      bound = h.bound;
+      few = h.few;
+      below = h.below;
+      last = h.last;
+      only = ap of_whole front ∙ ap of_short short;
+    }
 
 -- the same number without the zeros at the end of its digits
 

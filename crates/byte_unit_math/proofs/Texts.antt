@@ -1,5 +1,6 @@
 -- A decimal is known by its number of places and its number, so each form has one text.
-use Rattle.std.proofs.Common.{◌≡◌, ◌+◌, ◌-◌, ◌*◌, ◌^◌, ◌/◌, ◌%◌, ◌<◌, ◌≤◌, ⊎_elim, ℕ, zero, suc, List, [], ◌∷◌, ◌++◌, length, take, get_or}
+use Rattle.std.proofs.Common.{◌≡◌, ◌+◌, ◌-◌, ◌*◌, ◌^◌, ◌/◌, ◌%◌, ◌<◌, ◌≤◌, ⊎_elim, ℕ, zero, suc, List, [], ◌∷◌, ◌++◌}
+use Rattle.std.proofs.Common.{length, take, get_or}
 use Rattle.std.proofs.Common.{replicate, arith, ap, sym, refl, subst, ◌∙◌, length-append, append-nil}
 use Rattle.std.specs.Prelude.{⊤}
 use Rattle.std.specs.List.{All}
@@ -19,7 +20,8 @@ use Rattle.byte_unit_math.specs.Digits.{last_digits, at_places, before, without_
 use Rattle.byte_unit_math.specs.NumberLaws.{ExpansionsAreFoundByDivision, ShortNumeralsAreExpansions}
 use Rattle.byte_unit_math.specs.Numeral.{text_of, numeral, short}
 use Rattle.byte_unit_math.specs.Padded.{padded}
-use Rattle.byte_unit_math.proofs.Digits.{one_le_pow10, value_cons, value_append_zeros, length_last_digits, last_digits_below_ten, scaled_at_places, ShortOf-shortened}
+use Rattle.byte_unit_math.proofs.Digits.{one_le_pow10, value_cons, value_append_zeros, length_last_digits}
+use Rattle.byte_unit_math.proofs.Digits.{last_digits_below_ten, scaled_at_places, ShortOf-shortened}
 use Rattle.byte_unit_math.proofs.Expanding.{expansion_of_digits}
 use Rattle.byte_unit_math.proofs.Scales.{pow10_split}
 use Rattle.byte_unit_math.proofs.Cut.{value_below_power}
@@ -29,7 +31,8 @@ use Rattle.byte_unit_math.proofs.Cut.{value_below_power}
 abbrev AllBelowTen : List ℕ → Type 0
 AllBelowTen ds = All (λ d. d < 10) ds
 
-same_digits : (ds es : List ℕ) → AllBelowTen ds → AllBelowTen es → length ds ≡ length es → value_of ds ≡ value_of es → ds ≡ es
+same_digits : (ds es : List ℕ) → AllBelowTen ds → AllBelowTen es → length ds ≡ length es → value_of ds ≡ value_of es
+    → ds ≡ es
 same_digits [] [] h k len e = refl
 same_digits [] (x ∷ es) h k len e = absurd (omega (arith, len))
 same_digits (d ∷ ds) [] h k len e = absurd (omega (arith, len))
@@ -45,12 +48,14 @@ same_digits (d ∷ ds) (x ∷ es) h k len e =
     (omega (arith, product, value_cons d ds, value_cons x es, e)) in
     ap (λ n. n ∷ ds) parts.0 ∙ ap (λ l. x ∷ l) (same_digits ds es hs ks l parts.1)
 
-pub same_finite : (e f : Finite) → AllBelowTen e.digits → AllBelowTen f.digits → length e.digits ≡ length f.digits → scaled e ≡ scaled f → e ≡ f
+pub same_finite : (e f : Finite) → AllBelowTen e.digits → AllBelowTen f.digits → length e.digits ≡ length f.digits
+    → scaled e ≡ scaled f → e ≡ f
 same_finite e f h k len same =
     let scale : 10 ^ length f.digits ≡ 10 ^ length e.digits = ap (λ n. 10 ^ n) (sym len) in
     let product = ap (λ n. f.whole * n) scale in
     let parts =
-    same_from_place e.whole (value_of e.digits) f.whole (value_of f.digits) (10 ^ length e.digits) (value_below_power e.digits h)
+    same_from_place e.whole (value_of e.digits) f.whole (value_of f.digits) (10 ^ length e.digits)
+    (value_below_power e.digits h)
     (omega (arith, value_below_power f.digits k, scale)) (omega (arith, same, product)) in
     let digits = same_digits e.digits f.digits h k len parts.1 in
     let of_whole : ℕ → Finite = λ w. record { whole = w; digits = e.digits } in
@@ -108,7 +113,9 @@ short_numeral_is_expansion q p =
 
 -- the decimal of q / 10^p is printed as the short numeral
 pub text_of_short_numeral : (q p : ℕ) (e : Finite) → IsExpansion q (10 ^ p) e → text_of e ≡ short q p
-text_of_short_numeral q p e h = ap text_of (expansion_unique q (10 ^ p) e (shortened (at_places p q)) (omega (arith, one_le_pow10 p)) h (short_numeral_is_expansion q p))
+text_of_short_numeral q p e h =
+    ap text_of (expansion_unique q (10 ^ p) e (shortened (at_places p q)) (omega (arith, one_le_pow10 p)) h
+    (short_numeral_is_expansion q p))
 
 -- the numeral with all places
 
@@ -120,17 +127,21 @@ padded_is_at_places q p e h =
     let all : take p e.digits ≡ e.digits = take_all p e.digits few in
     let f : Finite = record { whole = e.whole; digits = e.digits ++ zeros } in
     let of_front : List ℕ → Finite = λ l. record { whole = e.whole; digits = l ++ zeros } in
-    let count : length f.digits ≡ p = omega (arith, length-append e.digits zeros, length-replicate {A = ℕ} (p - len) 0, few) in
+    let count : length f.digits ≡ p =
+    omega (arith, length-append e.digits zeros, length-replicate {A = ℕ} (p - len) 0, few) in
     let power = pow10_split len p few in
     let whole = ap (λ n. e.whole * n) power in
     let number = ap (λ n. scaled e * n) power in
     let value = ap (λ n. n * 10 ^ len) (value_append_zeros e.digits (p - len)) in
-    let scaled_f : scaled f ≡ e.whole * 10 ^ p + value_of f.digits = ap (λ n. e.whole * 10 ^ n + value_of f.digits) count in
+    let scaled_f : scaled f ≡ e.whole * 10 ^ p + value_of f.digits =
+    ap (λ n. e.whole * 10 ^ n + value_of f.digits) count in
     let same : scaled f ≡ q =
     eq_of_mul-eq-mul_right (10 ^ len) (omega (arith, one_le_pow10 len)) (scaled f) q
     (omega (arith, ap (λ n. n * 10 ^ len) scaled_f, whole, number, value, h.exact, ap (λ n. n * 10 ^ len) whole)) in
-    let small = All-append (λ d. d < 10) e.digits zeros h.small (All-replicate (λ d. d < 10) (p - len) 0 (omega arith)) in
-    ap of_front all ∙ same_finite f (at_places p q) small (last_digits_below_ten p q) (count ∙ sym (length_last_digits p q)) (same ∙ sym (scaled_at_places p q))
+    let small = All-append (λ d. d < 10) e.digits zeros h.small
+    (All-replicate (λ d. d < 10) (p - len) 0 (omega arith)) in
+    ap of_front all ∙ same_finite f (at_places p q) small (last_digits_below_ten p q)
+    (count ∙ sym (length_last_digits p q)) (same ∙ sym (scaled_at_places p q))
 
 pub text_of_padded : (q p : ℕ) (e : Finite) → IsExpansion q (10 ^ p) e → text_of (padded p e) ≡ numeral q p
 text_of_padded q p e h = ap text_of (padded_is_at_places q p e h)
@@ -139,9 +150,11 @@ text_of_padded q p e h = ap text_of (padded_is_at_places q p e h)
 pub padded_to_own_places : (e : Finite) → padded (length e.digits) e ≡ e
 padded_to_own_places e =
     let none : length e.digits - length e.digits ≡ 0 = omega arith in
-    let of_count : ℕ → Finite = λ n. record { whole = e.whole; digits = take (length e.digits) e.digits ++ replicate n 0 } in
+    let of_count : ℕ → Finite =
+    λ n. record { whole = e.whole; digits = take (length e.digits) e.digits ++ replicate n 0 } in
     let of_digits : List ℕ → Finite = λ l. record { whole = e.whole; digits = l } in
-    ap of_count none ∙ ap of_digits (append-nil (take (length e.digits) e.digits) ∙ take_all (length e.digits) e.digits (omega arith))
+    ap of_count none ∙ ap of_digits
+    (append-nil (take (length e.digits) e.digits) ∙ take_all (length e.digits) e.digits (omega arith))
 
 -- nearest to the decimal of a fraction is nearest to the fraction
 
@@ -156,7 +169,8 @@ difference_times a b k =
     let TimesFromA : ℕ → Type 0 = λ n. abs_diff a n * k ≡ abs_diff (a * k) (n * k) in
     let TimesFromB : ℕ → Type 0 = λ n. abs_diff b n * k ≡ abs_diff (b * k) (n * k) in
     ⊎_elim (λ l. subst TimesFromA (let e : a + (b - a) ≡ b = omega (arith, l) in e) (difference_apart a (b - a) k))
-    (λ l. let times = subst TimesFromB (let e : b + (a - b) ≡ a = omega (arith, l) in e) (difference_apart b (a - b) k) in
+    (λ l. let times = subst TimesFromB (let e : b + (a - b) ≡ a = omega (arith, l) in e)
+    (difference_apart b (a - b) k) in
     ap (λ n. n * k) (difference_turned a b) ∙ (times ∙ difference_turned (b * k) (a * k))) (cases_lt a b)
 
 pub nearest_of_expansion :
@@ -166,7 +180,8 @@ nearest_of_expansion num den e p ties q stated h =
     let power = 10 ^ length e.digits in
     let number = scaled e in
     let some : 0 < power = omega (arith, one_le_pow10 (length e.digits)) in
-    let goal_is : number * 10 ^ p * den ≡ num * 10 ^ p * power = let exact = ap (λ n. n * 10 ^ p) stated.1 in omega (arith, exact) in
+    let goal_is : number * 10 ^ p * den ≡ num * 10 ^ p * power = let exact = ap (λ n. n * 10 ^ p) stated.1 in
+    omega (arith, exact) in
     let same : (o : ℕ) → abs_diff (o * power) (number * 10 ^ p) * den ≡ abs_diff (o * den) (num * 10 ^ p) * power =
     λ o. let sides : o * power * den ≡ o * den * power = omega arith in
     difference_times (o * power) (number * 10 ^ p) den
@@ -174,12 +189,15 @@ nearest_of_expansion num den e p ties q stated h =
     ∙ (ap (λ n. abs_diff (o * den * power) n) goal_is ∙ sym (difference_times (o * den) (num * 10 ^ p) power))) in
     record {
       nearest = λ o. let least =
-          mul-le-mul_right {m = abs_diff (q * power) (number * 10 ^ p)} {n = abs_diff (o * power) (number * 10 ^ p)} den (h.nearest o) in
+          mul-le-mul_right {m = abs_diff (q * power) (number * 10 ^ p)} {n = abs_diff (o * power) (number * 10 ^ p)} den
+          (h.nearest o) in
           let this = same q in let other = same o in
-          le_of_mul-le-mul_right {m = abs_diff (q * den) (num * 10 ^ p)} {n = abs_diff (o * den) (num * 10 ^ p)} {k = power}
+          le_of_mul-le-mul_right {m = abs_diff (q * den) (num * 10 ^ p)} {n = abs_diff (o * den) (num * 10 ^ p)}
+          {k = power}
           (omega (arith, least, this, other)) some;
       tie = λ o n k. h.tie o n (let tied = ap (λ x. x * power) k in
-          eq_of_mul-eq-mul_right den stated.0 (abs_diff (o * power) (number * 10 ^ p)) (abs_diff (q * power) (number * 10 ^ p))
+          eq_of_mul-eq-mul_right den stated.0 (abs_diff (o * power) (number * 10 ^ p))
+          (abs_diff (q * power) (number * 10 ^ p))
           (same o ∙ (tied ∙ sym (same q))));
     }
 
@@ -191,14 +209,16 @@ pub record SameFraction (num den num' den' : ℕ) : Type 0 where
   pub same : num * den' ≡ num' * den
 
 same_places :
-    (num den num' den' p count : ℕ) → SameFraction num den num' den' → num' * 10 ^ p ≡ count * den' → num * 10 ^ p ≡ count * den
+    (num den num' den' p count : ℕ) → SameFraction num den num' den' → num' * 10 ^ p ≡ count * den'
+    → num * 10 ^ p ≡ count * den
 same_places num den num' den' p count h exact =
     let power = ap (λ n. n * 10 ^ p) h.same in
     let times = ap (λ n. n * den) exact in
     eq_of_mul-eq-mul_right den' h.positive' (num * 10 ^ p) (count * den) (omega (arith, power, times))
 
 pub expansion_of_same_fraction :
-    (num den num' den' : ℕ) (e : Finite) → SameFraction num den num' den' → IsExpansion num den e → IsExpansion num' den' e
+    (num den num' den' : ℕ) (e : Finite) → SameFraction num den num' den' → IsExpansion num den e
+    → IsExpansion num' den' e
 expansion_of_same_fraction num den num' den' e same h =
     let turned_round : SameFraction num' den' num den =
     record { positive = same.positive'; positive' = same.positive; same = sym same.same } in
@@ -210,25 +230,31 @@ expansion_of_same_fraction num den num' den' e same h =
 
 -- the decimal of a fraction, found by division
 
-expansion_at : (num den p : ℕ) → 0 < den → IsExactAt num den p → IsExpansion num den (shortened (at_places p (num * 10 ^ p / den)))
+expansion_at : (num den p : ℕ) → 0 < den → IsExactAt num den p
+    → IsExpansion num den (shortened (at_places p (num * 10 ^ p / den)))
 expansion_at num den p some h =
     let quotient : num * 10 ^ p / den ≡ h.0 = ap (λ n. n / den) h.1 ∙ mul-div_cancel h.0 some in
     let ExpandsTo : ℕ → Type 0 = λ q. IsExpansion num den (shortened (at_places p q)) in
     subst ExpandsTo (sym quotient)
     (expansion_of_same_fraction h.0 (10 ^ p) num den (shortened (at_places p h.0))
-    (record { positive = omega (arith, one_le_pow10 p); positive' = some; same = sym h.1 }) (short_numeral_is_expansion h.0 p))
+    (record { positive = omega (arith, one_le_pow10 p); positive' = some; same = sym h.1 })
+    (short_numeral_is_expansion h.0 p))
 
-pub expansion_of_is_expansion : (num den : ℕ) → 0 < den → IsExactAt num den expansion_places → IsExpansion num den (expansion_of num den)
+pub expansion_of_is_expansion : (num den : ℕ) → 0 < den → IsExactAt num den expansion_places
+    → IsExpansion num den (expansion_of num den)
 expansion_of_is_expansion num den some ends = expansion_at num den expansion_places some ends
 
 pub expansion_is_by_division :
-    (num den : ℕ) (e : Finite) → 0 < den → IsExactAt num den expansion_places → IsExpansion num den e → e ≡ expansion_of num den
-expansion_is_by_division num den e some ends h = expansion_unique num den e (expansion_of num den) some h (expansion_of_is_expansion num den some ends)
+    (num den : ℕ) (e : Finite) → 0 < den → IsExactAt num den expansion_places → IsExpansion num den e
+    → e ≡ expansion_of num den
+expansion_is_by_division num den e some ends h =
+    expansion_unique num den e (expansion_of num den) some h (expansion_of_is_expansion num den some ends)
 
 pub expansions_by_division : ExpansionsAreFoundByDivision
 expansions_by_division num den e other ends =
     let some : 0 < den = ⊎_elim (λ l. l) (λ k. absurd (other (omega (arith, k)))) (cases_lt 0 den) in
-    (λ h. expansion_is_by_division num den e some ends h, λ is. subst (IsExpansion num den) (sym is) (expansion_of_is_expansion num den some ends))
+    (λ h. expansion_is_by_division num den e some ends h,
+    λ is. subst (IsExpansion num den) (sym is) (expansion_of_is_expansion num den some ends))
 
 -- one nearest
 
@@ -240,7 +266,8 @@ pub record BothNearest (num den p : ℕ) (ties : Ties) (q r : ℕ) : Type 0 wher
 equally_far :
     (num den p : ℕ) (ties : Ties) (q r : ℕ) → BothNearest num den p ties q r
     → abs_diff (r * den) (num * 10 ^ p) ≡ abs_diff (q * den) (num * 10 ^ p)
-equally_far num den p ties q r h = let other = h.this.nearest r in let this = h.other.nearest q in omega (arith, this, other)
+equally_far num den p ties q r h = let other = h.this.nearest r in let this = h.other.nearest q in
+    omega (arith, this, other)
 
 not_between : (num den p : ℕ) (ties : Ties) (q r : ℕ) → BothNearest num den p ties q r → q + 1 < r → ⊥
 not_between num den p ties q r h apart =
@@ -252,7 +279,8 @@ not_both_even num den p q r h less even = not_between num den p Even q r h (omeg
 
 not_below : (num den p : ℕ) (ties : Ties) (q r : ℕ) → BothNearest num den p ties q r → q < r → ⊥
 not_below num den p Up q r h less =
-    let wins = h.this.tie r (λ e. omega (arith, e, less)) (equally_far num den p Up q r h) in absurd (omega (arith, wins, less))
+    let wins = h.this.tie r (λ e. omega (arith, e, less)) (equally_far num den p Up q r h) in
+    absurd (omega (arith, wins, less))
 not_below num den p Even q r h less =
     let far = equally_far num den p Even q r h in
     let even = h.this.tie r (λ e. omega (arith, e, less)) far in
@@ -261,6 +289,8 @@ not_below num den p Even q r h less =
 
 pub nearest_unique : (num den p : ℕ) (ties : Ties) (q r : ℕ) → BothNearest num den p ties q r → q ≡ r
 nearest_unique num den p ties q r h =
-    let turned_round : BothNearest num den p ties r q = record { positive = h.positive; this = h.other; other = h.this } in
+    let turned_round : BothNearest num den p ties r q =
+    record { positive = h.positive; this = h.other; other = h.this } in
     ⊎_elim (λ less. absurd (not_below num den p ties q r h less))
-    (λ l. ⊎_elim (λ less. absurd (not_below num den p ties r q turned_round less)) (λ m. omega (arith, l, m)) (cases_lt r q)) (cases_lt q r)
+    (λ l. ⊎_elim (λ less. absurd (not_below num den p ties r q turned_round less)) (λ m. omega (arith, l, m))
+    (cases_lt r q)) (cases_lt q r)

@@ -1,5 +1,6 @@
 -- Twos and fives that are taken off a number.
-use Rattle.std.proofs.Common.{◌≡◌, ◌≢◌, ℕ, zero, suc, ◌+◌, ◌*◌, ◌/◌, ◌%◌, ◌^◌, ◌<◌, ◌≤◌, ⊎_elim, arith, sym, ap, ◌∙◌, add-one}
+use Rattle.std.proofs.Common.{◌≡◌, ◌≢◌, ℕ, zero, suc, ◌+◌, ◌*◌, ◌/◌, ◌%◌, ◌^◌, ◌<◌, ◌≤◌, ⊎_elim, arith, sym, ap, ◌∙◌}
+use Rattle.std.proofs.Common.{add-one}
 use Rattle.std.specs.Int.{bit_at, trailing_zeros, w128}
 use Rattle.std.proofs.Math.Nat.{pow-suc, pow-le-pow_left, pow-le-pow_right, mul-le-mul_left, mul-le-mul_right, div-one}
 use Rattle.std.proofs.lemmas.Nat.{pow-add, shr-shr}
@@ -11,21 +12,25 @@ use Rattle.byte_unit_math.specs.Bounds.{size_limit}
 few_twos : (twos size : ℕ) → 2 ^ twos ≤ size → size < size_limit → twos ≤ 99
 few_twos twos size h small =
     ⊎_elim
-    (λ l. let most = pow-le-pow_right {n = 2} (omega arith) {i = 100} {j = twos} (omega arith) in absurd (omega (arith, most, h, small)))
+    (λ l. let most = pow-le-pow_right {n = 2} (omega arith) {i = 100} {j = twos} (omega arith) in
+    absurd (omega (arith, most, h, small)))
     (λ k. k) (cases_lt 99 twos)
 
 odd_positive : (left : ℕ) → left % 2 ≢ 0 → 0 < left
 odd_positive zero h = absurd (h (omega arith))
 odd_positive (suc left) h = omega arith
 
-few_factors_of_size : (size left twos fives : ℕ) → 0 < left → size ≡ left * (2 ^ twos * 5 ^ fives) → size < size_limit → twos + fives ≤ 99
+few_factors_of_size : (size left twos fives : ℕ) → 0 < left → size ≡ left * (2 ^ twos * 5 ^ fives) → size < size_limit
+    → twos + fives ≤ 99
 few_factors_of_size size left twos fives some h small =
-    let powers = mul-le-mul_left {m = 2 ^ fives} {n = 5 ^ fives} (2 ^ twos) (pow-le-pow_left {n = 2} {m = 5} (omega arith) fives) in
+    let powers = mul-le-mul_left {m = 2 ^ fives} {n = 5 ^ fives} (2 ^ twos)
+    (pow-le-pow_left {n = 2} {m = 5} (omega arith) fives) in
     let product = mul-le-mul_right {m = 1} {n = left} (2 ^ twos * 5 ^ fives) some in
     few_twos (twos + fives) size (omega (arith, pow-add 2 twos fives, powers, product, h)) small
 
 -- the twos below the lowest digit that is set
-trailing_zeros_divide : (number twos : ℕ) → ((i : ℕ) → i < twos → bit_at number i ≡ 0) → number ≡ number / 2 ^ twos * 2 ^ twos
+trailing_zeros_divide : (number twos : ℕ) → ((i : ℕ) → i < twos → bit_at number i ≡ 0)
+    → number ≡ number / 2 ^ twos * 2 ^ twos
 trailing_zeros_divide number zero zeros = omega (arith, div-one number)
 trailing_zeros_divide number (suc twos) zeros =
     let even : number / 2 ^ twos % 2 ≡ 0 = zeros twos (omega arith) in
@@ -33,7 +38,8 @@ trailing_zeros_divide number (suc twos) zeros =
     shr-shr number twos 1 ∙ ap (λ n. number / 2 ^ n) (let e : twos + 1 ≡ suc twos = omega arith in e) in
     let parts : number / 2 ^ twos ≡ number / 2 ^ suc twos * 2 = omega (arith, even, halved) in
     let power = ap (λ n. number / 2 ^ suc twos * n) (pow-suc 2 twos) in
-    trailing_zeros_divide number twos (λ i l. zeros i (omega (arith, l))) ∙ (ap (λ n. n * 2 ^ twos) parts ∙ omega (arith, power))
+    trailing_zeros_divide number twos (λ i l. zeros i (omega (arith, l)))
+    ∙ (ap (λ n. n * 2 ^ twos) parts ∙ omega (arith, power))
 
 -- what is left of a number, its twos and so many fives taken off
 pub record FivesOff (number left twos fives : ℕ) : Type 0 where
@@ -44,10 +50,14 @@ pub FivesOff-trailing_zeros : (number : ℕ) → 0 < number → number < 2 ^ 128
     → FivesOff number (number / 2 ^ trailing_zeros w128 number) (trailing_zeros w128 number) 0
 FivesOff-trailing_zeros number some small =
     let lowest = bit_at-trailing_zeros w128 number some small in
-    record { odd = λ even. omega (arith, lowest.1, even); product = trailing_zeros_divide number (trailing_zeros w128 number) lowest.2 ∙ omega arith }
+    record {
+      odd = λ even. omega (arith, lowest.1, even);
+      product = trailing_zeros_divide number (trailing_zeros w128 number) lowest.2 ∙ omega arith;
+    }
 
 pub FivesOff-more :
-    (number left twos fives fifth : ℕ) → FivesOff number left twos fives → fifth * 5 ≡ left → FivesOff number fifth twos (fives + 1)
+    (number left twos fives fifth : ℕ) → FivesOff number left twos fives → fifth * 5 ≡ left
+    → FivesOff number fifth twos (fives + 1)
 FivesOff-more number left twos fives fifth h parts =
     let power = ap (λ n. fifth * (2 ^ twos * n)) (ap (λ n. 5 ^ n) (add-one fives) ∙ pow-suc 5 fives) in
     record {
@@ -62,5 +72,7 @@ FivesOff-joined number left twos fives rest others h parts odd =
     let power = ap (λ n. rest * (2 ^ twos * n)) (pow-add 5 fives others) in
     record { odd = odd; product = h.product ∙ (ap (λ n. n * (2 ^ twos * 5 ^ fives)) parts ∙ omega (arith, power)) }
 
-pub FivesOff-few : (number left twos fives : ℕ) → number < size_limit → FivesOff number left twos fives → twos + fives ≤ 99
-FivesOff-few number left twos fives small h = few_factors_of_size number left twos fives (odd_positive left h.odd) h.product small
+pub FivesOff-few : (number left twos fives : ℕ) → number < size_limit → FivesOff number left twos fives
+    → twos + fives ≤ 99
+FivesOff-few number left twos fives small h =
+    few_factors_of_size number left twos fives (odd_positive left h.odd) h.product small

@@ -28,7 +28,8 @@ pub decimal_length_one : (n : ℕ) → n < 10 → length (decimal n) ≡ 1
 decimal_length_one n h = ap length (decimal_digit n h)
 
 pub decimal_length_step : (n : ℕ) → 10 ≤ n → n < 2 ^ 128 → length (decimal n) ≡ length (decimal (n / 10)) + 1
-decimal_length_step n h small = ap length (decimal_next_digit n h small) ∙ length-append (decimal (n / 10)) ((48 + n % 10) ∷ [])
+decimal_length_step n h small =
+    ap length (decimal_next_digit n h small) ∙ length-append (decimal (n / 10)) ((48 + n % 10) ∷ [])
 
 -- a number of two digits
 pub decimal_two_digits : (n : ℕ) → 10 ≤ n → n < 100 → decimal n ≡ glyphs (last_digits 2 n)
@@ -146,7 +147,8 @@ decimal_of_one_and_tail k r below few =
     ∙ ap (λ l. l ++ tail_digits k r) (decimal_one_digit 1 (omega arith)))
 
 pub length_of_one_and_18_digits : (r : ℕ) → r < 10 ^ 18 → length (decimal (10 ^ 18 + r)) ≡ 19
-length_of_one_and_18_digits r small = ap length (decimal_of_one_and_tail 18 r small (omega arith)) ∙ omega (arith, length-tail_digits 18 r)
+length_of_one_and_18_digits r small =
+    ap length (decimal_of_one_and_tail 18 r small (omega arith)) ∙ omega (arith, length-tail_digits 18 r)
 
 -- digits in an array
 
@@ -190,12 +192,14 @@ pub first_digit_put :
     (rest start : ℕ) (bytes whole : List ℕ) → rest < 10 → start < length bytes
     → decimal rest ++ drop (start + 1) bytes ≡ whole → drop start (set bytes start (48 + rest)) ≡ whole
 first_digit_put rest start bytes whole one within h =
-    drop-set bytes start (48 + rest) within ∙ (ap (λ l. l ++ drop (start + 1) bytes) (sym (decimal_one_digit rest one)) ∙ h)
+    drop-set bytes start (48 + rest) within
+    ∙ (ap (λ l. l ++ drop (start + 1) bytes) (sym (decimal_one_digit rest one)) ∙ h)
 
 -- so many of the last digits, before those that are there
 digits_put :
     (k rest start place : ℕ) (bytes new whole : List ℕ) → (10 ^ k ≤ rest) × (rest < 2 ^ 128)
-    → drop place new ≡ glyphs (last_digits k (rest % 10 ^ k)) ++ drop start bytes → decimal rest ++ drop start bytes ≡ whole
+    → drop place new ≡ glyphs (last_digits k (rest % 10 ^ k)) ++ drop start bytes
+    → decimal rest ++ drop start bytes ≡ whole
     → decimal (rest / 10 ^ k) ++ drop place new ≡ whole
 digits_put k rest start place bytes new whole wide put so_far =
     let low = rest % 10 ^ k in
@@ -210,7 +214,8 @@ pub record IsWritten (n end : ℕ) (old : List ℕ) (rest start : ℕ) (bytes : 
   pub digits : decimal rest ++ drop start bytes ≡ decimal n ++ drop end old
 
 pub IsWritten-more :
-    {n end rest start place : ℕ} {old bytes new : List ℕ} (k : ℕ) → (10 ^ k ≤ rest) × (rest < 2 ^ 128) → place + k ≡ start
+    {n end rest start place : ℕ} {old bytes new : List ℕ} (k : ℕ) → (10 ^ k ≤ rest) × (rest < 2 ^ 128)
+    → place + k ≡ start
     → drop place new ≡ glyphs (last_digits k (rest % 10 ^ k)) ++ drop start bytes → IsWritten n end old rest start bytes
     → IsWritten n end old (rest / 10 ^ k) place new
 IsWritten-more {n} {end} {rest} {start} {place} {old} {bytes} {new} k wide back put h =
@@ -246,7 +251,8 @@ ascii_is_ok (Err e) bytes IfDecoded IfNot h ascii = absurd (h.0 (IsUtf8-from_asc
 
 -- the digits after the point
 
-pub fraction_text_glyphs : (places digits : ℕ) → 0 < places → fraction_text (last_digits places digits) ≡ 46 ∷ glyphs (last_digits places digits)
+pub fraction_text_glyphs : (places digits : ℕ) → 0 < places
+    → fraction_text (last_digits places digits) ≡ 46 ∷ glyphs (last_digits places digits)
 fraction_text_glyphs places digits some =
     fraction_text_some (last_digits places digits) (omega (arith, some, length_last_digits places digits))
 
@@ -281,7 +287,8 @@ one_becomes_point places digits point bytes behind fits within h =
     ∙ (ap (λ l. 46 ∷ l) rest ∙ ap (λ l. l ++ behind) (sym (fraction_text_glyphs places digits fits.0)))
 
 pub fraction_ascii :
-    (places digits : ℕ) → (0 < places) × (digits < 10 ^ places) × (places ≤ 28) → IsAscii (decimal (10 ^ places + digits))
+    (places digits : ℕ) → (0 < places) × (digits < 10 ^ places) × (places ≤ 28)
+    → IsAscii (decimal (10 ^ places + digits))
     → IsAscii (fraction_text (last_digits places digits))
 fraction_ascii places digits fits ascii =
     let glyphs_ascii = IsAscii-drop (49 ∷ glyphs (last_digits places digits)) 1

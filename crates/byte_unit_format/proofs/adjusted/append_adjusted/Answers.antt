@@ -15,6 +15,7 @@ returns g c =
     let number = c.number_in-shown.result in
     let shown : IsShown kind size unit spec number.decimal number.places =
     record { is_numeral = c.number_in-shown.ensures.number } in
-    appends_form (IsAdjustedForm current kind size unit spec) c.args.text.now c.append_layout.new.text c.append_layout.result
+    appends_form (IsAdjustedForm current kind size unit spec) c.args.text.now c.append_layout.new.text
+    c.append_layout.result
     (layout_of current number.decimal number.places unit spec)
     (shown_is_adjusted_form shown) (adjusted_form_length shown) c.append_layout.ensures

@@ -7,7 +7,8 @@ use Rattle.byte_unit_base.specs.Shape.{bits}
 use Rattle.byte_unit_base.specs.Units.{shape_of}
 use Rattle.byte_unit_base.specs.Kinds.{bits_in}
 use Rattle.byte_unit_base.proofs.Choosing.{some_bits}
-use Rattle.byte_unit_format.proofs.AdjustedForms.{numeral_by_same_rule, rule_without_precision, rule_of_alternate, rule_without_prefix, rule_with_precision}
+use Rattle.byte_unit_format.proofs.AdjustedForms.{numeral_by_same_rule, rule_without_precision, rule_of_alternate}
+use Rattle.byte_unit_format.proofs.AdjustedForms.{rule_without_prefix, rule_with_precision}
 use Rattle.byte_unit_format.proofs.adjusted.number_in.Goals as goal
 
 pub returns-in-None-clause-number : goal.returns-in-None-clause-number
@@ -28,9 +29,11 @@ returns-then-spec-clause-number c =
     let exact = c.number_in_unit-exact in
     let near = c.rounded.ensures in
     numeral_by_same_rule num (bits unit) (text_of (padded shown.places shown.decimal))
-    (rule_of_alternate c.args.spec unit c.in-Some.precision places c.in-Some.is c.if-spec.true (c.from-places.ensures ∙ c.min.ensures)) (
+    (rule_of_alternate c.args.spec unit c.in-Some.precision places c.in-Some.is c.if-spec.true
+    (c.from-places.ensures ∙ c.min.ensures)) (
       near.0,
-      nearest_of_expansion num (bits unit) exact.result places Up near.0 (omega (arith, some_bits unit), exact.ensures.exact) near.1,
+      nearest_of_expansion num (bits unit) exact.result places Up near.0
+      (omega (arith, some_bits unit), exact.ensures.exact) near.1,
       c.all_places-then-spec.ensures.text ∙ text_of_short_numeral near.0 places c.rounded.result near.2,
     )
 
@@ -40,7 +43,8 @@ returns-then-is_single-clause-number c =
     let shown = c.all_places-then-is_single.result in
     let exact = c.number_in_unit-exact in
     numeral_by_same_rule (c.args.size * bits_in c.args.kind) (bits unit) (text_of (padded shown.places shown.decimal))
-    (rule_without_prefix c.args.spec unit c.in-Some.precision c.in-Some.is c.if-spec.false (sym c.is_single.ensures ∙ c.if-is_single.true))
+    (rule_without_prefix c.args.spec unit c.in-Some.precision c.in-Some.is c.if-spec.false
+    (sym c.is_single.ensures ∙ c.if-is_single.true))
     (exact.result, exact.ensures, c.all_places-then-is_single.ensures.text)
 
 pub returns-else-is_single-clause-number : goal.returns-else-is_single-clause-number
@@ -53,8 +57,10 @@ returns-else-is_single-clause-number c =
     let near = c.rounded-else-is_single.ensures in
     let many = sym c.is_single.ensures ∙ c.if-is_single.false in
     numeral_by_same_rule num (bits unit) (text_of (padded places.result decimal))
-    (rule_with_precision c.args.spec unit c.in-Some.precision places.result c.in-Some.is c.if-spec.false many places.ensures) (
+    (rule_with_precision c.args.spec unit c.in-Some.precision places.result c.in-Some.is c.if-spec.false many
+    places.ensures) (
       near.0,
-      nearest_of_expansion num (bits unit) exact.result places.result Even near.0 (omega (arith, some_bits unit), exact.ensures.exact) near.1,
+      nearest_of_expansion num (bits unit) exact.result places.result Even near.0
+      (omega (arith, some_bits unit), exact.ensures.exact) near.1,
       text_of_padded near.0 places.result decimal near.2,
     )

@@ -11,4 +11,5 @@ returns-clause-written c =
     let unit = shape_of c.args.unit in
     let shown : IsShown c.args.kind c.args.size unit c.args.spec number.decimal number.places =
     record { is_numeral = c.number_in-shown.ensures.number } in
-    writes_form (layout_of current number.decimal number.places unit c.args.spec) (shown_is_adjusted_form shown) c.write_layout.ensures.written
+    writes_form (layout_of current number.decimal number.places unit c.args.spec) (shown_is_adjusted_form shown)
+    c.write_layout.ensures.written

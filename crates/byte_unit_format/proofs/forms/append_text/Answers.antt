@@ -9,5 +9,6 @@ pub returns : goal.returns
 returns g c =
     let text = row_text c.text_row.result in
     let is_text = c.text_row.ensures.text in
-    appends_form (IsText current c.args.kind c.args.size c.args.spec) c.args.text.now c.append.new.text c.append.result text is_text
+    appends_form (IsText current c.args.kind c.args.size c.args.spec) c.args.text.now c.append.new.text c.append.result
+    text is_text
     (text_length_unique c.args.kind c.args.size c.args.spec text is_text) c.append.ensures

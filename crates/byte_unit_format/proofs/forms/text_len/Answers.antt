@@ -7,10 +7,12 @@ use Rattle.byte_unit_format.proofs.forms.text_len.Goals as goal
 pub returns-clause-exact : goal.returns-clause-exact
 returns-clause-exact c = λ form is_text.
     let text = row_text c.text_row.result in
-    c.text_row.ensures.len ∙ sym (text_length_unique c.args.kind c.args.size c.args.spec text c.text_row.ensures.text form is_text)
+    c.text_row.ensures.len ∙ sym
+    (text_length_unique c.args.kind c.args.size c.args.spec text c.text_row.ensures.text form is_text)
 
 pub returns-clause-narrow : goal.returns-clause-narrow
 returns-clause-narrow c = λ none.
     let text = row_text c.text_row.result in
-    let narrow = text_without_width_narrow c.args.kind c.args.size c.args.spec text c.requires none c.text_row.ensures.text in
+    let narrow = text_without_width_narrow c.args.kind c.args.size c.args.spec text c.requires none
+    c.text_row.ensures.text in
     omega (arith, c.text_row.ensures.len, narrow)

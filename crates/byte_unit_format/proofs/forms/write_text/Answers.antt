@@ -10,5 +10,6 @@ returns-clause-written c = writes_form (row_text c.text_row.result) c.text_row.e
 pub returns-clause-narrow : goal.returns-clause-narrow
 returns-clause-narrow c = λ none.
     let text = row_text c.text_row.result in
-    let narrow = text_without_width_narrow c.args.kind c.args.size c.args.spec text c.requires none c.text_row.ensures.text in
+    let narrow = text_without_width_narrow c.args.kind c.args.size c.args.spec text c.requires none
+    c.text_row.ensures.text in
     omega (arith, c.text_row.ensures.len, narrow)

@@ -4,7 +4,8 @@ use Rattle.byte_unit_format.proofs.WrittenDigits.{IsRunPart, run_part_ascii, run
 use Rattle.byte_unit_format.proofs.room.push_run.Goals as goal
 
 pub push_ascii-requires-clause-ascii : goal.push_ascii-requires-clause-ascii
-push_ascii-requires-clause-ascii g c = run_part_ascii c.args.byte c.min-next.result (replicate 64 c.args.byte) c.requires.ascii refl
+push_ascii-requires-clause-ascii g c =
+    run_part_ascii c.args.byte c.min-next.result (replicate 64 c.args.byte) c.requires.ascii refl
 
 pub loop-left-preserved : goal.loop-left-preserved
 loop-left-preserved g c =
@@ -17,7 +18,8 @@ loop-left-preserved g c =
     record {
       few = omega (arith, c.min-next.ensures);
       bytes =
-          run_more (string_bytes c.args.text.now) (string_bytes loop.text) (string_bytes c.push_ascii.new.text) part loop.invariant.bytes
+          run_more (string_bytes c.args.text.now) (string_bytes loop.text) (string_bytes c.push_ascii.new.text) part
+          loop.invariant.bytes
           c.push_ascii.ensures.bytes;
       room = omega (arith, c.min-next.ensures, c.push_ascii.ensures.spare, len);
       used = omega (arith, c.min-next.ensures, c.push_ascii.ensures.spare, len);

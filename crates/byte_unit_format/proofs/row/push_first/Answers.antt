@@ -4,7 +4,8 @@ use Rattle.byte_unit_format.proofs.WrittenDigits.{AreShown, AddsFraction, shown_
 use Rattle.byte_unit_format.proofs.row.push_first.Goals as goal
 
 pub push_ascii-requires-clause-ascii : goal.push_ascii-requires-clause-ascii
-push_ascii-requires-clause-ascii g c = shown_digits_ascii c.min-shown.result c.glyphs_of.result c.glyphs_of.ensures.ascii
+push_ascii-requires-clause-ascii g c =
+    shown_digits_ascii c.min-shown.result c.glyphs_of.result c.glyphs_of.ensures.ascii
 
 pub returns-then-places-gt0-clause-bytes : goal.returns-then-places-gt0-clause-bytes
 returns-then-places-gt0-clause-bytes g c =

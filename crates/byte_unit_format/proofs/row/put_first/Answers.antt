@@ -43,7 +43,8 @@ returns-clause-bytes c =
     } in
     c.put_run.ensures.bytes
     ∙ (ap (λ l. 46 ∷ l)
-    (c.put-digits.ensures.bytes ∙ (ap (λ l. front ++ l) c.put_run-zeros.ensures.bytes ∙ sym (append_assoc front zeros behind)))
+    (c.put-digits.ensures.bytes
+    ∙ (ap (λ l. front ++ l) c.put_run-zeros.ensures.bytes ∙ sym (append_assoc front zeros behind)))
     ∙ ap (λ l. l ++ behind) (fraction_text_of_shown are))
 
 pub returns-clause-ascii : goal.returns-clause-ascii
@@ -60,4 +61,5 @@ returns-clause-ascii c =
     let front = IsAscii-take characters shown c.glyphs_of.ensures.ascii in
     let zeros = run_ascii (places - shown) 48 (omega arith) in
     let digits = IsAscii-append (take shown characters) (replicate (places - shown) 48) front zeros in
-    subst IsAscii (fraction_text_of_shown are) (IsAscii-cons 46 (take shown characters ++ replicate (places - shown) 48) (omega arith) digits)
+    subst IsAscii (fraction_text_of_shown are)
+    (IsAscii-cons 46 (take shown characters ++ replicate (places - shown) 48) (omega arith) digits)

@@ -1,7 +1,8 @@
 use Rattle.std.proofs.Common.{◌+◌, ◌/◌, ◌%◌, ◌^◌, ◌≤◌, ◌++◌, ◌∙◌, ap, arith, length, drop}
 use Rattle.std.specs.Fmt.{decimal}
 use Rattle.std.proofs.lemmas.Nat.{mod_below}
-use Rattle.byte_unit_math.proofs.WrittenDigits.{decimal_length_positive, decimal_length_split, length_of_one_and_18_digits, group_of_18_put}
+use Rattle.byte_unit_math.proofs.WrittenDigits.{decimal_length_positive, decimal_length_split}
+use Rattle.byte_unit_math.proofs.WrittenDigits.{length_of_one_and_18_digits, group_of_18_put}
 use Rattle.byte_unit_math.proofs.decimal_digits.put_wide.Goals as goal
 
 pub write_digits-start-requires-clause-room : goal.write_digits-start-requires-clause-room

@@ -1,18 +1,22 @@
 use Rattle.std.proofs.Common.{◌≡◌, ◌+◌, ◌-◌, ◌<◌, ◌++◌, ◌∙◌, ap, arith, drop, length, sym}
 use Rattle.std.specs.Fmt.{decimal}
-use Rattle.byte_unit_math.proofs.WrittenDigits.{IsWritten, IsWritten-more, decimal_length_split, decimal_length_one, decimal_two_digits, first_digit_put}
+use Rattle.byte_unit_math.proofs.WrittenDigits.{IsWritten, IsWritten-more, decimal_length_split, decimal_length_one}
+use Rattle.byte_unit_math.proofs.WrittenDigits.{decimal_two_digits, first_digit_put}
 use Rattle.byte_unit_math.proofs.decimal_digits.write_digits.Goals.{Joined-few-ge100, then-few-ge100, else-few-ge100}
 use Rattle.byte_unit_math.proofs.decimal_digits.write_digits.Goals as goal
 
 pub put_four-start-requires-clause-room : goal.put_four-start-requires-clause-room
-put_four-start-requires-clause-room c = omega (arith, decimal_length_split 4 c.loop-rest.rest (omega arith) (omega arith))
+put_four-start-requires-clause-room c =
+    omega (arith, decimal_length_split 4 c.loop-rest.rest (omega arith) (omega arith))
 
 pub loop-rest-preserved : goal.loop-rest-preserved
 loop-rest-preserved c =
-    let put = c.put_four-start.ensures in IsWritten-more 4 (omega arith, omega arith) put.begins put.digits c.loop-rest.invariant
+    let put = c.put_four-start.ensures in
+    IsWritten-more 4 (omega arith, omega arith) put.begins put.digits c.loop-rest.invariant
 
 pub put_two-start-requires-clause-room : goal.put_two-start-requires-clause-room
-put_two-start-requires-clause-room c = omega (arith, decimal_length_split 2 c.loop-rest.rest (omega arith) (omega arith))
+put_two-start-requires-clause-room c =
+    omega (arith, decimal_length_split 2 c.loop-rest.rest (omega arith) (omega arith))
 
 -- one or two digits are left
 first_digits : (c : Joined-few-ge100) → let tail = c.if-few-ge100 in
@@ -64,5 +68,6 @@ returns-clause-digits c =
     let first = first_digits (goal.at.returns-clause-digits c).Joined-few-ge100 in
     let one = decimal_length_one tail.few c.if-few-ge10.false in
     let back : tail.start - 1 + 1 ≡ tail.start = omega (arith, first.1.place, one, c.requires.room) in
-    first_digit_put tail.few (tail.start - 1) tail.bytes (decimal c.args.n ++ drop c.args.end c.args.bytes.now) c.if-few-ge10.false
+    first_digit_put tail.few (tail.start - 1) tail.bytes (decimal c.args.n ++ drop c.args.end c.args.bytes.now)
+    c.if-few-ge10.false
     (omega (arith, first.1.within, back)) (ap (λ k. decimal tail.few ++ drop k tail.bytes) back ∙ first.1.digits)

@@ -6,10 +6,13 @@ pub returns : goal.returns
 returns c =
     let digit = c.taken-eights.result.0 + c.taken-fours.result.0 + c.taken-twos.result.0 + c.taken-ones.result.0 in
     let parts : digit * c.args.divisor + c.taken-ones.result.1 ≡ c.args.dividend =
-    omega (arith, c.taken-eights.ensures.parts, c.taken-fours.ensures.parts, c.taken-twos.ensures.parts, c.taken-ones.ensures.parts) in
+    omega (arith, c.taken-eights.ensures.parts, c.taken-fours.ensures.parts, c.taken-twos.ensures.parts,
+    c.taken-ones.ensures.parts) in
     let below = c.taken-ones.ensures.below in
     record {
       digit =
-          sym (ap (λ n. n / c.args.divisor) (sym parts) ∙ div-mul-add digit c.args.divisor c.taken-ones.result.1 (omega (arith, below)));
-      rest = sym (ap (λ n. n % c.args.divisor) (sym parts) ∙ mod-mul-add digit c.args.divisor c.taken-ones.result.1 (omega (arith, below)));
+          sym (ap (λ n. n / c.args.divisor) (sym parts)
+          ∙ div-mul-add digit c.args.divisor c.taken-ones.result.1 (omega (arith, below)));
+      rest = sym (ap (λ n. n % c.args.divisor) (sym parts)
+          ∙ mod-mul-add digit c.args.divisor c.taken-ones.result.1 (omega (arith, below)));
     }

@@ -1,5 +1,6 @@
 use Rattle.std.proofs.Common.{◌≡◌, ◌+◌, ◌-◌, ◌*◌, arith, ap, sym, ◌∙◌}
-use Rattle.byte_unit_math.proofs.Estimates.{leading_bits_fit, product_fits, estimate_fits, IsEstimate-steps, quotient_from_bounds, rest_from_bounds}
+use Rattle.byte_unit_math.proofs.Estimates.{leading_bits_fit, product_fits, estimate_fits, IsEstimate-steps}
+use Rattle.byte_unit_math.proofs.Estimates.{quotient_from_bounds, rest_from_bounds}
 use Rattle.byte_unit_math.proofs.dividing.quotient_by_inverse.Goals as goal
 
 pub overflow_cast-leading-2 : goal.overflow_cast-leading-2
@@ -37,14 +38,16 @@ returns-then-rest-divisor-clause-quotient c =
     let estimate = IsEstimate-steps c.requires c.from.ensures c.from-2.ensures c.from-3.ensures in
     let product = ap (λ n. c.from-3.result * n) c.from-4.ensures in
     sym c.from-3.ensures
-    ∙ quotient_from_bounds c.args.dividend c.args.divisor c.from-3.result estimate.enough (omega (arith, product, c.if-rest-divisor.true))
+    ∙ quotient_from_bounds c.args.dividend c.args.divisor c.from-3.result estimate.enough
+    (omega (arith, product, c.if-rest-divisor.true))
 
 pub returns-then-rest-divisor-clause-rest : goal.returns-then-rest-divisor-clause-rest
 returns-then-rest-divisor-clause-rest c =
     let estimate = IsEstimate-steps c.requires c.from.ensures c.from-2.ensures c.from-3.ensures in
     let product = ap (λ n. c.from-3.result * n) c.from-4.ensures in
     ap (λ n. c.args.dividend - n) product
-    ∙ rest_from_bounds c.args.dividend c.args.divisor c.from-3.result estimate.enough (omega (arith, product, c.if-rest-divisor.true))
+    ∙ rest_from_bounds c.args.dividend c.args.divisor c.from-3.result estimate.enough
+    (omega (arith, product, c.if-rest-divisor.true))
 
 pub returns-else-rest-divisor-clause-quotient : goal.returns-else-rest-divisor-clause-quotient
 returns-else-rest-divisor-clause-quotient c =

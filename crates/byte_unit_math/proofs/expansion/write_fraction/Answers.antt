@@ -19,7 +19,8 @@ returns-clause-styled g c = λ flush ok.
     let digits = c.args.e.now.digits in
     let characters = c.glyphs_of.result in
     let some : 0 < length digits = omega (arith, c.places.ensures.exact) in
-    let written : c.unwrap.result.now ≡ take c.places-2.result characters = first_of (search rules, grind (arith, common_steps)) in
+    let written : c.unwrap.result.now ≡ take c.places-2.result characters =
+    first_of (search rules, grind (arith, common_steps)) in
     let all : c.unwrap.result.now ≡ glyphs digits =
     written ∙ (ap (λ k. take k characters) c.places-2.ensures.exact ∙ c.glyphs_of.ensures.front) in
     let point = c.in_ok-write_str.ensures.styled flush refl in

@@ -1,7 +1,9 @@
 use Rattle.std.proofs.Common.{◌≡◌, ◌≢◌, ◌%◌, arith, subst, sym}
 use Rattle.std.specs.Int.{trailing_zeros, w128}
-use Rattle.byte_unit_math.proofs.TwosFives.{FivesOff, FivesOff-trailing_zeros, FivesOff-more, FivesOff-joined, FivesOff-few}
-use Rattle.byte_unit_math.proofs.factors.factors_of.Goals.{Joined-left, then-left, else-left, then-loop-left-test+else-left-eq0, else-loop-left-test}
+use Rattle.byte_unit_math.proofs.TwosFives.{FivesOff, FivesOff-trailing_zeros, FivesOff-more, FivesOff-joined}
+use Rattle.byte_unit_math.proofs.TwosFives.{FivesOff-few}
+use Rattle.byte_unit_math.proofs.factors.factors_of.Goals.{Joined-left, then-left, else-left}
+use Rattle.byte_unit_math.proofs.factors.factors_of.Goals.{then-loop-left-test+else-left-eq0, else-loop-left-test}
 use Rattle.byte_unit_math.proofs.factors.factors_of.Goals as goal
 
 pub loop-left-init : goal.loop-left-init
@@ -49,10 +51,12 @@ no_five c = λ five.
     ]
 
 pub overflow_add-twos : goal.overflow_add-twos
-overflow_add-twos c = omega (arith, FivesOff-few _ _ _ _ c.requires.small (all_off (goal.at.overflow_add-twos c).Joined-left))
+overflow_add-twos c = omega (arith,
+    FivesOff-few _ _ _ _ c.requires.small (all_off (goal.at.overflow_add-twos c).Joined-left))
 
 pub overflow_add-twos-2 : goal.overflow_add-twos-2
-overflow_add-twos-2 c = omega (arith, FivesOff-few _ _ _ _ c.requires.small (all_off (goal.at.overflow_add-twos-2 c).Joined-left))
+overflow_add-twos-2 c = omega (arith,
+    FivesOff-few _ _ _ _ c.requires.small (all_off (goal.at.overflow_add-twos-2 c).Joined-left))
 
 pub returns-clause-product : goal.returns-clause-product
 returns-clause-product c = sym (all_off (goal.at.returns-clause-product c).Joined-left).product
@@ -64,4 +68,5 @@ returns-clause-powers c =
     record { left = c.if-left.left; product = off.product; odd = off.odd; no_five = no_five s }
 
 pub returns-clause-few : goal.returns-clause-few
-returns-clause-few c = omega (arith, FivesOff-few _ _ _ _ c.requires.small (all_off (goal.at.returns-clause-few c).Joined-left))
+returns-clause-few c = omega (arith,
+    FivesOff-few _ _ _ _ c.requires.small (all_off (goal.at.returns-clause-few c).Joined-left))

@@ -3,9 +3,11 @@ use Rattle.std.specs.Int.{w128}
 use Rattle.byte_unit_math.specs.Bounds.{places_of_decimal, whole_limit}
 use Rattle.byte_unit_math.specs.Factored.{value_of}
 use Rattle.byte_unit_math.proofs.Powers.{count_of_units}
-use Rattle.byte_unit_math.proofs.FactoredNumbers.{FewFactors-below_limit, product_by_table, count_below_limit, count_is_exact, FewFactors, quotient_and_rest_of_equal}
+use Rattle.byte_unit_math.proofs.FactoredNumbers.{FewFactors-below_limit, product_by_table, count_below_limit}
+use Rattle.byte_unit_math.proofs.FactoredNumbers.{count_is_exact, FewFactors, quotient_and_rest_of_equal}
 use Rattle.byte_unit_math.proofs.Scales.{pow10_bounds, cut_at_point, powers_from}
-use Rattle.byte_unit_math.proofs.quotient.factored_quotient.Goals.{Start, Joined-places, in-0, in-1, in-2, in-3, in_default}
+use Rattle.byte_unit_math.proofs.quotient.factored_quotient.Goals.{Start, Joined-places, in-0, in-1, in-2, in-3}
+use Rattle.byte_unit_math.proofs.quotient.factored_quotient.Goals.{in_default}
 use Rattle.byte_unit_math.proofs.quotient.factored_quotient.Goals as goal
 
 -- the number in units of the place, and how many twos and fives it then has
@@ -19,17 +21,22 @@ fives_of c = c.args.number.fives + c.args.places - c.args.fives
 abbrev count_of : Start → ℕ
 count_of c = c.args.number.left * (2 ^ twos_of c * 5 ^ fives_of c)
 
-count_is_exact_quotient : (c : Start) → value_of c.args.number * 10 ^ c.args.places ≡ count_of c * (2 ^ c.args.twos * 5 ^ c.args.fives)
+count_is_exact_quotient : (c : Start)
+    → value_of c.args.number * 10 ^ c.args.places ≡ count_of c * (2 ^ c.args.twos * 5 ^ c.args.fives)
 count_is_exact_quotient c =
-    count_of_units c.args.number.left c.args.number.twos c.args.number.fives c.args.twos c.args.fives c.args.places c.requires.exact
+    count_of_units c.args.number.left c.args.number.twos c.args.number.fives c.args.twos c.args.fives c.args.places
+    c.requires.exact
 
 count_fits : (c : Start) → count_of c < whole_limit
-count_fits c = count_below_limit (value_of c.args.number) (2 ^ c.args.twos * 5 ^ c.args.fives) (count_of c) c.args.places (count_is_exact_quotient c) c.requires.small
+count_fits c = count_below_limit (value_of c.args.number) (2 ^ c.args.twos * 5 ^ c.args.fives) (count_of c)
+    c.args.places (count_is_exact_quotient c) c.requires.small
 
 count_has_few_factors : (c : Start) → FewFactors c.args.number.left (twos_of c) (fives_of c)
-count_has_few_factors c = FewFactors-below_limit c.args.number.left (twos_of c) (fives_of c) c.requires.some (count_fits c)
+count_has_few_factors c = FewFactors-below_limit c.args.number.left (twos_of c) (fives_of c) c.requires.some
+    (count_fits c)
 
-count_by_table : (c : Start) → c.args.number.left * 2 ^ twos_of c % 2 ^ 128 * get_or (powers_from 5 49 1) (fives_of c) 0 ≡ count_of c
+count_by_table : (c : Start) → c.args.number.left * 2 ^ twos_of c % 2 ^ 128 * get_or (powers_from 5 49 1) (fives_of c) 0
+    ≡ count_of c
 count_by_table c = product_by_table c.args.number.left (twos_of c) (fives_of c) c.requires.some (count_fits c)
 
 pub bounds-number : goal.bounds-number
@@ -41,19 +48,23 @@ overflow_shl-count c = omega (arith, (count_has_few_factors (goal.at.overflow_sh
 pub overflow_mul-count : goal.overflow_mul-count
 overflow_mul-count c =
     let s = (goal.at.overflow_mul-count c).Start in
-    let fits : Fits w128 (count_of s) = omega (arith, count_fits s) in subst (λ n. Fits w128 n) (sym (count_by_table s)) fits
+    let fits : Fits w128 (count_of s) = omega (arith, count_fits s) in
+    subst (λ n. Fits w128 n) (sym (count_by_table s)) fits
 
 pub at_place-requires-clause-small : goal.at_place-requires-clause-small
 at_place-requires-clause-small c =
-    let s = (goal.at.at_place-requires-clause-small c).Start in subst (λ n. n < whole_limit) (sym (count_by_table s)) (count_fits s)
+    let s = (goal.at.at_place-requires-clause-small c).Start in
+    subst (λ n. n < whole_limit) (sym (count_by_table s)) (count_fits s)
 
 pub at_place-requires-in-2-clause-small : goal.at_place-requires-in-2-clause-small
 at_place-requires-in-2-clause-small c =
-    let s = (goal.at.at_place-requires-in-2-clause-small c).Start in subst (λ n. n < whole_limit) (sym (count_by_table s)) (count_fits s)
+    let s = (goal.at.at_place-requires-in-2-clause-small c).Start in
+    subst (λ n. n < whole_limit) (sym (count_by_table s)) (count_fits s)
 
 pub at_place-requires-in-3-clause-small : goal.at_place-requires-in-3-clause-small
 at_place-requires-in-3-clause-small c =
-    let s = (goal.at.at_place-requires-in-3-clause-small c).Start in subst (λ n. n < whole_limit) (sym (count_by_table s)) (count_fits s)
+    let s = (goal.at.at_place-requires-in-3-clause-small c).Start in
+    subst (λ n. n < whole_limit) (sym (count_by_table s)) (count_fits s)
 
 pub quotient_and_rest-requires : goal.quotient_and_rest-requires
 quotient_and_rest-requires c = omega (arith, c.power_of_ten.ensures, pow10_bounds c.args.places c.requires.places)
@@ -70,20 +81,25 @@ count_at_point c =
     let Power : ℕ → ℕ = λ n. 10 ^ n in
     elim c.match-places.branch [
       | in-0 w ↦ quotient_and_rest_of_equal is_count (sym (ap Power w.in-0.is)) w.whole-is (omega arith, omega arith)
-      | in-1 w ↦ quotient_and_rest_of_equal is_count (sym (ap Power w.in-1.is)) w.whole-is (w.at_place.ensures.whole, w.at_place.ensures.digits)
+      | in-1 w ↦ quotient_and_rest_of_equal is_count (sym (ap Power w.in-1.is)) w.whole-is
+          (w.at_place.ensures.whole, w.at_place.ensures.digits)
       | in-2 w ↦
-          quotient_and_rest_of_equal is_count (sym (ap Power w.in-2.is)) w.whole-is (w.at_place-in-2.ensures.whole, w.at_place-in-2.ensures.digits)
+          quotient_and_rest_of_equal is_count (sym (ap Power w.in-2.is)) w.whole-is
+          (w.at_place-in-2.ensures.whole, w.at_place-in-2.ensures.digits)
       | in-3 w ↦
-          quotient_and_rest_of_equal is_count (sym (ap Power w.in-3.is)) w.whole-is (w.at_place-in-3.ensures.whole, w.at_place-in-3.ensures.digits)
+          quotient_and_rest_of_equal is_count (sym (ap Power w.in-3.is)) w.whole-is
+          (w.at_place-in-3.ensures.whole, w.at_place-in-3.ensures.digits)
       | in_default w ↦
-          quotient_and_rest_of_equal is_count w.power_of_ten.ensures w.whole-is (w.quotient_and_rest.ensures.quotient, w.quotient_and_rest.ensures.rest)
+          quotient_and_rest_of_equal is_count w.power_of_ten.ensures w.whole-is
+          (w.quotient_and_rest.ensures.quotient, w.quotient_and_rest.ensures.rest)
     ]
 
 pub from_digits-quotient-requires-clause-whole : goal.from_digits-quotient-requires-clause-whole
 from_digits-quotient-requires-clause-whole c = rw (count_at_point c).0 (omega (arith, count_fits (start_of c)))
 
 pub from_digits-quotient-requires-clause-digits : goal.from_digits-quotient-requires-clause-digits
-from_digits-quotient-requires-clause-digits c = rw (count_at_point c).1 (omega (arith, pow10_bounds c.args.places c.requires.places))
+from_digits-quotient-requires-clause-digits c =
+    rw (count_at_point c).1 (omega (arith, pow10_bounds c.args.places c.requires.places))
 
 pub returns-clause-exact : goal.returns-clause-exact
 returns-clause-exact c =
@@ -91,5 +107,8 @@ returns-clause-exact c =
     let s = (goal.at.returns-clause-exact c).Start in
     let unit = 2 ^ c.args.twos * 5 ^ c.args.fives in
     let quotient : c.from_digits-quotient.result ≡ count_of s * 10 ^ (places_of_decimal - c.args.places) =
-    rw (c.from_digits-quotient.ensures, at_point.0, at_point.1) (cut_at_point (count_of s) c.args.places c.requires.places) in
-    ap (λ n. n * unit) quotient ∙ count_is_exact (value_of c.args.number) unit (count_of s) c.args.places (count_is_exact_quotient s) c.requires.places
+    rw (c.from_digits-quotient.ensures, at_point.0, at_point.1)
+    (cut_at_point (count_of s) c.args.places c.requires.places) in
+    ap (λ n. n * unit) quotient
+    ∙ count_is_exact (value_of c.args.number) unit (count_of s) c.args.places (count_is_exact_quotient s)
+    c.requires.places

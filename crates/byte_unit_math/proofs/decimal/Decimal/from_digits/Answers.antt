@@ -23,5 +23,6 @@ invariant_of-result c =
 
 pub returns : goal.returns
 returns c =
-    let fewer = subst (λ n. FewerZeros c.args.digits c.args.places n c.loop-left.left) (sym c.from.ensures) c.loop-left.invariant in
+    let fewer = subst (λ n. FewerZeros c.args.digits c.args.places n c.loop-left.left) (sym c.from.ensures)
+    c.loop-left.invariant in
     number_of_shortened c.args.whole c.args.digits c.args.places c.from.result c.loop-left.left fewer c.requires.places

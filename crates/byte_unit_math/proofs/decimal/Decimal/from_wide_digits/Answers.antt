@@ -23,4 +23,5 @@ invariant_of-result c =
 
 pub returns : goal.returns
 returns c =
-    number_of_shortened c.args.whole c.args.digits c.args.places c.loop-left.short c.loop-left.left c.loop-left.invariant c.requires.places
+    number_of_shortened c.args.whole c.args.digits c.args.places c.loop-left.short c.loop-left.left
+    c.loop-left.invariant c.requires.places

@@ -10,7 +10,8 @@ returns c =
     let p = c.args.places in
     let kept = c.without-kept.result in
     let whole : e.whole ≡ c.self.inside.whole = sym (ap (λ v. v.whole) c.self.view_is) in
-    let IsCut : ℕ → Type 0 = λ w. IsExpansion (scaled (cut_after p e)) (10 ^ p) (record { whole = w; digits = take kept c.front.result }) in
+    let IsCut : ℕ → Type 0 = λ w. IsExpansion (scaled (cut_after p e)) (10 ^ p)
+    (record { whole = w; digits = take kept c.front.result }) in
     subst IsCut whole
     (cut_is_expansion e p kept c.front.result (IsShown-view c.self.inside e c.self.invariant c.self.view_is)
     (record {

@@ -7,5 +7,6 @@ loop-i-init c = no_digits_copied c.args.self.now.digits
 
 pub loop-i-preserved : goal.loop-i-preserved
 loop-i-preserved c =
-    one_more_digit_copied c.loop-i.digits c.args.self.now.digits c.loop-i.i c.digit.result c.loop-i.invariant (omega arith)
+    one_more_digit_copied c.loop-i.digits c.args.self.now.digits c.loop-i.i c.digit.result c.loop-i.invariant
+    (omega arith)
     (record { within = omega arith; is = c.digit.ensures.exact; small = c.digit.ensures.small })
