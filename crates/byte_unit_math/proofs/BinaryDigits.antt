@@ -1,4 +1,4 @@
--- How many decimal digits a number has, by its binary ones.
+-- The number of decimal digits of a number, computed from its number of bits.
 use Rattle.std.specs.Fmt.{decimal}
 use Rattle.std.specs.Int.{w128, leading_zeros}
 use Rattle.std.proofs.Common.{◌≡◌, ℕ, zero, suc, Bool, true, ◌&&◌, leb, ◌+◌, ◌-◌, ◌*◌, ◌/◌, ◌^◌, ◌<◌, ◌≤◌, ⊎_elim}
@@ -9,7 +9,7 @@ use Rattle.std.proofs.lemmas.Bool.{and_parts, cases_lt, leb-true}
 use Rattle.std.proofs.lemmas.Nat.{leading_top}
 use Rattle.byte_unit_math.proofs.WrittenDigits.{decimal_length_one, decimal_length_step}
 
--- a number of so many binary digits has so many decimal ones, or one more
+-- A number of this many bits has the estimated number of decimal digits, or one more.
 abbrev digits_estimate : ℕ → ℕ
 digits_estimate binary = binary * 1233 / 4096
 
@@ -39,7 +39,7 @@ is_between (suc count) j h few =
     subst IsBetween same (leb-true _ _ parts.0, leb-true _ _ others.0))
     (cases_lt j count)
 
--- between two powers of ten
+-- A number between 10^k and 10^(k + 1) has k + 1 digits.
 decimal_length_between : (k n : ℕ) → 10 ^ k ≤ n → n < 10 ^ suc k → n < 2 ^ 128 → length (decimal n) ≡ suc k
 decimal_length_between zero n low high small = decimal_length_one n (omega (arith, high))
 decimal_length_between (suc k) n low high small =
@@ -50,10 +50,12 @@ decimal_length_between (suc k) n low high small =
     (omega (arith, small)) in
     decimal_length_step n wide small ∙ omega (arith, rest)
 
+-- The number has `few` digits if it is below 10^few, and else one more.
 pub record LengthBy (n few : ℕ) : Type 0 where
   pub fewer : n < 10 ^ few → length (decimal n) ≡ few
   pub more : 10 ^ few ≤ n → length (decimal n) ≡ few + 1
 
+-- The number of bits of a number times 1233 / 4096 is its number of digits, or one less.
 pub LengthBy-leading_zeros : (n few : ℕ) → 10 ≤ n → n < 2 ^ 128 → few ≡ (128 - leading_zeros w128 n) * 1233 / 4096
     → LengthBy n few
 unfolding IsBetween

@@ -1,4 +1,4 @@
--- Decimals that are cut after some digits, and which of two the nearest is.
+-- A decimal cut off after some digits, and whether it or the next one is nearest.
 use Rattle.std.proofs.Common.{◌≢◌, ◌≡◌, ◌+◌, ◌-◌, ◌*◌, ◌^◌, ◌%◌, ◌<◌, ◌≤◌, ⊎_elim, ℕ, suc, List, [], ◌∷◌, ◌++◌, length}
 use Rattle.std.proofs.Common.{take, drop}
 use Rattle.std.proofs.Common.{get_or, arith, ap, sym, subst, ◌∙◌, add-one, length-take-le, take-append-drop}
@@ -26,6 +26,7 @@ use Rattle.byte_unit_math.proofs.Nearest.{tie_even_this}
 use Rattle.byte_unit_math.proofs.Expanding.{expansion_of_digits, value_by_last_digit}
 use Rattle.byte_unit_math.proofs.Scales.{pow10_split}
 
+-- Digits represent less than the power of ten of their number.
 pub value_below_power : (ds : List ℕ) → All (λ d. d < 10) ds → value_of ds < 10 ^ length ds
 value_below_power [] h = omega arith
 value_below_power (d ∷ ds) h =
@@ -35,13 +36,14 @@ value_below_power (d ∷ ds) h =
     rw (pow-succ' 10 (length ds))
     (omega (arith, m, value_cons d ds, value_below_power ds (All-drop (λ d. d < 10) 1 (d ∷ ds) h)))
 
--- a number cut after p digits
+-- Digits cut in two represent the first part times a power of ten, and the second part.
 value_parts : (p : ℕ) (ds : List ℕ)
     → value_of ds ≡ value_of (take p ds) * 10 ^ length (drop p ds) + value_of (drop p ds)
 value_parts p ds =
     ap value_of (sym (take-append-drop p ds))
     ∙ (fold-append (λ n d. n * 10 + d) 0 (take p ds) (drop p ds) ∙ fold_digits_from (value_of (take p ds)) (drop p ds))
 
+-- A decimal is the decimal cut off after p digits, and the digits that are cut off.
 pub cut_split :
     (e : Finite) (p : ℕ) → p ≤ length e.digits
     → scaled e * 10 ^ p ≡ scaled (cut_after p e) * 10 ^ length e.digits + value_of (drop p e.digits) * 10 ^ p
@@ -55,6 +57,7 @@ cut_split e p h =
     let b = ap (λ n. value_of (take p ds) * n) power in
     rw len (omega (arith, a, b))
 
+-- A decimal has at most 93 digits after the point, each below ten, and the last is not zero.
 pub record IsShown (e : Finite) : Type 0 where
   pub few : length e.digits ≤ expansion_places
   pub small : All (λ d. d < 10) e.digits
@@ -73,17 +76,17 @@ IsShown-stored i h =
           (λ k. subst (λ n. 0 < n) (sym (get_or-take p ds (p - 1) 0 (omega (arith, k)))) (h.last k));
     }
 
--- what is cut off, against one half
+-- The digits that are cut off, compared with one half.
 
 module _ (e : Finite) (p : ℕ) (h : IsShown e) (l : p < length e.digits) where
   abbrev all_digits : List ℕ
   all_digits = e.digits
 
-  -- all that is cut off
+  -- the number of the digits that are cut off
   abbrev cut_value : ℕ
   cut_value = value_of (drop p all_digits)
 
-  -- what stands behind the first digit of it
+  -- the power of ten and the number of the digits after the first one that is cut off
   abbrev behind_power : ℕ
   behind_power = 10 ^ length (drop (p + 1) all_digits)
 
@@ -170,14 +173,15 @@ module _ (e : Finite) (p : ℕ) (h : IsShown e) (l : p < length e.digits) where
       let product = ap (λ n. n * 10 ^ p) twice in
       omega (arith, product, power_is)
 
--- what the code answers
-
+-- The decimal cut off after p digits is nearest.
 abbrev CutIsNearest : Finite → ℕ → Ties → Type 0
 CutIsNearest e p ties = IsNearest (scaled e) (10 ^ length e.digits) p ties (scaled (cut_after p e))
 
+-- One more in the last digit of the decimal cut off after p digits is nearest.
 abbrev NextIsNearest : Finite → ℕ → Ties → Type 0
 NextIsNearest e p ties = IsNearest (scaled e) (10 ^ length e.digits) p ties (scaled (cut_after p e) + 1)
 
+-- If the first digit that is cut off is not 5, the decimal is rounded up if it is greater and down if it is less.
 pub nearest_by_digit :
     (e : Finite) (p next : ℕ) (ties : Ties) → IsShown e → p < length e.digits → next ≡ get_or e.digits p 0 → next ≢ 5
     → MatchBool (ltb 5 next) (NextIsNearest e p ties) (CutIsNearest e p ties)
@@ -195,6 +199,7 @@ nearest_by_digit e p next ties h l same other =
     (nearest_up (scaled e) (10 ^ length e.digits) p front low (cut_lies e p h l) ties
     (above_half e p h l (omega (arith, same, k, other))))) (cases_lt next 5)
 
+-- If the first digit that is cut off is 5 and more digits follow, the decimal is rounded up.
 pub nearest_after_five :
     (e : Finite) (p : ℕ) (ties : Ties) → IsShown e → p < length e.digits → get_or e.digits p 0 ≡ 5
     → p + 1 < length e.digits → NextIsNearest e p ties
@@ -203,6 +208,7 @@ nearest_after_five e p ties h l five k =
     (cut_lies e p h l) ties
     (above_half_behind_five e p h l five k)
 
+-- If the first digit that is cut off is 5 and none follows, and ties go up, the decimal is rounded up.
 pub tie_goes_up :
     (e : Finite) (p : ℕ) → IsShown e → p < length e.digits → get_or e.digits p 0 ≡ 5 → length e.digits ≤ p + 1
     → NextIsNearest e p Up
@@ -211,6 +217,8 @@ tie_goes_up e p h l five k =
     (cut_lies e p h l)
     (just_half e p h l five k)
 
+-- If the first digit that is cut off is 5 and none follows, and ties go to even, it is rounded up only if the cut
+-- number is odd.
 pub tie_goes_even :
     (is_odd : Bool) (e : Finite) (p : ℕ) → IsShown e → p < length e.digits → get_or e.digits p 0 ≡ 5
     → length e.digits ≤ p + 1
@@ -225,7 +233,8 @@ tie_goes_even false e p h l five k even =
     (cut_lies e p h l)
     (just_half e p h l five k) even
 
--- the last digit says whether a number is odd
+-- If p is not 0, a decimal cut off after p digits is, without its point, an odd number if and only if its last digit is
+-- odd.
 pub odd_by_last_digit : (e : Finite) (p : ℕ) → 0 < p → p ≤ length e.digits
     → scaled (cut_after p e) % 2 ≡ get_or e.digits (p - 1) 0 % 2
 odd_by_last_digit e p some h =
@@ -244,8 +253,7 @@ odd_by_last_digit e p some h =
     omega (arith, product, value) in
     omega (arith, all)
 
--- as many digits and more
-
+-- Rounded to as many digits after the point as it has, or to more, a decimal is unchanged.
 pub rounded_to_itself :
     (e : Finite) (p : ℕ) (ties : Ties) → IsShown e → length e.digits ≤ p
     → (q : ℕ) × IsNearest (scaled e) (10 ^ length e.digits) p ties q × IsExpansion q (10 ^ p) e
@@ -261,6 +269,7 @@ rounded_to_itself e p ties h few =
           (record { small = h.small; exact = omega (arith, product); last = h.last }),
     )
 
+-- If a number and its last digit are odd or even together, a test of the digit tells whether the number is odd.
 pub is_odd_by_digit : (d t : ℕ) → t % 2 ≡ d % 2 → MatchBool (nat_eq (d % 2) 1) (t % 2 ≡ 1) (t % 2 ≡ 0)
 is_odd_by_digit d t same =
     let OddBy : Bool → Type 0 = λ b. MatchBool b (t % 2 ≡ 1) (t % 2 ≡ 0) in
@@ -269,21 +278,22 @@ is_odd_by_digit d t same =
     (λ k. let yes : nat_eq (d % 2) 1 ≡ true = grind (arith, nat_tests) in
     subst OddBy (sym yes) (omega (arith, same, k))) (cases_lt (d % 2) 1)
 
--- what a function knows of its own fields
-
+-- The decimal of fields that satisfy their invariant has at most 93 digits, and the last is not zero.
 pub IsShown-view : (i : Inside) (e : Finite) → IsStored i → view_of i ≡ e → IsShown e
 IsShown-view i e h v = subst IsShown v (IsShown-stored i h)
 
+-- The decimal of the fields has as many digits after the point as the field `places` says.
 pub length_of_view : (i : Inside) (e : Finite) → IsStored i → view_of i ≡ e → length e.digits ≡ i.places
 length_of_view i e h v = ap (λ x. length x.digits) (sym v)
     ∙ length-take-le i.places i.digits (omega (arith, h.few, h.size))
 
--- the digit behind the first p, and how many digits there are
+-- The digit at index p of a decimal, and the number of its digits after the point.
 pub record IsCutAt (e : Finite) (p digit places : ℕ) : Type 0 where
   pub is_shown : IsShown e
   pub digit_is : digit ≡ get_or e.digits p 0
   pub length_is : length e.digits ≡ places
 
+-- The digit at index p of the decimal of the fields is the one that was read for the place p + 1.
 pub IsCutAt-view :
     (i : Inside) (e : Finite) (p digit : ℕ) → IsStored i → view_of i ≡ e → digit ≡ get_or e.digits (p + 1 - 1) 0
     → IsCutAt e p digit i.places

@@ -1,4 +1,4 @@
--- The number that digits spell.
+-- The number that decimal digits represent, the last digits of a number, and digits without trailing zeros.
 use Rattle.std.proofs.Common.{◌≡◌, ℕ, zero, suc, ◌+◌, ◌-◌, ◌*◌, ◌/◌, ◌%◌, ◌^◌, ◌<◌, ◌≤◌, List, [], ◌∷◌, ◌++◌, length}
 use Rattle.std.proofs.Common.{replicate, refl, sym}
 use Rattle.std.proofs.Common.{ap, ◌∙◌, arith, length-append}
@@ -11,14 +11,17 @@ use Rattle.std.proofs.lemmas.List.Sums.{fold-append}
 use Rattle.byte_unit_math.specs.Finite.{Finite, value_of, scaled}
 use Rattle.byte_unit_math.specs.Digits.{last_digits, at_places, before, without_zeros, shortened}
 
+-- A power of ten is at least 1.
 pub one_le_pow10 : (p : ℕ) → 1 ≤ 10 ^ p
 one_le_pow10 p = one-le-pow p 10 (omega arith)
 
+-- Appending digits to a number n multiplies it by ten for each of them and adds their value.
 pub fold_digits_from : (n : ℕ) (ds : List ℕ) → fold (λ n d. n * 10 + d) n ds ≡ n * 10 ^ length ds + value_of ds
 fold_digits_from n [] = omega arith
 fold_digits_from n (d ∷ ds) = rw (pow-succ' 10 (length ds))
     (omega (arith, fold_digits_from (n * 10 + d) ds, fold_digits_from (0 * 10 + d) ds))
 
+-- A first digit counts as often as the power of ten of the digits after it.
 pub value_cons : (d : ℕ) (ds : List ℕ) → value_of (d ∷ ds) ≡ d * 10 ^ length ds + value_of ds
 value_cons d ds = omega (arith, fold_digits_from (0 * 10 + d) ds)
 
@@ -26,23 +29,24 @@ pub value_zeros : (k : ℕ) → value_of (replicate k 0) ≡ 0
 value_zeros zero = refl
 value_zeros (suc k) = value_zeros k
 
--- zeros at the end
+-- k trailing zeros multiply the value of digits by 10^k.
 pub value_append_zeros : (ds : List ℕ) (k : ℕ) → value_of (ds ++ replicate k 0) ≡ value_of ds * 10 ^ k
 value_append_zeros ds k =
     fold-append (λ n d. n * 10 + d) 0 ds (replicate k 0)
     ∙ (fold_digits_from (value_of ds) (replicate k 0) ∙ rw (length-replicate {A = ℕ} k 0, value_zeros k) (omega arith))
 
--- the last digits of a number
-
+-- The last p digits of a number are p digits.
 pub length_last_digits : (p q : ℕ) → length (last_digits p q) ≡ p
 length_last_digits zero q = refl
 length_last_digits (suc p) q = ap suc (length_last_digits p q)
 
+-- Each of the last p digits of a number is below ten.
 pub last_digits_below_ten : (p q : ℕ) → All (λ d. d < 10) (last_digits p q)
 last_digits_below_ten zero q = All-nil (λ d. d < 10)
 last_digits_below_ten (suc p) q =
     All-cons (λ d. d < 10) (q / 10 ^ p % 10) (last_digits p q) (omega arith) (last_digits_below_ten p q)
 
+-- The remainder by ten times a power is the next digit at that power, and the remainder by the power.
 pub mod_next_power : (q power : ℕ) → 1 ≤ power → q % (10 * power) ≡ q / power % 10 * power + q % power
 mod_next_power q power one =
     let low : q % power < power = omega (arith, one, mod_below q power (omega arith)) in
@@ -56,6 +60,7 @@ mod_next_power q power one =
     ap (λ n. n % (10 * power)) whole
     ∙ mod-mul-add (q / power / 10) (10 * power) (q / power % 10 * power + q % power) few
 
+-- The last p digits of q represent the remainder of q by 10^p.
 pub value_of_last_digits : (p q : ℕ) → value_of (last_digits p q) ≡ q % 10 ^ p
 value_of_last_digits zero q = omega arith
 value_of_last_digits (suc p) q =
@@ -63,11 +68,11 @@ value_of_last_digits (suc p) q =
     ∙ rw (length_last_digits p q, value_of_last_digits p q, pow-succ' 10 p)
     (sym (mod_next_power q (10 ^ p) (one_le_pow10 p)))
 
+-- q / 10^p with p digits after the point, times 10^p, is q.
 pub scaled_at_places : (p q : ℕ) → scaled (at_places p q) ≡ q
 scaled_at_places p q = rw (length_last_digits p q, value_of_last_digits p q) (omega (arith, one_le_pow10 p))
 
--- without zeros at the end
-
+-- `ds` is `front` with trailing zeros.
 pub record ZerosBehind (ds front : List ℕ) : Type 0 where
   pub zeros : ℕ
   pub list_is : ds ≡ front ++ replicate zeros 0
@@ -94,12 +99,13 @@ small_without_zeros (d ∷ ds) h =
     small_before_digit d (without_zeros ds) (All-head (λ d. d < 10) d ds h)
     (small_without_zeros ds (All-tail (λ d. d < 10) d ds h))
 
--- the digits of q at p places are those of its short form, and zeros
+-- q / 10^p is the decimal `e`, which has at most p digits after the point.
 pub record ShortOf (q p : ℕ) (e : Finite) : Type 0 where
   pub few : length e.digits ≤ p
   pub small : All (λ d. d < 10) e.digits
   pub scaled_is : q ≡ scaled e * 10 ^ (p - length e.digits)
 
+-- q / 10^p without trailing zeros is q / 10^p.
 pub ShortOf-shortened : (q p : ℕ) → ShortOf q p (shortened (at_places p q))
 ShortOf-shortened q p =
     let ds = last_digits p q in

@@ -1,4 +1,4 @@
--- Long division, a digit a step.
+-- Long division with one digit per step.
 use Rattle.std.proofs.Common.{◌≡◌, ℕ, suc, ◌+◌, ◌-◌, ◌*◌, ◌/◌, ◌%◌, ◌^◌, ◌<◌, ◌≤◌, ⊎_elim, arith, sym, ap, ◌∙◌, subst}
 use Rattle.std.proofs.Math.Nat.{pow-succ', mul-add-mod_self_right, mod-eq_of_lt, mul-mod_left, div-le_self}
 use Rattle.std.proofs.Math.Nat.{div-add-mod', mul-le-mul_right}
@@ -10,7 +10,7 @@ use Rattle.byte_unit_math.specs.Bounds.{one, places_of_decimal, whole_limit}
 use Rattle.byte_unit_math.specs.Exact.{IsExactAt, IsLeastPlaces, IsQuotient}
 use Rattle.byte_unit_math.proofs.Scales.{pow10_bounds, pow10_times_rest, pow10_split}
 
--- exact, so no rest
+-- If the quotient is exact with this many digits after the point, the division leaves no remainder there.
 pub rest_is_zero :
     (size unit places count rest : ℕ) → size * 10 ^ places ≡ count * unit + rest → rest < unit
     → IsExactAt size unit places
@@ -20,22 +20,21 @@ rest_is_zero size unit places count rest product small exact =
     ∙ (sym (mul-add-mod_self_right count unit rest)
     ∙ (ap (λ n. n % unit) (sym product ∙ exact.1) ∙ mul-mod_left exact.0 unit))
 
--- a division so far, by units of a place, and its next digit
+-- A division so far with its quotient and remainder, and the next digit with the remainder after it.
 pub record NextDigit (size unit power count rest digit left : ℕ) : Type 0 where
   pub so_far : size * power ≡ count * unit + rest
   pub next : digit * unit + left ≡ rest * 10
 
+-- One digit more multiplies the quotient by ten and adds the digit.
 pub divide_one_more_digit :
     (size unit power count rest digit left : ℕ) → NextDigit size unit power count rest digit left
     → size * (10 * power) ≡ (count * 10 + digit) * unit + left
 divide_one_more_digit size unit power count rest digit left h = omega (arith, ap (λ n. n * 10) h.so_far, h.next)
 
--- a digit behind the last of a number
+-- Appending a digit to whole part and fraction is the same as appending it to the fraction.
 pub append_digit : (whole power value digit : ℕ)
     → (whole * power + value) * 10 + digit ≡ whole * (10 * power) + (value * 10 + digit)
 append_digit whole power value digit = omega arith
-
--- a count of units of a place whose last digit isn't zero states a number in the fewest places
 
 last_digit_of_tens : (count power : ℕ) → (count * (10 * power)) % 10 ≡ 0
 last_digit_of_tens count power = omega arith
@@ -55,6 +54,7 @@ last_digit_zero size unit count places fewer positive product h =
     eq_of_mul-eq-mul_right unit positive count (h.1.0 * (10 * 10 ^ last)) (omega (arith, stated, raised, product)) in
     ap (λ n. n % 10) tens ∙ last_digit_of_tens h.1.0 (10 ^ last)
 
+-- A quotient that is exact with a last digit other than zero is exact with no fewer digits after the point.
 pub IsLeastPlaces-last_digit :
     (size unit count places : ℕ) → 0 < unit → size * 10 ^ places ≡ count * unit → (0 < places → 0 < count % 10)
     → IsLeastPlaces size unit places
@@ -68,20 +68,21 @@ IsLeastPlaces-last_digit size unit count places positive product last =
           (λ enough. enough) (cases_lt fewer places);
     }
 
--- the size is so many digits of the quotient, and a rest, with none before it being exact
+-- The quotient has `digits` digits after the point so far and leaves `rest`; it is exact with no fewer digits.
 pub record Dividing (size unit rest fraction digits : ℕ) : Type 0 where
   pub product : size * 10 ^ digits ≡ (size / unit * 10 ^ digits + fraction) * unit + rest
   pub small : rest < unit
   pub below : fraction < 10 ^ digits
   pub least : (fewer : ℕ) → IsExactAt size unit fewer → digits ≤ fewer
 
--- while something is left, it isn't exact
+-- While a remainder is left, the quotient is not exact.
 pub not_exact : (size unit rest fraction digits : ℕ) → Dividing size unit rest fraction digits → 0 < rest
     → ¬ IsExactAt size unit digits
 not_exact size unit rest fraction digits h left exact =
     let none = rest_is_zero size unit digits (size / unit * 10 ^ digits + fraction) rest h.product h.small exact in
     omega (arith, none, left)
 
+-- A step of the long division: ten times the remainder gives the next digit and the next remainder.
 pub Dividing-more :
     (size unit rest fraction digits : ℕ) → 1 ≤ unit → 0 < rest → Dividing size unit rest fraction digits
     → Dividing size unit (rest * 10 % unit) (fraction * 10 + rest * 10 / unit) (digits + 1)
@@ -105,7 +106,7 @@ Dividing-more size unit rest fraction digits some left h =
           (cases_lt digits fewer);
     }
 
--- the digits with nothing left
+-- If no remainder is left, the quotient is exact.
 pub Dividing-ended :
     (size unit rest fraction digits : ℕ) → Dividing size unit rest fraction digits → rest ≡ 0
     → size * 10 ^ digits ≡ (size / unit * 10 ^ digits + fraction) * unit
@@ -117,6 +118,7 @@ split_power few more most h k =
     let total : most - few ≡ (more - few) + (most - more) = omega arith in
     ap (λ n. 10 ^ n) total ∙ pow-add 10 (more - few) (most - more)
 
+-- The whole part and an exact fraction, scaled by 10^28, are the quotient.
 pub IsQuotient-digits :
     (size unit fraction digits places : ℕ) → digits ≤ places → places ≤ places_of_decimal
     → size * 10 ^ digits ≡ (size / unit * 10 ^ digits + fraction) * unit
@@ -133,7 +135,7 @@ IsQuotient-digits size unit fraction digits places few room product =
       number = omega (arith, parts, split);
     }
 
--- the quotient times the unit is the size
+-- The quotient times the unit is the size, both scaled by 10^28.
 pub IsQuotient-times :
     (size unit places N : ℕ) → places ≤ places_of_decimal → IsQuotient size unit places N → N * unit ≡ size * one
 IsQuotient-times size unit places N few h =
@@ -141,7 +143,7 @@ IsQuotient-times size unit places N few h =
     let parts = ap (λ n. size * n) (pow10_times_rest places few) in
     ap (λ n. n * unit) h.number ∙ omega (arith, exact, parts)
 
--- digits at their places stay below one
+-- Digits after the point, scaled by 10^28, are below 10^28.
 pub fraction_below_one :
     (fraction digits : ℕ) → digits ≤ places_of_decimal → fraction < 10 ^ digits
     → fraction * 10 ^ (places_of_decimal - digits) < one
@@ -151,9 +153,10 @@ fraction_below_one fraction digits room small =
     (omega arith) in
     omega (arith, product, pow10_times_rest digits room, bound.0)
 
--- and so do they as a number
+-- At most 28 digits after the point, held as one number, are below 10^28.
 pub digits_below_one : (fraction digits : ℕ) → digits ≤ places_of_decimal → fraction < 10 ^ digits → fraction < one
 digits_below_one fraction digits room small = omega (arith, small, pow10_bounds digits room)
 
+-- The quotient of a number below 2^112 is below 2^112.
 pub quotient_below_whole_limit : (size unit : ℕ) → size < whole_limit → size / unit < whole_limit
 quotient_below_whole_limit size unit h = let few = div-le_self size unit in omega (arith, few)

@@ -1,4 +1,4 @@
--- A quotient by a constant: estimated by one multiplication, and by a long division.
+-- A quotient by a constant: by a multiplication with its inverse, and by long division.
 use Rattle.std.proofs.Common.{◌≡◌, ℕ, ◌+◌, ◌-◌, ◌*◌, ◌/◌, ◌%◌, ◌^◌, ◌<◌, ◌≤◌, arith, ap, sym, ◌∙◌, subst}
 use Rattle.std.proofs.Math.Nat.{mul-le-mul_right, le_of_mul-le-mul_right, div-mul-le_self, lt_of_mul-lt-mul_right}
 use Rattle.std.proofs.Math.Nat.{lt-div-mul-add, div-lt_iff_lt-mul}
@@ -6,19 +6,22 @@ use Rattle.std.proofs.Math.Nat.{div-add-mod, div-eq_of_lt-le, mod-eq-sub-div-mul
 use Rattle.std.proofs.lemmas.Nat.{pow-add}
 use Rattle.byte_unit_math.specs.Inverse.{HasInverse}
 
--- an estimate is the quotient, or one below it
+-- The estimate is the quotient n / divisor, or one less.
 pub record IsEstimate (n divisor estimate : ℕ) : Type 0 where
   pub enough : estimate * divisor ≤ n
   pub close : n < estimate * divisor + 2 * divisor
 
+-- The estimate of a quotient: the leading bits of n times the inverse, shifted right.
 abbrev pub estimate_of : ℕ → ℕ → ℕ → ℕ → ℕ
 estimate_of n inverse cut shift = n / 2 ^ cut * inverse / 2 ^ shift
 
+-- The leading bits of n are less than 2^64.
 pub leading_bits_fit : {n divisor inverse cut shift : ℕ} → HasInverse n divisor inverse cut shift → n / 2 ^ cut < 2 ^ 64
 leading_bits_fit {n} {divisor} {inverse} {cut} {shift} h =
     let some : 0 < 2 ^ cut = one-le-pow cut 2 (omega arith) in
     (div-lt_iff_lt-mul {k = 2 ^ cut} {x = n} {y = 2 ^ 64} some).1 (subst (λ m. n < m) (pow-add 2 64 cut) h.leading)
 
+-- The product of the leading bits and the inverse is less than 2^128.
 pub product_fits :
     {n divisor inverse cut shift : ℕ} → HasInverse n divisor inverse cut shift → n / 2 ^ cut * inverse < 2 ^ 128
 product_fits {n} {divisor} {inverse} {cut} {shift} h =
@@ -26,6 +29,7 @@ product_fits {n} {divisor} {inverse} {cut} {shift} h =
     let product = mul-le-mul_right {m = n / 2 ^ cut} {n = 2 ^ 64} inverse (omega (arith, leading)) in
     omega (arith, product, h.fits)
 
+-- The estimate is less than 2^63.
 pub estimate_fits :
     {n divisor inverse cut shift : ℕ} → HasInverse n divisor inverse cut shift
     → estimate_of n inverse cut shift < 2 ^ 63
@@ -35,6 +39,7 @@ estimate_fits {n} {divisor} {inverse} {cut} {shift} h =
     (div-lt_iff_lt-mul {k = 2 ^ shift} {x = n / 2 ^ cut * inverse} {y = 2 ^ 63} (omega (arith, power))).1
     (omega (arith, product_fits h, few))
 
+-- The product with the inverse, shifted right, is the quotient or one less.
 pub IsEstimate-inverse :
     (n divisor inverse cut shift : ℕ) → HasInverse n divisor inverse cut shift
     → IsEstimate n divisor (estimate_of n inverse cut shift)
@@ -70,12 +75,13 @@ IsEstimate-inverse n divisor inverse cut shift h =
           (omega (arith, past_leading, past_inverse, past_estimate, few_leading, powers, power, h.close, some_shift));
     }
 
--- from the estimate to the quotient, and to the rest
+-- A number whose product with the divisor is at most n, and by less than the divisor, is the quotient.
 pub quotient_from_bounds : (n divisor quotient : ℕ) → quotient * divisor ≤ n → n - quotient * divisor < divisor
     → quotient ≡ n / divisor
 quotient_from_bounds n divisor quotient enough close =
     sym (div-eq_of_lt-le {k = quotient} divisor {m = n} enough (omega (arith, enough, close)))
 
+-- What such a product leaves of n is the remainder.
 pub rest_from_bounds :
     (n divisor quotient : ℕ) → quotient * divisor ≤ n → n - quotient * divisor < divisor
     → n - quotient * divisor ≡ n % divisor
@@ -83,7 +89,7 @@ rest_from_bounds n divisor quotient enough close =
     ap (λ q. n - q * divisor) (quotient_from_bounds n divisor quotient enough close)
     ∙ sym (mod-eq-sub-div-mul n divisor)
 
--- the estimate as it is worked out, a step at a time
+-- The estimate computed from leading bits, inverse and shift in turn is the quotient or one less.
 pub IsEstimate-steps :
     {n divisor inverse cut shift leading factor estimate : ℕ} → HasInverse n divisor inverse cut shift
     → leading ≡ n / 2 ^ cut
@@ -95,7 +101,8 @@ IsEstimate-steps {n} {divisor} {inverse} {cut} {shift} {leading} {factor} {estim
     subst (IsEstimate n divisor) (sym (estimate_is ∙ ap (λ m. m / 2 ^ shift) product))
     (IsEstimate-inverse n divisor inverse cut shift h)
 
--- a long division in base 2^40: the quotient, and what is left
+-- Long division in base 2^40, of a number of three digits: the digits of the quotient and the last remainder are those
+-- of the whole division.
 pub long_division :
     (n divisor middle low : ℕ) → 1 ≤ divisor → middle ≡ n / 2 ^ 80 % divisor * 2 ^ 40 + n / 2 ^ 40 % 2 ^ 40
     → low ≡ middle % divisor * 2 ^ 40 + n % 2 ^ 40

@@ -1,4 +1,4 @@
--- Long division, digit by digit, to its end.
+-- The expansion of a fraction by long division, and where it ends.
 use Rattle.std.proofs.Common.{◌≢◌, ◌≡◌, ◌+◌, ◌-◌, ◌*◌, ◌^◌, ◌/◌, ◌%◌, ◌<◌, ◌≤◌, ⊎_elim, ℕ, zero, suc, List, [], ◌∷◌}
 use Rattle.std.proofs.Common.{length, take, drop}
 use Rattle.std.proofs.Common.{set, get_or, replicate, arith, ap, sym, refl, subst, ◌∙◌, add-one, length-take-le}
@@ -16,7 +16,7 @@ use Rattle.byte_unit_math.specs.Exact.{IsExactAt}
 use Rattle.byte_unit_math.specs.Finite.{value_of, IsExpansion}
 use Rattle.byte_unit_math.proofs.Division.{rest_is_zero, divide_one_more_digit, append_digit, IsLeastPlaces-last_digit}
 
--- zeros stay behind a digit that is set
+-- Setting a digit of an array leaves the zeros after it.
 pub zeros_behind_set : (n i d : ℕ) (ds : List ℕ) → drop i ds ≡ replicate (n - i) 0
     → drop (i + 1) (set ds i d) ≡ replicate (n - (i + 1)) 0
 zeros_behind_set n i d ds h =
@@ -25,7 +25,8 @@ zeros_behind_set n i d ds h =
     sym (drop-drop 1 i ds) ∙ (ap (drop 1) h ∙ drop-replicate 1 (n - i) 0) in
     drop-set-lt (i + 1) ds i d (omega arith) ∙ (behind ∙ ap (λ k. replicate k 0) fewer)
 
--- the digits so far, and what is left
+-- The array holds the first `places` digits of the quotient, then zeros, and `rest` is left; if nothing is left, the
+-- last digit is not zero.
 pub record IsDividing (numerator den whole rest places : ℕ) (digits : List ℕ) : Type 0 where
   pub few : places ≤ expansion_places
   pub size : length digits ≡ expansion_places
@@ -42,7 +43,7 @@ last_digit_positive : (rest den digit next : ℕ) → rest ≢ 0 → den * digit
 last_digit_positive rest den zero next h e z = absurd (h (omega (arith, e, z)))
 last_digit_positive rest den (suc digit) next h e z = omega arith
 
--- more digits are to come
+-- A division that leaves a remainder so far, and ends after at most 93 digits.
 pub record IsUnfinished (numerator den whole rest places : ℕ) (digits : List ℕ) : Type 0 where
   pub so_far : IsDividing numerator den whole rest places digits
   pub ends : IsExactAt numerator den expansion_places
@@ -50,6 +51,7 @@ pub record IsUnfinished (numerator den whole rest places : ℕ) (digits : List �
 
 module _ (numerator den whole rest places : ℕ) (digits : List ℕ)
     (h : IsUnfinished numerator den whole rest places digits) where
+  -- An unfinished division has written fewer than 93 digits.
   pub IsUnfinished-room : places < expansion_places
   IsUnfinished-room = ⊎_elim (λ room. room)
       (λ k. let full : places ≡ expansion_places = omega (arith, k, h.so_far.few) in
@@ -64,6 +66,7 @@ module _ (numerator den whole rest places : ℕ) (digits : List ℕ)
       digit_below_ten rest den (rest * 10 / den) (rest * 10 % den) h.so_far.below
       (let positive : 0 < den = omega (arith, h.so_far.below) in omega arith)
 
+  -- A step of the division: the next digit is written, and the next remainder is left.
   pub IsDividing-more : IsDividing numerator den whole (rest * 10 % den) (places + 1)
       (set digits places (rest * 10 / den))
   IsDividing-more =
@@ -94,7 +97,7 @@ module _ (numerator den whole rest places : ℕ) (digits : List ℕ)
         last = λ z p. subst (λ n. 0 < n) (sym at) (last_digit_positive rest den digit (rest * 10 % den) h.some split z);
       }
 
--- before the first digit
+-- Before the first digit the array holds zeros, and the remainder of the whole part is left.
 pub IsDividing-start : (whole rest den : ℕ) → rest < den
     → IsDividing (whole * den + rest) den whole rest 0 (replicate expansion_places 0)
 IsDividing-start whole rest den below = record {
@@ -107,8 +110,7 @@ IsDividing-start whole rest den below = record {
   last = λ z p. absurd (omega (arith, p));
 }
 
--- no digit less
-
+-- Digits represent ten times the number of all but the last, plus the last.
 pub value_by_last_digit : (ds : List ℕ) → 0 < length ds
     → value_of ds ≡ value_of (take (length ds - 1) ds) * 10 + get_or ds (length ds - 1) 0
 value_by_last_digit ds h =
@@ -119,7 +121,7 @@ value_by_last_digit ds h =
     ap value_of (sym whole ∙ take_more ds n 0 (omega arith))
     ∙ fold-append (λ n d. n * 10 + d) 0 (take n ds) (get_or ds n 0 ∷ [])
 
--- digits that state a fraction, the last of them not zero
+-- The fraction is exactly the whole part and these digits, and the last digit is not zero.
 pub record StatesByDigits (num den whole : ℕ) (digits : List ℕ) : Type 0 where
   pub small : All (λ d. d < 10) digits
   pub exact : num * 10 ^ length digits ≡ (whole * 10 ^ length digits + value_of digits) * den
@@ -128,6 +130,7 @@ pub record StatesByDigits (num den whole : ℕ) (digits : List ℕ) : Type 0 whe
 last_digit_of_value : (front value last : ℕ) → last < 10 → value ≡ front * 10 + last → value % 10 ≡ last
 last_digit_of_value front value last small parts = omega (arith, small, parts)
 
+-- A whole part and digits that are exactly the fraction, the last digit not zero, are its expansion.
 pub expansion_of_digits :
     (num den whole : ℕ) (digits : List ℕ) → 0 < den → StatesByDigits num den whole digits
     → IsExpansion num den (record { whole = whole; digits = digits })
@@ -150,13 +153,14 @@ expansion_of_digits num den whole digits positive h =
     (h.last some)) in
     record { small = h.small; exact = h.exact; least = least.least }
 
--- digits in the front of an array that state a fraction, the last of them not zero
+-- The fraction is exactly the whole part and the first `places` digits of an array, the last of them not zero.
 pub record StatesByFront (num den whole places : ℕ) (digits : List ℕ) : Type 0 where
   pub few : places ≤ length digits
   pub small : All (λ d. d < 10) digits
   pub exact : num * 10 ^ places ≡ (whole * 10 ^ places + value_of (take places digits)) * den
   pub last : 0 < places → 0 < get_or digits (places - 1) 0
 
+-- A whole part and first digits of an array that are exactly the fraction, the last not zero, are its expansion.
 pub expansion_of_front :
     (num den whole places : ℕ) (digits : List ℕ) → 0 < den → StatesByFront num den whole places digits
     → IsExpansion num den (record { whole = whole; digits = take places digits })
@@ -175,6 +179,7 @@ expansion_of_front num den whole places digits positive h =
           (h.last some));
     })
 
+-- A division that leaves nothing has written the expansion.
 pub IsDividing-ended :
     (num den whole rest places : ℕ) (digits : List ℕ) → IsDividing num den whole rest places digits → rest ≡ 0
     → IsExpansion num den (record { whole = whole; digits = take places digits })
@@ -183,12 +188,11 @@ IsDividing-ended num den whole rest places digits h none =
     (record { few = omega (arith, h.few, h.size); small = h.small; exact = omega (arith, h.exact, none);
     last = h.last none })
 
--- where it ends
-
 two_below_five : (b : ℕ) → 2 ^ b ≤ 5 ^ b
 two_below_five zero = omega arith
 two_below_five (suc b) = rw (pow-succ' 2 b, pow-succ' 5 b) (omega (arith, two_below_five b))
 
+-- If 2^a * 5^b is at most 2^93, so are 2^a and 5^b.
 pub factors_within_limit : (a b : ℕ) → 2 ^ a * 5 ^ b ≤ unit_limit → (2 ^ a ≤ unit_limit) × (5 ^ b ≤ unit_limit)
 factors_within_limit a b h = (
   omega (arith, h, mul-le (2 ^ a) 1 (2 ^ a) (5 ^ b) (let k : 2 ^ a ≤ 2 ^ a = omega arith in k)
@@ -208,6 +212,7 @@ exponents_within_places a b h =
           (cases_lt expansion_places b),
     )
 
+-- If 2^a * 5^b is at most 2^93, each fraction over it is exact with 93 digits after the point.
 pub powers_are_exact : (num a b : ℕ) → 2 ^ a * 5 ^ b ≤ unit_limit → IsExactAt num (2 ^ a * 5 ^ b) expansion_places
 powers_are_exact num a b h =
     let k = exponents_within_places a b h in
@@ -223,15 +228,18 @@ powers_are_exact num a b h =
     let e = ap (λ n. num * n) all in
     (num * (2 ^ (expansion_places - a) * 5 ^ (expansion_places - b)), e ∙ omega arith)
 
+-- 2^a * 5^b is at least 1.
 pub product_positive : (a b : ℕ) → 1 ≤ 2 ^ a * 5 ^ b
 product_positive a b = mul-le 1 1 (2 ^ a) (5 ^ b) (one-le-pow a 2 (omega arith)) (one-le-pow b 5 (omega arith))
 
--- what a denominator of powers of two and five is to an expansion
+-- The facts about a denominator 2^a * 5^b that the proofs of expansions use.
 pub ruleset powers = (factors_within_limit, product_positive, powers_are_exact)
 
+-- A fraction over 10^28 is exact with 93 digits after the point.
 pub decimal_is_exact : (num : ℕ) → IsExactAt num (one) expansion_places
 decimal_is_exact num = (num * 10 ^ (expansion_places - places_of_decimal), omega arith)
 
+-- A fraction over 2^a * 5^b, given by its whole part and remainder, is exact with 93 digits after the point.
 pub new_is_exact :
     (num x y a b : ℕ) → x ≡ 2 ^ a → y ≡ 5 ^ b → 2 ^ a * 5 ^ b ≤ unit_limit
     → IsExactAt (num / (x * y) * (x * y) + num % (x * y)) (x * y) expansion_places

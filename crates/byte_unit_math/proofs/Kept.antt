@@ -1,4 +1,4 @@
--- The digits that are kept where a decimal is cut, without the zeros or the nines at their end.
+-- A decimal that is cut off or rounded up, without the trailing zeros or nines that this leaves, is an expansion.
 use Rattle.std.proofs.Common.{◌≢◌, ◌≡◌, ◌+◌, ◌-◌, ◌*◌, ◌^◌, ◌<◌, ◌≤◌, ℕ, zero, suc, List, [], ◌∷◌, ◌++◌, length, take}
 use Rattle.std.proofs.Common.{drop}
 use Rattle.std.proofs.Common.{set, get_or, replicate, arith, ap, sym, refl, subst, ◌∙◌, length-take-le}
@@ -14,16 +14,14 @@ use Rattle.byte_unit_math.proofs.Expanding.{expansion_of_digits, expansion_of_fr
 use Rattle.byte_unit_math.proofs.Scales.{pow10_split}
 use Rattle.byte_unit_math.proofs.Cut.{IsShown}
 
--- digits taken off at the end
-
--- the first p digits are the first kept, and this digit behind them; the last of those kept is another
+-- The first p digits of `e` are its first `kept` digits and then only `digit`; the last of those kept is another digit.
 pub record EndsInRunOf (e : Finite) (p kept digit : ℕ) : Type 0 where
   pub within : p ≤ length e.digits
   pub few : kept ≤ p
   pub same : take p e.digits ≡ take kept e.digits ++ replicate (p - kept) digit
   pub stops : 0 < kept → get_or e.digits (kept - 1) 0 ≢ digit
 
--- an array begins with the digits that are kept
+-- An array of 93 digits begins with the first `kept` digits of `e`.
 pub record BeginsWith (e : Finite) (kept : ℕ) (ds : List ℕ) : Type 0 where
   pub size : length ds ≡ expansion_places
   pub front : take kept ds ≡ take kept e.digits
@@ -33,7 +31,7 @@ scaled_cut : (e : Finite) (p : ℕ) → p ≤ length e.digits
     → scaled (cut_after p e) ≡ e.whole * 10 ^ p + value_of (take p e.digits)
 scaled_cut e p within = ap (λ n. e.whole * 10 ^ n + value_of (take p e.digits)) (length-take-le p e.digits within)
 
--- zeros
+-- Cut off after p digits of which the last are zeros, a decimal is that of the digits kept, times a power of ten.
 scaled_zeros :
     (e : Finite) (p kept : ℕ) → EndsInRunOf e p kept 0
     → scaled (cut_after p e) ≡ (e.whole * 10 ^ kept + value_of (take kept e.digits)) * 10 ^ (p - kept)
@@ -42,11 +40,12 @@ scaled_zeros e p kept h =
     let value = ap value_of h.same ∙ value_append_zeros (take kept e.digits) (p - kept) in
     scaled_cut e p h.within ∙ omega (arith, product, value)
 
--- nines
 fold_nines : (n k : ℕ) → fold (λ n d. n * 10 + d) n (replicate k 9) + 1 ≡ (n + 1) * 10 ^ k
 fold_nines n zero = omega arith
 fold_nines n (suc k) = rw (pow-succ' 10 k) (omega (arith, fold_nines (n * 10 + 9) k))
 
+-- Cut off after p digits of which the last are nines and raised by one in the last, it is that of the digits kept,
+-- raised by one in the last, times a power of ten.
 scaled_nines :
     (e : Finite) (p kept : ℕ) → EndsInRunOf e p kept 9
     → scaled (cut_after p e) + 1 ≡ (e.whole * 10 ^ kept + (value_of (take kept e.digits) + 1)) * 10 ^ (p - kept)
@@ -56,7 +55,7 @@ scaled_nines e p kept h =
     let nines = fold_nines (value_of (take kept e.digits)) (p - kept) in
     ap (λ n. n + 1) (scaled_cut e p h.within) ∙ omega (arith, product, value, nines)
 
--- the last digit of those that are kept is in the array too
+-- The last of the digits that are kept is the same in the array.
 same_last_digit :
     (e : Finite) (kept : ℕ) (ds : List ℕ) → BeginsWith e kept ds → 0 < kept
     → get_or ds (kept - 1) 0 ≡ get_or e.digits (kept - 1) 0
@@ -68,6 +67,7 @@ pow10_on_both_sides : (count kept p : ℕ) → kept ≤ p → count * 10 ^ (p - 
 pow10_on_both_sides count kept p few = let product = ap (λ n. count * n) (pow10_split kept p few) in
     omega (arith, product)
 
+-- A decimal cut off after p digits, without the zeros at their end, is the expansion of the cut number.
 pub cut_is_expansion :
     (e : Finite) (p kept : ℕ) (ds : List ℕ) → IsShown e → EndsInRunOf e p kept 0 → BeginsWith e kept ds
     → IsExpansion (scaled (cut_after p e)) (10 ^ p) (record { whole = e.whole; digits = take kept ds })
@@ -86,7 +86,7 @@ cut_is_expansion e p kept ds shown h array =
           omega (arith, digit, other);
     })
 
--- nines alone, so the whole part is one more
+-- If the first p digits are all nines, the cut number plus one in its last digit is the whole part plus one.
 pub next_whole_is_expansion :
     (e : Finite) (p kept : ℕ) → EndsInRunOf e p kept 9 → kept ≡ 0
     → IsExpansion (scaled (cut_after p e) + 1) (10 ^ p) (record { whole = e.whole + 1; digits = [] })
@@ -99,7 +99,7 @@ next_whole_is_expansion e p kept h none =
     expansion_of_digits (scaled (cut_after p e) + 1) (10 ^ p) (e.whole + 1) [] (omega (arith, one_le_pow10 p))
     (record { small = All-nil (λ d. d < 10); exact = omega (arith, all); last = λ some. absurd (omega (arith, some)) })
 
--- the array with its last digit one more
+-- An array in which the last digit kept is one more represents one more.
 value_one_more :
     (e : Finite) (kept : ℕ) (ds : List ℕ) → BeginsWith e kept ds → 0 < kept → kept ≤ length ds
     → value_of (take kept (set ds (kept - 1) (get_or ds (kept - 1) 0 + 1))) ≡ value_of (take kept e.digits) + 1
@@ -114,6 +114,8 @@ value_one_more e kept ds array some room =
     let new_value = ap value_of new ∙ fold-append (λ n d. n * 10 + d) 0 (take last ds) ((digit + 1) ∷ []) in
     omega (arith, old_value, new_value, ap value_of array.front)
 
+-- If nines follow the digits that are kept, the cut number plus one in its last digit has these digits, the last of
+-- them one more.
 pub next_digit_is_expansion :
     (e : Finite) (p kept : ℕ) (ds : List ℕ) → IsShown e → EndsInRunOf e p kept 9 → BeginsWith e kept ds → 0 < kept
     → IsExpansion (scaled (cut_after p e) + 1) (10 ^ p)
@@ -140,14 +142,14 @@ next_digit_is_expansion e p kept ds shown h array some =
       last = λ _. let at = get_or-set_same ds last (digit + 1) 0 fits in omega (arith, at);
     })
 
--- digits copied
-
+-- The first i digits of `ds` are those of `es`, and the rest of its 93 digits are zeros.
 pub record IsCopied (ds es : List ℕ) (i : ℕ) : Type 0 where
   pub size : length ds ≡ expansion_places
   pub front : take i ds ≡ take i es
   pub rest : drop i ds ≡ replicate (expansion_places - i) 0
   pub small : All (λ d. d < 10) ds
 
+-- An array of zeros has no digit of another copied.
 pub no_digits_copied : (es : List ℕ) → IsCopied (replicate expansion_places 0) es 0
 no_digits_copied es =
     record {
@@ -159,12 +161,13 @@ no_digits_copied es =
       small = All-replicate (λ d. d < 10) expansion_places 0 (omega arith);
     }
 
--- the digit of this place
+-- `d` is the digit of `es` at index i.
 pub record IsDigitAt (es : List ℕ) (i d : ℕ) : Type 0 where
   pub within : i < length es
   pub is : d ≡ get_or es (i + 1 - 1) 0
   pub small : d < 10
 
+-- After the digit at index i is copied, i + 1 digits are.
 pub one_more_digit_copied :
     (ds es : List ℕ) (i d : ℕ) → IsCopied ds es i → i < expansion_places → IsDigitAt es i d
     → IsCopied (set ds i d) es (i + 1)

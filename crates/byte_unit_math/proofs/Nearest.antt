@@ -1,4 +1,4 @@
--- The nearest of the multiples of a number, with nothing of digits in it.
+-- Which of two neighboring multiples of a number is nearest to another number.
 use Rattle.std.proofs.Common.{◌≢◌, ◌≡◌, ◌+◌, ◌*◌, ◌^◌, ◌<◌, ◌≤◌, ◌%◌, ⊎_elim, ℕ, arith, subst, refl}
 use Rattle.std.proofs.lemmas.Bool.{cases_lt}
 use Rattle.std.proofs.Math.Nat.{mul-le-mul_right}
@@ -7,7 +7,7 @@ use Rattle.byte_unit_math.specs.Nearest.{WinsTie, IsNearest}
 use Rattle.byte_unit_math.specs.declared.expansion.Ties.{Ties}
 use Rattle.byte_unit_math.specs.declared.expansion.Ties.TheVariants.{Even, Up}
 
--- below, at, just above, and above
+-- A number is below `count`, is `count`, is the next one, or is above that.
 cases_around :
     (count : ℕ) (Holds : ℕ → Type 0) → ((other : ℕ) → other < count → Holds other) → Holds count → Holds (count + 1)
     → ((other : ℕ) → count + 1 < other → Holds other) → (other : ℕ) → Holds other
@@ -20,7 +20,7 @@ cases_around count Holds lower at next upper other =
     (λ n. upper other (omega (arith, n)))
     (cases_lt other (count + 2))) (cases_lt other (count + 1))) (cases_lt other count)
 
--- the number is low above so many multiples of den
+-- num * 10^p is `low` more than `count` multiples of den, and less than one multiple more.
 pub record LiesAbove (num den p count low : ℕ) : Type 0 where
   pub split : num * 10 ^ p ≡ count * den + low
   pub below : low < den
@@ -64,6 +64,7 @@ module _ (num den p count low : ℕ) (lies : LiesAbove num den p count low) wher
       (omega (arith, at_count, at_next, h)) (omega arith)
       (λ other l. omega (arith, at_next, upper_is_far other l, lies.below))
 
+  -- If the rest is less than half of den, the multiple below is nearest, however ties are broken.
   pub nearest_down : (ties : Ties) → 2 * low < den → IsNearest num den p ties count
   nearest_down ties h = record {
     nearest = this_is_nearest (omega (arith, h));
@@ -74,6 +75,7 @@ module _ (num den p count low : ℕ) (lies : LiesAbove num den p count low) wher
         (λ other l n e. absurd (omega (arith, e, at_count, upper_is_far other l, h)));
   }
 
+  -- If the rest is more than half of den, the multiple above is nearest, however ties are broken.
   pub nearest_up : (ties : Ties) → den < 2 * low → IsNearest num den p ties (count + 1)
   nearest_up ties h = record {
     nearest = next_is_nearest (omega (arith, h));
@@ -85,6 +87,7 @@ module _ (num den p count low : ℕ) (lies : LiesAbove num den p count low) wher
         (λ other l n e. absurd (omega (arith, e, at_next, upper_is_far other l, h, lies.below)));
   }
 
+  -- If the rest is half of den and ties go up, the multiple above is nearest.
   pub tie_up_next : 2 * low ≡ den → IsNearest num den p Up (count + 1)
   tie_up_next h = record {
     nearest = next_is_nearest (omega (arith, h));
@@ -95,8 +98,10 @@ module _ (num den p count low : ℕ) (lies : LiesAbove num den p count low) wher
         (λ other l n e. absurd (omega (arith, e, at_next, upper_is_far other l, h, lies.below)));
   }
 
+  -- If the rest is half of den, ties go to even and the multiple below is odd, the one above is nearest.
   pub tie_even_next : 2 * low ≡ den → count % 2 ≡ 1 → IsNearest num den p Even (count + 1)
   tie_even_next h odd = record { nearest = next_is_nearest (omega (arith, h)); tie = λ other n e. omega (arith, odd) }
 
+  -- If the rest is half of den, ties go to even and the multiple below is even, it is nearest.
   pub tie_even_this : 2 * low ≡ den → count % 2 ≡ 0 → IsNearest num den p Even count
   tie_even_this h even = record { nearest = this_is_nearest (omega (arith, h)); tie = λ other n e. even }

@@ -1,4 +1,4 @@
--- The zeros at the end of a fraction.
+-- A fraction without trailing zeros has the least number of digits after the point.
 use Rattle.std.proofs.Common.{◌≡◌, ℕ, suc, ◌+◌, ◌-◌, ◌*◌, ◌/◌, ◌%◌, ◌^◌, ◌<◌, ◌≤◌, arith, ap, sym, subst, ◌∙◌}
 use Rattle.std.proofs.Math.Nat.{pow-succ'}
 use Rattle.std.proofs.Math.Numerals.{add-one}
@@ -7,27 +7,29 @@ use Rattle.byte_unit_math.specs.Exact.{IsLeastPlaces}
 use Rattle.byte_unit_math.proofs.Division.{IsLeastPlaces-last_digit}
 use Rattle.byte_unit_math.proofs.Scales.{pow10_times_rest}
 
--- the fraction of N is rest, with zeros behind these places
+-- The fraction of N / 10^28 is `rest` in `places` digits after the point, followed by zeros.
 pub record FractionEndsAt (N rest places : ℕ) : Type 0 where
   pub few : places ≤ places_of_decimal
   pub fraction_is : N % one ≡ rest * 10 ^ (places_of_decimal - places)
 
--- the same digits, with fewer zeros at their end
+-- `rest` in `places` digits is `digits` in `all` digits with some trailing zeros removed.
 pub record FewerZeros (digits all rest places : ℕ) : Type 0 where
   pub few : places ≤ all
   pub same : digits ≡ rest * 10 ^ (all - places)
   pub below : rest < 10 ^ places
 
--- and none
+-- `short` in `places` digits is `digits` in `all` digits with all trailing zeros removed.
 pub record IsShortened (digits all short places : ℕ) : Type 0 where
   pub fewer : FewerZeros digits all short places
   pub last : 0 < places → 0 < short % 10
 
+-- Digits from which no trailing zero has been removed yet.
 pub FewerZeros-all : (digits all : ℕ) → digits < 10 ^ all → FewerZeros digits all digits all
 FewerZeros-all digits all below =
     let none : all - all ≡ 0 = omega arith in
     record { few = omega arith; same = rw none (omega arith); below = below }
 
+-- If the last digit is zero, a tenth in one digit less has one trailing zero less.
 pub FewerZeros-less :
     (digits all rest places tenth : ℕ) → FewerZeros digits all rest places → 0 < places → tenth * 10 ≡ rest
     → FewerZeros digits all tenth (places - 1)
@@ -44,7 +46,7 @@ FewerZeros-less digits all rest places tenth h some parts =
       below = omega (arith, h.below, before, parts);
     }
 
--- N in units of the place
+-- N / 10^28 is exact with the digits after the point at which its fraction ends.
 number_at_places : (N rest places : ℕ) → FractionEndsAt N rest places
     → N * 10 ^ places ≡ (N / one * 10 ^ places + rest) * one
 number_at_places N rest places h =
@@ -60,7 +62,7 @@ last_digit_kept whole rest places some last =
     let product = ap (λ n. whole * n) tens in
     omega (arith, product, last)
 
--- no fewer places state it, where the last digit isn't zero
+-- If the last digit is not zero, N / 10^28 is exact with no fewer digits after the point.
 pub FractionEndsAt-least : (N rest places : ℕ) → FractionEndsAt N rest places → (0 < places → 0 < rest % 10)
     → IsLeastPlaces N one places
 FractionEndsAt-least N rest places h last =
@@ -68,20 +70,23 @@ FractionEndsAt-least N rest places h last =
     (number_at_places N rest places h)
     (λ some. last_digit_kept (N / one) rest places some (last some))
 
--- a fraction without the zeros at its end
 pub fraction_ends_at_shortened : (N short places : ℕ) → IsShortened (N % one) places_of_decimal short places
     → FractionEndsAt N short places
 fraction_ends_at_shortened N short places h = record { few = h.fewer.few; fraction_is = h.fewer.same }
 
+-- The fraction of N / 10^28 without trailing zeros has the least number of digits after the point.
 pub least_places_of_shortened : (N short places : ℕ) → IsShortened (N % one) places_of_decimal short places
     → IsLeastPlaces N one places
 least_places_of_shortened N short places h =
     FractionEndsAt-least N short places (fraction_ends_at_shortened N short places h) h.last
 
+-- There is only one least number of digits after the point.
 pub least_places_unique : (N places others : ℕ) → IsLeastPlaces N one places → IsLeastPlaces N one others
     → places ≡ others
 least_places_unique N places others h k = omega (arith, h.least others k.has, k.least places h.has)
 
+-- The digits without trailing zeros, scaled by the rest of 10^28, are the fraction, and fit into the least number of
+-- digits.
 pub value_of_shortened :
     (N short places least : ℕ) → IsShortened (N % one) places_of_decimal short places → IsLeastPlaces N one least
     → (short * 10 ^ (places_of_decimal - least) ≡ N % one) × (short < 10 ^ least)

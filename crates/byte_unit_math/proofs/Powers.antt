@@ -1,4 +1,4 @@
--- How many places a fraction over powers of two and five takes.
+-- How many digits after the point a fraction over powers of 2 and 5 takes.
 use Rattle.std.proofs.Common.{◌≡◌, ◌≢◌, ◌+◌, ◌-◌, ◌*◌, ◌^◌, ◌/◌, ◌%◌, ◌<◌, ◌≤◌, ⊎_elim, ℕ, zero, suc, max, arith, ap}
 use Rattle.std.proofs.Common.{sym, ◌∙◌}
 use Rattle.std.proofs.lemmas.Bool.{cases_lt}
@@ -25,7 +25,7 @@ next_power base m a l =
     let total : a ≡ m + suc (a - m - 1) = omega (arith, l) in
     ap (λ n. base ^ n) total ∙ (pow-add base m (suc (a - m - 1)) ∙ ap (λ n. base ^ m * n) (pow-succ' base (a - m - 1)))
 
--- a number by its factors, times a power of ten: so many more of both
+-- A number times 10^p has p more factors of 2 and p more of 5.
 tens_of_factors : (left twos fives p : ℕ)
     → left * (2 ^ twos * 5 ^ fives) * 10 ^ p ≡ left * (2 ^ (twos + p) * 5 ^ (fives + p))
 tens_of_factors left twos fives p =
@@ -33,7 +33,8 @@ tens_of_factors left twos fives p =
     let powers = ap (λ n. left * (2 ^ twos * 5 ^ fives) * n) ten in
     rw (pow-add 2 twos p, pow-add 5 fives p) (omega (arith, powers))
 
--- which is a count of units that have no more of them
+-- A number given by its factors, times 10^p, is a multiple of 2^a * 5^b if it has then at least a factors of 2 and b of
+-- 5.
 pub count_of_units :
     (left twos fives a b p : ℕ) → (a ≤ twos + p) × (b ≤ fives + p)
     → left * (2 ^ twos * 5 ^ fives) * 10 ^ p ≡ left * (2 ^ (twos + p - a) * 5 ^ (fives + p - b)) * (2 ^ a * 5 ^ b)
@@ -59,7 +60,7 @@ exact_with_powers num a b twos fives p h few = (
   ap (λ n. n * 10 ^ p) h.product ∙ count_of_units h.left twos fives a b p few,
 )
 
--- a number with one two more, or one five more, than is taken off on both sides
+-- If twice a power of 2 divides a number with that power apart, what is left is even.
 cancel_twos :
     (left twos others count more rest : ℕ) → 0 < twos → left * (twos * others) ≡ count * (twos * (2 * more) * rest)
     → (left * others) % 2 ≡ 0
@@ -68,6 +69,7 @@ cancel_twos left twos others count more rest some e =
     eq_of_mul-eq-mul_right twos some (left * others) (2 * (count * more * rest)) (omega (arith, e)) in
     omega (arith, same)
 
+-- If five times a power of 5 divides a number with that power apart, five divides what is left.
 cancel_fives :
     (left others fives count more rest : ℕ) → 0 < fives
     → left * (others * fives) ≡ count * (rest * (fives * (5 * more)))
@@ -95,17 +97,22 @@ enough_fives num a b twos fives p h e = ⊎_elim
     (cancel_fives h.left (2 ^ (twos + p)) F e.0 K (2 ^ a) (omega (arith, one-le-pow (fives + p) 5 (omega arith))) f)))
     (λ k. k) (cases_lt (fives + p) b)
 
+-- A fraction num / (2^a * 5^b) is exact with p digits after the point if and only if num * 10^p has at least a factors
+-- of 2 and b of 5.
 pub exact_by_powers : ExactByPowers
 exact_by_powers num a b twos fives p h =
     (λ e. (enough_twos num a b twos fives p h e, enough_fives num a b twos fives p h e),
     λ few. exact_with_powers num a b twos fives p h few)
 
+-- A fraction num / (2^a * 5^b) takes as many digits after the point as num lacks factors of 2 or of 5, whichever is
+-- more.
 pub places_by_powers : PlacesByPowers
 places_by_powers num a b twos fives h = record {
   has = exact_with_powers num a b twos fives (max (a - twos) (b - fives)) h (omega arith, omega arith);
   least = λ p exact. omega (arith, enough_twos num a b twos fives p h exact, enough_fives num a b twos fives p h exact);
 }
 
+-- Zero takes no digits after the point.
 pub zero_takes_no_places : ZeroTakesNoPlaces
 zero_takes_no_places den = record { has = (0, omega arith); least = λ p e. omega arith }
 
@@ -114,7 +121,7 @@ nothing_left n left twos fives e odd no_five =
     (twos, fives, record { left = left; product = e; odd = λ k. omega (arith, odd, k);
     no_five = λ k. omega (arith, no_five, k) })
 
--- two and five are taken off as long as they divide what is left
+-- What is left of a number has exponents of 2 and 5, and so has the number.
 taken_off : (turns n left twos fives : ℕ) → left ≤ turns → 0 < left → n ≡ left * (2 ^ twos * 5 ^ fives) → HasTwoFive n
 taken_off zero n left twos fives few some e = absurd (omega (arith, few, some))
 taken_off (suc turns) n left twos fives few some e =
@@ -133,7 +140,7 @@ taken_off (suc turns) n left twos fives few some e =
     omega (arith, e, p))))
     (cases_lt 0 (left % 2))
 
--- a number that is not zero has powers of two and five, and something left
+-- Every number but zero has an exponent of 2 and an exponent of 5.
 pub has_two_five : NumbersHaveTwosAndFives
 has_two_five n some =
     taken_off n n n 0 0 (omega arith) (⊎_elim (λ l. l) (λ k. absurd (some (omega (arith, k)))) (cases_lt 0 n))

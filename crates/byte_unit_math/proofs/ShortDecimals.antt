@@ -1,4 +1,4 @@
--- The fields of a decimal: its whole part, and its digits after the point without zeros at their end.
+-- The fields of a `Decimal`: whole part, and digits after the point without trailing zeros.
 use Rattle.std.proofs.Common.{◌≡◌, ℕ, zero, suc, ◌+◌, ◌-◌, ◌*◌, ◌/◌, ◌%◌, ◌^◌, ◌<◌, ◌≤◌, Bool, true, false, nat_eq}
 use Rattle.std.proofs.Common.{arith, ap, refl, sym, subst, ◌∙◌}
 use Rattle.std.specs.Prelude.{if◌then◌else◌}
@@ -11,18 +11,19 @@ use Rattle.byte_unit_math.proofs.Division.{fraction_below_one}
 use Rattle.byte_unit_math.proofs.Places.{FewerZeros, IsShortened}
 use Rattle.byte_unit_math.proofs.Scales.{pow10_split}
 
--- the parts of a number
-
 fraction_of_fields_below_one : (d : Inside) → IsShort d → d.digits * 10 ^ (places_of_decimal - d.places) < one
 fraction_of_fields_below_one d h = fraction_below_one d.digits d.places h.few h.below
 
+-- The field `whole` is the whole part of the value.
 pub whole_of_fields : (N : ℕ) (d : Inside) → IsShort d → number_of d ≡ N → d.whole ≡ N / one
 whole_of_fields N d h view = let part = fraction_of_fields_below_one d h in omega (arith, part, view)
 
+-- The field `digits`, scaled to 28 digits, is the fraction of the value.
 pub fraction_of_fields : (N : ℕ) (d : Inside) → IsShort d → number_of d ≡ N
     → d.digits * 10 ^ (places_of_decimal - d.places) ≡ N % one
 fraction_of_fields N d h view = let part = fraction_of_fields_below_one d h in omega (arith, part, view)
 
+-- The fields hold the fraction of the value without trailing zeros.
 pub fields_are_shortened : (N : ℕ) (d : Inside) → IsShort d → number_of d ≡ N
     → IsShortened (N % one) places_of_decimal d.digits d.places
 fields_are_shortened N d h view =
@@ -31,7 +32,7 @@ fields_are_shortened N d h view =
       last = h.last;
     }
 
--- digits without the zeros at their end are found again
+-- Removing the trailing zeros of digits to which zeros were appended gives the digits.
 
 digits_kept : (places digits : ℕ) → (0 < places → 0 < digits % 10) → shortened_digits places digits ≡ (digits, places)
 unfolding shortened_digits
@@ -77,14 +78,14 @@ short_fraction_is zero pair h =
     sym none ∙ h
 short_fraction_is (suc rest) pair h = h
 
--- the fields that the number gives back
-
+-- A whole part below 2^112, and at most 28 digits after the point, the last of them not zero.
 pub record AreParts (whole digits places : ℕ) : Type 0 where
   pub bound : whole < whole_limit
   pub few : places ≤ places_of_decimal
   pub below : digits < 10 ^ places
   pub last : 0 < places → 0 < digits % 10
 
+-- Such parts satisfy the invariant of a `Decimal`.
 pub IsShort-parts :
     (whole digits places : ℕ) → AreParts whole digits places
     → IsShort (record { whole = whole; digits = digits; places = places })
@@ -108,8 +109,7 @@ IsShort-parts whole digits places h =
       only = ap of_whole front ∙ ap of_short short;
     }
 
--- the same number without the zeros at the end of its digits
-
+-- Removing trailing zeros does not change the value.
 pub number_of_shortened :
     (whole digits all short places : ℕ) → FewerZeros digits all short places → all ≤ places_of_decimal
     → whole * one + short * 10 ^ (places_of_decimal - places) ≡ whole * one + digits * 10 ^ (places_of_decimal - all)

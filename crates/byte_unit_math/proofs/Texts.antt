@@ -1,4 +1,4 @@
--- A decimal is known by its number of places and its number, so each form has one text.
+-- Expansions, their texts and nearest decimals are unique, and an expansion is found by division.
 use Rattle.std.proofs.Common.{◌≡◌, ◌+◌, ◌-◌, ◌*◌, ◌^◌, ◌/◌, ◌%◌, ◌<◌, ◌≤◌, ⊎_elim, ℕ, zero, suc, List, [], ◌∷◌, ◌++◌}
 use Rattle.std.proofs.Common.{length, take, get_or}
 use Rattle.std.proofs.Common.{replicate, arith, ap, sym, refl, subst, ◌∙◌, length-append, append-nil}
@@ -26,8 +26,7 @@ use Rattle.byte_unit_math.proofs.Expanding.{expansion_of_digits}
 use Rattle.byte_unit_math.proofs.Scales.{pow10_split}
 use Rattle.byte_unit_math.proofs.Cut.{value_below_power}
 
--- one decimal
-
+-- Each of the numbers is a decimal digit.
 abbrev AllBelowTen : List ℕ → Type 0
 AllBelowTen ds = All (λ d. d < 10) ds
 
@@ -48,6 +47,7 @@ same_digits (d ∷ ds) (x ∷ es) h k len e =
     (omega (arith, product, value_cons d ds, value_cons x es, e)) in
     ap (λ n. n ∷ ds) parts.0 ∙ ap (λ l. x ∷ l) (same_digits ds es hs ks l parts.1)
 
+-- Two decimals with as many digits after the point and the same scaled value are equal.
 pub same_finite : (e f : Finite) → AllBelowTen e.digits → AllBelowTen f.digits → length e.digits ≡ length f.digits
     → scaled e ≡ scaled f → e ≡ f
 same_finite e f h k len same =
@@ -62,6 +62,7 @@ same_finite e f h k len same =
     let of_digits : List ℕ → Finite = λ ds. record { whole = f.whole; digits = ds } in
     ap of_whole parts.0 ∙ ap of_digits digits
 
+-- A fraction has only one expansion.
 pub expansion_unique : (num den : ℕ) (e f : Finite) → 0 < den → IsExpansion num den e → IsExpansion num den f → e ≡ f
 expansion_unique num den e f positive h k =
     let no_more = h.least (length f.digits) (scaled f, k.exact) in
@@ -70,8 +71,7 @@ expansion_unique num den e f positive h k =
     let same : scaled e * den ≡ scaled f * den = sym h.exact ∙ (ap (λ n. num * 10 ^ n) len ∙ k.exact) in
     same_finite e f h.small k.small len (eq_of_mul-eq-mul_right den positive (scaled e) (scaled f) same)
 
--- the short numeral
-
+-- The last digit is not zero.
 abbrev EndsSome : List ℕ → Type 0
 EndsSome [] = ⊤
 EndsSome (d ∷ []) = 0 < d
@@ -98,6 +98,7 @@ ends_last (d ∷ e ∷ es) h k =
     let PositiveInAll : ℕ → Type 0 = λ i. 0 < get_or (d ∷ e ∷ es) i 0 in
     subst PositiveInAll (sym all) (subst PositiveInTail fewer last)
 
+-- q / 10^p without trailing zeros is its expansion.
 pub short_numeral_is_expansion : ShortNumeralsAreExpansions
 short_numeral_is_expansion q p =
     let e = shortened (at_places p q) in
@@ -111,14 +112,13 @@ short_numeral_is_expansion q p =
       last = ends_last e.digits (ends_without_zeros (last_digits p q));
     })
 
--- the decimal of q / 10^p is printed as the short numeral
+-- The text of the expansion of q / 10^p is the numeral of q without trailing zeros.
 pub text_of_short_numeral : (q p : ℕ) (e : Finite) → IsExpansion q (10 ^ p) e → text_of e ≡ short q p
 text_of_short_numeral q p e h =
     ap text_of (expansion_unique q (10 ^ p) e (shortened (at_places p q)) (omega (arith, one_le_pow10 p)) h
     (short_numeral_is_expansion q p))
 
--- the numeral with all places
-
+-- The expansion of q / 10^p, padded with zeros to p digits after the point, has the digits of q.
 pub padded_is_at_places : (q p : ℕ) (e : Finite) → IsExpansion q (10 ^ p) e → padded p e ≡ at_places p q
 padded_is_at_places q p e h =
     let len = length e.digits in
@@ -143,10 +143,11 @@ padded_is_at_places q p e h =
     ap of_front all ∙ same_finite f (at_places p q) small (last_digits_below_ten p q)
     (count ∙ sym (length_last_digits p q)) (same ∙ sym (scaled_at_places p q))
 
+-- The text of the expansion of q / 10^p, padded to p digits after the point, is the numeral with all p digits.
 pub text_of_padded : (q p : ℕ) (e : Finite) → IsExpansion q (10 ^ p) e → text_of (padded p e) ≡ numeral q p
 text_of_padded q p e h = ap text_of (padded_is_at_places q p e h)
 
--- with just its own places
+-- Padded to its own number of digits after the point, a decimal is unchanged.
 pub padded_to_own_places : (e : Finite) → padded (length e.digits) e ≡ e
 padded_to_own_places e =
     let none : length e.digits - length e.digits ≡ 0 = omega arith in
@@ -155,8 +156,6 @@ padded_to_own_places e =
     let of_digits : List ℕ → Finite = λ l. record { whole = e.whole; digits = l } in
     ap of_count none ∙ ap of_digits
     (append-nil (take (length e.digits) e.digits) ∙ take_all (length e.digits) e.digits (omega arith))
-
--- nearest to the decimal of a fraction is nearest to the fraction
 
 difference_apart : (a d k : ℕ) → abs_diff a (a + d) * k ≡ abs_diff (a * k) ((a + d) * k)
 difference_apart a d k = let e : abs_diff a (a + d) ≡ d = omega arith in ap (λ n. n * k) e ∙ omega arith
@@ -173,6 +172,7 @@ difference_times a b k =
     (difference_apart b (a - b) k) in
     ap (λ n. n * k) (difference_turned a b) ∙ (times ∙ difference_turned (b * k) (a * k))) (cases_lt a b)
 
+-- What is nearest to the expansion of a fraction is nearest to the fraction.
 pub nearest_of_expansion :
     (num den : ℕ) (e : Finite) (p : ℕ) (ties : Ties) (q : ℕ) → (0 < den) × (num * 10 ^ length e.digits ≡ scaled e * den)
     → IsNearest (scaled e) (10 ^ length e.digits) p ties q → IsNearest num den p ties q
@@ -201,8 +201,7 @@ nearest_of_expansion num den e p ties q stated h =
           (same o ∙ (tied ∙ sym (same q))));
     }
 
--- equal fractions have one decimal
-
+-- Two fractions with positive denominators are equal.
 pub record SameFraction (num den num' den' : ℕ) : Type 0 where
   pub positive : 0 < den
   pub positive' : 0 < den'
@@ -216,6 +215,7 @@ same_places num den num' den' p count h exact =
     let times = ap (λ n. n * den) exact in
     eq_of_mul-eq-mul_right den' h.positive' (num * 10 ^ p) (count * den) (omega (arith, power, times))
 
+-- Equal fractions have the same expansion.
 pub expansion_of_same_fraction :
     (num den num' den' : ℕ) (e : Finite) → SameFraction num den num' den' → IsExpansion num den e
     → IsExpansion num' den' e
@@ -228,8 +228,6 @@ expansion_of_same_fraction num den num' den' e same h =
       least = λ p k. h.least p (k.0, same_places num den num' den' p k.0 same k.1);
     }
 
--- the decimal of a fraction, found by division
-
 expansion_at : (num den p : ℕ) → 0 < den → IsExactAt num den p
     → IsExpansion num den (shortened (at_places p (num * 10 ^ p / den)))
 expansion_at num den p some h =
@@ -240,24 +238,27 @@ expansion_at num den p some h =
     (record { positive = omega (arith, one_le_pow10 p); positive' = some; same = sym h.1 })
     (short_numeral_is_expansion h.0 p))
 
+-- If num / den is exact with 93 digits after the point, the quotient cut off there without trailing zeros is its
+-- expansion.
 pub expansion_of_is_expansion : (num den : ℕ) → 0 < den → IsExactAt num den expansion_places
     → IsExpansion num den (expansion_of num den)
 expansion_of_is_expansion num den some ends = expansion_at num den expansion_places some ends
 
+-- If num / den is exact with 93 digits after the point, each expansion of it is the quotient cut off there.
 pub expansion_is_by_division :
     (num den : ℕ) (e : Finite) → 0 < den → IsExactAt num den expansion_places → IsExpansion num den e
     → e ≡ expansion_of num den
 expansion_is_by_division num den e some ends h =
     expansion_unique num den e (expansion_of num den) some h (expansion_of_is_expansion num den some ends)
 
+-- If num / den is exact with 93 digits after the point, its expansions are exactly the quotient cut off there.
 pub expansions_by_division : ExpansionsAreFoundByDivision
 expansions_by_division num den e other ends =
     let some : 0 < den = ⊎_elim (λ l. l) (λ k. absurd (other (omega (arith, k)))) (cases_lt 0 den) in
     (λ h. expansion_is_by_division num den e some ends h,
     λ is. subst (IsExpansion num den) (sym is) (expansion_of_is_expansion num den some ends))
 
--- one nearest
-
+-- q and r are both nearest to num / den.
 pub record BothNearest (num den p : ℕ) (ties : Ties) (q r : ℕ) : Type 0 where
   pub positive : 0 < den
   pub this : IsNearest num den p ties q
@@ -287,6 +288,7 @@ not_below num den p Even q r h less =
     let even' = h.other.tie q (λ e. omega (arith, e, less)) (sym far) in
     not_both_even num den p q r h less (even, even')
 
+-- Only one decimal with p digits after the point is nearest, since ties are broken.
 pub nearest_unique : (num den p : ℕ) (ties : Ties) (q r : ℕ) → BothNearest num den p ties q r → q ≡ r
 nearest_unique num den p ties q r h =
     let turned_round : BothNearest num den p ties r q =

@@ -1,4 +1,4 @@
--- Twos and fives that are taken off a number.
+-- Factors of 2 and 5 divided out of a number.
 use Rattle.std.proofs.Common.{◌≡◌, ◌≢◌, ℕ, zero, suc, ◌+◌, ◌*◌, ◌/◌, ◌%◌, ◌^◌, ◌<◌, ◌≤◌, ⊎_elim, arith, sym, ap, ◌∙◌}
 use Rattle.std.proofs.Common.{add-one}
 use Rattle.std.specs.Int.{bit_at, trailing_zeros, w128}
@@ -8,7 +8,7 @@ use Rattle.std.proofs.lemmas.Nat.Bits.{bit_at-trailing_zeros}
 use Rattle.std.proofs.lemmas.Bool.{cases_lt}
 use Rattle.byte_unit_math.specs.Bounds.{size_limit}
 
--- no power of two up to a size has more than 99 factors
+-- A power of 2 that is at most a size has an exponent of at most 99.
 few_twos : (twos size : ℕ) → 2 ^ twos ≤ size → size < size_limit → twos ≤ 99
 few_twos twos size h small =
     ⊎_elim
@@ -28,7 +28,7 @@ few_factors_of_size size left twos fives some h small =
     let product = mul-le-mul_right {m = 1} {n = left} (2 ^ twos * 5 ^ fives) some in
     few_twos (twos + fives) size (omega (arith, pow-add 2 twos fives, powers, product, h)) small
 
--- the twos below the lowest digit that is set
+-- A number whose lowest `twos` bits are 0 is a multiple of 2^twos.
 trailing_zeros_divide : (number twos : ℕ) → ((i : ℕ) → i < twos → bit_at number i ≡ 0)
     → number ≡ number / 2 ^ twos * 2 ^ twos
 trailing_zeros_divide number zero zeros = omega (arith, div-one number)
@@ -41,11 +41,12 @@ trailing_zeros_divide number (suc twos) zeros =
     trailing_zeros_divide number twos (λ i l. zeros i (omega (arith, l)))
     ∙ (ap (λ n. n * 2 ^ twos) parts ∙ omega (arith, power))
 
--- what is left of a number, its twos and so many fives taken off
+-- `left` is odd, and times 2^twos * 5^fives it is the number.
 pub record FivesOff (number left twos fives : ℕ) : Type 0 where
   pub odd : left % 2 ≢ 0
   pub product : number ≡ left * (2 ^ twos * 5 ^ fives)
 
+-- A number shifted right by its trailing zero bits is odd, and its factors of 2 are as many as these bits.
 pub FivesOff-trailing_zeros : (number : ℕ) → 0 < number → number < 2 ^ 128
     → FivesOff number (number / 2 ^ trailing_zeros w128 number) (trailing_zeros w128 number) 0
 FivesOff-trailing_zeros number some small =
@@ -55,6 +56,7 @@ FivesOff-trailing_zeros number some small =
       product = trailing_zeros_divide number (trailing_zeros w128 number) lowest.2 ∙ omega arith;
     }
 
+-- Dividing what is left by five is one factor of 5 more.
 pub FivesOff-more :
     (number left twos fives fifth : ℕ) → FivesOff number left twos fives → fifth * 5 ≡ left
     → FivesOff number fifth twos (fives + 1)
@@ -65,6 +67,7 @@ FivesOff-more number left twos fives fifth h parts =
       product = h.product ∙ (ap (λ n. n * (2 ^ twos * 5 ^ fives)) (sym parts) ∙ omega (arith, power));
     }
 
+-- Dividing what is left by a power of 5 adds its exponent to the factors of 5.
 pub FivesOff-joined :
     (number left twos fives rest others : ℕ) → FivesOff number left twos fives → left ≡ rest * 5 ^ others → rest % 2 ≢ 0
     → FivesOff number rest twos (fives + others)
@@ -72,6 +75,7 @@ FivesOff-joined number left twos fives rest others h parts odd =
     let power = ap (λ n. rest * (2 ^ twos * n)) (pow-add 5 fives others) in
     record { odd = odd; product = h.product ∙ (ap (λ n. n * (2 ^ twos * 5 ^ fives)) parts ∙ omega (arith, power)) }
 
+-- A number below 10^30 has at most 99 factors of 2 and 5 together.
 pub FivesOff-few : (number left twos fives : ℕ) → number < size_limit → FivesOff number left twos fives
     → twos + fives ≤ 99
 FivesOff-few number left twos fives small h =

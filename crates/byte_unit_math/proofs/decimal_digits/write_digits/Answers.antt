@@ -18,7 +18,7 @@ pub put_two-start-requires-clause-room : goal.put_two-start-requires-clause-room
 put_two-start-requires-clause-room c =
     omega (arith, decimal_length_split 2 c.loop-rest.rest (omega arith) (omega arith))
 
--- one or two digits are left
+-- After the loop, one or two digits are left to be written.
 first_digits : (c : Joined-few-ge100) → let tail = c.if-few-ge100 in
     (tail.few < 100) × IsWritten c.args.n c.args.end c.args.bytes.now tail.few tail.start tail.bytes
 first_digits c =

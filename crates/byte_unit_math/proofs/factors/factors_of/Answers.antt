@@ -22,7 +22,7 @@ overflow_add-fives-then-left c =
     (omega (arith, short.ensures.product, c.if-left.true)) short.ensures.odd in
     omega (arith, FivesOff-few _ _ _ _ c.requires.small off)
 
--- what is left in the end, on either way
+-- What is left in the end and the factors found represent the size, in both branches.
 all_off : (c : Joined-left) → FivesOff c.args.size c.if-left.left (trailing_zeros w128 c.args.size) c.if-left.fives
 all_off c =
     let number = c.args.size in

@@ -7,7 +7,7 @@ use Rattle.byte_unit_math.proofs.RoundedUp.{least_size_not_below, IfNone-always,
 use Rattle.byte_unit_math.proofs.least.least_size_counted.Goals.{After-whole, then-digits-eq0, else-digits-eq0}
 use Rattle.byte_unit_math.proofs.least.least_size_counted.Goals as goal
 
--- the least size of the fraction
+-- The part that the code computes is the least size of the fraction.
 fraction_least : (c : After-whole)
     → IsLeastSize (c.digits-digits.result * 10 ^ (places_of_decimal - c.places-places.result)) c.args.unit_size
     c.if-digits-eq0.part
@@ -29,7 +29,7 @@ fraction_least c =
           (subst High w.halves-high.ensures.high high))
     ]
 
--- and of the whole decimal
+-- With the whole part it is the least size of the decimal.
 size_least : (c : After-whole)
     → IsLeastSize c.args.d c.args.unit_size (c.whole.result * c.args.unit_size + c.if-digits-eq0.part)
 size_least c =

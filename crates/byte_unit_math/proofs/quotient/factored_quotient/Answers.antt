@@ -10,7 +10,7 @@ use Rattle.byte_unit_math.proofs.quotient.factored_quotient.Goals.{Start, Joined
 use Rattle.byte_unit_math.proofs.quotient.factored_quotient.Goals.{in_default}
 use Rattle.byte_unit_math.proofs.quotient.factored_quotient.Goals as goal
 
--- the number in units of the place, and how many twos and fives it then has
+-- The number times 10^places as a multiple of the unit, and the factors of 2 and 5 of the multiple.
 
 abbrev twos_of : Start → ℕ
 twos_of c = c.args.number.twos + c.args.places - c.args.twos
@@ -69,7 +69,7 @@ at_place-requires-in-3-clause-small c =
 pub quotient_and_rest-requires : goal.quotient_and_rest-requires
 quotient_and_rest-requires c = omega (arith, c.power_of_ten.ensures, pow10_bounds c.args.places c.requires.places)
 
--- the count is cut at the point
+-- The multiple split at the point into whole part and digits.
 
 abbrev start_of : Joined-places → Start
 start_of c = (goal.at.from_digits-quotient-requires-clause-digits c).Start
