@@ -1,4 +1,4 @@
--- The form of a size in a given unit.
+-- A size has exactly one text in a given unit by each spec.
 use Rattle.std.proofs.Common.{◌≡◌, ℕ, ◌+◌, ◌*◌, ◌/◌, ◌%◌, ◌^◌, ◌<◌, ⊎_elim, min, Bool, true, false, List, length, arith}
 use Rattle.std.proofs.Common.{ap, sym, refl}
 use Rattle.std.proofs.Common.{subst, ◌∙◌, Some, None}
@@ -29,17 +29,18 @@ use Rattle.byte_unit_format.specs.Adjusted.{Rule, full, round_to, short_to, IsNu
 use Rattle.byte_unit_format.specs.Adjusted.{alternate_places, IsAdjustedForm, is_single}
 use Rattle.byte_unit_format.specs.FormLaws.{SizeHasOneAdjustedForm}
 
--- which numeral is written
-
+-- A text formatted by one rule is formatted by an equal one.
 pub numeral_by_same_rule : {rule other : Rule} (num den : ℕ) (text : List ℕ) → rule ≡ other
     → IsNumeralBy other num den text
     → IsNumeralBy rule num den text
 numeral_by_same_rule num den text same numeral = subst (λ rule. IsNumeralBy rule num den text) (sym same) numeral
 
+-- If no precision is set, all digits are written.
 pub rule_without_precision : (spec : FormatSpec) (unit : Shape) → spec.precision ≡ None
     → rule_of spec.precision spec.alternate unit ≡ full
 rule_without_precision spec unit unset = ap (λ precision. rule_of precision spec.alternate unit) unset
 
+-- The rule for a precision that is set and a known alternate flag.
 rule_set : (spec : FormatSpec) (unit : Shape) (precision : ℕ) (alternate : Bool) → spec.precision ≡ Some precision
     → spec.alternate ≡ alternate
     → rule_of spec.precision spec.alternate unit ≡ rule_of (Some precision) alternate unit
@@ -47,26 +48,28 @@ rule_set spec unit precision alternate set flag =
     ap (λ precision. rule_of precision spec.alternate unit) set
     ∙ ap (λ alternate. rule_of (Some precision) alternate unit) flag
 
+-- In the alternate form with a precision, at most that many digits after the point are written, and at most 16.
 pub rule_of_alternate : (spec : FormatSpec) (unit : Shape) (precision places : ℕ) → spec.precision ≡ Some precision
     → spec.alternate ≡ true
     → places ≡ min precision alternate_places → rule_of spec.precision spec.alternate unit ≡ short_to places
 rule_of_alternate spec unit precision places set flag few =
     rule_set spec unit precision true set flag ∙ ap short_to (sym few)
 
+-- For a unit without a prefix outside the alternate form, all digits are written.
 pub rule_without_prefix : (spec : FormatSpec) (unit : Shape) (precision : ℕ) → spec.precision ≡ Some precision
     → spec.alternate ≡ false
     → is_single unit ≡ true → rule_of spec.precision spec.alternate unit ≡ full
 rule_without_prefix spec unit precision set flag single =
     rule_set spec unit precision false set flag ∙ ap (λ single. if single then full else round_to precision) single
 
+-- For a unit with a prefix outside the alternate form, exactly as many digits after the point are written as the
+-- precision.
 pub rule_with_precision : (spec : FormatSpec) (unit : Shape) (precision places : ℕ) → spec.precision ≡ Some precision
     → spec.alternate ≡ false
     → is_single unit ≡ false → places ≡ precision → rule_of spec.precision spec.alternate unit ≡ round_to places
 rule_with_precision spec unit precision places set flag prefixed same =
     rule_set spec unit precision false set flag
     ∙ (ap (λ single. if single then full else round_to precision) prefixed ∙ ap round_to (sym same))
-
--- one numeral
 
 numeral_unique : (rule : Rule) (num den : ℕ) (text other : List ℕ) → 0 < den → IsNumeralBy rule num den text
     → IsNumeralBy rule num den other
@@ -82,6 +85,7 @@ numeral_unique (short_to places) num den text other some of_text of_other =
     (record { positive = some; this = of_text.1; other = of_other.1 }) in
     of_text.2 ∙ (ap (λ nearest. short nearest places) same ∙ sym of_other.2)
 
+-- A size has at most one text in a unit by a spec.
 pub adjusted_form_unique : {edition : Edition} {kind : Kind} {size : ℕ} {unit : Shape} {spec : FormatSpec}
     {text other : List ℕ}
     → IsAdjustedForm edition kind size unit spec text → IsAdjustedForm edition kind size unit spec other → text ≡ other
@@ -92,8 +96,6 @@ adjusted_form_unique {edition} {kind} {size} {unit} {spec} form other =
     numeral_unique rule (size * bits_in kind) (bits unit) form.number other.number some form.number_is
     other.number_is in
     form.text_is ∙ (ap (λ number. layout number (name edition unit) spec) same ∙ sym other.text_is)
-
--- there is one
 
 record HasNearest (num den places : ℕ) (ties : Ties) : Type 0 where
   number : ℕ
@@ -135,7 +137,7 @@ record HasExpansion (num den : ℕ) : Type 0 where
   e : Finite
   is_expansion : IsExpansion num den e
 
--- ten times itself so often as two and five divide is a multiple
+-- 10^(twos + fives) is a multiple of 2^twos * 5^fives.
 pow10_of_sum : (twos fives : ℕ) → 10 ^ (twos + fives) ≡ (5 ^ twos * 2 ^ fives) * (2 ^ twos * 5 ^ fives)
 pow10_of_sum twos fives =
     let of_twos : 10 ^ twos ≡ 2 ^ twos * 5 ^ twos = mul-pow 2 5 twos in
@@ -174,6 +176,7 @@ numeral_exists (short_to places) num twos fives some =
     let found = nearest_exists num (2 ^ twos * 5 ^ fives) places Up some in
     record { number = short found.number places; is_numeral = (found.number, found.is_nearest, refl) }
 
+-- A size has exactly one text in a unit by a spec.
 pub has_one_adjusted_form : SizeHasOneAdjustedForm
 has_one_adjusted_form edition kind size unit spec =
     let some : 0 < bits unit = omega (arith, some_bits unit) in
@@ -184,14 +187,13 @@ has_one_adjusted_form edition kind size unit spec =
     record { number = found.number; number_is = found.is_numeral; text_is = refl } in
     record { form = form; is_form = is_form; one = λ other is_other. adjusted_form_unique is_other is_form }
 
--- the text that is written
-
--- a decimal with so many places is the numeral that the spec asks for
+-- The decimal, padded to `places` digits after the point, is the number that the spec requests.
 pub record IsShown (kind : Kind) (size : ℕ) (unit : Shape) (spec : FormatSpec) (e : Finite) (places : ℕ) : Type 0 where
   pub is_numeral :
       IsNumeralBy (rule_of spec.precision spec.alternate unit) (size * bits_in kind) (bits unit)
       (text_of (padded places e))
 
+-- Such a decimal, formatted with its unit, is the text of the size in the unit.
 pub shown_is_adjusted_form :
     {kind : Kind} {size : ℕ} {unit : Shape} {spec : FormatSpec} {e : Finite} {places : ℕ}
     → IsShown kind size unit spec e places
@@ -199,7 +201,7 @@ pub shown_is_adjusted_form :
 shown_is_adjusted_form {kind} {size} {unit} {spec} {e} {places} shown =
     record { number = text_of (padded places e); number_is = shown.is_numeral; text_is = refl }
 
--- each form is as long
+-- Each text of the size in the unit is as long as that of such a decimal.
 pub adjusted_form_length :
     {kind : Kind} {size : ℕ} {unit : Shape} {spec : FormatSpec} {e : Finite} {places : ℕ}
     → IsShown kind size unit spec e places

@@ -1,4 +1,4 @@
--- What the string of an adjusted size is read as.
+-- What the string of an adjusted size is read as: the size, or an error if it has too many digits.
 use Rattle.std.proofs.Common.{◌≡◌, ℕ, ◌+◌, ◌-◌, ◌*◌, ◌^◌, ◌<◌, ◌≤◌, inl, inr, ⊎_elim, false, List, ◌++◌}
 use Rattle.std.proofs.Common.{length, refl, sym, ap, subst, ◌∙◌, arith}
 use Rattle.std.proofs.Math.Nat.{le_of_mul-le-mul_right}
@@ -31,8 +31,6 @@ use Rattle.byte_unit_format.proofs.ReadBack.{IsStatement, IsGoodName-unit, bits_
 use Rattle.byte_unit_format.proofs.ReadBack.{trimmed_layout, layout_accepted}
 use Rattle.byte_unit_format.proofs.ReadBack.{size_form_reads_back}
 
--- an expansion
-
 whole_not_above : (num den : ℕ) (e : Finite) → 1 ≤ den → IsExpansion num den e → e.whole ≤ num
 whole_not_above num den e some expansion =
     let scale = 10 ^ length e.digits in
@@ -41,14 +39,14 @@ whole_not_above num den e some expansion =
     le_of_mul-le-mul_right scaled_whole
     (let positive : 0 < scale = omega (arith, one_le_pow10 (length e.digits)) in positive)
 
--- that of a size is one that the grammar takes
+-- The expansion of a size is within the bounds of the grammar.
 expansion_bounded : (kind : Kind) (size : ℕ) (unit : Shape) (e : Finite) → size < current.size_limit
     → IsExpansion (size * bits_in kind) (bits unit) e → IsBounded e
 expansion_bounded kind size unit e below expansion =
     let not_above = whole_not_above (size * bits_in kind) (bits unit) e (some_bits unit) expansion in
     record { small = expansion.small; bound = omega (arith, not_above, bits_of_size_bound kind size below) }
 
--- in last places
+-- The expansion scaled by 10^28, times the unit, is the size scaled by 10^28.
 expansion_product : (num den : ℕ) (e : Finite) → IsExpansion num den e → length e.digits ≤ places_of_decimal
     → number_of e.whole e.digits * den ≡ num * one
 expansion_product num den e expansion few =
@@ -62,8 +60,6 @@ expansion_product num den e expansion few =
     let of_rest = ap (λ number. number * rest) expansion.exact in
     let of_power = ap (λ power. num * power) power in
     ap (λ number. number * den) number ∙ omega (arith, of_rest, of_power)
-
--- the string
 
 form_accepted : (kind : Kind) (size : ℕ) (unit : UnitName) (text : List ℕ) → size < current.size_limit
     → IsAdjustedForm current kind size (shape_of unit) ALTERNATE text
@@ -123,6 +119,8 @@ string_rejected kind size unit text below (inl greatest) long = absurd (long (in
 string_rejected kind size unit text below (inr other) long =
     inr (form_rejected kind size unit text below other.1 (λ exact. long (inr exact)))
 
+-- The string of an adjusted size is read as the size if it has at most 28 digits after the point, and is else rejected
+-- as too long.
 pub adjusted_string_reads_back : AdjustedStringReadsBack
 adjusted_string_reads_back kind size unit text below string =
     record {

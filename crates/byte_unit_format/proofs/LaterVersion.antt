@@ -1,4 +1,4 @@
--- What the first version says, the current one says.
+-- What the first version of the grammar accepts and formats, the current version does in the same way.
 use Rattle.std.proofs.Common.{◌≡◌, ℕ, zero, suc, ◌-◌, ◌*◌, ◌<◌, ◌≤◌, ⊎_elim, inl, inr, Bool, true, false, List}
 use Rattle.std.proofs.Common.{length, arith, refl, sym, ap, ◌∙◌, subst}
 use Rattle.std.specs.Prelude.{◌↔◌, slice_index}
@@ -24,7 +24,7 @@ use Rattle.byte_unit_base.specs.declared.kind.Kind.TheVariants.{Byte, Bit}
 use Rattle.byte_unit_base.specs.declared.unit.unit_type.UnitType.{UnitType}
 use Rattle.byte_unit_format.specs.declared.spec.FormatSpec.{FormatSpec}
 
--- an old prefix has the letter that it had
+-- A prefix of the first version has the same letter.
 letter_stays : (power : ℕ) → 0 < power → power ≤ length old.letters
     → slice_index old.letters (power - 1) ≡ slice_index current.letters (power - 1)
 letter_stays zero some known = absurd (omega (arith, some))
@@ -38,7 +38,7 @@ letter_stays (suc (suc (suc (suc (suc (suc (suc zero))))))) some known = refl
 letter_stays (suc (suc (suc (suc (suc (suc (suc (suc zero)))))))) some known = refl
 letter_stays (suc (suc (suc (suc (suc (suc (suc (suc (suc more))))))))) some known = absurd (omega (arith, known))
 
--- so an old unit has the name that it had
+-- A unit of the first version has the same name.
 name_of_shape_stays : (power : ℕ) (binary bit : Bool) → power ≤ length old.letters
     → name old (shape power binary bit) ≡ name current (shape power binary bit)
 name_of_shape_stays zero binary bit known = refl
@@ -47,7 +47,7 @@ name_of_shape_stays (suc power) binary bit known = rw (letter_stays (suc power) 
 name_stays : (unit : Shape) → unit.power ≤ length old.letters → name old unit ≡ name current unit
 name_stays unit known = name_of_shape_stays unit.power unit.binary unit.bit known
 
--- a letter that the old version knows is known
+-- A prefix of the first version is one of the current version.
 known_stays : (power : ℕ) → power ≤ length old.letters → power ≤ length current.letters
 known_stays power known = omega (arith, known)
 
@@ -103,6 +103,7 @@ size_text_stays kind ignore_case text number unit h = record {
   unit_is = spelling_stays kind ignore_case h.unit_part unit h.unit_is;
 }
 
+-- A string that the first version accepts is accepted as the same size.
 pub accepted_stays : AcceptedTextsStay
 accepted_stays kind ignore_case text size h = record {
   number = h.number;
@@ -114,7 +115,7 @@ accepted_stays kind ignore_case text size h = record {
   below = omega (arith, h.below);
 }
 
--- a unit of the last letter is above each old size of its kind
+-- A unit of the new prefix is larger than each size of the first version.
 last_prefix_above_old : (kind : Kind) (binary bit : Bool) → HasKind (own_family kind) bit
     → old.size_limit * bits_in kind ≤ bits (shape (length current.letters) binary bit)
 last_prefix_above_old Byte true true h = absurd (let k : ⊥ = cc in k)
@@ -131,7 +132,7 @@ bound_below_old_limit : (kind : Kind) (size bound : ℕ) → size < old.size_lim
 bound_below_old_limit Byte size bound small within above = omega (arith, small, within, above)
 bound_below_old_limit Bit size bound small within above = omega (arith, small, within, above)
 
--- so a unit that is not above an old size is an old unit
+-- A unit that is at most a size of the first version is a unit of the first version.
 unit_is_old : (kind : Kind) (size : ℕ) (unit : Shape) → size < old.size_limit → InFamily current (own_family kind) unit
     → bits unit ≤ size * bits_in kind → unit.power ≤ length old.letters
 unit_is_old kind size unit small h not_above =
@@ -148,7 +149,7 @@ member_stays : (family : Family) (unit : Shape) → InFamily old family unit →
 member_stays family unit h =
     record { prefix = record { some = h.prefix.some; known = known_stays unit.power h.prefix.known }; kind = h.kind }
 
--- a member that is not above an old size was one
+-- A member of the unit set that is at most a size of the first version was one in that version.
 member_is_old : (kind : Kind) (size : ℕ) (unit : Shape) → size < old.size_limit
     → InFamily current (own_family kind) unit
     → bits unit ≤ size * bits_in kind → InFamily old (own_family kind) unit
@@ -158,7 +159,7 @@ member_is_old kind size unit small h not_above =
       kind = h.kind;
     }
 
--- where the same units have a property, the largest of them or the kind's own is the same
+-- If the same units have two properties, the largest of them, or the kind's own unit, is the same.
 same_largest : (kind : Kind) (Has Had : Shape → Type 0) (unit : Shape) → ((other : Shape) → Has other → Had other)
     → ((other : Shape) → Had other → Has other) → IsLargestOrOwn kind Has unit → IsLargestOrOwn kind Had unit
 same_largest kind Has Had unit there back (inl h) =
@@ -197,13 +198,14 @@ suited_before kind unit_type size unit small h =
       not_above = h.not_above;
     }
 
+-- A size of the first version has the same appropriate unit.
 pub appropriate_stays : AppropriateUnitsStay
 appropriate_stays kind unit_type size unit small =
     let there = suits_stays kind unit_type size in
     let back = λ (other : Shape). suited_before kind unit_type size other small in
     (same_largest kind _ _ unit there back, same_largest kind _ _ unit back there)
 
--- an old size is recovered in an old unit
+-- The exact unit of a size in the first version is a unit of that version.
 recovered_old : (kind : Kind) (size precision : ℕ) (unit : Shape) → IsRecovered old kind false size precision unit
     → unit.power ≤ length old.letters
 recovered_old kind size precision unit (inl h) = h.has.member.prefix.known
@@ -247,6 +249,7 @@ form_before kind size spec text small h =
       text_is = h.text_is ∙ sym (layout_stays (short h.number places_of_decimal) h.unit spec known);
     }
 
+-- A size of the first version has the same texts with a unit.
 pub forms_stay : SizeFormsStay
 forms_stay kind size spec text small = (form_stays kind size spec text small, form_before kind size spec text small)
 
@@ -266,6 +269,7 @@ adjusted_before kind size unit spec text known h =
       text_is = h.text_is ∙ sym (layout_stays h.number unit spec known);
     }
 
+-- A size has the same texts in each unit of the first version.
 pub adjusted_forms_stay : AdjustedFormsStay
 adjusted_forms_stay kind size unit spec text known =
     (adjusted_stays kind size unit spec text known, adjusted_before kind size unit spec text known)

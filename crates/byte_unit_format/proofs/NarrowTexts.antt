@@ -1,4 +1,4 @@
--- The greatest length of the text of a size for which no width is set.
+-- The text of a size has at most 37 bytes if no width is set.
 use Rattle.std.specs.Prelude.{MatchBool}
 use Rattle.std.proofs.Common.{◌≡◌, ℕ, ◌+◌, ◌-◌, ◌*◌, ◌/◌, ◌^◌, ◌<◌, ◌≤◌, ⊎_elim, inl, inr, zero, suc, Bool, true, false}
 use Rattle.std.proofs.Common.{Option, None, List, length, add-one, arith, sym, ap, ◌∙◌}
@@ -35,14 +35,12 @@ use Rattle.byte_unit_format.proofs.UnitNames.{name_short}
 use Rattle.byte_unit_format.proofs.Widths.{plain_form_fills_width, layout_fills_width}
 use Rattle.byte_unit_format.proofs.WrittenForms.{length_of_fraction_text}
 
--- the bits of the units of a kind
-
--- one prefix more is three powers of ten more
+-- The next decimal prefix is a thousand times larger.
 pow10_next : (power : ℕ) → 10 ^ (3 * (power + 1)) ≡ 10 ^ (3 * power) * 1000
 pow10_next power =
     ap (λ n. 10 ^ n) (let sum : 3 * (power + 1) ≡ 3 * power + 3 = omega arith in sum) ∙ pow-add 10 (3 * power) 3
 
--- and ten powers of two more
+-- The next binary prefix is 1024 times larger.
 pow2_next : (power : ℕ) → 2 ^ (10 * (power + 1)) ≡ 2 ^ (10 * power) * 1024
 pow2_next power =
     ap (λ n. 2 ^ n) (let sum : 10 * (power + 1) ≡ 10 * power + 10 = omega arith in sum) ∙ pow-add 2 (10 * power) 10
@@ -77,7 +75,7 @@ pow10_le_pow2 (suc power) =
     let binary_step = ap (λ n. 2 ^ (10 * n)) (sym (add-one power)) ∙ pow2_next power in
     omega (arith, pow10_le_pow2 power, decimal_step, binary_step)
 
--- and, up to the eighth, below the decimal prefix of the next power
+-- Up to the eighth, a binary prefix is less than the next decimal prefix.
 pow2_lt_pow10_next : (power : ℕ) → power ≤ 8 → 2 ^ (10 * power) < 10 ^ (3 * (power + 1))
 pow2_lt_pow10_next power few =
     let rest = 8 - power in
@@ -108,7 +106,7 @@ bits_at_least kind power false bit same = omega (arith, decimal_bits kind power 
 bits_at_least kind power true bit same =
     omega (arith, mul-le-mul_right (bits_in kind) (pow10_le_pow2 power), binary_bits kind power bit same)
 
--- and, up to the eighth, fewer than the decimal unit of the next power
+-- Up to the eighth prefix, a unit has fewer bits than the next decimal unit.
 bits_lt_next :
     (kind : Kind) (power : ℕ) (binary bit : Bool) → HasKind (own_family kind) bit → power ≤ 8
     → bits (shape power binary bit) < bits (shape (power + 1) false bit)
@@ -125,8 +123,6 @@ bits_lt_next kind power true bit same few =
       less,
       bits_in_positive kind,
     )
-
--- the number of a size in its unit
 
 -- the size is this number of the unit, the largest that is exact within the precision
 record IsNumberInLargest (kind : Kind) (size precision : ℕ) (unit : Shape) (number : ℕ) : Type 0 where
@@ -192,20 +188,18 @@ size_lt_next {kind} {size} {precision} {unit} {number} stated few places =
     absurd (omega (arith, larger, stated.largest.largest next states)))
     (cases_lt size (10 ^ zeros))
 
--- the numeral of the number
-
 -- a number below a power of ten has at most as many digits
 decimal_length : (whole digits : ℕ) → 0 < digits → digits ≤ 30 → whole < 10 ^ digits → length (decimal whole) ≤ digits
 decimal_length whole digits some few small =
     let most = pow-le-pow_right {n = 10} (omega arith) few in
     length-decimal-le_wide digits whole some small (omega (arith, small, most))
 
--- a numeral is its whole part, a point at most, and its places
+-- A numeral is as long as its whole part, at most a point, and the digits after it.
 numeral_length : (e : Finite) → length (text_of e) ≤ length (decimal e.whole) + length e.digits + 1
 numeral_length e =
     omega (arith, length-append {A = ℕ} (decimal e.whole) (fraction_text e.digits), length_of_fraction_text e.digits)
 
--- so is that of a number without zeros at its end
+-- The same for a numeral without trailing zeros.
 short_length :
     (number : ℕ) → let places = length (shortened (at_places places_of_decimal number)).digits in
     length (short number places_of_decimal) ≤ length (decimal (number / one)) + places + 1
@@ -247,7 +241,7 @@ prefixed_length {kind} {size} {precision} {unit} {number} stated =
     omega (arith, few, sum, decimal_length whole 3 (omega arith) (omega arith) small))
     (cases_lt places (3 * (power + 1)))
 
--- a number of the kind's own unit is the size, without places
+-- In the kind's own unit the number is the size, without digits after the point: at most 33 characters.
 own_length :
     (kind : Kind) (size number : ℕ) (unit : Shape) → size < current.size_limit → unit ≡ own_unit kind
     → number * bits unit ≡ size * bits_in kind * one → length (short number places_of_decimal) ≤ 33
@@ -273,19 +267,17 @@ recovered_length kind size precision number unit below (inl largest) number_is =
 recovered_length kind size precision number unit below (inr none) number_is =
     own_length kind size number unit below none.1 number_is
 
--- the texts
-
 -- the spaces before the name of a unit and the name are at most four characters
 gap_length : (sign : Sign) (name : List ℕ) → length name ≤ 3 → gap_of sign name + length name ≤ 4
 gap_length Unset name few = omega (arith, few)
 gap_length Plus name few = omega (arith, few)
 gap_length Minus name few = omega (arith, few)
 
--- no width, no columns to fill
+-- Without a width there are no columns to fill.
 no_columns : (width : Option ℕ) → width ≡ None → least_columns width ≡ 0
 no_columns width none = ap least_columns none
 
--- a size with a unit
+-- A size formatted with a unit has at most 37 bytes if no width is set.
 form_narrow :
     (kind : Kind) (size : ℕ) (spec : FormatSpec) (text : List ℕ) → size < current.size_limit → spec.width ≡ None
     → IsSizeForm current kind size spec text → length text ≤ narrow_text
@@ -303,7 +295,7 @@ sign_length Unset = omega arith
 sign_length Plus = omega arith
 sign_length Minus = omega arith
 
--- the digits of a size
+-- A size formatted as digits has at most 37 bytes if no width is set.
 plain_narrow :
     (size : ℕ) (spec : FormatSpec) → size < current.size_limit → spec.width ≡ None
     → length (plain size spec) ≤ narrow_text
@@ -312,7 +304,7 @@ plain_narrow size spec below none =
     let digits = decimal_length size 30 (omega arith) (omega arith) below in
     omega (arith, plain_form_fills_width size spec, no_columns spec.width none, columns, digits, sign_length spec.sign)
 
--- the one or the other, as the alternate form is asked for or not
+-- Both have, whether the alternate form is set or not.
 either_narrow :
     (alternate : Bool) (kind : Kind) (size : ℕ) (spec : FormatSpec) (text : List ℕ) → size < current.size_limit
     → spec.width ≡ None → MatchBool alternate (IsSizeForm current kind size spec text) (text ≡ plain size spec)
@@ -321,7 +313,7 @@ either_narrow true kind size spec text below none form = form_narrow kind size s
 either_narrow false kind size spec text below none form =
     omega (arith, ap length form, plain_narrow size spec below none)
 
--- the text of a size for which no width is set
+-- The text of a size has at most 37 bytes if no width is set.
 pub text_without_width_narrow :
     (kind : Kind) (size : ℕ) (spec : FormatSpec) (text : List ℕ) → size < current.size_limit → spec.width ≡ None
     → IsText current kind size spec text → length text ≤ narrow_text

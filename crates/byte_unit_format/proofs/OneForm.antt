@@ -1,4 +1,4 @@
--- A size has one form.
+-- A size has at most one text with a unit by each spec.
 use Rattle.std.proofs.Common.{◌≡◌, ℕ, ◌*◌, inl, inr, false, List, sym, ap, ◌∙◌, subst}
 use Rattle.std.proofs.Math.Nat.{eq_of_mul-eq-mul_right}
 use Rattle.byte_unit_math.specs.Bounds.{one, places_of_decimal}
@@ -14,7 +14,7 @@ use Rattle.byte_unit_base.specs.Kinds.{bits_in}
 use Rattle.byte_unit_format.specs.Layout.{layout}
 use Rattle.byte_unit_format.specs.Forms.{places_of, IsSizeForm}
 
--- a size is recovered in one unit
+-- A size has at most one exact unit within a precision.
 pub recovered_unit_unique :
     (edition : Edition) (kind : Kind) (size precision : ℕ) (unit other : Shape)
     → IsRecovered edition kind false size precision unit
@@ -26,6 +26,7 @@ recovered_unit_unique edition kind size precision unit other (inr none) (inl lar
     absurd (none.0 other largest.has)
 recovered_unit_unique edition kind size precision unit other (inr own) (inr other_own) = own.1 ∙ sym other_own.1
 
+-- A size has at most one text with a unit by a spec.
 pub size_form_unique : (edition : Edition) (kind : Kind) (size : ℕ) (spec : FormatSpec) (text other : List ℕ)
     → IsSizeForm edition kind size spec text
     → IsSizeForm edition kind size spec other → text ≡ other

@@ -1,4 +1,4 @@
--- What a form says is read as the size that it was made of.
+-- A formatted size is read as the size.
 use Rattle.std.proofs.Common.{◌≡◌, ◌≢◌, ℕ, ◌+◌, ◌-◌, ◌*◌, ◌/◌, ◌^◌, ◌<◌, ◌≤◌, inl, inr, List, [], ◌∷◌, ◌++◌, length}
 use Rattle.std.proofs.Common.{refl, sym, ap, subst}
 use Rattle.std.proofs.Common.{◌∙◌, arith, Bool, false, append-nil, append_assoc}
@@ -41,9 +41,7 @@ use Rattle.byte_unit_base.proofs.NumberTexts.{IsBounded, not_white, starts_with_
 use Rattle.byte_unit_base.proofs.Trim.{StartsWithoutSpace, EndsWithoutSpace}
 use Rattle.byte_unit_format.proofs.TrimmedTexts.{trim_between, spaces_ascii}
 
--- names
-
--- a name is read as its unit, and ends in no white space
+-- The unit's name is ASCII, is read as the unit, and does not end in white space.
 pub record IsGoodName (kind : Kind) (ignore_case : Bool) (unit : Shape) : Type 0 where
   end : EndsWithoutSpace (name current unit)
   ascii : IsAscii (name current unit)
@@ -58,7 +56,7 @@ IsGoodName-known kind ignore_case unit known says = record {
   spells = name_spells (flags_for kind ignore_case) unit known says;
 }
 
--- so in a kind's own family, since case counts where bits are read
+-- Units of the kind's own unit set are read in their kind: where bits are read, case is significant.
 own_says : (kind : Kind) (ignore_case bit : Bool) → HasKind (own_family kind) bit
     → SaysKind (flags_for kind ignore_case) bit
 own_says Byte ignore_case bit has is_bit = absurd (let never : ⊥ = cc in never)
@@ -85,11 +83,9 @@ case_counts : (kind : Kind) → (flags_for kind false).ignore_case ≡ false
 case_counts Byte = refl
 case_counts Bit = refl
 
--- the names of all units are good where case counts
+-- If case is significant, the name of each unit is read as the unit.
 pub IsGoodName-unit : (kind : Kind) (unit : UnitName) → IsGoodName kind false (shape_of unit)
 IsGoodName-unit kind unit = IsGoodName-known kind false (shape_of unit) (unit_known unit) (λ bit. case_counts kind)
-
--- the least size
 
 IsLeastOf-exact : (kind : Kind) (number size : ℕ) (unit : Shape) → number * bits unit ≡ size * bits_in kind * one
     → IsLeastOf kind number unit size
@@ -97,8 +93,6 @@ IsLeastOf-exact Byte number size unit exact =
     record { has = omega (arith, exact); least = λ other covers. omega (arith, exact, covers) }
 IsLeastOf-exact Bit number size unit exact =
     record { has = omega (arith, exact); least = λ other covers. omega (arith, exact, covers) }
-
--- a layout is accepted
 
 layout_regrouped :
     (before behind gap : ℕ) (number unit : List ℕ)
@@ -135,11 +129,12 @@ trim_layout before between number unit start end number_ascii unit_ascii =
     } in
     trim_between before 0 (number ++ behind) starts ends ascii
 
--- without the spaces at its ends it is number, spaces and unit
+-- The text without the spaces at both ends is the number, some spaces and the unit.
 pub record TrimmedLayout (text number unit : List ℕ) : Type 0 where
   pub spaces_between : ℕ
   pub trims : trimmed text ≡ number ++ (spaces spaces_between ++ unit)
 
+-- A number formatted with its unit is, without the spaces at both ends, the number, some spaces and the unit.
 pub trimmed_layout :
     (kind : Kind) (ignore_case : Bool) (spec : FormatSpec) (e : Finite) (unit : Shape) → IsBounded e
     → IsGoodName kind ignore_case unit
@@ -158,7 +153,7 @@ trimmed_layout kind ignore_case spec e unit bounded good =
           ∙ trim_layout before between (text_of e) (name current unit) start good.end ascii good.ascii;
     }
 
--- a decimal of no more places than are read, of a unit whose name is read, is the size
+-- A decimal of at most 28 digits after the point, of a unit whose name is read, is exactly the size.
 pub record IsStatement (kind : Kind) (ignore_case : Bool) (size : ℕ) (e : Finite) (unit : Shape) : Type 0 where
   pub bounded : IsBounded e
   pub few : length e.digits ≤ places_of_decimal
@@ -166,6 +161,7 @@ pub record IsStatement (kind : Kind) (ignore_case : Bool) (size : ℕ) (e : Fini
   pub exact : number_of e.whole e.digits * bits unit ≡ size * bits_in kind * one
   pub below : size < current.size_limit
 
+-- Such a decimal, formatted with its unit, is accepted as the size.
 pub layout_accepted :
     (kind : Kind) (ignore_case : Bool) (size : ℕ) (spec : FormatSpec) (e : Finite) (unit : Shape)
     → IsStatement kind ignore_case size e unit
@@ -197,9 +193,8 @@ layout_accepted kind ignore_case size spec e unit states =
       below = states.below;
     }
 
--- the numbers of the two forms
-
--- a number that is cut at the point and has no zeros at its end, in last places again
+-- A number split into whole part and digits after the point without trailing zeros, both scaled by 10^28, is the number
+-- again.
 pub fixed_point_of_digits :
     (whole part number places : ℕ) → places ≤ places_of_decimal
     → number ≡ (whole * 10 ^ places + part) * 10 ^ (places_of_decimal - places)
@@ -211,13 +206,12 @@ fixed_point_of_digits whole part number places few scaled_is =
     let of_whole = ap (λ power. whole * power) power in
     omega (arith, of_whole, scaled_is)
 
+-- A size has fewer than 8 * 10^30 bits.
 pub bits_of_size_bound : (kind : Kind) (size : ℕ) → size < current.size_limit → size * bits_in kind < bits_limit
 bits_of_size_bound Byte size below = omega (arith, below)
 bits_of_size_bound Bit size below = omega (arith, below)
 
--- the size form
-
--- the unit's name is read as the unit
+-- The name of the exact unit of a size is read as the unit.
 recovered_name :
     (kind : Kind) (ignore_case : Bool) (size precision : ℕ) (unit : Shape)
     → IsRecovered current kind false size precision unit
@@ -236,6 +230,7 @@ whole_bound kind size number unit below some exact =
     let not_above : number ≤ number * unit = omega (arith, mul-le number 1 number unit (omega arith) some) in
     omega (arith, few, not_above, exact)
 
+-- A size formatted with a unit is read as the size.
 pub size_form_reads_back : SizeFormReadsBack
 size_form_reads_back kind size spec ignore_case text below form =
     let e = shortened (at_places places_of_decimal form.number) in
@@ -253,8 +248,6 @@ size_form_reads_back kind size spec ignore_case text below form =
     } in
     let Accepted : List ℕ → Type 0 = λ text. IsAccepted current kind ignore_case text size in
     subst Accepted (sym form.text_is) (layout_accepted kind ignore_case size spec e form.unit states)
-
--- the plain form
 
 no_plus : (sign : Sign) → sign ≢ Plus → plus_of sign ≡ []
 no_plus Unset other = refl
@@ -286,6 +279,7 @@ trim_number before behind whole bound =
     ∙ trim_between before behind (decimal whole) start (subst EndsWithoutSpace (sym start.text_is) end)
     (decimal_ascii whole bound)
 
+-- A size formatted as digits without a plus sign is read as the size.
 pub plain_form_reads_back : PlainFormReadsBack
 plain_form_reads_back kind size spec ignore_case below sign =
     let bound : size < whole_limit = omega (arith, below) in

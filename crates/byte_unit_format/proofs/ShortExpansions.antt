@@ -1,4 +1,4 @@
--- No size takes more places in a unit than the greatest unit has twos, and none of bytes as many.
+-- A size in a unit takes at most 93 digits after the point, and in bytes at most 90.
 use Rattle.std.proofs.Common.{◌≡◌, ◌*◌, ◌/◌, ◌^◌, ℕ, arith, ap, refl}
 use Rattle.byte_unit_math.specs.Exact.{IsExactAt}
 use Rattle.byte_unit_base.specs.Shape.{bits}
@@ -17,6 +17,7 @@ bytes_exact_in : (size : ℕ) (unit : UnitName) → IsExactAt (size * 8) (bits (
 bytes_exact_in size Bit = exact_by_factor size (bits (shape_of Bit)) (8 * 10 ^ 90 / bits (shape_of Bit)) refl
 bytes_exact_in size unit = exact_by_factor size (bits (shape_of unit)) (8 * 10 ^ 90 / bits (shape_of unit)) refl
 
+-- A size in a unit is exact with 93 digits after the point, and a size in bytes with 90.
 pub expansions_end : ExpansionsEnd
 expansions_end Byte size unit = bytes_exact_in size unit
 expansions_end OfBits size unit = exact_in_unit (size * bits_in OfBits) unit

@@ -1,4 +1,4 @@
--- What `Display` writes of a size, and of a size in a unit, is its plain form.
+-- What `Display` writes of a size, and of a size in a unit, is its text by the plain spec.
 use Rattle.std.proofs.Common.{◌≡◌, ◌*◌, ◌<◌, ◌++◌, ℕ, List, true, leb, append-nil, arith, ap, sym, refl}
 use Rattle.std.specs.Prelude.{codes}
 use Rattle.std.specs.Fmt.{decimal}
@@ -25,25 +25,27 @@ unit_below_limit : (unit : UnitName) → leb (bits (shape_of unit)) unit_limit �
 unit_below_limit Bit = refl
 unit_below_limit _ = refl
 
+-- A number of bits in a unit is exact with 93 digits after the point.
 pub exact_in_unit : (num : ℕ) (unit : UnitName) → IsExactAt num (bits (shape_of unit)) expansion_places
 exact_in_unit num unit = powers_are_exact num (twos (shape_of unit)) (fives (shape_of unit))
     (leb-true _ _ (unit_below_limit unit))
 
--- the expansion of a number in a unit is found by division
+-- The expansion of a number of bits in a unit is found by division.
 pub number_by_division : (num : ℕ) (unit : UnitName) (e : Finite) → IsExpansion num (bits (shape_of unit)) e
     → e ≡ expansion_of num (bits (shape_of unit))
 number_by_division num unit e expansion =
     expansion_is_by_division num (bits (shape_of unit)) e (omega (arith, some_bits (shape_of unit)))
     (exact_in_unit num unit) expansion
 
--- a number and a name with one space between them
+-- By the plain spec there is one space between number and name, and no padding.
 plain_layout : (number unit : List ℕ) → number ++ codes " " ++ unit ≡ layout number unit PLAIN
 plain_layout number unit = ap (λ front. front ++ codes " " ++ unit) (sym (append-nil number))
 
--- digits with nothing around them
+-- The digits of a size are its text by the plain spec.
 pub shown_size_is_plain : ShownSizeIsPlainForm
 shown_size_is_plain edition kind size = sym (append-nil (decimal size))
 
+-- All digits of a size in a unit, a space and the unit's name are its text in that unit by the plain spec.
 pub shown_adjusted_size_is_plain : ShownAdjustedSizeIsPlainForm
 shown_adjusted_size_is_plain edition kind size unit =
     let num : ℕ = size * bits_in kind in

@@ -1,4 +1,4 @@
--- Each size has one form: a unit that states it and the number are found, or none states it.
+-- A size has a text with a unit by each spec: it has an exact unit, or its kind's own unit is taken.
 use Rattle.std.proofs.Common.{◌≡◌, ℕ, ◌*◌, ⊎_elim, inl, inr, false, arith, refl}
 use Rattle.byte_unit_math.specs.Bounds.{one, places_of_decimal}
 use Rattle.byte_unit_math.specs.Numeral.{short}
@@ -39,6 +39,7 @@ recovered_unit_exists edition kind size precision =
     number_is = own_number kind size })
     (choice_or_none edition (own_family kind) (size * bits_in kind) precision)
 
+-- A size has exactly one text with a unit by a spec.
 pub has_one_form : SizeHasOneForm
 has_one_form edition kind size spec =
     let found = recovered_unit_exists edition kind size (places_of spec.precision) in

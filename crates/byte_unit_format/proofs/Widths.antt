@@ -1,4 +1,4 @@
--- How long a text is that is padded to a width.
+-- The length of a text that is padded to a width.
 use Rattle.std.proofs.Common.{◌≡◌, ℕ, ◌+◌, ◌-◌, ◌≤◌, ◌++◌, max, List, length, Option, None, Some, arith, ◌∙◌}
 use Rattle.std.proofs.lemmas.List.{length-append, length-replicate}
 use Rattle.byte_unit_format.specs.Plain.{spaces, missing, before_plain, plain_padding, signed_digits}
@@ -28,6 +28,7 @@ length_between_spaces : (before behind : ℕ) (text : List ℕ)
     → length (spaces before ++ text ++ spaces behind) ≡ before + length text + behind
 length_between_spaces before behind text = omega (arith, length-append {A = ℕ}, length-replicate {A = ℕ})
 
+-- A size formatted as digits is as long as the width, or as its sign and digits if these are longer.
 pub plain_form_fills_width : PlainFormFillsWidth
 plain_form_fills_width size spec =
     let text = signed_digits size spec in
@@ -42,6 +43,7 @@ length_of_layout : (before behind gap : ℕ) (number name : List ℕ)
     ≡ before + length number + behind + gap + length name
 length_of_layout before behind gap number name = omega (arith, length-append {A = ℕ}, length-replicate {A = ℕ})
 
+-- A number with a unit is as long as the width, or as number, spaces and name if these are longer.
 pub layout_fills_width : LayoutFillsWidth
 layout_fills_width number name spec =
     let pad = layout_padding number name spec in

@@ -1,4 +1,4 @@
--- The texts that the code writes are those of the definitions.
+-- What the code writes of a size is its text, and all texts of a size are equally long.
 use Rattle.std.specs.Prelude.{MatchBool}
 use Rattle.std.proofs.Common.{◌≡◌, ◌+◌, ◌-◌, ◌*◌, ◌/◌, ◌%◌, ◌^◌, ◌<◌, ◌≤◌, ⊎_elim, min, ℕ, zero, suc}
 use Rattle.std.proofs.Common.{Bool, true, false, List, [], ◌∷◌, ◌++◌, length, take}
@@ -32,7 +32,7 @@ glyphs_of_zeros : (count : ℕ) → glyphs (replicate count 0) ≡ replicate cou
 glyphs_of_zeros zero = refl
 glyphs_of_zeros (suc count) = ap (λ list. 48 ∷ list) (glyphs_of_zeros count)
 
--- a decimal with no places has no point
+-- Padded to no digits after the point, a decimal has no point.
 pub fraction_none :
     (places : ℕ) (digits : List ℕ) → places ≡ 0
     → fraction_text (take places digits ++ replicate (places - length digits) 0) ≡ []
@@ -46,7 +46,7 @@ fraction_none zero digits none =
     ))
 fraction_none (suc places) digits none = absurd (omega (arith, none))
 
--- and one with places has a point, its digits, and zeros past those that are there
+-- Padded to some digits after the point, the fraction is a point, the digits, and zeros for the missing ones.
 pub fraction_some :
     (places : ℕ) (digits : List ℕ) → 0 < places
     → fraction_text (take places digits ++ replicate (places - length digits) 0)
@@ -68,12 +68,12 @@ fraction_some places digits positive =
     (map-append (λ digit. 48 + digit) front back
     ∙ ap (λ text. glyphs front ++ text) (glyphs_of_zeros (places - length digits)))
 
--- a point stands before the digits where there are any
+-- The text of digits after the point is as long as the digits, and one more for the point if there are any.
 pub length_of_fraction_text : (digits : List ℕ) → length (fraction_text digits) ≡ length digits + min 1 (length digits)
 length_of_fraction_text [] = omega arith
 length_of_fraction_text (d ∷ ds) = omega (arith, length-map (d ∷ ds) (λ digit. 48 + digit))
 
--- the columns of the point and the digits
+-- The text of a fraction padded to `places` digits is as long as these, and one more for the point if there are any.
 pub fraction_length :
     (places : ℕ) (digits : List ℕ)
     → length (fraction_text (take places digits ++ replicate (places - length digits) 0)) ≡ places + min 1 places
@@ -89,13 +89,11 @@ fraction_length places digits =
     (λ none. ap length (fraction_none places digits (omega (arith, none))) ∙ omega (arith, none))
     (cases_lt 0 places)
 
--- with its own places it is the decimal
+-- Padded to its own number of digits after the point, a decimal has the same text.
 pub all_places : (e : Finite) (places : ℕ) → places ≡ length e.digits → text_of (padded places e) ≡ text_of e
 all_places e places count = ap (λ places. text_of (padded places e)) count ∙ ap text_of (padded_to_own_places e)
 
--- the form of a size
-
--- the parts of a decimal: its whole part, and its digits after the point, no more than it has
+-- The whole part of a number that is scaled by 10^28, and its digits after the point without trailing zeros.
 pub record AreParts (number whole digits places : ℕ) : Type 0 where
   pub few : places ≤ places_of_decimal
   pub least : IsLeastPlaces number one places
@@ -122,7 +120,7 @@ parts_expansion {number} {whole} {digits} {places} parts =
       least = subst Least (sym len) parts.least.least;
     }
 
--- all digits of the number are its form
+-- If the number is the size in its exact unit, these parts, formatted with the unit, are the text of the size.
 pub size_form_of_parts : (kind : Kind) (size : ℕ) (spec : FormatSpec) {unit : Shape}
     {number places whole digits count : ℕ}
     → places ≡ places_of spec.precision
@@ -143,7 +141,7 @@ size_form_of_parts kind size spec {unit} {number} {places} {whole} {digits} {cou
           (text_of_short_numeral number places_of_decimal e (parts_expansion parts));
     }
 
--- the text of a size under the alternate form
+-- If the alternate form is set, the size formatted with a unit is its text.
 pub size_form_is_text :
     (kind : Kind) (size : ℕ) (spec : FormatSpec) {text : List ℕ} → spec.alternate ≡ true
     → IsSizeForm current kind size spec text
@@ -153,7 +151,7 @@ size_form_is_text kind size spec {text} alternate form =
     λ alternate. MatchBool alternate (IsSizeForm current kind size spec text) (text ≡ plain size spec) in
     subst Text (sym alternate) form
 
--- a size has one text
+-- A size has at most one text by a spec.
 text_unique :
     (alternate : Bool) (kind : Kind) (size : ℕ) (spec : FormatSpec) (text other : List ℕ)
     → MatchBool alternate (IsSizeForm current kind size spec text) (text ≡ plain size spec)
@@ -162,6 +160,7 @@ text_unique true kind size spec text other is_text is_other =
     size_form_unique current kind size spec other text is_other is_text
 text_unique false kind size spec text other is_text is_other = is_other ∙ sym is_text
 
+-- All texts of a size by one spec are equally long.
 pub text_length_unique :
     (kind : Kind) (size : ℕ) (spec : FormatSpec) (text : List ℕ) → IsText current kind size spec text
     → (other : List ℕ) → IsText current kind size spec other → length other ≡ length text
