@@ -27,7 +27,7 @@ use Rattle.byte_unit_base.proofs.Choosing.{some_bits}
 use Rattle.byte_unit_base.proofs.NumberTexts.{IsBounded, number_of}
 use Rattle.byte_unit_base.proofs.LongFractions.{long_fault}
 use Rattle.byte_unit_base.proofs.Quotients.{exact_more}
-use Rattle.byte_unit_format.proofs.ReadBack.{IsStatement, IsGoodName-unit, bits_of_size_bound, fixed_point_of_digits}
+use Rattle.byte_unit_format.proofs.ReadBack.{RepresentsSize, IsGoodName-unit, bits_of_size_bound, fixed_point_of_digits}
 use Rattle.byte_unit_format.proofs.ReadBack.{trimmed_layout, layout_accepted}
 use Rattle.byte_unit_format.proofs.ReadBack.{size_form_reads_back}
 
@@ -69,7 +69,7 @@ form_accepted kind size unit text below form exact =
     let e = form.number_is.0 in
     let expansion = form.number_is.1 in
     let few = expansion.least places_of_decimal exact in
-    let states : IsStatement kind false size e shape =
+    let states : RepresentsSize kind false size e shape =
     record {
       bounded = expansion_bounded kind size shape e below expansion;
       few = few;

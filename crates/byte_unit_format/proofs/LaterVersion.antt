@@ -166,32 +166,32 @@ same_largest kind Has Had unit there back (inl h) =
     inl (record { has = there unit h.has; largest = λ other had. h.largest other (back other had) })
 same_largest kind Has Had unit there back (inr h) = inr ((λ other had. h.0 other (back other had)), h.1)
 
-states_stays : (kind : Kind) (size precision : ℕ) (unit : Shape)
+exact_unit_stays : (kind : Kind) (size precision : ℕ) (unit : Shape)
     → States old (own_family kind) (size * bits_in kind) precision unit
     → States current (own_family kind) (size * bits_in kind) precision unit
-states_stays kind size precision unit h =
+exact_unit_stays kind size precision unit h =
     record { member = member_stays (own_family kind) unit h.member; not_above = h.not_above; exact = h.exact }
 
-stated_before : (kind : Kind) (size precision : ℕ) (unit : Shape) → size < old.size_limit
+exact_unit_before : (kind : Kind) (size precision : ℕ) (unit : Shape) → size < old.size_limit
     → States current (own_family kind) (size * bits_in kind) precision unit
     → States old (own_family kind) (size * bits_in kind) precision unit
-stated_before kind size precision unit small h =
+exact_unit_before kind size precision unit small h =
     record {
       member = member_is_old kind size unit small h.member h.not_above;
       not_above = h.not_above;
       exact = h.exact;
     }
 
-suits_stays : (kind : Kind) (unit_type : UnitType) (size : ℕ) (unit : Shape)
+eligible_unit_stays : (kind : Kind) (unit_type : UnitType) (size : ℕ) (unit : Shape)
     → Suits old (own_family kind) unit_type (size * bits_in kind) unit
     → Suits current (own_family kind) unit_type (size * bits_in kind) unit
-suits_stays kind unit_type size unit h =
+eligible_unit_stays kind unit_type size unit h =
     record { member = member_stays (own_family kind) unit h.member; of_type = h.of_type; not_above = h.not_above }
 
-suited_before : (kind : Kind) (unit_type : UnitType) (size : ℕ) (unit : Shape) → size < old.size_limit
+eligible_unit_before : (kind : Kind) (unit_type : UnitType) (size : ℕ) (unit : Shape) → size < old.size_limit
     → Suits current (own_family kind) unit_type (size * bits_in kind) unit
     → Suits old (own_family kind) unit_type (size * bits_in kind) unit
-suited_before kind unit_type size unit small h =
+eligible_unit_before kind unit_type size unit small h =
     record {
       member = member_is_old kind size unit small h.member h.not_above;
       of_type = h.of_type;
@@ -201,8 +201,8 @@ suited_before kind unit_type size unit small h =
 -- A size of the first version has the same appropriate unit.
 pub appropriate_stays : AppropriateUnitsStay
 appropriate_stays kind unit_type size unit small =
-    let there = suits_stays kind unit_type size in
-    let back = λ (other : Shape). suited_before kind unit_type size other small in
+    let there = eligible_unit_stays kind unit_type size in
+    let back = λ (other : Shape). eligible_unit_before kind unit_type size other small in
     (same_largest kind _ _ unit there back, same_largest kind _ _ unit back there)
 
 -- The exact unit of a size in the first version is a unit of that version.
@@ -214,8 +214,8 @@ recovered_old kind size precision unit (inr h) = omega (arith, ap (λ s. s.power
 recovered_stays : (kind : Kind) (size precision : ℕ) (unit : Shape) → size < old.size_limit
     → IsRecovered old kind false size precision unit ↔ IsRecovered current kind false size precision unit
 recovered_stays kind size precision unit small =
-    let there = states_stays kind size precision in
-    let back = λ (other : Shape). stated_before kind size precision other small in
+    let there = exact_unit_stays kind size precision in
+    let back = λ (other : Shape). exact_unit_before kind size precision other small in
     (same_largest kind _ _ unit there back, same_largest kind _ _ unit back there)
 
 layout_stays : (number : List ℕ) (unit : Shape) (spec : FormatSpec) → unit.power ≤ length old.letters

@@ -154,7 +154,7 @@ trimmed_layout kind ignore_case spec e unit bounded good =
     }
 
 -- A decimal of at most 28 digits after the point, of a unit whose name is read, is exactly the size.
-pub record IsStatement (kind : Kind) (ignore_case : Bool) (size : ℕ) (e : Finite) (unit : Shape) : Type 0 where
+pub record RepresentsSize (kind : Kind) (ignore_case : Bool) (size : ℕ) (e : Finite) (unit : Shape) : Type 0 where
   pub bounded : IsBounded e
   pub few : length e.digits ≤ places_of_decimal
   pub good : IsGoodName kind ignore_case unit
@@ -164,7 +164,7 @@ pub record IsStatement (kind : Kind) (ignore_case : Bool) (size : ℕ) (e : Fini
 -- Such a decimal, formatted with its unit, is accepted as the size.
 pub layout_accepted :
     (kind : Kind) (ignore_case : Bool) (size : ℕ) (spec : FormatSpec) (e : Finite) (unit : Shape)
-    → IsStatement kind ignore_case size e unit
+    → RepresentsSize kind ignore_case size e unit
     → IsAccepted current kind ignore_case (layout (text_of e) (name current unit) spec) size
 layout_accepted kind ignore_case size spec e unit states =
     let layout = trimmed_layout kind ignore_case spec e unit states.bounded states.good in
@@ -238,7 +238,7 @@ size_form_reads_back kind size spec ignore_case text below form =
     let bound = whole_bound kind size form.number (bits form.unit) below (some_bits form.unit) form.number_is in
     let number = fixed_point_of_digits e.whole (value_of e.digits) form.number (length e.digits) short.few
     short.scaled_is in
-    let states : IsStatement kind ignore_case size e form.unit =
+    let states : RepresentsSize kind ignore_case size e form.unit =
     record {
       bounded = record { small = short.small; bound = bound };
       few = short.few;

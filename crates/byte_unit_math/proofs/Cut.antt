@@ -87,23 +87,23 @@ module _ (e : Finite) (p : ℕ) (h : IsShown e) (l : p < length e.digits) where
   cut_value = value_of (drop p all_digits)
 
   -- the power of ten and the number of the digits after the first one that is cut off
-  abbrev behind_power : ℕ
-  behind_power = 10 ^ length (drop (p + 1) all_digits)
+  abbrev rest_power : ℕ
+  rest_power = 10 ^ length (drop (p + 1) all_digits)
 
-  abbrev behind_value : ℕ
-  behind_value = value_of (drop (p + 1) all_digits)
+  abbrev rest_value : ℕ
+  rest_value = value_of (drop (p + 1) all_digits)
 
-  cut_value_is : cut_value ≡ get_or all_digits p 0 * behind_power + behind_value
+  cut_value_is : cut_value ≡ get_or all_digits p 0 * rest_power + rest_value
   cut_value_is =
       ap value_of (drop-cons all_digits p 0 l)
       ∙ (value_cons (get_or all_digits p 0) (drop (suc p) all_digits)
       ∙ ap (λ n. get_or all_digits p 0 * 10 ^ length (drop n all_digits) + value_of (drop n all_digits))
       (sym (add-one p)))
 
-  behind_small : behind_value < behind_power
-  behind_small = value_below_power (drop (p + 1) all_digits) (All-drop (λ d. d < 10) (p + 1) all_digits h.small)
+  rest_value_small : rest_value < rest_power
+  rest_value_small = value_below_power (drop (p + 1) all_digits) (All-drop (λ d. d < 10) (p + 1) all_digits h.small)
 
-  power_is : 10 ^ length all_digits ≡ 10 ^ p * (10 * behind_power)
+  power_is : 10 ^ length all_digits ≡ 10 ^ p * (10 * rest_power)
   power_is =
       let total : length all_digits ≡ p + (length (drop (p + 1) all_digits) + 1) =
       omega (arith, length-drop (p + 1) all_digits, l) in
@@ -115,16 +115,16 @@ module _ (e : Finite) (p : ℕ) (h : IsShown e) (l : p < length e.digits) where
   cut_parts : scaled e * 10 ^ p ≡ scaled (cut_after p e) * 10 ^ length all_digits + cut_value * 10 ^ p
   cut_parts = cut_split e p (omega (arith, l))
 
-  cut_below : cut_value < 10 * behind_power
+  cut_below : cut_value < 10 * rest_power
   cut_below =
       let digit =
-      mul-le-mul_right {m = get_or all_digits p 0} {n = 9} behind_power
+      mul-le-mul_right {m = get_or all_digits p 0} {n = 9} rest_power
       (let k : get_or all_digits p 0 < 10 = All-get_or (λ d. d < 10) all_digits p 0 l h.small in omega (arith, k)) in
-      omega (arith, digit, cut_value_is, behind_small)
+      omega (arith, digit, cut_value_is, rest_value_small)
 
   cut_below_unit : cut_value * 10 ^ p < 10 ^ length all_digits
   cut_below_unit =
-      let product = mul-le-mul_right {m = cut_value + 1} {n = 10 * behind_power} (10 ^ p) (omega (arith, cut_below)) in
+      let product = mul-le-mul_right {m = cut_value + 1} {n = 10 * rest_power} (10 ^ p) (omega (arith, cut_below)) in
       omega (arith, product, power_is, one_le_pow10 p)
 
   pub cut_lies : LiesAbove (scaled e) (10 ^ length all_digits) p (scaled (cut_after p e)) (cut_value * 10 ^ p)
@@ -132,24 +132,24 @@ module _ (e : Finite) (p : ℕ) (h : IsShown e) (l : p < length e.digits) where
 
   pub below_half : get_or all_digits p 0 < 5 → 2 * (cut_value * 10 ^ p) < 10 ^ length all_digits
   below_half small =
-      let digit = mul-le-mul_right {m = get_or all_digits p 0} {n = 4} behind_power (omega (arith, small)) in
+      let digit = mul-le-mul_right {m = get_or all_digits p 0} {n = 4} rest_power (omega (arith, small)) in
       let product =
-      mul-le-mul_right {m = 2 * cut_value + 1} {n = 10 * behind_power} (10 ^ p)
-      (omega (arith, digit, cut_value_is, behind_small)) in
+      mul-le-mul_right {m = 2 * cut_value + 1} {n = 10 * rest_power} (10 ^ p)
+      (omega (arith, digit, cut_value_is, rest_value_small)) in
       omega (arith, product, power_is, one_le_pow10 p)
 
-  above_half_from : 10 * behind_power < 2 * cut_value → 10 ^ length all_digits < 2 * (cut_value * 10 ^ p)
+  above_half_from : 10 * rest_power < 2 * cut_value → 10 ^ length all_digits < 2 * (cut_value * 10 ^ p)
   above_half_from above =
-      let product = mul-le-mul_right {m = 10 * behind_power + 1} {n = 2 * cut_value} (10 ^ p) (omega (arith, above)) in
+      let product = mul-le-mul_right {m = 10 * rest_power + 1} {n = 2 * cut_value} (10 ^ p) (omega (arith, above)) in
       omega (arith, product, power_is, one_le_pow10 p)
 
   pub above_half : 5 < get_or all_digits p 0 → 10 ^ length all_digits < 2 * (cut_value * 10 ^ p)
   above_half great =
-      let digit = mul-le-mul_right {m = 6} {n = get_or all_digits p 0} behind_power (omega (arith, great)) in
-      above_half_from (omega (arith, digit, cut_value_is, behind_small))
+      let digit = mul-le-mul_right {m = 6} {n = get_or all_digits p 0} rest_power (omega (arith, great)) in
+      above_half_from (omega (arith, digit, cut_value_is, rest_value_small))
 
-  some_behind : p + 1 < length all_digits → 0 < behind_value
-  some_behind k =
+  rest_value_positive : p + 1 < length all_digits → 0 < rest_value
+  rest_value_positive k =
       let n = length (drop (p + 1) all_digits) in
       let some : 0 < n = omega (arith, length-drop (p + 1) all_digits, k) in
       let same : (p + 1) + (n - 1) ≡ length all_digits - 1 = omega (arith, length-drop (p + 1) all_digits, k) in
@@ -157,19 +157,19 @@ module _ (e : Finite) (p : ℕ) (h : IsShown e) (l : p < length e.digits) where
       get_or-drop (p + 1) all_digits (n - 1) 0 ∙ ap (λ i. get_or all_digits i 0) same in
       omega (arith, value_by_last_digit (drop (p + 1) all_digits) some, at, h.last (omega (arith, l)))
 
-  pub above_half_behind_five : get_or all_digits p 0 ≡ 5 → p + 1 < length all_digits
+  pub above_half_after_five : get_or all_digits p 0 ≡ 5 → p + 1 < length all_digits
       → 10 ^ length all_digits < 2 * (cut_value * 10 ^ p)
-  above_half_behind_five five k =
-      let digit = ap (λ n. n * behind_power) five in
-      above_half_from (omega (arith, digit, cut_value_is, some_behind k))
+  above_half_after_five five k =
+      let digit = ap (λ n. n * rest_power) five in
+      above_half_from (omega (arith, digit, cut_value_is, rest_value_positive k))
 
   pub just_half : get_or all_digits p 0 ≡ 5 → length all_digits ≤ p + 1
       → 2 * (cut_value * 10 ^ p) ≡ 10 ^ length all_digits
   just_half five k =
-      let digit = ap (λ n. n * behind_power) five in
+      let digit = ap (λ n. n * rest_power) five in
       let none : length (drop (p + 1) all_digits) ≡ 0 = omega (arith, length-drop (p + 1) all_digits, k) in
-      let one : behind_power ≡ 1 = ap (λ n. 10 ^ n) none in
-      let twice : 2 * cut_value ≡ 10 * behind_power = omega (arith, digit, cut_value_is, behind_small, one) in
+      let one : rest_power ≡ 1 = ap (λ n. 10 ^ n) none in
+      let twice : 2 * cut_value ≡ 10 * rest_power = omega (arith, digit, cut_value_is, rest_value_small, one) in
       let product = ap (λ n. n * 10 ^ p) twice in
       omega (arith, product, power_is)
 
@@ -206,7 +206,7 @@ pub nearest_after_five :
 nearest_after_five e p ties h l five k =
     nearest_up (scaled e) (10 ^ length e.digits) p (scaled (cut_after p e)) (value_of (drop p e.digits) * 10 ^ p)
     (cut_lies e p h l) ties
-    (above_half_behind_five e p h l five k)
+    (above_half_after_five e p h l five k)
 
 -- If the first digit that is cut off is 5 and none follows, and ties go up, the decimal is rounded up.
 pub tie_goes_up :

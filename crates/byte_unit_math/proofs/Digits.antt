@@ -73,19 +73,19 @@ pub scaled_at_places : (p q : ℕ) → scaled (at_places p q) ≡ q
 scaled_at_places p q = rw (length_last_digits p q, value_of_last_digits p q) (omega (arith, one_le_pow10 p))
 
 -- `ds` is `front` with trailing zeros.
-pub record ZerosBehind (ds front : List ℕ) : Type 0 where
+pub record HasTrailingZeros (ds front : List ℕ) : Type 0 where
   pub zeros : ℕ
   pub list_is : ds ≡ front ++ replicate zeros 0
 
-zeros_before : (d : ℕ) (es ds : List ℕ) → ZerosBehind ds es → ZerosBehind (d ∷ ds) (before d es)
-zeros_before zero [] ds h = record { zeros = suc h.zeros; list_is = ap (λ l. zero ∷ l) h.list_is }
-zeros_before (suc d) [] ds h = record { zeros = h.zeros; list_is = ap (λ l. suc d ∷ l) h.list_is }
-zeros_before zero (e ∷ es) ds h = record { zeros = h.zeros; list_is = ap (λ l. zero ∷ l) h.list_is }
-zeros_before (suc d) (e ∷ es) ds h = record { zeros = h.zeros; list_is = ap (λ l. suc d ∷ l) h.list_is }
+HasTrailingZeros-prepend : (d : ℕ) (es ds : List ℕ) → HasTrailingZeros ds es → HasTrailingZeros (d ∷ ds) (before d es)
+HasTrailingZeros-prepend zero [] ds h = record { zeros = suc h.zeros; list_is = ap (λ l. zero ∷ l) h.list_is }
+HasTrailingZeros-prepend (suc d) [] ds h = record { zeros = h.zeros; list_is = ap (λ l. suc d ∷ l) h.list_is }
+HasTrailingZeros-prepend zero (e ∷ es) ds h = record { zeros = h.zeros; list_is = ap (λ l. zero ∷ l) h.list_is }
+HasTrailingZeros-prepend (suc d) (e ∷ es) ds h = record { zeros = h.zeros; list_is = ap (λ l. suc d ∷ l) h.list_is }
 
-pub zeros_behind : (ds : List ℕ) → ZerosBehind ds (without_zeros ds)
-zeros_behind [] = record { zeros = 0; list_is = refl }
-zeros_behind (d ∷ ds) = zeros_before d (without_zeros ds) ds (zeros_behind ds)
+pub HasTrailingZeros-trim : (ds : List ℕ) → HasTrailingZeros ds (without_zeros ds)
+HasTrailingZeros-trim [] = record { zeros = 0; list_is = refl }
+HasTrailingZeros-trim (d ∷ ds) = HasTrailingZeros-prepend d (without_zeros ds) ds (HasTrailingZeros-trim ds)
 
 small_before_digit : (d : ℕ) (es : List ℕ) → d < 10 → All (λ d. d < 10) es → All (λ d. d < 10) (before d es)
 small_before_digit zero [] h k = k
@@ -109,7 +109,7 @@ pub record ShortOf (q p : ℕ) (e : Finite) : Type 0 where
 pub ShortOf-shortened : (q p : ℕ) → ShortOf q p (shortened (at_places p q))
 ShortOf-shortened q p =
     let ds = last_digits p q in
-    let behind = zeros_behind ds in
+    let behind = HasTrailingZeros-trim ds in
     let len : length (without_zeros ds) + behind.zeros ≡ p =
     omega (
       arith,

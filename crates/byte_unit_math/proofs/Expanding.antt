@@ -17,9 +17,9 @@ use Rattle.byte_unit_math.specs.Finite.{value_of, IsExpansion}
 use Rattle.byte_unit_math.proofs.Division.{rest_is_zero, divide_one_more_digit, append_digit, IsLeastPlaces-last_digit}
 
 -- Setting a digit of an array leaves the zeros after it.
-pub zeros_behind_set : (n i d : ℕ) (ds : List ℕ) → drop i ds ≡ replicate (n - i) 0
+pub zeros_after_set : (n i d : ℕ) (ds : List ℕ) → drop i ds ≡ replicate (n - i) 0
     → drop (i + 1) (set ds i d) ≡ replicate (n - (i + 1)) 0
-zeros_behind_set n i d ds h =
+zeros_after_set n i d ds h =
     let fewer : n - i - 1 ≡ n - (i + 1) = omega arith in
     let behind : drop (i + 1) ds ≡ replicate (n - i - 1) 0 =
     sym (drop-drop 1 i ds) ∙ (ap (drop 1) h ∙ drop-replicate 1 (n - i) 0) in
@@ -91,7 +91,7 @@ module _ (numerator den whole rest places : ℕ) (digits : List ℕ)
         few = omega (arith, IsUnfinished-room);
         size = length-set digits places digit ∙ now.size;
         small = All-set (λ d. d < 10) digits places digit next_below_ten now.small;
-        zeros = zeros_behind_set expansion_places places digit digits now.zeros;
+        zeros = zeros_after_set expansion_places places digit digits now.zeros;
         below = omega arith;
         exact = rw (power, value) (product ∙ ap (λ n. n * den + rest * 10 % den) parts);
         last = λ z p. subst (λ n. 0 < n) (sym at) (last_digit_positive rest den digit (rest * 10 % den) h.some split z);
@@ -122,7 +122,7 @@ value_by_last_digit ds h =
     ∙ fold-append (λ n d. n * 10 + d) 0 (take n ds) (get_or ds n 0 ∷ [])
 
 -- The fraction is exactly the whole part and these digits, and the last digit is not zero.
-pub record StatesByDigits (num den whole : ℕ) (digits : List ℕ) : Type 0 where
+pub record IsExactByDigits (num den whole : ℕ) (digits : List ℕ) : Type 0 where
   pub small : All (λ d. d < 10) digits
   pub exact : num * 10 ^ length digits ≡ (whole * 10 ^ length digits + value_of digits) * den
   pub last : 0 < length digits → 0 < get_or digits (length digits - 1) 0
@@ -132,7 +132,7 @@ last_digit_of_value front value last small parts = omega (arith, small, parts)
 
 -- A whole part and digits that are exactly the fraction, the last digit not zero, are its expansion.
 pub expansion_of_digits :
-    (num den whole : ℕ) (digits : List ℕ) → 0 < den → StatesByDigits num den whole digits
+    (num den whole : ℕ) (digits : List ℕ) → 0 < den → IsExactByDigits num den whole digits
     → IsExpansion num den (record { whole = whole; digits = digits })
 expansion_of_digits num den whole digits positive h =
     let places = length digits in
@@ -154,17 +154,17 @@ expansion_of_digits num den whole digits positive h =
     record { small = h.small; exact = h.exact; least = least.least }
 
 -- The fraction is exactly the whole part and the first `places` digits of an array, the last of them not zero.
-pub record StatesByFront (num den whole places : ℕ) (digits : List ℕ) : Type 0 where
+pub record IsExactByFirstDigits (num den whole places : ℕ) (digits : List ℕ) : Type 0 where
   pub few : places ≤ length digits
   pub small : All (λ d. d < 10) digits
   pub exact : num * 10 ^ places ≡ (whole * 10 ^ places + value_of (take places digits)) * den
   pub last : 0 < places → 0 < get_or digits (places - 1) 0
 
 -- A whole part and first digits of an array that are exactly the fraction, the last not zero, are its expansion.
-pub expansion_of_front :
-    (num den whole places : ℕ) (digits : List ℕ) → 0 < den → StatesByFront num den whole places digits
+pub expansion_of_first_digits :
+    (num den whole places : ℕ) (digits : List ℕ) → 0 < den → IsExactByFirstDigits num den whole places digits
     → IsExpansion num den (record { whole = whole; digits = take places digits })
-expansion_of_front num den whole places digits positive h =
+expansion_of_first_digits num den whole places digits positive h =
     let front = take places digits in
     let len : length front ≡ places = length-take-le places digits h.few in
     let ExactAt : ℕ → Type 0 = λ n. num * 10 ^ n ≡ (whole * 10 ^ n + value_of front) * den in
@@ -184,7 +184,7 @@ pub IsDividing-ended :
     (num den whole rest places : ℕ) (digits : List ℕ) → IsDividing num den whole rest places digits → rest ≡ 0
     → IsExpansion num den (record { whole = whole; digits = take places digits })
 IsDividing-ended num den whole rest places digits h none =
-    expansion_of_front num den whole places digits (omega (arith, h.below))
+    expansion_of_first_digits num den whole places digits (omega (arith, h.below))
     (record { few = omega (arith, h.few, h.size); small = h.small; exact = omega (arith, h.exact, none);
     last = h.last none })
 

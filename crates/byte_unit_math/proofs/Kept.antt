@@ -10,7 +10,7 @@ use Rattle.std.proofs.Math.Nat.{pow-succ'}
 use Rattle.byte_unit_math.specs.Bounds.{expansion_places}
 use Rattle.byte_unit_math.specs.Finite.{Finite, value_of, scaled, cut_after, IsExpansion}
 use Rattle.byte_unit_math.proofs.Digits.{one_le_pow10, value_append_zeros}
-use Rattle.byte_unit_math.proofs.Expanding.{expansion_of_digits, expansion_of_front, zeros_behind_set}
+use Rattle.byte_unit_math.proofs.Expanding.{expansion_of_digits, expansion_of_first_digits, zeros_after_set}
 use Rattle.byte_unit_math.proofs.Scales.{pow10_split}
 use Rattle.byte_unit_math.proofs.Cut.{IsShown}
 
@@ -77,7 +77,7 @@ cut_is_expansion e p kept ds shown h array =
     ap (λ n. n * 10 ^ kept) (scaled_zeros e p kept h) ∙ pow10_on_both_sides count kept p h.few in
     let Exact : List ℕ → Type 0 =
     λ l. scaled (cut_after p e) * 10 ^ kept ≡ (e.whole * 10 ^ kept + value_of l) * 10 ^ p in
-    expansion_of_front (scaled (cut_after p e)) (10 ^ p) e.whole kept ds (omega (arith, one_le_pow10 p))
+    expansion_of_first_digits (scaled (cut_after p e)) (10 ^ p) e.whole kept ds (omega (arith, one_le_pow10 p))
     (record {
       few = omega (arith, array.size, h.few, h.within, shown.few);
       small = array.small;
@@ -134,7 +134,7 @@ next_digit_is_expansion e p kept ds shown h array some =
     let small : digit < 10 = All-get_or (λ d. d < 10) ds last 0 fits array.small in
     let other = h.stops some in
     let nine : digit + 1 < 10 = omega (arith, small, same_last_digit e kept ds array some, other) in
-    expansion_of_front (scaled (cut_after p e) + 1) (10 ^ p) e.whole kept new (omega (arith, one_le_pow10 p))
+    expansion_of_first_digits (scaled (cut_after p e) + 1) (10 ^ p) e.whole kept new (omega (arith, one_le_pow10 p))
     (record {
       few = omega (arith, length-set ds last (digit + 1), room);
       small = All-set (λ d. d < 10) ds last (digit + 1) nine array.small;
@@ -179,6 +179,6 @@ one_more_digit_copied ds es i d h room digit =
     record {
       size = length-set ds i d ∙ h.size;
       front = take_more_set ds i d fits ∙ behind;
-      rest = zeros_behind_set expansion_places i d ds h.rest;
+      rest = zeros_after_set expansion_places i d ds h.rest;
       small = All-set (λ d. d < 10) ds i d digit.small h.small;
     }

@@ -122,26 +122,27 @@ nothing_left n left twos fives e odd no_five =
     no_five = λ k. omega (arith, no_five, k) })
 
 -- What is left of a number has exponents of 2 and 5, and so has the number.
-taken_off : (turns n left twos fives : ℕ) → left ≤ turns → 0 < left → n ≡ left * (2 ^ twos * 5 ^ fives) → HasTwoFive n
-taken_off zero n left twos fives few some e = absurd (omega (arith, few, some))
-taken_off (suc turns) n left twos fives few some e =
+exponents_exist : (turns n left twos fives : ℕ) → left ≤ turns → 0 < left → n ≡ left * (2 ^ twos * 5 ^ fives)
+    → HasTwoFive n
+exponents_exist zero n left twos fives few some e = absurd (omega (arith, few, some))
+exponents_exist (suc turns) n left twos fives few some e =
     ⊎_elim (λ odd.
     ⊎_elim (λ no_five. nothing_left n left twos fives e odd no_five)
     (λ five.
-    taken_off turns n (left / 5) twos (suc fives) (omega (arith, few, some, five)) (omega (arith, some, five))
+    exponents_exist turns n (left / 5) twos (suc fives) (omega (arith, few, some, five)) (omega (arith, some, five))
     (rw (pow-succ' 5 fives)
     (let parts : left ≡ 5 * (left / 5) = omega (arith, five) in let p = ap (λ m. m * (2 ^ twos * 5 ^ fives)) parts in
     omega (arith, e, p))))
     (cases_lt 0 (left % 5)))
     (λ two.
-    taken_off turns n (left / 2) (suc twos) fives (omega (arith, few, some, two)) (omega (arith, some, two))
+    exponents_exist turns n (left / 2) (suc twos) fives (omega (arith, few, some, two)) (omega (arith, some, two))
     (rw (pow-succ' 2 twos)
     (let parts : left ≡ 2 * (left / 2) = omega (arith, two) in let p = ap (λ m. m * (2 ^ twos * 5 ^ fives)) parts in
     omega (arith, e, p))))
     (cases_lt 0 (left % 2))
 
 -- Every number but zero has an exponent of 2 and an exponent of 5.
-pub has_two_five : NumbersHaveTwosAndFives
-has_two_five n some =
-    taken_off n n n 0 0 (omega arith) (⊎_elim (λ l. l) (λ k. absurd (some (omega (arith, k)))) (cases_lt 0 n))
+pub numbers_have_exponents : NumbersHaveTwosAndFives
+numbers_have_exponents n some =
+    exponents_exist n n n 0 0 (omega arith) (⊎_elim (λ l. l) (λ k. absurd (some (omega (arith, k)))) (cases_lt 0 n))
     (omega arith)
