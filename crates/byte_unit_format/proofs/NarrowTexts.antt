@@ -45,7 +45,7 @@ pow2_next : (power : ℕ) → 2 ^ (10 * (power + 1)) ≡ 2 ^ (10 * power) * 1024
 pow2_next power =
     ap (λ n. 2 ^ n) (let sum : 10 * (power + 1) ≡ 10 * power + 10 = omega arith in sum) ∙ pow-add 2 (10 * power) 10
 
--- a unit with a decimal prefix is a power of ten times the kind's own unit
+-- A unit with a decimal prefix is a power of ten times the kind's own unit.
 decimal_bits :
     (kind : Kind) (power : ℕ) (bit : Bool) → HasKind (own_family kind) bit
     → bits (shape power false bit) ≡ 10 ^ (3 * power) * bits_in kind
@@ -58,7 +58,7 @@ decimal_bits Bit power true same =
     ap (λ n. n * 5 ^ (3 * power)) (pow-add 2 (3 * power) 0) ∙ omega (arith, product)
 decimal_bits Bit power false other = absurd (let none : ⊥ = cc in none)
 
--- a unit with a binary prefix is a power of two times the kind's own unit
+-- A unit with a binary prefix is a power of two times the kind's own unit.
 binary_bits :
     (kind : Kind) (power : ℕ) (bit : Bool) → HasKind (own_family kind) bit
     → bits (shape power true bit) ≡ 2 ^ (10 * power) * bits_in kind
@@ -67,7 +67,7 @@ binary_bits Byte power false same = ap (λ n. n * 5 ^ 0) (pow-add 2 (10 * power)
 binary_bits Bit power true same = ap (λ n. n * 5 ^ 0) (pow-add 2 (10 * power) 0) ∙ omega arith
 binary_bits Bit power false other = absurd (let none : ⊥ = cc in none)
 
--- a binary prefix is at least the decimal prefix of the same power
+-- A binary prefix is at least the decimal prefix of the same power.
 pow10_le_pow2 : (power : ℕ) → 10 ^ (3 * power) ≤ 2 ^ (10 * power)
 pow10_le_pow2 zero = omega arith
 pow10_le_pow2 (suc power) =
@@ -93,12 +93,12 @@ pow2_lt_pow10_next power few =
     absurd (omega (arith, first, second, decimal_product, binary_product)))
     (cases_lt (2 ^ (10 * power)) (10 ^ (3 * (power + 1))))
 
--- a kind's own unit has some bits
+-- A kind's own unit has at least one bit.
 bits_in_positive : (kind : Kind) → 1 ≤ bits_in kind
 bits_in_positive Byte = omega arith
 bits_in_positive Bit = omega arith
 
--- a unit has at least the bits of the decimal unit of the same power
+-- A unit has at least as many bits as the decimal unit of the same power.
 bits_at_least :
     (kind : Kind) (power : ℕ) (binary bit : Bool) → HasKind (own_family kind) bit
     → 10 ^ (3 * power) * bits_in kind ≤ bits (shape power binary bit)
@@ -124,13 +124,14 @@ bits_lt_next kind power true bit same few =
       bits_in_positive kind,
     )
 
--- the size is this number of the unit, the largest that is exact within the precision
+-- The size is exactly this number of units, scaled by 10^28; the unit is the largest in which it is exact within the
+-- precision.
 record IsNumberInLargest (kind : Kind) (size precision : ℕ) (unit : Shape) (number : ℕ) : Type 0 where
   below : size < current.size_limit
   largest : IsLargest (States current (own_family kind) (size * bits_in kind) precision) unit
   number_is : number * bits unit ≡ size * bits_in kind * one
 
--- the whole part times the decimal prefix of the same power is at most the size
+-- The whole part times the decimal prefix of the same power is at most the size.
 whole_times_prefix :
     {kind : Kind} {size precision : ℕ} {unit : Shape} {number : ℕ}
     → IsNumberInLargest kind size precision unit number
@@ -146,7 +147,7 @@ whole_times_prefix {kind} {size} {precision} {unit} {number} stated =
     omega (arith, mul-le-mul_left whole least, in_bits) in
     le_of_mul-le-mul_right with_prefix (bits_in_positive kind)
 
--- the number is exact within the precision
+-- The number of units is exact within the precision.
 number_exact :
     {kind : Kind} {size precision : ℕ} {unit : Shape} {number : ℕ}
     → IsNumberInLargest kind size precision unit number
@@ -159,8 +160,8 @@ number_exact {kind} {size} {precision} {unit} {number} stated =
     let same : number * scale * bits unit ≡ exact.0 * one * bits unit = omega (arith, left, right) in
     (exact.0, eq_of_mul-eq-mul_right (bits unit) (some_bits unit) (number * scale) (exact.0 * one) same)
 
--- in the decimal unit of the next power each size is exact at as many places as that has zeros; so, if the precision
--- has these places, the size is below that unit
+-- In the next decimal unit each size is exact with as many digits after the point as its prefix has zeros. So if the
+-- precision allows these, the size is below that unit.
 size_lt_next :
     {kind : Kind} {size precision : ℕ} {unit : Shape} {number : ℕ}
     → IsNumberInLargest kind size precision unit number
@@ -188,7 +189,7 @@ size_lt_next {kind} {size} {precision} {unit} {number} stated few places =
     absurd (omega (arith, larger, stated.largest.largest next states)))
     (cases_lt size (10 ^ zeros))
 
--- a number below a power of ten has at most as many digits
+-- A number below 10^digits has at most that many digits.
 decimal_length : (whole digits : ℕ) → 0 < digits → digits ≤ 30 → whole < 10 ^ digits → length (decimal whole) ≤ digits
 decimal_length whole digits some few small =
     let most = pow-le-pow_right {n = 10} (omega arith) few in
@@ -205,8 +206,8 @@ short_length :
     length (short number places_of_decimal) ≤ length (decimal (number / one)) + places + 1
 short_length number = numeral_length (shortened (at_places places_of_decimal number))
 
--- a number of a prefixed unit has at most 33 characters: its whole part has three digits fewer for each power of the
--- prefix, and where it has more places than that allows, it is below a thousand
+-- A number of units with a prefix has at most 33 characters: its whole part has three digits fewer for each power of
+-- the prefix, and if it has more digits after the point than that allows, it is below a thousand.
 prefixed_length :
     {kind : Kind} {size precision : ℕ} {unit : Shape} {number : ℕ}
     → IsNumberInLargest kind size precision unit number
@@ -255,7 +256,7 @@ own_length kind size number unit below own number_is =
     let digits = decimal_length (number / one) 30 (omega arith) (omega arith) small in
     omega (arith, no_places, short_length number, digits)
 
--- the number of a size in the unit that is chosen for it has at most 33 characters
+-- The number of units of a size in its exact unit, or in its kind's own unit, has at most 33 characters.
 recovered_length :
     (kind : Kind) (size precision number : ℕ) (unit : Shape) → size < current.size_limit
     → IsRecovered current kind false size precision unit
@@ -267,7 +268,7 @@ recovered_length kind size precision number unit below (inl largest) number_is =
 recovered_length kind size precision number unit below (inr none) number_is =
     own_length kind size number unit below none.1 number_is
 
--- the spaces before the name of a unit and the name are at most four characters
+-- The spaces before the name of a unit and the name are at most four characters.
 gap_length : (sign : Sign) (name : List ℕ) → length name ≤ 3 → gap_of sign name + length name ≤ 4
 gap_length Unset name few = omega (arith, few)
 gap_length Plus name few = omega (arith, few)
@@ -289,7 +290,7 @@ form_narrow kind size spec text below none form =
     let gap = gap_length spec.sign unit (name_short form.unit) in
     omega (arith, ap length form.text_is, layout_fills_width number unit spec, no_columns spec.width none, numeral, gap)
 
--- a sign is at most one character
+-- A sign is at most one character.
 sign_length : (sign : Sign) → length (plus_of sign) ≤ 1
 sign_length Unset = omega arith
 sign_length Plus = omega arith

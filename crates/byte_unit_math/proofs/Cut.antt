@@ -82,11 +82,11 @@ module _ (e : Finite) (p : ℕ) (h : IsShown e) (l : p < length e.digits) where
   abbrev all_digits : List ℕ
   all_digits = e.digits
 
-  -- the number of the digits that are cut off
+  -- The digits that are cut off, as a number.
   abbrev cut_value : ℕ
   cut_value = value_of (drop p all_digits)
 
-  -- the power of ten and the number of the digits after the first one that is cut off
+  -- The digits after the first one that is cut off: their power of ten, and the digits as a number.
   abbrev rest_power : ℕ
   rest_power = 10 ^ length (drop (p + 1) all_digits)
 
@@ -282,7 +282,7 @@ is_odd_by_digit d t same =
 pub IsShown-view : (i : Inside) (e : Finite) → IsStored i → view_of i ≡ e → IsShown e
 IsShown-view i e h v = subst IsShown v (IsShown-stored i h)
 
--- The decimal of the fields has as many digits after the point as the field `places` says.
+-- The decimal of the fields has as many digits after the point as its field `places`.
 pub length_of_view : (i : Inside) (e : Finite) → IsStored i → view_of i ≡ e → length e.digits ≡ i.places
 length_of_view i e h v = ap (λ x. length x.digits) (sym v)
     ∙ length-take-le i.places i.digits (omega (arith, h.few, h.size))
@@ -293,7 +293,7 @@ pub record IsCutAt (e : Finite) (p digit places : ℕ) : Type 0 where
   pub digit_is : digit ≡ get_or e.digits p 0
   pub length_is : length e.digits ≡ places
 
--- The digit at index p of the decimal of the fields is the one that was read for the place p + 1.
+-- The fields of a decimal give the digit at index p, and the number of its digits after the point.
 pub IsCutAt-view :
     (i : Inside) (e : Finite) (p digit : ℕ) → IsStored i → view_of i ≡ e → digit ≡ get_or e.digits (p + 1 - 1) 0
     → IsCutAt e p digit i.places

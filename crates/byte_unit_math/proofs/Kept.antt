@@ -31,7 +31,7 @@ scaled_cut : (e : Finite) (p : ℕ) → p ≤ length e.digits
     → scaled (cut_after p e) ≡ e.whole * 10 ^ p + value_of (take p e.digits)
 scaled_cut e p within = ap (λ n. e.whole * 10 ^ n + value_of (take p e.digits)) (length-take-le p e.digits within)
 
--- Cut off after p digits of which the last are zeros, a decimal is that of the digits kept, times a power of ten.
+-- If the last of them are zeros, the decimal cut off after p digits is that of the digits kept, times a power of ten.
 scaled_zeros :
     (e : Finite) (p kept : ℕ) → EndsInRunOf e p kept 0
     → scaled (cut_after p e) ≡ (e.whole * 10 ^ kept + value_of (take kept e.digits)) * 10 ^ (p - kept)
@@ -44,8 +44,8 @@ fold_nines : (n k : ℕ) → fold (λ n d. n * 10 + d) n (replicate k 9) + 1 ≡
 fold_nines n zero = omega arith
 fold_nines n (suc k) = rw (pow-succ' 10 k) (omega (arith, fold_nines (n * 10 + 9) k))
 
--- Cut off after p digits of which the last are nines and raised by one in the last, it is that of the digits kept,
--- raised by one in the last, times a power of ten.
+-- If the last of them are nines, the decimal cut off after p digits, plus one in its last digit, is that of the digits
+-- kept, plus one in their last digit, times a power of ten.
 scaled_nines :
     (e : Finite) (p kept : ℕ) → EndsInRunOf e p kept 9
     → scaled (cut_after p e) + 1 ≡ (e.whole * 10 ^ kept + (value_of (take kept e.digits) + 1)) * 10 ^ (p - kept)

@@ -23,13 +23,13 @@ pub record IsShortened (digits all short places : ℕ) : Type 0 where
   pub fewer : FewerZeros digits all short places
   pub last : 0 < places → 0 < short % 10
 
--- Digits from which no trailing zero has been removed yet.
+-- As long as no trailing zero is removed, the digits are all there.
 pub FewerZeros-all : (digits all : ℕ) → digits < 10 ^ all → FewerZeros digits all digits all
 FewerZeros-all digits all below =
     let none : all - all ≡ 0 = omega arith in
     record { few = omega arith; same = rw none (omega arith); below = below }
 
--- If the last digit is zero, a tenth in one digit less has one trailing zero less.
+-- If the last digit is zero, it can be removed: a tenth of the number, in one digit less.
 pub FewerZeros-less :
     (digits all rest places tenth : ℕ) → FewerZeros digits all rest places → 0 < places → tenth * 10 ≡ rest
     → FewerZeros digits all tenth (places - 1)

@@ -121,7 +121,7 @@ nothing_left n left twos fives e odd no_five =
     (twos, fives, record { left = left; product = e; odd = λ k. omega (arith, odd, k);
     no_five = λ k. omega (arith, no_five, k) })
 
--- What is left of a number has exponents of 2 and 5, and so has the number.
+-- A number that is a product of powers of 2 and 5 and a rest has exponents of 2 and 5.
 exponents_exist : (turns n left twos fives : ℕ) → left ≤ turns → 0 < left → n ≡ left * (2 ^ twos * 5 ^ fives)
     → HasTwoFive n
 exponents_exist zero n left twos fives few some e = absurd (omega (arith, few, some))

@@ -102,7 +102,7 @@ pub least_size_not_below :
     → limit ≤ enough
 least_size_not_below N unit size limit h reached enough k = omega (arith, reached, h.least enough k.has)
 
--- What holds anyway holds if an option is `None`.
+-- A fact that holds also holds if an option is `None`.
 pub IfNone-always : {T : Type 0} (o : Option T) (Fact : Type 0) → Fact → IfNone o Fact
 IfNone-always None Fact fact = fact
 IfNone-always (Some x) Fact fact = tt

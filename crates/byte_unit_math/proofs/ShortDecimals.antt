@@ -32,8 +32,6 @@ fields_are_shortened N d h view =
       last = h.last;
     }
 
--- Removing the trailing zeros of digits to which zeros were appended gives the digits.
-
 digits_kept : (places digits : ℕ) → (0 < places → 0 < digits % 10) → shortened_digits places digits ≡ (digits, places)
 unfolding shortened_digits
 digits_kept zero digits last = refl
@@ -53,6 +51,7 @@ zero_dropped places digits none =
     let Trims : Bool → Type 0 = λ b. (if b then fewer else (digits, suc places)) ≡ fewer in
     subst Trims (sym yes) refl
 
+-- Removing the trailing zeros of digits to which zeros were appended gives the digits.
 zeros_dropped :
     (behind all places digits rest : ℕ) → all ≡ behind + places → rest ≡ digits * 10 ^ behind
     → (0 < places → 0 < digits % 10)

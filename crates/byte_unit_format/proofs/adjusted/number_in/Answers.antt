@@ -1,3 +1,4 @@
+-- The number is formatted by the rule for the precision, the alternate flag and the unit.
 use Rattle.std.proofs.Common.{sym, ◌∙◌, ◌*◌, arith}
 use Rattle.byte_unit_math.specs.Numeral.{text_of}
 use Rattle.byte_unit_math.specs.Padded.{padded}

@@ -1,3 +1,4 @@
+-- The point, the first digits of a decimal, and zeros for the missing ones are written into the array, up to `end`.
 use Rattle.std.proofs.Common.{◌≤◌, ◌-◌, ◌++◌, ◌∷◌, ◌∙◌, ℕ, List, arith, length, take, drop, replicate}
 use Rattle.std.proofs.Common.{append_assoc, ap, sym, subst}
 use Rattle.std.specs.Str.{IsAscii}

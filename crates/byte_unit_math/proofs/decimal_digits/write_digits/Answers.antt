@@ -1,3 +1,4 @@
+-- Four digits a step, the decimal digits of n are written into the array, up to `end`.
 use Rattle.std.proofs.Common.{◌≡◌, ◌+◌, ◌-◌, ◌<◌, ◌++◌, ◌∙◌, ap, arith, drop, length, sym}
 use Rattle.std.specs.Fmt.{decimal}
 use Rattle.byte_unit_math.proofs.WrittenDigits.{IsWritten, IsWritten-more, decimal_length_split, decimal_length_one}

@@ -1,3 +1,4 @@
+-- What is left of the size, times the powers of 2 and 5 found, is the size, and neither 2 nor 5 divides it.
 use Rattle.std.proofs.Common.{◌≡◌, ◌≢◌, ◌%◌, arith, subst, sym}
 use Rattle.std.specs.Int.{trailing_zeros, w128}
 use Rattle.byte_unit_math.proofs.TwosFives.{FivesOff, FivesOff-trailing_zeros, FivesOff-more, FivesOff-joined}

@@ -1,3 +1,4 @@
+-- The result is the least size of the number of units, or `None` if that reaches the limit.
 use Rattle.std.proofs.Common.{ℕ, ◌+◌, ◌-◌, ◌*◌, ◌^◌, arith, subst}
 use Rattle.byte_unit_math.specs.Bounds.{places_of_decimal}
 use Rattle.byte_unit_math.specs.Least.{IsLeastSize}

@@ -1,3 +1,4 @@
+-- Long division gives the exact quotient, or finds that it is not exact with that many digits after the point.
 use Rattle.std.proofs.Common.{◌≡◌, min, arith, subst}
 use Rattle.byte_unit_math.specs.Bounds.{places_of_decimal}
 use Rattle.byte_unit_math.specs.Exact.{IsExactAt}

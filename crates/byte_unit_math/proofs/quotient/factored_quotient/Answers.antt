@@ -1,3 +1,4 @@
+-- The quotient, scaled by 10^28, times the unit 2^twos * 5^fives is the number scaled by 10^28.
 use Rattle.std.proofs.Common.{ℕ, get_or, Fits, ◌≡◌, ◌+◌, ◌-◌, ◌*◌, ◌/◌, ◌%◌, ◌^◌, ◌<◌, arith, ap, sym, subst, ◌∙◌}
 use Rattle.std.specs.Int.{w128}
 use Rattle.byte_unit_math.specs.Bounds.{places_of_decimal, whole_limit}
