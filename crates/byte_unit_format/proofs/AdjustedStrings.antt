@@ -69,7 +69,7 @@ form_accepted kind size unit text below form exact =
     let e = form.number_is.0 in
     let expansion = form.number_is.1 in
     let few = expansion.least places_of_decimal exact in
-    let states : RepresentsSize kind false size e shape =
+    let represents : RepresentsSize kind false size e shape =
     record {
       bounded = expansion_bounded kind size shape e below expansion;
       few = few;
@@ -79,7 +79,7 @@ form_accepted kind size unit text below form exact =
     } in
     let text_is = form.text_is ∙ ap (λ number. layout number (name current shape) ALTERNATE) form.number_is.2 in
     let Accepted : List ℕ → Type 0 = λ text. IsAccepted current kind false text size in
-    subst Accepted (sym text_is) (layout_accepted kind false size ALTERNATE e shape states)
+    subst Accepted (sym text_is) (layout_accepted kind false size ALTERNATE e shape represents)
 
 form_rejected : (kind : Kind) (size : ℕ) (unit : UnitName) (text : List ℕ) → size < current.size_limit
     → IsAdjustedForm current kind size (shape_of unit) ALTERNATE text

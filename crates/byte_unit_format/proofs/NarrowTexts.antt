@@ -136,12 +136,12 @@ whole_times_prefix :
     {kind : Kind} {size precision : ℕ} {unit : Shape} {number : ℕ}
     → IsNumberInLargest kind size precision unit number
     → number / one * 10 ^ (3 * unit.power) ≤ size
-whole_times_prefix {kind} {size} {precision} {unit} {number} stated =
+whole_times_prefix {kind} {size} {precision} {unit} {number} is_number =
     let whole = number / one in
-    let least = bits_at_least kind unit.power unit.binary unit.bit stated.largest.has.member.kind in
+    let least = bits_at_least kind unit.power unit.binary unit.bit is_number.largest.has.member.kind in
     let cut : whole * one ≤ number = omega arith in
     let product : whole * one * bits unit ≤ size * bits_in kind * one =
-    omega (arith, mul-le-mul_right (bits unit) cut, stated.number_is) in
+    omega (arith, mul-le-mul_right (bits unit) cut, is_number.number_is) in
     let in_bits : whole * bits unit ≤ size * bits_in kind = omega (arith, product) in
     let with_prefix : whole * 10 ^ (3 * unit.power) * bits_in kind ≤ size * bits_in kind =
     omega (arith, mul-le-mul_left whole least, in_bits) in
@@ -152,10 +152,10 @@ number_exact :
     {kind : Kind} {size precision : ℕ} {unit : Shape} {number : ℕ}
     → IsNumberInLargest kind size precision unit number
     → IsExactAt number one (places_within precision)
-number_exact {kind} {size} {precision} {unit} {number} stated =
+number_exact {kind} {size} {precision} {unit} {number} is_number =
     let scale = 10 ^ places_within precision in
-    let exact = stated.largest.has.exact in
-    let left = ap (λ n. n * scale) stated.number_is in
+    let exact = is_number.largest.has.exact in
+    let left = ap (λ n. n * scale) is_number.number_is in
     let right = ap (λ n. n * one) exact.1 in
     let same : number * scale * bits unit ≡ exact.0 * one * bits unit = omega (arith, left, right) in
     (exact.0, eq_of_mul-eq-mul_right (bits unit) (some_bits unit) (number * scale) (exact.0 * one) same)
@@ -166,17 +166,17 @@ size_lt_next :
     {kind : Kind} {size precision : ℕ} {unit : Shape} {number : ℕ}
     → IsNumberInLargest kind size precision unit number
     → unit.power ≤ 8 → 3 * (unit.power + 1) ≤ places_within precision → size < 10 ^ (3 * (unit.power + 1))
-size_lt_next {kind} {size} {precision} {unit} {number} stated few places =
+size_lt_next {kind} {size} {precision} {unit} {number} is_number few places =
     let next = shape (unit.power + 1) false unit.bit in
     let zeros = 3 * (unit.power + 1) in
-    let member = stated.largest.has.member in
+    let member = is_number.largest.has.member in
     let next_bits = decimal_bits kind (unit.power + 1) unit.bit member.kind in
     let larger = bits_lt_next kind unit.power unit.binary unit.bit member.kind few in
     let rest = 10 ^ (places_within precision - zeros) in
     ⊎_elim
     (λ less. less)
     (λ above.
-    let states : States current (own_family kind) (size * bits_in kind) precision next =
+    let next_is_exact : States current (own_family kind) (size * bits_in kind) precision next =
     record {
       member = record { prefix = record { some = omega arith; known = omega (arith, few) }; kind = member.kind };
       not_above = omega (arith, next_bits, mul-le-mul_right (bits_in kind) above);
@@ -186,7 +186,7 @@ size_lt_next {kind} {size} {precision} {unit} {number} stated few places =
             ∙ (omega arith ∙ ap (λ n. size * rest * n) (sym next_bits)),
       );
     } in
-    absurd (omega (arith, larger, stated.largest.largest next states)))
+    absurd (omega (arith, larger, is_number.largest.largest next next_is_exact)))
     (cases_lt size (10 ^ zeros))
 
 -- A number below 10^digits has at most that many digits.
@@ -212,15 +212,15 @@ prefixed_length :
     {kind : Kind} {size precision : ℕ} {unit : Shape} {number : ℕ}
     → IsNumberInLargest kind size precision unit number
     → length (short number places_of_decimal) ≤ 33
-prefixed_length {kind} {size} {precision} {unit} {number} stated =
+prefixed_length {kind} {size} {precision} {unit} {number} is_number =
     let whole = number / one in
     let power = unit.power in
     let prefix = 10 ^ (3 * power) in
     let places = length (shortened (at_places places_of_decimal number)).digits in
-    let known : power ≤ 9 = stated.largest.has.member.prefix.known in
+    let known : power ≤ 9 = is_number.largest.has.member.prefix.known in
     let few : places ≤ places_within precision =
-    (short_numeral_is_expansion number places_of_decimal).least (places_within precision) (number_exact stated) in
-    let product = whole_times_prefix stated in
+    (short_numeral_is_expansion number places_of_decimal).least (places_within precision) (number_exact is_number) in
+    let product = whole_times_prefix is_number in
     let sum = short_length number in
     ⊎_elim
     (λ less.
@@ -229,11 +229,11 @@ prefixed_length {kind} {size} {precision} {unit} {number} stated =
     let small : whole < 10 ^ digits =
     ⊎_elim
     (λ below. below)
-    (λ above. absurd (omega (arith, mul-le-mul_right prefix above, limit, product, stated.below)))
+    (λ above. absurd (omega (arith, mul-le-mul_right prefix above, limit, product, is_number.below)))
     (cases_lt whole (10 ^ digits)) in
     omega (arith, less, sum, decimal_length whole digits (omega (arith, known)) (omega arith) small))
     (λ more.
-    let below_next = size_lt_next stated (omega (arith, more, few)) (omega (arith, more, few)) in
+    let below_next = size_lt_next is_number (omega (arith, more, few)) (omega (arith, more, few)) in
     let small : whole < 10 ^ 3 =
     ⊎_elim
     (λ below. below)
@@ -262,9 +262,9 @@ recovered_length :
     → IsRecovered current kind false size precision unit
     → number * bits unit ≡ size * bits_in kind * one → length (short number places_of_decimal) ≤ 33
 recovered_length kind size precision number unit below (inl largest) number_is =
-    let stated : IsNumberInLargest kind size precision unit number =
+    let is_number : IsNumberInLargest kind size precision unit number =
     record { below = below; largest = largest; number_is = number_is } in
-    prefixed_length stated
+    prefixed_length is_number
 recovered_length kind size precision number unit below (inr none) number_is =
     own_length kind size number unit below none.1 number_is
 

@@ -166,8 +166,8 @@ pub layout_accepted :
     (kind : Kind) (ignore_case : Bool) (size : ℕ) (spec : FormatSpec) (e : Finite) (unit : Shape)
     → RepresentsSize kind ignore_case size e unit
     → IsAccepted current kind ignore_case (layout (text_of e) (name current unit) spec) size
-layout_accepted kind ignore_case size spec e unit states =
-    let layout = trimmed_layout kind ignore_case spec e unit states.bounded states.good in
+layout_accepted kind ignore_case size spec e unit represents =
+    let layout = trimmed_layout kind ignore_case spec e unit represents.bounded represents.good in
     record {
       number = number_of e.whole e.digits;
       is_read =
@@ -184,13 +184,14 @@ layout_accepted kind ignore_case size spec e unit states =
                       name current unit;
                   text_is =
                       layout.trims;
-                  number_is = number_text e.whole e.digits states.bounded.small states.few states.bounded.bound;
-                  unit_is = states.good.spells;
+                  number_is = number_text e.whole e.digits represents.bounded.small represents.few
+                      represents.bounded.bound;
+                  unit_is = represents.good.spells;
                 };
             is_least
-                = IsLeastOf-exact kind (number_of e.whole e.digits) size unit states.exact;
+                = IsLeastOf-exact kind (number_of e.whole e.digits) size unit represents.exact;
           };
-      below = states.below;
+      below = represents.below;
     }
 
 -- A number split into whole part and digits after the point without trailing zeros, both scaled by 10^28, is the number
@@ -238,7 +239,7 @@ size_form_reads_back kind size spec ignore_case text below form =
     let bound = whole_bound kind size form.number (bits form.unit) below (some_bits form.unit) form.number_is in
     let number = fixed_point_of_digits e.whole (value_of e.digits) form.number (length e.digits) short.few
     short.scaled_is in
-    let states : RepresentsSize kind ignore_case size e form.unit =
+    let represents : RepresentsSize kind ignore_case size e form.unit =
     record {
       bounded = record { small = short.small; bound = bound };
       few = short.few;
@@ -247,7 +248,7 @@ size_form_reads_back kind size spec ignore_case text below form =
       below = below;
     } in
     let Accepted : List ℕ → Type 0 = λ text. IsAccepted current kind ignore_case text size in
-    subst Accepted (sym form.text_is) (layout_accepted kind ignore_case size spec e form.unit states)
+    subst Accepted (sym form.text_is) (layout_accepted kind ignore_case size spec e form.unit represents)
 
 no_plus : (sign : Sign) → sign ≢ Plus → plus_of sign ≡ []
 no_plus Unset other = refl

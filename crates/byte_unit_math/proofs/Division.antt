@@ -48,10 +48,11 @@ last_digit_zero size unit count places fewer positive product h =
     let total : fewer + suc last ≡ places = omega (arith, h.0) in
     let power : 10 ^ places ≡ 10 ^ fewer * (10 * 10 ^ last) =
     ap (λ n. 10 ^ n) (sym total) ∙ (pow-add 10 fewer (suc last) ∙ ap (λ n. 10 ^ fewer * n) (pow-succ' 10 last)) in
-    let stated = ap (λ n. size * n) power in
+    let times_size = ap (λ n. size * n) power in
     let raised = ap (λ n. n * (10 * 10 ^ last)) h.1.1 in
     let tens : count ≡ h.1.0 * (10 * 10 ^ last) =
-    eq_of_mul-eq-mul_right unit positive count (h.1.0 * (10 * 10 ^ last)) (omega (arith, stated, raised, product)) in
+    eq_of_mul-eq-mul_right unit positive count (h.1.0 * (10 * 10 ^ last))
+    (omega (arith, times_size, raised, product)) in
     ap (λ n. n % 10) tens ∙ last_digit_of_tens h.1.0 (10 ^ last)
 
 -- A quotient that is exact with a last digit other than zero is exact with no fewer digits after the point.

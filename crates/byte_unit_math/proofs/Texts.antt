@@ -160,8 +160,8 @@ padded_to_own_places e =
 difference_apart : (a d k : ℕ) → abs_diff a (a + d) * k ≡ abs_diff (a * k) ((a + d) * k)
 difference_apart a d k = let e : abs_diff a (a + d) ≡ d = omega arith in ap (λ n. n * k) e ∙ omega arith
 
-difference_turned : (a b : ℕ) → abs_diff a b ≡ abs_diff b a
-difference_turned a b = omega arith
+difference_swapped : (a b : ℕ) → abs_diff a b ≡ abs_diff b a
+difference_swapped a b = omega arith
 
 difference_times : (a b k : ℕ) → abs_diff a b * k ≡ abs_diff (a * k) (b * k)
 difference_times a b k =
@@ -170,17 +170,17 @@ difference_times a b k =
     ⊎_elim (λ l. subst TimesFromA (let e : a + (b - a) ≡ b = omega (arith, l) in e) (difference_apart a (b - a) k))
     (λ l. let times = subst TimesFromB (let e : b + (a - b) ≡ a = omega (arith, l) in e)
     (difference_apart b (a - b) k) in
-    ap (λ n. n * k) (difference_turned a b) ∙ (times ∙ difference_turned (b * k) (a * k))) (cases_lt a b)
+    ap (λ n. n * k) (difference_swapped a b) ∙ (times ∙ difference_swapped (b * k) (a * k))) (cases_lt a b)
 
 -- What is nearest to the expansion of a fraction is nearest to the fraction.
 pub nearest_of_expansion :
     (num den : ℕ) (e : Finite) (p : ℕ) (ties : Ties) (q : ℕ) → (0 < den) × (num * 10 ^ length e.digits ≡ scaled e * den)
     → IsNearest (scaled e) (10 ^ length e.digits) p ties q → IsNearest num den p ties q
-nearest_of_expansion num den e p ties q stated h =
+nearest_of_expansion num den e p ties q is_exact h =
     let power = 10 ^ length e.digits in
     let number = scaled e in
     let some : 0 < power = omega (arith, one_le_pow10 (length e.digits)) in
-    let goal_is : number * 10 ^ p * den ≡ num * 10 ^ p * power = let exact = ap (λ n. n * 10 ^ p) stated.1 in
+    let goal_is : number * 10 ^ p * den ≡ num * 10 ^ p * power = let exact = ap (λ n. n * 10 ^ p) is_exact.1 in
     omega (arith, exact) in
     let same : (o : ℕ) → abs_diff (o * power) (number * 10 ^ p) * den ≡ abs_diff (o * den) (num * 10 ^ p) * power =
     λ o. let sides : o * power * den ≡ o * den * power = omega arith in
@@ -196,7 +196,7 @@ nearest_of_expansion num den e p ties q stated h =
           {k = power}
           (omega (arith, least, this, other)) some;
       tie = λ o n k. h.tie o n (let tied = ap (λ x. x * power) k in
-          eq_of_mul-eq-mul_right den stated.0 (abs_diff (o * power) (number * 10 ^ p))
+          eq_of_mul-eq-mul_right den is_exact.0 (abs_diff (o * power) (number * 10 ^ p))
           (abs_diff (q * power) (number * 10 ^ p))
           (same o ∙ (tied ∙ sym (same q))));
     }
@@ -220,11 +220,11 @@ pub expansion_of_same_fraction :
     (num den num' den' : ℕ) (e : Finite) → SameFraction num den num' den' → IsExpansion num den e
     → IsExpansion num' den' e
 expansion_of_same_fraction num den num' den' e same h =
-    let turned_round : SameFraction num' den' num den =
+    let swapped : SameFraction num' den' num den =
     record { positive = same.positive'; positive' = same.positive; same = sym same.same } in
     record {
       small = h.small;
-      exact = same_places num' den' num den (length e.digits) (scaled e) turned_round h.exact;
+      exact = same_places num' den' num den (length e.digits) (scaled e) swapped h.exact;
       least = λ p k. h.least p (k.0, same_places num den num' den' p k.0 same k.1);
     }
 
@@ -291,8 +291,8 @@ not_below num den p Even q r h less =
 -- Only one decimal with p digits after the point is nearest, since ties are broken.
 pub nearest_unique : (num den p : ℕ) (ties : Ties) (q r : ℕ) → BothNearest num den p ties q r → q ≡ r
 nearest_unique num den p ties q r h =
-    let turned_round : BothNearest num den p ties r q =
+    let swapped : BothNearest num den p ties r q =
     record { positive = h.positive; this = h.other; other = h.this } in
     ⊎_elim (λ less. absurd (not_below num den p ties q r h less))
-    (λ l. ⊎_elim (λ less. absurd (not_below num den p ties r q turned_round less)) (λ m. omega (arith, l, m))
+    (λ l. ⊎_elim (λ less. absurd (not_below num den p ties r q swapped less)) (λ m. omega (arith, l, m))
     (cases_lt r q)) (cases_lt q r)

@@ -9,7 +9,7 @@ returns-clause-text c =
     let spec = c.args.spec in
     let alternate : spec.alternate ≡ true = search rules in
     let places_are : c.match-spec.places ≡ places_of spec.precision = search rules in
-    let answered = c.recoverable_unit-number.ensures in
+    let found = c.recoverable_unit-number.ensures in
     let least = c.places.ensures.least in
     let parts : AreParts c.recoverable_unit-number.result.0 c.whole.result c.digits.result c.places.result =
     record {
@@ -21,4 +21,4 @@ returns-clause-text c =
     } in
     size_form_is_text c.args.kind c.args.size spec alternate
     (subst (IsSizeForm current c.args.kind c.args.size spec) (sym c.layout_row.ensures.text)
-    (size_form_of_parts c.args.kind c.args.size spec places_are answered.recovered answered.exact parts))
+    (size_form_of_parts c.args.kind c.args.size spec places_are found.recovered found.exact parts))
