@@ -170,27 +170,19 @@ layout_accepted kind ignore_case size spec e unit represents =
     let layout = trimmed_layout kind ignore_case spec e unit represents.bounded represents.good in
     record {
       number = number_of e.whole e.digits;
-      is_read =
-          record {
-            unit =
-                unit;
-            is_size =
-                record {
-                  number_part =
-                      text_of e;
-                  spaces =
-                      layout.spaces_between;
-                  unit_part =
-                      name current unit;
-                  text_is =
-                      layout.trims;
-                  number_is = number_text e.whole e.digits represents.bounded.small represents.few
-                      represents.bounded.bound;
-                  unit_is = represents.good.spells;
-                };
-            is_least
-                = IsLeastOf-exact kind (number_of e.whole e.digits) size unit represents.exact;
-          };
+      is_read = record {
+        unit = unit;
+        is_size = record {
+          number_part = text_of e;
+          spaces = layout.spaces_between;
+          unit_part = name current unit;
+          text_is = layout.trims;
+          number_is = number_text e.whole e.digits represents.bounded.small represents.few
+              represents.bounded.bound;
+          unit_is = represents.good.spells;
+        };
+        is_least = IsLeastOf-exact kind (number_of e.whole e.digits) size unit represents.exact;
+      };
       below = represents.below;
     }
 
@@ -292,25 +284,17 @@ plain_form_reads_back kind size spec ignore_case below sign =
     let own = ap (λ bits. (size * one) * bits) (own_bits kind) in
     record {
       number = size * one;
-      is_read =
-          record {
-            unit =
-                own_unit kind;
-            is_size =
-                record {
-                  number_part =
-                      decimal size;
-                  spaces =
-                      0;
-                  unit_part =
-                      [];
-                  text_is =
-                      trims ∙ sym (append-nil (decimal size));
-                  number_is =
-                      inl (size, whole_text size bound, refl);
-                  unit_is = no_unit kind ignore_case;
-                };
-            is_least = IsLeastOf-exact kind (size * one) size (own_unit kind) (omega (arith, own));
-          };
+      is_read = record {
+        unit = own_unit kind;
+        is_size = record {
+          number_part = decimal size;
+          spaces = 0;
+          unit_part = [];
+          text_is = trims ∙ sym (append-nil (decimal size));
+          number_is = inl (size, whole_text size bound, refl);
+          unit_is = no_unit kind ignore_case;
+        };
+        is_least = IsLeastOf-exact kind (size * one) size (own_unit kind) (omega (arith, own));
+      };
       below = below;
     }

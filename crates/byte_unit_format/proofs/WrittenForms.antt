@@ -41,8 +41,7 @@ fraction_none zero digits none =
     (omega (
       arith,
       length-append {A = ℕ} (take 0 digits) (replicate (0 - length digits) 0),
-      length-replicate {A = ℕ}
-          (0 - length digits) 0,
+      length-replicate {A = ℕ} (0 - length digits) 0,
     ))
 fraction_none (suc places) digits none = absurd (omega (arith, none))
 
@@ -60,8 +59,7 @@ fraction_some places digits positive =
       positive,
       length-append {A = ℕ} front back,
       length-replicate {A = ℕ} (places - length digits) 0,
-      length-take {A = ℕ} places
-          digits,
+      length-take {A = ℕ} places digits,
     ) in
     fraction_text_some (front ++ back) some
     ∙ ap (λ text. 46 ∷ text)

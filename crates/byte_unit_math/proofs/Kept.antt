@@ -153,10 +153,8 @@ pub record IsCopied (ds es : List ℕ) (i : ℕ) : Type 0 where
 pub no_digits_copied : (es : List ℕ) → IsCopied (replicate expansion_places 0) es 0
 no_digits_copied es =
     record {
-      size =
-          length-replicate {A = ℕ} expansion_places 0;
-      front =
-          refl;
+      size = length-replicate {A = ℕ} expansion_places 0;
+      front = refl;
       rest = refl;
       small = All-replicate (λ d. d < 10) expansion_places 0 (omega arith);
     }
