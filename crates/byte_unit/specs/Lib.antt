@@ -1,3 +1,4 @@
+-- The definitions of the crates below, under the name of the crate that exports their types.
 pub use Rattle.byte_unit_math.specs.Bounds
 pub use Rattle.byte_unit_math.specs.Exact
 pub use Rattle.byte_unit_math.specs.Finite

@@ -13,7 +13,7 @@ use Rattle.std.proofs.lemmas.List.Elements.{All-nil, All-cons, All-head, All-tai
 use Rattle.byte_unit_math.specs.Bounds.{places_of_decimal, whole_limit}
 use Rattle.byte_unit_math.specs.Finite.{Finite}
 use Rattle.byte_unit_math.specs.Numeral.{glyphs, fraction_text, text_of}
-use Rattle.byte_unit_math.proofs.Fractions.{text_some}
+use Rattle.byte_unit_math.proofs.Fractions.{fraction_text_some}
 use Rattle.byte_unit_base.specs.Edition.{current}
 use Rattle.byte_unit_base.specs.Spelling.{Flags}
 use Rattle.byte_unit_base.specs.Fault.{too_long, no_unit, after_digit, IsSizeFault}
@@ -114,7 +114,7 @@ long_text whole digits tail some long =
     let split : glyphs digits ≡ glyphs long.front ++ (next ∷ glyphs long.rest) =
     ap glyphs long.list_is ∙ map-append (λ digit. 48 + digit) long.front (long.next ∷ long.rest) in
     let fraction : fraction_text digits ≡ 46 ∷ (glyphs long.front ++ (next ∷ glyphs long.rest)) =
-    text_some digits some ∙ ap (λ text. 46 ∷ text) split in
+    fraction_text_some digits some ∙ ap (λ text. 46 ∷ text) split in
     ap (λ text. (decimal whole ++ text) ++ tail) fraction
     ∙ (append_assoc (decimal whole) (46 ∷ (glyphs long.front ++ (next ∷ glyphs long.rest))) tail
     ∙ ap (λ text. decimal whole ++ (46 ∷ text)) (append_assoc (glyphs long.front) (next ∷ glyphs long.rest) tail))

@@ -3,12 +3,12 @@ use Rattle.std.proofs.Common.{◌≡◌, ℕ, ◌-◌, ◌*◌, ◌/◌, ◌^◌
 use Rattle.std.proofs.Math.Nat.{eq_of_mul-eq-mul_right}
 use Rattle.byte_unit_math.specs.Bounds.{places_of_decimal, one}
 use Rattle.byte_unit_math.specs.Exact.{IsExactAt, IsLeastPlaces, IsQuotient, IsFirstExact}
-use Rattle.byte_unit_math.proofs.Scales.{raise_power}
+use Rattle.byte_unit_math.proofs.Scales.{pow10_split}
 
 -- a size that is exact at some number of places is exact at each greater number of places
 pub exact_more : (size unit few more : ℕ) → few ≤ more → IsExactAt size unit few → IsExactAt size unit more
 exact_more size unit few more h e =
-    let p = ap (λ n. size * n) (raise_power few more h) in
+    let p = ap (λ n. size * n) (pow10_split few more h) in
     let q = ap (λ n. n * 10 ^ (more - few)) e.1 in
     (e.0 * 10 ^ (more - few), p ∙ omega (arith, q))
 
@@ -18,7 +18,7 @@ pub number_times_unit : (size unit places number : ℕ) → places ≤ places_of
 number_times_unit size unit places number room h =
     let n = ap (λ x. x * unit) h.number in
     let e = ap (λ x. x * 10 ^ (places_of_decimal - places)) h.exact in
-    let p = ap (λ x. size * x) (raise_power places places_of_decimal room) in
+    let p = ap (λ x. size * x) (pow10_split places places_of_decimal room) in
     n ∙ omega (arith, e, p)
 
 -- if a number times the unit is the size, it is the exact quotient at each number of places at which the size is exact
@@ -28,7 +28,7 @@ pub quotient_of_product : (size unit places number : ℕ) → 1 ≤ unit → pla
 quotient_of_product size unit places number some room product exact =
     let behind = 10 ^ (places_of_decimal - places) in
     let e = ap (λ x. x * behind) exact.1 in
-    let p = ap (λ x. size * x) (raise_power places places_of_decimal room) in
+    let p = ap (λ x. size * x) (pow10_split places places_of_decimal room) in
     let same : number * unit ≡ exact.0 * behind * unit = omega (arith, product, e, p) in
     record {
       count = exact.0;

@@ -8,7 +8,7 @@ use Rattle.byte_unit_math.specs.Bounds.{one, places_of_decimal, whole_limit}
 use Rattle.byte_unit_math.specs.Steps.{raised}
 use Rattle.byte_unit_math.specs.Exact.{IsExactAt, IsLeastPlaces, IsQuotient}
 use Rattle.byte_unit_math.specs.Powers.{IsTwoFive}
-use Rattle.byte_unit_math.proofs.Powers.{exact_by_powers, has_two_five}
+use Rattle.byte_unit_math.proofs.Powers.{exact_by_powers, numbers_have_exponents}
 use Rattle.byte_unit_base.specs.Shape.{Shape, bits, twos, fives}
 use Rattle.byte_unit_base.specs.Edition.{current}
 use Rattle.byte_unit_base.specs.Kinds.{bits_in}
@@ -27,7 +27,7 @@ some_bits_in Bit size some = λ e. some (omega (arith, e))
 -- the exponents of 2 and 5 decide whether a size that is not zero is exact in a unit
 pub sizes_by_powers : SizesAreExactByPowers
 sizes_by_powers kind size unit some =
-    let h = has_two_five (size * bits_in kind) (some_bits_in kind size some) in
+    let h = numbers_have_exponents (size * bits_in kind) (some_bits_in kind size some) in
     record {
       size_twos = h.0;
       size_fives = h.1;

@@ -1,5 +1,6 @@
--- The form of a size in a given unit.
-use Rattle.std.proofs.Common.{◌≡◌, ℕ, ◌+◌, ◌*◌, ◌/◌, ◌%◌, ◌^◌, ◌<◌, ⊎_elim, min, Bool, true, false, List, length, arith, ap, sym, refl}
+-- A size has exactly one text in a given unit by each spec.
+use Rattle.std.proofs.Common.{◌≡◌, ℕ, ◌+◌, ◌*◌, ◌/◌, ◌%◌, ◌^◌, ◌<◌, ⊎_elim, min, Bool, true, false, List, length, arith}
+use Rattle.std.proofs.Common.{ap, sym, refl}
 use Rattle.std.proofs.Common.{subst, ◌∙◌, Some, None}
 use Rattle.std.specs.Prelude.{if◌then◌else◌}
 use Rattle.std.proofs.Math.Nat.{div-add-mod'}
@@ -12,9 +13,11 @@ use Rattle.byte_unit_math.specs.Numeral.{text_of, numeral, short}
 use Rattle.byte_unit_math.specs.Padded.{padded}
 use Rattle.byte_unit_math.specs.declared.expansion.Ties.{Ties}
 use Rattle.byte_unit_math.specs.declared.expansion.Ties.TheVariants.{Even, Up}
-use Rattle.byte_unit_math.proofs.Digits.{ten}
-use Rattle.byte_unit_math.proofs.Nearest.{LiesAbove, nearest_down, nearest_up, tie_up, tie_even_next, tie_even_this}
-use Rattle.byte_unit_math.proofs.Texts.{one_expansion, one_nearest, short_expansion, same_fraction}
+use Rattle.byte_unit_math.proofs.Digits.{one_le_pow10}
+use Rattle.byte_unit_math.proofs.Nearest.{LiesAbove, nearest_down, nearest_up, tie_up_next, tie_even_next}
+use Rattle.byte_unit_math.proofs.Nearest.{tie_even_this}
+use Rattle.byte_unit_math.proofs.Texts.{expansion_unique, nearest_unique, short_numeral_is_expansion}
+use Rattle.byte_unit_math.proofs.Texts.{expansion_of_same_fraction}
 use Rattle.byte_unit_base.specs.Shape.{Shape, bits, twos, fives}
 use Rattle.byte_unit_base.specs.Edition.{Edition, current, name}
 use Rattle.byte_unit_base.proofs.Choosing.{some_bits}
@@ -26,79 +29,95 @@ use Rattle.byte_unit_format.specs.Adjusted.{Rule, full, round_to, short_to, IsNu
 use Rattle.byte_unit_format.specs.Adjusted.{alternate_places, IsAdjustedForm, is_single}
 use Rattle.byte_unit_format.specs.FormLaws.{SizeHasOneAdjustedForm}
 
--- which numeral is written
-
-pub by_rule : {rule other : Rule} (num den : ℕ) (text : List ℕ) → rule ≡ other → IsNumeralBy other num den text
+-- A text formatted by one rule is formatted by an equal one.
+pub numeral_by_same_rule : {rule other : Rule} (num den : ℕ) (text : List ℕ) → rule ≡ other
+    → IsNumeralBy other num den text
     → IsNumeralBy rule num den text
-by_rule num den text same numeral = subst (λ rule. IsNumeralBy rule num den text) (sym same) numeral
+numeral_by_same_rule num den text same numeral = subst (λ rule. IsNumeralBy rule num den text) (sym same) numeral
 
-pub rule_unset : (spec : FormatSpec) (unit : Shape) → spec.precision ≡ None → rule_of spec.precision spec.alternate unit ≡ full
-rule_unset spec unit unset = ap (λ precision. rule_of precision spec.alternate unit) unset
+-- If no precision is set, all digits are written.
+pub rule_without_precision : (spec : FormatSpec) (unit : Shape) → spec.precision ≡ None
+    → rule_of spec.precision spec.alternate unit ≡ full
+rule_without_precision spec unit unset = ap (λ precision. rule_of precision spec.alternate unit) unset
 
+-- The rule for a precision that is set and a known alternate flag.
 rule_set : (spec : FormatSpec) (unit : Shape) (precision : ℕ) (alternate : Bool) → spec.precision ≡ Some precision
     → spec.alternate ≡ alternate
     → rule_of spec.precision spec.alternate unit ≡ rule_of (Some precision) alternate unit
 rule_set spec unit precision alternate set flag =
-    ap (λ precision. rule_of precision spec.alternate unit) set ∙ ap (λ alternate. rule_of (Some precision) alternate unit) flag
+    ap (λ precision. rule_of precision spec.alternate unit) set
+    ∙ ap (λ alternate. rule_of (Some precision) alternate unit) flag
 
-pub rule_short : (spec : FormatSpec) (unit : Shape) (precision places : ℕ) → spec.precision ≡ Some precision → spec.alternate ≡ true
+-- In the alternate form with a precision, at most that many digits after the point are written, and at most 16.
+pub rule_of_alternate : (spec : FormatSpec) (unit : Shape) (precision places : ℕ) → spec.precision ≡ Some precision
+    → spec.alternate ≡ true
     → places ≡ min precision alternate_places → rule_of spec.precision spec.alternate unit ≡ short_to places
-rule_short spec unit precision places set flag few = rule_set spec unit precision true set flag ∙ ap short_to (sym few)
+rule_of_alternate spec unit precision places set flag few =
+    rule_set spec unit precision true set flag ∙ ap short_to (sym few)
 
-pub rule_single : (spec : FormatSpec) (unit : Shape) (precision : ℕ) → spec.precision ≡ Some precision → spec.alternate ≡ false
+-- For a unit without a prefix outside the alternate form, all digits are written.
+pub rule_without_prefix : (spec : FormatSpec) (unit : Shape) (precision : ℕ) → spec.precision ≡ Some precision
+    → spec.alternate ≡ false
     → is_single unit ≡ true → rule_of spec.precision spec.alternate unit ≡ full
-rule_single spec unit precision set flag single =
+rule_without_prefix spec unit precision set flag single =
     rule_set spec unit precision false set flag ∙ ap (λ single. if single then full else round_to precision) single
 
-pub rule_round : (spec : FormatSpec) (unit : Shape) (precision places : ℕ) → spec.precision ≡ Some precision → spec.alternate ≡ false
+-- For a unit with a prefix outside the alternate form, exactly as many digits after the point are written as the
+-- precision.
+pub rule_with_precision : (spec : FormatSpec) (unit : Shape) (precision places : ℕ) → spec.precision ≡ Some precision
+    → spec.alternate ≡ false
     → is_single unit ≡ false → places ≡ precision → rule_of spec.precision spec.alternate unit ≡ round_to places
-rule_round spec unit precision places set flag prefixed same =
+rule_with_precision spec unit precision places set flag prefixed same =
     rule_set spec unit precision false set flag
     ∙ (ap (λ single. if single then full else round_to precision) prefixed ∙ ap round_to (sym same))
 
--- one numeral
-
-one_numeral : (rule : Rule) (num den : ℕ) (text other : List ℕ) → 0 < den → IsNumeralBy rule num den text → IsNumeralBy rule num den other
+numeral_unique : (rule : Rule) (num den : ℕ) (text other : List ℕ) → 0 < den → IsNumeralBy rule num den text
+    → IsNumeralBy rule num den other
     → text ≡ other
-one_numeral full num den text other some of_text of_other =
-    of_text.2 ∙ (ap text_of (one_expansion num den of_text.0 of_other.0 some of_text.1 of_other.1) ∙ sym of_other.2)
-one_numeral (round_to places) num den text other some of_text of_other =
-    let same = one_nearest num den places Even of_text.0 of_other.0 (record { positive = some; this = of_text.1; other = of_other.1 }) in
+numeral_unique full num den text other some of_text of_other =
+    of_text.2 ∙ (ap text_of (expansion_unique num den of_text.0 of_other.0 some of_text.1 of_other.1) ∙ sym of_other.2)
+numeral_unique (round_to places) num den text other some of_text of_other =
+    let same = nearest_unique num den places Even of_text.0 of_other.0
+    (record { positive = some; this = of_text.1; other = of_other.1 }) in
     of_text.2 ∙ (ap (λ nearest. numeral nearest places) same ∙ sym of_other.2)
-one_numeral (short_to places) num den text other some of_text of_other =
-    let same = one_nearest num den places Up of_text.0 of_other.0 (record { positive = some; this = of_text.1; other = of_other.1 }) in
+numeral_unique (short_to places) num den text other some of_text of_other =
+    let same = nearest_unique num den places Up of_text.0 of_other.0
+    (record { positive = some; this = of_text.1; other = of_other.1 }) in
     of_text.2 ∙ (ap (λ nearest. short nearest places) same ∙ sym of_other.2)
 
-pub one_adjusted : {edition : Edition} {kind : Kind} {size : ℕ} {unit : Shape} {spec : FormatSpec} {text other : List ℕ}
+-- A size has at most one text in a unit by a spec.
+pub adjusted_form_unique : {edition : Edition} {kind : Kind} {size : ℕ} {unit : Shape} {spec : FormatSpec}
+    {text other : List ℕ}
     → IsAdjustedForm edition kind size unit spec text → IsAdjustedForm edition kind size unit spec other → text ≡ other
-one_adjusted {edition} {kind} {size} {unit} {spec} form other =
+adjusted_form_unique {edition} {kind} {size} {unit} {spec} form other =
     let rule = rule_of spec.precision spec.alternate unit in
     let some : 0 < bits unit = omega (arith, some_bits unit) in
     let same =
-    one_numeral rule (size * bits_in kind) (bits unit) form.number other.number some form.number_is other.number_is in
+    numeral_unique rule (size * bits_in kind) (bits unit) form.number other.number some form.number_is
+    other.number_is in
     form.text_is ∙ (ap (λ number. layout number (name edition unit) spec) same ∙ sym other.text_is)
 
--- there is one
-
-record Nearest (num den places : ℕ) (ties : Ties) : Type 0 where
+record HasNearest (num den places : ℕ) (ties : Ties) : Type 0 where
   number : ℕ
   is_nearest : IsNearest num den places ties number
 
-parity : (number : ℕ) → number % 2 < 1 → number % 2 ≡ 0
-parity number even = omega (arith, even)
+even_below_one : (number : ℕ) → number % 2 < 1 → number % 2 ≡ 0
+even_below_one number even = omega (arith, even)
 
-at_tie : (num den places below rest : ℕ) (ties : Ties) → LiesAbove num den places below rest → 2 * rest ≡ den
-    → Nearest num den places ties
-at_tie num den places below rest Up lies tie = record { number = below + 1; is_nearest = tie_up num den places below rest lies tie }
-at_tie num den places below rest Even lies tie =
-    ⊎_elim (λ even. record { number = below; is_nearest = tie_even_this num den places below rest lies tie (parity below even) })
+nearest_at_tie : (num den places below rest : ℕ) (ties : Ties) → LiesAbove num den places below rest → 2 * rest ≡ den
+    → HasNearest num den places ties
+nearest_at_tie num den places below rest Up lies tie =
+    record { number = below + 1; is_nearest = tie_up_next num den places below rest lies tie }
+nearest_at_tie num den places below rest Even lies tie =
+    ⊎_elim (λ even. record { number = below;
+    is_nearest = tie_even_this num den places below rest lies tie (even_below_one below even) })
     (λ odd.
     let is_odd : below % 2 ≡ 1 = omega (arith, odd) in
     record { number = below + 1; is_nearest = tie_even_next num den places below rest lies tie is_odd })
     (cases_lt (below % 2) 1)
 
-nearest : (num den places : ℕ) (ties : Ties) → 0 < den → Nearest num den places ties
-nearest num den places ties some =
+nearest_exists : (num den places : ℕ) (ties : Ties) → 0 < den → HasNearest num den places ties
+nearest_exists num den places ties some =
     let scaled_num = num * 10 ^ places in
     let below = scaled_num / den in
     let rest = scaled_num % den in
@@ -109,75 +128,83 @@ nearest num den places ties some =
     (λ at_least.
     ⊎_elim
     (λ more. record { number = below + 1; is_nearest = nearest_up num den places below rest lies ties more })
-    (λ at_most. at_tie num den places below rest ties lies (let tie : 2 * rest ≡ den = omega (arith, at_least, at_most) in tie))
+    (λ at_most. nearest_at_tie num den places below rest ties lies
+    (let tie : 2 * rest ≡ den = omega (arith, at_least, at_most) in tie))
     (cases_lt den (2 * rest)))
     (cases_lt (2 * rest) den)
 
-record Expanded (num den : ℕ) : Type 0 where
+record HasExpansion (num den : ℕ) : Type 0 where
   e : Finite
   is_expansion : IsExpansion num den e
 
--- ten times itself so often as two and five divide is a multiple
-ten_parts : (twos fives : ℕ) → 10 ^ (twos + fives) ≡ (5 ^ twos * 2 ^ fives) * (2 ^ twos * 5 ^ fives)
-ten_parts twos fives =
+-- 10^(twos + fives) is a multiple of 2^twos * 5^fives.
+pow10_of_sum : (twos fives : ℕ) → 10 ^ (twos + fives) ≡ (5 ^ twos * 2 ^ fives) * (2 ^ twos * 5 ^ fives)
+pow10_of_sum twos fives =
     let of_twos : 10 ^ twos ≡ 2 ^ twos * 5 ^ twos = mul-pow 2 5 twos in
     let of_fives : 10 ^ fives ≡ 2 ^ fives * 5 ^ fives = mul-pow 2 5 fives in
     pow-add 10 twos fives
     ∙ (ap (λ power. power * 10 ^ fives) of_twos ∙ (ap (λ power. 2 ^ twos * 5 ^ twos * power) of_fives ∙ omega arith))
 
-expanded : (num twos fives : ℕ) → 0 < 2 ^ twos * 5 ^ fives → Expanded num (2 ^ twos * 5 ^ fives)
-expanded num twos fives some =
+expansion_exists : (num twos fives : ℕ) → 0 < 2 ^ twos * 5 ^ fives → HasExpansion num (2 ^ twos * 5 ^ fives)
+expansion_exists num twos fives some =
     let den = 2 ^ twos * 5 ^ fives in
     let places : ℕ = twos + fives in
     let number : ℕ = num * (5 ^ twos * 2 ^ fives) in
-    let multiple = ap (λ power. num * power) (ten_parts twos fives) in
+    let multiple = ap (λ power. num * power) (pow10_of_sum twos fives) in
     let same : number * den ≡ num * 10 ^ places = omega (arith, multiple) in
     record {
       e = shortened (at_places places number);
       is_expansion =
-          same_fraction number (10 ^ places) num den (shortened (at_places places number))
-          (record { positive = omega (arith, ten places); positive' = some; same = same }) (short_expansion number places);
+          expansion_of_same_fraction number (10 ^ places) num den (shortened (at_places places number))
+          (record { positive = omega (arith, one_le_pow10 places); positive' = some; same = same })
+          (short_numeral_is_expansion number places);
     }
 
-record Numeral (rule : Rule) (num den : ℕ) : Type 0 where
+record HasNumeral (rule : Rule) (num den : ℕ) : Type 0 where
   number : List ℕ
   is_numeral : IsNumeralBy rule num den number
 
-numeral_there : (rule : Rule) (num twos fives : ℕ) → 0 < 2 ^ twos * 5 ^ fives → Numeral rule num (2 ^ twos * 5 ^ fives)
-numeral_there full num twos fives some =
-    let found = expanded num twos fives some in
+numeral_exists : (rule : Rule) (num twos fives : ℕ) → 0 < 2 ^ twos * 5 ^ fives
+    → HasNumeral rule num (2 ^ twos * 5 ^ fives)
+numeral_exists full num twos fives some =
+    let found = expansion_exists num twos fives some in
     record { number = text_of found.e; is_numeral = (found.e, found.is_expansion, refl) }
-numeral_there (round_to places) num twos fives some =
-    let found = nearest num (2 ^ twos * 5 ^ fives) places Even some in
+numeral_exists (round_to places) num twos fives some =
+    let found = nearest_exists num (2 ^ twos * 5 ^ fives) places Even some in
     record { number = numeral found.number places; is_numeral = (found.number, found.is_nearest, refl) }
-numeral_there (short_to places) num twos fives some =
-    let found = nearest num (2 ^ twos * 5 ^ fives) places Up some in
+numeral_exists (short_to places) num twos fives some =
+    let found = nearest_exists num (2 ^ twos * 5 ^ fives) places Up some in
     record { number = short found.number places; is_numeral = (found.number, found.is_nearest, refl) }
 
+-- A size has exactly one text in a unit by a spec.
 pub has_one_adjusted_form : SizeHasOneAdjustedForm
 has_one_adjusted_form edition kind size unit spec =
     let some : 0 < bits unit = omega (arith, some_bits unit) in
-    let found = numeral_there (rule_of spec.precision spec.alternate unit) (size * bits_in kind) (twos unit) (fives unit) some in
+    let found = numeral_exists (rule_of spec.precision spec.alternate unit) (size * bits_in kind) (twos unit)
+    (fives unit) some in
     let form = layout found.number (name edition unit) spec in
     let is_form : IsAdjustedForm edition kind size unit spec form =
     record { number = found.number; number_is = found.is_numeral; text_is = refl } in
-    record { form = form; is_form = is_form; one = λ other is_other. one_adjusted is_other is_form }
+    record { form = form; is_form = is_form; one = λ other is_other. adjusted_form_unique is_other is_form }
 
--- the text that is written
-
--- a decimal with so many places is the numeral that the spec asks for
+-- The decimal, padded to `places` digits after the point, is the number that the spec requests.
 pub record IsShown (kind : Kind) (size : ℕ) (unit : Shape) (spec : FormatSpec) (e : Finite) (places : ℕ) : Type 0 where
   pub is_numeral :
-      IsNumeralBy (rule_of spec.precision spec.alternate unit) (size * bits_in kind) (bits unit) (text_of (padded places e))
+      IsNumeralBy (rule_of spec.precision spec.alternate unit) (size * bits_in kind) (bits unit)
+      (text_of (padded places e))
 
-pub adjusted_form :
-    {kind : Kind} {size : ℕ} {unit : Shape} {spec : FormatSpec} {e : Finite} {places : ℕ} → IsShown kind size unit spec e places
+-- Such a decimal, formatted with its unit, is the text of the size in the unit.
+pub shown_is_adjusted_form :
+    {kind : Kind} {size : ℕ} {unit : Shape} {spec : FormatSpec} {e : Finite} {places : ℕ}
+    → IsShown kind size unit spec e places
     → IsAdjustedForm current kind size unit spec (layout_of current e places unit spec)
-adjusted_form {kind} {size} {unit} {spec} {e} {places} shown =
+shown_is_adjusted_form {kind} {size} {unit} {spec} {e} {places} shown =
     record { number = text_of (padded places e); number_is = shown.is_numeral; text_is = refl }
 
--- each form is as long
-pub adjusted_length :
-    {kind : Kind} {size : ℕ} {unit : Shape} {spec : FormatSpec} {e : Finite} {places : ℕ} → IsShown kind size unit spec e places
-    → (form : List ℕ) → IsAdjustedForm current kind size unit spec form → length form ≡ length (layout_of current e places unit spec)
-adjusted_length shown form is_form = ap length (one_adjusted is_form (adjusted_form shown))
+-- Each text of the size in the unit is as long as that of such a decimal.
+pub adjusted_form_length :
+    {kind : Kind} {size : ℕ} {unit : Shape} {spec : FormatSpec} {e : Finite} {places : ℕ}
+    → IsShown kind size unit spec e places
+    → (form : List ℕ) → IsAdjustedForm current kind size unit spec form
+    → length form ≡ length (layout_of current e places unit spec)
+adjusted_form_length shown form is_form = ap length (adjusted_form_unique is_form (shown_is_adjusted_form shown))

@@ -1,4 +1,4 @@
--- What the string of an adjusted size is read as.
+-- What the string of an adjusted size is read as: the size, or an error if it has too many digits.
 use Rattle.std.proofs.Common.{◌≡◌, ℕ, ◌+◌, ◌-◌, ◌*◌, ◌^◌, ◌<◌, ◌≤◌, inl, inr, ⊎_elim, false, List, ◌++◌}
 use Rattle.std.proofs.Common.{length, refl, sym, ap, subst, ◌∙◌, arith}
 use Rattle.std.proofs.Math.Nat.{le_of_mul-le-mul_right}
@@ -7,7 +7,7 @@ use Rattle.std.proofs.lemmas.Bool.{cases_lt}
 use Rattle.byte_unit_math.specs.Bounds.{one, places_of_decimal}
 use Rattle.byte_unit_math.specs.Exact.{IsExactAt}
 use Rattle.byte_unit_math.specs.Finite.{Finite, IsExpansion, value_of, scaled}
-use Rattle.byte_unit_math.proofs.Digits.{ten}
+use Rattle.byte_unit_math.proofs.Digits.{one_le_pow10}
 use Rattle.byte_unit_base.specs.Shape.{Shape, bits}
 use Rattle.byte_unit_base.specs.Edition.{current, name}
 use Rattle.byte_unit_base.specs.Units.{shape_of}
@@ -27,40 +27,39 @@ use Rattle.byte_unit_base.proofs.Choosing.{some_bits}
 use Rattle.byte_unit_base.proofs.NumberTexts.{IsBounded, fixed_point_of}
 use Rattle.byte_unit_base.proofs.LongFractions.{long_fault}
 use Rattle.byte_unit_base.proofs.Quotients.{exact_more}
-use Rattle.byte_unit_format.proofs.ReadBack.{IsStatement, good_name, bits_bound, number_scaled, trimmed_layout, layout_accepted}
-use Rattle.byte_unit_format.proofs.ReadBack.{size_form_back}
-
--- an expansion
+use Rattle.byte_unit_format.proofs.ReadBack.{RepresentsSize, IsGoodName-unit, bits_of_size_bound, fixed_point_of_digits}
+use Rattle.byte_unit_format.proofs.ReadBack.{trimmed_layout, layout_accepted}
+use Rattle.byte_unit_format.proofs.ReadBack.{size_form_reads_back}
 
 whole_not_above : (num den : ℕ) (e : Finite) → 1 ≤ den → IsExpansion num den e → e.whole ≤ num
 whole_not_above num den e some expansion =
     let scale = 10 ^ length e.digits in
     let not_above = mul-le (scaled e) 1 (scaled e) den (omega arith) some in
     let scaled_whole : e.whole * scale ≤ num * scale = omega (arith, not_above, expansion.exact) in
-    le_of_mul-le-mul_right scaled_whole (let positive : 0 < scale = omega (arith, ten (length e.digits)) in positive)
+    le_of_mul-le-mul_right scaled_whole
+    (let positive : 0 < scale = omega (arith, one_le_pow10 (length e.digits)) in positive)
 
--- that of a size is one that the grammar takes
+-- The expansion of a size is within the bounds of the grammar.
 expansion_bounded : (kind : Kind) (size : ℕ) (unit : Shape) (e : Finite) → size < current.size_limit
     → IsExpansion (size * bits_in kind) (bits unit) e → IsBounded e
 expansion_bounded kind size unit e below expansion =
     let not_above = whole_not_above (size * bits_in kind) (bits unit) e (some_bits unit) expansion in
-    record { small = expansion.small; bound = omega (arith, not_above, bits_bound kind size below) }
+    record { small = expansion.small; bound = omega (arith, not_above, bits_of_size_bound kind size below) }
 
--- in last places
+-- The expansion scaled by 10^28, times the unit, is the size scaled by 10^28.
 expansion_product : (num den : ℕ) (e : Finite) → IsExpansion num den e → length e.digits ≤ places_of_decimal
     → fixed_point_of e.whole e.digits * den ≡ num * one
 expansion_product num den e expansion few =
     let places = length e.digits in
     let rest = 10 ^ (places_of_decimal - places) in
     let split : places_of_decimal ≡ places + (places_of_decimal - places) = omega arith in
-    let power : one ≡ 10 ^ places * rest = ap (λ places. 10 ^ places) split ∙ pow-add 10 places (places_of_decimal - places) in
+    let power : one ≡ 10 ^ places * rest =
+    ap (λ places. 10 ^ places) split ∙ pow-add 10 places (places_of_decimal - places) in
     let number : fixed_point_of e.whole e.digits ≡ scaled e * rest =
-    number_scaled e.whole (value_of e.digits) (scaled e * rest) places few refl in
+    fixed_point_of_digits e.whole (value_of e.digits) (scaled e * rest) places few refl in
     let of_rest = ap (λ number. number * rest) expansion.exact in
     let of_power = ap (λ power. num * power) power in
     ap (λ number. number * den) number ∙ omega (arith, of_rest, of_power)
-
--- the string
 
 form_accepted : (kind : Kind) (size : ℕ) (unit : UnitName) (text : List ℕ) → size < current.size_limit
     → IsAdjustedForm current kind size (shape_of unit) ALTERNATE text
@@ -70,50 +69,61 @@ form_accepted kind size unit text below form exact =
     let e = form.number_is.0 in
     let expansion = form.number_is.1 in
     let few = expansion.least places_of_decimal exact in
-    let states : IsStatement kind false size e shape =
+    let represents : RepresentsSize kind false size e shape =
     record {
       bounded = expansion_bounded kind size shape e below expansion;
       few = few;
-      good = good_name kind unit;
+      good = IsGoodName-unit kind unit;
       exact = expansion_product (size * bits_in kind) (bits shape) e expansion few;
       below = below;
     } in
     let text_is = form.text_is ∙ ap (λ number. layout number (name current shape) ALTERNATE) form.number_is.2 in
     let Accepted : List ℕ → Type 0 = λ text. IsAccepted current kind false text size in
-    subst Accepted (sym text_is) (layout_accepted kind false size ALTERNATE e shape states)
+    subst Accepted (sym text_is) (layout_accepted kind false size ALTERNATE e shape represents)
 
-form_refused : (kind : Kind) (size : ℕ) (unit : UnitName) (text : List ℕ) → size < current.size_limit
+form_rejected : (kind : Kind) (size : ℕ) (unit : UnitName) (text : List ℕ) → size < current.size_limit
     → IsAdjustedForm current kind size (shape_of unit) ALTERNATE text
     → ¬ (IsExactAt (size * bits_in kind) (bits (shape_of unit)) places_of_decimal)
     → IsSizeFault current (flags_for kind false) (trimmed text) too_long
-form_refused kind size unit text below form long =
+form_rejected kind size unit text below form long =
     let shape = shape_of unit in
     let e = form.number_is.0 in
     let expansion = form.number_is.1 in
     let many : places_of_decimal < length e.digits =
     ⊎_elim (λ many. many)
     (λ few.
-    absurd (long (exact_more (size * bits_in kind) (bits shape) (length e.digits) places_of_decimal few (scaled e, expansion.exact))))
+    absurd (long (exact_more (size * bits_in kind) (bits shape) (length e.digits) places_of_decimal few
+    (scaled e, expansion.exact))))
     (cases_lt places_of_decimal (length e.digits)) in
     let bounded = expansion_bounded kind size shape e below expansion in
-    let layout_is = trimmed_layout kind false ALTERNATE e shape bounded (good_name kind unit) in
+    let layout_is = trimmed_layout kind false ALTERNATE e shape bounded (IsGoodName-unit kind unit) in
     let text_is =
-    ap trimmed (form.text_is ∙ ap (λ number. layout number (name current shape) ALTERNATE) form.number_is.2) ∙ layout_is.trims in
-    long_fault (flags_for kind false) e (spaces layout_is.spaces_between ++ name current shape) (trimmed text) bounded many text_is
+    ap trimmed (form.text_is ∙ ap (λ number. layout number (name current shape) ALTERNATE) form.number_is.2)
+    ∙ layout_is.trims in
+    long_fault (flags_for kind false) e (spaces layout_is.spaces_between ++ name current shape) (trimmed text) bounded
+    many text_is
 
-accepted : (kind : Kind) (size : ℕ) (unit : UnitName) (text : List ℕ) → size < current.size_limit
+string_accepted : (kind : Kind) (size : ℕ) (unit : UnitName) (text : List ℕ) → size < current.size_limit
     → IsAdjustedString current kind size (shape_of unit) text → FitsDecimal current kind size (shape_of unit)
     → IsAccepted current kind false text size
-accepted kind size unit text below (inl greatest) fits = size_form_back kind size ALTERNATE false text below greatest.1
-accepted kind size unit text below (inr other) (inl greatest) = absurd (other.0 greatest)
-accepted kind size unit text below (inr other) (inr exact) = form_accepted kind size unit text below other.1 exact
+string_accepted kind size unit text below (inl greatest) fits =
+    size_form_reads_back kind size ALTERNATE false text below greatest.1
+string_accepted kind size unit text below (inr other) (inl greatest) = absurd (other.0 greatest)
+string_accepted kind size unit text below (inr other) (inr exact) =
+    form_accepted kind size unit text below other.1 exact
 
-refused : (kind : Kind) (size : ℕ) (unit : UnitName) (text : List ℕ) → size < current.size_limit
+string_rejected : (kind : Kind) (size : ℕ) (unit : UnitName) (text : List ℕ) → size < current.size_limit
     → IsAdjustedString current kind size (shape_of unit) text → ¬ (FitsDecimal current kind size (shape_of unit))
     → IsRefused current kind false text too_long
-refused kind size unit text below (inl greatest) long = absurd (long (inl greatest.0))
-refused kind size unit text below (inr other) long = inr (form_refused kind size unit text below other.1 (λ exact. long (inr exact)))
+string_rejected kind size unit text below (inl greatest) long = absurd (long (inl greatest.0))
+string_rejected kind size unit text below (inr other) long =
+    inr (form_rejected kind size unit text below other.1 (λ exact. long (inr exact)))
 
-pub adjusted_string_back : AdjustedStringReadsBack
-adjusted_string_back kind size unit text below string =
-    record { accepted = accepted kind size unit text below string; refused = refused kind size unit text below string }
+-- The string of an adjusted size is read as the size if it has at most 28 digits after the point, and is else rejected
+-- as too long.
+pub adjusted_string_reads_back : AdjustedStringReadsBack
+adjusted_string_reads_back kind size unit text below string =
+    record {
+      accepted = string_accepted kind size unit text below string;
+      refused = string_rejected kind size unit text below string;
+    }

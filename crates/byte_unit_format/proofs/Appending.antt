@@ -1,24 +1,28 @@
--- What a call that appends has done.
+-- The effect of a call that appends to a string, seen as that of one text or of any text of a form.
 use Rattle.std.proofs.Common.{◌≡◌, ℕ, List, ◌++◌, length, Result, arith, ap, refl, subst, ◌∙◌}
 use Rattle.std.specs.String.{string_bytes}
 use Rattle.std.specs.declared.string.String.{String}
 use Rattle.std.proofs.lemmas.Result.{on_ok_weaker, on_err_weaker}
 use Rattle.byte_unit_format.specs.Room.{Appends}
 
--- what has added this form has added a form, where every other is as long
-pub appends_form : {Z E R : Type 0} (IsForm : List ℕ → Type 0) (old new : String Z) (result : Result R E) (form : List ℕ) → IsForm form
+-- A call that appends one text of a form appends a text of that form, if all are equally long.
+pub appends_form : {Z E R : Type 0} (IsForm : List ℕ → Type 0) (old new : String Z) (result : Result R E)
+    (form : List ℕ) → IsForm form
     → ((other : List ℕ) → IsForm other → length other ≡ length form) → Appends (λ other. other ≡ form) old new result
     → Appends IsForm old new result
 appends_form IsForm old new result form is_form as_long this = record {
-  added = on_ok_weaker result (λ added. (form, is_form, added.2 ∙ ap (λ other. string_bytes old ++ other) added.1)) this.added;
-  used = on_ok_weaker result (λ used other is_other. let room = used form refl in omega (arith, room, as_long other is_other)) this.used;
+  added = on_ok_weaker result (λ added. (form, is_form, added.2 ∙ ap (λ other. string_bytes old ++ other) added.1))
+      this.added;
+  used = on_ok_weaker result (λ used other is_other. let room = used form refl in
+      omega (arith, room, as_long other is_other)) this.used;
   refused =
-      on_err_weaker result (λ refused. (form, is_form, let same = ap length refused.1 in omega (arith, same, refused.2))) this.refused;
+      on_err_weaker result (λ refused.
+      (form, is_form, let same = ap length refused.1 in omega (arith, same, refused.2))) this.refused;
   unchanged = this.unchanged;
   kept = this.kept;
 }
 
--- what has added a text has added the text that it is
+-- A call that appends a text appends each equal text.
 pub appends_same : {Z E R : Type 0} {old new : String Z} {result : Result R E} {text form : List ℕ} → text ≡ form
     → Appends (λ other. other ≡ text) old new result → Appends (λ other. other ≡ form) old new result
 appends_same {old} {new} {result} {text} {form} same this =

@@ -1,4 +1,4 @@
--- What the first version says, the current one says.
+-- What the first version of the grammar accepts and formats, the current version does in the same way.
 use Rattle.std.proofs.Common.{◌≡◌, ℕ, zero, suc, ◌-◌, ◌*◌, ◌<◌, ◌≤◌, ⊎_elim, inl, inr, Bool, true, false, List}
 use Rattle.std.proofs.Common.{length, arith, refl, sym, ap, ◌∙◌, subst}
 use Rattle.std.specs.Prelude.{◌↔◌, slice_index}
@@ -16,14 +16,15 @@ use Rattle.byte_unit_base.specs.Choice.{IsLargestOrOwn, States, Suits, IsRecover
 use Rattle.byte_unit_format.specs.Layout.{layout}
 use Rattle.byte_unit_format.specs.Forms.{IsSizeForm, places_of}
 use Rattle.byte_unit_format.specs.Adjusted.{IsAdjustedForm}
-use Rattle.byte_unit_format.specs.VersionLaws.{AcceptedTextsStay, SizeFormsStay, AppropriateUnitsStay, AdjustedFormsStay}
+use Rattle.byte_unit_format.specs.VersionLaws.{AcceptedTextsStay, SizeFormsStay, AppropriateUnitsStay}
+use Rattle.byte_unit_format.specs.VersionLaws.{AdjustedFormsStay}
 use Rattle.byte_unit_base.specs.declared.kind.Kind.{Kind}
 use Rattle.byte_unit_base.specs.declared.unit.family.Family.{Family}
 use Rattle.byte_unit_base.specs.declared.kind.Kind.TheVariants.{Byte, Bit}
 use Rattle.byte_unit_base.specs.declared.unit.unit_type.UnitType.{UnitType}
 use Rattle.byte_unit_format.specs.declared.spec.FormatSpec.{FormatSpec}
 
--- an old prefix has the letter that it had
+-- A prefix of the first version has the same letter.
 letter_stays : (power : ℕ) → 0 < power → power ≤ length old.letters
     → slice_index old.letters (power - 1) ≡ slice_index current.letters (power - 1)
 letter_stays zero some known = absurd (omega (arith, some))
@@ -37,23 +38,24 @@ letter_stays (suc (suc (suc (suc (suc (suc (suc zero))))))) some known = refl
 letter_stays (suc (suc (suc (suc (suc (suc (suc (suc zero)))))))) some known = refl
 letter_stays (suc (suc (suc (suc (suc (suc (suc (suc (suc more))))))))) some known = absurd (omega (arith, known))
 
--- so an old unit has the name that it had
-named : (power : ℕ) (binary bit : Bool) → power ≤ length old.letters
+-- A unit of the first version has the same name.
+name_of_shape_stays : (power : ℕ) (binary bit : Bool) → power ≤ length old.letters
     → name old (shape power binary bit) ≡ name current (shape power binary bit)
-named zero binary bit known = refl
-named (suc power) binary bit known = rw (letter_stays (suc power) (omega arith) known) refl
+name_of_shape_stays zero binary bit known = refl
+name_of_shape_stays (suc power) binary bit known = rw (letter_stays (suc power) (omega arith) known) refl
 
 name_stays : (unit : Shape) → unit.power ≤ length old.letters → name old unit ≡ name current unit
-name_stays unit known = named unit.power unit.binary unit.bit known
+name_stays unit known = name_of_shape_stays unit.power unit.binary unit.bit known
 
--- a letter that the old version knows is known
+-- A prefix of the first version is one of the current version.
 known_stays : (power : ℕ) → power ≤ length old.letters → power ≤ length current.letters
 known_stays power known = omega (arith, known)
 
 prefix_letter : (power c : ℕ) → IsPrefixLetter old power c → IsPrefixLetter current power c
 prefix_letter power c h = (h.0, known_stays power h.1, h.2 ∙ letter_stays power h.0 h.1)
 
-prefix_stays : (text : List ℕ) (power : ℕ) (binary : Bool) → SpellsPrefix old text power binary → SpellsPrefix current text power binary
+prefix_stays : (text : List ℕ) (power : ℕ) (binary : Bool) → SpellsPrefix old text power binary
+    → SpellsPrefix current text power binary
 prefix_stays text power binary h = record {
   letter = h.letter;
   infix_part = h.infix_part;
@@ -73,26 +75,26 @@ spelling_stays kind ignore_case text unit (inr h) = inr (record {
   count_is = h.count_is;
 })
 
-whole_stays : (text : List ℕ) (value : ℕ) → IsWholePart old text value → IsWholePart current text value
-whole_stays text value h = (h.0, h.1, omega (arith, h.2))
+whole_part_stays : (text : List ℕ) (value : ℕ) → IsWholePart old text value → IsWholePart current text value
+whole_part_stays text value h = (h.0, h.1, omega (arith, h.2))
 
 number_stays : (text : List ℕ) (number : ℕ) → IsNumberText old text number → IsNumberText current text number
-number_stays text number (inl h) = inl (h.0, whole_stays text h.0 h.1, h.2)
+number_stays text number (inl h) = inl (h.0, whole_part_stays text h.0 h.1, h.2)
 number_stays text number (inr h) = inr (record {
   whole = h.whole;
   fraction = h.fraction;
   value = h.value;
   part = h.part;
   text_is = h.text_is;
-  whole_is = whole_stays h.whole h.value h.whole_is;
+  whole_is = whole_part_stays h.whole h.value h.whole_is;
   fraction_is = h.fraction_is;
   number_is = h.number_is;
 })
 
-text_stays : (kind : Kind) (ignore_case : Bool) (text : List ℕ) (number : ℕ) (unit : Shape)
+size_text_stays : (kind : Kind) (ignore_case : Bool) (text : List ℕ) (number : ℕ) (unit : Shape)
     → IsSizeText old (flags_for kind ignore_case) text number unit
     → IsSizeText current (flags_for kind ignore_case) text number unit
-text_stays kind ignore_case text number unit h = record {
+size_text_stays kind ignore_case text number unit h = record {
   number_part = h.number_part;
   spaces = h.spaces;
   unit_part = h.unit_part;
@@ -101,44 +103,45 @@ text_stays kind ignore_case text number unit h = record {
   unit_is = spelling_stays kind ignore_case h.unit_part unit h.unit_is;
 }
 
+-- A string that the first version accepts is accepted as the same size.
 pub accepted_stays : AcceptedTextsStay
 accepted_stays kind ignore_case text size h = record {
   number = h.number;
   is_read = record {
     unit = h.is_read.unit;
-    is_size = text_stays kind ignore_case _ h.number h.is_read.unit h.is_read.is_size;
+    is_size = size_text_stays kind ignore_case _ h.number h.is_read.unit h.is_read.is_size;
     is_least = h.is_read.is_least;
   };
   below = omega (arith, h.below);
 }
 
--- a unit of the last letter is above each old size of its kind
-above_old : (kind : Kind) (binary bit : Bool) → HasKind (own_family kind) bit
+-- A unit of the new prefix is larger than each size of the first version.
+last_prefix_above_old : (kind : Kind) (binary bit : Bool) → HasKind (own_family kind) bit
     → old.size_limit * bits_in kind ≤ bits (shape (length current.letters) binary bit)
-above_old Byte true true h = absurd (let k : ⊥ = cc in k)
-above_old Byte false true h = absurd (let k : ⊥ = cc in k)
-above_old Byte true false h = omega arith
-above_old Byte false false h = omega arith
-above_old Bit true true h = omega arith
-above_old Bit false true h = omega arith
-above_old Bit true false h = absurd (let k : ⊥ = cc in k)
-above_old Bit false false h = absurd (let k : ⊥ = cc in k)
+last_prefix_above_old Byte true true h = absurd (let k : ⊥ = cc in k)
+last_prefix_above_old Byte false true h = absurd (let k : ⊥ = cc in k)
+last_prefix_above_old Byte true false h = omega arith
+last_prefix_above_old Byte false false h = omega arith
+last_prefix_above_old Bit true true h = omega arith
+last_prefix_above_old Bit false true h = omega arith
+last_prefix_above_old Bit true false h = absurd (let k : ⊥ = cc in k)
+last_prefix_above_old Bit false false h = absurd (let k : ⊥ = cc in k)
 
-below_limit : (kind : Kind) (size bound : ℕ) → size < old.size_limit → bound ≤ size * bits_in kind
+bound_below_old_limit : (kind : Kind) (size bound : ℕ) → size < old.size_limit → bound ≤ size * bits_in kind
     → ¬ (old.size_limit * bits_in kind ≤ bound)
-below_limit Byte size bound small within above = omega (arith, small, within, above)
-below_limit Bit size bound small within above = omega (arith, small, within, above)
+bound_below_old_limit Byte size bound small within above = omega (arith, small, within, above)
+bound_below_old_limit Bit size bound small within above = omega (arith, small, within, above)
 
--- so a unit that is not above an old size is an old unit
-old_unit : (kind : Kind) (size : ℕ) (unit : Shape) → size < old.size_limit → InFamily current (own_family kind) unit
+-- A unit that is at most a size of the first version is a unit of the first version.
+unit_is_old : (kind : Kind) (size : ℕ) (unit : Shape) → size < old.size_limit → InFamily current (own_family kind) unit
     → bits unit ≤ size * bits_in kind → unit.power ≤ length old.letters
-old_unit kind size unit small h not_above =
+unit_is_old kind size unit small h not_above =
     ⊎_elim
     (λ last.
     let power : unit.power ≡ length current.letters = omega (arith, last, h.prefix.known) in
-    let P : ℕ → Type 0 = λ p. old.size_limit * bits_in kind ≤ bits (shape p unit.binary unit.bit) in
-    let above = subst P (sym power) (above_old kind unit.binary unit.bit h.kind) in
-    absurd (below_limit kind size (bits unit) small not_above above))
+    let IsAboveOld : ℕ → Type 0 = λ p. old.size_limit * bits_in kind ≤ bits (shape p unit.binary unit.bit) in
+    let above = subst IsAboveOld (sym power) (last_prefix_above_old kind unit.binary unit.bit h.kind) in
+    absurd (bound_below_old_limit kind size (bits unit) small not_above above))
     (λ known. known)
     (cases_lt (length old.letters) unit.power)
 
@@ -146,49 +149,63 @@ member_stays : (family : Family) (unit : Shape) → InFamily old family unit →
 member_stays family unit h =
     record { prefix = record { some = h.prefix.some; known = known_stays unit.power h.prefix.known }; kind = h.kind }
 
--- a member that is not above an old size was one
-old_member : (kind : Kind) (size : ℕ) (unit : Shape) → size < old.size_limit → InFamily current (own_family kind) unit
+-- A member of the unit set that is at most a size of the first version was one in that version.
+member_is_old : (kind : Kind) (size : ℕ) (unit : Shape) → size < old.size_limit
+    → InFamily current (own_family kind) unit
     → bits unit ≤ size * bits_in kind → InFamily old (own_family kind) unit
-old_member kind size unit small h not_above =
-    record { prefix = record { some = h.prefix.some; known = old_unit kind size unit small h not_above }; kind = h.kind }
+member_is_old kind size unit small h not_above =
+    record {
+      prefix = record { some = h.prefix.some; known = unit_is_old kind size unit small h not_above };
+      kind = h.kind;
+    }
 
--- where the same units have a property, the largest of them or the kind's own is the same
+-- If the same units have two properties, the largest of them, or the kind's own unit, is the same.
 same_largest : (kind : Kind) (Has Had : Shape → Type 0) (unit : Shape) → ((other : Shape) → Has other → Had other)
     → ((other : Shape) → Had other → Has other) → IsLargestOrOwn kind Has unit → IsLargestOrOwn kind Had unit
 same_largest kind Has Had unit there back (inl h) =
     inl (record { has = there unit h.has; largest = λ other had. h.largest other (back other had) })
 same_largest kind Has Had unit there back (inr h) = inr ((λ other had. h.0 other (back other had)), h.1)
 
-states_stays : (kind : Kind) (size precision : ℕ) (unit : Shape) → States old (own_family kind) (size * bits_in kind) precision unit
+exact_unit_stays : (kind : Kind) (size precision : ℕ) (unit : Shape)
+    → States old (own_family kind) (size * bits_in kind) precision unit
     → States current (own_family kind) (size * bits_in kind) precision unit
-states_stays kind size precision unit h =
+exact_unit_stays kind size precision unit h =
     record { member = member_stays (own_family kind) unit h.member; not_above = h.not_above; exact = h.exact }
 
-stated_before : (kind : Kind) (size precision : ℕ) (unit : Shape) → size < old.size_limit
+exact_unit_before : (kind : Kind) (size precision : ℕ) (unit : Shape) → size < old.size_limit
     → States current (own_family kind) (size * bits_in kind) precision unit
     → States old (own_family kind) (size * bits_in kind) precision unit
-stated_before kind size precision unit small h =
-    record { member = old_member kind size unit small h.member h.not_above; not_above = h.not_above; exact = h.exact }
+exact_unit_before kind size precision unit small h =
+    record {
+      member = member_is_old kind size unit small h.member h.not_above;
+      not_above = h.not_above;
+      exact = h.exact;
+    }
 
-suits_stays : (kind : Kind) (unit_type : UnitType) (size : ℕ) (unit : Shape)
+eligible_unit_stays : (kind : Kind) (unit_type : UnitType) (size : ℕ) (unit : Shape)
     → Suits old (own_family kind) unit_type (size * bits_in kind) unit
     → Suits current (own_family kind) unit_type (size * bits_in kind) unit
-suits_stays kind unit_type size unit h =
+eligible_unit_stays kind unit_type size unit h =
     record { member = member_stays (own_family kind) unit h.member; of_type = h.of_type; not_above = h.not_above }
 
-suited_before : (kind : Kind) (unit_type : UnitType) (size : ℕ) (unit : Shape) → size < old.size_limit
+eligible_unit_before : (kind : Kind) (unit_type : UnitType) (size : ℕ) (unit : Shape) → size < old.size_limit
     → Suits current (own_family kind) unit_type (size * bits_in kind) unit
     → Suits old (own_family kind) unit_type (size * bits_in kind) unit
-suited_before kind unit_type size unit small h =
-    record { member = old_member kind size unit small h.member h.not_above; of_type = h.of_type; not_above = h.not_above }
+eligible_unit_before kind unit_type size unit small h =
+    record {
+      member = member_is_old kind size unit small h.member h.not_above;
+      of_type = h.of_type;
+      not_above = h.not_above;
+    }
 
+-- A size of the first version has the same appropriate unit.
 pub appropriate_stays : AppropriateUnitsStay
 appropriate_stays kind unit_type size unit small =
-    let there = suits_stays kind unit_type size in
-    let back = λ (other : Shape). suited_before kind unit_type size other small in
+    let there = eligible_unit_stays kind unit_type size in
+    let back = λ (other : Shape). eligible_unit_before kind unit_type size other small in
     (same_largest kind _ _ unit there back, same_largest kind _ _ unit back there)
 
--- an old size is recovered in an old unit
+-- The exact unit of a size in the first version is a unit of that version.
 recovered_old : (kind : Kind) (size precision : ℕ) (unit : Shape) → IsRecovered old kind false size precision unit
     → unit.power ≤ length old.letters
 recovered_old kind size precision unit (inl h) = h.has.member.prefix.known
@@ -197,8 +214,8 @@ recovered_old kind size precision unit (inr h) = omega (arith, ap (λ s. s.power
 recovered_stays : (kind : Kind) (size precision : ℕ) (unit : Shape) → size < old.size_limit
     → IsRecovered old kind false size precision unit ↔ IsRecovered current kind false size precision unit
 recovered_stays kind size precision unit small =
-    let there = states_stays kind size precision in
-    let back = λ (other : Shape). stated_before kind size precision other small in
+    let there = exact_unit_stays kind size precision in
+    let back = λ (other : Shape). exact_unit_before kind size precision other small in
     (same_largest kind _ _ unit there back, same_largest kind _ _ unit back there)
 
 layout_stays : (number : List ℕ) (unit : Shape) (spec : FormatSpec) → unit.power ≤ length old.letters
@@ -232,19 +249,27 @@ form_before kind size spec text small h =
       text_is = h.text_is ∙ sym (layout_stays (short h.number places_of_decimal) h.unit spec known);
     }
 
+-- A size of the first version has the same texts with a unit.
 pub forms_stay : SizeFormsStay
 forms_stay kind size spec text small = (form_stays kind size spec text small, form_before kind size spec text small)
 
-adjusted_stays : (kind : Kind) (size : ℕ) (unit : Shape) (spec : FormatSpec) (text : List ℕ) → unit.power ≤ length old.letters
+adjusted_stays : (kind : Kind) (size : ℕ) (unit : Shape) (spec : FormatSpec) (text : List ℕ)
+    → unit.power ≤ length old.letters
     → IsAdjustedForm old kind size unit spec text → IsAdjustedForm current kind size unit spec text
 adjusted_stays kind size unit spec text known h =
     record { number = h.number; number_is = h.number_is; text_is = h.text_is ∙ layout_stays h.number unit spec known }
 
-adjusted_before : (kind : Kind) (size : ℕ) (unit : Shape) (spec : FormatSpec) (text : List ℕ) → unit.power ≤ length old.letters
+adjusted_before : (kind : Kind) (size : ℕ) (unit : Shape) (spec : FormatSpec) (text : List ℕ)
+    → unit.power ≤ length old.letters
     → IsAdjustedForm current kind size unit spec text → IsAdjustedForm old kind size unit spec text
 adjusted_before kind size unit spec text known h =
-    record { number = h.number; number_is = h.number_is; text_is = h.text_is ∙ sym (layout_stays h.number unit spec known) }
+    record {
+      number = h.number;
+      number_is = h.number_is;
+      text_is = h.text_is ∙ sym (layout_stays h.number unit spec known);
+    }
 
+-- A size has the same texts in each unit of the first version.
 pub adjusted_forms_stay : AdjustedFormsStay
 adjusted_forms_stay kind size unit spec text known =
     (adjusted_stays kind size unit spec text known, adjusted_before kind size unit spec text known)

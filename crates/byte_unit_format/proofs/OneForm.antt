@@ -1,4 +1,4 @@
--- A size has one form.
+-- A size has at most one text with a unit by each spec.
 use Rattle.std.proofs.Common.{◌≡◌, ℕ, ◌*◌, inl, inr, false, List, sym, ap, ◌∙◌, subst}
 use Rattle.std.proofs.Math.Nat.{eq_of_mul-eq-mul_right}
 use Rattle.byte_unit_math.specs.Bounds.{one, places_of_decimal}
@@ -14,23 +14,26 @@ use Rattle.byte_unit_base.specs.Kinds.{bits_in}
 use Rattle.byte_unit_format.specs.Layout.{layout}
 use Rattle.byte_unit_format.specs.Forms.{places_of, IsSizeForm}
 
--- a size is recovered in one unit
-pub one_recovered :
+-- A size has at most one exact unit within a precision.
+pub recovered_unit_unique :
     (edition : Edition) (kind : Kind) (size precision : ℕ) (unit other : Shape)
     → IsRecovered edition kind false size precision unit
     → IsRecovered edition kind false size precision other → unit ≡ other
-one_recovered edition kind size precision unit other (inl largest) (inl other_largest) =
+recovered_unit_unique edition kind size precision unit other (inl largest) (inl other_largest) =
     one_largest edition (family_for kind false) (size * bits_in kind) precision unit other largest other_largest
-one_recovered edition kind size precision unit other (inl largest) (inr none) = absurd (none.0 unit largest.has)
-one_recovered edition kind size precision unit other (inr none) (inl largest) = absurd (none.0 other largest.has)
-one_recovered edition kind size precision unit other (inr own) (inr other_own) = own.1 ∙ sym other_own.1
+recovered_unit_unique edition kind size precision unit other (inl largest) (inr none) = absurd (none.0 unit largest.has)
+recovered_unit_unique edition kind size precision unit other (inr none) (inl largest) =
+    absurd (none.0 other largest.has)
+recovered_unit_unique edition kind size precision unit other (inr own) (inr other_own) = own.1 ∙ sym other_own.1
 
-pub one_form : (edition : Edition) (kind : Kind) (size : ℕ) (spec : FormatSpec) (text other : List ℕ)
+-- A size has at most one text with a unit by a spec.
+pub size_form_unique : (edition : Edition) (kind : Kind) (size : ℕ) (spec : FormatSpec) (text other : List ℕ)
     → IsSizeForm edition kind size spec text
     → IsSizeForm edition kind size spec other → text ≡ other
-one_form edition kind size spec text other form other_form =
+size_form_unique edition kind size spec text other form other_form =
     let unit =
-    one_recovered edition kind size (places_of spec.precision) form.unit other_form.unit form.is_recovered other_form.is_recovered in
+    recovered_unit_unique edition kind size (places_of spec.precision) form.unit other_form.unit form.is_recovered
+    other_form.is_recovered in
     let product : Shape → Type 0 = λ unit. other_form.number * bits unit ≡ size * bits_in kind * one in
     let number =
     let same = form.number_is ∙ sym (subst product (sym unit) other_form.number_is) in

@@ -1,5 +1,6 @@
--- What a form says is read as the size that it was made of.
-use Rattle.std.proofs.Common.{◌≡◌, ◌≢◌, ℕ, ◌+◌, ◌-◌, ◌*◌, ◌/◌, ◌^◌, ◌<◌, ◌≤◌, inl, inr, List, [], ◌∷◌, ◌++◌, length, refl, sym, ap, subst}
+-- A formatted size is read as the size.
+use Rattle.std.proofs.Common.{◌≡◌, ◌≢◌, ℕ, ◌+◌, ◌-◌, ◌*◌, ◌/◌, ◌^◌, ◌<◌, ◌≤◌, inl, inr, List, [], ◌∷◌, ◌++◌, length}
+use Rattle.std.proofs.Common.{refl, sym, ap, subst}
 use Rattle.std.proofs.Common.{◌∙◌, arith, Bool, false, append-nil, append_assoc}
 use Rattle.std.specs.Fmt.{decimal}
 use Rattle.std.specs.Str.{IsAscii}
@@ -16,7 +17,7 @@ use Rattle.byte_unit_base.specs.SizeText.{trimmed}
 use Rattle.byte_unit_math.specs.Finite.{Finite, value_of}
 use Rattle.byte_unit_math.specs.Digits.{at_places, shortened}
 use Rattle.byte_unit_math.specs.Numeral.{fraction_text, text_of}
-use Rattle.byte_unit_math.proofs.Digits.{short_of}
+use Rattle.byte_unit_math.proofs.Digits.{ShortOf-shortened}
 use Rattle.byte_unit_base.specs.declared.kind.Kind.{Kind}
 use Rattle.byte_unit_base.specs.declared.kind.Kind.TheVariants.{Byte, Bit}
 use Rattle.byte_unit_format.specs.declared.spec.FormatSpec.{FormatSpec}
@@ -34,29 +35,30 @@ use Rattle.byte_unit_format.specs.Layout.{layout, layout_padding, before_layout,
 use Rattle.byte_unit_format.specs.Plain.{spaces, plus_of, plain, plain_padding, before_plain}
 use Rattle.byte_unit_format.specs.Forms.{places_of}
 use Rattle.byte_unit_format.specs.FormLaws.{SizeFormReadsBack, PlainFormReadsBack}
-use Rattle.byte_unit_base.proofs.NumberTexts.{fixed_point_of, number_text, number_start, number_ascii, decimal_ascii, whole_text}
+use Rattle.byte_unit_base.proofs.NumberTexts.{fixed_point_of, number_text, number_start, number_ascii, decimal_ascii}
+use Rattle.byte_unit_base.proofs.NumberTexts.{whole_text}
 use Rattle.byte_unit_base.proofs.NumberTexts.{IsBounded, not_white, starts_with_digit}
 use Rattle.byte_unit_base.proofs.Trim.{StartsWithoutSpace, EndsWithoutSpace}
 use Rattle.byte_unit_format.proofs.TrimmedTexts.{trim_between, spaces_ascii}
 
--- names
-
--- a name is read as its unit, and ends in no white space
+-- The unit's name is ASCII, is read as the unit, and does not end in white space.
 pub record IsGoodName (kind : Kind) (ignore_case : Bool) (unit : Shape) : Type 0 where
   end : EndsWithoutSpace (name current unit)
   ascii : IsAscii (name current unit)
   spells : Spells current (flags_for kind ignore_case) (name current unit) unit
 
-named : (kind : Kind) (ignore_case : Bool) (unit : Shape) → IsKnown unit → SaysKind (flags_for kind ignore_case) unit.bit
+IsGoodName-known : (kind : Kind) (ignore_case : Bool) (unit : Shape) → IsKnown unit
+    → SaysKind (flags_for kind ignore_case) unit.bit
     → IsGoodName kind ignore_case unit
-named kind ignore_case unit known says = record {
+IsGoodName-known kind ignore_case unit known says = record {
   end = name_end unit;
   ascii = name_ascii unit known.known;
   spells = name_spells (flags_for kind ignore_case) unit known says;
 }
 
--- so in a kind's own family, since case counts where bits are read
-own_says : (kind : Kind) (ignore_case bit : Bool) → HasKind (own_family kind) bit → SaysKind (flags_for kind ignore_case) bit
+-- Units of the kind's own unit set are read in their kind: where bits are read, case is significant.
+own_says : (kind : Kind) (ignore_case bit : Bool) → HasKind (own_family kind) bit
+    → SaysKind (flags_for kind ignore_case) bit
 own_says Byte ignore_case bit has is_bit = absurd (let never : ⊥ = cc in never)
 own_says Bit ignore_case bit has is_bit = refl
 
@@ -69,44 +71,45 @@ multiple_name : (kind : Kind) (ignore_case : Bool) (unit : Shape) → InFamily c
 multiple_name kind ignore_case unit member =
     let known : IsKnown unit =
     record { known = member.prefix.known; alone = λ none. absurd (omega (arith, none, member.prefix.some)) } in
-    named kind ignore_case unit known (own_says kind ignore_case unit.bit member.kind)
+    IsGoodName-known kind ignore_case unit known (own_says kind ignore_case unit.bit member.kind)
 
 own_name : (kind : Kind) (ignore_case : Bool) → IsGoodName kind ignore_case (own_unit kind)
 own_name kind ignore_case =
     let known : IsKnown (own_unit kind) = record { known = omega arith; alone = λ none. refl } in
-    named kind ignore_case (own_unit kind) known (own_says kind ignore_case (counts_bits kind) (own_kind kind))
+    IsGoodName-known kind ignore_case (own_unit kind) known
+    (own_says kind ignore_case (counts_bits kind) (own_kind kind))
 
 case_counts : (kind : Kind) → (flags_for kind false).ignore_case ≡ false
 case_counts Byte = refl
 case_counts Bit = refl
 
--- the names of all units are good where case counts
-pub good_name : (kind : Kind) (unit : UnitName) → IsGoodName kind false (shape_of unit)
-good_name kind unit = named kind false (shape_of unit) (unit_known unit) (λ bit. case_counts kind)
+-- If case is significant, the name of each unit is read as the unit.
+pub IsGoodName-unit : (kind : Kind) (unit : UnitName) → IsGoodName kind false (shape_of unit)
+IsGoodName-unit kind unit = IsGoodName-known kind false (shape_of unit) (unit_known unit) (λ bit. case_counts kind)
 
--- the least size
-
-least_size : (kind : Kind) (number size : ℕ) (unit : Shape) → number * bits unit ≡ size * bits_in kind * one
+IsLeastOf-exact : (kind : Kind) (number size : ℕ) (unit : Shape) → number * bits unit ≡ size * bits_in kind * one
     → IsLeastOf kind number unit size
-least_size Byte number size unit exact = record { has = omega (arith, exact); least = λ other covers. omega (arith, exact, covers) }
-least_size Bit number size unit exact = record { has = omega (arith, exact); least = λ other covers. omega (arith, exact, covers) }
+IsLeastOf-exact Byte number size unit exact =
+    record { has = omega (arith, exact); least = λ other covers. omega (arith, exact, covers) }
+IsLeastOf-exact Bit number size unit exact =
+    record { has = omega (arith, exact); least = λ other covers. omega (arith, exact, covers) }
 
--- a layout is accepted
-
-regroup :
+layout_regrouped :
     (before behind gap : ℕ) (number unit : List ℕ)
     → (((spaces before ++ number) ++ spaces behind) ++ spaces gap) ++ unit
     ≡ spaces before ++ ((number ++ (spaces (behind + gap) ++ unit)) ++ spaces 0)
-regroup before behind gap number unit =
+layout_regrouped before behind gap number unit =
     rw (← replicate-append-replicate {A = ℕ} behind gap 32) (simp (append_assoc {A = ℕ}, append-nil {A = ℕ}))
 
 trim_layout :
-    (before between : ℕ) (number unit : List ℕ) → StartsWithoutSpace number → EndsWithoutSpace unit → IsAscii number → IsAscii unit
+    (before between : ℕ) (number unit : List ℕ) → StartsWithoutSpace number → EndsWithoutSpace unit → IsAscii number
+    → IsAscii unit
     → trimmed (spaces before ++ ((number ++ (spaces between ++ unit)) ++ spaces 0)) ≡ number ++ (spaces between ++ unit)
 trim_layout before between number unit start end number_ascii unit_ascii =
     let behind = spaces between ++ unit in
     let ascii : IsAscii (number ++ behind) =
-    IsAscii-append number behind number_ascii (IsAscii-append (spaces between) unit (spaces_ascii between) unit_ascii) in
+    IsAscii-append number behind number_ascii
+    (IsAscii-append (spaces between) unit (spaces_ascii between) unit_ascii) in
     let starts : StartsWithoutSpace (number ++ behind) =
     record {
       head = start.head;
@@ -118,16 +121,23 @@ trim_layout before between number unit start end number_ascii unit_ascii =
     ap (λ text. number ++ (spaces between ++ text)) end.text_is
     ∙ simp (append_assoc {A = ℕ} number (spaces between ++ end.front) (end.last ∷ []), append_assoc {A = ℕ}) in
     let ends : EndsWithoutSpace (number ++ behind) =
-    record { front = number ++ (spaces between ++ end.front); last = end.last; text_is = parts; last_is = end.last_is } in
+    record {
+      front = number ++ (spaces between ++ end.front);
+      last = end.last;
+      text_is = parts;
+      last_is = end.last_is;
+    } in
     trim_between before 0 (number ++ behind) starts ends ascii
 
--- without the spaces at its ends it is number, spaces and unit
+-- The text without the spaces at both ends is the number, some spaces and the unit.
 pub record TrimmedLayout (text number unit : List ℕ) : Type 0 where
   pub spaces_between : ℕ
   pub trims : trimmed text ≡ number ++ (spaces spaces_between ++ unit)
 
+-- A number formatted with its unit is, without the spaces at both ends, the number, some spaces and the unit.
 pub trimmed_layout :
-    (kind : Kind) (ignore_case : Bool) (spec : FormatSpec) (e : Finite) (unit : Shape) → IsBounded e → IsGoodName kind ignore_case unit
+    (kind : Kind) (ignore_case : Bool) (spec : FormatSpec) (e : Finite) (unit : Shape) → IsBounded e
+    → IsGoodName kind ignore_case unit
     → TrimmedLayout (layout (text_of e) (name current unit) spec) (text_of e) (name current unit)
 trimmed_layout kind ignore_case spec e unit bounded good =
     let pad = layout_padding (text_of e) (name current unit) spec in
@@ -139,92 +149,89 @@ trimmed_layout kind ignore_case spec e unit bounded good =
     record {
       spaces_between = between;
       trims =
-          ap trimmed (regroup before (pad - before) gap (text_of e) (name current unit))
+          ap trimmed (layout_regrouped before (pad - before) gap (text_of e) (name current unit))
           ∙ trim_layout before between (text_of e) (name current unit) start good.end ascii good.ascii;
     }
 
--- a decimal of no more places than are read, of a unit whose name is read, is the size
-pub record IsStatement (kind : Kind) (ignore_case : Bool) (size : ℕ) (e : Finite) (unit : Shape) : Type 0 where
+-- A decimal of at most 28 digits after the point, of a unit whose name is read, is exactly the size.
+pub record RepresentsSize (kind : Kind) (ignore_case : Bool) (size : ℕ) (e : Finite) (unit : Shape) : Type 0 where
   pub bounded : IsBounded e
   pub few : length e.digits ≤ places_of_decimal
   pub good : IsGoodName kind ignore_case unit
   pub exact : fixed_point_of e.whole e.digits * bits unit ≡ size * bits_in kind * one
   pub below : size < current.size_limit
 
+-- Such a decimal, formatted with its unit, is accepted as the size.
 pub layout_accepted :
     (kind : Kind) (ignore_case : Bool) (size : ℕ) (spec : FormatSpec) (e : Finite) (unit : Shape)
-    → IsStatement kind ignore_case size e unit
+    → RepresentsSize kind ignore_case size e unit
     → IsAccepted current kind ignore_case (layout (text_of e) (name current unit) spec) size
-layout_accepted kind ignore_case size spec e unit states =
-    let layout = trimmed_layout kind ignore_case spec e unit states.bounded states.good in
+layout_accepted kind ignore_case size spec e unit represents =
+    let layout = trimmed_layout kind ignore_case spec e unit represents.bounded represents.good in
     record {
       number = fixed_point_of e.whole e.digits;
-      is_read =
-          record {
-            unit =
-                unit;
-            is_size =
-                record {
-                  number_part =
-                      text_of e;
-                  spaces =
-                      layout.spaces_between;
-                  unit_part =
-                      name current unit;
-                  text_is =
-                      layout.trims;
-                  number_is = number_text e.whole e.digits states.bounded.small states.few states.bounded.bound;
-                  unit_is = states.good.spells;
-                };
-            is_least
-                = least_size kind (fixed_point_of e.whole e.digits) size unit states.exact;
-          };
-      below = states.below;
+      is_read = record {
+        unit = unit;
+        is_size = record {
+          number_part = text_of e;
+          spaces = layout.spaces_between;
+          unit_part = name current unit;
+          text_is = layout.trims;
+          number_is = number_text e.whole e.digits represents.bounded.small represents.few
+              represents.bounded.bound;
+          unit_is = represents.good.spells;
+        };
+        is_least = IsLeastOf-exact kind (fixed_point_of e.whole e.digits) size unit represents.exact;
+      };
+      below = represents.below;
     }
 
--- the numbers of the two forms
-
--- a number that is cut at the point and has no zeros at its end, in last places again
-pub number_scaled :
+-- A number split into whole part and digits after the point without trailing zeros, both scaled by 10^28, is the number
+-- again.
+pub fixed_point_of_digits :
     (whole part number places : ℕ) → places ≤ places_of_decimal
     → number ≡ (whole * 10 ^ places + part) * 10 ^ (places_of_decimal - places)
     → whole * one + part * 10 ^ (places_of_decimal - places) ≡ number
-number_scaled whole part number places few scaled_is =
+fixed_point_of_digits whole part number places few scaled_is =
     let split : places_of_decimal ≡ places + (places_of_decimal - places) = omega arith in
     let power : one ≡ 10 ^ places * 10 ^ (places_of_decimal - places) =
     ap (λ places. 10 ^ places) split ∙ pow-add 10 places (places_of_decimal - places) in
     let of_whole = ap (λ power. whole * power) power in
     omega (arith, of_whole, scaled_is)
 
-pub bits_bound : (kind : Kind) (size : ℕ) → size < current.size_limit → size * bits_in kind < bits_limit
-bits_bound Byte size below = omega (arith, below)
-bits_bound Bit size below = omega (arith, below)
+-- A size has fewer than 8 * 10^30 bits.
+pub bits_of_size_bound : (kind : Kind) (size : ℕ) → size < current.size_limit → size * bits_in kind < bits_limit
+bits_of_size_bound Byte size below = omega (arith, below)
+bits_of_size_bound Bit size below = omega (arith, below)
 
--- the size form
-
--- the unit's name is read as the unit
+-- The name of the exact unit of a size is read as the unit.
 recovered_name :
-    (kind : Kind) (ignore_case : Bool) (size precision : ℕ) (unit : Shape) → IsRecovered current kind false size precision unit
+    (kind : Kind) (ignore_case : Bool) (size precision : ℕ) (unit : Shape)
+    → IsRecovered current kind false size precision unit
     → IsGoodName kind ignore_case unit
-recovered_name kind ignore_case size precision unit (inl largest) = multiple_name kind ignore_case unit largest.has.member
+recovered_name kind ignore_case size precision unit (inl largest) =
+    multiple_name kind ignore_case unit largest.has.member
 recovered_name kind ignore_case size precision unit (inr own) =
     subst (IsGoodName kind ignore_case) (sym own.1) (own_name kind ignore_case)
 
 whole_bound :
-    (kind : Kind) (size number unit : ℕ) → size < current.size_limit → 1 ≤ unit → number * unit ≡ size * bits_in kind * one
+    (kind : Kind) (size number unit : ℕ) → size < current.size_limit → 1 ≤ unit
+    → number * unit ≡ size * bits_in kind * one
     → number / one < whole_limit
 whole_bound kind size number unit below some exact =
-    let few : size * bits_in kind < bits_limit = bits_bound kind size below in
+    let few : size * bits_in kind < bits_limit = bits_of_size_bound kind size below in
     let not_above : number ≤ number * unit = omega (arith, mul-le number 1 number unit (omega arith) some) in
     omega (arith, few, not_above, exact)
 
-pub size_form_back : SizeFormReadsBack
-size_form_back kind size spec ignore_case text below form =
+-- A size formatted with a unit is read as the size.
+pub size_form_reads_back : SizeFormReadsBack
+size_form_reads_back kind size spec ignore_case text below form =
     let e = shortened (at_places places_of_decimal form.number) in
-    let short = short_of form.number places_of_decimal in
+    let short = ShortOf-shortened form.number places_of_decimal in
     let bound = whole_bound kind size form.number (bits form.unit) below (some_bits form.unit) form.number_is in
-    let number = number_scaled e.whole (value_of e.digits) form.number (length e.digits) short.few short.scaled_is in
-    let states : IsStatement kind ignore_case size e form.unit =
+    let number = fixed_point_of_digits e.whole (value_of e.digits) form.number (length e.digits) short.few
+    short.scaled_is in
+    let represents : RepresentsSize kind ignore_case size e form.unit =
     record {
       bounded = record { small = short.small; bound = bound };
       few = short.few;
@@ -233,9 +240,7 @@ size_form_back kind size spec ignore_case text below form =
       below = below;
     } in
     let Accepted : List ℕ → Type 0 = λ text. IsAccepted current kind ignore_case text size in
-    subst Accepted (sym form.text_is) (layout_accepted kind ignore_case size spec e form.unit states)
-
--- the plain form
+    subst Accepted (sym form.text_is) (layout_accepted kind ignore_case size spec e form.unit represents)
 
 no_plus : (sign : Sign) → sign ≢ Plus → plus_of sign ≡ []
 no_plus Unset other = refl
@@ -264,10 +269,12 @@ trim_number before behind whole bound =
     let start = starts_with_digit (decimal whole) text.0 in
     let end = last_digit start.head start.tail (subst (AllDigits 10) start.text_is text.0.1) in
     ap trimmed (append_assoc (spaces before) (decimal whole) (spaces behind))
-    ∙ trim_between before behind (decimal whole) start (subst EndsWithoutSpace (sym start.text_is) end) (decimal_ascii whole bound)
+    ∙ trim_between before behind (decimal whole) start (subst EndsWithoutSpace (sym start.text_is) end)
+    (decimal_ascii whole bound)
 
-pub plain_back : PlainFormReadsBack
-plain_back kind size spec ignore_case below sign =
+-- A size formatted as digits without a plus sign is read as the size.
+pub plain_form_reads_back : PlainFormReadsBack
+plain_form_reads_back kind size spec ignore_case below sign =
     let bound : size < whole_limit = omega (arith, below) in
     let pad = plain_padding size spec in
     let before = before_plain spec.align pad in
@@ -277,25 +284,17 @@ plain_back kind size spec ignore_case below sign =
     let own = ap (λ bits. (size * one) * bits) (own_bits kind) in
     record {
       number = size * one;
-      is_read =
-          record {
-            unit =
-                own_unit kind;
-            is_size =
-                record {
-                  number_part =
-                      decimal size;
-                  spaces =
-                      0;
-                  unit_part =
-                      [];
-                  text_is =
-                      trims ∙ sym (append-nil (decimal size));
-                  number_is =
-                      inl (size, whole_text size bound, refl);
-                  unit_is = no_unit kind ignore_case;
-                };
-            is_least = least_size kind (size * one) size (own_unit kind) (omega (arith, own));
-          };
+      is_read = record {
+        unit = own_unit kind;
+        is_size = record {
+          number_part = decimal size;
+          spaces = 0;
+          unit_part = [];
+          text_is = trims ∙ sym (append-nil (decimal size));
+          number_is = inl (size, whole_text size bound, refl);
+          unit_is = no_unit kind ignore_case;
+        };
+        is_least = IsLeastOf-exact kind (size * one) size (own_unit kind) (omega (arith, own));
+      };
       below = below;
     }

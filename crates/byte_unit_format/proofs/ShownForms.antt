@@ -1,4 +1,4 @@
--- What `Display` writes of a size, and of a size in a unit, is its plain form.
+-- What `Display` writes of a size, and of a size in a unit, is its text by the plain spec.
 use Rattle.std.proofs.Common.{◌≡◌, ◌*◌, ◌<◌, ◌++◌, ℕ, List, true, leb, append-nil, arith, ap, sym, refl}
 use Rattle.std.specs.Prelude.{codes}
 use Rattle.std.specs.Fmt.{decimal}
@@ -8,8 +8,8 @@ use Rattle.byte_unit_math.specs.Exact.{IsExactAt}
 use Rattle.byte_unit_math.specs.Finite.{Finite, IsExpansion}
 use Rattle.byte_unit_math.specs.Digits.{expansion_of}
 use Rattle.byte_unit_math.specs.Numeral.{text_of}
-use Rattle.byte_unit_math.proofs.Expanding.{powers_end}
-use Rattle.byte_unit_math.proofs.Texts.{expansion_is, expansion_there}
+use Rattle.byte_unit_math.proofs.Expanding.{powers_are_exact}
+use Rattle.byte_unit_math.proofs.Texts.{expansion_is_by_division, expansion_of_is_expansion}
 use Rattle.byte_unit_base.specs.Shape.{bits, twos, fives}
 use Rattle.byte_unit_base.specs.Edition.{name}
 use Rattle.byte_unit_base.specs.Units.{shape_of}
@@ -21,34 +21,38 @@ use Rattle.byte_unit_base.specs.declared.unit.Unit.{Unit as UnitName}
 use Rattle.byte_unit_base.specs.declared.unit.Unit.TheVariants.{Bit}
 use Rattle.byte_unit_base.proofs.Choosing.{some_bits}
 
-below_limit : (unit : UnitName) → leb (bits (shape_of unit)) unit_limit ≡ true
-below_limit Bit = refl
-below_limit _ = refl
+unit_below_limit : (unit : UnitName) → leb (bits (shape_of unit)) unit_limit ≡ true
+unit_below_limit Bit = refl
+unit_below_limit _ = refl
 
-pub exact_in : (num : ℕ) (unit : UnitName) → IsExactAt num (bits (shape_of unit)) expansion_places
-exact_in num unit = powers_end num (twos (shape_of unit)) (fives (shape_of unit)) (leb-true _ _ (below_limit unit))
+-- A number of bits in a unit is exact with 93 digits after the point.
+pub exact_in_unit : (num : ℕ) (unit : UnitName) → IsExactAt num (bits (shape_of unit)) expansion_places
+exact_in_unit num unit = powers_are_exact num (twos (shape_of unit)) (fives (shape_of unit))
+    (leb-true _ _ (unit_below_limit unit))
 
--- the expansion of a number in a unit is found by division
-pub number_is : (num : ℕ) (unit : UnitName) (e : Finite) → IsExpansion num (bits (shape_of unit)) e
+-- The expansion of a number of bits in a unit is found by division.
+pub number_by_division : (num : ℕ) (unit : UnitName) (e : Finite) → IsExpansion num (bits (shape_of unit)) e
     → e ≡ expansion_of num (bits (shape_of unit))
-number_is num unit e expansion =
-    expansion_is num (bits (shape_of unit)) e (omega (arith, some_bits (shape_of unit))) (exact_in num unit) expansion
+number_by_division num unit e expansion =
+    expansion_is_by_division num (bits (shape_of unit)) e (omega (arith, some_bits (shape_of unit)))
+    (exact_in_unit num unit) expansion
 
--- a number and a name with one space between them
+-- By the plain spec there is one space between number and name, and no padding.
 plain_layout : (number unit : List ℕ) → number ++ codes " " ++ unit ≡ layout number unit PLAIN
 plain_layout number unit = ap (λ front. front ++ codes " " ++ unit) (sym (append-nil number))
 
--- digits with nothing around them
-pub shown_size : ShownSizeIsPlainForm
-shown_size edition kind size = sym (append-nil (decimal size))
+-- The digits of a size are its text by the plain spec.
+pub shown_size_is_plain : ShownSizeIsPlainForm
+shown_size_is_plain edition kind size = sym (append-nil (decimal size))
 
-pub shown_form : ShownAdjustedSizeIsPlainForm
-shown_form edition kind size unit =
+-- All digits of a size in a unit, a space and the unit's name are its text in that unit by the plain spec.
+pub shown_adjusted_size_is_plain : ShownAdjustedSizeIsPlainForm
+shown_adjusted_size_is_plain edition kind size unit =
     let num : ℕ = size * bits_in kind in
     let den : ℕ = bits (shape_of unit) in
     let some : 0 < den = omega (arith, some_bits (shape_of unit)) in
     record {
       number = text_of (expansion_of num den);
-      number_is = (expansion_of num den, expansion_there num den some (exact_in num unit), refl);
+      number_is = (expansion_of num den, expansion_of_is_expansion num den some (exact_in_unit num unit), refl);
       text_is = plain_layout (text_of (expansion_of num den)) (name edition (shape_of unit));
     }

@@ -1,4 +1,4 @@
--- Each size has one form: a unit that states it and the number are found, or none states it.
+-- A size has a text with a unit by each spec: it has an exact unit, or its kind's own unit is taken.
 use Rattle.std.proofs.Common.{◌≡◌, ℕ, ◌*◌, ⊎_elim, inl, inr, false, arith, refl}
 use Rattle.byte_unit_math.specs.Bounds.{one, places_of_decimal}
 use Rattle.byte_unit_math.specs.Numeral.{short}
@@ -13,9 +13,9 @@ use Rattle.byte_unit_base.proofs.SomeChoice.{choice_or_none}
 use Rattle.byte_unit_format.specs.Layout.{layout}
 use Rattle.byte_unit_format.specs.Forms.{places_of, IsSizeForm}
 use Rattle.byte_unit_format.specs.FormLaws.{SizeHasOneForm}
-use Rattle.byte_unit_format.proofs.OneForm.{one_form}
+use Rattle.byte_unit_format.proofs.OneForm.{size_form_unique}
 
-record Recovered (edition : Edition) (kind : Kind) (size precision : ℕ) : Type 0 where
+record HasRecoveredUnit (edition : Edition) (kind : Kind) (size precision : ℕ) : Type 0 where
   unit : Shape
   number : ℕ
   is_recovered : IsRecovered edition kind false size precision unit
@@ -25,8 +25,9 @@ own_number : (kind : Kind) (size : ℕ) → size * one * bits (own_unit kind) �
 own_number Byte size = omega arith
 own_number Bit size = omega arith
 
-recovered : (edition : Edition) (kind : Kind) (size precision : ℕ) → Recovered edition kind size precision
-recovered edition kind size precision =
+recovered_unit_exists : (edition : Edition) (kind : Kind) (size precision : ℕ)
+    → HasRecoveredUnit edition kind size precision
+recovered_unit_exists edition kind size precision =
     ⊎_elim
     (λ found. record {
       unit = found.0;
@@ -34,12 +35,14 @@ recovered edition kind size precision =
       is_recovered = inl found.2.unit_is;
       number_is = number_times_chosen edition (own_family kind) (size * bits_in kind) precision found.1 found.0 found.2;
     })
-    (λ none. record { unit = own_unit kind; number = size * one; is_recovered = inr (none, refl); number_is = own_number kind size })
+    (λ none. record { unit = own_unit kind; number = size * one; is_recovered = inr (none, refl);
+    number_is = own_number kind size })
     (choice_or_none edition (own_family kind) (size * bits_in kind) precision)
 
+-- A size has exactly one text with a unit by a spec.
 pub has_one_form : SizeHasOneForm
 has_one_form edition kind size spec =
-    let found = recovered edition kind size (places_of spec.precision) in
+    let found = recovered_unit_exists edition kind size (places_of spec.precision) in
     let form = layout (short found.number places_of_decimal) (name edition found.unit) spec in
     let is_form : IsSizeForm edition kind size spec form =
     record {
@@ -49,4 +52,8 @@ has_one_form edition kind size spec =
       number_is = found.number_is;
       text_is = refl;
     } in
-    record { form = form; is_form = is_form; one = λ other is_other. one_form edition kind size spec other form is_other is_form }
+    record {
+      form = form;
+      is_form = is_form;
+      one = λ other is_other. size_form_unique edition kind size spec other form is_other is_form;
+    }

@@ -1,4 +1,4 @@
--- The parts of a text make the text.
+-- The parts of a text, written one after the other, are the text.
 use Rattle.std.proofs.Common.{◌≡◌, ◌+◌, ◌-◌, ◌<◌, ℕ, List, ◌++◌, length, take, drop, replicate, append_assoc}
 use Rattle.std.proofs.Common.{arith, ap, sym, ◌∙◌, subst, min}
 use Rattle.std.specs.Fmt.{decimal}
@@ -8,7 +8,7 @@ use Rattle.std.proofs.lemmas.List.Elements.{All-replicate}
 use Rattle.std.proofs.lemmas.Str.{IsAscii-append}
 use Rattle.std.proofs.lemmas.Str.Ascii.{IsAscii-from_all}
 use Rattle.byte_unit_math.specs.Digits.{last_digits}
-use Rattle.byte_unit_math.proofs.Digits.{length_last}
+use Rattle.byte_unit_math.proofs.Digits.{length_last_digits}
 use Rattle.byte_unit_format.specs.Plain.{spaces}
 use Rattle.byte_unit_format.specs.Layout.{layout, layout_padding, before_layout, gap_of}
 use Rattle.byte_unit_format.specs.Row.{fraction_of, places_in, IsReady, row_text}
@@ -17,23 +17,26 @@ use Rattle.byte_unit_format.specs.declared.spec.FormatSpec.{FormatSpec}
 use Rattle.byte_unit_format.specs.declared.parts.TextParts.{TextParts}
 use Rattle.byte_unit_format.specs.declared.parts.Fraction.{Fraction}
 use Rattle.byte_unit_format.specs.declared.parts.Fraction.TheVariants.{Last, First}
-use Rattle.byte_unit_format.proofs.WrittenForms.{fraction_length, text_length}
+use Rattle.byte_unit_format.proofs.WrittenForms.{fraction_length, length_of_fraction_text}
 
--- the columns of the point and the digits
-pub fraction_long : (fraction : Fraction) → length (fraction_of fraction) ≡ places_in fraction + min 1 (places_in fraction)
-fraction_long (Last digits places) = text_length (last_digits places digits) ∙ omega (arith, length_last places digits)
+-- The text of the digits after the point is as long as the digits, and one more for the point if there are any.
+pub fraction_long : (fraction : Fraction)
+    → length (fraction_of fraction) ≡ places_in fraction + min 1 (places_in fraction)
+fraction_long (Last digits places) =
+    length_of_fraction_text (last_digits places digits) ∙ omega (arith, length_last_digits places digits)
 fraction_long (First e places) = fraction_length places e.now.digits
 
--- the spaces behind the number are those of the padding and those of the gap
-pub gap_behind :
+-- A run of the padding spaces and the spaces of the gap is both runs.
+pub gap_after_padding :
     (before behind gap : ℕ) (number name : List ℕ)
-    → spaces before ++ number ++ spaces (behind + gap) ++ name ≡ spaces before ++ number ++ spaces behind ++ spaces gap ++ name
-gap_behind before behind gap number name =
+    → spaces before ++ number ++ spaces (behind + gap) ++ name
+    ≡ spaces before ++ number ++ spaces behind ++ spaces gap ++ name
+gap_after_padding before behind gap number name =
     ap (λ both. both ++ name)
     (ap (λ run. spaces before ++ number ++ run) (sym (replicate-append-replicate behind gap 32))
     ∙ sym (append_assoc (spaces before ++ number) (spaces behind) (spaces gap)))
 
--- what has written this text has written a form
+-- A call that has written one text of a form has written a text of that form.
 pub writes_form :
     {IsForm : List ℕ → Type 0} {old new : List ℕ} {needed : ℕ} (text : List ℕ) → IsForm text
     → Writes (λ form. form ≡ text) old new needed → Writes IsForm old new needed
@@ -45,36 +48,43 @@ writes_form {IsForm} text is_form this = record {
   too_long = this.too_long;
 }
 
-pub layout_is :
+-- Padding, number, one run of spaces and the unit's name are the number formatted with its unit.
+pub layout_of_parts :
     (number name : List ℕ) (spec : FormatSpec) (pad before gap : ℕ) → pad ≡ layout_padding number name spec
     → before ≡ before_layout spec.align pad → gap ≡ gap_of spec.sign name
     → spaces before ++ number ++ spaces (pad - before + gap) ++ name ≡ layout number name spec
-layout_is number name spec pad before gap pad_is before_is gap_is =
-    let of : ℕ → ℕ → ℕ → List ℕ = λ pad before gap. spaces before ++ number ++ spaces (pad - before) ++ spaces gap ++ name in
-    gap_behind before (pad - before) gap number name
+layout_of_parts number name spec pad before gap pad_is before_is gap_is =
+    let of : ℕ → ℕ → ℕ → List ℕ =
+    λ pad before gap. spaces before ++ number ++ spaces (pad - before) ++ spaces gap ++ name in
+    gap_after_padding before (pad - before) gap number name
     ∙ (ap (λ gap. of pad before gap) gap_is
     ∙ (ap (λ before. of pad before (gap_of spec.sign name)) before_is
     ∙ ap (λ pad. of pad (before_layout spec.align pad) (gap_of spec.sign name)) pad_is))
 
--- text
-
+-- A run of an ASCII byte is ASCII.
 pub run_ascii : (count byte : ℕ) → byte < 128 → IsAscii (replicate count byte)
-run_ascii count byte small = IsAscii-from_all (replicate count byte) (All-replicate (λ byte. byte < 128) count byte small)
+run_ascii count byte small = IsAscii-from_all (replicate count byte)
+    (All-replicate (λ byte. byte < 128) count byte small)
 
-pub row_ascii : (row : TextParts) → IsReady row → IsAscii (decimal row.whole) → IsAscii (fraction_of row.fraction) → IsAscii (row_text row)
+-- The text of parts that can be written is ASCII.
+pub row_ascii : (row : TextParts) → IsReady row → IsAscii (decimal row.whole) → IsAscii (fraction_of row.fraction)
+    → IsAscii (row_text row)
 row_ascii row ready whole fraction =
     let number = IsAscii-append _ _ (IsAscii-append _ _ ready.1 whole) fraction in
     let front = IsAscii-append _ _ (run_ascii row.before 32 (omega arith)) number in
     IsAscii-append _ _ (IsAscii-append _ _ front (run_ascii row.after 32 (omega arith))) ready.2
 
--- what was put before the end of an array is the array from its beginning on
-pub piece_is :
+-- A text that is written up to the end of an array is the array from the text's beginning.
+pub piece_of_array :
     (room start : ℕ) (text bytes behind : List ℕ) → start + length text ≡ room → drop start bytes ≡ text ++ behind
     → take (room - start) (drop start bytes) ≡ text
-piece_is room start text bytes behind begins put =
+piece_of_array room start text bytes behind begins put =
     ap (λ l. take (room - start) l) put ∙ take_at text behind (room - start) (omega (arith, begins))
 
+-- If that text is ASCII, this part of the array is.
 pub piece_ascii :
-    (room start : ℕ) (text bytes behind : List ℕ) → start + length text ≡ room → drop start bytes ≡ text ++ behind → IsAscii text
+    (room start : ℕ) (text bytes behind : List ℕ) → start + length text ≡ room → drop start bytes ≡ text ++ behind
+    → IsAscii text
     → IsAscii (take (room - start) (drop start bytes))
-piece_ascii room start text bytes behind begins put ascii = subst IsAscii (sym (piece_is room start text bytes behind begins put)) ascii
+piece_ascii room start text bytes behind begins put ascii =
+    subst IsAscii (sym (piece_of_array room start text bytes behind begins put)) ascii

@@ -1,5 +1,6 @@
--- The trimmed text of a form.
-use Rattle.std.proofs.Common.{◌≡◌, ℕ, zero, suc, ◌<◌, List, [], ◌∷◌, ◌++◌, length, refl, sym, ap, ◌∙◌, arith, false, cond, ◌&&◌}
+-- A text without the spaces at both ends.
+use Rattle.std.proofs.Common.{◌≡◌, ℕ, zero, suc, ◌<◌, List, [], ◌∷◌, ◌++◌, length, refl, sym, ap, ◌∙◌, arith, false}
+use Rattle.std.proofs.Common.{cond, ◌&&◌}
 use Rattle.std.proofs.Common.{nat_eq}
 use Rattle.std.specs.Char.{is_whitespace}
 use Rattle.std.specs.Str.{skip_leading_whitespace, drop_trailing_whitespace, IsAscii}
@@ -24,10 +25,11 @@ drop_end [] count = drop_spaces count
 drop_end (next ∷ text) count =
     ap (λ rest. cond (is_whitespace next && nat_eq (length rest) 0) [] (next ∷ rest)) (drop_end text count)
 
+-- A run of spaces is ASCII.
 pub spaces_ascii : (count : ℕ) → IsAscii (spaces count)
 spaces_ascii count = IsAscii-from_all (spaces count) (All-replicate (λ byte. byte < 128) count 32 (omega arith))
 
--- a text with a character that isn't white space at each end, between spaces
+-- Trimming a text between spaces gives the text, if it begins and ends with no white space.
 pub trim_between :
     (before behind : ℕ) (text : List ℕ) → StartsWithoutSpace text → EndsWithoutSpace text → IsAscii text
     → trimmed (spaces before ++ (text ++ spaces behind)) ≡ text

@@ -1,4 +1,4 @@
--- The texts that the code writes are those of the definitions.
+-- What the code writes of a size is its text, and all texts of a size are equally long.
 use Rattle.std.specs.Prelude.{MatchBool}
 use Rattle.std.proofs.Common.{◌≡◌, ◌+◌, ◌-◌, ◌*◌, ◌/◌, ◌%◌, ◌^◌, ◌<◌, ◌≤◌, ⊎_elim, min, ℕ, zero, suc}
 use Rattle.std.proofs.Common.{Bool, true, false, List, [], ◌∷◌, ◌++◌, length, take}
@@ -13,10 +13,10 @@ use Rattle.byte_unit_math.specs.Exact.{IsExactAt, IsLeastPlaces}
 use Rattle.byte_unit_math.specs.Finite.{Finite, IsExpansion, value_of}
 use Rattle.byte_unit_math.specs.Numeral.{glyphs, fraction_text, text_of}
 use Rattle.byte_unit_math.specs.Padded.{padded}
-use Rattle.byte_unit_math.proofs.Digits.{length_last, small_last, value_last}
-use Rattle.byte_unit_math.proofs.Fractions.{text_none, text_some}
-use Rattle.byte_unit_math.proofs.Scales.{raise_power}
-use Rattle.byte_unit_math.proofs.Texts.{short_text, own_places}
+use Rattle.byte_unit_math.proofs.Digits.{length_last_digits, last_digits_below_ten, value_of_last_digits}
+use Rattle.byte_unit_math.proofs.Fractions.{fraction_text_none, fraction_text_some}
+use Rattle.byte_unit_math.proofs.Scales.{pow10_split}
+use Rattle.byte_unit_math.proofs.Texts.{text_of_short_numeral, padded_to_own_places}
 use Rattle.byte_unit_base.specs.Shape.{Shape, bits}
 use Rattle.byte_unit_base.specs.Edition.{current, name}
 use Rattle.byte_unit_base.specs.Choice.{IsRecovered}
@@ -26,26 +26,26 @@ use Rattle.byte_unit_base.specs.Kinds.{bits_in}
 use Rattle.byte_unit_format.specs.Layout.{layout}
 use Rattle.byte_unit_format.specs.Plain.{plain}
 use Rattle.byte_unit_format.specs.Forms.{IsSizeForm, IsText, places_of}
-use Rattle.byte_unit_format.proofs.OneForm.{one_form}
+use Rattle.byte_unit_format.proofs.OneForm.{size_form_unique}
 
-zeros : (count : ℕ) → glyphs (replicate count 0) ≡ replicate count 48
-zeros zero = refl
-zeros (suc count) = ap (λ list. 48 ∷ list) (zeros count)
+glyphs_of_zeros : (count : ℕ) → glyphs (replicate count 0) ≡ replicate count 48
+glyphs_of_zeros zero = refl
+glyphs_of_zeros (suc count) = ap (λ list. 48 ∷ list) (glyphs_of_zeros count)
 
--- a decimal with no places has no point
+-- Padded to no digits after the point, a decimal has no point.
 pub fraction_none :
-    (places : ℕ) (digits : List ℕ) → places ≡ 0 → fraction_text (take places digits ++ replicate (places - length digits) 0) ≡ []
+    (places : ℕ) (digits : List ℕ) → places ≡ 0
+    → fraction_text (take places digits ++ replicate (places - length digits) 0) ≡ []
 fraction_none zero digits none =
-    text_none (take 0 digits ++ replicate (0 - length digits) 0)
+    fraction_text_none (take 0 digits ++ replicate (0 - length digits) 0)
     (omega (
       arith,
       length-append {A = ℕ} (take 0 digits) (replicate (0 - length digits) 0),
-      length-replicate {A = ℕ}
-          (0 - length digits) 0,
+      length-replicate {A = ℕ} (0 - length digits) 0,
     ))
 fraction_none (suc places) digits none = absurd (omega (arith, none))
 
--- and one with places has a point, its digits, and zeros past those that are there
+-- Padded to some digits after the point, the fraction is a point, the digits, and zeros for the missing ones.
 pub fraction_some :
     (places : ℕ) (digits : List ℕ) → 0 < places
     → fraction_text (take places digits ++ replicate (places - length digits) 0)
@@ -59,19 +59,19 @@ fraction_some places digits positive =
       positive,
       length-append {A = ℕ} front back,
       length-replicate {A = ℕ} (places - length digits) 0,
-      length-take {A = ℕ} places
-          digits,
+      length-take {A = ℕ} places digits,
     ) in
-    text_some (front ++ back) some
+    fraction_text_some (front ++ back) some
     ∙ ap (λ text. 46 ∷ text)
-    (map-append (λ digit. 48 + digit) front back ∙ ap (λ text. glyphs front ++ text) (zeros (places - length digits)))
+    (map-append (λ digit. 48 + digit) front back
+    ∙ ap (λ text. glyphs front ++ text) (glyphs_of_zeros (places - length digits)))
 
--- a point stands before the digits where there are any
-pub text_length : (digits : List ℕ) → length (fraction_text digits) ≡ length digits + min 1 (length digits)
-text_length [] = omega arith
-text_length (d ∷ ds) = omega (arith, length-map (d ∷ ds) (λ digit. 48 + digit))
+-- The text of digits after the point is as long as the digits, and one more for the point if there are any.
+pub length_of_fraction_text : (digits : List ℕ) → length (fraction_text digits) ≡ length digits + min 1 (length digits)
+length_of_fraction_text [] = omega arith
+length_of_fraction_text (d ∷ ds) = omega (arith, length-map (d ∷ ds) (λ digit. 48 + digit))
 
--- the columns of the point and the digits
+-- The text of a fraction padded to `places` digits is as long as these, and one more for the point if there are any.
 pub fraction_length :
     (places : ℕ) (digits : List ℕ)
     → length (fraction_text (take places digits ++ replicate (places - length digits) 0)) ≡ places + min 1 places
@@ -87,13 +87,11 @@ fraction_length places digits =
     (λ none. ap length (fraction_none places digits (omega (arith, none))) ∙ omega (arith, none))
     (cases_lt 0 places)
 
--- with its own places it is the decimal
+-- Padded to its own number of digits after the point, a decimal has the same text.
 pub all_places : (e : Finite) (places : ℕ) → places ≡ length e.digits → text_of (padded places e) ≡ text_of e
-all_places e places count = ap (λ places. text_of (padded places e)) count ∙ ap text_of (own_places e)
+all_places e places count = ap (λ places. text_of (padded places e)) count ∙ ap text_of (padded_to_own_places e)
 
--- the form of a size
-
--- the parts of a decimal: its whole part, and its digits after the point, no more than it has
+-- The whole part of a number that is scaled by 10^28, and its digits after the point without trailing zeros.
 pub record AreParts (number whole digits places : ℕ) : Type 0 where
   pub few : places ≤ places_of_decimal
   pub least : IsLeastPlaces number one places
@@ -106,27 +104,30 @@ parts_expansion :
     → IsExpansion number one (record { whole = whole; digits = last_digits places digits })
 parts_expansion {number} {whole} {digits} {places} parts =
     let these = last_digits places digits in
-    let len : length these ≡ places = length_last places digits in
-    let value : value_of these ≡ digits = value_last places digits ∙ mod-eq_of_lt parts.below in
-    let product = ap (λ power. digits * power) (raise_power places places_of_decimal parts.few) in
-    let split : number ≡ whole * one + digits * 10 ^ (places_of_decimal - places) = omega (arith, parts.whole_is, parts.digits_are) in
+    let len : length these ≡ places = length_last_digits places digits in
+    let value : value_of these ≡ digits = value_of_last_digits places digits ∙ mod-eq_of_lt parts.below in
+    let product = ap (λ power. digits * power) (pow10_split places places_of_decimal parts.few) in
+    let split : number ≡ whole * one + digits * 10 ^ (places_of_decimal - places) =
+    omega (arith, parts.whole_is, parts.digits_are) in
     let times = ap (λ number. number * 10 ^ places) split in
     let Exact : ℕ → Type 0 = λ places. number * 10 ^ places ≡ (whole * 10 ^ places + value_of these) * one in
     let Least : ℕ → Type 0 = λ places. (p : ℕ) → IsExactAt number one p → places ≤ p in
     record {
-      small = small_last places digits;
+      small = last_digits_below_ten places digits;
       exact = subst Exact (sym len) (omega (arith, times, product, ap (λ value. value * one) value));
       least = subst Least (sym len) parts.least.least;
     }
 
--- all digits of the number are its form
-pub stated_form : (kind : Kind) (size : ℕ) (spec : FormatSpec) {unit : Shape} {number places whole digits count : ℕ}
+-- If the number is the size in its exact unit, these parts, formatted with the unit, are the text of the size.
+pub size_form_of_parts : (kind : Kind) (size : ℕ) (spec : FormatSpec) {unit : Shape}
+    {number places whole digits count : ℕ}
     → places ≡ places_of spec.precision
     → IsRecovered current kind false size places unit
     → number * bits unit ≡ size * bits_in kind * one
     → AreParts number whole digits count
-    → IsSizeForm current kind size spec (layout (decimal whole ++ fraction_text (last_digits count digits)) (name current unit) spec)
-stated_form kind size spec {unit} {number} {places} {whole} {digits} {count} places_are recovered product parts =
+    → IsSizeForm current kind size spec
+    (layout (decimal whole ++ fraction_text (last_digits count digits)) (name current unit) spec)
+size_form_of_parts kind size spec {unit} {number} {places} {whole} {digits} {count} places_are recovered product parts =
     let within : ℕ → Type 0 = λ places. IsRecovered current kind false size places unit in
     let e : Finite = record { whole = whole; digits = last_digits count digits } in
     record {
@@ -134,27 +135,32 @@ stated_form kind size spec {unit} {number} {places} {whole} {digits} {count} pla
       number = number;
       is_recovered = subst within places_are recovered;
       number_is = product;
-      text_is = ap (λ number. layout number (name current unit) spec) (short_text number places_of_decimal e (parts_expansion parts));
+      text_is = ap (λ number. layout number (name current unit) spec)
+          (text_of_short_numeral number places_of_decimal e (parts_expansion parts));
     }
 
--- the text of a size under the alternate form
-pub form_text :
-    (kind : Kind) (size : ℕ) (spec : FormatSpec) {text : List ℕ} → spec.alternate ≡ true → IsSizeForm current kind size spec text
+-- If the alternate form is set, the size formatted with a unit is its text.
+pub size_form_is_text :
+    (kind : Kind) (size : ℕ) (spec : FormatSpec) {text : List ℕ} → spec.alternate ≡ true
+    → IsSizeForm current kind size spec text
     → IsText current kind size spec text
-form_text kind size spec {text} alternate form =
-    let Text : Bool → Type 0 = λ alternate. MatchBool alternate (IsSizeForm current kind size spec text) (text ≡ plain size spec) in
+size_form_is_text kind size spec {text} alternate form =
+    let Text : Bool → Type 0 =
+    λ alternate. MatchBool alternate (IsSizeForm current kind size spec text) (text ≡ plain size spec) in
     subst Text (sym alternate) form
 
--- a size has one text
-one_text :
+-- A size has at most one text by a spec.
+text_unique :
     (alternate : Bool) (kind : Kind) (size : ℕ) (spec : FormatSpec) (text other : List ℕ)
     → MatchBool alternate (IsSizeForm current kind size spec text) (text ≡ plain size spec)
     → MatchBool alternate (IsSizeForm current kind size spec other) (other ≡ plain size spec) → other ≡ text
-one_text true kind size spec text other is_text is_other = one_form current kind size spec other text is_other is_text
-one_text false kind size spec text other is_text is_other = is_other ∙ sym is_text
+text_unique true kind size spec text other is_text is_other =
+    size_form_unique current kind size spec other text is_other is_text
+text_unique false kind size spec text other is_text is_other = is_other ∙ sym is_text
 
-pub text_long :
+-- All texts of a size by one spec are equally long.
+pub text_length_unique :
     (kind : Kind) (size : ℕ) (spec : FormatSpec) (text : List ℕ) → IsText current kind size spec text
     → (other : List ℕ) → IsText current kind size spec other → length other ≡ length text
-text_long kind size spec text is_text other is_other =
-    ap length (one_text spec.alternate kind size spec text other is_text is_other)
+text_length_unique kind size spec text is_text other is_other =
+    ap length (text_unique spec.alternate kind size spec text other is_text is_other)

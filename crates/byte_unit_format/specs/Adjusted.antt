@@ -13,51 +13,54 @@ use Rattle.byte_unit_format.specs.declared.spec.FormatSpec.{FormatSpec}
 use Rattle.byte_unit_base.specs.Kinds.{bits_in}
 use Rattle.byte_unit_format.specs.Layout.{layout}
 
--- num / den with all its digits
+-- The text is num / den with all its digits after the point.
 abbrev pub IsFullNumeral : ℕ → ℕ → List ℕ → Type 0
 IsFullNumeral num den text = (e : Finite) × IsExpansion num den e × (text ≡ text_of e)
 
--- rounded to these places, ties to even, and shown with all of them
+-- The text is num / den rounded to `places` digits after the point, ties to even, trailing zeros kept.
 abbrev pub IsRoundNumeral : ℕ → ℕ → ℕ → List ℕ → Type 0
 IsRoundNumeral num den places text = (q : ℕ) × IsNearest num den places Even q × (text ≡ numeral q places)
 
--- rounded to these places, ties up, and shown without zeros at the end
+-- The text is num / den rounded to `places` digits after the point, ties up, without trailing zeros.
 abbrev pub IsShortNumeral : ℕ → ℕ → ℕ → List ℕ → Type 0
 IsShortNumeral num den places text = (q : ℕ) × IsNearest num den places Up q × (text ≡ short q places)
 
--- how a number is shown: with all its digits, with exactly so many places, or with at most so many
+-- How a number is formatted: with all digits after the point, with exactly the given number, or with at most the given
+-- number.
 pub data Rule : Type 0 where
   full : Rule
   round_to : ℕ → Rule
   short_to : ℕ → Rule
 
+-- The text is num / den, formatted by the rule.
 abbrev pub IsNumeralBy : Rule → ℕ → ℕ → List ℕ → Type 0
 IsNumeralBy full num den text = IsFullNumeral num den text
 IsNumeralBy (round_to places) num den text = IsRoundNumeral num den places text
 IsNumeralBy (short_to places) num den text = IsShortNumeral num den places text
 
--- the most places of the alternate form
+-- The most digits after the point in the alternate form.
 abbrev pub alternate_places : ℕ
 alternate_places = 16
 
--- the unit has no prefix
+-- Whether the unit has no prefix, as the bit and the byte.
 abbrev pub is_single : Shape → Bool
 is_single unit = unit.power == 0
 
--- the rule for a unit, by the precision and the alternate flag: without a precision, all digits
+-- The rule for a precision, the alternate flag and a unit. All digits are written if no precision is set, and for a
+-- unit without a prefix outside the alternate form.
 abbrev pub rule_of : Option ℕ → Bool → Shape → Rule
 rule_of None alternate unit = full
 rule_of (Some precision) true unit = short_to (min precision alternate_places)
 rule_of (Some precision) false unit = if is_single unit then full else round_to precision
 
--- the size in the unit
+-- The text is the size in the unit, formatted by the precision, width, alignment and sign of the spec.
 pub record IsAdjustedForm (edition : Edition) (kind : Kind) (size : ℕ) (unit : Shape) (spec : FormatSpec)
     (text : List ℕ) : Type 0 where
   pub number : List ℕ
   pub number_is : IsNumeralBy (rule_of spec.precision spec.alternate unit) (size * bits_in kind) (bits unit) number
   pub text_is : text ≡ layout number (name edition unit) spec
 
--- what `Display` writes: the number with all its digits, a space, and the unit's name
+-- What `Display` writes of a size in a unit: the number with all its digits, a space, and the unit's name.
 abbrev pub adjusted_text : Edition → Kind → ℕ → Shape → List ℕ
 adjusted_text edition kind size unit =
     text_of (expansion_of (size * bits_in kind) (bits unit)) ++ codes " " ++ name edition unit

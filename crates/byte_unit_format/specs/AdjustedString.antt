@@ -7,11 +7,12 @@ use Rattle.byte_unit_format.specs.Adjusted.{IsAdjustedForm}
 use Rattle.byte_unit_base.specs.declared.kind.Kind.{Kind}
 use Rattle.byte_unit_format.specs.declared.spec.TheConstants.FormatSpec.{ALTERNATE}
 
--- the next size reaches the limit
+-- The size is the largest: one more is the limit.
 abbrev pub IsGreatest : Edition → ℕ → Type 0
 IsGreatest edition size = size + 1 ≡ edition.size_limit
 
--- the greatest size is stored as one that is not adjusted, and every other with all its digits in the unit
+-- The text is the size with all its digits in the unit. Only the largest size is stored in its own exact unit, since
+-- its digits in another could not be read again.
 abbrev pub IsAdjustedString : Edition → Kind → ℕ → Shape → List ℕ → Type 0
 IsAdjustedString edition kind size unit text =
     IsGreatest edition size × IsSizeForm edition kind size ALTERNATE text

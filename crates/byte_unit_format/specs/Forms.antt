@@ -1,4 +1,4 @@
--- The texts of a size.
+-- The text of a size, with a unit or as digits.
 use Rattle.std.specs.Prelude.{◌≡◌, ℕ, ◌*◌, MatchBool, false, List, Option, None, Some}
 use Rattle.byte_unit_math.specs.Bounds.{one, places_of_decimal}
 use Rattle.byte_unit_math.specs.Numeral.{short}
@@ -11,35 +11,35 @@ use Rattle.byte_unit_base.specs.Kinds.{bits_in}
 use Rattle.byte_unit_format.specs.Layout.{layout}
 use Rattle.byte_unit_format.specs.Plain.{plain}
 
--- the places that a size may take where no precision is set
+-- The digits after the point that are allowed if no precision is set.
 abbrev pub default_precision : ℕ
 default_precision = 3
 
--- the places that it may take
+-- The digits after the point that are allowed: the precision, or 3 if none is set.
 abbrev pub places_of : Option ℕ → ℕ
 places_of None = default_precision
 places_of (Some precision) = precision
 
--- the size in the largest unit of its own family, not above it, that states it exactly within the precision, or else in
--- its kind's own unit, without zeros at the end
+-- The text is the size in a unit, without trailing zeros: in the largest unit of its own unit set that is at most the
+-- size and in which it is exact within the precision, or in bytes or bits themselves if there is none.
 pub record IsSizeForm (edition : Edition) (kind : Kind) (size : ℕ) (spec : FormatSpec) (text : List ℕ) : Type 0 where
   pub unit : Shape
-  -- in last places of a decimal
+  -- the number of units, scaled by 10^28
   pub number : ℕ
   pub is_recovered : IsRecovered edition kind false size (places_of spec.precision) unit
   pub number_is : number * bits unit ≡ size * bits_in kind * one
   pub text_is : text ≡ layout (short number places_of_decimal) (name edition unit) spec
 
--- the size with a unit where the alternate form is asked for, and else its digits
+-- The text of a size by a spec: with a unit if the alternate form is set, and else as digits.
 abbrev pub IsText : Edition → Kind → ℕ → FormatSpec → List ℕ → Type 0
 IsText edition kind size spec text =
     MatchBool spec.alternate (IsSizeForm edition kind size spec text) (text ≡ plain size spec)
 
--- the text of a size for which no width is set has at most this many bytes: 27 digits, the point, 5 places, a space and
--- `KiB`, as in 976562499999999999999999999.96875 KiB
+-- The most bytes of the text of a size if no width is set: 27 digits, the point, 5 digits, a space and `KiB`, as in
+-- 976562499999999999999999999.96875 KiB.
 abbrev pub narrow_text : ℕ
 narrow_text = 37
 
--- texts are shorter than this many bytes
+-- A text is shorter than this number of bytes, since width and precision are 16-bit numbers.
 abbrev pub text_limit : ℕ
 text_limit = 65600

@@ -1,4 +1,4 @@
--- The plain form of a whole number: its digits, without a unit.
+-- A size formatted as digits, without a unit.
 use Rattle.std.specs.Prelude.{ℕ, ◌-◌, ◌/◌, List, [], ◌++◌, length, replicate, codes, Option, None, Some}
 use Rattle.std.specs.Fmt.{decimal}
 use Rattle.byte_unit_format.specs.declared.spec.Sign.{Sign}
@@ -7,34 +7,38 @@ use Rattle.byte_unit_format.specs.declared.spec.Align.{Align}
 use Rattle.byte_unit_format.specs.declared.spec.Align.TheVariants.{Left, Center, Right}
 use Rattle.byte_unit_format.specs.declared.spec.FormatSpec.{FormatSpec}
 
--- the plus sign, where it is asked for
+-- The plus sign if it is set, and else nothing.
 abbrev pub plus_of : Sign → List ℕ
 plus_of Unset = []
 plus_of Plus = codes "+"
 plus_of Minus = []
 
+-- The decimal digits of a size, after its sign.
 abbrev pub signed_digits : ℕ → FormatSpec → List ℕ
 signed_digits size spec = plus_of spec.sign ++ decimal size
 
--- how many spaces make a text of this length as wide as is asked for
+-- The number of spaces that a text of this length lacks of the width; 0 if no width is set.
 abbrev pub missing : Option ℕ → ℕ → ℕ
 missing None len = 0
 missing (Some width) len = width - len
 
+-- A run of spaces.
 abbrev pub spaces : ℕ → List ℕ
 spaces n = replicate n 32
 
--- how many of the spaces stand before the number
+-- The number of padding spaces before the digits: all by default, as Rust's numbers are aligned to the right, and half
+-- of them, rounded down, if they are centered.
 abbrev pub before_plain : Option Align → ℕ → ℕ
 before_plain None pad = pad
 before_plain (Some Left) pad = 0
 before_plain (Some Center) pad = pad / 2
 before_plain (Some Right) pad = pad
 
+-- The number of padding spaces of a size formatted as digits.
 abbrev pub plain_padding : ℕ → FormatSpec → ℕ
 plain_padding size spec = missing spec.width (length (signed_digits size spec))
 
--- the digits with their sign, padded with spaces
+-- The digits of a size with their sign, padded to the width.
 abbrev pub plain : ℕ → FormatSpec → List ℕ
 plain size spec =
     let pad = plain_padding size spec in

@@ -1,4 +1,4 @@
--- Private: the parts of a text in their order, which the writing code hands on.
+-- Private: the parts of a text in their order, which are passed to the writing code.
 use Rattle.std.specs.Prelude.{ℕ, ◌^◌, ◌<◌, ◌≤◌, List, ◌++◌, IsAscii}
 use Rattle.std.specs.Fmt.{decimal}
 use Rattle.byte_unit_math.specs.Bounds.{places_of_decimal}
@@ -10,26 +10,30 @@ use Rattle.byte_unit_format.specs.declared.parts.Fraction.{Fraction}
 use Rattle.byte_unit_format.specs.declared.parts.Fraction.TheVariants.{Last, First}
 use Rattle.byte_unit_format.specs.declared.parts.TextParts.{TextParts}
 
--- the digits after the point
+-- The text of the point and the digits after it: the last digits of a number, or the first digits of a decimal.
 abbrev pub fraction_of : Fraction → List ℕ
 fraction_of (Last digits places) = fraction_text (last_digits places digits)
 fraction_of (First e places) = fraction_text (padded places e.now).digits
 
+-- The number of digits after the point.
 abbrev pub places_in : Fraction → ℕ
 places_in (Last digits places) = places
 places_in (First e places) = places
 
--- no more places than a decimal has, and no more digits than places
+-- Digits that are held as one number are at most 28, and the number has no more digits than that. There is no condition
+-- on those of a decimal.
 abbrev pub IsShort : Fraction → Type 0
 IsShort (Last digits places) = (places ≤ places_of_decimal) × (digits < 10 ^ places)
 IsShort (First e places) = Unit {0}
 
+-- The text of the number: sign, whole part and digits after the point.
 abbrev pub number_of : TextParts → List ℕ
 number_of row = row.sign.now ++ decimal row.whole ++ fraction_of row.fraction
 
+-- The text of all parts: spaces, the number, spaces, and the unit's name.
 abbrev pub row_text : TextParts → List ℕ
 row_text row = spaces row.before ++ number_of row ++ spaces row.after ++ row.name.now
 
--- a row that may be written: its fraction is short, and its sign and name are ASCII
+-- The parts can be written: the fraction is within its bounds, and sign and name are ASCII.
 abbrev pub IsReady : TextParts → Type 0
 IsReady row = IsShort row.fraction × IsAscii row.sign.now × IsAscii row.name.now

@@ -1,76 +1,82 @@
--- How many decimal digits a number has, by its binary ones.
+-- The number of decimal digits of a number, computed from its number of bits.
 use Rattle.std.specs.Fmt.{decimal}
 use Rattle.std.specs.Int.{w128, leading_zeros}
-use Rattle.std.proofs.Common.{◌≡◌, ℕ, zero, suc, Bool, true, ◌&&◌, leb, ◌+◌, ◌-◌, ◌*◌, ◌/◌, ◌^◌, ◌<◌, ◌≤◌, ⊎_elim, length}
+use Rattle.std.proofs.Common.{◌≡◌, ℕ, zero, suc, Bool, true, ◌&&◌, leb, ◌+◌, ◌-◌, ◌*◌, ◌/◌, ◌^◌, ◌<◌, ◌≤◌, ⊎_elim}
+use Rattle.std.proofs.Common.{length}
 use Rattle.std.proofs.Common.{arith, ap, sym, subst, refl, ◌∙◌}
 use Rattle.std.proofs.Math.Nat.{pow-succ', one-le-pow}
 use Rattle.std.proofs.lemmas.Bool.{and_parts, cases_lt, leb-true}
 use Rattle.std.proofs.lemmas.Nat.{leading_top}
-use Rattle.byte_unit_math.proofs.WrittenDigits.{length_one, length_more}
+use Rattle.byte_unit_math.proofs.WrittenDigits.{decimal_length_one, decimal_length_step}
 
--- a number of so many binary digits has so many decimal ones, or one more
-abbrev fewest : ℕ → ℕ
-fewest binary = binary * 1233 / 4096
+-- A number of this many bits has the estimated number of decimal digits, or one more.
+abbrev digits_estimate : ℕ → ℕ
+digits_estimate binary = binary * 1233 / 4096
 
-abbrev holds_below : ℕ → Bool
-holds_below zero = true
-holds_below (suc j) =
-    leb (10 ^ (fewest (suc j) - 1)) (2 ^ j) && (leb (2 ^ suc j) (10 ^ suc (fewest (suc j))) && holds_below j)
+abbrev estimate_holds_below : ℕ → Bool
+estimate_holds_below zero = true
+estimate_holds_below (suc j) =
+    leb (10 ^ (digits_estimate (suc j) - 1)) (2 ^ j) &&
+    (leb (2 ^ suc j) (10 ^ suc (digits_estimate (suc j))) && estimate_holds_below j)
 
-holds_for_all : holds_below 128 ≡ true
-holds_for_all = refl
+estimate_holds_below_128 : estimate_holds_below 128 ≡ true
+estimate_holds_below_128 = refl
 
 IsBetween : ℕ → Type 0
-IsBetween j = (10 ^ (fewest (suc j) - 1) ≤ 2 ^ j) × (2 ^ suc j ≤ 10 ^ suc (fewest (suc j)))
+IsBetween j = (10 ^ (digits_estimate (suc j) - 1) ≤ 2 ^ j) × (2 ^ suc j ≤ 10 ^ suc (digits_estimate (suc j)))
 
-is_between : (count j : ℕ) → holds_below count ≡ true → j < count → IsBetween j
+is_between : (count j : ℕ) → estimate_holds_below count ≡ true → j < count → IsBetween j
 unfolding IsBetween
 is_between zero j h few = absurd (omega (arith, few))
 is_between (suc count) j h few =
-    let low = leb (10 ^ (fewest (suc count) - 1)) (2 ^ count) in
-    let high = leb (2 ^ suc count) (10 ^ suc (fewest (suc count))) in
-    let parts = and_parts low (high && holds_below count) h in
-    let others = and_parts high (holds_below count) parts.1 in
+    let low = leb (10 ^ (digits_estimate (suc count) - 1)) (2 ^ count) in
+    let high = leb (2 ^ suc count) (10 ^ suc (digits_estimate (suc count))) in
+    let parts = and_parts low (high && estimate_holds_below count) h in
+    let others = and_parts high (estimate_holds_below count) parts.1 in
     ⊎_elim (λ below. is_between count j others.1 below)
     (λ last.
     let same : count ≡ j = omega (arith, few, last) in
     subst IsBetween same (leb-true _ _ parts.0, leb-true _ _ others.0))
     (cases_lt j count)
 
--- between two powers of ten
-length_between : (k n : ℕ) → 10 ^ k ≤ n → n < 10 ^ suc k → n < 2 ^ 128 → length (decimal n) ≡ suc k
-length_between zero n low high small = length_one n (omega (arith, high))
-length_between (suc k) n low high small =
+-- A number between 10^k and 10^(k + 1) has k + 1 digits.
+decimal_length_between : (k n : ℕ) → 10 ^ k ≤ n → n < 10 ^ suc k → n < 2 ^ 128 → length (decimal n) ≡ suc k
+decimal_length_between zero n low high small = decimal_length_one n (omega (arith, high))
+decimal_length_between (suc k) n low high small =
     let this : 10 ^ suc k ≡ 10 * 10 ^ k = pow-succ' 10 k in
     let next : 10 ^ suc (suc k) ≡ 10 * 10 ^ suc k = pow-succ' 10 (suc k) in
     let wide : 10 ≤ n = omega (arith, low, this, one-le-pow k 10 (omega arith)) in
-    let rest = length_between k (n / 10) (omega (arith, low, this)) (omega (arith, high, next)) (omega (arith, small)) in
-    length_more n wide small ∙ omega (arith, rest)
+    let rest = decimal_length_between k (n / 10) (omega (arith, low, this)) (omega (arith, high, next))
+    (omega (arith, small)) in
+    decimal_length_step n wide small ∙ omega (arith, rest)
 
+-- The number has `few` digits if it is below 10^few, and else one more.
 pub record LengthBy (n few : ℕ) : Type 0 where
   pub fewer : n < 10 ^ few → length (decimal n) ≡ few
   pub more : 10 ^ few ≤ n → length (decimal n) ≡ few + 1
 
-pub length_by : (n few : ℕ) → 10 ≤ n → n < 2 ^ 128 → few ≡ (128 - leading_zeros w128 n) * 1233 / 4096 → LengthBy n few
+-- The number of bits of a number times 1233 / 4096 is its number of digits, or one less.
+pub LengthBy-leading_zeros : (n few : ℕ) → 10 ≤ n → n < 2 ^ 128 → few ≡ (128 - leading_zeros w128 n) * 1233 / 4096
+    → LengthBy n few
 unfolding IsBetween
-length_by n few wide small count =
+LengthBy-leading_zeros n few wide small count =
     let top = leading_top 128 n (omega (arith, wide)) small in
     let j = top.0 in
     let binary : 128 - leading_zeros w128 n ≡ suc j = omega (arith, top.1) in
-    let same : few ≡ fewest (suc j) = count ∙ ap fewest binary in
-    let between = is_between 128 j holds_for_all (omega (arith, top.1)) in
-    let P : ℕ → Type 0 = λ m. (10 ^ (m - 1) ≤ 2 ^ j) × (2 ^ suc j ≤ 10 ^ suc m) in
-    let bounds : P few = subst P (sym same) between in
+    let same : few ≡ digits_estimate (suc j) = count ∙ ap digits_estimate binary in
+    let between = is_between 128 j estimate_holds_below_128 (omega (arith, top.1)) in
+    let Between : ℕ → Type 0 = λ m. (10 ^ (m - 1) ≤ 2 ^ j) × (2 ^ suc j ≤ 10 ^ suc m) in
+    let bounds : Between few = subst Between (sym same) between in
     record {
       fewer = λ below.
           ⊎_elim (λ some.
           let back : few ≡ suc (few - 1) = omega (arith, some) in
           let high : n < 10 ^ suc (few - 1) = subst (λ m. n < 10 ^ m) back below in
-          length_between (few - 1) n (omega (arith, bounds.0, top.2)) high small ∙ sym back)
+          decimal_length_between (few - 1) n (omega (arith, bounds.0, top.2)) high small ∙ sym back)
           (λ none.
           let nothing : few ≡ 0 = omega (arith, none) in
           let one : n < 10 ^ 0 = subst (λ m. n < 10 ^ m) nothing below in
           absurd (omega (arith, one, wide)))
           (cases_lt 0 few);
-      more = λ reached. length_between few n reached (omega (arith, bounds.1, top.3)) small ∙ omega arith;
+      more = λ reached. decimal_length_between few n reached (omega (arith, bounds.1, top.3)) small ∙ omega arith;
     }

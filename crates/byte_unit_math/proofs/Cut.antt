@@ -1,5 +1,6 @@
--- Decimals that are cut after some digits, and which of two the nearest is.
-use Rattle.std.proofs.Common.{◌≢◌, ◌≡◌, ◌+◌, ◌-◌, ◌*◌, ◌^◌, ◌%◌, ◌<◌, ◌≤◌, ⊎_elim, ℕ, suc, List, [], ◌∷◌, ◌++◌, length, take, drop}
+-- A decimal cut off after some digits, and whether it or the next one is nearest.
+use Rattle.std.proofs.Common.{◌≢◌, ◌≡◌, ◌+◌, ◌-◌, ◌*◌, ◌^◌, ◌%◌, ◌<◌, ◌≤◌, ⊎_elim, ℕ, suc, List, [], ◌∷◌, ◌++◌, length}
+use Rattle.std.proofs.Common.{take, drop}
 use Rattle.std.proofs.Common.{get_or, arith, ap, sym, subst, ◌∙◌, add-one, length-take-le, take-append-drop}
 use Rattle.std.proofs.Common.{length-drop, drop-cons}
 use Rattle.std.specs.List.{All}
@@ -16,28 +17,33 @@ use Rattle.byte_unit_math.specs.declared.expansion.Ties.{Ties}
 use Rattle.byte_unit_math.specs.declared.expansion.Ties.TheVariants.{Even, Up}
 use Rattle.byte_unit_math.specs.declared.expansion.Expansion.TheInside.{Inside}
 use Rattle.byte_unit_math.specs.Stored.{view_of, IsStored}
-use Rattle.byte_unit_math.proofs.Digits.{ten, value_after, value_cons}
+use Rattle.byte_unit_math.proofs.Digits.{one_le_pow10, fold_digits_from, value_cons}
 use Rattle.std.specs.Bool.{MatchBool}
 use Rattle.std.proofs.Common.{Bool, true, false, ltb, nat_eq}
 use Rattle.std.proofs.lemmas.Bool.Decides.{nat_tests}
-use Rattle.byte_unit_math.proofs.Nearest.{LiesAbove, nearest_down, nearest_up, tie_up, tie_even_next, tie_even_this}
-use Rattle.byte_unit_math.proofs.Expanding.{expansion_of_digits, last_value}
-use Rattle.byte_unit_math.proofs.Scales.{raise_power}
+use Rattle.byte_unit_math.proofs.Nearest.{LiesAbove, nearest_down, nearest_up, tie_up_next, tie_even_next}
+use Rattle.byte_unit_math.proofs.Nearest.{tie_even_this}
+use Rattle.byte_unit_math.proofs.Expanding.{expansion_of_digits, value_by_last_digit}
+use Rattle.byte_unit_math.proofs.Scales.{pow10_split}
 
-pub small_value : (ds : List ℕ) → All (λ d. d < 10) ds → value_of ds < 10 ^ length ds
-small_value [] h = omega arith
-small_value (d ∷ ds) h =
+-- Digits represent less than the power of ten of their number.
+pub value_below_power : (ds : List ℕ) → All (λ d. d < 10) ds → value_of ds < 10 ^ length ds
+value_below_power [] h = omega arith
+value_below_power (d ∷ ds) h =
     let m =
     mul-le-mul_right {m = d + 1} {n = 10} (10 ^ length ds)
     (let k : d < 10 = All-get_or (λ d. d < 10) (d ∷ ds) 0 0 (omega arith) h in omega (arith, k)) in
-    rw (pow-succ' 10 (length ds)) (omega (arith, m, value_cons d ds, small_value ds (All-drop (λ d. d < 10) 1 (d ∷ ds) h)))
+    rw (pow-succ' 10 (length ds))
+    (omega (arith, m, value_cons d ds, value_below_power ds (All-drop (λ d. d < 10) 1 (d ∷ ds) h)))
 
--- a number cut after p digits
-value_parts : (p : ℕ) (ds : List ℕ) → value_of ds ≡ value_of (take p ds) * 10 ^ length (drop p ds) + value_of (drop p ds)
+-- Digits cut in two represent the first part times a power of ten, and the second part.
+value_parts : (p : ℕ) (ds : List ℕ)
+    → value_of ds ≡ value_of (take p ds) * 10 ^ length (drop p ds) + value_of (drop p ds)
 value_parts p ds =
     ap value_of (sym (take-append-drop p ds))
-    ∙ (fold-append (λ n d. n * 10 + d) 0 (take p ds) (drop p ds) ∙ value_after (value_of (take p ds)) (drop p ds))
+    ∙ (fold-append (λ n d. n * 10 + d) 0 (take p ds) (drop p ds) ∙ fold_digits_from (value_of (take p ds)) (drop p ds))
 
+-- A decimal is the decimal cut off after p digits, and the digits that are cut off.
 pub cut_split :
     (e : Finite) (p : ℕ) → p ≤ length e.digits
     → scaled e * 10 ^ p ≡ scaled (cut_after p e) * 10 ^ length e.digits + value_of (drop p e.digits) * 10 ^ p
@@ -45,174 +51,199 @@ cut_split e p h =
     let ds = e.digits in
     let len : length (take p ds) ≡ p = length-take-le p ds h in
     let total : length ds ≡ p + length (drop p ds) = omega (arith, length-drop p ds, h) in
-    let power : 10 ^ length ds ≡ 10 ^ p * 10 ^ length (drop p ds) = ap (λ n. 10 ^ n) total ∙ pow-add 10 p (length (drop p ds)) in
+    let power : 10 ^ length ds ≡ 10 ^ p * 10 ^ length (drop p ds) =
+    ap (λ n. 10 ^ n) total ∙ pow-add 10 p (length (drop p ds)) in
     let a = ap (λ n. n * 10 ^ p) (value_parts p ds) in
     let b = ap (λ n. value_of (take p ds) * n) power in
     rw len (omega (arith, a, b))
 
+-- A decimal has at most 93 digits after the point, each below ten, and the last is not zero.
 pub record IsShown (e : Finite) : Type 0 where
   pub few : length e.digits ≤ expansion_places
   pub small : All (λ d. d < 10) e.digits
   pub last : 0 < length e.digits → 0 < get_or e.digits (length e.digits - 1) 0
 
-pub shown : (i : Inside) → IsStored i → IsShown (view_of i)
-shown i h =
+pub IsShown-stored : (i : Inside) → IsStored i → IsShown (view_of i)
+IsShown-stored i h =
     let ds = i.digits in
     let p = i.places in
     let len : length (take p ds) ≡ p = length-take-le p ds (omega (arith, h.few, h.size)) in
-    let P : ℕ → Type 0 = λ n. 0 < n → 0 < get_or (take p ds) (n - 1) 0 in
+    let LastIsPositive : ℕ → Type 0 = λ n. 0 < n → 0 < get_or (take p ds) (n - 1) 0 in
     record {
       few = omega (arith, len, h.few);
       small = All-take (λ d. d < 10) p ds h.small;
-      last = subst P (sym len) (λ k. subst (λ n. 0 < n) (sym (get_or-take p ds (p - 1) 0 (omega (arith, k)))) (h.last k));
+      last = subst LastIsPositive (sym len)
+          (λ k. subst (λ n. 0 < n) (sym (get_or-take p ds (p - 1) 0 (omega (arith, k)))) (h.last k));
     }
 
--- what is cut off, against one half
+-- The digits that are cut off, compared with one half.
 
 module _ (e : Finite) (p : ℕ) (h : IsShown e) (l : p < length e.digits) where
-  abbrev ds : List ℕ
-  ds = e.digits
+  abbrev all_digits : List ℕ
+  all_digits = e.digits
 
-  -- all that is cut off
+  -- The digits that are cut off, as a number.
   abbrev cut_value : ℕ
-  cut_value = value_of (drop p ds)
+  cut_value = value_of (drop p all_digits)
 
-  -- what stands behind the first digit of it
-  abbrev behind_power : ℕ
-  behind_power = 10 ^ length (drop (p + 1) ds)
+  -- The digits after the first one that is cut off: their power of ten, and the digits as a number.
+  abbrev rest_power : ℕ
+  rest_power = 10 ^ length (drop (p + 1) all_digits)
 
-  abbrev behind_value : ℕ
-  behind_value = value_of (drop (p + 1) ds)
+  abbrev rest_value : ℕ
+  rest_value = value_of (drop (p + 1) all_digits)
 
-  cut_value_is : cut_value ≡ get_or ds p 0 * behind_power + behind_value
+  cut_value_is : cut_value ≡ get_or all_digits p 0 * rest_power + rest_value
   cut_value_is =
-      ap value_of (drop-cons ds p 0 l)
-      ∙ (value_cons (get_or ds p 0) (drop (suc p) ds)
-      ∙ ap (λ n. get_or ds p 0 * 10 ^ length (drop n ds) + value_of (drop n ds)) (sym (add-one p)))
+      ap value_of (drop-cons all_digits p 0 l)
+      ∙ (value_cons (get_or all_digits p 0) (drop (suc p) all_digits)
+      ∙ ap (λ n. get_or all_digits p 0 * 10 ^ length (drop n all_digits) + value_of (drop n all_digits))
+      (sym (add-one p)))
 
-  behind_small : behind_value < behind_power
-  behind_small = small_value (drop (p + 1) ds) (All-drop (λ d. d < 10) (p + 1) ds h.small)
+  rest_value_small : rest_value < rest_power
+  rest_value_small = value_below_power (drop (p + 1) all_digits) (All-drop (λ d. d < 10) (p + 1) all_digits h.small)
 
-  power_is : 10 ^ length ds ≡ 10 ^ p * (10 * behind_power)
+  power_is : 10 ^ length all_digits ≡ 10 ^ p * (10 * rest_power)
   power_is =
-      let total : length ds ≡ p + (length (drop (p + 1) ds) + 1) = omega (arith, length-drop (p + 1) ds, l) in
+      let total : length all_digits ≡ p + (length (drop (p + 1) all_digits) + 1) =
+      omega (arith, length-drop (p + 1) all_digits, l) in
       ap (λ n. 10 ^ n) total
-      ∙ (pow-add 10 p (length (drop (p + 1) ds) + 1)
-      ∙ ap (λ n. 10 ^ p * n) (ap (λ n. 10 ^ n) (add-one (length (drop (p + 1) ds))) ∙ pow-succ' 10 (length (drop (p + 1) ds))))
+      ∙ (pow-add 10 p (length (drop (p + 1) all_digits) + 1)
+      ∙ ap (λ n. 10 ^ p * n) (ap (λ n. 10 ^ n) (add-one (length (drop (p + 1) all_digits)))
+      ∙ pow-succ' 10 (length (drop (p + 1) all_digits))))
 
-  cut_parts : scaled e * 10 ^ p ≡ scaled (cut_after p e) * 10 ^ length ds + cut_value * 10 ^ p
+  cut_parts : scaled e * 10 ^ p ≡ scaled (cut_after p e) * 10 ^ length all_digits + cut_value * 10 ^ p
   cut_parts = cut_split e p (omega (arith, l))
 
-  cut_below : cut_value < 10 * behind_power
+  cut_below : cut_value < 10 * rest_power
   cut_below =
       let digit =
-      mul-le-mul_right {m = get_or ds p 0} {n = 9} behind_power
-      (let k : get_or ds p 0 < 10 = All-get_or (λ d. d < 10) ds p 0 l h.small in omega (arith, k)) in
-      omega (arith, digit, cut_value_is, behind_small)
+      mul-le-mul_right {m = get_or all_digits p 0} {n = 9} rest_power
+      (let k : get_or all_digits p 0 < 10 = All-get_or (λ d. d < 10) all_digits p 0 l h.small in omega (arith, k)) in
+      omega (arith, digit, cut_value_is, rest_value_small)
 
-  cut_below_unit : cut_value * 10 ^ p < 10 ^ length ds
+  cut_below_unit : cut_value * 10 ^ p < 10 ^ length all_digits
   cut_below_unit =
-      let product = mul-le-mul_right {m = cut_value + 1} {n = 10 * behind_power} (10 ^ p) (omega (arith, cut_below)) in
-      omega (arith, product, power_is, ten p)
+      let product = mul-le-mul_right {m = cut_value + 1} {n = 10 * rest_power} (10 ^ p) (omega (arith, cut_below)) in
+      omega (arith, product, power_is, one_le_pow10 p)
 
-  pub cut_lies : LiesAbove (scaled e) (10 ^ length ds) p (scaled (cut_after p e)) (cut_value * 10 ^ p)
+  pub cut_lies : LiesAbove (scaled e) (10 ^ length all_digits) p (scaled (cut_after p e)) (cut_value * 10 ^ p)
   cut_lies = record { split = cut_parts; below = cut_below_unit }
 
-  pub below_half : get_or ds p 0 < 5 → 2 * (cut_value * 10 ^ p) < 10 ^ length ds
+  pub below_half : get_or all_digits p 0 < 5 → 2 * (cut_value * 10 ^ p) < 10 ^ length all_digits
   below_half small =
-      let digit = mul-le-mul_right {m = get_or ds p 0} {n = 4} behind_power (omega (arith, small)) in
+      let digit = mul-le-mul_right {m = get_or all_digits p 0} {n = 4} rest_power (omega (arith, small)) in
       let product =
-      mul-le-mul_right {m = 2 * cut_value + 1} {n = 10 * behind_power} (10 ^ p) (omega (arith, digit, cut_value_is, behind_small)) in
-      omega (arith, product, power_is, ten p)
+      mul-le-mul_right {m = 2 * cut_value + 1} {n = 10 * rest_power} (10 ^ p)
+      (omega (arith, digit, cut_value_is, rest_value_small)) in
+      omega (arith, product, power_is, one_le_pow10 p)
 
-  above_half_from : 10 * behind_power < 2 * cut_value → 10 ^ length ds < 2 * (cut_value * 10 ^ p)
+  above_half_from : 10 * rest_power < 2 * cut_value → 10 ^ length all_digits < 2 * (cut_value * 10 ^ p)
   above_half_from above =
-      let product = mul-le-mul_right {m = 10 * behind_power + 1} {n = 2 * cut_value} (10 ^ p) (omega (arith, above)) in
-      omega (arith, product, power_is, ten p)
+      let product = mul-le-mul_right {m = 10 * rest_power + 1} {n = 2 * cut_value} (10 ^ p) (omega (arith, above)) in
+      omega (arith, product, power_is, one_le_pow10 p)
 
-  pub above_half : 5 < get_or ds p 0 → 10 ^ length ds < 2 * (cut_value * 10 ^ p)
+  pub above_half : 5 < get_or all_digits p 0 → 10 ^ length all_digits < 2 * (cut_value * 10 ^ p)
   above_half great =
-      let digit = mul-le-mul_right {m = 6} {n = get_or ds p 0} behind_power (omega (arith, great)) in
-      above_half_from (omega (arith, digit, cut_value_is, behind_small))
+      let digit = mul-le-mul_right {m = 6} {n = get_or all_digits p 0} rest_power (omega (arith, great)) in
+      above_half_from (omega (arith, digit, cut_value_is, rest_value_small))
 
-  some_behind : p + 1 < length ds → 0 < behind_value
-  some_behind k =
-      let n = length (drop (p + 1) ds) in
-      let some : 0 < n = omega (arith, length-drop (p + 1) ds, k) in
-      let same : (p + 1) + (n - 1) ≡ length ds - 1 = omega (arith, length-drop (p + 1) ds, k) in
-      let at : get_or (drop (p + 1) ds) (n - 1) 0 ≡ get_or ds (length ds - 1) 0 =
-      get_or-drop (p + 1) ds (n - 1) 0 ∙ ap (λ i. get_or ds i 0) same in
-      omega (arith, last_value (drop (p + 1) ds) some, at, h.last (omega (arith, l)))
+  rest_value_positive : p + 1 < length all_digits → 0 < rest_value
+  rest_value_positive k =
+      let n = length (drop (p + 1) all_digits) in
+      let some : 0 < n = omega (arith, length-drop (p + 1) all_digits, k) in
+      let same : (p + 1) + (n - 1) ≡ length all_digits - 1 = omega (arith, length-drop (p + 1) all_digits, k) in
+      let at : get_or (drop (p + 1) all_digits) (n - 1) 0 ≡ get_or all_digits (length all_digits - 1) 0 =
+      get_or-drop (p + 1) all_digits (n - 1) 0 ∙ ap (λ i. get_or all_digits i 0) same in
+      omega (arith, value_by_last_digit (drop (p + 1) all_digits) some, at, h.last (omega (arith, l)))
 
-  pub above_half_behind_five : get_or ds p 0 ≡ 5 → p + 1 < length ds → 10 ^ length ds < 2 * (cut_value * 10 ^ p)
-  above_half_behind_five five k =
-      let digit = ap (λ n. n * behind_power) five in
-      above_half_from (omega (arith, digit, cut_value_is, some_behind k))
+  pub above_half_after_five : get_or all_digits p 0 ≡ 5 → p + 1 < length all_digits
+      → 10 ^ length all_digits < 2 * (cut_value * 10 ^ p)
+  above_half_after_five five k =
+      let digit = ap (λ n. n * rest_power) five in
+      above_half_from (omega (arith, digit, cut_value_is, rest_value_positive k))
 
-  pub just_half : get_or ds p 0 ≡ 5 → length ds ≤ p + 1 → 2 * (cut_value * 10 ^ p) ≡ 10 ^ length ds
+  pub just_half : get_or all_digits p 0 ≡ 5 → length all_digits ≤ p + 1
+      → 2 * (cut_value * 10 ^ p) ≡ 10 ^ length all_digits
   just_half five k =
-      let digit = ap (λ n. n * behind_power) five in
-      let none : length (drop (p + 1) ds) ≡ 0 = omega (arith, length-drop (p + 1) ds, k) in
-      let one : behind_power ≡ 1 = ap (λ n. 10 ^ n) none in
-      let twice : 2 * cut_value ≡ 10 * behind_power = omega (arith, digit, cut_value_is, behind_small, one) in
+      let digit = ap (λ n. n * rest_power) five in
+      let none : length (drop (p + 1) all_digits) ≡ 0 = omega (arith, length-drop (p + 1) all_digits, k) in
+      let one : rest_power ≡ 1 = ap (λ n. 10 ^ n) none in
+      let twice : 2 * cut_value ≡ 10 * rest_power = omega (arith, digit, cut_value_is, rest_value_small, one) in
       let product = ap (λ n. n * 10 ^ p) twice in
       omega (arith, product, power_is)
 
--- what the code answers
+-- The decimal cut off after p digits is nearest.
+abbrev CutIsNearest : Finite → ℕ → Ties → Type 0
+CutIsNearest e p ties = IsNearest (scaled e) (10 ^ length e.digits) p ties (scaled (cut_after p e))
 
-abbrev Down : Finite → ℕ → Ties → Type 0
-Down e p ties = IsNearest (scaled e) (10 ^ length e.digits) p ties (scaled (cut_after p e))
+-- One more in the last digit of the decimal cut off after p digits is nearest.
+abbrev NextIsNearest : Finite → ℕ → Ties → Type 0
+NextIsNearest e p ties = IsNearest (scaled e) (10 ^ length e.digits) p ties (scaled (cut_after p e) + 1)
 
-abbrev Next : Finite → ℕ → Ties → Type 0
-Next e p ties = IsNearest (scaled e) (10 ^ length e.digits) p ties (scaled (cut_after p e) + 1)
-
+-- If the first digit that is cut off is not 5, the decimal is rounded up if it is greater and down if it is less.
 pub nearest_by_digit :
     (e : Finite) (p next : ℕ) (ties : Ties) → IsShown e → p < length e.digits → next ≡ get_or e.digits p 0 → next ≢ 5
-    → MatchBool (ltb 5 next) (Next e p ties) (Down e p ties)
+    → MatchBool (ltb 5 next) (NextIsNearest e p ties) (CutIsNearest e p ties)
 nearest_by_digit e p next ties h l same other =
     let front = scaled (cut_after p e) in
     let low = value_of (drop p e.digits) * 10 ^ p in
-    let P : Bool → Type 0 = λ b. MatchBool b (Next e p ties) (Down e p ties) in
+    let NearestBy : Bool → Type 0 = λ b. MatchBool b (NextIsNearest e p ties) (CutIsNearest e p ties) in
     ⊎_elim
     (λ k. let no : ltb 5 next ≡ false = grind (arith, nat_tests) in
-    subst P (sym no)
+    subst NearestBy (sym no)
     (nearest_down (scaled e) (10 ^ length e.digits) p front low (cut_lies e p h l) ties
     (below_half e p h l (omega (arith, same, k)))))
     (λ k. let yes : ltb 5 next ≡ true = grind (arith, nat_tests) in
-    subst P (sym yes)
+    subst NearestBy (sym yes)
     (nearest_up (scaled e) (10 ^ length e.digits) p front low (cut_lies e p h l) ties
     (above_half e p h l (omega (arith, same, k, other))))) (cases_lt next 5)
 
-pub nearest_behind_five :
-    (e : Finite) (p : ℕ) (ties : Ties) → IsShown e → p < length e.digits → get_or e.digits p 0 ≡ 5 → p + 1 < length e.digits → Next e p ties
-nearest_behind_five e p ties h l five k =
-    nearest_up (scaled e) (10 ^ length e.digits) p (scaled (cut_after p e)) (value_of (drop p e.digits) * 10 ^ p) (cut_lies e p h l) ties
-    (above_half_behind_five e p h l five k)
+-- If the first digit that is cut off is 5 and more digits follow, the decimal is rounded up.
+pub nearest_after_five :
+    (e : Finite) (p : ℕ) (ties : Ties) → IsShown e → p < length e.digits → get_or e.digits p 0 ≡ 5
+    → p + 1 < length e.digits → NextIsNearest e p ties
+nearest_after_five e p ties h l five k =
+    nearest_up (scaled e) (10 ^ length e.digits) p (scaled (cut_after p e)) (value_of (drop p e.digits) * 10 ^ p)
+    (cut_lies e p h l) ties
+    (above_half_after_five e p h l five k)
 
+-- If the first digit that is cut off is 5 and none follows, and ties go up, the decimal is rounded up.
 pub tie_goes_up :
-    (e : Finite) (p : ℕ) → IsShown e → p < length e.digits → get_or e.digits p 0 ≡ 5 → length e.digits ≤ p + 1 → Next e p Up
+    (e : Finite) (p : ℕ) → IsShown e → p < length e.digits → get_or e.digits p 0 ≡ 5 → length e.digits ≤ p + 1
+    → NextIsNearest e p Up
 tie_goes_up e p h l five k =
-    tie_up (scaled e) (10 ^ length e.digits) p (scaled (cut_after p e)) (value_of (drop p e.digits) * 10 ^ p) (cut_lies e p h l)
+    tie_up_next (scaled e) (10 ^ length e.digits) p (scaled (cut_after p e)) (value_of (drop p e.digits) * 10 ^ p)
+    (cut_lies e p h l)
     (just_half e p h l five k)
 
+-- If the first digit that is cut off is 5 and none follows, and ties go to even, it is rounded up only if the cut
+-- number is odd.
 pub tie_goes_even :
-    (is_odd : Bool) (e : Finite) (p : ℕ) → IsShown e → p < length e.digits → get_or e.digits p 0 ≡ 5 → length e.digits ≤ p + 1
-    → MatchBool is_odd (scaled (cut_after p e) % 2 ≡ 1) (scaled (cut_after p e) % 2 ≡ 0) → MatchBool is_odd (Next e p Even) (Down e p Even)
+    (is_odd : Bool) (e : Finite) (p : ℕ) → IsShown e → p < length e.digits → get_or e.digits p 0 ≡ 5
+    → length e.digits ≤ p + 1
+    → MatchBool is_odd (scaled (cut_after p e) % 2 ≡ 1) (scaled (cut_after p e) % 2 ≡ 0)
+    → MatchBool is_odd (NextIsNearest e p Even) (CutIsNearest e p Even)
 tie_goes_even true e p h l five k odd =
-    tie_even_next (scaled e) (10 ^ length e.digits) p (scaled (cut_after p e)) (value_of (drop p e.digits) * 10 ^ p) (cut_lies e p h l)
+    tie_even_next (scaled e) (10 ^ length e.digits) p (scaled (cut_after p e)) (value_of (drop p e.digits) * 10 ^ p)
+    (cut_lies e p h l)
     (just_half e p h l five k) odd
 tie_goes_even false e p h l five k even =
-    tie_even_this (scaled e) (10 ^ length e.digits) p (scaled (cut_after p e)) (value_of (drop p e.digits) * 10 ^ p) (cut_lies e p h l)
+    tie_even_this (scaled e) (10 ^ length e.digits) p (scaled (cut_after p e)) (value_of (drop p e.digits) * 10 ^ p)
+    (cut_lies e p h l)
     (just_half e p h l five k) even
 
--- the last digit says whether a number is odd
-pub odd_by_last_digit : (e : Finite) (p : ℕ) → 0 < p → p ≤ length e.digits → scaled (cut_after p e) % 2 ≡ get_or e.digits (p - 1) 0 % 2
+-- If p is not 0, a decimal cut off after p digits is, without its point, an odd number if and only if its last digit is
+-- odd.
+pub odd_by_last_digit : (e : Finite) (p : ℕ) → 0 < p → p ≤ length e.digits
+    → scaled (cut_after p e) % 2 ≡ get_or e.digits (p - 1) 0 % 2
 odd_by_last_digit e p some h =
     let ds = e.digits in
     let before : ℕ = p - 1 in
     let len : length (take p ds) ≡ p = length-take-le p ds h in
     let whole : take p ds ≡ take before ds ++ get_or ds before 0 ∷ [] =
-    ap (λ k. take k ds) (let k : p ≡ before + 1 = omega (arith, some) in k) ∙ take_more ds before 0 (omega (arith, some, h)) in
+    ap (λ k. take k ds) (let k : p ≡ before + 1 = omega (arith, some) in k)
+    ∙ take_more ds before 0 (omega (arith, some, h)) in
     let value : value_of (take p ds) ≡ value_of (take before ds) * 10 + get_or ds before 0 =
     ap value_of whole ∙ fold-append (λ n d. n * 10 + d) 0 (take before ds) (get_or ds before 0 ∷ []) in
     let power : 10 ^ length (take p ds) ≡ 10 * 10 ^ before =
@@ -222,49 +253,54 @@ odd_by_last_digit e p some h =
     omega (arith, product, value) in
     omega (arith, all)
 
--- as many digits and more
-
+-- Rounded to as many digits after the point as it has, or to more, a decimal is unchanged.
 pub rounded_to_itself :
     (e : Finite) (p : ℕ) (ties : Ties) → IsShown e → length e.digits ≤ p
     → (q : ℕ) × IsNearest (scaled e) (10 ^ length e.digits) p ties q × IsExpansion q (10 ^ p) e
 rounded_to_itself e p ties h few =
     let len = length e.digits in
     let q = scaled e * 10 ^ (p - len) in
-    let product = ap (λ n. scaled e * n) (raise_power len p few) in
+    let product = ap (λ n. scaled e * n) (pow10_split len p few) in
     let exact : scaled e * 10 ^ p ≡ q * 10 ^ len + 0 = omega (arith, product) in (
       q,
-      nearest_down (scaled e) (10 ^ len) p q 0 (record { split = exact; below = omega (arith, ten len) }) ties (omega (arith, ten len)),
-      expansion_of_digits q (10 ^ p) e.whole e.digits (omega (arith, ten p))
+      nearest_down (scaled e) (10 ^ len) p q 0 (record { split = exact; below = omega (arith, one_le_pow10 len) }) ties
+      (omega (arith, one_le_pow10 len)),
+      expansion_of_digits q (10 ^ p) e.whole e.digits (omega (arith, one_le_pow10 p))
           (record { small = h.small; exact = omega (arith, product); last = h.last }),
     )
 
-pub odd_answer : (d t : ℕ) → t % 2 ≡ d % 2 → MatchBool (nat_eq (d % 2) 1) (t % 2 ≡ 1) (t % 2 ≡ 0)
-odd_answer d t same =
-    let P : Bool → Type 0 = λ b. MatchBool b (t % 2 ≡ 1) (t % 2 ≡ 0) in
-    ⊎_elim (λ k. let no : nat_eq (d % 2) 1 ≡ false = grind (arith, nat_tests) in subst P (sym no) (omega (arith, same, k)))
-    (λ k. let yes : nat_eq (d % 2) 1 ≡ true = grind (arith, nat_tests) in subst P (sym yes) (omega (arith, same, k))) (cases_lt (d % 2) 1)
+-- If a number and its last digit are odd or even together, a test of the digit tells whether the number is odd.
+pub is_odd_by_digit : (d t : ℕ) → t % 2 ≡ d % 2 → MatchBool (nat_eq (d % 2) 1) (t % 2 ≡ 1) (t % 2 ≡ 0)
+is_odd_by_digit d t same =
+    let OddBy : Bool → Type 0 = λ b. MatchBool b (t % 2 ≡ 1) (t % 2 ≡ 0) in
+    ⊎_elim (λ k. let no : nat_eq (d % 2) 1 ≡ false = grind (arith, nat_tests) in
+    subst OddBy (sym no) (omega (arith, same, k)))
+    (λ k. let yes : nat_eq (d % 2) 1 ≡ true = grind (arith, nat_tests) in
+    subst OddBy (sym yes) (omega (arith, same, k))) (cases_lt (d % 2) 1)
 
--- what a function knows of its own fields
+-- The decimal of fields that satisfy their invariant has at most 93 digits, and the last is not zero.
+pub IsShown-view : (i : Inside) (e : Finite) → IsStored i → view_of i ≡ e → IsShown e
+IsShown-view i e h v = subst IsShown v (IsShown-stored i h)
 
-pub shown_by : (i : Inside) (e : Finite) → IsStored i → view_of i ≡ e → IsShown e
-shown_by i e h v = subst IsShown v (shown i h)
+-- The decimal of the fields has as many digits after the point as its field `places`.
+pub length_of_view : (i : Inside) (e : Finite) → IsStored i → view_of i ≡ e → length e.digits ≡ i.places
+length_of_view i e h v = ap (λ x. length x.digits) (sym v)
+    ∙ length-take-le i.places i.digits (omega (arith, h.few, h.size))
 
-pub length_by : (i : Inside) (e : Finite) → IsStored i → view_of i ≡ e → length e.digits ≡ i.places
-length_by i e h v = ap (λ x. length x.digits) (sym v) ∙ length-take-le i.places i.digits (omega (arith, h.few, h.size))
-
--- the digit behind the first p, and how many digits there are
+-- The digit at index p of a decimal, and the number of its digits after the point.
 pub record IsCutAt (e : Finite) (p digit places : ℕ) : Type 0 where
   pub is_shown : IsShown e
   pub digit_is : digit ≡ get_or e.digits p 0
   pub length_is : length e.digits ≡ places
 
-pub cut_at :
+-- The fields of a decimal give the digit at index p, and the number of its digits after the point.
+pub IsCutAt-view :
     (i : Inside) (e : Finite) (p digit : ℕ) → IsStored i → view_of i ≡ e → digit ≡ get_or e.digits (p + 1 - 1) 0
     → IsCutAt e p digit i.places
-cut_at i e p digit h v is =
+IsCutAt-view i e p digit h v is =
     let back : p + 1 - 1 ≡ p = omega arith in
     record {
-      is_shown = shown_by i e h v;
+      is_shown = IsShown-view i e h v;
       digit_is = is ∙ ap (λ k. get_or e.digits k 0) back;
-      length_is = length_by i e h v;
+      length_is = length_of_view i e h v;
     }

@@ -1,5 +1,6 @@
--- The number that digits spell.
-use Rattle.std.proofs.Common.{◌≡◌, ℕ, zero, suc, ◌+◌, ◌-◌, ◌*◌, ◌/◌, ◌%◌, ◌^◌, ◌<◌, ◌≤◌, List, [], ◌∷◌, ◌++◌, length, replicate, refl, sym}
+-- The number that decimal digits represent, the last digits of a number, and digits without trailing zeros.
+use Rattle.std.proofs.Common.{◌≡◌, ℕ, zero, suc, ◌+◌, ◌-◌, ◌*◌, ◌/◌, ◌%◌, ◌^◌, ◌<◌, ◌≤◌, List, [], ◌∷◌, ◌++◌, length}
+use Rattle.std.proofs.Common.{replicate, refl, sym}
 use Rattle.std.proofs.Common.{ap, ◌∙◌, arith, length-append}
 use Rattle.std.specs.List.{fold, All}
 use Rattle.std.proofs.Math.Nat.{pow-succ', one-le-pow}
@@ -10,110 +11,123 @@ use Rattle.std.proofs.lemmas.List.Sums.{fold-append}
 use Rattle.byte_unit_math.specs.Finite.{Finite, value_of, scaled}
 use Rattle.byte_unit_math.specs.Digits.{last_digits, at_places, before, without_zeros, shortened}
 
-pub ten : (p : ℕ) → 1 ≤ 10 ^ p
-ten p = one-le-pow p 10 (omega arith)
+-- A power of ten is at least 1.
+pub one_le_pow10 : (p : ℕ) → 1 ≤ 10 ^ p
+one_le_pow10 p = one-le-pow p 10 (omega arith)
 
-pub value_after : (n : ℕ) (ds : List ℕ) → fold (λ n d. n * 10 + d) n ds ≡ n * 10 ^ length ds + value_of ds
-value_after n [] = omega arith
-value_after n (d ∷ ds) = rw (pow-succ' 10 (length ds)) (omega (arith, value_after (n * 10 + d) ds, value_after (0 * 10 + d) ds))
+-- Appending digits to a number n multiplies it by ten for each of them and adds their value.
+pub fold_digits_from : (n : ℕ) (ds : List ℕ) → fold (λ n d. n * 10 + d) n ds ≡ n * 10 ^ length ds + value_of ds
+fold_digits_from n [] = omega arith
+fold_digits_from n (d ∷ ds) = rw (pow-succ' 10 (length ds))
+    (omega (arith, fold_digits_from (n * 10 + d) ds, fold_digits_from (0 * 10 + d) ds))
 
+-- A first digit counts as often as the power of ten of the digits after it.
 pub value_cons : (d : ℕ) (ds : List ℕ) → value_of (d ∷ ds) ≡ d * 10 ^ length ds + value_of ds
-value_cons d ds = omega (arith, value_after (0 * 10 + d) ds)
+value_cons d ds = omega (arith, fold_digits_from (0 * 10 + d) ds)
 
 pub value_zeros : (k : ℕ) → value_of (replicate k 0) ≡ 0
 value_zeros zero = refl
 value_zeros (suc k) = value_zeros k
 
--- zeros at the end
-pub value_more : (ds : List ℕ) (k : ℕ) → value_of (ds ++ replicate k 0) ≡ value_of ds * 10 ^ k
-value_more ds k =
+-- k trailing zeros multiply the value of digits by 10^k.
+pub value_append_zeros : (ds : List ℕ) (k : ℕ) → value_of (ds ++ replicate k 0) ≡ value_of ds * 10 ^ k
+value_append_zeros ds k =
     fold-append (λ n d. n * 10 + d) 0 ds (replicate k 0)
-    ∙ (value_after (value_of ds) (replicate k 0) ∙ rw (length-replicate {A = ℕ} k 0, value_zeros k) (omega arith))
+    ∙ (fold_digits_from (value_of ds) (replicate k 0) ∙ rw (length-replicate {A = ℕ} k 0, value_zeros k) (omega arith))
 
--- the last digits of a number
+-- The last p digits of a number are p digits.
+pub length_last_digits : (p q : ℕ) → length (last_digits p q) ≡ p
+length_last_digits zero q = refl
+length_last_digits (suc p) q = ap suc (length_last_digits p q)
 
-pub length_last : (p q : ℕ) → length (last_digits p q) ≡ p
-length_last zero q = refl
-length_last (suc p) q = ap suc (length_last p q)
+-- Each of the last p digits of a number is below ten.
+pub last_digits_below_ten : (p q : ℕ) → All (λ d. d < 10) (last_digits p q)
+last_digits_below_ten zero q = All-nil (λ d. d < 10)
+last_digits_below_ten (suc p) q =
+    All-cons (λ d. d < 10) (q / 10 ^ p % 10) (last_digits p q) (omega arith) (last_digits_below_ten p q)
 
-pub small_last : (p q : ℕ) → All (λ d. d < 10) (last_digits p q)
-small_last zero q = All-nil (λ d. d < 10)
-small_last (suc p) q = All-cons (λ d. d < 10) (q / 10 ^ p % 10) (last_digits p q) (omega arith) (small_last p q)
+-- The remainder by ten times a power is the next digit at that power, and the remainder by the power.
+pub mod_next_power : (q power : ℕ) → 1 ≤ power → q % (10 * power) ≡ q / power % 10 * power + q % power
+mod_next_power q power one =
+    let low : q % power < power = omega (arith, one, mod_below q power (omega arith)) in
+    let parts : q ≡ q / power * power + q % power = omega (arith, one) in
+    let tens : q / power ≡ q / power / 10 * 10 + q / power % 10 = omega arith in
+    let product = ap (λ n. n * power) tens in
+    let digit : q / power % 10 ≤ 9 = omega arith in
+    let few : q / power % 10 * power + q % power < 10 * power = grind (arith, digit, low) in
+    let whole : q ≡ q / power / 10 * (10 * power) + (q / power % 10 * power + q % power) =
+    omega (arith, parts, product) in
+    ap (λ n. n % (10 * power)) whole
+    ∙ mod-mul-add (q / power / 10) (10 * power) (q / power % 10 * power + q % power) few
 
-pub next_rest : (q P : ℕ) → 1 ≤ P → q % (10 * P) ≡ q / P % 10 * P + q % P
-next_rest q P one =
-    let low : q % P < P = omega (arith, one, mod_below q P (omega arith)) in
-    let parts : q ≡ q / P * P + q % P = omega (arith, one) in
-    let tens : q / P ≡ q / P / 10 * 10 + q / P % 10 = omega arith in
-    let product = ap (λ n. n * P) tens in
-    let digit : q / P % 10 ≤ 9 = omega arith in
-    let few : q / P % 10 * P + q % P < 10 * P = grind (arith, digit, low) in
-    let whole : q ≡ q / P / 10 * (10 * P) + (q / P % 10 * P + q % P) = omega (arith, parts, product) in
-    ap (λ n. n % (10 * P)) whole ∙ mod-mul-add (q / P / 10) (10 * P) (q / P % 10 * P + q % P) few
-
-pub value_last : (p q : ℕ) → value_of (last_digits p q) ≡ q % 10 ^ p
-value_last zero q = omega arith
-value_last (suc p) q =
+-- The last p digits of q represent the remainder of q by 10^p.
+pub value_of_last_digits : (p q : ℕ) → value_of (last_digits p q) ≡ q % 10 ^ p
+value_of_last_digits zero q = omega arith
+value_of_last_digits (suc p) q =
     value_cons (q / 10 ^ p % 10) (last_digits p q)
-    ∙ rw (length_last p q, value_last p q, pow-succ' 10 p) (sym (next_rest q (10 ^ p) (ten p)))
+    ∙ rw (length_last_digits p q, value_of_last_digits p q, pow-succ' 10 p)
+    (sym (mod_next_power q (10 ^ p) (one_le_pow10 p)))
 
-pub scaled_places : (p q : ℕ) → scaled (at_places p q) ≡ q
-scaled_places p q = rw (length_last p q, value_last p q) (omega (arith, ten p))
+-- q / 10^p with p digits after the point, times 10^p, is q.
+pub scaled_at_places : (p q : ℕ) → scaled (at_places p q) ≡ q
+scaled_at_places p q = rw (length_last_digits p q, value_of_last_digits p q) (omega (arith, one_le_pow10 p))
 
--- without zeros at the end
-
-pub record ZerosBehind (ds front : List ℕ) : Type 0 where
+-- `ds` is `front` with trailing zeros.
+pub record HasTrailingZeros (ds front : List ℕ) : Type 0 where
   pub zeros : ℕ
   pub list_is : ds ≡ front ++ replicate zeros 0
 
-zeros_before : (d : ℕ) (es ds : List ℕ) → ZerosBehind ds es → ZerosBehind (d ∷ ds) (before d es)
-zeros_before zero [] ds h = record { zeros = suc h.zeros; list_is = ap (λ l. zero ∷ l) h.list_is }
-zeros_before (suc d) [] ds h = record { zeros = h.zeros; list_is = ap (λ l. suc d ∷ l) h.list_is }
-zeros_before zero (e ∷ es) ds h = record { zeros = h.zeros; list_is = ap (λ l. zero ∷ l) h.list_is }
-zeros_before (suc d) (e ∷ es) ds h = record { zeros = h.zeros; list_is = ap (λ l. suc d ∷ l) h.list_is }
+HasTrailingZeros-prepend : (d : ℕ) (es ds : List ℕ) → HasTrailingZeros ds es → HasTrailingZeros (d ∷ ds) (before d es)
+HasTrailingZeros-prepend zero [] ds h = record { zeros = suc h.zeros; list_is = ap (λ l. zero ∷ l) h.list_is }
+HasTrailingZeros-prepend (suc d) [] ds h = record { zeros = h.zeros; list_is = ap (λ l. suc d ∷ l) h.list_is }
+HasTrailingZeros-prepend zero (e ∷ es) ds h = record { zeros = h.zeros; list_is = ap (λ l. zero ∷ l) h.list_is }
+HasTrailingZeros-prepend (suc d) (e ∷ es) ds h = record { zeros = h.zeros; list_is = ap (λ l. suc d ∷ l) h.list_is }
 
-pub zeros_behind : (ds : List ℕ) → ZerosBehind ds (without_zeros ds)
-zeros_behind [] = record { zeros = 0; list_is = refl }
-zeros_behind (d ∷ ds) = zeros_before d (without_zeros ds) ds (zeros_behind ds)
+pub HasTrailingZeros-trim : (ds : List ℕ) → HasTrailingZeros ds (without_zeros ds)
+HasTrailingZeros-trim [] = record { zeros = 0; list_is = refl }
+HasTrailingZeros-trim (d ∷ ds) = HasTrailingZeros-prepend d (without_zeros ds) ds (HasTrailingZeros-trim ds)
 
-small_before : (d : ℕ) (es : List ℕ) → d < 10 → All (λ d. d < 10) es → All (λ d. d < 10) (before d es)
-small_before zero [] h k = k
-small_before (suc d) [] h k = All-cons (λ d. d < 10) (suc d) [] h k
-small_before zero (e ∷ es) h k = All-cons (λ d. d < 10) zero (e ∷ es) h k
-small_before (suc d) (e ∷ es) h k = All-cons (λ d. d < 10) (suc d) (e ∷ es) h k
+small_before_digit : (d : ℕ) (es : List ℕ) → d < 10 → All (λ d. d < 10) es → All (λ d. d < 10) (before d es)
+small_before_digit zero [] h k = k
+small_before_digit (suc d) [] h k = All-cons (λ d. d < 10) (suc d) [] h k
+small_before_digit zero (e ∷ es) h k = All-cons (λ d. d < 10) zero (e ∷ es) h k
+small_before_digit (suc d) (e ∷ es) h k = All-cons (λ d. d < 10) (suc d) (e ∷ es) h k
 
-pub small_without : (ds : List ℕ) → All (λ d. d < 10) ds → All (λ d. d < 10) (without_zeros ds)
-small_without [] h = h
-small_without (d ∷ ds) h =
-    small_before d (without_zeros ds) (All-head (λ d. d < 10) d ds h) (small_without ds (All-tail (λ d. d < 10) d ds h))
+pub small_without_zeros : (ds : List ℕ) → All (λ d. d < 10) ds → All (λ d. d < 10) (without_zeros ds)
+small_without_zeros [] h = h
+small_without_zeros (d ∷ ds) h =
+    small_before_digit d (without_zeros ds) (All-head (λ d. d < 10) d ds h)
+    (small_without_zeros ds (All-tail (λ d. d < 10) d ds h))
 
--- the digits of q at p places are those of its short form, and zeros
+-- q / 10^p is the decimal `e`, which has at most p digits after the point.
 pub record ShortOf (q p : ℕ) (e : Finite) : Type 0 where
   pub few : length e.digits ≤ p
   pub small : All (λ d. d < 10) e.digits
   pub scaled_is : q ≡ scaled e * 10 ^ (p - length e.digits)
 
-pub short_of : (q p : ℕ) → ShortOf q p (shortened (at_places p q))
-short_of q p =
+-- q / 10^p without trailing zeros is q / 10^p.
+pub ShortOf-shortened : (q p : ℕ) → ShortOf q p (shortened (at_places p q))
+ShortOf-shortened q p =
     let ds = last_digits p q in
-    let behind = zeros_behind ds in
+    let behind = HasTrailingZeros-trim ds in
     let len : length (without_zeros ds) + behind.zeros ≡ p =
     omega (
       arith,
       ap length behind.list_is,
       length-append (without_zeros ds) (replicate behind.zeros 0),
       length-replicate {A = ℕ} behind.zeros 0,
-      length_last p q,
+      length_last_digits p q,
     ) in
     let left : p - length (without_zeros ds) ≡ behind.zeros = omega (arith, len) in
     let value : q % 10 ^ p ≡ value_of (without_zeros ds) * 10 ^ behind.zeros =
-    sym (value_last p q) ∙ (ap value_of behind.list_is ∙ value_more (without_zeros ds) behind.zeros) in
+    sym (value_of_last_digits p q)
+    ∙ (ap value_of behind.list_is ∙ value_append_zeros (without_zeros ds) behind.zeros) in
     let power : 10 ^ p ≡ 10 ^ length (without_zeros ds) * 10 ^ behind.zeros =
     ap (λ n. 10 ^ n) (sym len) ∙ pow-add 10 (length (without_zeros ds)) behind.zeros in
     let product = ap (λ n. q / 10 ^ p * n) power in
-    let parts : q ≡ q / 10 ^ p * 10 ^ p + q % 10 ^ p = omega (arith, ten p) in
+    let parts : q ≡ q / 10 ^ p * 10 ^ p + q % 10 ^ p = omega (arith, one_le_pow10 p) in
     record {
       few = omega (arith, len);
-      small = small_without ds (small_last p q);
+      small = small_without_zeros ds (last_digits_below_ten p q);
       scaled_is = rw left (omega (arith, parts, product, value));
     }

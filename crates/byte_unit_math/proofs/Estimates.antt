@@ -1,38 +1,45 @@
--- A quotient by a constant: estimated by one multiplication, and by a long division.
+-- A quotient by a constant: by a multiplication with its inverse, and by long division.
 use Rattle.std.proofs.Common.{◌≡◌, ℕ, ◌+◌, ◌-◌, ◌*◌, ◌/◌, ◌%◌, ◌^◌, ◌<◌, ◌≤◌, arith, ap, sym, ◌∙◌, subst}
-use Rattle.std.proofs.Math.Nat.{mul-le-mul_right, le_of_mul-le-mul_right, div-mul-le_self, lt_of_mul-lt-mul_right, lt-div-mul-add, div-lt_iff_lt-mul}
+use Rattle.std.proofs.Math.Nat.{mul-le-mul_right, le_of_mul-le-mul_right, div-mul-le_self, lt_of_mul-lt-mul_right}
+use Rattle.std.proofs.Math.Nat.{lt-div-mul-add, div-lt_iff_lt-mul}
 use Rattle.std.proofs.Math.Nat.{div-add-mod, div-eq_of_lt-le, mod-eq-sub-div-mul, mod-lt, one-le-pow, pow-le-pow_right}
 use Rattle.std.proofs.lemmas.Nat.{pow-add}
 use Rattle.byte_unit_math.specs.Inverse.{HasInverse}
 
--- an estimate is the quotient, or one below it
+-- The estimate is the quotient n / divisor, or one less.
 pub record IsEstimate (n divisor estimate : ℕ) : Type 0 where
   pub enough : estimate * divisor ≤ n
   pub close : n < estimate * divisor + 2 * divisor
 
+-- The estimate of a quotient: the leading bits of n times the inverse, shifted right.
 abbrev pub estimate_of : ℕ → ℕ → ℕ → ℕ → ℕ
 estimate_of n inverse cut shift = n / 2 ^ cut * inverse / 2 ^ shift
 
-pub leading_fits : {n divisor inverse cut shift : ℕ} → HasInverse n divisor inverse cut shift → n / 2 ^ cut < 2 ^ 64
-leading_fits {n} {divisor} {inverse} {cut} {shift} h =
+-- The leading bits of n are less than 2^64.
+pub leading_bits_fit : {n divisor inverse cut shift : ℕ} → HasInverse n divisor inverse cut shift → n / 2 ^ cut < 2 ^ 64
+leading_bits_fit {n} {divisor} {inverse} {cut} {shift} h =
     let some : 0 < 2 ^ cut = one-le-pow cut 2 (omega arith) in
     (div-lt_iff_lt-mul {k = 2 ^ cut} {x = n} {y = 2 ^ 64} some).1 (subst (λ m. n < m) (pow-add 2 64 cut) h.leading)
 
+-- The product of the leading bits and the inverse is less than 2^128.
 pub product_fits :
     {n divisor inverse cut shift : ℕ} → HasInverse n divisor inverse cut shift → n / 2 ^ cut * inverse < 2 ^ 128
 product_fits {n} {divisor} {inverse} {cut} {shift} h =
-    let leading = leading_fits h in
+    let leading = leading_bits_fit h in
     let product = mul-le-mul_right {m = n / 2 ^ cut} {n = 2 ^ 64} inverse (omega (arith, leading)) in
     omega (arith, product, h.fits)
 
+-- The estimate is less than 2^63.
 pub estimate_fits :
-    {n divisor inverse cut shift : ℕ} → HasInverse n divisor inverse cut shift → estimate_of n inverse cut shift < 2 ^ 63
+    {n divisor inverse cut shift : ℕ} → HasInverse n divisor inverse cut shift
+    → estimate_of n inverse cut shift < 2 ^ 63
 estimate_fits {n} {divisor} {inverse} {cut} {shift} h =
     let power = pow-le-pow_right {n = 2} (omega arith) {i = 65} {j = shift} (omega (arith, h.shift_fits.0)) in
     let few = mul-le-mul_right {m = 2 ^ 65} {n = 2 ^ shift} (2 ^ 63) power in
     (div-lt_iff_lt-mul {k = 2 ^ shift} {x = n / 2 ^ cut * inverse} {y = 2 ^ 63} (omega (arith, power))).1
     (omega (arith, product_fits h, few))
 
+-- The product with the inverse, shifted right, is the quotient or one less.
 pub IsEstimate-inverse :
     (n divisor inverse cut shift : ℕ) → HasInverse n divisor inverse cut shift
     → IsEstimate n divisor (estimate_of n inverse cut shift)
@@ -51,12 +58,15 @@ IsEstimate-inverse n divisor inverse cut shift h =
     let estimate_parts = mul-le-mul_right divisor (div-mul-le_self (leading * inverse) (2 ^ shift)) in
     let inverse_parts = mul-le-mul_right leading inverse_low in
     let leading_parts = mul-le-mul_right (2 ^ shift) (div-mul-le_self n (2 ^ cut)) in
-    let past_leading = mul-le-mul_right {m = n + 1} {n = leading * 2 ^ cut + 2 ^ cut} (2 ^ shift) (omega (arith, leading_high)) in
+    let past_leading = mul-le-mul_right {m = n + 1} {n = leading * 2 ^ cut + 2 ^ cut} (2 ^ shift)
+    (omega (arith, leading_high)) in
     let past_inverse =
-    mul-le-mul_right {m = 2 ^ (cut + shift) + 1} {n = inverse * divisor + divisor} leading (omega (arith, inverse_high)) in
+    mul-le-mul_right {m = 2 ^ (cut + shift) + 1} {n = inverse * divisor + divisor} leading
+    (omega (arith, inverse_high)) in
     let past_estimate =
-    mul-le-mul_right {m = leading * inverse + 1} {n = estimate * 2 ^ shift + 2 ^ shift} divisor (omega (arith, estimate_high)) in
-    let few_leading = mul-le-mul_right {m = leading + 1} {n = 2 ^ 64} divisor (omega (arith, leading_fits h)) in
+    mul-le-mul_right {m = leading * inverse + 1} {n = estimate * 2 ^ shift + 2 ^ shift} divisor
+    (omega (arith, estimate_high)) in
+    let few_leading = mul-le-mul_right {m = leading + 1} {n = 2 ^ 64} divisor (omega (arith, leading_bits_fit h)) in
     let powers = ap (λ m. m * leading) power in
     record {
       enough = le_of_mul-le-mul_right (omega (arith, estimate_parts, inverse_parts, leading_parts, powers)) some_shift;
@@ -65,30 +75,39 @@ IsEstimate-inverse n divisor inverse cut shift h =
           (omega (arith, past_leading, past_inverse, past_estimate, few_leading, powers, power, h.close, some_shift));
     }
 
--- from the estimate to the quotient, and to the rest
-pub quotient_is : (n divisor quotient : ℕ) → quotient * divisor ≤ n → n - quotient * divisor < divisor → quotient ≡ n / divisor
-quotient_is n divisor quotient enough close =
+-- A number whose product with the divisor is at most n, and by less than the divisor, is the quotient.
+pub quotient_from_bounds : (n divisor quotient : ℕ) → quotient * divisor ≤ n → n - quotient * divisor < divisor
+    → quotient ≡ n / divisor
+quotient_from_bounds n divisor quotient enough close =
     sym (div-eq_of_lt-le {k = quotient} divisor {m = n} enough (omega (arith, enough, close)))
 
-pub rest_is :
-    (n divisor quotient : ℕ) → quotient * divisor ≤ n → n - quotient * divisor < divisor → n - quotient * divisor ≡ n % divisor
-rest_is n divisor quotient enough close =
-    ap (λ q. n - q * divisor) (quotient_is n divisor quotient enough close) ∙ sym (mod-eq-sub-div-mul n divisor)
+-- What such a product leaves of n is the remainder.
+pub rest_from_bounds :
+    (n divisor quotient : ℕ) → quotient * divisor ≤ n → n - quotient * divisor < divisor
+    → n - quotient * divisor ≡ n % divisor
+rest_from_bounds n divisor quotient enough close =
+    ap (λ q. n - q * divisor) (quotient_from_bounds n divisor quotient enough close)
+    ∙ sym (mod-eq-sub-div-mul n divisor)
 
--- the estimate as it is worked out, a step at a time
+-- The estimate computed from leading bits, inverse and shift in turn is the quotient or one less.
 pub IsEstimate-steps :
-    {n divisor inverse cut shift leading factor estimate : ℕ} → HasInverse n divisor inverse cut shift → leading ≡ n / 2 ^ cut
+    {n divisor inverse cut shift leading factor estimate : ℕ} → HasInverse n divisor inverse cut shift
+    → leading ≡ n / 2 ^ cut
     → factor ≡ inverse → estimate ≡ leading * factor / 2 ^ shift → IsEstimate n divisor estimate
-IsEstimate-steps {n} {divisor} {inverse} {cut} {shift} {leading} {factor} {estimate} h leading_is factor_is estimate_is =
+IsEstimate-steps {n} {divisor} {inverse} {cut} {shift} {leading} {factor} {estimate} h leading_is factor_is estimate_is
+    =
     let product : leading * factor ≡ n / 2 ^ cut * inverse =
     ap (λ m. m * factor) leading_is ∙ ap (λ m. n / 2 ^ cut * m) factor_is in
-    subst (IsEstimate n divisor) (sym (estimate_is ∙ ap (λ m. m / 2 ^ shift) product)) (IsEstimate-inverse n divisor inverse cut shift h)
+    subst (IsEstimate n divisor) (sym (estimate_is ∙ ap (λ m. m / 2 ^ shift) product))
+    (IsEstimate-inverse n divisor inverse cut shift h)
 
--- a long division in base 2^40: the quotient, and what is left
+-- Long division in base 2^40, of a number of three digits: the digits of the quotient and the last remainder are those
+-- of the whole division.
 pub long_division :
     (n divisor middle low : ℕ) → 1 ≤ divisor → middle ≡ n / 2 ^ 80 % divisor * 2 ^ 40 + n / 2 ^ 40 % 2 ^ 40
     → low ≡ middle % divisor * 2 ^ 40 + n % 2 ^ 40
-    → ((n / 2 ^ 80 / divisor * 2 ^ 40 + middle / divisor) * 2 ^ 40 + low / divisor ≡ n / divisor) × (low % divisor ≡ n % divisor)
+    → ((n / 2 ^ 80 / divisor * 2 ^ 40 + middle / divisor) * 2 ^ 40 + low / divisor ≡ n / divisor)
+    × (low % divisor ≡ n % divisor)
 long_division n divisor middle low some middle_is low_is =
     let quotient = (n / 2 ^ 80 / divisor * 2 ^ 40 + middle / divisor) * 2 ^ 40 + low / divisor in
     let left : low % divisor < divisor = mod-lt low some in
@@ -104,4 +123,4 @@ long_division n divisor middle low some middle_is low_is =
     let enough : quotient * divisor ≤ n = omega (arith, parts) in
     let close : n - quotient * divisor < divisor = omega (arith, parts, left) in
     let rest : low % divisor ≡ n - quotient * divisor = omega (arith, parts) in
-    (quotient_is n divisor quotient enough close, rest ∙ rest_is n divisor quotient enough close)
+    (quotient_from_bounds n divisor quotient enough close, rest ∙ rest_from_bounds n divisor quotient enough close)

@@ -1,26 +1,29 @@
--- Numbers that are given by their factors.
+-- The product of a number that is given by its factors, and its quotient by a unit.
 use Rattle.std.proofs.Common.{◌≡◌, ℕ, get_or, ◌∙◌, ◌+◌, ◌-◌, ◌*◌, ◌^◌, ◌/◌, ◌%◌, ◌<◌, ◌≤◌, ⊎_elim, arith, ap, sym}
 use Rattle.std.proofs.Math.Nat.{one-le-pow, pow-le-pow_right, mul-le-mul_left, mul-le-mul_right, lt_of_mul-lt-mul_right}
 use Rattle.std.proofs.lemmas.Bool.{cases_lt}
 use Rattle.byte_unit_math.specs.Bounds.{one, places_of_decimal, whole_limit}
-use Rattle.byte_unit_math.proofs.Scales.{power_parts, powers_from, powers_of_at}
+use Rattle.byte_unit_math.proofs.Scales.{pow10_times_rest, powers_from, powers_from_at}
 
--- a power below the limit has few factors
-few_in_power : (base most exponent : ℕ) → 1 ≤ base → base ^ exponent < whole_limit → whole_limit ≤ base ^ (most + 1) → exponent ≤ most
+-- A power below 2^112 has a bounded exponent.
+few_in_power : (base most exponent : ℕ) → 1 ≤ base → base ^ exponent < whole_limit → whole_limit ≤ base ^ (most + 1)
+    → exponent ≤ most
 few_in_power base most exponent some small large = ⊎_elim
     (λ more.
     let high = pow-le-pow_right {n = base} some {i = most + 1} {j = exponent} (omega (arith, more)) in
     absurd (omega (arith, high, small, large)))
     (λ few. few) (cases_lt most exponent)
 
--- a number below the limit, by its factors
+-- A number below 2^112 has at most 111 factors of 2 and 48 factors of 5, and shifting it left loses no bits.
 pub record FewFactors (left twos fives : ℕ) : Type 0 where
   pub few_twos : twos ≤ 111
   pub few_fives : fives ≤ 48
   pub unshifted : left * 2 ^ twos % 2 ^ 128 ≡ left * 2 ^ twos
 
-pub few_factors : (left twos fives : ℕ) → 1 ≤ left → left * (2 ^ twos * 5 ^ fives) < whole_limit → FewFactors left twos fives
-few_factors left twos fives some small =
+-- A product of factors that is below 2^112 has at most 111 factors of 2 and 48 factors of 5.
+pub FewFactors-below_limit : (left twos fives : ℕ) → 1 ≤ left → left * (2 ^ twos * 5 ^ fives) < whole_limit
+    → FewFactors left twos fives
+FewFactors-below_limit left twos fives some small =
     let some_fives = one-le-pow fives 5 (omega arith) in
     let some_twos = one-le-pow twos 2 (omega arith) in
     let powers = mul-le-mul_right {m = 1} {n = left} (2 ^ twos * 5 ^ fives) some in
@@ -33,28 +36,32 @@ few_factors left twos fives some small =
       unshifted = omega (arith, left_twos, small);
     }
 
--- its product, by a shift and the table of powers of five
-pub product_is :
+-- A shift and an entry of the table of powers of 5 compute the number.
+pub product_by_table :
     (left twos fives : ℕ) → 1 ≤ left → left * (2 ^ twos * 5 ^ fives) < whole_limit
     → left * 2 ^ twos % 2 ^ 128 * get_or (powers_from 5 49 1) fives 0 ≡ left * (2 ^ twos * 5 ^ fives)
-product_is left twos fives some small =
-    let few = few_factors left twos fives some small in
-    let power = powers_of_at 5 49 1 fives (omega (arith, few.few_fives)) in
-    ap (λ n. n * get_or (powers_from 5 49 1) fives 0) few.unshifted ∙ (ap (λ n. left * 2 ^ twos * n) power ∙ omega arith)
+product_by_table left twos fives some small =
+    let few = FewFactors-below_limit left twos fives some small in
+    let power = powers_from_at 5 49 1 fives (omega (arith, few.few_fives)) in
+    ap (λ n. n * get_or (powers_from 5 49 1) fives 0) few.unshifted
+    ∙ (ap (λ n. left * 2 ^ twos * n) power ∙ omega arith)
 
--- a number in units of a place, as a count of another unit
+-- A number times 10^places that is a multiple of a unit, and the multiple.
 module _ (number unit count places : ℕ) (same : number * 10 ^ places ≡ count * unit) where
-  pub count_below : number * 10 ^ places < whole_limit * unit → count < whole_limit
-  count_below small = lt_of_mul-lt-mul_right unit {m = count} {n = whole_limit} (omega (arith, same, small))
+  -- The multiple is below 2^112 if the number times 10^places is below 2^112 units.
+  pub count_below_limit : number * 10 ^ places < whole_limit * unit → count < whole_limit
+  count_below_limit small = lt_of_mul-lt-mul_right unit {m = count} {n = whole_limit} (omega (arith, same, small))
 
-  pub exact_count : places ≤ places_of_decimal → count * 10 ^ (places_of_decimal - places) * unit ≡ number * one
-  exact_count few =
+  -- The multiple, scaled by the rest of 10^28, times the unit is the number scaled by 10^28.
+  pub count_is_exact : places ≤ places_of_decimal → count * 10 ^ (places_of_decimal - places) * unit ≡ number * one
+  count_is_exact few =
       let scaled = ap (λ n. n * 10 ^ (places_of_decimal - places)) same in
-      let parts = ap (λ n. number * n) (power_parts places few) in
+      let parts = ap (λ n. number * n) (pow10_times_rest places few) in
       omega (arith, scaled, parts)
 
--- a quotient and a rest by the same numbers
-pub cut_at :
+-- Equal numbers have equal quotients and remainders.
+pub quotient_and_rest_of_equal :
     {product count power scale : ℕ} {parts quotient : ℕ × ℕ} → product ≡ count → power ≡ scale → parts ≡ quotient
-    → (quotient.0 ≡ product / power) × (quotient.1 ≡ product % power) → (parts.0 ≡ count / scale) × (parts.1 ≡ count % scale)
-cut_at is_count is_scale is_quotient divides = rw (sym is_count, sym is_scale, is_quotient) divides
+    → (quotient.0 ≡ product / power) × (quotient.1 ≡ product % power)
+    → (parts.0 ≡ count / scale) × (parts.1 ≡ count % scale)
+quotient_and_rest_of_equal is_count is_scale is_quotient divides = rw (sym is_count, sym is_scale, is_quotient) divides

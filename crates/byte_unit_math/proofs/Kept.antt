@@ -1,5 +1,6 @@
--- The digits that are kept where a decimal is cut, without the zeros or the nines at their end.
-use Rattle.std.proofs.Common.{◌≢◌, ◌≡◌, ◌+◌, ◌-◌, ◌*◌, ◌^◌, ◌<◌, ◌≤◌, ℕ, zero, suc, List, [], ◌∷◌, ◌++◌, length, take, drop}
+-- A decimal that is cut off or rounded up, without the trailing zeros or nines that this leaves, is an expansion.
+use Rattle.std.proofs.Common.{◌≢◌, ◌≡◌, ◌+◌, ◌-◌, ◌*◌, ◌^◌, ◌<◌, ◌≤◌, ℕ, zero, suc, List, [], ◌∷◌, ◌++◌, length, take}
+use Rattle.std.proofs.Common.{drop}
 use Rattle.std.proofs.Common.{set, get_or, replicate, arith, ap, sym, refl, subst, ◌∙◌, length-take-le}
 use Rattle.std.specs.List.{All, fold}
 use Rattle.std.proofs.lemmas.List.{take_more, take_more_set, length-set, length-replicate, get_or-take, get_or-set_same}
@@ -8,91 +9,97 @@ use Rattle.std.proofs.lemmas.List.Sums.{fold-append}
 use Rattle.std.proofs.Math.Nat.{pow-succ'}
 use Rattle.byte_unit_math.specs.Bounds.{expansion_places}
 use Rattle.byte_unit_math.specs.Finite.{Finite, value_of, scaled, cut_after, IsExpansion}
-use Rattle.byte_unit_math.proofs.Digits.{ten, value_more}
-use Rattle.byte_unit_math.proofs.Expanding.{expansion_of_digits, expansion_of_front, zeros_behind_set}
-use Rattle.byte_unit_math.proofs.Scales.{raise_power}
+use Rattle.byte_unit_math.proofs.Digits.{one_le_pow10, value_append_zeros}
+use Rattle.byte_unit_math.proofs.Expanding.{expansion_of_digits, expansion_of_first_digits, zeros_after_set}
+use Rattle.byte_unit_math.proofs.Scales.{pow10_split}
 use Rattle.byte_unit_math.proofs.Cut.{IsShown}
 
--- digits taken off at the end
-
--- the first p digits are the first kept, and this digit behind them; the last of those kept is another
-pub record IsKept (e : Finite) (p kept digit : ℕ) : Type 0 where
+-- The first p digits of `e` are its first `kept` digits and then only `digit`; the last of those kept is another digit.
+pub record EndsInRunOf (e : Finite) (p kept digit : ℕ) : Type 0 where
   pub within : p ≤ length e.digits
   pub few : kept ≤ p
   pub same : take p e.digits ≡ take kept e.digits ++ replicate (p - kept) digit
   pub stops : 0 < kept → get_or e.digits (kept - 1) 0 ≢ digit
 
--- an array begins with the digits that are kept
+-- An array of 93 digits begins with the first `kept` digits of `e`.
 pub record BeginsWith (e : Finite) (kept : ℕ) (ds : List ℕ) : Type 0 where
   pub size : length ds ≡ expansion_places
   pub front : take kept ds ≡ take kept e.digits
   pub small : All (λ d. d < 10) ds
 
-scaled_cut : (e : Finite) (p : ℕ) → p ≤ length e.digits → scaled (cut_after p e) ≡ e.whole * 10 ^ p + value_of (take p e.digits)
+scaled_cut : (e : Finite) (p : ℕ) → p ≤ length e.digits
+    → scaled (cut_after p e) ≡ e.whole * 10 ^ p + value_of (take p e.digits)
 scaled_cut e p within = ap (λ n. e.whole * 10 ^ n + value_of (take p e.digits)) (length-take-le p e.digits within)
 
--- zeros
+-- If the last of them are zeros, the decimal cut off after p digits is that of the digits kept, times a power of ten.
 scaled_zeros :
-    (e : Finite) (p kept : ℕ) → IsKept e p kept 0
+    (e : Finite) (p kept : ℕ) → EndsInRunOf e p kept 0
     → scaled (cut_after p e) ≡ (e.whole * 10 ^ kept + value_of (take kept e.digits)) * 10 ^ (p - kept)
 scaled_zeros e p kept h =
-    let product = ap (λ n. e.whole * n) (raise_power kept p h.few) in
-    let value = ap value_of h.same ∙ value_more (take kept e.digits) (p - kept) in
+    let product = ap (λ n. e.whole * n) (pow10_split kept p h.few) in
+    let value = ap value_of h.same ∙ value_append_zeros (take kept e.digits) (p - kept) in
     scaled_cut e p h.within ∙ omega (arith, product, value)
 
--- nines
 fold_nines : (n k : ℕ) → fold (λ n d. n * 10 + d) n (replicate k 9) + 1 ≡ (n + 1) * 10 ^ k
 fold_nines n zero = omega arith
 fold_nines n (suc k) = rw (pow-succ' 10 k) (omega (arith, fold_nines (n * 10 + 9) k))
 
+-- If the last of them are nines, the decimal cut off after p digits, plus one in its last digit, is that of the digits
+-- kept, plus one in their last digit, times a power of ten.
 scaled_nines :
-    (e : Finite) (p kept : ℕ) → IsKept e p kept 9
+    (e : Finite) (p kept : ℕ) → EndsInRunOf e p kept 9
     → scaled (cut_after p e) + 1 ≡ (e.whole * 10 ^ kept + (value_of (take kept e.digits) + 1)) * 10 ^ (p - kept)
 scaled_nines e p kept h =
-    let product = ap (λ n. e.whole * n) (raise_power kept p h.few) in
+    let product = ap (λ n. e.whole * n) (pow10_split kept p h.few) in
     let value = ap value_of h.same ∙ fold-append (λ n d. n * 10 + d) 0 (take kept e.digits) (replicate (p - kept) 9) in
     let nines = fold_nines (value_of (take kept e.digits)) (p - kept) in
     ap (λ n. n + 1) (scaled_cut e p h.within) ∙ omega (arith, product, value, nines)
 
--- the last digit of those that are kept is in the array too
+-- The last of the digits that are kept is the same in the array.
 same_last_digit :
-    (e : Finite) (kept : ℕ) (ds : List ℕ) → BeginsWith e kept ds → 0 < kept → get_or ds (kept - 1) 0 ≡ get_or e.digits (kept - 1) 0
+    (e : Finite) (kept : ℕ) (ds : List ℕ) → BeginsWith e kept ds → 0 < kept
+    → get_or ds (kept - 1) 0 ≡ get_or e.digits (kept - 1) 0
 same_last_digit e kept ds h some =
     sym (get_or-take kept ds (kept - 1) 0 (omega (arith, some)))
     ∙ (ap (λ l. get_or l (kept - 1) 0) h.front ∙ get_or-take kept e.digits (kept - 1) 0 (omega (arith, some)))
 
-times_both : (count kept p : ℕ) → kept ≤ p → count * 10 ^ (p - kept) * 10 ^ kept ≡ count * 10 ^ p
-times_both count kept p few = let product = ap (λ n. count * n) (raise_power kept p few) in omega (arith, product)
+pow10_on_both_sides : (count kept p : ℕ) → kept ≤ p → count * 10 ^ (p - kept) * 10 ^ kept ≡ count * 10 ^ p
+pow10_on_both_sides count kept p few = let product = ap (λ n. count * n) (pow10_split kept p few) in
+    omega (arith, product)
 
+-- A decimal cut off after p digits, without the zeros at their end, is the expansion of the cut number.
 pub cut_is_expansion :
-    (e : Finite) (p kept : ℕ) (ds : List ℕ) → IsShown e → IsKept e p kept 0 → BeginsWith e kept ds
+    (e : Finite) (p kept : ℕ) (ds : List ℕ) → IsShown e → EndsInRunOf e p kept 0 → BeginsWith e kept ds
     → IsExpansion (scaled (cut_after p e)) (10 ^ p) (record { whole = e.whole; digits = take kept ds })
 cut_is_expansion e p kept ds shown h array =
     let count = e.whole * 10 ^ kept + value_of (take kept e.digits) in
     let exact : scaled (cut_after p e) * 10 ^ kept ≡ count * 10 ^ p =
-    ap (λ n. n * 10 ^ kept) (scaled_zeros e p kept h) ∙ times_both count kept p h.few in
-    let P : List ℕ → Type 0 = λ l. scaled (cut_after p e) * 10 ^ kept ≡ (e.whole * 10 ^ kept + value_of l) * 10 ^ p in
-    expansion_of_front (scaled (cut_after p e)) (10 ^ p) e.whole kept ds (omega (arith, ten p))
+    ap (λ n. n * 10 ^ kept) (scaled_zeros e p kept h) ∙ pow10_on_both_sides count kept p h.few in
+    let Exact : List ℕ → Type 0 =
+    λ l. scaled (cut_after p e) * 10 ^ kept ≡ (e.whole * 10 ^ kept + value_of l) * 10 ^ p in
+    expansion_of_first_digits (scaled (cut_after p e)) (10 ^ p) e.whole kept ds (omega (arith, one_le_pow10 p))
     (record {
       few = omega (arith, array.size, h.few, h.within, shown.few);
       small = array.small;
-      exact = subst P (sym array.front) exact;
-      last = λ some. let digit = same_last_digit e kept ds array some in let other = h.stops some in omega (arith, digit, other);
+      exact = subst Exact (sym array.front) exact;
+      last = λ some. let digit = same_last_digit e kept ds array some in let other = h.stops some in
+          omega (arith, digit, other);
     })
 
--- nines alone, so the whole part is one more
-pub next_whole :
-    (e : Finite) (p kept : ℕ) → IsKept e p kept 9 → kept ≡ 0
+-- If the first p digits are all nines, the cut number plus one in its last digit is the whole part plus one.
+pub next_whole_is_expansion :
+    (e : Finite) (p kept : ℕ) → EndsInRunOf e p kept 9 → kept ≡ 0
     → IsExpansion (scaled (cut_after p e) + 1) (10 ^ p) (record { whole = e.whole + 1; digits = [] })
-next_whole e p kept h none =
-    let nines = scaled_nines e p 0 (subst (λ k. IsKept e p k 9) none h) in
+next_whole_is_expansion e p kept h none =
+    let nines = scaled_nines e p 0 (subst (λ k. EndsInRunOf e p k 9) none h) in
     let inner : e.whole * 10 ^ 0 + (value_of (take 0 e.digits) + 1) ≡ e.whole + 1 = omega arith in
     let all : scaled (cut_after p e) + 1 ≡ (e.whole + 1) * 10 ^ p =
-    nines ∙ (ap (λ n. n * 10 ^ (p - 0)) inner ∙ ap (λ n. (e.whole + 1) * 10 ^ n) (let same : p - 0 ≡ p = omega arith in same)) in
-    expansion_of_digits (scaled (cut_after p e) + 1) (10 ^ p) (e.whole + 1) [] (omega (arith, ten p))
+    nines ∙ (ap (λ n. n * 10 ^ (p - 0)) inner
+    ∙ ap (λ n. (e.whole + 1) * 10 ^ n) (let same : p - 0 ≡ p = omega arith in same)) in
+    expansion_of_digits (scaled (cut_after p e) + 1) (10 ^ p) (e.whole + 1) [] (omega (arith, one_le_pow10 p))
     (record { small = All-nil (λ d. d < 10); exact = omega (arith, all); last = λ some. absurd (omega (arith, some)) })
 
--- the array with its last digit one more
+-- An array in which the last digit kept is one more represents one more.
 value_one_more :
     (e : Finite) (kept : ℕ) (ds : List ℕ) → BeginsWith e kept ds → 0 < kept → kept ≤ length ds
     → value_of (take kept (set ds (kept - 1) (get_or ds (kept - 1) 0 + 1))) ≡ value_of (take kept e.digits) + 1
@@ -107,11 +114,13 @@ value_one_more e kept ds array some room =
     let new_value = ap value_of new ∙ fold-append (λ n d. n * 10 + d) 0 (take last ds) ((digit + 1) ∷ []) in
     omega (arith, old_value, new_value, ap value_of array.front)
 
-pub next_digit :
-    (e : Finite) (p kept : ℕ) (ds : List ℕ) → IsShown e → IsKept e p kept 9 → BeginsWith e kept ds → 0 < kept
+-- If nines follow the digits that are kept, the cut number plus one in its last digit has these digits, the last of
+-- them one more.
+pub next_digit_is_expansion :
+    (e : Finite) (p kept : ℕ) (ds : List ℕ) → IsShown e → EndsInRunOf e p kept 9 → BeginsWith e kept ds → 0 < kept
     → IsExpansion (scaled (cut_after p e) + 1) (10 ^ p)
     (record { whole = e.whole; digits = take kept (set ds (kept - 1) (get_or ds (kept - 1) 0 + 1)) })
-next_digit e p kept ds shown h array some =
+next_digit_is_expansion e p kept ds shown h array some =
     let last : ℕ = kept - 1 in
     let digit = get_or ds last 0 in
     let fits : last < length ds = omega (arith, array.size, h.few, h.within, shown.few, some) in
@@ -119,53 +128,55 @@ next_digit e p kept ds shown h array some =
     let new = set ds last (digit + 1) in
     let count = e.whole * 10 ^ kept + (value_of (take kept e.digits) + 1) in
     let exact : (scaled (cut_after p e) + 1) * 10 ^ kept ≡ count * 10 ^ p =
-    ap (λ n. n * 10 ^ kept) (scaled_nines e p kept h) ∙ times_both count kept p h.few in
-    let P : ℕ → Type 0 = λ value. (scaled (cut_after p e) + 1) * 10 ^ kept ≡ (e.whole * 10 ^ kept + value) * 10 ^ p in
+    ap (λ n. n * 10 ^ kept) (scaled_nines e p kept h) ∙ pow10_on_both_sides count kept p h.few in
+    let Exact : ℕ → Type 0 = λ value. (scaled (cut_after p e) + 1) * 10 ^ kept
+    ≡ (e.whole * 10 ^ kept + value) * 10 ^ p in
     let small : digit < 10 = All-get_or (λ d. d < 10) ds last 0 fits array.small in
     let other = h.stops some in
     let nine : digit + 1 < 10 = omega (arith, small, same_last_digit e kept ds array some, other) in
-    expansion_of_front (scaled (cut_after p e) + 1) (10 ^ p) e.whole kept new (omega (arith, ten p))
+    expansion_of_first_digits (scaled (cut_after p e) + 1) (10 ^ p) e.whole kept new (omega (arith, one_le_pow10 p))
     (record {
       few = omega (arith, length-set ds last (digit + 1), room);
       small = All-set (λ d. d < 10) ds last (digit + 1) nine array.small;
-      exact = subst P (sym (value_one_more e kept ds array some room)) exact;
+      exact = subst Exact (sym (value_one_more e kept ds array some room)) exact;
       last = λ _. let at = get_or-set_same ds last (digit + 1) 0 fits in omega (arith, at);
     })
 
--- digits copied
-
+-- The first i digits of `ds` are those of `es`, and the rest of its 93 digits are zeros.
 pub record IsCopied (ds es : List ℕ) (i : ℕ) : Type 0 where
   pub size : length ds ≡ expansion_places
   pub front : take i ds ≡ take i es
   pub rest : drop i ds ≡ replicate (expansion_places - i) 0
   pub small : All (λ d. d < 10) ds
 
-pub none_copied : (es : List ℕ) → IsCopied (replicate expansion_places 0) es 0
-none_copied es =
+-- An array of zeros has no digit of another copied.
+pub no_digits_copied : (es : List ℕ) → IsCopied (replicate expansion_places 0) es 0
+no_digits_copied es =
     record {
-      size =
-          length-replicate {A = ℕ} expansion_places 0;
-      front =
-          refl;
+      size = length-replicate {A = ℕ} expansion_places 0;
+      front = refl;
       rest = refl;
       small = All-replicate (λ d. d < 10) expansion_places 0 (omega arith);
     }
 
--- the digit of this place
+-- `d` is the digit of `es` at index i.
 pub record IsDigitAt (es : List ℕ) (i d : ℕ) : Type 0 where
   pub within : i < length es
   pub is : d ≡ get_or es (i + 1 - 1) 0
   pub small : d < 10
 
-pub one_copied :
-    (ds es : List ℕ) (i d : ℕ) → IsCopied ds es i → i < expansion_places → IsDigitAt es i d → IsCopied (set ds i d) es (i + 1)
-one_copied ds es i d h room digit =
+-- After the digit at index i is copied, i + 1 digits are.
+pub one_more_digit_copied :
+    (ds es : List ℕ) (i d : ℕ) → IsCopied ds es i → i < expansion_places → IsDigitAt es i d
+    → IsCopied (set ds i d) es (i + 1)
+one_more_digit_copied ds es i d h room digit =
     let fits : i < length ds = omega (arith, h.size, room) in
     let same : d ≡ get_or es i 0 = digit.is ∙ ap (λ k. get_or es k 0) (let k : i + 1 - 1 ≡ i = omega arith in k) in
-    let behind = ap (λ l. l ++ d ∷ []) h.front ∙ (ap (λ x. take i es ++ x ∷ []) same ∙ sym (take_more es i 0 digit.within)) in
+    let behind = ap (λ l. l ++ d ∷ []) h.front
+    ∙ (ap (λ x. take i es ++ x ∷ []) same ∙ sym (take_more es i 0 digit.within)) in
     record {
       size = length-set ds i d ∙ h.size;
       front = take_more_set ds i d fits ∙ behind;
-      rest = zeros_behind_set expansion_places i d ds h.rest;
+      rest = zeros_after_set expansion_places i d ds h.rest;
       small = All-set (λ d. d < 10) ds i d digit.small h.small;
     }

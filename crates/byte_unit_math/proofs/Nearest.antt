@@ -1,4 +1,4 @@
--- The nearest of the multiples of a number, with nothing of digits in it.
+-- Which of two neighboring multiples of a number is nearest to another number.
 use Rattle.std.proofs.Common.{◌≢◌, ◌≡◌, ◌+◌, ◌*◌, ◌^◌, ◌<◌, ◌≤◌, ◌%◌, ⊎_elim, ℕ, arith, subst, refl}
 use Rattle.std.proofs.lemmas.Bool.{cases_lt}
 use Rattle.std.proofs.Math.Nat.{mul-le-mul_right}
@@ -7,31 +7,32 @@ use Rattle.byte_unit_math.specs.Nearest.{WinsTie, IsNearest}
 use Rattle.byte_unit_math.specs.declared.expansion.Ties.{Ties}
 use Rattle.byte_unit_math.specs.declared.expansion.Ties.TheVariants.{Even, Up}
 
--- below, at, just above, and above
-cases :
-    (count : ℕ) (P : ℕ → Type 0) → ((other : ℕ) → other < count → P other) → P count → P (count + 1)
-    → ((other : ℕ) → count + 1 < other → P other) → (other : ℕ) → P other
-cases count P lower at next upper other =
+-- A number is below `count`, is `count`, is the next one, or is above that.
+cases_around :
+    (count : ℕ) (Holds : ℕ → Type 0) → ((other : ℕ) → other < count → Holds other) → Holds count → Holds (count + 1)
+    → ((other : ℕ) → count + 1 < other → Holds other) → (other : ℕ) → Holds other
+cases_around count Holds lower at next upper other =
     ⊎_elim (lower other)
     (λ k.
-    ⊎_elim (λ l. subst P (let e : count ≡ other = omega (arith, k, l) in e) at)
+    ⊎_elim (λ l. subst Holds (let e : count ≡ other = omega (arith, k, l) in e) at)
     (λ m.
-    ⊎_elim (λ l. subst P (let e : count + 1 ≡ other = omega (arith, m, l) in e) next) (λ n. upper other (omega (arith, n)))
+    ⊎_elim (λ l. subst Holds (let e : count + 1 ≡ other = omega (arith, m, l) in e) next)
+    (λ n. upper other (omega (arith, n)))
     (cases_lt other (count + 2))) (cases_lt other (count + 1))) (cases_lt other count)
 
--- the number is low above so many multiples of den
+-- num * 10^p is `low` more than `count` multiples of den, and less than one multiple more.
 pub record LiesAbove (num den p count low : ℕ) : Type 0 where
   pub split : num * 10 ^ p ≡ count * den + low
   pub below : low < den
 
 module _ (num den p count low : ℕ) (lies : LiesAbove num den p count low) where
-  beneath : (other : ℕ) → other < count → other * den + den + low ≤ num * 10 ^ p
-  beneath other l =
+  lower_multiple : (other : ℕ) → other < count → other * den + den + low ≤ num * 10 ^ p
+  lower_multiple other l =
       let product = mul-le-mul_right {m = other + 1} {n = count} den (omega (arith, l)) in
       omega (arith, product, lies.split)
 
-  above : (other : ℕ) → count + 1 < other → num * 10 ^ p + den + den ≤ other * den + low
-  above other l =
+  upper_multiple : (other : ℕ) → count + 1 < other → num * 10 ^ p + den + den ≤ other * den + low
+  upper_multiple other l =
       let product = mul-le-mul_right {m = count + 2} {n = other} den (omega (arith, l)) in
       omega (arith, product, lies.split)
 
@@ -45,52 +46,62 @@ module _ (num den p count low : ℕ) (lies : LiesAbove num den p count low) wher
   at_next = omega (arith, lies.split, lies.below)
 
   lower_is_far : (other : ℕ) → other < count → den + low ≤ distance other
-  lower_is_far other l = omega (arith, beneath other l)
+  lower_is_far other l = omega (arith, lower_multiple other l)
 
   upper_is_far : (other : ℕ) → count + 1 < other → den + den ≤ distance other + low
-  upper_is_far other l = omega (arith, above other l)
+  upper_is_far other l = omega (arith, upper_multiple other l)
 
   this_is_nearest : 2 * low ≤ den → (other : ℕ) → distance count ≤ distance other
   this_is_nearest h =
-      cases count (λ other. distance count ≤ distance other) (λ other l. omega (arith, at_count, lower_is_far other l)) (omega arith)
+      cases_around count (λ other. distance count ≤ distance other)
+      (λ other l. omega (arith, at_count, lower_is_far other l)) (omega arith)
       (omega (arith, at_count, at_next, h)) (λ other l. omega (arith, at_count, upper_is_far other l, h))
 
   next_is_nearest : den ≤ 2 * low → (other : ℕ) → distance (count + 1) ≤ distance other
   next_is_nearest h =
-      cases count (λ other. distance (count + 1) ≤ distance other) (λ other l. omega (arith, at_next, lower_is_far other l))
-      (omega (arith, at_count, at_next, h)) (omega arith) (λ other l. omega (arith, at_next, upper_is_far other l, lies.below))
+      cases_around count (λ other. distance (count + 1) ≤ distance other)
+      (λ other l. omega (arith, at_next, lower_is_far other l))
+      (omega (arith, at_count, at_next, h)) (omega arith)
+      (λ other l. omega (arith, at_next, upper_is_far other l, lies.below))
 
+  -- If the rest is less than half of den, the multiple below is nearest, however ties are broken.
   pub nearest_down : (ties : Ties) → 2 * low < den → IsNearest num den p ties count
   nearest_down ties h = record {
     nearest = this_is_nearest (omega (arith, h));
     tie =
-        cases count (λ other. other ≢ count → distance other ≡ distance count → WinsTie ties count other)
+        cases_around count (λ other. other ≢ count → distance other ≡ distance count → WinsTie ties count other)
         (λ other l n e. absurd (omega (arith, e, at_count, lower_is_far other l, lies.below))) (λ n e. absurd (n refl))
         (λ n e. absurd (omega (arith, e, at_count, at_next, h)))
         (λ other l n e. absurd (omega (arith, e, at_count, upper_is_far other l, h)));
   }
 
+  -- If the rest is more than half of den, the multiple above is nearest, however ties are broken.
   pub nearest_up : (ties : Ties) → den < 2 * low → IsNearest num den p ties (count + 1)
   nearest_up ties h = record {
     nearest = next_is_nearest (omega (arith, h));
     tie =
-        cases count (λ other. other ≢ count + 1 → distance other ≡ distance (count + 1) → WinsTie ties (count + 1) other)
+        cases_around count (λ other. other ≢ count + 1 → distance other ≡ distance (count + 1)
+        → WinsTie ties (count + 1) other)
         (λ other l n e. absurd (omega (arith, e, at_next, lower_is_far other l, h, lies.below)))
         (λ n e. absurd (omega (arith, e, at_count, at_next, h))) (λ n e. absurd (n refl))
         (λ other l n e. absurd (omega (arith, e, at_next, upper_is_far other l, h, lies.below)));
   }
 
-  pub tie_up : 2 * low ≡ den → IsNearest num den p Up (count + 1)
-  tie_up h = record {
+  -- If the rest is half of den and ties go up, the multiple above is nearest.
+  pub tie_up_next : 2 * low ≡ den → IsNearest num den p Up (count + 1)
+  tie_up_next h = record {
     nearest = next_is_nearest (omega (arith, h));
     tie =
-        cases count (λ other. other ≢ count + 1 → distance other ≡ distance (count + 1) → WinsTie Up (count + 1) other)
+        cases_around count (λ other. other ≢ count + 1 → distance other ≡ distance (count + 1)
+        → WinsTie Up (count + 1) other)
         (λ other l n e. omega (arith, l)) (λ n e. omega arith) (λ n e. omega arith)
         (λ other l n e. absurd (omega (arith, e, at_next, upper_is_far other l, h, lies.below)));
   }
 
+  -- If the rest is half of den, ties go to even and the multiple below is odd, the one above is nearest.
   pub tie_even_next : 2 * low ≡ den → count % 2 ≡ 1 → IsNearest num den p Even (count + 1)
   tie_even_next h odd = record { nearest = next_is_nearest (omega (arith, h)); tie = λ other n e. omega (arith, odd) }
 
+  -- If the rest is half of den, ties go to even and the multiple below is even, it is nearest.
   pub tie_even_this : 2 * low ≡ den → count % 2 ≡ 0 → IsNearest num den p Even count
   tie_even_this h even = record { nearest = this_is_nearest (omega (arith, h)); tie = λ other n e. even }

@@ -1,5 +1,6 @@
--- A product that is rounded up from its last places, a group of digits a step.
-use Rattle.std.proofs.Common.{◌≡◌, ℕ, ◌+◌, ◌-◌, ◌*◌, ◌^◌, ◌/◌, ◌%◌, ◌<◌, ◌≤◌, arith, subst, sym, ap, ◌∙◌, ⊎_elim, Option, Some, None, IfSome, IfNone}
+-- A size that is rounded up from a decimal number of units, seven digits at a time.
+use Rattle.std.proofs.Common.{◌≡◌, ℕ, ◌+◌, ◌-◌, ◌*◌, ◌^◌, ◌/◌, ◌%◌, ◌<◌, ◌≤◌, arith, subst, sym, ap, ◌∙◌, ⊎_elim}
+use Rattle.std.proofs.Common.{Option, Some, None, IfSome, IfNone}
 use Rattle.std.proofs.Common.{Bool, true, false, ltb}
 use Rattle.std.specs.Bool.{then_some}
 use Rattle.std.proofs.Math.Nat.{one-le-pow, pow-le-pow_right, mul-le-mul_right}
@@ -8,11 +9,13 @@ use Rattle.std.proofs.lemmas.Bool.Decides.{nat_tests}
 use Rattle.byte_unit_math.specs.Bounds.{one, places_of_decimal}
 use Rattle.byte_unit_math.specs.Least.{IsLeastSize}
 use Rattle.byte_unit_math.specs.RoundedUp.{group_limit, half_places, half_limit, IsRoundedUp}
-use Rattle.byte_unit_math.proofs.Scales.{raise_power}
+use Rattle.byte_unit_math.proofs.Scales.{pow10_split}
 
--- the two groups of half the digits
-pub IsRoundedUp-groups : (digits unit behind part size : ℕ) → IsRoundedUp (digits % group_limit * unit + behind) group_limit part
-    → IsRoundedUp (digits / group_limit * unit + part) group_limit size → IsRoundedUp (digits * unit + behind) half_limit size
+-- Rounding up the low seven digits and then the high ones rounds up all fourteen.
+pub IsRoundedUp-groups : (digits unit behind part size : ℕ)
+    → IsRoundedUp (digits % group_limit * unit + behind) group_limit part
+    → IsRoundedUp (digits / group_limit * unit + part) group_limit size
+    → IsRoundedUp (digits * unit + behind) half_limit size
 IsRoundedUp-groups digits unit behind part size low high =
     let parts : group_limit * (digits / group_limit) + digits % group_limit ≡ digits = omega arith in
     let product = ap (λ n. n * unit) parts in
@@ -21,22 +24,24 @@ IsRoundedUp-groups digits unit behind part size low high =
       close = omega (arith, product, low.enough, low.close, high.enough, high.close);
     }
 
--- digits that are all in the first half
+-- Digits that are all in the first half of 28 digits: as a number of 14 digits they fit, and the second half is zero.
 pub record InFirstHalf (digits places : ℕ) : Type 0 where
   pub digits_fit : digits < half_limit
   pub power_fits : 10 ^ (half_places - places) ≤ half_limit
   pub first : digits * 10 ^ (half_places - places) < half_limit
   pub all : digits * 10 ^ (places_of_decimal - places) ≡ digits * 10 ^ (half_places - places) * half_limit
 
-pub first_half : (digits places : ℕ) → places ≤ half_places → digits < 10 ^ places → InFirstHalf digits places
-first_half digits places few small =
-    let parts : 10 ^ half_places ≡ 10 ^ places * 10 ^ (half_places - places) = raise_power places half_places few in
+-- At most 14 digits after the point are all in the first half.
+pub InFirstHalf-places : (digits places : ℕ) → places ≤ half_places → digits < 10 ^ places → InFirstHalf digits places
+InFirstHalf-places digits places few small =
+    let parts : 10 ^ half_places ≡ 10 ^ places * 10 ^ (half_places - places) = pow10_split places half_places few in
     let left : places_of_decimal - places - (half_places - places) ≡ half_places = omega (arith, few) in
     let scale : 10 ^ (places_of_decimal - places) ≡ 10 ^ (half_places - places) * half_limit =
-    raise_power (half_places - places) (places_of_decimal - places) (omega (arith, few))
+    pow10_split (half_places - places) (places_of_decimal - places) (omega (arith, few))
     ∙ ap (λ n. 10 ^ (half_places - places) * 10 ^ n) left in
     let product = ap (λ n. digits * n) scale in
-    let below = mul-le-mul_right {m = digits + 1} {n = 10 ^ places} (10 ^ (half_places - places)) (omega (arith, small)) in
+    let below = mul-le-mul_right {m = digits + 1} {n = 10 ^ places} (10 ^ (half_places - places))
+    (omega (arith, small)) in
     let some = one-le-pow (half_places - places) 10 (omega arith) in
     record {
       digits_fit = omega (arith, small, pow-le-pow_right {n = 10} (omega arith) {i = places} {j = half_places} few);
@@ -45,7 +50,7 @@ first_half digits places few small =
       all = omega (arith, product);
     }
 
--- the two halves of a fraction
+-- Rounding up the low half of a fraction and then the high half gives its least size.
 pub IsLeastSize-halves : (fraction unit part size : ℕ) → IsRoundedUp (fraction % half_limit * unit + 0) half_limit part
     → IsRoundedUp (fraction / half_limit * unit + part) half_limit size → IsLeastSize fraction unit size
 IsLeastSize-halves fraction unit part size low high =
@@ -56,16 +61,17 @@ IsLeastSize-halves fraction unit part size low high =
       least = λ m r. omega (arith, product, low.enough, low.close, high.enough, high.close, r);
     }
 
--- none of a unit
+-- A fraction of zero has the least size 0.
 pub IsLeastSize-none : (digits power unit : ℕ) → digits ≡ 0 → IsLeastSize (digits * power) unit 0
 IsLeastSize-none digits power unit none =
     let zero_is : 0 ≡ digits * power = sym (ap (λ n. n * power) none ∙ omega arith) in
     let least : IsLeastSize 0 unit 0 = record { has = omega arith; least = λ m r. omega arith } in
     subst (λ n. IsLeastSize n unit 0) zero_is least
 
--- the whole part's product beside the fraction's least size
+-- The least size of a decimal is the size of its whole part plus the least size of its fraction.
 pub IsLeastSize-whole :
-    (whole fraction unit part : ℕ) → IsLeastSize fraction unit part → IsLeastSize (whole * one + fraction) unit (whole * unit + part)
+    (whole fraction unit part : ℕ) → IsLeastSize fraction unit part
+    → IsLeastSize (whole * one + fraction) unit (whole * unit + part)
 IsLeastSize-whole whole fraction unit part h =
     record {
       has = omega (arith, h.has);
@@ -76,32 +82,40 @@ IsLeastSize-whole whole fraction unit part h =
           (cases_lt m (whole * unit));
     }
 
--- a decimal in its two parts, and the least size of its fraction
+-- The whole part and the fraction of N / 10^28, and the least size of the fraction.
 pub record InParts (N unit whole fraction part : ℕ) : Type 0 where
   pub whole_is : whole ≡ N / one
   pub fraction_is : fraction ≡ N % one
   pub least : IsLeastSize fraction unit part
 
-pub IsLeastSize-parts : (N unit whole fraction part : ℕ) → InParts N unit whole fraction part → IsLeastSize N unit (whole * unit + part)
+-- The size of the whole part plus the least size of the fraction is the least size of the decimal.
+pub IsLeastSize-parts : (N unit whole fraction part : ℕ) → InParts N unit whole fraction part
+    → IsLeastSize N unit (whole * unit + part)
 IsLeastSize-parts N unit whole fraction part h =
     let parts : whole * one + fraction ≡ N = omega (arith, h.whole_is, h.fraction_is) in
-    subst (λ number. IsLeastSize number unit (whole * unit + part)) parts (IsLeastSize-whole whole fraction unit part h.least)
+    subst (λ number. IsLeastSize number unit (whole * unit + part)) parts
+    (IsLeastSize-whole whole fraction unit part h.least)
 
--- where the least size reaches the limit, so does each size that is enough
-pub none_below :
-    (N unit size limit : ℕ) → IsLeastSize N unit size → limit ≤ size → (enough : ℕ) → IsLeastSize N unit enough → limit ≤ enough
-none_below N unit size limit h reached enough k = omega (arith, reached, h.least enough k.has)
+-- If the least size reaches the limit, each size that is large enough does.
+pub least_size_not_below :
+    (N unit size limit : ℕ) → IsLeastSize N unit size → limit ≤ size → (enough : ℕ) → IsLeastSize N unit enough
+    → limit ≤ enough
+least_size_not_below N unit size limit h reached enough k = omega (arith, reached, h.least enough k.has)
 
-pub IfNone-always : {T : Type 0} (o : Option T) (P : Type 0) → P → IfNone o P
-IfNone-always None P p = p
-IfNone-always (Some x) P p = tt
+-- A fact that holds also holds if an option is `None`.
+pub IfNone-always : {T : Type 0} (o : Option T) (Fact : Type 0) → Fact → IfNone o Fact
+IfNone-always None Fact fact = fact
+IfNone-always (Some x) Fact fact = tt
 
-pub IfSome-then_some : (is : Bool) (size : ℕ) (P : ℕ → Type 0) → P size → IfSome (then_some is size) P
-IfSome-then_some true size P p = p
-IfSome-then_some false size P p = tt
+-- `then_some` returns only the given size.
+pub IfSome-then_some : (is : Bool) (size : ℕ) (Holds : ℕ → Type 0) → Holds size → IfSome (then_some is size) Holds
+IfSome-then_some true size Holds holds = holds
+IfSome-then_some false size Holds holds = tt
 
-pub IfNone-below : (size limit : ℕ) (P : Type 0) → (limit ≤ size → P) → IfNone (then_some (ltb size limit) size) P
-IfNone-below size limit P reached =
+-- If `then_some` of a test against the limit returns `None`, the size reaches the limit.
+pub IfNone-below : (size limit : ℕ) (Fact : Type 0) → (limit ≤ size → Fact)
+    → IfNone (then_some (ltb size limit) size) Fact
+IfNone-below size limit Fact reached =
     ⊎_elim (λ below. let yes : ltb size limit ≡ true = grind (arith, nat_tests) in
-    subst (λ is. IfNone (then_some is size) P) (sym yes) tt)
-    (λ above. IfNone-always (then_some (ltb size limit) size) P (reached above)) (cases_lt size limit)
+    subst (λ is. IfNone (then_some is size) Fact) (sym yes) tt)
+    (λ above. IfNone-always (then_some (ltb size limit) size) Fact (reached above)) (cases_lt size limit)

@@ -1,30 +1,36 @@
--- The fields of a decimal: its whole part, and its digits after the point without zeros at their end.
-use Rattle.std.proofs.Common.{◌≡◌, ℕ, zero, suc, ◌+◌, ◌-◌, ◌*◌, ◌/◌, ◌%◌, ◌^◌, ◌<◌, ◌≤◌, Bool, true, false, nat_eq, arith, ap, refl, sym, subst, ◌∙◌}
+-- The fields of a `Decimal`: whole part, and digits after the point without trailing zeros.
+use Rattle.std.proofs.Common.{◌≡◌, ℕ, zero, suc, ◌+◌, ◌-◌, ◌*◌, ◌/◌, ◌%◌, ◌^◌, ◌<◌, ◌≤◌, Bool, true, false, nat_eq}
+use Rattle.std.proofs.Common.{arith, ap, refl, sym, subst, ◌∙◌}
 use Rattle.std.specs.Prelude.{if◌then◌else◌}
 use Rattle.std.proofs.Math.Nat.{pow-succ'}
 use Rattle.std.proofs.lemmas.Bool.Decides.{nat_tests}
 use Rattle.byte_unit_math.specs.Bounds.{one, places_of_decimal, whole_limit}
 use Rattle.byte_unit_math.specs.StoredDecimal.{number_of, shortened_digits, short_fraction, IsShort}
 use Rattle.byte_unit_math.specs.declared.decimal.Decimal.TheInside.{Inside}
-use Rattle.byte_unit_math.proofs.Division.{part_below}
+use Rattle.byte_unit_math.proofs.Division.{fraction_below_one}
 use Rattle.byte_unit_math.proofs.Places.{FewerZeros, IsShortened}
-use Rattle.byte_unit_math.proofs.Scales.{raise_power}
+use Rattle.byte_unit_math.proofs.Scales.{pow10_split}
 
--- the parts of a number
+fraction_of_fields_below_one : (d : Inside) → IsShort d → d.digits * 10 ^ (places_of_decimal - d.places) < one
+fraction_of_fields_below_one d h = fraction_below_one d.digits d.places h.few h.below
 
-below_one : (d : Inside) → IsShort d → d.digits * 10 ^ (places_of_decimal - d.places) < one
-below_one d h = part_below d.digits d.places h.few h.below
+-- The field `whole` is the whole part of the value.
+pub whole_of_fields : (N : ℕ) (d : Inside) → IsShort d → number_of d ≡ N → d.whole ≡ N / one
+whole_of_fields N d h view = let part = fraction_of_fields_below_one d h in omega (arith, part, view)
 
-pub whole_is : (N : ℕ) (d : Inside) → IsShort d → number_of d ≡ N → d.whole ≡ N / one
-whole_is N d h view = let part = below_one d h in omega (arith, part, view)
+-- The field `digits`, scaled to 28 digits, is the fraction of the value.
+pub fraction_of_fields : (N : ℕ) (d : Inside) → IsShort d → number_of d ≡ N
+    → d.digits * 10 ^ (places_of_decimal - d.places) ≡ N % one
+fraction_of_fields N d h view = let part = fraction_of_fields_below_one d h in omega (arith, part, view)
 
-pub fraction_is : (N : ℕ) (d : Inside) → IsShort d → number_of d ≡ N → d.digits * 10 ^ (places_of_decimal - d.places) ≡ N % one
-fraction_is N d h view = let part = below_one d h in omega (arith, part, view)
-
-pub shortened_is : (N : ℕ) (d : Inside) → IsShort d → number_of d ≡ N → IsShortened (N % one) places_of_decimal d.digits d.places
-shortened_is N d h view = record { fewer = record { few = h.few; same = sym (fraction_is N d h view); below = h.below }; last = h.last }
-
--- digits without the zeros at their end are found again
+-- The fields hold the fraction of the value without trailing zeros.
+pub fields_are_shortened : (N : ℕ) (d : Inside) → IsShort d → number_of d ≡ N
+    → IsShortened (N % one) places_of_decimal d.digits d.places
+fields_are_shortened N d h view =
+    record {
+      fewer = record { few = h.few; same = sym (fraction_of_fields N d h view); below = h.below };
+      last = h.last;
+    }
 
 digits_kept : (places digits : ℕ) → (0 < places → 0 < digits % 10) → shortened_digits places digits ≡ (digits, places)
 unfolding shortened_digits
@@ -32,19 +38,23 @@ digits_kept zero digits last = refl
 digits_kept (suc places) digits last =
     let some = last (omega arith) in
     let no : nat_eq (digits % 10) 0 ≡ false = grind (arith, nat_tests) in
-    let P : Bool → Type 0 = λ b. (if b then shortened_digits places (digits / 10) else (digits, suc places)) ≡ (digits, suc places) in
-    subst P (sym no) refl
+    let Trims : Bool → Type 0 =
+    λ b. (if b then shortened_digits places (digits / 10) else (digits, suc places)) ≡ (digits, suc places) in
+    subst Trims (sym no) refl
 
-zero_dropped : (places digits : ℕ) → digits % 10 ≡ 0 → shortened_digits (suc places) digits ≡ shortened_digits places (digits / 10)
+zero_dropped : (places digits : ℕ) → digits % 10 ≡ 0
+    → shortened_digits (suc places) digits ≡ shortened_digits places (digits / 10)
 unfolding shortened_digits
 zero_dropped places digits none =
     let yes : nat_eq (digits % 10) 0 ≡ true = grind (arith, nat_tests) in
     let fewer = shortened_digits places (digits / 10) in
-    let P : Bool → Type 0 = λ b. (if b then fewer else (digits, suc places)) ≡ fewer in
-    subst P (sym yes) refl
+    let Trims : Bool → Type 0 = λ b. (if b then fewer else (digits, suc places)) ≡ fewer in
+    subst Trims (sym yes) refl
 
+-- Removing the trailing zeros of digits to which zeros were appended gives the digits.
 zeros_dropped :
-    (behind all places digits rest : ℕ) → all ≡ behind + places → rest ≡ digits * 10 ^ behind → (0 < places → 0 < digits % 10)
+    (behind all places digits rest : ℕ) → all ≡ behind + places → rest ≡ digits * 10 ^ behind
+    → (0 < places → 0 < digits % 10)
     → shortened_digits all rest ≡ (digits, places)
 zeros_dropped zero all places digits rest count product last =
     let e : places ≡ all = omega (arith, count) in
@@ -58,42 +68,52 @@ zeros_dropped (suc behind) (suc all) places digits rest count product last =
     zero_dropped all rest (omega (arith, tens))
     ∙ zeros_dropped behind all places digits (rest / 10) (omega (arith, count)) (omega (arith, tens)) last
 
-short_found : (rest : ℕ) (pair : ℕ × ℕ) → shortened_digits places_of_decimal rest ≡ pair → short_fraction rest ≡ pair
-short_found zero pair h =
+short_fraction_is : (rest : ℕ) (pair : ℕ × ℕ) → shortened_digits places_of_decimal rest ≡ pair
+    → short_fraction rest ≡ pair
+short_fraction_is zero pair h =
     let none : shortened_digits places_of_decimal 0 ≡ (0, 0) =
-    zeros_dropped places_of_decimal places_of_decimal 0 0 0 (omega arith) (omega arith) (λ some. absurd (omega (arith, some))) in
+    zeros_dropped places_of_decimal places_of_decimal 0 0 0 (omega arith) (omega arith)
+    (λ some. absurd (omega (arith, some))) in
     sym none ∙ h
-short_found (suc rest) pair h = h
+short_fraction_is (suc rest) pair h = h
 
--- the fields that the number gives back
-
+-- A whole part below 2^112, and at most 28 digits after the point, the last of them not zero.
 pub record AreParts (whole digits places : ℕ) : Type 0 where
   pub bound : whole < whole_limit
   pub few : places ≤ places_of_decimal
   pub below : digits < 10 ^ places
   pub last : 0 < places → 0 < digits % 10
 
-pub short_parts :
-    (whole digits places : ℕ) → AreParts whole digits places → IsShort (record { whole = whole; digits = digits; places = places })
-short_parts whole digits places h =
+-- Such parts satisfy the invariant of a `Decimal`.
+pub IsShort-parts :
+    (whole digits places : ℕ) → AreParts whole digits places
+    → IsShort (record { whole = whole; digits = digits; places = places })
+IsShort-parts whole digits places h =
     let n = whole * one + digits * 10 ^ (places_of_decimal - places) in
-    let part = part_below digits places h.few h.below in
+    let part = fraction_below_one digits places h.few h.below in
     let front : n / one ≡ whole = omega (arith, part) in
     let behind : n % one ≡ digits * 10 ^ (places_of_decimal - places) = omega (arith, part) in
     let short : short_fraction (n % one) ≡ (digits, places) =
-    short_found (n % one) (digits, places)
-    (zeros_dropped (places_of_decimal - places) places_of_decimal places digits (n % one) (omega (arith, h.few)) behind h.last) in
-    let of_whole : ℕ → Inside = λ w. record { whole = w; digits = (short_fraction (n % one)).0; places = (short_fraction (n % one)).1 } in
+    short_fraction_is (n % one) (digits, places)
+    (zeros_dropped (places_of_decimal - places) places_of_decimal places digits (n % one) (omega (arith, h.few)) behind
+    h.last) in
+    let of_whole : ℕ → Inside =
+    λ w. record { whole = w; digits = (short_fraction (n % one)).0; places = (short_fraction (n % one)).1 } in
     let of_short : ℕ × ℕ → Inside = λ pair. record { whole = whole; digits = pair.0; places = pair.1 } in
-    record { bound = h.bound; few = h.few; below = h.below; last = h.last; only = ap of_whole front ∙ ap of_short short }
+    record {
+      bound = h.bound;
+      few = h.few;
+      below = h.below;
+      last = h.last;
+      only = ap of_whole front ∙ ap of_short short;
+    }
 
--- the same number without the zeros at the end of its digits
-
-pub shortened_number :
+-- Removing trailing zeros does not change the value.
+pub number_of_shortened :
     (whole digits all short places : ℕ) → FewerZeros digits all short places → all ≤ places_of_decimal
     → whole * one + short * 10 ^ (places_of_decimal - places) ≡ whole * one + digits * 10 ^ (places_of_decimal - all)
-shortened_number whole digits all short places h most =
-    let scale = raise_power (all - places) (places_of_decimal - places) (omega (arith, h.few, most)) in
+number_of_shortened whole digits all short places h most =
+    let scale = pow10_split (all - places) (places_of_decimal - places) (omega (arith, h.few, most)) in
     let left : places_of_decimal - places - (all - places) ≡ places_of_decimal - all = omega (arith, h.few, most) in
     let power : 10 ^ (places_of_decimal - places) ≡ 10 ^ (all - places) * 10 ^ (places_of_decimal - all) =
     scale ∙ ap (λ n. 10 ^ (all - places) * 10 ^ n) left in

@@ -1,5 +1,6 @@
--- A decimal is known by its number of places and its number, so each form has one text.
-use Rattle.std.proofs.Common.{◌≡◌, ◌+◌, ◌-◌, ◌*◌, ◌^◌, ◌/◌, ◌%◌, ◌<◌, ◌≤◌, ⊎_elim, ℕ, zero, suc, List, [], ◌∷◌, ◌++◌, length, take, get_or}
+-- Expansions, their texts and nearest decimals are unique, and an expansion is found by division.
+use Rattle.std.proofs.Common.{◌≡◌, ◌+◌, ◌-◌, ◌*◌, ◌^◌, ◌/◌, ◌%◌, ◌<◌, ◌≤◌, ⊎_elim, ℕ, zero, suc, List, [], ◌∷◌, ◌++◌}
+use Rattle.std.proofs.Common.{length, take, get_or}
 use Rattle.std.proofs.Common.{replicate, arith, ap, sym, refl, subst, ◌∙◌, length-append, append-nil}
 use Rattle.std.specs.Prelude.{⊤}
 use Rattle.std.specs.List.{All}
@@ -19,17 +20,18 @@ use Rattle.byte_unit_math.specs.Digits.{last_digits, at_places, before, without_
 use Rattle.byte_unit_math.specs.NumberLaws.{ExpansionsAreFoundByDivision, ShortNumeralsAreExpansions}
 use Rattle.byte_unit_math.specs.Numeral.{text_of, numeral, short}
 use Rattle.byte_unit_math.specs.Padded.{padded}
-use Rattle.byte_unit_math.proofs.Digits.{ten, value_cons, value_more, length_last, small_last, scaled_places, short_of}
+use Rattle.byte_unit_math.proofs.Digits.{one_le_pow10, value_cons, value_append_zeros, length_last_digits}
+use Rattle.byte_unit_math.proofs.Digits.{last_digits_below_ten, scaled_at_places, ShortOf-shortened}
 use Rattle.byte_unit_math.proofs.Expanding.{expansion_of_digits}
-use Rattle.byte_unit_math.proofs.Scales.{raise_power}
-use Rattle.byte_unit_math.proofs.Cut.{small_value}
+use Rattle.byte_unit_math.proofs.Scales.{pow10_split}
+use Rattle.byte_unit_math.proofs.Cut.{value_below_power}
 
--- one decimal
+-- Each of the numbers is a decimal digit.
+abbrev AllBelowTen : List ℕ → Type 0
+AllBelowTen ds = All (λ d. d < 10) ds
 
-abbrev Small : List ℕ → Type 0
-Small ds = All (λ d. d < 10) ds
-
-same_digits : (ds es : List ℕ) → Small ds → Small es → length ds ≡ length es → value_of ds ≡ value_of es → ds ≡ es
+same_digits : (ds es : List ℕ) → AllBelowTen ds → AllBelowTen es → length ds ≡ length es → value_of ds ≡ value_of es
+    → ds ≡ es
 same_digits [] [] h k len e = refl
 same_digits [] (x ∷ es) h k len e = absurd (omega (arith, len))
 same_digits (d ∷ ds) [] h k len e = absurd (omega (arith, len))
@@ -38,49 +40,52 @@ same_digits (d ∷ ds) (x ∷ es) h k len e =
     let hs = All-tail (λ d. d < 10) d ds h in
     let ks = All-tail (λ d. d < 10) x es k in
     let scale : 10 ^ length es ≡ 10 ^ length ds = ap (λ n. 10 ^ n) (sym l) in
-    let small : value_of es < 10 ^ length ds = omega (arith, small_value es ks, scale) in
+    let small : value_of es < 10 ^ length ds = omega (arith, value_below_power es ks, scale) in
     let product = ap (λ n. x * n) scale in
     let parts =
-    same_from_place d (value_of ds) x (value_of es) (10 ^ length ds) (small_value ds hs) small
+    same_from_place d (value_of ds) x (value_of es) (10 ^ length ds) (value_below_power ds hs) small
     (omega (arith, product, value_cons d ds, value_cons x es, e)) in
     ap (λ n. n ∷ ds) parts.0 ∙ ap (λ l. x ∷ l) (same_digits ds es hs ks l parts.1)
 
-pub same_finite : (e f : Finite) → Small e.digits → Small f.digits → length e.digits ≡ length f.digits → scaled e ≡ scaled f → e ≡ f
+-- Two decimals with as many digits after the point and the same scaled value are equal.
+pub same_finite : (e f : Finite) → AllBelowTen e.digits → AllBelowTen f.digits → length e.digits ≡ length f.digits
+    → scaled e ≡ scaled f → e ≡ f
 same_finite e f h k len same =
     let scale : 10 ^ length f.digits ≡ 10 ^ length e.digits = ap (λ n. 10 ^ n) (sym len) in
     let product = ap (λ n. f.whole * n) scale in
     let parts =
-    same_from_place e.whole (value_of e.digits) f.whole (value_of f.digits) (10 ^ length e.digits) (small_value e.digits h)
-    (omega (arith, small_value f.digits k, scale)) (omega (arith, same, product)) in
+    same_from_place e.whole (value_of e.digits) f.whole (value_of f.digits) (10 ^ length e.digits)
+    (value_below_power e.digits h)
+    (omega (arith, value_below_power f.digits k, scale)) (omega (arith, same, product)) in
     let digits = same_digits e.digits f.digits h k len parts.1 in
     let of_whole : ℕ → Finite = λ w. record { whole = w; digits = e.digits } in
     let of_digits : List ℕ → Finite = λ ds. record { whole = f.whole; digits = ds } in
     ap of_whole parts.0 ∙ ap of_digits digits
 
-pub one_expansion : (num den : ℕ) (e f : Finite) → 0 < den → IsExpansion num den e → IsExpansion num den f → e ≡ f
-one_expansion num den e f positive h k =
+-- A fraction has only one expansion.
+pub expansion_unique : (num den : ℕ) (e f : Finite) → 0 < den → IsExpansion num den e → IsExpansion num den f → e ≡ f
+expansion_unique num den e f positive h k =
     let no_more = h.least (length f.digits) (scaled f, k.exact) in
     let no_fewer = k.least (length e.digits) (scaled e, h.exact) in
     let len : length e.digits ≡ length f.digits = omega (arith, no_more, no_fewer) in
     let same : scaled e * den ≡ scaled f * den = sym h.exact ∙ (ap (λ n. num * 10 ^ n) len ∙ k.exact) in
     same_finite e f h.small k.small len (eq_of_mul-eq-mul_right den positive (scaled e) (scaled f) same)
 
--- the short numeral
-
+-- The last digit is not zero.
 abbrev EndsSome : List ℕ → Type 0
 EndsSome [] = ⊤
 EndsSome (d ∷ []) = 0 < d
 EndsSome (d ∷ e ∷ es) = EndsSome (e ∷ es)
 
-ends_before : (d : ℕ) (es : List ℕ) → EndsSome es → EndsSome (before d es)
-ends_before zero [] h = h
-ends_before (suc d) [] h = omega arith
-ends_before zero (e ∷ es) h = h
-ends_before (suc d) (e ∷ es) h = h
+ends_before_digit : (d : ℕ) (es : List ℕ) → EndsSome es → EndsSome (before d es)
+ends_before_digit zero [] h = h
+ends_before_digit (suc d) [] h = omega arith
+ends_before_digit zero (e ∷ es) h = h
+ends_before_digit (suc d) (e ∷ es) h = h
 
-ends_without : (ds : List ℕ) → EndsSome (without_zeros ds)
-ends_without [] = tt
-ends_without (d ∷ ds) = ends_before d (without_zeros ds) (ends_without ds)
+ends_without_zeros : (ds : List ℕ) → EndsSome (without_zeros ds)
+ends_without_zeros [] = tt
+ends_without_zeros (d ∷ ds) = ends_before_digit d (without_zeros ds) (ends_without_zeros ds)
 
 ends_last : (ds : List ℕ) → EndsSome ds → 0 < length ds → 0 < get_or ds (length ds - 1) 0
 ends_last [] h k = absurd (omega (arith, k))
@@ -89,84 +94,94 @@ ends_last (d ∷ e ∷ es) h k =
     let last = ends_last (e ∷ es) h (omega arith) in
     let fewer : suc (length es) - 1 ≡ length es = omega arith in
     let all : suc (suc (length es)) - 1 ≡ suc (length es) = omega arith in
-    let P : ℕ → Type 0 = λ i. 0 < get_or (e ∷ es) i 0 in
-    let Q : ℕ → Type 0 = λ i. 0 < get_or (d ∷ e ∷ es) i 0 in
-    subst Q (sym all) (subst P fewer last)
+    let PositiveInTail : ℕ → Type 0 = λ i. 0 < get_or (e ∷ es) i 0 in
+    let PositiveInAll : ℕ → Type 0 = λ i. 0 < get_or (d ∷ e ∷ es) i 0 in
+    subst PositiveInAll (sym all) (subst PositiveInTail fewer last)
 
-pub short_expansion : ShortNumeralsAreExpansions
-short_expansion q p =
+-- q / 10^p without trailing zeros is its expansion.
+pub short_numeral_is_expansion : ShortNumeralsAreExpansions
+short_numeral_is_expansion q p =
     let e = shortened (at_places p q) in
-    let is_short = short_of q p in
+    let is_short = ShortOf-shortened q p in
     let exact = ap (λ n. n * 10 ^ length e.digits) is_short.scaled_is in
-    let product = ap (λ n. scaled e * n) (raise_power (length e.digits) p is_short.few) in
-    expansion_of_digits q (10 ^ p) e.whole e.digits (omega (arith, ten p))
+    let product = ap (λ n. scaled e * n) (pow10_split (length e.digits) p is_short.few) in
+    expansion_of_digits q (10 ^ p) e.whole e.digits (omega (arith, one_le_pow10 p))
     (record {
       small = is_short.small;
       exact = omega (arith, exact, product);
-      last = ends_last e.digits (ends_without (last_digits p q));
+      last = ends_last e.digits (ends_without_zeros (last_digits p q));
     })
 
--- the decimal of q / 10^p is printed as the short numeral
-pub short_text : (q p : ℕ) (e : Finite) → IsExpansion q (10 ^ p) e → text_of e ≡ short q p
-short_text q p e h = ap text_of (one_expansion q (10 ^ p) e (shortened (at_places p q)) (omega (arith, ten p)) h (short_expansion q p))
+-- The text of the expansion of q / 10^p is the numeral of q without trailing zeros.
+pub text_of_short_numeral : (q p : ℕ) (e : Finite) → IsExpansion q (10 ^ p) e → text_of e ≡ short q p
+text_of_short_numeral q p e h =
+    ap text_of (expansion_unique q (10 ^ p) e (shortened (at_places p q)) (omega (arith, one_le_pow10 p)) h
+    (short_numeral_is_expansion q p))
 
--- the numeral with all places
-
-pub padded_is : (q p : ℕ) (e : Finite) → IsExpansion q (10 ^ p) e → padded p e ≡ at_places p q
-padded_is q p e h =
+-- The expansion of q / 10^p, padded with zeros to p digits after the point, has the digits of q.
+pub padded_is_at_places : (q p : ℕ) (e : Finite) → IsExpansion q (10 ^ p) e → padded p e ≡ at_places p q
+padded_is_at_places q p e h =
     let len = length e.digits in
     let few : len ≤ p = h.least p (q, refl) in
     let zeros : List ℕ = replicate (p - len) 0 in
     let all : take p e.digits ≡ e.digits = take_all p e.digits few in
     let f : Finite = record { whole = e.whole; digits = e.digits ++ zeros } in
     let of_front : List ℕ → Finite = λ l. record { whole = e.whole; digits = l ++ zeros } in
-    let count : length f.digits ≡ p = omega (arith, length-append e.digits zeros, length-replicate {A = ℕ} (p - len) 0, few) in
-    let power = raise_power len p few in
+    let count : length f.digits ≡ p =
+    omega (arith, length-append e.digits zeros, length-replicate {A = ℕ} (p - len) 0, few) in
+    let power = pow10_split len p few in
     let whole = ap (λ n. e.whole * n) power in
     let number = ap (λ n. scaled e * n) power in
-    let value = ap (λ n. n * 10 ^ len) (value_more e.digits (p - len)) in
-    let scaled_f : scaled f ≡ e.whole * 10 ^ p + value_of f.digits = ap (λ n. e.whole * 10 ^ n + value_of f.digits) count in
+    let value = ap (λ n. n * 10 ^ len) (value_append_zeros e.digits (p - len)) in
+    let scaled_f : scaled f ≡ e.whole * 10 ^ p + value_of f.digits =
+    ap (λ n. e.whole * 10 ^ n + value_of f.digits) count in
     let same : scaled f ≡ q =
-    eq_of_mul-eq-mul_right (10 ^ len) (omega (arith, ten len)) (scaled f) q
+    eq_of_mul-eq-mul_right (10 ^ len) (omega (arith, one_le_pow10 len)) (scaled f) q
     (omega (arith, ap (λ n. n * 10 ^ len) scaled_f, whole, number, value, h.exact, ap (λ n. n * 10 ^ len) whole)) in
-    let small = All-append (λ d. d < 10) e.digits zeros h.small (All-replicate (λ d. d < 10) (p - len) 0 (omega arith)) in
-    ap of_front all ∙ same_finite f (at_places p q) small (small_last p q) (count ∙ sym (length_last p q)) (same ∙ sym (scaled_places p q))
+    let small = All-append (λ d. d < 10) e.digits zeros h.small
+    (All-replicate (λ d. d < 10) (p - len) 0 (omega arith)) in
+    ap of_front all ∙ same_finite f (at_places p q) small (last_digits_below_ten p q)
+    (count ∙ sym (length_last_digits p q)) (same ∙ sym (scaled_at_places p q))
 
-pub numeral_text : (q p : ℕ) (e : Finite) → IsExpansion q (10 ^ p) e → text_of (padded p e) ≡ numeral q p
-numeral_text q p e h = ap text_of (padded_is q p e h)
+-- The text of the expansion of q / 10^p, padded to p digits after the point, is the numeral with all p digits.
+pub text_of_padded : (q p : ℕ) (e : Finite) → IsExpansion q (10 ^ p) e → text_of (padded p e) ≡ numeral q p
+text_of_padded q p e h = ap text_of (padded_is_at_places q p e h)
 
--- with just its own places
-pub own_places : (e : Finite) → padded (length e.digits) e ≡ e
-own_places e =
+-- Padded to its own number of digits after the point, a decimal is unchanged.
+pub padded_to_own_places : (e : Finite) → padded (length e.digits) e ≡ e
+padded_to_own_places e =
     let none : length e.digits - length e.digits ≡ 0 = omega arith in
-    let of_count : ℕ → Finite = λ n. record { whole = e.whole; digits = take (length e.digits) e.digits ++ replicate n 0 } in
+    let of_count : ℕ → Finite =
+    λ n. record { whole = e.whole; digits = take (length e.digits) e.digits ++ replicate n 0 } in
     let of_digits : List ℕ → Finite = λ l. record { whole = e.whole; digits = l } in
-    ap of_count none ∙ ap of_digits (append-nil (take (length e.digits) e.digits) ∙ take_all (length e.digits) e.digits (omega arith))
-
--- nearest to the decimal of a fraction is nearest to the fraction
+    ap of_count none ∙ ap of_digits
+    (append-nil (take (length e.digits) e.digits) ∙ take_all (length e.digits) e.digits (omega arith))
 
 difference_apart : (a d k : ℕ) → abs_diff a (a + d) * k ≡ abs_diff (a * k) ((a + d) * k)
 difference_apart a d k = let e : abs_diff a (a + d) ≡ d = omega arith in ap (λ n. n * k) e ∙ omega arith
 
-difference_turned : (a b : ℕ) → abs_diff a b ≡ abs_diff b a
-difference_turned a b = omega arith
+difference_swapped : (a b : ℕ) → abs_diff a b ≡ abs_diff b a
+difference_swapped a b = omega arith
 
 difference_times : (a b k : ℕ) → abs_diff a b * k ≡ abs_diff (a * k) (b * k)
 difference_times a b k =
-    let P : ℕ → Type 0 = λ n. abs_diff a n * k ≡ abs_diff (a * k) (n * k) in
-    let Q : ℕ → Type 0 = λ n. abs_diff b n * k ≡ abs_diff (b * k) (n * k) in
-    ⊎_elim (λ l. subst P (let e : a + (b - a) ≡ b = omega (arith, l) in e) (difference_apart a (b - a) k))
-    (λ l. let times = subst Q (let e : b + (a - b) ≡ a = omega (arith, l) in e) (difference_apart b (a - b) k) in
-    ap (λ n. n * k) (difference_turned a b) ∙ (times ∙ difference_turned (b * k) (a * k))) (cases_lt a b)
+    let TimesFromA : ℕ → Type 0 = λ n. abs_diff a n * k ≡ abs_diff (a * k) (n * k) in
+    let TimesFromB : ℕ → Type 0 = λ n. abs_diff b n * k ≡ abs_diff (b * k) (n * k) in
+    ⊎_elim (λ l. subst TimesFromA (let e : a + (b - a) ≡ b = omega (arith, l) in e) (difference_apart a (b - a) k))
+    (λ l. let times = subst TimesFromB (let e : b + (a - b) ≡ a = omega (arith, l) in e)
+    (difference_apart b (a - b) k) in
+    ap (λ n. n * k) (difference_swapped a b) ∙ (times ∙ difference_swapped (b * k) (a * k))) (cases_lt a b)
 
-pub nearest_of :
+-- What is nearest to the expansion of a fraction is nearest to the fraction.
+pub nearest_of_expansion :
     (num den : ℕ) (e : Finite) (p : ℕ) (ties : Ties) (q : ℕ) → (0 < den) × (num * 10 ^ length e.digits ≡ scaled e * den)
     → IsNearest (scaled e) (10 ^ length e.digits) p ties q → IsNearest num den p ties q
-nearest_of num den e p ties q stated h =
+nearest_of_expansion num den e p ties q is_exact h =
     let power = 10 ^ length e.digits in
     let number = scaled e in
-    let some : 0 < power = omega (arith, ten (length e.digits)) in
-    let goal_is : number * 10 ^ p * den ≡ num * 10 ^ p * power = let exact = ap (λ n. n * 10 ^ p) stated.1 in omega (arith, exact) in
+    let some : 0 < power = omega (arith, one_le_pow10 (length e.digits)) in
+    let goal_is : number * 10 ^ p * den ≡ num * 10 ^ p * power = let exact = ap (λ n. n * 10 ^ p) is_exact.1 in
+    omega (arith, exact) in
     let same : (o : ℕ) → abs_diff (o * power) (number * 10 ^ p) * den ≡ abs_diff (o * den) (num * 10 ^ p) * power =
     λ o. let sides : o * power * den ≡ o * den * power = omega arith in
     difference_times (o * power) (number * 10 ^ p) den
@@ -174,93 +189,110 @@ nearest_of num den e p ties q stated h =
     ∙ (ap (λ n. abs_diff (o * den * power) n) goal_is ∙ sym (difference_times (o * den) (num * 10 ^ p) power))) in
     record {
       nearest = λ o. let least =
-          mul-le-mul_right {m = abs_diff (q * power) (number * 10 ^ p)} {n = abs_diff (o * power) (number * 10 ^ p)} den (h.nearest o) in
+          mul-le-mul_right {m = abs_diff (q * power) (number * 10 ^ p)} {n = abs_diff (o * power) (number * 10 ^ p)} den
+          (h.nearest o) in
           let this = same q in let other = same o in
-          le_of_mul-le-mul_right {m = abs_diff (q * den) (num * 10 ^ p)} {n = abs_diff (o * den) (num * 10 ^ p)} {k = power}
+          le_of_mul-le-mul_right {m = abs_diff (q * den) (num * 10 ^ p)} {n = abs_diff (o * den) (num * 10 ^ p)}
+          {k = power}
           (omega (arith, least, this, other)) some;
       tie = λ o n k. h.tie o n (let tied = ap (λ x. x * power) k in
-          eq_of_mul-eq-mul_right den stated.0 (abs_diff (o * power) (number * 10 ^ p)) (abs_diff (q * power) (number * 10 ^ p))
+          eq_of_mul-eq-mul_right den is_exact.0 (abs_diff (o * power) (number * 10 ^ p))
+          (abs_diff (q * power) (number * 10 ^ p))
           (same o ∙ (tied ∙ sym (same q))));
     }
 
--- equal fractions have one decimal
-
+-- Two fractions with positive denominators are equal.
 pub record SameFraction (num den num' den' : ℕ) : Type 0 where
   pub positive : 0 < den
   pub positive' : 0 < den'
   pub same : num * den' ≡ num' * den
 
 same_places :
-    (num den num' den' p count : ℕ) → SameFraction num den num' den' → num' * 10 ^ p ≡ count * den' → num * 10 ^ p ≡ count * den
+    (num den num' den' p count : ℕ) → SameFraction num den num' den' → num' * 10 ^ p ≡ count * den'
+    → num * 10 ^ p ≡ count * den
 same_places num den num' den' p count h exact =
     let power = ap (λ n. n * 10 ^ p) h.same in
     let times = ap (λ n. n * den) exact in
     eq_of_mul-eq-mul_right den' h.positive' (num * 10 ^ p) (count * den) (omega (arith, power, times))
 
-pub same_fraction :
-    (num den num' den' : ℕ) (e : Finite) → SameFraction num den num' den' → IsExpansion num den e → IsExpansion num' den' e
-same_fraction num den num' den' e same h =
-    let turned_round : SameFraction num' den' num den =
+-- Equal fractions have the same expansion.
+pub expansion_of_same_fraction :
+    (num den num' den' : ℕ) (e : Finite) → SameFraction num den num' den' → IsExpansion num den e
+    → IsExpansion num' den' e
+expansion_of_same_fraction num den num' den' e same h =
+    let swapped : SameFraction num' den' num den =
     record { positive = same.positive'; positive' = same.positive; same = sym same.same } in
     record {
       small = h.small;
-      exact = same_places num' den' num den (length e.digits) (scaled e) turned_round h.exact;
+      exact = same_places num' den' num den (length e.digits) (scaled e) swapped h.exact;
       least = λ p k. h.least p (k.0, same_places num den num' den' p k.0 same k.1);
     }
 
--- the decimal of a fraction, found by division
-
-expansion_at : (num den p : ℕ) → 0 < den → IsExactAt num den p → IsExpansion num den (shortened (at_places p (num * 10 ^ p / den)))
+expansion_at : (num den p : ℕ) → 0 < den → IsExactAt num den p
+    → IsExpansion num den (shortened (at_places p (num * 10 ^ p / den)))
 expansion_at num den p some h =
     let quotient : num * 10 ^ p / den ≡ h.0 = ap (λ n. n / den) h.1 ∙ mul-div_cancel h.0 some in
-    let P : ℕ → Type 0 = λ q. IsExpansion num den (shortened (at_places p q)) in
-    subst P (sym quotient)
-    (same_fraction h.0 (10 ^ p) num den (shortened (at_places p h.0))
-    (record { positive = omega (arith, ten p); positive' = some; same = sym h.1 }) (short_expansion h.0 p))
+    let ExpandsTo : ℕ → Type 0 = λ q. IsExpansion num den (shortened (at_places p q)) in
+    subst ExpandsTo (sym quotient)
+    (expansion_of_same_fraction h.0 (10 ^ p) num den (shortened (at_places p h.0))
+    (record { positive = omega (arith, one_le_pow10 p); positive' = some; same = sym h.1 })
+    (short_numeral_is_expansion h.0 p))
 
-pub expansion_there : (num den : ℕ) → 0 < den → IsExactAt num den expansion_places → IsExpansion num den (expansion_of num den)
-expansion_there num den some ends = expansion_at num den expansion_places some ends
+-- If num / den is exact with 93 digits after the point, the quotient cut off there without trailing zeros is its
+-- expansion.
+pub expansion_of_is_expansion : (num den : ℕ) → 0 < den → IsExactAt num den expansion_places
+    → IsExpansion num den (expansion_of num den)
+expansion_of_is_expansion num den some ends = expansion_at num den expansion_places some ends
 
-pub expansion_is :
-    (num den : ℕ) (e : Finite) → 0 < den → IsExactAt num den expansion_places → IsExpansion num den e → e ≡ expansion_of num den
-expansion_is num den e some ends h = one_expansion num den e (expansion_of num den) some h (expansion_there num den some ends)
+-- If num / den is exact with 93 digits after the point, each expansion of it is the quotient cut off there.
+pub expansion_is_by_division :
+    (num den : ℕ) (e : Finite) → 0 < den → IsExactAt num den expansion_places → IsExpansion num den e
+    → e ≡ expansion_of num den
+expansion_is_by_division num den e some ends h =
+    expansion_unique num den e (expansion_of num den) some h (expansion_of_is_expansion num den some ends)
 
+-- If num / den is exact with 93 digits after the point, its expansions are exactly the quotient cut off there.
 pub expansions_by_division : ExpansionsAreFoundByDivision
 expansions_by_division num den e other ends =
     let some : 0 < den = ⊎_elim (λ l. l) (λ k. absurd (other (omega (arith, k)))) (cases_lt 0 den) in
-    (λ h. expansion_is num den e some ends h, λ is. subst (IsExpansion num den) (sym is) (expansion_there num den some ends))
+    (λ h. expansion_is_by_division num den e some ends h,
+    λ is. subst (IsExpansion num den) (sym is) (expansion_of_is_expansion num den some ends))
 
--- one nearest
-
+-- q and r are both nearest to num / den.
 pub record BothNearest (num den p : ℕ) (ties : Ties) (q r : ℕ) : Type 0 where
   pub positive : 0 < den
   pub this : IsNearest num den p ties q
   pub other : IsNearest num den p ties r
 
-same_far :
+equally_far :
     (num den p : ℕ) (ties : Ties) (q r : ℕ) → BothNearest num den p ties q r
     → abs_diff (r * den) (num * 10 ^ p) ≡ abs_diff (q * den) (num * 10 ^ p)
-same_far num den p ties q r h = let other = h.this.nearest r in let this = h.other.nearest q in omega (arith, this, other)
+equally_far num den p ties q r h = let other = h.this.nearest r in let this = h.other.nearest q in
+    omega (arith, this, other)
 
 not_between : (num den p : ℕ) (ties : Ties) (q r : ℕ) → BothNearest num den p ties q r → q + 1 < r → ⊥
 not_between num den p ties q r h apart =
     let product = mul-le-mul_right {m = q + 2} {n = r} den (omega (arith, apart)) in
-    absurd (omega (arith, product, same_far num den p ties q r h, h.this.nearest (q + 1), h.positive))
+    absurd (omega (arith, product, equally_far num den p ties q r h, h.this.nearest (q + 1), h.positive))
 
-one_even : (num den p q r : ℕ) → BothNearest num den p Even q r → q < r → (q % 2 ≡ 0) × (r % 2 ≡ 0) → ⊥
-one_even num den p q r h less even = not_between num den p Even q r h (omega (arith, less, even.0, even.1))
+not_both_even : (num den p q r : ℕ) → BothNearest num den p Even q r → q < r → (q % 2 ≡ 0) × (r % 2 ≡ 0) → ⊥
+not_both_even num den p q r h less even = not_between num den p Even q r h (omega (arith, less, even.0, even.1))
 
 not_below : (num den p : ℕ) (ties : Ties) (q r : ℕ) → BothNearest num den p ties q r → q < r → ⊥
 not_below num den p Up q r h less =
-    let wins = h.this.tie r (λ e. omega (arith, e, less)) (same_far num den p Up q r h) in absurd (omega (arith, wins, less))
+    let wins = h.this.tie r (λ e. omega (arith, e, less)) (equally_far num den p Up q r h) in
+    absurd (omega (arith, wins, less))
 not_below num den p Even q r h less =
-    let far = same_far num den p Even q r h in
+    let far = equally_far num den p Even q r h in
     let even = h.this.tie r (λ e. omega (arith, e, less)) far in
     let even' = h.other.tie q (λ e. omega (arith, e, less)) (sym far) in
-    one_even num den p q r h less (even, even')
+    not_both_even num den p q r h less (even, even')
 
-pub one_nearest : (num den p : ℕ) (ties : Ties) (q r : ℕ) → BothNearest num den p ties q r → q ≡ r
-one_nearest num den p ties q r h =
-    let turned_round : BothNearest num den p ties r q = record { positive = h.positive; this = h.other; other = h.this } in
+-- Only one decimal with p digits after the point is nearest, since ties are broken.
+pub nearest_unique : (num den p : ℕ) (ties : Ties) (q r : ℕ) → BothNearest num den p ties q r → q ≡ r
+nearest_unique num den p ties q r h =
+    let swapped : BothNearest num den p ties r q =
+    record { positive = h.positive; this = h.other; other = h.this } in
     ⊎_elim (λ less. absurd (not_below num den p ties q r h less))
-    (λ l. ⊎_elim (λ less. absurd (not_below num den p ties r q turned_round less)) (λ m. omega (arith, l, m)) (cases_lt r q)) (cases_lt q r)
+    (λ l. ⊎_elim (λ less. absurd (not_below num den p ties r q swapped less)) (λ m. omega (arith, l, m))
+    (cases_lt r q)) (cases_lt q r)

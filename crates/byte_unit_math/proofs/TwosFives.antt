@@ -1,5 +1,6 @@
--- Twos and fives that are taken off a number.
-use Rattle.std.proofs.Common.{◌≡◌, ◌≢◌, ℕ, zero, suc, ◌+◌, ◌*◌, ◌/◌, ◌%◌, ◌^◌, ◌<◌, ◌≤◌, ⊎_elim, arith, sym, ap, ◌∙◌, add-one}
+-- Factors of 2 and 5 divided out of a number.
+use Rattle.std.proofs.Common.{◌≡◌, ◌≢◌, ℕ, zero, suc, ◌+◌, ◌*◌, ◌/◌, ◌%◌, ◌^◌, ◌<◌, ◌≤◌, ⊎_elim, arith, sym, ap, ◌∙◌}
+use Rattle.std.proofs.Common.{add-one}
 use Rattle.std.specs.Int.{bit_at, trailing_zeros, w128}
 use Rattle.std.proofs.Math.Nat.{pow-suc, pow-le-pow_left, pow-le-pow_right, mul-le-mul_left, mul-le-mul_right, div-one}
 use Rattle.std.proofs.lemmas.Nat.{pow-add, shr-shr}
@@ -7,47 +8,58 @@ use Rattle.std.proofs.lemmas.Nat.Bits.{bit_at-trailing_zeros}
 use Rattle.std.proofs.lemmas.Bool.{cases_lt}
 use Rattle.byte_unit_math.specs.Bounds.{size_limit}
 
--- no power of two up to a size has more than 99 factors
+-- A power of 2 that is at most a size has an exponent of at most 99.
 few_twos : (twos size : ℕ) → 2 ^ twos ≤ size → size < size_limit → twos ≤ 99
 few_twos twos size h small =
     ⊎_elim
-    (λ l. let most = pow-le-pow_right {n = 2} (omega arith) {i = 100} {j = twos} (omega arith) in absurd (omega (arith, most, h, small)))
+    (λ l. let most = pow-le-pow_right {n = 2} (omega arith) {i = 100} {j = twos} (omega arith) in
+    absurd (omega (arith, most, h, small)))
     (λ k. k) (cases_lt 99 twos)
 
-above_zero : (left : ℕ) → left % 2 ≢ 0 → 0 < left
-above_zero zero h = absurd (h (omega arith))
-above_zero (suc left) h = omega arith
+odd_positive : (left : ℕ) → left % 2 ≢ 0 → 0 < left
+odd_positive zero h = absurd (h (omega arith))
+odd_positive (suc left) h = omega arith
 
-few_both : (size left twos fives : ℕ) → 0 < left → size ≡ left * (2 ^ twos * 5 ^ fives) → size < size_limit → twos + fives ≤ 99
-few_both size left twos fives some h small =
-    let powers = mul-le-mul_left {m = 2 ^ fives} {n = 5 ^ fives} (2 ^ twos) (pow-le-pow_left {n = 2} {m = 5} (omega arith) fives) in
+few_factors_of_size : (size left twos fives : ℕ) → 0 < left → size ≡ left * (2 ^ twos * 5 ^ fives) → size < size_limit
+    → twos + fives ≤ 99
+few_factors_of_size size left twos fives some h small =
+    let powers = mul-le-mul_left {m = 2 ^ fives} {n = 5 ^ fives} (2 ^ twos)
+    (pow-le-pow_left {n = 2} {m = 5} (omega arith) fives) in
     let product = mul-le-mul_right {m = 1} {n = left} (2 ^ twos * 5 ^ fives) some in
     few_twos (twos + fives) size (omega (arith, pow-add 2 twos fives, powers, product, h)) small
 
--- the twos below the lowest digit that is set
-twos_off : (number twos : ℕ) → ((i : ℕ) → i < twos → bit_at number i ≡ 0) → number ≡ number / 2 ^ twos * 2 ^ twos
-twos_off number zero zeros = omega (arith, div-one number)
-twos_off number (suc twos) zeros =
+-- A number whose lowest `twos` bits are 0 is a multiple of 2^twos.
+trailing_zeros_divide : (number twos : ℕ) → ((i : ℕ) → i < twos → bit_at number i ≡ 0)
+    → number ≡ number / 2 ^ twos * 2 ^ twos
+trailing_zeros_divide number zero zeros = omega (arith, div-one number)
+trailing_zeros_divide number (suc twos) zeros =
     let even : number / 2 ^ twos % 2 ≡ 0 = zeros twos (omega arith) in
     let halved : number / 2 ^ twos / 2 ≡ number / 2 ^ suc twos =
     shr-shr number twos 1 ∙ ap (λ n. number / 2 ^ n) (let e : twos + 1 ≡ suc twos = omega arith in e) in
     let parts : number / 2 ^ twos ≡ number / 2 ^ suc twos * 2 = omega (arith, even, halved) in
     let power = ap (λ n. number / 2 ^ suc twos * n) (pow-suc 2 twos) in
-    twos_off number twos (λ i l. zeros i (omega (arith, l))) ∙ (ap (λ n. n * 2 ^ twos) parts ∙ omega (arith, power))
+    trailing_zeros_divide number twos (λ i l. zeros i (omega (arith, l)))
+    ∙ (ap (λ n. n * 2 ^ twos) parts ∙ omega (arith, power))
 
--- what is left of a number, its twos and so many fives taken off
+-- `left` is odd, and times 2^twos * 5^fives it is the number.
 pub record FivesOff (number left twos fives : ℕ) : Type 0 where
   pub odd : left % 2 ≢ 0
   pub product : number ≡ left * (2 ^ twos * 5 ^ fives)
 
-pub FivesOff-none : (number : ℕ) → 0 < number → number < 2 ^ 128
+-- A number shifted right by its trailing zero bits is odd, and its factors of 2 are as many as these bits.
+pub FivesOff-trailing_zeros : (number : ℕ) → 0 < number → number < 2 ^ 128
     → FivesOff number (number / 2 ^ trailing_zeros w128 number) (trailing_zeros w128 number) 0
-FivesOff-none number some small =
+FivesOff-trailing_zeros number some small =
     let lowest = bit_at-trailing_zeros w128 number some small in
-    record { odd = λ even. omega (arith, lowest.1, even); product = twos_off number (trailing_zeros w128 number) lowest.2 ∙ omega arith }
+    record {
+      odd = λ even. omega (arith, lowest.1, even);
+      product = trailing_zeros_divide number (trailing_zeros w128 number) lowest.2 ∙ omega arith;
+    }
 
+-- Dividing what is left by five is one factor of 5 more.
 pub FivesOff-more :
-    (number left twos fives fifth : ℕ) → FivesOff number left twos fives → fifth * 5 ≡ left → FivesOff number fifth twos (fives + 1)
+    (number left twos fives fifth : ℕ) → FivesOff number left twos fives → fifth * 5 ≡ left
+    → FivesOff number fifth twos (fives + 1)
 FivesOff-more number left twos fives fifth h parts =
     let power = ap (λ n. fifth * (2 ^ twos * n)) (ap (λ n. 5 ^ n) (add-one fives) ∙ pow-suc 5 fives) in
     record {
@@ -55,6 +67,7 @@ FivesOff-more number left twos fives fifth h parts =
       product = h.product ∙ (ap (λ n. n * (2 ^ twos * 5 ^ fives)) (sym parts) ∙ omega (arith, power));
     }
 
+-- Dividing what is left by a power of 5 adds its exponent to the factors of 5.
 pub FivesOff-joined :
     (number left twos fives rest others : ℕ) → FivesOff number left twos fives → left ≡ rest * 5 ^ others → rest % 2 ≢ 0
     → FivesOff number rest twos (fives + others)
@@ -62,5 +75,8 @@ FivesOff-joined number left twos fives rest others h parts odd =
     let power = ap (λ n. rest * (2 ^ twos * n)) (pow-add 5 fives others) in
     record { odd = odd; product = h.product ∙ (ap (λ n. n * (2 ^ twos * 5 ^ fives)) parts ∙ omega (arith, power)) }
 
-pub FivesOff-few : (number left twos fives : ℕ) → number < size_limit → FivesOff number left twos fives → twos + fives ≤ 99
-FivesOff-few number left twos fives small h = few_both number left twos fives (above_zero left h.odd) h.product small
+-- A number below 10^30 has at most 99 factors of 2 and 5 together.
+pub FivesOff-few : (number left twos fives : ℕ) → number < size_limit → FivesOff number left twos fives
+    → twos + fives ≤ 99
+FivesOff-few number left twos fives small h =
+    few_factors_of_size number left twos fives (odd_positive left h.odd) h.product small

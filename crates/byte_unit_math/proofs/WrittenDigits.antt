@@ -1,4 +1,4 @@
--- The digits of a number, written from the last to the first.
+-- The decimal digits of a number, written from the last to the first.
 use Rattle.std.specs.Prelude.{MatchResult}
 use Rattle.std.specs.Fmt.{decimal}
 use Rattle.std.specs.Str.{IsUtf8, IsAscii}
@@ -15,34 +15,40 @@ use Rattle.std.proofs.lemmas.Str.{IsUtf8-from_ascii, IsAscii-drop}
 use Rattle.std.proofs.lemmas.Str.Ascii.{IsAscii-cons}
 use Rattle.byte_unit_math.specs.Digits.{last_digits}
 use Rattle.byte_unit_math.specs.Numeral.{fraction_text, glyphs}
-use Rattle.byte_unit_math.proofs.Digits.{length_last}
-use Rattle.byte_unit_math.proofs.Fractions.{text_some}
+use Rattle.byte_unit_math.proofs.Digits.{length_last_digits}
+use Rattle.byte_unit_math.proofs.Fractions.{fraction_text_some}
 
-pub decimal_one : (n : ℕ) → n < 10 → decimal n ≡ (48 + n) ∷ []
-decimal_one n h = decimal_digit n h
+-- A number below ten is written as one digit.
+pub decimal_one_digit : (n : ℕ) → n < 10 → decimal n ≡ (48 + n) ∷ []
+decimal_one_digit n h = decimal_digit n h
 
-pub decimal_more : (n : ℕ) → 10 ≤ n → n < 2 ^ 128 → decimal n ≡ decimal (n / 10) ++ (48 + n % 10) ∷ []
-decimal_more n h small = decimal_step_wide n h (omega arith)
+-- A number of ten or more is written as its tenth, and the last digit.
+pub decimal_next_digit : (n : ℕ) → 10 ≤ n → n < 2 ^ 128 → decimal n ≡ decimal (n / 10) ++ (48 + n % 10) ∷ []
+decimal_next_digit n h small = decimal_step_wide n h (omega arith)
 
-pub length_one : (n : ℕ) → n < 10 → length (decimal n) ≡ 1
-length_one n h = ap length (decimal_digit n h)
+-- A number below ten has one digit.
+pub decimal_length_one : (n : ℕ) → n < 10 → length (decimal n) ≡ 1
+decimal_length_one n h = ap length (decimal_digit n h)
 
-pub length_more : (n : ℕ) → 10 ≤ n → n < 2 ^ 128 → length (decimal n) ≡ length (decimal (n / 10)) + 1
-length_more n h small = ap length (decimal_more n h small) ∙ length-append (decimal (n / 10)) ((48 + n % 10) ∷ [])
+-- A number of ten or more has one digit more than its tenth.
+pub decimal_length_step : (n : ℕ) → 10 ≤ n → n < 2 ^ 128 → length (decimal n) ≡ length (decimal (n / 10)) + 1
+decimal_length_step n h small =
+    ap length (decimal_next_digit n h small) ∙ length-append (decimal (n / 10)) ((48 + n % 10) ∷ [])
 
--- a number of two digits
-pub decimal_two : (n : ℕ) → 10 ≤ n → n < 100 → decimal n ≡ glyphs (last_digits 2 n)
-decimal_two n wide small =
+-- A number from 10 to 99 is written as its last two digits.
+pub decimal_two_digits : (n : ℕ) → 10 ≤ n → n < 100 → decimal n ≡ glyphs (last_digits 2 n)
+decimal_two_digits n wide small =
     let first : n / 10 ≡ n / 10 ^ 1 % 10 = omega (arith, small) in
     let last : n % 10 ≡ n / 10 ^ 0 % 10 = omega arith in
-    decimal_more n wide (omega (arith, small))
-    ∙ (ap (λ l. l ++ (48 + n % 10) ∷ []) (decimal_one (n / 10) (omega (arith, small)))
+    decimal_next_digit n wide (omega (arith, small))
+    ∙ (ap (λ l. l ++ (48 + n % 10) ∷ []) (decimal_one_digit (n / 10) (omega (arith, small)))
     ∙ (ap (λ d. (48 + d) ∷ (48 + n % 10) ∷ []) first ∙ ap (λ d. (48 + n / 10 ^ 1 % 10) ∷ (48 + d) ∷ []) last))
 
-pub length_few : (n : ℕ) → n < 2 ^ 128 → length (decimal n) ≤ 39
-length_few n small = length-decimal-le_wide 39 n (omega arith) (omega arith) (omega arith)
+-- A 128-bit number has at most 39 digits.
+pub decimal_length_le_39 : (n : ℕ) → n < 2 ^ 128 → length (decimal n) ≤ 39
+decimal_length_le_39 n small = length-decimal-le_wide 39 n (omega arith) (omega arith) (omega arith)
 
--- the last digits of a number, so many of them
+-- The last k digits of a number as characters.
 tail_digits : ℕ → ℕ → List ℕ
 tail_digits zero r = []
 tail_digits (suc k) r = tail_digits k (r / 10) ++ (48 + r % 10) ∷ []
@@ -53,7 +59,7 @@ length-tail_digits zero r = refl
 length-tail_digits (suc k) r =
     length-append (tail_digits k (r / 10)) ((48 + r % 10) ∷ []) ∙ omega (arith, length-tail_digits k (r / 10))
 
--- a place more is a division by ten more
+-- Dividing by one power of ten more is dividing by ten first.
 place_shift : (r k : ℕ) → r / 10 ^ suc k ≡ r / 10 / 10 ^ k
 place_shift r k =
     let power = 10 ^ k in
@@ -70,7 +76,7 @@ place_shift r k =
     div-add-mod' r (10 ^ suc k) ∙ omega (arith, split, product) in
     (same_from_place (r / 10 ^ suc k) (r % 10 ^ suc k) front (10 * behind + r % 10) (10 ^ suc k) this other both).0
 
--- the last digit of so many is the last of the number
+-- The last k + 1 digits are the last k digits of the tenth, and the last digit.
 last_of_digits : (k r : ℕ) → last_digits (suc k) r ≡ last_digits k (r / 10) ++ (r % 10) ∷ []
 last_of_digits zero r =
     let one : r / 10 ^ 0 % 10 ≡ r % 10 = omega arith in
@@ -87,15 +93,15 @@ tail_glyphs (suc k) r =
     ap (λ ds. ds ++ (48 + r % 10) ∷ []) (tail_glyphs k (r / 10))
     ∙ (sym (map-append (λ d. 48 + d) (last_digits k (r / 10)) ((r % 10) ∷ [])) ∙ ap glyphs (sym (last_of_digits k r)))
 
--- digits before others
-decimal_front :
+-- A number times a power of ten, and digits below that power, is written as the number, and then these digits.
+decimal_of_parts :
     (k q r : ℕ) → 1 ≤ q → r < 10 ^ k → q * 10 ^ k + r < 10 ^ 64
     → decimal (q * 10 ^ k + r) ≡ decimal q ++ tail_digits k r
 unfolding tail_digits
-decimal_front zero q r some below small =
+decimal_of_parts zero q r some below small =
     let e : q * 10 ^ 0 + r ≡ q = omega arith in
     ap decimal e ∙ sym (append-nil (decimal q))
-decimal_front (suc k) q r some below small =
+decimal_of_parts (suc k) q r some below small =
     let scale : 10 ^ suc k ≡ 10 * 10 ^ k = pow-succ' 10 k in
     let product = ap (λ x. q * x) scale in
     let n : ℕ = q * 10 ^ suc k + r in
@@ -108,15 +114,16 @@ decimal_front (suc k) q r some below small =
     decimal_step_wide n wide small
     ∙ (ap (λ x. decimal x ++ (48 + n % 10) ∷ []) front
     ∙ (ap (λ x. decimal (q * 10 ^ k + r / 10) ++ (48 + x) ∷ []) last
-    ∙ (ap (λ l. l ++ (48 + r % 10) ∷ []) (decimal_front k q (r / 10) some less room)
+    ∙ (ap (λ l. l ++ (48 + r % 10) ∷ []) (decimal_of_parts k q (r / 10) some less room)
     ∙ append_assoc (decimal q) (tail_digits k (r / 10)) ((48 + r % 10) ∷ []))))
 
-pub length_some : (n : ℕ) → n < 2 ^ 128 → 1 ≤ length (decimal n)
-length_some n small =
-    ⊎_elim (λ one. let e = length_one n one in omega (arith, e))
-    (λ more. let e = length_more n more small in omega (arith, e)) (cases_lt n 10)
+-- A number has at least one digit.
+pub decimal_length_positive : (n : ℕ) → n < 2 ^ 128 → 1 ≤ length (decimal n)
+decimal_length_positive n small =
+    ⊎_elim (λ one. let e = decimal_length_one n one in omega (arith, e))
+    (λ more. let e = decimal_length_step n more small in omega (arith, e)) (cases_lt n 10)
 
--- a number in two parts, the last digits apart
+-- A number is written as the number without its last k digits, and then these digits.
 decimal_split : (k n : ℕ) → 10 ^ k ≤ n → n < 2 ^ 128 → decimal n ≡ decimal (n / 10 ^ k) ++ tail_digits k (n % 10 ^ k)
 decimal_split k n wide small =
     let power = 10 ^ k in
@@ -128,52 +135,56 @@ decimal_split k n wide small =
     let product = ap (λ q. q * power) nothing in
     absurd (omega (arith, product, parts, below, wide)))
     (λ some. some) (cases_lt (n / power) 1) in
-    ap decimal parts ∙ decimal_front k (n / power) (n % power) front below (omega (arith, parts, small))
+    ap decimal parts ∙ decimal_of_parts k (n / power) (n % power) front below (omega (arith, parts, small))
 
-pub length_split : (k n : ℕ) → 10 ^ k ≤ n → n < 2 ^ 128 → length (decimal n) ≡ length (decimal (n / 10 ^ k)) + k
-length_split k n wide small =
+-- A number of more than k digits has k digits more than the number without its last k digits.
+pub decimal_length_split : (k n : ℕ) → 10 ^ k ≤ n → n < 2 ^ 128 → length (decimal n) ≡ length (decimal (n / 10 ^ k)) + k
+decimal_length_split k n wide small =
     ap length (decimal_split k n wide small)
     ∙ (length-append (decimal (n / 10 ^ k)) (tail_digits k (n % 10 ^ k))
     ∙ ap (λ m. length (decimal (n / 10 ^ k)) + m) (length-tail_digits k (n % 10 ^ k)))
 
--- a one before digits keeps them apart
-decimal_after_one : (k r : ℕ) → r < 10 ^ k → k ≤ 28 → decimal (10 ^ k + r) ≡ 49 ∷ tail_digits k r
-decimal_after_one k r below few =
+-- A power of ten plus digits below it is written as a one and the digits, leading zeros kept.
+decimal_of_one_and_tail : (k r : ℕ) → r < 10 ^ k → k ≤ 28 → decimal (10 ^ k + r) ≡ 49 ∷ tail_digits k r
+decimal_of_one_and_tail k r below few =
     let parts : 10 ^ k + r ≡ 1 * 10 ^ k + r = omega arith in
     let power : 10 ^ k ≤ 10 ^ 28 = pow-le-pow_right {n = 10} (omega arith) few in
     ap decimal parts
-    ∙ (decimal_front k 1 r (omega arith) below (omega (arith, power, below))
-    ∙ ap (λ l. l ++ tail_digits k r) (decimal_one 1 (omega arith)))
+    ∙ (decimal_of_parts k 1 r (omega arith) below (omega (arith, power, below))
+    ∙ ap (λ l. l ++ tail_digits k r) (decimal_one_digit 1 (omega arith)))
 
-pub length-after_one : (r : ℕ) → r < 10 ^ 18 → length (decimal (10 ^ 18 + r)) ≡ 19
-length-after_one r small = ap length (decimal_after_one 18 r small (omega arith)) ∙ omega (arith, length-tail_digits 18 r)
+-- 10^18 plus digits below it has 19 digits.
+pub length_of_one_and_18_digits : (r : ℕ) → r < 10 ^ 18 → length (decimal (10 ^ 18 + r)) ≡ 19
+length_of_one_and_18_digits r small =
+    ap length (decimal_of_one_and_tail 18 r small (omega arith)) ∙ omega (arith, length-tail_digits 18 r)
 
--- digits in an array
-
--- the digits of so many numbers, two of each, from the number that is given
+-- A table of the two digits of each of `count` numbers, as characters, beginning at a given number.
 abbrev pairs_from : ℕ → ℕ → List ℕ
 pairs_from zero n = []
 pairs_from (suc count) n = (48 + n / 10) ∷ (48 + n % 10) ∷ pairs_from count (suc n)
 
-pub pairs_at :
+-- The entries at 2k and 2k + 1 of such a table are the tens and the ones of the k-th number.
+pub pairs_from_at :
     (count from k : ℕ) → k < count
     → (get_or (pairs_from count from) (k * 2) 0 ≡ 48 + (from + k) / 10)
     × (get_or (pairs_from count from) (k * 2 + 1) 0 ≡ 48 + (from + k) % 10)
-pairs_at zero from k few = absurd (omega (arith, few))
-pairs_at (suc count) from zero few = (omega arith, omega arith)
-pairs_at (suc count) from (suc k) few =
-    let both = pairs_at count (suc from) k (omega (arith, few)) in
+pairs_from_at zero from k few = absurd (omega (arith, few))
+pairs_from_at (suc count) from zero few = (omega arith, omega arith)
+pairs_from_at (suc count) from (suc k) few =
+    let both = pairs_from_at count (suc from) k (omega (arith, few)) in
     let first : suc k * 2 ≡ suc (suc (k * 2)) = omega arith in
     let second : suc k * 2 + 1 ≡ suc (suc (k * 2 + 1)) = omega arith in (
       ap (λ i. get_or (pairs_from (suc count) from) i 0) first ∙ omega (arith, both.0),
       ap (λ i. get_or (pairs_from (suc count) from) i 0) second ∙ omega (arith, both.1),
     )
 
-pub pair_put :
+-- Writing the tens and the ones of a number below 100 at `start` puts its last two digits there, and leaves what
+-- follows.
+pub two_digits_put :
     (n start first last : ℕ) (bytes : List ℕ) → (n < 10 ^ 2) × (start + 2 ≤ length bytes)
     → (first ≡ 48 + n / 10) × (last ≡ 48 + n % 10)
     → drop start (set (set bytes (start + 1) last) start first) ≡ glyphs (last_digits 2 n) ++ drop (start + 2) bytes
-pair_put n start first last bytes fits digits =
+two_digits_put n start first last bytes fits digits =
     let inner = set bytes (start + 1) last in
     let long : length inner ≡ length bytes = length-set bytes (start + 1) last in
     let behind : drop (start + 1) inner ≡ last ∷ drop (start + 2) bytes =
@@ -185,17 +196,20 @@ pair_put n start first last bytes fits digits =
     ∙ (ap (λ d. d ∷ last ∷ drop (start + 2) bytes) front
     ∙ ap (λ d. (48 + n / 10 ^ 1 % 10) ∷ d ∷ drop (start + 2) bytes) back))
 
--- the first digit
-pub last_put :
+-- Writing what is left, one digit, before the digits that are written completes the number.
+pub first_digit_put :
     (rest start : ℕ) (bytes whole : List ℕ) → rest < 10 → start < length bytes
     → decimal rest ++ drop (start + 1) bytes ≡ whole → drop start (set bytes start (48 + rest)) ≡ whole
-last_put rest start bytes whole one within h =
-    drop-set bytes start (48 + rest) within ∙ (ap (λ l. l ++ drop (start + 1) bytes) (sym (decimal_one rest one)) ∙ h)
+first_digit_put rest start bytes whole one within h =
+    drop-set bytes start (48 + rest) within
+    ∙ (ap (λ l. l ++ drop (start + 1) bytes) (sym (decimal_one_digit rest one)) ∙ h)
 
--- so many of the last digits, before those that are there
+-- Writing the last k digits of what is left before the digits that are written leaves a number of k digits less to be
+-- written.
 digits_put :
     (k rest start place : ℕ) (bytes new whole : List ℕ) → (10 ^ k ≤ rest) × (rest < 2 ^ 128)
-    → drop place new ≡ glyphs (last_digits k (rest % 10 ^ k)) ++ drop start bytes → decimal rest ++ drop start bytes ≡ whole
+    → drop place new ≡ glyphs (last_digits k (rest % 10 ^ k)) ++ drop start bytes
+    → decimal rest ++ drop start bytes ≡ whole
     → decimal (rest / 10 ^ k) ++ drop place new ≡ whole
 digits_put k rest start place bytes new whole wide put so_far =
     let low = rest % 10 ^ k in
@@ -203,88 +217,91 @@ digits_put k rest start place bytes new whole wide put so_far =
     ∙ (sym (append_assoc (decimal (rest / 10 ^ k)) (tail_digits k low) (drop start bytes))
     ∙ (ap (λ l. l ++ drop start bytes) (sym (decimal_split k rest wide.0 wide.1)) ∙ so_far))
 
--- the last digits of n are written before the place `end`, from `start` on, and those of the rest are not yet
+-- The last digits of n are written from `start` up to `end`, and `rest` is the number of the digits before them.
 pub record IsWritten (n end : ℕ) (old : List ℕ) (rest start : ℕ) (bytes : List ℕ) : Type 0 where
   pub within : start ≤ end
   pub place : start + length (decimal n) ≡ end + length (decimal rest)
   pub digits : decimal rest ++ drop start bytes ≡ decimal n ++ drop end old
 
+-- After the last k digits of what is left are written, k digits more of n are.
 pub IsWritten-more :
-    {n end rest start place : ℕ} {old bytes new : List ℕ} (k : ℕ) → (10 ^ k ≤ rest) × (rest < 2 ^ 128) → place + k ≡ start
+    {n end rest start place : ℕ} {old bytes new : List ℕ} (k : ℕ) → (10 ^ k ≤ rest) × (rest < 2 ^ 128)
+    → place + k ≡ start
     → drop place new ≡ glyphs (last_digits k (rest % 10 ^ k)) ++ drop start bytes → IsWritten n end old rest start bytes
     → IsWritten n end old (rest / 10 ^ k) place new
 IsWritten-more {n} {end} {rest} {start} {place} {old} {bytes} {new} k wide back put h =
     record {
       within = omega (arith, h.within, back);
-      place = omega (arith, h.place, back, length_split k rest wide.0 wide.1);
+      place = omega (arith, h.place, back, decimal_length_split k rest wide.0 wide.1);
       digits = digits_put k rest start place bytes new (decimal n ++ drop end old) wide put h.digits;
     }
 
--- a group of digits, behind a one
-pub group_put :
+-- Writing 10^18 plus the last 18 digits of what is left puts these digits after a one, which is then ignored.
+pub group_of_18_put :
     (rest start place : ℕ) (bytes new whole : List ℕ) → (10 ^ 18 ≤ rest) × (rest < 2 ^ 128)
     → drop place new ≡ decimal (10 ^ 18 + rest % 10 ^ 18) ++ drop start bytes → decimal rest ++ drop start bytes ≡ whole
     → decimal (rest / 10 ^ 18) ++ drop (place + 1) new ≡ whole
-group_put rest start place bytes new whole wide put so_far =
+group_of_18_put rest start place bytes new whole wide put so_far =
     let low = rest % 10 ^ 18 in
     let less : low < 10 ^ 18 = mod_below rest (10 ^ 18) (omega arith) in
     let all : drop place new ≡ 49 ∷ (tail_digits 18 low ++ drop start bytes) =
-    put ∙ ap (λ l. l ++ drop start bytes) (decimal_after_one 18 low less (omega arith)) in
+    put ∙ ap (λ l. l ++ drop start bytes) (decimal_of_one_and_tail 18 low less (omega arith)) in
     let behind : drop (place + 1) new ≡ tail_digits 18 low ++ drop start bytes =
     sym (drop-drop 1 place new) ∙ ap (λ l. drop 1 l) all in
     digits_put 18 rest start (place + 1) bytes new whole wide
     (behind ∙ ap (λ l. l ++ drop start bytes) (tail_glyphs 18 low)) so_far
 
--- text
+-- If a call fails only for bytes that are not UTF-8, it returns `Ok` for ASCII bytes.
+pub ascii_is_ok :
+    {S E : Type 0} (r : Result S E) (bytes : List ℕ) (IfDecoded : S → Type 0) (IfNot : E → Type 0)
+    → MatchResult r IfDecoded (λ e. ¬ (IsUtf8 bytes) × IfNot e) → IsAscii bytes → IsOk r
+ascii_is_ok (Ok s) bytes IfDecoded IfNot h ascii = search rules
+ascii_is_ok (Err e) bytes IfDecoded IfNot h ascii = absurd (h.0 (IsUtf8-from_ascii bytes ascii))
 
--- bytes of ASCII are text
-pub is_text :
-    {S E : Type 0} (r : Result S E) (bytes : List ℕ) (P : S → Type 0) (Q : E → Type 0)
-    → MatchResult r P (λ e. ¬ (IsUtf8 bytes) × Q e) → IsAscii bytes → IsOk r
-is_text (Ok s) bytes P Q h ascii = search rules
-is_text (Err e) bytes P Q h ascii = absurd (h.0 (IsUtf8-from_ascii bytes ascii))
+-- If there are digits after the point, their text is a point and the digits.
+pub fraction_text_glyphs : (places digits : ℕ) → 0 < places
+    → fraction_text (last_digits places digits) ≡ 46 ∷ glyphs (last_digits places digits)
+fraction_text_glyphs places digits some =
+    fraction_text_some (last_digits places digits) (omega (arith, some, length_last_digits places digits))
 
--- the digits after the point
-
-pub fraction_glyphs : (places digits : ℕ) → 0 < places → fraction_text (last_digits places digits) ≡ 46 ∷ glyphs (last_digits places digits)
-fraction_glyphs places digits some =
-    text_some (last_digits places digits) (omega (arith, some, length_last places digits))
-
-pub decimal_behind_one :
+-- A power of ten plus digits below it is written as a one and the digits, leading zeros kept.
+pub decimal_of_one_and_digits :
     (places digits : ℕ) → digits < 10 ^ places → places ≤ 28
     → decimal (10 ^ places + digits) ≡ 49 ∷ glyphs (last_digits places digits)
-decimal_behind_one places digits below few =
-    decimal_after_one places digits below few ∙ ap (λ l. 49 ∷ l) (tail_glyphs places digits)
+decimal_of_one_and_digits places digits below few =
+    decimal_of_one_and_tail places digits below few ∙ ap (λ l. 49 ∷ l) (tail_glyphs places digits)
 
--- then they are as long as the point and the digits
-pub length_behind_one :
+-- A one and the digits are as long as a point and the digits.
+pub length_of_one_and_digits :
     (places digits : ℕ) → 0 < places → digits < 10 ^ places → places ≤ 28
     → (length (decimal (10 ^ places + digits)) ≡ length (fraction_text (last_digits places digits)))
     × (0 < length (decimal (10 ^ places + digits)))
-length_behind_one places digits some below few =
-    let number = decimal_behind_one places digits below few in (
-      ap length number ∙ sym (ap length (fraction_glyphs places digits some)),
+length_of_one_and_digits places digits some below few =
+    let number = decimal_of_one_and_digits places digits below few in (
+      ap length number ∙ sym (ap length (fraction_text_glyphs places digits some)),
       omega (arith, ap length number),
     )
 
--- and the one becomes the point
-pub point_put :
+-- Replacing the one before digits by a point gives the text of the fraction.
+pub one_becomes_point :
     (places digits point : ℕ) (bytes behind : List ℕ) → (0 < places) × (digits < 10 ^ places) × (places ≤ 28)
     → point < length bytes → drop point bytes ≡ decimal (10 ^ places + digits) ++ behind
     → drop point (set bytes point 46) ≡ fraction_text (last_digits places digits) ++ behind
-point_put places digits point bytes behind fits within h =
+one_becomes_point places digits point bytes behind fits within h =
     let all : drop point bytes ≡ 49 ∷ (glyphs (last_digits places digits) ++ behind) =
-    h ∙ ap (λ l. l ++ behind) (decimal_behind_one places digits fits.1 fits.2) in
+    h ∙ ap (λ l. l ++ behind) (decimal_of_one_and_digits places digits fits.1 fits.2) in
     let rest : drop (point + 1) bytes ≡ glyphs (last_digits places digits) ++ behind =
     sym (drop-drop 1 point bytes) ∙ ap (λ l. drop 1 l) all in
     drop-set bytes point 46 within
-    ∙ (ap (λ l. 46 ∷ l) rest ∙ ap (λ l. l ++ behind) (sym (fraction_glyphs places digits fits.0)))
+    ∙ (ap (λ l. 46 ∷ l) rest ∙ ap (λ l. l ++ behind) (sym (fraction_text_glyphs places digits fits.0)))
 
+-- The text of a fraction is ASCII.
 pub fraction_ascii :
-    (places digits : ℕ) → (0 < places) × (digits < 10 ^ places) × (places ≤ 28) → IsAscii (decimal (10 ^ places + digits))
+    (places digits : ℕ) → (0 < places) × (digits < 10 ^ places) × (places ≤ 28)
+    → IsAscii (decimal (10 ^ places + digits))
     → IsAscii (fraction_text (last_digits places digits))
 fraction_ascii places digits fits ascii =
     let glyphs_ascii = IsAscii-drop (49 ∷ glyphs (last_digits places digits)) 1
-    (subst IsAscii (decimal_behind_one places digits fits.1 fits.2) ascii) in
-    subst IsAscii (sym (fraction_glyphs places digits fits.0))
+    (subst IsAscii (decimal_of_one_and_digits places digits fits.1 fits.2) ascii) in
+    subst IsAscii (sym (fraction_text_glyphs places digits fits.0))
     (IsAscii-cons 46 (glyphs (last_digits places digits)) (omega arith) glyphs_ascii)

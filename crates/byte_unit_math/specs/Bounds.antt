@@ -1,30 +1,31 @@
 -- The bounds of decimals, sizes and units.
 use Rattle.std.specs.Prelude.{ℕ, ◌*◌, ◌^◌}
 
--- the digits after the point of a decimal
+-- The number of digits after the point that a `Decimal` keeps.
 abbrev pub places_of_decimal : ℕ
 places_of_decimal = 28
 
--- one, counted in last places of a decimal: a decimal N is the number N / 10^28
+-- 10^28, the scale of decimals: a `Decimal` is seen as its value times 10^28, a natural number N.
 abbrev pub one : ℕ
 one = 10 ^ places_of_decimal
 
--- the whole part of a decimal is below it
+-- The whole part of a decimal is below 2^112.
 abbrev pub whole_limit : ℕ
 whole_limit = 2 ^ 112
 
--- a size is below it, in bytes or in bits as it is counted
+-- A size is below 10^30: in bytes for `Byte`, in bits for `Bit`.
 abbrev pub size_limit : ℕ
 size_limit = 10 ^ 30
 
--- a size of bytes, put in bits, is below it
+-- A size in bytes has fewer than 8 * 10^30 bits.
 abbrev pub bits_limit : ℕ
 bits_limit = 8 * size_limit
 
--- the most digits after the point that a size in a unit takes: the greatest unit is two to this power
+-- The most digits after the point that a size in a unit takes: the largest unit has 2^93 bits, and n / 2^93 takes at
+-- most 93 decimal digits.
 abbrev pub expansion_places : ℕ
 expansion_places = 93
 
--- no unit has more bits
+-- The largest number of bits of a unit, 2^93.
 abbrev pub unit_limit : ℕ
 unit_limit = 2 ^ expansion_places

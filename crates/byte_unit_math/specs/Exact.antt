@@ -1,23 +1,25 @@
--- Exact quotients: at which places a number over another is a whole number of units of the place.
+-- Exact quotients: with how many digits after the point a quotient is a terminating decimal.
 use Rattle.std.specs.Prelude.{◌≡◌, ℕ, ◌*◌, ◌^◌, ◌-◌, ◌≤◌, ◌⊎◌}
 use Rattle.byte_unit_math.specs.Bounds.{places_of_decimal}
 use Rattle.byte_unit_math.specs.Least.{IsLeast}
 
--- size / unit is a count of units of this place
+-- size / unit is a decimal of this many digits after the point: size * 10^places is a multiple of unit.
 abbrev pub IsExactAt : ℕ → ℕ → ℕ → Type 0
 IsExactAt size unit places = (count : ℕ) × (size * 10 ^ places ≡ count * unit)
 
--- the least number of places at which it is exact
+-- The least number of digits after the point with which size / unit is exact.
 abbrev pub IsLeastPlaces : ℕ → ℕ → ℕ → Type 0
 IsLeastPlaces size unit = IsLeast (IsExactAt size unit)
 
--- the decimal N is size / unit, exact at these places, which are no more than a decimal has
+-- N is size / unit scaled by 10^28, and the quotient is exact with `places` digits after the point; `places` is at most
+-- 28 wherever this is used.
 pub record IsQuotient (size unit places N : ℕ) : Type 0 where
   pub count : ℕ
   pub exact : size * 10 ^ places ≡ count * unit
   pub number : N ≡ count * 10 ^ (places_of_decimal - places)
 
--- the first number of places at which size / unit is exact, or the most places where it is exact at none up to these
+-- `places` is the least number of digits after the point with which size / unit is exact, or `most` if that number is
+-- greater or there is none.
 pub record IsFirstExact (size unit most places : ℕ) : Type 0 where
   pub few : places ≤ most
   pub first : (fewer : ℕ) → IsExactAt size unit fewer → places ≤ fewer

@@ -1,7 +1,7 @@
--- Numbers by their factors.
+-- Numbers that are given by their factors.
 use Rattle.std.specs.Prelude.{ℕ, ◌*◌, ◌^◌}
 use Rattle.byte_unit_math.specs.declared.factors.Factors.{Factors}
 
--- the number that has these factors
+-- The number with these factors: left * 2^twos * 5^fives.
 abbrev pub value_of : Factors → ℕ
 value_of factors = factors.left * (2 ^ factors.twos * 5 ^ factors.fives)

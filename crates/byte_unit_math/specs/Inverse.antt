@@ -1,7 +1,8 @@
--- Private: a division by a constant, by a multiplication. No public contract cites this file.
+-- Private: division by a constant as a multiplication by its inverse. No public contract cites this file.
 use Rattle.std.specs.Prelude.{◌≡◌, ℕ, ◌+◌, ◌*◌, ◌/◌, ◌^◌, ◌<◌, ◌≤◌}
 
--- the leading 64 bits of n, which lie above the lowest `cut`, times the inverse tell n / divisor up to one
+-- The conditions under which a multiplication replaces a division: the leading 64 bits of `n`, which are n / 2^cut,
+-- times `inverse`, divided by 2^shift, are n / divisor or one less.
 pub record HasInverse (n divisor inverse cut shift : ℕ) : Type 0 where
   pub leading : n < 2 ^ (64 + cut)
   pub cut_fits : cut < 64

@@ -1,15 +1,15 @@
--- Rounding to a number of places.
+-- Rounding a quotient to a number of digits after the point.
 use Rattle.std.specs.Prelude.{◌≡◌, ◌≢◌, ℕ, ◌*◌, ◌%◌, ◌^◌, ◌≤◌}
 use Rattle.std.specs.Int.{abs_diff}
 use Rattle.byte_unit_math.specs.declared.expansion.Ties.{Ties}
 use Rattle.byte_unit_math.specs.declared.expansion.Ties.TheVariants.{Even, Up}
 
--- of two that are equally near
+-- If `q` and `other` are equally near, `q` is preferred: because it is even, or because it is the larger one.
 abbrev pub WinsTie : Ties → ℕ → ℕ → Type 0
 WinsTie Even q other = q % 2 ≡ 0
 WinsTie Up q other = other ≤ q
 
--- q units of the p-th place are nearest to num / den
+-- Of all decimals with `p` digits after the point, q / 10^p is nearest to num / den. A tie is broken as `ties` says.
 pub record IsNearest (num den p : ℕ) (ties : Ties) (q : ℕ) : Type 0 where
   pub nearest : (other : ℕ) → abs_diff (q * den) (num * 10 ^ p) ≤ abs_diff (other * den) (num * 10 ^ p)
   pub tie :

@@ -1,26 +1,26 @@
--- Decimals as texts.
+-- The text of decimals.
 use Rattle.std.specs.Prelude.{ℕ, ◌+◌, List, [], ◌∷◌, ◌++◌, map}
 use Rattle.std.specs.Fmt.{decimal}
 use Rattle.byte_unit_math.specs.Digits.{at_places, shortened}
 use Rattle.byte_unit_math.specs.Finite.{Finite}
 
--- digits as characters
+-- The digits as ASCII characters.
 abbrev pub glyphs : List ℕ → List ℕ
 glyphs digits = map (λ d. 48 + d) digits
 
--- a point and the digits, where there are any
+-- The point and the digits after it, or nothing if there are no digits.
 abbrev pub fraction_text : List ℕ → List ℕ
 fraction_text [] = []
 fraction_text (d ∷ ds) = 46 ∷ glyphs (d ∷ ds)
 
--- the whole part, and the digits after the point where there are any
+-- The whole part, then the point and the digits after it if there are any.
 abbrev pub text_of : Finite → List ℕ
 text_of e = decimal e.whole ++ fraction_text e.digits
 
--- q in units of the p-th place, with all p places
+-- The text of q / 10^p with all `p` digits after the point: 1.50 for q = 150 and p = 2.
 abbrev pub numeral : ℕ → ℕ → List ℕ
 numeral q p = text_of (at_places p q)
 
--- the same without zeros at the end, and without a point that then stands last
+-- The text of q / 10^p without trailing zeros, nor a point if no digit is after it: 1.5 for q = 150 and p = 2.
 abbrev pub short : ℕ → ℕ → List ℕ
 short q p = text_of (shortened (at_places p q))

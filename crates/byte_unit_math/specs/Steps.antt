@@ -1,10 +1,10 @@
--- A count of ticks.
+-- Step counts, in which contracts give the cost of a call.
 use Rattle.std.specs.Prelude.{ℕ, ◌+◌, ◌-◌, ◌^◌, min, max}
 
--- the greatest count
+-- The largest step count, 2^64 - 1.
 abbrev pub last_count : ℕ
 last_count = 2 ^ 64 - 1
 
--- a count after so many more ticks: it never falls, and stays where it is greatest
+-- The step count after `ticks` more steps. It saturates at 2^64 - 1, and never falls.
 abbrev pub raised : ℕ → ℕ → ℕ
 raised count ticks = max count (min (count + ticks) last_count)

@@ -1,14 +1,16 @@
--- Private: what the fields of an `Expansion` stand for. A contract sees its whole part and its first digits alone.
+-- Private: the meaning of the fields of an `Expansion`. Contracts see only its whole part and its first digits.
 use Rattle.std.specs.Prelude.{◌≡◌, ◌-◌, ◌<◌, ◌≤◌, ◌++◌, length, take, drop, replicate, slice_index}
 use Rattle.std.specs.List.{All}
 use Rattle.byte_unit_math.specs.Bounds.{expansion_places, whole_limit}
 use Rattle.byte_unit_math.specs.Finite.{Finite}
 use Rattle.byte_unit_math.specs.declared.expansion.Expansion.TheInside.{Inside}
 
+-- The decimal of the fields: the whole part, and the first `places` digits of the array.
 abbrev pub view_of : Inside → Finite
 view_of e = record { whole = e.whole; digits = take e.places e.digits }
 
--- the digits fill the front of the array, the last of them isn't zero, and zeros fill the rest
+-- The array holds the digits after the point, the last of them not zero, and then zeros. The whole part is at most
+-- 2^112, and below it if there are such digits: rounding up can add one to it, and then leaves no digits.
 pub record IsStored (e : Inside) : Type 0 where
   pub size : length e.digits ≡ expansion_places
   pub few : e.places ≤ expansion_places
@@ -18,7 +20,7 @@ pub record IsStored (e : Inside) : Type 0 where
   pub bound : e.whole ≤ whole_limit
   pub room : 0 < e.places → e.whole < whole_limit
 
--- the digits that are seen, and zeros behind them
+-- The fields of a decimal: its digits after the point, and zeros up to the length of the array, 93.
 abbrev pub fields_of : Finite → Inside
 fields_of v =
     let zeros = replicate (expansion_places - length v.digits) 0 in

@@ -3,7 +3,7 @@ use Rattle.byte_unit_base.specs.Units.{shape_of}
 use Rattle.byte_unit_format.specs.Layout.{layout_of}
 use Rattle.byte_unit_format.specs.Adjusted.{IsAdjustedForm}
 use Rattle.byte_unit_format.proofs.Appending.{appends_form}
-use Rattle.byte_unit_format.proofs.AdjustedForms.{IsShown, adjusted_form, adjusted_length}
+use Rattle.byte_unit_format.proofs.AdjustedForms.{IsShown, shown_is_adjusted_form, adjusted_form_length}
 use Rattle.byte_unit_format.proofs.adjusted.append_adjusted.Goals as goal
 
 pub returns : goal.returns
@@ -15,6 +15,7 @@ returns g c =
     let number = c.rounded_in_unit-shown.result in
     let shown : IsShown kind size unit spec number.decimal number.places =
     record { is_numeral = c.rounded_in_unit-shown.ensures.number } in
-    appends_form (IsAdjustedForm current kind size unit spec) c.args.text.now c.append_layout.new.text c.append_layout.result
+    appends_form (IsAdjustedForm current kind size unit spec) c.args.text.now c.append_layout.new.text
+    c.append_layout.result
     (layout_of current number.decimal number.places unit spec)
-    (adjusted_form shown) (adjusted_length shown) c.append_layout.ensures
+    (shown_is_adjusted_form shown) (adjusted_form_length shown) c.append_layout.ensures

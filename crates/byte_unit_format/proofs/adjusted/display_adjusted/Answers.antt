@@ -1,12 +1,13 @@
 use Rattle.std.proofs.Common.{◌++◌, ◌*◌, refl, ap, ◌∙◌}
 use Rattle.std.specs.Prelude.{codes}
-use Rattle.std.proofs.Output.{has_written_append, has_written_of_eq, has_written_styled_append, has_written_styled_of_eq}
+use Rattle.std.proofs.Output.{has_written_append, has_written_of_eq, has_written_styled_append}
+use Rattle.std.proofs.Output.{has_written_styled_of_eq}
 use Rattle.byte_unit_math.specs.Digits.{expansion_of}
 use Rattle.byte_unit_math.specs.Numeral.{text_of}
 use Rattle.byte_unit_base.specs.Shape.{bits}
 use Rattle.byte_unit_base.specs.Units.{shape_of}
 use Rattle.byte_unit_base.specs.Kinds.{bits_in}
-use Rattle.byte_unit_format.proofs.ShownForms.{number_is}
+use Rattle.byte_unit_format.proofs.ShownForms.{number_by_division}
 use Rattle.byte_unit_format.proofs.adjusted.display_adjusted.Goals as goal
 
 pub returns-clause-plain : goal.returns-clause-plain
@@ -18,7 +19,8 @@ returns-clause-plain g c = λ plain ok.
     let front = has_written_append _ _ _ _ _ _ digits space in
     let all = has_written_append _ _ _ _ _ _ front (c.write_str-2.ensures.writes space.plain ok) in
     has_written_of_eq _ _ _ _ _
-    (ap (λ e. text_of e ++ codes " " ++ name) (number_is _ c.args.unit c.number_in_unit.result c.number_in_unit.ensures)
+    (ap (λ e. text_of e ++ codes " " ++ name)
+    (number_by_division _ c.args.unit c.number_in_unit.result c.number_in_unit.ensures)
     ∙ ap (λ name. text_of number ++ codes " " ++ name) c.as_str.ensures)
     all
 
@@ -31,6 +33,7 @@ returns-clause-styled g c = λ flush ok.
     let front = has_written_styled_append _ _ _ _ _ _ digits space in
     let all = has_written_styled_append _ _ _ _ _ _ front (c.write_str-2.ensures.styled space.flush ok) in
     has_written_styled_of_eq _ _ _ _ _
-    (ap (λ e. text_of e ++ codes " " ++ name) (number_is _ c.args.unit c.number_in_unit.result c.number_in_unit.ensures)
+    (ap (λ e. text_of e ++ codes " " ++ name)
+    (number_by_division _ c.args.unit c.number_in_unit.result c.number_in_unit.ensures)
     ∙ ap (λ name. text_of number ++ codes " " ++ name) c.as_str.ensures)
     all

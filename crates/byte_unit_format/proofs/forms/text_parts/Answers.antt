@@ -1,7 +1,7 @@
 use Rattle.std.proofs.Common.{◌≡◌, true, rules, sym, subst}
 use Rattle.byte_unit_base.specs.Edition.{current}
 use Rattle.byte_unit_format.specs.Forms.{IsSizeForm, places_of}
-use Rattle.byte_unit_format.proofs.WrittenForms.{AreParts, form_text, stated_form}
+use Rattle.byte_unit_format.proofs.WrittenForms.{AreParts, size_form_is_text, size_form_of_parts}
 use Rattle.byte_unit_format.proofs.forms.text_parts.Goals as goal
 
 pub returns-clause-text : goal.returns-clause-text
@@ -9,7 +9,7 @@ returns-clause-text c =
     let spec = c.args.spec in
     let alternate : spec.alternate ≡ true = search rules in
     let places_are : c.match-spec.places ≡ places_of spec.precision = search rules in
-    let answered = c.recoverable_unit-number.ensures in
+    let found = c.recoverable_unit-number.ensures in
     let least = c.places.ensures.least in
     let parts : AreParts c.recoverable_unit-number.result.0 c.whole.result c.digits.result c.places.result =
     record {
@@ -19,6 +19,6 @@ returns-clause-text c =
       digits_are = c.digits.ensures.value c.places.result least;
       below = c.digits.ensures.bound c.places.result least;
     } in
-    form_text c.args.kind c.args.size spec alternate
+    size_form_is_text c.args.kind c.args.size spec alternate
     (subst (IsSizeForm current c.args.kind c.args.size spec) (sym c.layout_parts.ensures.text)
-    (stated_form c.args.kind c.args.size spec places_are answered.recovered answered.exact parts))
+    (size_form_of_parts c.args.kind c.args.size spec places_are found.recovered found.exact parts))

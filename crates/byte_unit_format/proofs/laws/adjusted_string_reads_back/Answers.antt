@@ -1,5 +1,5 @@
-use Rattle.byte_unit_format.proofs.AdjustedStrings.{adjusted_string_back}
+use Rattle.byte_unit_format.proofs.AdjustedStrings.{adjusted_string_reads_back}
 use Rattle.byte_unit_format.proofs.laws.adjusted_string_reads_back.Goals as goal
 
 pub returns : goal.returns
-returns c = adjusted_string_back
+returns c = adjusted_string_reads_back

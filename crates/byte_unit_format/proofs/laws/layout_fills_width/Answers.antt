@@ -1,5 +1,5 @@
-use Rattle.byte_unit_format.proofs.Widths.{layout_long}
+use Rattle.byte_unit_format.proofs.Widths.{layout_fills_width}
 use Rattle.byte_unit_format.proofs.laws.layout_fills_width.Goals as goal
 
 pub returns : goal.returns
-returns c = layout_long
+returns c = layout_fills_width

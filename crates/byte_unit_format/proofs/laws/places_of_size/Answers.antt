@@ -1,5 +1,5 @@
 use Rattle.std.proofs.Common.{◌*◌}
-use Rattle.byte_unit_math.proofs.Powers.{places_by_powers, no_places}
+use Rattle.byte_unit_math.proofs.Powers.{places_by_powers, zero_takes_no_places}
 use Rattle.byte_unit_base.specs.Shape.{bits, twos, fives}
 use Rattle.byte_unit_base.specs.Kinds.{bits_in}
 use Rattle.byte_unit_format.proofs.laws.places_of_size.Goals as goal
@@ -7,5 +7,5 @@ use Rattle.byte_unit_format.proofs.laws.places_of_size.Goals as goal
 pub returns : goal.returns
 returns c = record {
   places = λ kind size unit. places_by_powers (size * bits_in kind) (twos unit) (fives unit);
-  zero = λ unit. no_places (bits unit);
+  zero = λ unit. zero_takes_no_places (bits unit);
 }

@@ -1,5 +1,5 @@
-use Rattle.byte_unit_format.proofs.Widths.{plain_long}
+use Rattle.byte_unit_format.proofs.Widths.{plain_form_fills_width}
 use Rattle.byte_unit_format.proofs.laws.plain_form_fills_width.Goals as goal
 
 pub returns : goal.returns
-returns c = plain_long
+returns c = plain_form_fills_width

@@ -1,5 +1,5 @@
-use Rattle.byte_unit_format.proofs.ReadBack.{plain_back}
+use Rattle.byte_unit_format.proofs.ReadBack.{plain_form_reads_back}
 use Rattle.byte_unit_format.proofs.laws.plain_form_reads_back.Goals as goal
 
 pub returns : goal.returns
-returns c = plain_back
+returns c = plain_form_reads_back

@@ -1,5 +1,5 @@
-use Rattle.byte_unit_format.proofs.ShownForms.{shown_form}
+use Rattle.byte_unit_format.proofs.ShownForms.{shown_adjusted_size_is_plain}
 use Rattle.byte_unit_format.proofs.laws.shown_adjusted_size_is_plain_form.Goals as goal
 
 pub returns : goal.returns
-returns c = shown_form
+returns c = shown_adjusted_size_is_plain

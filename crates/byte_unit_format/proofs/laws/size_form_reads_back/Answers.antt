@@ -1,5 +1,5 @@
-use Rattle.byte_unit_format.proofs.ReadBack.{size_form_back}
+use Rattle.byte_unit_format.proofs.ReadBack.{size_form_reads_back}
 use Rattle.byte_unit_format.proofs.laws.size_form_reads_back.Goals as goal
 
 pub returns : goal.returns
-returns c = size_form_back
+returns c = size_form_reads_back

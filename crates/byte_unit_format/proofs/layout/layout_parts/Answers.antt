@@ -3,7 +3,7 @@ use Rattle.std.specs.Fmt.{decimal}
 use Rattle.byte_unit_format.specs.Layout.{layout, before_layout, gap_of}
 use Rattle.byte_unit_format.specs.Plain.{missing}
 use Rattle.byte_unit_format.specs.Row.{fraction_of}
-use Rattle.byte_unit_format.proofs.TextParts.{layout_is}
+use Rattle.byte_unit_format.proofs.TextParts.{layout_of_parts}
 use Rattle.byte_unit_format.proofs.layout.layout_parts.Goals as goal
 
 pub returns-clause-text : goal.returns-clause-text
@@ -18,6 +18,6 @@ returns-clause-text c =
     let columns : c.decimal_len.result + c.len.result + c.match-spec.gap + length unit
     ≡ length (whole ++ fraction) + gap_of spec.sign unit + length unit =
     omega (arith, length-append {A = ℕ} whole fraction, c.decimal_len.ensures.exact, c.len.ensures.exact, gap_is) in
-    layout_is (whole ++ fraction) unit spec pad c.match-spec-2.before c.match-spec.gap
+    layout_of_parts (whole ++ fraction) unit spec pad c.match-spec-2.before c.match-spec.gap
     (c.padding-pad.ensures.exact ∙ ap (λ columns. missing spec.width columns) columns) before_is gap_is
     ∙ ap (λ unit. layout (whole ++ fraction) unit spec) c.as_str-name.ensures

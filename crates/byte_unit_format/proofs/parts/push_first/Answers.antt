@@ -1,10 +1,11 @@
 use Rattle.std.proofs.Common.{◌≡◌, arith, min, length}
 use Rattle.std.specs.String.{string_bytes}
-use Rattle.byte_unit_format.proofs.WrittenDigits.{AreShown, AddsFraction, digits_ascii, pushed_fraction}
+use Rattle.byte_unit_format.proofs.WrittenDigits.{AreShown, AddsFraction, shown_digits_ascii, fraction_added}
 use Rattle.byte_unit_format.proofs.parts.push_first.Goals as goal
 
 pub push_ascii-requires-clause-ascii : goal.push_ascii-requires-clause-ascii
-push_ascii-requires-clause-ascii g c = digits_ascii c.min-shown.result c.glyphs_of.result c.glyphs_of.ensures.ascii
+push_ascii-requires-clause-ascii g c =
+    shown_digits_ascii c.min-shown.result c.glyphs_of.result c.glyphs_of.ensures.ascii
 
 pub returns-then-places-gt0-clause-bytes : goal.returns-then-places-gt0-clause-bytes
 returns-then-places-gt0-clause-bytes g c =
@@ -23,4 +24,4 @@ returns-then-places-gt0-clause-bytes g c =
       digits_are = c.push_ascii.ensures.bytes;
       zeros_are = c.push_run.ensures.bytes;
     } in
-    pushed_fraction are adds
+    fraction_added are adds

@@ -6,7 +6,8 @@ use Rattle.byte_unit_format.proofs.TextParts.{fraction_long, piece_ascii}
 use Rattle.byte_unit_format.proofs.parts.push_last.Goals as goal
 
 pub put_fraction-start-requires-clause-room : goal.put_fraction-start-requires-clause-room
-put_fraction-start-requires-clause-room g c = omega (arith, fraction_long (Last c.args.digits c.args.places), c.requires.short.0)
+put_fraction-start-requires-clause-room g c =
+    omega (arith, fraction_long (Last c.args.digits c.args.places), c.requires.short.0)
 
 pub push_ascii-requires-clause-ascii : goal.push_ascii-requires-clause-ascii
 push_ascii-requires-clause-ascii g c =

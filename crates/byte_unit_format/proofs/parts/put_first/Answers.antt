@@ -1,3 +1,4 @@
+-- The point, the first digits of a decimal, and zeros for the missing ones are written into the array, up to `end`.
 use Rattle.std.proofs.Common.{◌≤◌, ◌-◌, ◌++◌, ◌∷◌, ◌∙◌, ℕ, List, arith, length, take, drop, replicate}
 use Rattle.std.proofs.Common.{append_assoc, ap, sym, subst}
 use Rattle.std.specs.Str.{IsAscii}
@@ -5,7 +6,7 @@ use Rattle.std.proofs.lemmas.List.{length-take}
 use Rattle.std.proofs.lemmas.Str.{IsAscii-take, IsAscii-append}
 use Rattle.std.proofs.lemmas.Str.Ascii.{IsAscii-cons}
 use Rattle.byte_unit_format.proofs.WrittenForms.{fraction_length}
-use Rattle.byte_unit_format.proofs.WrittenDigits.{AreShown, fraction_shown, length_shown}
+use Rattle.byte_unit_format.proofs.WrittenDigits.{AreShown, fraction_text_of_shown, length_shown}
 use Rattle.byte_unit_format.proofs.TextParts.{run_ascii}
 use Rattle.byte_unit_format.proofs.parts.put_first.Goals as goal
 
@@ -43,8 +44,9 @@ returns-clause-bytes c =
     } in
     c.put_run.ensures.bytes
     ∙ (ap (λ l. 46 ∷ l)
-    (c.put-digits.ensures.bytes ∙ (ap (λ l. front ++ l) c.put_run-zeros.ensures.bytes ∙ sym (append_assoc front zeros behind)))
-    ∙ ap (λ l. l ++ behind) (fraction_shown are))
+    (c.put-digits.ensures.bytes
+    ∙ (ap (λ l. front ++ l) c.put_run-zeros.ensures.bytes ∙ sym (append_assoc front zeros behind)))
+    ∙ ap (λ l. l ++ behind) (fraction_text_of_shown are))
 
 pub returns-clause-ascii : goal.returns-clause-ascii
 returns-clause-ascii c =
@@ -60,4 +62,5 @@ returns-clause-ascii c =
     let front = IsAscii-take characters shown c.glyphs_of.ensures.ascii in
     let zeros = run_ascii (places - shown) 48 (omega arith) in
     let digits = IsAscii-append (take shown characters) (replicate (places - shown) 48) front zeros in
-    subst IsAscii (fraction_shown are) (IsAscii-cons 46 (take shown characters ++ replicate (places - shown) 48) (omega arith) digits)
+    subst IsAscii (fraction_text_of_shown are)
+    (IsAscii-cons 46 (take shown characters ++ replicate (places - shown) 48) (omega arith) digits)

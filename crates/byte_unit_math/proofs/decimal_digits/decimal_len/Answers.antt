@@ -1,20 +1,20 @@
 use Rattle.std.proofs.Common.{◌<◌, ◌≤◌, arith, refl, subst, sym}
-use Rattle.byte_unit_math.proofs.WrittenDigits.{length_one}
-use Rattle.byte_unit_math.proofs.BinaryDigits.{length_by}
+use Rattle.byte_unit_math.proofs.WrittenDigits.{decimal_length_one}
+use Rattle.byte_unit_math.proofs.BinaryDigits.{LengthBy-leading_zeros}
 use Rattle.byte_unit_math.proofs.decimal_digits.decimal_len.Goals as goal
 
 pub returns-then-n-lt10-clause-exact : goal.returns-then-n-lt10-clause-exact
-returns-then-n-lt10-clause-exact c = sym (length_one c.args.n c.if-n-lt10.true)
+returns-then-n-lt10-clause-exact c = sym (decimal_length_one c.args.n c.if-n-lt10.true)
 
 pub returns-then-n-power_of_ten-clause-exact :
     goal.returns-then-n-power_of_ten-clause-exact
 returns-then-n-power_of_ten-clause-exact c =
     let power = c.power_of_ten.ensures in
-    sym ((length_by c.args.n _ c.if-n-lt10.false (omega arith) refl).fewer
+    sym ((LengthBy-leading_zeros c.args.n _ c.if-n-lt10.false (omega arith) refl).fewer
     (subst (λ m. c.args.n < m) power c.if-n-power_of_ten.true))
 
 pub returns-clause-exact : goal.returns-clause-exact
 returns-clause-exact c =
     let power = c.power_of_ten.ensures in
-    sym ((length_by c.args.n _ c.if-n-lt10.false (omega arith) refl).more
+    sym ((LengthBy-leading_zeros c.args.n _ c.if-n-lt10.false (omega arith) refl).more
     (subst (λ m. m ≤ c.args.n) power c.if-n-power_of_ten.false))

@@ -1,15 +1,15 @@
 use Rattle.std.proofs.Common.{◌≡◌, ◌+◌, ◌-◌, ◌/◌, ◌%◌, ◌++◌, ◌∙◌, ap, arith, drop}
 use Rattle.byte_unit_math.specs.Digits.{last_digits}
 use Rattle.byte_unit_math.specs.Numeral.{glyphs}
-use Rattle.byte_unit_math.proofs.WrittenDigits.{pairs_at, pair_put}
+use Rattle.byte_unit_math.proofs.WrittenDigits.{pairs_from_at, two_digits_put}
 use Rattle.byte_unit_math.proofs.decimal_digits.put_2_digits.Goals as goal
 
 pub returns-clause-digits : goal.returns-clause-digits
 returns-clause-digits c =
     let n = c.args.n in
-    let row = pairs_at 100 0 n (omega arith) in
+    let row = pairs_from_at 100 0 n (omega arith) in
     let none : 0 + n ≡ n = omega arith in
     let back : c.args.end - 2 + 2 ≡ c.args.end = omega arith in
-    pair_put n (c.args.end - 2) _ _ c.args.bytes.now (omega arith, omega arith)
+    two_digits_put n (c.args.end - 2) _ _ c.args.bytes.now (omega arith, omega arith)
     (row.0 ∙ ap (λ m. 48 + m / 10) none, row.1 ∙ ap (λ m. 48 + m % 10) none)
     ∙ ap (λ k. glyphs (last_digits 2 n) ++ drop k c.args.bytes.now) back

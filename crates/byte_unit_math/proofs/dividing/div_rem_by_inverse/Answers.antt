@@ -1,9 +1,11 @@
+-- No operation overflows, and the multiplication by the inverse gives the quotient and the remainder.
 use Rattle.std.proofs.Common.{◌≡◌, ◌+◌, ◌-◌, ◌*◌, arith, ap, sym, ◌∙◌}
-use Rattle.byte_unit_math.proofs.Estimates.{leading_fits, product_fits, estimate_fits, IsEstimate-steps, quotient_is, rest_is}
+use Rattle.byte_unit_math.proofs.Estimates.{leading_bits_fit, product_fits, estimate_fits, IsEstimate-steps}
+use Rattle.byte_unit_math.proofs.Estimates.{quotient_from_bounds, rest_from_bounds}
 use Rattle.byte_unit_math.proofs.dividing.div_rem_by_inverse.Goals as goal
 
 pub overflow_cast-leading-2 : goal.overflow_cast-leading-2
-overflow_cast-leading-2 c = omega (arith, leading_fits c.requires)
+overflow_cast-leading-2 c = omega (arith, leading_bits_fit c.requires)
 
 pub overflow_mul-estimate : goal.overflow_mul-estimate
 overflow_mul-estimate c = rw c.from.ensures (rw c.from-2.ensures (omega (arith, product_fits c.requires)))
@@ -37,21 +39,23 @@ returns-then-rest-divisor-clause-quotient c =
     let estimate = IsEstimate-steps c.requires c.from.ensures c.from-2.ensures c.from-3.ensures in
     let product = ap (λ n. c.from-3.result * n) c.from-4.ensures in
     sym c.from-3.ensures
-    ∙ quotient_is c.args.dividend c.args.divisor c.from-3.result estimate.enough (omega (arith, product, c.if-rest-divisor.true))
+    ∙ quotient_from_bounds c.args.dividend c.args.divisor c.from-3.result estimate.enough
+    (omega (arith, product, c.if-rest-divisor.true))
 
 pub returns-then-rest-divisor-clause-rest : goal.returns-then-rest-divisor-clause-rest
 returns-then-rest-divisor-clause-rest c =
     let estimate = IsEstimate-steps c.requires c.from.ensures c.from-2.ensures c.from-3.ensures in
     let product = ap (λ n. c.from-3.result * n) c.from-4.ensures in
     ap (λ n. c.args.dividend - n) product
-    ∙ rest_is c.args.dividend c.args.divisor c.from-3.result estimate.enough (omega (arith, product, c.if-rest-divisor.true))
+    ∙ rest_from_bounds c.args.dividend c.args.divisor c.from-3.result estimate.enough
+    (omega (arith, product, c.if-rest-divisor.true))
 
 pub returns-else-rest-divisor-clause-quotient : goal.returns-else-rest-divisor-clause-quotient
 returns-else-rest-divisor-clause-quotient c =
     let estimate = IsEstimate-steps c.requires c.from.ensures c.from-2.ensures c.from-3.ensures in
     let product = ap (λ n. c.from-3.result * n) c.from-4.ensures in
     ap (λ n. n + 1) (sym c.from-3.ensures)
-    ∙ quotient_is c.args.dividend c.args.divisor (c.from-3.result + 1)
+    ∙ quotient_from_bounds c.args.dividend c.args.divisor (c.from-3.result + 1)
     (omega (arith, product, estimate.enough, c.if-rest-divisor.false))
     (omega (arith, product, estimate.close, c.requires.some))
 
@@ -62,6 +66,6 @@ returns-else-rest-divisor-clause-rest c =
     let left : c.args.dividend - c.from-3.result * c.from-4.result - c.args.divisor
     ≡ c.args.dividend - (c.from-3.result + 1) * c.args.divisor = omega (arith, product) in
     left
-    ∙ rest_is c.args.dividend c.args.divisor (c.from-3.result + 1)
+    ∙ rest_from_bounds c.args.dividend c.args.divisor (c.from-3.result + 1)
     (omega (arith, product, estimate.enough, c.if-rest-divisor.false))
     (omega (arith, product, estimate.close, c.requires.some))

@@ -14,6 +14,8 @@ returns c =
     let below = ones.ensures.below in
     record {
       digit =
-          sym (ap (λ n. n / c.args.divisor) (sym parts) ∙ div-mul-add digit c.args.divisor ones.result.1 (omega (arith, below)));
-      rest = sym (ap (λ n. n % c.args.divisor) (sym parts) ∙ mod-mul-add digit c.args.divisor ones.result.1 (omega (arith, below)));
+          sym (ap (λ n. n / c.args.divisor) (sym parts)
+          ∙ div-mul-add digit c.args.divisor ones.result.1 (omega (arith, below)));
+      rest = sym (ap (λ n. n % c.args.divisor) (sym parts)
+          ∙ mod-mul-add digit c.args.divisor ones.result.1 (omega (arith, below)));
     }

@@ -1,5 +1,5 @@
 use Rattle.std.proofs.Common.{arith}
-use Rattle.byte_unit_math.proofs.Expanding.{IsDividing-start, IsDividing-more, IsDividing-ended, GoesOn-room}
+use Rattle.byte_unit_math.proofs.Expanding.{IsDividing-start, IsDividing-more, IsDividing-ended, IsUnfinished-room}
 use Rattle.byte_unit_math.proofs.expansion.divide.Goals as goal
 
 pub loop-rest-init : goal.loop-rest-init
@@ -7,13 +7,13 @@ loop-rest-init c = IsDividing-start c.args.whole c.args.remainder c.args.den c.r
 
 pub bounds-digits-places : goal.bounds-digits-places
 bounds-digits-places c =
-    GoesOn-room _ _ _ c.loop-rest.rest c.loop-rest.places c.loop-rest.digits
+    IsUnfinished-room _ _ _ c.loop-rest.rest c.loop-rest.places c.loop-rest.digits
     (record { so_far = c.loop-rest.invariant; ends = c.requires.ends; some = c.loop-rest-test.true })
 
 pub loop-rest-smaller : goal.loop-rest-smaller
 loop-rest-smaller c =
     let room =
-    GoesOn-room _ _ _ c.loop-rest.rest c.loop-rest.places c.loop-rest.digits
+    IsUnfinished-room _ _ _ c.loop-rest.rest c.loop-rest.places c.loop-rest.digits
     (record { so_far = c.loop-rest.invariant; ends = c.requires.ends; some = c.loop-rest-test.true }) in
     omega (arith, room)
 

@@ -3,15 +3,15 @@ use Rattle.std.proofs.Output.{has_written_styled_append, has_written_styled_of_e
 use Rattle.std.proofs.lemmas.Grind.{common_steps}
 use Rattle.std.proofs.lemmas.Str.{IsAscii-take}
 use Rattle.byte_unit_math.specs.Numeral.{glyphs}
-use Rattle.byte_unit_math.proofs.Fractions.{text_some}
-use Rattle.byte_unit_math.proofs.WrittenDigits.{is_text}
+use Rattle.byte_unit_math.proofs.Fractions.{fraction_text_some}
+use Rattle.byte_unit_math.proofs.WrittenDigits.{ascii_is_ok}
 use Rattle.byte_unit_math.proofs.expansion.fmt_fraction.Goals as goal
 
 pub unwrap-requires : goal.unwrap-requires
 unwrap-requires g c =
     let places = c.places-2.result in
     let characters = c.glyphs_of.result in
-    is_text c.from_utf8.result (take places characters) _ _ c.from_utf8.ensures.cases
+    ascii_is_ok c.from_utf8.result (take places characters) _ _ c.from_utf8.ensures.cases
     (IsAscii-take characters places c.glyphs_of.ensures.ascii)
 
 pub returns-clause-styled : goal.returns-clause-styled
@@ -19,9 +19,10 @@ returns-clause-styled g c = λ flush ok.
     let digits = c.args.e.now.digits in
     let characters = c.glyphs_of.result in
     let some : 0 < length digits = omega (arith, c.places.ensures.exact) in
-    let written : c.unwrap.result.now ≡ take c.places-2.result characters = first_of (search rules, grind (arith, common_steps)) in
+    let written : c.unwrap.result.now ≡ take c.places-2.result characters =
+    first_of (search rules, grind (arith, common_steps)) in
     let all : c.unwrap.result.now ≡ glyphs digits =
     written ∙ (ap (λ k. take k characters) c.places-2.ensures.exact ∙ c.glyphs_of.ensures.front) in
     let point = c.in_ok-write_str.ensures.styled flush refl in
     let both = has_written_styled_append _ _ _ _ _ _ point (c.write_str-2.ensures.styled point.flush ok) in
-    has_written_styled_of_eq _ _ _ _ _ (ap (λ l. 46 ∷ l) all ∙ sym (text_some digits some)) both
+    has_written_styled_of_eq _ _ _ _ _ (ap (λ l. 46 ∷ l) all ∙ sym (fraction_text_some digits some)) both

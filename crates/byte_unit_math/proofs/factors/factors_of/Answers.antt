@@ -1,11 +1,14 @@
+-- What is left of the size, times the powers of 2 and 5 found, is the size, and neither 2 nor 5 divides it.
 use Rattle.std.proofs.Common.{◌≡◌, ◌≢◌, ◌%◌, arith, subst, sym}
 use Rattle.std.specs.Int.{trailing_zeros, w128}
-use Rattle.byte_unit_math.proofs.TwosFives.{FivesOff, FivesOff-none, FivesOff-more, FivesOff-joined, FivesOff-few}
-use Rattle.byte_unit_math.proofs.factors.factors_of.Goals.{Joined-left, then-left, else-left, then-loop-left-test+else-left-eq0, else-loop-left-test}
+use Rattle.byte_unit_math.proofs.TwosFives.{FivesOff, FivesOff-trailing_zeros, FivesOff-more, FivesOff-joined}
+use Rattle.byte_unit_math.proofs.TwosFives.{FivesOff-few}
+use Rattle.byte_unit_math.proofs.factors.factors_of.Goals.{Joined-left, then-left, else-left}
+use Rattle.byte_unit_math.proofs.factors.factors_of.Goals.{then-loop-left-test+else-left-eq0, else-loop-left-test}
 use Rattle.byte_unit_math.proofs.factors.factors_of.Goals as goal
 
 pub loop-left-init : goal.loop-left-init
-loop-left-init c = FivesOff-none c.args.size c.requires.some (omega arith)
+loop-left-init c = FivesOff-trailing_zeros c.args.size c.requires.some (omega arith)
 
 pub overflow_add-fives : goal.overflow_add-fives
 overflow_add-fives c = omega (arith, FivesOff-few _ _ _ _ c.requires.small c.loop-left.invariant)
@@ -20,7 +23,7 @@ overflow_add-fives-then-left c =
     (omega (arith, short.ensures.product, c.if-left.true)) short.ensures.odd in
     omega (arith, FivesOff-few _ _ _ _ c.requires.small off)
 
--- what is left in the end, on either way
+-- What is left in the end and the factors found represent the size, in both branches.
 all_off : (c : Joined-left) → FivesOff c.args.size c.if-left.left (trailing_zeros w128 c.args.size) c.if-left.fives
 all_off c =
     let number = c.args.size in
@@ -49,10 +52,12 @@ no_five c = λ five.
     ]
 
 pub overflow_add-twos : goal.overflow_add-twos
-overflow_add-twos c = omega (arith, FivesOff-few _ _ _ _ c.requires.small (all_off (goal.at.overflow_add-twos c).Joined-left))
+overflow_add-twos c = omega (arith,
+    FivesOff-few _ _ _ _ c.requires.small (all_off (goal.at.overflow_add-twos c).Joined-left))
 
 pub overflow_add-twos-2 : goal.overflow_add-twos-2
-overflow_add-twos-2 c = omega (arith, FivesOff-few _ _ _ _ c.requires.small (all_off (goal.at.overflow_add-twos-2 c).Joined-left))
+overflow_add-twos-2 c = omega (arith,
+    FivesOff-few _ _ _ _ c.requires.small (all_off (goal.at.overflow_add-twos-2 c).Joined-left))
 
 pub returns-clause-product : goal.returns-clause-product
 returns-clause-product c = sym (all_off (goal.at.returns-clause-product c).Joined-left).product
@@ -64,4 +69,5 @@ returns-clause-powers c =
     record { left = c.if-left.left; product = off.product; odd = off.odd; no_five = no_five s }
 
 pub returns-clause-few : goal.returns-clause-few
-returns-clause-few c = omega (arith, FivesOff-few _ _ _ _ c.requires.small (all_off (goal.at.returns-clause-few c).Joined-left))
+returns-clause-few c = omega (arith,
+    FivesOff-few _ _ _ _ c.requires.small (all_off (goal.at.returns-clause-few c).Joined-left))

@@ -1,6 +1,6 @@
-use Rattle.byte_unit_math.proofs.Digits.{scaled_places}
-use Rattle.byte_unit_math.proofs.Texts.{short_expansion}
+use Rattle.byte_unit_math.proofs.Digits.{scaled_at_places}
+use Rattle.byte_unit_math.proofs.Texts.{short_numeral_is_expansion}
 use Rattle.byte_unit_math.proofs.laws.numerals_are_exact.Goals as goal
 
 pub returns : goal.returns
-returns c = record { all = λ number places. scaled_places places number; short = short_expansion }
+returns c = record { all = λ number places. scaled_at_places places number; short = short_numeral_is_expansion }

@@ -1,15 +1,17 @@
+-- The result is the least size of the number of units, or `None` if that reaches the limit.
 use Rattle.std.proofs.Common.{ℕ, ◌+◌, ◌-◌, ◌*◌, ◌^◌, arith, subst}
 use Rattle.byte_unit_math.specs.Bounds.{places_of_decimal}
 use Rattle.byte_unit_math.specs.Least.{IsLeastSize}
 use Rattle.byte_unit_math.specs.RoundedUp.{half_limit, IsRoundedUp}
 use Rattle.byte_unit_math.proofs.RoundedUp.{IsRoundedUp-groups, IsLeastSize-halves, IsLeastSize-none, IsLeastSize-parts}
-use Rattle.byte_unit_math.proofs.RoundedUp.{none_below, IfNone-always, IfSome-then_some, IfNone-below}
+use Rattle.byte_unit_math.proofs.RoundedUp.{least_size_not_below, IfNone-always, IfSome-then_some, IfNone-below}
 use Rattle.byte_unit_math.proofs.least.least_size_counted.Goals.{After-whole, then-digits-eq0, else-digits-eq0}
 use Rattle.byte_unit_math.proofs.least.least_size_counted.Goals as goal
 
--- the least size of the fraction
+-- The part that the code computes is the least size of the fraction.
 fraction_least : (c : After-whole)
-    → IsLeastSize (c.digits-digits.result * 10 ^ (places_of_decimal - c.places-places.result)) c.args.unit_size c.if-digits-eq0.part
+    → IsLeastSize (c.digits-digits.result * 10 ^ (places_of_decimal - c.places-places.result)) c.args.unit_size
+    c.if-digits-eq0.part
 fraction_least c =
     let unit = c.args.unit_size in
     let fraction = c.digits-digits.result * 10 ^ (places_of_decimal - c.places-places.result) in
@@ -19,15 +21,18 @@ fraction_least c =
           let part = w.carry_of_group-part-else-digits-eq0 in
           let size = w.carry_of_group-part-else-digits-eq0-3 in
           let low = IsRoundedUp-groups _ unit _ _ _ w.carry_of_group-part.ensures.rounded part.ensures.rounded in
-          let high = IsRoundedUp-groups _ unit _ _ _ w.carry_of_group-part-else-digits-eq0-2.ensures.rounded size.ensures.rounded in
+          let high = IsRoundedUp-groups _ unit _ _ _ w.carry_of_group-part-else-digits-eq0-2.ensures.rounded
+          size.ensures.rounded in
           let Low : ℕ → Type 0 = λ n. IsRoundedUp (n * unit + 0) half_limit part.result in
           let High : ℕ → Type 0 = λ n. IsRoundedUp (n * unit + part.result) half_limit size.result in
-          rw w.part-is (IsLeastSize-halves fraction unit part.result size.result (subst Low w.split_fraction-high.ensures.low low)
+          rw w.part-is (IsLeastSize-halves fraction unit part.result size.result
+          (subst Low w.split_fraction-high.ensures.low low)
           (subst High w.split_fraction-high.ensures.high high))
     ]
 
--- and of the whole decimal
-size_least : (c : After-whole) → IsLeastSize c.args.d c.args.unit_size (c.whole.result * c.args.unit_size + c.if-digits-eq0.part)
+-- With the whole part it is the least size of the decimal.
+size_least : (c : After-whole)
+    → IsLeastSize c.args.d c.args.unit_size (c.whole.result * c.args.unit_size + c.if-digits-eq0.part)
 size_least c =
     IsLeastSize-parts c.args.d c.args.unit_size c.whole.result _ c.if-digits-eq0.part
     (record {
@@ -39,24 +44,27 @@ size_least c =
 pub returns-in_err-checked_mul-clause-none : goal.returns-in_err-checked_mul-clause-none
 returns-in_err-checked_mul-clause-none c =
     let least = size_least (goal.at.returns-in_err-checked_mul-clause-none c).After-whole in
-    IfNone-always _ _ (none_below c.args.d c.args.unit_size (c.whole.result * c.args.unit_size + c.if-digits-eq0.part)
+    IfNone-always _ _ (least_size_not_below c.args.d c.args.unit_size
+    (c.whole.result * c.args.unit_size + c.if-digits-eq0.part)
     c.args.limit least (omega (arith, c.in_err-checked_mul.ensures)))
 
 pub returns-in_err-size-clause-none : goal.returns-in_err-size-clause-none
 returns-in_err-size-clause-none c =
     let least = size_least (goal.at.returns-in_err-size-clause-none c).After-whole in
-    IfNone-always _ _ (none_below c.args.d c.args.unit_size (c.whole.result * c.args.unit_size + c.if-digits-eq0.part)
+    IfNone-always _ _ (least_size_not_below c.args.d c.args.unit_size
+    (c.whole.result * c.args.unit_size + c.if-digits-eq0.part)
     c.args.limit least (omega (arith, c.in_err-size.ensures, c.in_ok-checked_mul.ensures)))
 
 pub returns-clause-least : goal.returns-clause-least
 returns-clause-least c =
     let least = size_least (goal.at.returns-clause-least c).After-whole in
     rw c.then_some.ensures (IfSome-then_some _ c.in_ok-size.size (IsLeastSize c.args.d c.args.unit_size)
-    (subst (IsLeastSize c.args.d c.args.unit_size) (omega (arith, c.in_ok-size.ensures, c.in_ok-checked_mul.ensures)) least))
+    (subst (IsLeastSize c.args.d c.args.unit_size) (omega (arith, c.in_ok-size.ensures, c.in_ok-checked_mul.ensures))
+    least))
 
 pub returns-clause-none : goal.returns-clause-none
 returns-clause-none c =
     let least = size_least (goal.at.returns-clause-none c).After-whole in
     rw c.then_some.ensures (IfNone-below c.in_ok-size.size c.args.limit _ (λ reached.
-    none_below c.args.d c.args.unit_size (c.whole.result * c.args.unit_size + c.if-digits-eq0.part)
+    least_size_not_below c.args.d c.args.unit_size (c.whole.result * c.args.unit_size + c.if-digits-eq0.part)
     c.args.limit least (omega (arith, reached, c.in_ok-size.ensures, c.in_ok-checked_mul.ensures))))

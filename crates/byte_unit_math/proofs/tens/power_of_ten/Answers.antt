@@ -1,6 +1,6 @@
 use Rattle.std.proofs.Common.{◌∙◌, arith}
-use Rattle.byte_unit_math.proofs.Scales.{powers_at}
+use Rattle.byte_unit_math.proofs.Scales.{powers_of_ten_at}
 use Rattle.byte_unit_math.proofs.tens.power_of_ten.Goals as goal
 
 pub returns : goal.returns
-returns c = powers_at 39 1 c.args.exponent (omega (arith, c.requires)) ∙ omega arith
+returns c = powers_of_ten_at 39 1 c.args.exponent (omega (arith, c.requires)) ∙ omega arith

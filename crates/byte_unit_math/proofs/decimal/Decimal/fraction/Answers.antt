@@ -1,12 +1,14 @@
 use Rattle.std.proofs.Common.{arith}
-use Rattle.byte_unit_math.proofs.Division.{part_below}
-use Rattle.byte_unit_math.proofs.ShortDecimals.{fraction_is}
+use Rattle.byte_unit_math.proofs.Division.{fraction_below_one}
+use Rattle.byte_unit_math.proofs.ShortDecimals.{fraction_of_fields}
 use Rattle.byte_unit_math.proofs.decimal.Decimal.fraction.Goals as goal
 
 pub overflow_mul-result : goal.overflow_mul-result
 overflow_mul-result c =
     rw c.power_of_ten.ensures
-    (omega (arith, part_below c.self.inside.digits c.self.inside.places c.self.invariant.few c.self.invariant.below))
+    (omega (arith, fraction_below_one c.self.inside.digits c.self.inside.places c.self.invariant.few
+    c.self.invariant.below))
 
 pub returns-clause-value : goal.returns-clause-value
-returns-clause-value c = rw c.power_of_ten.ensures (fraction_is c.args.self c.self.inside c.self.invariant c.self.view_is)
+returns-clause-value c = rw c.power_of_ten.ensures
+    (fraction_of_fields c.args.self c.self.inside c.self.invariant c.self.view_is)

@@ -1,6 +1,6 @@
 use Rattle.std.proofs.Common.{arith}
 use Rattle.byte_unit_math.proofs.Places.{FewerZeros-all, FewerZeros-less}
-use Rattle.byte_unit_math.proofs.ShortDecimals.{short_parts, shortened_number}
+use Rattle.byte_unit_math.proofs.ShortDecimals.{IsShort-parts, number_of_shortened}
 use Rattle.byte_unit_math.proofs.decimal.Decimal.from_wide_digits.Goals as goal
 
 pub loop-left-init : goal.loop-left-init
@@ -13,7 +13,7 @@ loop-left-preserved c =
 pub invariant_of-result : goal.invariant_of-result
 invariant_of-result c =
     let fewer = c.loop-left.invariant in
-    short_parts c.args.whole c.loop-left.short c.loop-left.left
+    IsShort-parts c.args.whole c.loop-left.short c.loop-left.left
     (record {
       bound = c.requires.whole;
       few = omega (arith, fewer.few, c.requires.places);
@@ -23,4 +23,5 @@ invariant_of-result c =
 
 pub returns : goal.returns
 returns c =
-    shortened_number c.args.whole c.args.digits c.args.places c.loop-left.short c.loop-left.left c.loop-left.invariant c.requires.places
+    number_of_shortened c.args.whole c.args.digits c.args.places c.loop-left.short c.loop-left.left
+    c.loop-left.invariant c.requires.places

@@ -2,11 +2,11 @@ use Rattle.std.proofs.Common.{append-nil, arith, sym, subst, ap, length, ◌∙�
 use Rattle.std.specs.Fmt.{decimal}
 use Rattle.std.specs.Str.{IsAscii}
 use Rattle.std.proofs.lemmas.Fmt.{IsAscii-decimal_wide}
-use Rattle.byte_unit_math.proofs.WrittenDigits.{length_few}
+use Rattle.byte_unit_math.proofs.WrittenDigits.{decimal_length_le_39}
 use Rattle.byte_unit_math.proofs.decimal_digits.DecimalDigits.of.Goals as goal
 
 pub put_u128-start-requires-clause-room : goal.put_u128-start-requires-clause-room
-put_u128-start-requires-clause-room c = omega (arith, length_few c.args.n (omega arith))
+put_u128-start-requires-clause-room c = omega (arith, decimal_length_le_39 c.args.n (omega arith))
 
 pub returns-clause-digits : goal.returns-clause-digits
 returns-clause-digits c = c.put_u128-start.ensures.digits ∙ append-nil (decimal c.args.n)
@@ -19,4 +19,4 @@ returns-clause-ascii c =
 pub returns-clause-few : goal.returns-clause-few
 returns-clause-few c =
     let same = c.put_u128-start.ensures.digits ∙ append-nil (decimal c.args.n) in
-    omega (arith, ap length same, length_few c.args.n (omega arith))
+    omega (arith, ap length same, decimal_length_le_39 c.args.n (omega arith))

@@ -1,7 +1,7 @@
 use Rattle.std.proofs.Common.{arith, ap, ◌≡◌, ◌+◌, ◌-◌, ◌^◌, ℕ, [], sym, subst, take, set, get_or}
 use Rattle.byte_unit_math.specs.Finite.{IsExpansion, scaled, cut_after}
-use Rattle.byte_unit_math.proofs.Cut.{shown_by}
-use Rattle.byte_unit_math.proofs.Kept.{next_whole, next_digit}
+use Rattle.byte_unit_math.proofs.Cut.{IsShown-view}
+use Rattle.byte_unit_math.proofs.Kept.{next_whole_is_expansion, next_digit_is_expansion}
 use Rattle.byte_unit_math.proofs.expansion.Expansion.ceil_to.Goals as goal
 
 pub returns-then-kept-eq0 : goal.returns-then-kept-eq0
@@ -9,9 +9,10 @@ returns-then-kept-eq0 c =
     let e = c.args.self.now in
     let p = c.args.places in
     let whole : e.whole ≡ c.self.inside.whole = sym (ap (λ v. v.whole) c.self.view_is) in
-    let P : ℕ → Type 0 = λ w. IsExpansion (scaled (cut_after p e) + 1) (10 ^ p) (record { whole = w + 1; digits = [] }) in
-    subst P whole
-    (next_whole e p c.trim_end_len-kept.result
+    let IsNext : ℕ → Type 0 = λ w. IsExpansion (scaled (cut_after p e) + 1) (10 ^ p)
+    (record { whole = w + 1; digits = [] }) in
+    subst IsNext whole
+    (next_whole_is_expansion e p c.trim_end_len-kept.result
     (record {
       within = omega (arith, c.requires);
       few = c.trim_end_len-kept.ensures.few;
@@ -28,14 +29,16 @@ returns-else-kept-eq0 c =
     let ds = c.leading_digits-digits.result in
     let whole : e.whole ≡ c.self.inside.whole = sym (ap (λ v. v.whole) c.self.view_is) in
     let digits = take kept (set ds (kept - 1) (get_or ds (kept - 1) 0 + 1)) in
-    let P : ℕ → Type 0 = λ w. IsExpansion (scaled (cut_after p e) + 1) (10 ^ p) (record { whole = w; digits = digits }) in
-    subst P whole
-    (next_digit e p kept ds (shown_by c.self.inside e c.self.invariant c.self.view_is)
+    let IsNext : ℕ → Type 0 = λ w. IsExpansion (scaled (cut_after p e) + 1) (10 ^ p)
+    (record { whole = w; digits = digits }) in
+    subst IsNext whole
+    (next_digit_is_expansion e p kept ds (IsShown-view c.self.inside e c.self.invariant c.self.view_is)
     (record {
       within = omega (arith, c.requires);
       few = c.trim_end_len-kept.ensures.few;
       same = c.trim_end_len-kept.ensures.same;
       stops = c.trim_end_len-kept.ensures.stops;
     })
-    (record { size = c.leading_digits-digits.ensures.size; front = c.leading_digits-digits.ensures.front; small = c.leading_digits-digits.ensures.small })
+    (record { size = c.leading_digits-digits.ensures.size; front = c.leading_digits-digits.ensures.front;
+    small = c.leading_digits-digits.ensures.small })
     (omega (arith, c.if-kept-eq0.false)))

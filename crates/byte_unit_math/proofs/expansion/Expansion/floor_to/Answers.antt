@@ -1,6 +1,6 @@
 use Rattle.std.proofs.Common.{ap, ◌≡◌, ◌^◌, ℕ, sym, subst, take}
 use Rattle.byte_unit_math.specs.Finite.{IsExpansion, scaled, cut_after}
-use Rattle.byte_unit_math.proofs.Cut.{shown_by}
+use Rattle.byte_unit_math.proofs.Cut.{IsShown-view}
 use Rattle.byte_unit_math.proofs.Kept.{cut_is_expansion}
 use Rattle.byte_unit_math.proofs.expansion.Expansion.floor_to.Goals as goal
 
@@ -10,9 +10,10 @@ returns c =
     let p = c.args.places in
     let kept = c.trim_end_len-kept.result in
     let whole : e.whole ≡ c.self.inside.whole = sym (ap (λ v. v.whole) c.self.view_is) in
-    let P : ℕ → Type 0 = λ w. IsExpansion (scaled (cut_after p e)) (10 ^ p) (record { whole = w; digits = take kept c.leading_digits.result }) in
-    subst P whole
-    (cut_is_expansion e p kept c.leading_digits.result (shown_by c.self.inside e c.self.invariant c.self.view_is)
+    let IsCut : ℕ → Type 0 = λ w. IsExpansion (scaled (cut_after p e)) (10 ^ p)
+    (record { whole = w; digits = take kept c.leading_digits.result }) in
+    subst IsCut whole
+    (cut_is_expansion e p kept c.leading_digits.result (IsShown-view c.self.inside e c.self.invariant c.self.view_is)
     (record {
       within = c.requires;
       few = c.trim_end_len-kept.ensures.few;

@@ -1,11 +1,11 @@
 use Rattle.std.proofs.Common.{◌≡◌, ◌+◌, ◌*◌, arith, subst}
 use Rattle.byte_unit_math.specs.Bounds.{one}
 use Rattle.byte_unit_math.specs.Finite.{IsExpansion}
-use Rattle.byte_unit_math.proofs.Expanding.{decimal_end}
+use Rattle.byte_unit_math.proofs.Expanding.{decimal_is_exact}
 use Rattle.byte_unit_math.proofs.expansion.Expansion.from_decimal.Goals as goal
 
 pub divide-requires-clause-ends : goal.divide-requires-clause-ends
-divide-requires-clause-ends c = decimal_end (c.whole.result * one + c.fraction.result)
+divide-requires-clause-ends c = decimal_is_exact (c.whole.result * one + c.fraction.result)
 
 pub returns : goal.returns
 returns c =

@@ -1,6 +1,7 @@
-use Rattle.byte_unit_math.proofs.Expanding.{new_ends}
+use Rattle.byte_unit_math.proofs.Expanding.{new_is_exact}
 use Rattle.byte_unit_math.proofs.expansion.Expansion.new.Goals as goal
 
 pub divide-requires-clause-ends : goal.divide-requires-clause-ends
 divide-requires-clause-ends c =
-    new_ends c.args.numerator c.power.result c.power-2.result c.args.twos c.args.fives c.power.ensures c.power-2.ensures c.requires.den
+    new_is_exact c.args.numerator c.power.result c.power-2.result c.args.twos c.args.fives c.power.ensures
+    c.power-2.ensures c.requires.den

@@ -8,4 +8,5 @@ pub returns-clause-styled : goal.returns-clause-styled
 returns-clause-styled g c = λ flush ok.
     let whole = c.in_ok-fmt_u128.ensures.styled flush refl in
     let both = has_written_styled_append _ _ _ _ _ _ whole (c.fmt_fraction.ensures.styled whole.flush ok) in
-    has_written_styled_of_eq _ _ _ _ _ (ap (λ e. decimal e.whole ++ fraction_text c.args.self.now.digits) c.self.view_is) both
+    has_written_styled_of_eq _ _ _ _ _
+    (ap (λ e. decimal e.whole ++ fraction_text c.args.self.now.digits) c.self.view_is) both
