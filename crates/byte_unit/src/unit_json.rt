@@ -27,7 +27,7 @@ pub enum JsonUnitError {
 }
 
 // Written by hand, as for the errors that it holds: the borrow checker has no rule for a derived `clone` of a type that
-// is `Copy` and holds a reference behind a model.
+// is `Copy` and holds a reference that a model hides.
 impl Clone for JsonUnitError {
     ghost is_clone = { λ error copy. copy ≡ error };
 
