@@ -1,3 +1,3 @@
-//! Exact decimals of 28 places, in which a size of a unit is stated.
+//! Exact decimals with at most 28 digits after the point, for sizes in a unit.
 
 pub use byte_unit_math::Decimal;

@@ -1,5 +1,5 @@
-//! Laws over the definitions. Each is a public function whose contract is the law. Most only state it;
-//! `byte_constant`, `byte_bounds`, `bit_constant` and `bit_bounds` also answer the values that they speak of.
+//! Laws over the definitions. Each is a public function whose contract is the law. Most return nothing;
+//! `byte_constant`, `byte_bounds`, `bit_constant` and `bit_bounds` return the values that their laws are about.
 
 pub use byte_unit_base::laws::choices::{
     choices_are_one, choices_at_no_places_are_whole, each_size_has_a_choice_or_none,

@@ -1,4 +1,16 @@
-//! Exact sizes in bytes and in bits: read, calculated, put into units, printed and stored.
+//! Exact sizes in bytes and in bits: parsing, arithmetic, units, formatting and JSON.
+//!
+//! # Examples
+//!
+//! ```rust
+//! use byte_unit::{Byte, FormatSpec, Unit};
+//!
+//! let limit = "1.5 GiB".parse::<Byte>()?;
+//! let used = Byte::from_u64(900_000_000);
+//! assert_eq!(rt; limit.subtract(used), Some(Byte::from_u64(710_612_736)));
+//! assert_eq!(rt; used.to_text(alloc, FormatSpec::ALTERNATE)?.as_str(), "900 MB");
+//! assert_eq!(rt; limit.get_exact_unit(false), (1536, Unit::MiB));
+//! ```
 #![tactic(auto)]
 
 pub mod decimal;

@@ -17,17 +17,17 @@ use std::alloc::{AllocError, Global};
 use std::error::Error;
 use std::fmt;
 
-/// Why a JSON value is no unit.
+/// The error returned when a JSON value is not a unit.
 #[derive(Copy, Debug)]
 pub enum JsonUnitError {
-    /// The value is no string.
+    /// The value is not a string.
     NotString,
-    /// The string is refused.
+    /// The string is not the spelling of a unit.
     Unit(UnitParseError),
 }
 
 // Written by hand, as for the errors that it holds: the borrow checker has no rule for a derived `clone` of a type that
-// is `Copy` and holds a reference behind a model.
+// is `Copy` and holds a reference that a model hides.
 impl Clone for JsonUnitError {
     ghost is_clone = { λ error copy. copy ≡ error };
 
@@ -56,10 +56,20 @@ impl fmt::Display for JsonUnitError {
 
 impl Error for JsonUnitError {}
 
-/// The JSON string of the unit: its name. It reads back as the unit. `AllocError` where memory for it was refused.
+/// Returns the JSON string of the unit: its name. The string round-trips.
 ///
-/// ```text
-/// unit_to_json(alloc, Unit::Kbit)?      // the string "Kb"
+/// # Errors
+///
+/// `AllocError` if an allocation fails.
+///
+/// # Examples
+///
+/// ```rust
+/// use byte_unit::{Unit, unit_from_json, unit_to_json};
+///
+/// let value = unit_to_json(alloc, Unit::Kbit)?;
+/// assert_eq!(rt; value.as_str(), Some("Kb"));
+/// assert_eq!(rt; unit_from_json(&value)?, Unit::Kbit);
 /// ```
 pub fn unit_to_json(alloc: Global, unit: Unit) -> Result<Value, AllocError>
     ensures { IfOk result (λ value. view value ≡ string (name current (shape_of unit))) }
@@ -67,11 +77,24 @@ pub fn unit_to_json(alloc: Global, unit: Unit) -> Result<Value, AllocError>
     Ok(Value::String(String::from_str(alloc, unit.as_str())?))
 }
 
-/// The unit of a JSON string, as `FromStr` reads its text: case sensitive, bytes preferred. Any other value is refused
-/// as `NotString`. It asks for no memory.
+/// Parses a unit from a JSON string, as `FromStr` parses its text: case sensitive, and a prefix alone is a multiple
+/// of bytes. Does not allocate.
 ///
-/// ```text
-/// unit_from_json(&string)      // Unit::Kbit for the string "Kb"
+/// # Errors
+///
+/// `NotString` if the value is not a string, `Unit` if the string is not the spelling of a unit.
+///
+/// # Examples
+///
+/// ```rust
+/// use byte_unit::{JsonUnitError, Unit, unit_from_json};
+/// use serde_json::Value;
+///
+/// let value = Value::String(String::from_str(alloc, "Kb")?);
+/// assert_eq!(rt; unit_from_json(&value)?, Unit::Kbit);
+/// let value = Value::String(String::from_str(alloc, "Kx")?);
+/// assert!(rt; matches!(unit_from_json(&value), Err(JsonUnitError::Unit(error)) if error.character == 'x'));
+/// assert!(rt; matches!(unit_from_json(&Value::Null), Err(JsonUnitError::NotString)));
 /// ```
 pub fn unit_from_json(value: &Value) -> Result<Unit, JsonUnitError>
     ensures { ReadsString unit_errors (IsUnitReading (reading false true)) (as_str (view value.now)) result }

@@ -1,5 +1,5 @@
 // Rendered from crates/byte_unit_byte/src/byte.rt by tools/mirror. Do not edit.
-//! `Bit`, a size in bits: what makes one, what it gives back, and its arithmetic.
+//! `Bit`, a size in bits: constructors, conversions to numbers, comparisons and arithmetic.
 
 ghost use Rattle.std.specs.Prelude.{◌≡◌, ◌+◌, ◌-◌, ◌*◌, ◌/◌, ◌^◌, ◌<◌, ◌≤◌, ◌↔◌, IsTrue, SomeIff, min};
 ghost use Rattle.std.specs.Ordering.{nat_cmp};
@@ -25,12 +25,17 @@ mod units;
 
 pub use adjusted::AdjustedBit;
 
-/// A size in bits: a whole number below 10^30. A contract sees it as that number.
+/// A size in bits: a whole number below 10^30. In a contract a `Bit` is that number.
 ///
-/// ```text
-/// let limit = Bit::parse_str("1.5 Gib")?;
+/// # Examples
+///
+/// ```rust
+/// use byte_unit::Bit;
+///
+/// let limit = "1.5 Gib".parse::<Bit>()?;
 /// let used = Bit::from_u64(900_000_000);
-/// limit.subtract(used)        // Some(710,612,736 bits)
+/// assert_eq!(rt; limit.subtract(used), Some(Bit::from_u64(710_612_736)));
+/// assert_eq!(rt; used.subtract(limit), None);
 /// ```
 #[derive(Debug, Clone, Copy, PartialEq, Eq, PartialOrd, Ord, Hash)]
 pub struct Bit {
@@ -50,12 +55,18 @@ impl Model for Bit {
     ghost inverse = { λ n. record { size = n } };
 }
 
-/// What makes a size in bits.
+/// Constructors.
 impl Bit {
-    /// So many bits. `None` from 10^30 on.
+    /// Creates a `Bit` from a number of bits. Returns `None` if it is 10^30 or more.
     ///
-    /// ```text
-    /// Bit::from_u128(15_000_000)     // Some(15,000,000 bits)
+    /// # Examples
+    ///
+    /// ```rust
+    /// use byte_unit::Bit;
+    ///
+    /// assert_eq!(rt; Bit::from_u128(15_000_000), Some(Bit::from_u64(15_000_000)));
+    /// assert_eq!(rt; Bit::from_u128(Bit::MAX.as_u128()), Some(Bit::MAX));
+    /// assert_eq!(rt; Bit::from_u128(Bit::MAX.as_u128() + 1), None);
     /// ```
     pub fn from_u128(size: u128) -> Option<Bit>
         ensures { SomeIff result (size < current.size_limit) size }
@@ -64,19 +75,34 @@ impl Bit {
         Some(Bit { size })
     }
 
-    /// So many bits. The caller owes a size below 10^30.
+    /// Creates a `Bit` from a number of bits, without a test of the bound.
+    ///
+    /// Precondition (proved at every call): `size < 10^30`.
+    ///
+    /// # Examples
+    ///
+    /// ```rust
+    /// use byte_unit::Bit;
+    ///
+    /// assert_eq!(rt; Bit::from_u128_unsafe(15_000_000), Bit::from_u64(15_000_000));
+    /// ```
     pub fn from_u128_unsafe(size: u128) -> Bit
         requires { size < current.size_limit }
         ensures { result ≡ size }
     {
-        // The bound is the caller's, so it is not tested here.
+        // The bound is a precondition, so it is not tested here.
         Bit { size }
     }
 
-    /// So many bits.
+    /// Creates a `Bit` from a number of bits.
     ///
-    /// ```text
-    /// Bit::from_u64(15_000_000)     // 15,000,000 bits
+    /// # Examples
+    ///
+    /// ```rust
+    /// use byte_unit::Bit;
+    ///
+    /// assert_eq!(rt; Bit::from_u64(1024), Bit::KIBIBIT);
+    /// assert_eq!(rt; Bit::from_u64(u64::MAX).as_u128(), u128::from(u64::MAX));
     /// ```
     pub fn from_u64(size: u64) -> Bit
         ensures { result ≡ size }
@@ -86,11 +112,16 @@ impl Bit {
         }
     }
 
-    /// So many bits. `None` where the number is negative, and from 10^30 on.
+    /// Creates a `Bit` from a number of bits. Returns `None` if it is negative, or 10^30 or more.
     ///
-    /// ```text
-    /// Bit::from_i128(15_000_000)     // Some(15,000,000 bits)
-    /// Bit::from_i128(-1)             // None
+    /// # Examples
+    ///
+    /// ```rust
+    /// use byte_unit::Bit;
+    ///
+    /// assert_eq!(rt; Bit::from_i128(15_000_000), Some(Bit::from_u64(15_000_000)));
+    /// assert_eq!(rt; Bit::from_i128(-1), None);
+    /// assert_eq!(rt; Bit::from_i128(i128::MAX), None);
     /// ```
     pub fn from_i128(size: i128) -> Option<Bit>
         ensures { OfSigned (λ n answer. SomeIff answer (n < current.size_limit) n) size result }
@@ -98,11 +129,15 @@ impl Bit {
         Bit::from_u128(u128::try_from(size).ok()?)
     }
 
-    /// So many bits. `None` where the number is negative.
+    /// Creates a `Bit` from a number of bits. Returns `None` if it is negative.
     ///
-    /// ```text
-    /// Bit::from_i64(15_000_000)     // Some(15,000,000 bits)
-    /// Bit::from_i64(-1)             // None
+    /// # Examples
+    ///
+    /// ```rust
+    /// use byte_unit::Bit;
+    ///
+    /// assert_eq!(rt; Bit::from_i64(15_000_000), Some(Bit::from_u64(15_000_000)));
+    /// assert_eq!(rt; Bit::from_i64(-1), None);
     /// ```
     pub fn from_i64(size: i64) -> Option<Bit>
         ensures { OfSigned (λ n answer. SomeIff answer (n < current.size_limit) n) size result }
@@ -111,13 +146,20 @@ impl Bit {
     }
 }
 
-/// What makes a size in bits from a number of a unit.
+/// Constructors from a number of a unit.
 impl Bit {
-    /// So many of the unit, rounded up to a whole bit. `None` where that is 10^30 or more.
+    /// Creates a `Bit` from a number of a unit, rounded up to a whole bit.
     ///
-    /// ```text
-    /// Bit::from_u128_with_unit(15, Unit::Mbit)      // Some(15,000,000 bits)
-    /// Bit::from_u128_with_unit(3, Unit::B)          // Some(24 bits)
+    /// Returns `None` if the size is 10^30 bits or more.
+    ///
+    /// # Examples
+    ///
+    /// ```rust
+    /// use byte_unit::{Bit, Unit};
+    ///
+    /// assert_eq!(rt; Bit::from_u128_with_unit(15, Unit::Mbit), Some(Bit::from_u64(15_000_000)));
+    /// assert_eq!(rt; Bit::from_u128_with_unit(17, Unit::B), Some(Bit::from_u64(136)));
+    /// assert_eq!(rt; Bit::from_u128_with_unit(1_000, Unit::Rbit), None);
     /// ```
     pub fn from_u128_with_unit(size: u128, unit: Unit) -> Option<Bit>
         ensures { IsSizeOrNone current (IsLeastOf InBits (size * one) (shape_of unit)) result }
@@ -126,10 +168,18 @@ impl Bit {
         Some(Bit { size })
     }
 
-    /// So many of the unit, rounded up to a whole bit. `None` where that is 10^30 or more.
+    /// Creates a `Bit` from a number of a unit, rounded up to a whole bit.
     ///
-    /// ```text
-    /// Bit::from_u64_with_unit(15, Unit::Kibit)     // Some(15,360 bits)
+    /// Returns `None` if the size is 10^30 bits or more.
+    ///
+    /// # Examples
+    ///
+    /// ```rust
+    /// use byte_unit::{Bit, Unit};
+    ///
+    /// assert_eq!(rt; Bit::from_u64_with_unit(15, Unit::Kibit), Some(Bit::from_u64(15_360)));
+    /// assert_eq!(rt; Bit::from_u64_with_unit(999, Unit::Rbit), Bit::RONNABIT.multiply(999));
+    /// assert_eq!(rt; Bit::from_u64_with_unit(1_000, Unit::Rbit), None);
     /// ```
     pub fn from_u64_with_unit(size: u64, unit: Unit) -> Option<Bit>
         ensures { IsSizeOrNone current (IsLeastOf InBits (size * one) (shape_of unit)) result }
@@ -137,11 +187,18 @@ impl Bit {
         Bit::from_u128_with_unit(u128::from(size), unit)
     }
 
-    /// So many of the unit, rounded up to a whole bit. `None` where the number is negative, and where the size is
-    /// 10^30 or more.
+    /// Creates a `Bit` from a number of a unit, rounded up to a whole bit.
     ///
-    /// ```text
-    /// Bit::from_i128_with_unit(15, Unit::Kibit)     // Some(15,360 bits)
+    /// Returns `None` if the number is negative, or the size is 10^30 bits or more.
+    ///
+    /// # Examples
+    ///
+    /// ```rust
+    /// use byte_unit::{Bit, Unit};
+    ///
+    /// assert_eq!(rt; Bit::from_i128_with_unit(15, Unit::Kibit), Some(Bit::from_u64(15_360)));
+    /// assert_eq!(rt; Bit::from_i128_with_unit(-15, Unit::Kibit), None);
+    /// assert_eq!(rt; Bit::from_i128_with_unit(1_000, Unit::Rbit), None);
     /// ```
     pub fn from_i128_with_unit(size: i128, unit: Unit) -> Option<Bit>
         ensures { OfSigned
@@ -150,11 +207,17 @@ impl Bit {
         Bit::from_u128_with_unit(u128::try_from(size).ok()?, unit)
     }
 
-    /// So many of the unit, rounded up to a whole bit. `None` where the number is negative, and where the size is
-    /// 10^30 or more.
+    /// Creates a `Bit` from a number of a unit, rounded up to a whole bit.
     ///
-    /// ```text
-    /// Bit::from_i64_with_unit(-15, Unit::Kibit)     // None
+    /// Returns `None` if the number is negative, or the size is 10^30 bits or more.
+    ///
+    /// # Examples
+    ///
+    /// ```rust
+    /// use byte_unit::{Bit, Unit};
+    ///
+    /// assert_eq!(rt; Bit::from_i64_with_unit(15, Unit::Kibit), Some(Bit::from_u64(15_360)));
+    /// assert_eq!(rt; Bit::from_i64_with_unit(-15, Unit::Kibit), None);
     /// ```
     pub fn from_i64_with_unit(size: i64, unit: Unit) -> Option<Bit>
         ensures { OfSigned
@@ -164,12 +227,17 @@ impl Bit {
     }
 }
 
-/// What a size gives back.
+/// Conversions to numbers.
 impl Bit {
-    /// The number of bits, below 10^30.
+    /// Returns the number of bits, which is below 10^30.
     ///
-    /// ```text
-    /// Bit::KIBIBIT.as_u128()     // 1024
+    /// # Examples
+    ///
+    /// ```rust
+    /// use byte_unit::Bit;
+    ///
+    /// assert_eq!(rt; Bit::KIBIBIT.as_u128(), 1024);
+    /// assert_eq!(rt; Bit::MAX.as_u128(), 999_999_999_999_999_999_999_999_999_999);
     /// ```
     pub fn as_u128(self) -> u128
         ensures number { result ≡ self }
@@ -178,11 +246,15 @@ impl Bit {
         self.size
     }
 
-    /// The number of bits, or 2^64 - 1 where it is larger.
+    /// Returns the number of bits, or 2^64 - 1 if it is larger.
     ///
-    /// ```text
-    /// Bit::KIBIBIT.as_u64()      // 1024
-    /// Bit::ZETTABIT.as_u64()     // 18,446,744,073,709,551,615
+    /// # Examples
+    ///
+    /// ```rust
+    /// use byte_unit::Bit;
+    ///
+    /// assert_eq!(rt; Bit::KIBIBIT.as_u64(), 1024);
+    /// assert_eq!(rt; Bit::ZETTABIT.as_u64(), u64::MAX);
     /// ```
     pub fn as_u64(self) -> u64
         ensures { result ≡ min self (2 ^ 64 - 1) }
@@ -190,11 +262,15 @@ impl Bit {
         u64::try_from(self.size).unwrap_or(u64::MAX)
     }
 
-    /// The number of bits. `None` where it is larger than 2^64 - 1.
+    /// Returns the number of bits, or `None` if it is larger than 2^64 - 1.
     ///
-    /// ```text
-    /// Bit::KIBIBIT.as_u64_checked()      // Some(1024)
-    /// Bit::ZETTABIT.as_u64_checked()     // None
+    /// # Examples
+    ///
+    /// ```rust
+    /// use byte_unit::Bit;
+    ///
+    /// assert_eq!(rt; Bit::KIBIBIT.as_u64_checked(), Some(1024));
+    /// assert_eq!(rt; Bit::ZETTABIT.as_u64_checked(), None);
     /// ```
     pub fn as_u64_checked(self) -> Option<u64>
         ensures { SomeIff result (self < 2 ^ 64) self }
@@ -203,30 +279,68 @@ impl Bit {
     }
 }
 
-/// Comparison with numbers of bits.
+/// Comparisons with numbers of bits.
 impl Bit {
-    /// Whether it is so many bits: `Bit::KILOBIT.eq_u64(1000)` is true.
+    /// Returns whether the size is equal to a number of bits.
+    ///
+    /// # Examples
+    ///
+    /// ```rust
+    /// use byte_unit::Bit;
+    ///
+    /// assert!(rt; Bit::KILOBIT.eq_u64(1000));
+    /// assert!(rt; !Bit::KILOBIT.eq_u64(1024));
+    /// ```
     pub fn eq_u64(self, other: u64) -> bool
         ensures { IsTrue result ↔ (self ≡ other) }
     {
         self.size == u128::from(other)
     }
 
-    /// Whether it is so many bits: `Bit::KILOBIT.eq_u128(1024)` is false.
+    /// Returns whether the size is equal to a number of bits.
+    ///
+    /// # Examples
+    ///
+    /// ```rust
+    /// use byte_unit::Bit;
+    ///
+    /// assert!(rt; Bit::KILOBIT.eq_u128(1000));
+    /// assert!(rt; !Bit::KILOBIT.eq_u128(1024));
+    /// ```
     pub fn eq_u128(self, other: u128) -> bool
         ensures { IsTrue result ↔ (self ≡ other) }
     {
         self.size == other
     }
 
-    /// How it compares with so many bits: `Bit::KILOBIT.cmp_u64(1024)` is `Less`.
+    /// Compares the size with a number of bits.
+    ///
+    /// # Examples
+    ///
+    /// ```rust
+    /// use byte_unit::Bit;
+    /// use std::cmp::Ordering;
+    ///
+    /// assert_eq!(rt; Bit::KILOBIT.cmp_u64(1024), Ordering::Less);
+    /// assert_eq!(rt; Bit::KIBIBIT.cmp_u64(1024), Ordering::Equal);
+    /// ```
     pub fn cmp_u64(self, other: u64) -> Ordering
         ensures { result ≡ nat_cmp self other }
     {
         self.size.cmp(&u128::from(other))
     }
 
-    /// How it compares with so many bits: `Bit::KIBIBIT.cmp_u128(1000)` is `Greater`.
+    /// Compares the size with a number of bits.
+    ///
+    /// # Examples
+    ///
+    /// ```rust
+    /// use byte_unit::Bit;
+    /// use std::cmp::Ordering;
+    ///
+    /// assert_eq!(rt; Bit::KILOBIT.cmp_u128(1024), Ordering::Less);
+    /// assert_eq!(rt; Bit::KIBIBIT.cmp_u128(1024), Ordering::Equal);
+    /// ```
     pub fn cmp_u128(self, other: u128) -> Ordering
         ensures { result ≡ nat_cmp self other }
     {
@@ -234,12 +348,18 @@ impl Bit {
     }
 }
 
-/// Arithmetic. No call overflows, wraps or panics.
+/// Arithmetic. No method overflows, wraps or panics.
 impl Bit {
-    /// The sum. `None` from 10^30 on.
+    /// Returns the sum, or `None` if it is 10^30 bits or more.
     ///
-    /// ```text
-    /// Bit::from_u64(15_500).add(Bit::from_u64(500))     // Some(16,000 bits)
+    /// # Examples
+    ///
+    /// ```rust
+    /// use byte_unit::Bit;
+    ///
+    /// let size = Bit::from_u64(15_500);
+    /// assert_eq!(rt; size.add(Bit::from_u64(500)), Some(Bit::from_u64(16_000)));
+    /// assert_eq!(rt; size.add(Bit::MAX), None);
     /// ```
     pub fn add(self, rhs: Bit) -> Option<Bit>
         ensures { SomeIff result (self + rhs < current.size_limit) (self + rhs) }
@@ -247,11 +367,16 @@ impl Bit {
         Bit::from_u128(self.size + rhs.size)
     }
 
-    /// The difference. `None` where it would be negative.
+    /// Returns the difference, or `None` if `rhs` is larger than the size.
     ///
-    /// ```text
-    /// Bit::from_u64(15_500).subtract(Bit::from_u64(500))     // Some(15,000 bits)
-    /// Bit::from_u64(500).subtract(Bit::from_u64(15_500))     // None
+    /// # Examples
+    ///
+    /// ```rust
+    /// use byte_unit::Bit;
+    ///
+    /// let size = Bit::from_u64(15_500);
+    /// assert_eq!(rt; size.subtract(Bit::from_u64(500)), Some(Bit::from_u64(15_000)));
+    /// assert_eq!(rt; size.subtract(Bit::MAX), None);
     /// ```
     pub fn subtract(self, rhs: Bit) -> Option<Bit>
         ensures { SomeIff result (rhs ≤ self) (self - rhs) }
@@ -260,10 +385,15 @@ impl Bit {
         Some(Bit { size })
     }
 
-    /// The product. `None` from 10^30 on.
+    /// Returns the product, or `None` if it is 10^30 bits or more.
     ///
-    /// ```text
-    /// Bit::from_u64(15_500).multiply(2)     // Some(31,000 bits)
+    /// # Examples
+    ///
+    /// ```rust
+    /// use byte_unit::Bit;
+    ///
+    /// assert_eq!(rt; Bit::from_u64(15_500).multiply(2), Some(Bit::from_u64(31_000)));
+    /// assert_eq!(rt; Bit::MAX.multiply(2), None);
     /// ```
     pub fn multiply(self, rhs: usize) -> Option<Bit>
         ensures { SomeIff result (self * rhs < current.size_limit) (self * rhs) }
@@ -271,11 +401,15 @@ impl Bit {
         Bit::from_u128(self.size.checked_mul(rhs as u128)?)
     }
 
-    /// The quotient, rounded down. `None` where `rhs` is zero.
+    /// Returns the quotient, rounded down, or `None` if `rhs` is zero.
     ///
-    /// ```text
-    /// Bit::from_u64(15_500).divide(3)     // Some(5166 bits)
-    /// Bit::from_u64(15_500).divide(0)     // None
+    /// # Examples
+    ///
+    /// ```rust
+    /// use byte_unit::Bit;
+    ///
+    /// assert_eq!(rt; Bit::from_u64(15_500).divide(3), Some(Bit::from_u64(5166)));
+    /// assert_eq!(rt; Bit::from_u64(15_500).divide(0), None);
     /// ```
     pub fn divide(self, rhs: usize) -> Option<Bit>
         ensures { SomeIff result (0 < rhs) (self / rhs) }

@@ -1,5 +1,5 @@
 // Rendered from crates/byte_unit_byte/src/laws.rt by tools/mirror. Do not edit.
-//! What the constants of `Bit` are.
+//! Laws of the constants of `Bit`: public functions whose contracts are the laws.
 
 ghost use Rattle.std.specs.Prelude.{◌≡◌, ◌*◌, ◌+◌, MatchOption};
 ghost use Rattle.byte_unit_base.specs.Shape.{bits};
@@ -11,8 +11,19 @@ ghost use Rattle.byte_unit_base.specs.declared.kind.Kind.TheVariants.{Bit as InB
 use crate::Bit;
 use byte_unit_base::Unit;
 
-/// Returns the constant of `Bit` that is named after the unit, and is as large. Returns `None` for `Unit::B`, since
-/// no constant is named after it.
+/// Returns the constant of `Bit` that is named after the unit, which is as large as the unit.
+///
+/// Returns `None` for `Unit::B`, since no constant is named after it.
+///
+/// # Examples
+///
+/// ```rust
+/// use byte_unit::laws::bit_constant;
+/// use byte_unit::{Bit, Unit};
+///
+/// assert_eq!(rt; bit_constant(Unit::Kibit), Some(Bit::KIBIBIT));
+/// assert_eq!(rt; bit_constant(Unit::B), None);
+/// ```
 pub fn bit_constant(unit: Unit) -> Option<Bit>
     ensures { MatchOption result (unit ≡ Unit.B) (λ size. size * bits_in InBits ≡ bits (shape_of unit)) }
 {
@@ -58,7 +69,16 @@ pub fn bit_constant(unit: Unit) -> Option<Bit>
     }
 }
 
-/// The least and the greatest size: `Bit::MIN` and `Bit::MAX`.
+/// Returns the smallest and the largest size: `Bit::MIN` and `Bit::MAX`.
+///
+/// # Examples
+///
+/// ```rust
+/// use byte_unit::laws::bit_bounds;
+/// use byte_unit::Bit;
+///
+/// assert_eq!(rt; bit_bounds(), (Bit::MIN, Bit::MAX));
+/// ```
 pub fn bit_bounds() -> (Bit, Bit)
     ensures least { result.0 ≡ 0 }
     ensures greatest { result.1 + 1 ≡ current.size_limit }

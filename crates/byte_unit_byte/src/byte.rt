@@ -1,4 +1,4 @@
-//! `Byte`, a size in bytes: what makes one, what it gives back, and its arithmetic.
+//! `Byte`, a size in bytes: constructors, conversions to numbers, comparisons and arithmetic.
 
 ghost use Rattle.std.specs.Prelude.{◌≡◌, ◌+◌, ◌-◌, ◌*◌, ◌/◌, ◌^◌, ◌<◌, ◌≤◌, ◌↔◌, IsTrue, SomeIff, min};
 ghost use Rattle.std.specs.Ordering.{nat_cmp};
@@ -24,12 +24,17 @@ mod units;
 
 pub use adjusted::AdjustedByte;
 
-/// A size in bytes: a whole number below 10^30. A contract sees it as that number.
+/// A size in bytes: a whole number below 10^30. In a contract a `Byte` is that number.
 ///
-/// ```text
-/// let limit = Byte::parse_str("1.5 GiB", false)?;
+/// # Examples
+///
+/// ```rust
+/// use byte_unit::Byte;
+///
+/// let limit = "1.5 GiB".parse::<Byte>()?;
 /// let used = Byte::from_u64(900_000_000);
-/// limit.subtract(used)        // Some(710,612,736 bytes)
+/// assert_eq!(rt; limit.subtract(used), Some(Byte::from_u64(710_612_736)));
+/// assert_eq!(rt; used.subtract(limit), None);
 /// ```
 #[derive(Debug, Clone, Copy, PartialEq, Eq, PartialOrd, Ord, Hash)]
 pub struct Byte {
@@ -49,12 +54,18 @@ impl Model for Byte {
     ghost inverse = { λ n. record { size = n } };
 }
 
-/// What makes a size in bytes.
+/// Constructors.
 impl Byte {
-    /// So many bytes. `None` from 10^30 on.
+    /// Creates a `Byte` from a number of bytes. Returns `None` if it is 10^30 or more.
     ///
-    /// ```text
-    /// Byte::from_u128(15_000_000)     // Some(15,000,000 bytes)
+    /// # Examples
+    ///
+    /// ```rust
+    /// use byte_unit::Byte;
+    ///
+    /// assert_eq!(rt; Byte::from_u128(15_000_000), Some(Byte::from_u64(15_000_000)));
+    /// assert_eq!(rt; Byte::from_u128(Byte::MAX.as_u128()), Some(Byte::MAX));
+    /// assert_eq!(rt; Byte::from_u128(Byte::MAX.as_u128() + 1), None);
     /// ```
     pub fn from_u128(size: u128) -> Option<Byte>
         ensures { SomeIff result (size < current.size_limit) size }
@@ -63,19 +74,34 @@ impl Byte {
         Some(Byte { size })
     }
 
-    /// So many bytes. The caller owes a size below 10^30.
+    /// Creates a `Byte` from a number of bytes, without a test of the bound.
+    ///
+    /// Precondition (proved at every call): `size < 10^30`.
+    ///
+    /// # Examples
+    ///
+    /// ```rust
+    /// use byte_unit::Byte;
+    ///
+    /// assert_eq!(rt; Byte::from_u128_unsafe(15_000_000), Byte::from_u64(15_000_000));
+    /// ```
     pub fn from_u128_unsafe(size: u128) -> Byte
         requires { size < current.size_limit }
         ensures { result ≡ size }
     {
-        // The bound is the caller's, so it is not tested here.
+        // The bound is a precondition, so it is not tested here.
         Byte { size }
     }
 
-    /// So many bytes.
+    /// Creates a `Byte` from a number of bytes.
     ///
-    /// ```text
-    /// Byte::from_u64(15_000_000)     // 15,000,000 bytes
+    /// # Examples
+    ///
+    /// ```rust
+    /// use byte_unit::Byte;
+    ///
+    /// assert_eq!(rt; Byte::from_u64(1024), Byte::KIBIBYTE);
+    /// assert_eq!(rt; Byte::from_u64(u64::MAX).as_u128(), u128::from(u64::MAX));
     /// ```
     pub fn from_u64(size: u64) -> Byte
         ensures { result ≡ size }
@@ -85,11 +111,16 @@ impl Byte {
         }
     }
 
-    /// So many bytes. `None` where the number is negative, and from 10^30 on.
+    /// Creates a `Byte` from a number of bytes. Returns `None` if it is negative, or 10^30 or more.
     ///
-    /// ```text
-    /// Byte::from_i128(15_000_000)     // Some(15,000,000 bytes)
-    /// Byte::from_i128(-1)             // None
+    /// # Examples
+    ///
+    /// ```rust
+    /// use byte_unit::Byte;
+    ///
+    /// assert_eq!(rt; Byte::from_i128(15_000_000), Some(Byte::from_u64(15_000_000)));
+    /// assert_eq!(rt; Byte::from_i128(-1), None);
+    /// assert_eq!(rt; Byte::from_i128(i128::MAX), None);
     /// ```
     pub fn from_i128(size: i128) -> Option<Byte>
         ensures { OfSigned (λ n answer. SomeIff answer (n < current.size_limit) n) size result }
@@ -97,11 +128,15 @@ impl Byte {
         Byte::from_u128(u128::try_from(size).ok()?)
     }
 
-    /// So many bytes. `None` where the number is negative.
+    /// Creates a `Byte` from a number of bytes. Returns `None` if it is negative.
     ///
-    /// ```text
-    /// Byte::from_i64(15_000_000)     // Some(15,000,000 bytes)
-    /// Byte::from_i64(-1)             // None
+    /// # Examples
+    ///
+    /// ```rust
+    /// use byte_unit::Byte;
+    ///
+    /// assert_eq!(rt; Byte::from_i64(15_000_000), Some(Byte::from_u64(15_000_000)));
+    /// assert_eq!(rt; Byte::from_i64(-1), None);
     /// ```
     pub fn from_i64(size: i64) -> Option<Byte>
         ensures { OfSigned (λ n answer. SomeIff answer (n < current.size_limit) n) size result }
@@ -110,13 +145,20 @@ impl Byte {
     }
 }
 
-/// What makes a size in bytes from a number of a unit.
+/// Constructors from a number of a unit.
 impl Byte {
-    /// So many of the unit, rounded up to a whole byte. `None` where that is 10^30 or more.
+    /// Creates a `Byte` from a number of a unit, rounded up to a whole byte.
     ///
-    /// ```text
-    /// Byte::from_u128_with_unit(15, Unit::MB)      // Some(15,000,000 bytes)
-    /// Byte::from_u128_with_unit(17, Unit::Bit)     // Some(3 bytes)
+    /// Returns `None` if the size is 10^30 bytes or more.
+    ///
+    /// # Examples
+    ///
+    /// ```rust
+    /// use byte_unit::{Byte, Unit};
+    ///
+    /// assert_eq!(rt; Byte::from_u128_with_unit(15, Unit::MB), Some(Byte::from_u64(15_000_000)));
+    /// assert_eq!(rt; Byte::from_u128_with_unit(17, Unit::Bit), Some(Byte::from_u64(3)));
+    /// assert_eq!(rt; Byte::from_u128_with_unit(1_000, Unit::RB), None);
     /// ```
     pub fn from_u128_with_unit(size: u128, unit: Unit) -> Option<Byte>
         ensures { IsSizeOrNone current (IsLeastOf InBytes (size * one) (shape_of unit)) result }
@@ -125,10 +167,18 @@ impl Byte {
         Some(Byte { size })
     }
 
-    /// So many of the unit, rounded up to a whole byte. `None` where that is 10^30 or more.
+    /// Creates a `Byte` from a number of a unit, rounded up to a whole byte.
     ///
-    /// ```text
-    /// Byte::from_u64_with_unit(15, Unit::KiB)     // Some(15,360 bytes)
+    /// Returns `None` if the size is 10^30 bytes or more.
+    ///
+    /// # Examples
+    ///
+    /// ```rust
+    /// use byte_unit::{Byte, Unit};
+    ///
+    /// assert_eq!(rt; Byte::from_u64_with_unit(15, Unit::KiB), Some(Byte::from_u64(15_360)));
+    /// assert_eq!(rt; Byte::from_u64_with_unit(999, Unit::RB), Byte::RONNABYTE.multiply(999));
+    /// assert_eq!(rt; Byte::from_u64_with_unit(1_000, Unit::RB), None);
     /// ```
     pub fn from_u64_with_unit(size: u64, unit: Unit) -> Option<Byte>
         ensures { IsSizeOrNone current (IsLeastOf InBytes (size * one) (shape_of unit)) result }
@@ -136,11 +186,18 @@ impl Byte {
         Byte::from_u128_with_unit(u128::from(size), unit)
     }
 
-    /// So many of the unit, rounded up to a whole byte. `None` where the number is negative, and where the size is
-    /// 10^30 or more.
+    /// Creates a `Byte` from a number of a unit, rounded up to a whole byte.
     ///
-    /// ```text
-    /// Byte::from_i128_with_unit(15, Unit::KiB)     // Some(15,360 bytes)
+    /// Returns `None` if the number is negative, or the size is 10^30 bytes or more.
+    ///
+    /// # Examples
+    ///
+    /// ```rust
+    /// use byte_unit::{Byte, Unit};
+    ///
+    /// assert_eq!(rt; Byte::from_i128_with_unit(15, Unit::KiB), Some(Byte::from_u64(15_360)));
+    /// assert_eq!(rt; Byte::from_i128_with_unit(-15, Unit::KiB), None);
+    /// assert_eq!(rt; Byte::from_i128_with_unit(1_000, Unit::RB), None);
     /// ```
     pub fn from_i128_with_unit(size: i128, unit: Unit) -> Option<Byte>
         ensures { OfSigned
@@ -149,11 +206,17 @@ impl Byte {
         Byte::from_u128_with_unit(u128::try_from(size).ok()?, unit)
     }
 
-    /// So many of the unit, rounded up to a whole byte. `None` where the number is negative, and where the size is
-    /// 10^30 or more.
+    /// Creates a `Byte` from a number of a unit, rounded up to a whole byte.
     ///
-    /// ```text
-    /// Byte::from_i64_with_unit(-15, Unit::KiB)     // None
+    /// Returns `None` if the number is negative, or the size is 10^30 bytes or more.
+    ///
+    /// # Examples
+    ///
+    /// ```rust
+    /// use byte_unit::{Byte, Unit};
+    ///
+    /// assert_eq!(rt; Byte::from_i64_with_unit(15, Unit::KiB), Some(Byte::from_u64(15_360)));
+    /// assert_eq!(rt; Byte::from_i64_with_unit(-15, Unit::KiB), None);
     /// ```
     pub fn from_i64_with_unit(size: i64, unit: Unit) -> Option<Byte>
         ensures { OfSigned
@@ -163,12 +226,17 @@ impl Byte {
     }
 }
 
-/// What a size gives back.
+/// Conversions to numbers.
 impl Byte {
-    /// The number of bytes, below 10^30.
+    /// Returns the number of bytes, which is below 10^30.
     ///
-    /// ```text
-    /// Byte::KIBIBYTE.as_u128()     // 1024
+    /// # Examples
+    ///
+    /// ```rust
+    /// use byte_unit::Byte;
+    ///
+    /// assert_eq!(rt; Byte::KIBIBYTE.as_u128(), 1024);
+    /// assert_eq!(rt; Byte::MAX.as_u128(), 999_999_999_999_999_999_999_999_999_999);
     /// ```
     pub fn as_u128(self) -> u128
         ensures number { result ≡ self }
@@ -177,11 +245,15 @@ impl Byte {
         self.size
     }
 
-    /// The number of bytes, or 2^64 - 1 where it is larger.
+    /// Returns the number of bytes, or 2^64 - 1 if it is larger.
     ///
-    /// ```text
-    /// Byte::KIBIBYTE.as_u64()      // 1024
-    /// Byte::ZETTABYTE.as_u64()     // 18,446,744,073,709,551,615
+    /// # Examples
+    ///
+    /// ```rust
+    /// use byte_unit::Byte;
+    ///
+    /// assert_eq!(rt; Byte::KIBIBYTE.as_u64(), 1024);
+    /// assert_eq!(rt; Byte::ZETTABYTE.as_u64(), u64::MAX);
     /// ```
     pub fn as_u64(self) -> u64
         ensures { result ≡ min self (2 ^ 64 - 1) }
@@ -189,11 +261,15 @@ impl Byte {
         u64::try_from(self.size).unwrap_or(u64::MAX)
     }
 
-    /// The number of bytes. `None` where it is larger than 2^64 - 1.
+    /// Returns the number of bytes, or `None` if it is larger than 2^64 - 1.
     ///
-    /// ```text
-    /// Byte::KIBIBYTE.as_u64_checked()      // Some(1024)
-    /// Byte::ZETTABYTE.as_u64_checked()     // None
+    /// # Examples
+    ///
+    /// ```rust
+    /// use byte_unit::Byte;
+    ///
+    /// assert_eq!(rt; Byte::KIBIBYTE.as_u64_checked(), Some(1024));
+    /// assert_eq!(rt; Byte::ZETTABYTE.as_u64_checked(), None);
     /// ```
     pub fn as_u64_checked(self) -> Option<u64>
         ensures { SomeIff result (self < 2 ^ 64) self }
@@ -202,30 +278,68 @@ impl Byte {
     }
 }
 
-/// Comparison with numbers of bytes.
+/// Comparisons with numbers of bytes.
 impl Byte {
-    /// Whether it is so many bytes: `Byte::KILOBYTE.eq_u64(1000)` is true.
+    /// Returns whether the size is equal to a number of bytes.
+    ///
+    /// # Examples
+    ///
+    /// ```rust
+    /// use byte_unit::Byte;
+    ///
+    /// assert!(rt; Byte::KILOBYTE.eq_u64(1000));
+    /// assert!(rt; !Byte::KILOBYTE.eq_u64(1024));
+    /// ```
     pub fn eq_u64(self, other: u64) -> bool
         ensures { IsTrue result ↔ (self ≡ other) }
     {
         self.size == u128::from(other)
     }
 
-    /// Whether it is so many bytes: `Byte::KILOBYTE.eq_u128(1024)` is false.
+    /// Returns whether the size is equal to a number of bytes.
+    ///
+    /// # Examples
+    ///
+    /// ```rust
+    /// use byte_unit::Byte;
+    ///
+    /// assert!(rt; Byte::KILOBYTE.eq_u128(1000));
+    /// assert!(rt; !Byte::KILOBYTE.eq_u128(1024));
+    /// ```
     pub fn eq_u128(self, other: u128) -> bool
         ensures { IsTrue result ↔ (self ≡ other) }
     {
         self.size == other
     }
 
-    /// How it compares with so many bytes: `Byte::KILOBYTE.cmp_u64(1024)` is `Less`.
+    /// Compares the size with a number of bytes.
+    ///
+    /// # Examples
+    ///
+    /// ```rust
+    /// use byte_unit::Byte;
+    /// use std::cmp::Ordering;
+    ///
+    /// assert_eq!(rt; Byte::KILOBYTE.cmp_u64(1024), Ordering::Less);
+    /// assert_eq!(rt; Byte::KIBIBYTE.cmp_u64(1024), Ordering::Equal);
+    /// ```
     pub fn cmp_u64(self, other: u64) -> Ordering
         ensures { result ≡ nat_cmp self other }
     {
         self.size.cmp(&u128::from(other))
     }
 
-    /// How it compares with so many bytes: `Byte::KIBIBYTE.cmp_u128(1000)` is `Greater`.
+    /// Compares the size with a number of bytes.
+    ///
+    /// # Examples
+    ///
+    /// ```rust
+    /// use byte_unit::Byte;
+    /// use std::cmp::Ordering;
+    ///
+    /// assert_eq!(rt; Byte::KILOBYTE.cmp_u128(1024), Ordering::Less);
+    /// assert_eq!(rt; Byte::KIBIBYTE.cmp_u128(1024), Ordering::Equal);
+    /// ```
     pub fn cmp_u128(self, other: u128) -> Ordering
         ensures { result ≡ nat_cmp self other }
     {
@@ -233,12 +347,18 @@ impl Byte {
     }
 }
 
-/// Arithmetic. No call overflows, wraps or panics.
+/// Arithmetic. No method overflows, wraps or panics.
 impl Byte {
-    /// The sum. `None` from 10^30 on.
+    /// Returns the sum, or `None` if it is 10^30 bytes or more.
     ///
-    /// ```text
-    /// Byte::from_u64(15_500).add(Byte::from_u64(500))     // Some(16,000 bytes)
+    /// # Examples
+    ///
+    /// ```rust
+    /// use byte_unit::Byte;
+    ///
+    /// let size = Byte::from_u64(15_500);
+    /// assert_eq!(rt; size.add(Byte::from_u64(500)), Some(Byte::from_u64(16_000)));
+    /// assert_eq!(rt; size.add(Byte::MAX), None);
     /// ```
     pub fn add(self, rhs: Byte) -> Option<Byte>
         ensures { SomeIff result (self + rhs < current.size_limit) (self + rhs) }
@@ -246,11 +366,16 @@ impl Byte {
         Byte::from_u128(self.size + rhs.size)
     }
 
-    /// The difference. `None` where it would be negative.
+    /// Returns the difference, or `None` if `rhs` is larger than the size.
     ///
-    /// ```text
-    /// Byte::from_u64(15_500).subtract(Byte::from_u64(500))     // Some(15,000 bytes)
-    /// Byte::from_u64(500).subtract(Byte::from_u64(15_500))     // None
+    /// # Examples
+    ///
+    /// ```rust
+    /// use byte_unit::Byte;
+    ///
+    /// let size = Byte::from_u64(15_500);
+    /// assert_eq!(rt; size.subtract(Byte::from_u64(500)), Some(Byte::from_u64(15_000)));
+    /// assert_eq!(rt; size.subtract(Byte::MAX), None);
     /// ```
     pub fn subtract(self, rhs: Byte) -> Option<Byte>
         ensures { SomeIff result (rhs ≤ self) (self - rhs) }
@@ -259,10 +384,15 @@ impl Byte {
         Some(Byte { size })
     }
 
-    /// The product. `None` from 10^30 on.
+    /// Returns the product, or `None` if it is 10^30 bytes or more.
     ///
-    /// ```text
-    /// Byte::from_u64(15_500).multiply(2)     // Some(31,000 bytes)
+    /// # Examples
+    ///
+    /// ```rust
+    /// use byte_unit::Byte;
+    ///
+    /// assert_eq!(rt; Byte::from_u64(15_500).multiply(2), Some(Byte::from_u64(31_000)));
+    /// assert_eq!(rt; Byte::MAX.multiply(2), None);
     /// ```
     pub fn multiply(self, rhs: usize) -> Option<Byte>
         ensures { SomeIff result (self * rhs < current.size_limit) (self * rhs) }
@@ -270,11 +400,15 @@ impl Byte {
         Byte::from_u128(self.size.checked_mul(rhs as u128)?)
     }
 
-    /// The quotient, rounded down. `None` where `rhs` is zero.
+    /// Returns the quotient, rounded down, or `None` if `rhs` is zero.
     ///
-    /// ```text
-    /// Byte::from_u64(15_500).divide(3)     // Some(5166 bytes)
-    /// Byte::from_u64(15_500).divide(0)     // None
+    /// # Examples
+    ///
+    /// ```rust
+    /// use byte_unit::Byte;
+    ///
+    /// assert_eq!(rt; Byte::from_u64(15_500).divide(3), Some(Byte::from_u64(5166)));
+    /// assert_eq!(rt; Byte::from_u64(15_500).divide(0), None);
     /// ```
     pub fn divide(self, rhs: usize) -> Option<Byte>
         ensures { SomeIff result (0 < rhs) (self / rhs) }

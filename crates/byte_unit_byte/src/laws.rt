@@ -1,4 +1,4 @@
-//! What the constants of `Byte` are.
+//! Laws of the constants of `Byte`: public functions whose contracts are the laws.
 
 ghost use Rattle.std.specs.Prelude.{◌≡◌, ◌*◌, ◌+◌, MatchOption};
 ghost use Rattle.byte_unit_base.specs.Shape.{bits};
@@ -10,8 +10,19 @@ ghost use Rattle.byte_unit_base.specs.declared.kind.Kind.TheVariants.{Byte as In
 use crate::Byte;
 use byte_unit_base::Unit;
 
-/// Returns the constant of `Byte` that is named after the unit, and is as large. Returns `None` for `Unit::Bit`, since
-/// no constant is named after it.
+/// Returns the constant of `Byte` that is named after the unit, which is as large as the unit.
+///
+/// Returns `None` for `Unit::Bit`, since no constant is named after it.
+///
+/// # Examples
+///
+/// ```rust
+/// use byte_unit::laws::byte_constant;
+/// use byte_unit::{Byte, Unit};
+///
+/// assert_eq!(rt; byte_constant(Unit::KiB), Some(Byte::KIBIBYTE));
+/// assert_eq!(rt; byte_constant(Unit::Bit), None);
+/// ```
 pub fn byte_constant(unit: Unit) -> Option<Byte>
     ensures { MatchOption result (unit ≡ Unit.Bit) (λ size. size * bits_in InBytes ≡ bits (shape_of unit)) }
 {
@@ -57,7 +68,16 @@ pub fn byte_constant(unit: Unit) -> Option<Byte>
     }
 }
 
-/// The least and the greatest size: `Byte::MIN` and `Byte::MAX`.
+/// Returns the smallest and the largest size: `Byte::MIN` and `Byte::MAX`.
+///
+/// # Examples
+///
+/// ```rust
+/// use byte_unit::laws::byte_bounds;
+/// use byte_unit::Byte;
+///
+/// assert_eq!(rt; byte_bounds(), (Byte::MIN, Byte::MAX));
+/// ```
 pub fn byte_bounds() -> (Byte, Byte)
     ensures least { result.0 ≡ 0 }
     ensures greatest { result.1 + 1 ≡ current.size_limit }

@@ -1,5 +1,5 @@
 // Rendered from crates/byte_unit_byte/src/byte/adjusted.rt by tools/mirror. Do not edit.
-//! `AdjustedBit`, a size in bits with the unit that it is shown in.
+//! `AdjustedBit`, a size in bits with a unit for its text.
 
 ghost use Rattle.std.specs.Prelude.{◌≡◌, ◌*◌, ◌<◌, ℕ, List, length, IfOk};
 ghost use Rattle.std.specs.String.{string_bytes};
@@ -23,11 +23,16 @@ use std::marker::Model;
 mod built_in_traits;
 mod json;
 
-/// A size in bits, and the unit that it is shown in. Equality and order are those of the sizes, whatever the units.
+/// A size in bits, and the unit that its text uses. Equality and order are those of the sizes, whatever the units.
 ///
-/// ```text
+/// # Examples
+///
+/// ```rust
+/// use byte_unit::{Bit, FormatSpec, Unit};
+///
 /// let adjusted = Bit::from_u64(123_456).get_adjusted_unit(Unit::Kbit);
-/// adjusted.to_text(alloc, FormatSpec::PLAIN)?      // "123.456 Kb"
+/// assert_eq!(rt; adjusted.to_text(alloc, FormatSpec::PLAIN)?.as_str(), "123.456 Kb");
+/// assert_eq!(rt; adjusted, Bit::from_u64(123_456).get_adjusted_unit(Unit::Mibit));
 /// ```
 #[derive(Debug, Clone, Copy)]
 pub struct AdjustedBit {
@@ -46,10 +51,16 @@ impl Model for AdjustedBit {
 }
 
 impl AdjustedBit {
-    /// The size in its unit, as a fraction that is not reduced: its bits over the bits of the unit.
+    /// Returns the size in its unit as a fraction that is not reduced: its bits over the bits of the unit.
     ///
-    /// ```text
-    /// Bit::from_u64(1024).get_adjusted_unit(Unit::Kibit).get_value()      // (1024, 1024)
+    /// # Examples
+    ///
+    /// ```rust
+    /// use byte_unit::{Bit, Unit};
+    ///
+    /// let (numerator, denominator) = Bit::MEGABIT.get_adjusted_unit(Unit::Kbit).get_value();
+    /// assert_eq!(rt; numerator, 1000 * denominator);
+    /// assert_eq!(rt; denominator, Unit::Kbit.as_bits_u128());
     /// ```
     pub fn get_value(&self) -> (u128, u128)
         ensures numerator { result.0 ≡ self.now.size * bits_in InBits }
@@ -61,21 +72,46 @@ impl AdjustedBit {
         )
     }
 
-    /// The unit.
+    /// Returns the unit.
+    ///
+    /// # Examples
+    ///
+    /// ```rust
+    /// use byte_unit::{Bit, Unit};
+    ///
+    /// assert_eq!(rt; Bit::MEGABIT.get_adjusted_unit(Unit::Kibit).get_unit(), Unit::Kibit);
+    /// ```
     pub fn get_unit(&self) -> Unit
         ensures { result ≡ self.now.unit }
     {
         self.unit
     }
 
-    /// The size that was adjusted, exactly.
+    /// Returns the size, exactly.
+    ///
+    /// # Examples
+    ///
+    /// ```rust
+    /// use byte_unit::{Bit, Unit};
+    ///
+    /// assert_eq!(rt; Bit::MEGABIT.get_adjusted_unit(Unit::Kibit).get_bit(), Bit::MEGABIT);
+    /// ```
     pub fn get_bit(&self) -> Bit
         ensures { result ≡ self.now.size }
     {
         self.size
     }
 
-    /// How many bytes the text has under the spec: below 65,600. It asks for no memory.
+    /// Returns the length of the text under the spec, in bytes: below 65,600. Does not allocate.
+    ///
+    /// # Examples
+    ///
+    /// ```rust
+    /// use byte_unit::{Bit, FormatSpec, Unit};
+    ///
+    /// let adjusted = Bit::from_u64(123_456).get_adjusted_unit(Unit::Kbit);
+    /// assert_eq!(rt; adjusted.text_len(FormatSpec::PLAIN), "123.456 Kb".len());
+    /// ```
     pub fn text_len(self, spec: FormatSpec) -> usize
         ensures exact { (form : List ℕ) → IsAdjustedForm current InBits self.size (shape_of self.unit) spec form
             → result ≡ length form }
@@ -84,17 +120,32 @@ impl AdjustedBit {
         byte_unit_format::adjusted_len(self.size.as_u128(), Kind::Bit, self.unit, spec)
     }
 
-    /// Adds the text of the size in its unit.
+    /// Appends the text of the size in its unit.
     ///
-    /// With no precision, and for `Unit::B` and `Unit::Bit` without `alternate`, it has all digits. With a precision it
-    /// is the nearest decimal of exactly so many places, to the even digit of two that are as near; with `alternate`
-    /// the nearest of at most 16 places, the greater of two that are as near, without zeros at its end.
+    /// If no precision is set, or the unit is `Unit::B` or `Unit::Bit` and `alternate` is not set, the number has
+    /// all its digits. With a precision it is rounded to exactly that number of digits after the point, ties to the
+    /// even digit; with `alternate` to at most 16 of them, ties to the greater number, and without zeros at its
+    /// end.
     ///
-    /// Sign, width and alignment lay it out as [`Bit::append_text`] does a number with its unit.
+    /// Sign, width and alignment apply as in [`Bit::append_text`] to a number with its unit.
     ///
-    /// It asks for memory once at most, before it writes, and uses `text_len` of the room that is there at most.
-    /// `AllocError` comes only where the spare room of the text is less than `text_len`, and leaves the text and its
-    /// room as they were.
+    /// Allocates at most once, before it writes, and uses at most `text_len` of the spare capacity.
+    ///
+    /// # Errors
+    ///
+    /// `AllocError` if an allocation fails, which happens only if the spare capacity is less than `text_len`. The
+    /// text and its capacity are then unchanged.
+    ///
+    /// # Examples
+    ///
+    /// ```rust
+    /// use byte_unit::{Bit, FormatSpec, Unit};
+    ///
+    /// let spec = FormatSpec { precision: Some(2), ..FormatSpec::PLAIN };
+    /// let mut text = String::new(alloc);
+    /// Bit::from_u64(123_456).get_adjusted_unit(Unit::Kbit).append_text(spec, &mut text)?;
+    /// assert_eq!(rt; text.as_str(), "123.46 Kb");
+    /// ```
     pub fn append_text<A: Allocator>(
         self,
         spec: FormatSpec,
@@ -106,8 +157,22 @@ impl AdjustedBit {
         byte_unit_format::append_adjusted(self.size.as_u128(), Kind::Bit, self.unit, spec, text)
     }
 
-    /// Writes the text at the front of the bytes, as `append_text` adds it, and answers how many bytes it has. Where it
-    /// does not fit, nothing is written. It asks for no memory.
+    /// Writes the text to the start of `out`, as [`AdjustedBit::append_text`] appends it, and returns its length.
+    ///
+    /// If `out` is shorter than the text, nothing is written, and the length of the text is still returned. Does
+    /// not allocate.
+    ///
+    /// # Examples
+    ///
+    /// ```rust
+    /// use byte_unit::{Bit, FormatSpec, Unit};
+    ///
+    /// let adjusted = Bit::from_u64(123_456).get_adjusted_unit(Unit::Kbit);
+    /// let mut out = [0; 16];
+    /// let len = adjusted.write_text(FormatSpec::PLAIN, &mut out);
+    /// assert_eq!(rt; &out[..len], b"123.456 Kb".as_slice());
+    /// assert_eq!(rt; adjusted.write_text(FormatSpec::PLAIN, &mut []), len);
+    /// ```
     pub fn write_text(self, spec: FormatSpec, out: &mut [u8]) -> usize
         ensures written { let IsForm = IsAdjustedForm current InBits self.size (shape_of self.unit) spec in
             Writes IsForm out.old out.new result }
@@ -116,7 +181,20 @@ impl AdjustedBit {
         byte_unit_format::write_adjusted(self.size.as_u128(), Kind::Bit, self.unit, spec, out)
     }
 
-    /// The text of the size in its unit, as `append_text` adds it. `AllocError` where memory for it was refused.
+    /// Returns the text of the size in its unit, as [`AdjustedBit::append_text`] appends it.
+    ///
+    /// # Errors
+    ///
+    /// `AllocError` if an allocation fails.
+    ///
+    /// # Examples
+    ///
+    /// ```rust
+    /// use byte_unit::{Bit, FormatSpec, Unit};
+    ///
+    /// let adjusted = Bit::from_u64(1536).get_adjusted_unit(Unit::Kibit);
+    /// assert_eq!(rt; adjusted.to_text(alloc, FormatSpec::PLAIN)?.as_str(), "1.5 Kib");
+    /// ```
     pub fn to_text(self, alloc: Global, spec: FormatSpec) -> Result<String, AllocError>
         ensures { IfOk result
             (λ text. IsAdjustedForm current InBits self.size (shape_of self.unit) spec (string_bytes text)) }
@@ -124,7 +202,21 @@ impl AdjustedBit {
         self.to_text_in(alloc, spec)
     }
 
-    /// The text of the size in its unit, in memory of any allocator. `AllocError` where that was refused.
+    /// Returns the text of the size in its unit, as [`AdjustedBit::append_text`] appends it, in memory of any
+    /// allocator.
+    ///
+    /// # Errors
+    ///
+    /// `AllocError` if an allocation fails.
+    ///
+    /// # Examples
+    ///
+    /// ```rust
+    /// use byte_unit::{Bit, FormatSpec, Unit};
+    ///
+    /// let adjusted = Bit::from_u64(1536).get_adjusted_unit(Unit::Kibit);
+    /// assert_eq!(rt; adjusted.to_text_in(alloc, FormatSpec::PLAIN)?.as_str(), "1.5 Kib");
+    /// ```
     pub fn to_text_in<A: Allocator>(
         self,
         alloc: A,
@@ -140,10 +232,15 @@ impl AdjustedBit {
 }
 
 impl Bit {
-    /// This size, to be shown in the unit.
+    /// Returns the size with the given unit for its text.
     ///
-    /// ```text
-    /// Bit::from_u64(123_456).get_adjusted_unit(Unit::Kbit)      // 123.456 Kb
+    /// # Examples
+    ///
+    /// ```rust
+    /// use byte_unit::{Bit, FormatSpec, Unit};
+    ///
+    /// let adjusted = Bit::from_u64(123_456).get_adjusted_unit(Unit::Kbit);
+    /// assert_eq!(rt; adjusted.to_text(alloc, FormatSpec::PLAIN)?.as_str(), "123.456 Kb");
     /// ```
     pub fn get_adjusted_unit(self, unit: Unit) -> AdjustedBit
         ensures size { result.size ≡ self }
@@ -152,12 +249,18 @@ impl Bit {
         AdjustedBit { size: self, unit }
     }
 
-    /// This size, to be shown in the largest unit of bits of the type that is not above it, or in `Unit::Bit` if there
-    /// is none.
+    /// Returns the size with the largest unit of bits of the given type that is at most the size, or with
+    /// `Unit::Bit` if there is none.
     ///
-    /// ```text
-    /// Bit::from_u64(10_000).get_appropriate_unit(UnitType::Both)        // 9.765625 Kib
-    /// Bit::from_u64(10_000).get_appropriate_unit(UnitType::Decimal)     // 10 Kb
+    /// # Examples
+    ///
+    /// ```rust
+    /// use byte_unit::{Bit, Unit, UnitType};
+    ///
+    /// let size = Bit::from_u64(10_000);
+    /// assert_eq!(rt; size.get_appropriate_unit(UnitType::Both).get_unit(), Unit::Kibit);
+    /// assert_eq!(rt; size.get_appropriate_unit(UnitType::Decimal).get_unit(), Unit::Kbit);
+    /// assert_eq!(rt; Bit::MIN.get_appropriate_unit(UnitType::Both).get_unit(), Unit::Bit);
     /// ```
     pub fn get_appropriate_unit(&self, unit_type: UnitType) -> AdjustedBit
         ensures size { result.size ≡ self.now }

@@ -1,5 +1,5 @@
 // Rendered from crates/byte_unit_byte/src/byte/built_in_traits.rt by tools/mirror. Do not edit.
-//! The traits of std that `Bit` has.
+//! The traits of std that `Bit` implements.
 
 ghost use Rattle.std.specs.Prelude.{◌≡◌, ◌^◌, ◌<◌, ◌-◌, min, Some, OkIff, false};
 ghost use Rattle.std.specs.Fmt.{decimal};
@@ -15,7 +15,7 @@ use std::fmt;
 use std::num::TryFromIntError;
 use std::str::FromStr;
 
-/// The size zero.
+/// Returns the size zero.
 impl Default for Bit {
     ghost is_default = { λ size. size ≡ 0 };
 
@@ -24,8 +24,8 @@ impl Default for Bit {
     }
 }
 
-/// The number of bits in decimal digits: the plain form without a sign or a width. Flags of the formatter change
-/// nothing; [`Bit::to_text`] takes them.
+/// Writes the number of bits in decimal digits, as `FormatSpec::PLAIN` does. The formatter's flags have no effect;
+/// [`Bit::to_text`] takes a spec instead.
 impl fmt::Display for Bit {
     ghost output = { λ size. Some (decimal size) };
 
@@ -36,7 +36,7 @@ impl fmt::Display for Bit {
     }
 }
 
-/// [`Bit::parse_str`], case sensitive.
+/// Parses a size as [`Bit::parse_str`] does, case sensitive.
 impl FromStr for Bit {
     type Err = ParseError;
 
@@ -47,7 +47,7 @@ impl FromStr for Bit {
     }
 }
 
-/// So many bits.
+/// Creates a `Bit` from a number of bits.
 impl From<u8> for Bit {
     ghost from_gives = { λ n size. size ≡ n };
 
@@ -56,7 +56,7 @@ impl From<u8> for Bit {
     }
 }
 
-/// So many bits.
+/// Creates a `Bit` from a number of bits.
 impl From<u16> for Bit {
     ghost from_gives = { λ n size. size ≡ n };
 
@@ -65,7 +65,7 @@ impl From<u16> for Bit {
     }
 }
 
-/// So many bits.
+/// Creates a `Bit` from a number of bits.
 impl From<u32> for Bit {
     ghost from_gives = { λ n size. size ≡ n };
 
@@ -74,7 +74,7 @@ impl From<u32> for Bit {
     }
 }
 
-/// So many bits.
+/// Creates a `Bit` from a number of bits.
 impl From<u64> for Bit {
     ghost from_gives = { λ n size. size ≡ n };
 
@@ -83,7 +83,7 @@ impl From<u64> for Bit {
     }
 }
 
-/// So many bits.
+/// Creates a `Bit` from a number of bits.
 impl From<usize> for Bit {
     ghost from_gives = { λ n size. size ≡ n };
 
@@ -92,7 +92,7 @@ impl From<usize> for Bit {
     }
 }
 
-/// So many bits. `ExceededBoundsError` from 10^30 on.
+/// Creates a `Bit` from a number of bits. Returns `ExceededBoundsError` if it is 10^30 or more.
 impl TryFrom<u128> for Bit {
     type Error = ExceededBoundsError;
 
@@ -103,7 +103,7 @@ impl TryFrom<u128> for Bit {
     }
 }
 
-/// So many bits. `ExceededBoundsError` where the number is negative, and from 10^30 on.
+/// Creates a `Bit` from a number of bits. Returns `ExceededBoundsError` if it is negative, or 10^30 or more.
 impl TryFrom<i128> for Bit {
     type Error = ExceededBoundsError;
 
@@ -114,7 +114,7 @@ impl TryFrom<i128> for Bit {
     }
 }
 
-/// So many bits. `ExceededBoundsError` where the number is negative.
+/// Creates a `Bit` from a number of bits. Returns `ExceededBoundsError` if it is negative.
 impl TryFrom<i64> for Bit {
     type Error = ExceededBoundsError;
 
@@ -125,7 +125,7 @@ impl TryFrom<i64> for Bit {
     }
 }
 
-/// So many bits. `ExceededBoundsError` where the number is negative.
+/// Creates a `Bit` from a number of bits. Returns `ExceededBoundsError` if it is negative.
 impl TryFrom<i32> for Bit {
     type Error = ExceededBoundsError;
 
@@ -136,7 +136,7 @@ impl TryFrom<i32> for Bit {
     }
 }
 
-/// So many bits. `ExceededBoundsError` where the number is negative.
+/// Creates a `Bit` from a number of bits. Returns `ExceededBoundsError` if it is negative.
 impl TryFrom<i16> for Bit {
     type Error = ExceededBoundsError;
 
@@ -147,7 +147,7 @@ impl TryFrom<i16> for Bit {
     }
 }
 
-/// So many bits. `ExceededBoundsError` where the number is negative.
+/// Creates a `Bit` from a number of bits. Returns `ExceededBoundsError` if it is negative.
 impl TryFrom<i8> for Bit {
     type Error = ExceededBoundsError;
 
@@ -158,7 +158,7 @@ impl TryFrom<i8> for Bit {
     }
 }
 
-/// So many bits. `ExceededBoundsError` where the number is negative.
+/// Creates a `Bit` from a number of bits. Returns `ExceededBoundsError` if it is negative.
 impl TryFrom<isize> for Bit {
     type Error = ExceededBoundsError;
 
@@ -169,7 +169,7 @@ impl TryFrom<isize> for Bit {
     }
 }
 
-/// The number of bits.
+/// Returns the number of bits.
 impl From<Bit> for u128 {
     ghost from_gives = { λ size n. n ≡ size };
 
@@ -178,7 +178,7 @@ impl From<Bit> for u128 {
     }
 }
 
-/// The number of bits, or 2^64 - 1 where it is larger.
+/// Returns the number of bits, or 2^64 - 1 if it is larger.
 impl From<Bit> for u64 {
     ghost from_gives = { λ size n. n ≡ min size (2 ^ 64 - 1) };
 
@@ -187,7 +187,7 @@ impl From<Bit> for u64 {
     }
 }
 
-/// The number of bits. `TryFromIntError` where it does not fit: from 2^32 on.
+/// Returns the number of bits. Returns `TryFromIntError` if it is 2^32 or more.
 impl TryFrom<Bit> for u32 {
     type Error = TryFromIntError;
 
@@ -198,7 +198,7 @@ impl TryFrom<Bit> for u32 {
     }
 }
 
-/// The number of bits. `TryFromIntError` where it does not fit: from 2^16 on.
+/// Returns the number of bits. Returns `TryFromIntError` if it is 2^16 or more.
 impl TryFrom<Bit> for u16 {
     type Error = TryFromIntError;
 
@@ -209,7 +209,7 @@ impl TryFrom<Bit> for u16 {
     }
 }
 
-/// The number of bits. `TryFromIntError` where it does not fit: from 2^8 on.
+/// Returns the number of bits. Returns `TryFromIntError` if it is 2^8 or more.
 impl TryFrom<Bit> for u8 {
     type Error = TryFromIntError;
 
@@ -220,7 +220,7 @@ impl TryFrom<Bit> for u8 {
     }
 }
 
-/// The number of bits. `TryFromIntError` where it does not fit: from 2^64 on.
+/// Returns the number of bits. Returns `TryFromIntError` if it is 2^64 or more.
 impl TryFrom<Bit> for usize {
     type Error = TryFromIntError;
 

@@ -1,9 +1,12 @@
 // Rendered from crates/byte_unit_byte/src/byte/constants.rt by tools/mirror. Do not edit.
-//! The constants of `Bit`, as written numbers. `laws` states that each is the unit that it is named after.
+//! The constants of `Bit`, as literals. `laws::bit_constant` proves that each is as large as the unit in its name.
+//!
+//! `Ki` to `Ri` are the binary prefixes of the IEC, powers of 1024. `K` to `R` are the decimal prefixes of the SI,
+//! powers of 1000.
 
 use super::Bit;
 
-/// The size that is a number of bits.
+/// Creates a size from the number of its bits.
 macro_rules! size {
     ($size:literal) => {
         Bit { size: $size }
@@ -90,9 +93,9 @@ impl Bit {
     /// 1 RiB is 2^93 bits.
     pub const ROBIBYTE: Bit = size!(9_903_520_314_283_042_199_192_993_792);
 
-    /// No bit: the least size.
+    /// The smallest size: no bit.
     pub const MIN: Bit = size!(0);
 
-    /// 10^30 - 1 bits: the greatest size.
+    /// The largest size: 10^30 - 1 bits.
     pub const MAX: Bit = size!(999_999_999_999_999_999_999_999_999_999);
 }

@@ -13,11 +13,19 @@ use byte_unit_base::{Kind, Unit, size};
 use byte_unit_math::Decimal;
 
 impl Bit {
-    /// So many bits, rounded up. `None` where that is 10^30 or more.
+    /// Creates a `Bit` from a decimal number of bits, rounded up to a whole bit.
     ///
-    /// ```text
-    /// let number = Decimal::from_u128_with_scale(5084, 2)?;      // 50.84
-    /// Bit::from_decimal(number)      // Some(51 bits)
+    /// Returns `None` if the size is 10^30 bits or more.
+    ///
+    /// # Examples
+    ///
+    /// ```rust
+    /// use byte_unit::{Bit, Decimal};
+    ///
+    /// let number = Decimal::from_u128_with_scale(5084, 2);
+    /// assert_eq!(rt; number.and_then(Bit::from_decimal), Some(Bit::from_u64(51)));
+    /// let number = Decimal::from_u128(Bit::MAX.as_u128());
+    /// assert_eq!(rt; number.and_then(Bit::from_decimal), Some(Bit::MAX));
     /// ```
     pub fn from_decimal(size: Decimal) -> Option<Bit>
         ensures { IsSizeOrNone current (IsLeastOf InBits size (own_unit InBits)) result }
@@ -25,11 +33,19 @@ impl Bit {
         Bit::from_decimal_with_unit(size, Unit::Bit)
     }
 
-    /// So many of the unit: the exact product, rounded up to a whole bit. `None` where that is 10^30 or more.
+    /// Creates a `Bit` from a decimal number of a unit: the exact product, rounded up to a whole bit.
     ///
-    /// ```text
-    /// let number = Decimal::from_u128_with_scale(15, 1)?;      // 1.5
-    /// Bit::from_decimal_with_unit(number, Unit::Kibit)      // Some(1536 bits)
+    /// Returns `None` if the size is 10^30 bits or more.
+    ///
+    /// # Examples
+    ///
+    /// ```rust
+    /// use byte_unit::{Bit, Decimal, Unit};
+    ///
+    /// let number = Decimal::from(3u8);
+    /// assert_eq!(rt; Bit::from_decimal_with_unit(number, Unit::Kibit), Some(Bit::from_u64(3072)));
+    /// let number = Decimal::from(1000u16);
+    /// assert_eq!(rt; Bit::from_decimal_with_unit(number, Unit::Rbit), None);
     /// ```
     pub fn from_decimal_with_unit(size: Decimal, unit: Unit) -> Option<Bit>
         ensures { IsSizeOrNone current (IsLeastOf InBits size (shape_of unit)) result }

@@ -18,11 +18,22 @@ use serde_json::Value;
 use std::alloc::{AllocError, Global};
 
 impl Bit {
-    /// The JSON string of the size: its text with a unit, by `FormatSpec::ALTERNATE`. It reads back as the size.
-    /// `AllocError` where memory for it was refused.
+    /// Returns the JSON string of the size: its text with a unit, by `FormatSpec::ALTERNATE`. The string
+    /// round-trips.
     ///
-    /// ```text
-    /// Bit::from_u64(15_500).to_json(alloc)?      // the string "15.5 Kb"
+    /// # Errors
+    ///
+    /// `AllocError` if an allocation fails.
+    ///
+    /// # Examples
+    ///
+    /// ```rust
+    /// use byte_unit::Bit;
+    ///
+    /// let size = Bit::from_u64(15_500);
+    /// let value = size.to_json(alloc)?;
+    /// assert_eq!(rt; value.as_str(), Some("15.5 Kb"));
+    /// assert_eq!(rt; Bit::from_json(&value)?, size);
     /// ```
     pub fn to_json(self, alloc: Global) -> Result<Value, AllocError>
         ensures { IfOk result
@@ -32,11 +43,21 @@ impl Bit {
         Ok(Value::String(self.to_text(alloc, FormatSpec::ALTERNATE)?))
     }
 
-    /// The size of a JSON string, as `FromStr` reads its text. `NotString` where the value is no string, and `Parse`
-    /// with the fault where the string is refused. It asks for no memory.
+    /// Parses a size from a JSON string, as `FromStr` parses its text. Does not allocate.
     ///
-    /// ```text
-    /// Bit::from_json(&value)      // Ok: 15,500 bits, where the value is the string "15.5 Kb"
+    /// # Errors
+    ///
+    /// `NotString` if the value is not a string, `Parse` if the string is rejected.
+    ///
+    /// # Examples
+    ///
+    /// ```rust
+    /// use byte_unit::{Bit, JsonSizeError};
+    /// use serde_json::Value;
+    ///
+    /// let value = Value::String(String::from_str(alloc, "15.5 Kb")?);
+    /// assert_eq!(rt; Bit::from_json(&value)?, Bit::from_u64(15_500));
+    /// assert!(rt; matches!(Bit::from_json(&Value::Null), Err(JsonSizeError::NotString)));
     /// ```
     pub fn from_json(value: &Value) -> Result<Bit, JsonSizeError>
         ensures { ReadsString size_errors (IsSizeReading InBits false) (as_str (view value.now)) result }

@@ -1,5 +1,5 @@
 // Rendered from crates/byte_unit_byte/src/byte/parse.rt by tools/mirror. Do not edit.
-//! Reading sizes in bits.
+//! Parsing of sizes in bits.
 
 ghost use Rattle.std.specs.Prelude.{false};
 ghost use Rattle.byte_unit_base.specs.SizeReading.{IsSizeReading, IsBytesReading};
@@ -9,25 +9,37 @@ use super::Bit;
 use byte_unit_base::{Kind, ParseError, size};
 
 impl Bit {
-    /// The size that the text states, rounded up to a whole bit.
+    /// Parses a size from a string, rounded up to a whole bit. Does not allocate.
     ///
-    /// The text, without white space at its ends, is a number, any number of spaces, and the spelling of a unit; with
-    /// no unit it is of bits, and with a prefix alone of its multiple of bits. It is always case sensitive: a `b` that
-    /// does not begin `bit` or `bits` means bits, a `B` that does not begin them bytes.
+    /// The string, without white space at its ends, is a number, any number of spaces, and the spelling of a unit.
+    /// With no unit it is a number of bits, and with a prefix alone a number of that multiple of bits.
     ///
-    /// Any other text is refused by its first fault from the left. The fault is a `Value` of [`ParseError`]: `NoValue`
-    /// where the text is empty or white space, `NotNumber` where a digit must stand and does not, `NumberTooLong` for a
-    /// whole part from 2^112 on or more than 28 digits after the point. Or it is a `Unit`, for a wrong spelling.
+    /// The case of letters counts: a `b` that does not begin `bit` or `bits` means bits, a `B` bytes.
     ///
-    /// Where the size reaches 10^30 bits the `Value` is `ExceededBounds` with the number that was written:
-    /// `1000.00 Rb` reports 1000. It asks for no memory.
+    /// # Errors
     ///
-    /// ```text
-    /// Bit::parse_str("123Kib")         // Ok(125,952 bits)
-    /// Bit::parse_str("1 KiB")          // Ok(8,192 bits)
-    /// Bit::parse_str("1K")             // Ok(1,000 bits)
-    /// Bit::parse_str("1.")             // Err(Value(NotNumber('.')))
-    /// Bit::parse_str("1000.00 Rb")     // Err(Value(ExceededBounds(1000)))
+    /// The error is the first one from the left:
+    ///
+    /// - `Value` with `NoValue` if the string is empty or white space;
+    /// - `Value` with `NotNumber` if a digit is missing;
+    /// - `Value` with `NumberTooLong` if the integer part is 2^112 or more, or more than 28 digits follow the
+    ///   point;
+    /// - `Unit` if the unit is not a spelling of one;
+    /// - `Value` with `ExceededBounds` and the number as it is written, if there is no other error and the size is
+    ///   10^30 bits or more.
+    ///
+    /// # Examples
+    ///
+    /// ```rust
+    /// use byte_unit::{Bit, ParseError, ValueParseError};
+    ///
+    /// assert_eq!(rt; Bit::parse_str("50.84 Mb")?, Bit::from_u64(50_840_000));
+    /// assert_eq!(rt; Bit::parse_str("9 b")?, Bit::from_u64(9));
+    /// assert_eq!(rt; Bit::parse_str("9 B")?, Bit::from_u64(72));
+    /// let result = Bit::parse_str("1.");
+    /// assert!(rt; matches!(result, Err(ParseError::Value(ValueParseError::NotNumber('.')))));
+    /// let result = Bit::parse_str("1000 Rb");
+    /// assert!(rt; matches!(result, Err(ParseError::Value(ValueParseError::ExceededBounds(_)))));
     /// ```
     pub fn parse_str(s: &str) -> Result<Bit, ParseError>
         ensures { IsSizeReading InBits false s.now result }
@@ -36,14 +48,21 @@ impl Bit {
         Ok(Bit { size })
     }
 
-    /// What `parse_str` answers for the text that the bytes are. `None` exactly where they are not UTF-8.
+    /// Parses a size from a string of UTF-8, as [`Bit::parse_str`] does. Returns `None` if the string is not
+    /// UTF-8.
     ///
-    /// Where they state a size and are not refused, it is quicker than to make a text of them first.
+    /// If it represents a size, this is faster than making a `str` of it first.
     ///
-    /// ```text
-    /// Bit::parse_bytes(b"1.5 Kib")      // Some(Ok(1536 bits))
-    /// Bit::parse_bytes(b"1.")           // Some(Err(Value(NotNumber('.'))))
-    /// Bit::parse_bytes(b"1 Kib\xFF")    // None
+    /// # Examples
+    ///
+    /// ```rust
+    /// use byte_unit::{Bit, ParseError, ValueParseError};
+    ///
+    /// let size = Bit::parse_bytes(b"1.5 Kib");
+    /// assert!(rt; matches!(size, Some(Ok(size)) if size == Bit::from_u64(1536)));
+    /// let result = Bit::parse_bytes(b"1.");
+    /// assert!(rt; matches!(result, Some(Err(ParseError::Value(ValueParseError::NotNumber('.'))))));
+    /// assert!(rt; Bit::parse_bytes(b"1 Kib\xFF").is_none());
     /// ```
     #[inline(always)]
     pub fn parse_bytes(bytes: &[u8]) -> Option<Result<Bit, ParseError>>

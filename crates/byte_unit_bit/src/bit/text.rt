@@ -1,5 +1,5 @@
 // Rendered from crates/byte_unit_byte/src/byte/text.rt by tools/mirror. Do not edit.
-//! Sizes in bits as texts.
+//! Formatting of sizes in bits.
 
 ghost use Rattle.std.specs.Prelude.{◌≡◌, ◌<◌, ◌≤◌, ℕ, List, length, IfOk};
 ghost use Rattle.std.specs.String.{string_bytes};
@@ -15,11 +15,17 @@ use byte_unit_format::FormatSpec;
 use std::alloc::{AllocError, Allocator, Global};
 
 impl Bit {
-    /// Returns the length of the text of the size under the spec, in bytes: below 65,600, and at most 37 if no width is
-    /// set. It does not allocate.
+    /// Returns the length of the text of the size under the spec, in bytes: below 65,600, and at most 37 if no
+    /// width is set. Does not allocate.
     ///
-    /// ```text
-    /// Bit::from_u64(1536).text_len(FormatSpec::ALTERNATE)      // 7, of "1.5 Kib"
+    /// # Examples
+    ///
+    /// ```rust
+    /// use byte_unit::{Bit, FormatSpec};
+    ///
+    /// let size = Bit::from_u64(1536);
+    /// assert_eq!(rt; size.text_len(FormatSpec::ALTERNATE), "1.5 Kib".len());
+    /// assert_eq!(rt; size.text_len(FormatSpec::PLAIN), "1536".len());
     /// ```
     pub fn text_len(self, spec: FormatSpec) -> usize
         ensures exact { (form : List ℕ) → IsText current InBits self spec form → result ≡ length form }
@@ -29,22 +35,33 @@ impl Bit {
         byte_unit_format::text_len(self.size, Kind::Bit, spec)
     }
 
-    /// Adds the text of the size. Without `alternate` that is its digits, with a `+` before them for the sign `Plus`.
+    /// Appends the text of the size. Without `alternate` that is its digits, with a `+` before them for the sign
+    /// `Plus`.
     ///
-    /// With `alternate` it is the size in the largest unit of bits, not above it, that states it exactly within the
-    /// precision (three places where none is set, 28 at most), and in `b` where there is none. No sign is printed: one
-    /// space stands between number and unit, for `Plus` as many as make four columns with the unit, for `Minus` none.
+    /// With `alternate` it is the size in the largest unit of bits, at most the size, that represents it exactly
+    /// within the precision (three digits after the point if none is set, at most 28), or in `b` if there is none.
+    /// No sign is printed. Between number and unit is one space; for `Plus` the spaces and the unit make four
+    /// columns, and for `Minus` there is no space.
     ///
-    /// Spaces fill the text up to the width. Digits alone stand as the alignment says, an odd space in the middle
-    /// behind them, and on the right where none is set. A number with its unit stands on the right where that is set,
-    /// with the spaces before it; else on the left, with the spaces between number and unit.
+    /// Spaces fill the text up to the width. Digits alone are aligned as set, the extra space of an uneven split
+    /// after them, and on the right if no alignment is set. A number with its unit is on the right if that is set,
+    /// with the spaces before it; otherwise it is on the left, with the spaces between number and unit.
     ///
-    /// It asks for memory once at most, before it writes, and uses `text_len` of the room that is there at most.
-    /// `AllocError` comes only where the spare room of the text is less than `text_len`, and leaves the text and its
-    /// room as they were.
+    /// Allocates at most once, before it writes, and uses at most `text_len` of the spare capacity.
     ///
-    /// ```text
-    /// Bit::from_u64(3_211_776).append_text(FormatSpec::ALTERNATE, &mut text)?;   // "3136.5 Kib"
+    /// # Errors
+    ///
+    /// `AllocError` if an allocation fails, which happens only if the spare capacity is less than `text_len`. The
+    /// text and its capacity are then unchanged.
+    ///
+    /// # Examples
+    ///
+    /// ```rust
+    /// use byte_unit::{Bit, FormatSpec};
+    ///
+    /// let mut text = String::from_str(alloc, "size: ")?;
+    /// Bit::from_u64(3_211_776).append_text(FormatSpec::ALTERNATE, &mut text)?;
+    /// assert_eq!(rt; text.as_str(), "size: 3136.5 Kib");
     /// ```
     pub fn append_text<A: Allocator>(
         self,
@@ -56,12 +73,21 @@ impl Bit {
         byte_unit_format::append_text(self.size, Kind::Bit, spec, text)
     }
 
-    /// Writes the text of the size to the front of the bytes, as `append_text` adds it, and returns its length: at most
-    /// 37 if no width is set. If the text does not fit, nothing is written. It does not allocate.
+    /// Writes the text of the size to the start of `out`, as [`Bit::append_text`] appends it, and returns its
+    /// length: at most 37 if no width is set.
     ///
-    /// ```text
+    /// If `out` is shorter than the text, nothing is written, and the length of the text is still returned. Does
+    /// not allocate.
+    ///
+    /// # Examples
+    ///
+    /// ```rust
+    /// use byte_unit::{Bit, FormatSpec};
+    ///
     /// let mut out = [0; 16];
-    /// Bit::from_u64(1536).write_text(FormatSpec::ALTERNATE, &mut out)      // 7, and `out` begins with "1.5 Kib"
+    /// let len = Bit::from_u64(1536).write_text(FormatSpec::ALTERNATE, &mut out);
+    /// assert_eq!(rt; &out[..len], b"1.5 Kib".as_slice());
+    /// assert_eq!(rt; Bit::from_u64(1536).write_text(FormatSpec::ALTERNATE, &mut []), len);
     /// ```
     #[inline(always)]
     pub fn write_text(self, spec: FormatSpec, out: &mut [u8]) -> usize
@@ -72,11 +98,20 @@ impl Bit {
         byte_unit_format::write_text(self.size, Kind::Bit, spec, out)
     }
 
-    /// The text of the size, as `append_text` adds it. `AllocError` where memory for it was refused.
+    /// Returns the text of the size, as [`Bit::append_text`] appends it.
     ///
-    /// ```text
-    /// Bit::from_u64(1536).to_text(alloc, FormatSpec::ALTERNATE)?      // "1.5 Kib"
-    /// Bit::from_u64(1536).to_text(alloc, FormatSpec::PLAIN)?          // "1536"
+    /// # Errors
+    ///
+    /// `AllocError` if an allocation fails.
+    ///
+    /// # Examples
+    ///
+    /// ```rust
+    /// use byte_unit::{Bit, FormatSpec};
+    ///
+    /// let size = Bit::from_u64(1536);
+    /// assert_eq!(rt; size.to_text(alloc, FormatSpec::ALTERNATE)?.as_str(), "1.5 Kib");
+    /// assert_eq!(rt; size.to_text(alloc, FormatSpec::PLAIN)?.as_str(), "1536");
     /// ```
     pub fn to_text(self, alloc: Global, spec: FormatSpec) -> Result<String, AllocError>
         ensures { IfOk result (λ text. IsText current InBits self spec (string_bytes text)) }
@@ -84,7 +119,20 @@ impl Bit {
         self.to_text_in(alloc, spec)
     }
 
-    /// The text of the size, in memory of any allocator. `AllocError` where that was refused.
+    /// Returns the text of the size, as [`Bit::append_text`] appends it, in memory of any allocator.
+    ///
+    /// # Errors
+    ///
+    /// `AllocError` if an allocation fails.
+    ///
+    /// # Examples
+    ///
+    /// ```rust
+    /// use byte_unit::{Bit, FormatSpec};
+    ///
+    /// let text = Bit::from_u64(1536).to_text_in(alloc, FormatSpec::ALTERNATE)?;
+    /// assert_eq!(rt; text.as_str(), "1.5 Kib");
+    /// ```
     pub fn to_text_in<A: Allocator>(
         self,
         alloc: A,

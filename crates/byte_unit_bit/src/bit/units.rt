@@ -1,5 +1,5 @@
 // Rendered from crates/byte_unit_byte/src/byte/units.rt by tools/mirror. Do not edit.
-//! The units in which a size in bits is stated exactly.
+//! The units that represent a size in bits exactly.
 
 ghost use Rattle.std.specs.Prelude.{◌≡◌, ◌*◌, ◌≤◌};
 ghost use Rattle.byte_unit_math.specs.Bounds.{one};
@@ -16,14 +16,19 @@ use byte_unit_base::{Kind, Unit, exact_unit, recoverable_unit};
 use byte_unit_math::{Decimal, Steps};
 
 impl Bit {
-    /// Returns how many of the largest unit, not above the size, that divides it the size is, and the unit; the size in
-    /// `Unit::Bit` if there is none.
+    /// Returns the size as a whole number of the largest unit that divides it, with that unit.
     ///
-    /// The unit is a multiple of bits, or with `allow_in_bytes` of bits or of bytes.
+    /// The unit is a multiple of bits, or with `allow_in_bytes` of bits or of bytes, and at most the size. If there
+    /// is none, it is `Unit::Bit`.
     ///
-    /// ```text
-    /// Bit::from_u64(50_840_000).get_exact_unit(false)      // (50840, Unit::Kbit)
-    /// Bit::from_u64(24_000_000).get_exact_unit(true)       // (3, Unit::MB)
+    /// # Examples
+    ///
+    /// ```rust
+    /// use byte_unit::{Bit, Unit};
+    ///
+    /// assert_eq!(rt; Bit::from_u64(50_840_000).get_exact_unit(false), (50_840, Unit::Kbit));
+    /// assert_eq!(rt; Bit::MEGABYTE.get_exact_unit(true), (1, Unit::MB));
+    /// assert_eq!(rt; Bit::from_u64(999).get_exact_unit(false), (999, Unit::Bit));
     /// ```
     pub fn get_exact_unit(self, allow_in_bytes: bool) -> (u128, Unit)
         ensures recovered { IsRecovered current InBits allow_in_bytes self 0 (shape_of result.1) }
@@ -32,16 +37,23 @@ impl Bit {
         exact_unit(self.size, Kind::Bit, allow_in_bytes)
     }
 
-    /// The largest unit, not above the size, in which the size is a decimal of at most so many places, with that
-    /// decimal: number times unit is the size, exactly. If there is none, the size in `Unit::Bit`.
+    /// Returns the size as a decimal of at most `precision` digits after the point, with its unit: number times
+    /// unit is the size, exactly.
     ///
-    /// The unit is a multiple of bits, or with `allow_in_bytes` of bits or of bytes. A precision above 28 counts as 28;
-    /// 3 is the usual one.
+    /// The unit is the largest one that allows this. It is a multiple of bits, or with `allow_in_bytes` of bits or
+    /// of bytes, and at most the size. If there is none, it is `Unit::Bit`. A precision above 28 counts as 28; 3 is
+    /// the usual one.
     ///
-    /// ```text
-    /// Bit::from_u64(50_840_000).get_recoverable_unit(false, 2)     // (50.84, Unit::Mbit)
-    /// Bit::from_u64(28_000_000).get_recoverable_unit(true, 3)      // (3.5, Unit::MB)
-    /// Bit::from_u64(437_500).get_recoverable_unit(false, 3)        // (437.5, Unit::Kbit)
+    /// # Examples
+    ///
+    /// ```rust
+    /// use byte_unit::{Bit, Decimal, Unit};
+    ///
+    /// let (number, unit) = Bit::from_u64(50_840_000).get_recoverable_unit(false, 2);
+    /// assert_eq!(rt; Some(number), Decimal::from_u128_with_scale(5084, 2));
+    /// assert_eq!(rt; unit, Unit::Mbit);
+    /// assert_eq!(rt; Bit::from_u64(50_840_000).get_recoverable_unit(false, 1).1, Unit::Kbit);
+    /// assert_eq!(rt; Bit::MEGABYTE.get_recoverable_unit(true, 3).1, Unit::MB);
     /// ```
     pub fn get_recoverable_unit(self, allow_in_bytes: bool, precision: usize) -> (Decimal, Unit)
         ensures recovered { IsRecovered current InBits allow_in_bytes self precision (shape_of result.1) }
@@ -50,10 +62,20 @@ impl Bit {
         self.get_recoverable_unit_counted(allow_in_bytes, precision, &mut Steps::new())
     }
 
-    /// Returns what `get_recoverable_unit` returns, and counts its work: `steps` rises by one for each two and each
-    /// five that divides the size, by two for the trials that fail, and by one for each digit of the decimal after the
-    /// point. That is at most 119 steps, which `7 << 90` bits take at a precision of 27 if units of bytes are allowed;
-    /// a size of zero takes none. The count stays at its greatest value.
+    /// Returns what [`Bit::get_recoverable_unit`] returns, and adds the number of its steps to `steps`.
+    ///
+    /// A step is one factor 2 or 5 of the size, one of the two trials that fail, or one digit of the decimal after
+    /// the point. That is at most 119 steps; a size of zero takes none. The count saturates at its maximum.
+    ///
+    /// # Examples
+    ///
+    /// ```rust
+    /// use byte_unit::{Bit, Steps};
+    ///
+    /// let mut steps = Steps::new();
+    /// Bit::from_u128_unsafe(7 << 90).get_recoverable_unit_counted(true, 27, &mut steps);
+    /// assert_eq!(rt; steps.count(), 119);
+    /// ```
     pub fn get_recoverable_unit_counted(
         self,
         allow_in_bytes: bool,

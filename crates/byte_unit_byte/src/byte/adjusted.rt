@@ -1,4 +1,4 @@
-//! `AdjustedByte`, a size in bytes with the unit that it is shown in.
+//! `AdjustedByte`, a size in bytes with a unit for its text.
 
 ghost use Rattle.std.specs.Prelude.{◌≡◌, ◌*◌, ◌<◌, ℕ, List, length, IfOk};
 ghost use Rattle.std.specs.String.{string_bytes};
@@ -22,11 +22,16 @@ use std::marker::Model;
 mod built_in_traits;
 mod json;
 
-/// A size in bytes, and the unit that it is shown in. Equality and order are those of the sizes, whatever the units.
+/// A size in bytes, and the unit that its text uses. Equality and order are those of the sizes, whatever the units.
 ///
-/// ```text
+/// # Examples
+///
+/// ```rust
+/// use byte_unit::{Byte, FormatSpec, Unit};
+///
 /// let adjusted = Byte::from_u64(123_456).get_adjusted_unit(Unit::KB);
-/// adjusted.to_text(alloc, FormatSpec::PLAIN)?      // "123.456 KB"
+/// assert_eq!(rt; adjusted.to_text(alloc, FormatSpec::PLAIN)?.as_str(), "123.456 KB");
+/// assert_eq!(rt; adjusted, Byte::from_u64(123_456).get_adjusted_unit(Unit::MiB));
 /// ```
 #[derive(Debug, Clone, Copy)]
 pub struct AdjustedByte {
@@ -45,10 +50,16 @@ impl Model for AdjustedByte {
 }
 
 impl AdjustedByte {
-    /// The size in its unit, as a fraction that is not reduced: its bits over the bits of the unit.
+    /// Returns the size in its unit as a fraction that is not reduced: its bits over the bits of the unit.
     ///
-    /// ```text
-    /// Byte::from_u64(1024).get_adjusted_unit(Unit::KiB).get_value()      // (8192, 8192)
+    /// # Examples
+    ///
+    /// ```rust
+    /// use byte_unit::{Byte, Unit};
+    ///
+    /// let (numerator, denominator) = Byte::MEGABYTE.get_adjusted_unit(Unit::KB).get_value();
+    /// assert_eq!(rt; numerator, 1000 * denominator);
+    /// assert_eq!(rt; denominator, Unit::KB.as_bits_u128());
     /// ```
     pub fn get_value(&self) -> (u128, u128)
         ensures numerator { result.0 ≡ self.now.size * bits_in InBytes }
@@ -60,21 +71,46 @@ impl AdjustedByte {
         )
     }
 
-    /// The unit.
+    /// Returns the unit.
+    ///
+    /// # Examples
+    ///
+    /// ```rust
+    /// use byte_unit::{Byte, Unit};
+    ///
+    /// assert_eq!(rt; Byte::MEGABYTE.get_adjusted_unit(Unit::KiB).get_unit(), Unit::KiB);
+    /// ```
     pub fn get_unit(&self) -> Unit
         ensures { result ≡ self.now.unit }
     {
         self.unit
     }
 
-    /// The size that was adjusted, exactly.
+    /// Returns the size, exactly.
+    ///
+    /// # Examples
+    ///
+    /// ```rust
+    /// use byte_unit::{Byte, Unit};
+    ///
+    /// assert_eq!(rt; Byte::MEGABYTE.get_adjusted_unit(Unit::KiB).get_byte(), Byte::MEGABYTE);
+    /// ```
     pub fn get_byte(&self) -> Byte
         ensures { result ≡ self.now.size }
     {
         self.size
     }
 
-    /// How many bytes the text has under the spec: below 65,600. It asks for no memory.
+    /// Returns the length of the text under the spec, in bytes: below 65,600. Does not allocate.
+    ///
+    /// # Examples
+    ///
+    /// ```rust
+    /// use byte_unit::{Byte, FormatSpec, Unit};
+    ///
+    /// let adjusted = Byte::from_u64(123_456).get_adjusted_unit(Unit::KB);
+    /// assert_eq!(rt; adjusted.text_len(FormatSpec::PLAIN), "123.456 KB".len());
+    /// ```
     pub fn text_len(self, spec: FormatSpec) -> usize
         ensures exact { (form : List ℕ) → IsAdjustedForm current InBytes self.size (shape_of self.unit) spec form
             → result ≡ length form }
@@ -83,17 +119,32 @@ impl AdjustedByte {
         byte_unit_format::adjusted_len(self.size.as_u128(), Kind::Byte, self.unit, spec)
     }
 
-    /// Adds the text of the size in its unit.
+    /// Appends the text of the size in its unit.
     ///
-    /// With no precision, and for `Unit::Bit` and `Unit::B` without `alternate`, it has all digits. With a precision it
-    /// is the nearest decimal of exactly so many places, to the even digit of two that are as near; with `alternate`
-    /// the nearest of at most 16 places, the greater of two that are as near, without zeros at its end.
+    /// If no precision is set, or the unit is `Unit::Bit` or `Unit::B` and `alternate` is not set, the number has
+    /// all its digits. With a precision it is rounded to exactly that number of digits after the point, ties to the
+    /// even digit; with `alternate` to at most 16 of them, ties to the greater number, and without zeros at its
+    /// end.
     ///
-    /// Sign, width and alignment lay it out as [`Byte::append_text`] does a number with its unit.
+    /// Sign, width and alignment apply as in [`Byte::append_text`] to a number with its unit.
     ///
-    /// It asks for memory once at most, before it writes, and uses `text_len` of the room that is there at most.
-    /// `AllocError` comes only where the spare room of the text is less than `text_len`, and leaves the text and its
-    /// room as they were.
+    /// Allocates at most once, before it writes, and uses at most `text_len` of the spare capacity.
+    ///
+    /// # Errors
+    ///
+    /// `AllocError` if an allocation fails, which happens only if the spare capacity is less than `text_len`. The
+    /// text and its capacity are then unchanged.
+    ///
+    /// # Examples
+    ///
+    /// ```rust
+    /// use byte_unit::{Byte, FormatSpec, Unit};
+    ///
+    /// let spec = FormatSpec { precision: Some(2), ..FormatSpec::PLAIN };
+    /// let mut text = String::new(alloc);
+    /// Byte::from_u64(123_456).get_adjusted_unit(Unit::KB).append_text(spec, &mut text)?;
+    /// assert_eq!(rt; text.as_str(), "123.46 KB");
+    /// ```
     pub fn append_text<A: Allocator>(
         self,
         spec: FormatSpec,
@@ -105,8 +156,22 @@ impl AdjustedByte {
         byte_unit_format::append_adjusted(self.size.as_u128(), Kind::Byte, self.unit, spec, text)
     }
 
-    /// Writes the text at the front of the bytes, as `append_text` adds it, and answers how many bytes it has. Where it
-    /// does not fit, nothing is written. It asks for no memory.
+    /// Writes the text to the start of `out`, as [`AdjustedByte::append_text`] appends it, and returns its length.
+    ///
+    /// If `out` is shorter than the text, nothing is written, and the length of the text is still returned. Does
+    /// not allocate.
+    ///
+    /// # Examples
+    ///
+    /// ```rust
+    /// use byte_unit::{Byte, FormatSpec, Unit};
+    ///
+    /// let adjusted = Byte::from_u64(123_456).get_adjusted_unit(Unit::KB);
+    /// let mut out = [0; 16];
+    /// let len = adjusted.write_text(FormatSpec::PLAIN, &mut out);
+    /// assert_eq!(rt; &out[..len], b"123.456 KB".as_slice());
+    /// assert_eq!(rt; adjusted.write_text(FormatSpec::PLAIN, &mut []), len);
+    /// ```
     pub fn write_text(self, spec: FormatSpec, out: &mut [u8]) -> usize
         ensures written { let IsForm = IsAdjustedForm current InBytes self.size (shape_of self.unit) spec in
             Writes IsForm out.old out.new result }
@@ -115,7 +180,20 @@ impl AdjustedByte {
         byte_unit_format::write_adjusted(self.size.as_u128(), Kind::Byte, self.unit, spec, out)
     }
 
-    /// The text of the size in its unit, as `append_text` adds it. `AllocError` where memory for it was refused.
+    /// Returns the text of the size in its unit, as [`AdjustedByte::append_text`] appends it.
+    ///
+    /// # Errors
+    ///
+    /// `AllocError` if an allocation fails.
+    ///
+    /// # Examples
+    ///
+    /// ```rust
+    /// use byte_unit::{Byte, FormatSpec, Unit};
+    ///
+    /// let adjusted = Byte::from_u64(1536).get_adjusted_unit(Unit::KiB);
+    /// assert_eq!(rt; adjusted.to_text(alloc, FormatSpec::PLAIN)?.as_str(), "1.5 KiB");
+    /// ```
     pub fn to_text(self, alloc: Global, spec: FormatSpec) -> Result<String, AllocError>
         ensures { IfOk result
             (λ text. IsAdjustedForm current InBytes self.size (shape_of self.unit) spec (string_bytes text)) }
@@ -123,7 +201,21 @@ impl AdjustedByte {
         self.to_text_in(alloc, spec)
     }
 
-    /// The text of the size in its unit, in memory of any allocator. `AllocError` where that was refused.
+    /// Returns the text of the size in its unit, as [`AdjustedByte::append_text`] appends it, in memory of any
+    /// allocator.
+    ///
+    /// # Errors
+    ///
+    /// `AllocError` if an allocation fails.
+    ///
+    /// # Examples
+    ///
+    /// ```rust
+    /// use byte_unit::{Byte, FormatSpec, Unit};
+    ///
+    /// let adjusted = Byte::from_u64(1536).get_adjusted_unit(Unit::KiB);
+    /// assert_eq!(rt; adjusted.to_text_in(alloc, FormatSpec::PLAIN)?.as_str(), "1.5 KiB");
+    /// ```
     pub fn to_text_in<A: Allocator>(
         self,
         alloc: A,
@@ -139,10 +231,15 @@ impl AdjustedByte {
 }
 
 impl Byte {
-    /// This size, to be shown in the unit.
+    /// Returns the size with the given unit for its text.
     ///
-    /// ```text
-    /// Byte::from_u64(123_456).get_adjusted_unit(Unit::KB)      // 123.456 KB
+    /// # Examples
+    ///
+    /// ```rust
+    /// use byte_unit::{Byte, FormatSpec, Unit};
+    ///
+    /// let adjusted = Byte::from_u64(123_456).get_adjusted_unit(Unit::KB);
+    /// assert_eq!(rt; adjusted.to_text(alloc, FormatSpec::PLAIN)?.as_str(), "123.456 KB");
     /// ```
     pub fn get_adjusted_unit(self, unit: Unit) -> AdjustedByte
         ensures size { result.size ≡ self }
@@ -151,12 +248,18 @@ impl Byte {
         AdjustedByte { size: self, unit }
     }
 
-    /// This size, to be shown in the largest unit of bytes of the type that is not above it, or in `Unit::B` if there
-    /// is none.
+    /// Returns the size with the largest unit of bytes of the given type that is at most the size, or with
+    /// `Unit::B` if there is none.
     ///
-    /// ```text
-    /// Byte::from_u64(10_000).get_appropriate_unit(UnitType::Both)        // 9.765625 KiB
-    /// Byte::from_u64(10_000).get_appropriate_unit(UnitType::Decimal)     // 10 KB
+    /// # Examples
+    ///
+    /// ```rust
+    /// use byte_unit::{Byte, Unit, UnitType};
+    ///
+    /// let size = Byte::from_u64(10_000);
+    /// assert_eq!(rt; size.get_appropriate_unit(UnitType::Both).get_unit(), Unit::KiB);
+    /// assert_eq!(rt; size.get_appropriate_unit(UnitType::Decimal).get_unit(), Unit::KB);
+    /// assert_eq!(rt; Byte::MIN.get_appropriate_unit(UnitType::Both).get_unit(), Unit::B);
     /// ```
     pub fn get_appropriate_unit(&self, unit_type: UnitType) -> AdjustedByte
         ensures size { result.size ≡ self.now }

@@ -1,4 +1,4 @@
-//! The traits of std that `Byte` has.
+//! The traits of std that `Byte` implements.
 
 ghost use Rattle.std.specs.Prelude.{◌≡◌, ◌^◌, ◌<◌, ◌-◌, min, Some, OkIff, false};
 ghost use Rattle.std.specs.Fmt.{decimal};
@@ -14,7 +14,7 @@ use std::fmt;
 use std::num::TryFromIntError;
 use std::str::FromStr;
 
-/// The size zero.
+/// Returns the size zero.
 impl Default for Byte {
     ghost is_default = { λ size. size ≡ 0 };
 
@@ -23,8 +23,8 @@ impl Default for Byte {
     }
 }
 
-/// The number of bytes in decimal digits: the plain form without a sign or a width. Flags of the formatter change
-/// nothing; [`Byte::to_text`] takes them.
+/// Writes the number of bytes in decimal digits, as `FormatSpec::PLAIN` does. The formatter's flags have no effect;
+/// [`Byte::to_text`] takes a spec instead.
 impl fmt::Display for Byte {
     ghost output = { λ size. Some (decimal size) };
 
@@ -35,7 +35,7 @@ impl fmt::Display for Byte {
     }
 }
 
-/// [`Byte::parse_str`], case sensitive.
+/// Parses a size as [`Byte::parse_str`] does, case sensitive.
 impl FromStr for Byte {
     type Err = ParseError;
 
@@ -46,7 +46,7 @@ impl FromStr for Byte {
     }
 }
 
-/// So many bytes.
+/// Creates a `Byte` from a number of bytes.
 impl From<u8> for Byte {
     ghost from_gives = { λ n size. size ≡ n };
 
@@ -55,7 +55,7 @@ impl From<u8> for Byte {
     }
 }
 
-/// So many bytes.
+/// Creates a `Byte` from a number of bytes.
 impl From<u16> for Byte {
     ghost from_gives = { λ n size. size ≡ n };
 
@@ -64,7 +64,7 @@ impl From<u16> for Byte {
     }
 }
 
-/// So many bytes.
+/// Creates a `Byte` from a number of bytes.
 impl From<u32> for Byte {
     ghost from_gives = { λ n size. size ≡ n };
 
@@ -73,7 +73,7 @@ impl From<u32> for Byte {
     }
 }
 
-/// So many bytes.
+/// Creates a `Byte` from a number of bytes.
 impl From<u64> for Byte {
     ghost from_gives = { λ n size. size ≡ n };
 
@@ -82,7 +82,7 @@ impl From<u64> for Byte {
     }
 }
 
-/// So many bytes.
+/// Creates a `Byte` from a number of bytes.
 impl From<usize> for Byte {
     ghost from_gives = { λ n size. size ≡ n };
 
@@ -91,7 +91,7 @@ impl From<usize> for Byte {
     }
 }
 
-/// So many bytes. `ExceededBoundsError` from 10^30 on.
+/// Creates a `Byte` from a number of bytes. Returns `ExceededBoundsError` if it is 10^30 or more.
 impl TryFrom<u128> for Byte {
     type Error = ExceededBoundsError;
 
@@ -102,7 +102,7 @@ impl TryFrom<u128> for Byte {
     }
 }
 
-/// So many bytes. `ExceededBoundsError` where the number is negative, and from 10^30 on.
+/// Creates a `Byte` from a number of bytes. Returns `ExceededBoundsError` if it is negative, or 10^30 or more.
 impl TryFrom<i128> for Byte {
     type Error = ExceededBoundsError;
 
@@ -113,7 +113,7 @@ impl TryFrom<i128> for Byte {
     }
 }
 
-/// So many bytes. `ExceededBoundsError` where the number is negative.
+/// Creates a `Byte` from a number of bytes. Returns `ExceededBoundsError` if it is negative.
 impl TryFrom<i64> for Byte {
     type Error = ExceededBoundsError;
 
@@ -124,7 +124,7 @@ impl TryFrom<i64> for Byte {
     }
 }
 
-/// So many bytes. `ExceededBoundsError` where the number is negative.
+/// Creates a `Byte` from a number of bytes. Returns `ExceededBoundsError` if it is negative.
 impl TryFrom<i32> for Byte {
     type Error = ExceededBoundsError;
 
@@ -135,7 +135,7 @@ impl TryFrom<i32> for Byte {
     }
 }
 
-/// So many bytes. `ExceededBoundsError` where the number is negative.
+/// Creates a `Byte` from a number of bytes. Returns `ExceededBoundsError` if it is negative.
 impl TryFrom<i16> for Byte {
     type Error = ExceededBoundsError;
 
@@ -146,7 +146,7 @@ impl TryFrom<i16> for Byte {
     }
 }
 
-/// So many bytes. `ExceededBoundsError` where the number is negative.
+/// Creates a `Byte` from a number of bytes. Returns `ExceededBoundsError` if it is negative.
 impl TryFrom<i8> for Byte {
     type Error = ExceededBoundsError;
 
@@ -157,7 +157,7 @@ impl TryFrom<i8> for Byte {
     }
 }
 
-/// So many bytes. `ExceededBoundsError` where the number is negative.
+/// Creates a `Byte` from a number of bytes. Returns `ExceededBoundsError` if it is negative.
 impl TryFrom<isize> for Byte {
     type Error = ExceededBoundsError;
 
@@ -168,7 +168,7 @@ impl TryFrom<isize> for Byte {
     }
 }
 
-/// The number of bytes.
+/// Returns the number of bytes.
 impl From<Byte> for u128 {
     ghost from_gives = { λ size n. n ≡ size };
 
@@ -177,7 +177,7 @@ impl From<Byte> for u128 {
     }
 }
 
-/// The number of bytes, or 2^64 - 1 where it is larger.
+/// Returns the number of bytes, or 2^64 - 1 if it is larger.
 impl From<Byte> for u64 {
     ghost from_gives = { λ size n. n ≡ min size (2 ^ 64 - 1) };
 
@@ -186,7 +186,7 @@ impl From<Byte> for u64 {
     }
 }
 
-/// The number of bytes. `TryFromIntError` where it does not fit: from 2^32 on.
+/// Returns the number of bytes. Returns `TryFromIntError` if it is 2^32 or more.
 impl TryFrom<Byte> for u32 {
     type Error = TryFromIntError;
 
@@ -197,7 +197,7 @@ impl TryFrom<Byte> for u32 {
     }
 }
 
-/// The number of bytes. `TryFromIntError` where it does not fit: from 2^16 on.
+/// Returns the number of bytes. Returns `TryFromIntError` if it is 2^16 or more.
 impl TryFrom<Byte> for u16 {
     type Error = TryFromIntError;
 
@@ -208,7 +208,7 @@ impl TryFrom<Byte> for u16 {
     }
 }
 
-/// The number of bytes. `TryFromIntError` where it does not fit: from 2^8 on.
+/// Returns the number of bytes. Returns `TryFromIntError` if it is 2^8 or more.
 impl TryFrom<Byte> for u8 {
     type Error = TryFromIntError;
 
@@ -219,7 +219,7 @@ impl TryFrom<Byte> for u8 {
     }
 }
 
-/// The number of bytes. `TryFromIntError` where it does not fit: from 2^64 on.
+/// Returns the number of bytes. Returns `TryFromIntError` if it is 2^64 or more.
 impl TryFrom<Byte> for usize {
     type Error = TryFromIntError;
 

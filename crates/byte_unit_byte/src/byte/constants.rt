@@ -1,8 +1,11 @@
-//! The constants of `Byte`, as written numbers. `laws` states that each is the unit that it is named after.
+//! The constants of `Byte`, as literals. `laws::byte_constant` proves that each is as large as the unit in its name.
+//!
+//! `Ki` to `Ri` are the binary prefixes of the IEC, powers of 1024. `K` to `R` are the decimal prefixes of the SI,
+//! powers of 1000.
 
 use super::Byte;
 
-/// The size that is a number of bytes.
+/// Creates a size from the number of its bytes.
 macro_rules! size {
     ($size:literal) => {
         Byte { size: $size }
@@ -89,9 +92,9 @@ impl Byte {
     /// 1 Ribit is 2^87 bytes.
     pub const ROBIBIT: Byte = size!(154_742_504_910_672_534_362_390_528);
 
-    /// No byte: the least size.
+    /// The smallest size: no byte.
     pub const MIN: Byte = size!(0);
 
-    /// 10^30 - 1 bytes: the greatest size.
+    /// The largest size: 10^30 - 1 bytes.
     pub const MAX: Byte = size!(999_999_999_999_999_999_999_999_999_999);
 }

@@ -12,11 +12,19 @@ use byte_unit_base::{Kind, Unit, size};
 use byte_unit_math::Decimal;
 
 impl Byte {
-    /// So many bytes, rounded up. `None` where that is 10^30 or more.
+    /// Creates a `Byte` from a decimal number of bytes, rounded up to a whole byte.
     ///
-    /// ```text
-    /// let number = Decimal::from_u128_with_scale(5084, 2)?;      // 50.84
-    /// Byte::from_decimal(number)      // Some(51 bytes)
+    /// Returns `None` if the size is 10^30 bytes or more.
+    ///
+    /// # Examples
+    ///
+    /// ```rust
+    /// use byte_unit::{Byte, Decimal};
+    ///
+    /// let number = Decimal::from_u128_with_scale(5084, 2);
+    /// assert_eq!(rt; number.and_then(Byte::from_decimal), Some(Byte::from_u64(51)));
+    /// let number = Decimal::from_u128(Byte::MAX.as_u128());
+    /// assert_eq!(rt; number.and_then(Byte::from_decimal), Some(Byte::MAX));
     /// ```
     pub fn from_decimal(size: Decimal) -> Option<Byte>
         ensures { IsSizeOrNone current (IsLeastOf InBytes size (own_unit InBytes)) result }
@@ -24,11 +32,19 @@ impl Byte {
         Byte::from_decimal_with_unit(size, Unit::B)
     }
 
-    /// So many of the unit: the exact product, rounded up to a whole byte. `None` where that is 10^30 or more.
+    /// Creates a `Byte` from a decimal number of a unit: the exact product, rounded up to a whole byte.
     ///
-    /// ```text
-    /// let number = Decimal::from_u128_with_scale(15, 1)?;      // 1.5
-    /// Byte::from_decimal_with_unit(number, Unit::KiB)      // Some(1536 bytes)
+    /// Returns `None` if the size is 10^30 bytes or more.
+    ///
+    /// # Examples
+    ///
+    /// ```rust
+    /// use byte_unit::{Byte, Decimal, Unit};
+    ///
+    /// let number = Decimal::from(3u8);
+    /// assert_eq!(rt; Byte::from_decimal_with_unit(number, Unit::KiB), Some(Byte::from_u64(3072)));
+    /// let number = Decimal::from(1000u16);
+    /// assert_eq!(rt; Byte::from_decimal_with_unit(number, Unit::RB), None);
     /// ```
     pub fn from_decimal_with_unit(size: Decimal, unit: Unit) -> Option<Byte>
         ensures { IsSizeOrNone current (IsLeastOf InBytes size (shape_of unit)) result }

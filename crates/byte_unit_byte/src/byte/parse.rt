@@ -1,4 +1,4 @@
-//! Reading sizes in bytes.
+//! Parsing of sizes in bytes.
 
 ghost use Rattle.byte_unit_base.specs.SizeReading.{IsSizeReading, IsBytesReading};
 ghost use Rattle.byte_unit_base.specs.declared.kind.Kind.TheVariants.{Byte as InBytes};
@@ -7,26 +7,37 @@ use super::Byte;
 use byte_unit_base::{Kind, ParseError, size};
 
 impl Byte {
-    /// The size that the text states, rounded up to a whole byte.
+    /// Parses a size from a string, rounded up to a whole byte. Does not allocate.
     ///
-    /// The text, without white space at its ends, is a number, any number of spaces, and the spelling of a unit; with
-    /// no unit it is of bytes, and with a prefix alone of its multiple of bytes. With `ignore_case` a `b` that does not
-    /// begin `bit` or `bits` means bytes, else bits.
+    /// The string, without white space at its ends, is a number, any number of spaces, and the spelling of a unit.
+    /// With no unit it is a number of bytes, and with a prefix alone a number of that multiple of bytes.
     ///
-    /// Any other text is refused by its first fault from the left. The fault is a `Value` of [`ParseError`]: `NoValue`
-    /// where the text is empty or white space, `NotNumber` where a digit must stand and does not, `NumberTooLong` for a
-    /// whole part from 2^112 on or more than 28 digits after the point. Or it is a `Unit`, for a wrong spelling.
+    /// With `ignore_case` a `b` that does not begin `bit` or `bits` means bytes, otherwise bits.
     ///
-    /// Where the size reaches 10^30 bytes the `Value` is `ExceededBounds` with the number that was written:
-    /// `1000.00 RB` reports 1000. It asks for no memory.
+    /// # Errors
     ///
-    /// ```text
-    /// Byte::parse_str("50.84 MB", true)        // Ok(50,840,000 bytes)
-    /// Byte::parse_str("123Kib", false)         // Ok(15,744 bytes)
-    /// Byte::parse_str("9 b", true)             // Ok(9 bytes)
-    /// Byte::parse_str("9 b", false)            // Ok(2 bytes)
-    /// Byte::parse_str("1.", false)             // Err(Value(NotNumber('.')))
-    /// Byte::parse_str("1000.00 RB", false)     // Err(Value(ExceededBounds(1000)))
+    /// The error is the first one from the left:
+    ///
+    /// - `Value` with `NoValue` if the string is empty or white space;
+    /// - `Value` with `NotNumber` if a digit is missing;
+    /// - `Value` with `NumberTooLong` if the integer part is 2^112 or more, or more than 28 digits follow the
+    ///   point;
+    /// - `Unit` if the unit is not a spelling of one;
+    /// - `Value` with `ExceededBounds` and the number as it is written, if there is no other error and the size is
+    ///   10^30 bytes or more.
+    ///
+    /// # Examples
+    ///
+    /// ```rust
+    /// use byte_unit::{Byte, ParseError, ValueParseError};
+    ///
+    /// assert_eq!(rt; Byte::parse_str("50.84 MB", false)?, Byte::from_u64(50_840_000));
+    /// assert_eq!(rt; Byte::parse_str("9 b", true)?, Byte::from_u64(9));
+    /// assert_eq!(rt; Byte::parse_str("9 b", false)?, Byte::from_u64(2));
+    /// let result = Byte::parse_str("1.", false);
+    /// assert!(rt; matches!(result, Err(ParseError::Value(ValueParseError::NotNumber('.')))));
+    /// let result = Byte::parse_str("1000 RB", false);
+    /// assert!(rt; matches!(result, Err(ParseError::Value(ValueParseError::ExceededBounds(_)))));
     /// ```
     pub fn parse_str(s: &str, ignore_case: bool) -> Result<Byte, ParseError>
         ensures { IsSizeReading InBytes ignore_case s.now result }
@@ -35,14 +46,21 @@ impl Byte {
         Ok(Byte { size })
     }
 
-    /// What `parse_str` answers for the text that the bytes are. `None` exactly where they are not UTF-8.
+    /// Parses a size from a string of UTF-8, as [`Byte::parse_str`] does. Returns `None` if the string is not
+    /// UTF-8.
     ///
-    /// Where they state a size and are not refused, it is quicker than to make a text of them first.
+    /// If it represents a size, this is faster than making a `str` of it first.
     ///
-    /// ```text
-    /// Byte::parse_bytes(b"1.5 KiB", false)      // Some(Ok(1536 bytes))
-    /// Byte::parse_bytes(b"1.", false)           // Some(Err(Value(NotNumber('.'))))
-    /// Byte::parse_bytes(b"1 KiB\xFF", false)    // None
+    /// # Examples
+    ///
+    /// ```rust
+    /// use byte_unit::{Byte, ParseError, ValueParseError};
+    ///
+    /// let size = Byte::parse_bytes(b"1.5 KiB", false);
+    /// assert!(rt; matches!(size, Some(Ok(size)) if size == Byte::from_u64(1536)));
+    /// let result = Byte::parse_bytes(b"1.", false);
+    /// assert!(rt; matches!(result, Some(Err(ParseError::Value(ValueParseError::NotNumber('.'))))));
+    /// assert!(rt; Byte::parse_bytes(b"1 KiB\xFF", false).is_none());
     /// ```
     #[inline(always)]
     pub fn parse_bytes(bytes: &[u8], ignore_case: bool) -> Option<Result<Byte, ParseError>>

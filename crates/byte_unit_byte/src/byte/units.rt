@@ -1,4 +1,4 @@
-//! The units in which a size in bytes is stated exactly.
+//! The units that represent a size in bytes exactly.
 
 ghost use Rattle.std.specs.Prelude.{◌≡◌, ◌*◌, ◌≤◌};
 ghost use Rattle.byte_unit_math.specs.Bounds.{one};
@@ -15,14 +15,19 @@ use byte_unit_base::{Kind, Unit, exact_unit, recoverable_unit};
 use byte_unit_math::{Decimal, Steps};
 
 impl Byte {
-    /// Returns how many of the largest unit, not above the size, that divides it the size is, and the unit; the size in
-    /// `Unit::B` if there is none.
+    /// Returns the size as a whole number of the largest unit that divides it, with that unit.
     ///
-    /// The unit is a multiple of bytes, or with `allow_in_bits` of bytes or of bits.
+    /// The unit is a multiple of bytes, or with `allow_in_bits` of bytes or of bits, and at most the size. If there
+    /// is none, it is `Unit::B`.
     ///
-    /// ```text
-    /// Byte::from_u64(50_840_000).get_exact_unit(false)      // (50840, Unit::KB)
-    /// Byte::from_u64(375_000).get_exact_unit(true)          // (3, Unit::Mbit)
+    /// # Examples
+    ///
+    /// ```rust
+    /// use byte_unit::{Byte, Unit};
+    ///
+    /// assert_eq!(rt; Byte::from_u64(50_840_000).get_exact_unit(false), (50_840, Unit::KB));
+    /// assert_eq!(rt; Byte::MEGABIT.get_exact_unit(true), (1, Unit::Mbit));
+    /// assert_eq!(rt; Byte::from_u64(999).get_exact_unit(false), (999, Unit::B));
     /// ```
     pub fn get_exact_unit(self, allow_in_bits: bool) -> (u128, Unit)
         ensures recovered { IsRecovered current InBytes allow_in_bits self 0 (shape_of result.1) }
@@ -31,16 +36,23 @@ impl Byte {
         exact_unit(self.size, Kind::Byte, allow_in_bits)
     }
 
-    /// The largest unit, not above the size, in which the size is a decimal of at most so many places, with that
-    /// decimal: number times unit is the size, exactly. If there is none, the size in `Unit::B`.
+    /// Returns the size as a decimal of at most `precision` digits after the point, with its unit: number times
+    /// unit is the size, exactly.
     ///
-    /// The unit is a multiple of bytes, or with `allow_in_bits` of bytes or of bits. A precision above 28 counts as 28;
-    /// 3 is the usual one.
+    /// The unit is the largest one that allows this. It is a multiple of bytes, or with `allow_in_bits` of bytes or
+    /// of bits, and at most the size. If there is none, it is `Unit::B`. A precision above 28 counts as 28; 3 is
+    /// the usual one.
     ///
-    /// ```text
-    /// Byte::from_u64(50_840_000).get_recoverable_unit(false, 2)     // (50.84, Unit::MB)
-    /// Byte::from_u64(437_500).get_recoverable_unit(true, 3)         // (3.5, Unit::Mbit)
-    /// Byte::from_u64(437_500).get_recoverable_unit(false, 3)        // (437.5, Unit::KB)
+    /// # Examples
+    ///
+    /// ```rust
+    /// use byte_unit::{Byte, Decimal, Unit};
+    ///
+    /// let (number, unit) = Byte::from_u64(50_840_000).get_recoverable_unit(false, 2);
+    /// assert_eq!(rt; Some(number), Decimal::from_u128_with_scale(5084, 2));
+    /// assert_eq!(rt; unit, Unit::MB);
+    /// assert_eq!(rt; Byte::from_u64(50_840_000).get_recoverable_unit(false, 1).1, Unit::KB);
+    /// assert_eq!(rt; Byte::MEGABIT.get_recoverable_unit(true, 3).1, Unit::Mbit);
     /// ```
     pub fn get_recoverable_unit(self, allow_in_bits: bool, precision: usize) -> (Decimal, Unit)
         ensures recovered { IsRecovered current InBytes allow_in_bits self precision (shape_of result.1) }
@@ -49,10 +61,20 @@ impl Byte {
         self.get_recoverable_unit_counted(allow_in_bits, precision, &mut Steps::new())
     }
 
-    /// Returns what `get_recoverable_unit` returns, and counts its work: `steps` rises by one for each two and each
-    /// five that divides the size, by two for the trials that fail, and by one for each digit of the decimal after the
-    /// point. That is at most 116 steps, which `7 << 87` bytes take at a precision of 27; a size of zero takes none.
-    /// The count stays at its greatest value.
+    /// Returns what [`Byte::get_recoverable_unit`] returns, and adds the number of its steps to `steps`.
+    ///
+    /// A step is one factor 2 or 5 of the size, one of the two trials that fail, or one digit of the decimal after
+    /// the point. That is at most 116 steps; a size of zero takes none. The count saturates at its maximum.
+    ///
+    /// # Examples
+    ///
+    /// ```rust
+    /// use byte_unit::{Byte, Steps};
+    ///
+    /// let mut steps = Steps::new();
+    /// Byte::from_u128_unsafe(7 << 87).get_recoverable_unit_counted(true, 27, &mut steps);
+    /// assert_eq!(rt; steps.count(), 116);
+    /// ```
     pub fn get_recoverable_unit_counted(
         self,
         allow_in_bits: bool,

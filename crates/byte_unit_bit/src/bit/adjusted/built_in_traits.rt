@@ -1,5 +1,5 @@
 // Rendered from crates/byte_unit_byte/src/byte/adjusted/built_in_traits.rt by tools/mirror. Do not edit.
-//! The traits of std that `AdjustedBit` has.
+//! The traits of std that `AdjustedBit` implements.
 
 ghost use Rattle.std.specs.Prelude.{◌≡◌, nat_eq, Some};
 ghost use Rattle.std.specs.Cmp.{partial_order_from_own_ties, partial_equiv_from_equiv};
@@ -21,8 +21,8 @@ use std::cmp::Ordering;
 use std::fmt;
 use std::str::FromStr;
 
-/// The size in its unit with all its digits, a space and the unit's name: the text by `FormatSpec::PLAIN`. Flags of the
-/// formatter change nothing; [`AdjustedBit::to_text`] takes them.
+/// Writes the size in its unit with all its digits, a space and the unit's name, as `FormatSpec::PLAIN` does. The
+/// formatter's flags have no effect; [`AdjustedBit::to_text`] takes a spec instead.
 impl fmt::Display for AdjustedBit {
     ghost output = { λ a. Some (adjusted_text current InBits a.size (shape_of a.unit)) };
 
@@ -34,7 +34,7 @@ impl fmt::Display for AdjustedBit {
     }
 }
 
-/// Whether the sizes are equal, whatever the units.
+/// Compares the sizes for equality, whatever the units.
 impl PartialEq for AdjustedBit {
     ghost eq = { λ a b. nat_eq a.size b.size };
 
@@ -49,7 +49,7 @@ impl Eq for AdjustedBit {
     ghost laws = { Prim.search (comparing, rules) };
 }
 
-/// The order of the sizes, whatever the units.
+/// Compares the sizes, whatever the units.
 impl Ord for AdjustedBit {
     ghost cmp = { λ a b. nat_cmp a.size b.size };
 
@@ -74,7 +74,7 @@ impl PartialOrd for AdjustedBit {
     }
 }
 
-/// The size, to be shown in the largest unit of bits that is not above it.
+/// Returns the size with the largest unit of bits that is at most the size, or with `Unit::Bit` if there is none.
 impl From<Bit> for AdjustedBit {
     ghost from_gives = { λ size a. (a.size ≡ size) × IsAppropriate current InBits Both size (shape_of a.unit) };
 
@@ -83,7 +83,7 @@ impl From<Bit> for AdjustedBit {
     }
 }
 
-/// The size that was adjusted.
+/// Returns the size, exactly.
 impl From<AdjustedBit> for Bit {
     ghost from_gives = { λ a size. size ≡ a.size };
 
@@ -92,7 +92,7 @@ impl From<AdjustedBit> for Bit {
     }
 }
 
-/// The unit.
+/// Returns the unit.
 impl From<AdjustedBit> for Unit {
     ghost from_gives = { λ a unit. unit ≡ a.unit };
 
@@ -101,7 +101,8 @@ impl From<AdjustedBit> for Unit {
     }
 }
 
-/// The size that the text states, as [`Bit`] reads it, to be shown in the largest unit of bits that is not above it.
+/// Parses a size, as [`Bit`] does, with the largest unit of bits that is at most the size, or with `Unit::Bit` if
+/// there is none.
 impl FromStr for AdjustedBit {
     type Err = ParseError;
 

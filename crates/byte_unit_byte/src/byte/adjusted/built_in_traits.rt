@@ -1,4 +1,4 @@
-//! The traits of std that `AdjustedByte` has.
+//! The traits of std that `AdjustedByte` implements.
 
 ghost use Rattle.std.specs.Prelude.{◌≡◌, nat_eq, Some};
 ghost use Rattle.std.specs.Cmp.{partial_order_from_own_ties, partial_equiv_from_equiv};
@@ -20,8 +20,8 @@ use std::cmp::Ordering;
 use std::fmt;
 use std::str::FromStr;
 
-/// The size in its unit with all its digits, a space and the unit's name: the text by `FormatSpec::PLAIN`. Flags of the
-/// formatter change nothing; [`AdjustedByte::to_text`] takes them.
+/// Writes the size in its unit with all its digits, a space and the unit's name, as `FormatSpec::PLAIN` does. The
+/// formatter's flags have no effect; [`AdjustedByte::to_text`] takes a spec instead.
 impl fmt::Display for AdjustedByte {
     ghost output = { λ a. Some (adjusted_text current InBytes a.size (shape_of a.unit)) };
 
@@ -33,7 +33,7 @@ impl fmt::Display for AdjustedByte {
     }
 }
 
-/// Whether the sizes are equal, whatever the units.
+/// Compares the sizes for equality, whatever the units.
 impl PartialEq for AdjustedByte {
     ghost eq = { λ a b. nat_eq a.size b.size };
 
@@ -48,7 +48,7 @@ impl Eq for AdjustedByte {
     ghost laws = { Prim.search (comparing, rules) };
 }
 
-/// The order of the sizes, whatever the units.
+/// Compares the sizes, whatever the units.
 impl Ord for AdjustedByte {
     ghost cmp = { λ a b. nat_cmp a.size b.size };
 
@@ -73,7 +73,7 @@ impl PartialOrd for AdjustedByte {
     }
 }
 
-/// The size, to be shown in the largest unit of bytes that is not above it.
+/// Returns the size with the largest unit of bytes that is at most the size, or with `Unit::B` if there is none.
 impl From<Byte> for AdjustedByte {
     ghost from_gives = { λ size a. (a.size ≡ size) × IsAppropriate current InBytes Both size (shape_of a.unit) };
 
@@ -82,7 +82,7 @@ impl From<Byte> for AdjustedByte {
     }
 }
 
-/// The size that was adjusted.
+/// Returns the size, exactly.
 impl From<AdjustedByte> for Byte {
     ghost from_gives = { λ a size. size ≡ a.size };
 
@@ -91,7 +91,7 @@ impl From<AdjustedByte> for Byte {
     }
 }
 
-/// The unit.
+/// Returns the unit.
 impl From<AdjustedByte> for Unit {
     ghost from_gives = { λ a unit. unit ≡ a.unit };
 
@@ -100,7 +100,8 @@ impl From<AdjustedByte> for Unit {
     }
 }
 
-/// The size that the text states, as [`Byte`] reads it, to be shown in the largest unit of bytes that is not above it.
+/// Parses a size, as [`Byte`] does, with the largest unit of bytes that is at most the size, or with `Unit::B` if
+/// there is none.
 impl FromStr for AdjustedByte {
     type Err = ParseError;
 

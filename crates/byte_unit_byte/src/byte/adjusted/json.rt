@@ -19,12 +19,25 @@ use serde_json::Value;
 use std::alloc::{AllocError, Global};
 
 impl AdjustedByte {
-    /// The JSON string of the adjusted size: its text by `FormatSpec::ALTERNATE`, or that of the size where it is the
-    /// greatest one. It reads back as an equal value where the size has at most 28 digits after the point in its unit;
-    /// a string with more is refused by its reader. `AllocError` where memory for it was refused.
+    /// Returns the JSON string of the adjusted size: its text by `FormatSpec::ALTERNATE`, or that of the size if it
+    /// is `Byte::MAX`.
     ///
-    /// ```text
-    /// Byte::from_u64(4).get_adjusted_unit(Unit::GiB).to_json(alloc)?     // "0.0000000037252902984619140625 GiB"
+    /// The string round-trips to an equal value if the size in its unit has at most 28 digits after the point.
+    /// Otherwise [`AdjustedByte::from_json`] rejects it.
+    ///
+    /// # Errors
+    ///
+    /// `AllocError` if an allocation fails.
+    ///
+    /// # Examples
+    ///
+    /// ```rust
+    /// use byte_unit::{AdjustedByte, Byte, Unit};
+    ///
+    /// let adjusted = Byte::from_u64(4).get_adjusted_unit(Unit::GiB);
+    /// let value = adjusted.to_json(alloc)?;
+    /// assert_eq!(rt; value.as_str(), Some("0.0000000037252902984619140625 GiB"));
+    /// assert_eq!(rt; AdjustedByte::from_json(&value)?, adjusted);
     /// ```
     pub fn to_json(self, alloc: Global) -> Result<Value, AllocError>
         ensures { IfOk result
@@ -40,8 +53,24 @@ impl AdjustedByte {
         Ok(Value::String(text))
     }
 
-    /// The adjusted size of a JSON string, as `FromStr` reads its text. `NotString` where the value is no string, and
-    /// `Parse` with the fault where the string is refused. It asks for no memory.
+    /// Parses an adjusted size from a JSON string, as `FromStr` parses its text. Does not allocate.
+    ///
+    /// # Errors
+    ///
+    /// `NotString` if the value is not a string, `Parse` if the string is rejected.
+    ///
+    /// # Examples
+    ///
+    /// ```rust
+    /// use byte_unit::{AdjustedByte, Byte, JsonSizeError, Unit};
+    /// use serde_json::Value;
+    ///
+    /// let value = Value::String(String::from_str(alloc, "15.5 KB")?);
+    /// let adjusted = AdjustedByte::from_json(&value)?;
+    /// assert_eq!(rt; adjusted.get_byte(), Byte::from_u64(15_500));
+    /// assert_eq!(rt; adjusted.get_unit(), Unit::KiB);
+    /// assert!(rt; matches!(AdjustedByte::from_json(&Value::Null), Err(JsonSizeError::NotString)));
+    /// ```
     pub fn from_json(value: &Value) -> Result<AdjustedByte, JsonSizeError>
         ensures { ReadsString size_errors (IsAdjustedReading InBytes) (as_str (view value.now)) result }
     {
