@@ -27,7 +27,7 @@ enum Balance {
 }
 
 /// Returns the balance of a quota.
-fn balance(used: Byte, quota: Byte) -> Balance
+fn balance_of(used: Byte, quota: Byte) -> Balance
     ensures { IsBalance used quota result }
 {
     match quota.subtract(used) {
@@ -97,7 +97,7 @@ fn row(alloc: Global, user: &User) -> Result<String, AllocError> {
     let used = cell(alloc, user.used)?;
     let quota = cell(alloc, user.quota)?;
     let name = user.name.as_str();
-    match balance(user.used, user.quota) {
+    match balance_of(user.used, user.quota) {
         Balance::Left(left) => {
             let left = cell(alloc, left)?;
             format!(in alloc; "{name:<8}{used}{quota}{left} left")
