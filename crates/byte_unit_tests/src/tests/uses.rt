@@ -1,5 +1,5 @@
 //! Tests of the functions of `byte_unit_uses`.
-use super::error_texts::assert_refused;
+use super::error_texts::assert_error;
 use super::traits::assert_is;
 use byte_unit::{
     AdjustedByte, Bit, Byte, FormatSpec, JsonSizeError, ParseError, Unit, ValueParseError,
@@ -24,16 +24,20 @@ fn limits_from_strings(rt: HostRuntime) {
     );
     assert!(rt; matches!(limit(""), Err(ParseError::Value(ValueParseError::NoValue))));
     assert_is(&rt, rate("100 Mbit").ok(), Some(Bit::from_u64(100_000_000)));
-    assert_is(
-        &rt,
-        limit_ok("20 mb"),
-        Some(Byte::from_u64(20_000_000)),
-    );
+    assert_is(&rt, limit_ok("20 mb"), Some(Byte::from_u64(20_000_000)));
     assert_is(&rt, limit_ok("20 x"), None);
     assert_is(&rt, limit_or("4 KiB", Byte::MEBIBYTE), Byte::from_u64(4096));
     assert_is(&rt, limit_or("much", Byte::MEBIBYTE), Byte::MEBIBYTE);
-    assert_is(&rt, unwrap_limit_or(limit("1 MB"), Byte::KIBIBYTE), Byte::MEGABYTE);
-    assert_is(&rt, unwrap_limit_or(limit("1 x"), Byte::KIBIBYTE), Byte::KIBIBYTE);
+    assert_is(
+        &rt,
+        unwrap_limit_or(limit("1 MB"), Byte::KIBIBYTE),
+        Byte::MEGABYTE,
+    );
+    assert_is(
+        &rt,
+        unwrap_limit_or(limit("1 x"), Byte::KIBIBYTE),
+        Byte::KIBIBYTE,
+    );
 }
 
 #[test]
@@ -64,7 +68,7 @@ fn quotas(rt: HostRuntime) -> Result<(), AllocError> {
         Some(Byte::from_u64(173_741_824)),
     );
     assert!(rt; matches!(left("500 MB", used), Err(QuotaError::Exceeded)));
-    assert_refused(
+    assert_error(
         &rt,
         rt.alloc(),
         left("1 GX", used),
@@ -85,8 +89,8 @@ fn string(alloc: Global, text: &str) -> Result<Value, AllocError> {
 }
 
 /// Returns the cache limit and the unit of settings, and `None` for an error.
-fn parts(result: Result<Settings, SettingsError>) -> Option<(Byte, Unit)> {
-    let settings = result.ok()?;
+fn parts(outcome: Result<Settings, SettingsError>) -> Option<(Byte, Unit)> {
+    let settings = outcome.ok()?;
     Some((settings.cache, settings.unit))
 }
 
@@ -103,7 +107,7 @@ fn settings_from_json(rt: HostRuntime) -> Result<(), AllocError> {
         )
     );
     let unit = string(rt.alloc(), "MiBs")?;
-    assert_refused(
+    assert_error(
         &rt,
         rt.alloc(),
         read_settings(&cache, &unit),
@@ -115,10 +119,10 @@ fn settings_from_json(rt: HostRuntime) -> Result<(), AllocError> {
 fn assert_formatted<E: Drop>(
     rt: &impl Abort,
     alloc: Global,
-    result: Result<AdjustedByte, E>,
+    outcome: Result<AdjustedByte, E>,
     wanted: &str,
 ) -> Result<(), AllocError> {
-    match result {
+    match outcome {
         Ok(size) => assert_is(rt, size.to_text(alloc, FormatSpec::PLAIN)?.as_str(), wanted),
         Err(_) => panic!(rt; "rejected"),
     }
@@ -157,5 +161,5 @@ fn error_messages_with_context(rt: HostRuntime) -> Result<(), AllocError> {
     let limit = parse_argument("12 GB").ok();
     assert_is(&rt, limit, Some(Byte::from_u64(12_000_000_000)));
     let rejected = parse_argument("12 QB");
-    assert_refused(&rt, rt.alloc(), rejected, "reading the limit \"12 QB\"")
+    assert_error(&rt, rt.alloc(), rejected, "reading the limit \"12 QB\"")
 }
