@@ -14,22 +14,22 @@ TITLE = "== "
 
 
 class CatalogueError(Exception):
-    """Says what is wrong in a catalogue."""
+    """An error in a catalogue."""
 
 
 def split(name, text):
-    """Returns the mutants of a catalogue by name, in their order."""
+    """Returns the mutants of a catalogue by name, in order."""
     found, title = {}, None
     for number, line in enumerate(text.splitlines(), 1):
         if line.startswith(TITLE):
             title = line[len(TITLE):]
             if title in found or not title or "/" in title:
-                raise CatalogueError(f"{name}:{number}: this title is there already, or is no file's name: {title}")
+                raise CatalogueError(f"{name}:{number}: this title is a duplicate or not a file name: {title}")
             found[title] = ""
         elif title is not None and line:
             found[title] += line + "\n"
         elif line and not line.startswith("#"):
-            raise CatalogueError(f"{name}:{number}: before the first title there are comments alone: {line}")
+            raise CatalogueError(f"{name}:{number}: only comments may come before the first title: {line}")
     return found
 
 

@@ -1,6 +1,7 @@
-"""What the program has to answer to a line, said once more and apart from the code: with whole numbers of any length.
+"""A reference model of the program: the output for a line, computed with integers of any length.
 
-It follows docs/DEFINITIONS.md and shares nothing with the crates. `tools/at-scale` compares the built program with it.
+Follows docs/DEFINITIONS.md and shares no code with the crates. `tools/at-scale` and `tools/callers` compare the built code
+with it.
 """
 
 import re
@@ -11,7 +12,7 @@ SIZE_LIMIT = 10**30
 FRACTION_PLACES = 28
 FORM_PLACES = 3
 
-# The characters that Unicode calls white space.
+# The characters with the Unicode property White_Space.
 WHITE_SPACE = (
     "\t\n\v\f\r \x85\xa0\u1680" + "".join(map(chr, range(0x2000, 0x200B))) + "\u2028\u2029\u202f\u205f\u3000"
 )
@@ -20,13 +21,13 @@ SPELLING = re.compile(r"(?:([KMGTPEZYRkmgtpezyr])([Ii]?))?(B|b|[Bb][Ii][Tt][Ss]?
 
 
 def unit_bits(power, binary, bit):
-    """How many bits a unit has."""
+    """Returns the number of bits in a unit."""
     one = 1024**power if binary else 1000**power
     return one if bit else 8 * one
 
 
 def read(text, kind):
-    """The number, in units of its 28th place, and the bits of its unit; or the words for the first fault."""
+    """Returns the number scaled by 10^28 and the bits of its unit, or the message of the first error."""
     digits = re.match(r"[0-9]*", text).group()
     if not digits:
         return "not a number" if text else "no value"
@@ -51,7 +52,7 @@ def read(text, kind):
 
 
 def form(size, kind):
-    """The size with the largest unit of its kind, not above it, that states it within three places."""
+    """Returns the size in the largest unit of its kind, not above it, that represents it exactly with at most three decimals."""
     bit = kind == "bit"
     in_bits = size * (1 if bit else 8)
     end = "b" if bit else "B"
@@ -67,7 +68,7 @@ def form(size, kind):
 
 
 def answer(line, kind):
-    """The answer to a line, given by its bytes, without the line's end."""
+    """Returns the output for a line, given as bytes without its line ending."""
     try:
         text = line.decode("utf-8")
     except UnicodeDecodeError:

@@ -1,17 +1,17 @@
-"""Lines of every make, by a seed: numbers short and long, units well and badly spelled, white space, and bytes of no text."""
+"""Generates random lines: short and long numbers, valid and invalid units, white space, and bytes that are not UTF-8."""
 
 from exact_model import LETTERS
 
 WORDS = ["", "B", "b", "bit", "bits", "BIT", "bItS", "bi", "bitx", "byte"]
 ODD = ["", " ", "\t", "x", "-1", "+1", ".5", "1.", "1 .5", "1,000", "1_000", "1e3", "é", "1é", "1 Ké", "1😀", "\ufeff1"]
-# Digits are read eight at a time, nineteen fit a word, and a fraction is taken in two halves of fourteen.
+# The parser takes eight digits at a time, nineteen fit 64 bits, and a fraction is split into two halves of fourteen.
 DIGITS = [1, 2, 3, 4, 6, 8, 9, 12, 15, 16, 18, 19, 20, 24, 27, 28, 29, 30, 34, 35]
 PLACES = [1, 1, 2, 2, 3, 6, 8, 12, 14, 15, 19, 20, 27, 28, 29]
 BROKEN = [b"\xff", b"1\xff", b"1\xc3", b"1\xed\xa0\x80", b"1\xc0\x80", b"1\x00", b"1KB\r", b"\r", b"1\x1c", b"1\x85"]
 
 
 def some_line(rng):
-    """A line of any make, as bytes without a line end."""
+    """Returns a random line, as bytes without a line ending."""
     make = rng.random()
     if make < 0.05:
         return rng.choice(BROKEN)

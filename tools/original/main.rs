@@ -1,7 +1,7 @@
-//! What byte_unit_lines does, with the Rust crate byte-unit in place of the proved library: for measurements beside it.
+//! The program byte_unit_lines with the Rust crate byte-unit in place of the proved library, for comparison.
 //!
 //! original_lines [byte|bit] reads lines on standard input and writes the size and its form with a unit for each, or
-//! `refused`. Where the crate rounds or refuses otherwise than the library, the answers differ.
+//! `rejected`. The output differs if the crate rounds or rejects other inputs than the library.
 
 use std::io::{self, BufRead, BufReader, BufWriter, Write};
 
@@ -11,17 +11,17 @@ const BUFFER: usize = 128 * 1024;
 
 fn answer(line: &[u8], in_bits: bool, out: &mut impl Write) -> io::Result<()> {
     let Ok(text) = std::str::from_utf8(line) else {
-        return writeln!(out, "refused");
+        return writeln!(out, "rejected");
     };
     if in_bits {
         match Bit::parse_str(text) {
             Ok(size) => writeln!(out, "{size} = {size:#}"),
-            Err(_) => writeln!(out, "refused"),
+            Err(_) => writeln!(out, "rejected"),
         }
     } else {
         match Byte::parse_str(text, false) {
             Ok(size) => writeln!(out, "{size} = {size:#}"),
-            Err(_) => writeln!(out, "refused"),
+            Err(_) => writeln!(out, "rejected"),
         }
     }
 }

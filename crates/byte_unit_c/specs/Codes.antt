@@ -1,4 +1,4 @@
--- The codes of units, types of units and kinds. A code is a place in a list.
+-- The codes of units, unit types and kinds in the C API. A code is an index into a list.
 use Rattle.std.specs.Prelude.{◌≡◌, ℕ, Bool, true, false, List, [], ◌∷◌, Option, Some, slice_get}
 use Rattle.byte_unit_base.specs.Shape.{Shape}
 use Rattle.byte_unit_base.specs.Units.{shape_of}
@@ -13,6 +13,7 @@ use Rattle.byte_unit_base.specs.declared.unit.Unit.TheVariants.{Pbit, Pibit, PB,
 use Rattle.byte_unit_base.specs.declared.unit.Unit.TheVariants.{Zbit, Zibit, ZB, ZiB, Ybit, Yibit, YB, YiB}
 use Rattle.byte_unit_base.specs.declared.unit.Unit.TheVariants.{Rbit, Ribit, RB, RiB}
 
+-- the units, in the order of their codes
 abbrev pub units : List UnitName
 units =
     Bit ∷ B ∷ Kbit ∷ Kibit ∷ KB ∷ KiB ∷ Mbit ∷ Mibit ∷ MB ∷ MiB
@@ -21,17 +22,19 @@ units =
     ∷ Zbit ∷ Zibit ∷ ZB ∷ ZiB ∷ Ybit ∷ Yibit ∷ YB ∷ YiB
     ∷ Rbit ∷ Ribit ∷ RB ∷ RiB ∷ []
 
--- the unit of a code
+-- the unit with a code; none if the code is 38 or more
 abbrev pub unit_at : ℕ → Option UnitName
 unit_at code = slice_get units code
 
--- the code is that of a unit with the property
+-- the code is that of a unit with this property
 abbrev pub CodesUnit : (Shape → Type 0) → ℕ → Type 0
 CodesUnit Has code = (unit : UnitName) × (unit_at code ≡ Some unit) × Has (shape_of unit)
 
+-- the unit types, in the order of their codes
 abbrev pub types : List UnitType
 types = Binary ∷ Decimal ∷ Both ∷ []
 
+-- the kind of a size, by the argument `in_bits`
 abbrev pub kind_of : Bool → Kind
 kind_of true = InBits
 kind_of false = InBytes

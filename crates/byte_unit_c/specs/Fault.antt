@@ -1,39 +1,39 @@
--- What C is told of a fault.
+-- The errors of parsing as the C API reports them.
 use Rattle.std.specs.Prelude.{◌≡◌, ℕ, ◌-◌, Bool, false, List, [], ◌++◌, length, map, take, replicate, nat_lt}
 use Rattle.std.specs.Prelude.{if◌then◌else◌}
 use Rattle.byte_unit_base.specs.Fault.{Fault, bad_unit, not_number, no_value, too_long, exceeded}
 use Rattle.byte_unit_c.specs.declared.fault.Fault.{Fault as Told}
 use Rattle.byte_unit_c.specs.Values.{IsParts}
 
--- the code of a fault
+-- the code of an error
 abbrev pub code_of : Fault → ℕ
 code_of no_value = 1
 code_of (not_number c) = 2
 code_of too_long = 3
 code_of (exceeded number) = 4
-code_of (bad_unit c expected none) = 5
+code_of (bad_unit c expected may_end) = 5
 
--- a character of ASCII, or a question mark
+-- an ASCII character as its byte, and a question mark (63) for any other
 abbrev pub as_byte : ℕ → ℕ
 as_byte c = if nat_lt c 128 then c else 63
 
--- the first fifteen characters as bytes, and zeros behind them: sixteen bytes
+-- the first fifteen characters as bytes, padded with zeros to sixteen bytes
 abbrev pub shown : List ℕ → List ℕ
 shown characters =
-    let front = take 15 characters in
-    map as_byte front ++ replicate (16 - length front) 0
+    let kept = take 15 characters in
+    map as_byte kept ++ replicate (16 - length kept) 0
 
--- the fields say this
-pub record Tells (character : ℕ) (expected : List ℕ) (none : Bool) (number : ℕ) (told : Told) : Type 0 where
+-- the fields have these values
+pub record Tells (character : ℕ) (expected : List ℕ) (may_end : Bool) (number : ℕ) (told : Told) : Type 0 where
   pub character_is : told.character ≡ character
   pub expected_is : told.expected ≡ shown expected
-  pub none_is : told.also_expect_no_character ≡ none
+  pub may_end_is : told.also_expect_no_character ≡ may_end
   pub number_is : IsParts told.number number
 
--- what a fault has; all else is zero
+-- the fields of each error; a field that it does not use is zero
 abbrev pub TellsFault : Fault → Told → Type 0
 TellsFault no_value = Tells 0 [] false 0
 TellsFault (not_number c) = Tells c [] false 0
 TellsFault too_long = Tells 0 [] false 0
 TellsFault (exceeded number) = Tells 0 [] false number
-TellsFault (bad_unit c expected none) = Tells c expected none 0
+TellsFault (bad_unit c expected may_end) = Tells c expected may_end 0

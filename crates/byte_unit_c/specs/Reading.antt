@@ -1,4 +1,4 @@
--- What a caller in C gets of what a text is read as.
+-- What the parsing calls of the C API return and write.
 use Rattle.std.specs.Prelude.{◌≡◌, ℕ, List, Option, Some, None, Result, Ok, Err, IfSome, codes}
 use Rattle.std.specs.Fmt.Cut.{IsTextOrCut}
 use Rattle.byte_unit_base.specs.Errors.{size_fault}
@@ -10,26 +10,26 @@ use Rattle.byte_unit_c.specs.declared.fault.Fault.{Fault as Told}
 use Rattle.byte_unit_c.specs.Values.{number_of}
 use Rattle.byte_unit_c.specs.Fault.{code_of, TellsFault}
 
--- the answer where a text states a size
+-- the return value if the string represents a size
 abbrev pub ok : ℕ
 ok = 0
 
--- the answer to bytes that are no text; those between are the codes of faults
+-- the return value if the bytes are not UTF-8; the values between are the codes of errors
 abbrev pub not_utf8 : ℕ
 not_utf8 = 6
 
--- the size, or the fault with its code; what is not answered stays
+-- `OK` with the size, or the code of the error with its details; what is not written is unchanged
 abbrev pub Answers : Option (Result ℕ ParseError) → ℕ → Number → Number → Told → Told → Type 0
 Answers None code size size' fault fault' = (code ≡ not_utf8) × (size' ≡ size) × (fault' ≡ fault)
 Answers (Some (Ok n)) code size size' fault fault' = (code ≡ ok) × (number_of size' ≡ n) × (fault' ≡ fault)
 Answers (Some (Err e)) code size size' fault fault' =
     (code ≡ code_of (size_fault e)) × TellsFault (size_fault e) fault' × (size' ≡ size)
 
--- the words, or a text of 256 bytes at most that ends in dots; nothing is said where std says nothing of the words
+-- the message of the error, or at most 256 bytes of it that end in dots; no claim if std specifies no message
 abbrev pub AreWords : ParseError → List ℕ → Type 0
 AreWords e kept = IfSome (parse_text e) (λ words. IsTextOrCut 256 words kept)
 
--- the words of an error, or that the bytes are no text; nothing where a size is stated
+-- the message of the error, or that the bytes are not UTF-8; nothing is written if the string represents a size
 abbrev pub Explains : Option (Result ℕ ParseError) → List ℕ → List ℕ → ℕ → Type 0
 Explains None old new needed = Writes (λ words. words ≡ codes "the text is not UTF-8") old new needed
 Explains (Some (Ok n)) old new needed = (needed ≡ 0) × (new ≡ old)

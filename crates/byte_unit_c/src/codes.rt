@@ -1,11 +1,11 @@
-//! Units, kinds and types of units by their codes.
+//! The codes of units, base units and unit types in the C API.
 
 ghost use Rattle.std.specs.Prelude.{◌≡◌, slice_get, Some};
 ghost use Rattle.byte_unit_c.specs.Codes.{kind_of, types, unit_at};
 
 use byte_unit_base::{Kind, Unit, UnitType};
 
-/// The units, each at its code.
+/// The units, each at the index that is its code.
 static UNITS: [Unit; 38] = [
     Unit::Bit,
     Unit::B,
@@ -47,7 +47,7 @@ static UNITS: [Unit; 38] = [
     Unit::RiB,
 ];
 
-/// The unit of a code, which is its place among the units. `None` from 38 on.
+/// Returns the unit with a code, which is its index in `UNITS`. Returns `None` if the code is 38 or more.
 pub fn unit_at(code: u32) -> Option<Unit>
     ensures { result ≡ unit_at code }
 {
@@ -58,21 +58,21 @@ pub fn unit_at(code: u32) -> Option<Unit>
     }
 }
 
-/// The code of a unit.
+/// Returns the code of a unit.
 pub fn code_of(unit: Unit) -> u32
     ensures { unit_at result ≡ Some unit }
 {
     unit as u32
 }
 
-/// The kind: bits or bytes.
+/// Returns the kind of a size: bits with `in_bits`, else bytes.
 pub fn kind_of(in_bits: bool) -> Kind
     ensures { result ≡ kind_of in_bits }
 {
     if in_bits { Kind::Bit } else { Kind::Byte }
 }
 
-/// The type of units of a code: 0 binary, 1 decimal, 2 both. `None` from 3 on.
+/// Returns the unit type with a code: 0 binary, 1 decimal, 2 both. Returns `None` if the code is 3 or more.
 pub fn type_at(code: u32) -> Option<UnitType>
     ensures { result ≡ slice_get types code }
 {

@@ -1,4 +1,4 @@
-//! What C is told of a text that is refused.
+//! The errors of parsing in the C API: a code, and a struct of details.
 
 ghost use Rattle.std.specs.Prelude.{◌≡◌};
 ghost use Rattle.byte_unit_base.specs.Errors.{value_fault};
@@ -7,43 +7,43 @@ ghost use Rattle.byte_unit_c.specs.Fault.{code_of, shown, as_byte, TellsFault};
 use crate::values::Parts;
 use byte_unit_base::ValueParseError;
 
-/// Why a text is refused. A field of which the fault says nothing is zero.
+/// The details of a parse error. A field that the error's code does not use is zero.
 #[repr(C)]
 #[derive(Clone, Copy)]
 pub struct Fault {
-    /// At `NOT_NUMBER` and `UNIT`: the character, by its code point.
+    /// With `NOT_NUMBER` and `UNIT`: the code point of the character that was rejected.
     pub character: u32,
-    /// At `UNIT`: whether the text could end in its place.
+    /// With `UNIT`: whether the string could end before that character.
     pub also_expect_no_character: bool,
-    /// At `UNIT`: the characters that are named in its place, and at least one zero behind them.
+    /// With `UNIT`: the characters that are expected in its place, in ASCII, followed by at least one zero byte.
     pub expected: [u8; 16],
-    /// At `EXCEEDED_BOUNDS`: the number that was written.
+    /// With `EXCEEDED_BOUNDS`: the number in the string, without its unit.
     pub number: Parts,
 }
 
-/// The text states a size.
+/// Success: the string represents a size.
 pub const OK: u32 = 0;
 
-/// The text is empty or white space alone.
+/// The string is empty or has only white space.
 pub const NO_VALUE: u32 = 1;
 
-/// A digit has to stand where the character is, or after it where the text ends in a point.
+/// A digit is expected in place of the character, or after it if the string ends with a decimal point.
 pub const NOT_NUMBER: u32 = 2;
 
-/// The whole part is 2^112 or more, or more than 28 digits follow the point.
+/// The integer part is 2^112 or more, or more than 28 digits follow the decimal point.
 pub const NUMBER_TOO_LONG: u32 = 3;
 
-/// The size is not below 10^30.
+/// The size is 10^30 or more.
 pub const EXCEEDED_BOUNDS: u32 = 4;
 
-/// The spelling of the unit is wrong.
+/// The unit is misspelled.
 pub const UNIT: u32 = 5;
 
-/// The bytes are no text.
+/// The bytes are not UTF-8.
 pub const NOT_UTF8: u32 = 6;
 
 impl Fault {
-    /// A fault of which nothing is told but its code.
+    /// The details of an error that has only a code: every field is zero.
     pub const NONE: Fault = Fault {
         character: 0,
         also_expect_no_character: false,
@@ -51,7 +51,7 @@ impl Fault {
         number: Parts::ZERO,
     };
 
-    /// The fault of a number, with its code.
+    /// Returns the code and the details of an error in the number.
     pub fn of_value(error: ValueParseError) -> (u32, Fault)
         ensures code { result.0 ≡ code_of (value_fault error) }
         ensures fault { TellsFault (value_fault error) result.1 }
@@ -77,8 +77,9 @@ impl Fault {
     }
 }
 
-/// The first 15 characters as bytes, and zeros behind them. The readers name ten at most, all of ASCII.
-pub fn shown(characters: &[char]) -> [u8; 16]
+/// Returns the first 15 characters as bytes, padded with zeros to 16. The parsers expect at most ten characters, all
+/// of them ASCII.
+pub fn expected_bytes(characters: &[char]) -> [u8; 16]
     ensures { result ≡ shown characters.now }
 {
     let mut bytes = [0; 16];
@@ -88,7 +89,7 @@ pub fn shown(characters: &[char]) -> [u8; 16]
     bytes
 }
 
-/// A character of ASCII as its byte, and any other as a question mark.
+/// Returns an ASCII character as its byte, and `?` for any other character.
 fn as_byte(c: char) -> u8
     ensures { result ≡ as_byte c }
 {

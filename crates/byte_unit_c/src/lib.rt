@@ -1,8 +1,8 @@
-//! Exact sizes in bytes and in bits for programs in C, and for what calls C.
+//! The C API: exact sizes in bytes and in bits.
 //!
-//! Each function answers for every argument that C can pass: a number that is no size, a code that is none, and bytes
-//! that are no text are refused by the answer. None asks for memory, and none keeps anything. That the pointers lead to
-//! what their types say is the caller's part.
+//! Every function is defined for every argument that its C type allows: a size that is out of range, an unknown code
+//! and bytes that are not UTF-8 are reported in the return value. No function allocates, and none keeps state between
+//! calls. The caller guarantees that each pointer is valid for its type and length.
 #![tactic(auto)]
 
 mod codes;

@@ -1,4 +1,4 @@
-//! Texts of sizes are read, and what is wrong with them is told.
+//! Parsing of sizes, and messages for strings that are rejected.
 
 ghost use Rattle.std.specs.Prelude.{ℕ, ◌≤◌, Option, Result, IfSome};
 ghost use Rattle.std.specs.Fmt.Cut.{IsTextOrCut};
@@ -10,22 +10,19 @@ ghost use Rattle.byte_unit_c.specs.Codes.{kind_of};
 ghost use Rattle.byte_unit_c.specs.Reading.{Answers, Explains};
 
 use crate::codes::kind_of;
-use crate::fault::{Fault, NOT_UTF8, OK, UNIT, shown};
+use crate::fault::{Fault, NOT_UTF8, OK, UNIT, expected_bytes};
 use crate::texts::write;
 use crate::values::Number;
 use byte_unit_base::{ParseError, size};
 use std::fmt::InlineText;
 
-/// Reads a size: the least number of bytes, or of bits, that is not below what the text states, below 10^30. A text of
-/// bits is always case sensitive, so there `ignore_case` does nothing.
+/// Parses a size, rounded up to the next whole byte, or to the next whole bit with `in_bits`. Sizes are below 10^30.
+/// Sizes in bits are always case-sensitive: with `in_bits`, `ignore_case` has no effect.
 ///
-/// Where the text states a size the answer is `OK`, and the size is written. Else it is the code of the fault, and the
-/// fault is written; of bytes that are no text, `NOT_UTF8`, and nothing is written. What is not written stays as it is.
+/// Returns `OK` and writes `size` if the string represents a size. Otherwise returns the code of the error and writes
+/// `fault`, or returns `NOT_UTF8` and writes nothing if the bytes are not UTF-8. What is not written is unchanged.
 ///
-/// ```text
-/// byte_unit_parse("1.5 KiB", false, false, &size, &fault)    OK; size is 1536
-/// byte_unit_parse("1 x", false, false, &size, &fault)        UNIT; fault.character is 'x'
-/// ```
+/// For example, `1.5 KiB` in bytes gives `OK` and the size 1536, and `1 x` gives `UNIT` with the character `x`.
 #[unsafe(no_mangle)]
 pub extern "C" fn byte_unit_parse(
     text: &[u8],
@@ -52,7 +49,7 @@ pub extern "C" fn byte_unit_parse(
             *fault = Fault {
                 character: error.character as u32,
                 also_expect_no_character: error.also_expect_no_character,
-                expected: shown(error.expected_characters),
+                expected: expected_bytes(error.expected_characters),
                 ..Fault::NONE
             };
             UNIT
@@ -61,12 +58,11 @@ pub extern "C" fn byte_unit_parse(
     }
 }
 
-/// Writes why a text is refused, in words, at the front of `out`, and answers how long they are: 256 bytes at most.
-/// Where `out` is shorter, nothing is written. Where the text states a size the answer is 0, and nothing is written.
+/// Writes the error message for a string that is rejected to the start of `out`, and returns its length, at most 256
+/// bytes. Returns the length and writes nothing if `out` is shorter. Returns 0 and writes nothing if the string
+/// represents a size.
 ///
-/// ```text
-/// byte_unit_explain("-1", false, false, &out)    33: "the character '-' is not a number"
-/// ```
+/// For example, `-1` gives 33, the length of `the character '-' is not a number`.
 #[unsafe(no_mangle)]
 pub extern "C" fn byte_unit_explain(
     text: &[u8],
@@ -77,17 +73,17 @@ pub extern "C" fn byte_unit_explain(
     ensures reading { (answer : Option (Result ℕ ParseError))
         × IsBytesReading (kind_of in_bits) ignore_case text.now answer
         × Explains answer out.old out.new result }
-    ensures short { result ≤ 256 }
+    ensures bound { result ≤ 256 }
 {
     match size::parse_bytes(text, ignore_case, kind_of(in_bits)) {
         Some(Ok(_)) => 0,
-        Some(Err(error)) => write(words_of(&error).as_str().as_bytes(), out),
+        Some(Err(error)) => write(message_of(&error).as_str().as_bytes(), out),
         None => write(b"the text is not UTF-8", out),
     }
 }
 
-/// The words of an error. The longest are some 120 bytes, so nothing is cut.
-fn words_of(error: &ParseError) -> InlineText<256>
+/// Returns the message of an error. The longest message has some 120 bytes, so none is truncated.
+fn message_of(error: &ParseError) -> InlineText<256>
     ensures { IfSome (parse_text error.now) (λ words. IsTextOrCut 256 words (inline_text result)) }
 {
     InlineText::of(error)

@@ -1,28 +1,28 @@
-//! How a text is laid out, as C says it.
+//! Format specs in the C API.
 
 ghost use Rattle.std.specs.Prelude.{◌≡◌, slice_get};
 ghost use Rattle.byte_unit_c.specs.Spec.{signs, aligns, count_at, spec_at};
 
 use byte_unit_format::{Align, FormatSpec, Sign};
 
-/// How a text is laid out.
+/// A format spec, with codes in place of the enums.
 #[repr(C)]
 #[derive(Clone, Copy)]
 pub struct Spec {
-    /// The digits after the point, 65,535 at most. Below 0, none is set.
+    /// The number of digits after the decimal point, at most 65,535. Unset if negative.
     pub precision: i32,
-    /// The least number of columns, 65,535 at most. Below 0, none is set.
+    /// The minimum width in columns, at most 65,535. Unset if negative.
     pub width: i32,
-    /// The sign: 0 none, 1 plus, 2 minus.
+    /// The sign: 0 unset, 1 plus, 2 minus.
     pub sign: u8,
-    /// The side of the number: 0 none, 1 left, 2 center, 3 right.
+    /// The alignment: 0 unset, 1 left, 2 center, 3 right.
     pub align: u8,
-    /// Whether a size is printed with a unit.
+    /// Whether a size is formatted with a unit.
     pub alternate: bool,
 }
 
 impl Spec {
-    /// The spec. `None` where one of its codes is none, or one of its numbers is above 65,535.
+    /// Returns the `FormatSpec`. Returns `None` if a code is unknown, or the precision or the width is above 65,535.
     pub fn get(self) -> Option<FormatSpec>
         ensures { result ≡ spec_at self }
     {
@@ -36,7 +36,7 @@ impl Spec {
     }
 }
 
-/// The sign of a code.
+/// Returns the sign with a code. Returns `None` if the code is 3 or more.
 fn sign_at(code: u8) -> Option<Sign>
     ensures { result ≡ slice_get signs code }
 {
@@ -48,7 +48,7 @@ fn sign_at(code: u8) -> Option<Sign>
     }
 }
 
-/// The alignment of a code, 0 for none.
+/// Returns the alignment with a code, where 0 is unset. Returns `None` if the code is 4 or more.
 fn align_at(code: u8) -> Option<Option<Align>>
     ensures { result ≡ slice_get aligns code }
 {
@@ -61,7 +61,7 @@ fn align_at(code: u8) -> Option<Option<Align>>
     }
 }
 
-/// A precision or a width that is perhaps not set.
+/// Returns a precision or a width, unset if `n` is negative. Returns `None` if `n` is above 65,535.
 fn count_at(n: i32) -> Option<Option<u16>>
     ensures { result ≡ count_at n }
 {

@@ -1,4 +1,4 @@
-//! Units of sizes.
+//! Units of sizes: the choice of a unit for a size, and sizes from a number of a unit.
 
 ghost use Rattle.std.specs.Prelude.{◌≡◌, ℕ, ◌*◌, ◌<◌, ◌≤◌, Some, None, false, slice_get, IfSome, IfNone, if◌then◌else◌};
 ghost use Rattle.byte_unit_math.specs.Bounds.{one};
@@ -17,16 +17,14 @@ use crate::values::{Number, Parts};
 use byte_unit_base::{appropriate_unit, exact_unit, recoverable_unit, size};
 use byte_unit_math::Steps;
 
-/// The code of no unit.
+/// The code that no unit has.
 pub const NO_UNIT: u32 = u32::MAX;
 
-/// Returns the code of the largest unit, not above the size, that divides it, or of the kind's own unit if none does,
-/// and writes how many of it the size is. The unit is of the kind, or of either kind with `of_either`. Returns
-/// `NO_UNIT` and writes nothing if the number is not a size.
+/// Returns the code of the largest unit, not above the size, that divides it, or of the base unit (`B` or `b`) if none
+/// does, and writes the size in that unit to `count`. The unit is of the size's kind, or of either kind with
+/// `of_either`. Returns `NO_UNIT` and writes nothing if the size is out of range.
 ///
-/// ```text
-/// byte_unit_exact_unit(50840000, false, false, &count)    4, for KB; count is 50840
-/// ```
+/// For example, 50,840,000 bytes gives 4, the code of `KB`, with the count 50,840.
 #[unsafe(no_mangle)]
 pub extern "C" fn byte_unit_exact_unit(
     size: Number,
@@ -38,7 +36,7 @@ pub extern "C" fn byte_unit_exact_unit(
         (λ unit. IsRecovered current (kind_of in_bits) of_either (number_of size) 0 unit
         × (number_of count.new * bits unit ≡ number_of size * bits_in (kind_of in_bits)))
         result }
-    ensures refused { current.size_limit ≤ number_of size → (result ≡ u32.MAX) × (count.new ≡ count.old) }
+    ensures rejected { current.size_limit ≤ number_of size → (result ≡ u32.MAX) × (count.new ≡ count.old) }
 {
     match size::bounded(size.get()) {
         Some(size) => {
@@ -50,13 +48,12 @@ pub extern "C" fn byte_unit_exact_unit(
     }
 }
 
-/// The code of the largest unit, not above the size, that states it within so many places, or of the kind's own unit
-/// where none does. How many of it the size is, is written. More than 28 places count as 28. The unit is of the kind,
-/// or of either kind with `of_either`. Where the number is no size the answer is `NO_UNIT`, and nothing is written.
+/// Returns the code of the largest unit, not above the size, that represents it exactly with at most `precision` digits
+/// after the decimal point, or of the base unit (`B` or `b`) if none does, and writes the size in that unit to `count`.
+/// A precision above 28 counts as 28. The unit is of the size's kind, or of either kind with `of_either`. Returns
+/// `NO_UNIT` and writes nothing if the size is out of range.
 ///
-/// ```text
-/// byte_unit_recoverable_unit(50840000, false, false, 2, &count)    8, for MB; count is 50 and 84 * 10^26
-/// ```
+/// For example, 50,840,000 bytes with precision 2 gives 8, the code of `MB`, with the count 50.84.
 #[unsafe(no_mangle)]
 pub extern "C" fn byte_unit_recoverable_unit(
     size: Number,
@@ -70,7 +67,7 @@ pub extern "C" fn byte_unit_recoverable_unit(
         × (number : ℕ) × IsParts count.new number
         × (number * bits unit ≡ number_of size * bits_in (kind_of in_bits) * one))
         result }
-    ensures refused { current.size_limit ≤ number_of size → (result ≡ u32.MAX) × (count.new ≡ count.old) }
+    ensures rejected { current.size_limit ≤ number_of size → (result ≡ u32.MAX) × (count.new ≡ count.old) }
 {
     let steps = &mut Steps::new();
     match size::bounded(size.get()) {
@@ -89,19 +86,17 @@ pub extern "C" fn byte_unit_recoverable_unit(
     }
 }
 
-/// The code of the largest unit of the kind and of the type that is not above the size, or of the kind's own unit where
-/// there is none. The type is 0 for powers of two, 1 for powers of ten, 2 for both; where it is none of these the
-/// answer is `NO_UNIT`. The number may be above each size.
+/// Returns the code of the largest unit of the size's kind and of the unit type that is not above the size, or of the
+/// base unit (`B` or `b`) if there is none. The unit type is 0 for binary, 1 for decimal and 2 for both. Returns
+/// `NO_UNIT` if the unit type is unknown. The number may be 10^30 or more.
 ///
-/// ```text
-/// byte_unit_appropriate_unit(10000, false, 2)    5, for KiB
-/// ```
+/// For example, 10,000 bytes with the unit type 2 gives 5, the code of `KiB`.
 #[unsafe(no_mangle)]
 pub extern "C" fn byte_unit_appropriate_unit(size: Number, in_bits: bool, unit_type: u32) -> u32
     ensures found { IfSome (slice_get types unit_type) (λ asked. CodesUnit
         (IsAppropriate current (kind_of in_bits) asked (number_of size))
         result) }
-    ensures refused { IfNone (slice_get types unit_type) (result ≡ u32.MAX) }
+    ensures rejected { IfNone (slice_get types unit_type) (result ≡ u32.MAX) }
 {
     match type_at(unit_type) {
         Some(unit_type) => code_of(appropriate_unit(size.get(), kind_of(in_bits), unit_type)),
@@ -109,12 +104,10 @@ pub extern "C" fn byte_unit_appropriate_unit(size: Number, in_bits: bool, unit_t
     }
 }
 
-/// Writes the least size that is not below so many of the unit, and answers true. Where that is not below 10^30, or the
-/// code is that of no unit, the answer is false, and nothing is written.
+/// Writes the size of `count` units, rounded up to the next whole byte, or bit with `in_bits`, and returns `true`.
+/// Returns `false` and writes nothing if the size is 10^30 or more, or the code is not that of a unit.
 ///
-/// ```text
-/// byte_unit_from_unit(17, 0, false, &size)    true, and size is 3: 17 bits in whole bytes
-/// ```
+/// For example, 17 of the unit 0 (`bit`) in bytes gives `true` and the size 3.
 #[unsafe(no_mangle)]
 pub extern "C" fn byte_unit_from_unit(
     count: Number,
@@ -127,7 +120,7 @@ pub extern "C" fn byte_unit_from_unit(
         (IsLeastOf (kind_of in_bits) (number_of count * one) (shape_of of))
         (if result then Some (number_of size.new) else None)) }
     ensures no_unit { IfNone (unit_at unit) (result ≡ false) }
-    ensures kept { result ≡ false → size.new ≡ size.old }
+    ensures unchanged { result ≡ false → size.new ≡ size.old }
 {
     let Some(unit) = unit_at(unit) else {
         return false;

@@ -1,11 +1,11 @@
-//! Numbers as they cross to C.
+//! Numbers in the C API.
 
 ghost use Rattle.std.specs.Prelude.{◌≡◌};
 ghost use Rattle.byte_unit_c.specs.Values.{number_of, IsParts};
 
 use byte_unit_math::Decimal;
 
-/// A number of 128 bits in two halves, since C has no type of its own for one.
+/// An unsigned integer of 128 bits as two halves, since standard C has no type for it.
 #[repr(C)]
 #[derive(Clone, Copy)]
 pub struct Number {
@@ -19,7 +19,7 @@ const TWO_POW_64: u128 = 1 << 64;
 impl Number {
     pub const ZERO: Number = Number { low: 0, high: 0 };
 
-    /// The number in its halves.
+    /// Creates a `Number` from an integer.
     pub fn new(n: u128) -> Number
         ensures { number_of result ≡ n }
     {
@@ -29,7 +29,7 @@ impl Number {
         }
     }
 
-    /// The number of the halves.
+    /// Returns the integer.
     pub fn get(self) -> u128
         ensures { result ≡ number_of self }
     {
@@ -37,7 +37,7 @@ impl Number {
     }
 }
 
-/// A decimal: the part before the point, and the part behind it in last places of 28, below 10^28.
+/// A decimal: the integer part, and the fractional part scaled by 10^28, which is below 10^28.
 #[repr(C)]
 #[derive(Clone, Copy)]
 pub struct Parts {
@@ -51,7 +51,7 @@ impl Parts {
         fraction: Number::ZERO,
     };
 
-    /// The parts of a decimal.
+    /// Creates `Parts` from a decimal.
     pub fn new(decimal: Decimal) -> Parts
         ensures { IsParts result decimal }
     {

@@ -1,5 +1,5 @@
-//! The worked cases of the library, as tests. The crate has no code of its own: a crate is proved a second time with
-//! its tests, and here that costs the tests alone.
+//! The tests of the library. They are a crate of their own because a crate is proved a second time with its tests: here
+//! that second proof covers only the tests.
 #![tactic(auto)]
 
 #[cfg(test)]

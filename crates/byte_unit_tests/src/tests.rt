@@ -1,6 +1,6 @@
-//! The worked cases, as tables.
+//! Tests over tables of test vectors.
 
-/// A spec with these fields, also in a constant.
+/// Creates a `FormatSpec` from its fields. A macro, so that constants can use it.
 macro_rules! spec {
     ($alternate:expr, $sign:expr, $precision:expr, $width:expr, $align:expr) => {
         FormatSpec {
@@ -13,7 +13,7 @@ macro_rules! spec {
     };
 }
 
-/// The plain form with this precision, also in a constant.
+/// Creates a plain `FormatSpec` with a precision. A macro, so that constants can use it.
 macro_rules! places {
     ($precision:literal) => {
         FormatSpec {
@@ -23,7 +23,7 @@ macro_rules! places {
     };
 }
 
-/// The alternate form with this precision, also in a constant.
+/// Creates an alternate `FormatSpec` with a precision. A macro, so that constants can use it.
 macro_rules! precise {
     ($precision:literal) => {
         FormatSpec {

@@ -1,4 +1,4 @@
--- What a limit with a maximum is, and what its error says.
+-- Limits with a maximum, and their errors.
 use Rattle.std.specs.Prelude.{◌≡◌, ℕ, ◌<◌, false, List, Option, Some, None, Result, Ok, Err}
 use Rattle.byte_unit.specs.Accepted.{IsAccepted, IsRefused}
 use Rattle.byte_unit.specs.Edition.{current}
@@ -8,19 +8,19 @@ use Rattle.byte_unit.specs.declared.Kind.TheVariants.{Byte as InBytes}
 use Rattle.byte_unit_uses.specs.declared.capped.LimitError.{LimitError}
 use Rattle.byte_unit_uses.specs.declared.capped.LimitError.TheVariants.{Parse, Above}
 
--- the string represents no size, with this error, or a size above the maximum, which the error holds
+-- the string is rejected with this error, or represents a size above the maximum, which the error holds
 abbrev pub IsLimitError : List ℕ → ℕ → LimitError → Type 0
 IsLimitError text max (Parse error) = IsRefused current InBytes false text (size_fault error)
 IsLimitError text max (Above held) =
     (held ≡ max) × (size : ℕ) × IsAccepted current InBytes false text size × (max < size)
 
--- the limit, or the maximum in the place of a limit above it
+-- the limit, or the maximum if the limit exceeds it
 abbrev pub capped_limit : Result ℕ LimitError → Result ℕ ParseError
 capped_limit (Ok limit) = Ok limit
 capped_limit (Err (Parse error)) = Err error
 capped_limit (Err (Above max)) = Ok max
 
--- the maximum that the limit is above
+-- the maximum that the limit exceeds
 abbrev pub exceeded_max : Result ℕ LimitError → Option ℕ
 exceeded_max (Err (Above max)) = Some max
 exceeded_max (Err (Parse error)) = None

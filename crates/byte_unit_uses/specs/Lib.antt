@@ -1,3 +1,3 @@
 pub mod Capped
 pub mod Quota
-pub mod EntrySeen
+pub mod EntryView

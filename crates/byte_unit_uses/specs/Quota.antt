@@ -1,4 +1,4 @@
--- What an error of a quota says.
+-- The errors of a quota.
 use Rattle.std.specs.Prelude.{ℕ, ◌<◌, false, List}
 use Rattle.byte_unit.specs.Accepted.{IsAccepted, IsRefused}
 use Rattle.byte_unit.specs.Edition.{current}
@@ -7,7 +7,7 @@ use Rattle.byte_unit.specs.declared.Kind.TheVariants.{Byte as InBytes}
 use Rattle.byte_unit_uses.specs.declared.quota.QuotaError.{QuotaError}
 use Rattle.byte_unit_uses.specs.declared.quota.QuotaError.TheVariants.{Text, Exceeded}
 
--- the text is refused by this fault, or states less than is used
+-- the string is rejected with this error, or represents less than is used
 abbrev pub IsReason : List ℕ → ℕ → QuotaError → Type 0
 IsReason text used (Text error) = IsRefused current InBytes false text (size_fault error)
 IsReason text used Exceeded = (quota : ℕ) × IsAccepted current InBytes false text quota × (quota < used)

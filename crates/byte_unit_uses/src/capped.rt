@@ -1,4 +1,4 @@
-//! A limit with a maximum, and callers that match on an error which holds a size.
+//! Limits with a maximum, and matches on an error that holds a size.
 
 ghost use Rattle.std.specs.Prelude.{◌≡◌, ◌≤◌, ℕ, IfOk, IfErr, min, false};
 ghost use Rattle.byte_unit.specs.Accepted.{IsAccepted, IsRefused};
@@ -18,11 +18,23 @@ pub enum LimitError {
     Above(Byte),
 }
 
-/// Reads a limit, which is at most `max`.
+/// Parses a limit, which is at most `max`.
 ///
 /// # Errors
 ///
 /// Returns `Parse` if the string represents no size, and `Above` with `max` if the size is larger.
+///
+/// # Examples
+///
+/// ```rust
+/// use byte_unit::Byte;
+/// use byte_unit_uses::capped::{LimitError, read_limit};
+///
+/// let limit = read_limit("20 MB", Byte::GIGABYTE).ok();
+/// assert_eq!(rt; limit, Some(Byte::from_u64(20_000_000)));
+/// let error = read_limit("2 GB", Byte::GIGABYTE);
+/// assert!(rt; matches!(&error, Err(LimitError::Above(_))));
+/// ```
 pub fn read_limit(text: &str, max: Byte) -> Result<Byte, LimitError>
     ensures size { IfOk result (IsAccepted current InBytes false text.now) }
     ensures bound { IfOk result (λ limit. limit ≤ max) }
@@ -42,7 +54,7 @@ pub fn read_limit(text: &str, max: Byte) -> Result<Byte, LimitError>
 ///
 /// # Errors
 ///
-/// Returns the error of the reader if the string represents no size.
+/// Returns the parse error if the string represents no size.
 pub fn cap(read: Result<Byte, LimitError>) -> Result<Byte, ParseError>
     ensures { result ≡ capped_limit read }
 {
@@ -55,10 +67,10 @@ pub fn cap(read: Result<Byte, LimitError>) -> Result<Byte, ParseError>
     }
 }
 
-/// Returns the maximum that a limit is above, for a message. Returns `None` for a limit that was read, and if the
-/// string represents no size.
+/// Returns the maximum that a limit exceeds, for an error message. Returns `None` if the limit is at most the maximum,
+/// or the string represents no size.
 ///
-/// In a match on a reference, the pattern that `cap` avoids is checked as any other.
+/// In a match on a reference, the pattern that `cap` avoids is accepted.
 pub fn max_exceeded(read: &Result<Byte, LimitError>) -> Option<Byte>
     ensures { result ≡ exceeded_max read.now }
 {
@@ -68,11 +80,21 @@ pub fn max_exceeded(read: &Result<Byte, LimitError>) -> Option<Byte>
     }
 }
 
-/// Reads a limit, and returns `max` if the size is larger.
+/// Parses a limit, and returns `max` if the size is larger.
 ///
 /// # Errors
 ///
-/// Returns the error of the reader if the string represents no size.
+/// Returns the parse error if the string represents no size.
+///
+/// # Examples
+///
+/// ```rust
+/// use byte_unit::Byte;
+/// use byte_unit_uses::capped::limit_at_most;
+///
+/// assert_eq!(rt; limit_at_most("2 GB", Byte::GIGABYTE).ok(), Some(Byte::GIGABYTE));
+/// assert!(rt; limit_at_most("2 GX", Byte::GIGABYTE).is_err());
+/// ```
 pub fn limit_at_most(text: &str, max: Byte) -> Result<Byte, ParseError>
     ensures limit { IfOk result (λ limit.
         (size : ℕ) × IsAccepted current InBytes false text.now size × (limit ≡ min size max)) }

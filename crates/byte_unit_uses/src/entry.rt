@@ -1,4 +1,4 @@
-//! Entries of a report: a name that lies in the text that was read, and a size.
+//! Entries of a report: a name, borrowed from the input, and a size.
 
 ghost use Rattle.std.specs.Prelude.{◌≡◌, ◌++◌, ◌∷◌, [], ◌<◌, IfOk, SomeIff, OnOk, false};
 ghost use Rattle.byte_unit.specs.Accepted.{IsAccepted};
@@ -16,12 +16,12 @@ pub struct Entry<'a> {
     size: Byte,
 }
 
-/// The record of the fields. With a model of its own, an entry goes into an `Option` and a `Vec`; the borrow checker
-/// has no rule for passing on a visible reference beside a size.
+/// The view is the record of the fields. The model lets an entry be stored in an `Option` and a `Vec`: the borrow
+/// checker has no rule for moving a struct with a visible reference beside a size.
 impl<'a> Model for Entry<'a> {
-    ghost use Rattle.byte_unit_uses.specs.EntrySeen.{EntrySeen};
+    ghost use Rattle.byte_unit_uses.specs.EntryView.{EntryView};
 
-    ghost Value = { EntrySeen };
+    ghost Value = { EntryView };
 
     ghost view = { λ entry. record { name = entry.name; size = entry.size } };
 
@@ -29,7 +29,22 @@ impl<'a> Model for Entry<'a> {
 }
 
 impl<'a> Entry<'a> {
-    /// The entry of this name with the size that the text states.
+    /// Creates an entry from a name and a string that represents its size.
+    ///
+    /// # Errors
+    ///
+    /// Returns the parse error if the string represents no size.
+    ///
+    /// # Examples
+    ///
+    /// ```rust
+    /// use byte_unit::Byte;
+    /// use byte_unit_uses::entry::Entry;
+    ///
+    /// let entry = Entry::read("cache", "1 KB")?;
+    /// assert_eq!(rt; entry.size(), Byte::KILOBYTE);
+    /// assert!(rt; Entry::read("cache", "1 byte").is_err());
+    /// ```
     pub fn read(name: &'a str, text: &str) -> Result<Entry<'a>, ParseError>
         ensures name { IfOk result (λ entry. entry.name.now ≡ name.now) }
         ensures size { IfOk result (λ entry. IsAccepted current InBytes false text.now entry.size) }
@@ -38,14 +53,14 @@ impl<'a> Entry<'a> {
         Ok(Entry { name, size })
     }
 
-    /// The name.
+    /// Returns the name.
     pub fn name(&self) -> &'a str
         ensures { result.now ≡ self.now.name.now }
     {
         self.name
     }
 
-    /// The size.
+    /// Returns the size.
     pub fn size(&self) -> Byte
         ensures { result ≡ self.now.size }
     {
@@ -53,8 +68,8 @@ impl<'a> Entry<'a> {
     }
 }
 
-/// The entry, where its size is below the limit. None where it is not.
-pub fn below<'a>(candidate: Entry<'a>, limit: Byte) -> Option<Entry<'a>>
+/// Returns the entry if its size is below the limit, and otherwise `None`.
+pub fn filter_below<'a>(candidate: Entry<'a>, limit: Byte) -> Option<Entry<'a>>
     ensures { SomeIff result (candidate.entry.size < limit) candidate.entry }
 {
     if candidate.size() < limit {
@@ -64,7 +79,11 @@ pub fn below<'a>(candidate: Entry<'a>, limit: Byte) -> Option<Entry<'a>>
     }
 }
 
-/// Adds the entry to a report. `AllocError` where memory for it was refused.
+/// Appends an entry to a report.
+///
+/// # Errors
+///
+/// Returns `AllocError` if allocation fails.
 pub fn add<'a>(report: &mut Vec<Entry<'a>>, entry: Entry<'a>) -> Result<(), AllocError>
     ensures { OnOk result (report.new.items ≡ report.old.items ++ entry.entry ∷ []) }
 {

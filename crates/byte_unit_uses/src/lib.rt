@@ -1,12 +1,11 @@
-//! How a program uses the sizes of `byte_unit`: limits from texts, quotas, settings from JSON, entries with a name, and
-//! messages. Each function is proved, so each way in which it hands on an answer of a reader is one that the toolchain
-//! takes.
+//! Typical uses of `byte_unit`, proved: limits from strings, quotas, settings from JSON, entries of a report, and error
+//! messages. Each function propagates a parse error in a way that the toolchain supports and the prover accepts.
 #![tactic(auto)]
 
+pub mod adjusted;
 pub mod capped;
 pub mod entry;
 pub mod limit;
 pub mod message;
 pub mod quota;
 pub mod settings;
-pub mod shown;

@@ -1,4 +1,4 @@
-//! Limits that a user writes as texts.
+//! Limits and rates from strings.
 
 ghost use Rattle.std.specs.Prelude.{◌≡◌, ℕ, ◌⊎◌, IfSome, false, true};
 ghost use Rattle.std.specs.Result.{result_unwrap_or};
@@ -9,7 +9,21 @@ ghost use Rattle.byte_unit.specs.declared.Kind.TheVariants.{Byte as InBytes, Bit
 
 use byte_unit::{Bit, Byte, ParseError};
 
-/// The limit that the text states. The reader's error goes on by `?`, and its contract with it.
+/// Parses a limit. The parse error is propagated by `?`, and its contract with it.
+///
+/// # Errors
+///
+/// Returns the parse error if the string represents no size.
+///
+/// # Examples
+///
+/// ```rust
+/// use byte_unit::Byte;
+/// use byte_unit_uses::limit::limit;
+///
+/// assert_eq!(rt; limit("1.5 KiB")?, Byte::from_u64(1536));
+/// assert!(rt; limit("1 byte").is_err());
+/// ```
 pub fn limit(text: &str) -> Result<Byte, ParseError>
     ensures { IsSizeReading InBytes false text.now result }
 {
@@ -17,7 +31,21 @@ pub fn limit(text: &str) -> Result<Byte, ParseError>
     Ok(limit)
 }
 
-/// The rate that the text states, in bits a second.
+/// Parses a rate in bits per second.
+///
+/// # Errors
+///
+/// Returns the parse error if the string represents no size.
+///
+/// # Examples
+///
+/// ```rust
+/// use byte_unit::Bit;
+/// use byte_unit_uses::limit::rate;
+///
+/// assert_eq!(rt; rate("1 Mb")?, Bit::MEGABIT);
+/// assert!(rt; rate("-1 Mb").is_err());
+/// ```
 pub fn rate(text: &str) -> Result<Bit, ParseError>
     ensures { IsSizeReading InBits false text.now result }
 {
@@ -25,25 +53,45 @@ pub fn rate(text: &str) -> Result<Bit, ParseError>
     Ok(rate)
 }
 
-/// The limit that the text states, in any case of its letters. None for every other text.
-pub fn limit_if_stated(text: &str) -> Option<Byte>
-    ensures stated { IfSome result (IsAccepted current InBytes true text.now) }
-    ensures taken { (limit : ℕ) → IsAccepted current InBytes true text.now limit → result ≡ Some limit }
+/// Parses a limit, ignoring case. Returns `None` if the string represents no size.
+///
+/// # Examples
+///
+/// ```rust
+/// use byte_unit::Byte;
+/// use byte_unit_uses::limit::limit_ok;
+///
+/// assert_eq!(rt; limit_ok("1 mb"), Some(Byte::MEGABYTE));
+/// assert_eq!(rt; limit_ok("1 mx"), None);
+/// ```
+pub fn limit_ok(text: &str) -> Option<Byte>
+    ensures sound { IfSome result (IsAccepted current InBytes true text.now) }
+    ensures complete { (limit : ℕ) → IsAccepted current InBytes true text.now limit → result ≡ Some limit }
 {
     Byte::parse_str(text, true).ok()
 }
 
-/// The limit that the text states, or the default for every other text.
+/// Parses a limit, and returns the default if the string represents no size.
+///
+/// # Examples
+///
+/// ```rust
+/// use byte_unit::Byte;
+/// use byte_unit_uses::limit::limit_or;
+///
+/// assert_eq!(rt; limit_or("1 MB", Byte::KILOBYTE), Byte::MEGABYTE);
+/// assert_eq!(rt; limit_or("much", Byte::KILOBYTE), Byte::KILOBYTE);
+/// ```
 pub fn limit_or(text: &str, default: Byte) -> Byte
-    ensures stated { (limit : ℕ) → IsAccepted current InBytes false text.now limit → result ≡ limit }
-    ensures default { IsAccepted current InBytes false text.now result ⊎ (result ≡ default) }
+    ensures complete { (limit : ℕ) → IsAccepted current InBytes false text.now limit → result ≡ limit }
+    ensures sound { IsAccepted current InBytes false text.now result ⊎ (result ≡ default) }
 {
     text.parse().unwrap_or(default)
 }
 
-/// What was read, or the default where the text was refused. The answer of a reader is a parameter as any other.
-pub fn read_or(answer: Result<Byte, ParseError>, default: Byte) -> Byte
-    ensures { result ≡ result_unwrap_or answer default }
+/// Returns the parsed limit, or the default if parsing failed. A parse result can be passed as a parameter.
+pub fn unwrap_limit_or(parsed: Result<Byte, ParseError>, default: Byte) -> Byte
+    ensures { result ≡ result_unwrap_or parsed default }
 {
-    answer.unwrap_or(default)
+    parsed.unwrap_or(default)
 }

@@ -1,4 +1,4 @@
-//! A program that only prints its errors.
+//! Error messages with context, for a program that only prints its errors.
 
 ghost use Rattle.std.specs.Prelude.{◌≡◌, ℕ, IfOk, IsOk, false};
 ghost use Rattle.byte_unit.specs.Edition.{current};
@@ -8,10 +8,24 @@ ghost use Rattle.byte_unit.specs.declared.Kind.TheVariants.{Byte as InBytes};
 use anyhow::{Context, Result};
 use byte_unit::Byte;
 
-/// The limit of an argument. An error says what was read, and keeps the reader's as its cause.
-pub fn limit_of_argument(argument: &str) -> Result<Byte>
-    ensures stated { IfOk result (IsAccepted current InBytes false argument.now) }
-    ensures taken { (limit : ℕ) → IsAccepted current InBytes false argument.now limit → IsOk result }
+/// Parses a limit from a command line argument.
+///
+/// # Errors
+///
+/// Returns an error that names the argument, with the parse error as its cause, if the argument represents no size.
+///
+/// # Examples
+///
+/// ```rust
+/// use byte_unit::Byte;
+/// use byte_unit_uses::message::parse_argument;
+///
+/// assert_eq!(rt; parse_argument("1 GB")?, Byte::GIGABYTE);
+/// assert!(rt; parse_argument("1 QB").is_err());
+/// ```
+pub fn parse_argument(argument: &str) -> Result<Byte>
+    ensures sound { IfOk result (IsAccepted current InBytes false argument.now) }
+    ensures complete { (limit : ℕ) → IsAccepted current InBytes false argument.now limit → IsOk result }
 {
     let limit = argument
         .parse::<Byte>()

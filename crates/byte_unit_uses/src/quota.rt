@@ -1,4 +1,4 @@
-//! A quota, and what is left of it.
+//! Quotas from strings, and what remains of them.
 
 ghost use Rattle.std.specs.Prelude.{◌+◌, ◌/◌, ◌<◌, ℕ, IfOk, IfErr, SomeIff, false};
 ghost use Rattle.byte_unit.specs.Edition.{current};
@@ -10,12 +10,12 @@ use byte_unit::{Byte, ParseError};
 use std::error::Error;
 use std::fmt;
 
-/// Why nothing is left of a quota.
+/// The error returned when a quota is invalid or exceeded.
 #[derive(Debug, Drop)]
 pub enum QuotaError {
-    /// The text states no size.
+    /// The string represents no size.
     Text(ParseError),
-    /// More is used than the text states.
+    /// More is used than the quota.
     Exceeded,
 }
 
@@ -30,19 +30,34 @@ impl fmt::Display for QuotaError {
 
 impl Error for QuotaError {}
 
-/// What `?` makes of a reader's error. A contract names it, so `from_gives` says it.
+/// Converts a parse error, for `?`. The contracts name the result, so `from_gives` defines it.
 impl From<ParseError> for QuotaError {
     ghost use Rattle.std.specs.Prelude.{◌≡◌};
     ghost use Rattle.byte_unit_uses.specs.declared.quota.QuotaError.TheVariants.{Text};
 
-    ghost from_gives = { λ error refusal. refusal ≡ Text error };
+    ghost from_gives = { λ error converted. converted ≡ Text error };
 
     fn from(error: ParseError) -> QuotaError {
         QuotaError::Text(error)
     }
 }
 
-/// What is left of the quota that the text states.
+/// Parses a quota, and returns what remains of it.
+///
+/// # Errors
+///
+/// Returns `Text` if the string represents no size, and `Exceeded` if more is used than the quota.
+///
+/// # Examples
+///
+/// ```rust
+/// use byte_unit::Byte;
+/// use byte_unit_uses::quota::{QuotaError, left};
+///
+/// assert_eq!(rt; left("1 MB", Byte::from_u64(1000))?, Byte::from_u64(999_000));
+/// let error = left("1 MB", Byte::GIGABYTE);
+/// assert!(rt; matches!(&error, Err(QuotaError::Exceeded)));
+/// ```
 pub fn left(text: &str, used: Byte) -> Result<Byte, QuotaError>
     ensures left { IfOk result (λ left. IsAccepted current InBytes false text.now (used + left)) }
     ensures reason { IfErr result (IsReason text.now used) }
@@ -51,7 +66,22 @@ pub fn left(text: &str, used: Byte) -> Result<Byte, QuotaError>
     quota.subtract(used).ok_or(QuotaError::Exceeded)
 }
 
-/// What each of so many users has of the quota that the text states; none of no users. Here `map_err` names the error.
+/// Parses a quota, and returns the share of each of `users` users, rounded down. Returns `None` for no users. Converts
+/// the parse error by `map_err`.
+///
+/// # Errors
+///
+/// Returns `Text` if the string represents no size.
+///
+/// # Examples
+///
+/// ```rust
+/// use byte_unit::Byte;
+/// use byte_unit_uses::quota::share;
+///
+/// assert_eq!(rt; share("1 MB", 8)?, Some(Byte::from_u64(125_000)));
+/// assert_eq!(rt; share("1 MB", 0)?, None);
+/// ```
 pub fn share(text: &str, users: usize) -> Result<Option<Byte>, QuotaError>
     ensures share { IfOk result (λ share. (quota : ℕ) × IsAccepted current InBytes false text.now quota
         × SomeIff share (0 < users) (quota / users)) }

@@ -1,4 +1,4 @@
-//! Settings that are kept as JSON strings.
+//! Settings from JSON strings.
 
 ghost use Rattle.std.specs.Prelude.{IfOk, true, false};
 ghost use Rattle.serde_json.specs.Find.{as_str};
@@ -14,25 +14,45 @@ use byte_unit::{Byte, JsonSizeError, JsonUnitError, Unit, unit_from_json};
 use serde_json::Value;
 use thiserror::Error;
 
-/// Why settings are refused. `thiserror` writes what `?` makes of the library's errors.
+/// The error returned when settings are rejected. `thiserror` derives the conversions for `?`.
 #[derive(Debug, Drop, Error)]
 pub enum SettingsError {
-    /// The cache is no size.
+    /// The cache limit is not a size.
     #[error("cache: {0}")]
     Cache(#[from] JsonSizeError),
-    /// The unit of the report is none.
+    /// The unit of the report is not a unit.
     #[error("unit: {0}")]
     Unit(#[from] JsonUnitError),
 }
 
-/// How much is cached, and in which unit a report shows it.
+/// A cache limit, and the unit in which a report shows it.
 #[derive(Debug, Clone, Copy)]
 pub struct Settings {
     pub cache: Byte,
     pub unit: Unit,
 }
 
-/// The settings that two JSON values state.
+/// Reads settings from two JSON values.
+///
+/// # Errors
+///
+/// Returns `Cache` if the first value is not a string that represents a size, and `Unit` if the second is not a string
+/// that spells a unit.
+///
+/// # Examples
+///
+/// ```rust
+/// use byte_unit::{Byte, Unit};
+/// use byte_unit_uses::settings::read_settings;
+/// use serde_json::Value;
+///
+/// let cache = Value::from_str(alloc, "\"20 MB\"")?;
+/// let unit = Value::from_str(alloc, "\"KiB\"")?;
+/// let settings = read_settings(&cache, &unit)?;
+/// assert_eq!(rt; settings.cache, Byte::from_u64(20_000_000));
+/// assert_eq!(rt; settings.unit, Unit::KiB);
+/// assert!(rt; read_settings(&unit, &cache).is_err());
+/// ```
 pub fn read_settings(cache: &Value, unit: &Value) -> Result<Settings, SettingsError>
     ensures cache { IfOk result (λ settings.
         ReadsString size_errors (IsSizeReading InBytes false) (as_str (view cache.now)) (Ok settings.cache)) }

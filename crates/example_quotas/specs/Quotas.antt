@@ -1,9 +1,9 @@
--- How use stands to a quota.
+-- The balance of a quota.
 use Rattle.std.specs.Prelude.{◌≡◌, ◌+◌, ◌<◌, ℕ}
-use Rattle.example_quotas.specs.declared.Standing.{Standing}
-use Rattle.example_quotas.specs.declared.Standing.TheVariants.{Left, Over}
+use Rattle.example_quotas.specs.declared.Balance.{Balance}
+use Rattle.example_quotas.specs.declared.Balance.TheVariants.{Left, Over}
 
--- what is left makes the use up to the quota, and what is over makes the quota up to the use
-abbrev pub IsStanding : ℕ → ℕ → Standing → Type 0
-IsStanding used quota (Left left) = used + left ≡ quota
-IsStanding used quota (Over over) = (quota + over ≡ used) × (0 < over)
+-- what remains is the difference of quota and use, and what is over, which is not 0, that of use and quota
+abbrev pub IsBalance : ℕ → ℕ → Balance → Type 0
+IsBalance used quota (Left left) = used + left ≡ quota
+IsBalance used quota (Over over) = (quota + over ≡ used) × (0 < over)

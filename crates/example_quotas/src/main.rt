@@ -1,15 +1,15 @@
-//! Prints a table of quotas: what each user has used, and what is left or too much.
+//! Prints a table of quotas: what each user has used, and what remains or is over the quota.
 #![tactic(auto)]
 
 ghost use Rattle.std.specs.Prelude.{◌+◌, ◌<◌, SomeIff, sum_by};
 ghost use Rattle.byte_unit.specs.Edition.{current};
-ghost use Rattle.example_quotas.specs.Quotas.{IsStanding};
+ghost use Rattle.example_quotas.specs.Quotas.{IsBalance};
 
 use anyhow::{Context, Result, anyhow};
 use byte_unit::{Align, Byte, FormatSpec, ParseError, UnitType};
 use std::alloc::{AllocError, Global};
 
-/// What a user has used of a quota.
+/// A user, the size used and the quota.
 #[derive(Drop)]
 struct User {
     name: String,
@@ -17,27 +17,27 @@ struct User {
     quota: Byte,
 }
 
-/// How use stands to a quota.
+/// The balance of a quota.
 #[derive(Clone, Copy)]
-enum Standing {
-    /// So much may still be used.
+enum Balance {
+    /// The size that remains.
     Left(Byte),
-    /// So much too much is used.
+    /// The size by which the quota is exceeded.
     Over(Byte),
 }
 
-/// How the use stands to the quota.
-fn compare(used: Byte, quota: Byte) -> Standing
-    ensures { IsStanding used quota result }
+/// Returns the balance of a quota.
+fn balance_of(used: Byte, quota: Byte) -> Balance
+    ensures { IsBalance used quota result }
 {
     match quota.subtract(used) {
-        Some(left) => Standing::Left(left),
-        None => Standing::Over(used.subtract(quota).unwrap()),
+        Some(left) => Balance::Left(left),
+        None => Balance::Over(used.subtract(quota).unwrap()),
     }
 }
 
-/// What all users have used. `None` from 10^30 bytes on.
-fn used_by_all(users: &[User]) -> Option<Byte>
+/// Returns the total size used by all users. Returns `None` if it is 10^30 bytes or more.
+fn total_used(users: &[User]) -> Option<Byte>
     ensures { let used = sum_by (λ user. user.used) users.now in SomeIff result (used < current.size_limit) used }
 {
     let mut sum = Byte::default();
@@ -47,30 +47,38 @@ fn used_by_all(users: &[User]) -> Option<Byte>
     Some(sum)
 }
 
-/// The size that a text states, or an error that names the text.
-fn size(text: &str) -> Result<Byte> {
+/// Parses a size.
+///
+/// # Errors
+///
+/// Returns an error that names the string if it represents no size.
+fn parse_size(text: &str) -> Result<Byte> {
     text.parse()
         .map_err(|error: ParseError| anyhow!("{text:?}: {error}"))
 }
 
-/// What stands before and behind the first comma.
-fn cut(text: &str) -> Result<(&str, &str)> {
+/// Splits a string at the first comma.
+///
+/// # Errors
+///
+/// Returns an error that names the string if it has no comma.
+fn split(text: &str) -> Result<(&str, &str)> {
     text.split_once(',')
         .ok_or_else(|| anyhow!("{text:?}: a comma is missing"))
 }
 
-/// The user of a line: a name, what is used and the quota, by commas.
-fn read_user(alloc: Global, line: &str) -> Result<User> {
-    let (name, sizes) = cut(line)?;
-    let (used, quota) = cut(sizes)?;
+/// Parses a line: a name, the size used and the quota, separated by commas.
+fn parse_user(alloc: Global, line: &str) -> Result<User> {
+    let (name, sizes) = split(line)?;
+    let (used, quota) = split(sizes)?;
     Ok(User {
         name: String::from_str(alloc, name)?,
-        used: size(used)?,
-        quota: size(quota)?,
+        used: parse_size(used)?,
+        quota: parse_size(quota)?,
     })
 }
 
-/// Two places, on the right of a column of twelve.
+/// Two digits after the decimal point, aligned right in a column of width 12.
 const CELL: FormatSpec = FormatSpec {
     precision: Some(2),
     width: Some(12),
@@ -78,23 +86,23 @@ const CELL: FormatSpec = FormatSpec {
     ..FormatSpec::PLAIN
 };
 
-/// A size as a cell of the table, in its largest decimal unit.
+/// Formats a size as a cell of the table, in the largest decimal unit not above it.
 fn cell(alloc: Global, size: Byte) -> Result<String, AllocError> {
     size.get_appropriate_unit(UnitType::Decimal)
         .to_text(alloc, CELL)
 }
 
-/// A row of the table.
+/// Formats a row of the table.
 fn row(alloc: Global, user: &User) -> Result<String, AllocError> {
     let used = cell(alloc, user.used)?;
     let quota = cell(alloc, user.quota)?;
     let name = user.name.as_str();
-    match compare(user.used, user.quota) {
-        Standing::Left(left) => {
+    match balance_of(user.used, user.quota) {
+        Balance::Left(left) => {
             let left = cell(alloc, left)?;
             format!(in alloc; "{name:<8}{used}{quota}{left} left")
         }
-        Standing::Over(over) => {
+        Balance::Over(over) => {
             let over = cell(alloc, over)?;
             format!(in alloc; "{name:<8}{used}{quota}{over} over")
         }
@@ -104,13 +112,13 @@ fn row(alloc: Global, user: &User) -> Result<String, AllocError> {
 fn main(rt: HostRuntime) -> Result<()> {
     let mut users = Vec::new(rt.alloc());
     for line in rt.lines(rt.alloc()) {
-        users.push(read_user(rt.alloc(), line?.as_str())?)?;
+        users.push(parse_user(rt.alloc(), line?.as_str())?)?;
     }
     println!(rt; "{:<8}{:>12}{:>12}", "user", "used", "quota")?;
     for user in &users {
         println!(rt; "{}", row(rt.alloc(), user)?)?;
     }
-    let all = used_by_all(&users).context("the sum is 10^30 bytes or more")?;
+    let all = total_used(&users).context("the sum is 10^30 bytes or more")?;
     println!(rt; "{:<8}{}", "all", cell(rt.alloc(), all)?)?;
     Ok(())
 }

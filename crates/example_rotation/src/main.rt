@@ -1,4 +1,4 @@
-//! Turns a log over before an entry would take it past the limit, and says what came of each entry.
+//! Rotates a log by size: before an entry would exceed the limit. Prints the outcome for each entry.
 #![tactic(auto)]
 
 ghost use Rattle.std.specs.Prelude.{◌≡◌, ◌+◌, ◌-◌, ◌<◌, ◌≤◌};
@@ -8,7 +8,7 @@ use byte_unit::{Byte, FormatSpec, ParseError};
 use std::alloc::{AllocError, Global};
 use std::env;
 
-/// A log that never passes its limit: what it has and what it has room for make up the limit.
+/// A log that never exceeds its limit. Its size is the limit less the room that remains.
 #[derive(Drop)]
 struct Log {
     limit: Byte,
@@ -16,19 +16,19 @@ struct Log {
     ghost within: { room ≤ limit },
 }
 
-/// What came of an entry.
+/// The outcome of writing an entry.
 #[derive(Clone, Copy)]
 enum Written {
-    /// It stands behind the entries before it.
+    /// The entry was appended.
     Added,
-    /// The log was turned over at this size, and the entry is the first of the next.
-    TurnedOver(Byte),
-    /// It is larger than the limit, and was left out.
+    /// The log was rotated at this size, and the entry is the first of the next log.
+    Rotated(Byte),
+    /// The entry is larger than the limit, and was dropped.
     TooLarge,
 }
 
 impl Log {
-    /// An empty log.
+    /// Creates an empty log with a limit.
     fn new(limit: Byte) -> Log
         ensures limit { result.limit ≡ limit }
         ensures empty { result.room ≡ limit }
@@ -36,20 +36,20 @@ impl Log {
         Log { limit, room: limit }
     }
 
-    /// What the log has.
+    /// Returns the size of the log.
     fn size(&self) -> Byte
         ensures { result + self.now.room ≡ self.now.limit }
     {
         self.limit.subtract(self.room).unwrap()
     }
 
-    /// Writes an entry, into the next log where this one has no room for it.
+    /// Writes an entry of this size, and rotates the log first if the entry does not fit.
     fn write(&mut self, entry: Byte) -> Written
         ensures limit { self.new.limit ≡ self.old.limit }
         ensures added { entry ≤ self.old.room
             → (result ≡ Written.Added) × (self.new.room + entry ≡ self.old.room) }
-        ensures turned_over { self.old.room < entry → entry ≤ self.old.limit
-            → (result ≡ Written.TurnedOver (self.old.limit - self.old.room))
+        ensures rotated { self.old.room < entry → entry ≤ self.old.limit
+            → (result ≡ Written.Rotated (self.old.limit - self.old.room))
             × (self.new.room + entry ≡ self.old.limit) }
         ensures too_large { self.old.limit < entry
             → (result ≡ Written.TooLarge) × (self.new.room ≡ self.old.room) }
@@ -62,36 +62,40 @@ impl Log {
         match self.limit.subtract(entry) {
             Some(room) => {
                 self.room = room;
-                Written::TurnedOver(full)
+                Written::Rotated(full)
             }
             None => Written::TooLarge,
         }
     }
 }
 
-/// The size that a text states, or an error that names the text.
-fn size(text: &str) -> Result<Byte> {
+/// Parses a size.
+///
+/// # Errors
+///
+/// Returns an error that names the string if it represents no size.
+fn parse_size(text: &str) -> Result<Byte> {
     text.parse()
         .map_err(|error: ParseError| anyhow!("{text:?}: {error}"))
 }
 
-/// The limit that the first argument states.
+/// Parses the limit from the first argument.
 fn limit(rt: &HostRuntime) -> Result<Byte> {
     let argument = env::args(rt)?
         .nth(1)
         .context("usage: example_rotation LIMIT")?;
-    size(argument.as_str())
+    parse_size(argument.as_str())
 }
 
-/// A line about an entry.
+/// Formats the line for an entry.
 fn line(alloc: Global, entry: Byte, written: Written, log: &Log) -> Result<String, AllocError> {
     let entry = entry.to_text(alloc, FormatSpec::ALTERNATE)?;
     let now = log.size().to_text(alloc, FormatSpec::ALTERNATE)?;
     match written {
         Written::Added => format!(in alloc; "{entry}: the log has {now}"),
-        Written::TurnedOver(full) => {
+        Written::Rotated(full) => {
             let full = full.to_text(alloc, FormatSpec::ALTERNATE)?;
-            format!(in alloc; "{entry}: turned over at {full}, the next log has {now}")
+            format!(in alloc; "{entry}: rotated at {full}, the next log has {now}")
         }
         Written::TooLarge => format!(in alloc; "{entry}: left out, more than the limit"),
     }
@@ -100,7 +104,7 @@ fn line(alloc: Global, entry: Byte, written: Written, log: &Log) -> Result<Strin
 fn main(rt: HostRuntime) -> Result<()> {
     let mut log = Log::new(limit(&rt)?);
     for text in rt.lines(rt.alloc()) {
-        let entry = size(text?.as_str())?;
+        let entry = parse_size(text?.as_str())?;
         let written = log.write(entry);
         println!(rt; "{}", line(rt.alloc(), entry, written, &log)?)?;
     }

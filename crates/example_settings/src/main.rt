@@ -1,4 +1,4 @@
-//! Reads the limits of a service from JSON, and says which limits hold and which settings are refused.
+//! Reads the limits of a service from JSON, and prints each limit and which settings are rejected.
 #![tactic(auto)]
 
 ghost use Rattle.std.specs.Prelude.{◌≡◌, ◌⊎◌, ℕ, IfOk};
@@ -11,7 +11,7 @@ use byte_unit::{Byte, FormatSpec, JsonSizeError};
 use serde_json::Value;
 use std::io;
 
-/// A setting of the service. Each is a limit.
+/// A setting of the service, which is a limit.
 #[derive(Clone, Copy)]
 enum Setting {
     Upload,
@@ -23,7 +23,7 @@ enum Setting {
 impl Setting {
     const ALL: [Setting; 4] = [Setting::Upload, Setting::Cache, Setting::Log, Setting::Line];
 
-    /// Its name in the settings.
+    /// Returns the name of the setting.
     fn name(self) -> &'static str {
         match self {
             Setting::Upload => "upload",
@@ -33,7 +33,7 @@ impl Setting {
         }
     }
 
-    /// The limit where the settings state none.
+    /// Returns the limit that applies if the setting is absent or rejected.
     fn default_limit(self) -> Byte {
         match self {
             Setting::Upload => Byte::MEGABYTE,
@@ -44,12 +44,15 @@ impl Setting {
     }
 }
 
-/// The limit that the settings state by this name, and the default where they have no such name. Anything else by this
-/// name is refused.
+/// Reads a limit by its name. Returns the default if the settings have no such name.
+///
+/// # Errors
+///
+/// Returns the parse error if the value is not a string that represents a size.
 fn limit(settings: &Value, name: &str, default: Byte) -> Result<Byte, JsonSizeError>
-    ensures stated { (size : ℕ) → States (view settings.now) name.now size → result ≡ Ok size }
-    ensures default { get name.now (view settings.now) ≡ None → result ≡ Ok default }
-    ensures nothing_else { IfOk result (λ size. States (view settings.now) name.now size
+    ensures present { (size : ℕ) → States (view settings.now) name.now size → result ≡ Ok size }
+    ensures absent { get name.now (view settings.now) ≡ None → result ≡ Ok default }
+    ensures sound { IfOk result (λ size. States (view settings.now) name.now size
         ⊎ ((get name.now (view settings.now) ≡ None) × (size ≡ default))) }
 {
     match settings.get(name) {
@@ -61,14 +64,14 @@ fn limit(settings: &Value, name: &str, default: Byte) -> Result<Byte, JsonSizeEr
 fn main(rt: HostRuntime) -> Result<()> {
     let text = io::read_to_string(rt.alloc(), rt.reader())?;
     let settings = Value::from_str(rt.alloc(), text.as_str()).map_err(|error| anyhow!(
-        "the settings are no JSON: {error}"
+        "the settings are not JSON: {error}"
     ))?;
     for setting in Setting::ALL {
         let name = setting.name();
         let limit = match limit(&settings, name, setting.default_limit()) {
             Ok(limit) => limit,
             Err(error) => {
-                println!(rt; "{name} is refused: {error}")?;
+                println!(rt; "{name} is rejected: {error}")?;
                 setting.default_limit()
             }
         };

@@ -1,4 +1,4 @@
-//! Reports transfers: how much was sent, in how long, and how fast; and all of them as one.
+//! Prints a report on transfers: the size, duration and rate of each, and of all together.
 #![tactic(auto)]
 
 ghost use Rattle.std.specs.Prelude.{◌≡◌, ◌+◌, ◌*◌, ◌/◌, ◌^◌, ◌<◌, SomeIff};
@@ -9,15 +9,15 @@ use byte_unit::{Align, Bit, Byte, FormatSpec, ParseError, UnitType};
 use std::alloc::{AllocError, Global};
 use std::num::ParseIntError;
 
-/// Two places, on the right of a column of twelve.
-const TWO_PLACES: FormatSpec = FormatSpec {
+/// Two digits after the decimal point, aligned right in a column of width 12.
+const CELL: FormatSpec = FormatSpec {
     precision: Some(2),
     width: Some(12),
     align: Some(Align::Right),
     ..FormatSpec::PLAIN
 };
 
-/// So much was sent in so many seconds.
+/// A transfer: its size and its duration in seconds.
 #[derive(Clone, Copy)]
 struct Transfer {
     size: Byte,
@@ -25,8 +25,8 @@ struct Transfer {
 }
 
 impl Transfer {
-    /// Both transfers as one. `None` where that is 10^30 bytes or more, or 2^64 seconds or more.
-    fn and(self, other: Transfer) -> Option<Transfer>
+    /// Returns the sum of two transfers. Returns `None` if it is 10^30 bytes or more, or 2^64 seconds or more.
+    fn add(self, other: Transfer) -> Option<Transfer>
         ensures { SomeIff result
             ((self.size + other.size < current.size_limit) × (self.seconds + other.seconds < 2 ^ 64))
             (record { size = self.size + other.size; seconds = self.seconds + other.seconds }) }
@@ -37,7 +37,8 @@ impl Transfer {
         })
     }
 
-    /// How many bits a second that is, rounded down. `None` in no time, and from 10^30 bits on.
+    /// Returns the rate in bits per second, rounded down. Returns `None` if the duration is 0, or the size is 10^30
+    /// bits or more.
     fn rate(self) -> Option<Bit>
         ensures { SomeIff result
             ((8 * self.size < current.size_limit) × (0 < self.seconds))
@@ -47,15 +48,19 @@ impl Transfer {
     }
 }
 
-/// What stands before and behind the first comma.
-fn cut(text: &str) -> Result<(&str, &str)> {
+/// Splits a string at the first comma.
+///
+/// # Errors
+///
+/// Returns an error that names the string if it has no comma.
+fn split(text: &str) -> Result<(&str, &str)> {
     text.split_once(',')
         .ok_or_else(|| anyhow!("{text:?}: a comma is missing"))
 }
 
-/// The transfer of a size and a number of seconds, by a comma.
-fn read_transfer(text: &str) -> Result<Transfer> {
-    let (size, seconds) = cut(text)?;
+/// Parses a size and a number of seconds, separated by a comma.
+fn parse_transfer(text: &str) -> Result<Transfer> {
+    let (size, seconds) = split(text)?;
     let size = size
         .parse()
         .map_err(|error: ParseError| anyhow!("{size:?}: {error}"))?;
@@ -65,16 +70,16 @@ fn read_transfer(text: &str) -> Result<Transfer> {
     Ok(Transfer { size, seconds })
 }
 
-/// A row of the report.
+/// Formats a row of the report.
 fn row(alloc: Global, name: &str, transfer: Transfer) -> Result<String, AllocError> {
     let size = transfer
         .size
         .get_appropriate_unit(UnitType::Binary)
-        .to_text(alloc, TWO_PLACES)?;
+        .to_text(alloc, CELL)?;
     let rate = match transfer.rate() {
         Some(rate) => rate
             .get_appropriate_unit(UnitType::Decimal)
-            .to_text(alloc, TWO_PLACES)?,
+            .to_text(alloc, CELL)?,
         None => format!(in alloc; "{:>12}", "-")?,
     };
     let seconds = transfer.seconds;
@@ -88,9 +93,9 @@ fn main(rt: HostRuntime) -> Result<()> {
     };
     for line in rt.lines(rt.alloc()) {
         let line = line?;
-        let (name, rest) = cut(line.as_str())?;
-        let transfer = read_transfer(rest)?;
-        all = all.and(transfer).context("all together is too much")?;
+        let (name, rest) = split(line.as_str())?;
+        let transfer = parse_transfer(rest)?;
+        all = all.add(transfer).context("all together is too much")?;
         println!(rt; "{}", row(rt.alloc(), name, transfer)?)?;
     }
     println!(rt; "{}", row(rt.alloc(), "all", all)?)?;

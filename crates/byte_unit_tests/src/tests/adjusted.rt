@@ -1,4 +1,4 @@
-//! Sizes in a unit: their texts by their specs, and what they are made of.
+//! Tests of adjusted sizes: formatting by each spec, and their accessors.
 use super::shown::{
     Shown, assert_bits_in, assert_bytes_in, assert_displays, assert_row, bits_in, bytes_in,
 };
@@ -109,7 +109,7 @@ const ONE_BYTE_IN_YIB: &str =
 const ONE_BIT_IN_YIB: &str =
     "0.00000000000000000000000010339757656912845935892608650874535669572651386260986328125 YiB";
 
-/// The same, and a zero.
+/// The same digits, and a zero.
 const ONE_BIT_IN_84_PLACES: &str =
     "0.000000000000000000000000103397576569128459358926086508745356695726513862609863281250 YiB";
 
@@ -206,7 +206,7 @@ fn layouts(rt: HostRuntime) -> Result<(), AllocError> {
     assert_bytes_in(&rt, rt.alloc(), LAYOUTS)
 }
 
-/// The size in the unit that is appropriate for it.
+/// Returns a size in bytes in its appropriate unit.
 fn bytes_by(size: u64, unit_type: UnitType) -> Shown {
     Shown::AdjustedByte(Byte::from_u64(size).get_appropriate_unit(unit_type))
 }
@@ -215,7 +215,7 @@ fn bits_by(size: u64, unit_type: UnitType) -> Shown {
     Shown::AdjustedBit(Bit::from_u64(size).get_appropriate_unit(unit_type))
 }
 
-/// Each text of so many bytes in their appropriate unit, by its spec, is the one in its row.
+/// Asserts the text of each size in bytes in its appropriate unit.
 fn assert_bytes_by(
     rt: &impl Abort,
     alloc: Global,
@@ -228,7 +228,7 @@ fn assert_bytes_by(
     Ok(())
 }
 
-/// Each text of so many bits in their appropriate unit, by its spec, is the one in its row.
+/// Asserts the text of each size in bits in its appropriate unit.
 fn assert_bits_by(
     rt: &impl Abort,
     alloc: Global,
@@ -280,7 +280,7 @@ fn layouts_in_appropriate_units(rt: HostRuntime) -> Result<(), AllocError> {
     assert_bytes_by(&rt, rt.alloc(), LAYOUTS_IN_APPROPRIATE_UNITS)
 }
 
-/// The unit of an adjusted size.
+/// Returns the unit of an adjusted size.
 fn unit_of(shown: Shown) -> Option<Unit> {
     match shown {
         Shown::AdjustedByte(size) => Some(size.get_unit()),
@@ -289,14 +289,14 @@ fn unit_of(shown: Shown) -> Option<Unit> {
     }
 }
 
-/// Each adjusted size has its unit.
+/// Asserts the unit of each adjusted size.
 fn assert_units(rt: &impl Abort, rows: &[(Shown, Unit)]) {
     for (shown, unit) in rows {
         assert!(rt; unit_of(*shown) == Some(*unit));
     }
 }
 
-/// Sizes in units that are given, appropriate, or what `into` takes.
+/// Returns sizes in a given unit, in their appropriate unit and converted by `into`, each with its unit.
 fn sizes_and_units() -> [(Shown, Unit); 11] {
     let (small, great) = (Byte::from_u64(1024), Byte::from_u64(10_000));
     [
@@ -322,7 +322,7 @@ fn units_of_adjusted_sizes(rt: HostRuntime) {
     assert_units(&rt, &sizes_and_units());
 }
 
-/// The size in bytes, and its value and that of its unit in bits.
+/// The size, its unit, and the expected result of `get_value`.
 const VALUES_OF_BYTES: &[(u64, Unit, (u128, u128))] = &[
     (1_555_000, Unit::MB, (12_440_000, 8_000_000)),
     (1024, Unit::KiB, (8192, 8192)),
@@ -348,7 +348,7 @@ fn values_of_adjusted_sizes(rt: HostRuntime) {
     }
 }
 
-/// Sizes in a unit, and what Display writes of each.
+/// Returns adjusted sizes, each with its `Display` text.
 fn adjusted_sizes() -> [(Shown, &'static str); 5] {
     [
         (bytes_in(1536, Unit::KiB), "1.5 KiB"),
@@ -360,6 +360,6 @@ fn adjusted_sizes() -> [(Shown, &'static str); 5] {
 }
 
 #[test]
-fn adjusted_sizes_shown(rt: HostRuntime) -> Result<(), AllocError> {
+fn display_of_adjusted_sizes(rt: HostRuntime) -> Result<(), AllocError> {
     assert_displays(&rt, rt.alloc(), &adjusted_sizes())
 }

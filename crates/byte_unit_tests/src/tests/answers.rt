@@ -1,31 +1,31 @@
-//! What a text is read as, with each fault by its fields.
+//! Expected results of parsing, with the fields of each error.
 use byte_unit::{Bit, Byte, ParseError, UnitParseError, ValueParseError};
 use std::process::Abort;
 
-/// The letters that begin a unit.
+/// The characters that can start a unit.
 pub const TEN: [char; 10] = ['B', 'K', 'M', 'G', 'T', 'P', 'E', 'Z', 'Y', 'R'];
 
-/// What a reader answers.
+/// An expected result of parsing.
 #[derive(Clone, Copy)]
-pub enum Answer {
-    /// This size.
+pub enum Expected {
+    /// A size.
     Size(u128),
-    /// A number that is too large: its whole part, and its fraction in 28th places.
+    /// A number that is out of range: its integer part, and its fraction scaled by 10^28.
     Exceeded(u128, u128),
-    /// No digit, but this character.
+    /// A character in place of a digit.
     NotNumber(char),
     /// No value.
     NoValue,
     /// Too many digits.
     NumberTooLong,
-    /// This character in the place of these, and whether the text could end there.
+    /// The rejected character, the expected characters, and whether the string could end there.
     Unit(char, &'static [char], bool),
 }
 
-/// Whether the fault of a unit has these fields.
-pub fn is_unit_fault(error: &UnitParseError, wanted: Answer) -> bool {
+/// Returns whether a unit error has the expected fields.
+pub fn is_unit_error(error: &UnitParseError, wanted: Expected) -> bool {
     match wanted {
-        Answer::Unit(character, expected, or_end) => {
+        Expected::Unit(character, expected, or_end) => {
             error.character == character
                 && error.expected_characters == expected
                 && error.also_expect_no_character == or_end
@@ -34,73 +34,73 @@ pub fn is_unit_fault(error: &UnitParseError, wanted: Answer) -> bool {
     }
 }
 
-/// Whether the fault of a number is this one, with the same fields.
-fn is_value_fault(error: &ValueParseError, wanted: Answer) -> bool {
+/// Returns whether a number error is the expected one, with the same fields.
+fn is_value_error(error: &ValueParseError, wanted: Expected) -> bool {
     match (error, wanted) {
-        (ValueParseError::ExceededBounds(number), Answer::Exceeded(whole, fraction)) => {
+        (ValueParseError::ExceededBounds(number), Expected::Exceeded(whole, fraction)) => {
             number.whole() == whole && number.fraction() == fraction
         }
-        (ValueParseError::NotNumber(character), Answer::NotNumber(other)) => *character == other,
-        (ValueParseError::NoValue, Answer::NoValue) => true,
-        (ValueParseError::NumberTooLong, Answer::NumberTooLong) => true,
+        (ValueParseError::NotNumber(character), Expected::NotNumber(other)) => *character == other,
+        (ValueParseError::NoValue, Expected::NoValue) => true,
+        (ValueParseError::NumberTooLong, Expected::NumberTooLong) => true,
         _ => false,
     }
 }
 
-/// Whether the fault is this one, with the same fields.
-pub fn is_fault(error: &ParseError, wanted: Answer) -> bool {
+/// Returns whether a parse error is the expected one, with the same fields.
+pub fn is_error(error: &ParseError, wanted: Expected) -> bool {
     match error {
-        ParseError::Value(value) => is_value_fault(value, wanted),
-        ParseError::Unit(unit) => is_unit_fault(unit, wanted),
+        ParseError::Value(value) => is_value_error(value, wanted),
+        ParseError::Unit(unit) => is_unit_error(unit, wanted),
     }
 }
 
-/// The text was read with this answer.
-fn assert_answer(rt: &impl Abort, text: &str, read: Result<u128, ParseError>, wanted: Answer) {
+/// Asserts that a string was parsed with the expected result.
+fn assert_result(rt: &impl Abort, text: &str, read: Result<u128, ParseError>, wanted: Expected) {
     match read {
         Ok(size) => assert!(rt;
-            matches!(wanted, Answer::Size(n) if n == size),
+            matches!(wanted, Expected::Size(n) if n == size),
             "{text} is {size}"
         ),
-        Err(error) => assert!(rt; is_fault(&error, wanted), "{text} is refused: {error}"),
+        Err(error) => assert!(rt; is_error(&error, wanted), "{text} is rejected: {error}"),
     }
 }
 
-/// The text read as bytes has this answer, and so has what it is in UTF-8.
-pub fn assert_bytes(rt: &impl Abort, text: &str, ignore_case: bool, wanted: Answer) {
+/// Asserts the result of parsing a string as bytes, by `parse_str` and from its UTF-8 bytes.
+pub fn assert_bytes(rt: &impl Abort, text: &str, ignore_case: bool, wanted: Expected) {
     let read = Byte::parse_str(text, ignore_case).map(Byte::as_u128);
-    assert_answer(rt, text, read, wanted);
+    assert_result(rt, text, read, wanted);
     match Byte::parse_bytes(text.as_bytes(), ignore_case) {
-        Some(read) => assert_answer(rt, text, read.map(Byte::as_u128), wanted),
+        Some(read) => assert_result(rt, text, read.map(Byte::as_u128), wanted),
         None => panic!(rt; "{text} is a text"),
     }
 }
 
-/// The text read as bits has this answer, and so has what it is in UTF-8.
-pub fn assert_bits(rt: &impl Abort, text: &str, wanted: Answer) {
-    assert_answer(rt, text, Bit::parse_str(text).map(Bit::as_u128), wanted);
+/// Asserts the result of parsing a string as bits, by `parse_str` and from its UTF-8 bytes.
+pub fn assert_bits(rt: &impl Abort, text: &str, wanted: Expected) {
+    assert_result(rt, text, Bit::parse_str(text).map(Bit::as_u128), wanted);
     match Bit::parse_bytes(text.as_bytes()) {
-        Some(read) => assert_answer(rt, text, read.map(Bit::as_u128), wanted),
+        Some(read) => assert_result(rt, text, read.map(Bit::as_u128), wanted),
         None => panic!(rt; "{text} is a text"),
     }
 }
 
-/// Each text read as bytes, by the case of its letters or not, has the answer in its row.
-pub fn assert_all_bytes(rt: &impl Abort, ignore_case: bool, rows: &[(&str, Answer)]) {
+/// Asserts the result of parsing each string as bytes.
+pub fn assert_all_bytes(rt: &impl Abort, ignore_case: bool, rows: &[(&str, Expected)]) {
     for (text, wanted) in rows {
         assert_bytes(rt, text, ignore_case, *wanted);
     }
 }
 
-/// Each text read as bits has the answer in its row.
-pub fn assert_all_bits(rt: &impl Abort, rows: &[(&str, Answer)]) {
+/// Asserts the result of parsing each string as bits.
+pub fn assert_all_bits(rt: &impl Abort, rows: &[(&str, Expected)]) {
     for (text, wanted) in rows {
         assert_bits(rt, text, *wanted);
     }
 }
 
-/// Each text has the answer in its row, read as bytes and read as bits, whatever is made of the case of its letters.
-pub fn assert_always(rt: &impl Abort, rows: &[(&str, Answer)]) {
+/// Asserts the result of parsing each string, which is the same as bytes and as bits, with and without `ignore_case`.
+pub fn assert_always(rt: &impl Abort, rows: &[(&str, Expected)]) {
     assert_all_bytes(rt, false, rows);
     assert_all_bytes(rt, true, rows);
     assert_all_bits(rt, rows);

@@ -1,16 +1,17 @@
-//! Texts of any make: long ones, any character at each place, a text cut anywhere, white space and what only looks so.
-use super::answers::{Answer, TEN, assert_all_bytes, assert_bits, assert_bytes, is_unit_fault};
+//! Tests of parsing with unusual strings: long ones, unexpected characters at each position, each prefix of a string,
+//! white space and characters that resemble it.
+use super::answers::{Expected, TEN, assert_all_bytes, assert_bits, assert_bytes, is_unit_error};
 use byte_unit::Unit;
 use std::alloc::{AllocError, Global};
 use std::process::Abort;
 
-/// The parts, one after another, are a text with these answers, read as bytes and read as bits.
+/// Asserts the results of parsing the concatenation of the parts, as bytes and as bits.
 fn assert_joined(
     rt: &impl Abort,
     alloc: Global,
     (first, second, third): (&str, &str, &str),
-    in_bytes: Answer,
-    in_bits: Answer,
+    in_bytes: Expected,
+    in_bits: Expected,
 ) -> Result<(), AllocError> {
     let text = format!(in alloc; "{first}{second}{third}")?;
     assert_bytes(rt, text.as_str(), false, in_bytes);
@@ -18,17 +19,24 @@ fn assert_joined(
     Ok(())
 }
 
-/// So many times a text is repeated to make a long one.
+/// The number of repetitions in a long string.
 const MANY: usize = 10_000;
 
-/// What stands before many of a text, the text, and what stands after them; then the answers in bytes and in bits.
-const LONG_TEXTS: &[(&str, &str, &str, Answer, Answer)] = &[
-    ("", "0", "1", Answer::Size(1), Answer::Size(1)),
-    ("", "1", "", Answer::NumberTooLong, Answer::NumberTooLong),
-    ("", "0", ".5", Answer::Size(1), Answer::Size(1)),
-    ("", " ", "", Answer::NoValue, Answer::NoValue),
-    ("1", " ", "", Answer::Size(1), Answer::Size(1)),
-    ("1", " ", "KB", Answer::Size(1000), Answer::Size(8000)),
+/// The text before the repetitions, the text that is repeated, and the text after them; then the results in bytes and
+/// in bits.
+const LONG_TEXTS: &[(&str, &str, &str, Expected, Expected)] = &[
+    ("", "0", "1", Expected::Size(1), Expected::Size(1)),
+    (
+        "",
+        "1",
+        "",
+        Expected::NumberTooLong,
+        Expected::NumberTooLong,
+    ),
+    ("", "0", ".5", Expected::Size(1), Expected::Size(1)),
+    ("", " ", "", Expected::NoValue, Expected::NoValue),
+    ("1", " ", "", Expected::Size(1), Expected::Size(1)),
+    ("1", " ", "KB", Expected::Size(1000), Expected::Size(8000)),
 ];
 
 #[test]
@@ -41,7 +49,7 @@ fn long_texts(rt: HostRuntime) -> Result<(), AllocError> {
     Ok(())
 }
 
-/// Characters that go on with no text of a size, wherever they stand, each with its text.
+/// Characters that no size contains, each with its string.
 const STRANGE: &[(char, &str)] = &[
     ('é', "é"),
     ('\u{1F600}', "\u{1F600}"),
@@ -51,17 +59,16 @@ const STRANGE: &[(char, &str)] = &[
 ];
 
 #[test]
-fn strange_characters_where_a_digit_stands(rt: HostRuntime) -> Result<(), AllocError> {
+fn invalid_characters_in_place_of_a_digit(rt: HostRuntime) -> Result<(), AllocError> {
     for (c, shown) in STRANGE {
-        let wanted = Answer::NotNumber(*c);
+        let wanted = Expected::NotNumber(*c);
         assert_joined(&rt, rt.alloc(), ("", "", shown), wanted, wanted)?;
         assert_joined(&rt, rt.alloc(), ("1.", "", shown), wanted, wanted)?;
     }
     Ok(())
 }
 
-/// What may stand before a strange character in a unit, which characters are named there, and whether the text could
-/// end there.
+/// The text before an invalid character in a unit, the expected characters, and whether the string could end there.
 const IN_A_UNIT: &[(&str, &[char], bool)] = &[
     ("", &TEN, true),
     ("K", &['B', 'b'], true),
@@ -73,11 +80,11 @@ const IN_A_UNIT: &[(&str, &[char], bool)] = &[
     ("bits", &[], true),
 ];
 
-/// Each strange character is refused where it stands within or after the unit of this number.
-fn assert_all_strange(rt: &impl Abort, alloc: Global, number: &str) -> Result<(), AllocError> {
+/// Asserts that each invalid character is rejected within and after the unit of this number.
+fn assert_all_invalid(rt: &impl Abort, alloc: Global, number: &str) -> Result<(), AllocError> {
     for (front, expected, or_end) in IN_A_UNIT {
         for (c, shown) in STRANGE {
-            let wanted = Answer::Unit(*c, *expected, *or_end);
+            let wanted = Expected::Unit(*c, *expected, *or_end);
             assert_joined(rt, alloc, (number, front, shown), wanted, wanted)?;
         }
     }
@@ -85,63 +92,63 @@ fn assert_all_strange(rt: &impl Abort, alloc: Global, number: &str) -> Result<()
 }
 
 #[test]
-fn strange_characters_in_a_unit(rt: HostRuntime) -> Result<(), AllocError> {
+fn invalid_characters_in_a_unit(rt: HostRuntime) -> Result<(), AllocError> {
     let alloc = rt.alloc();
-    assert_all_strange(&rt, alloc, "1")?;
-    assert_all_strange(&rt, alloc, "1.5")?;
-    assert_all_strange(&rt, alloc, "1.0000000000000000000000000001")?;
-    assert_all_strange(&rt, alloc, "1 ")
+    assert_all_invalid(&rt, alloc, "1")?;
+    assert_all_invalid(&rt, alloc, "1.5")?;
+    assert_all_invalid(&rt, alloc, "1.0000000000000000000000000001")?;
+    assert_all_invalid(&rt, alloc, "1 ")
 }
 
-/// The two parts, one after the other, are refused as a unit.
+/// Asserts that the concatenation of both parts is rejected as a unit.
 fn assert_no_unit(
     rt: &impl Abort,
     alloc: Global,
     (front, shown): (&str, &str),
-    wanted: Answer,
+    wanted: Expected,
 ) -> Result<(), AllocError> {
     let text = format!(in alloc; "{front}{shown}")?;
     match Unit::parse_str(text.as_str(), false, true) {
         Ok(_) => panic!(rt; "{text} is read"),
-        Err(error) => assert!(rt; is_unit_fault(&error, wanted), "{text}"),
+        Err(error) => assert!(rt; is_unit_error(&error, wanted), "{text}"),
     }
     Ok(())
 }
 
 #[test]
-fn strange_characters_in_a_unit_alone(rt: HostRuntime) -> Result<(), AllocError> {
+fn invalid_characters_in_a_unit_alone(rt: HostRuntime) -> Result<(), AllocError> {
     for (front, expected, or_end) in IN_A_UNIT {
         for (c, shown) in STRANGE {
-            let wanted = Answer::Unit(*c, *expected, *or_end);
+            let wanted = Expected::Unit(*c, *expected, *or_end);
             assert_no_unit(&rt, rt.alloc(), (front, shown), wanted)?;
         }
     }
     Ok(())
 }
 
-/// What `12.50 Kibits` reads as after each byte.
-const A_TEXT_CUT_AFTER_EACH_BYTE: &[(&str, Answer)] = &[
-    ("", Answer::NoValue),
-    ("1", Answer::Size(1)),
-    ("12", Answer::Size(12)),
-    ("12.", Answer::NotNumber('.')),
-    ("12.5", Answer::Size(13)),
-    ("12.50", Answer::Size(13)),
-    ("12.50 ", Answer::Size(13)),
-    ("12.50 K", Answer::Size(12_500)),
-    ("12.50 Ki", Answer::Size(12_800)),
-    ("12.50 Kib", Answer::Size(1600)),
-    ("12.50 Kibi", Answer::Unit('i', &[], true)),
-    ("12.50 Kibit", Answer::Size(1600)),
-    ("12.50 Kibits", Answer::Size(1600)),
+/// The result of parsing each prefix of `12.50 Kibits`.
+const EACH_PREFIX_OF_A_STRING: &[(&str, Expected)] = &[
+    ("", Expected::NoValue),
+    ("1", Expected::Size(1)),
+    ("12", Expected::Size(12)),
+    ("12.", Expected::NotNumber('.')),
+    ("12.5", Expected::Size(13)),
+    ("12.50", Expected::Size(13)),
+    ("12.50 ", Expected::Size(13)),
+    ("12.50 K", Expected::Size(12_500)),
+    ("12.50 Ki", Expected::Size(12_800)),
+    ("12.50 Kib", Expected::Size(1600)),
+    ("12.50 Kibi", Expected::Unit('i', &[], true)),
+    ("12.50 Kibit", Expected::Size(1600)),
+    ("12.50 Kibits", Expected::Size(1600)),
 ];
 
 #[test]
-fn a_text_cut_after_each_byte(rt: HostRuntime) {
-    assert_all_bytes(&rt, false, A_TEXT_CUT_AFTER_EACH_BYTE);
+fn each_prefix_of_a_string(rt: HostRuntime) {
+    assert_all_bytes(&rt, false, EACH_PREFIX_OF_A_STRING);
 }
 
-/// A text with each kind of white space at both ends.
+/// A string with each kind of white space at both ends.
 const WHITE_SPACE_AT_THE_ENDS: &[&str] = &[
     " 1KB ",
     "\t1KB\t",
@@ -159,7 +166,7 @@ const WHITE_SPACE_AT_THE_ENDS: &[&str] = &[
 #[test]
 fn white_space_at_the_ends(rt: HostRuntime) {
     for text in WHITE_SPACE_AT_THE_ENDS {
-        assert_bytes(&rt, text, false, Answer::Size(1000));
-        assert_bits(&rt, text, Answer::Size(8000));
+        assert_bytes(&rt, text, false, Expected::Size(1000));
+        assert_bits(&rt, text, Expected::Size(8000));
     }
 }

@@ -1,108 +1,100 @@
-//! What is too large, negative or divided by zero, on each name that refuses it.
-use super::answers::{Answer, assert_all_bits, assert_all_bytes};
+//! Tests of each call that rejects values out of range, negative numbers or division by zero.
+use super::answers::{Expected, assert_all_bits, assert_all_bytes};
 use super::traits::assert_are;
 use byte_unit::{Bit, Byte};
 
-/// The greatest size.
-const GREATEST: u128 = 999_999_999_999_999_999_999_999_999_999;
+/// The maximum size.
+const MAX_SIZE: u128 = 999_999_999_999_999_999_999_999_999_999;
 
-/// How many are in a ronnabyte: the bound of the first version.
+/// The number of bytes in a ronnabyte, the limit of v1.
 const RONNA: u128 = 1_000_000_000_000_000_000_000_000_000;
 
-const TEXTS_OF_BYTES_AT_THE_BOUND: &[(&str, Answer)] = &[
-    ("999999999999999999999999999999", Answer::Size(GREATEST)),
+const BYTES_AT_THE_LIMIT: &[(&str, Expected)] = &[
+    ("999999999999999999999999999999", Expected::Size(MAX_SIZE)),
     (
         "999999999999999999999999999999.0000000000000000000000000001",
-        Answer::Exceeded(GREATEST, 1),
+        Expected::Exceeded(MAX_SIZE, 1),
     ),
     (
         "1000000000000000000000000000000",
-        Answer::Exceeded(GREATEST + 1, 0),
+        Expected::Exceeded(MAX_SIZE + 1, 0),
     ),
     (
         "5192296858534827628530496329220095",
-        Answer::Exceeded(5_192_296_858_534_827_628_530_496_329_220_095, 0),
+        Expected::Exceeded(5_192_296_858_534_827_628_530_496_329_220_095, 0),
     ),
-    ("1000 RB", Answer::Exceeded(1000, 0)),
-    ("1000RB", Answer::Exceeded(1000, 0)),
-    ("1000.00 RB", Answer::Exceeded(1000, 0)),
-    ("1000000 YB", Answer::Exceeded(1_000_000, 0)),
-    ("0001", Answer::Size(1)),
+    ("1000 RB", Expected::Exceeded(1000, 0)),
+    ("1000RB", Expected::Exceeded(1000, 0)),
+    ("1000.00 RB", Expected::Exceeded(1000, 0)),
+    ("1000000 YB", Expected::Exceeded(1_000_000, 0)),
+    ("0001", Expected::Size(1)),
 ];
 
 #[test]
-fn texts_of_bytes_at_the_bound(rt: HostRuntime) {
-    assert_all_bytes(&rt, false, TEXTS_OF_BYTES_AT_THE_BOUND);
-    assert_all_bytes(&rt, true, TEXTS_OF_BYTES_AT_THE_BOUND);
+fn bytes_at_the_limit(rt: HostRuntime) {
+    assert_all_bytes(&rt, false, BYTES_AT_THE_LIMIT);
+    assert_all_bytes(&rt, true, BYTES_AT_THE_LIMIT);
 }
 
-const TEXTS_OF_BITS_AT_THE_BOUND: &[(&str, Answer)] = &[
+const BITS_AT_THE_LIMIT: &[(&str, Expected)] = &[
     (
         "124.999999999999999999999999999 RB",
-        Answer::Size(999_999_999_999_999_999_999_999_999_992),
+        Expected::Size(999_999_999_999_999_999_999_999_999_992),
     ),
     (
         "124.9999999999999999999999999999 RB",
-        Answer::Exceeded(124, 9_999_999_999_999_999_999_999_999_999),
+        Expected::Exceeded(124, 9_999_999_999_999_999_999_999_999_999),
     ),
-    ("125 RB", Answer::Exceeded(125, 0)),
-    ("1000.00 Rb", Answer::Exceeded(1000, 0)),
-    ("999999999999999999999999999999", Answer::Size(GREATEST)),
+    ("125 RB", Expected::Exceeded(125, 0)),
+    ("1000.00 Rb", Expected::Exceeded(1000, 0)),
+    ("999999999999999999999999999999", Expected::Size(MAX_SIZE)),
     (
         "1000000000000000000000000000000",
-        Answer::Exceeded(GREATEST + 1, 0),
+        Expected::Exceeded(MAX_SIZE + 1, 0),
     ),
 ];
 
 #[test]
-fn texts_of_bits_at_the_bound(rt: HostRuntime) {
-    assert_all_bits(&rt, TEXTS_OF_BITS_AT_THE_BOUND);
+fn bits_at_the_limit(rt: HostRuntime) {
+    assert_all_bits(&rt, BITS_AT_THE_LIMIT);
 }
 
-/// What the first version refused at its bound, and the current one accepts.
-const TEXTS_OF_BYTES_PAST_THE_BOUND_OF_THE_FIRST_VERSION: &[(&str, Answer)] = &[
-    ("999999999999999999999999999", Answer::Size(RONNA - 1)),
+/// Strings that v1 rejected at its limit, and v2 accepts.
+const BYTES_BEYOND_THE_LIMIT_OF_V1: &[(&str, Expected)] = &[
+    ("999999999999999999999999999", Expected::Size(RONNA - 1)),
     (
         "999999999999999999999999999.0000000000000000000000000001",
-        Answer::Size(RONNA),
+        Expected::Size(RONNA),
     ),
-    ("1000000000000000000000000000", Answer::Size(RONNA)),
+    ("1000000000000000000000000000", Expected::Size(RONNA)),
     (
         "79228162514264337593543950335",
-        Answer::Size(79_228_162_514_264_337_593_543_950_335),
+        Expected::Size(79_228_162_514_264_337_593_543_950_335),
     ),
     (
         "79228162514264337593543950336",
-        Answer::Size(79_228_162_514_264_337_593_543_950_336),
+        Expected::Size(79_228_162_514_264_337_593_543_950_336),
     ),
-    ("1000 YB", Answer::Size(RONNA)),
+    ("1000 YB", Expected::Size(RONNA)),
 ];
 
 #[test]
-fn texts_of_bytes_past_the_bound_of_the_first_version(rt: HostRuntime) {
-    assert_all_bytes(
-        &rt,
-        false,
-        TEXTS_OF_BYTES_PAST_THE_BOUND_OF_THE_FIRST_VERSION,
-    );
-    assert_all_bytes(
-        &rt,
-        true,
-        TEXTS_OF_BYTES_PAST_THE_BOUND_OF_THE_FIRST_VERSION,
-    );
+fn bytes_beyond_the_limit_of_v1(rt: HostRuntime) {
+    assert_all_bytes(&rt, false, BYTES_BEYOND_THE_LIMIT_OF_V1);
+    assert_all_bytes(&rt, true, BYTES_BEYOND_THE_LIMIT_OF_V1);
 }
 
-const TEXTS_OF_BITS_PAST_THE_BOUND_OF_THE_FIRST_VERSION: &[(&str, Answer)] = &[
-    ("124.999999999999999999999999 YB", Answer::Size(RONNA - 8)),
-    ("124.9999999999999999999999999 YB", Answer::Size(RONNA)),
-    ("125 YB", Answer::Size(RONNA)),
-    ("1000.00 Yb", Answer::Size(RONNA)),
-    ("1000000000000000000000000000", Answer::Size(RONNA)),
+const BITS_BEYOND_THE_LIMIT_OF_V1: &[(&str, Expected)] = &[
+    ("124.999999999999999999999999 YB", Expected::Size(RONNA - 8)),
+    ("124.9999999999999999999999999 YB", Expected::Size(RONNA)),
+    ("125 YB", Expected::Size(RONNA)),
+    ("1000.00 Yb", Expected::Size(RONNA)),
+    ("1000000000000000000000000000", Expected::Size(RONNA)),
 ];
 
 #[test]
-fn texts_of_bits_past_the_bound_of_the_first_version(rt: HostRuntime) {
-    assert_all_bits(&rt, TEXTS_OF_BITS_PAST_THE_BOUND_OF_THE_FIRST_VERSION);
+fn bits_beyond_the_limit_of_v1(rt: HostRuntime) {
+    assert_all_bits(&rt, BITS_BEYOND_THE_LIMIT_OF_V1);
 }
 
 #[test]

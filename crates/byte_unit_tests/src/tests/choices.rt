@@ -1,12 +1,12 @@
-//! The unit of a family that is chosen for a size, with the steps of the choice.
+//! Tests of the choice of a unit from a unit set, and of its step count.
 use super::traits::assert_is;
 use byte_unit::{Decimal, Family, Steps, Unit, UnitType, choose_unit, largest_unit};
 use std::process::Abort;
 
-/// Sizes are below this.
+/// The limit of sizes.
 const LIMIT: u128 = 1_000_000_000_000_000_000_000_000_000_000;
 
-/// The whole part and the last places of the number, and the unit.
+/// Returns the integer part and the fraction (scaled by 10^28) of the number, and the unit.
 fn parts(choice: Option<(Decimal, Unit)>) -> Option<(u128, u128, Unit)> {
     match choice {
         Some((number, unit)) => Some((number.whole(), number.fraction(), unit)),
@@ -14,7 +14,7 @@ fn parts(choice: Option<(Decimal, Unit)>) -> Option<(u128, u128, Unit)> {
     }
 }
 
-/// The unit that is chosen for a size, and how many steps that takes.
+/// Returns the unit that is chosen for a size, and the step count.
 fn chosen(
     rt: &impl Abort,
     size: u128,
@@ -28,7 +28,7 @@ fn chosen(
     (parts(choice), steps.count())
 }
 
-const NO_UNIT_STATES_THESE: &[(u128, Family, u128, usize)] = &[
+const SIZES_EXACT_IN_NO_UNIT: &[(u128, Family, u128, usize)] = &[
     (0, Family::All, 8, 28),
     (0, Family::Bits, 1, 0),
     (999, Family::Bytes, 8, 28),
@@ -39,28 +39,28 @@ const NO_UNIT_STATES_THESE: &[(u128, Family, u128, usize)] = &[
 ];
 
 #[test]
-fn no_unit_states_these(rt: HostRuntime) {
-    for (size, family, divisor, places) in NO_UNIT_STATES_THESE {
+fn sizes_exact_in_no_unit(rt: HostRuntime) {
+    for (size, family, divisor, places) in SIZES_EXACT_IN_NO_UNIT {
         let (choice, _) = chosen(&rt, *size, *family, *divisor, *places);
         assert_is(&rt, (*size, choice), (*size, None));
     }
 }
 
-/// Sizes, and how many steps are taken. 500 is 2^2 * 5^3.
-const TRIALS_ALONE: &[(u128, u64)] = &[(0, 0), (1, 2), (500, 7), (999, 2)];
+/// Sizes, each with its step count. 500 is 2^2 * 5^3.
+const STEP_COUNTS_WITHOUT_AN_EXACT_UNIT: &[(u128, u64)] = &[(0, 0), (1, 2), (500, 7), (999, 2)];
 
 #[test]
-fn a_size_in_no_unit_takes_its_trials_alone(rt: HostRuntime) {
-    for (size, count) in TRIALS_ALONE {
+fn step_count_without_an_exact_unit(rt: HostRuntime) {
+    for (size, count) in STEP_COUNTS_WITHOUT_AN_EXACT_UNIT {
         let (_, steps) = chosen(&rt, *size, Family::Bytes, 8, 28);
         assert_is(&rt, (*size, steps), (*size, *count));
     }
 }
 
-const EACH_TRIAL_AND_EACH_PLACE_IS_ONE_STEP: &[(u128, usize, Option<(u128, u128, Unit)>, u64)] = &[
-    // 1088 is 2^6 * 17: KiB takes four places, and KB three.
+const ONE_STEP_PER_TRIAL_AND_DECIMAL: &[(u128, usize, Option<(u128, u128, Unit)>, u64)] = &[
+    // 1088 is 2^6 * 17: four decimals in KiB, and three in KB.
     (1088, 2, None, 8),
-    // 1001 has no two and no five: KB takes three places.
+    // 1001 has no factor 2 or 5: three decimals in KB.
     (1001, 2, None, 2),
     (
         1088,
@@ -74,7 +74,7 @@ const EACH_TRIAL_AND_EACH_PLACE_IS_ONE_STEP: &[(u128, usize, Option<(u128, u128,
         Some((1, 625_000_000_000_000_000_000_000_000, Unit::KiB)),
         12,
     ),
-    // 2^9 * 6273: MB takes six places, and KiB one.
+    // 2^9 * 6273: six decimals in MB, and one in KiB.
     (
         3_211_776,
         3,
@@ -87,7 +87,7 @@ const EACH_TRIAL_AND_EACH_PLACE_IS_ONE_STEP: &[(u128, usize, Option<(u128, u128,
         Some((3, 2_117_760_000_000_000_000_000_000_000, Unit::MB)),
         17,
     ),
-    // 10 * 321177: MB takes five places.
+    // 10 * 321177: five decimals in MB.
     (
         3_211_770,
         5,
@@ -97,15 +97,15 @@ const EACH_TRIAL_AND_EACH_PLACE_IS_ONE_STEP: &[(u128, usize, Option<(u128, u128,
 ];
 
 #[test]
-fn each_trial_and_each_place_is_one_step(rt: HostRuntime) {
-    for (size, places, choice, count) in EACH_TRIAL_AND_EACH_PLACE_IS_ONE_STEP {
+fn one_step_per_trial_and_decimal(rt: HostRuntime) {
+    for (size, places, choice, count) in ONE_STEP_PER_TRIAL_AND_DECIMAL {
         let found = chosen(&rt, *size, Family::Bytes, 8, *places);
         assert_is(&rt, (*size, found), (*size, (*choice, *count)));
     }
 }
 
 #[test]
-fn the_count_goes_on_from_where_it_was(rt: HostRuntime) {
+fn step_count_accumulates(rt: HostRuntime) {
     let mut once = Steps::new();
     let _ = choose_unit(1088, Family::Bytes, 8, 3, &mut once);
     let mut twice = once;
@@ -114,7 +114,7 @@ fn the_count_goes_on_from_where_it_was(rt: HostRuntime) {
     assert!(rt; twice.count() == 2 * once.count());
 }
 
-const THE_LARGEST_UNIT: &[(u128, Family, UnitType, u128, Option<Unit>)] = &[
+const LARGEST_UNITS: &[(u128, Family, UnitType, u128, Option<Unit>)] = &[
     (10_000, Family::Bytes, UnitType::Both, 8, Some(Unit::KiB)),
     (1000, Family::Bytes, UnitType::Both, 8, Some(Unit::KB)),
     (1023, Family::Bytes, UnitType::Both, 8, Some(Unit::KB)),
@@ -142,8 +142,8 @@ const THE_LARGEST_UNIT: &[(u128, Family, UnitType, u128, Option<Unit>)] = &[
 ];
 
 #[test]
-fn the_largest_unit_is_the_one_not_above_the_size(rt: HostRuntime) {
-    for (size, family, kind, divisor, unit) in THE_LARGEST_UNIT {
+fn largest_unit_not_above_the_size(rt: HostRuntime) {
+    for (size, family, kind, divisor, unit) in LARGEST_UNITS {
         assert!(rt; *divisor == 8 || *divisor == 1);
         let found = largest_unit(*size, *family, *kind, *divisor);
         assert_is(&rt, (*size, found), (*size, *unit));

@@ -1,16 +1,16 @@
-//! The constants of both types, as written numbers.
+//! Tests of the constants of both types against literals.
 use super::traits::assert_is;
 use byte_unit::{Bit, Byte, Unit, laws};
 use std::process::Abort;
 
-/// Each constant in bytes is the number in its row.
+/// Asserts the value of each constant of `Byte`.
 fn assert_bytes(rt: &impl Abort, rows: &[(Byte, u128)]) {
     for (constant, number) in rows {
         assert_is(rt, constant.as_u128(), *number);
     }
 }
 
-/// Each constant in bits is the number in its row.
+/// Asserts the value of each constant of `Bit`.
 fn assert_bits(rt: &impl Abort, rows: &[(Bit, u128)]) {
     for (constant, number) in rows {
         assert_is(rt, constant.as_u128(), *number);
@@ -48,7 +48,7 @@ fn constants_by_their_unit(rt: HostRuntime) {
 }
 
 #[test]
-fn bytes_by_powers_of_ten(rt: HostRuntime) {
+fn decimal_bytes(rt: HostRuntime) {
     assert_bytes(
         &rt,
         &[
@@ -66,7 +66,7 @@ fn bytes_by_powers_of_ten(rt: HostRuntime) {
 }
 
 #[test]
-fn bytes_by_powers_of_two(rt: HostRuntime) {
+fn binary_bytes(rt: HostRuntime) {
     assert_bytes(
         &rt,
         &[
@@ -84,7 +84,7 @@ fn bytes_by_powers_of_two(rt: HostRuntime) {
 }
 
 #[test]
-fn bits_by_powers_of_ten_in_bytes(rt: HostRuntime) {
+fn decimal_bits_in_bytes(rt: HostRuntime) {
     assert_bytes(
         &rt,
         &[
@@ -102,7 +102,7 @@ fn bits_by_powers_of_ten_in_bytes(rt: HostRuntime) {
 }
 
 #[test]
-fn bits_by_powers_of_two_in_bytes(rt: HostRuntime) {
+fn binary_bits_in_bytes(rt: HostRuntime) {
     assert_bytes(
         &rt,
         &[
@@ -120,7 +120,7 @@ fn bits_by_powers_of_two_in_bytes(rt: HostRuntime) {
 }
 
 #[test]
-fn bytes_by_powers_of_ten_in_bits(rt: HostRuntime) {
+fn decimal_bytes_in_bits(rt: HostRuntime) {
     assert_bits(
         &rt,
         &[
@@ -138,7 +138,7 @@ fn bytes_by_powers_of_ten_in_bits(rt: HostRuntime) {
 }
 
 #[test]
-fn bytes_by_powers_of_two_in_bits(rt: HostRuntime) {
+fn binary_bytes_in_bits(rt: HostRuntime) {
     assert_bits(
         &rt,
         &[
@@ -156,7 +156,7 @@ fn bytes_by_powers_of_two_in_bits(rt: HostRuntime) {
 }
 
 #[test]
-fn bits_by_powers_of_ten(rt: HostRuntime) {
+fn decimal_bits(rt: HostRuntime) {
     assert_bits(
         &rt,
         &[
@@ -174,7 +174,7 @@ fn bits_by_powers_of_ten(rt: HostRuntime) {
 }
 
 #[test]
-fn bits_by_powers_of_two(rt: HostRuntime) {
+fn binary_bits(rt: HostRuntime) {
     assert_bits(
         &rt,
         &[

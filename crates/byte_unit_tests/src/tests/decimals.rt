@@ -1,4 +1,4 @@
-//! Decimals by their parts, and as texts.
+//! Tests of `Decimal`: its parts, order and text.
 use super::shown::assert_display;
 use byte_unit::Decimal;
 use std::alloc::{AllocError, Global};
@@ -6,7 +6,7 @@ use std::cmp::Ordering;
 use std::hash::{DefaultHasher, Hash, Hasher};
 use std::process::Abort;
 
-/// Mantissa, scale, and the parts of the decimal.
+/// The mantissa, the scale, and the parts of the decimal.
 const DECIMALS_BY_MANTISSA_AND_SCALE: &[(u128, u32, Option<(u128, u128)>)] = &[
     (5084, 2, Some((50, 8_400_000_000_000_000_000_000_000_000))),
     (1000, 2, Some((10, 0))),
@@ -43,7 +43,7 @@ const DECIMALS_BY_MANTISSA_AND_SCALE: &[(u128, u32, Option<(u128, u128)>)] = &[
     (u128::MAX, 4, None),
 ];
 
-/// Each decimal has the parts in its row.
+/// Asserts the parts of each decimal.
 fn assert_parts(rt: &impl Abort, rows: &[(u128, u32, Option<(u128, u128)>)]) {
     for (mantissa, scale, parts) in rows {
         let number = Decimal::from_u128_with_scale(*mantissa, *scale);
@@ -56,13 +56,13 @@ fn decimals_by_mantissa_and_scale(rt: HostRuntime) {
     assert_parts(&rt, DECIMALS_BY_MANTISSA_AND_SCALE);
 }
 
-/// The whole part, and the fraction in 28th places.
+/// Returns the integer part, and the fraction scaled by 10^28.
 pub fn parts_of(number: Decimal) -> (u128, u128) {
     (number.whole(), number.fraction())
 }
 
 #[test]
-fn decimals_at_their_bounds(rt: HostRuntime) {
+fn decimals_at_the_limits(rt: HostRuntime) {
     let one = 10_000_000_000_000_000_000_000_000_000;
     let wholes = 5_192_296_858_534_827_628_530_496_329_220_096;
     let is_none = Decimal::new(0, one).is_none()
@@ -73,8 +73,8 @@ fn decimals_at_their_bounds(rt: HostRuntime) {
     assert!(rt; parts_of(greatest) == (wholes - 1, one - 1) && greatest.places() == 28);
 }
 
-/// Mantissa, scale, and the text of the decimal.
-const DECIMALS_AS_TEXTS: &[(u128, u32, &str)] = &[
+/// The mantissa, the scale, and the text of the decimal.
+const DECIMAL_TEXTS: &[(u128, u32, &str)] = &[
     (5084, 2, "50.84"),
     (1000, 2, "10"),
     (0, 0, "0"),
@@ -83,7 +83,7 @@ const DECIMALS_AS_TEXTS: &[(u128, u32, &str)] = &[
     (1_000_000_001, 9, "1.000000001"),
 ];
 
-/// What Display writes of each decimal is the text in its row.
+/// Asserts the `Display` text of each decimal.
 fn assert_decimals(
     rt: &impl Abort,
     alloc: Global,
@@ -97,11 +97,11 @@ fn assert_decimals(
 }
 
 #[test]
-fn decimals_as_texts(rt: HostRuntime) -> Result<(), AllocError> {
-    assert_decimals(&rt, rt.alloc(), DECIMALS_AS_TEXTS)
+fn decimal_texts(rt: HostRuntime) -> Result<(), AllocError> {
+    assert_decimals(&rt, rt.alloc(), DECIMAL_TEXTS)
 }
 
-/// By the bounds alone, as a caller that is generic sees it.
+/// Asserts order, hash and default through the trait bounds, as in a generic caller.
 fn assert_compared<T: Ord + Hash + Default + Copy>(rt: &impl Abort, small: T, great: T) {
     assert!(rt; small < great && great > small && small != great);
     assert!(rt; small.max(great) == great && small.cmp(&small) == Ordering::Equal);
@@ -113,7 +113,7 @@ fn assert_compared<T: Ord + Hash + Default + Copy>(rt: &impl Abort, small: T, gr
 }
 
 #[test]
-fn the_order_is_that_of_the_numbers(rt: HostRuntime) {
+fn decimals_are_ordered_by_value(rt: HostRuntime) {
     let half = Decimal::from_u128_with_scale(5, 1).expect(&rt, "a decimal");
     let most = Decimal::from_u128_with_scale(99, 2).expect(&rt, "a decimal");
     assert_compared(&rt, half, most);
@@ -134,7 +134,7 @@ fn whole_numbers(rt: HostRuntime) {
     assert!(rt; Decimal::from(u64::MAX).whole() == 18_446_744_073_709_551_615);
 }
 
-/// Mantissa, scale, the digits after the point, and how many they are.
+/// The mantissa, the scale, the digits after the decimal point as a number, and the number of these digits.
 const DIGITS_AFTER_THE_POINT: &[(u128, u32, u128, u32)] = &[
     (5084, 2, 84, 2),
     (50_084, 3, 84, 3),
@@ -143,7 +143,7 @@ const DIGITS_AFTER_THE_POINT: &[(u128, u32, u128, u32)] = &[
     (1, 28, 1, 28),
 ];
 
-/// Each decimal has the digits in its row, and is what they make.
+/// Asserts the digits of each decimal, and that `from_digits` creates the same decimal from them.
 fn assert_digits(rt: &impl Abort, rows: &[(u128, u32, u128, u32)]) {
     for (mantissa, scale, digits, places) in rows {
         let d = Decimal::from_u128_with_scale(*mantissa, *scale).expect(rt, "a decimal");

@@ -1,4 +1,4 @@
-//! What the Rust crate's documentation shows, with the calls that stand for it here.
+//! The examples of the Rust crate's documentation, with the corresponding calls of the port.
 use super::shown::{Shown, assert_texts};
 use super::traits::assert_is;
 use byte_unit::{Bit, Byte, Decimal, FormatSpec, Unit, UnitType};
@@ -82,7 +82,7 @@ fn sizes_in_a_unit(rt: HostRuntime) -> Result<(), AllocError> {
 }
 
 #[test]
-fn a_size_at_the_end_of_a_text(rt: HostRuntime) -> Result<(), AllocError> {
+fn append_a_size(rt: HostRuntime) -> Result<(), AllocError> {
     let mut text = String::from_str(rt.alloc(), "used: ")?;
     Byte::from_u64(15_500).append_text(FormatSpec::ALTERNATE, &mut text)?;
     assert_is(&rt, text.as_str(), "used: 15.5 KB");

@@ -1,4 +1,4 @@
-//! Each unit as it is written: its bits, its name and its flags.
+//! Tests of each unit against literals: its bits, its name and its properties.
 use super::edges::assert_all_ok;
 use super::long_strings::assert_unit_stored;
 use super::shown::{Shown, assert_display, assert_same};
@@ -6,11 +6,11 @@ use byte_unit::{Bit, Byte, Unit};
 use std::alloc::{AllocError, Global};
 use std::process::Abort;
 
-/// A unit as it is written: its bits, its name, whether it counts bits, whether it goes by powers of two, and the
-/// exponents of two and of five in its bits.
-type Written = (Unit, u128, &'static str, bool, bool, (u32, u32));
+/// A unit as literals: its bits, its name, whether it is a unit of bits, whether its prefix is binary, and the
+/// exponents of 2 and 5 in its bits.
+type Properties = (Unit, u128, &'static str, bool, bool, (u32, u32));
 
-const TO_TERA: &[Written] = &[
+const TO_TERA: &[Properties] = &[
     (Unit::Bit, 1, "b", true, false, (0, 0)),
     (Unit::B, 8, "B", false, true, (3, 0)),
     (Unit::Kbit, 1000, "Kb", true, false, (3, 3)),
@@ -31,7 +31,7 @@ const TO_TERA: &[Written] = &[
     (Unit::TiB, 8_796_093_022_208, "TiB", false, true, (43, 0)),
 ];
 
-const FROM_PETA: &[Written] = &[
+const FROM_PETA: &[Properties] = &[
     (
         Unit::Pbit,
         1_000_000_000_000_000,
@@ -194,8 +194,8 @@ const FROM_PETA: &[Written] = &[
     ),
 ];
 
-/// The unit is what is written of it.
-fn is_written(unit: Unit, written: &Written) -> bool {
+/// Returns whether a unit has the expected properties.
+fn has_properties(unit: Unit, written: &Properties) -> bool {
     let (_, bits, name, is_bit, is_binary_multiples, powers) = *written;
     unit.as_bits_u128() == bits
         && u128::from(unit) == bits
@@ -205,11 +205,12 @@ fn is_written(unit: Unit, written: &Written) -> bool {
         && unit.powers() == powers
 }
 
-/// One of the unit, which is a number of bits, is printed and stored as 1 with the name; as many bytes are 8 of it.
+/// Asserts that a size of one unit in bits is formatted and stored as 1 with the unit's name, and the same number of
+/// bytes as 8.
 fn assert_one_and_eight(
     rt: &impl Abort,
     alloc: Global,
-    written: &Written,
+    written: &Properties,
 ) -> Result<(), AllocError> {
     let (unit, bits, name) = (written.0, written.1, written.2);
     let one = Bit::from_u128(bits).expect(rt, "a size");
@@ -222,11 +223,11 @@ fn assert_one_and_eight(
     assert_all_ok(rt, alloc, eight, text.as_str(), text.as_str())
 }
 
-/// Each unit is what is written of it, and its name is what Display writes and what it is stored as.
-fn assert_written(rt: &impl Abort, alloc: Global, rows: &[Written]) -> Result<(), AllocError> {
+/// Asserts the properties of each unit, its `Display` text and its JSON string.
+fn assert_written(rt: &impl Abort, alloc: Global, rows: &[Properties]) -> Result<(), AllocError> {
     for written in rows {
         let (unit, name) = (written.0, written.2);
-        assert!(rt; is_written(unit, written), "{name}");
+        assert!(rt; has_properties(unit, written), "{name}");
         assert_display(rt, alloc, &unit, name)?;
         assert_unit_stored(rt, alloc, unit, name)?;
         assert_one_and_eight(rt, alloc, written)?;
@@ -235,13 +236,13 @@ fn assert_written(rt: &impl Abort, alloc: Global, rows: &[Written]) -> Result<()
 }
 
 #[test]
-fn units_as_written_numbers(rt: HostRuntime) -> Result<(), AllocError> {
+fn units_against_literals(rt: HostRuntime) -> Result<(), AllocError> {
     assert_written(&rt, rt.alloc(), TO_TERA)?;
     assert_written(&rt, rt.alloc(), FROM_PETA)
 }
 
 #[test]
-fn flags_of_a_formatter_change_nothing(rt: HostRuntime) -> Result<(), AllocError> {
+fn formatter_flags_are_ignored(rt: HostRuntime) -> Result<(), AllocError> {
     let unit = Unit::KiB;
     assert_same(&rt, format!(in rt.alloc(); "{unit:>8}")?.as_str(), "KiB");
     assert_same(

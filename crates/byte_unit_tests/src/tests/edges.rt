@@ -1,7 +1,7 @@
-//! Sizes, expansions and numbers at the edges of their types.
+//! Tests of sizes, expansions and numbers at the limits of their types.
 //!
-//! The contracts of the calls that make a text or a JSON string say which one it is if the call returns `Ok`, and those
-//! of `Display` do so too. Here memory is ample, and each call must return `Ok`.
+//! The contracts of the calls that create a text or a JSON string, and those of `Display`, define the result if the
+//! call returns `Ok`. Here no allocation fails, and each call must return `Ok`.
 use super::shown::{
     Shown, assert_displays, assert_row, assert_same, assert_string, great_bits, great_bytes, stored,
 };
@@ -9,8 +9,8 @@ use byte_unit::{Bit, Byte, Expansion, FormatSpec, Unit, append_layout};
 use std::alloc::{AllocError, Global};
 use std::process::Abort;
 
-/// Each call returns the text of this value: the plain one, which is displayed too, and the one with a unit, which is
-/// its JSON string too.
+/// Asserts that each call returns `Ok` with the expected text: the plain one, which is also the `Display` text, and the
+/// one with a unit, which is also the JSON string.
 pub fn assert_all_ok(
     rt: &impl Abort,
     alloc: Global,
@@ -25,7 +25,7 @@ pub fn assert_all_ok(
     Ok(())
 }
 
-/// Sizes, their digits, and their texts with a unit: of bytes and of bits.
+/// Sizes, each with its digits and its texts with a unit, as bytes and as bits.
 const SIZES: &[(u128, &str, &str, &str)] = &[
     (0, "0", "0 B", "0 b"),
     (1, "1", "1 B", "1 b"),
@@ -55,7 +55,7 @@ const SIZES: &[(u128, &str, &str, &str)] = &[
     ),
 ];
 
-/// Numbers of bytes, a unit, and the text in it.
+/// A number of bytes, a unit, and the text in that unit.
 const BYTES_IN_UNITS: &[(u128, Unit, &str)] = &[
     (0, Unit::Bit, "0 b"),
     (0, Unit::B, "0 B"),
@@ -136,7 +136,7 @@ const BYTES_IN_UNITS: &[(u128, Unit, &str)] = &[
     ),
 ];
 
-/// Numbers of bits, a unit, and the text in it.
+/// A number of bits, a unit, and the text in that unit.
 const BITS_IN_UNITS: &[(u128, Unit, &str)] = &[
     (0, Unit::B, "0 B"),
     (0, Unit::Bit, "0 b"),
@@ -244,7 +244,7 @@ fn bits_in_units(rt: HostRuntime) -> Result<(), AllocError> {
     Ok(())
 }
 
-/// A numerator, the exponents of 2 and of 5 in the denominator, the places, a unit, and the text of the number with it.
+/// A numerator, the exponents of 2 and 5 in the denominator, the number of decimals, a unit, and the text.
 const LAYOUTS: &[(u128, u32, u32, u32, Unit, &str)] = &[
     (0, 0, 0, 0, Unit::B, "0 B"),
     (1, 0, 0, 0, Unit::Bit, "1 b"),

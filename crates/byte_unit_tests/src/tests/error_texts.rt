@@ -1,6 +1,6 @@
-//! The texts of the errors.
+//! Tests of the error messages.
 use super::answers::TEN;
-use super::flags::assert_always_printed;
+use super::flags::assert_printed_with_each_flag;
 use super::shown::assert_display;
 use byte_unit::{
     Decimal, ExceededBoundsError, JsonSizeError, JsonUnitError, ParseError, UnitParseError,
@@ -11,7 +11,7 @@ use std::error::Error;
 use std::fmt::Display;
 use std::process::Abort;
 
-/// Compares the text of an error, through the bound that callers have on it.
+/// Asserts the message of an error through the bound `Error`.
 pub fn assert_text<E: Error>(
     rt: &impl Abort,
     alloc: Global,
@@ -21,8 +21,8 @@ pub fn assert_text<E: Error>(
     assert_display(rt, alloc, error, wanted)
 }
 
-/// The answer is an error, which has this text.
-pub fn assert_refused<T: Drop, E: Display + Drop>(
+/// Asserts that a result is an error with the expected message.
+pub fn assert_error<T: Drop, E: Display + Drop>(
     rt: &impl Abort,
     alloc: Global,
     answer: Result<T, E>,
@@ -30,21 +30,21 @@ pub fn assert_refused<T: Drop, E: Display + Drop>(
 ) -> Result<(), AllocError> {
     match answer {
         Err(error) => assert_display(rt, alloc, &error, wanted),
-        Ok(_) => panic!(rt; "it is read, which was to be refused: {wanted}"),
+        Ok(_) => panic!(rt; "it is read, which was to be rejected: {wanted}"),
     }
 }
 
-/// Compares the text of an error as a formatter with each flag writes it: flags change nothing.
+/// Asserts that the flags of a formatter do not change the message of an error.
 fn assert_with_flags<E: Error>(
     rt: &impl Abort,
     alloc: Global,
     error: &E,
     wanted: &str,
 ) -> Result<(), AllocError> {
-    assert_always_printed(rt, alloc, error, wanted)
+    assert_printed_with_each_flag(rt, alloc, error, wanted)
 }
 
-/// The error has this text by itself, as the error of a text, and as that of a JSON string.
+/// Asserts the message of a number error by itself, as a parse error and as an error of a JSON string.
 pub fn assert_value_text(
     rt: &impl Abort,
     alloc: Global,
@@ -60,7 +60,7 @@ pub fn assert_value_text(
 }
 
 #[test]
-fn texts_of_faults_of_numbers(rt: HostRuntime) -> Result<(), AllocError> {
+fn number_error_messages(rt: HostRuntime) -> Result<(), AllocError> {
     let alloc = rt.alloc();
     let price = Decimal::from_u128_with_scale(5084, 2).expect(&rt, "a decimal");
     let ronna = Decimal::from_u128(1_000_000_000_000_000_000_000_000_000).expect(&rt, "a decimal");
@@ -102,8 +102,8 @@ fn texts_of_faults_of_numbers(rt: HostRuntime) -> Result<(), AllocError> {
     )
 }
 
-/// The fault of a unit with these fields.
-fn unit_fault(
+/// Creates a unit error from its fields.
+fn unit_error(
     character: char,
     expected_characters: &'static [char],
     also_expect_no_character: bool,
@@ -115,7 +115,7 @@ fn unit_fault(
     }
 }
 
-/// The fault of a unit with these fields has this text by itself, as the error of a text, and as that of a JSON string.
+/// Asserts the message of a unit error by itself, as a parse error and as an error of a JSON string.
 pub fn assert_unit_text(
     rt: &impl Abort,
     alloc: Global,
@@ -123,18 +123,18 @@ pub fn assert_unit_text(
     wanted: &str,
 ) -> Result<(), AllocError> {
     let (character, expected, or_end) = fields;
-    let alone = unit_fault(character, expected, or_end);
+    let alone = unit_error(character, expected, or_end);
     assert_text(rt, alloc, &alone, wanted)?;
     assert_with_flags(rt, alloc, &alone, wanted)?;
     let read: ParseError = alone.into();
     assert_text(rt, alloc, &read, wanted)?;
     assert_with_flags(rt, alloc, &read, wanted)?;
     assert_text(rt, alloc, &JsonSizeError::Parse(read), wanted)?;
-    let stored = JsonUnitError::Unit(unit_fault(character, expected, or_end));
+    let stored = JsonUnitError::Unit(unit_error(character, expected, or_end));
     assert_text(rt, alloc, &stored, wanted)
 }
 
-/// The fault of a unit with the fields in each row has the text in the row.
+/// Asserts the message of each unit error.
 pub fn assert_unit_texts(
     rt: &impl Abort,
     alloc: Global,
@@ -146,11 +146,11 @@ pub fn assert_unit_texts(
     Ok(())
 }
 
-/// The text of an `x` where a unit could begin.
+/// The message for an `x` where a unit could start.
 const NO_UNIT: &str =
     "the character 'x' is incorrect ('B', 'K', 'M', 'G', 'T', 'P', 'E', 'Z', 'Y' or 'R' or no character is expected)";
 
-const TEXTS_OF_FAULTS_OF_UNITS: &[(char, &[char], bool, &str)] = &[
+const UNIT_ERROR_MESSAGES: &[(char, &[char], bool, &str)] = &[
     (
         'é',
         &['B', 'b'],
@@ -185,12 +185,12 @@ const TEXTS_OF_FAULTS_OF_UNITS: &[(char, &[char], bool, &str)] = &[
 ];
 
 #[test]
-fn texts_of_faults_of_units(rt: HostRuntime) -> Result<(), AllocError> {
-    assert_unit_texts(&rt, rt.alloc(), TEXTS_OF_FAULTS_OF_UNITS)
+fn unit_error_messages(rt: HostRuntime) -> Result<(), AllocError> {
+    assert_unit_texts(&rt, rt.alloc(), UNIT_ERROR_MESSAGES)
 }
 
 #[test]
-fn texts_of_errors_without_fields(rt: HostRuntime) -> Result<(), AllocError> {
+fn messages_of_errors_without_fields(rt: HostRuntime) -> Result<(), AllocError> {
     let alloc = rt.alloc();
     let exceeded = "value exceeds the valid range";
     assert_text(&rt, alloc, &ExceededBoundsError, exceeded)?;

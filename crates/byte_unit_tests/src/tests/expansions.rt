@@ -1,10 +1,10 @@
-//! The digits of expansions, rounded or whole.
+//! Tests of decimal expansions: their digits, exact and rounded.
 use super::shown::assert_display;
 use byte_unit::{Decimal, Expansion, Ties};
 use std::alloc::AllocError;
 use std::process::Abort;
 
-/// Mantissa, scale, the whole part, the places, and the last digit.
+/// The mantissa, the scale, the integer part, the number of decimals, and the last digit.
 const DIGITS_OF_DECIMALS: &[(u128, u32, u128, u32, u8)] = &[
     (0, 0, 0, 0, 0),
     (1000, 2, 10, 0, 0),
@@ -13,7 +13,7 @@ const DIGITS_OF_DECIMALS: &[(u128, u32, u128, u32, u8)] = &[
     (99_990, 5, 0, 4, 9),
 ];
 
-/// Each decimal has the digits in its row, and none past the last.
+/// Asserts the digits of each decimal, and that there are none after the last.
 fn assert_digits(rt: &impl Abort, rows: &[(u128, u32, u128, u32, u8)]) {
     for (mantissa, scale, whole, places, last) in rows {
         let d = Decimal::from_u128_with_scale(*mantissa, *scale).expect(rt, "a decimal");
@@ -32,7 +32,7 @@ fn digits_of_decimals(rt: HostRuntime) {
     assert_digits(&rt, DIGITS_OF_DECIMALS);
 }
 
-/// The digits are these from the place on.
+/// Asserts the digits that begin at a position.
 fn assert_from(rt: &impl Abort, e: &Expansion, from: u32, digits: &[u8]) {
     for (i, digit) in (from..u32::MAX).zip(digits.iter()) {
         assert!(rt; i >= 1);
@@ -41,7 +41,7 @@ fn assert_from(rt: &impl Abort, e: &Expansion, from: u32, digits: &[u8]) {
 }
 
 #[test]
-fn one_over_yobibytes_and_robibytes(rt: HostRuntime) {
+fn one_in_yobibytes_and_robibytes(rt: HostRuntime) {
     let e = Expansion::new(1, 83, 0);
     assert!(rt; e.whole() == 0 && e.places() == 83);
     assert_from(&rt, &e, 1, &[0; 24]);
@@ -56,7 +56,7 @@ fn one_over_yobibytes_and_robibytes(rt: HostRuntime) {
 }
 
 #[test]
-fn fractions_over_twos_and_fives(rt: HostRuntime) {
+fn denominators_of_2_and_5(rt: HostRuntime) {
     for (numerator, twos, fives, whole, places, first) in [
         (13, 3, 0, 1, 3, 6),
         (7, 1, 1, 0, 1, 7),
@@ -77,15 +77,15 @@ fn fractions_over_twos_and_fives(rt: HostRuntime) {
     }
 }
 
-/// The whole part, the places that are left, and the first two digits.
+/// Returns the integer part, the number of decimals, and the first two of them.
 fn parts_of(e: &Expansion) -> Rounded {
     (e.whole(), e.places(), e.digit(1), e.digit(2))
 }
 
-/// What is left of a rounded expansion: the whole part, the places, and the first two digits.
+/// A rounded expansion: the integer part, the number of decimals, and the first two of them.
 type Rounded = (u128, u32, u8, u8);
 
-/// Mantissa, scale, places, and what is left with ties to even and with ties up.
+/// The mantissa, the scale, the precision, and the results with ties to even and with ties up.
 const ROUNDED_TO_EVEN_AND_UP: &[(u128, u32, u32, Rounded, Rounded)] = &[
     (9996, 3, 2, (10, 0, 0, 0), (10, 0, 0, 0)),
     (1005, 3, 2, (1, 0, 0, 0), (1, 2, 0, 1)),
@@ -93,11 +93,11 @@ const ROUNDED_TO_EVEN_AND_UP: &[(u128, u32, u32, Rounded, Rounded)] = &[
     (5, 1, 0, (0, 0, 0, 0), (1, 0, 0, 0)),
     (15, 1, 0, (2, 0, 0, 0), (2, 0, 0, 0)),
     (9999, 4, 3, (1, 0, 0, 0), (1, 0, 0, 0)),
-    // More places than it has.
+    // More decimals than it has.
     (50, 2, 65_535, (0, 1, 5, 0), (0, 1, 5, 0)),
 ];
 
-/// Each decimal is rounded to what is in its row.
+/// Asserts the result of rounding each decimal.
 fn assert_rounded(rt: &impl Abort, rows: &[(u128, u32, u32, Rounded, Rounded)]) {
     for (mantissa, scale, places, even, up) in rows {
         let d = Decimal::from_u128_with_scale(*mantissa, *scale).expect(rt, "a decimal");

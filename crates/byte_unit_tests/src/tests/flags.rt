@@ -1,11 +1,11 @@
-//! A formatter's flags change nothing of a number or a size.
+//! Tests that the flags of a formatter do not change the text of a number or a size.
 use byte_unit::{Bit, Byte, Decimal, Expansion, FormatSpec, Unit};
 use std::alloc::{AllocError, Global};
 use std::fmt::Display;
 use std::process::Abort;
 
-/// The value is printed as this text, which has no line feed, with no flag and with each.
-pub fn assert_always_printed<D: Display>(
+/// Asserts that a value is printed as `wanted`, which has no line feed, with no flag and with each flag.
+pub fn assert_printed_with_each_flag<D: Display>(
     rt: &impl Abort,
     alloc: Global,
     value: &D,
@@ -21,25 +21,25 @@ pub fn assert_always_printed<D: Display>(
 }
 
 #[test]
-fn flags_change_nothing(rt: HostRuntime) -> Result<(), AllocError> {
+fn formatter_flags_are_ignored(rt: HostRuntime) -> Result<(), AllocError> {
     let alloc = rt.alloc();
     let bytes = Byte::from_u64(1_555_000);
     let bits = Bit::from_u64(1_555_000);
     let number = Decimal::from_u128_with_scale(1555, 3).expect(&rt, "a decimal");
-    assert_always_printed(&rt, alloc, &bytes, "1555000")?;
-    assert_always_printed(&rt, alloc, &bits, "1555000")?;
-    assert_always_printed(&rt, alloc, &bytes.get_adjusted_unit(Unit::MB), "1.555 MB")?;
-    assert_always_printed(&rt, alloc, &bits.get_adjusted_unit(Unit::Mbit), "1.555 Mb")?;
-    assert_always_printed(&rt, alloc, &number, "1.555")?;
-    assert_always_printed(&rt, alloc, &Expansion::from_decimal(number), "1.555")
+    assert_printed_with_each_flag(&rt, alloc, &bytes, "1555000")?;
+    assert_printed_with_each_flag(&rt, alloc, &bits, "1555000")?;
+    assert_printed_with_each_flag(&rt, alloc, &bytes.get_adjusted_unit(Unit::MB), "1.555 MB")?;
+    assert_printed_with_each_flag(&rt, alloc, &bits.get_adjusted_unit(Unit::Mbit), "1.555 Mb")?;
+    assert_printed_with_each_flag(&rt, alloc, &number, "1.555")?;
+    assert_printed_with_each_flag(&rt, alloc, &Expansion::from_decimal(number), "1.555")
 }
 
-/// The default of a type.
+/// Returns the default of a type.
 fn default_of<T: Default>() -> T {
     T::default()
 }
 
 #[test]
-fn the_default_spec_is_plain(rt: HostRuntime) {
+fn default_spec_is_plain(rt: HostRuntime) {
     assert!(rt; default_of::<FormatSpec>() == FormatSpec::PLAIN);
 }

@@ -1,9 +1,9 @@
-//! The specs that stand for format strings of the Rust crate: the table of the README.
+//! Tests of the specs for the format strings of the Rust crate: the table in docs/API.md.
 use super::shown::{assert_row, bytes, bytes_in};
 use byte_unit::{Align, FormatSpec, Sign, Unit};
 use std::alloc::AllocError;
 
-/// A format string, the spec that stands for it, the text of 15500 bytes by it, and their text in KiB.
+/// A format string, its spec, the text of 15500 bytes with it, and their text in KiB.
 const SPECS_OF_FORMAT_STRINGS: &[(&str, FormatSpec, &str, &str)] = &[
     ("{}", FormatSpec::PLAIN, "15500", "15.13671875 KiB"),
     ("{:#}", FormatSpec::ALTERNATE, "15.5 KB", "15.13671875 KiB"),

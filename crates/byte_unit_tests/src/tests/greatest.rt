@@ -1,13 +1,13 @@
-//! The greatest values of each type as Display writes them, the least, and those with the most places.
+//! Tests of the `Display` text of the minimum and maximum of each type, and of values with the most decimals.
 use super::error_texts::assert_value_text;
 use super::shown::{Shown, assert_display, assert_displays, bits, bytes, great_bytes};
 use byte_unit::{Bit, Byte, Decimal, Expansion, Unit, ValueParseError};
 use std::alloc::AllocError;
 
-/// The greatest whole part of a decimal: 2^112 - 1.
+/// The maximum integer part of a decimal: 2^112 - 1.
 const WHOLES: u128 = 5_192_296_858_534_827_628_530_496_329_220_095;
 
-/// The greatest fraction of a decimal, in 28th places.
+/// The maximum fraction of a decimal, scaled by 10^28.
 const NINES: u128 = 9_999_999_999_999_999_999_999_999_999;
 
 const DECIMALS: &[(u128, u128, &str)] = &[
@@ -130,8 +130,8 @@ fn sizes(rt: HostRuntime) -> Result<(), AllocError> {
     )
 }
 
-/// The greatest size in bytes, in the unit.
-fn most_bytes(unit: Unit) -> Shown {
+/// Returns the maximum size in bytes, in a unit.
+fn max_bytes(unit: Unit) -> Shown {
     Shown::AdjustedByte(Byte::MAX.get_adjusted_unit(unit))
 }
 
@@ -141,24 +141,21 @@ fn bytes_in_units(rt: HostRuntime) -> Result<(), AllocError> {
         &rt,
         rt.alloc(),
         &[
-            (most_bytes(Unit::Bit), "7999999999999999999999999999992 b"),
-            (most_bytes(Unit::B), "999999999999999999999999999999 B"),
+            (max_bytes(Unit::Bit), "7999999999999999999999999999992 b"),
+            (max_bytes(Unit::B), "999999999999999999999999999999 B"),
+            (max_bytes(Unit::Kbit), "7999999999999999999999999999.992 Kb"),
+            (max_bytes(Unit::YB), "999999.999999999999999999999999 YB"),
+            (max_bytes(Unit::RB), "999.999999999999999999999999999 RB"),
             (
-                most_bytes(Unit::Kbit),
-                "7999999999999999999999999999.992 Kb",
-            ),
-            (most_bytes(Unit::YB), "999999.999999999999999999999999 YB"),
-            (most_bytes(Unit::RB), "999.999999999999999999999999999 RB"),
-            (
-                most_bytes(Unit::RiB),
+                max_bytes(Unit::RiB),
                 "807.793566946316088741610050848765305618417073462897946833916051900814636610448360443115234375 RiB",
             ),
         ],
     )
 }
 
-/// The greatest size in bits, in the unit.
-fn most_bits(unit: Unit) -> Shown {
+/// Returns the maximum size in bits, in a unit.
+fn max_bits(unit: Unit) -> Shown {
     Shown::AdjustedBit(Bit::MAX.get_adjusted_unit(unit))
 }
 
@@ -168,13 +165,13 @@ fn bits_in_units(rt: HostRuntime) -> Result<(), AllocError> {
         &rt,
         rt.alloc(),
         &[
-            (most_bits(Unit::Bit), "999999999999999999999999999999 b"),
-            (most_bits(Unit::B), "124999999999999999999999999999.875 B"),
-            (most_bits(Unit::Kbit), "999999999999999999999999999.999 Kb"),
-            (most_bits(Unit::YB), "124999.999999999999999999999999875 YB"),
-            (most_bits(Unit::RB), "124.999999999999999999999999999875 RB"),
+            (max_bits(Unit::Bit), "999999999999999999999999999999 b"),
+            (max_bits(Unit::B), "124999999999999999999999999999.875 B"),
+            (max_bits(Unit::Kbit), "999999999999999999999999999.999 Kb"),
+            (max_bits(Unit::YB), "124999.999999999999999999999999875 YB"),
+            (max_bits(Unit::RB), "124.999999999999999999999999999875 RB"),
             (
-                most_bits(Unit::RiB),
+                max_bits(Unit::RiB),
                 "100.974195868289511092701256356095663202302134182862243354239506487601829576306045055389404296875 RiB",
             ),
         ],

@@ -1,6 +1,6 @@
-//! JSON strings of sizes and units, and settings that hold them.
-use super::answers::Answer;
-use super::long_strings::{assert_refused_by_each, assert_unit, assert_unit_stored};
+//! Tests of sizes and units as JSON strings, and of JSON objects with them.
+use super::answers::Expected;
+use super::long_strings::{assert_rejected_by_each, assert_unit, assert_unit_stored};
 use super::shown::{
     Shown, assert_stored, assert_string, bits, bits_in, bytes, bytes_in, read_like, stored,
 };
@@ -10,7 +10,7 @@ use std::alloc::{AllocError, Global};
 use std::process::Abort;
 use std::test::Fail;
 
-/// Sizes, and the string that each is stored as.
+/// Returns sizes, each with its JSON string.
 fn sizes_and_strings() -> [(Shown, &'static str); 7] {
     [
         (bytes(15_500), "15.5 KB"),
@@ -30,9 +30,9 @@ fn sizes_and_units_as_strings(rt: HostRuntime) -> Result<(), AllocError> {
 }
 
 #[test]
-fn adjusted_sizes_read_back(rt: HostRuntime) -> Result<(), AllocError> {
+fn adjusted_sizes_round_trip(rt: HostRuntime) -> Result<(), AllocError> {
     let most = Shown::AdjustedByte(Byte::MAX.get_adjusted_unit(Unit::YiB));
-    let most_bits = Shown::AdjustedBit(Bit::MAX.get_adjusted_unit(Unit::YiB));
+    let max_bits = Shown::AdjustedBit(Bit::MAX.get_adjusted_unit(Unit::YiB));
     let before_last = Byte::from_u128(999_999_999_999_999_999_999_999_999_998).expect(
         &rt, "a size",
     );
@@ -52,12 +52,12 @@ fn adjusted_sizes_read_back(rt: HostRuntime) -> Result<(), AllocError> {
                 bits_in(4, Unit::Gibit),
                 "0.0000000037252902984619140625 Gib",
             ),
-            (most_bits, "999999999999999999999999999.999 Kb"),
+            (max_bits, "999999999999999999999999999.999 Kb"),
         ],
     )
 }
 
-/// The size is stored as a text that is too long to be read again, as any type.
+/// Asserts that a size is stored as a string with too many decimals to be parsed, as each type.
 fn assert_too_long(
     rt: &impl Abort,
     alloc: Global,
@@ -66,20 +66,20 @@ fn assert_too_long(
 ) -> Result<(), AllocError> {
     let value = stored(shown, alloc)?;
     assert_string(rt, &value, wanted);
-    assert_refused_by_each(rt, &value, Answer::NumberTooLong);
+    assert_rejected_by_each(rt, &value, Expected::NumberTooLong);
     Ok(())
 }
 
-/// One byte, with the 90 places of a 2^90th.
+/// One byte in `RiB`: the 90 decimals of 2^-90.
 const ONE_BYTE_IN_RIB: &str =
     "0.000000000000000000000000000807793566946316088741610050849573099185363389551639556884765625 RiB";
 
-/// One bit, with the 93 places of a 2^93rd.
+/// One bit in `RiB`: the 93 decimals of 2^-93.
 const ONE_BIT_IN_RIB: &str =
     "0.000000000000000000000000000100974195868289511092701256356196637398170423693954944610595703125 RiB";
 
 #[test]
-fn adjusted_sizes_with_too_many_places(rt: HostRuntime) -> Result<(), AllocError> {
+fn adjusted_sizes_with_too_many_decimals(rt: HostRuntime) -> Result<(), AllocError> {
     for (shown, wanted) in [
         (
             bytes_in(1, Unit::GiB),
@@ -98,19 +98,19 @@ fn adjusted_sizes_with_too_many_places(rt: HostRuntime) -> Result<(), AllocError
     Ok(())
 }
 
-/// The size of the first version's greatest in `YiB`: three digits, the point, 80 places, a space and the unit.
+/// The maximum size of v1 in `YiB`: three digits, the decimal point, 80 decimals, a space and the unit.
 #[test]
-fn the_greatest_size_of_the_first_version(rt: HostRuntime) -> Result<(), AllocError> {
+fn maximum_size_of_v1(rt: HostRuntime) -> Result<(), AllocError> {
     let old = Byte::from_u128(999_999_999_999_999_999_999_999_999).expect(&rt, "a size");
     let old = Shown::AdjustedByte(old.get_adjusted_unit(Unit::YiB));
     let value = stored(&old, rt.alloc())?;
     let len = value.as_str().map_or(0, str::len);
     assert!(rt; len == 3 + 1 + 80 + 4);
-    assert_refused_by_each(&rt, &value, Answer::NumberTooLong);
+    assert_rejected_by_each(&rt, &value, Expected::NumberTooLong);
     Ok(())
 }
 
-/// A member of an object, or null.
+/// Returns a member of an object, or null if it has none by that name.
 fn member<'a>(settings: &'a Value, name: &str, null: &'a Value) -> &'a Value {
     match settings.get(name) {
         Some(value) => value,
@@ -118,16 +118,16 @@ fn member<'a>(settings: &'a Value, name: &str, null: &'a Value) -> &'a Value {
     }
 }
 
-/// The member is read, as the type of this size, as so many.
+/// Asserts the size that a member represents, parsed as the type of `like`.
 fn assert_member(rt: &impl Abort, settings: &Value, name: &str, like: &Shown, wanted: u128) {
     match read_like(like, member(settings, name, &Value::Null)) {
         Ok(size) => assert!(rt; size == wanted, "{name}"),
-        Err(_) => panic!(rt; "{name} is refused"),
+        Err(_) => panic!(rt; "{name} is rejected"),
     }
 }
 
 #[test]
-fn settings_from_their_text(rt: HostRuntime) -> Result<(), Fail> {
+fn parse_settings(rt: HostRuntime) -> Result<(), Fail> {
     let text = "{ \"cache\": \"1.5 GiB\", \"upload\": \"20 MB\", \"line\": \"100 Mb\" }";
     let settings = Value::from_str(rt.alloc(), text)?;
     assert_member(&rt, &settings, "cache", &bytes(0), 1_610_612_736);
@@ -147,7 +147,7 @@ fn put(
     Ok(())
 }
 
-/// Settings with a value of each type: 1536 bytes, 100,000,000 bits, a unit, and 1536 bytes in a unit.
+/// Creates settings with a value of each type: 1536 bytes, 100,000,000 bits, a unit, and 1536 bytes in a unit.
 fn settings_of_each_type(alloc: Global) -> Result<Value, AllocError> {
     let mut settings = Map::new(alloc);
     put(&mut settings, alloc, "cache", stored(&bytes(1536), alloc)?)?;
@@ -172,7 +172,7 @@ fn settings_of_each_type(alloc: Global) -> Result<Value, AllocError> {
     Ok(Value::Object(settings))
 }
 
-/// They are read as what they were made of.
+/// Asserts that the settings round-trip.
 fn assert_of_each_type(rt: &impl Abort, settings: &Value) {
     assert_member(rt, settings, "cache", &bytes(0), 1536);
     assert_member(rt, settings, "limit", &bits(0), 100_000_000);
@@ -182,7 +182,7 @@ fn assert_of_each_type(rt: &impl Abort, settings: &Value) {
 }
 
 #[test]
-fn settings_through_their_text(rt: HostRuntime) -> Result<(), Fail> {
+fn settings_round_trip(rt: HostRuntime) -> Result<(), Fail> {
     let text = settings_of_each_type(rt.alloc())?.to_string(rt.alloc())?;
     let settings = Value::from_str(rt.alloc(), text.as_str())?;
     assert_of_each_type(&rt, &settings);

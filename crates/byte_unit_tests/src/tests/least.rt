@@ -1,21 +1,22 @@
-//! The least whole size that holds a decimal of a unit, exact quotients, and the powers of two and of five in a size.
+//! Tests of rounding up to a whole size, of exact quotients, and of the exponents of 2 and 5 in a size.
 use super::decimals::parts_of;
 use byte_unit::{Decimal, Steps, exact_quotient, least_size, least_size_counted, two_five};
 use std::process::Abort;
 
-/// The greatest fraction of a decimal, in 28th places.
+/// The maximum fraction of a decimal, scaled by 10^28.
 const NINES: u128 = 9_999_999_999_999_999_999_999_999_999;
 
-/// The bits of the greatest unit.
+/// The number of bits in the largest unit.
 const ROBIBYTE: u128 = 9_903_520_314_283_042_199_192_993_792;
 
-/// Below so many bits each size lies.
+/// The limit of sizes in bits.
 const BITS: u128 = 8_000_000_000_000_000_000_000_000_000_000;
 
-/// Whole part and fraction of the decimal, size of the unit, limit, and the least size if it lies below.
+/// The integer part and the fraction of the decimal, the bits of the unit, the limit, and the size rounded up if it is
+/// below the limit.
 type Least = (u128, u128, u128, u128, Option<u128>);
 
-/// The least size of each decimal of its unit is the one in its row.
+/// Asserts the size of each decimal of its unit, rounded up.
 fn assert_least(rt: &impl Abort, rows: &[Least]) {
     for (whole, fraction, unit_size, limit, size) in rows {
         let (unit_size, limit) = (*unit_size, *limit);
@@ -46,8 +47,8 @@ fn rounded_up_below_the_limit(rt: HostRuntime) {
     assert_least(&rt, ROUNDED_UP_BELOW_THE_LIMIT);
 }
 
-/// In four ticks each: the least size of the fraction of the unit.
-fn assert_least_in_four_ticks(rt: &impl Abort, rows: &[Least]) {
+/// Asserts the size of each fraction of its unit, rounded up, and a step count of four.
+fn assert_least_in_four_steps(rt: &impl Abort, rows: &[Least]) {
     for (whole, fraction, unit_size, limit, size) in rows {
         let (unit_size, limit) = (*unit_size, *limit);
         let number = Decimal::new(*whole, *fraction).expect(rt, "a decimal");
@@ -64,7 +65,7 @@ const BITS_OF_THE_FIRST_VERSION: u128 = 8_000_000_000_000_000_000_000_000_000;
 
 const SEVENTH: u128 = 1_000_000_000_000_000_000_000;
 
-const FOUR_TICKS_EACH: &[Least] = &[
+const FOUR_STEPS_EACH: &[Least] = &[
     (0, SEVENTH, 10_000_000, 100, Some(1)),
     (0, SEVENTH + 1, 10_000_000, 100, Some(2)),
     (
@@ -80,13 +81,13 @@ const FOUR_TICKS_EACH: &[Least] = &[
 ];
 
 #[test]
-fn four_ticks_each(rt: HostRuntime) {
-    assert_least_in_four_ticks(&rt, FOUR_TICKS_EACH);
-    assert_least(&rt, FOUR_TICKS_EACH);
+fn four_steps_each(rt: HostRuntime) {
+    assert_least_in_four_steps(&rt, FOUR_STEPS_EACH);
+    assert_least(&rt, FOUR_STEPS_EACH);
 }
 
-/// The last two are past the limit, and past 128 bits.
-const IN_THE_GREATEST_UNIT: &[Least] = &[
+/// The last two exceed the limit, and 128 bits.
+const IN_THE_LARGEST_UNIT: &[Least] = &[
     (0, NINES, ROBIBYTE, BITS, Some(ROBIBYTE)),
     (0, 1, ROBIBYTE, BITS, Some(1)),
     (806, NINES, ROBIBYTE, BITS, Some(807 * ROBIBYTE)),
@@ -101,36 +102,36 @@ const IN_THE_GREATEST_UNIT: &[Least] = &[
 ];
 
 #[test]
-fn in_the_greatest_unit(rt: HostRuntime) {
-    assert_least(&rt, IN_THE_GREATEST_UNIT);
+fn in_the_largest_unit(rt: HostRuntime) {
+    assert_least(&rt, IN_THE_LARGEST_UNIT);
 }
 
 const YOBI: u128 = 1_208_925_819_614_629_174_706_176;
 
 const BYTES_OF_THE_FIRST_VERSION: u128 = 1_000_000_000_000_000_000_000_000_000;
 
-const IN_THE_GREATEST_OF_THE_UNITS_OF_BYTES: &[Least] = &[
+const IN_THE_LARGEST_UNIT_OF_BYTES: &[Least] = &[
     (0, NINES, YOBI, BYTES_OF_THE_FIRST_VERSION, Some(YOBI)),
     (0, 1, YOBI, BYTES_OF_THE_FIRST_VERSION, Some(1)),
 ];
 
 #[test]
-fn in_the_greatest_of_the_units_of_bytes(rt: HostRuntime) {
-    assert_least(&rt, IN_THE_GREATEST_OF_THE_UNITS_OF_BYTES);
+fn in_the_largest_unit_of_bytes(rt: HostRuntime) {
+    assert_least(&rt, IN_THE_LARGEST_UNIT_OF_BYTES);
 }
 
-/// Size, unit, places, the quotient by its whole part and its fraction, and the ticks.
+/// The size, the unit, the precision, the integer part and the fraction of the quotient, and the step count.
 type Quotient = (u128, u128, u32, Option<(u128, u128)>, u64);
 
-/// Each quotient is the one in its row, after as many ticks.
+/// Asserts each quotient and its step count.
 fn assert_quotients(rt: &impl Abort, rows: &[Quotient]) {
-    for (size, unit, places, quotient, ticks) in rows {
+    for (size, unit, places, quotient, step_count) in rows {
         let (size, unit) = (*size, *unit);
         assert!(rt; size <= 1 && 1 <= unit && unit <= ROBIBYTE);
         let mut steps = Steps::new();
         let made = exact_quotient(size, unit, *places, &mut steps);
         assert!(rt;
-            made.map(parts_of) == *quotient && steps.count() == *ticks,
+            made.map(parts_of) == *quotient && steps.count() == *step_count,
             "at {size} and {unit}"
         );
     }
@@ -142,7 +143,7 @@ const EIGHTH: (u128, u128) = (0, 1_250_000_000_000_000_000_000_000_000);
 
 const POWER: (u128, u128) = (0, 37_252_902_984_619_140_625);
 
-const QUOTIENTS_WITH_THEIR_TICKS: &[Quotient] = &[
+const QUOTIENTS_AND_STEP_COUNTS: &[Quotient] = &[
     (1, 8, 3, Some(EIGHTH), 3),
     (1, 8, 2, None, 2),
     (1, 3, 28, None, 28),
@@ -153,24 +154,24 @@ const QUOTIENTS_WITH_THEIR_TICKS: &[Quotient] = &[
 ];
 
 #[test]
-fn quotients_with_their_ticks(rt: HostRuntime) {
-    assert_quotients(&rt, QUOTIENTS_WITH_THEIR_TICKS);
+fn quotients_and_step_counts(rt: HostRuntime) {
+    assert_quotients(&rt, QUOTIENTS_AND_STEP_COUNTS);
 }
 
-/// Each size has the powers of two and of five in its row, after as many ticks.
+/// Asserts the exponents of 2 and 5 in each size, and the step count.
 fn assert_powers(rt: &impl Abort, rows: &[(u128, (u32, u32), u64)]) {
-    for (size, powers, ticks) in rows {
+    for (size, powers, step_count) in rows {
         let size = *size;
         assert!(rt; 1 <= size && size <= 999_999_999_999_999_999_999_999_999_999);
         let mut steps = Steps::new();
         assert!(rt;
-            two_five(size, &mut steps) == *powers && steps.count() == *ticks,
+            two_five(size, &mut steps) == *powers && steps.count() == *step_count,
             "at {size}"
         );
     }
 }
 
-const POWERS_WITH_THEIR_TICKS: &[(u128, (u32, u32), u64)] = &[
+const POWERS_AND_STEP_COUNTS: &[(u128, (u32, u32), u64)] = &[
     (1, (0, 0), 2),
     (7, (0, 0), 2),
     (1_000, (3, 3), 8),
@@ -179,12 +180,12 @@ const POWERS_WITH_THEIR_TICKS: &[(u128, (u32, u32), u64)] = &[
 ];
 
 #[test]
-fn powers_with_their_ticks(rt: HostRuntime) {
-    assert_powers(&rt, POWERS_WITH_THEIR_TICKS);
+fn powers_and_step_counts(rt: HostRuntime) {
+    assert_powers(&rt, POWERS_AND_STEP_COUNTS);
 }
 
 /// 2^89, 2^99, 5^38, 5^42, 10^24, 27 nines and 30 nines.
-const POWERS_OF_GREAT_SIZES_WITH_THEIR_TICKS: &[(u128, (u32, u32), u64)] = &[
+const POWERS_OF_LARGE_SIZES_AND_STEP_COUNTS: &[(u128, (u32, u32), u64)] = &[
     (618_970_019_642_690_137_449_562_112, (89, 0), 91),
     (633_825_300_114_114_700_748_351_602_688, (99, 0), 101),
     (363_797_880_709_171_295_166_015_625, (0, 38), 40),
@@ -195,6 +196,6 @@ const POWERS_OF_GREAT_SIZES_WITH_THEIR_TICKS: &[(u128, (u32, u32), u64)] = &[
 ];
 
 #[test]
-fn powers_of_great_sizes_with_their_ticks(rt: HostRuntime) {
-    assert_powers(&rt, POWERS_OF_GREAT_SIZES_WITH_THEIR_TICKS);
+fn powers_of_large_sizes_and_step_counts(rt: HostRuntime) {
+    assert_powers(&rt, POWERS_OF_LARGE_SIZES_AND_STEP_COUNTS);
 }

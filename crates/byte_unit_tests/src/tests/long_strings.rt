@@ -1,12 +1,12 @@
-//! JSON strings that are long.
-use super::answers::{Answer, TEN, is_fault, is_unit_fault};
+//! Tests of long JSON strings.
+use super::answers::{Expected, TEN, is_error, is_unit_error};
 use super::shown::{Shown, assert_string, bits, bits_in, bytes, bytes_in, read_like};
 use byte_unit::{JsonSizeError, JsonUnitError, Unit, unit_from_json, unit_to_json};
 use serde_json::Value;
 use std::alloc::{AllocError, Global};
 use std::process::Abort;
 
-/// A JSON string of the front 10,000 times, the middle, and the end 10,000 times.
+/// Creates a JSON string of `front` 10,000 times, `middle`, and `end` 10,000 times.
 fn long(alloc: Global, front: &str, middle: &str, end: &str) -> Result<Value, AllocError> {
     let mut text = front.repeat(alloc, 10_000)?;
     text.push_str(middle)?;
@@ -14,7 +14,7 @@ fn long(alloc: Global, front: &str, middle: &str, end: &str) -> Result<Value, Al
     Ok(Value::String(text))
 }
 
-/// One of each type.
+/// Returns a value of each type.
 pub fn each_type() -> [Shown; 4] {
     [
         bytes(0),
@@ -24,18 +24,18 @@ pub fn each_type() -> [Shown; 4] {
     ]
 }
 
-/// The value is refused by each type with this fault.
-pub fn assert_refused_by_each(rt: &impl Abort, value: &Value, wanted: Answer) {
+/// Asserts that each type rejects a JSON value with the expected error.
+pub fn assert_rejected_by_each(rt: &impl Abort, value: &Value, wanted: Expected) {
     for shown in each_type() {
         match read_like(&shown, value) {
             Ok(_) => panic!(rt; "it is read"),
             Err(JsonSizeError::NotString) => panic!(rt; "it is a string"),
-            Err(JsonSizeError::Parse(error)) => assert!(rt; is_fault(&error, wanted)),
+            Err(JsonSizeError::Parse(error)) => assert!(rt; is_error(&error, wanted)),
         }
     }
 }
 
-/// One of each type, and what it reads one byte as.
+/// Returns a value of each type, and one byte in its base unit, `B` or `b`.
 fn each_type_and_one() -> [(Shown, u128); 4] {
     [
         (bytes(0), 1),
@@ -45,12 +45,12 @@ fn each_type_and_one() -> [(Shown, u128); 4] {
     ]
 }
 
-/// The value is one byte, as each type reads it.
+/// Asserts that a JSON value is parsed as one byte by each type.
 fn assert_one_byte(rt: &impl Abort, value: &Value) {
     for (shown, size) in each_type_and_one() {
         match read_like(&shown, value) {
             Ok(read) => assert!(rt; read == size),
-            Err(_) => panic!(rt; "one byte is refused"),
+            Err(_) => panic!(rt; "one byte is rejected"),
         }
     }
 }
@@ -59,19 +59,19 @@ fn assert_one_byte(rt: &impl Abort, value: &Value) {
 fn long_strings_of_sizes(rt: HostRuntime) -> Result<(), AllocError> {
     assert_one_byte(&rt, &long(rt.alloc(), "0", "1 B", "")?);
     let ones = long(rt.alloc(), "1", "", "")?;
-    assert_refused_by_each(&rt, &ones, Answer::NumberTooLong);
+    assert_rejected_by_each(&rt, &ones, Expected::NumberTooLong);
     Ok(())
 }
 
-/// The JSON value is read as this unit.
+/// Asserts that a JSON value is parsed as the expected unit.
 pub fn assert_unit(rt: &impl Abort, value: &Value, wanted: Unit) {
     match unit_from_json(value) {
         Ok(unit) => assert!(rt; unit == wanted, "{wanted}"),
-        Err(_) => panic!(rt; "{wanted} is refused"),
+        Err(_) => panic!(rt; "{wanted} is rejected"),
     }
 }
 
-/// The unit is stored as this text, and is read from it again.
+/// Asserts the JSON string of a unit, and that it round-trips.
 pub fn assert_unit_stored(
     rt: &impl Abort,
     alloc: Global,
@@ -84,10 +84,10 @@ pub fn assert_unit_stored(
     Ok(())
 }
 
-/// The JSON value is a string that is no unit, for this fault.
-fn assert_no_unit(rt: &impl Abort, value: &Value, wanted: Answer) {
+/// Asserts that a JSON string is rejected as a unit with the expected error.
+fn assert_no_unit(rt: &impl Abort, value: &Value, wanted: Expected) {
     match unit_from_json(value) {
-        Err(JsonUnitError::Unit(error)) => assert!(rt; is_unit_fault(&error, wanted)),
+        Err(JsonUnitError::Unit(error)) => assert!(rt; is_unit_error(&error, wanted)),
         Err(JsonUnitError::NotString) | Ok(_) => panic!(rt; "read"),
     }
 }
@@ -97,6 +97,6 @@ fn long_strings_of_units(rt: HostRuntime) -> Result<(), AllocError> {
     assert_unit_stored(&rt, rt.alloc(), Unit::Ribit, "Rib")?;
     assert_unit(&rt, &long(rt.alloc(), " ", "YiB", " ")?, Unit::YiB);
     let value = long(rt.alloc(), "x", "", "")?;
-    assert_no_unit(&rt, &value, Answer::Unit('x', &TEN, true));
+    assert_no_unit(&rt, &value, Expected::Unit('x', &TEN, true));
     Ok(())
 }

@@ -1,14 +1,14 @@
-//! The longest texts without a width: 37 bytes. In each binary unit but the last, the size is the greatest below 10^30
-//! that takes two places more than the decimal unit of the same prefix has zeros.
+//! Tests of the longest texts without a width: 37 bytes. In each binary unit but the last, the size is the largest
+//! below 10^30 whose number of decimals is two more than the zeros of the decimal unit with the same prefix.
 use super::shown::{assert_texts_of_bits, assert_texts_of_bytes};
 use byte_unit::{Bit, Byte, FormatSpec, Sign};
 use std::alloc::AllocError;
 use std::process::Abort;
 
-/// The most bytes of a text without a width.
+/// The maximum length of a text without a width.
 const LONGEST: usize = 37;
 
-/// The greatest size below 10^30 that takes five places in `KiB`.
+/// The largest size below 10^30 with five decimals in `KiB`.
 const FIVE_PLACES: u128 = 999_999_999_999_999_999_999_999_999_968;
 
 const FIVE_AND_PLUS: FormatSpec = spec!(true, Sign::Plus, Some(5), None, None);
@@ -109,7 +109,7 @@ const LONGEST_OF_BITS: &[(u128, FormatSpec, &str)] = &[
     ),
 ];
 
-/// Each text in the rows is as long as the longest.
+/// Asserts that each text has the maximum length.
 fn assert_longest(rt: &impl Abort, rows: &[(u128, FormatSpec, &str)]) {
     for (_, _, text) in rows {
         assert!(rt; text.len() == LONGEST, "{text}");
@@ -128,7 +128,7 @@ fn longest_texts_of_bits(rt: HostRuntime) -> Result<(), AllocError> {
     assert_texts_of_bits(&rt, rt.alloc(), LONGEST_OF_BITS)
 }
 
-/// In the last unit 28 places are two fewer, and a plain text has at most 30 digits and a sign.
+/// In the last unit 28 decimals are two fewer, and a plain text has at most 30 digits and a sign.
 const ALMOST_LONGEST: &[(u128, FormatSpec, &str)] = &[
     (
         999_999_999_999_534_741_748_122_124_288,

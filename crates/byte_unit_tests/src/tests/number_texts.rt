@@ -1,9 +1,9 @@
-//! The number and the unit of a text.
+//! Tests of `read_size`: the number and the unit of a string.
 use byte_unit::{Unit, read_size};
 use std::process::Abort;
 
-/// The text, read with both flags, `ignore_case` and `prefer_byte`, is a number with this whole part and this fraction
-/// in 28th places, of this unit.
+/// Asserts the integer part, the fraction (scaled by 10^28) and the unit of a string, parsed with the flags
+/// `ignore_case` and `prefer_byte`.
 fn assert_read(rt: &impl Abort, text: &str, flags: (bool, bool), wanted: (u128, u128, Unit)) {
     match read_size(text, flags.0, flags.1) {
         Ok((number, unit)) => {
@@ -12,11 +12,11 @@ fn assert_read(rt: &impl Abort, text: &str, flags: (bool, bool), wanted: (u128, 
                 "{text}"
             );
         }
-        Err(_) => panic!(rt; "refused {text}"),
+        Err(_) => panic!(rt; "rejected {text}"),
     }
 }
 
-const NUMBERS_AND_UNITS_READ: &[(&str, bool, bool, u128, u128, Unit)] = &[
+const NUMBERS_AND_UNITS: &[(&str, bool, bool, u128, u128, Unit)] = &[
     (
         "50.84 MB",
         true,
@@ -89,8 +89,8 @@ const NUMBERS_AND_UNITS_READ: &[(&str, bool, bool, u128, u128, Unit)] = &[
 ];
 
 #[test]
-fn numbers_and_units_read(rt: HostRuntime) {
-    for (text, ignore_case, prefer_byte, whole, fraction, want) in NUMBERS_AND_UNITS_READ {
+fn numbers_and_units(rt: HostRuntime) {
+    for (text, ignore_case, prefer_byte, whole, fraction, want) in NUMBERS_AND_UNITS {
         assert_read(
             &rt,
             text,
@@ -100,7 +100,7 @@ fn numbers_and_units_read(rt: HostRuntime) {
     }
 }
 
-const NUMBERS_READ_AT_BORDERS: &[(&str, u128, u128)] = &[
+const NUMBERS_AT_THE_LIMITS: &[(&str, u128, u128)] = &[
     ("9999999999999999999", 9_999_999_999_999_999_999u128, 0u128),
     ("10000000000000000000", 10_000_000_000_000_000_000, 0),
     ("18446744073709551615", 18_446_744_073_709_551_615, 0),
@@ -133,13 +133,13 @@ const NUMBERS_READ_AT_BORDERS: &[(&str, u128, u128)] = &[
 ];
 
 #[test]
-fn numbers_read_at_borders(rt: HostRuntime) {
-    for (text, whole, fraction) in NUMBERS_READ_AT_BORDERS {
+fn numbers_at_the_limits(rt: HostRuntime) {
+    for (text, whole, fraction) in NUMBERS_AT_THE_LIMITS {
         assert_read(&rt, text, (false, true), (*whole, *fraction, Unit::B));
     }
 }
 
-const WORDS_READ_IN_EITHER_CASE: &[(&str, Unit)] = &[
+const SUFFIXES_IN_EITHER_CASE: &[(&str, Unit)] = &[
     ("1bit", Unit::Bit),
     ("1 bits", Unit::Bit),
     ("1BIT", Unit::Bit),
@@ -150,8 +150,8 @@ const WORDS_READ_IN_EITHER_CASE: &[(&str, Unit)] = &[
 ];
 
 #[test]
-fn words_read_in_either_case(rt: HostRuntime) {
-    for (text, unit) in WORDS_READ_IN_EITHER_CASE {
+fn suffixes_in_either_case(rt: HostRuntime) {
+    for (text, unit) in SUFFIXES_IN_EITHER_CASE {
         assert_read(&rt, text, (false, true), (1, 0, *unit));
     }
 }

@@ -1,12 +1,12 @@
-//! Sizes from numbers and as numbers, each through the name or the bound that callers have.
+//! Tests of conversions between sizes and integers, by method and through trait bounds.
 use byte_unit::{Bit, Byte, ExceededBoundsError, Kind, TryFromIntError};
 use std::cmp::Ordering;
 use std::process::Abort;
 
-/// The greatest size.
-const GREATEST: u128 = 999_999_999_999_999_999_999_999_999_999;
+/// The maximum size.
+const MAX_SIZE: u128 = 999_999_999_999_999_999_999_999_999_999;
 
-/// What each call made is what is wanted.
+/// Asserts that the result of each call is the expected one.
 fn assert_each<A: PartialEq>(rt: &impl Abort, rows: &[(&str, A, A)]) {
     for (call, made, wanted) in rows {
         assert!(rt; *made == *wanted, "{call}");
@@ -14,7 +14,7 @@ fn assert_each<A: PartialEq>(rt: &impl Abort, rows: &[(&str, A, A)]) {
 }
 
 #[test]
-fn numbers_in_and_out(rt: HostRuntime) {
+fn bytes_and_integers(rt: HostRuntime) {
     let five = Some(Byte::from_u64(5));
     assert_each(
         &rt,
@@ -24,7 +24,7 @@ fn numbers_in_and_out(rt: HostRuntime) {
             ("i128", Byte::from_i128(5), five),
             ("i128 below 0", Byte::from_i128(i128::MIN), None),
             ("u128", Byte::from_u128(5), five),
-            ("the greatest", Byte::from_u128(GREATEST), Some(Byte::MAX)),
+            ("the greatest", Byte::from_u128(MAX_SIZE), Some(Byte::MAX)),
         ],
     );
     let five = Byte::from_u64(5);
@@ -33,7 +33,7 @@ fn numbers_in_and_out(rt: HostRuntime) {
 }
 
 #[test]
-fn numbers_in_and_out_of_bits(rt: HostRuntime) {
+fn bits_and_integers(rt: HostRuntime) {
     let five = Some(Bit::from_u64(5));
     assert_each(
         &rt,
@@ -43,7 +43,7 @@ fn numbers_in_and_out_of_bits(rt: HostRuntime) {
             ("i128", Bit::from_i128(5), five),
             ("i128 below 0", Bit::from_i128(i128::MIN), None),
             ("u128", Bit::from_u128(5), five),
-            ("the greatest", Bit::from_u128(GREATEST), Some(Bit::MAX)),
+            ("the greatest", Bit::from_u128(MAX_SIZE), Some(Bit::MAX)),
         ],
     );
     let five = Bit::from_u64(5);
@@ -51,7 +51,7 @@ fn numbers_in_and_out_of_bits(rt: HostRuntime) {
     assert!(rt; Bit::from_u128_unsafe(7).as_u128() == 7);
 }
 
-/// The size as a `u64`: cut at the greatest, and where it fits.
+/// Returns the size as a saturated `u64`, and as a checked one.
 fn in_64_bits(kind: Kind, size: u128) -> Option<(u64, Option<u64>)> {
     match kind {
         Kind::Byte => {
@@ -65,7 +65,7 @@ fn in_64_bits(kind: Kind, size: u128) -> Option<(u64, Option<u64>)> {
     }
 }
 
-/// Each size is this number in 64 bits.
+/// Asserts each size as a `u64`.
 fn assert_in_64_bits(rt: &impl Abort, kind: Kind, rows: &[(u128, Option<(u64, Option<u64>)>)]) {
     for (size, number) in rows {
         assert!(rt; in_64_bits(kind, *size) == *number, "{size}");
@@ -77,13 +77,13 @@ const SIZES_IN_64_BITS: &[(u128, Option<(u64, Option<u64>)>)] = &[
     (18_446_744_073_709_551_615, Some((u64::MAX, Some(u64::MAX)))),
     (18_446_744_073_709_551_616, Some((u64::MAX, None))),
     (1_000_000_000_000_000_000_000, Some((u64::MAX, None))),
-    (GREATEST, Some((u64::MAX, None))),
-    (GREATEST + 1, None),
+    (MAX_SIZE, Some((u64::MAX, None))),
+    (MAX_SIZE + 1, None),
 ];
 
 #[test]
 fn sizes_in_64_bits(rt: HostRuntime) {
-    // ZETTABIT in bytes, and as many bits as ZETTABYTE has.
+    // ZETTABIT in bytes, and the bits in ZETTABYTE.
     let constants = [
         (Byte::ZETTABIT.as_u128(), Some((u64::MAX, None))),
         (Bit::ZETTABYTE.as_u128(), Some((u64::MAX, None))),
@@ -94,14 +94,14 @@ fn sizes_in_64_bits(rt: HostRuntime) {
     assert_in_64_bits(&rt, Kind::Bit, &constants);
 }
 
-/// How 1024 compares with each number.
+/// The order of 1024 and each number.
 const ORDERS: &[(u64, Ordering)] = &[
     (1025, Ordering::Less),
     (1024, Ordering::Equal),
     (1000, Ordering::Greater),
 ];
 
-/// 1024 bytes and 1024 bits compare so with the number.
+/// Asserts the order of 1024 bytes, and of 1024 bits, and the number.
 fn assert_order(rt: &impl Abort, number: u64, order: Ordering) {
     let (bytes, bits) = (Byte::from_u64(1024), Bit::from_u64(1024));
     let wide = u128::from(number);
@@ -141,156 +141,163 @@ fn comparisons_with_numbers(rt: HostRuntime) {
     );
 }
 
-/// Each conversion through its bound alone.
-pub fn made<N, S: From<N>>(number: N) -> S {
+/// Converts through the bound `From`.
+pub fn convert<N, S: From<N>>(number: N) -> S {
     S::from(number)
 }
 
-fn tried<N, S: TryFrom<N>>(number: N) -> Result<S, S::Error> {
+fn try_convert<N, S: TryFrom<N>>(number: N) -> Result<S, S::Error> {
     S::try_from(number)
 }
 
 #[test]
-fn numbers_become_bytes(rt: HostRuntime) {
+fn bytes_from_integers(rt: HostRuntime) {
     let five = Byte::from_u64(5);
     assert_each(
         &rt,
         &[
-            ("u8", made::<u8, Byte>(5), five),
-            ("u16", made::<u16, Byte>(5), five),
-            ("u32", made::<u32, Byte>(5), five),
-            ("u64", made::<u64, Byte>(5), five),
-            ("usize", made::<usize, Byte>(5), five),
+            ("u8", convert::<u8, Byte>(5), five),
+            ("u16", convert::<u16, Byte>(5), five),
+            ("u32", convert::<u32, Byte>(5), five),
+            ("u64", convert::<u64, Byte>(5), five),
+            ("usize", convert::<usize, Byte>(5), five),
         ],
     );
     assert_each(
         &rt,
         &[
-            ("i8", tried::<i8, Byte>(5).ok(), Some(five)),
-            ("i16", tried::<i16, Byte>(5).ok(), Some(five)),
-            ("i32", tried::<i32, Byte>(5).ok(), Some(five)),
-            ("isize", tried::<isize, Byte>(5).ok(), Some(five)),
-            ("i64", tried::<i64, Byte>(5).ok(), Some(five)),
-            ("i128", tried::<i128, Byte>(5).ok(), Some(five)),
-            ("u128", tried::<u128, Byte>(5).ok(), Some(five)),
+            ("i8", try_convert::<i8, Byte>(5).ok(), Some(five)),
+            ("i16", try_convert::<i16, Byte>(5).ok(), Some(five)),
+            ("i32", try_convert::<i32, Byte>(5).ok(), Some(five)),
+            ("isize", try_convert::<isize, Byte>(5).ok(), Some(five)),
+            ("i64", try_convert::<i64, Byte>(5).ok(), Some(five)),
+            ("i128", try_convert::<i128, Byte>(5).ok(), Some(five)),
+            ("u128", try_convert::<u128, Byte>(5).ok(), Some(five)),
             (
                 "10^27",
-                tried::<u128, Byte>(1_000_000_000_000_000_000_000_000_000).ok(),
+                try_convert::<u128, Byte>(1_000_000_000_000_000_000_000_000_000).ok(),
                 Some(Byte::RONNABYTE),
             ),
         ],
     );
-    let fault = Some(ExceededBoundsError);
+    let error = Some(ExceededBoundsError);
     assert_each(
         &rt,
         &[
-            ("below 0", tried::<i64, Byte>(-1).err(), fault),
-            ("10^30", tried::<u128, Byte>(GREATEST + 1).err(), fault),
+            ("below 0", try_convert::<i64, Byte>(-1).err(), error),
+            (
+                "10^30",
+                try_convert::<u128, Byte>(MAX_SIZE + 1).err(),
+                error,
+            ),
         ],
     );
 }
 
 #[test]
-fn numbers_become_bits(rt: HostRuntime) {
+fn bits_from_integers(rt: HostRuntime) {
     let five = Bit::from_u64(5);
     assert_each(
         &rt,
         &[
-            ("u8", made::<u8, Bit>(5), five),
-            ("u16", made::<u16, Bit>(5), five),
-            ("u32", made::<u32, Bit>(5), five),
-            ("u64", made::<u64, Bit>(5), five),
-            ("usize", made::<usize, Bit>(5), five),
+            ("u8", convert::<u8, Bit>(5), five),
+            ("u16", convert::<u16, Bit>(5), five),
+            ("u32", convert::<u32, Bit>(5), five),
+            ("u64", convert::<u64, Bit>(5), five),
+            ("usize", convert::<usize, Bit>(5), five),
         ],
     );
     assert_each(
         &rt,
         &[
-            ("i8", tried::<i8, Bit>(5).ok(), Some(five)),
-            ("i16", tried::<i16, Bit>(5).ok(), Some(five)),
-            ("i32", tried::<i32, Bit>(5).ok(), Some(five)),
-            ("isize", tried::<isize, Bit>(5).ok(), Some(five)),
-            ("i64", tried::<i64, Bit>(5).ok(), Some(five)),
-            ("i128", tried::<i128, Bit>(5).ok(), Some(five)),
-            ("u128", tried::<u128, Bit>(5).ok(), Some(five)),
+            ("i8", try_convert::<i8, Bit>(5).ok(), Some(five)),
+            ("i16", try_convert::<i16, Bit>(5).ok(), Some(five)),
+            ("i32", try_convert::<i32, Bit>(5).ok(), Some(five)),
+            ("isize", try_convert::<isize, Bit>(5).ok(), Some(five)),
+            ("i64", try_convert::<i64, Bit>(5).ok(), Some(five)),
+            ("i128", try_convert::<i128, Bit>(5).ok(), Some(five)),
+            ("u128", try_convert::<u128, Bit>(5).ok(), Some(five)),
             (
                 "10^27",
-                tried::<u128, Bit>(1_000_000_000_000_000_000_000_000_000).ok(),
+                try_convert::<u128, Bit>(1_000_000_000_000_000_000_000_000_000).ok(),
                 Some(Bit::RONNABIT),
             ),
         ],
     );
-    let fault = Some(ExceededBoundsError);
+    let error = Some(ExceededBoundsError);
     assert_each(
         &rt,
         &[
-            ("below 0", tried::<i64, Bit>(-1).err(), fault),
-            ("10^30", tried::<u128, Bit>(GREATEST + 1).err(), fault),
+            ("below 0", try_convert::<i64, Bit>(-1).err(), error),
+            ("10^30", try_convert::<u128, Bit>(MAX_SIZE + 1).err(), error),
         ],
     );
 }
 
-fn refuses<N, S: TryFrom<N, Error = TryFromIntError> + Drop>(size: N) -> bool {
+fn rejects<N, S: TryFrom<N, Error = TryFromIntError> + Drop>(size: N) -> bool {
     S::try_from(size).is_err()
 }
 
 #[test]
-fn bytes_become_numbers(rt: HostRuntime) {
+fn bytes_into_integers(rt: HostRuntime) {
     for (number, holds) in [
-        ("u128", made::<Byte, u128>(Byte::MAX) == GREATEST),
-        ("u64, cut", made::<Byte, u64>(Byte::MAX) == u64::MAX),
-        ("u64", made::<Byte, u64>(Byte::KIBIBYTE) == 1024),
+        ("u128", convert::<Byte, u128>(Byte::MAX) == MAX_SIZE),
+        ("u64, cut", convert::<Byte, u64>(Byte::MAX) == u64::MAX),
+        ("u64", convert::<Byte, u64>(Byte::KIBIBYTE) == 1024),
         (
             "u8",
-            tried::<Byte, u8>(Byte::from_u64(255)).ok() == Some(255),
+            try_convert::<Byte, u8>(Byte::from_u64(255)).ok() == Some(255),
         ),
         (
             "u16",
-            tried::<Byte, u16>(Byte::from_u64(300)).ok() == Some(300),
+            try_convert::<Byte, u16>(Byte::from_u64(300)).ok() == Some(300),
         ),
         (
             "u32",
-            tried::<Byte, u32>(Byte::from_u64(4_294_967_295)).ok() == Some(4_294_967_295),
+            try_convert::<Byte, u32>(Byte::from_u64(4_294_967_295)).ok() == Some(4_294_967_295),
         ),
         (
             "usize",
-            tried::<Byte, usize>(Byte::KIBIBYTE).ok() == Some(1024),
+            try_convert::<Byte, usize>(Byte::KIBIBYTE).ok() == Some(1024),
         ),
-        ("no u8", refuses::<Byte, u8>(Byte::from_u64(300))),
-        ("no u16", refuses::<Byte, u16>(Byte::from_u64(65_536))),
+        ("no u8", rejects::<Byte, u8>(Byte::from_u64(300))),
+        ("no u16", rejects::<Byte, u16>(Byte::from_u64(65_536))),
         (
             "no u32",
-            refuses::<Byte, u32>(Byte::from_u64(4_294_967_296)),
+            rejects::<Byte, u32>(Byte::from_u64(4_294_967_296)),
         ),
-        ("no usize", refuses::<Byte, usize>(Byte::MAX)),
+        ("no usize", rejects::<Byte, usize>(Byte::MAX)),
     ] {
         assert!(rt; holds, "{number}");
     }
 }
 
 #[test]
-fn bits_become_numbers(rt: HostRuntime) {
+fn bits_into_integers(rt: HostRuntime) {
     for (number, holds) in [
-        ("u128", made::<Bit, u128>(Bit::MAX) == GREATEST),
-        ("u64, cut", made::<Bit, u64>(Bit::MAX) == u64::MAX),
-        ("u64", made::<Bit, u64>(Bit::KIBIBIT) == 1024),
-        ("u8", tried::<Bit, u8>(Bit::from_u64(255)).ok() == Some(255)),
+        ("u128", convert::<Bit, u128>(Bit::MAX) == MAX_SIZE),
+        ("u64, cut", convert::<Bit, u64>(Bit::MAX) == u64::MAX),
+        ("u64", convert::<Bit, u64>(Bit::KIBIBIT) == 1024),
+        (
+            "u8",
+            try_convert::<Bit, u8>(Bit::from_u64(255)).ok() == Some(255),
+        ),
         (
             "u16",
-            tried::<Bit, u16>(Bit::from_u64(300)).ok() == Some(300),
+            try_convert::<Bit, u16>(Bit::from_u64(300)).ok() == Some(300),
         ),
         (
             "u32",
-            tried::<Bit, u32>(Bit::from_u64(4_294_967_295)).ok() == Some(4_294_967_295),
+            try_convert::<Bit, u32>(Bit::from_u64(4_294_967_295)).ok() == Some(4_294_967_295),
         ),
         (
             "usize",
-            tried::<Bit, usize>(Bit::KIBIBIT).ok() == Some(1024),
+            try_convert::<Bit, usize>(Bit::KIBIBIT).ok() == Some(1024),
         ),
-        ("no u8", refuses::<Bit, u8>(Bit::from_u64(300))),
-        ("no u16", refuses::<Bit, u16>(Bit::from_u64(65_536))),
-        ("no u32", refuses::<Bit, u32>(Bit::from_u64(4_294_967_296))),
-        ("no usize", refuses::<Bit, usize>(Bit::MAX)),
+        ("no u8", rejects::<Bit, u8>(Bit::from_u64(300))),
+        ("no u16", rejects::<Bit, u16>(Bit::from_u64(65_536))),
+        ("no u32", rejects::<Bit, u32>(Bit::from_u64(4_294_967_296))),
+        ("no usize", rejects::<Bit, usize>(Bit::MAX)),
     ] {
         assert!(rt; holds, "{number}");
     }

@@ -1,6 +1,5 @@
-//! The errors of texts: those that quote a character past the basic plane, or one that is not printed as it is, and
-//! those that say a number.
-use super::error_texts::{assert_refused, assert_unit_texts, assert_value_text};
+//! Tests of error messages with a character that is beyond the basic plane or escaped, and of those with a number.
+use super::error_texts::{assert_error, assert_unit_texts, assert_value_text};
 use byte_unit::{Bit, Byte, Kind, Unit, ValueParseError};
 use std::alloc::{AllocError, Global};
 use std::process::Abort;
@@ -23,8 +22,8 @@ const CHARACTERS_OF_A_NUMBER: &[(char, &str)] = &[
     ('\'', "the character '\\'' is not a number"),
 ];
 
-/// The error of each character has the text in its row.
-fn assert_no_numbers(
+/// Asserts the message for each character.
+fn assert_not_number_messages(
     rt: &impl Abort,
     alloc: Global,
     rows: &[(char, &str)],
@@ -36,8 +35,8 @@ fn assert_no_numbers(
 }
 
 #[test]
-fn the_character_of_a_number(rt: HostRuntime) -> Result<(), AllocError> {
-    assert_no_numbers(&rt, rt.alloc(), CHARACTERS_OF_A_NUMBER)
+fn character_of_a_number(rt: HostRuntime) -> Result<(), AllocError> {
+    assert_not_number_messages(&rt, rt.alloc(), CHARACTERS_OF_A_NUMBER)
 }
 
 const CHARACTERS_OF_A_UNIT: &[(char, &[char], bool, &str)] = &[
@@ -134,11 +133,11 @@ const CHARACTERS_OF_A_UNIT: &[(char, &[char], bool, &str)] = &[
 ];
 
 #[test]
-fn the_character_of_a_unit(rt: HostRuntime) -> Result<(), AllocError> {
+fn character_of_a_unit(rt: HostRuntime) -> Result<(), AllocError> {
     assert_unit_texts(&rt, rt.alloc(), CHARACTERS_OF_A_UNIT)
 }
 
-const THE_CHARACTERS_THAT_ARE_EXPECTED: &[(char, &[char], bool, &str)] = &[
+const EXPECTED_CHARACTERS_IN_MESSAGES: &[(char, &[char], bool, &str)] = &[
     (
         'x',
         &['\n', '\'', 'é'],
@@ -172,12 +171,12 @@ const THE_CHARACTERS_THAT_ARE_EXPECTED: &[(char, &[char], bool, &str)] = &[
 ];
 
 #[test]
-fn the_characters_that_are_expected(rt: HostRuntime) -> Result<(), AllocError> {
-    assert_unit_texts(&rt, rt.alloc(), THE_CHARACTERS_THAT_ARE_EXPECTED)
+fn expected_characters_in_messages(rt: HostRuntime) -> Result<(), AllocError> {
+    assert_unit_texts(&rt, rt.alloc(), EXPECTED_CHARACTERS_IN_MESSAGES)
 }
 
-/// Each text is no size of the kind, and its error has the text in its row.
-fn assert_refusals(
+/// Asserts that each string is rejected, with the expected message.
+fn assert_rejected(
     rt: &impl Abort,
     alloc: Global,
     kind: Kind,
@@ -185,8 +184,8 @@ fn assert_refusals(
 ) -> Result<(), AllocError> {
     for (text, wanted) in rows {
         match kind {
-            Kind::Byte => assert_refused(rt, alloc, Byte::parse_str(text, false), wanted)?,
-            Kind::Bit => assert_refused(rt, alloc, Bit::parse_str(text), wanted)?,
+            Kind::Byte => assert_error(rt, alloc, Byte::parse_str(text, false), wanted)?,
+            Kind::Bit => assert_error(rt, alloc, Bit::parse_str(text), wanted)?,
         }
     }
     Ok(())
@@ -211,8 +210,8 @@ const ERRORS_OF_TEXTS: &[(&str, &str)] = &[
 
 #[test]
 fn errors_of_texts(rt: HostRuntime) -> Result<(), AllocError> {
-    assert_refusals(&rt, rt.alloc(), Kind::Byte, ERRORS_OF_TEXTS)?;
-    assert_refused(
+    assert_rejected(&rt, rt.alloc(), Kind::Byte, ERRORS_OF_TEXTS)?;
+    assert_error(
         &rt,
         rt.alloc(),
         Unit::parse_str("Ki\u{1F600}", true, true),
@@ -220,7 +219,7 @@ fn errors_of_texts(rt: HostRuntime) -> Result<(), AllocError> {
     )
 }
 
-/// The error of a size that is out of range says its number.
+/// The message for a size out of range contains its number.
 const ERRORS_OF_BYTES_OUT_OF_RANGE: &[(&str, &str)] = &[
     (
         "999999999999999999999999999999.0000000000000000000000000001",
@@ -241,7 +240,7 @@ const ERRORS_OF_BYTES_OUT_OF_RANGE: &[(&str, &str)] = &[
 
 #[test]
 fn errors_of_bytes_out_of_range(rt: HostRuntime) -> Result<(), AllocError> {
-    assert_refusals(&rt, rt.alloc(), Kind::Byte, ERRORS_OF_BYTES_OUT_OF_RANGE)
+    assert_rejected(&rt, rt.alloc(), Kind::Byte, ERRORS_OF_BYTES_OUT_OF_RANGE)
 }
 
 const ERRORS_OF_BITS_OUT_OF_RANGE: &[(&str, &str)] = &[
@@ -259,5 +258,5 @@ const ERRORS_OF_BITS_OUT_OF_RANGE: &[(&str, &str)] = &[
 
 #[test]
 fn errors_of_bits_out_of_range(rt: HostRuntime) -> Result<(), AllocError> {
-    assert_refusals(&rt, rt.alloc(), Kind::Bit, ERRORS_OF_BITS_OUT_OF_RANGE)
+    assert_rejected(&rt, rt.alloc(), Kind::Bit, ERRORS_OF_BITS_OUT_OF_RANGE)
 }

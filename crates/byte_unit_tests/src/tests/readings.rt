@@ -1,52 +1,52 @@
-//! Sizes from texts and from numbers.
-use super::answers::{Answer, assert_all_bits, assert_all_bytes};
+//! Tests of sizes from strings and from numbers of a unit.
+use super::answers::{Expected, assert_all_bits, assert_all_bytes};
 use byte_unit::{Bit, Byte, Decimal, Kind, Unit};
 use std::process::Abort;
 
-const TEXTS_OF_BYTES: &[(&str, Answer)] = &[
-    ("0001", Answer::Size(1)),
-    ("9 b", Answer::Size(2)),
-    ("10 b", Answer::Size(2)),
-    ("12 BITS", Answer::Size(2)),
-    ("1.5 KiB", Answer::Size(1536)),
-    ("1kb", Answer::Size(125)),
-    ("1 K", Answer::Size(1000)),
-    ("1zb", Answer::Size(125_000_000_000_000_000_000)),
+const BYTES_FROM_STRINGS: &[(&str, Expected)] = &[
+    ("0001", Expected::Size(1)),
+    ("9 b", Expected::Size(2)),
+    ("10 b", Expected::Size(2)),
+    ("12 BITS", Expected::Size(2)),
+    ("1.5 KiB", Expected::Size(1536)),
+    ("1kb", Expected::Size(125)),
+    ("1 K", Expected::Size(1000)),
+    ("1zb", Expected::Size(125_000_000_000_000_000_000)),
     (
         "999999999999999999999999999",
-        Answer::Size(999_999_999_999_999_999_999_999_999),
+        Expected::Size(999_999_999_999_999_999_999_999_999),
     ),
 ];
 
 #[test]
-fn texts_of_bytes(rt: HostRuntime) {
-    assert_all_bytes(&rt, false, TEXTS_OF_BYTES);
+fn bytes_from_strings(rt: HostRuntime) {
+    assert_all_bytes(&rt, false, BYTES_FROM_STRINGS);
 }
 
-const TEXTS_OF_BYTES_WHATEVER_THE_CASE: &[(&str, Answer)] = &[
-    ("50.84 MB", Answer::Size(50_840_000)),
-    ("9.0000000000000000000000000001", Answer::Size(10)),
-    ("9 b", Answer::Size(9)),
-    ("12 bits", Answer::Size(2)),
-    ("1.5 KiB", Answer::Size(1536)),
-    ("1zb", Answer::Size(1_000_000_000_000_000_000_000)),
+const BYTES_IGNORING_CASE: &[(&str, Expected)] = &[
+    ("50.84 MB", Expected::Size(50_840_000)),
+    ("9.0000000000000000000000000001", Expected::Size(10)),
+    ("9 b", Expected::Size(9)),
+    ("12 bits", Expected::Size(2)),
+    ("1.5 KiB", Expected::Size(1536)),
+    ("1zb", Expected::Size(1_000_000_000_000_000_000_000)),
 ];
 
 #[test]
-fn texts_of_bytes_whatever_the_case(rt: HostRuntime) {
-    assert_all_bytes(&rt, true, TEXTS_OF_BYTES_WHATEVER_THE_CASE);
+fn bytes_ignoring_case(rt: HostRuntime) {
+    assert_all_bytes(&rt, true, BYTES_IGNORING_CASE);
 }
 
-const WHITE_SPACE_AROUND_SIZES_IN_BYTES: &[(&str, Answer)] = &[
-    ("\u{3000}1KB\u{a0}", Answer::Size(1000)),
-    ("\u{b}\u{c}1KB\u{85}\u{2028}\u{2029}", Answer::Size(1000)),
-    ("\u{2028}1KB\u{b}", Answer::Size(1000)),
-    ("\u{3000}1 K\u{85}", Answer::Size(1000)),
+const WHITE_SPACE_AROUND_SIZES_IN_BYTES: &[(&str, Expected)] = &[
+    ("\u{3000}1KB\u{a0}", Expected::Size(1000)),
+    ("\u{b}\u{c}1KB\u{85}\u{2028}\u{2029}", Expected::Size(1000)),
+    ("\u{2028}1KB\u{b}", Expected::Size(1000)),
+    ("\u{3000}1 K\u{85}", Expected::Size(1000)),
 ];
 
-const WHITE_SPACE_AROUND_SIZES_IN_BITS: &[(&str, Answer)] = &[
-    ("\u{2028}1KB\u{b}", Answer::Size(8000)),
-    ("\u{b}\u{c}1Kb\u{85}\u{2028}\u{2029}", Answer::Size(1000)),
+const WHITE_SPACE_AROUND_SIZES_IN_BITS: &[(&str, Expected)] = &[
+    ("\u{2028}1KB\u{b}", Expected::Size(8000)),
+    ("\u{b}\u{c}1Kb\u{85}\u{2028}\u{2029}", Expected::Size(1000)),
 ];
 
 #[test]
@@ -55,42 +55,42 @@ fn white_space_around_sizes(rt: HostRuntime) {
     assert_all_bits(&rt, WHITE_SPACE_AROUND_SIZES_IN_BITS);
 }
 
-const TEXTS_OF_BITS: &[(&str, Answer)] = &[
-    ("1KiB", Answer::Size(8192)),
-    ("1K", Answer::Size(1000)),
-    ("1 B", Answer::Size(8)),
-    ("10 B", Answer::Size(80)),
-    ("0.1 b", Answer::Size(1)),
-    ("123Kib", Answer::Size(125_952)),
-    ("12", Answer::Size(12)),
-    ("1.5 Kib", Answer::Size(1536)),
-    ("1 K\u{85}", Answer::Size(1000)),
-    ("9 b", Answer::Size(9)),
-    ("12 bits", Answer::Size(12)),
-    ("50.84 Mb", Answer::Size(50_840_000)),
-    ("1zb", Answer::Size(1_000_000_000_000_000_000_000)),
+const BITS_FROM_STRINGS: &[(&str, Expected)] = &[
+    ("1KiB", Expected::Size(8192)),
+    ("1K", Expected::Size(1000)),
+    ("1 B", Expected::Size(8)),
+    ("10 B", Expected::Size(80)),
+    ("0.1 b", Expected::Size(1)),
+    ("123Kib", Expected::Size(125_952)),
+    ("12", Expected::Size(12)),
+    ("1.5 Kib", Expected::Size(1536)),
+    ("1 K\u{85}", Expected::Size(1000)),
+    ("9 b", Expected::Size(9)),
+    ("12 bits", Expected::Size(12)),
+    ("50.84 Mb", Expected::Size(50_840_000)),
+    ("1zb", Expected::Size(1_000_000_000_000_000_000_000)),
     (
         "124.999999999999999999999999 YB",
-        Answer::Size(999_999_999_999_999_999_999_999_992),
+        Expected::Size(999_999_999_999_999_999_999_999_992),
     ),
     (
         "999999999999999999999999999",
-        Answer::Size(999_999_999_999_999_999_999_999_999),
+        Expected::Size(999_999_999_999_999_999_999_999_999),
     ),
 ];
 
 #[test]
-fn texts_of_bits(rt: HostRuntime) {
-    assert_all_bits(&rt, TEXTS_OF_BITS);
+fn bits_from_strings(rt: HostRuntime) {
+    assert_all_bits(&rt, BITS_FROM_STRINGS);
 }
 
 #[test]
-fn bytes_that_are_no_text(rt: HostRuntime) {
+fn invalid_utf8(rt: HostRuntime) {
     assert!(rt; Byte::parse_bytes(b"1 KiB\xFF", false).is_none());
     assert!(rt; Bit::parse_bytes(b"\xC2").is_none());
 }
 
-/// So many of the unit, as a size of the kind.
+/// Returns the size of an integer number of a unit.
 fn with_unit(kind: Kind, number: u128, unit: Unit) -> Option<u128> {
     match kind {
         Kind::Byte => Byte::from_u128_with_unit(number, unit).map(Byte::as_u128),
@@ -98,24 +98,29 @@ fn with_unit(kind: Kind, number: u128, unit: Unit) -> Option<u128> {
     }
 }
 
-/// The greatest size of the first version.
-const OLD_GREATEST: u128 = 999_999_999_999_999_999_999_999_999;
+/// The maximum size of v1.
+const MAX_SIZE_OF_V1: u128 = 999_999_999_999_999_999_999_999_999;
 
-/// The greatest size.
-const GREATEST: u128 = 999_999_999_999_999_999_999_999_999_999;
+/// The maximum size.
+const MAX_SIZE: u128 = 999_999_999_999_999_999_999_999_999_999;
 
-/// How many are in a yottabyte.
+/// The number of bytes in a yottabyte.
 const YOTTA: u128 = 1_000_000_000_000_000_000_000_000;
 
-/// How many are in a ronnabyte.
+/// The number of bytes in a ronnabyte.
 const RONNA: u128 = 1_000_000_000_000_000_000_000_000_000;
 
 const NUMBERS_OF_A_UNIT: &[(Kind, u128, Unit, Option<u128>)] = &[
     (Kind::Byte, 17, Unit::Bit, Some(3)),
-    (Kind::Byte, 8 * OLD_GREATEST, Unit::Bit, Some(OLD_GREATEST)),
-    (Kind::Byte, 8 * OLD_GREATEST + 1, Unit::Bit, Some(RONNA)),
-    (Kind::Byte, 8 * GREATEST, Unit::Bit, Some(GREATEST)),
-    (Kind::Byte, 8 * GREATEST + 1, Unit::Bit, None),
+    (
+        Kind::Byte,
+        8 * MAX_SIZE_OF_V1,
+        Unit::Bit,
+        Some(MAX_SIZE_OF_V1),
+    ),
+    (Kind::Byte, 8 * MAX_SIZE_OF_V1 + 1, Unit::Bit, Some(RONNA)),
+    (Kind::Byte, 8 * MAX_SIZE, Unit::Bit, Some(MAX_SIZE)),
+    (Kind::Byte, 8 * MAX_SIZE + 1, Unit::Bit, None),
     (Kind::Byte, u128::MAX, Unit::B, None),
     (Kind::Byte, 999, Unit::YB, Some(999 * YOTTA)),
     (Kind::Byte, 1000, Unit::YB, Some(RONNA)),
@@ -143,7 +148,7 @@ fn numbers_of_a_unit(rt: HostRuntime) {
     }
 }
 
-/// Each of the sizes is this one.
+/// Asserts that each size is the expected one.
 fn assert_each<S: PartialEq + Drop>(rt: &impl Abort, made: &[S], wanted: S) {
     for (place, size) in made.iter().enumerate() {
         assert!(rt; *size == wanted, "the size in place {place}");
@@ -172,7 +177,7 @@ fn numbers_of_other_types_in_a_unit(rt: HostRuntime) {
     assert_each(&rt, &below, None);
 }
 
-/// So many of the unit by a decimal, as a size of the kind.
+/// Returns the size of a decimal number of a unit.
 fn decimal_with_unit(kind: Kind, number: Decimal, unit: Unit) -> Option<u128> {
     match kind {
         Kind::Byte => Byte::from_decimal_with_unit(number, unit).map(Byte::as_u128),
@@ -180,7 +185,7 @@ fn decimal_with_unit(kind: Kind, number: Decimal, unit: Unit) -> Option<u128> {
     }
 }
 
-/// A kind, a number as a mantissa over ten to the scale, a unit, and the size of the kind.
+/// The kind, the number as a mantissa and a scale, the unit, and the size.
 const DECIMALS_OF_A_UNIT: &[(Kind, u128, u32, Unit, u128)] = &[
     (
         Kind::Byte,

@@ -1,8 +1,9 @@
-//! What a refused request for memory does to the calls that ask the global allocator. They are asked three times each,
-//! one request at a time: what is refused is `AllocError`, and what is not is the text, whatever was refused before.
+//! Tests of failed allocations in calls that use the global allocator. Each call is made three times, with one
+//! allocation each: it returns `AllocError` if the allocation fails, and otherwise the expected result, whether or not
+//! an earlier allocation failed.
 //!
-//! No test can hand in an allocator here. With ample memory nothing is refused; `tools/refused-memory` runs these tests
-//! under `rt try --test --fail-alloc N`, which refuses the request of number N in each test, for N from 1 on.
+//! These calls take no allocator, so a test by itself cannot make an allocation fail. `tools/refused-memory` runs these
+//! tests under `rt try --test --fail-alloc N`, which makes the Nth allocation of each test fail, for N = 1, 2, ..
 use super::shown::{Shown, bits, bits_in, bytes, bytes_in, read_like, stored, text_of};
 use super::traits::assert_is;
 use byte_unit::{FormatSpec, Unit, unit_from_json, unit_to_json};
@@ -10,13 +11,12 @@ use serde_json::Value;
 use std::alloc::Global;
 use std::process::Abort;
 
-/// So many answers are right and so many wrong, and the rest of three are refusals: none is wrong, and one is refused
-/// at most.
-fn assert_answers(rt: &impl Abort, right: u32, wrong: u32, wanted: &str) {
+/// Asserts that no result is wrong, and that at most one of three calls failed.
+fn assert_counts(rt: &impl Abort, right: u32, wrong: u32, wanted: &str) {
     assert!(rt; wrong == 0 && right >= 2, "{wanted}");
 }
 
-/// A size is asked three times for its JSON string. Each answer is the string or a refusal; one is refused at most.
+/// Asserts the JSON string of a size in three calls, of which at most one fails.
 fn assert_string(rt: &impl Abort, alloc: Global, shown: &Shown, wanted: &str) {
     let mut right = 0u32;
     let mut wrong = 0u32;
@@ -27,31 +27,31 @@ fn assert_string(rt: &impl Abort, alloc: Global, shown: &Shown, wanted: &str) {
             Err(_) => (),
         }
     }
-    assert_answers(rt, right, wrong, wanted);
+    assert_counts(rt, right, wrong, wanted);
 }
 
 #[test]
-fn the_string_of_bytes(rt: HostRuntime) {
+fn json_string_of_bytes(rt: HostRuntime) {
     assert_string(&rt, rt.alloc(), &bytes(1536), "1.5 KiB");
 }
 
 #[test]
-fn the_string_of_bits(rt: HostRuntime) {
+fn json_string_of_bits(rt: HostRuntime) {
     assert_string(&rt, rt.alloc(), &bits(8192), "8 Kib");
 }
 
 #[test]
-fn the_string_of_adjusted_bytes(rt: HostRuntime) {
+fn json_string_of_adjusted_bytes(rt: HostRuntime) {
     assert_string(&rt, rt.alloc(), &bytes_in(1536, Unit::KB), "1.536 KB");
 }
 
 #[test]
-fn the_string_of_adjusted_bits(rt: HostRuntime) {
+fn json_string_of_adjusted_bits(rt: HostRuntime) {
     assert_string(&rt, rt.alloc(), &bits_in(8192, Unit::Kbit), "8.192 Kb");
 }
 
 #[test]
-fn the_string_of_a_unit(rt: HostRuntime) {
+fn json_string_of_a_unit(rt: HostRuntime) {
     let mut right = 0u32;
     let mut wrong = 0u32;
     for _ in 0..3 {
@@ -61,11 +61,10 @@ fn the_string_of_a_unit(rt: HostRuntime) {
             Err(_) => (),
         }
     }
-    assert_answers(&rt, right, wrong, "Kb");
+    assert_counts(&rt, right, wrong, "Kb");
 }
 
-/// A size is asked three times for its text with a unit. Each answer is the text or a refusal, and one is refused at
-/// most.
+/// Asserts the text of a size with a unit in three calls, of which at most one fails.
 fn assert_text(rt: &impl Abort, alloc: Global, shown: &Shown, wanted: &str) {
     let mut right = 0u32;
     let mut wrong = 0u32;
@@ -76,30 +75,30 @@ fn assert_text(rt: &impl Abort, alloc: Global, shown: &Shown, wanted: &str) {
             Err(_) => (),
         }
     }
-    assert_answers(rt, right, wrong, wanted);
+    assert_counts(rt, right, wrong, wanted);
 }
 
 #[test]
-fn the_text_of_bytes(rt: HostRuntime) {
+fn text_of_bytes(rt: HostRuntime) {
     assert_text(&rt, rt.alloc(), &bytes(1536), "1.5 KiB");
 }
 
 #[test]
-fn the_text_of_bits(rt: HostRuntime) {
+fn text_of_bits(rt: HostRuntime) {
     assert_text(&rt, rt.alloc(), &bits(8192), "8 Kib");
 }
 
 #[test]
-fn the_text_of_adjusted_bytes(rt: HostRuntime) {
+fn text_of_adjusted_bytes(rt: HostRuntime) {
     assert_text(&rt, rt.alloc(), &bytes_in(1536, Unit::KB), "1.536 KB");
 }
 
 #[test]
-fn the_text_of_adjusted_bits(rt: HostRuntime) {
+fn text_of_adjusted_bits(rt: HostRuntime) {
     assert_text(&rt, rt.alloc(), &bits_in(8192, Unit::Kbit), "8.192 Kb");
 }
 
-/// The string `1.5 KiB` is read as a size of each type, and as no unit.
+/// Asserts that each type parses the JSON string `1.5 KiB`, and that it is rejected as a unit.
 fn assert_size(rt: &impl Abort, value: &Value) {
     assert_is(rt, read_like(&bytes(0), value).ok(), Some(1536));
     assert_is(rt, read_like(&bits(0), value).ok(), Some(12_288));
@@ -112,9 +111,9 @@ fn assert_size(rt: &impl Abort, value: &Value) {
     assert_is(rt, unit_from_json(value).ok(), None);
 }
 
-/// A string makes one request. Where it is granted, no call that reads the string asks for more.
+/// Creating a string makes one allocation. If it succeeds, no call that parses the string allocates.
 #[test]
-fn strings_are_read_without_memory(rt: HostRuntime) {
+fn parsing_json_strings_does_not_allocate(rt: HostRuntime) {
     if let Ok(text) = String::from_str(rt.alloc(), "1.5 KiB") {
         assert_size(&rt, &Value::String(text));
     }

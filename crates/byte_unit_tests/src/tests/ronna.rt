@@ -1,9 +1,9 @@
-//! What the current version has beyond the first: ronna units and whole parts below 2^112.
-use super::answers::{Answer, assert_all_bits, assert_all_bytes};
+//! Tests of what v2 adds to v1: ronna units, and integer parts up to 2^112 - 1.
+use super::answers::{Expected, assert_all_bits, assert_all_bytes};
 use byte_unit::Decimal;
 
 #[test]
-fn the_greatest_whole_part(rt: HostRuntime) {
+fn maximum_integer_part(rt: HostRuntime) {
     let greatest = 5_192_296_858_534_827_628_530_496_329_220_095;
     assert_all_bytes(
         &rt,
@@ -11,9 +11,12 @@ fn the_greatest_whole_part(rt: HostRuntime) {
         &[
             (
                 "5192296858534827628530496329220095",
-                Answer::Exceeded(greatest, 0),
+                Expected::Exceeded(greatest, 0),
             ),
-            ("5192296858534827628530496329220096", Answer::NumberTooLong),
+            (
+                "5192296858534827628530496329220096",
+                Expected::NumberTooLong,
+            ),
         ],
     );
     assert!(rt; Decimal::from_u128(greatest).is_some());
@@ -26,23 +29,32 @@ fn spellings(rt: HostRuntime) {
         &rt,
         false,
         &[
-            ("1RB", Answer::Size(1_000_000_000_000_000_000_000_000_000)),
-            ("1 RiB", Answer::Size(1_237_940_039_285_380_274_899_124_224)),
-            ("1rib", Answer::Size(154_742_504_910_672_534_362_390_528)),
-            ("1r", Answer::Size(1_000_000_000_000_000_000_000_000_000)),
+            ("1RB", Expected::Size(1_000_000_000_000_000_000_000_000_000)),
+            (
+                "1 RiB",
+                Expected::Size(1_237_940_039_285_380_274_899_124_224),
+            ),
+            ("1rib", Expected::Size(154_742_504_910_672_534_362_390_528)),
+            ("1r", Expected::Size(1_000_000_000_000_000_000_000_000_000)),
             (
                 "1 RIBITS",
-                Answer::Size(154_742_504_910_672_534_362_390_528),
+                Expected::Size(154_742_504_910_672_534_362_390_528),
             ),
-            ("1RX", Answer::Unit('X', &['B', 'b'], true)),
+            ("1RX", Expected::Unit('X', &['B', 'b'], true)),
         ],
     );
     assert_all_bits(
         &rt,
         &[
-            ("1RB", Answer::Size(8_000_000_000_000_000_000_000_000_000)),
-            ("1 RiB", Answer::Size(9_903_520_314_283_042_199_192_993_792)),
-            ("1rib", Answer::Size(1_237_940_039_285_380_274_899_124_224)),
+            ("1RB", Expected::Size(8_000_000_000_000_000_000_000_000_000)),
+            (
+                "1 RiB",
+                Expected::Size(9_903_520_314_283_042_199_192_993_792),
+            ),
+            (
+                "1rib",
+                Expected::Size(1_237_940_039_285_380_274_899_124_224),
+            ),
         ],
     );
 }

@@ -1,12 +1,12 @@
-//! What is printed and stored of sizes of both kinds, alone and in a unit. Each comparison is one function, which is
-//! proved once; a test is a table and a call.
+//! Assertions on the texts and JSON strings of sizes and adjusted sizes of both kinds. Each assertion is one function,
+//! which is proved once; a test is a table and a call.
 use byte_unit::{AdjustedBit, AdjustedByte, Bit, Byte, FormatSpec, JsonSizeError, Unit};
 use serde_json::Value;
 use std::alloc::{AllocError, Global};
 use std::fmt::Display;
 use std::process::Abort;
 
-/// A size, alone or in a unit.
+/// A size or an adjusted size.
 #[derive(Clone, Copy)]
 pub enum Shown {
     Byte(Byte),
@@ -15,32 +15,32 @@ pub enum Shown {
     AdjustedBit(AdjustedBit),
 }
 
-/// So many bytes.
+/// Creates a size in bytes.
 pub fn bytes(size: u64) -> Shown {
     Shown::Byte(Byte::from_u64(size))
 }
 
-/// So many bytes, of a size past 64 bits.
+/// Creates a size in bytes from a `u128`.
 pub fn great_bytes(rt: &impl Abort, size: u128) -> Shown {
     Shown::Byte(Byte::from_u128(size).expect(rt, "a size"))
 }
 
-/// So many bits, of a size past 64 bits.
+/// Creates a size in bits from a `u128`.
 pub fn great_bits(rt: &impl Abort, size: u128) -> Shown {
     Shown::Bit(Bit::from_u128(size).expect(rt, "a size"))
 }
 
-/// So many bits.
+/// Creates a size in bits.
 pub fn bits(size: u64) -> Shown {
     Shown::Bit(Bit::from_u64(size))
 }
 
-/// So many bytes in the unit.
+/// Creates a size in bytes in a unit.
 pub fn bytes_in(size: u64, unit: Unit) -> Shown {
     Shown::AdjustedByte(Byte::from_u64(size).get_adjusted_unit(unit))
 }
 
-/// So many bits in the unit.
+/// Creates a size in bits in a unit.
 pub fn bits_in(size: u64, unit: Unit) -> Shown {
     Shown::AdjustedBit(Bit::from_u64(size).get_adjusted_unit(unit))
 }
@@ -54,7 +54,7 @@ fn len_of(shown: &Shown, spec: FormatSpec) -> usize {
     }
 }
 
-/// The text by the spec.
+/// Returns the text by `to_text`.
 pub fn text_of(shown: &Shown, alloc: Global, spec: FormatSpec) -> Result<String, AllocError> {
     match shown {
         Shown::Byte(size) => size.to_text(alloc, spec),
@@ -64,7 +64,7 @@ pub fn text_of(shown: &Shown, alloc: Global, spec: FormatSpec) -> Result<String,
     }
 }
 
-/// The text by the sibling that takes any allocator.
+/// Returns the text by `to_text_in`, which takes any allocator.
 fn text_in(shown: &Shown, alloc: Global, spec: FormatSpec) -> Result<String, AllocError> {
     match shown {
         Shown::Byte(size) => size.to_text_in(alloc, spec),
@@ -83,7 +83,7 @@ fn append(shown: &Shown, spec: FormatSpec, text: &mut String) -> Result<(), Allo
     }
 }
 
-/// Writes the text at the front of the bytes, and answers how long it is.
+/// Writes the text to the start of `out`, and returns its length.
 fn write(shown: &Shown, spec: FormatSpec, out: &mut [u8]) -> usize {
     match shown {
         Shown::Byte(size) => size.write_text(spec, out),
@@ -93,12 +93,12 @@ fn write(shown: &Shown, spec: FormatSpec, out: &mut [u8]) -> usize {
     }
 }
 
-/// The text is the one that is wanted.
+/// Asserts that two texts are equal.
 pub fn assert_same(rt: &impl Abort, text: &str, wanted: &str) {
     assert!(rt; text == wanted, "{text} in place of {wanted}");
 }
 
-/// The text that is written is this one, where there is room for it.
+/// Asserts the length of the text that is written to a buffer, and the text if it fits.
 fn assert_written(rt: &impl Abort, shown: &Shown, spec: FormatSpec, wanted: &str) {
     let mut out = [0; 128];
     let len = write(shown, spec, &mut out);
@@ -108,7 +108,7 @@ fn assert_written(rt: &impl Abort, shown: &Shown, spec: FormatSpec, wanted: &str
     );
 }
 
-/// The text by the spec is this one: made, made by the sibling, appended, and as long as it is told to be.
+/// Asserts the text by `to_text`, `to_text_in` and `append_text`, and its length by `text_len`.
 fn assert_text(
     rt: &impl Abort,
     alloc: Global,
@@ -128,7 +128,7 @@ fn assert_text(
     Ok(())
 }
 
-/// The text by the spec is this one, in each way to have it.
+/// Asserts the text by each call that formats a size.
 pub fn assert_row(
     rt: &impl Abort,
     alloc: Global,
@@ -141,7 +141,7 @@ pub fn assert_row(
     Ok(())
 }
 
-/// Each text by its spec is the one in its row.
+/// Asserts the text of each size by its spec.
 pub fn assert_texts(
     rt: &impl Abort,
     alloc: Global,
@@ -153,7 +153,7 @@ pub fn assert_texts(
     Ok(())
 }
 
-/// Each text of so many bytes, by its spec, is the one in its row.
+/// Asserts the text of each size in bytes by its spec.
 pub fn assert_texts_of_bytes(
     rt: &impl Abort,
     alloc: Global,
@@ -166,7 +166,7 @@ pub fn assert_texts_of_bytes(
     Ok(())
 }
 
-/// Each text of so many bits, by its spec, is the one in its row.
+/// Asserts the text of each size in bits by its spec.
 pub fn assert_texts_of_bits(
     rt: &impl Abort,
     alloc: Global,
@@ -179,7 +179,7 @@ pub fn assert_texts_of_bits(
     Ok(())
 }
 
-/// Each text of so many bytes in the unit, by its spec, is the one in its row.
+/// Asserts the text of each size in bytes in its unit by its spec.
 pub fn assert_bytes_in(
     rt: &impl Abort,
     alloc: Global,
@@ -192,7 +192,7 @@ pub fn assert_bytes_in(
     Ok(())
 }
 
-/// Each text of so many bits in the unit, by its spec, is the one in its row.
+/// Asserts the text of each size in bits in its unit by its spec.
 pub fn assert_bits_in(
     rt: &impl Abort,
     alloc: Global,
@@ -205,7 +205,7 @@ pub fn assert_bits_in(
     Ok(())
 }
 
-/// What Display writes, through the bound that callers have on it.
+/// Asserts the text of a value through the bound `Display`.
 pub fn assert_display<D: Display>(
     rt: &impl Abort,
     alloc: Global,
@@ -217,7 +217,7 @@ pub fn assert_display<D: Display>(
     Ok(())
 }
 
-/// What Display writes of each size is the text in its row.
+/// Asserts the `Display` text of each size.
 pub fn assert_displays(
     rt: &impl Abort,
     alloc: Global,
@@ -234,7 +234,7 @@ pub fn assert_displays(
     Ok(())
 }
 
-/// The JSON string of a size.
+/// Returns the JSON string of a size.
 pub fn stored(shown: &Shown, alloc: Global) -> Result<Value, AllocError> {
     match shown {
         Shown::Byte(size) => size.to_json(alloc),
@@ -244,7 +244,7 @@ pub fn stored(shown: &Shown, alloc: Global) -> Result<Value, AllocError> {
     }
 }
 
-/// The size, as a number.
+/// Returns the size as an integer.
 pub fn number_of(shown: &Shown) -> u128 {
     match shown {
         Shown::Byte(size) => size.as_u128(),
@@ -254,7 +254,7 @@ pub fn number_of(shown: &Shown) -> u128 {
     }
 }
 
-/// The size that the JSON value states, read as the type of this one.
+/// Parses a JSON value as the type of `shown`, and returns the size as an integer.
 pub fn read_like(shown: &Shown, value: &Value) -> Result<u128, JsonSizeError> {
     match shown {
         Shown::Byte(_) => Byte::from_json(value).map(Byte::as_u128),
@@ -272,7 +272,7 @@ fn bits_of(adjusted: AdjustedBit) -> u128 {
     adjusted.get_bit().as_u128()
 }
 
-/// The value is this JSON string.
+/// Asserts that a JSON value is the expected string.
 pub fn assert_string(rt: &impl Abort, value: &Value, wanted: &str) {
     match value.as_str() {
         Some(text) => assert_same(rt, text, wanted),
@@ -280,7 +280,7 @@ pub fn assert_string(rt: &impl Abort, value: &Value, wanted: &str) {
     }
 }
 
-/// Each size is stored as the text in its row, and is read from it again.
+/// Asserts the JSON string of each size, and that it round-trips.
 pub fn assert_stored(
     rt: &impl Abort,
     alloc: Global,
@@ -291,7 +291,7 @@ pub fn assert_stored(
         assert_string(rt, &value, wanted);
         match read_like(shown, &value) {
             Ok(size) => assert!(rt; size == number_of(shown), "{wanted}"),
-            Err(_) => panic!(rt; "{wanted} is refused"),
+            Err(_) => panic!(rt; "{wanted} is rejected"),
         }
     }
     Ok(())

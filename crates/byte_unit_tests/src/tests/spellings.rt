@@ -1,9 +1,9 @@
-//! Every spelling of every unit.
+//! Tests of every spelling of every unit.
 use byte_unit::Unit;
 use std::alloc::{AllocError, Global};
 use std::process::Abort;
 
-/// The four units of each prefix: bits and bytes by powers of ten, bits and bytes by powers of two.
+/// The four units of each prefix: decimal bits and bytes, binary bits and bytes.
 const UNITS: [[Unit; 4]; 9] = [
     [Unit::Kbit, Unit::KB, Unit::Kibit, Unit::KiB],
     [Unit::Mbit, Unit::MB, Unit::Mibit, Unit::MiB],
@@ -28,7 +28,7 @@ const LETTERS: [[&str; 2]; 9] = [
     ["R", "r"],
 ];
 
-/// All that may follow a prefix and its `i`, or stand alone.
+/// Every suffix, after a prefix and its `i` or alone.
 const B_PARTS: [&str; 27] = [
     "", "B", "b", "bit", "biT", "bIt", "bIT", "Bit", "BiT", "BIt", "BIT", "bits", "bitS", "biTs",
     "biTS", "bIts", "bItS", "bITs", "bITS", "Bits", "BitS", "BiTs", "BiTS", "BIts", "BItS", "BITs",
@@ -38,11 +38,11 @@ const B_PARTS: [&str; 27] = [
 fn assert_read(rt: &impl Abort, text: &str, ignore_case: bool, prefer_byte: bool, want: Unit) {
     match Unit::parse_str(text, ignore_case, prefer_byte) {
         Ok(unit) => assert!(rt; unit == want, "{text} is {unit}"),
-        Err(_) => panic!(rt; "refused {text}"),
+        Err(_) => panic!(rt; "rejected {text}"),
     }
 }
 
-/// Reads every text that ends in this b-part, and returns how many they are.
+/// Parses every spelling with this suffix, and returns their number.
 fn read_all_before(
     rt: &impl Abort,
     alloc: Global,

@@ -1,5 +1,5 @@
-//! Texts of sizes, by their specs.
-use super::answers::{Answer, assert_bits, assert_bytes};
+//! Tests of formatting sizes by each spec.
+use super::answers::{Expected, assert_bits, assert_bytes};
 use super::shown::{assert_same, assert_texts_of_bits, assert_texts_of_bytes};
 use byte_unit::{
     Align, Bit, Byte, Expansion, FormatSpec, Sign, Unit, append_plain, plain_len, write_layout,
@@ -8,20 +8,20 @@ use byte_unit::{
 use std::alloc::{AllocError, Global};
 use std::process::Abort;
 
-const GREATEST: u128 = 999_999_999_999_999_999_999_999_999_999;
+const MAX_SIZE: u128 = 999_999_999_999_999_999_999_999_999_999;
 
 const PLUS: FormatSpec = spec!(false, Sign::Plus, None, None, None);
 
-const GREATEST_AND_LEAST_SIZES: &[(u128, FormatSpec, &str)] = &[
+const MINIMUM_AND_MAXIMUM_SIZES: &[(u128, FormatSpec, &str)] = &[
     (
-        GREATEST,
+        MAX_SIZE,
         FormatSpec::ALTERNATE,
         "999999999999999999999999999.999 KB",
     ),
-    (GREATEST, precise!(9), "999999999999999999999.999999999 GB"),
-    (GREATEST, precise!(28), "999.999999999999999999999999999 RB"),
+    (MAX_SIZE, precise!(9), "999999999999999999999.999999999 GB"),
+    (MAX_SIZE, precise!(28), "999.999999999999999999999999999 RB"),
     (
-        GREATEST,
+        MAX_SIZE,
         FormatSpec::PLAIN,
         "999999999999999999999999999999",
     ),
@@ -31,13 +31,13 @@ const GREATEST_AND_LEAST_SIZES: &[(u128, FormatSpec, &str)] = &[
 ];
 
 #[test]
-fn greatest_and_least_sizes(rt: HostRuntime) -> Result<(), AllocError> {
-    assert_texts_of_bytes(&rt, rt.alloc(), GREATEST_AND_LEAST_SIZES)?;
+fn minimum_and_maximum_sizes(rt: HostRuntime) -> Result<(), AllocError> {
+    assert_texts_of_bytes(&rt, rt.alloc(), MINIMUM_AND_MAXIMUM_SIZES)?;
     assert_texts_of_bits(&rt, rt.alloc(), &[(0, FormatSpec::ALTERNATE, "0 b")])
 }
 
-/// Numbers of a few places on both sides of 2^64 units of the last place.
-const FORMS_PAST_64_BITS: &[(u128, FormatSpec, &str)] = &[
+/// Numbers with a few decimals, just below and above 2^64 in units of the last decimal.
+const FORMS_BEYOND_64_BITS: &[(u128, FormatSpec, &str)] = &[
     (
         18_446_744_073_709_551_615,
         FormatSpec::ALTERNATE,
@@ -61,15 +61,15 @@ const FORMS_PAST_64_BITS: &[(u128, FormatSpec, &str)] = &[
 ];
 
 #[test]
-fn forms_past_64_bits(rt: HostRuntime) -> Result<(), AllocError> {
-    assert_texts_of_bytes(&rt, rt.alloc(), FORMS_PAST_64_BITS)
+fn forms_beyond_64_bits(rt: HostRuntime) -> Result<(), AllocError> {
+    assert_texts_of_bytes(&rt, rt.alloc(), FORMS_BEYOND_64_BITS)
 }
 
-/// The greatest size of the first version.
+/// The maximum size of v1.
 const OLD: u128 = 999_999_999_999_999_999_999_999_999;
 
-/// As the first version printed it.
-const THE_GREATEST_SIZE_OF_THE_FIRST_VERSION: &[(u128, FormatSpec, &str)] = &[
+/// As v1 formatted it.
+const MAXIMUM_SIZE_OF_V1: &[(u128, FormatSpec, &str)] = &[
     (OLD, FormatSpec::PLAIN, "999999999999999999999999999"),
     (
         OLD,
@@ -81,11 +81,11 @@ const THE_GREATEST_SIZE_OF_THE_FIRST_VERSION: &[(u128, FormatSpec, &str)] = &[
 ];
 
 #[test]
-fn the_greatest_size_of_the_first_version(rt: HostRuntime) -> Result<(), AllocError> {
-    assert_texts_of_bytes(&rt, rt.alloc(), THE_GREATEST_SIZE_OF_THE_FIRST_VERSION)
+fn maximum_size_of_v1(rt: HostRuntime) -> Result<(), AllocError> {
+    assert_texts_of_bytes(&rt, rt.alloc(), MAXIMUM_SIZE_OF_V1)
 }
 
-/// 10^24 + 2^24, 2^89, 5^38, and 2^80 + 2^51, where more than 28 places count as 28.
+/// 10^24 + 2^24, 2^89, 5^38, and 2^80 + 2^51, with precisions above 28, which count as 28.
 const SIZES_OF_FEW_FACTORS: &[(u128, FormatSpec, &str)] = &[
     (
         1_000_000_000_000_000_016_777_216,
@@ -227,7 +227,7 @@ fn sizes_by_precision(rt: HostRuntime) -> Result<(), AllocError> {
     assert_texts_of_bits(&rt, rt.alloc(), BITS_BY_PRECISION)
 }
 
-/// Sizes of which each is read from its own text again.
+/// Sizes that round-trip through their texts.
 const SIZES: &[u64] = &[
     0,
     1,
@@ -240,7 +240,7 @@ const SIZES: &[u64] = &[
     999_999_999_999,
 ];
 
-/// Specs of the alternate form, each with a sign, a precision or a width of its own.
+/// Alternate specs, each with another sign, precision or width.
 const ALTERNATE_SPECS: &[FormatSpec] = &[
     FormatSpec::ALTERNATE,
     precise!(0),
@@ -252,14 +252,14 @@ const ALTERNATE_SPECS: &[FormatSpec] = &[
     spec!(true, Sign::Plus, None, Some(40), Some(Align::Right)),
 ];
 
-/// The size in bytes and the size in bits are read from their own texts again.
-fn assert_read_back(
+/// Asserts that a size in bytes and a size in bits round-trip through their texts.
+fn assert_round_trip(
     rt: &impl Abort,
     alloc: Global,
     size: u64,
     spec: FormatSpec,
 ) -> Result<(), AllocError> {
-    let wanted = Answer::Size(u128::from(size));
+    let wanted = Expected::Size(u128::from(size));
     let text = Byte::from_u64(size).to_text(alloc, spec)?;
     assert_bytes(rt, text.as_str(), false, wanted);
     assert_bytes(rt, text.as_str(), true, wanted);
@@ -269,10 +269,10 @@ fn assert_read_back(
 }
 
 #[test]
-fn forms_with_a_unit_read_back(rt: HostRuntime) -> Result<(), AllocError> {
+fn forms_with_a_unit_round_trip(rt: HostRuntime) -> Result<(), AllocError> {
     for size in SIZES {
         for spec in ALTERNATE_SPECS {
-            assert_read_back(&rt, rt.alloc(), *size, *spec)?;
+            assert_round_trip(&rt, rt.alloc(), *size, *spec)?;
         }
     }
     Ok(())
@@ -289,7 +289,7 @@ fn appended_texts(rt: HostRuntime) -> Result<(), AllocError> {
 }
 
 #[test]
-fn a_text_in_the_room_that_is_there(rt: HostRuntime) -> Result<(), AllocError> {
+fn append_within_capacity(rt: HostRuntime) -> Result<(), AllocError> {
     let mut text = String::with_capacity(rt.alloc(), 7)?;
     text.push_str("ab")?;
     assert!(rt; text.capacity() == 7);
@@ -299,7 +299,7 @@ fn a_text_in_the_room_that_is_there(rt: HostRuntime) -> Result<(), AllocError> {
     Ok(())
 }
 
-/// So many bytes are written, and these stand at the front.
+/// Asserts the number of bytes written, and the bytes at the start of the buffer.
 fn assert_written(rt: &impl Abort, written: usize, len: usize, out: &[u8], front: &[u8]) {
     assert!(rt; written == len && out.starts_with(front), "{written}");
 }
@@ -307,7 +307,7 @@ fn assert_written(rt: &impl Abort, written: usize, len: usize, out: &[u8], front
 const NINE_RIGHT: FormatSpec = spec!(true, Sign::Unset, None, Some(9), Some(Align::Right));
 
 #[test]
-fn texts_in_bytes(rt: HostRuntime) {
+fn texts_in_buffers(rt: HostRuntime) {
     let mut out = [b'~'; 12];
     let len = Byte::from_u64(1536).write_text(NINE_RIGHT, &mut out);
     assert_written(&rt, len, 9, &out, b"  1.5 KiB~~~");
@@ -322,7 +322,7 @@ fn texts_in_bytes(rt: HostRuntime) {
     assert_written(&rt, len, 5, &short, b"~~~~");
 }
 
-/// Adds both texts of a size after one request for memory: the second can't be refused then.
+/// Appends both texts of a size after reserving the capacity for both: the second cannot fail to allocate.
 fn append_both(size: Byte, text: &mut String) -> Result<(), AllocError> {
     let len = size.text_len(FormatSpec::PLAIN) + size.text_len(FormatSpec::ALTERNATE);
     text.try_reserve_exact(len)?;
@@ -332,14 +332,14 @@ fn append_both(size: Byte, text: &mut String) -> Result<(), AllocError> {
 }
 
 #[test]
-fn two_texts_after_one_request(rt: HostRuntime) -> Result<(), AllocError> {
+fn two_texts_after_one_reservation(rt: HostRuntime) -> Result<(), AllocError> {
     let mut text = String::new(rt.alloc());
     append_both(Byte::from_u64(1536), &mut text)?;
     assert_same(&rt, text.as_str(), "15361.5 KiB");
     Ok(())
 }
 
-/// The plain text of each number.
+/// Asserts the plain text of each number.
 fn assert_plain(rt: &impl Abort, alloc: Global, rows: &[(u128, &str)]) -> Result<(), AllocError> {
     for (number, wanted) in rows {
         let mut text = String::new(alloc);
@@ -350,7 +350,7 @@ fn assert_plain(rt: &impl Abort, alloc: Global, rows: &[(u128, &str)]) -> Result
     Ok(())
 }
 
-const DIGITS_PAST_64_BITS: &[(u128, &str)] = &[
+const DIGITS_BEYOND_64_BITS: &[(u128, &str)] = &[
     (0, "0"),
     (1, "1"),
     (10, "10"),
@@ -361,11 +361,11 @@ const DIGITS_PAST_64_BITS: &[(u128, &str)] = &[
         1_000_000_000_000_000_000_000_000_000,
         "1000000000000000000000000000",
     ),
-    (GREATEST, "999999999999999999999999999999"),
+    (MAX_SIZE, "999999999999999999999999999999"),
     (u128::MAX, "340282366920938463463374607431768211455"),
 ];
 
 #[test]
-fn digits_past_64_bits(rt: HostRuntime) -> Result<(), AllocError> {
-    assert_plain(&rt, rt.alloc(), DIGITS_PAST_64_BITS)
+fn digits_beyond_64_bits(rt: HostRuntime) -> Result<(), AllocError> {
+    assert_plain(&rt, rt.alloc(), DIGITS_BEYOND_64_BITS)
 }

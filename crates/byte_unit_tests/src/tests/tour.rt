@@ -1,11 +1,11 @@
-//! The library in short: reading, calculating, printing.
+//! Examples of parsing, calculating and formatting.
 use super::traits::assert_is;
 use byte_unit::{Bit, Byte, FormatSpec, ParseError, Unit, UnitType, ValueParseError};
 use std::alloc::AllocError;
 use std::process::Abort;
 
 #[test]
-fn reading(rt: HostRuntime) {
+fn parsing(rt: HostRuntime) {
     let size = Byte::parse_str("1.5 KiB", false).ok();
     assert_is(&rt, size, Some(Byte::from_u64(1536)));
     let size = Bit::parse_str("123Kib").ok();
@@ -18,20 +18,20 @@ fn reading(rt: HostRuntime) {
     );
 }
 
-/// What can be wrong in the settings of an example.
+/// An error in the settings of an example.
 #[derive(Debug, Drop)]
 enum SettingsError {
     Quota(ParseError),
 }
 
-/// The quota of a setting.
+/// Parses the quota of a setting.
 fn quota_of(text: &str) -> Result<Byte, SettingsError> {
     let quota = Byte::parse_str(text, false).map_err(SettingsError::Quota)?;
     Ok(quota)
 }
 
 #[test]
-fn reading_into_an_error_of_the_caller(rt: HostRuntime) {
+fn parse_error_in_an_error_of_the_caller(rt: HostRuntime) {
     let quota = quota_of("20 GB").ok();
     assert_is(&rt, quota, Some(Byte::from_u64(20_000_000_000)));
     assert!(rt;
@@ -51,13 +51,13 @@ fn calculating(rt: HostRuntime) {
     assert!(rt; used.cmp_u64(1_000_000_000).is_lt());
 }
 
-/// What was printed is this text.
+/// Asserts that a text is the expected one.
 fn assert_printed(rt: &impl Abort, text: String, wanted: &str) {
     assert_is(rt, text.as_str(), wanted);
 }
 
 #[test]
-fn printing(rt: HostRuntime) -> Result<(), AllocError> {
+fn formatting(rt: HostRuntime) -> Result<(), AllocError> {
     let size = Byte::from_u64(123_456);
     let plain = size.to_text(rt.alloc(), FormatSpec::PLAIN)?;
     assert_printed(&rt, plain, "123456");

@@ -1,5 +1,5 @@
-//! Sizes by the traits of std, each through its bound alone: compared, hashed, converted, read and printed.
-use super::numbers::made;
+//! Tests of std's traits on sizes, each through its bound: order, hash, conversions, `FromStr` and `Display`.
+use super::numbers::convert;
 use byte_unit::{AdjustedBit, AdjustedByte, Bit, Byte, Unit};
 use std::alloc::{AllocError, Global};
 use std::cmp::Ordering;
@@ -9,12 +9,12 @@ use std::hash::Hash;
 use std::process::Abort;
 use std::str::FromStr;
 
-/// What was made is what was wanted.
+/// Asserts that two values are equal.
 pub fn assert_is<S: PartialEq + Debug + Drop>(rt: &impl Abort, made: S, wanted: S) {
     assert_eq!(rt; made, wanted);
 }
 
-/// What was made is what was wanted, in each row.
+/// Asserts that the two values of each pair are equal.
 pub fn assert_are<S: PartialEq + Debug>(rt: &impl Abort, rows: &[(S, S)]) {
     for (made, wanted) in rows {
         assert_eq!(rt; made, wanted);
@@ -51,7 +51,7 @@ fn sizes_by_their_bounds(rt: HostRuntime) {
     assert_is(&rt, parsed::<Bit>("10 B").ok(), Some(Bit::from_u64(80)));
 }
 
-/// The two sizes are two of a set, or one, as is wanted.
+/// Asserts whether a set has two elements or one after both sizes are inserted.
 fn assert_distinct<S: Hash + Eq + Drop>(
     rt: &impl Abort,
     alloc: Global,
@@ -73,7 +73,7 @@ fn sizes_in_sets(rt: HostRuntime) -> Result<(), AllocError> {
     assert_distinct(&rt, alloc, (Bit::KILOBIT, Bit::from_u64(1000)), false)
 }
 
-/// Through its bound alone.
+/// Compares through the bound `Eq`.
 fn are_equal<S: Eq>(left: &S, right: &S) -> bool {
     left == right
 }
@@ -82,7 +82,7 @@ fn order<S: Ord>(left: &S, right: &S) -> Ordering {
     left.cmp(right)
 }
 
-/// The sizes compare as these are said to, whatever their units are.
+/// Asserts the order of adjusted sizes, which does not depend on their units.
 fn assert_ordered<S: Ord + PartialOrd + Copy>(rt: &impl Abort, less: S, size: S, same: S) {
     assert!(rt; are_equal(&size, &same) && !are_equal(&size, &less));
     assert!(rt; order(&less, &size).is_lt() && order(&size, &same).is_eq());
@@ -108,21 +108,25 @@ fn adjusted_sizes_compare_as_their_sizes(rt: HostRuntime) {
 
 #[test]
 fn adjusted_sizes_from_and_into(rt: HostRuntime) {
-    let bytes: AdjustedByte = made(Byte::from_u64(10_000));
+    let bytes: AdjustedByte = convert(Byte::from_u64(10_000));
     assert_is(&rt, bytes.get_unit(), Unit::KiB);
     assert_is(
         &rt,
-        made::<AdjustedByte, Byte>(bytes),
+        convert::<AdjustedByte, Byte>(bytes),
         Byte::from_u64(10_000),
     );
-    assert_is(&rt, made::<AdjustedByte, Unit>(bytes), Unit::KiB);
+    assert_is(&rt, convert::<AdjustedByte, Unit>(bytes), Unit::KiB);
     let kib = Byte::from_u64(1024).get_adjusted_unit(Unit::GB);
     assert_is(&rt, Byte::from(kib), Byte::from_u64(1024));
     assert_is(&rt, Unit::from(kib), Unit::GB);
-    let bits: AdjustedBit = made(Bit::from_u64(10_000));
+    let bits: AdjustedBit = convert(Bit::from_u64(10_000));
     assert_is(&rt, bits.get_unit(), Unit::Kibit);
-    assert_is(&rt, made::<AdjustedBit, Bit>(bits), Bit::from_u64(10_000));
-    assert_is(&rt, made::<AdjustedBit, Unit>(bits), Unit::Kibit);
+    assert_is(
+        &rt,
+        convert::<AdjustedBit, Bit>(bits),
+        Bit::from_u64(10_000),
+    );
+    assert_is(&rt, convert::<AdjustedBit, Unit>(bits), Unit::Kibit);
 }
 
 #[test]
@@ -137,8 +141,8 @@ fn adjusted_sizes_from_texts(rt: HostRuntime) {
     assert_is(&rt, bits.get_unit(), Unit::Mibit);
 }
 
-/// Written with a width, a sign and a precision in the format string, which change nothing, it is this text.
-fn assert_shown_wide<D: Display>(
+/// Asserts that width, sign and precision in the format string do not change the text.
+fn assert_displayed_with_flags<D: Display>(
     rt: &impl Abort,
     alloc: Global,
     size: &D,
@@ -150,14 +154,14 @@ fn assert_shown_wide<D: Display>(
 }
 
 #[test]
-fn sizes_shown_with_flags(rt: HostRuntime) -> Result<(), AllocError> {
+fn sizes_displayed_with_flags(rt: HostRuntime) -> Result<(), AllocError> {
     let alloc = rt.alloc();
     let bytes = Byte::from_u64(1_555_000);
     let bits = Bit::from_u64(1_555_000);
-    assert_shown_wide(&rt, alloc, &bytes, "1555000")?;
-    assert_shown_wide(&rt, alloc, &bits, "1555000")?;
+    assert_displayed_with_flags(&rt, alloc, &bytes, "1555000")?;
+    assert_displayed_with_flags(&rt, alloc, &bits, "1555000")?;
     let bytes = Byte::from_u64(10_000).get_adjusted_unit(Unit::MB);
     let bits = Bit::from_u64(10_000).get_adjusted_unit(Unit::Mbit);
-    assert_shown_wide(&rt, alloc, &bytes, "0.01 MB")?;
-    assert_shown_wide(&rt, alloc, &bits, "0.01 Mb")
+    assert_displayed_with_flags(&rt, alloc, &bytes, "0.01 MB")?;
+    assert_displayed_with_flags(&rt, alloc, &bits, "0.01 Mb")
 }

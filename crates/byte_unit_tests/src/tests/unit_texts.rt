@@ -1,32 +1,32 @@
-//! Units from texts, and the faults of those that spell none.
-use super::answers::{Answer, TEN, is_unit_fault};
+//! Tests of parsing units, and of the errors of strings that spell none.
+use super::answers::{Expected, TEN, is_unit_error};
 use byte_unit::{Unit, UnitParseError};
 use std::process::Abort;
 
-/// Both flags, `ignore_case` and `prefer_byte`, in each way.
+/// Every combination of the flags `ignore_case` and `prefer_byte`.
 const FLAGS: &[(bool, bool)] = &[(false, false), (false, true), (true, false), (true, true)];
 
-/// The text was read as the unit.
-fn assert_answer(rt: &impl Abort, text: &str, read: Result<Unit, UnitParseError>, wanted: Unit) {
+/// Asserts that a string was parsed as the expected unit.
+fn assert_result(rt: &impl Abort, text: &str, read: Result<Unit, UnitParseError>, wanted: Unit) {
     match read {
         Ok(unit) => assert!(rt; unit == wanted, "{text} is {unit}"),
-        Err(_) => panic!(rt; "{text} is refused"),
+        Err(_) => panic!(rt; "{text} is rejected"),
     }
 }
 
 fn assert_unit(rt: &impl Abort, text: &str, flags: (bool, bool), wanted: Unit) {
     let read = Unit::parse_str(text, flags.0, flags.1);
-    assert_answer(rt, text, read, wanted);
+    assert_result(rt, text, read, wanted);
 }
 
-/// Each text is refused with the fault in its row.
-fn assert_all_refused(rt: &impl Abort, flags: (bool, bool), rows: &[(&str, Answer)]) {
+/// Asserts that each string is rejected with the expected error.
+fn assert_all_rejected(rt: &impl Abort, flags: (bool, bool), rows: &[(&str, Expected)]) {
     for (text, wanted) in rows {
         match Unit::parse_str(text, flags.0, flags.1) {
             Ok(_) => panic!(rt; "{text} is read"),
             Err(error) => assert!(rt;
-                is_unit_fault(&error, *wanted),
-                "{text} is refused otherwise"
+                is_unit_error(&error, *wanted),
+                "{text} is rejected otherwise"
             ),
         }
     }
@@ -83,53 +83,53 @@ fn spellings_by_any_flags(rt: HostRuntime) {
     }
 }
 
-const FAULTS_OF_UNITS: &[(&str, Answer)] = &[
-    ("x", Answer::Unit('x', &TEN, true)),
-    ("\u{212A}", Answer::Unit('\u{212A}', &TEN, true)),
-    ("\u{1F600}", Answer::Unit('\u{1F600}', &TEN, true)),
-    ("bx", Answer::Unit('x', &['i'], true)),
-    ("biX", Answer::Unit('X', &['t'], false)),
-    ("bita", Answer::Unit('a', &['s'], true)),
-    ("bit\u{17F}", Answer::Unit('\u{17F}', &['s'], true)),
-    ("bitsé", Answer::Unit('é', &[], true)),
-    ("bi", Answer::Unit('i', &[], true)),
-    ("GBI", Answer::Unit('i', &[], true)),
+const UNIT_ERRORS: &[(&str, Expected)] = &[
+    ("x", Expected::Unit('x', &TEN, true)),
+    ("\u{212A}", Expected::Unit('\u{212A}', &TEN, true)),
+    ("\u{1F600}", Expected::Unit('\u{1F600}', &TEN, true)),
+    ("bx", Expected::Unit('x', &['i'], true)),
+    ("biX", Expected::Unit('X', &['t'], false)),
+    ("bita", Expected::Unit('a', &['s'], true)),
+    ("bit\u{17F}", Expected::Unit('\u{17F}', &['s'], true)),
+    ("bitsé", Expected::Unit('é', &[], true)),
+    ("bi", Expected::Unit('i', &[], true)),
+    ("GBI", Expected::Unit('i', &[], true)),
 ];
 
 #[test]
-fn faults_of_units(rt: HostRuntime) {
+fn unit_errors(rt: HostRuntime) {
     for flags in FLAGS {
-        assert_all_refused(&rt, *flags, FAULTS_OF_UNITS);
+        assert_all_rejected(&rt, *flags, UNIT_ERRORS);
     }
 }
 
-const FAULTS_OF_NO_FLAG: &[(&str, Answer)] = &[
-    ("Kix", Answer::Unit('x', &['B', 'b'], true)),
-    ("kx", Answer::Unit('x', &['B', 'b'], true)),
+const ERRORS_WITHOUT_FLAGS: &[(&str, Expected)] = &[
+    ("Kix", Expected::Unit('x', &['B', 'b'], true)),
+    ("kx", Expected::Unit('x', &['B', 'b'], true)),
 ];
 
-const FAULTS_THAT_PREFER_BYTES: &[(&str, Answer)] = &[
-    ("Kix", Answer::Unit('x', &['B', 'b'], true)),
-    ("kx", Answer::Unit('x', &['B', 'b'], true)),
-    ("K b", Answer::Unit(' ', &['B', 'b'], true)),
+const ERRORS_WITH_PREFER_BYTE: &[(&str, Expected)] = &[
+    ("Kix", Expected::Unit('x', &['B', 'b'], true)),
+    ("kx", Expected::Unit('x', &['B', 'b'], true)),
+    ("K b", Expected::Unit(' ', &['B', 'b'], true)),
 ];
 
-const FAULTS_OF_ANY_CASE: &[(&str, Answer)] = &[
-    ("Kix", Answer::Unit('x', &['b'], true)),
-    ("kx", Answer::Unit('x', &['b'], true)),
+const ERRORS_WITH_IGNORE_CASE: &[(&str, Expected)] = &[
+    ("Kix", Expected::Unit('x', &['b'], true)),
+    ("kx", Expected::Unit('x', &['b'], true)),
 ];
 
-const FAULTS_OF_ANY_CASE_THAT_PREFER_BYTES: &[(&str, Answer)] = &[
-    ("Kix", Answer::Unit('x', &['B'], true)),
-    ("kx", Answer::Unit('x', &['B'], true)),
+const ERRORS_WITH_BOTH_FLAGS: &[(&str, Expected)] = &[
+    ("Kix", Expected::Unit('x', &['B'], true)),
+    ("kx", Expected::Unit('x', &['B'], true)),
 ];
 
 #[test]
-fn faults_by_their_flags(rt: HostRuntime) {
-    assert_all_refused(&rt, (false, false), FAULTS_OF_NO_FLAG);
-    assert_all_refused(&rt, (false, true), FAULTS_THAT_PREFER_BYTES);
-    assert_all_refused(&rt, (true, false), FAULTS_OF_ANY_CASE);
-    assert_all_refused(&rt, (true, true), FAULTS_OF_ANY_CASE_THAT_PREFER_BYTES);
+fn unit_errors_by_flags(rt: HostRuntime) {
+    assert_all_rejected(&rt, (false, false), ERRORS_WITHOUT_FLAGS);
+    assert_all_rejected(&rt, (false, true), ERRORS_WITH_PREFER_BYTE);
+    assert_all_rejected(&rt, (true, false), ERRORS_WITH_IGNORE_CASE);
+    assert_all_rejected(&rt, (true, true), ERRORS_WITH_BOTH_FLAGS);
 }
 
 const UNITS_BY_FROM_STR: &[(&str, Unit)] = &[
@@ -142,10 +142,10 @@ const UNITS_BY_FROM_STR: &[(&str, Unit)] = &[
 #[test]
 fn units_by_from_str(rt: HostRuntime) {
     for (text, unit) in UNITS_BY_FROM_STR {
-        assert_answer(&rt, text, text.parse::<Unit>(), *unit);
+        assert_result(&rt, text, text.parse::<Unit>(), *unit);
     }
     match "Kix".parse::<Unit>() {
         Ok(_) => panic!(rt; "read"),
-        Err(error) => assert!(rt; is_unit_fault(&error, Answer::Unit('x', &['B', 'b'], true))),
+        Err(error) => assert!(rt; is_unit_error(&error, Expected::Unit('x', &['B', 'b'], true))),
     }
 }

@@ -1,14 +1,14 @@
-//! The units that state a size: exact, recoverable, with the steps that the choice takes.
+//! Tests of the exact and the recoverable unit of a size, and of the step count of the choice.
 use byte_unit::{Bit, Byte, Decimal, Kind, Steps, Unit};
 use std::process::Abort;
 
-/// The greatest size.
-const GREATEST: u128 = 999_999_999_999_999_999_999_999_999_999;
+/// The maximum size.
+const MAX_SIZE: u128 = 999_999_999_999_999_999_999_999_999_999;
 
-/// The greatest size of the first version.
-const OLD_GREATEST: u128 = 999_999_999_999_999_999_999_999_999;
+/// The maximum size of v1.
+const MAX_SIZE_OF_V1: u128 = 999_999_999_999_999_999_999_999_999;
 
-/// How many of which unit a size of the kind is; units of the other kind are allowed or not.
+/// Returns the exact unit of a size, with units of the other kind if `allow` is set.
 fn exact(kind: Kind, size: u128, allow: bool) -> Option<(u128, Unit)> {
     match kind {
         Kind::Byte => Some(Byte::from_u128(size)?.get_exact_unit(allow)),
@@ -26,7 +26,7 @@ const EXACT_UNITS: &[(Kind, u128, bool, u128, Unit)] = &[
     (Kind::Bit, 24_000_000, false, 24, Unit::Mbit),
     (Kind::Bit, 16, true, 16, Unit::Bit),
     (Kind::Bit, 0, true, 0, Unit::Bit),
-    // Of both kinds it is a whole number of the greater `Rbit`.
+    // With units of either kind, it is a whole number of the larger `Rbit`.
     (
         Kind::Byte,
         125_000_000_000_000_000_000_000_000,
@@ -34,7 +34,7 @@ const EXACT_UNITS: &[(Kind, u128, bool, u128, Unit)] = &[
         1,
         Unit::Rbit,
     ),
-    // As in the first version.
+    // As in v1.
     (
         Kind::Byte,
         125_000_000_000_000_000_000_000_000,
@@ -47,12 +47,12 @@ const EXACT_UNITS: &[(Kind, u128, bool, u128, Unit)] = &[
 #[test]
 fn exact_units(rt: HostRuntime) {
     for (kind, size, allow, number, unit) in EXACT_UNITS {
-        let stated = exact(*kind, *size, *allow);
-        assert!(rt; stated == Some((*number, *unit)), "{size}");
+        let found = exact(*kind, *size, *allow);
+        assert!(rt; found == Some((*number, *unit)), "{size}");
     }
 }
 
-/// How many of which unit states a size of the kind.
+/// Returns the recoverable unit of a size.
 fn recoverable(kind: Kind, size: u128, allow: bool, precision: usize) -> Option<(Decimal, Unit)> {
     match kind {
         Kind::Byte => Some(Byte::from_u128(size)?.get_recoverable_unit(allow, precision)),
@@ -60,7 +60,7 @@ fn recoverable(kind: Kind, size: u128, allow: bool, precision: usize) -> Option<
     }
 }
 
-/// The same by the sibling that counts, and its steps.
+/// Returns the recoverable unit and the step count by the function that counts steps.
 fn counted(
     kind: Kind,
     size: u128,
@@ -68,7 +68,7 @@ fn counted(
     precision: usize,
 ) -> Option<((Decimal, Unit), u64)> {
     let mut steps = Steps::new();
-    let stated = match kind {
+    let found = match kind {
         Kind::Byte => Byte::from_u128(size)?.get_recoverable_unit_counted(
             allow, precision, &mut steps,
         ),
@@ -76,28 +76,28 @@ fn counted(
             allow, precision, &mut steps,
         ),
     };
-    Some((stated, steps.count()))
+    Some((found, steps.count()))
 }
 
-/// A size and its kind, whether units of the other kind are allowed, and the precision; then the unit, with the number
-/// of it as a mantissa over ten to the scale.
-type Stated = (Kind, u128, bool, usize, u128, u32, Unit);
+/// The kind, the size, whether units of the other kind are allowed, and the precision; then the number as a mantissa
+/// and a scale, and the unit.
+type RecoverableUnit = (Kind, u128, bool, usize, u128, u32, Unit);
 
-/// Each size is stated so by both calls.
-fn assert_stated(rt: &impl Abort, rows: &[Stated]) {
+/// Asserts the recoverable unit of each size by both functions.
+fn assert_recoverable(rt: &impl Abort, rows: &[RecoverableUnit]) {
     for (kind, size, allow, precision, mantissa, scale, unit) in rows {
         let number = Decimal::from_u128_with_scale(*mantissa, *scale).expect(rt, "a decimal");
-        let stated = recoverable(*kind, *size, *allow, *precision);
-        assert!(rt; stated == Some((number, *unit)), "{size} at {precision}");
-        let stated = counted(*kind, *size, *allow, *precision);
+        let found = recoverable(*kind, *size, *allow, *precision);
+        assert!(rt; found == Some((number, *unit)), "{size} at {precision}");
+        let found = counted(*kind, *size, *allow, *precision);
         assert!(rt;
-            stated.map(|pair| pair.0) == Some((number, *unit)),
+            found.map(|pair| pair.0) == Some((number, *unit)),
             "{size} at {precision}"
         );
     }
 }
 
-const RECOVERABLE_UNITS: &[Stated] = &[
+const RECOVERABLE_UNITS: &[RecoverableUnit] = &[
     (Kind::Byte, 50_840_000, false, 2, 5084, 2, Unit::MB),
     (Kind::Byte, 50_840_000, false, 0, 50_840, 0, Unit::KB),
     (Kind::Byte, 437_500, true, 3, 35, 1, Unit::Mbit),
@@ -115,10 +115,10 @@ const RECOVERABLE_UNITS: &[Stated] = &[
 
 #[test]
 fn recoverable_units(rt: HostRuntime) {
-    assert_stated(&rt, RECOVERABLE_UNITS);
+    assert_recoverable(&rt, RECOVERABLE_UNITS);
 }
 
-const RECOVERABLE_UNITS_OF_BITS: &[Stated] = &[
+const RECOVERABLE_UNITS_OF_BITS: &[RecoverableUnit] = &[
     (Kind::Bit, 0, true, 28, 0, 0, Unit::Bit),
     (Kind::Bit, 3_211_776, false, 3, 31_365, 1, Unit::Kibit),
     (Kind::Bit, 28_000_000, true, 3, 35, 1, Unit::MB),
@@ -128,7 +128,7 @@ const RECOVERABLE_UNITS_OF_BITS: &[Stated] = &[
 
 #[test]
 fn recoverable_units_of_bits(rt: HostRuntime) {
-    assert_stated(&rt, RECOVERABLE_UNITS_OF_BITS);
+    assert_recoverable(&rt, RECOVERABLE_UNITS_OF_BITS);
 }
 
 /// 2^80 + 2^51.
@@ -143,26 +143,34 @@ const FIVES: u128 = 363_797_880_709_171_295_166_015_625;
 /// 5^42.
 const MORE_FIVES: u128 = 227_373_675_443_232_059_478_759_765_625;
 
-const RECOVERABLE_UNITS_OF_GREAT_SIZES: &[Stated] = &[
-    (Kind::Byte, GREATEST, true, 3, GREATEST, 3, Unit::KB),
-    (Kind::Byte, GREATEST, true, 10, GREATEST, 9, Unit::GB),
-    (Kind::Byte, GREATEST, true, 28, GREATEST, 27, Unit::RB),
-    (Kind::Byte, OLD_GREATEST, true, 3, OLD_GREATEST, 3, Unit::KB),
+const RECOVERABLE_UNITS_OF_LARGE_SIZES: &[RecoverableUnit] = &[
+    (Kind::Byte, MAX_SIZE, true, 3, MAX_SIZE, 3, Unit::KB),
+    (Kind::Byte, MAX_SIZE, true, 10, MAX_SIZE, 9, Unit::GB),
+    (Kind::Byte, MAX_SIZE, true, 28, MAX_SIZE, 27, Unit::RB),
     (
         Kind::Byte,
-        OLD_GREATEST,
+        MAX_SIZE_OF_V1,
+        true,
+        3,
+        MAX_SIZE_OF_V1,
+        3,
+        Unit::KB,
+    ),
+    (
+        Kind::Byte,
+        MAX_SIZE_OF_V1,
         true,
         10,
-        OLD_GREATEST,
+        MAX_SIZE_OF_V1,
         9,
         Unit::GB,
     ),
     (
         Kind::Byte,
-        OLD_GREATEST,
+        MAX_SIZE_OF_V1,
         false,
         28,
-        OLD_GREATEST,
+        MAX_SIZE_OF_V1,
         24,
         Unit::YB,
     ),
@@ -209,22 +217,22 @@ const RECOVERABLE_UNITS_OF_GREAT_SIZES: &[Stated] = &[
 ];
 
 #[test]
-fn recoverable_units_of_great_sizes(rt: HostRuntime) {
-    assert_stated(&rt, RECOVERABLE_UNITS_OF_GREAT_SIZES);
+fn recoverable_units_of_large_sizes(rt: HostRuntime) {
+    assert_recoverable(&rt, RECOVERABLE_UNITS_OF_LARGE_SIZES);
 }
 
-/// A size and its kind, whether units of the other kind are allowed, and the precision; then the step count.
+/// The kind, the size, whether units of the other kind are allowed, and the precision; then the step count.
 const STEPS_OF_THE_CHOICE: &[(Kind, u128, bool, usize, u64)] = &[
-    (Kind::Byte, GREATEST, false, 28, 29),
-    (Kind::Byte, GREATEST, true, 28, 29),
-    (Kind::Byte, GREATEST, true, 0, 2),
-    (Kind::Byte, OLD_GREATEST, false, 28, 26),
+    (Kind::Byte, MAX_SIZE, false, 28, 29),
+    (Kind::Byte, MAX_SIZE, true, 28, 29),
+    (Kind::Byte, MAX_SIZE, true, 0, 2),
+    (Kind::Byte, MAX_SIZE_OF_V1, false, 28, 26),
     (Kind::Byte, 0, true, 28, 0),
     (Kind::Byte, 1 << 89, false, 3, 91),
     (Kind::Byte, 1 << 99, false, 3, 101),
     (Kind::Byte, FIVES, false, 28, 64),
     (Kind::Byte, MORE_FIVES, false, 28, 71),
-    // The greatest step counts, both in `RB`.
+    // The maximum step counts, both in `RB`.
     (Kind::Byte, 7 << 87, false, 27, 116),
     (Kind::Bit, 7 << 90, true, 27, 119),
 ];
@@ -232,9 +240,9 @@ const STEPS_OF_THE_CHOICE: &[(Kind, u128, bool, usize, u64)] = &[
 #[test]
 fn steps_of_the_choice(rt: HostRuntime) {
     for (kind, size, allow, precision, count) in STEPS_OF_THE_CHOICE {
-        let stated = counted(*kind, *size, *allow, *precision);
+        let found = counted(*kind, *size, *allow, *precision);
         assert!(rt;
-            stated.map(|pair| pair.1) == Some(*count),
+            found.map(|pair| pair.1) == Some(*count),
             "{size} at {precision}"
         );
     }

@@ -1,22 +1,22 @@
-//! What the uses of sizes in `byte_unit_uses` answer.
-use super::error_texts::assert_refused;
+//! Tests of the functions of `byte_unit_uses`.
+use super::error_texts::assert_error;
 use super::traits::assert_is;
 use byte_unit::{
     AdjustedByte, Bit, Byte, FormatSpec, JsonSizeError, ParseError, Unit, ValueParseError,
 };
+use byte_unit_uses::adjusted::{in_unit, parse_adjusted, parse_unit};
 use byte_unit_uses::capped::{LimitError, limit_at_most, max_exceeded, read_limit};
-use byte_unit_uses::entry::{Entry, add, below};
-use byte_unit_uses::limit::{limit, limit_if_stated, limit_or, rate, read_or};
-use byte_unit_uses::message::limit_of_argument;
+use byte_unit_uses::entry::{Entry, add, filter_below};
+use byte_unit_uses::limit::{limit, limit_ok, limit_or, rate, unwrap_limit_or};
+use byte_unit_uses::message::parse_argument;
 use byte_unit_uses::quota::{QuotaError, left, share};
 use byte_unit_uses::settings::{Settings, SettingsError, read_settings};
-use byte_unit_uses::shown::{shown, shown_in, unit_of};
 use serde_json::Value;
 use std::alloc::{AllocError, Global};
 use std::process::Abort;
 
 #[test]
-fn limits_of_texts(rt: HostRuntime) {
+fn limits_from_strings(rt: HostRuntime) {
     assert_is(
         &rt,
         limit("1.5 GiB").ok(),
@@ -24,16 +24,20 @@ fn limits_of_texts(rt: HostRuntime) {
     );
     assert!(rt; matches!(limit(""), Err(ParseError::Value(ValueParseError::NoValue))));
     assert_is(&rt, rate("100 Mbit").ok(), Some(Bit::from_u64(100_000_000)));
-    assert_is(
-        &rt,
-        limit_if_stated("20 mb"),
-        Some(Byte::from_u64(20_000_000)),
-    );
-    assert_is(&rt, limit_if_stated("20 x"), None);
+    assert_is(&rt, limit_ok("20 mb"), Some(Byte::from_u64(20_000_000)));
+    assert_is(&rt, limit_ok("20 x"), None);
     assert_is(&rt, limit_or("4 KiB", Byte::MEBIBYTE), Byte::from_u64(4096));
     assert_is(&rt, limit_or("much", Byte::MEBIBYTE), Byte::MEBIBYTE);
-    assert_is(&rt, read_or(limit("1 MB"), Byte::KIBIBYTE), Byte::MEGABYTE);
-    assert_is(&rt, read_or(limit("1 x"), Byte::KIBIBYTE), Byte::KIBIBYTE);
+    assert_is(
+        &rt,
+        unwrap_limit_or(limit("1 MB"), Byte::KIBIBYTE),
+        Byte::MEGABYTE,
+    );
+    assert_is(
+        &rt,
+        unwrap_limit_or(limit("1 x"), Byte::KIBIBYTE),
+        Byte::KIBIBYTE,
+    );
 }
 
 #[test]
@@ -64,7 +68,7 @@ fn quotas(rt: HostRuntime) -> Result<(), AllocError> {
         Some(Byte::from_u64(173_741_824)),
     );
     assert!(rt; matches!(left("500 MB", used), Err(QuotaError::Exceeded)));
-    assert_refused(
+    assert_error(
         &rt,
         rt.alloc(),
         left("1 GX", used),
@@ -79,19 +83,19 @@ fn quotas(rt: HostRuntime) -> Result<(), AllocError> {
     Ok(())
 }
 
-/// A JSON string.
+/// Creates a JSON string.
 fn string(alloc: Global, text: &str) -> Result<Value, AllocError> {
     Ok(Value::String(String::from_str(alloc, text)?))
 }
 
-/// The cache and the unit of the settings that were read.
-fn parts(answer: Result<Settings, SettingsError>) -> Option<(Byte, Unit)> {
-    let settings = answer.ok()?;
+/// Returns the cache limit and the unit of settings, and `None` for an error.
+fn parts(outcome: Result<Settings, SettingsError>) -> Option<(Byte, Unit)> {
+    let settings = outcome.ok()?;
     Some((settings.cache, settings.unit))
 }
 
 #[test]
-fn settings_of_json(rt: HostRuntime) -> Result<(), AllocError> {
+fn settings_from_json(rt: HostRuntime) -> Result<(), AllocError> {
     let cache = string(rt.alloc(), "1.5 GiB")?;
     let unit = string(rt.alloc(), "MiB")?;
     let read = parts(read_settings(&cache, &unit));
@@ -103,7 +107,7 @@ fn settings_of_json(rt: HostRuntime) -> Result<(), AllocError> {
         )
     );
     let unit = string(rt.alloc(), "MiBs")?;
-    assert_refused(
+    assert_error(
         &rt,
         rt.alloc(),
         read_settings(&cache, &unit),
@@ -111,29 +115,29 @@ fn settings_of_json(rt: HostRuntime) -> Result<(), AllocError> {
     )
 }
 
-/// The answer is a size in a unit, which has this text.
-fn assert_shown<E: Drop>(
+/// Asserts that a result is a size in a unit that is formatted as `wanted`.
+fn assert_formatted<E: Drop>(
     rt: &impl Abort,
     alloc: Global,
-    answer: Result<AdjustedByte, E>,
+    outcome: Result<AdjustedByte, E>,
     wanted: &str,
 ) -> Result<(), AllocError> {
-    match answer {
+    match outcome {
         Ok(size) => assert_is(rt, size.to_text(alloc, FormatSpec::PLAIN)?.as_str(), wanted),
-        Err(_) => panic!(rt; "refused"),
+        Err(_) => panic!(rt; "rejected"),
     }
     Ok(())
 }
 
 #[test]
 fn sizes_in_units(rt: HostRuntime) -> Result<(), AllocError> {
-    let size = shown_in(Byte::from_u64(123_456), "KiB");
-    assert_shown(&rt, rt.alloc(), size, "120.5625 KiB")?;
-    assert_is(&rt, unit_of("3 Mbit").ok(), Some(Unit::Mbit));
-    assert_shown(&rt, rt.alloc(), shown("10000"), "9.765625 KiB")
+    let size = in_unit(Byte::from_u64(123_456), "KiB");
+    assert_formatted(&rt, rt.alloc(), size, "120.5625 KiB")?;
+    assert_is(&rt, parse_unit("3 Mbit").ok(), Some(Unit::Mbit));
+    assert_formatted(&rt, rt.alloc(), parse_adjusted("10000"), "9.765625 KiB")
 }
 
-/// Names of entries and their sizes, as texts.
+/// The name of each entry, and the string of its size.
 const ENTRIES: &[(&str, &str)] = &[("logs", "1.5 KiB"), ("cache", "2 GB"), ("none", "2 X")];
 
 #[test]
@@ -141,7 +145,7 @@ fn entries_of_a_report(rt: HostRuntime) -> Result<(), AllocError> {
     let mut report = Vec::new(rt.alloc());
     for (name, text) in ENTRIES {
         if let Ok(entry) = Entry::read(name, text) {
-            if let Some(entry) = below(entry, Byte::GIBIBYTE) {
+            if let Some(entry) = filter_below(entry, Byte::GIBIBYTE) {
                 add(&mut report, entry)?;
             }
         }
@@ -153,9 +157,9 @@ fn entries_of_a_report(rt: HostRuntime) -> Result<(), AllocError> {
 }
 
 #[test]
-fn messages_of_a_program(rt: HostRuntime) -> Result<(), AllocError> {
-    let limit = limit_of_argument("12 GB").ok();
+fn error_messages_with_context(rt: HostRuntime) -> Result<(), AllocError> {
+    let limit = parse_argument("12 GB").ok();
     assert_is(&rt, limit, Some(Byte::from_u64(12_000_000_000)));
-    let refused = limit_of_argument("12 QB");
-    assert_refused(&rt, rt.alloc(), refused, "reading the limit \"12 QB\"")
+    let rejected = parse_argument("12 QB");
+    assert_error(&rt, rt.alloc(), rejected, "reading the limit \"12 QB\"")
 }

@@ -1,4 +1,4 @@
-//! The longest texts: the greatest width and the greatest precision, on each type.
+//! Tests of the longest texts: the maximum width and the maximum precision, for each type.
 use super::shown::{Shown, assert_row, assert_same};
 use byte_unit::{
     Align, Bit, Byte, Expansion, FormatSpec, Kind, Sign, Unit, append_layout, append_plain,
@@ -7,14 +7,14 @@ use byte_unit::{
 use std::alloc::{AllocError, Global};
 use std::process::Abort;
 
-/// Each of the texts, so many times.
+/// Texts, each with its number of repetitions.
 type Repeated = &'static [(&'static str, usize)];
 
-/// So many bytes or bits, the unit that they are shown in if in any, the spec, how long the text is, and the text.
+/// The kind, the size, its unit if it is adjusted, the spec, the length of the text, and the text.
 type Row = (Kind, u128, Option<Unit>, FormatSpec, usize, Repeated);
 
-/// The greatest size.
-const GREATEST: u128 = 999_999_999_999_999_999_999_999_999_999;
+/// The maximum size.
+const MAX_SIZE: u128 = 999_999_999_999_999_999_999_999_999_999;
 
 fn repeated(alloc: Global, texts: Repeated) -> Result<String, AllocError> {
     let mut all = String::new(alloc);
@@ -24,7 +24,7 @@ fn repeated(alloc: Global, texts: Repeated) -> Result<String, AllocError> {
     Ok(all)
 }
 
-/// So many bytes or bits, in the unit if in any.
+/// Creates a size, adjusted to a unit if one is given.
 fn size_in(rt: &impl Abort, kind: Kind, size: u128, unit: Option<Unit>) -> Shown {
     match kind {
         Kind::Byte => {
@@ -44,7 +44,7 @@ fn size_in(rt: &impl Abort, kind: Kind, size: u128, unit: Option<Unit>) -> Shown
     }
 }
 
-/// Each text by its spec is the one in its row, and as long.
+/// Asserts each text and its length.
 fn assert_widest(rt: &impl Abort, alloc: Global, rows: &[Row]) -> Result<(), AllocError> {
     for (kind, size, unit, spec, len, texts) in rows {
         let wanted = repeated(alloc, texts)?;
@@ -55,14 +55,14 @@ fn assert_widest(rt: &impl Abort, alloc: Global, rows: &[Row]) -> Result<(), All
     Ok(())
 }
 
-const MOST_PLACES: FormatSpec = spec!(false, Sign::Plus, Some(65_535), None, None);
+const MAXIMUM_DECIMALS: FormatSpec = spec!(false, Sign::Plus, Some(65_535), None, None);
 
-const THE_GREATEST_PRECISION: &[Row] = &[
+const MAXIMUM_PRECISION: &[Row] = &[
     (
         Kind::Byte,
-        GREATEST,
+        MAX_SIZE,
         Some(Unit::Kbit),
-        MOST_PLACES,
+        MAXIMUM_DECIMALS,
         65_568,
         &[
             ("7999999999999999999999999999.992", 1),
@@ -72,9 +72,9 @@ const THE_GREATEST_PRECISION: &[Row] = &[
     ),
     (
         Kind::Bit,
-        GREATEST,
+        MAX_SIZE,
         Some(Unit::Kbit),
-        MOST_PLACES,
+        MAXIMUM_DECIMALS,
         65_567,
         &[
             ("999999999999999999999999999.999", 1),
@@ -93,13 +93,13 @@ const THE_GREATEST_PRECISION: &[Row] = &[
 ];
 
 #[test]
-fn the_greatest_precision(rt: HostRuntime) -> Result<(), AllocError> {
-    assert_widest(&rt, rt.alloc(), THE_GREATEST_PRECISION)
+fn maximum_precision(rt: HostRuntime) -> Result<(), AllocError> {
+    assert_widest(&rt, rt.alloc(), MAXIMUM_PRECISION)
 }
 
 const WIDE: FormatSpec = spec!(false, Sign::Unset, None, Some(65_535), None);
 
-const THE_GREATEST_WIDTH_OF_A_PLAIN_TEXT: &[Row] = &[
+const MAXIMUM_WIDTH_OF_A_PLAIN_TEXT: &[Row] = &[
     (
         Kind::Byte,
         0,
@@ -112,18 +112,18 @@ const THE_GREATEST_WIDTH_OF_A_PLAIN_TEXT: &[Row] = &[
 ];
 
 #[test]
-fn the_greatest_width_of_a_plain_text(rt: HostRuntime) -> Result<(), AllocError> {
-    assert_widest(&rt, rt.alloc(), THE_GREATEST_WIDTH_OF_A_PLAIN_TEXT)
+fn maximum_width_of_a_plain_text(rt: HostRuntime) -> Result<(), AllocError> {
+    assert_widest(&rt, rt.alloc(), MAXIMUM_WIDTH_OF_A_PLAIN_TEXT)
 }
 
 const RIGHT: FormatSpec = spec!(true, Sign::Unset, None, Some(65_535), Some(Align::Right));
 
-/// A number before its unit.
+/// The number is before its unit.
 const ZERO_BYTES: Repeated = &[(" ", 65_532), ("0 B", 1)];
 
 const ZERO_BITS: Repeated = &[(" ", 65_532), ("0 b", 1)];
 
-const THE_GREATEST_WIDTH_WITH_A_UNIT: &[Row] = &[
+const MAXIMUM_WIDTH_WITH_A_UNIT: &[Row] = &[
     (Kind::Byte, 0, None, RIGHT, 65_535, ZERO_BYTES),
     (Kind::Bit, 0, None, RIGHT, 65_535, ZERO_BITS),
     (Kind::Byte, 0, Some(Unit::B), RIGHT, 65_535, ZERO_BYTES),
@@ -131,11 +131,11 @@ const THE_GREATEST_WIDTH_WITH_A_UNIT: &[Row] = &[
 ];
 
 #[test]
-fn the_greatest_width_with_a_unit(rt: HostRuntime) -> Result<(), AllocError> {
-    assert_widest(&rt, rt.alloc(), THE_GREATEST_WIDTH_WITH_A_UNIT)
+fn maximum_width_with_a_unit(rt: HostRuntime) -> Result<(), AllocError> {
+    assert_widest(&rt, rt.alloc(), MAXIMUM_WIDTH_WITH_A_UNIT)
 }
 
-/// The greatest width and the greatest precision, at the right, without a unit or with one.
+/// The maximum width and the maximum precision, aligned right, without a unit and with one.
 const BOTH: FormatSpec = spec!(
     false,
     Sign::Unset,
@@ -152,11 +152,11 @@ const BOTH_WITH_UNIT: FormatSpec = spec!(
     Some(Align::Right)
 );
 
-/// A precision changes nothing of a plain text, and counts as 28 above 28.
-const BOTH_FOR_SIZES: &[Row] = &[
+/// A precision does not change a plain text, and one above 28 counts as 28.
+const MAXIMUM_WIDTH_AND_PRECISION_OF_SIZES: &[Row] = &[
     (
         Kind::Byte,
-        GREATEST,
+        MAX_SIZE,
         None,
         BOTH,
         65_535,
@@ -164,7 +164,7 @@ const BOTH_FOR_SIZES: &[Row] = &[
     ),
     (
         Kind::Bit,
-        GREATEST,
+        MAX_SIZE,
         None,
         BOTH,
         65_535,
@@ -172,7 +172,7 @@ const BOTH_FOR_SIZES: &[Row] = &[
     ),
     (
         Kind::Byte,
-        GREATEST,
+        MAX_SIZE,
         None,
         BOTH_WITH_UNIT,
         65_535,
@@ -180,7 +180,7 @@ const BOTH_FOR_SIZES: &[Row] = &[
     ),
     (
         Kind::Bit,
-        GREATEST,
+        MAX_SIZE,
         None,
         BOTH_WITH_UNIT,
         65_535,
@@ -189,15 +189,15 @@ const BOTH_FOR_SIZES: &[Row] = &[
 ];
 
 #[test]
-fn both_for_sizes(rt: HostRuntime) -> Result<(), AllocError> {
-    assert_widest(&rt, rt.alloc(), BOTH_FOR_SIZES)
+fn maximum_width_and_precision_of_sizes(rt: HostRuntime) -> Result<(), AllocError> {
+    assert_widest(&rt, rt.alloc(), MAXIMUM_WIDTH_AND_PRECISION_OF_SIZES)
 }
 
-/// All the places that are asked for are longer than the width.
-const MORE_PLACES_THAN_WIDTH: &[Row] = &[
+/// The requested decimals exceed the width.
+const MORE_DECIMALS_THAN_WIDTH: &[Row] = &[
     (
         Kind::Byte,
-        GREATEST,
+        MAX_SIZE,
         Some(Unit::KB),
         BOTH,
         65_566,
@@ -209,7 +209,7 @@ const MORE_PLACES_THAN_WIDTH: &[Row] = &[
     ),
     (
         Kind::Bit,
-        GREATEST,
+        MAX_SIZE,
         Some(Unit::Kbit),
         BOTH,
         65_566,
@@ -221,11 +221,11 @@ const MORE_PLACES_THAN_WIDTH: &[Row] = &[
     ),
 ];
 
-/// In the alternate form a precision counts as 16 above 16.
-const SIXTEEN_PLACES: &[Row] = &[
+/// With an alternate spec, a precision above 16 counts as 16.
+const SIXTEEN_DECIMALS: &[Row] = &[
     (
         Kind::Byte,
-        GREATEST,
+        MAX_SIZE,
         Some(Unit::KB),
         BOTH_WITH_UNIT,
         65_535,
@@ -233,7 +233,7 @@ const SIXTEEN_PLACES: &[Row] = &[
     ),
     (
         Kind::Bit,
-        GREATEST,
+        MAX_SIZE,
         Some(Unit::Kbit),
         BOTH_WITH_UNIT,
         65_535,
@@ -242,16 +242,16 @@ const SIXTEEN_PLACES: &[Row] = &[
 ];
 
 #[test]
-fn both_for_adjusted_sizes(rt: HostRuntime) -> Result<(), AllocError> {
-    assert_widest(&rt, rt.alloc(), MORE_PLACES_THAN_WIDTH)?;
-    assert_widest(&rt, rt.alloc(), SIXTEEN_PLACES)
+fn maximum_width_and_precision_of_adjusted_sizes(rt: HostRuntime) -> Result<(), AllocError> {
+    assert_widest(&rt, rt.alloc(), MORE_DECIMALS_THAN_WIDTH)?;
+    assert_widest(&rt, rt.alloc(), SIXTEEN_DECIMALS)
 }
 
-/// In its own unit a precision is ignored where no alternate form is asked for.
-const BOTH_FOR_SHORT_TEXTS: &[Row] = &[
+/// In the base unit a precision is ignored, unless the spec is alternate.
+const MAXIMUM_WIDTH_AND_PRECISION_OF_SHORT_TEXTS: &[Row] = &[
     (
         Kind::Bit,
-        GREATEST,
+        MAX_SIZE,
         Some(Unit::Bit),
         BOTH,
         65_535,
@@ -268,8 +268,8 @@ const BOTH_FOR_SHORT_TEXTS: &[Row] = &[
 ];
 
 #[test]
-fn both_for_short_texts(rt: HostRuntime) -> Result<(), AllocError> {
-    assert_widest(&rt, rt.alloc(), BOTH_FOR_SHORT_TEXTS)
+fn maximum_width_and_precision_of_short_texts(rt: HostRuntime) -> Result<(), AllocError> {
+    assert_widest(&rt, rt.alloc(), MAXIMUM_WIDTH_AND_PRECISION_OF_SHORT_TEXTS)
 }
 
 const TO_LEFT: FormatSpec = spec!(false, Sign::Unset, None, Some(65_535), Some(Align::Left));
@@ -280,7 +280,7 @@ const AT_LEFT: Repeated = &[("0", 1), (" ", 65_534)];
 
 const AT_CENTER: Repeated = &[(" ", 32_767), ("0", 1), (" ", 32_767)];
 
-const THE_GREATEST_WIDTH_AT_EACH_SIDE: &[Row] = &[
+const MAXIMUM_WIDTH_AT_EACH_ALIGNMENT: &[Row] = &[
     (Kind::Byte, 0, None, TO_LEFT, 65_535, AT_LEFT),
     (Kind::Bit, 0, None, TO_LEFT, 65_535, AT_LEFT),
     (Kind::Byte, 0, None, TO_CENTER, 65_535, AT_CENTER),
@@ -288,8 +288,8 @@ const THE_GREATEST_WIDTH_AT_EACH_SIDE: &[Row] = &[
 ];
 
 #[test]
-fn the_greatest_width_at_each_side(rt: HostRuntime) -> Result<(), AllocError> {
-    assert_widest(&rt, rt.alloc(), THE_GREATEST_WIDTH_AT_EACH_SIDE)
+fn maximum_width_at_each_alignment(rt: HostRuntime) -> Result<(), AllocError> {
+    assert_widest(&rt, rt.alloc(), MAXIMUM_WIDTH_AT_EACH_ALIGNMENT)
 }
 
 const LEFT: FormatSpec = spec!(true, Sign::Unset, None, Some(65_535), Some(Align::Left));
@@ -298,8 +298,8 @@ const CENTER: FormatSpec = spec!(true, Sign::Unset, None, Some(65_535), Some(Ali
 
 const BETWEEN: Repeated = &[("0", 1), (" ", 65_533), ("B", 1)];
 
-/// With a unit, spaces stand between number and unit on either of these sides.
-const THE_GREATEST_WIDTH_BETWEEN_NUMBER_AND_UNIT: &[Row] = &[
+/// With a unit, the padding of both alignments is between number and unit.
+const MAXIMUM_WIDTH_BETWEEN_NUMBER_AND_UNIT: &[Row] = &[
     (Kind::Byte, 0, None, LEFT, 65_535, BETWEEN),
     (Kind::Byte, 0, Some(Unit::B), LEFT, 65_535, BETWEEN),
     (Kind::Byte, 0, None, CENTER, 65_535, BETWEEN),
@@ -307,20 +307,20 @@ const THE_GREATEST_WIDTH_BETWEEN_NUMBER_AND_UNIT: &[Row] = &[
 ];
 
 #[test]
-fn the_greatest_width_between_number_and_unit(rt: HostRuntime) -> Result<(), AllocError> {
-    assert_widest(&rt, rt.alloc(), THE_GREATEST_WIDTH_BETWEEN_NUMBER_AND_UNIT)
+fn maximum_width_between_number_and_unit(rt: HostRuntime) -> Result<(), AllocError> {
+    assert_widest(&rt, rt.alloc(), MAXIMUM_WIDTH_BETWEEN_NUMBER_AND_UNIT)
 }
 
 const WIDE_PLUS: FormatSpec = spec!(false, Sign::Plus, None, Some(65_535), None);
 
-const THE_GREATEST_NUMBER: Repeated = &[
+const MAXIMUM_NUMBER: Repeated = &[
     (" ", 65_495),
     ("+340282366920938463463374607431768211455", 1),
 ];
 
 #[test]
-fn the_greatest_appended_number(rt: HostRuntime) -> Result<(), AllocError> {
-    let wanted = repeated(rt.alloc(), THE_GREATEST_NUMBER)?;
+fn append_the_maximum_number(rt: HostRuntime) -> Result<(), AllocError> {
+    let wanted = repeated(rt.alloc(), MAXIMUM_NUMBER)?;
     let mut text = String::new(rt.alloc());
     append_plain(u128::MAX, WIDE_PLUS, &mut text)?;
     assert_same(&rt, text.as_str(), wanted.as_str());
@@ -330,16 +330,16 @@ fn the_greatest_appended_number(rt: HostRuntime) -> Result<(), AllocError> {
 
 const WIDE_MINUS: FormatSpec = spec!(false, Sign::Minus, None, Some(65_535), None);
 
-const THE_GREATEST_EXPANSION: Repeated = &[
+const MAXIMUM_EXPANSION: Repeated = &[
     ("7999.999999999999999999999999999", 1),
     ("0", 199_973),
     ("KiB", 1),
 ];
 
 #[test]
-fn the_greatest_appended_expansion(rt: HostRuntime) -> Result<(), AllocError> {
+fn append_the_maximum_expansion(rt: HostRuntime) -> Result<(), AllocError> {
     let greatest = Expansion::new(7_999_999_999_999_999_999_999_999_999_999, 27, 27);
-    let wanted = repeated(rt.alloc(), THE_GREATEST_EXPANSION)?;
+    let wanted = repeated(rt.alloc(), MAXIMUM_EXPANSION)?;
     let mut text = String::new(rt.alloc());
     append_layout(&greatest, 200_000, Unit::KiB, WIDE_MINUS, &mut text)?;
     assert_same(&rt, text.as_str(), wanted.as_str());

@@ -1,5 +1,5 @@
-//! Calls that ask for no memory. The functions here are handed neither an allocator nor the runtime, so what they call
-//! can ask for none; the tests compare what they answer.
+//! Tests of calls that do not allocate. The functions here have neither an allocator nor the runtime, so the calls in
+//! them cannot allocate; the tests compare their results.
 use super::traits::assert_is;
 use byte_unit::{
     AdjustedBit, AdjustedByte, Bit, Byte, Decimal, FormatSpec, Unit, UnitType, unit_from_json,
@@ -7,7 +7,7 @@ use byte_unit::{
 use serde_json::Value;
 use std::alloc::{AllocError, Global};
 
-/// The sizes of a text, in bytes and in bits.
+/// Parses a size in bytes and in bits.
 fn sizes_of(text: &str) -> (Option<u128>, Option<u128>) {
     (
         Byte::parse_str(text, false).map(Byte::as_u128).ok(),
@@ -16,14 +16,14 @@ fn sizes_of(text: &str) -> (Option<u128>, Option<u128>) {
 }
 
 #[test]
-fn texts_are_read(rt: HostRuntime) {
+fn parse_sizes(rt: HostRuntime) {
     assert_is(&rt, sizes_of("1.5 KiB"), (Some(1536), Some(12_288)));
     assert_is(&rt, sizes_of("1kb"), (Some(125), Some(1000)));
     assert_is(&rt, sizes_of("1KB x"), (None, None));
     assert_is(&rt, sizes_of("1."), (None, None));
 }
 
-/// The unit of a text, and the unit of a JSON value.
+/// Parses a unit from a string and from a JSON value.
 fn units_of(text: &str, value: &Value) -> (Option<Unit>, Option<Unit>) {
     (
         Unit::parse_str(text, false, true).ok(),
@@ -31,13 +31,13 @@ fn units_of(text: &str, value: &Value) -> (Option<Unit>, Option<Unit>) {
     )
 }
 
-/// A JSON string.
+/// Creates a JSON string.
 fn string(alloc: Global, text: &str) -> Result<Value, AllocError> {
     Ok(Value::String(String::from_str(alloc, text)?))
 }
 
 #[test]
-fn units_are_read(rt: HostRuntime) -> Result<(), AllocError> {
+fn parse_units(rt: HostRuntime) -> Result<(), AllocError> {
     let value = string(rt.alloc(), "Kb")?;
     assert_is(
         &rt,
@@ -48,7 +48,7 @@ fn units_are_read(rt: HostRuntime) -> Result<(), AllocError> {
     Ok(())
 }
 
-/// The size in bytes of a JSON value, and that of it as an adjusted size.
+/// Parses a size in bytes from a JSON value, directly and as an adjusted size.
 fn stored_bytes(value: &Value) -> (Option<Byte>, Option<Byte>) {
     let adjusted = AdjustedByte::from_json(value).ok();
     (
@@ -57,7 +57,7 @@ fn stored_bytes(value: &Value) -> (Option<Byte>, Option<Byte>) {
     )
 }
 
-/// The size in bits of a JSON value, and that of it as an adjusted size.
+/// Parses a size in bits from a JSON value, directly and as an adjusted size.
 fn stored_bits(value: &Value) -> (Option<Bit>, Option<Bit>) {
     let adjusted = AdjustedBit::from_json(value).ok();
     (
@@ -67,7 +67,7 @@ fn stored_bits(value: &Value) -> (Option<Bit>, Option<Bit>) {
 }
 
 #[test]
-fn json_values_are_read(rt: HostRuntime) -> Result<(), AllocError> {
+fn parse_json_values(rt: HostRuntime) -> Result<(), AllocError> {
     let value = string(rt.alloc(), "15.5 KB")?;
     let (size, adjusted) = stored_bytes(&value);
     assert!(rt; size == Some(Byte::from_u64(15_500)));
@@ -80,7 +80,7 @@ fn json_values_are_read(rt: HostRuntime) -> Result<(), AllocError> {
     Ok(())
 }
 
-/// The units that a size in bytes has: exact, recoverable in two places, appropriate.
+/// Returns the exact unit, the recoverable unit with two decimals, and the appropriate unit of a size in bytes.
 fn units_of_bytes(size: Byte) -> ((u128, Unit), (Decimal, Unit), Unit) {
     let appropriate = size.get_appropriate_unit(UnitType::Both);
     (
@@ -90,7 +90,7 @@ fn units_of_bytes(size: Byte) -> ((u128, Unit), (Decimal, Unit), Unit) {
     )
 }
 
-/// The units that a size in bits has: exact, recoverable in two places, appropriate.
+/// Returns the exact unit, the recoverable unit with two decimals, and the appropriate unit of a size in bits.
 fn units_of_bits(size: Bit) -> ((u128, Unit), (Decimal, Unit), Unit) {
     let appropriate = size.get_appropriate_unit(UnitType::Both);
     (
@@ -101,7 +101,7 @@ fn units_of_bits(size: Bit) -> ((u128, Unit), (Decimal, Unit), Unit) {
 }
 
 #[test]
-fn units_are_chosen(rt: HostRuntime) {
+fn choose_units(rt: HostRuntime) {
     let number = Decimal::from_u128_with_scale(5084, 2).expect(&rt, "a decimal");
     let bytes = Byte::from_u64(50_840_000);
     let wanted = ((50_840, Unit::KB), (number, Unit::MB), Unit::MiB);
@@ -112,7 +112,7 @@ fn units_are_chosen(rt: HostRuntime) {
     assert_is(&rt, units_of_bits(bits), wanted);
 }
 
-/// The lengths of the plain text, of that with a unit, and of that in `KB`, with two places.
+/// Returns the lengths of the plain text, of the text with a unit, and of the text in `KB`, with two decimals.
 fn lengths_of_bytes(size: Byte) -> (usize, usize, usize) {
     (
         size.text_len(FormatSpec::PLAIN),
@@ -121,7 +121,7 @@ fn lengths_of_bytes(size: Byte) -> (usize, usize, usize) {
     )
 }
 
-/// The lengths of the plain text, of that with a unit, and of that in `B`, with two places.
+/// Returns the lengths of the plain text, of the text with a unit, and of the text in `B`, with two decimals.
 fn lengths_of_bits(size: Bit) -> (usize, usize, usize) {
     (
         size.text_len(FormatSpec::PLAIN),
@@ -131,7 +131,7 @@ fn lengths_of_bits(size: Bit) -> (usize, usize, usize) {
 }
 
 #[test]
-fn lengths_are_told(rt: HostRuntime) {
+fn text_lengths(rt: HostRuntime) {
     let bytes = lengths_of_bytes(Byte::from_u64(1005));
     assert_is(
         &rt,

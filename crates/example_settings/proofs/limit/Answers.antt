@@ -4,8 +4,8 @@ use Rattle.serde_json.specs.Data.{string}
 use Rattle.serde_json.specs.View.{view}
 use Rattle.example_settings.proofs.limit.Goals as goal
 
-pub returns-in-Some-clause-stated : goal.returns-in-Some-clause-stated
-returns-in-Some-clause-stated c = λ size states.
+pub returns-in-Some-clause-present : goal.returns-in-Some-clause-present
+returns-in-Some-clause-present c = λ size states.
     let found = c.in-Some.ensures in
     let same : Some (view c.in-Some.value.now) ≡ Some (string states.0) = rw found states.1 in
     let is_string = same_Some _ _ same in

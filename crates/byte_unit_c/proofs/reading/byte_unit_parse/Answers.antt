@@ -22,8 +22,8 @@ returns-in-Some-Err-Unit c =
         refl,
         record {
           character_is = ap (λ v. v.character) view;
-          expected_is = c.shown.ensures ∙ ap (λ v. shown v.expected_characters.now) view;
-          none_is = ap (λ v. v.also_expect_no_character) view;
+          expected_is = c.expected_bytes.ensures ∙ ap (λ v. shown v.expected_characters.now) view;
+          may_end_is = ap (λ v. v.also_expect_no_character) view;
           number_is = zero_parts;
         },
         refl,

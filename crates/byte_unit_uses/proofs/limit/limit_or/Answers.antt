@@ -1,4 +1,6 @@
 use Rattle.byte_unit_uses.proofs.limit.limit_or.Goals as goal
 
-pub returns-clause-stated : goal.returns-clause-stated
-returns-clause-stated c = λ limit is_accepted. let read = c.parse.ensures.value.reads limit is_accepted in rw read at c.unwrap_or.ensures
+pub returns-clause-complete : goal.returns-clause-complete
+returns-clause-complete c = λ limit is_accepted.
+    let read = c.parse.ensures.value.reads limit is_accepted in
+    rw read at c.unwrap_or.ensures

@@ -1,8 +1,8 @@
 use Rattle.std.proofs.Common.{◌≡◌, ◌<◌, sum_by, take}
 use Rattle.byte_unit.specs.Edition.{current}
-use Rattle.example_quotas.proofs.used_by_all.Given as goal
+use Rattle.example_quotas.proofs.total_used.Given as goal
 
--- the sum so far is that of the users before this one, and is a size
+-- `sum` is the total of the users before this one, and is below the limit
 abbrev pub invariant-loop-user : goal.invariant-loop-user
 invariant-loop-user l =
     (l.sum ≡ sum_by (λ user. user.used) (take l.user-index l.users)) × (l.sum < current.size_limit)

@@ -2,13 +2,13 @@ use Rattle.std.proofs.Common.{◌≡◌, ◌+◌, ◌-◌, ◌<◌, ℕ, List, [
 use Rattle.std.proofs.Common.{get_or, arith, ap, sym, ◌∙◌}
 use Rattle.std.proofs.lemmas.List.{take_more, take_more_set, drop-set-lt, drop-drop, drop-replicate, map-append, length-set}
 use Rattle.byte_unit_c.specs.Fault.{as_byte}
-use Rattle.byte_unit_c.proofs.fault.shown.Goals as goal
+use Rattle.byte_unit_c.proofs.fault.expected_bytes.Goals as goal
 
--- the front is one longer where the next byte is written
-front_more : (bytes cs : List ℕ) (i byte c : ℕ) → i < length bytes → i < length cs
+-- the written bytes are one more after the next byte is set
+written_more : (bytes cs : List ℕ) (i byte c : ℕ) → i < length bytes → i < length cs
     → take i bytes ≡ map as_byte (take i cs) → c ≡ get_or cs i c → byte ≡ as_byte c
     → take (i + 1) (set bytes i byte) ≡ map as_byte (take (i + 1) cs)
-front_more bytes cs i byte c in_bytes in_cs front is byte_is =
+written_more bytes cs i byte c in_bytes in_cs front is byte_is =
     take_more_set bytes i byte in_bytes
     ∙ (ap (λ l. l ++ byte ∷ []) front
     ∙ (ap (λ y. map as_byte (take i cs) ++ y ∷ []) byte_is
@@ -16,7 +16,7 @@ front_more bytes cs i byte c in_bytes in_cs front is byte_is =
     ∙ (ap (λ y. map as_byte (take i cs ++ y ∷ [])) is
     ∙ ap (λ l. map as_byte l) (sym (take_more cs i c in_cs))))))
 
--- and the zeros behind it are one fewer
+-- the zeros after them are one fewer
 rest_more : (bytes : List ℕ) (i byte left : ℕ) → drop i bytes ≡ replicate left 0
     → drop (i + 1) (set bytes i byte) ≡ replicate (left - 1) 0
 rest_more bytes i byte left rest =
@@ -35,7 +35,7 @@ loop-i-preserved c =
     let left : 16 - i - 1 ≡ 16 - (i + 1) = omega arith in
     record {
       size = length-set bytes i byte ∙ size;
-      front = front_more bytes cs i byte c.index-characters-i.result in_bytes in_cs c.loop-i.invariant.front
+      front = written_more bytes cs i byte c.index-characters-i.result in_bytes in_cs c.loop-i.invariant.front
           c.index-characters-i.is c.as_byte.ensures;
       rest = rest_more bytes i byte (16 - i) c.loop-i.invariant.rest ∙ ap (λ n. replicate n 0) left;
     }

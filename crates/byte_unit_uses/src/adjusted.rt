@@ -1,0 +1,83 @@
+//! Sizes in a unit for display.
+
+ghost use Rattle.std.specs.Prelude.{◌≡◌, ℕ, IfOk, IfErr, true, false};
+ghost use Rattle.byte_unit.specs.AdjustedSize.{IsAdjustedReading};
+ghost use Rattle.byte_unit.specs.Edition.{current};
+ghost use Rattle.byte_unit.specs.Errors.{unit_fault};
+ghost use Rattle.byte_unit.specs.Fault.{IsUnitFault};
+ghost use Rattle.byte_unit.specs.Spelling.{reading, Spells};
+ghost use Rattle.byte_unit.specs.SizeText.{trimmed, IsSizeText};
+ghost use Rattle.byte_unit.specs.Units.{shape_of};
+ghost use Rattle.byte_unit.specs.declared.Kind.TheVariants.{Byte as InBytes};
+
+use byte_unit::{AdjustedByte, Byte, ParseError, Unit, UnitParseError, read_size};
+
+/// Returns the size in the unit that a string spells.
+///
+/// # Errors
+///
+/// Returns the parse error if the string spells no unit.
+///
+/// # Examples
+///
+/// ```rust
+/// use byte_unit::{Byte, Unit};
+/// use byte_unit_uses::adjusted::in_unit;
+///
+/// assert_eq!(rt; in_unit(Byte::MEGABYTE, "KiB")?.get_unit(), Unit::KiB);
+/// assert!(rt; in_unit(Byte::MEGABYTE, "KX").is_err());
+/// ```
+pub fn in_unit(size: Byte, text: &str) -> Result<AdjustedByte, UnitParseError>
+    ensures size { IfOk result (λ adjusted. adjusted.size ≡ size) }
+    ensures unit { IfOk result (λ shown. Spells current (reading false true) (trimmed text.now) (shape_of shown.unit)) }
+    ensures fault { IfErr result
+        (λ error. IsUnitFault current (reading false true) (trimmed text.now) (unit_fault error)) }
+{
+    let unit = Unit::parse_str(text, false, true)?;
+    Ok(size.get_adjusted_unit(unit))
+}
+
+/// Parses a number with a unit, and returns the unit.
+///
+/// # Errors
+///
+/// Returns the parse error if the string is not a number with a unit.
+///
+/// # Examples
+///
+/// ```rust
+/// use byte_unit::Unit;
+/// use byte_unit_uses::adjusted::parse_unit;
+///
+/// assert_eq!(rt; parse_unit("3 Mbit")?, Unit::Mbit);
+/// assert!(rt; parse_unit("3 Mbyte").is_err());
+/// ```
+pub fn parse_unit(text: &str) -> Result<Unit, ParseError>
+    ensures { IfOk result
+        (λ unit. (number : ℕ) × IsSizeText current (reading false true) (trimmed text.now) number (shape_of unit)) }
+{
+    let (_, unit) = read_size(text, false, true)?;
+    Ok(unit)
+}
+
+/// Parses a size, and returns it in the largest unit that is not above it.
+///
+/// # Errors
+///
+/// Returns the parse error if the string represents no size.
+///
+/// # Examples
+///
+/// ```rust
+/// use byte_unit::Unit;
+/// use byte_unit_uses::adjusted::parse_adjusted;
+///
+/// assert_eq!(rt; parse_adjusted("1500 B")?.get_unit(), Unit::KiB);
+/// assert!(rt; parse_adjusted("1500 X").is_err());
+/// ```
+pub fn parse_adjusted(text: &str) -> Result<AdjustedByte, ParseError>
+    ensures { IsAdjustedReading InBytes text.now result }
+{
+    let size: AdjustedByte = text.parse()?;
+    Ok(size)
+}
