@@ -1,9 +1,9 @@
 -- Answers to lines, one list after another.
-use Rattle.std.proofs.Common.{ℕ, List, [], ◌∷◌, ◌++◌, refl, sym, ap, subst, ◌∙◌, append_assoc, append-nil}
+use Rattle.std.proofs.Common.{ℕ, Err, List, [], ◌∷◌, ◌++◌, refl, sym, ap, subst, ◌∙◌, append_assoc, append-nil}
 use Rattle.byte_unit_lines.specs.Answer.{Kind, IsAnswer}
 use Rattle.byte_unit_lines.specs.Report.{AreAnswers}
-use Rattle.byte_unit_lines.specs.Outcome.{IsBeginning, AnswerFirst}
-use Rattle.byte_unit_lines.specs.Progress.{IsAnsweredAt}
+use Rattle.byte_unit_lines.specs.Outcome.{IsPrefix, AnswerFirst}
+use Rattle.byte_unit_lines.specs.Progress.{IsAnswered}
 use Rattle.byte_unit_lines.specs.declared.run.RunError.{RunError}
 use Rattle.byte_unit_lines.specs.declared.run.RunError.TheVariants.{Memory, Read, Write}
 
@@ -34,29 +34,29 @@ all_have_answers kind each (line ∷ lines) =
     (answer.0 ++ others.0, (answer.0, others.0, answer.1, others.1, refl))
 
 -- beginnings
-pub beginning_after : {X : Type 0} (before front whole : List X) → IsBeginning front whole → IsBeginning (before ++ front) (before ++ whole)
+pub beginning_after : {X : Type 0} (before front whole : List X) → IsPrefix front whole → IsPrefix (before ++ front) (before ++ whole)
 beginning_after before front whole (rest, whole_is) = (rest, ap (λ xs. before ++ xs) whole_is ∙ sym (append_assoc before front rest))
 
-pub beginning_longer : {X : Type 0} (front whole end : List X) → IsBeginning front whole → IsBeginning front (whole ++ end)
+pub beginning_longer : {X : Type 0} (front whole end : List X) → IsPrefix front whole → IsPrefix front (whole ++ end)
 beginning_longer front whole end (rest, whole_is) = (rest ++ end, ap (λ xs. xs ++ end) whole_is ∙ append_assoc front rest end)
 
 -- the answers to lines, and then to the first of others
 pub answer_first_after : (kind : Kind) (before lines : List (List ℕ)) (front written : List ℕ)
     → AreAnswers kind before front → AnswerFirst kind lines written → AnswerFirst kind (before ++ lines) (front ++ written)
-answer_first_after kind before lines front written answers (answered, is_beginning, are_answers) = (
+answer_first_after kind before lines front written answers (answered, is_prefix, are_answers) = (
   before ++ answered,
-  beginning_after before answered lines is_beginning,
+  beginning_after before answered lines is_prefix,
   answers_after kind before answered front written answers are_answers,
 )
 
 -- an error after the answers to the lines before
 pub answered_after : (kind : Kind) (before lines : List (List ℕ)) (front : List ℕ) → AreAnswers kind before front
-    → (error : RunError) (written : List ℕ) → IsAnsweredAt kind lines error written
-    → IsAnsweredAt kind (before ++ lines) error (front ++ written)
+    → (error : RunError) (written : List ℕ) → IsAnswered kind lines (Err error) written
+    → IsAnswered kind (before ++ lines) (Err error) (front ++ written)
 answered_after kind before lines front answers Memory written at = answer_first_after kind before lines front written answers at
 answered_after kind before lines front answers Read written at = at
-answered_after kind before lines front answers Write written (whole, answer_first, is_beginning) = (
+answered_after kind before lines front answers Write written (whole, answer_first, is_prefix) = (
   front ++ whole,
   answer_first_after kind before lines front whole answers answer_first,
-  beginning_after front written whole is_beginning,
+  beginning_after front written whole is_prefix,
 )

@@ -3,7 +3,7 @@ use Rattle.std.proofs.Common.{◌≡◌, ◌≢◌, ◌+◌, ◌<◌, ◌≤◌,
 use Rattle.std.proofs.Common.{arith, false, eqb, sym, ap, subst, ◌∙◌, append_assoc, false-eqb}
 use Rattle.std.proofs.lemmas.List.{take_more}
 use Rattle.byte_unit_lines.specs.Answer.{Kind, IsAnswer}
-use Rattle.byte_unit_lines.specs.Progress.{ended_by, begun_by, IsUnbroken, AddsAnswer, AddsAnswers}
+use Rattle.byte_unit_lines.specs.Progress.{ended_lines, begun_line, IsUnbroken, AddsAnswer, AddsAnswers}
 use Rattle.byte_unit_lines.proofs.Answering.{answers_after, answers_one}
 use Rattle.byte_unit_lines.proofs.Lines.{ended_to_end, begun_to_end, ended_to_other, begun_to_other, ended_front, begun_front}
 
@@ -34,20 +34,20 @@ EndsAt bytes place = (place < length bytes) × (get_or bytes place 0 ≡ 10) × 
 
 -- that line, and the rest
 module _ (line bytes : List ℕ) (place : ℕ) (ends : EndsAt bytes place) where
-  ended_first : ended_by line bytes ≡ (line ++ take place bytes) ∷ ended_by [] (drop (place + 1) bytes)
+  ended_first : ended_lines line bytes ≡ (line ++ take place bytes) ∷ ended_lines [] (drop (place + 1) bytes)
   ended_first =
       let rest = drop (place + 1) bytes in
       ended_front line bytes (place + 1)
-      ∙ ap (λ begun. ended_by line (take (place + 1) bytes) ++ ended_by begun rest) (begun_to_end line bytes place ends.0 ends.1)
-      ∙ ap (λ lines. lines ++ ended_by [] rest) (
+      ∙ ap (λ begun. ended_lines line (take (place + 1) bytes) ++ ended_lines begun rest) (begun_to_end line bytes place ends.0 ends.1)
+      ∙ ap (λ lines. lines ++ ended_lines [] rest) (
       ended_to_end line bytes place ends.0 ends.1
-      ∙ ap (λ lines. lines ++ begun_by line (take place bytes) ∷ []) (ends.2 line).0
+      ∙ ap (λ lines. lines ++ begun_line line (take place bytes) ∷ []) (ends.2 line).0
       ∙ ap (λ begun. begun ∷ []) (ends.2 line).1)
 
-  begun_first : begun_by line bytes ≡ begun_by [] (drop (place + 1) bytes)
+  begun_first : begun_line line bytes ≡ begun_line [] (drop (place + 1) bytes)
   begun_first =
       begun_front line bytes (place + 1)
-      ∙ ap (λ begun. begun_by begun (drop (place + 1) bytes)) (begun_to_end line bytes place ends.0 ends.1)
+      ∙ ap (λ begun. begun_line begun (drop (place + 1) bytes)) (begun_to_end line bytes place ends.0 ends.1)
 
 -- between two lines of a piece: the line that has begun, the bytes that are left, and the answers that wait
 pub record Feed : Type 0 where
@@ -59,8 +59,8 @@ pub record Feed : Type 0 where
 pub record IsFed (kind : Kind) (start now : Feed) : Type 0 where
   pub answered : List (List ℕ)
   pub added : AddsAnswers kind answered start.answers now.answers
-  pub ended : ended_by start.line start.rest ≡ answered ++ ended_by now.line now.rest
-  pub begun : begun_by start.line start.rest ≡ begun_by now.line now.rest
+  pub ended : ended_lines start.line start.rest ≡ answered ++ ended_lines now.line now.rest
+  pub begun : begun_line start.line start.rest ≡ begun_line now.line now.rest
 
 -- an answer that was added, where the line and what came of it are called otherwise
 pub added_as : (kind : Kind) (line old : List ℕ) {same new after : List ℕ} → AddsAnswer kind same old new → same ≡ line → after ≡ new
@@ -77,18 +77,18 @@ pub record IsAnsweredTo (kind : Kind) (now next : Feed) (place : ℕ) : Type 0 w
 
 -- the lines that end in what is left then, and the line that has begun after it
 module _ (kind : Kind) (now next : Feed) (place : ℕ) (is_answered : IsAnsweredTo kind now next place) where
-  ended_next : ended_by now.line now.rest ≡ (now.line ++ take place now.rest) ∷ ended_by next.line next.rest
+  ended_next : ended_lines now.line now.rest ≡ (now.line ++ take place now.rest) ∷ ended_lines next.line next.rest
   ended_next =
       let this = now.line ++ take place now.rest in
       ended_first now.line now.rest place is_answered.ends
-      ∙ ap (λ line. this ∷ ended_by line (drop (place + 1) now.rest)) (sym is_answered.line_is)
-      ∙ ap (λ rest. this ∷ ended_by next.line rest) (sym is_answered.rest_is)
+      ∙ ap (λ line. this ∷ ended_lines line (drop (place + 1) now.rest)) (sym is_answered.line_is)
+      ∙ ap (λ rest. this ∷ ended_lines next.line rest) (sym is_answered.rest_is)
 
-  begun_next : begun_by now.line now.rest ≡ begun_by next.line next.rest
+  begun_next : begun_line now.line now.rest ≡ begun_line next.line next.rest
   begun_next =
       begun_first now.line now.rest place is_answered.ends
-      ∙ ap (λ line. begun_by line (drop (place + 1) now.rest)) (sym is_answered.line_is)
-      ∙ ap (begun_by next.line) (sym is_answered.rest_is)
+      ∙ ap (λ line. begun_line line (drop (place + 1) now.rest)) (sym is_answered.line_is)
+      ∙ ap (begun_line next.line) (sym is_answered.rest_is)
 
 -- one line more
 pub fed_on : (kind : Kind) (start now next : Feed) (place : ℕ) → IsFed kind start now → IsAnsweredTo kind now next place
@@ -104,6 +104,6 @@ fed_on kind start now next place fed is_answered =
       );
       ended = fed.ended
           ∙ ap (λ lines. fed.answered ++ lines) (ended_next kind now next place is_answered)
-          ∙ sym (append_assoc fed.answered (this ∷ []) (ended_by next.line next.rest));
+          ∙ sym (append_assoc fed.answered (this ∷ []) (ended_lines next.line next.rest));
       begun = fed.begun ∙ begun_next kind now next place is_answered;
     }

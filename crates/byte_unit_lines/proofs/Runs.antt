@@ -10,13 +10,13 @@ use Rattle.byte_unit_lines.specs.Answer.{Kind, IsAnswer}
 use Rattle.byte_unit_lines.specs.Laws.{EachLineHasAnAnswer}
 use Rattle.byte_unit_lines.specs.Lines.{finished_lines, lines_of}
 use Rattle.byte_unit_lines.specs.Report.{AreAnswers, IsReport}
-use Rattle.byte_unit_lines.specs.Outcome.{IsBeginning, AnswerFirst, BeginsReport, IsWritten, IsWrittenAt}
-use Rattle.byte_unit_lines.specs.Progress.{ended_by, begun_by, BeginFirst, IsAnsweredAt}
+use Rattle.byte_unit_lines.specs.Outcome.{IsPrefix, AnswerFirst, IsWritten}
+use Rattle.byte_unit_lines.specs.Progress.{ended_lines, begun_line, BeginFirst, IsAnswered}
 use Rattle.byte_unit_lines.specs.declared.run.RunError.{RunError}
 use Rattle.byte_unit_lines.specs.declared.run.RunError.TheVariants.{Memory, Read, Write}
 use Rattle.byte_unit_lines.proofs.Answering.{answers_after, answers_one, all_have_answers, answered_after}
 use Rattle.byte_unit_lines.proofs.Answering.{beginning_after, beginning_longer}
-use Rattle.byte_unit_lines.proofs.Lines.{ended_by-append, begun_by-append, finished_lines_is, lines_of_is, if_any}
+use Rattle.byte_unit_lines.proofs.Lines.{ended_lines-append, begun_line-append, finished_lines_is, lines_of_is, if_any}
 
 -- what was read and written so far, and the line that has begun
 pub record Course : Type 0 where
@@ -26,8 +26,8 @@ pub record Course : Type 0 where
 
 -- between two reads: the lines that end in what was read are answered, and the next has begun
 pub record IsServed (kind : Kind) (course : Course) : Type 0 where
-  pub answered : AreAnswers kind (ended_by [] course.read) course.written
-  pub begun : course.line ≡ begun_by [] course.read
+  pub answered : AreAnswers kind (ended_lines [] course.read) course.written
+  pub begun : course.line ≡ begun_line [] course.read
 
 -- the same of a reader and a writer, from which so much came and to which so much went, with these answers waiting
 pub record HasServed (kind : Kind) (left rest held holds : Option (List ℕ)) (line answers : List ℕ) : Type 0 where
@@ -72,10 +72,10 @@ only_line (_ ∷ _) some = refl
 
 -- an error that is passed up
 pub written_failed : (kind : Kind) (read written : List ℕ) (result : Result ⊤ RunError) (error : RunError)
-    → IsErrAnd result (λ other. other ≡ error) → IsWrittenAt kind read error written → IsWritten kind read result written
+    → IsErrAnd result (λ other. other ≡ error) → IsWritten kind read (Err error) written → IsWritten kind read result written
 written_failed kind read written (Ok _) error is_error is_written = absurd is_error
 written_failed kind read written (Err _) error is_error is_written =
-    subst (λ other. IsWrittenAt kind read other written) (sym is_error) is_written
+    subst (λ other. IsWritten kind read (Err other) written) (sym is_error) is_written
 
 memory_is_not_write : Memory ≢ Write
 memory_is_not_write same = cc
@@ -86,22 +86,22 @@ read_is_not_write same = cc
 -- what a call has done that writes these bytes, all of them or a beginning
 pub record IsWrittenBy (held holds : Option (List ℕ)) (bytes : List ℕ) (result : Result ⊤ RunError) : Type 0 where
   pub whole : OnOk result (Appends held holds bytes)
-  pub part : OnErr result ((written : List ℕ) × Appends held holds written × IsBeginning written bytes)
+  pub part : OnErr result ((written : List ℕ) × Appends held holds written × IsPrefix written bytes)
   pub error : IfErr result (λ error. error ≡ Write)
 
 module _ (kind : Kind) (course : Course) (served : IsServed kind course) where
   -- the lines of what was read and of a piece after it
-  ended_with : (piece : List ℕ) → ended_by [] course.read ++ ended_by course.line piece ≡ ended_by [] (course.read ++ piece)
+  ended_with : (piece : List ℕ) → ended_lines [] course.read ++ ended_lines course.line piece ≡ ended_lines [] (course.read ++ piece)
   ended_with piece =
-      ap (λ line. ended_by [] course.read ++ ended_by line piece) served.begun ∙ sym (ended_by-append [] course.read piece)
+      ap (λ line. ended_lines [] course.read ++ ended_lines line piece) served.begun ∙ sym (ended_lines-append [] course.read piece)
 
   -- what was read, and a piece after it whose lines were answered
-  pub served_on : (piece answers line : List ℕ) → AreAnswers kind (ended_by course.line piece) answers → line ≡ begun_by course.line piece
+  pub served_on : (piece answers line : List ℕ) → AreAnswers kind (ended_lines course.line piece) answers → line ≡ begun_line course.line piece
       → IsServed kind (record { read = course.read ++ piece; written = course.written ++ answers; line = line })
   served_on piece answers line are_answers line_is = record {
     answered = subst (λ lines. AreAnswers kind lines (course.written ++ answers)) (ended_with piece)
-        (answers_after kind (ended_by [] course.read) (ended_by course.line piece) course.written answers served.answered are_answers);
-    begun = line_is ∙ ap (λ begun. begun_by begun piece) served.begun ∙ sym (begun_by-append [] course.read piece);
+        (answers_after kind (ended_lines [] course.read) (ended_lines course.line piece) course.written answers served.answered are_answers);
+    begun = line_is ∙ ap (λ begun. begun_line begun piece) served.begun ∙ sym (begun_line-append [] course.read piece);
   }
 
   -- what is written where no more is read
@@ -109,13 +109,13 @@ module _ (kind : Kind) (course : Course) (served : IsServed kind course) where
   answers_finished = subst (λ lines. AreAnswers kind lines course.written) (sym (finished_lines_is course.read)) served.answered
 
   -- the same where there was no memory for the next answer
-  pub answered_first : IsWrittenAt kind course.read Memory course.written
+  pub answered_first : IsWritten kind course.read (Err Memory) course.written
   answered_first = (finished_lines course.read, ([], sym (append-nil (finished_lines course.read))), answers_finished)
 
   -- the report where nothing has begun, and where a line has
   pub report_ended : course.line ≡ [] → IsReport kind course.read course.written
   report_ended none =
-      let ended = ended_by [] course.read in
+      let ended = ended_lines [] course.read in
       let lines : lines_of course.read ≡ ended =
       lines_of_is course.read ∙ ap (λ line. ended ++ if_any line) (sym served.begun ∙ none) ∙ append-nil ended in
       subst (λ lines. AreAnswers kind lines course.written) (sym lines) served.answered
@@ -123,7 +123,7 @@ module _ (kind : Kind) (course : Course) (served : IsServed kind course) where
   report_begun : course.line ≢ [] → (answer : List ℕ) → IsAnswer kind course.line answer
       → IsReport kind course.read (course.written ++ answer)
   report_begun some answer is_answer =
-      let ended = ended_by [] course.read in
+      let ended = ended_lines [] course.read in
       let lines : lines_of course.read ≡ ended ++ course.line ∷ [] =
       lines_of_is course.read
       ∙ ap (λ line. ended ++ if_any line) (sym served.begun)
@@ -143,32 +143,32 @@ module _ (kind : Kind) (course : Course) (served : IsServed kind course) where
       (by.part.0, by.part.1, (course.written ++ answer, report_begun some answer is_answer, begins))
 
 -- what begins the answers to the first lines that ended begins a report, since each line has an answer
-begins_report : EachLineHasAnAnswer → (kind : Kind) (read written : List ℕ) → BeginFirst kind (ended_by [] read) written
-    → BeginsReport kind read written
-begins_report each kind read written (whole, (answered, (unanswered, ended_is), are_answers), is_beginning) =
-    let last = if_any (begun_by [] read) in
+begins_report : EachLineHasAnAnswer → (kind : Kind) (read written : List ℕ) → BeginFirst kind (ended_lines [] read) written
+    → IsWritten kind read (Err Write) written
+begins_report each kind read written (whole, (answered, (unanswered, ended_is), are_answers), is_prefix) =
+    let last = if_any (begun_line [] read) in
     let others = unanswered ++ last in
     let rest = all_have_answers kind (each kind) others in
     let lines : answered ++ others ≡ lines_of read =
     sym (append_assoc answered unanswered last) ∙ ap (λ ended. ended ++ last) (sym ended_is) ∙ sym (lines_of_is read) in (
       whole ++ rest.0,
       subst (λ lines. AreAnswers kind lines (whole ++ rest.0)) lines (answers_after kind answered others whole rest.0 are_answers rest.1),
-      beginning_longer written whole rest.0 is_beginning,
+      beginning_longer written whole rest.0 is_prefix,
     )
 
 -- an error while the answers to lines that ended were written
 written_at_ended : EachLineHasAnAnswer → (kind : Kind) (read : List ℕ) (error : RunError) (written : List ℕ)
-    → IsAnsweredAt kind (ended_by [] read) error written → IsWrittenAt kind read error written
+    → IsAnswered kind (ended_lines [] read) (Err error) written → IsWritten kind read (Err error) written
 written_at_ended each kind read Memory written at = subst (λ lines. AnswerFirst kind lines written) (sym (finished_lines_is read)) at
 written_at_ended each kind read Read written at = absurd at
 written_at_ended each kind read Write written at = begins_report each kind read written at
 
 -- such an error in a piece
 pub written_in_piece : EachLineHasAnAnswer → (kind : Kind) (course : Course) → IsServed kind course → (piece : List ℕ) (error : RunError)
-    (written : List ℕ) → IsAnsweredAt kind (ended_by course.line piece) error written
-    → IsWrittenAt kind (course.read ++ piece) error (course.written ++ written)
+    (written : List ℕ) → IsAnswered kind (ended_lines course.line piece) (Err error) written
+    → IsWritten kind (course.read ++ piece) (Err error) (course.written ++ written)
 written_in_piece each kind course served piece error written at =
-    let ended = ended_by [] course.read in
+    let ended = ended_lines [] course.read in
     written_at_ended each kind (course.read ++ piece) error (course.written ++ written)
-    (subst (λ lines. IsAnsweredAt kind lines error (course.written ++ written)) (ended_with kind course served piece)
-    (answered_after kind ended (ended_by course.line piece) course.written served.answered error written at))
+    (subst (λ lines. IsAnswered kind lines (Err error) (course.written ++ written)) (ended_with kind course served piece)
+    (answered_after kind ended (ended_lines course.line piece) course.written served.answered error written at))

@@ -12,7 +12,7 @@ use Rattle.byte_unit.specs.Fault.{Fault}
 use Rattle.byte_unit.specs.Forms.{IsText, narrow_text}
 use Rattle.byte_unit.specs.NamedSpecs.{plain_spec, alternate_spec}
 use Rattle.byte_unit.specs.Written.{Writes}
-use Rattle.byte_unit_lines.specs.Answer.{Kind, IsAnswer, words_of, not_text, size, refused}
+use Rattle.byte_unit_lines.specs.Answer.{Kind, IsAnswer, words_of, not_text, size, rejected}
 use Rattle.byte_unit_lines.specs.Progress.{AddsAnswer}
 
 -- an answer was added where the call succeeds
@@ -22,31 +22,37 @@ answer_added kind line (Ok _) old added new is_answer is_added = (added, is_answ
 answer_added kind line (Err _) old added new is_answer is_added = tt
 
 -- the digits of a size, the sign of equality, the size with a unit, and the line end
-pub record SaysParts (kind : Kind) (number : ℕ) (digits form all : List ℕ) : Type 0 where
+pub record HasParts (kind : Kind) (number : ℕ) (digits form all : List ℕ) : Type 0 where
   pub is_digits : IsText current kind number plain_spec digits
   pub is_form : IsText current kind number alternate_spec form
   pub put : all ≡ ((digits ++ codes " = ") ++ form) ++ 10 ∷ []
 
-pub size_said :
+pub answer_with_size :
     {kind : Kind} {number : ℕ} {digits form all : List ℕ} (line : List ℕ) → IsUtf8 line → IsAccepted current kind false line number
-    → SaysParts kind number digits form all → IsAnswer kind line all
-size_said {kind} {number} {digits} {form} {all} line is_text is_accepted parts = record {
-  said = digits ++ codes " = " ++ form;
-  is_said =
+    → HasParts kind number digits form all → IsAnswer kind line all
+answer_with_size {kind} {number} {digits} {form} {all} line is_text is_accepted parts = record {
+  message = digits ++ codes " = " ++ form;
+  is_message =
       size number is_text is_accepted
-      (record { digits = digits; form = form; is_digits = parts.is_digits; is_form = parts.is_form; said_is = refl });
+      (record {
+        digits = digits;
+        with_unit = form;
+        is_digits = parts.is_digits;
+        is_with_unit = parts.is_form;
+        message_is = refl;
+      });
   ended = parts.put;
 }
 
 -- the words for the fault of a text
-pub fault_said : (kind : Kind) (line : List ℕ) (fault : Fault) (all : List ℕ) → IsUtf8 line → IsRefused current kind false line fault
+pub answer_with_error : (kind : Kind) (line : List ℕ) (fault : Fault) (all : List ℕ) → IsUtf8 line → IsRefused current kind false line fault
     → all ≡ words_of fault ++ 10 ∷ [] → IsAnswer kind line all
-fault_said kind line fault all is_text is_refused put =
-    record { said = words_of fault; is_said = refused fault is_text is_refused refl; ended = put }
+answer_with_error kind line fault all is_text is_refused put =
+    record { message = words_of fault; is_message = rejected fault is_text is_refused refl; ended = put }
 
-pub no_text_said : (kind : Kind) (line all : List ℕ) → ¬ (IsUtf8 line) → all ≡ codes "not text" ++ 10 ∷ [] → IsAnswer kind line all
-no_text_said kind line all no_text put =
-    record { said = codes "not text"; is_said = not_text no_text refl; ended = put }
+pub answer_not_text : (kind : Kind) (line all : List ℕ) → ¬ (IsUtf8 line) → all ≡ codes "not text" ++ 10 ∷ [] → IsAnswer kind line all
+answer_not_text kind line all no_text put =
+    record { message = codes "not text"; is_message = not_text no_text refl; ended = put }
 
 -- a form at the front of the rest of the bytes stands behind what was there before
 pub put_behind :
@@ -108,7 +114,7 @@ pub answer_put :
     → (form : Writes (IsText current kind number alternate_spec)
     (take (answer_room - (few + 3)) (drop (few + 3) (put_mid few (few + 3 - few) first sign))) second many)
     → many ≤ narrow_text → length blank ≡ answer_room
-    → SaysParts kind number digits.form form.form
+    → HasParts kind number digits.form form.form
     (take (few + 3 + many + 1)
     (set (put_mid (few + 3) (answer_room - (few + 3)) (put_mid few (few + 3 - few) first sign) second)
     (few + 3 + many) 10))

@@ -13,13 +13,13 @@ returns-in-None-clause-run g c =
     let left = g.R.Read.remaining (reader_of c.args.reader.now) in
     let between = g.R.Read.remaining (reader_of c.reads.reader) in
     let rest = g.R.Read.remaining (reader_of c.read.new.self) in
-    let so_far = c.reads.invariant in record {
-      read = so_far.read;
-      written = so_far.written;
-      gave = Consumes-kept left between rest so_far.read so_far.gave c.in-None.ensures.none;
-      took = so_far.took;
-      is_written = answers_finished c.args.kind (course_of so_far) so_far.served;
-    }
+    let so_far = c.reads.invariant in (
+      so_far.read,
+      so_far.written,
+      Consumes-kept left between rest so_far.read so_far.gave c.in-None.ensures.none,
+      so_far.took,
+      answers_finished c.args.kind (course_of so_far) so_far.served,
+    )
 
 pub reads-preserved : goal.reads-preserved
 reads-preserved g c =
@@ -49,13 +49,13 @@ returns-in_err-answer_piece-in-Some-clause-run g c =
     let answers = failed.ensures.written in
     let read = so_far.read ++ piece in
     let written = so_far.written ++ answers.0 in
-    let at = written_in_piece each c.args.kind (course_of so_far) so_far.served piece error answers.0 answers.2 in record {
-      read = read;
-      written = written;
-      gave = read_on so_far rest piece c.in-Some.ensures.came;
-      took = wrote_on so_far holds answers.0 answers.1;
-      is_written = written_failed c.args.kind read written c.from_residual.result error c.from_residual.ensures.1 at;
-    }
+    let at = written_in_piece each c.args.kind (course_of so_far) so_far.served piece error answers.0 answers.2 in (
+      read,
+      written,
+      read_on so_far rest piece c.in-Some.ensures.came,
+      wrote_on so_far holds answers.0 answers.1,
+      written_failed c.args.kind read written c.from_residual.result error c.from_residual.ensures.1 at,
+    )
 
 pub returns-then-is_empty-clause-run : goal.returns-then-is_empty-clause-run
 returns-then-is_empty-clause-run g c =
@@ -63,13 +63,13 @@ returns-then-is_empty-clause-run g c =
     let so_far = c.reads.invariant in
     let end = c.in-Some-eq0 in
     let none = ap (λ count. take count c.read.new.buf) end.field-0-test in
-    let empty = nothing_begun c.reads.line.items (vec_len c.reads.line) c.reads.line.ok.0 c.if-is_empty.ensures in record {
-      read = so_far.read;
-      written = so_far.written;
-      gave = read_on_nothing so_far rest (take end.field-0 c.read.new.buf) end.ensures.came none;
-      took = so_far.took;
-      is_written = report_ended c.args.kind (course_of so_far) so_far.served empty;
-    }
+    let empty = nothing_begun c.reads.line.items (vec_len c.reads.line) c.reads.line.ok.0 c.if-is_empty.ensures in (
+      so_far.read,
+      so_far.written,
+      read_on_nothing so_far rest (take end.field-0 c.read.new.buf) end.ensures.came none,
+      so_far.took,
+      report_ended c.args.kind (course_of so_far) so_far.served empty,
+    )
 
 pub returns-in_err-add_answer-clause-run : goal.returns-in_err-add_answer-clause-run
 returns-in_err-add_answer-clause-run g c =
@@ -78,13 +78,13 @@ returns-in_err-add_answer-clause-run g c =
     let end = c.in-Some-eq0 in
     let none = ap (λ count. take count c.read.new.buf) end.field-0-test in
     let error = c.from_residual-in_err-add_answer in
-    let at = answered_first c.args.kind (course_of so_far) so_far.served in record {
-      read = so_far.read;
-      written = so_far.written;
-      gave = read_on_nothing so_far rest (take end.field-0 c.read.new.buf) end.ensures.came none;
-      took = so_far.took;
-      is_written = written_failed c.args.kind so_far.read so_far.written error.result Memory error.ensures.1 at;
-    }
+    let at = answered_first c.args.kind (course_of so_far) so_far.served in (
+      so_far.read,
+      so_far.written,
+      read_on_nothing so_far rest (take end.field-0 c.read.new.buf) end.ensures.came none,
+      so_far.took,
+      written_failed c.args.kind so_far.read so_far.written error.result Memory error.ensures.1 at,
+    )
 
 pub returns-clause-run : goal.returns-clause-run
 returns-clause-run g c =
@@ -108,10 +108,10 @@ returns-clause-run g c =
     let write = c.write_whole.ensures in
     let by : IsWrittenBy held holds bytes c.write_whole.result =
     record { whole = write.ok; part = write.err; error = write.write } in
-    let answer = written_last c.args.kind course served some bytes is_answer c.write_whole.result by in record {
-      read = so_far.read;
-      written = so_far.written ++ answer.0;
-      gave = read_on_nothing so_far rest (take end.field-0 c.read.new.buf) end.ensures.came none;
-      took = wrote_on so_far holds answer.0 answer.1;
-      is_written = answer.2;
-    }
+    let answer = written_last c.args.kind course served some bytes is_answer c.write_whole.result by in (
+      so_far.read,
+      so_far.written ++ answer.0,
+      read_on_nothing so_far rest (take end.field-0 c.read.new.buf) end.ensures.came none,
+      wrote_on so_far holds answer.0 answer.1,
+      answer.2,
+    )
