@@ -10,9 +10,9 @@ abbrev pub IsWrittenTo : Option (List ℕ) → Option (List ℕ) → List ℕ �
 IsWrittenTo held holds bytes rest = (written : List ℕ) × Appends held holds written × (bytes ≡ written ++ rest)
 
 -- one more write, of the front of what is left
-pub written_on : (held holds now_holds : Option (List ℕ)) (bytes rest : List ℕ) (count : ℕ) → IsWrittenTo held holds bytes rest
+pub IsWrittenTo-step : (held holds now_holds : Option (List ℕ)) (bytes rest : List ℕ) (count : ℕ) → IsWrittenTo held holds bytes rest
     → Appends holds now_holds (take count rest) → IsWrittenTo held now_holds bytes (take (length rest - count) (drop count rest))
-written_on held holds now_holds bytes rest count (written, took, all) takes = (
+IsWrittenTo-step held holds now_holds bytes rest count (written, took, all) takes = (
   written ++ take count rest,
   Appends-trans held holds now_holds written (take count rest) took takes,
   all

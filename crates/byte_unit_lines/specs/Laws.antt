@@ -11,7 +11,7 @@ EachLineHasAnAnswer = (kind : Kind) (line : List ℕ) → (answer : List ℕ) ×
 pub record HasOneReport (kind : Kind) (bytes : List ℕ) : Type 0 where
   pub report : List ℕ
   pub is_report : IsReport kind bytes report
-  pub one : (other : List ℕ) → IsReport kind bytes other → other ≡ report
+  pub is_unique : (other : List ℕ) → IsReport kind bytes other → other ≡ report
 
 -- each input has exactly one report of each kind
 abbrev pub EachInputHasOneReport : Type 0

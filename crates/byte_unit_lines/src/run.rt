@@ -41,7 +41,7 @@ pub enum RunError {
     Write,
 }
 
-/// Converts to [`RunError::Memory`].
+/// Converts a failed allocation to `Memory`.
 impl From<AllocError> for RunError {
     ghost use Rattle.byte_unit_lines.specs.declared.run.RunError.TheVariants.{Memory};
 
@@ -58,9 +58,9 @@ impl From<AllocError> for RunError {
 ///
 /// # Errors
 ///
-/// - [`RunError::Read`] if a read fails. The answers to all lines that ended before have been written.
-/// - [`RunError::Memory`] if allocation fails. The answers to some number of first lines have been written, each whole.
-/// - [`RunError::Write`] if a write fails. A prefix of the report on what was read has been written.
+/// - `Read` if a read fails. The answers to all lines that ended before have been written.
+/// - `Memory` if allocation fails. The answers to some number of first lines have been written, each whole.
+/// - `Write` if a write fails. A prefix of the report on what was read has been written.
 pub fn run<R: Read, W: Write>(
     alloc: Global,
     reader: &mut Reading<R>,
@@ -123,8 +123,8 @@ pub fn run_in<A: Allocator, R: Read, W: Write>(
 ///
 /// # Errors
 ///
-/// - [`RunError::Memory`] if allocation fails. The answers to the lines before have been written.
-/// - [`RunError::Write`] if a write fails. A prefix of the answers has been written.
+/// - `Memory` if allocation fails. The answers to the lines before have been written.
+/// - `Write` if a write fails. A prefix of the answers has been written.
 fn answer_piece<A: Allocator, W: Write>(
     line: &mut Vec<u8, A>,
     bytes: &[u8],
@@ -211,7 +211,7 @@ fn end_of(bytes: &[u8]) -> Option<usize>
 ///
 /// # Errors
 ///
-/// Returns [`RunError::Write`] if a write fails. A prefix of `bytes` has been written.
+/// Returns `Write` if a write fails. A prefix of `bytes` has been written.
 fn write_whole<W: Write>(writer: &mut Writing<W>, bytes: &[u8]) -> Result<(), RunError>
     ensures ok { OnOk result (HasWritten W.contents writer.old writer.new bytes.now) }
     ensures err { OnErr result ((written : List ℕ)

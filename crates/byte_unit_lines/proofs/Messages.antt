@@ -16,10 +16,10 @@ use Rattle.byte_unit_lines.specs.Answer.{Kind, IsAnswer, words_of, not_text, siz
 use Rattle.byte_unit_lines.specs.Progress.{AddsAnswer}
 
 -- an answer was added where the call succeeds
-pub answer_added : {E : Type 0} (kind : Kind) (line : List ℕ) (result : Result ⊤ E) (old added new : List ℕ) → IsAnswer kind line added
+pub AddsAnswer-if_ok : {E : Type 0} (kind : Kind) (line : List ℕ) (result : Result ⊤ E) (old added new : List ℕ) → IsAnswer kind line added
     → new ≡ (if is_ok result then old ++ added else old) → OnOk result (AddsAnswer kind line old new)
-answer_added kind line (Ok _) old added new is_answer is_added = (added, is_answer, is_added)
-answer_added kind line (Err _) old added new is_answer is_added = tt
+AddsAnswer-if_ok kind line (Ok _) old added new is_answer is_added = (added, is_answer, is_added)
+AddsAnswer-if_ok kind line (Err _) old added new is_answer is_added = tt
 
 -- the digits of a size, the sign of equality, the size with a unit, and the line end
 pub record HasParts (kind : Kind) (number : ℕ) (digits form all : List ℕ) : Type 0 where
@@ -55,10 +55,10 @@ answer_not_text kind line all no_text put =
     record { message = codes "not text"; is_message = not_text no_text refl; ended = put }
 
 -- a form at the front of the rest of the bytes stands behind what was there before
-pub put_behind :
+pub take-put_after :
     (at end : ℕ) (old front form rest behind : List ℕ) → front ≡ form ++ rest → at ≤ length old → end ≡ at + length form
     → take end (take at old ++ (front ++ behind)) ≡ take at old ++ form
-put_behind at end old front form rest behind front_is within end_is =
+take-put_after at end old front form rest behind front_is within end_is =
     let long : length (take at old ++ form) ≡ end =
     omega (arith, within, end_is, length-append {A = ℕ} (take at old) form, length-take {A = ℕ} at old) in
     ap (λ l. take end (take at old ++ (l ++ behind))) front_is
@@ -88,9 +88,9 @@ module _ {IsForm : List ℕ → Type 0} {old new : List ℕ} {count : ℕ} (wrot
       )
 
 -- how long the bytes are after a write to a part of them
-put_length : (at count : ℕ) (old part : List ℕ) → at + count ≤ length old → length part ≡ count
+length-put_mid : (at count : ℕ) (old part : List ℕ) → at + count ≤ length old → length part ≡ count
     → length (put_mid at count old part) ≡ length old
-put_length at count old part fits long =
+length-put_mid at count old part fits long =
     let behind = drop count (drop at old) in
     omega (
       arith,
@@ -108,7 +108,7 @@ abbrev pub answer_room : ℕ
 answer_room = 2 * narrow_text + 4
 
 -- the digits, the sign behind them, the size with a unit behind that, and the line end, as they are put into the bytes
-pub answer_put :
+pub HasParts-put :
     (kind : Kind) (number : ℕ) {blank first sign second : List ℕ} {few many : ℕ}
     (digits : Writes (IsText current kind number plain_spec) blank first few) → few ≤ narrow_text → sign ≡ codes " = "
     → (form : Writes (IsText current kind number alternate_spec)
@@ -118,7 +118,7 @@ pub answer_put :
     (take (few + 3 + many + 1)
     (set (put_mid (few + 3) (answer_room - (few + 3)) (put_mid few (few + 3 - few) first sign) second)
     (few + 3 + many) 10))
-answer_put kind number {blank} {first} {sign} {second} {few} {many} digits narrow sign_is form narrow_form long =
+HasParts-put kind number {blank} {first} {sign} {second} {few} {many} digits narrow sign_is form narrow_form long =
     let at = few + 3 in
     let end = at + many in
     let signed = put_mid few (at - few) first sign in
@@ -126,7 +126,7 @@ answer_put kind number {blank} {first} {sign} {second} {few} {many} digits narro
     let first_length : length first ≡ answer_room = written_length digits room ∙ long in
     let sign_length : length sign ≡ 3 = ap (λ l. length l) sign_is in
     let signed_length : length signed ≡ answer_room =
-    put_length few (at - few) first sign (omega (arith, first_length, narrow)) (omega (arith, sign_length)) ∙ first_length in
+    length-put_mid few (at - few) first sign (omega (arith, first_length, narrow)) (omega (arith, sign_length)) ∙ first_length in
     let part = take (answer_room - at) (drop at signed) in
     let part_length : length part ≡ answer_room - at =
     let taken = length-take {A = ℕ} (answer_room - at) (drop at signed) in
@@ -134,14 +134,14 @@ answer_put kind number {blank} {first} {sign} {second} {few} {many} digits narro
     let part_room : many ≤ length part = omega (arith, part_length, narrow, narrow_form) in
     let said = put_mid at (answer_room - at) signed second in
     let said_length : length said ≡ answer_room =
-    put_length at (answer_room - at) signed second (omega (arith, signed_length, narrow))
+    length-put_mid at (answer_room - at) signed second (omega (arith, signed_length, narrow))
     (written_length form part_room ∙ part_length)
     ∙ signed_length in
     let is_signed : take at signed ≡ digits.form ++ codes " = " =
-    put_behind few at first sign (codes " = ") [] _ sign_is (omega (arith, first_length, narrow)) refl
+    take-put_after few at first sign (codes " = ") [] _ sign_is (omega (arith, first_length, narrow)) refl
     ∙ ap (λ l. l ++ codes " = ") (written_front digits room) in
     let is_said : take end said ≡ (digits.form ++ codes " = ") ++ form.form =
-    put_behind at end signed second form.form _ _ (written_is form part_room) (omega (arith, signed_length, narrow))
+    take-put_after at end signed second form.form _ _ (written_is form part_room) (omega (arith, signed_length, narrow))
     (ap (λ n. at + n) form.needed_is)
     ∙ ap (λ l. l ++ form.form) is_signed in
     record {
