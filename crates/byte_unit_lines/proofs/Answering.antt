@@ -1,4 +1,4 @@
--- Answers to lines, one list after another.
+-- Lemmas: the answers to concatenated lists of lines.
 use Rattle.std.proofs.Common.{ℕ, Err, List, [], ◌∷◌, ◌++◌, refl, sym, ap, subst, ◌∙◌, append_assoc, append-nil}
 use Rattle.byte_unit_lines.specs.Answer.{Kind, IsAnswer}
 use Rattle.byte_unit_lines.specs.Report.{AreAnswers}
@@ -7,7 +7,7 @@ use Rattle.byte_unit_lines.specs.Progress.{IsAnswered}
 use Rattle.byte_unit_lines.specs.declared.run.RunError.{RunError}
 use Rattle.byte_unit_lines.specs.declared.run.RunError.TheVariants.{Memory, Read, Write}
 
--- the answers to these lines, and then to those
+-- the answers to two lists of lines, one after the other, are the answers to the concatenated list
 pub AreAnswers-append : (kind : Kind) (before lines : List (List ℕ)) (front back : List ℕ)
     → AreAnswers kind before front → AreAnswers kind lines back → AreAnswers kind (before ++ lines) (front ++ back)
 AreAnswers-append kind [] lines front back none answers =
@@ -20,11 +20,11 @@ AreAnswers-append kind (line ∷ before) lines front back (answer, others, is_an
   ap (λ out. out ++ back) front_is ∙ append_assoc answer others back,
 )
 
--- the answer to one line
+-- the answer to a line is the answers to the list of that line
 pub AreAnswers-single : (kind : Kind) (line answer : List ℕ) → IsAnswer kind line answer → AreAnswers kind (line ∷ []) answer
 AreAnswers-single kind line answer is_answer = (answer, [], is_answer, refl, sym (append-nil answer))
 
--- where each line has an answer, lines have answers
+-- if each line has an answer, each list of lines has answers
 pub lines_have_answers : (kind : Kind) → ((line : List ℕ) → (answer : List ℕ) × IsAnswer kind line answer)
     → (lines : List (List ℕ)) → (out : List ℕ) × AreAnswers kind lines out
 lines_have_answers kind each [] = ([], refl)
@@ -33,14 +33,15 @@ lines_have_answers kind each (line ∷ lines) =
     let others = lines_have_answers kind each lines in
     (answer.0 ++ others.0, (answer.0, others.0, answer.1, others.1, refl))
 
--- beginnings
+-- the same list before a prefix and before its whole leaves it a prefix
 pub IsPrefix-append : {X : Type 0} (before front whole : List X) → IsPrefix front whole → IsPrefix (before ++ front) (before ++ whole)
 IsPrefix-append before front whole (rest, whole_is) = (rest, ap (λ xs. before ++ xs) whole_is ∙ sym (append_assoc before front rest))
 
+-- a prefix stays one if the whole is extended
 pub IsPrefix-longer : {X : Type 0} (front whole end : List X) → IsPrefix front whole → IsPrefix front (whole ++ end)
 IsPrefix-longer front whole end (rest, whole_is) = (rest ++ end, ap (λ xs. xs ++ end) whole_is ∙ append_assoc front rest end)
 
--- the answers to lines, and then to the first of others
+-- all answers to `before`, then the answers to the first of `lines`, are the answers to the first of them together
 pub AnswerFirst-append : (kind : Kind) (before lines : List (List ℕ)) (front written : List ℕ)
     → AreAnswers kind before front → AnswerFirst kind lines written → AnswerFirst kind (before ++ lines) (front ++ written)
 AnswerFirst-append kind before lines front written answers (answered, is_prefix, are_answers) = (
@@ -49,7 +50,7 @@ AnswerFirst-append kind before lines front written answers (answered, is_prefix,
   AreAnswers-append kind before answered front written answers are_answers,
 )
 
--- an error after the answers to the lines before
+-- what an error leaves written for `lines`, after all answers to `before`, is what it leaves for them together
 pub IsAnswered-append : (kind : Kind) (before lines : List (List ℕ)) (front : List ℕ) → AreAnswers kind before front
     → (error : RunError) (written : List ℕ) → IsAnswered kind lines (Err error) written
     → IsAnswered kind (before ++ lines) (Err error) (front ++ written)

@@ -1,5 +1,6 @@
--- Lines that come in pieces.
-use Rattle.std.proofs.Common.{◌≡◌, ◌≢◌, ◌+◌, ◌<◌, ℕ, List, [], ◌∷◌, ◌++◌, length, take, drop, get_or, true, false, cond, eqb}
+-- Lemmas: the lines of bytes that come in chunks are those of the whole input.
+use Rattle.std.proofs.Common.{◌≡◌, ◌≢◌, ◌+◌, ◌<◌, ℕ, List, [], ◌∷◌, ◌++◌, length, take, drop, get_or, true, false, cond}
+use Rattle.std.proofs.Common.{eqb}
 use Rattle.std.proofs.Common.{refl, sym, ap, subst, ◌∙◌, append_assoc, append-nil, take-append-drop}
 use Rattle.std.proofs.lemmas.List.{take_more}
 use Rattle.std.proofs.lemmas.Bool.{eq-eqb, ne_eqb}
@@ -7,13 +8,13 @@ use Rattle.std.specs.List.{onto_first}
 use Rattle.byte_unit_lines.specs.Lines.{parts, but_last, but_empty_last, lines_of, finished_lines}
 use Rattle.byte_unit_lines.specs.Progress.{ended_lines, begun_line}
 
--- the last part
+-- the last part, or the empty list if there is none
 abbrev last_of : List (List ℕ) → List ℕ
 last_of [] = []
 last_of (part ∷ []) = part
 last_of (part ∷ next ∷ others) = last_of (next ∷ others)
 
--- two pieces, one after the other
+-- the lines that end in two chunks are those of the first, then those of the second
 pub ended_lines-append : (line front back : List ℕ)
     → ended_lines line (front ++ back) ≡ ended_lines line front ++ ended_lines (begun_line line front) back
 ended_lines-append line [] back = refl
@@ -23,6 +24,7 @@ ended_lines-append line (byte ∷ front) back =
     ≡ cond ends (line ∷ ended_lines [] front) (ended_lines on front) ++ ended_lines (cond ends (begun_line [] front) (begun_line on front)) back)
     [ true ↦ ap (λ lines. line ∷ lines) (ended_lines-append [] front back) | false ↦ ended_lines-append on front back ]
 
+-- the unfinished line after two chunks is the one after the second, begun by the one after the first
 pub begun_line-append : (line front back : List ℕ) → begun_line line (front ++ back) ≡ begun_line (begun_line line front) back
 begun_line-append line [] back = refl
 begun_line-append line (byte ∷ front) back =
@@ -31,12 +33,12 @@ begun_line-append line (byte ∷ front) back =
     ≡ begun_line (cond ends (begun_line [] front) (begun_line on front)) back)
     [ true ↦ begun_line-append [] front back | false ↦ begun_line-append on front back ]
 
--- a line before the first part
+-- the parts with these bytes put before the first of them
 abbrev onto : List ℕ → List (List ℕ) → List (List ℕ)
 onto line [] = line ∷ []
 onto line (part ∷ others) = (line ++ part) ∷ others
 
--- there is a first part
+-- there is a first part, so the list is not empty
 abbrev IsSplit : List (List ℕ) → Type 0
 IsSplit split = (part : List ℕ) × (others : List (List ℕ)) × (split ≡ part ∷ others)
 
@@ -65,7 +67,7 @@ onto-onto_first line byte split (part, others, split_is) =
 onto-nil : (split : List (List ℕ)) → IsSplit split → onto [] split ≡ split
 onto-nil split (part, others, split_is) = subst (λ split. onto [] split ≡ split) (sym split_is) refl
 
--- the lines that end, and the one that has begun, by the parts
+-- the lines that end are all parts but the last, and the unfinished line is the last part
 ended_lines-but_last : (line bytes : List ℕ) → ended_lines line bytes ≡ but_last (onto line (parts bytes))
 ended_lines-but_last line [] = refl
 ended_lines-but_last line (byte ∷ bytes) =
@@ -89,10 +91,11 @@ begun_line-last_of line (byte ∷ bytes) =
       | false ↦ begun_line-last_of on bytes ∙ ap last_of (sym (onto-onto_first line byte (parts bytes) split))
     ]
 
+-- the finished lines of an input are the lines that end in it
 pub finished_lines-ended_lines : (bytes : List ℕ) → finished_lines bytes ≡ ended_lines [] bytes
 finished_lines-ended_lines bytes = sym (ended_lines-but_last [] bytes ∙ ap but_last (onto-nil (parts bytes) (parts_IsSplit bytes)))
 
--- a line that isn't empty, alone
+-- the list of this line, or no line if it is empty
 abbrev pub nonempty_line : List ℕ → List (List ℕ)
 nonempty_line [] = []
 nonempty_line (byte ∷ bytes) = (byte ∷ bytes) ∷ []
@@ -103,14 +106,14 @@ but_empty_last-but_last ([] ∷ []) = refl
 but_empty_last-but_last ((byte ∷ bytes) ∷ []) = refl
 but_empty_last-but_last (part ∷ next ∷ others) = ap (λ lines. part ∷ lines) (but_empty_last-but_last (next ∷ others))
 
--- the lines are those that end, and then the one that has begun
+-- the lines of an input are the lines that end in it, then the unfinished line if it is not empty
 pub lines_of-ended_lines : (bytes : List ℕ) → lines_of bytes ≡ ended_lines [] bytes ++ nonempty_line (begun_line [] bytes)
 lines_of-ended_lines bytes =
     but_empty_last-but_last (parts bytes)
     ∙ ap (λ ended. ended ++ nonempty_line (last_of (parts bytes))) (finished_lines-ended_lines bytes)
     ∙ ap (λ line. ended_lines [] bytes ++ nonempty_line line) (sym (begun_line-last_of [] bytes ∙ ap last_of (onto-nil (parts bytes) (parts_IsSplit bytes))))
 
--- one more byte, at a 0A and elsewhere
+-- one more byte: a line end finishes the line, and another byte extends it
 ended_lines-line_end : (line seen : List ℕ) (byte : ℕ) → byte ≡ 10
     → ended_lines line (seen ++ byte ∷ []) ≡ ended_lines line seen ++ begun_line line seen ∷ []
 ended_lines-line_end line seen byte is_end =
@@ -133,7 +136,7 @@ begun_line-other_byte line seen byte is_other =
     begun_line-append line seen (byte ∷ [])
     ∙ ap (λ ends. cond ends [] (begun_line line seen ++ byte ∷ [])) (ne_eqb byte 10 is_other)
 
--- the same byte by byte in a piece
+-- the same for the byte at a place: what it makes of the lines before it
 module _ (line bytes : List ℕ) (place : ℕ) (fits : place < length bytes) where
   pub ended_lines-take-line_end : get_or bytes place 0 ≡ 10
       → ended_lines line (take (place + 1) bytes) ≡ ended_lines line (take place bytes) ++ begun_line line (take place bytes) ∷ []
@@ -153,12 +156,13 @@ module _ (line bytes : List ℕ) (place : ℕ) (fits : place < length bytes) whe
   begun_line-take-other_byte is_other =
       ap (begun_line line) (take_more bytes place 0 fits) ∙ begun_line-other_byte line (take place bytes) (get_or bytes place 0) is_other
 
--- the lines that end up to a place are the first of them all
+-- the lines that end before a place come first, then those that end after it
 pub ended_lines-take-drop : (line bytes : List ℕ) (place : ℕ)
     → ended_lines line bytes ≡ ended_lines line (take place bytes) ++ ended_lines (begun_line line (take place bytes)) (drop place bytes)
 ended_lines-take-drop line bytes place =
     ap (ended_lines line) (sym (take-append-drop place bytes)) ∙ ended_lines-append line (take place bytes) (drop place bytes)
 
+-- the unfinished line, by the bytes before a place and those after it
 pub begun_line-take-drop : (line bytes : List ℕ) (place : ℕ)
     → begun_line line bytes ≡ begun_line (begun_line line (take place bytes)) (drop place bytes)
 begun_line-take-drop line bytes place =

@@ -1,5 +1,6 @@
--- What is added for a line.
-use Rattle.std.proofs.Common.{◌≡◌, ℕ, ◌+◌, ◌*◌, ◌≤◌, List, [], ◌∷◌, ◌++◌, false, if◌then◌else◌, codes, refl, sym, ap, ◌∙◌}
+-- Lemmas: the bytes that are appended for a line are its answer.
+use Rattle.std.proofs.Common.{◌≡◌, ℕ, ◌+◌, ◌*◌, ◌≤◌, List, [], ◌∷◌, ◌++◌, false, if◌then◌else◌, codes, refl, sym, ap}
+use Rattle.std.proofs.Common.{◌∙◌}
 use Rattle.std.proofs.Common.{append_assoc, ◌-◌, drop, set}
 use Rattle.std.proofs.Common.{Result, Ok, Err, OnOk, is_ok, length, take, arith}
 use Rattle.std.specs.Prelude.{⊤}
@@ -15,18 +16,19 @@ use Rattle.byte_unit.specs.Written.{Writes}
 use Rattle.byte_unit_lines.specs.Answer.{Kind, IsAnswer, words_of, not_text, size, rejected}
 use Rattle.byte_unit_lines.specs.Progress.{AddsAnswer}
 
--- an answer was added where the call succeeds
+-- a call that appends an answer if it succeeds has appended it on `Ok`
 pub AddsAnswer-if_ok : {E : Type 0} (kind : Kind) (line : List ℕ) (result : Result ⊤ E) (old added new : List ℕ) → IsAnswer kind line added
     → new ≡ (if is_ok result then old ++ added else old) → OnOk result (AddsAnswer kind line old new)
 AddsAnswer-if_ok kind line (Ok _) old added new is_answer is_added = (added, is_answer, is_added)
 AddsAnswer-if_ok kind line (Err _) old added new is_answer is_added = tt
 
--- the digits of a size, the sign of equality, the size with a unit, and the line end
+-- the bytes are the digits of a size, ` = `, the size with a unit, and the line end
 pub record HasParts (kind : Kind) (number : ℕ) (digits form all : List ℕ) : Type 0 where
   pub is_digits : IsText current kind number plain_spec digits
   pub is_form : IsText current kind number alternate_spec form
   pub put : all ≡ ((digits ++ codes " = ") ++ form) ++ 10 ∷ []
 
+-- they are the answer to a line that is accepted as this size
 pub answer_with_size :
     {kind : Kind} {number : ℕ} {digits form all : List ℕ} (line : List ℕ) → IsUtf8 line → IsAccepted current kind false line number
     → HasParts kind number digits form all → IsAnswer kind line all
@@ -44,17 +46,18 @@ answer_with_size {kind} {number} {digits} {form} {all} line is_text is_accepted 
   ended = parts.put;
 }
 
--- the words for the fault of a text
+-- the words for a parse error and a line end are the answer to a line that has this error
 pub answer_with_error : (kind : Kind) (line : List ℕ) (fault : Fault) (all : List ℕ) → IsUtf8 line → IsRefused current kind false line fault
     → all ≡ words_of fault ++ 10 ∷ [] → IsAnswer kind line all
 answer_with_error kind line fault all is_text is_refused put =
     record { message = words_of fault; is_message = rejected fault is_text is_refused refl; ended = put }
 
+-- `not text` and a line end are the answer to a line that is not UTF-8
 pub answer_not_text : (kind : Kind) (line all : List ℕ) → ¬ (IsUtf8 line) → all ≡ codes "not text" ++ 10 ∷ [] → IsAnswer kind line all
 answer_not_text kind line all no_text put =
     record { message = codes "not text"; is_message = not_text no_text refl; ended = put }
 
--- a form at the front of the rest of the bytes stands behind what was there before
+-- after a form is put at a place, the bytes up to its end are those before the place, then the form
 pub take-put_after :
     (at end : ℕ) (old front form rest behind : List ℕ) → front ≡ form ++ rest → at ≤ length old → end ≡ at + length form
     → take end (take at old ++ (front ++ behind)) ≡ take at old ++ form
@@ -66,7 +69,7 @@ take-put_after at end old front form rest behind front_is within end_is =
     ∙ (ap (λ l. take end l) (sym (append_assoc (take at old) form (rest ++ behind)))
     ∙ take_at (take at old ++ form) (rest ++ behind) end long))
 
--- a text that was written where it fits
+-- a form that is written to a buffer that has capacity for it begins the buffer, whose length stays
 module _ {IsForm : List ℕ → Type 0} {old new : List ℕ} {count : ℕ} (wrote : Writes IsForm old new count) (room : count ≤ length old) where
   written_is : new ≡ wrote.form ++ drop (length wrote.form) old
   written_is = wrote.fits (omega (arith, wrote.needed_is, room))
@@ -87,7 +90,7 @@ module _ {IsForm : List ℕ → Type 0} {old new : List ℕ} {count : ℕ} (wrot
         length-drop {A = ℕ} (length wrote.form) old,
       )
 
--- how long the bytes are after a write to a part of them
+-- replacing a part by one of the same length leaves the length of the whole
 length-put_mid : (at count : ℕ) (old part : List ℕ) → at + count ≤ length old → length part ≡ count
     → length (put_mid at count old part) ≡ length old
 length-put_mid at count old part fits long =
@@ -103,11 +106,11 @@ length-put_mid at count old part fits long =
       length-drop {A = ℕ} at old,
     )
 
--- the bytes in which an answer with a size is put together: two texts, ` = ` between them, and the line end
+-- the length of the buffer for an answer with a size: two formatted sizes, ` = ` between them, and the line end
 abbrev pub answer_room : ℕ
 answer_room = 2 * narrow_text + 4
 
--- the digits, the sign behind them, the size with a unit behind that, and the line end, as they are put into the bytes
+-- the digits, ` = `, the size with a unit and the line end, written to the buffer one after another, are these parts
 pub HasParts-put :
     (kind : Kind) (number : ℕ) {blank first sign second : List ℕ} {few many : ℕ}
     (digits : Writes (IsText current kind number plain_spec) blank first few) → few ≤ narrow_text → sign ≡ codes " = "

@@ -1,5 +1,6 @@
--- Each line has one answer.
-use Rattle.std.proofs.Common.{◌≡◌, ℕ, ◌++◌, ◌∷◌, List, [], true, false, true≢false, inl, inr, ◌⊎◌, refl, sym, ap, subst, ◌∙◌, codes}
+-- Lemmas: each line has exactly one answer, and each input exactly one report.
+use Rattle.std.proofs.Common.{◌≡◌, ℕ, ◌++◌, ◌∷◌, List, [], true, false, true≢false, inl, inr, ◌⊎◌, refl, sym, ap, subst}
+use Rattle.std.proofs.Common.{◌∙◌, codes}
 use Rattle.std.specs.Str.{IsUtf8, is_utf8}
 use Rattle.std.proofs.lemmas.Str.{IsUtf8-from_is_utf8, is_utf8-from_IsUtf8}
 use Rattle.byte_unit_lines.specs.Answer.{Kind, ShowsSize, IsMessageFor, IsAnswer, not_text, size, rejected, words_of}
@@ -16,7 +17,7 @@ use Rattle.byte_unit.specs.SizeLaws.{TextsAreAcceptedOrRefused}
 use Rattle.byte_unit_lines.proofs.Answering.{lines_have_answers}
 
 module _ (texts : TextsAreAcceptedOrRefused) (forms : SizeHasOneForm) (kind : Kind) where
-  -- a size is said in some way
+  -- each size has a message
   size_has_message : (number : ℕ) → (said : List ℕ) × ShowsSize kind number said
   size_has_message number =
       let alternate = forms current kind number alternate_spec in
@@ -31,7 +32,7 @@ module _ (texts : TextsAreAcceptedOrRefused) (forms : SizeHasOneForm) (kind : Ki
         },
       )
 
-  -- and in no other
+  -- a size has at most one message
   size_has_one_message : (number : ℕ) (said other : List ℕ) → ShowsSize kind number said → ShowsSize kind number other → said ≡ other
   size_has_one_message number said other says also =
       let alternate = forms current kind number alternate_spec in
@@ -40,7 +41,7 @@ module _ (texts : TextsAreAcceptedOrRefused) (forms : SizeHasOneForm) (kind : Ki
       ∙ ap (λ form. also.digits ++ codes " = " ++ form) (alternate.one says.with_unit says.is_with_unit ∙ sym (alternate.one also.with_unit also.is_with_unit))
       ∙ sym also.message_is
 
-  -- something is said of a text
+  -- each string that is accepted or rejected has a message
   text_has_message : (text : List ℕ) → IsUtf8 text
       → ((number : ℕ) × IsAccepted current kind false text number) ⊎ ((fault : Fault) × IsRefused current kind false text fault)
       → (said : List ℕ) × IsMessageFor kind text said
@@ -48,7 +49,7 @@ module _ (texts : TextsAreAcceptedOrRefused) (forms : SizeHasOneForm) (kind : Ki
       let says = size_has_message number in (says.0, size number is_text is_accepted says.1)
   text_has_message text is_text (inr (fault, is_refused)) = (words_of fault, rejected fault is_text is_refused refl)
 
-  -- and of each line
+  -- each line has a message
   line_has_message : (line : List ℕ) → (said : List ℕ) × IsMessageFor kind line said
   line_has_message line =
       elim (is_utf8 line) as (λ text. is_utf8 line ≡ text → (said : List ℕ) × IsMessageFor kind line said) [
@@ -56,12 +57,13 @@ module _ (texts : TextsAreAcceptedOrRefused) (forms : SizeHasOneForm) (kind : Ki
         | false ↦ λ is_not. (codes "not text", not_text (λ is_text. true≢false (sym (is_utf8-from_IsUtf8 line is_text) ∙ is_not)) refl)
       ] refl
 
+  -- each line has an answer
   pub line_has_answer : (line : List ℕ) → (answer : List ℕ) × IsAnswer kind line answer
   line_has_answer line =
       let said = line_has_message line in
       (said.0 ++ 10 ∷ [], record { message = said.0; is_message = said.1; ended = refl })
 
-  -- and nothing else
+  -- a line has at most one message
   line_has_one_message : (line said other : List ℕ) → IsMessageFor kind line said → IsMessageFor kind line other → said ≡ other
   line_has_one_message line said other (not_text _ is_said) (not_text _ also) = is_said ∙ sym also
   line_has_one_message line said other (not_text not _) (size _ is_text _ _) = absurd (not is_text)
@@ -78,10 +80,12 @@ module _ (texts : TextsAreAcceptedOrRefused) (forms : SizeHasOneForm) (kind : Ki
   line_has_one_message line said other (rejected fault _ is_refused is_said) (rejected other_fault _ other_refused also) =
       is_said ∙ ap words_of ((texts kind false line).one_fault fault other_fault is_refused other_refused) ∙ sym also
 
+  -- a line has at most one answer
   line_has_one_answer : (line answer other : List ℕ) → IsAnswer kind line answer → IsAnswer kind line other → answer ≡ other
   line_has_one_answer line answer other answers also =
       answers.ended ∙ ap (λ said. said ++ 10 ∷ []) (line_has_one_message line answers.message also.message answers.is_message also.is_message) ∙ sym also.ended
 
+  -- lines have at most one list of answers
   AreAnswers-unique : (lines : List (List ℕ)) (out other : List ℕ)
       → AreAnswers kind lines out → AreAnswers kind lines other → out ≡ other
   AreAnswers-unique [] out other none also = none ∙ sym also
@@ -91,6 +95,7 @@ module _ (texts : TextsAreAcceptedOrRefused) (forms : SizeHasOneForm) (kind : Ki
       ∙ ap (λ rest. also.0 ++ rest) (AreAnswers-unique lines answers.1 also.1 answers.3 also.3)
       ∙ sym also.4
 
+  -- each input has exactly one report
   pub input_has_one_report : EachLineHasAnAnswer → (bytes : List ℕ) → HasOneReport kind bytes
   input_has_one_report each bytes =
       let lines = lines_of bytes in

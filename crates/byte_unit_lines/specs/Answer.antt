@@ -10,7 +10,7 @@ use Rattle.byte_unit.specs.NamedSpecs.{plain_spec, alternate_spec}
 pub use Rattle.byte_unit.specs.declared.Kind.{Kind}
 
 -- the message for a size: its decimal digits, ` = `, and the size with a unit. That unit is the largest one of the kind
--- that is not above the size and represents it exactly within three decimal places; if there is none, it is the base unit
+-- that is not above the size and represents it exactly within three decimal places; if there is none, the base unit
 pub record ShowsSize (kind : Kind) (number : ℕ) (message : List ℕ) : Type 0 where
   pub digits : List ℕ
   pub with_unit : List ℕ

@@ -6,8 +6,8 @@ use Rattle.byte_unit_lines.specs.Outcome.{IsWritten}
 use Rattle.byte_unit_lines.specs.declared.ending.Ending.{Ending}
 use Rattle.byte_unit_lines.specs.declared.ending.Ending.TheVariants.{Done, Usage, Failed}
 
--- what a call has written that has read these bytes and ends in this way: what a run that returns so has written. A call
--- with valid arguments never ends in `Usage`
+-- what a call with valid arguments has written that has read these bytes and ends in this way: what a run with that
+-- result has written. It never ends in `Usage`
 abbrev pub IsWrittenAtEnding : Kind → List ℕ → Ending → List ℕ → Type 0
 IsWrittenAtEnding kind read Done written = IsWritten kind read (Ok tt) written
 IsWrittenAtEnding kind read (Failed error) written = IsWritten kind read (Err error) written

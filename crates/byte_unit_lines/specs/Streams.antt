@@ -1,5 +1,6 @@
--- What a contract sees of a `Reading` and of a `Writing`. The bytes that a reader has left and a writer holds are those of
--- `Read::remaining` and `Write::contents`. These are `None` for a stream whose bytes no contract knows, as standard input.
+-- What a contract sees of a `Reading` and of a `Writing`. The bytes that a reader has left are `Read::remaining`, those
+-- that a writer holds `Write::contents`. Both are `None` for a stream whose bytes no contract knows, such as standard
+-- input: of such a stream the words below say nothing.
 use Rattle.std.specs.Prelude.{ℕ, ◌-◌, ◌^◌, Bool, Option, List}
 use Rattle.std.specs.Io.KnownBytes.{Appends, Consumes, IsAtEnd, Keeps}
 use Rattle.byte_unit_lines.specs.declared.reading.Reading.{Reading}

@@ -62,8 +62,10 @@ pub fn serve<R: Read, W: Write>(
         × HasWritten W.contents writer.old writer.new written
         × IsWrittenAtEnding kind read result written }
     ensures end { result ≡ Ending.Done → HasReadAll R.remaining reader.new }
-    ensures read_failed { result ≡ Ending.Failed RunError.Read → IsTrue (reading_failed reader.new) }
-    ensures write_failed { result ≡ Ending.Failed RunError.Write → IsTrue (writing_failed writer.new) }
+    ensures read_failed { result ≡ Ending.Failed RunError.Read
+        → IsTrue (reading_failed reader.new) }
+    ensures write_failed { result ≡ Ending.Failed RunError.Write
+        → IsTrue (writing_failed writer.new) }
     ensures usage { ((kind : Kind) → ¬ AskFor (map string_bytes words.now) kind)
         → (result ≡ Ending.Usage) × (reader.new ≡ reader.old) × (writer.new ≡ writer.old) }
 {

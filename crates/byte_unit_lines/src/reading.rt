@@ -58,7 +58,8 @@ impl<R: Read> Reading<R> {
     pub fn read(&mut self, buf: &mut [u8]) -> Option<usize>
         ensures bound { IfSome result (λ n. n ≤ length buf.new) }
         ensures came { IfSome result (λ n. HasRead R.remaining self.old self.new (take n buf.new)) }
-        ensures end { IfSome result (λ n. n ≡ 0 → 0 < length buf.new → HasReadAll R.remaining self.new) }
+        ensures end { IfSome result
+            (λ n. n ≡ 0 → 0 < length buf.new → HasReadAll R.remaining self.new) }
         ensures none { IfNone result (HasReadNothing R.remaining self.old self.new) }
         ensures failed { IsTrue (reading_failed self.new) ↔ IsNone result }
         ensures stays { IsTrue (reading_failed self.old)

@@ -30,8 +30,8 @@ impl Requests {
 /// grows or shrinks allocates once, its new block. Deallocation is not counted.
 ///
 /// A collection takes it by reference, so its count can be read during the collection's lifetime. With both numbers 2,
-/// the second `try_reserve` of a `String` that has to grow returns `Err(AllocError)` and leaves the string as it was; the
-/// first and the third succeed.
+/// the second `try_reserve_exact` of a `String` that has to grow returns `Err(AllocError)` and leaves the string as it
+/// was; the first and the third succeed.
 #[derive(Drop)]
 pub(crate) struct Refusing<A: Allocator> {
     inner: A,
@@ -41,8 +41,8 @@ pub(crate) struct Refusing<A: Allocator> {
 impl<A: Allocator> Refusing<A> {
     /// Creates an allocator over `inner`, with no allocation counted so far.
     ///
-    /// If `first` equals `last`, only that allocation fails. If `last` is `u64::MAX`, each one from `first` on fails. If
-    /// both are `u64::MAX`, none fails.
+    /// If `first` equals `last`, only that allocation fails. If `last` is `u64::MAX`, each one from `first` on fails.
+    /// If both are `u64::MAX`, none fails.
     pub(crate) fn new(inner: A, first: u64, last: u64) -> Refusing<A> {
         let requests = Requests {
             first,

@@ -48,7 +48,8 @@ impl<W: Write> Writing<W> {
     pub fn write(&mut self, bytes: &[u8]) -> Option<usize>
         requires { 0 < length bytes.now }
         ensures bound { IfSome result (λ n. (0 < n) × (n ≤ length bytes.now)) }
-        ensures took { IfSome result (λ n. HasWritten W.contents self.old self.new (take n bytes.now)) }
+        ensures took { IfSome result
+            (λ n. HasWritten W.contents self.old self.new (take n bytes.now)) }
         ensures none { IfNone result (HasWrittenNothing W.contents self.old self.new) }
         ensures failed { IsTrue (writing_failed self.new) ↔ IsNone result }
         ensures stays { IsTrue (writing_failed self.old)

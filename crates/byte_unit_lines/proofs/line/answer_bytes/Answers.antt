@@ -1,7 +1,8 @@
 use Rattle.std.proofs.Common.{refl, List, ℕ, [], ◌∷◌, ◌++◌, codes}
 use Rattle.byte_unit.specs.Errors.{size_fault}
 use Rattle.byte_unit.specs.declared.Kind.TheVariants.{Byte}
-use Rattle.byte_unit_lines.proofs.Messages.{HasParts-put, AddsAnswer-if_ok, answer_with_size, answer_with_error, answer_not_text}
+use Rattle.byte_unit_lines.proofs.Messages.{HasParts-put, AddsAnswer-if_ok, answer_with_size, answer_with_error}
+use Rattle.byte_unit_lines.proofs.Messages.{answer_not_text}
 use Rattle.byte_unit_lines.proofs.line.answer_bytes.Goals as goal
 
 pub returns-in-Some-Ok-clause-ok : goal.returns-in-Some-Ok-clause-ok

@@ -2,7 +2,8 @@ use Rattle.std.proofs.Common.{◌+◌, ◌-◌, ◌++◌, ◌≡◌, length, tak
 use Rattle.std.proofs.lemmas.List.{take_rest}
 use Rattle.byte_unit_lines.proofs.Feeding.{Feed, IsAnsweredTo, AddsAnswer-same, IsFed-step}
 use Rattle.byte_unit_lines.proofs.Runs.{empty_from_length}
-use Rattle.byte_unit_lines.proofs.run.feed.Goals.{then-is_empty+in_ok-add_answer, else-is_empty+in_ok-extend_from_slice+in_ok-add_answer-2}
+use Rattle.byte_unit_lines.proofs.run.feed.Goals.{then-is_empty+in_ok-add_answer}
+use Rattle.byte_unit_lines.proofs.run.feed.Goals.{else-is_empty+in_ok-extend_from_slice+in_ok-add_answer-2}
 use Rattle.byte_unit_lines.proofs.run.feed.Goals as goal
 
 pub loop-n-preserved : goal.loop-n-preserved

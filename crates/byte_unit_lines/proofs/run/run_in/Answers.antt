@@ -3,9 +3,11 @@ use Rattle.std.proofs.KnownBytes.{Consumes-kept}
 use Rattle.byte_unit_lines.specs.Answer.{IsAnswer}
 use Rattle.byte_unit_lines.specs.Streams.{reader_of, writer_of}
 use Rattle.byte_unit_lines.specs.declared.run.RunError.TheVariants.{Memory}
-use Rattle.byte_unit_lines.proofs.Runs.{Course, IsServed, course_of, Consumes-piece, Consumes-at_end, Appends-more, IsServed-piece, finished_lines_answered}
+use Rattle.byte_unit_lines.proofs.Runs.{Course, IsServed, course_of, Consumes-piece, Consumes-at_end, Appends-more}
+use Rattle.byte_unit_lines.proofs.Runs.{IsServed-piece, finished_lines_answered}
 use Rattle.byte_unit_lines.proofs.Runs.{empty_from_length, nonempty_from_length, IsWritten-piece, IsWritten-error}
-use Rattle.byte_unit_lines.proofs.Runs.{report_without_last_line, first_lines_answered, IsWrittenBy, IsWritten-last_line}
+use Rattle.byte_unit_lines.proofs.Runs.{report_without_last_line, first_lines_answered, IsWrittenBy}
+use Rattle.byte_unit_lines.proofs.Runs.{IsWritten-last_line}
 use Rattle.byte_unit_lines.proofs.run.run_in.Goals as goal
 
 pub returns-in-None-clause-run : goal.returns-in-None-clause-run
