@@ -121,6 +121,8 @@ pub fn run_in<A: Allocator, R: Read, W: Write>(
 ///
 /// `line` is the part of the first of them that was read before, and then the part of the next one that was read.
 ///
+/// Precondition (proved at every call): `waiting` is empty.
+///
 /// # Errors
 ///
 /// - `Memory` if allocation fails. The answers to the lines before have been written.
