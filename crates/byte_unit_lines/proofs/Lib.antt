@@ -4,4 +4,4 @@ pub mod Feeding
 pub mod Lines
 pub mod OneAnswer
 pub mod Runs
-pub mod Sayings
+pub mod Messages

@@ -1,21 +1,17 @@
--- How a call of the program ends: its exit status, and what it says on standard error.
-use Rattle.std.specs.Prelude.{◌≡◌, ℕ, List, Option, None, Some, Result, Ok, Err, codes, ⊤}
+-- How a call of the program ends: what it has written, its exit status, and its line for standard error.
+use Rattle.std.specs.Prelude.{◌≡◌, ℕ, List, Option, None, Some, Ok, Err, codes}
 use Rattle.byte_unit_lines.specs.Answer.{Kind}
-use Rattle.byte_unit_lines.specs.FaultWords.{said_of}
-use Rattle.byte_unit_lines.specs.Outcome.{IsRun}
-use Rattle.byte_unit_lines.specs.declared.run.RunError.{RunError}
+use Rattle.byte_unit_lines.specs.FaultWords.{message_of}
+use Rattle.byte_unit_lines.specs.Outcome.{IsWritten}
 use Rattle.byte_unit_lines.specs.declared.ending.Ending.{Ending}
 use Rattle.byte_unit_lines.specs.declared.ending.Ending.TheVariants.{Done, Usage, Failed}
 
--- the ending of a run
-abbrev pub ending_of : {T : Type 0} → Result T RunError → Ending
-ending_of (Ok _) = Done
-ending_of (Err error) = Failed error
-
--- a run that the call ends with
-abbrev pub IsRunTo : Kind → Option (List ℕ) → Option (List ℕ) → Option (List ℕ) → Option (List ℕ) → Ending → Type 0
-IsRunTo kind left rest held holds ending =
-    (outcome : Result ⊤ RunError) × IsRun kind left rest held holds outcome × (ending ≡ ending_of outcome)
+-- what a call with valid arguments has written that has read these bytes and ends in this way: what a run with that
+-- result has written. It never ends in `Usage`
+abbrev pub IsWrittenAtEnding : Kind → List ℕ → Ending → List ℕ → Type 0
+IsWrittenAtEnding kind read Done written = IsWritten kind read (Ok tt) written
+IsWrittenAtEnding kind read (Failed error) written = IsWritten kind read (Err error) written
+IsWrittenAtEnding kind read Usage written = ⊥
 
 -- the exit status
 abbrev pub status_of : Ending → ℕ
@@ -23,8 +19,8 @@ status_of Done = 0
 status_of (Failed _) = 1
 status_of Usage = 2
 
--- the line for standard error, without its end; none where all the lines are answered
+-- the line for standard error, without its line end; `None` if all lines are answered
 abbrev pub line_of : Ending → Option (List ℕ)
 line_of Done = None
-line_of (Failed error) = Some (said_of error)
+line_of (Failed error) = Some (message_of error)
 line_of Usage = Some (codes "usage: byte_unit_lines [byte|bit]")

@@ -1,4 +1,4 @@
-//! What the program is asked for by its arguments.
+//! Parses the program's arguments.
 
 ghost use Rattle.std.specs.Prelude.{◌≡◌, map, IfSome};
 ghost use Rattle.std.specs.String.{string_bytes};
@@ -6,13 +6,9 @@ ghost use Rattle.byte_unit_lines.specs.Arguments.{AskFor};
 
 pub use byte_unit::Kind;
 
-/// The kind that the words after the program's name ask for: `byte` or no word for bytes, `bit` for bits.
-/// `None` for any other word, or more than one.
+/// Returns the kind of sizes that the arguments ask for: bytes for `byte` or no argument, bits for `bit`.
 ///
-/// ```text
-/// kind_of(&[]) == Some(Kind::Byte)        the word "bit"  gives Some(Kind::Bit)
-///                                         the word "bits" gives None
-/// ```
+/// Returns `None` for any other argument, and if there is more than one.
 pub fn kind_of(words: &[String]) -> Option<Kind>
     ensures some { IfSome result (AskFor (map string_bytes words.now)) }
     ensures each { (kind : Kind) → AskFor (map string_bytes words.now) kind → result ≡ Some kind }

@@ -1,11 +1,11 @@
 //! How a call of the program ends.
 
-ghost use Rattle.std.specs.Prelude.{◌≡◌, map, option_map, IsTrue};
+ghost use Rattle.std.specs.Prelude.{◌≡◌, ℕ, List, map, option_map, IsTrue};
 ghost use Rattle.std.specs.String.{string_bytes};
-ghost use Rattle.std.specs.Io.KnownBytes.{IsAtEnd};
 ghost use Rattle.byte_unit_lines.specs.Arguments.{AskFor};
-ghost use Rattle.byte_unit_lines.specs.Ending.{IsRunTo, status_of, line_of};
-ghost use Rattle.byte_unit_lines.specs.Streams.{reader_of, reading_failed, writer_of, writing_failed};
+ghost use Rattle.byte_unit_lines.specs.Ending.{IsWrittenAtEnding, status_of, line_of};
+ghost use Rattle.byte_unit_lines.specs.Streams.{HasRead, HasReadAll, reading_failed};
+ghost use Rattle.byte_unit_lines.specs.Streams.{HasWritten, writing_failed};
 
 use crate::arguments::{Kind, kind_of};
 use crate::reading::Reading;
@@ -18,16 +18,16 @@ use std::io::{Read, Write};
 /// How a call of the program ended.
 #[derive(Debug, Clone, Copy, PartialEq, Eq)]
 pub enum Ending {
-    /// The lines are answered.
+    /// All lines were answered.
     Done,
-    /// The words after the program's name ask for nothing.
+    /// The arguments are invalid.
     Usage,
     /// The run failed.
     Failed(RunError),
 }
 
 impl Ending {
-    /// The exit status: 0 where the lines are answered, 1 for a failure, 2 for words that ask for nothing.
+    /// Returns the exit status: 0 if all lines were answered, 1 if the run failed, 2 if the arguments are invalid.
     pub fn status(self) -> u8
         ensures { result ≡ status_of self }
     {
@@ -38,7 +38,7 @@ impl Ending {
         }
     }
 
-    /// The line for standard error, without its end. None where the lines are answered.
+    /// Returns the line for standard error, without its line end, or `None` if all lines were answered.
     pub fn line(self) -> Option<&'static str>
         ensures { option_map (λ line. line.now) result ≡ line_of self }
     {
@@ -50,25 +50,22 @@ impl Ending {
     }
 }
 
-/// Runs in the kind that the words after the program's name ask for. Where they ask for none, it reads nothing and
-/// writes nothing.
-///
-/// ```text
-/// the word "bit"      the lines are answered as bits
-/// the word "bits"     Ending::Usage
-/// ```
+/// Runs the program for the kind of sizes that the arguments ask for. If they are invalid, reads and writes nothing.
 pub fn serve<R: Read, W: Write>(
     alloc: Global,
     words: &[String],
     reader: &mut Reading<R>,
     writer: &mut Writing<W>,
 ) -> Ending
-    ensures run { (kind : Kind) → AskFor (map string_bytes words.now) kind
-        → IsRunTo kind (R.remaining (reader_of reader.old)) (R.remaining (reader_of reader.new))
-        (W.contents (writer_of writer.old)) (W.contents (writer_of writer.new)) result }
-    ensures end { result ≡ Ending.Done → IsAtEnd (R.remaining (reader_of reader.new)) }
-    ensures read_failed { result ≡ Ending.Failed RunError.Read → IsTrue (reading_failed reader.new) }
-    ensures write_failed { result ≡ Ending.Failed RunError.Write → IsTrue (writing_failed writer.new) }
+    ensures run { (kind : Kind) → AskFor (map string_bytes words.now) kind → (read written : List ℕ)
+        × HasRead R.remaining reader.old reader.new read
+        × HasWritten W.contents writer.old writer.new written
+        × IsWrittenAtEnding kind read result written }
+    ensures end { result ≡ Ending.Done → HasReadAll R.remaining reader.new }
+    ensures read_failed { result ≡ Ending.Failed RunError.Read
+        → IsTrue (reading_failed reader.new) }
+    ensures write_failed { result ≡ Ending.Failed RunError.Write
+        → IsTrue (writing_failed writer.new) }
     ensures usage { ((kind : Kind) → ¬ AskFor (map string_bytes words.now) kind)
         → (result ≡ Ending.Usage) × (reader.new ≡ reader.old) × (writer.new ≡ writer.old) }
 {

@@ -1,10 +1,10 @@
-//! Laws of answers and reports. Each function does nothing; its contract is the law.
+//! Laws of answers and reports. Each function does nothing: its contract is the law.
 
 ghost use Rattle.byte_unit_lines.specs.Laws.{EachLineHasAnAnswer, EachInputHasOneReport};
 
 use byte_unit::laws;
 
-/// Each line has an answer, in both kinds: it is no text, is read as a size, or has a fault.
+/// Proves that each line has an answer, for both kinds: it is not UTF-8, represents a size, or has a parse error.
 pub fn each_line_has_an_answer()
     ensures { EachLineHasAnAnswer }
 {
@@ -12,7 +12,9 @@ pub fn each_line_has_an_answer()
     laws::size_has_one_form();
 }
 
-/// Each input has one report of each kind. So what a run writes on `Ok` is determined by the bytes that it read.
+/// Proves that each input has exactly one report of each kind.
+///
+/// So what a run has written on `Ok` is determined by the bytes that it has read.
 pub fn each_input_has_one_report()
     ensures { EachInputHasOneReport }
 {

@@ -11,15 +11,15 @@ use crate::arguments::Kind;
 use byte_unit::{Bit, Byte, FormatSpec, ParseError, ValueParseError};
 use std::alloc::{AllocError, Allocator};
 
-/// The most bytes of an answer with a size: two texts of at most 37 bytes, ` = ` between them, and the line end.
+/// The maximum length in bytes of an answer with a size: two strings of at most 37 bytes, ` = ` between them, and the
+/// line end.
 const ROOM: usize = 78;
 
-/// Adds the answer to a line, with its line end: all of it, or nothing where memory is refused.
+/// Appends the answer to a line, with its line end.
 ///
-/// ```text
-/// "1.5 KiB"   "1536 = 1.5 KiB"
-/// "1Kbi"      "bad unit"
-/// ```
+/// # Errors
+///
+/// Returns `AllocError`, and appends nothing, if allocation fails.
 pub(crate) fn add_answer<A: Allocator>(
     line: &[u8],
     kind: Kind,
@@ -34,7 +34,7 @@ pub(crate) fn add_answer<A: Allocator>(
     }
 }
 
-/// Adds the answer to a line that is read as bytes.
+/// Appends the answer to a line, parsed as a size in bytes. The errors are those of [`add_answer`].
 fn answer_bytes<A: Allocator>(line: &[u8], out: &mut Vec<u8, A>) -> Result<(), AllocError>
     ensures ok { OnOk result (AddsAnswer InBytes line.now out.old.items out.new.items) }
     ensures err { OnErr result (out.new.items ≡ out.old.items) }
@@ -54,7 +54,7 @@ fn answer_bytes<A: Allocator>(line: &[u8], out: &mut Vec<u8, A>) -> Result<(), A
     }
 }
 
-/// Adds the answer to a line that is read as bits.
+/// Appends the answer to a line, parsed as a size in bits. The errors are those of [`add_answer`].
 fn answer_bits<A: Allocator>(line: &[u8], out: &mut Vec<u8, A>) -> Result<(), AllocError>
     ensures ok { OnOk result (AddsAnswer InBits line.now out.old.items out.new.items) }
     ensures err { OnErr result (out.new.items ≡ out.old.items) }
@@ -74,7 +74,7 @@ fn answer_bits<A: Allocator>(line: &[u8], out: &mut Vec<u8, A>) -> Result<(), Al
     }
 }
 
-/// The words for a text that is refused, with the line end.
+/// Returns the message for a parse error, with the line end.
 fn fault_line_of(error: &ParseError) -> &'static [u8]
     ensures { result.now ≡ words_of (size_fault error.now) ++ line_end ∷ [] }
 {

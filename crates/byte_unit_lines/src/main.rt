@@ -1,4 +1,4 @@
-//! Reads lines, and writes for each the size that it states, or why it states none.
+//! Reads lines from standard input and writes the answer to each: the size that it represents, or its parse error.
 #![tactic(auto)]
 
 mod arguments;
@@ -21,7 +21,11 @@ use std::process::ExitCode;
 use std::{env, io};
 use writing::Writing;
 
-/// The words after the program's name. An error is a word that is not UTF-8, or want of memory.
+/// Returns the program's arguments, without its name.
+///
+/// # Errors
+///
+/// Returns an error of kind `OutOfMemory` if allocation fails, and one of another kind if an argument is not UTF-8.
 fn words_after_name(rt: &HostRuntime) -> io::Result<Vec<String>> {
     let mut words = Vec::new(rt.alloc());
     for word in env::args(rt)?.skip(1) {
@@ -31,6 +35,8 @@ fn words_after_name(rt: &HostRuntime) -> io::Result<Vec<String>> {
 }
 
 /// Answers the lines of standard input on standard output.
+///
+/// If the arguments cannot be read, returns `Ending::Failed` for out of memory and `Ending::Usage` for any other error.
 fn answer(rt: &HostRuntime) -> Ending {
     match words_after_name(rt) {
         Ok(words) => {
@@ -45,10 +51,11 @@ fn answer(rt: &HostRuntime) -> Ending {
     }
 }
 
+/// Runs the program, and exits with the status of its ending.
 fn main(rt: HostRuntime) -> ExitCode {
     let ending = answer(&rt);
     if let Some(line) = ending.line() {
-        // The status tells it also where nobody reads standard error.
+        // Ignored on failure: the exit status reports the ending too.
         let _ = eprintln!(rt; "{line}");
     }
     ExitCode::from(ending.status())

@@ -1,13 +1,15 @@
-//! A reader that remembers a failure.
+//! A reader that records a failure.
 
 ghost use Rattle.std.specs.Prelude.{◌≡◌, ◌+◌, ◌-◌, ◌^◌, ◌≤◌, ◌<◌, ◌↔◌, false, take, length};
 ghost use Rattle.std.specs.Prelude.{IsTrue, IsNone, IfNone, IfSome, OnSome};
-ghost use Rattle.std.specs.Io.KnownBytes.{Consumes, IsAtEnd, Keeps};
+ghost use Rattle.byte_unit_lines.specs.Streams.{HasRead, HasReadAll, HasReadNothing};
 ghost use Rattle.byte_unit_lines.specs.Streams.{reader_of, reading_failed, reads_left};
 
 use std::io::Read;
 
-/// A reader, whether it failed, and how often it was asked.
+/// A reader that records whether a read has failed. After a failure it does not call the reader again.
+///
+/// It also counts its reads. The bound of 2^64 - 1 on that count is what proves that a loop of reads ends.
 #[derive(Drop)]
 pub struct Reading<R> {
     inner: R,
@@ -16,11 +18,7 @@ pub struct Reading<R> {
 }
 
 impl<R: Read> Reading<R> {
-    /// A reader that was not asked yet, and did not fail.
-    ///
-    /// ```rust
-    /// let mut reader = Reading::new(b"3 KB\n".as_slice());
-    /// ```
+    /// Creates a `Reading` over a reader, with no read made and no failure recorded.
     pub fn new(inner: R) -> Reading<R>
         ensures inner { reader_of result ≡ inner }
         ensures failed { reading_failed result ≡ false }
@@ -33,14 +31,14 @@ impl<R: Read> Reading<R> {
         }
     }
 
-    /// Whether a read answered `None`.
+    /// Returns `true` if a read has returned `None`.
     pub fn failed(&self) -> bool
         ensures { result ≡ reading_failed self.now }
     {
         self.failed
     }
 
-    /// The reader, with what it has left.
+    /// Returns the reader inside, with the bytes that it has left.
     pub fn into_inner(self) -> R
         ensures { result ≡ reader_of self }
     {
@@ -52,18 +50,17 @@ impl<R: Read> Reading<R> {
         inner
     }
 
-    /// Asks the reader once, and answers how many bytes came to the front of `buf`; none is the end.
+    /// Reads once into the beginning of `buf`, and returns the number of bytes read. If `buf` is not empty, 0 means
+    /// the end of the input.
     ///
-    /// `None` is an error of the reader, of any kind. From then on, and after 2^64 - 1 reads, it is
-    /// `None` and the reader is not asked.
+    /// Returns `None` if the reader returns an error of any kind. After that, and after 2^64 - 1 reads, returns `None`
+    /// without calling the reader.
     pub fn read(&mut self, buf: &mut [u8]) -> Option<usize>
         ensures bound { IfSome result (λ n. n ≤ length buf.new) }
-        ensures came { IfSome result (λ n. Consumes (R.remaining (reader_of self.old))
-            (R.remaining (reader_of self.new)) (take n buf.new)) }
-        ensures end { IfSome result (λ n. n ≡ 0 → 0 < length buf.new
-            → IsAtEnd (R.remaining (reader_of self.new))) }
-        ensures none { IfNone result (Keeps (R.remaining (reader_of self.old))
-            (R.remaining (reader_of self.new))) }
+        ensures came { IfSome result (λ n. HasRead R.remaining self.old self.new (take n buf.new)) }
+        ensures end { IfSome result
+            (λ n. n ≡ 0 → 0 < length buf.new → HasReadAll R.remaining self.new) }
+        ensures none { IfNone result (HasReadNothing R.remaining self.old self.new) }
         ensures failed { IsTrue (reading_failed self.new) ↔ IsNone result }
         ensures stays { IsTrue (reading_failed self.old)
             → IsNone result × (reader_of self.new ≡ reader_of self.old) }

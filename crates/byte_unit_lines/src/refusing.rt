@@ -1,11 +1,11 @@
-//! An allocator for tests: it counts the requests for memory and refuses some of them.
+//! An allocator for tests that counts allocations and makes some of them fail.
 
 use std::alloc::{AllocError, Allocator};
 use std::cell::Cell;
 
 mod tests;
 
-/// How many requests there were, and the numbers of those to refuse.
+/// The number of allocations so far, and the numbers of those that fail.
 #[derive(Drop)]
 struct Requests {
     first: u64,
@@ -14,9 +14,9 @@ struct Requests {
 }
 
 impl Requests {
-    /// Counts one more request, and says whether it is granted.
+    /// Counts one more allocation, and returns `false` if it is to fail.
     ///
-    /// It has no contract: the allocator is proved for any answer, so the rule can change here alone.
+    /// It has no contract: the allocator is proved for either result, so the rule can be changed here alone.
     fn grants(&self) -> bool {
         let number = self.asked.get().saturating_add(1);
         self.asked.set(number);
@@ -24,21 +24,14 @@ impl Requests {
     }
 }
 
-/// An allocator over `A` that refuses the requests from number `first` to number `last`.
+/// An allocator over `A` in which the allocations from number `first` to number `last` fail.
 ///
-/// It is for tests of what a function does where memory is refused. The first request has number 1. A collection that
-/// grows or shrinks asks once, for its new block. Giving a block back is no request.
+/// It is for tests of what a function does if allocation fails. The first allocation has number 1. A collection that
+/// grows or shrinks allocates once, its new block. Deallocation is not counted.
 ///
-/// A collection takes it by reference, so its count can be read while the collection lives:
-///
-/// ```text
-/// let heap = Refusing::new(rt.alloc(), 2, 2);
-/// let mut text = String::new(&heap);
-/// text.try_reserve_exact(8)?; // granted
-/// text.try_reserve_exact(9);  // refused: `Err(AllocError)`, and the text is as it was
-/// text.try_reserve_exact(9)?; // granted
-/// heap.asked();               // 3
-/// ```
+/// A collection takes it by reference, so its count can be read during the collection's lifetime. With both numbers 2,
+/// the second `try_reserve_exact` of a `String` that has to grow returns `Err(AllocError)` and leaves the string as it
+/// was; the first and the third succeed.
 #[derive(Drop)]
 pub(crate) struct Refusing<A: Allocator> {
     inner: A,
@@ -46,10 +39,10 @@ pub(crate) struct Refusing<A: Allocator> {
 }
 
 impl<A: Allocator> Refusing<A> {
-    /// Over `inner`, with no request so far.
+    /// Creates an allocator over `inner`, with no allocation counted so far.
     ///
-    /// Where `first` is `last`, that request alone is refused. Where `last` is `u64::MAX`, each one from `first` on is
-    /// refused. Where both are, none is.
+    /// If `first` equals `last`, only that allocation fails. If `last` is `u64::MAX`, each one from `first` on fails.
+    /// If both are `u64::MAX`, none fails.
     pub(crate) fn new(inner: A, first: u64, last: u64) -> Refusing<A> {
         let requests = Requests {
             first,
@@ -59,7 +52,7 @@ impl<A: Allocator> Refusing<A> {
         Refusing { inner, requests }
     }
 
-    /// How many requests there were, those refused among them.
+    /// Returns the number of allocations so far, including those that failed.
     pub(crate) fn asked(&self) -> u64 {
         self.requests.asked.get()
     }

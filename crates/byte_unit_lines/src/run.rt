@@ -1,16 +1,16 @@
-//! The program's loop: reads, answers the lines that came, writes the answers.
+//! The program's loop: reads a chunk, answers the lines that end in it, and writes the answers.
 //!
-//! The answers that wait to be written are bytes: whole answers, one after another. Their memory is kept from one read
-//! to the next, and so is that of a line of which only the front has come.
+//! Two buffers keep their memory from one read to the next: `waiting` has whole answers that are not written yet, and
+//! `line` has the part that was read of a line without a line end so far.
 
-ghost use Rattle.std.specs.Prelude.{◌≡◌, ◌+◌, ◌^◌, ◌<◌, ◌≤◌, ℕ, List, [], get_or, take, length};
+ghost use Rattle.std.specs.Prelude.{◌≡◌, ◌+◌, ◌^◌, ◌<◌, ◌≤◌, ℕ, List, [], slice_index, take, length};
 ghost use Rattle.std.specs.Prelude.{IsTrue, IsErrOf, IfErr, OnOk, OnErr, IfSome, IfNone};
-ghost use Rattle.std.specs.Io.KnownBytes.{Appends, IsAtEnd};
 ghost use Rattle.byte_unit_lines.specs.Lines.{line_end};
-ghost use Rattle.byte_unit_lines.specs.Outcome.{IsBeginning, IsRun};
-ghost use Rattle.byte_unit_lines.specs.Progress.{ended_by, begun_by, IsUnbroken, AddsAnswers, AddsFirst};
-ghost use Rattle.byte_unit_lines.specs.Progress.{IsAnswered};
-ghost use Rattle.byte_unit_lines.specs.Streams.{reader_of, reading_failed, writer_of, writing_failed};
+ghost use Rattle.byte_unit_lines.specs.Outcome.{IsPrefix, IsWritten};
+ghost use Rattle.byte_unit_lines.specs.Progress.{ended_lines, begun_line, IsUnbroken};
+ghost use Rattle.byte_unit_lines.specs.Progress.{AddsAnswers, AddsFirst, IsAnswered};
+ghost use Rattle.byte_unit_lines.specs.Streams.{HasRead, HasReadAll, reading_failed};
+ghost use Rattle.byte_unit_lines.specs.Streams.{HasWritten, writing_failed};
 
 use crate::arguments::Kind;
 use crate::laws::each_line_has_an_answer;
@@ -24,24 +24,24 @@ use std::simd::prelude::*;
 /// The byte that ends a line.
 const LINE_END: u8 = b'\n';
 
-/// How many bytes are compared at once.
+/// The number of bytes that are compared at once.
 const LANES: usize = 16;
 
-/// How many bytes are asked for at a read.
+/// The number of bytes that [`run`] asks for in each read.
 const CHUNK: usize = 65536;
 
-/// Why a run ended before its input did.
+/// The reason why a run ended before the end of its input.
 #[derive(Debug, Clone, Copy, PartialEq, Eq)]
 pub enum RunError {
-    /// No memory for a line or for the answers.
+    /// Allocation failed, for a line or for the answers.
     Memory,
-    /// The reader failed.
+    /// A read failed.
     Read,
-    /// The writer failed.
+    /// A write failed.
     Write,
 }
 
-/// `Memory`.
+/// Converts a failed allocation to `Memory`.
 impl From<AllocError> for RunError {
     ghost use Rattle.byte_unit_lines.specs.declared.run.RunError.TheVariants.{Memory};
 
@@ -52,27 +52,26 @@ impl From<AllocError> for RunError {
     }
 }
 
-/// Reads all there is, and writes the answer to each line.
+/// Reads the whole input, and writes the answer to each line.
 ///
-/// On `Ok` the report of all the input is written. On `Read` the answers to the lines that ended
-/// before the failure are, on `Memory` those to the first lines, whole, and on `Write` a beginning of
-/// the report of what was read.
+/// On `Ok` the report on the whole input has been written.
 ///
-/// ```rust
-/// let mut reader = Reading::new(b"3 KB\n12\n\n".as_slice());
-/// let mut writer = Writing::new(Vec::new(alloc));
-/// let result = run(alloc, &mut reader, &mut writer, Kind::Byte);
-/// // Ok(()), and the writer has "3000 = 3 KB\n12 = 12 B\nno value\n"
-/// ```
+/// # Errors
+///
+/// - `Read` if a read fails. The answers to all lines that ended before have been written.
+/// - `Memory` if allocation fails. The answers to some number of first lines have been written, each whole.
+/// - `Write` if a write fails. A prefix of the report on what was read has been written.
 pub fn run<R: Read, W: Write>(
     alloc: Global,
     reader: &mut Reading<R>,
     writer: &mut Writing<W>,
     kind: Kind,
 ) -> Result<(), RunError>
-    ensures run { IsRun kind (R.remaining (reader_of reader.old)) (R.remaining (reader_of reader.new))
-        (W.contents (writer_of writer.old)) (W.contents (writer_of writer.new)) result }
-    ensures end { OnOk result (IsAtEnd (R.remaining (reader_of reader.new))) }
+    ensures run { (read written : List ℕ)
+        × HasRead R.remaining reader.old reader.new read
+        × HasWritten W.contents writer.old writer.new written
+        × IsWritten kind read result written }
+    ensures end { OnOk result (HasReadAll R.remaining reader.new) }
     ensures read_failed { IsErrOf result RunError.Read → IsTrue (reading_failed reader.new) }
     ensures write_failed { IsErrOf result RunError.Write → IsTrue (writing_failed writer.new) }
 {
@@ -80,7 +79,9 @@ pub fn run<R: Read, W: Write>(
     run_in(&alloc, &mut buffer, reader, writer, kind)
 }
 
-/// [`run`] over any allocator, with reads of at most this buffer's length.
+/// Does what [`run`] does, with any allocator, and with reads of at most the length of `buffer`.
+///
+/// Precondition (proved at every call): `buffer` is not empty.
 pub fn run_in<A: Allocator, R: Read, W: Write>(
     alloc: &A,
     buffer: &mut [u8],
@@ -89,13 +90,15 @@ pub fn run_in<A: Allocator, R: Read, W: Write>(
     kind: Kind,
 ) -> Result<(), RunError>
     requires { 0 < length buffer.old }
-    ensures run { IsRun kind (R.remaining (reader_of reader.old)) (R.remaining (reader_of reader.new))
-        (W.contents (writer_of writer.old)) (W.contents (writer_of writer.new)) result }
-    ensures end { OnOk result (IsAtEnd (R.remaining (reader_of reader.new))) }
+    ensures run { (read written : List ℕ)
+        × HasRead R.remaining reader.old reader.new read
+        × HasWritten W.contents writer.old writer.new written
+        × IsWritten kind read result written }
+    ensures end { OnOk result (HasReadAll R.remaining reader.new) }
     ensures read_failed { IsErrOf result RunError.Read → IsTrue (reading_failed reader.new) }
     ensures write_failed { IsErrOf result RunError.Write → IsTrue (writing_failed writer.new) }
 {
-    // What a failing writer took begins a report, and a report answers the unanswered lines too.
+    // For the proof: if a write fails, the report that was begun has an answer to each unanswered line too.
     each_line_has_an_answer();
     let mut line = Vec::new(alloc);
     let mut waiting = Vec::new(alloc);
@@ -114,7 +117,16 @@ pub fn run_in<A: Allocator, R: Read, W: Write>(
     }
 }
 
-/// Answers the lines that end in these bytes, and writes the answers.
+/// Answers the lines that end in `bytes`, and writes the answers.
+///
+/// `line` is the part of the first of them that was read before, and then the part of the next one that was read.
+///
+/// Precondition (proved at every call): `waiting` is empty.
+///
+/// # Errors
+///
+/// - `Memory` if allocation fails. The answers to the lines before have been written.
+/// - `Write` if a write fails. A prefix of the answers has been written.
 fn answer_piece<A: Allocator, W: Write>(
     line: &mut Vec<u8, A>,
     bytes: &[u8],
@@ -124,32 +136,37 @@ fn answer_piece<A: Allocator, W: Write>(
 ) -> Result<(), RunError>
     requires { waiting.old.items ≡ [] }
     ensures written { (written : List ℕ)
-        × Appends (W.contents (writer_of writer.old)) (W.contents (writer_of writer.new)) written
-        × IsAnswered kind (ended_by line.old.items bytes.now) result written }
-    ensures line { OnOk result (line.new.items ≡ begun_by line.old.items bytes.now) }
+        × HasWritten W.contents writer.old writer.new written
+        × IsAnswered kind (ended_lines line.old.items bytes.now) result written }
+    ensures line { OnOk result (line.new.items ≡ begun_line line.old.items bytes.now) }
     ensures waiting { OnOk result (waiting.new.items ≡ []) }
     ensures failed { IsErrOf result RunError.Write → IsTrue (writing_failed writer.new) }
 {
     let fed = feed(line, bytes, kind, waiting);
-    // The answers to the lines before a refusal are written too.
+    // If allocation failed, the answers to the lines before are written all the same.
     write_whole(writer, waiting)?;
     waiting.clear();
     Ok(fed?)
 }
 
-/// Adds the answers to the lines that end in these bytes. `line` is what has come of the first, and
-/// then of the next.
+/// Appends the answers to the lines that end in `bytes` to `waiting`.
+///
+/// `line` is the part of the first of them that was read before, and then the part of the next one that was read.
+///
+/// # Errors
+///
+/// Returns `AllocError` if allocation fails. The answers to the lines before have been appended, each whole.
 fn feed<A: Allocator>(
     line: &mut Vec<u8, A>,
     bytes: &[u8],
     kind: Kind,
     waiting: &mut Vec<u8, A>,
 ) -> Result<(), AllocError>
-    ensures added { AddsFirst kind (ended_by line.old.items bytes.now)
+    ensures added { AddsFirst kind (ended_lines line.old.items bytes.now)
         waiting.old.items waiting.new.items }
-    ensures ok { OnOk result (AddsAnswers kind (ended_by line.old.items bytes.now)
+    ensures ok { OnOk result (AddsAnswers kind (ended_lines line.old.items bytes.now)
         waiting.old.items waiting.new.items) }
-    ensures line { OnOk result (line.new.items ≡ begun_by line.old.items bytes.now) }
+    ensures line { OnOk result (line.new.items ≡ begun_line line.old.items bytes.now) }
 {
     let mut rest = bytes;
     while let Some(n) = end_of(rest) {
@@ -165,15 +182,15 @@ fn feed<A: Allocator>(
     line.extend_from_slice(rest)
 }
 
-/// How many bytes come before the first line end.
+/// Returns the index of the first line end, or `None` if there is none.
 fn end_of(bytes: &[u8]) -> Option<usize>
-    ensures some { IfSome result (λ n. (n < length bytes.now) × (get_or bytes.now n 0 ≡ line_end)
-        × IsUnbroken (take n bytes.now)) }
+    ensures some { IfSome result (λ n. (n < length bytes.now)
+        × (slice_index bytes.now n ≡ line_end) × IsUnbroken (take n bytes.now)) }
     ensures none { IfNone result (IsUnbroken bytes.now) }
     ensures small { IfSome result (λ n. n + 1 < 2 ^ 64) }
 {
     let mut i = 0;
-    // Where a line ends can't be foretold: a mask has the place with one branch, not one a byte.
+    // Where a line ends cannot be predicted: a mask finds it with one branch per 16 bytes, not one per byte.
     while bytes.len() - i >= LANES {
         let ends = u8x16::from_slice(&bytes[i..])
             .simd_eq(u8x16::splat(LINE_END))
@@ -192,13 +209,15 @@ fn end_of(bytes: &[u8]) -> Option<usize>
     None
 }
 
-/// Writes all the bytes, call by call.
+/// Writes all of `bytes`, in as many calls of the writer as it takes.
+///
+/// # Errors
+///
+/// Returns `Write` if a write fails. A prefix of `bytes` has been written.
 fn write_whole<W: Write>(writer: &mut Writing<W>, bytes: &[u8]) -> Result<(), RunError>
-    ensures ok { OnOk result (Appends (W.contents (writer_of writer.old)) (W.contents (writer_of writer.new))
-        bytes.now) }
+    ensures ok { OnOk result (HasWritten W.contents writer.old writer.new bytes.now) }
     ensures err { OnErr result ((written : List ℕ)
-        × Appends (W.contents (writer_of writer.old)) (W.contents (writer_of writer.new)) written
-        × IsBeginning written bytes.now) }
+        × HasWritten W.contents writer.old writer.new written × IsPrefix written bytes.now) }
     ensures write { IfErr result (λ e. e ≡ RunError.Write) }
     ensures failed { OnErr result (IsTrue (writing_failed writer.new)) }
 {

@@ -1,4 +1,5 @@
-//! The program over memory.
+//! Tests of the program with input and output in memory.
+
 ghost use Rattle.std.specs.Prelude.{IfOk};
 ghost use Rattle.byte_unit_lines.specs.Report.{IsReport};
 
@@ -21,7 +22,7 @@ mod refusals;
 mod rows;
 mod streams;
 
-/// What the program writes for an input in memory.
+/// Returns what the program writes for an input in memory.
 fn report_of(alloc: Global, input: &[u8], kind: Kind) -> Result<Vec<u8>, RunError>
     ensures { IfOk result (λ output. IsReport kind input.now output.items) }
 {

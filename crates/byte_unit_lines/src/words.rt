@@ -1,17 +1,13 @@
-//! What the program says of a run that failed.
+//! The error messages of a run that failed.
 
 ghost use Rattle.std.specs.Prelude.{◌≡◌};
-ghost use Rattle.byte_unit_lines.specs.FaultWords.{said_of};
+ghost use Rattle.byte_unit_lines.specs.FaultWords.{message_of};
 
 use crate::run::RunError;
 
-/// The words for standard error, with no line end.
-///
-/// ```text
-/// fault_words(RunError::Read) == "read failed"
-/// ```
+/// Returns the error message for standard error, without a line end.
 pub fn fault_words(error: RunError) -> &'static str
-    ensures { result.now ≡ said_of error }
+    ensures { result.now ≡ message_of error }
 {
     match error {
         RunError::Memory => "out of memory",

@@ -1,12 +1,11 @@
-//! A writer that remembers a failure.
+//! A writer that records a failure.
 
 ghost use Rattle.std.specs.Prelude.{false, ◌≡◌, ◌≤◌, ◌<◌, ◌↔◌, take, length, IsTrue, IsNone, IfNone, IfSome};
-ghost use Rattle.std.specs.Io.KnownBytes.{Appends, Keeps};
-ghost use Rattle.byte_unit_lines.specs.Streams.{writer_of, writing_failed};
+ghost use Rattle.byte_unit_lines.specs.Streams.{HasWritten, HasWrittenNothing, writer_of, writing_failed};
 
 use std::io::Write;
 
-/// A writer, and whether it failed.
+/// A writer that records whether a write has failed. After a failure it does not call the writer again.
 #[derive(Drop)]
 pub struct Writing<W> {
     inner: W,
@@ -14,11 +13,7 @@ pub struct Writing<W> {
 }
 
 impl<W: Write> Writing<W> {
-    /// A writer that did not fail yet.
-    ///
-    /// ```rust
-    /// let mut writer = Writing::new(Vec::new(alloc));
-    /// ```
+    /// Creates a `Writing` over a writer, with no failure recorded.
     pub fn new(inner: W) -> Writing<W>
         ensures inner { writer_of result ≡ inner }
         ensures failed { writing_failed result ≡ false }
@@ -29,14 +24,14 @@ impl<W: Write> Writing<W> {
         }
     }
 
-    /// Whether a write answered `None`.
+    /// Returns `true` if a write has returned `None`.
     pub fn failed(&self) -> bool
         ensures { result ≡ writing_failed self.now }
     {
         self.failed
     }
 
-    /// The writer, with what it has taken.
+    /// Returns the writer inside, with the bytes that it holds.
     pub fn into_inner(self) -> W
         ensures { result ≡ writer_of self }
     {
@@ -44,17 +39,18 @@ impl<W: Write> Writing<W> {
         inner
     }
 
-    /// Asks the writer once, with at least one byte, and answers how many bytes it took from the front.
+    /// Writes a non-empty prefix of `bytes` by one call of the writer, and returns its length.
     ///
-    /// `None` is an error of the writer, of any kind, or that it takes nothing. From then on it is
-    /// `None` and the writer is not asked.
+    /// Precondition (proved at every call): `bytes` is not empty.
+    ///
+    /// Returns `None` if the writer returns an error of any kind, or accepts no byte. After that, returns `None`
+    /// without calling the writer.
     pub fn write(&mut self, bytes: &[u8]) -> Option<usize>
         requires { 0 < length bytes.now }
         ensures bound { IfSome result (λ n. (0 < n) × (n ≤ length bytes.now)) }
-        ensures took { IfSome result (λ n. Appends (W.contents (writer_of self.old))
-            (W.contents (writer_of self.new)) (take n bytes.now)) }
-        ensures none { IfNone result (Keeps (W.contents (writer_of self.old))
-            (W.contents (writer_of self.new))) }
+        ensures took { IfSome result
+            (λ n. HasWritten W.contents self.old self.new (take n bytes.now)) }
+        ensures none { IfNone result (HasWrittenNothing W.contents self.old self.new) }
         ensures failed { IsTrue (writing_failed self.new) ↔ IsNone result }
         ensures stays { IsTrue (writing_failed self.old)
             → IsNone result × (writer_of self.new ≡ writer_of self.old) }

@@ -7,20 +7,20 @@ use std::alloc::AllocError;
 use std::process::Abort;
 use std::test::Fail;
 
-/// How many bytes a run asks for at once.
+/// The number of bytes that a run asks for in each read.
 const CHUNK: usize = 65_536;
 
-/// How often the lines of every make stand in the input: it has more than two chunks and less than three.
+/// The number of times that the mixed lines are repeated: the input has more than two chunks and less than three.
 const TIMES: usize = 2100;
 
-/// The lines of every make, again and again, each with its end.
+/// Returns the mixed lines, repeated, each with its line end.
 fn long_input(alloc: Global) -> Result<Vec<u8>, AllocError> {
     let mut lines = INPUT.to_vec(alloc)?;
     lines.push(b'\n')?;
     lines.repeat(alloc, TIMES)
 }
 
-/// What is written for the first lines of that input.
+/// Returns the answers to the first `lines` lines of that input.
 fn long_report(alloc: Global, lines: usize) -> Result<Vec<u8>, AllocError> {
     let times = lines / ANSWERS.len();
     let mut report = answers_to(alloc, ANSWERS.len())?.repeat(alloc, times)?;
@@ -28,19 +28,19 @@ fn long_report(alloc: Global, lines: usize) -> Result<Vec<u8>, AllocError> {
     Ok(report)
 }
 
-/// What is written for the lines that end in the first bytes of that input.
+/// Returns the answers to the lines that end in the first `read` bytes of that input.
 fn report_on(alloc: Global, input: &[u8], read: usize) -> Result<Vec<u8>, Fail> {
     let front = input.get(..read).ok_or("a beginning")?;
     Ok(long_report(alloc, finished(front))?)
 }
 
-/// A run over this input with a reader that gives all that is asked for, for some calls.
+/// Runs over this input with a reader that gives all that is asked for, for `calls` calls.
 fn read_by_chunks(alloc: Global, input: &[u8], calls: usize, then: Then) -> Ended {
     let reader = MemoryReader::new(input, usize::MAX, calls, then);
     ran(alloc, reader, MemoryWriter::open(alloc))
 }
 
-/// A run over this input with a writer that takes so many bytes a call, for some calls.
+/// Runs over this input with a writer that accepts at most `step` bytes per call, for `calls` calls.
 fn written_by(alloc: Global, input: &[u8], step: usize, calls: usize, then: Then) -> Ended {
     let reader = MemoryReader::new(input, usize::MAX, 0, Then::All);
     ran(alloc, reader, MemoryWriter::new(alloc, step, calls, then))
@@ -71,7 +71,7 @@ fn each_slow_stream(rt: HostRuntime) -> Result<(), Fail> {
 fn each_failing_read(rt: HostRuntime) -> Result<(), Fail> {
     let input = long_input(rt.alloc())?;
     let all = input.len();
-    // Three reads bring the input, and a fourth its end.
+    // Three reads return the input, and a fourth returns 0 for its end.
     for calls in 0..4 {
         let ended = read_by_chunks(rt.alloc(), &input, calls, Then::Fail);
         let report = report_on(rt.alloc(), &input, calls.saturating_mul(CHUNK).min(all))?;
@@ -83,7 +83,7 @@ fn each_failing_read(rt: HostRuntime) -> Result<(), Fail> {
     Ok(())
 }
 
-/// The writes of the answers to some chunks go well, and then each does this.
+/// Asserts the result of a run whose first `calls` writes succeed, and whose next ones do what `then` says.
 fn failing_writes(
     rt: &(impl Abort + AllocGlobal),
     input: &[u8],
@@ -102,7 +102,7 @@ fn failing_writes(
 fn each_failing_write(rt: HostRuntime) -> Result<(), Fail> {
     let input = long_input(rt.alloc())?;
     for then in FAILING {
-        // The answers to a chunk are one write.
+        // The answers to a chunk are written by one call.
         for calls in 0..3 {
             failing_writes(&rt, &input, calls, *then, Err(RunError::Write))?;
         }
@@ -116,7 +116,7 @@ fn each_failing_part_of_a_write(rt: HostRuntime) -> Result<(), Fail> {
     let input = long_input(rt.alloc())?;
     let report = long_report(rt.alloc(), finished(&input))?;
     let mut least = 0;
-    // All the answers are some 300,000 bytes.
+    // The report has about 300,000 bytes.
     for calls in 0..100 {
         let ended = written_by(rt.alloc(), &input, 40_000, calls, Then::Fail);
         let taken = ended.taken.len();

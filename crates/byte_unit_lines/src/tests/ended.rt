@@ -1,4 +1,4 @@
-//! How runs end.
+//! The results of runs.
 ghost use Rattle.std.specs.Prelude.{◌<◌, length};
 
 use super::streams::{MemoryReader, MemoryWriter};
@@ -8,7 +8,7 @@ use crate::run::run_in;
 use std::alloc::Allocator;
 use std::process::Abort;
 
-/// How a run ended, and what was written.
+/// The result of a run, and the bytes that it has written.
 #[derive(Drop)]
 pub struct Ended {
     pub result: Result<(), RunError>,
@@ -16,7 +16,7 @@ pub struct Ended {
 }
 
 impl Ended {
-    /// It ended so, and this was written. A name and numbers say which of a test's runs it was.
+    /// Asserts the result and the written bytes. A name and numbers tell which of a test's runs it was.
     pub fn expect(
         &self,
         rt: &impl Abort,
@@ -29,7 +29,7 @@ impl Ended {
         assert_eq!(rt; ended, (wanted, report), "{name} {numbers:?}");
     }
 
-    /// The same of a report that is too long to be shown.
+    /// Asserts the same for a report that is too long to be printed.
     pub fn expect_long(
         &self,
         rt: &impl Abort,
@@ -43,7 +43,7 @@ impl Ended {
     }
 }
 
-/// Of a run over these streams.
+/// Runs over these streams.
 pub fn ran(alloc: Global, reader: MemoryReader<'_>, writer: MemoryWriter) -> Ended {
     let mut reader = Reading::new(reader);
     let mut writer = Writing::new(writer);
@@ -54,7 +54,7 @@ pub fn ran(alloc: Global, reader: MemoryReader<'_>, writer: MemoryWriter) -> End
     }
 }
 
-/// Of a run over this input as it stands.
+/// Runs over this input, given to one read.
 pub fn reported(alloc: Global, input: &[u8]) -> Ended {
     match report_of(alloc, input, Kind::Byte) {
         Ok(taken) => {
@@ -72,7 +72,7 @@ pub fn reported(alloc: Global, input: &[u8]) -> Ended {
     }
 }
 
-/// Of a run in this memory, with reads of at most this buffer's length.
+/// Runs with this allocator, and with reads of at most the length of `buffer`.
 pub fn ran_in<A: Allocator>(
     alloc: &A,
     buffer: &mut [u8],
@@ -90,8 +90,8 @@ pub fn ran_in<A: Allocator>(
     }
 }
 
-/// A run that is refused the requests from the first to the last of these ends at the first, and this was written.
-pub fn expect_refusal(
+/// Asserts that a run whose allocations from `first` to `last` fail ends at the first, with this report written.
+pub fn expect_failed_allocation(
     rt: &(impl Abort + AllocGlobal),
     buffer: &mut [u8],
     reader: MemoryReader<'_>,
@@ -107,7 +107,7 @@ pub fn expect_refusal(
         rt,
         Err(RunError::Memory),
         report,
-        "at request",
+        "at allocation",
         &[first as usize],
     );
     assert_eq!(rt; heap.asked(), first);

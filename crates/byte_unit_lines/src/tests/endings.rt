@@ -1,4 +1,4 @@
-//! How calls of the program end.
+//! The endings of calls of the program.
 use super::streams::{MemoryReader, MemoryWriter, Then};
 use super::*;
 use crate::ending::{Ending, serve};
@@ -6,10 +6,10 @@ use std::alloc::AllocError;
 use std::process::Abort;
 use std::test::Fail;
 
-/// One line.
+/// An input of one line.
 const INPUT: &[u8] = b"1 KB\n";
 
-/// The words as the program is handed them.
+/// Returns the arguments as the program receives them.
 pub fn words(alloc: Global, words: &[&str]) -> Result<Vec<String>, AllocError> {
     let mut texts = Vec::new(alloc);
     for word in words {
@@ -18,7 +18,7 @@ pub fn words(alloc: Global, words: &[&str]) -> Result<Vec<String>, AllocError> {
     Ok(texts)
 }
 
-/// The words, what they are called, how the call ends on this input, what it writes and what it leaves.
+/// The arguments, a name for them, the ending, the output, and what is left of the input.
 const BY_WORDS: &[(&[&str], &str, Ending, &[u8], &[u8])] = &[
     (&[], "none", Ending::Done, b"1000 = 1 KB\n", b""),
     (&["byte"], "byte", Ending::Done, b"1000 = 1 KB\n", b""),
@@ -27,7 +27,7 @@ const BY_WORDS: &[(&[&str], &str, Ending, &[u8], &[u8])] = &[
     (&["bit", "bit"], "bit bit", Ending::Usage, b"", INPUT),
 ];
 
-/// A call ends so, writes this and leaves this.
+/// Asserts the ending, the output, and what is left of the input.
 fn expect(
     rt: &impl Abort,
     found: (Ending, &[u8], &[u8]),
@@ -38,7 +38,7 @@ fn expect(
 }
 
 #[test]
-fn endings_by_the_words(rt: HostRuntime) -> Result<(), Fail> {
+fn endings_by_the_arguments(rt: HostRuntime) -> Result<(), Fail> {
     for (asked, name, ending, output, left) in BY_WORDS {
         let mut reader = Reading::new(INPUT);
         let mut writer = Writing::new(Vec::new(rt.alloc()));
@@ -51,7 +51,7 @@ fn endings_by_the_words(rt: HostRuntime) -> Result<(), Fail> {
     Ok(())
 }
 
-/// How many reads and writes go well, and how the call ends.
+/// The numbers of reads and writes that succeed, and the ending.
 const BY_STREAMS: &[(usize, usize, Ending)] = &[
     (2, 1, Ending::Done),
     (1, 1, Ending::Failed(RunError::Read)),
@@ -70,7 +70,7 @@ fn endings_by_the_streams(rt: HostRuntime) -> Result<(), Fail> {
     Ok(())
 }
 
-/// The exit status of each, and its line for standard error.
+/// Each ending, its exit status, and its line for standard error.
 const STATUSES: &[(Ending, u8, Option<&str>)] = &[
     (Ending::Done, 0, None),
     (Ending::Failed(RunError::Memory), 1, Some("out of memory")),

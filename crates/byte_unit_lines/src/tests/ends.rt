@@ -1,5 +1,5 @@
 //! Inputs in pieces, and streams that fail.
-use super::ended::{Ended, expect_refusal, ran, ran_in};
+use super::ended::{Ended, expect_failed_allocation, ran, ran_in};
 use super::mixed::finished;
 use super::streams::{FAILING, MemoryReader, MemoryWriter, Then};
 use super::*;
@@ -14,18 +14,18 @@ const INPUT: &[u8] = b"1.5 KiB\n\n1Kbi\nx\n1YB";
 const OUTPUT: &[u8] =
     b"1536 = 1.5 KiB\nno value\nbad unit\nnot a number\n1000000000000000000000000 = 1 YB\n";
 
-/// A reader that gives all that it is asked for.
+/// Returns a reader that gives all that it is asked for.
 fn whole(input: &[u8]) -> MemoryReader<'_> {
     MemoryReader::new(input, input.len(), usize::MAX, Then::Fail)
 }
 
-/// A run over the input in steps, for some calls.
+/// Runs with reads of at most `step` bytes, for `calls` calls.
 fn read_by(alloc: Global, step: usize, calls: usize, then: Then) -> Ended {
     let reader = MemoryReader::new(INPUT, step, calls, then);
     ran(alloc, reader, MemoryWriter::open(alloc))
 }
 
-/// A run that writes in steps, for some calls.
+/// Runs with writes of at most `step` bytes, for `calls` calls.
 fn written_by(alloc: Global, step: usize, calls: usize, then: Then) -> Ended {
     let writer = MemoryWriter::new(alloc, step, calls, then);
     ran(alloc, whole(INPUT), writer)
@@ -93,7 +93,7 @@ const LINES: &[&[u8]] = &[
     b"1536 = 1.5 KiB\nno value\nbad unit\nnot a number\n",
 ];
 
-/// So many first lines of the output, or all of it.
+/// Returns the first `count` lines of the output, or all of it.
 fn first_lines(count: usize) -> &'static [u8] {
     match LINES.get(count) {
         Some(first) => *first,
@@ -101,7 +101,7 @@ fn first_lines(count: usize) -> &'static [u8] {
     }
 }
 
-/// The answer to the line that has begun after so many bytes of the input, or nothing where none has.
+/// The answer to the unfinished line after each number of bytes of the input, or nothing if there is none.
 const LAST: &[&[u8]] = &[
     b"",
     b"1 = 1 B\n",
@@ -157,16 +157,16 @@ fn each_failing_write(rt: HostRuntime) {
 }
 
 #[test]
-fn each_refused_request(rt: HostRuntime) {
-    // How many lines are written at the first refusal, the second and so on. The first answer is kept by one request,
-    // those after it by two more, then the line that has begun is kept; there is room for the last answer.
+fn each_failed_allocation(rt: HostRuntime) {
+    // The number of lines that are written if the first allocation fails, the second and so on. The first answer takes
+    // one allocation, those after it two more, then the unfinished line one; the last answer fits the capacity.
     const FINISHED: &[usize] = &[0, 1, 2, 4];
     let mut buffer = [0u8; 32];
     let mut number = 1u64;
     for lines in FINISHED {
         let report = first_lines(*lines);
-        expect_refusal(&rt, &mut buffer, whole(INPUT), number, number, report);
-        expect_refusal(&rt, &mut buffer, whole(INPUT), number, u64::MAX, report);
+        expect_failed_allocation(&rt, &mut buffer, whole(INPUT), number, number, report);
+        expect_failed_allocation(&rt, &mut buffer, whole(INPUT), number, u64::MAX, report);
         number = number.saturating_add(1);
     }
     let heap = Refusing::new(rt.alloc(), number, u64::MAX);
@@ -176,7 +176,7 @@ fn each_refused_request(rt: HostRuntime) {
         whole(INPUT),
         MemoryWriter::open(rt.alloc()),
     );
-    ended.expect(&rt, Ok(()), OUTPUT, "refused nothing", &[]);
+    ended.expect(&rt, Ok(()), OUTPUT, "no failed allocation", &[]);
 }
 
 #[test]
@@ -191,7 +191,7 @@ fn failing_after_a_piece(rt: HostRuntime) {
     }
 }
 
-/// What two calls gave, and whether the stream had failed behind each: the first call went well, the second failed.
+/// The results of two calls, and whether a failure was recorded after each: the first succeeds, the second fails.
 fn expect_failure(rt: &impl Abort, calls: [(Option<usize>, bool); 2], count: usize) {
     assert_eq!(rt; calls, [(Some(count), false), (None, true)]);
 }

@@ -6,7 +6,7 @@ use super::*;
 use std::alloc::AllocError;
 use std::test::Fail;
 
-/// The paces of a slow stream, and of one that is not.
+/// The paces of slow streams, and of one that is not slow.
 const PACES: &[Then] = &[Then::ByteByByte, Then::AllButOne, Then::All];
 
 #[test]
@@ -34,7 +34,7 @@ fn each_slow_stream(rt: HostRuntime) -> Result<(), Fail> {
     Ok(())
 }
 
-/// So many spaces and long lines, and what is written for them.
+/// Returns some spaces and long lines, and the report on them.
 fn spaces_and_lines(alloc: Global, spaces: usize) -> Result<(Vec<u8>, Vec<u8>), AllocError> {
     let mut input = b" ".repeat(alloc, spaces)?;
     input.extend_from_slice(&b"1.5 KiB\r\n".repeat(alloc, 7400)?)?;
@@ -53,7 +53,7 @@ fn lines_across_the_end_of_a_chunk(rt: HostRuntime) -> Result<(), Fail> {
     Ok(())
 }
 
-/// A line of so many digits that ends so, and one more.
+/// Returns a line of this many digits with this ending, and one more line.
 fn digits_and_a_line(alloc: Global, digits: usize, end: &[u8]) -> Result<Vec<u8>, AllocError> {
     let mut input = b"0".repeat(alloc, digits)?;
     input.extend_from_slice(end)?;
@@ -95,7 +95,7 @@ fn each_failing_read(rt: HostRuntime) -> Result<(), Fail> {
 fn each_failing_write(rt: HostRuntime) -> Result<(), Fail> {
     for then in FAILING {
         for lines in 0..ANSWERS.len() {
-            // Read byte by byte, each answer is a write of its own.
+            // If the input is read byte by byte, each answer is written by its own call.
             let input = MemoryReader::new(INPUT, 1, usize::MAX, Then::Fail);
             let output = MemoryWriter::new(rt.alloc(), usize::MAX, lines, *then);
             let ended = ran(rt.alloc(), input, output);

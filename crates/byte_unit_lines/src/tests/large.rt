@@ -1,5 +1,5 @@
-//! Lines, answers and counts of reads that are large. Lines of 10 MB and of 1 GB are left to `tools/at-scale`, since
-//! `rt try` takes a minute for the first.
+//! Long lines, large reports and many reads. Lines of 10 MB and of 1 GB are left to `tools/at-scale`, since `rt try`
+//! takes a minute for the first.
 use super::ended::{Ended, ran, ran_in, reported};
 use super::streams::{MemoryReader, MemoryWriter, Then};
 use super::*;
@@ -7,7 +7,7 @@ use std::alloc::AllocError;
 use std::process::Abort;
 use std::test::Fail;
 
-/// One character, so often, and then the text.
+/// Returns a byte, repeated, and then the bytes that follow it.
 fn behind(
     alloc: Global,
     character: &str,
@@ -19,7 +19,7 @@ fn behind(
     Ok(line)
 }
 
-/// A character, how often it is repeated, what follows it, and the report. The lines are longer than one chunk, than
+/// A byte, the number of its repetitions, what follows it, and the report. The lines are longer than one chunk, than
 /// three and than four.
 const ROWS: &[(&str, usize, &[u8], &[u8])] = &[
     ("0", 100_000, b"1", b"1 = 1 B\n"),
@@ -54,7 +54,7 @@ fn long_lines(rt: HostRuntime) -> Result<(), Fail> {
     Ok(())
 }
 
-/// How a run over so many empty lines that are read at once ended, over this writer's pace.
+/// Runs over many empty lines, all given to one read, with a writer of this pace.
 fn empty_lines(
     alloc: Global,
     count: usize,
@@ -69,7 +69,7 @@ fn empty_lines(
     Ok(ran_in(&alloc, &mut buffer, reader, writer))
 }
 
-/// Of the report on many empty lines so many bytes are written.
+/// Asserts that this many bytes of the report on many empty lines are written.
 fn expect_bytes(
     rt: &(impl Abort + AllocGlobal),
     step: usize,
@@ -93,7 +93,7 @@ fn expect_bytes(
 
 #[test]
 fn answers_of_several_megabytes(rt: HostRuntime) -> Result<(), Fail> {
-    // All in one call, and in parts.
+    // All in one call, and in several.
     expect_bytes(&rt, usize::MAX, 1, Then::Fail, Ok(()), 2_700_000)?;
     expect_bytes(&rt, 1_000_000, 3, Then::Fail, Ok(()), 2_700_000)?;
     let failed = Err(RunError::Write);

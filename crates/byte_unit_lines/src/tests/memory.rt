@@ -1,11 +1,11 @@
-//! How often the calls that make texts ask for memory, and what a refusal leaves.
+//! The number of allocations of the calls that format, and their effect if one fails.
 use crate::refusing::Refusing;
 use byte_unit::{Bit, Byte, Expansion, FormatSpec, Unit, append_layout, append_plain};
 use std::alloc::{AllocError, Allocator};
 use std::process::Abort;
 use std::test::Fail;
 
-/// A call that adds a text.
+/// A call that appends to a string.
 #[derive(Clone, Copy)]
 enum Call {
     Bytes(FormatSpec),
@@ -16,7 +16,7 @@ enum Call {
     Layout,
 }
 
-/// Adds the text of 1536 bytes, of 8192 bits, or of the number ten.
+/// Appends 1536 bytes, 8192 bits or the number ten, formatted.
 fn append<A: Allocator>(call: Call, text: &mut String<A>) -> Result<(), AllocError> {
     let bytes = Byte::from_u64(1536);
     let bits = Bit::from_u64(8192);
@@ -38,7 +38,7 @@ fn append<A: Allocator>(call: Call, text: &mut String<A>) -> Result<(), AllocErr
     }
 }
 
-/// Each call, and the text `ab` with what it adds.
+/// Each call, and the string `ab` followed by what it appends.
 const CALLS: &[(Call, &str)] = &[
     (Call::Bytes(FormatSpec::PLAIN), "ab1536"),
     (Call::Bytes(FormatSpec::ALTERNATE), "ab1.5 KiB"),
@@ -52,73 +52,73 @@ const CALLS: &[(Call, &str)] = &[
     (Call::Layout, "ab10 KiB"),
 ];
 
-/// A text, its room, and how many requests for memory there were.
+/// Asserts a string, its capacity, and the number of allocations.
 fn expect(rt: &impl Abort, found: (&str, usize, u64), wanted: (&str, usize, u64), whole: &str) {
     assert_eq!(rt; found, wanted, "for {whole}");
 }
 
-/// The text `ab`, in this much room.
-fn in_room<A: Allocator>(heap: A, room: usize) -> Result<String<A>, AllocError> {
+/// Returns the string `ab`, with this capacity.
+fn with_capacity<A: Allocator>(heap: A, reserved: usize) -> Result<String<A>, AllocError> {
     let mut text = String::new(heap);
-    text.try_reserve_exact(room)?;
+    text.try_reserve_exact(reserved)?;
     text.push_str("ab")?;
     Ok(text)
 }
 
-/// Whether the call meets no refusal in this memory, which refuses the request of one number. The text has this much
-/// room for `ab` and for what is added.
-fn is_granted<A: Allocator>(
+/// Returns `true` if the call succeeds with this allocator, in which one allocation fails. The string has this capacity
+/// for `ab` and for what is appended.
+fn succeeds<A: Allocator>(
     rt: &impl Abort,
     heap: &Refusing<A>,
     number: u64,
     call: Call,
-    room: usize,
+    reserved: usize,
     whole: &str,
 ) -> Result<bool, AllocError> {
-    let mut text = in_room(heap, room)?;
+    let mut text = with_capacity(heap, reserved)?;
     let capacity = text.capacity();
-    let granted = append(call, &mut text).is_ok();
-    if !granted {
+    let succeeded = append(call, &mut text).is_ok();
+    if !succeeded {
         let left = (text.as_str(), text.capacity(), heap.asked());
         expect(rt, left, ("ab", capacity, number), whole);
-        // Asked again, it is as if nothing had been.
+        // A second call succeeds as if the first had not been made.
         append(call, &mut text)?;
     }
     let end = (text.as_str(), 0, 0);
     expect(rt, end, (whole, 0, 0), whole);
-    Ok(granted)
+    Ok(succeeded)
 }
 
-/// Refuses one request of the call after another, until a call meets none: the number of its requests.
-fn requests_of(
+/// Makes one allocation of the call after another fail, until a call succeeds, and returns the number of failures.
+fn allocations_of(
     rt: &(impl Abort + AllocGlobal),
     call: Call,
-    room: usize,
+    reserved: usize,
     whole: &str,
 ) -> Result<u64, Fail> {
-    for requests in 0..4u64 {
-        // The text asked for its room by the first request.
-        let number = requests.saturating_add(2);
+    for allocations in 0..4u64 {
+        // The first allocation is the string's own.
+        let number = allocations.saturating_add(2);
         let heap = Refusing::new(rt.alloc(), number, number);
-        if is_granted(rt, &heap, number, call, room, whole)? {
-            return Ok(requests);
+        if succeeds(rt, &heap, number, call, reserved, whole)? {
+            return Ok(allocations);
         }
     }
-    Err("each call was refused")?
+    Err("each call failed")?
 }
 
 #[test]
-fn appending_asks_once_or_never(rt: HostRuntime) -> Result<(), Fail> {
+fn appending_allocates_once_or_never(rt: HostRuntime) -> Result<(), Fail> {
     for (call, whole) in CALLS {
-        let short = requests_of(&rt, *call, 2, whole)?;
-        let shorter_by_one = requests_of(&rt, *call, whole.len().saturating_sub(1), whole)?;
-        let none = requests_of(&rt, *call, whole.len(), whole)?;
+        let short = allocations_of(&rt, *call, 2, whole)?;
+        let shorter_by_one = allocations_of(&rt, *call, whole.len().saturating_sub(1), whole)?;
+        let none = allocations_of(&rt, *call, whole.len(), whole)?;
         assert_eq!(rt; (short, shorter_by_one, none), (1, 1, 0), "for {whole}");
     }
     Ok(())
 }
 
-/// A type that has texts.
+/// A type that is formatted.
 #[derive(Clone, Copy)]
 enum Type {
     Byte,
@@ -127,8 +127,12 @@ enum Type {
     AdjustedBit,
 }
 
-/// The text of 1536 bytes or of 8192 bits, in memory of its own.
-fn own_text<A: Allocator>(of: Type, alloc: A, spec: FormatSpec) -> Result<String<A>, AllocError> {
+/// Returns 1536 bytes or 8192 bits, formatted to a new string.
+fn to_new_string<A: Allocator>(
+    of: Type,
+    alloc: A,
+    spec: FormatSpec,
+) -> Result<String<A>, AllocError> {
     let bytes = Byte::from_u64(1536);
     let bits = Bit::from_u64(8192);
     match of {
@@ -139,7 +143,7 @@ fn own_text<A: Allocator>(of: Type, alloc: A, spec: FormatSpec) -> Result<String
     }
 }
 
-/// Each type, and its texts as they are plain and as they are with `#`.
+/// Each type, and its strings without and with `#`.
 const TYPES: &[(Type, &str, &str)] = &[
     (Type::Byte, "1536", "1.5 KiB"),
     (Type::Bit, "8192", "8 Kib"),
@@ -147,17 +151,17 @@ const TYPES: &[(Type, &str, &str)] = &[
     (Type::AdjustedBit, "8.192 Kb", "8.192 Kb"),
 ];
 
-/// The first request is refused, and then the second is granted, and there is no third.
-fn asks_once(
+/// The first allocation fails, then the second succeeds, and there is no third.
+fn allocates_once(
     rt: &(impl Abort + AllocGlobal),
     of: Type,
     spec: FormatSpec,
     whole: &str,
 ) -> Result<(), AllocError> {
     let heap = Refusing::new(rt.alloc(), 1, 1);
-    let refused = own_text(of, &heap, spec).is_err();
-    assert_eq!(rt; (refused, heap.asked()), (true, 1), "for {whole}");
-    let text = own_text(of, &heap, spec)?;
+    let failed = to_new_string(of, &heap, spec).is_err();
+    assert_eq!(rt; (failed, heap.asked()), (true, 1), "for {whole}");
+    let text = to_new_string(of, &heap, spec)?;
     let found = (text.as_str(), text.capacity(), heap.asked());
     expect(rt, found, (whole, whole.len(), 2), whole);
     Ok(())
@@ -166,8 +170,8 @@ fn asks_once(
 #[test]
 fn a_text_of_its_own_asks_once(rt: HostRuntime) -> Result<(), Fail> {
     for (of, plain, alternate) in TYPES {
-        asks_once(&rt, *of, FormatSpec::PLAIN, plain)?;
-        asks_once(&rt, *of, FormatSpec::ALTERNATE, alternate)?;
+        allocates_once(&rt, *of, FormatSpec::PLAIN, plain)?;
+        allocates_once(&rt, *of, FormatSpec::ALTERNATE, alternate)?;
     }
     Ok(())
 }

@@ -1,11 +1,11 @@
-//! Lines of every make, and what is written for them.
+//! Lines with every kind of answer.
 use std::alloc::{AllocError, Global};
 
-/// Lines of every make, with both line ends, the last with none.
+/// One line or more for each kind of answer, with both line ends; the last line has no line end.
 pub const INPUT: &[u8] =
     b"1.5 KiB\n1KB\r\n\n1Kbi\nx\n\xFF\n1000 RB\n9999999999999999999999999999999999\n1YB";
 
-/// What is written for each line.
+/// The answer to each line.
 pub const ANSWERS: [&[u8]; 9] = [
     b"1536 = 1.5 KiB\n",
     b"1000 = 1 KB\n",
@@ -18,7 +18,7 @@ pub const ANSWERS: [&[u8]; 9] = [
     b"1000000000000000000000000 = 1 YB\n",
 ];
 
-/// What is written for the first lines.
+/// Returns the answers to the first `lines` lines.
 pub fn answers_to(alloc: Global, lines: usize) -> Result<Vec<u8>, AllocError> {
     let mut answers = Vec::new(alloc);
     for answer in ANSWERS.iter().take(lines) {
@@ -27,7 +27,7 @@ pub fn answers_to(alloc: Global, lines: usize) -> Result<Vec<u8>, AllocError> {
     Ok(answers)
 }
 
-/// How many lines end in these bytes.
+/// Returns the number of lines that end in these bytes.
 pub fn finished(bytes: &[u8]) -> usize {
     bytes.iter().filter(|byte| **byte == b'\n').count()
 }

@@ -1,4 +1,4 @@
-//! What is read and written by when.
+//! The order of reads and writes.
 use super::streams::{CountingWriter, FAILING, MemoryReader, MemoryWriter, NotingReader, Then};
 use super::*;
 use crate::refusing::Refusing;
@@ -8,19 +8,19 @@ use std::process::Abort;
 
 const INPUT: &[u8] = b"1KB\n2KB\n3KB\n";
 
-/// The answers to the first lines of the input, by their number, and what is left where one line more was read.
+/// The answers to the first lines of the input, by their number, and what is left if one line more was read.
 const PARTS: [(&[u8], &[u8]); 3] = [
     (b"", b"2KB\n3KB\n"),
     (b"1000 = 1 KB\n", b"3KB\n"),
     (b"1000 = 1 KB\n2000 = 2 KB\n", b""),
 ];
 
-/// A reader that gives a line a call.
+/// Returns a reader that gives one line per call.
 fn by_line(input: &[u8]) -> MemoryReader<'_> {
     MemoryReader::new(input, 4, usize::MAX, Then::Fail)
 }
 
-/// The run ended so, the writer has taken these answers, and the reader has this left.
+/// Asserts the result of a run, the answers that the writer holds, and the bytes that the reader has left.
 fn expect(
     rt: &impl Abort,
     run: (
@@ -51,7 +51,7 @@ fn answers_are_written_before_the_next_read(rt: HostRuntime) {
         taken: &taken,
     });
     let result = run(rt.alloc(), &mut reader, &mut writer, Kind::Byte);
-    // The answers have 12, 12 and 13 bytes, and 12 of the last line, which is answered at the end.
+    // The answers have 12, 12 and 13 bytes, and 12 for the last line, which is answered at the end of the input.
     let notes = reader.into_inner().notes;
     let found = (result, notes.as_slice(), taken.get());
     assert_eq!(rt; found, (Ok(()), [0, 12, 24, 37, 37].as_slice(), 49));
@@ -72,13 +72,13 @@ fn nothing_is_read_after_a_failing_write(rt: HostRuntime) {
 }
 
 #[test]
-fn nothing_is_read_after_a_refusal(rt: HostRuntime) {
+fn nothing_is_read_after_a_failed_allocation(rt: HostRuntime) {
     let mut buffer = [0u8; 32];
-    // The answers are kept in the memory of the first.
+    // The first allocation is for the answers.
     let heap = Refusing::new(rt.alloc(), 1, u64::MAX);
     let mut reader = Reading::new(by_line(INPUT));
     let mut writer = Writing::new(MemoryWriter::open(rt.alloc()));
     let result = run_in(&heap, &mut buffer, &mut reader, &mut writer, Kind::Byte);
-    let refused = Err(RunError::Memory);
-    expect(&rt, (result, reader, writer), refused, PARTS[0], 0);
+    let failed = Err(RunError::Memory);
+    expect(&rt, (result, reader, writer), failed, PARTS[0], 0);
 }

@@ -1,11 +1,11 @@
-//! Lines and their answers.
+//! Test vectors: lines and their answers.
 use super::endings::words;
 use super::*;
 use std::process::Abort;
 use std::str;
 use std::test::Fail;
 
-/// Each input gives its output.
+/// Asserts that each input gives its output.
 fn give(rt: &impl Abort, alloc: Global, kind: Kind, rows: &[(&[u8], &str)]) -> Result<(), Fail> {
     for (input, output) in rows {
         let report = report_of(alloc, input, kind)?;
@@ -67,9 +67,9 @@ fn bounds(rt: HostRuntime) -> Result<(), Fail> {
     give(&rt, rt.alloc(), Kind::Byte, ROWS)
 }
 
-/// What the first version refused, and the current one accepts.
+/// Sizes that v1 rejects and the current version accepts.
 #[test]
-fn past_the_bounds_of_the_first_version(rt: HostRuntime) -> Result<(), Fail> {
+fn sizes_past_the_bounds_of_v1(rt: HostRuntime) -> Result<(), Fail> {
     const ROWS: &[(&[u8], &str)] = &[
         (
             b"79228162514264337593543950336\n1000 YB\n",
@@ -92,7 +92,7 @@ fn past_the_bounds_of_the_first_version(rt: HostRuntime) -> Result<(), Fail> {
 }
 
 #[test]
-fn faults(rt: HostRuntime) -> Result<(), Fail> {
+fn parse_errors(rt: HostRuntime) -> Result<(), Fail> {
     const ROWS: &[(&[u8], &str)] = &[
         (
             b"   \n1\tKB\nx\n-1\n",

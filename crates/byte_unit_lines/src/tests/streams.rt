@@ -1,28 +1,28 @@
-//! A reader and a writer over memory, which go in steps and change their ways after some calls.
+//! A reader and a writer in memory, which go in steps and change their behavior after some calls.
 use std::alloc::Global;
 use std::cell::Cell;
 use std::io::{self, Error, ErrorKind, Read, Write};
 
-/// What a writer does that fails.
+/// The two ways in which a writer fails.
 pub const FAILING: &[Then] = &[Then::Fail, Then::TakeNothing];
 
-/// What a stream does from a call on.
+/// What a stream does after a number of calls.
 #[derive(Clone, Copy)]
 pub enum Then {
     /// It fails.
     Fail,
-    /// It takes nothing. A reader says that it is at its end.
+    /// It accepts nothing, or as a reader is at its end.
     TakeNothing,
-    /// It goes byte by byte.
+    /// It transfers one byte per call.
     ByteByByte,
-    /// It goes on with all but one byte, where there are two.
+    /// It transfers all bytes but one, and at least one.
     AllButOne,
-    /// It goes on with all.
+    /// It transfers all bytes.
     All,
 }
 
 impl Then {
-    /// How many of so many bytes go at a call.
+    /// Returns the number of bytes that a call transfers, of those that are asked for.
     fn goes(self, asked: usize) -> io::Result<usize> {
         match self {
             Then::Fail => Err(Error::from(ErrorKind::Other)),
@@ -34,7 +34,7 @@ impl Then {
     }
 }
 
-/// Gives at most `step` bytes a call, for some calls.
+/// A reader that gives at most `step` bytes per call for a number of calls, and then does what `then` says.
 #[derive(Drop)]
 pub struct MemoryReader<'a> {
     pub rest: &'a [u8],
@@ -44,7 +44,7 @@ pub struct MemoryReader<'a> {
 }
 
 impl<'a> MemoryReader<'a> {
-    /// A reader of these bytes.
+    /// Creates a reader of these bytes.
     pub fn new(rest: &'a [u8], step: usize, calls: usize, then: Then) -> MemoryReader<'a> {
         MemoryReader {
             rest,
@@ -54,6 +54,7 @@ impl<'a> MemoryReader<'a> {
         }
     }
 
+    /// Returns the number of bytes that the next read gives.
     fn gives(&mut self, asked: usize) -> io::Result<usize> {
         if self.calls > 0 {
             self.calls -= 1;
@@ -74,7 +75,7 @@ impl<'a> Read for MemoryReader<'a> {
     }
 }
 
-/// Takes at most `step` bytes a call, for some calls.
+/// A writer that accepts at most `step` bytes per call for a number of calls, and then does what `then` says.
 #[derive(Drop)]
 pub struct MemoryWriter {
     pub taken: Vec<u8>,
@@ -84,7 +85,7 @@ pub struct MemoryWriter {
 }
 
 impl MemoryWriter {
-    /// A writer that took nothing yet.
+    /// Creates a writer that holds no bytes.
     pub fn new(alloc: Global, step: usize, calls: usize, then: Then) -> MemoryWriter {
         MemoryWriter {
             taken: Vec::new(alloc),
@@ -94,11 +95,12 @@ impl MemoryWriter {
         }
     }
 
-    /// A writer that took nothing yet, and takes all that it is given.
+    /// Creates a writer that holds no bytes and accepts all that it is given.
     pub fn open(alloc: Global) -> MemoryWriter {
         MemoryWriter::new(alloc, 0, 0, Then::All)
     }
 
+    /// Returns the number of bytes that the next write accepts.
     fn takes(&mut self, asked: usize) -> io::Result<usize> {
         if self.calls > 0 {
             self.calls -= 1;
@@ -107,6 +109,7 @@ impl MemoryWriter {
         self.then.goes(asked)
     }
 
+    /// Returns the bytes that were written.
     pub fn into_taken(self) -> Vec<u8> {
         let MemoryWriter {
             taken,
@@ -130,7 +133,7 @@ impl Write for MemoryWriter {
     }
 }
 
-/// A reader that notes at each call how many bytes a writer has taken by then.
+/// A reader that records at each call how many bytes a writer has accepted so far.
 #[derive(Drop)]
 pub struct NotingReader<'a> {
     pub inner: MemoryReader<'a>,
@@ -145,7 +148,7 @@ impl<'a> Read for NotingReader<'a> {
     }
 }
 
-/// A writer that counts the bytes that it takes.
+/// A writer that counts the bytes that it accepts.
 #[derive(Drop)]
 pub struct CountingWriter<'a> {
     pub inner: MemoryWriter,

@@ -1,6 +1,6 @@
-use Rattle.byte_unit_lines.proofs.OneAnswer.{one_report}
+use Rattle.byte_unit_lines.proofs.OneAnswer.{input_has_one_report}
 use Rattle.byte_unit_lines.proofs.laws.each_input_has_one_report.Goals as goal
 
 pub returns : goal.returns
 returns c = λ kind.
-    one_report c.texts_are_accepted_or_refused.ensures c.size_has_one_form.ensures kind c.each_line_has_an_answer.ensures
+    input_has_one_report c.texts_are_accepted_or_refused.ensures c.size_has_one_form.ensures kind c.each_line_has_an_answer.ensures

@@ -1,5 +1,5 @@
-use Rattle.byte_unit_lines.proofs.OneAnswer.{line_answer}
+use Rattle.byte_unit_lines.proofs.OneAnswer.{line_has_answer}
 use Rattle.byte_unit_lines.proofs.laws.each_line_has_an_answer.Goals as goal
 
 pub returns : goal.returns
-returns c = line_answer c.texts_are_accepted_or_refused.ensures c.size_has_one_form.ensures
+returns c = line_has_answer c.texts_are_accepted_or_refused.ensures c.size_has_one_form.ensures

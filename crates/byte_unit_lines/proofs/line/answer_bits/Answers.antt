@@ -1,7 +1,8 @@
 use Rattle.std.proofs.Common.{refl, List, ℕ, [], ◌∷◌, ◌++◌, codes}
 use Rattle.byte_unit.specs.Errors.{size_fault}
 use Rattle.byte_unit.specs.declared.Kind.TheVariants.{Bit}
-use Rattle.byte_unit_lines.proofs.Sayings.{answer_put, answer_added, size_said, fault_said, no_text_said}
+use Rattle.byte_unit_lines.proofs.Messages.{HasParts-put, AddsAnswer-if_ok, answer_with_size, answer_with_error}
+use Rattle.byte_unit_lines.proofs.Messages.{answer_not_text}
 use Rattle.byte_unit_lines.proofs.line.answer_bits.Goals as goal
 
 pub returns-in-Some-Ok-clause-ok : goal.returns-in-Some-Ok-clause-ok
@@ -10,9 +11,9 @@ returns-in-Some-Ok-clause-ok g c =
     let digits = c.write_text-digits.ensures in
     let form = c.write_text.ensures in
     let sign = c.copy_from_slice.ensures.after in
-    let said = answer_put Bit c.in-Some-Ok.size digits.written (digits.narrow refl) sign form.written (form.narrow refl) refl in
-    answer_added Bit c.args.line.now c.extend_from_slice.result c.args.out.now.items _ c.extend_from_slice.new.self.items
-    (size_said c.args.line.now reading.0 reading.1.found said) c.extend_from_slice.ensures.items
+    let said = HasParts-put Bit c.in-Some-Ok.size digits.written (digits.narrow refl) sign form.written (form.narrow refl) refl in
+    AddsAnswer-if_ok Bit c.args.line.now c.extend_from_slice.result c.args.out.now.items _ c.extend_from_slice.new.self.items
+    (answer_with_size c.args.line.now reading.0 reading.1.found said) c.extend_from_slice.ensures.items
 
 pub returns-in-Some-Err-clause-ok : goal.returns-in-Some-Err-clause-ok
 returns-in-Some-Err-clause-ok g c =
@@ -20,12 +21,12 @@ returns-in-Some-Err-clause-ok g c =
     let fault = size_fault c.in-Some-Err.error in
     let words = c.fault_line_of.result.now in
     let added = c.extend_from_slice-in-Some-Err in
-    answer_added Bit c.args.line.now added.result c.args.out.now.items words added.new.self.items
-    (fault_said Bit c.args.line.now fault words reading.0 reading.1.fault c.fault_line_of.ensures) added.ensures.items
+    AddsAnswer-if_ok Bit c.args.line.now added.result c.args.out.now.items words added.new.self.items
+    (answer_with_error Bit c.args.line.now fault words reading.0 reading.1.fault c.fault_line_of.ensures) added.ensures.items
 
 pub returns-in-None-clause-ok : goal.returns-in-None-clause-ok
 returns-in-None-clause-ok g c =
     let words : List ℕ = codes "not text" ++ 10 ∷ [] in
     let added = c.extend_from_slice-in-None in
-    answer_added Bit c.args.line.now added.result c.args.out.now.items words added.new.self.items
-    (no_text_said Bit c.args.line.now words c.in-None.ensures refl) added.ensures.items
+    AddsAnswer-if_ok Bit c.args.line.now added.result c.args.out.now.items words added.new.self.items
+    (answer_not_text Bit c.args.line.now words c.in-None.ensures refl) added.ensures.items

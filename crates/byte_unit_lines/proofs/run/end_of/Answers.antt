@@ -2,11 +2,12 @@ use Rattle.std.proofs.Common.{◌+◌, ◌^◌, ◌<◌, ◌≤◌, eqb, not, �
 use Rattle.std.proofs.Common.{refl, ap, sym, subst, eqb-true, ◌∙◌, arith}
 use Rattle.std.proofs.lemmas.List.{length-map}
 use Rattle.std.proofs.lemmas.Nat.Bits.{bit_at-trailing_zeros}
-use Rattle.std.proofs.lemmas.Simd.{length-chunk, bitmask_splat, mask_l-lt, none_from_empty_mask, trailing_mask_l, run_in_chunk_fails, run_in_chunk_stops}
+use Rattle.std.proofs.lemmas.Simd.{length-chunk, bitmask_splat, mask_l-lt, none_from_empty_mask, trailing_mask_l}
+use Rattle.std.proofs.lemmas.Simd.{run_in_chunk_fails, run_in_chunk_stops}
 use Rattle.std.specs.List.{prefix_len}
 use lib.Count.{count_trailing_zeros}
 use lib.Lanes.{chunk, mask_l}
-use Rattle.byte_unit_lines.proofs.Feeding.{unbroken_to_other, unbroken_on, EndsAt}
+use Rattle.byte_unit_lines.proofs.Feeding.{IsUnbroken-other_byte, IsUnbroken-other_bytes, EndsAt}
 use Rattle.byte_unit_lines.proofs.run.end_of.Goals as goal
 
 abbrev is_end : ℕ → Bool
@@ -19,7 +20,7 @@ loop-i-preserved c =
     let vector = chunk start 16 bytes in
     let mask = bitmask_splat w8 eqb vector 16 10 (length-chunk start 16 bytes (omega arith)) (omega arith) in
     let none = none_from_empty_mask is_end bytes start 16 0 (omega arith) (sym mask ∙ c.if-ends-ne0.false) in
-    (unbroken_on bytes start 16 (omega arith) c.loop-i.invariant.0 none, omega arith)
+    (IsUnbroken-other_bytes bytes start 16 (omega arith) c.loop-i.invariant.0 none, omega arith)
 
 pub returns-then-ends-ne0-clause-some : goal.returns-then-ends-ne0-clause-some
 returns-then-ends-ne0-clause-some c =
@@ -40,7 +41,7 @@ returns-then-ends-ne0-clause-some c =
     subst (EndsAt bytes) (ap (λ n. start + n) (sym counted)) (
       omega (arith, within, room),
       eqb-true (get_or bytes (start + count) 0) 10 hit,
-      unbroken_on bytes start count (omega (arith, within, room)) c.loop-i.invariant.0 none,
+      IsUnbroken-other_bytes bytes start count (omega (arith, within, room)) c.loop-i.invariant.0 none,
     )
 
 pub loop-i-2-preserved : goal.loop-i-2-preserved
@@ -48,4 +49,4 @@ loop-i-2-preserved c =
     let so_far = c.loop-i-2.invariant in
     let place = c.loop-i-2.i in
     let fits : place < length c.args.bytes.now = omega arith in
-    (unbroken_to_other c.args.bytes.now place fits so_far.0 c.if-bytes-i-eq-LINE_END.false, omega (arith, fits))
+    (IsUnbroken-other_byte c.args.bytes.now place fits so_far.0 c.if-bytes-i-eq-LINE_END.false, omega (arith, fits))

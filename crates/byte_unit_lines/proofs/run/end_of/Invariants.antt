@@ -2,7 +2,7 @@ use Rattle.std.proofs.Common.{length, take, ◌-◌, ◌≤◌}
 use Rattle.byte_unit_lines.specs.Progress.{IsUnbroken}
 use Rattle.byte_unit_lines.proofs.run.end_of.Given as goal
 
--- no line ends before the place
+-- no line ends before the index
 abbrev pub invariant-loop-i : goal.invariant-loop-i
 invariant-loop-i l = IsUnbroken (take l.i l.bytes) × (l.i ≤ length l.bytes)
 

@@ -3,9 +3,11 @@ use Rattle.std.proofs.KnownBytes.{Consumes-kept}
 use Rattle.byte_unit_lines.specs.Answer.{IsAnswer}
 use Rattle.byte_unit_lines.specs.Streams.{reader_of, writer_of}
 use Rattle.byte_unit_lines.specs.declared.run.RunError.TheVariants.{Memory}
-use Rattle.byte_unit_lines.proofs.Runs.{Course, IsServed, course_of, read_on, read_on_nothing, wrote_on, served_on, answers_finished}
-use Rattle.byte_unit_lines.proofs.Runs.{nothing_begun, something_begun, written_in_piece, written_failed}
-use Rattle.byte_unit_lines.proofs.Runs.{report_ended, answered_first, IsWrittenBy, written_last}
+use Rattle.byte_unit_lines.proofs.Runs.{Course, IsServed, course_of, Consumes-piece, Consumes-at_end, Appends-more}
+use Rattle.byte_unit_lines.proofs.Runs.{IsServed-piece, finished_lines_answered}
+use Rattle.byte_unit_lines.proofs.Runs.{empty_from_length, nonempty_from_length, IsWritten-piece, IsWritten-error}
+use Rattle.byte_unit_lines.proofs.Runs.{report_without_last_line, first_lines_answered, IsWrittenBy}
+use Rattle.byte_unit_lines.proofs.Runs.{IsWritten-last_line}
 use Rattle.byte_unit_lines.proofs.run.run_in.Goals as goal
 
 pub returns-in-None-clause-run : goal.returns-in-None-clause-run
@@ -13,13 +15,13 @@ returns-in-None-clause-run g c =
     let left = g.R.Read.remaining (reader_of c.args.reader.now) in
     let between = g.R.Read.remaining (reader_of c.reads.reader) in
     let rest = g.R.Read.remaining (reader_of c.read.new.self) in
-    let so_far = c.reads.invariant in record {
-      read = so_far.read;
-      written = so_far.written;
-      gave = Consumes-kept left between rest so_far.read so_far.gave c.in-None.ensures.none;
-      took = so_far.took;
-      is_written = answers_finished c.args.kind (course_of so_far) so_far.served;
-    }
+    let so_far = c.reads.invariant in (
+      so_far.read,
+      so_far.written,
+      Consumes-kept left between rest so_far.read so_far.gave c.in-None.ensures.none,
+      so_far.took,
+      finished_lines_answered c.args.kind (course_of so_far) so_far.served,
+    )
 
 pub reads-preserved : goal.reads-preserved
 reads-preserved g c =
@@ -31,9 +33,9 @@ reads-preserved g c =
     let answers = fed.written in record {
       read = so_far.read ++ piece;
       written = so_far.written ++ answers.0;
-      gave = read_on so_far rest piece c.in-Some.ensures.came;
-      took = wrote_on so_far holds answers.0 answers.1;
-      served = served_on c.args.kind (course_of so_far) so_far.served piece answers.0 c.answer_piece.new.line.items answers.2 fed.line;
+      gave = Consumes-piece so_far rest piece c.in-Some.ensures.came;
+      took = Appends-more so_far holds answers.0 answers.1;
+      served = IsServed-piece c.args.kind (course_of so_far) so_far.served piece answers.0 c.answer_piece.new.line.items answers.2 fed.line;
       none_wait = fed.waiting;
     }
 
@@ -49,13 +51,13 @@ returns-in_err-answer_piece-in-Some-clause-run g c =
     let answers = failed.ensures.written in
     let read = so_far.read ++ piece in
     let written = so_far.written ++ answers.0 in
-    let at = written_in_piece each c.args.kind (course_of so_far) so_far.served piece error answers.0 answers.2 in record {
-      read = read;
-      written = written;
-      gave = read_on so_far rest piece c.in-Some.ensures.came;
-      took = wrote_on so_far holds answers.0 answers.1;
-      is_written = written_failed c.args.kind read written c.from_residual.result error c.from_residual.ensures.1 at;
-    }
+    let at = IsWritten-piece each c.args.kind (course_of so_far) so_far.served piece error answers.0 answers.2 in (
+      read,
+      written,
+      Consumes-piece so_far rest piece c.in-Some.ensures.came,
+      Appends-more so_far holds answers.0 answers.1,
+      IsWritten-error c.args.kind read written c.from_residual.result error c.from_residual.ensures.1 at,
+    )
 
 pub returns-then-is_empty-clause-run : goal.returns-then-is_empty-clause-run
 returns-then-is_empty-clause-run g c =
@@ -63,13 +65,13 @@ returns-then-is_empty-clause-run g c =
     let so_far = c.reads.invariant in
     let end = c.in-Some-eq0 in
     let none = ap (λ count. take count c.read.new.buf) end.field-0-test in
-    let empty = nothing_begun c.reads.line.items (vec_len c.reads.line) c.reads.line.ok.0 c.if-is_empty.ensures in record {
-      read = so_far.read;
-      written = so_far.written;
-      gave = read_on_nothing so_far rest (take end.field-0 c.read.new.buf) end.ensures.came none;
-      took = so_far.took;
-      is_written = report_ended c.args.kind (course_of so_far) so_far.served empty;
-    }
+    let empty = empty_from_length c.reads.line.items (vec_len c.reads.line) c.reads.line.ok.0 c.if-is_empty.ensures in (
+      so_far.read,
+      so_far.written,
+      Consumes-at_end so_far rest (take end.field-0 c.read.new.buf) end.ensures.came none,
+      so_far.took,
+      report_without_last_line c.args.kind (course_of so_far) so_far.served empty,
+    )
 
 pub returns-in_err-add_answer-clause-run : goal.returns-in_err-add_answer-clause-run
 returns-in_err-add_answer-clause-run g c =
@@ -78,13 +80,13 @@ returns-in_err-add_answer-clause-run g c =
     let end = c.in-Some-eq0 in
     let none = ap (λ count. take count c.read.new.buf) end.field-0-test in
     let error = c.from_residual-in_err-add_answer in
-    let at = answered_first c.args.kind (course_of so_far) so_far.served in record {
-      read = so_far.read;
-      written = so_far.written;
-      gave = read_on_nothing so_far rest (take end.field-0 c.read.new.buf) end.ensures.came none;
-      took = so_far.took;
-      is_written = written_failed c.args.kind so_far.read so_far.written error.result Memory error.ensures.1 at;
-    }
+    let at = first_lines_answered c.args.kind (course_of so_far) so_far.served in (
+      so_far.read,
+      so_far.written,
+      Consumes-at_end so_far rest (take end.field-0 c.read.new.buf) end.ensures.came none,
+      so_far.took,
+      IsWritten-error c.args.kind so_far.read so_far.written error.result Memory error.ensures.1 at,
+    )
 
 pub returns-clause-run : goal.returns-clause-run
 returns-clause-run g c =
@@ -95,7 +97,7 @@ returns-clause-run g c =
     let end = c.in-Some-eq0 in
     let none = ap (λ count. take count c.read.new.buf) end.field-0-test in
     let line = c.deref.result.now in
-    let begun = something_begun c.reads.line.items (vec_len c.reads.line) c.reads.line.ok.0 c.if-is_empty.ensures in
+    let begun = nonempty_from_length c.reads.line.items (vec_len c.reads.line) c.reads.line.ok.0 c.if-is_empty.ensures in
     let some : line ≢ [] = λ empty. begun (sym c.deref.ensures.value ∙ empty) in
     let course : Course = record { read = so_far.read; written = so_far.written; line = line } in
     let served : IsServed c.args.kind course =
@@ -108,10 +110,10 @@ returns-clause-run g c =
     let write = c.write_whole.ensures in
     let by : IsWrittenBy held holds bytes c.write_whole.result =
     record { whole = write.ok; part = write.err; error = write.write } in
-    let answer = written_last c.args.kind course served some bytes is_answer c.write_whole.result by in record {
-      read = so_far.read;
-      written = so_far.written ++ answer.0;
-      gave = read_on_nothing so_far rest (take end.field-0 c.read.new.buf) end.ensures.came none;
-      took = wrote_on so_far holds answer.0 answer.1;
-      is_written = answer.2;
-    }
+    let answer = IsWritten-last_line c.args.kind course served some bytes is_answer c.write_whole.result by in (
+      so_far.read,
+      so_far.written ++ answer.0,
+      Consumes-at_end so_far rest (take end.field-0 c.read.new.buf) end.ensures.came none,
+      Appends-more so_far holds answer.0 answer.1,
+      answer.2,
+    )

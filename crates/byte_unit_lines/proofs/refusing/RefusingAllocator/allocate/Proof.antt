@@ -1,5 +1,5 @@
--- A request is counted, and then refused or passed on to the allocator behind. Assumes `Logic`.
---     Z       the allocator behind, with what the statement assumes of it
+-- An allocation is counted, and then fails or is passed on to the inner allocator. Assumes `Logic`.
+--     Z       the inner allocator, with what the statement assumes of it
 --     κ, q    the lifetime of the `&` to the allocator, and the share of its token.  κ' is one that outlives it
 --     τ       the type that the block is for
 use Rattle.std.proofs.Common.{◌≡◌, ℕ, ◌+◌, Bool, true, false, List, [], ◌∷◌, Ok, Err, refl, ap, w64}
@@ -57,7 +57,7 @@ use Rattle.byte_unit_lines.proofs.refusing.RefusingAllocator.allocate.Code as co
 abbrev word : Slot 2
 word = plain (λ _. usize)
 
--- what a `&` to the requests holds
+-- what a `&` to the counter owns
 abbrev seen_requests : Lft → ℕ × ℕ → requests.the_row.Denot → Fml
 seen_requests κ p r = hidden_shr requests.the_row κ r p.0 p.1
 
@@ -77,7 +77,7 @@ module _ (Z : Al) where
   abbrev stayed : Stays ended.signature.params ended.kept
   stayed = (stay_dropped self yes, (stay_dropped word yes, (stay_dropped word yes, tt)))
 
-  -- where the fields of an allocator at p lie
+  -- the addresses of the fields of an allocator at p
   abbrev inner_at : ℕ × ℕ → ℕ × ℕ
   inner_at p = (p.0, p.1 + up (align (α Z)) 0)
 
@@ -93,7 +93,7 @@ module _ {M : Type 1} (𝓤 : Ura M) (𝓛 : Logic 𝓤) (𝓜 : Model 𝓤 𝓛
   abbrev Grants : Contract 𝓤
   Grants = triple_of 𝓛 grants.signature (grants.spec 𝓛 𝓜.mem 𝓡.returns)
 
-  -- the call of `grants`: what it is handed, and what its caller has of it, which is a `bool` of which nothing is known
+  -- the call of `grants`: its arguments, and its result, which is a `bool` of which nothing is known
   module _ (κ : Lft) (q : Share) (p : ℕ × ℕ) (r : requests.the_row.Denot) where
     abbrev asking : Grants.Ghost
     asking = (((κ, tt), (q, tt), tt, (record { ref_ptr = p; now = r }, tt), (vptr p.0 p.1 ∷ [], tt)), tt)
@@ -153,7 +153,7 @@ module _ {M : Type 1} (𝓤 : Ura M) (𝓛 : Logic 𝓤) (𝓜 : Model 𝓤 𝓛
         split ! $ split ! $ move ! (1 ∷ []) $ split ! $ move ! (3 ∷ []) $ fsplit ! $ fsplit ! $ move ! (1 ∷ []) $
         use1 𝓛 (‵ (seen Z κ at_inner h.inner) ⊛ ‵ (seen_requests κ at_requests h.requests)) (fields κ a.0.ref_ptr h) $ split ! $
         keep ! (1 ∷ 6 ∷ 0 ∷ 4 ∷ []) $
-        -- [the `&` to the requests; its token; the `&` to the allocator behind; the other token; the locals]
+        -- [the `&` to the counter; its token; the `&` to the inner allocator; the other token; the locals]
         enter ! 𝓣.C 𝓣.Λ (here Z) _ _ $
         alloc_all ! (λ l. pass_all ! refl ((tt, tt), ((tt, record { fits = are.1.0.1 }), ((tt, record { fits = are.1.1.0.1 }), tt))) $
         sets ! (addr ! (through ! refl (fld ! refl (stop !)))) refl (tt, tt) $

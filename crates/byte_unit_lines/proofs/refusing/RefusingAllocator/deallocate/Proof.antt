@@ -1,4 +1,4 @@
--- A block goes back to the allocator behind. Assumes `Logic`. The letters are those of the proof of `allocate`.
+-- The block is deallocated by the inner allocator. Assumes `Logic`. The letters are those of the proof of `allocate`.
 use Rattle.std.proofs.Common.{◌≡◌, ◌+◌, ℕ, [], ◌∷◌, refl, w64}
 use Rattle.std.proofs.alloc.Calls.{Al, α, seen, token, Gives, at_gives, Gives-goes, Gives-Gives}
 use Rattle.std.proofs.raw_atomic.Walks.{leaves, proved}
@@ -66,7 +66,7 @@ module _ (Z : Al) where
   abbrev stayed : Stays ended.signature.params ended.kept
   stayed = (stay_dropped self yes, (stay_dropped pointer yes, (stay_dropped word yes, (stay_dropped word yes, tt))))
 
-  -- where the allocator behind lies in one at p
+  -- the address of the inner allocator in a `Refusing` at p
   abbrev inner_at : ℕ × ℕ → ℕ × ℕ
   inner_at p = (p.0, p.1 + up (align (α Z)) 0)
 
@@ -128,7 +128,7 @@ module _ {M : Type 1} (𝓤 : Ura M) (𝓛 : Logic 𝓤) (𝓜 : Model 𝓤 𝓛
       in_a_block ! a.1.0 (λ x. owned_block (token Z h.inner) τ x) (fst∗ 𝓤 (never 𝓤) (sem 𝓛 (token Z h.inner τ null_ptr))) (λ b o at.
       regoal !
       (λ x. prop (WpFn 𝓤 H 𝓣.C 𝓣.Λ (here Z) (vptr p.0 p.1 ∷ ptr_val x ∷ vint w64 n ∷ vint w64 al ∷ []) (Walk.post (y x)))) at refl $
-      -- [the block; the `&` to the allocator behind; its token; the other token; the locals]
+      -- [the block; the `&` to the inner allocator; its token; the other token; the locals]
       let gives : Giving.Ghost = at_gives Z 𝓛 𝓜.mem 𝓡.returns κ q at_inner h.inner b o n al τ in
       enter ! 𝓣.C 𝓣.Λ (here Z) _ _ $
       alloc_all !
