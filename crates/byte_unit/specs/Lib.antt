@@ -11,14 +11,14 @@ pub use Rattle.byte_unit_math.specs.NumberLaws
 pub use Rattle.byte_unit_math.specs.Powers
 pub use Rattle.byte_unit_math.specs.Steps
 pub use Rattle.byte_unit_base.specs.Shape
-pub use Rattle.byte_unit_base.specs.Edition
+pub use Rattle.byte_unit_base.specs.Version
 pub use Rattle.byte_unit_base.specs.Units
 pub use Rattle.byte_unit_base.specs.Spelling
 pub use Rattle.byte_unit_base.specs.Number
 pub use Rattle.byte_unit_base.specs.SizeText
-pub use Rattle.byte_unit_base.specs.Front
+pub use Rattle.byte_unit_base.specs.ViablePrefix
 pub use Rattle.byte_unit_base.specs.Fault
-pub use Rattle.byte_unit_base.specs.UnitRefusal
+pub use Rattle.byte_unit_base.specs.UnitErrorView
 pub use Rattle.byte_unit_base.specs.FaultText
 pub use Rattle.byte_unit_base.specs.Errors
 pub use Rattle.byte_unit_base.specs.Readings
@@ -42,7 +42,7 @@ pub use Rattle.byte_unit_format.specs.Written
 pub use Rattle.byte_unit_base.specs.ReaderLaws
 pub use Rattle.byte_unit_base.specs.ChoiceLaws
 pub use Rattle.byte_unit_base.specs.SizeLaws
-pub use Rattle.byte_unit_base.specs.EditionLaws
+pub use Rattle.byte_unit_base.specs.Versions
 pub use Rattle.byte_unit_format.specs.FormLaws
 pub use Rattle.byte_unit_format.specs.VersionLaws
 pub mod UnitJson

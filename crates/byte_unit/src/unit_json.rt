@@ -4,11 +4,10 @@ ghost use Rattle.std.specs.Prelude.{◌≡◌, ⊤, IfOk, true, false};
 ghost use Rattle.serde_json.specs.Data.{string};
 ghost use Rattle.serde_json.specs.Find.{as_str};
 ghost use Rattle.serde_json.specs.View.{view};
-ghost use Rattle.byte_unit_base.specs.Edition.{current, name};
+ghost use Rattle.byte_unit_base.specs.Version.{unit_name};
 ghost use Rattle.byte_unit_base.specs.JsonReading.{ReadsString};
 ghost use Rattle.byte_unit_base.specs.Readings.{IsUnitReading};
-ghost use Rattle.byte_unit_base.specs.Spelling.{reading};
-ghost use Rattle.byte_unit_base.specs.Units.{shape_of};
+ghost use Rattle.byte_unit_base.specs.Spelling.{flags_of};
 ghost use Rattle.byte_unit.specs.UnitJson.{error_text, styled_error_text, unit_errors};
 
 use byte_unit_base::{Unit, UnitParseError};
@@ -72,7 +71,7 @@ impl Error for JsonUnitError {}
 /// assert_eq!(rt; unit_from_json(&value)?, Unit::Kbit);
 /// ```
 pub fn unit_to_json(alloc: Global, unit: Unit) -> Result<Value, AllocError>
-    ensures { IfOk result (λ value. view value ≡ string (name current (shape_of unit))) }
+    ensures { IfOk result (λ value. view value ≡ string (unit_name unit)) }
 {
     Ok(Value::String(String::from_str(alloc, unit.as_str())?))
 }
@@ -97,7 +96,8 @@ pub fn unit_to_json(alloc: Global, unit: Unit) -> Result<Value, AllocError>
 /// assert!(rt; matches!(unit_from_json(&Value::Null), Err(JsonUnitError::NotString)));
 /// ```
 pub fn unit_from_json(value: &Value) -> Result<Unit, JsonUnitError>
-    ensures { ReadsString unit_errors (IsUnitReading (reading false true)) (as_str (view value.now)) result }
+    ensures { ReadsString unit_errors (IsUnitReading (flags_of false true))
+        (as_str (view value.now)) result }
 {
     let text = value.as_str().ok_or(JsonUnitError::NotString)?;
     text.parse().map_err(JsonUnitError::Unit)

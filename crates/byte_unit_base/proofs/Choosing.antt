@@ -4,13 +4,13 @@ use Rattle.std.proofs.Common.{inr, refl}
 use Rattle.std.proofs.Common.{subst, sym, ◌∙◌}
 use Rattle.std.proofs.Math.Nat.{one-le-pow, one-le-mul}
 use Rattle.std.specs.Option.{IsSome}
-use Rattle.byte_unit_math.specs.Bounds.{one, unit_limit}
+use Rattle.byte_unit_math.specs.Bounds.{scale, unit_limit}
 use Rattle.byte_unit_math.specs.Exact.{IsExactAt}
 use Rattle.byte_unit_base.specs.Shape.{Shape, bits, twos, fives}
-use Rattle.byte_unit_base.specs.Edition.{current}
+use Rattle.byte_unit_base.specs.Version.{current}
 use Rattle.byte_unit_base.specs.Family.{InFamily}
-use Rattle.byte_unit_base.specs.Multiples.{falling_from, known_prefixes}
-use Rattle.byte_unit_base.specs.Choice.{IsRecovered}
+use Rattle.byte_unit_base.specs.Multiples.{units_of_prefixes, prefix_count}
+use Rattle.byte_unit_base.specs.Choice.{IsRecoveredIn}
 use Rattle.byte_unit_base.specs.Kinds.{bits_in, own_unit}
 use Rattle.byte_unit_base.specs.declared.kind.Kind.{Kind}
 use Rattle.byte_unit_base.specs.declared.kind.Kind.TheVariants.{Byte, Bit}
@@ -24,9 +24,9 @@ some_bits unit = one-le-mul (one-le-pow (twos unit) 2 (omega arith)) (one-le-pow
 -- a unit of a unit set has at most as many bits as the limit of a unit
 pub small_bits : (family : Family) (unit : Shape) → InFamily current family unit → bits unit ≤ unit_limit
 small_bits family unit h =
-    let units = falling_from family known_prefixes in
-    let is_in = in_falling family known_prefixes unit h.kind h.prefix.some h.prefix.known in
-    le_of_falls units unit_limit unit (current_falls family known_prefixes (omega arith)) is_in
+    let units = units_of_prefixes family prefix_count in
+    let is_in = in_falling family prefix_count unit h.kind h.prefix.some h.prefix.known in
+    le_of_falls units unit_limit unit (current_falls family prefix_count (omega arith)) is_in
 
 -- the own unit of a kind has as many bits as a size of 1 of that kind
 pub own_bits : (kind : Kind) → bits (own_unit kind) ≡ bits_in kind
@@ -35,7 +35,7 @@ own_bits Bit = refl
 
 -- a size is a whole number of the unit that is its exact unit at a precision of 0
 pub exact_where_recovered : (kind : Kind) (both : Bool) (size : ℕ) (unit : Shape)
-    → IsRecovered current kind both size 0 unit
+    → IsRecoveredIn current kind both size 0 unit
     → IsExactAt (size * bits_in kind) (bits unit) 0
 exact_where_recovered kind both size unit (inl h) = h.has.exact
 exact_where_recovered kind both size unit (inr h) =
@@ -49,7 +49,7 @@ some_if_holds None none h = absurd (none h)
 some_if_holds (Some x) none h = refl
 
 -- a size, scaled by 10^28, is the number of its own unit in it
-pub own_number : (kind : Kind) (size number : ℕ) (unit : Shape) → number ≡ size * one → unit ≡ own_unit kind
-    → number * bits unit ≡ size * bits_in kind * one
+pub own_number : (kind : Kind) (size number : ℕ) (unit : Shape) → number ≡ size * scale → unit ≡ own_unit kind
+    → number * bits unit ≡ size * bits_in kind * scale
 own_number kind size number unit value own =
-    ap (λ n. n * bits unit) value ∙ (ap (λ n. size * one * n) (ap bits own ∙ own_bits kind) ∙ omega arith)
+    ap (λ n. n * bits unit) value ∙ (ap (λ n. size * scale * n) (ap bits own ∙ own_bits kind) ∙ omega arith)

@@ -7,7 +7,7 @@ use Rattle.std.proofs.lemmas.Bool.{and_parts, cases_lt, leb-true}
 use Rattle.byte_unit_math.specs.Bounds.{unit_limit}
 use Rattle.byte_unit_base.specs.Shape.{Shape, shape, bits}
 use Rattle.byte_unit_base.specs.Family.{HasKind}
-use Rattle.byte_unit_base.specs.Multiples.{of_prefix, falling_from, known_prefixes}
+use Rattle.byte_unit_base.specs.Multiples.{units_of_prefix, units_of_prefixes, prefix_count}
 use Rattle.byte_unit_base.specs.declared.unit.family.Family.{Family}
 use Rattle.byte_unit_base.specs.declared.unit.family.Family.TheVariants.{All, Bytes, Bits}
 use Rattle.byte_unit_base.specs.Choice.{IsLargest, NoneHas}
@@ -35,7 +35,7 @@ IsIn-right [] ys unit h = h
 IsIn-right (x ∷ xs) ys unit h = inr (IsIn-right xs ys unit h)
 
 in_prefix : (family : Family) (power : ℕ) (binary bit : Bool) → HasKind family bit
-    → IsIn (shape power binary bit) (of_prefix family power)
+    → IsIn (shape power binary bit) (units_of_prefix family power)
 in_prefix All power true false k = inl refl
 in_prefix All power false false k = inr (inl refl)
 in_prefix All power true true k = inr (inr (inl refl))
@@ -51,16 +51,16 @@ in_prefix Bits power false false k = absurd (let b : ⊥ = cc in b)
 
 -- a unit of the set with one of the first n prefix letters is in their list
 pub in_falling : (family : Family) (n : ℕ) (unit : Shape) → HasKind family unit.bit → 1 ≤ unit.power → unit.power ≤ n
-    → IsIn unit (falling_from family n)
+    → IsIn unit (units_of_prefixes family n)
 in_falling family zero unit kind some known = absurd (omega (arith, some, known))
 in_falling family (suc n) unit kind some known =
-    let here = of_prefix family (suc n) in
-    let later = falling_from family n in
+    let here = units_of_prefix family (suc n) in
+    let later = units_of_prefixes family n in
     ⊎_elim
     (λ below. IsIn-right here later unit (in_falling family n unit kind some (omega (arith, below))))
     (λ above.
     let same : unit.power ≡ suc n = omega (arith, above, known) in
-    let IsInPrefix : ℕ → Type 0 = λ k. IsIn unit (of_prefix family k) in
+    let IsInPrefix : ℕ → Type 0 = λ k. IsIn unit (units_of_prefix family k) in
     IsIn-left here later unit (subst IsInPrefix same (in_prefix family unit.power unit.binary unit.bit kind)))
     (cases_lt unit.power (suc n))
 
@@ -72,7 +72,7 @@ IsIn-parts (x ∷ xs) ys unit h =
 abbrev IsOfPrefix : Family → ℕ → Shape → Type 0
 IsOfPrefix family n unit = (unit.power ≡ n) × HasKind family unit.bit
 
-of_one_prefix : (family : Family) (n : ℕ) (unit : Shape) → IsIn unit (of_prefix family n) → IsOfPrefix family n unit
+of_one_prefix : (family : Family) (n : ℕ) (unit : Shape) → IsIn unit (units_of_prefix family n) → IsOfPrefix family n unit
 of_one_prefix All n unit (inl e) = (sym (ap (λ s. s.power) e), tt)
 of_one_prefix All n unit (inr (inl e)) = (sym (ap (λ s. s.power) e), tt)
 of_one_prefix All n unit (inr (inr (inl e))) = (sym (ap (λ s. s.power) e), tt)
@@ -86,14 +86,14 @@ of_one_prefix Bits n unit (inr (inl e)) = (sym (ap (λ s. s.power) e), sym (ap (
 of_one_prefix Bits n unit (inr (inr e)) = absurd e
 
 -- a unit in the list of the first n prefix letters has one of these letters, and is of the set
-pub from_falling : (family : Family) (n : ℕ) (unit : Shape) → IsIn unit (falling_from family n)
+pub from_falling : (family : Family) (n : ℕ) (unit : Shape) → IsIn unit (units_of_prefixes family n)
     → (1 ≤ unit.power) × (unit.power ≤ n) × HasKind family unit.bit
 from_falling family zero unit h = absurd h
 from_falling family (suc n) unit h =
     ⊎_elim
     (λ here. let p = of_one_prefix family (suc n) unit here in (omega (arith, p.0), omega (arith, p.0), p.1))
     (λ later. let r = from_falling family n unit later in (r.0, omega (arith, r.1), r.2))
-    (IsIn-parts (of_prefix family (suc n)) (falling_from family n) unit h)
+    (IsIn-parts (units_of_prefix family (suc n)) (units_of_prefixes family n) unit h)
 
 -- the unit at an index of a list is one of the list
 pub IsIn-at : (xs : List Shape) (i : ℕ) (d : Shape) → i < length xs → IsIn (get_or xs i d) xs
@@ -128,30 +128,30 @@ falls_after (y ∷ ys) bound (suc i) x rest h e =
 -- the units of the first n prefix letters fall, and so do those of fewer
 abbrev prefixes_fall : Family → ℕ → Bool
 prefixes_fall family zero = true
-prefixes_fall family (suc n) = falls unit_limit (falling_from family (suc n)) && prefixes_fall family n
+prefixes_fall family (suc n) = falls unit_limit (units_of_prefixes family (suc n)) && prefixes_fall family n
 
 fewer_fall : (family : Family) (m n : ℕ) → prefixes_fall family m ≡ true → n ≤ m
-    → falls unit_limit (falling_from family n) ≡ true
+    → falls unit_limit (units_of_prefixes family n) ≡ true
 fewer_fall family zero n h few =
-    let UnitsFall : ℕ → Type 0 = λ k. falls unit_limit (falling_from family k) ≡ true in
+    let UnitsFall : ℕ → Type 0 = λ k. falls unit_limit (units_of_prefixes family k) ≡ true in
     let none : 0 ≡ n = omega (arith, few) in
     subst UnitsFall none refl
 fewer_fall family (suc m) n h few =
-    let parts = and_parts (falls unit_limit (falling_from family (suc m))) (prefixes_fall family m) h in
-    let UnitsFall : ℕ → Type 0 = λ k. falls unit_limit (falling_from family k) ≡ true in
+    let parts = and_parts (falls unit_limit (units_of_prefixes family (suc m))) (prefixes_fall family m) h in
+    let UnitsFall : ℕ → Type 0 = λ k. falls unit_limit (units_of_prefixes family k) ≡ true in
     ⊎_elim
     (λ below. fewer_fall family m n parts.1 (omega (arith, below)))
     (λ above. let same : suc m ≡ n = omega (arith, above, few) in subst UnitsFall same parts.0)
     (cases_lt n (suc m))
 
-known_prefixes_fall : (family : Family) → prefixes_fall family known_prefixes ≡ true
+known_prefixes_fall : (family : Family) → prefixes_fall family prefix_count ≡ true
 known_prefixes_fall All = refl
 known_prefixes_fall Bytes = refl
 known_prefixes_fall Bits = refl
 
--- the lists of the units of the current edition fall
-pub current_falls : (family : Family) (n : ℕ) → n ≤ known_prefixes → falls unit_limit (falling_from family n) ≡ true
-current_falls family n few = fewer_fall family known_prefixes n (known_prefixes_fall family) few
+-- the lists of the units of the current version fall
+pub current_falls : (family : Family) (n : ℕ) → n ≤ prefix_count → falls unit_limit (units_of_prefixes family n) ≡ true
+current_falls family n few = fewer_fall family prefix_count n (known_prefixes_fall family) few
 
 -- the first unit of a falling list that has the property is the largest that has it, if each unit that has it is at
 -- this index or later
@@ -196,22 +196,22 @@ units_per_prefix Bits = 2
 
 -- without the units of its last prefix letters, the list of units is that of the other letters
 pub drop_prefixes : (family : Family) (dropped n : ℕ)
-    → drop (units_per_prefix family * dropped) (falling_from family (dropped + n)) ≡ falling_from family n
-drop_prefixes All zero n = ap (falling_from All) (let none : 0 + n ≡ n = omega arith in none)
-drop_prefixes Bytes zero n = ap (falling_from Bytes) (let none : 0 + n ≡ n = omega arith in none)
-drop_prefixes Bits zero n = ap (falling_from Bits) (let none : 0 + n ≡ n = omega arith in none)
+    → drop (units_per_prefix family * dropped) (units_of_prefixes family (dropped + n)) ≡ units_of_prefixes family n
+drop_prefixes All zero n = ap (units_of_prefixes All) (let none : 0 + n ≡ n = omega arith in none)
+drop_prefixes Bytes zero n = ap (units_of_prefixes Bytes) (let none : 0 + n ≡ n = omega arith in none)
+drop_prefixes Bits zero n = ap (units_of_prefixes Bits) (let none : 0 + n ≡ n = omega arith in none)
 drop_prefixes All (suc d) n =
     let sum : suc d + n ≡ suc (d + n) = omega arith in
     let four : 4 * suc d ≡ suc (suc (suc (suc (4 * d)))) = omega arith in
-    ap (λ m. drop (4 * suc d) (falling_from All m)) sum
-    ∙ (ap (λ m. drop m (falling_from All (suc (d + n)))) four ∙ drop_prefixes All d n)
+    ap (λ m. drop (4 * suc d) (units_of_prefixes All m)) sum
+    ∙ (ap (λ m. drop m (units_of_prefixes All (suc (d + n)))) four ∙ drop_prefixes All d n)
 drop_prefixes Bytes (suc d) n =
     let sum : suc d + n ≡ suc (d + n) = omega arith in
     let two : 2 * suc d ≡ suc (suc (2 * d)) = omega arith in
-    ap (λ m. drop (2 * suc d) (falling_from Bytes m)) sum
-    ∙ (ap (λ m. drop m (falling_from Bytes (suc (d + n)))) two ∙ drop_prefixes Bytes d n)
+    ap (λ m. drop (2 * suc d) (units_of_prefixes Bytes m)) sum
+    ∙ (ap (λ m. drop m (units_of_prefixes Bytes (suc (d + n)))) two ∙ drop_prefixes Bytes d n)
 drop_prefixes Bits (suc d) n =
     let sum : suc d + n ≡ suc (d + n) = omega arith in
     let two : 2 * suc d ≡ suc (suc (2 * d)) = omega arith in
-    ap (λ m. drop (2 * suc d) (falling_from Bits m)) sum
-    ∙ (ap (λ m. drop m (falling_from Bits (suc (d + n)))) two ∙ drop_prefixes Bits d n)
+    ap (λ m. drop (2 * suc d) (units_of_prefixes Bits m)) sum
+    ∙ (ap (λ m. drop m (units_of_prefixes Bits (suc (d + n)))) two ∙ drop_prefixes Bits d n)

@@ -11,10 +11,10 @@ use Rattle.core.proofs.dec2flt.DigitsLemmas.{is_digit}
 use Rattle.core.proofs.dec2flt.Rows.{AllDigits-digits_len}
 use Rattle.std.proofs.lemmas.List.{length-take-le, take_more}
 use Rattle.byte_unit_math.specs.Bounds.{places_of_decimal, whole_limit}
-use Rattle.byte_unit_base.specs.Edition.{current}
+use Rattle.byte_unit_base.specs.Version.{current}
 use Rattle.byte_unit_base.specs.Number.{point, IsNumberText}
 use Rattle.byte_unit_base.specs.UnitScan.{prefix_at, is_i, IsMultipleText}
-use Rattle.byte_unit_base.specs.SizeScan.{precise}
+use Rattle.byte_unit_base.specs.SizeScan.{fixed_point}
 use Rattle.byte_unit_base.specs.FastReading.{AreDigits}
 use Rattle.byte_unit_base.specs.declared.unit.scan.Prefix.{Prefix}
 use Rattle.byte_unit_base.specs.declared.unit.scan.Multiple.TheVariants.{Decimal, Binary}
@@ -117,7 +117,7 @@ precise_text bytes end whole places fraction read =
 
 -- a whole part, a point and a fraction that are read are a number of the grammar, with this value
 pub precise_number : (bytes : List ℕ) (end whole places fraction : ℕ) → ArePrecise bytes end whole places fraction
-    → IsNumberText current (take (end + 1 + places) bytes) (precise whole fraction places)
+    → IsNumberText current (take (end + 1 + places) bytes) (fixed_point whole fraction places)
 precise_number bytes end whole places fraction read =
     let digits = take places (drop (end + 1) bytes) in
     let few = length-take-le places (drop (end + 1) bytes) read.fraction_is.within in

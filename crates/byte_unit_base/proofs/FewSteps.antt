@@ -5,15 +5,15 @@ use Rattle.std.proofs.Math.Nat.{mul-le-mul, mul-le-mul_left, mul-le-mul_right}
 use Rattle.std.proofs.Math.Nat.{one-le-pow, pow-le-pow_left, pow-le-pow_right}
 use Rattle.std.proofs.lemmas.Bool.{cases_lt}
 use Rattle.std.proofs.lemmas.Nat.{pow-add, mul-pow}
-use Rattle.byte_unit_math.specs.Bounds.{one}
-use Rattle.byte_unit_math.specs.Steps.{raised}
+use Rattle.byte_unit_math.specs.Bounds.{scale}
+use Rattle.byte_unit_math.specs.Steps.{saturating_add}
 use Rattle.byte_unit_math.specs.Exact.{IsLeastPlaces}
 use Rattle.byte_unit_math.specs.Powers.{IsTwoFive}
 use Rattle.byte_unit_math.proofs.Powers.{exact_by_powers, places_by_powers}
 use Rattle.byte_unit_base.specs.Shape.{Shape, shape, bits, twos, fives}
-use Rattle.byte_unit_base.specs.Edition.{current}
+use Rattle.byte_unit_base.specs.Version.{current}
 use Rattle.byte_unit_base.specs.Kinds.{bits_in}
-use Rattle.byte_unit_base.specs.Choice.{IsLargest, States, IsChosen, TakesSteps, CountsChoice}
+use Rattle.byte_unit_base.specs.Choice.{IsLargest, IsExactUnit, IsChosen, TakesSteps, CountsChoice}
 use Rattle.byte_unit_base.specs.Choice.{places_within, most_steps}
 use Rattle.byte_unit_base.specs.declared.kind.Kind.{Kind}
 use Rattle.byte_unit_base.specs.declared.kind.Kind.TheVariants.{Byte, Bit}
@@ -74,14 +74,14 @@ decimal_below power false known = omega (arith, decimal_bits power false known)
 
 -- a size in bits with the exponents `a` of 2 and `b` of 5, for which a decimal unit is chosen
 module _ (family : Family) (in_bits precision a b power : ℕ) (bit : Bool) (powers : IsTwoFive in_bits a b)
-    (chosen : IsLargest (States current family in_bits precision) (shape power false bit)) where
+    (chosen : IsLargest (IsExactUnit family in_bits precision) (shape power false bit)) where
   -- the size is below the greatest binary unit, if that unit has few enough twos for the size to be exact in it
   below_greatest : twos (greatest bit) ≤ a + places_within precision → in_bits < bits (greatest bit)
   below_greatest few =
       ⊎_elim (λ below. below)
       (λ above.
       let test = exact_by_powers in_bits (twos (greatest bit)) 0 a b (places_within precision) powers in
-      let states : States current family in_bits precision (greatest bit) = record {
+      let states : IsExactUnit family in_bits precision (greatest bit) = record {
         member = record { prefix = record { some = omega arith; known = omega arith }; kind = chosen.has.member.kind };
         not_above = above;
         exact = test.1 (few, omega arith);
@@ -110,7 +110,7 @@ no_multiple n a b h many above = λ below.
 
 -- a size in bits has fewer than 91 twos if RB is chosen
 few_twos_in_RB : (family : Family) (in_bits precision a b : ℕ) → IsTwoFive in_bits a b → in_bits < 2 ^ 103
-    → IsLargest (States current family in_bits precision) (shape 9 false false) → a ≤ 90
+    → IsLargest (IsExactUnit family in_bits precision) (shape 9 false false) → a ≤ 90
 few_twos_in_RB family in_bits precision a b powers small chosen =
     ⊎_elim
     (λ many.
@@ -124,7 +124,7 @@ few_twos_in_RB family in_bits precision a b powers small chosen =
 -- the exponents of 2 and 5 in a size in bits, and the places that they leave to its unit, are 117 at most
 few_together : (family : Family) (in_bits precision a b power : ℕ) (binary bit : Bool)
     → IsTwoFive in_bits a b → in_bits < 2 ^ 103
-    → IsLargest (States current family in_bits precision) (shape power binary bit)
+    → IsLargest (IsExactUnit family in_bits precision) (shape power binary bit)
     → a + b + max (twos (shape power binary bit) - a) (fives (shape power binary bit) - b) ≤ 117
 few_together family in_bits precision a b power true true powers small chosen =
     let test = (exact_by_powers in_bits (10 * power + 0) 0 a b (places_within precision) powers).0 chosen.has.exact in
@@ -142,13 +142,13 @@ few_together family in_bits precision a b power false false powers small chosen 
     (λ below. omega (arith, few, fewer, below))
     (λ last.
     let same : power ≡ 9 = omega (arith, last, chosen.has.member.prefix.known) in
-    let IsChosenUnit : ℕ → Type 0 = λ n. IsLargest (States current family in_bits precision) (shape n false false) in
+    let IsChosenUnit : ℕ → Type 0 = λ n. IsLargest (IsExactUnit family in_bits precision) (shape n false false) in
     omega (arith, few, few_twos_in_RB family in_bits precision a b powers small (subst IsChosenUnit same chosen), same))
     (cases_lt power 9)
 
 -- the places of the number are no more than those that the powers of the size and of its unit leave
 few_places : (family : Family) (in_bits precision number places a b : ℕ) (unit : Shape) → IsTwoFive in_bits a b
-    → IsChosen current family in_bits precision unit number → IsLeastPlaces number one places
+    → IsChosen family in_bits precision unit number → IsLeastPlaces number scale places
     → places ≤ max (twos unit - a) (fives unit - b)
 few_places family in_bits precision number places a b unit powers chosen least =
     let within = places_within precision in
@@ -160,7 +160,7 @@ few_places family in_bits precision number places a b unit powers chosen least =
 -- the exponents of 2 and 5 in a size in bits, and the places of its chosen number, are 117 at most
 few_in_all : (family : Family) (in_bits precision number places a b : ℕ) (unit : Shape)
     → in_bits < 2 ^ 103 → IsTwoFive in_bits a b
-    → IsChosen current family in_bits precision unit number → IsLeastPlaces number one places → a + b + places ≤ 117
+    → IsChosen family in_bits precision unit number → IsLeastPlaces number scale places → a + b + places ≤ 117
 few_in_all family in_bits precision number places a b unit small powers chosen least = omega (
   arith,
   few_together family in_bits precision a b unit.power unit.binary unit.bit powers small chosen.unit_is,
@@ -169,7 +169,7 @@ few_in_all family in_bits precision number places a b unit small powers chosen l
 
 -- no choice takes more steps than the greatest step count of its kind
 few_steps : (kind : Kind) (family : Family) (size precision number steps : ℕ) (unit : Shape) → size < current.size_limit
-    → IsChosen current family (size * bits_in kind) precision unit number → TakesSteps size number steps
+    → IsChosen family (size * bits_in kind) precision unit number → TakesSteps size number steps
     → steps ≤ most_steps kind
 few_steps Byte family size precision number steps unit small chosen t =
     let powers = eight_times size t.twos t.fives t.powers in
@@ -184,8 +184,8 @@ few_steps Bit family size precision number steps unit small chosen t =
 -- if a unit is chosen, the step counter rises by at most the greatest step count of its kind
 pub few_of_choice : (kind : Kind) (family : Family) (size precision number old new : ℕ) (unit : Shape)
     → size < current.size_limit
-    → IsChosen current family (size * bits_in kind) precision unit number → CountsChoice size number old new
-    → new ≤ raised old (most_steps kind)
+    → IsChosen family (size * bits_in kind) precision unit number → CountsChoice size number old new
+    → new ≤ saturating_add old (most_steps kind)
 few_of_choice kind family size precision number old new unit small chosen (inl h) = omega (arith, h.1)
 few_of_choice kind family size precision number old new unit small chosen (inr (steps, t, e)) =
     omega (arith, few_steps kind family size precision number steps unit small chosen t, e)
@@ -197,7 +197,7 @@ few_trials Bit = omega arith
 
 -- if no unit is chosen, the step counter rises by at most the greatest step count of its kind
 pub few_of_none : (kind : Kind) (size old new : ℕ) → size < current.size_limit → CountsChoice size 0 old new
-    → new ≤ raised old (most_steps kind)
+    → new ≤ saturating_add old (most_steps kind)
 few_of_none kind size old new small (inl h) = omega (arith, h.1)
 few_of_none kind size old new small (inr (steps, t, e)) =
     let none = t.is_places.least 0 (0, omega arith) in

@@ -3,9 +3,9 @@ use Rattle.std.proofs.Common.{◌≡◌, ℕ, ◌*◌, ◌<◌, ◌≤◌, ⊎_e
 use Rattle.std.proofs.Math.Nat.{mul-le-mul_right}
 use Rattle.std.proofs.lemmas.Bool.{cases_lt}
 use Rattle.byte_unit_base.specs.Shape.{Shape, bits}
-use Rattle.byte_unit_base.specs.Edition.{Edition}
+use Rattle.byte_unit_base.specs.Version.{Version}
 use Rattle.byte_unit_base.specs.Family.{InFamily}
-use Rattle.byte_unit_base.specs.Choice.{IsLargest, States, places_within}
+use Rattle.byte_unit_base.specs.Choice.{IsLargest, IsExactUnitIn, places_within}
 use Rattle.byte_unit_base.specs.ChoiceLaws.{Divides, ChoicesAtNoPlacesAreWhole, MorePlacesGiveNoSmallerUnit}
 use Rattle.byte_unit_base.specs.ChoiceLaws.{NumberTimesUnitIsSize}
 use Rattle.byte_unit_base.specs.declared.unit.family.Family.{Family}
@@ -14,10 +14,10 @@ use Rattle.byte_unit_base.proofs.Choosing.{some_bits}
 use Rattle.byte_unit_base.proofs.SomeChoice.{choice_or_none}
 
 -- a unit of the set that is larger than the one chosen at a precision of 0 does not divide the size
-no_larger_divides : (edition : Edition) (family : Family) (in_bits : ℕ) (unit : Shape)
-    → IsLargest (States edition family in_bits 0) unit
-    → (other : Shape) → InFamily edition family other → bits unit < bits other → ¬ (Divides other in_bits)
-no_larger_divides edition family in_bits unit h other member larger = λ d.
+no_larger_divides : (version : Version) (family : Family) (in_bits : ℕ) (unit : Shape)
+    → IsLargest (IsExactUnitIn version family in_bits 0) unit
+    → (other : Shape) → InFamily version family other → bits unit < bits other → ¬ (Divides other in_bits)
+no_larger_divides version family in_bits unit h other member larger = λ d.
     let some : 1 ≤ in_bits = omega (arith, some_bits unit, h.has.not_above) in
     let times : 1 ≤ d.0 =
     ⊎_elim
@@ -34,25 +34,25 @@ no_larger_divides edition family in_bits unit h other member larger = λ d.
 
 -- at a precision of 0 the chosen number is whole, and no larger unit divides the size
 pub whole_choices : ChoicesAtNoPlacesAreWhole
-whole_choices edition family in_bits number unit h =
+whole_choices version family in_bits number unit h =
     record {
       whole = (h.number_is.count, h.number_is.number);
-      no_larger = no_larger_divides edition family in_bits unit h.unit_is;
+      no_larger = no_larger_divides version family in_bits unit h.unit_is;
     }
 
 -- a higher precision does not choose a smaller unit, and it chooses one if the lower does
 pub no_smaller : MorePlacesGiveNoSmallerUnit
-no_smaller edition family in_bits low high number unit le h =
+no_smaller version family in_bits low high number unit le h =
     let s = h.unit_is.has in
     let exact = exact_more in_bits (bits unit) (places_within low) (places_within high) (omega (arith, le)) s.exact in
-    let states : States edition family in_bits high unit =
+    let states : IsExactUnitIn version family in_bits high unit =
     record { member = s.member; not_above = s.not_above; exact = exact } in
     record {
-      some = ⊎_elim (λ found. found) (λ none. absurd (none unit states)) (choice_or_none edition family in_bits high);
+      some = ⊎_elim (λ found. found) (λ none. absurd (none unit states)) (choice_or_none version family in_bits high);
       larger = λ other n k. k.unit_is.largest unit states;
     }
 
 -- the chosen number times the chosen unit is the size, scaled by 10^28
 pub number_times_chosen : NumberTimesUnitIsSize
-number_times_chosen edition family in_bits precision number unit h =
+number_times_chosen version family in_bits precision number unit h =
     number_times_unit in_bits (bits unit) (places_within precision) number (omega arith) h.number_is

@@ -14,10 +14,10 @@ use Rattle.byte_unit_math.specs.Bounds.{places_of_decimal, whole_limit}
 use Rattle.byte_unit_math.specs.Finite.{Finite}
 use Rattle.byte_unit_math.specs.Numeral.{glyphs, fraction_text, text_of}
 use Rattle.byte_unit_math.proofs.Fractions.{fraction_text_some}
-use Rattle.byte_unit_base.specs.Edition.{current}
+use Rattle.byte_unit_base.specs.Version.{current}
 use Rattle.byte_unit_base.specs.Spelling.{Flags}
 use Rattle.byte_unit_base.specs.Fault.{too_long, no_unit, after_digit, IsSizeFault}
-use Rattle.byte_unit_base.specs.ReaderLaws.{States}
+use Rattle.byte_unit_base.specs.ReaderLaws.{Represents}
 use Rattle.byte_unit_base.specs.Scan.{read}
 use Rattle.byte_unit_base.specs.SizeScan.{size_step, size_scan}
 use Rattle.byte_unit_base.specs.declared.read.scan.SizeScan.TheVariants.{Beginning, Whole, Point, Fraction}
@@ -127,5 +127,5 @@ long_fault flags e tail text bounded many text_is =
     let is_long =
     ap (read (size_scan flags) Beginning) (text_is ∙ long_text e.whole e.digits tail (omega (arith, many)) long)
     ∙ read_long flags e.whole e.digits long (glyphs long.rest ++ tail) bounded.bound in
-    subst (IsAnswer (States flags text) (IsSizeFault current flags text)) is_long
+    subst (IsAnswer (Represents flags text) (IsSizeFault current flags text)) is_long
     (reads_meaning_or_fault (size_scan_is flags) text)

@@ -13,16 +13,16 @@ use Rattle.std.proofs.lemmas.List.Sums.{AllPass-from_list_all}
 use Rattle.std.proofs.lemmas.Str.{IsAscii-append}
 use Rattle.std.proofs.lemmas.Str.Ascii.{IsAscii-nil, IsAscii-cons}
 use Rattle.byte_unit_base.specs.Shape.{Shape}
-use Rattle.byte_unit_base.specs.Edition.{current, name}
+use Rattle.byte_unit_base.specs.Version.{current, unit_name, unit_name_in}
 use Rattle.byte_unit_base.specs.Units.{shape_of}
-use Rattle.byte_unit_base.specs.Spelling.{Flags, reading, SpellsCount, SpellsBinary, Spells}
-use Rattle.byte_unit_base.specs.SizeText.{trimmed}
+use Rattle.byte_unit_base.specs.Spelling.{Flags, flags_of, SpellsCount, SpellsBinary, Spells}
+use Rattle.byte_unit_base.specs.SizeText.{trim_of}
 use Rattle.byte_unit_base.specs.ReaderLaws.{NamesSpellTheirUnits}
 use Rattle.byte_unit_base.specs.declared.unit.Unit.{Unit as UnitName}
 use Rattle.byte_unit_base.specs.declared.unit.Unit.TheVariants.{Bit, B}
 use Rattle.byte_unit_base.proofs.Trim.{EndsWithoutSpace}
 
--- the current edition knows the prefix of the unit; without a prefix, the unit is a byte (binary) or a bit (decimal)
+-- the current version knows the prefix of the unit; without a prefix, the unit is a byte (binary) or a bit (decimal)
 pub record IsKnown (s : Shape) : Type 0 where
   pub known : s.power ≤ length current.letters
   pub alone : s.power ≡ 0 → s.binary ≡ not s.bit
@@ -89,20 +89,20 @@ count_end : (bit : Bool) → (last : ℕ) × (count_of bit ≡ last ∷ []) × (
 count_end true = (98, refl, refl)
 count_end false = (66, refl, refl)
 
-with_prefix : (s : Shape) → 0 < s.power → name current s ≡ letter_at s.power ∷ (infix_of s.binary ++ count_of s.bit)
+with_prefix : (s : Shape) → 0 < s.power → unit_name_in current s ≡ letter_at s.power ∷ (infix_of s.binary ++ count_of s.bit)
 with_prefix s h =
     let some : nat_lt 0 s.power ≡ true = grind (arith, nat_tests) in
     ap (λ b. (if b then letter_at s.power ∷ [] else []) ++ (if b && s.binary then codes "i" else []) ++ count_of s.bit)
     some
 
-without_prefix : (s : Shape) → s.power ≤ 0 → name current s ≡ count_of s.bit
+without_prefix : (s : Shape) → s.power ≤ 0 → unit_name_in current s ≡ count_of s.bit
 without_prefix s h =
     let none : nat_lt 0 s.power ≡ false = grind (arith, nat_tests) in
     ap (λ b. (if b then letter_at s.power ∷ [] else []) ++ (if b && s.binary then codes "i" else []) ++ count_of s.bit)
     none
 
 spells_multiple : (flags : Flags) (s : Shape) → IsKnown s → SaysKind flags s.bit → 0 < s.power
-    → Spells current flags (name current s) s
+    → Spells current flags (unit_name_in current s) s
 spells_multiple flags s h says some = inr record {
   prefix_part = letter_at s.power ∷ infix_of s.binary;
   count_part = count_of s.bit;
@@ -118,7 +118,7 @@ spells_multiple flags s h says some = inr record {
 }
 
 spells_plain : (flags : Flags) (s : Shape) → IsKnown s → SaysKind flags s.bit → s.power ≤ 0
-    → Spells current flags (name current s) s
+    → Spells current flags (unit_name_in current s) s
 spells_plain flags s h says none =
     let SpellsKind : List ℕ → Type 0 = λ text. SpellsCount flags text s.bit in
     let zero : s.power ≡ 0 = omega (arith, none) in
@@ -130,11 +130,11 @@ spells_plain flags s h says none =
 
 -- the name of a unit spells it, if its last letter tells the kind
 pub name_spells : (flags : Flags) (s : Shape) → IsKnown s → SaysKind flags s.bit
-    → Spells current flags (name current s) s
+    → Spells current flags (unit_name_in current s) s
 name_spells flags s h says = ⊎_elim (spells_multiple flags s h says) (spells_plain flags s h says) (cases_lt 0 s.power)
 
 -- the name of a unit is ASCII
-pub name_ascii : (s : Shape) → s.power ≤ length current.letters → IsAscii (name current s)
+pub name_ascii : (s : Shape) → s.power ≤ length current.letters → IsAscii (unit_name_in current s)
 name_ascii s known =
     let rest = infix_of s.binary ++ count_of s.bit in
     let rest_ascii = IsAscii-append (infix_of s.binary) (count_of s.bit) (infix_ascii s.binary) (count_ascii s.bit) in
@@ -145,14 +145,14 @@ name_ascii s known =
     (cases_lt 0 s.power)
 
 -- the name of a unit does not end in white space
-pub name_end : (s : Shape) → EndsWithoutSpace (name current s)
+pub name_end : (s : Shape) → EndsWithoutSpace (unit_name_in current s)
 name_end s =
     let end = count_end s.bit in
     let some = nat_lt 0 s.power in
     let front = (if some then letter_at s.power ∷ [] else []) ++ (if some && s.binary then codes "i" else []) in
     record { front = front; last = end.0; text_is = ap (λ t. front ++ t) end.1; last_is = end.2 }
 
-is_trimmed : (unit : UnitName) → trimmed (name current (shape_of unit)) ≡ name current (shape_of unit)
+is_trimmed : (unit : UnitName) → trim_of (unit_name unit) ≡ unit_name unit
 unfolding chars
 is_trimmed Bit = refl
 is_trimmed _ = refl
@@ -160,6 +160,6 @@ is_trimmed _ = refl
 -- the name of each unit of the crate spells it if case is significant, and has no white space at its ends
 pub names_spell_their_units : NamesSpellTheirUnits
 names_spell_their_units unit prefer_byte = record {
-  spells = name_spells (reading false prefer_byte) (shape_of unit) (unit_known unit) (λ bit. refl);
+  spells = name_spells (flags_of false prefer_byte) (shape_of unit) (unit_known unit) (λ bit. refl);
   trimmed_is = is_trimmed unit;
 }

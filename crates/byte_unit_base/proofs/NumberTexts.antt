@@ -14,10 +14,10 @@ use Rattle.std.proofs.lemmas.Str.{IsAscii-append}
 use Rattle.std.proofs.lemmas.Str.Ascii.{IsAscii-nil, IsAscii-cons}
 use Rattle.std.proofs.lemmas.Str.Parse.{digit_from_value}
 use Rattle.std.proofs.lemmas.List.Elements.{All-head, All-tail}
-use Rattle.byte_unit_math.specs.Bounds.{one, places_of_decimal, whole_limit}
-use Rattle.byte_unit_base.specs.Edition.{current}
+use Rattle.byte_unit_math.specs.Bounds.{scale, places_of_decimal, whole_limit}
+use Rattle.byte_unit_base.specs.Version.{current}
 use Rattle.byte_unit_base.specs.Number.{IsWholePart, IsNumberText}
-use Rattle.byte_unit_math.specs.Finite.{Finite, value_of}
+use Rattle.byte_unit_math.specs.Finite.{Finite, value_of_digits}
 use Rattle.byte_unit_math.specs.Numeral.{glyphs, fraction_text}
 use Rattle.byte_unit_base.proofs.Trim.{StartsWithoutSpace}
 
@@ -53,7 +53,7 @@ whole_text whole bound =
 
 -- the number with this whole part and these digits after the point, scaled by 10^28
 abbrev pub fixed_point_of : ℕ → List ℕ → ℕ
-fixed_point_of whole digits = whole * one + value_of digits * 10 ^ (places_of_decimal - length digits)
+fixed_point_of whole digits = whole * scale + value_of_digits digits * 10 ^ (places_of_decimal - length digits)
 
 -- the text of a whole part and at most 28 digits after the point is a number of the grammar, with their value
 pub number_text :
@@ -71,7 +71,7 @@ number_text whole (digit ∷ digits) small few bound = inr record {
   whole = decimal whole;
   fraction = glyphs (digit ∷ digits);
   value = whole;
-  part = value_of (digit ∷ digits) * 10 ^ (places_of_decimal - length (digit ∷ digits));
+  part = value_of_digits (digit ∷ digits) * 10 ^ (places_of_decimal - length (digit ∷ digits));
   text_is = refl;
   whole_is = whole_text whole bound;
   fraction_is = (

@@ -6,9 +6,9 @@ use Rattle.byte_unit_math.specs.Bounds.{places_of_decimal}
 use Rattle.byte_unit_math.specs.Powers.{IsTwoFive}
 use Rattle.byte_unit_math.proofs.Powers.{exact_by_powers}
 use Rattle.byte_unit_base.specs.Shape.{Shape, shape, bits, twos, fives}
-use Rattle.byte_unit_base.specs.Choice.{IsLargest, States, places_within}
+use Rattle.byte_unit_base.specs.Choice.{IsLargest, IsExactUnitIn, places_within}
 use Rattle.byte_unit_base.specs.ChoiceLaws.{ChoicesAreOne}
-use Rattle.byte_unit_base.specs.Edition.{Edition}
+use Rattle.byte_unit_base.specs.Version.{Version}
 use Rattle.byte_unit_base.specs.declared.unit.family.Family.{Family}
 use Rattle.byte_unit_base.proofs.Choosing.{some_bits}
 
@@ -64,10 +64,10 @@ same_unit unit other prefix other_prefix same =
     same_fields unit.power unit.binary unit.bit other.power other.binary other.bit powers
 
 -- there is only one largest unit in which a size is exact
-pub one_largest : (edition : Edition) (family : Family) (in_bits precision : ℕ) (unit other : Shape)
-    → IsLargest (States edition family in_bits precision) unit
-    → IsLargest (States edition family in_bits precision) other → unit ≡ other
-one_largest edition family in_bits precision unit other largest other_largest =
+pub one_largest : (version : Version) (family : Family) (in_bits precision : ℕ) (unit other : Shape)
+    → IsLargest (IsExactUnitIn version family in_bits precision) unit
+    → IsLargest (IsExactUnitIn version family in_bits precision) other → unit ≡ other
+one_largest version family in_bits precision unit other largest other_largest =
     let low = largest.largest other other_largest.has in
     let high = other_largest.largest unit largest.has in
     same_unit unit other largest.has.member.prefix.some other_largest.has.member.prefix.some (omega (arith, low, high))
@@ -84,8 +84,8 @@ same_number size places unit number other some quotient other_quotient =
 
 -- a size has at most one chosen unit and number
 pub one_choice : ChoicesAreOne
-one_choice edition family in_bits precision number other_number unit other_unit chosen other =
-    let same = one_largest edition family in_bits precision unit other_unit chosen.unit_is other.unit_is in
+one_choice version family in_bits precision number other_number unit other_unit chosen other =
+    let same = one_largest version family in_bits precision unit other_unit chosen.unit_is other.unit_is in
     let places = places_within precision in
     let quotient : Shape → Type 0 = λ unit. IsQuotient in_bits (bits unit) places other_number in (
       same,

@@ -1,7 +1,7 @@
 -- A size as an exact quotient: at more places, and times its unit.
 use Rattle.std.proofs.Common.{◌≡◌, ℕ, ◌-◌, ◌*◌, ◌/◌, ◌^◌, ◌≤◌, ⊎_elim, arith, sym, ap, ◌∙◌, subst}
 use Rattle.std.proofs.Math.Nat.{eq_of_mul-eq-mul_right}
-use Rattle.byte_unit_math.specs.Bounds.{places_of_decimal, one}
+use Rattle.byte_unit_math.specs.Bounds.{places_of_decimal, scale}
 use Rattle.byte_unit_math.specs.Exact.{IsExactAt, IsLeastPlaces, IsQuotient, IsFirstExact}
 use Rattle.byte_unit_math.proofs.Scales.{pow10_split}
 
@@ -14,7 +14,7 @@ exact_more size unit few more h e =
 
 -- an exact quotient times the unit is the size, scaled by 10^28
 pub number_times_unit : (size unit places number : ℕ) → places ≤ places_of_decimal → IsQuotient size unit places number
-    → number * unit ≡ size * one
+    → number * unit ≡ size * scale
 number_times_unit size unit places number room h =
     let n = ap (λ x. x * unit) h.number in
     let e = ap (λ x. x * 10 ^ (places_of_decimal - places)) h.exact in
@@ -23,7 +23,7 @@ number_times_unit size unit places number room h =
 
 -- if a number times the unit is the size, it is the exact quotient at each number of places at which the size is exact
 pub quotient_of_product : (size unit places number : ℕ) → 1 ≤ unit → places ≤ places_of_decimal
-    → number * unit ≡ size * one
+    → number * unit ≡ size * scale
     → IsExactAt size unit places → IsQuotient size unit places number
 quotient_of_product size unit places number some room product exact =
     let behind = 10 ^ (places_of_decimal - places) in
@@ -37,21 +37,21 @@ quotient_of_product size unit places number some room product exact =
     }
 
 -- an exact quotient needs no more digits after the point than those at which the size is exact
-pub stated_where_exact : (size unit number digits : ℕ) → 1 ≤ unit → number * unit ≡ size * one
+pub stated_where_exact : (size unit number digits : ℕ) → 1 ≤ unit → number * unit ≡ size * scale
     → IsExactAt size unit digits
-    → IsExactAt number one digits
+    → IsExactAt number scale digits
 stated_where_exact size unit number digits some product e =
     let p = ap (λ x. x * 10 ^ digits) product in
-    let q = ap (λ x. x * one) e.1 in
-    (e.0, eq_of_mul-eq-mul_right unit (omega (arith, some)) (number * 10 ^ digits) (e.0 * one) (omega (arith, p, q)))
+    let q = ap (λ x. x * scale) e.1 in
+    (e.0, eq_of_mul-eq-mul_right unit (omega (arith, some)) (number * 10 ^ digits) (e.0 * scale) (omega (arith, p, q)))
 
 -- if an exact quotient needs at most these digits after the point, the size is exact at them
-exact_where_stated : (size unit number digits : ℕ) → number * unit ≡ size * one → IsExactAt number one digits
+exact_where_stated : (size unit number digits : ℕ) → number * unit ≡ size * scale → IsExactAt number scale digits
     → IsExactAt size unit digits
 exact_where_stated size unit number digits product e =
     let p = ap (λ x. x * 10 ^ digits) product in
     let q = ap (λ x. x * unit) e.1 in
-    (e.0, eq_of_mul-eq-mul_right one (omega arith) (size * 10 ^ digits) (e.0 * unit) (omega (arith, p, q)))
+    (e.0, eq_of_mul-eq-mul_right scale (omega arith) (size * 10 ^ digits) (e.0 * unit) (omega (arith, p, q)))
 
 -- the number is the exact quotient at this number of places, and `digits` is the first count of digits at which a
 -- division ends
@@ -63,7 +63,7 @@ pub record IsDivided (size unit places digits number : ℕ) : Type 0 where
 
 -- the digits of the division are the least number of digits after the point that the quotient needs
 pub places_of_quotient : (size unit places digits number : ℕ) → IsDivided size unit places digits number
-    → IsLeastPlaces number one digits
+    → IsLeastPlaces number scale digits
 places_of_quotient size unit places digits number divided =
     let quotient = divided.quotient in
     let product = number_times_unit size unit places number divided.room quotient in
@@ -76,15 +76,15 @@ places_of_quotient size unit places digits number divided =
     }
 
 -- a whole number needs no digits after the point
-pub whole_takes_none : (whole : ℕ) → IsLeastPlaces (whole * one) one 0
+pub whole_takes_none : (whole : ℕ) → IsLeastPlaces (whole * scale) scale 0
 whole_takes_none whole = record { has = (whole, omega arith); least = λ p e. omega arith }
 
 -- if a size is a whole number of the unit, then its quotient without the fraction times the unit is the size
-pub whole_number : (in_bits unit number : ℕ) → 1 ≤ unit → number * unit ≡ in_bits * one → IsExactAt in_bits unit 0
-    → number / one * unit ≡ in_bits
+pub whole_number : (in_bits unit number : ℕ) → 1 ≤ unit → number * unit ≡ in_bits * scale → IsExactAt in_bits unit 0
+    → number / scale * unit ≡ in_bits
 whole_number in_bits unit number some product e =
-    let p = ap (λ n. n * one) e.1 in
-    let whole : number ≡ e.0 * one =
-    eq_of_mul-eq-mul_right unit (omega (arith, some)) number (e.0 * one) (omega (arith, product, p)) in
-    let parts : number / one ≡ e.0 = omega (arith, whole) in
+    let p = ap (λ n. n * scale) e.1 in
+    let whole : number ≡ e.0 * scale =
+    eq_of_mul-eq-mul_right unit (omega (arith, some)) number (e.0 * scale) (omega (arith, product, p)) in
+    let parts : number / scale ≡ e.0 = omega (arith, whole) in
     ap (λ n. n * unit) parts ∙ omega (arith, e.1)

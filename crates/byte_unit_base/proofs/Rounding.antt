@@ -1,30 +1,30 @@
 -- Rounding up to whole bytes or bits, by way of the least number of bits.
 use Rattle.std.proofs.Common.{◌≡◌, ℕ, ◌+◌, ◌-◌, ◌*◌, ◌/◌, ◌<◌, ◌≤◌, arith}
 use Rattle.std.proofs.Math.Nat.{mul-le-mul_right}
-use Rattle.byte_unit_math.specs.Bounds.{one}
+use Rattle.byte_unit_math.specs.Bounds.{scale}
 use Rattle.byte_unit_math.specs.Least.{IsLeastSize}
 use Rattle.byte_unit_base.specs.Shape.{Shape, bits}
 use Rattle.byte_unit_base.specs.declared.kind.Kind.{Kind}
 use Rattle.byte_unit_base.specs.declared.kind.Kind.TheVariants.{Byte, Bit}
 use Rattle.byte_unit_base.specs.Kinds.{bits_in}
 use Rattle.byte_unit_base.specs.SizeLaws.{EachNumberHasOneLeastSize, GreaterNumbersGiveNoSmallerSizes}
-use Rattle.byte_unit_base.specs.LeastOfKind.{IsLeastOf, Covers}
+use Rattle.byte_unit_base.specs.LeastOfKind.{IsLeastOf, IsAtLeast}
 
 -- a number of a unit, rounded up to whole bits, exists
 pub least_bits : (N unit : ℕ) → (b : ℕ) × IsLeastSize N unit b
 least_bits N unit =
-    let b = (N * unit + (one - 1)) / one in
+    let b = (N * unit + (scale - 1)) / scale in
     (b, record { has = omega arith; least = λ m r. omega (arith, r) })
 
 -- the least number of bytes or bits that holds the least bits is the number of the unit, rounded up
 pub least_holding : (kind : Kind) (N : ℕ) (unit : Shape) (b n : ℕ) → IsLeastSize N (bits unit) b → b ≤ n * bits_in kind
     → n * bits_in kind < b + bits_in kind → IsLeastOf kind N unit n
 least_holding Byte N unit b n h holds low = record {
-  has = omega (arith, h.has, mul-le-mul_right one holds);
+  has = omega (arith, h.has, mul-le-mul_right scale holds);
   least = λ m r. omega (arith, h.least (m * 8) r, low);
 }
 least_holding Bit N unit b n h holds low = record {
-  has = omega (arith, h.has, mul-le-mul_right one holds);
+  has = omega (arith, h.has, mul-le-mul_right scale holds);
   least = λ m r. omega (arith, h.least (m * 1) r, low);
 }
 
@@ -78,5 +78,5 @@ one_least_size kind number unit =
 -- a greater number of a unit is not rounded up to a smaller size
 pub more_covers_more : GreaterNumbersGiveNoSmallerSizes
 more_covers_more kind unit few many small large more a b =
-    let covers : Covers kind few unit large = omega (arith, mul-le-mul_right (bits unit) more, b.has) in
+    let covers : IsAtLeast kind few unit large = omega (arith, mul-le-mul_right (bits unit) more, b.has) in
     a.least large covers

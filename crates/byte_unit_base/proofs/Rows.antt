@@ -10,11 +10,11 @@ use Rattle.std.proofs.lemmas.Nat.{leading_top}
 use Rattle.std.specs.Int.{w128, leading_zeros}
 use Rattle.byte_unit_math.specs.Bounds.{unit_limit}
 use Rattle.byte_unit_base.specs.Shape.{Shape, shape, bits, twos, fives}
-use Rattle.byte_unit_base.specs.Edition.{current}
+use Rattle.byte_unit_base.specs.Version.{current}
 use Rattle.byte_unit_base.specs.Units.{shape_of}
 use Rattle.byte_unit_base.specs.Family.{HasPrefix, InFamily}
 use Rattle.byte_unit_base.specs.Choice.{IsLargest, NoneHas}
-use Rattle.byte_unit_base.specs.Multiples.{ListsUnits, falling_from, known_prefixes, row_of, row_shape}
+use Rattle.byte_unit_base.specs.Multiples.{ListsUnits, units_of_prefixes, prefix_count, row_of, row_shape}
 use Rattle.byte_unit_base.specs.declared.unit.Unit.TheVariants.{Bit}
 use Rattle.byte_unit_base.specs.declared.unit.family.UnitRow.{UnitRow}
 use Rattle.byte_unit_base.specs.declared.unit.family.Family.{Family}
@@ -60,13 +60,13 @@ listed_reaches_prefix (x ∷ xs) unit h i =
     ⊎_elim (λ e. subst ReachesPrefix e (leb-true (2 ^ (10 * x.power - 1)) (bits x) parts.0))
     (λ later. listed_reaches_prefix xs unit parts.1 later) i
 
-known_units_reach_prefix : all_reach_prefix (falling_from All known_prefixes) ≡ true
+known_units_reach_prefix : all_reach_prefix (units_of_prefixes All prefix_count) ≡ true
 known_units_reach_prefix = refl
 
 reaches_its_prefix : (unit : Shape) → HasPrefix current unit → 2 ^ (10 * unit.power - 1) ≤ bits unit
 reaches_its_prefix unit prefix =
-    listed_reaches_prefix (falling_from All known_prefixes) unit known_units_reach_prefix
-    (in_falling All known_prefixes unit tt prefix.some prefix.known)
+    listed_reaches_prefix (units_of_prefixes All prefix_count) unit known_units_reach_prefix
+    (in_falling All prefix_count unit tt prefix.some prefix.known)
 
 -- if a unit is not above a size of this many binary digits, ten times the place of its prefix is at most their number
 pub prefix_within : (in_bits digits : ℕ) (unit : Shape) → in_bits < 2 ^ 128 → digits ≡ 128 - leading_zeros w128 in_bits
@@ -84,7 +84,7 @@ prefix_within in_bits digits unit small count prefix not_above =
     (cases_lt digits (10 * unit.power))
 
 -- the number of all units of a set is a multiple of the number of prefix letters
-length_of_all : (family : Family) → length (falling_from family known_prefixes) / known_prefixes
+length_of_all : (family : Family) → length (units_of_prefixes family prefix_count) / prefix_count
     ≡ units_per_prefix family
 length_of_all All = omega arith
 length_of_all Bytes = omega arith
@@ -92,22 +92,22 @@ length_of_all Bits = omega arith
 
 -- without the rows of its last prefix letters, the table has the rows of the other letters
 pub rows_behind : (family : Family) (rows : List UnitRow) (prefixes skipped : ℕ)
-    → map row_shape rows ≡ map row_of (falling_from family known_prefixes) → prefixes ≤ known_prefixes
-    → skipped ≡ length rows / known_prefixes * (known_prefixes - prefixes)
-    → map row_shape (drop skipped rows) ≡ map row_of (falling_from family prefixes)
+    → map row_shape rows ≡ map row_of (units_of_prefixes family prefix_count) → prefixes ≤ prefix_count
+    → skipped ≡ length rows / prefix_count * (prefix_count - prefixes)
+    → map row_shape (drop skipped rows) ≡ map row_of (units_of_prefixes family prefixes)
 rows_behind family rows prefixes skipped all few count =
-    let units = falling_from family known_prefixes in
+    let units = units_of_prefixes family prefix_count in
     let lengths : length rows ≡ length units =
     sym (length-map rows row_shape) ∙ (ap length all ∙ length-map units row_of) in
-    let across : length rows / known_prefixes ≡ units_per_prefix family =
-    ap (λ n. n / known_prefixes) lengths ∙ length_of_all family in
-    let here : skipped ≡ units_per_prefix family * (known_prefixes - prefixes) =
-    count ∙ ap (λ n. n * (known_prefixes - prefixes)) across in
-    let total : (known_prefixes - prefixes) + prefixes ≡ known_prefixes = omega (arith, few) in
+    let across : length rows / prefix_count ≡ units_per_prefix family =
+    ap (λ n. n / prefix_count) lengths ∙ length_of_all family in
+    let here : skipped ≡ units_per_prefix family * (prefix_count - prefixes) =
+    count ∙ ap (λ n. n * (prefix_count - prefixes)) across in
+    let total : (prefix_count - prefixes) + prefixes ≡ prefix_count = omega (arith, few) in
     let DropsToUnits : ℕ → Type 0 =
-    λ n. drop (units_per_prefix family * (known_prefixes - prefixes))
-    (falling_from family n) ≡ falling_from family prefixes in
-    let behind = subst DropsToUnits total (drop_prefixes family (known_prefixes - prefixes) prefixes) in
+    λ n. drop (units_per_prefix family * (prefix_count - prefixes))
+    (units_of_prefixes family n) ≡ units_of_prefixes family prefixes in
+    let behind = subst DropsToUnits total (drop_prefixes family (prefix_count - prefixes) prefixes) in
     sym (drop-map row_shape skipped rows)
     ∙ (ap (drop skipped) all
     ∙ (drop-map row_of skipped units
@@ -126,8 +126,8 @@ units_of_rows (r ∷ rs) (x ∷ xs) e =
 
 -- the units of listed rows are the units of the first prefix letters
 pub listed_units : (family : Family) (in_bits first : ℕ) (rows : List UnitRow) (h : ListsUnits family in_bits first rows)
-    → map unit_in rows ≡ falling_from family h.prefixes
-listed_units family in_bits first rows h = units_of_rows rows (falling_from family h.prefixes) h.rows_are
+    → map unit_in rows ≡ units_of_prefixes family h.prefixes
+listed_units family in_bits first rows h = units_of_rows rows (units_of_prefixes family h.prefixes) h.rows_are
 
 -- at the start of the search, each unit that has the property is among the rows
 pub search_start : (Has : Shape → Type 0) (family : Family) (in_bits first : ℕ) (rows : List UnitRow)
@@ -153,7 +153,7 @@ pub row_at_is_row : {family : Family} {in_bits first : ℕ} {rows : List UnitRow
     → ListsUnits family in_bits first rows
     → i < length rows → IsRow family (get_or rows i d)
 row_at_is_row {family} {in_bits} {first} {rows} i d h within =
-    let units = falling_from family h.prefixes in
+    let units = units_of_prefixes family h.prefixes in
     let row = get_or rows i d in
     let lengths : length rows ≡ length units =
     sym (length-map rows row_shape) ∙ (ap length h.rows_are ∙ length-map units row_of) in
@@ -165,7 +165,7 @@ row_at_is_row {family} {in_bits} {first} {rows} i d h within =
     ∙ get_or-map row_of units i (unit_in row) (row_shape row) there) in
     let is_unit : unit_in row ≡ unit = ap (λ row. row.unit) same in
     let known = from_falling family h.prefixes unit (IsIn-at units i (unit_in row) there) in
-    let few : h.prefixes ≤ known_prefixes = h.few in
+    let few : h.prefixes ≤ prefix_count = h.few in
     let member : InFamily current family unit =
     record { prefix = record { some = known.0; known = omega (arith, known.1, few) }; kind = known.2 } in
     record {

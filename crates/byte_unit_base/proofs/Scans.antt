@@ -5,11 +5,11 @@ use Rattle.std.proofs.Common.{option_and_then}
 use Rattle.std.proofs.Common.{length, drop, get_or, sym, refl, ap, subst, ◌∙◌, arith, append-nil}
 use Rattle.std.specs.Prelude.{◌↔◌, ⊤, IfOk, IfErr, IsOkAnd}
 use Rattle.std.proofs.lemmas.List.{at_drop_all}
-use Rattle.byte_unit_base.specs.Edition.{current}
-use Rattle.byte_unit_base.specs.Front.{Place}
+use Rattle.byte_unit_base.specs.Version.{current}
+use Rattle.byte_unit_base.specs.ViablePrefix.{ParserState}
 use Rattle.byte_unit_base.specs.Fault.{Fault, fault_at, fault_at_end, IsFaultAfter, IsFirstFault}
-use Rattle.byte_unit_base.specs.ReaderLaws.{IsOneAnswer, Begins}
-use Rattle.byte_unit_base.specs.Scan.{Scan, run, read, seen}
+use Rattle.byte_unit_base.specs.ReaderLaws.{IsOneAnswer, CanBecome}
+use Rattle.byte_unit_base.specs.Scan.{Scan, run, read, map_result}
 use Rattle.byte_unit_base.proofs.Lists.{rest_starts_with_next, push_append}
 use Rattle.byte_unit_base.proofs.Options.{some_passed}
 
@@ -136,12 +136,12 @@ IsAnswer Means Fails (Ok meaning) = Means meaning
 IsAnswer Means Fails (Err fault) = Fails fault
 
 -- no longer beginning of the input is a viable prefix
-abbrev pub NoLongerFront : (Place → List ℕ → Type 0) → List ℕ → List ℕ → Type 0
-NoLongerFront IsFront front rest =
-    (farther : Place) (next others : List ℕ) → rest ≡ next ++ others → IsFront farther (front ++ next) → next ≡ []
+abbrev pub NoLongerFront : (ParserState → List ℕ → Type 0) → List ℕ → List ℕ → Type 0
+NoLongerFront IsViable front rest =
+    (farther : ParserState) (next others : List ℕ) → rest ≡ next ++ others → IsViable farther (front ++ next) → next ≡ []
 
 -- after the text the state machine has a state, which has this parser state
-pub record IsScanned {S Meaning : Type 0} (scan : Scan S Meaning) (place : Place) (text : List ℕ) : Type 0 where
+pub record IsScanned {S Meaning : Type 0} (scan : Scan S Meaning) (place : ParserState) (text : List ℕ) : Type 0 where
   pub state : S
   pub run_is : run scan.step scan.start text ≡ Some state
   pub place_is : scan.place state ≡ place
@@ -149,14 +149,14 @@ pub record IsScanned {S Meaning : Type 0} (scan : Scan S Meaning) (place : Place
 -- the state machine accepts exactly the inputs that have a meaning, and its states are exactly those after the viable
 -- prefixes. `Reached` is what is known of the text that led to a state. All the laws of the parsers rest on it
 pub record IsScanOf {S Meaning : Type 0} (scan : Scan S Meaning) (Reached : S → List ℕ → Type 0)
-    (IsFront : Place → List ℕ → Type 0)
+    (IsViable : ParserState → List ℕ → Type 0)
     (Means : List ℕ → Meaning → Type 0) : Type 0 where
   -- the first state is that of no text, and each step adds its character to the text
   pub starts : Reached scan.start []
   pub steps : (s t : S) (c : ℕ) (text : List ℕ) → scan.step s c ≡ Some t → Reached s text → Reached t (text ++ c ∷ [])
   -- the text that led to a state is a viable prefix with its parser state, and there is a state after each such prefix
-  pub front : (s : S) (text : List ℕ) → Reached s text → IsFront (scan.place s) text
-  pub front_read : (place : Place) (text : List ℕ) → IsFront place text → IsScanned scan place text
+  pub front : (s : S) (text : List ℕ) → Reached s text → IsViable (scan.place s) text
+  pub front_read : (place : ParserState) (text : List ℕ) → IsViable place text → IsScanned scan place text
   -- an input that ends in a state has the error of its parser state, or a meaning
   pub ends : (s : S) (text : List ℕ) → Reached s text
       → EndsIn (Means text) (fault_at_end (scan.place s)) (scan.at_end s)
@@ -167,8 +167,8 @@ pub record IsScanOf {S Meaning : Type 0} (scan : Scan S Meaning) (Reached : S �
   pub goes_on : (s : S) → (rest : List ℕ) × (meaning : Meaning) × (read scan s rest ≡ Ok meaning)
 
 module _ {S Meaning : Type 0} {scan : Scan S Meaning} {Reached : S → List ℕ → Type 0}
-    {IsFront : Place → List ℕ → Type 0}
-    {Means : List ℕ → Meaning → Type 0} (is : IsScanOf scan Reached IsFront Means) where
+    {IsViable : ParserState → List ℕ → Type 0}
+    {Means : List ℕ → Meaning → Type 0} (is : IsScanOf scan Reached IsViable Means) where
   -- what is known at a state holds of the text that led to it
   reached : (text : List ℕ) (s : S) → run scan.step scan.start text ≡ Some s → Reached s text
   reached text s e = run_keeps scan.step Reached is.steps text [] scan.start s e is.starts
@@ -176,7 +176,7 @@ module _ {S Meaning : Type 0} {scan : Scan S Meaning} {Reached : S → List ℕ 
   -- if the state machine stops after a text, no longer beginning of the input is a viable prefix
   no_longer_front : (s : S) (front rest : List ℕ) → run scan.step scan.start front ≡ Some s
       → CannotStep scan.step s rest
-      → NoLongerFront IsFront front rest
+      → NoLongerFront IsViable front rest
   no_longer_front s front rest e stops farther [] others r f = refl
   no_longer_front s front [] e stops farther (x ∷ xs) others r f = absurd (let k : ⊥ = cc in k)
   no_longer_front s front (c ∷ cs) e stops farther (x ∷ xs) others r f =
@@ -190,7 +190,7 @@ module _ {S Meaning : Type 0} {scan : Scan S Meaning} {Reached : S → List ℕ 
   -- the error where the state machine stops is the error of the input
   first_fault : (text : List ℕ) (stop : Stop scan.step scan.start text) (fault : Fault)
       → IsFaultAfter current scan.flags (scan.place stop.state) stop.rest fault
-      → IsFirstFault IsFront current scan.flags text fault
+      → IsFirstFault IsViable current scan.flags text fault
   first_fault text stop fault h = record {
     place = scan.place stop.state;
     front = stop.front;
@@ -206,27 +206,27 @@ module _ {S Meaning : Type 0} {scan : Scan S Meaning} {Reached : S → List ℕ 
   answer_at_end : (s : S) (text : List ℕ) → run scan.step scan.start text ≡ Some s → (o : Option Fault)
       → fault_at_end (scan.place s) ≡ o
       → EndsIn (Means text) o (scan.at_end s)
-      → IsAnswer (Means text) (IsFirstFault IsFront current scan.flags text) (scan.at_end s)
+      → IsAnswer (Means text) (IsFirstFault IsViable current scan.flags text) (scan.at_end s)
   answer_at_end s text e None at ends =
-      subst (IsAnswer (Means text) (IsFirstFault IsFront current scan.flags text)) (sym ends.2) ends.1
+      subst (IsAnswer (Means text) (IsFirstFault IsViable current scan.flags text)) (sym ends.2) ends.1
   answer_at_end s text e (Some fault) at ends =
       let stop : Stop scan.step scan.start text =
       record { front = text; rest = []; state = s; text_is = sym (append-nil text); run_is = e; stops = tt } in
-      subst (IsAnswer (Means text) (IsFirstFault IsFront current scan.flags text)) (sym ends)
+      subst (IsAnswer (Means text) (IsFirstFault IsViable current scan.flags text)) (sym ends)
       (first_fault text stop fault at)
 
   answer_where_stopped : (s : S) (text front rest : List ℕ) → text ≡ front ++ rest
       → run scan.step scan.start front ≡ Some s
-      → CannotStep scan.step s rest → IsAnswer (Means text) (IsFirstFault IsFront current scan.flags text)
+      → CannotStep scan.step s rest → IsAnswer (Means text) (IsFirstFault IsViable current scan.flags text)
       (read scan s rest)
   answer_where_stopped s text front [] t e stops =
       let IsAnswerFor : List ℕ → Type 0 =
-      λ x. IsAnswer (Means x) (IsFirstFault IsFront current scan.flags x) (scan.at_end s) in
+      λ x. IsAnswer (Means x) (IsFirstFault IsViable current scan.flags x) (scan.at_end s) in
       let here = answer_at_end s front e (fault_at_end (scan.place s)) refl (is.ends s front (reached front s e)) in
       subst IsAnswerFor (sym (t ∙ append-nil front)) here
   answer_where_stopped s text front (c ∷ cs) t e stops =
       let IsAnswerFor : Result Meaning Fault → Type 0 =
-      IsAnswer (Means text) (IsFirstFault IsFront current scan.flags text) in
+      IsAnswer (Means text) (IsFirstFault IsViable current scan.flags text) in
       let stop : Stop scan.step scan.start text =
       record { front = front; rest = c ∷ cs; state = s; text_is = t; run_is = e; stops = stops } in
       subst IsAnswerFor (sym (read_none scan s c cs stops))
@@ -234,11 +234,11 @@ module _ {S Meaning : Type 0} {scan : Scan S Meaning} {Reached : S → List ℕ 
 
   -- the result for an input is its meaning or its error
   pub reads_meaning_or_fault : (text : List ℕ)
-      → IsAnswer (Means text) (IsFirstFault IsFront current scan.flags text) (read scan scan.start text)
+      → IsAnswer (Means text) (IsFirstFault IsViable current scan.flags text) (read scan scan.start text)
   reads_meaning_or_fault text =
       let stop = stop_of scan.step scan.start text in
       let IsItsAnswer : Result Meaning Fault → Type 0 =
-      IsAnswer (Means text) (IsFirstFault IsFront current scan.flags text) in
+      IsAnswer (Means text) (IsFirstFault IsViable current scan.flags text) in
       let same = ap (read scan scan.start) stop.text_is
       ∙ read_through scan scan.start stop.state stop.front stop.rest stop.run_is in
       subst IsItsAnswer (sym same) (answer_where_stopped stop.state text stop.front stop.rest stop.text_is stop.run_is
@@ -257,7 +257,7 @@ module _ {S Meaning : Type 0} {scan : Scan S Meaning} {Reached : S → List ℕ 
   fault_of_end Here (Some other) answer fault ends e = let same : other ≡ fault = cc in ends ∙ ap Err same
 
   -- no character has a step after the longest viable prefix
-  no_step : (s : S) (front cs : List ℕ) (c : ℕ) → Reached s front → NoLongerFront IsFront front (c ∷ cs)
+  no_step : (s : S) (front cs : List ℕ) (c : ℕ) → Reached s front → NoLongerFront IsViable front (c ∷ cs)
       → (o : Option S) → scan.step s c ≡ o → scan.step s c ≡ None
   no_step s front cs c r longest None e = e
   no_step s front cs c r longest (Some t) e =
@@ -265,7 +265,7 @@ module _ {S Meaning : Type 0} {scan : Scan S Meaning} {Reached : S → List ℕ 
       (is.front t (front ++ c ∷ []) (is.steps s t c front e r)) in
       absurd (let k : ⊥ = cc in k)
 
-  fault_of_rest : (s : S) (front rest : List ℕ) (fault : Fault) → Reached s front → NoLongerFront IsFront front rest
+  fault_of_rest : (s : S) (front rest : List ℕ) (fault : Fault) → Reached s front → NoLongerFront IsViable front rest
       → IsFaultAfter current scan.flags (scan.place s) rest fault → read scan s rest ≡ Err fault
   fault_of_rest s front [] fault r longest h =
       fault_of_end (Means front) (fault_at_end (scan.place s)) (scan.at_end s) fault (is.ends s front r) h
@@ -273,25 +273,25 @@ module _ {S Meaning : Type 0} {scan : Scan S Meaning} {Reached : S → List ℕ 
       read_none scan s c cs (no_step s front cs c r longest (scan.step s c) refl) ∙ ap Err (sym h)
 
   -- the result for an input that has an error is this error
-  pub reads_fault : (text : List ℕ) (fault : Fault) → IsFirstFault IsFront current scan.flags text fault
+  pub reads_fault : (text : List ℕ) (fault : Fault) → IsFirstFault IsViable current scan.flags text fault
       → read scan scan.start text ≡ Err fault
   reads_fault text fault h =
       let r = is.front_read h.place h.front h.longest.is_front in
-      let IsFaultIn : Place → Type 0 = λ place. IsFaultAfter current scan.flags place h.rest fault in
+      let IsFaultIn : ParserState → Type 0 = λ place. IsFaultAfter current scan.flags place h.rest fault in
       let rest = fault_of_rest r.state h.front h.rest fault (reached h.front r.state r.run_is) h.longest.longest
       (subst IsFaultIn (sym r.place_is) h.fault_is) in
       ap (read scan scan.start) h.longest.text_is
       ∙ (read_through scan scan.start r.state h.front h.rest r.run_is ∙ rest)
 
   some_answer : (text : List ℕ) (answer : Result Meaning Fault)
-      → IsAnswer (Means text) (IsFirstFault IsFront current scan.flags text) answer
+      → IsAnswer (Means text) (IsFirstFault IsViable current scan.flags text) answer
       → ((meaning : Meaning) × Means text meaning)
-      ⊎ ((fault : Fault) × IsFirstFault IsFront current scan.flags text fault)
+      ⊎ ((fault : Fault) × IsFirstFault IsViable current scan.flags text fault)
   some_answer text (Ok meaning) h = inl (meaning, h)
   some_answer text (Err fault) h = inr (fault, h)
 
   -- each input has exactly one meaning, or exactly one error, and not both
-  pub one_answer : (text : List ℕ) → IsOneAnswer Meaning (Means text) (IsFirstFault IsFront current scan.flags text)
+  pub one_answer : (text : List ℕ) → IsOneAnswer Meaning (Means text) (IsFirstFault IsViable current scan.flags text)
   one_answer text = record {
     some = some_answer text (read scan scan.start text) (reads_meaning_or_fault text);
     one_meaning = λ m n h k. let e = sym (reads_meaning text m h) ∙ reads_meaning text n k in cc;
@@ -299,7 +299,7 @@ module _ {S Meaning : Type 0} {scan : Scan S Meaning} {Reached : S → List ℕ 
     not_both = λ m f h k. let e = sym (reads_meaning text m h) ∙ reads_fault text f k in absurd (let z : ⊥ = cc in z);
   }
 
-  front_begins : (text : List ℕ) (place : Place) → IsFront place text → Begins Meaning Means text
+  front_begins : (text : List ℕ) (place : ParserState) → IsViable place text → CanBecome Meaning Means text
   front_begins text place h =
       let r = is.front_read place text h in
       let g = is.goes_on r.state in
@@ -307,41 +307,41 @@ module _ {S Meaning : Type 0} {scan : Scan S Meaning} {Reached : S → List ℕ 
       let e = read_through scan scan.start r.state text g.0 r.run_is ∙ g.2 in (
         g.0,
         g.1,
-        subst (IsAnswer (Means whole) (IsFirstFault IsFront current scan.flags whole)) e
+        subst (IsAnswer (Means whole) (IsFirstFault IsViable current scan.flags whole)) e
             (reads_meaning_or_fault whole),
       )
 
   beginning_is_front : (text rest : List ℕ) (meaning : Meaning) → Means (text ++ rest) meaning
-      → (place : Place) × IsFront place text
+      → (place : ParserState) × IsViable place text
   beginning_is_front text rest meaning h =
       let r = is.meaning_read (text ++ rest) meaning h in
       let t = run_before scan.step scan.start r.0 text rest r.1 in
       (scan.place t.0, is.front t.0 text (reached text t.0 t.1))
 
   -- the viable prefixes are exactly the beginnings of the inputs that have a meaning
-  pub fronts_are_beginnings : (text : List ℕ) → ((place : Place) × IsFront place text) ↔ Begins Meaning Means text
+  pub fronts_are_beginnings : (text : List ℕ) → ((place : ParserState) × IsViable place text) ↔ CanBecome Meaning Means text
   fronts_are_beginnings text = (λ f. front_begins text f.0 f.1, λ b. beginning_is_front text b.0 b.1 b.2)
 
   -- what the contract of a parser says
   module _ {R E : Type 0} (meaning : R → Meaning) (fault : E → Fault) (text : List ℕ) where
     -- what a parser returns, if it returns the result of the state machine, is a meaning of the input
-    pub read_found : (r : Result R E) → seen meaning fault r ≡ read scan scan.start text
+    pub read_found : (r : Result R E) → map_result meaning fault r ≡ read scan scan.start text
         → IfOk r (λ value. Means text (meaning value))
     read_found (Ok value) e =
-        subst (IsAnswer (Means text) (IsFirstFault IsFront current scan.flags text)) (sym e)
+        subst (IsAnswer (Means text) (IsFirstFault IsViable current scan.flags text)) (sym e)
         (reads_meaning_or_fault text)
     read_found (Err error) e = tt
 
     -- the error that a parser returns, if it returns the result of the state machine, is that of the input
-    pub read_refused : (r : Result R E) → seen meaning fault r ≡ read scan scan.start text
-        → IfErr r (λ error. IsFirstFault IsFront current scan.flags text (fault error))
+    pub read_refused : (r : Result R E) → map_result meaning fault r ≡ read scan scan.start text
+        → IfErr r (λ error. IsFirstFault IsViable current scan.flags text (fault error))
     read_refused (Ok value) e = tt
     read_refused (Err error) e =
-        subst (IsAnswer (Means text) (IsFirstFault IsFront current scan.flags text)) (sym e)
+        subst (IsAnswer (Means text) (IsFirstFault IsViable current scan.flags text)) (sym e)
         (reads_meaning_or_fault text)
 
     -- if the input has a meaning, a parser that returns the result of the state machine returns it
-    pub read_meant : (r : Result R E) (m : Meaning) → seen meaning fault r ≡ read scan scan.start text → Means text m
+    pub read_meant : (r : Result R E) (m : Meaning) → map_result meaning fault r ≡ read scan scan.start text → Means text m
         → IsOkAnd r (λ value. meaning value ≡ m)
     read_meant (Ok value) m e h = let k : Ok (meaning value) ≡ Ok m = e ∙ reads_meaning text m h in cc
     read_meant (Err error) m e h =

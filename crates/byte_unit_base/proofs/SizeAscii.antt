@@ -13,10 +13,10 @@ use Rattle.std.proofs.lemmas.List.Elements.{All-nil, All-cons, All-head, All-tai
 use Rattle.std.proofs.lemmas.Str.{IsAscii-append, IsUtf8-from_ascii}
 use Rattle.std.proofs.lemmas.Str.Ascii.{IsAscii-nil, IsAscii-cons, IsAscii-from_all}
 use Rattle.byte_unit_base.specs.Shape.{Shape}
-use Rattle.byte_unit_base.specs.Edition.{current}
+use Rattle.byte_unit_base.specs.Version.{current}
 use Rattle.byte_unit_base.specs.Spelling.{Flags, SpellsBinary, SpellsPrefix, SpellsCount, Spells}
 use Rattle.byte_unit_base.specs.Number.{IsNumberText}
-use Rattle.byte_unit_base.specs.SizeText.{space, trimmed, IsSizeText}
+use Rattle.byte_unit_base.specs.SizeText.{space, trim_of, IsSizeText}
 use Rattle.byte_unit_base.specs.FastReading.{HasVisibleEnds}
 use Rattle.byte_unit_base.proofs.Trim.{StartsWithoutSpace, EndsWithoutSpace, trimmed_same}
 
@@ -136,7 +136,7 @@ visible_end bytes ends =
 
 -- if bytes with visible characters at their ends are a number and a unit, they are so when trimmed
 pub trimmed_size : (flags : Flags) (bytes : List ℕ) (number : ℕ) (unit : Shape) → HasVisibleEnds bytes
-    → IsSizeText current flags bytes number unit → IsSizeText current flags (trimmed bytes) number unit
+    → IsSizeText current flags bytes number unit → IsSizeText current flags (trim_of bytes) number unit
 trimmed_size flags bytes number unit ends h =
     subst (λ text. IsSizeText current flags text number unit)
     (sym (trimmed_same bytes (visible_start bytes ends) (visible_end bytes ends)

@@ -6,12 +6,12 @@ use Rattle.std.specs.Str.{chars, IsUtf8, IsCharBoundary}
 use Rattle.std.specs.Str.Parse.{IsNumeral}
 use Rattle.std.proofs.lemmas.List.{length-take-le}
 use Rattle.std.proofs.lemmas.Str.{chars-append, chars-IsAscii, IsUtf8-from_ascii, IsCharBoundary-from_take}
-use Rattle.byte_unit_math.specs.Bounds.{one, whole_limit}
-use Rattle.byte_unit_base.specs.Edition.{current}
+use Rattle.byte_unit_math.specs.Bounds.{scale, whole_limit}
+use Rattle.byte_unit_base.specs.Version.{current}
 use Rattle.byte_unit_base.specs.Spelling.{Flags}
 use Rattle.byte_unit_base.specs.Number.{point, IsWholePart, IsNumberText}
 use Rattle.byte_unit_base.specs.Scan.{run, read}
-use Rattle.byte_unit_base.specs.SizeScan.{IsScan, size_step, size_scan, precise, number_of}
+use Rattle.byte_unit_base.specs.SizeScan.{IsScan, size_step, size_scan, fixed_point, number_at}
 use Rattle.byte_unit_base.specs.FastReading.{AreDigits, AreScanned}
 use Rattle.byte_unit_base.specs.declared.read.scan.SizeScan.{SizeScan}
 use Rattle.byte_unit_base.specs.declared.read.scan.SizeScan.TheVariants.{Beginning, Whole, Point, Fraction, Gap}
@@ -35,7 +35,7 @@ whole_scanned bytes end whole digits some below =
     let part = whole_part bytes end whole digits some below in
     record {
       within = digits.within;
-      ascii = number_ascii (take end bytes) (whole * one) (inl (whole, part, refl));
+      ascii = number_ascii (take end bytes) (whole * scale) (inl (whole, part, refl));
       run_is = run_whole (take end bytes) whole part;
     }
 
@@ -66,7 +66,7 @@ precise_scanned bytes end whole places fraction number within =
     let text = take (end + 1 + places) bytes in
     record {
       within = within;
-      ascii = number_ascii text (precise whole fraction places) (precise_number bytes end whole places fraction number);
+      ascii = number_ascii text (fixed_point whole fraction places) (precise_number bytes end whole places fraction number);
       run_is = precise_run bytes end whole places fraction number;
     }
 
@@ -97,7 +97,7 @@ rest_read flags bytes end state scanned =
     ∙ read_through (size_scan flags) Beginning state front (chars rest) scanned.run_is)
 
 number_reached : (state : SizeScan) (text : List ℕ) → SizeReached state text
-    → IfSome (number_of state) (λ number. IsNumberText current text number)
+    → IfSome (number_at state) (λ number. IsNumberText current text number)
 number_reached Beginning text r = tt
 number_reached (Whole w) text r = inl (w, r, refl)
 number_reached (Point w) text r = tt
@@ -107,7 +107,7 @@ number_reached (UnitAt n s) text r = tt
 
 -- the number of the state after the digits is that of their text
 pub number_scanned : (bytes : List ℕ) (end : ℕ) (state : SizeScan) → AreScanned bytes end state
-    → IfSome (number_of state) (λ number. IsNumberText current (take end bytes) number)
+    → IfSome (number_at state) (λ number. IsNumberText current (take end bytes) number)
 number_scanned bytes end state scanned =
     number_reached state (take end bytes)
     (run_keeps size_step SizeReached (λ s t c text e r. SizeReached-step s t c text (step_cases s t c e) r)

@@ -2,7 +2,7 @@
 use Rattle.std.proofs.Common.{◌≡◌, ℕ, Bool, List, Option, Some, None, Ok, Err, sym, ap, subst, arith, inl, inr, refl}
 use Rattle.std.specs.Option.{ok_or}
 use Rattle.byte_unit_base.specs.Shape.{Shape}
-use Rattle.byte_unit_base.specs.Edition.{current}
+use Rattle.byte_unit_base.specs.Version.{current}
 use Rattle.byte_unit_base.specs.Units.{shape_of}
 use Rattle.byte_unit_base.specs.Fault.{exceeded}
 use Rattle.byte_unit_base.specs.declared.unit.Unit.{Unit as UnitName}
@@ -33,7 +33,7 @@ found_as_read kind ignore_case bytes found number n reading read =
 pub reading_of_size :
     (kind : Kind) (ignore_case : Bool) (bytes : List ℕ) (found : ℕ × UnitName) (n : ℕ)
     → IsNumberReading (flags_for kind ignore_case) bytes (Ok found)
-    → IsSizeOrNone current (IsLeastOf kind found.0 (shape_of found.1)) (Some n)
+    → IsSizeOrNone (IsLeastOf kind found.0 (shape_of found.1)) (Some n)
     → IsSizeReading kind ignore_case bytes (Ok n)
 reading_of_size kind ignore_case bytes found n reading size = record {
   found = record {
@@ -54,7 +54,7 @@ pub reading_of_excess :
     (kind : Kind) (ignore_case : Bool) (bytes : List ℕ) (found : ℕ × UnitName)
     → ((n : ℕ) × IsLeastOf kind found.0 (shape_of found.1) n)
     → IsNumberReading (flags_for kind ignore_case) bytes (Ok found)
-    → IsSizeOrNone current (IsLeastOf kind found.0 (shape_of found.1)) None
+    → IsSizeOrNone (IsLeastOf kind found.0 (shape_of found.1)) None
     → IsSizeReading kind ignore_case bytes (Err (Value (ExceededBounds found.0)))
 reading_of_excess kind ignore_case bytes found least reading none = record {
   found = tt;
@@ -77,7 +77,7 @@ reading_of_excess kind ignore_case bytes found least reading none = record {
 pub reading_of_number :
     (kind : Kind) (ignore_case : Bool) (bytes : List ℕ) (found : ℕ × UnitName) (size : Option ℕ)
     → IsNumberReading (flags_for kind ignore_case) bytes (Ok found)
-    → IsSizeOrNone current (IsLeastOf kind found.0 (shape_of found.1)) size
+    → IsSizeOrNone (IsLeastOf kind found.0 (shape_of found.1)) size
     → IsSizeReading kind ignore_case bytes (ok_or size (Value (ExceededBounds found.0)))
 reading_of_number kind ignore_case bytes found (Some n) reading size =
     reading_of_size kind ignore_case bytes found n reading size

@@ -2,14 +2,14 @@
 use Rattle.std.proofs.Common.{◌≡◌, ℕ, Bool, List, ◌⊎◌, inl, inr, ⊎_elim, sym, ap, subst, arith, ◌∙◌, refl}
 use Rattle.std.proofs.lemmas.Bool.{cases_lt}
 use Rattle.byte_unit_base.specs.Shape.{Shape}
-use Rattle.byte_unit_base.specs.Edition.{current}
-use Rattle.byte_unit_base.specs.SizeText.{trimmed}
+use Rattle.byte_unit_base.specs.Version.{current}
+use Rattle.byte_unit_base.specs.SizeText.{trim_of}
 use Rattle.byte_unit_base.specs.Fault.{Fault, exceeded}
 use Rattle.byte_unit_base.specs.Kinds.{flags_for}
 use Rattle.byte_unit_base.specs.LeastOfKind.{IsLeastOf}
-use Rattle.byte_unit_base.specs.Accepted.{IsRead, IsAccepted, Exceeds, HasFault, IsRefused}
-use Rattle.byte_unit_base.specs.SizeLaws.{IsOneOfThree, EachTextIsOneOfThree, TextsAreAcceptedOrRefused}
-use Rattle.byte_unit_base.specs.ReaderLaws.{IsOneAnswer, States}
+use Rattle.byte_unit_base.specs.Accepted.{IsRead, IsAccepted, Exceeds, HasFault, IsRejected}
+use Rattle.byte_unit_base.specs.SizeLaws.{IsOneOfThree, EachTextIsOneOfThree, TextsAreAcceptedOrRejected}
+use Rattle.byte_unit_base.specs.ReaderLaws.{IsOneAnswer, Represents}
 use Rattle.byte_unit_base.specs.declared.kind.Kind.{Kind}
 use Rattle.byte_unit_base.proofs.Rounding.{least_exists, least_is_unique}
 use Rattle.byte_unit_base.proofs.SizeReads.{size_texts_have_one_answer}
@@ -20,9 +20,9 @@ record IsSame (number other n m : ℕ) : Type 0 where
   sizes : n ≡ m
 
 module _ (kind : Kind) (ignore_case : Bool) (text : List ℕ) where
-  one_answer : IsOneAnswer (ℕ × Shape) (States (flags_for kind ignore_case) (trimmed text))
-      (HasFault current kind ignore_case text)
-  one_answer = size_texts_have_one_answer (flags_for kind ignore_case) (trimmed text)
+  one_answer : IsOneAnswer (ℕ × Shape) (Represents (flags_for kind ignore_case) (trim_of text))
+      (HasFault kind ignore_case text)
+  one_answer = size_texts_have_one_answer (flags_for kind ignore_case) (trim_of text)
 
   same_read : (number other n m : ℕ) → IsRead current kind ignore_case text number n
       → IsRead current kind ignore_case text other m
@@ -38,19 +38,19 @@ module _ (kind : Kind) (ignore_case : Bool) (text : List ℕ) where
 
   -- an input in the grammar has no error of its characters
   no_fault : (number n : ℕ) (fault : Fault) → IsRead current kind ignore_case text number n
-      → ¬ (HasFault current kind ignore_case text fault)
+      → ¬ (HasFault kind ignore_case text fault)
   no_fault number n fault a f = one_answer.not_both (number, a.unit) fault a.is_size f
 
   -- an input that is accepted has no number whose size is too large
-  no_excess : (n number : ℕ) → IsAccepted current kind ignore_case text n
-      → ¬ (Exceeds current kind ignore_case text number)
+  no_excess : (n number : ℕ) → IsAccepted kind ignore_case text n
+      → ¬ (Exceeds kind ignore_case text number)
   no_excess n number a e =
       let same = same_read a.number number n e.size a.is_read e.is_read in
       omega (arith, same.sizes, a.below, e.above)
 
-  some_of_three : ((n : ℕ) × IsAccepted current kind ignore_case text n)
-      ⊎ (((number : ℕ) × Exceeds current kind ignore_case text number)
-      ⊎ ((fault : Fault) × HasFault current kind ignore_case text fault))
+  some_of_three : ((n : ℕ) × IsAccepted kind ignore_case text n)
+      ⊎ (((number : ℕ) × Exceeds kind ignore_case text number)
+      ⊎ ((fault : Fault) × HasFault kind ignore_case text fault))
   some_of_three =
       ⊎_elim (λ read. let least = least_exists kind read.0.0 read.0.1 in
       let is_read : IsRead current kind ignore_case text read.0.0 least.0 =
@@ -63,8 +63,8 @@ module _ (kind : Kind) (ignore_case : Bool) (text : List ℕ) where
 
   -- an input is accepted as one size, or its size is too large, or it has one error of its characters
   pub is_one_of_three : IsOneOfThree
-      (IsAccepted current kind ignore_case text) (Exceeds current kind ignore_case text)
-      (HasFault current kind ignore_case text)
+      (IsAccepted kind ignore_case text) (Exceeds kind ignore_case text)
+      (HasFault kind ignore_case text)
   is_one_of_three = record {
     some = some_of_three;
     one_size = λ n other a b. (same_read a.number b.number n other a.is_read b.is_read).sizes;
@@ -76,28 +76,28 @@ module _ (kind : Kind) (ignore_case : Bool) (text : List ℕ) where
   }
 
   -- an input whose size is too large, or that has an error of its characters, is rejected
-  refusal : ((number : ℕ) × Exceeds current kind ignore_case text number)
-      ⊎ ((fault : Fault) × HasFault current kind ignore_case text fault)
-      → (fault : Fault) × IsRefused current kind ignore_case text fault
+  refusal : ((number : ℕ) × Exceeds kind ignore_case text number)
+      ⊎ ((fault : Fault) × HasFault kind ignore_case text fault)
+      → (fault : Fault) × IsRejected kind ignore_case text fault
   refusal (inl e) = (exceeded e.0, inl (e.0, refl, e.1))
   refusal (inr f) = (f.0, inr f.1)
 
-  one_refusal : (fault other : Fault) → IsRefused current kind ignore_case text fault
-      → IsRefused current kind ignore_case text other
+  one_refusal : (fault other : Fault) → IsRejected kind ignore_case text fault
+      → IsRejected kind ignore_case text other
       → fault ≡ other
   one_refusal fault other (inl e) (inl x) = e.1 ∙ (ap exceeded (is_one_of_three.one_number e.0 x.0 e.2 x.2) ∙ sym x.1)
   one_refusal fault other (inl e) (inr f) = absurd (is_one_of_three.no_fault_of_excess e.0 other e.2 f)
   one_refusal fault other (inr f) (inl e) = absurd (is_one_of_three.no_fault_of_excess e.0 fault e.2 f)
   one_refusal fault other (inr f) (inr g) = is_one_of_three.one_fault fault other f g
 
-  no_refusal : (n : ℕ) (fault : Fault) → IsAccepted current kind ignore_case text n
-      → ¬ (IsRefused current kind ignore_case text fault)
+  no_refusal : (n : ℕ) (fault : Fault) → IsAccepted kind ignore_case text n
+      → ¬ (IsRejected kind ignore_case text fault)
   no_refusal n fault a (inl e) = is_one_of_three.no_excess n e.0 a e.2
   no_refusal n fault a (inr f) = is_one_of_three.no_fault n fault a f
 
   -- an input is accepted as one size, or rejected with one error
-  pub accepted_or_not : IsOneAnswer ℕ (IsAccepted current kind ignore_case text)
-      (IsRefused current kind ignore_case text)
+  pub accepted_or_not : IsOneAnswer ℕ (IsAccepted kind ignore_case text)
+      (IsRejected kind ignore_case text)
   accepted_or_not = record {
     some = ⊎_elim (λ a. inl a) (λ r. inr (refusal r)) is_one_of_three.some;
     one_meaning = is_one_of_three.one_size;
@@ -110,5 +110,5 @@ pub one_of_three : EachTextIsOneOfThree
 one_of_three kind ignore_case text = is_one_of_three kind ignore_case text
 
 -- each input is accepted as one size, or rejected with one error, and not both
-pub accepted_or_refused : TextsAreAcceptedOrRefused
+pub accepted_or_refused : TextsAreAcceptedOrRejected
 accepted_or_refused kind ignore_case text = accepted_or_not kind ignore_case text

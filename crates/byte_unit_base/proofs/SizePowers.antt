@@ -4,15 +4,15 @@ use Rattle.std.proofs.Common.{subst}
 use Rattle.std.proofs.Math.Nat.{pow-le-pow_right, mul-le-mul_left}
 use Rattle.std.proofs.lemmas.Nat.{pow-add}
 use Rattle.std.specs.Int.{w128, trailing_zeros}
-use Rattle.byte_unit_math.specs.Bounds.{one, places_of_decimal, whole_limit}
-use Rattle.byte_unit_math.specs.Steps.{raised}
+use Rattle.byte_unit_math.specs.Bounds.{scale, places_of_decimal, whole_limit}
+use Rattle.byte_unit_math.specs.Steps.{saturating_add}
 use Rattle.byte_unit_math.specs.Exact.{IsExactAt, IsLeastPlaces, IsQuotient}
 use Rattle.byte_unit_math.specs.Powers.{IsTwoFive}
 use Rattle.byte_unit_math.proofs.Powers.{exact_by_powers, numbers_have_exponents}
 use Rattle.byte_unit_base.specs.Shape.{Shape, bits, twos, fives}
-use Rattle.byte_unit_base.specs.Edition.{current}
+use Rattle.byte_unit_base.specs.Version.{current}
 use Rattle.byte_unit_base.specs.Kinds.{bits_in}
-use Rattle.byte_unit_base.specs.Choice.{IsLargest, NoneHas, States, IsChosen, CountsChoice, TakesSteps, places_within}
+use Rattle.byte_unit_base.specs.Choice.{IsLargest, NoneHas, IsExactUnit, IsChosen, CountsChoice, TakesSteps, places_within}
 use Rattle.byte_unit_base.specs.ChoiceLaws.{SizesAreExactByPowers}
 use Rattle.byte_unit_base.proofs.Rows.{HasPowers, IsMultiple}
 use Rattle.byte_unit_base.specs.declared.kind.Kind.{Kind}
@@ -80,7 +80,7 @@ module _ (family : Family) (in_bits precision a b : ℕ) (powers : IsTwoFive in_
   abbrev HasFewPowers : Shape → Type 0
   HasFewPowers = HasPowers family in_bits (a + places_within precision) (b + places_within precision)
 
-  pub states_of_powers : (unit : Shape) → HasFewPowers unit → States current family in_bits precision unit
+  pub states_of_powers : (unit : Shape) → HasFewPowers unit → IsExactUnit family in_bits precision unit
   states_of_powers unit h = record {
     member = h.member;
     not_above = h.not_above;
@@ -88,26 +88,26 @@ module _ (family : Family) (in_bits precision a b : ℕ) (powers : IsTwoFive in_
         (h.few_twos, h.few_fives);
   }
 
-  pub powers_of_states : (unit : Shape) → States current family in_bits precision unit → HasFewPowers unit
+  pub powers_of_states : (unit : Shape) → IsExactUnit family in_bits precision unit → HasFewPowers unit
   powers_of_states unit s =
       let h = (exact_by_powers in_bits (twos unit) (fives unit) a b (places_within precision) powers).0 s.exact in
       record { member = s.member; not_above = s.not_above; few_twos = h.0; few_fives = h.1 }
 
   pub largest_of_powers : (unit : Shape) → IsLargest HasFewPowers unit
-      → IsLargest (States current family in_bits precision) unit
+      → IsLargest (IsExactUnit family in_bits precision) unit
   largest_of_powers unit h = record {
     has = states_of_powers unit h.has;
     largest = λ other s. h.largest other (powers_of_states other s);
   }
 
-  pub none_of_powers : NoneHas HasFewPowers → NoneHas (States current family in_bits precision)
+  pub none_of_powers : NoneHas HasFewPowers → NoneHas (IsExactUnit family in_bits precision)
   none_of_powers none = λ unit s. none unit (powers_of_states unit s)
 
 -- the largest unit with no greater exponents than those of the size plus the places is chosen, with its quotient
 pub chosen_by_powers : {family : Family} {in_bits most a b number : ℕ} (precision : ℕ) (unit : Shape)
     → most ≡ places_within precision
     → IsTwoFive in_bits a b → IsLargest (HasPowers family in_bits (a + most) (b + most)) unit
-    → IsQuotient in_bits (bits unit) (places_within most) number → IsChosen current family in_bits precision unit number
+    → IsQuotient in_bits (bits unit) (places_within most) number → IsChosen family in_bits precision unit number
 chosen_by_powers {family} {in_bits} {most} {a} {b} {number} precision unit same powers h q =
     let found : ℕ → Type 0 = λ n. IsLargest (HasPowers family in_bits (a + n) (b + n)) unit in
     let within : places_within most ≡ places_within precision = omega (arith, same) in
@@ -120,7 +120,7 @@ chosen_by_powers {family} {in_bits} {most} {a} {b} {number} precision unit same 
 -- if no unit has exponents that are small enough, the size is exact in no unit
 pub none_by_powers : {family : Family} {in_bits most a b : ℕ} (precision : ℕ) → most ≡ places_within precision
     → IsTwoFive in_bits a b
-    → NoneHas (HasPowers family in_bits (a + most) (b + most)) → NoneHas (States current family in_bits precision)
+    → NoneHas (HasPowers family in_bits (a + most) (b + most)) → NoneHas (IsExactUnit family in_bits precision)
 none_by_powers {family} {in_bits} {most} {a} {b} precision same powers h =
     let none : ℕ → Type 0 = λ n. NoneHas (HasPowers family in_bits (a + n) (b + n)) in
     none_of_powers family in_bits precision a b powers (subst none same h)
@@ -149,8 +149,8 @@ count_fits {row} size divisor places multiple kind small few =
 
 -- the steps of the two trials, and then of the division, are the step count of a choice
 pub counted_choice : {size number a b places : ℕ} (old mid new : ℕ) → IsTwoFive size a b
-    → IsLeastPlaces number one places
-    → mid ≡ raised old (a + b + 2) → new ≡ raised mid places → CountsChoice size number old new
+    → IsLeastPlaces number scale places
+    → mid ≡ saturating_add old (a + b + 2) → new ≡ saturating_add mid places → CountsChoice size number old new
 counted_choice {size} {number} {a} {b} {places} old mid new powers least trials division =
     let steps : TakesSteps size number (a + b + 2 + places) = record {
       twos = a;
@@ -163,7 +163,7 @@ counted_choice {size} {number} {a} {b} {places} old mid new powers least trials 
     inr (a + b + 2 + places, steps, omega (arith, trials, division))
 
 -- a size in its own unit has the step count of a size for which no unit is chosen
-pub counted_whole : (size number old new : ℕ) → number ≡ size * one → CountsChoice size 0 old new
+pub counted_whole : (size number old new : ℕ) → number ≡ size * scale → CountsChoice size 0 old new
     → CountsChoice size number old new
 counted_whole size number old new value (inl h) = inl h
 counted_whole size number old new value (inr (steps, t, e)) =

@@ -6,11 +6,11 @@ use Rattle.std.proofs.Common.{ap, subst, ◌∙◌, arith, append_assoc, append-
 use Rattle.std.specs.Char.{digit_value}
 use Rattle.std.specs.Str.Parse.{IsNumeral, digits_value}
 use Rattle.std.proofs.lemmas.Int.Digits.{digits_value_push, digits_push}
-use Rattle.byte_unit_math.specs.Bounds.{one, places_of_decimal}
-use Rattle.byte_unit_base.specs.Edition.{current}
+use Rattle.byte_unit_math.specs.Bounds.{scale, places_of_decimal}
+use Rattle.byte_unit_base.specs.Version.{current}
 use Rattle.byte_unit_base.specs.Number.{IsWholePart, IsPointed, IsPrecise, IsNumberText}
 use Rattle.byte_unit_base.specs.UnitScan.{start as unit_start}
-use Rattle.byte_unit_base.specs.SizeScan.{precise}
+use Rattle.byte_unit_base.specs.SizeScan.{fixed_point}
 use Rattle.byte_unit_base.specs.declared.unit.scan.UnitScan.{UnitScan}
 use Rattle.byte_unit_base.specs.declared.read.scan.SizeScan.{SizeScan}
 use Rattle.byte_unit_base.specs.declared.read.scan.SizeScan.TheVariants.{Beginning, Whole, Point, Fraction, Gap}
@@ -57,7 +57,7 @@ SizeReached (Gap n) text = GapReached n text
 SizeReached (UnitAt n s) text = (r : UnitReached n s text) × (0 < length r.unit_part)
 
 -- the text of a whole part, a point and a fraction is their number
-pub fraction_number : (w f j : ℕ) (text : List ℕ) → FractionReached w f j text → IsPrecise current text (precise w f j)
+pub fraction_number : (w f j : ℕ) (text : List ℕ) → FractionReached w f j text → IsPrecise current text (fixed_point w f j)
 fraction_number w f j text r =
     record {
       whole = r.whole;
@@ -161,7 +161,7 @@ SizeReached-step (Whole w) t c text (inr (inl k)) r =
       text_is = ap (λ x. text ++ x ∷ []) k.0;
       whole_is = r;
     })
-SizeReached-step (Whole w) t c text (inr (inr k)) r = number_grows (w * one) c t text (inl (w, r, refl)) k
+SizeReached-step (Whole w) t c text (inr (inr k)) r = number_grows (w * scale) c t text (inl (w, r, refl)) k
 SizeReached-step (Point w) t c text k r =
     subst (λ x. SizeReached x (text ++ c ∷ [])) k.1 (record {
       whole = r.whole;
@@ -185,6 +185,6 @@ SizeReached-step (Fraction w f j) t c text (inl k) r =
       few = omega (arith, k.1);
     })
 SizeReached-step (Fraction w f j) t c text (inr k) r =
-    number_grows (precise w f j) c t text (inr (fraction_number w f j text r)) k
+    number_grows (fixed_point w f j) c t text (inr (fraction_number w f j text r)) k
 SizeReached-step (Gap n) t c text k r = gap_grows n c t text r k
 SizeReached-step (UnitAt n s) t c text k r = unit_grows n c s t text r.0 k

@@ -4,24 +4,24 @@ use Rattle.std.proofs.Common.{◌≡◌, ◌≢◌, ℕ, ◌<◌, Bool, true, fa
 use Rattle.std.proofs.Common.{Some, None, Result, Ok}
 use Rattle.std.proofs.Common.{Err, IfErr, length, replicate, sym, refl, ap, ◌∙◌, arith, append-nil}
 use Rattle.std.specs.Prelude.{IsOkAnd}
-use Rattle.byte_unit_math.specs.Bounds.{one}
+use Rattle.byte_unit_math.specs.Bounds.{scale}
 use Rattle.byte_unit_base.specs.Shape.{Shape}
-use Rattle.byte_unit_base.specs.Edition.{current}
+use Rattle.byte_unit_base.specs.Version.{current}
 use Rattle.byte_unit_base.specs.Units.{shape_of}
 use Rattle.byte_unit_base.specs.Spelling.{Flags, Spells}
 use Rattle.byte_unit_base.specs.Number.{IsNumberText}
-use Rattle.byte_unit_base.specs.SizeText.{trimmed, IsSizeText}
+use Rattle.byte_unit_base.specs.SizeText.{trim_of, IsSizeText}
 use Rattle.byte_unit_base.specs.Readings.{IsNumberReading}
-use Rattle.byte_unit_base.specs.Front.{Place, beginning, in_whole, after_point, in_fraction, after_prefix, after_bi}
-use Rattle.byte_unit_base.specs.Front.{IsUnitFront}
-use Rattle.byte_unit_base.specs.Front.{IsSizedFront, IsSizeFront}
+use Rattle.byte_unit_base.specs.ViablePrefix.{ParserState, beginning, in_whole, after_point, in_fraction, after_prefix, after_bi}
+use Rattle.byte_unit_base.specs.ViablePrefix.{IsViableUnitPrefix}
+use Rattle.byte_unit_base.specs.ViablePrefix.{IsNumberAndUnitPrefix, IsViableSizePrefix}
 use Rattle.byte_unit_base.specs.Fault.{Fault, IsFaultAfter, fault_at, fault_at_end, no_unit, too_long, exceeded}
 use Rattle.byte_unit_base.specs.Errors.{size_fault}
-use Rattle.byte_unit_base.specs.ReaderLaws.{States, SizeTextsHaveOneAnswer, SizeFrontsAreBeginnings}
+use Rattle.byte_unit_base.specs.ReaderLaws.{Represents, SizeTextsHaveOneAnswer, ViableSizePrefixesAreBeginnings}
 use Rattle.byte_unit_base.specs.Scan.{read}
-use Rattle.byte_unit_base.specs.UnitScan.{unit_step, unit_of, unit_at_end, word_place, scan_of, start as unit_start}
-use Rattle.byte_unit_base.specs.SizeScan.{is_digit, size_step, size_scan, size_seen, stated, size_at_end, size_place}
-use Rattle.byte_unit_base.specs.SizeScan.{sized, precise}
+use Rattle.byte_unit_base.specs.UnitScan.{unit_step, unit_of, unit_at_end, word_parser_state, scan_of, start as unit_start}
+use Rattle.byte_unit_base.specs.SizeScan.{is_digit, size_step, size_scan, size_result, with_shape, size_at_end, size_parser_state}
+use Rattle.byte_unit_base.specs.SizeScan.{size_or_fault, fixed_point}
 use Rattle.byte_unit_base.specs.declared.unit.Unit.{Unit as UnitName}
 use Rattle.byte_unit_base.specs.declared.errors.ParseError.{ParseError}
 use Rattle.byte_unit_base.specs.declared.unit.scan.UnitScan.{UnitScan}
@@ -42,9 +42,9 @@ use Rattle.byte_unit_base.proofs.SizeRuns.{size_text_runs, size_front_runs}
 
 -- the text that led to a state is a viable prefix
 
-front_in_unit : (n : ℕ) (s : UnitScan) (place : Place) (text : List ℕ) (r : UnitReached n s text)
-    → IsUnitFront current place r.unit_part
-    → IsSizedFront current place text
+front_in_unit : (n : ℕ) (s : UnitScan) (place : ParserState) (text : List ℕ) (r : UnitReached n s text)
+    → IsViableUnitPrefix current place r.unit_part
+    → IsNumberAndUnitPrefix current place text
 front_in_unit n s place text r h =
     record {
       number_part = r.number_part;
@@ -58,7 +58,7 @@ front_in_unit n s place text r h =
 
 size_front_in_unit : (n : ℕ) (m : Multiple) (w : Word) (text : List ℕ) (r : UnitReached n (scan_of m w) text)
     → 0 < length r.unit_part
-    → IsSizeFront current (word_place m w) text
+    → IsViableSizePrefix current (word_parser_state m w) text
 size_front_in_unit n One Empty text r some =
     let none : r.unit_part ≡ [] = r.reached.text_is
     ∙ (ap (λ x. x ++ r.reached.word) r.reached.front_is ∙ r.reached.word_is) in
@@ -67,13 +67,13 @@ size_front_in_unit n (Decimal p) Empty text r some =
     front_in_unit n _ after_prefix text r (unit_front (Decimal p) Empty r.unit_part r.reached)
 size_front_in_unit n (Binary p) Empty text r some =
     front_in_unit n _ after_prefix text r (unit_front (Binary p) Empty r.unit_part r.reached)
-size_front_in_unit n m w text r some = front_in_unit n _ (word_place m w) text r (unit_front m w r.unit_part r.reached)
+size_front_in_unit n m w text r some = front_in_unit n _ (word_parser_state m w) text r (unit_front m w r.unit_part r.reached)
 
-size_front : (s : SizeScan) (text : List ℕ) → SizeReached s text → IsSizeFront current (size_place s) text
+size_front : (s : SizeScan) (text : List ℕ) → SizeReached s text → IsViableSizePrefix current (size_parser_state s) text
 size_front Beginning text r = r
 size_front (Whole w) text r = (w, r)
 size_front (Point w) text r = (w, r)
-size_front (Fraction w f j) text r = (precise w f j, fraction_number w f j text r)
+size_front (Fraction w f j) text r = (fixed_point w f j, fraction_number w f j text r)
 size_front (Gap n) text r = (
   record {
     number_part = r.number_part;
@@ -92,7 +92,7 @@ size_front (UnitAt n s) text r = size_front_in_unit n s.multiple s.word text r.0
 
 number_at_end : (flags : Flags) (n : ℕ) (text number : List ℕ) (k : ℕ) → text ≡ number ++ replicate k 32
     → IsNumberText current number n
-    → EndsIn (States flags text) None (sized n (unit_of flags unit_start))
+    → EndsIn (Represents flags text) None (size_or_fault n (unit_of flags unit_start))
 number_at_end flags n text number k e h = (
   (n, _),
   record {
@@ -110,7 +110,7 @@ number_at_end flags n text number k e h = (
 unit_at_end_of : (flags : Flags) (n : ℕ) (text unit_part : List ℕ)
     → ((unit : Shape) → Spells current flags unit_part unit → IsSizeText current flags text n unit)
     → (fault : Option Fault) (unit : Option Shape) → EndsIn (Spells current flags unit_part) fault (unit_at_end unit)
-    → EndsIn (States flags text) fault (sized n unit)
+    → EndsIn (Represents flags text) fault (size_or_fault n unit)
 unit_at_end_of flags n text unit_part states (Some fault) None e = cc
 unit_at_end_of flags n text unit_part states (Some fault) (Some unit) e = absurd (let k : ⊥ = cc in k)
 unit_at_end_of flags n text unit_part states None None e = absurd (let k : ⊥ = cc (e.2) in k)
@@ -118,12 +118,12 @@ unit_at_end_of flags n text unit_part states None (Some unit) e =
     let same : unit ≡ e.0 = cc (e.2) in ((n, e.0), states e.0 e.1, ap (λ x. Ok (n, x)) same)
 
 size_ends : (flags : Flags) (s : SizeScan) (text : List ℕ) → SizeReached s text
-    → EndsIn (States flags text) (fault_at_end (size_place s)) (size_at_end flags s)
+    → EndsIn (Represents flags text) (fault_at_end (size_parser_state s)) (size_at_end flags s)
 size_ends flags Beginning text r = refl
-size_ends flags (Whole w) text r = number_at_end flags (w * one) text text 0 (sym (append-nil text)) (inl (w, r, refl))
+size_ends flags (Whole w) text r = number_at_end flags (w * scale) text text 0 (sym (append-nil text)) (inl (w, r, refl))
 size_ends flags (Point w) text r = refl
 size_ends flags (Fraction w f j) text r =
-    number_at_end flags (precise w f j) text text 0 (sym (append-nil text)) (inr (fraction_number w f j text r))
+    number_at_end flags (fixed_point w f j) text text 0 (sym (append-nil text)) (inr (fraction_number w f j text r))
 size_ends flags (Gap n) text r = number_at_end flags n text r.number_part r.spaces r.text_is r.number_is
 size_ends flags (UnitAt n s) text r =
     let u = r.0 in
@@ -136,7 +136,7 @@ size_ends flags (UnitAt n s) text r =
       number_is = u.number_is;
       unit_is = h;
     })
-    (fault_at_end (word_place s.multiple s.word)) (unit_of flags s)
+    (fault_at_end (word_parser_state s.multiple s.word)) (unit_of flags s)
     (unit_ends flags s.multiple s.word u.unit_part u.reached)
 
 -- a digit completes a number at the beginning and after the point, a `t` completes `bi`, and nothing is missing
@@ -163,7 +163,7 @@ size_goes_on flags (UnitAt n s) = goes_on_in_unit flags n s.multiple s.word
 
 -- the state machine of sizes accepts exactly the numbers and units of the grammar, and its states are those after the
 -- viable prefixes
-pub size_scan_is : (flags : Flags) → IsScanOf (size_scan flags) SizeReached (IsSizeFront current) (States flags)
+pub size_scan_is : (flags : Flags) → IsScanOf (size_scan flags) SizeReached (IsViableSizePrefix current) (Represents flags)
 size_scan_is flags = record {
   starts = refl;
   steps = λ s t c text e r. SizeReached-step s t c text (step_cases s t c e) r;
@@ -179,49 +179,49 @@ digit_bounds : (t : Bool) (c n : ℕ) → cond t too_long (no_unit current c) �
 digit_bounds true c n = λ e. cc
 digit_bounds false c n = λ e. cc
 
-no_bounds_at : (flags : Flags) (place : Place) (c n : ℕ) → fault_at current flags place c ≢ exceeded n
+no_bounds_at : (flags : Flags) (place : ParserState) (c n : ℕ) → fault_at current flags place c ≢ exceeded n
 no_bounds_at flags in_whole c n = digit_bounds (is_digit c) c n
 no_bounds_at flags in_fraction c n = digit_bounds (is_digit c) c n
 no_bounds_at flags _ c n = λ e. cc
 
-no_bounds_at_end : (place : Place) (n : ℕ) → fault_at_end place ≢ Some (exceeded n)
+no_bounds_at_end : (place : ParserState) (n : ℕ) → fault_at_end place ≢ Some (exceeded n)
 no_bounds_at_end beginning n = λ e. cc
 no_bounds_at_end after_point n = λ e. cc
 no_bounds_at_end after_bi n = λ e. cc
 no_bounds_at_end _ n = λ e. cc
 
-no_bounds_after : (flags : Flags) (place : Place) (rest : List ℕ) (fault : Fault) (n : ℕ)
+no_bounds_after : (flags : Flags) (place : ParserState) (rest : List ℕ) (fault : Fault) (n : ℕ)
     → IsFaultAfter current flags place rest fault
     → fault ≢ exceeded n
 no_bounds_after flags place [] fault n h = λ e. no_bounds_at_end place n (h ∙ ap Some e)
 no_bounds_after flags place (c ∷ cs) fault n h = λ e. no_bounds_at flags place c n (sym h ∙ e)
 
 read_no_bounds : (flags : Flags) (text : List ℕ) (r : Result (ℕ × UnitName) ParseError)
-    → size_seen r ≡ read (size_scan flags) Beginning text
+    → size_result r ≡ read (size_scan flags) Beginning text
     → IfErr r (λ error. (n : ℕ) → size_fault error ≢ exceeded n)
 read_no_bounds flags text (Ok x) e = tt
 read_no_bounds flags text (Err x) e = λ n.
-    let f = read_refused (size_scan_is flags) stated size_fault text (Err x) e in
+    let f = read_refused (size_scan_is flags) with_shape size_fault text (Err x) e in
     no_bounds_after flags f.place f.rest (size_fault x) n f.fault_is
 
 -- what the contracts of the parsers say, and the laws
 
 parts_meant : (r : Result (ℕ × UnitName) ParseError) (n : ℕ) (unit : Shape)
-    → IsOkAnd r (λ found. stated found ≡ (n, unit))
+    → IsOkAnd r (λ found. with_shape found ≡ (n, unit))
     → IsOkAnd r (λ found. (found.0 ≡ n) × (shape_of found.1 ≡ unit))
 parts_meant (Ok found) n unit e = (ap (λ x. x.0) e, ap (λ x. x.1) e)
 parts_meant (Err error) n unit e = absurd e
 
 -- a parser that returns the result of the state machine returns the number and unit of the input, or its error
 pub number_reading : (flags : Flags) (bytes : List ℕ) (r : Result (ℕ × UnitName) ParseError)
-    → size_seen r ≡ read (size_scan flags) Beginning (trimmed bytes)
+    → size_result r ≡ read (size_scan flags) Beginning (trim_of bytes)
     → IsNumberReading flags bytes r
 number_reading flags bytes r e = record {
-  found = read_found (size_scan_is flags) stated size_fault (trimmed bytes) r e;
+  found = read_found (size_scan_is flags) with_shape size_fault (trim_of bytes) r e;
   reads = λ n unit h. parts_meant r n unit
-      (read_meant (size_scan_is flags) stated size_fault (trimmed bytes) r (n, unit) e h);
-  fault = read_refused (size_scan_is flags) stated size_fault (trimmed bytes) r e;
-  no_bounds = read_no_bounds flags (trimmed bytes) r e;
+      (read_meant (size_scan_is flags) with_shape size_fault (trim_of bytes) r (n, unit) e h);
+  fault = read_refused (size_scan_is flags) with_shape size_fault (trim_of bytes) r e;
+  no_bounds = read_no_bounds flags (trim_of bytes) r e;
 }
 
 -- each input is exactly one number and unit, or has exactly one error, and not both
@@ -229,12 +229,12 @@ pub size_texts_have_one_answer : SizeTextsHaveOneAnswer
 size_texts_have_one_answer flags text = one_answer (size_scan_is flags) text
 
 -- the viable prefixes of sizes are exactly the beginnings of the inputs in the grammar
-pub size_fronts_are_beginnings : SizeFrontsAreBeginnings
+pub size_fronts_are_beginnings : ViableSizePrefixesAreBeginnings
 size_fronts_are_beginnings flags text = fronts_are_beginnings (size_scan_is flags) text
 
 -- a parser that returns the number and unit of the input is right, however it found them
 pub stated_reading : (flags : Flags) (bytes : List ℕ) (found : ℕ × UnitName)
-    → IsSizeText current flags (trimmed bytes) found.0 (shape_of found.1)
+    → IsSizeText current flags (trim_of bytes) found.0 (shape_of found.1)
     → IsNumberReading flags bytes (Ok found)
 stated_reading flags bytes found h =
-    number_reading flags bytes (Ok found) (sym (reads_meaning (size_scan_is flags) (trimmed bytes) (stated found) h))
+    number_reading flags bytes (Ok found) (sym (reads_meaning (size_scan_is flags) (trim_of bytes) (with_shape found) h))

@@ -6,19 +6,19 @@ use Rattle.std.specs.Option.{option_map}
 use Rattle.std.specs.Char.{digit_value, to_ascii_uppercase}
 use Rattle.std.specs.Str.Parse.{IsNumeral, AllDigits, digits_value, digits_value_after}
 use Rattle.std.proofs.lemmas.Bool.Decides.{nat_tests}
-use Rattle.byte_unit_math.specs.Bounds.{one, places_of_decimal, whole_limit}
+use Rattle.byte_unit_math.specs.Bounds.{scale, places_of_decimal, whole_limit}
 use Rattle.byte_unit_base.specs.Shape.{Shape}
-use Rattle.byte_unit_base.specs.Edition.{current}
+use Rattle.byte_unit_base.specs.Version.{current}
 use Rattle.byte_unit_base.specs.Spelling.{Flags}
 use Rattle.byte_unit_base.specs.Number.{IsWholePart, IsPointed, IsPrecise, IsNumberText}
 use Rattle.byte_unit_base.specs.SizeText.{space, IsSizeText}
-use Rattle.byte_unit_base.specs.Front.{Place, beginning, in_whole, after_point, in_fraction, before_unit, after_prefix}
-use Rattle.byte_unit_base.specs.Front.{after_b, after_bi}
-use Rattle.byte_unit_base.specs.Front.{after_bit, after_bits, IsSizedFront, IsSizeFront}
+use Rattle.byte_unit_base.specs.ViablePrefix.{ParserState, beginning, in_whole, after_point, in_fraction, before_unit, after_prefix}
+use Rattle.byte_unit_base.specs.ViablePrefix.{after_b, after_bi}
+use Rattle.byte_unit_base.specs.ViablePrefix.{after_bit, after_bits, IsNumberAndUnitPrefix, IsViableSizePrefix}
 use Rattle.byte_unit_base.specs.Scan.{run}
-use Rattle.byte_unit_base.specs.UnitScan.{unit_step, scan_of, place_of, unit_of, prefix_at, word_step, or_word}
+use Rattle.byte_unit_base.specs.UnitScan.{unit_step, scan_of, unit_parser_state, unit_of, prefix_at, word_step, or_word}
 use Rattle.byte_unit_base.specs.UnitScan.{start as unit_start}
-use Rattle.byte_unit_base.specs.SizeScan.{size_step, size_scan, size_at_end, size_place, sized, precise}
+use Rattle.byte_unit_base.specs.SizeScan.{size_step, size_scan, size_at_end, size_parser_state, size_or_fault, fixed_point}
 use Rattle.byte_unit_base.specs.declared.unit.scan.Prefix.{Prefix}
 use Rattle.byte_unit_base.specs.declared.unit.scan.Prefix.TheVariants.{Kilo, Mega, Giga, Tera, Peta, Exa, Zetta, Yotta}
 use Rattle.byte_unit_base.specs.declared.unit.scan.Prefix.TheVariants.{Ronna}
@@ -118,8 +118,8 @@ run_places (c ∷ cs) w h l =
 
 -- the state is after the number `n`, scaled by 10^28, or after spaces that follow it
 abbrev pub AtNumber : ℕ → SizeScan → Type 0
-AtNumber n (Whole w) = w * one ≡ n
-AtNumber n (Fraction w f j) = precise w f j ≡ n
+AtNumber n (Whole w) = w * scale ≡ n
+AtNumber n (Fraction w f j) = fixed_point w f j ≡ n
 AtNumber n (Gap m) = m ≡ n
 AtNumber n _ = ⊥
 
@@ -130,7 +130,7 @@ pub record RunsTo (Holds : SizeScan → Type 0) (s : SizeScan) (text : List ℕ)
   pub holds : Holds state
 
 run_precise : (text : List ℕ) (n : ℕ) → IsPrecise current text n
-    → RunsTo (λ s. AtNumber n s × (size_place s ≡ in_fraction)) Beginning text
+    → RunsTo (λ s. AtNumber n s × (size_parser_state s ≡ in_fraction)) Beginning text
 run_precise text n h =
     let p = run_places h.fraction h.value h.fraction_is.0 h.fraction_is.1 in
     let whole = run_whole h.whole h.value h.whole_is in
@@ -140,8 +140,8 @@ run_precise text n h =
           ∙ (run_through size_step Beginning (Whole h.value) h.whole (46 ∷ h.fraction) whole
           ∙ (run_step size_step (Whole h.value) (Point h.value) 46 h.fraction (step_point h.value) ∙ p.1));
       holds = (
-        ap (λ k. h.value * one + digits_value 10 h.fraction * 10 ^ (places_of_decimal - k)) p.2
-            ∙ (ap (λ x. h.value * one + x) (sym h.fraction_is.2) ∙ sym h.number_is),
+        ap (λ k. h.value * scale + digits_value 10 h.fraction * 10 ^ (places_of_decimal - k)) p.2
+            ∙ (ap (λ x. h.value * scale + x) (sym h.fraction_is.2) ∙ sym h.number_is),
         refl,
       );
     }
@@ -225,17 +225,17 @@ step_unit n c (Point w) u h e = absurd h
 step_unit n c (UnitAt m s) u h e = absurd h
 
 number_end : (flags : Flags) (n : ℕ) (s : SizeScan) → AtNumber n s
-    → size_at_end flags s ≡ sized n (unit_of flags unit_start)
-number_end flags n (Whole w) h = ap (λ x. sized x (unit_of flags unit_start)) h
-number_end flags n (Fraction w f j) h = ap (λ x. sized x (unit_of flags unit_start)) h
-number_end flags n (Gap m) h = ap (λ x. sized x (unit_of flags unit_start)) h
+    → size_at_end flags s ≡ size_or_fault n (unit_of flags unit_start)
+number_end flags n (Whole w) h = ap (λ x. size_or_fault x (unit_of flags unit_start)) h
+number_end flags n (Fraction w f j) h = ap (λ x. size_or_fault x (unit_of flags unit_start)) h
+number_end flags n (Gap m) h = ap (λ x. size_or_fault x (unit_of flags unit_start)) h
 number_end flags n Beginning h = absurd h
 number_end flags n (Point w) h = absurd h
 number_end flags n (UnitAt m s) h = absurd h
 
 -- the state is after the number `n` and at least one space
 abbrev pub AtGap : ℕ → SizeScan → Type 0
-AtGap n s = AtNumber n s × (size_place s ≡ before_unit)
+AtGap n s = AtNumber n s × (size_parser_state s ≡ before_unit)
 
 run_gap : (n k : ℕ) → RunsTo (AtGap n) (Gap n) (replicate k space)
 run_gap n zero = record { state = Gap n; run = refl; holds = (refl, refl) }
@@ -277,8 +277,8 @@ run_in_unit n u cs s h =
 
 -- the state gives the result of the number `n` and the unit of `u`, and has the parser state of `u` if a unit has begun
 pub record EndsAs (n : ℕ) (u : UnitScan) (t : SizeScan) : Type 0 where
-  pub ends : (flags : Flags) → size_at_end flags t ≡ sized n (unit_of flags u)
-  pub place : place_of u ≢ before_unit → size_place t ≡ place_of u
+  pub ends : (flags : Flags) → size_at_end flags t ≡ size_or_fault n (unit_of flags u)
+  pub place : unit_parser_state u ≢ before_unit → size_parser_state t ≡ unit_parser_state u
 
 run_unit : (n : ℕ) (u : UnitScan) (s : SizeScan) (text : List ℕ) → AtNumber n s → run unit_step unit_start text ≡ Some u
     → RunsTo (EndsAs n u) s text
@@ -288,8 +288,8 @@ run_unit n u s [] h k =
       state = s;
       run = refl;
       holds = record {
-        ends = λ flags. number_end flags n s h ∙ ap (λ x. sized n (unit_of flags x)) e;
-        place = λ moved. absurd (moved (ap place_of (sym e)));
+        ends = λ flags. number_end flags n s h ∙ ap (λ x. size_or_fault n (unit_of flags x)) e;
+        place = λ moved. absurd (moved (ap unit_parser_state (sym e)));
       };
     }
 run_unit n u s (c ∷ cs) h k =
@@ -331,9 +331,9 @@ size_text_runs flags text n s h =
     let numbered : IsNumbered n h.unit_part text =
     record { number_part = h.number_part; spaces = h.spaces; text_is = h.text_is; number_is = h.number_is } in
     let r = run_numbered n (scan_of u.multiple u.word) h.unit_part text numbered u.run in
-    record { state = r.state; run = r.run; holds = r.holds.ends flags ∙ ap (sized n) u.unit }
+    record { state = r.state; run = r.run; holds = r.holds.ends flags ∙ ap (size_or_fault n) u.unit }
 
-sized_front : (flags : Flags) (place : Place) (text : List ℕ) → place ≢ before_unit → IsSizedFront current place text
+sized_front : (flags : Flags) (place : ParserState) (text : List ℕ) → place ≢ before_unit → IsNumberAndUnitPrefix current place text
     → IsScanned (size_scan flags) place text
 sized_front flags place text moved h =
     let u = unit_front_runs flags place h.unit_part h.unit_is in
@@ -343,7 +343,7 @@ sized_front flags place text moved h =
     record { state = r.state; run_is = r.run; place_is = r.holds.place (λ e. moved (sym u.place_is ∙ e)) ∙ u.place_is }
 
 -- the state machine reads each viable prefix to its end, and has its parser state there
-pub size_front_runs : (flags : Flags) (place : Place) (text : List ℕ) → IsSizeFront current place text
+pub size_front_runs : (flags : Flags) (place : ParserState) (text : List ℕ) → IsViableSizePrefix current place text
     → IsScanned (size_scan flags) place text
 size_front_runs flags beginning text h = record {
   state = Beginning;

@@ -7,9 +7,9 @@ use Rattle.std.specs.Char.{digit_value}
 use Rattle.std.proofs.Math.Nat.{pow-succ'}
 use Rattle.std.proofs.Math.Numerals.{add-one}
 use Rattle.std.proofs.lemmas.Bool.{ltb-true}
-use Rattle.byte_unit_math.specs.Bounds.{one, places_of_decimal, whole_limit}
+use Rattle.byte_unit_math.specs.Bounds.{scale, places_of_decimal, whole_limit}
 use Rattle.byte_unit_base.specs.UnitScan.{unit_step, start as unit_start}
-use Rattle.byte_unit_base.specs.SizeScan.{IsScan, size_step, after_number, precise, is_digit}
+use Rattle.byte_unit_base.specs.SizeScan.{IsScan, size_step, after_number, fixed_point, is_digit}
 use Rattle.byte_unit_base.specs.declared.unit.scan.UnitScan.{UnitScan}
 use Rattle.byte_unit_base.specs.declared.read.scan.SizeScan.{SizeScan}
 use Rattle.byte_unit_base.specs.declared.read.scan.SizeScan.TheVariants.{Beginning, Whole, Point, Fraction, Gap}
@@ -30,11 +30,11 @@ abbrev pub StepOf : SizeScan → ℕ → SizeScan → Type 0
 StepOf Beginning c t = (digit_value c < 10) × (Whole (digit_value c) ≡ t)
 StepOf (Whole w) c t =
     ((digit_value c < 10) × (w * 10 + digit_value c < whole_limit) × (Whole (w * 10 + digit_value c) ≡ t))
-    ⊎ (((c ≡ 46) × (Point w ≡ t)) ⊎ AfterNumber (w * one) c t)
+    ⊎ (((c ≡ 46) × (Point w ≡ t)) ⊎ AfterNumber (w * scale) c t)
 StepOf (Point w) c t = (digit_value c < 10) × (Fraction w (digit_value c) 1 ≡ t)
 StepOf (Fraction w f j) c t =
     ((digit_value c < 10) × (j < places_of_decimal) × (Fraction w (f * 10 + digit_value c) (j + 1) ≡ t))
-    ⊎ AfterNumber (precise w f j) c t
+    ⊎ AfterNumber (fixed_point w f j) c t
 StepOf (Gap n) c t = AfterNumber n c t
 StepOf (UnitAt n s) c t = UnitStep n s c t
 
@@ -55,19 +55,19 @@ step_cases (Whole w) t c e =
     ⊎_elim (λ h. let g = guard_some (ltb (w * 10 + digit_value c) whole_limit)
     (Whole (w * 10 + digit_value c)) t h.1 in inl
     (ltb-true _ _ h.0, ltb-true _ _ g.0, g.1))
-    (λ h. inr (⊎_elim (λ k. inl (eq_if_test_true _ _ k.0, cc)) (λ k. inr (after_number_cases (w * one) c t k.1))
-    (cond_cases (eqb c 46) (Some (Point w)) (after_number (w * one) c) (Some t) h.1)))
+    (λ h. inr (⊎_elim (λ k. inl (eq_if_test_true _ _ k.0, cc)) (λ k. inr (after_number_cases (w * scale) c t k.1))
+    (cond_cases (eqb c 46) (Some (Point w)) (after_number (w * scale) c) (Some t) h.1)))
     (cond_cases (is_digit c) (cond (ltb (w * 10 + digit_value c) whole_limit)
     (Some (Whole (w * 10 + digit_value c))) None)
-    (cond (eqb c 46) (Some (Point w)) (after_number (w * one) c)) (Some t) e)
+    (cond (eqb c 46) (Some (Point w)) (after_number (w * scale) c)) (Some t) e)
 step_cases (Point w) t c e =
     let g = guard_some (is_digit c) (Fraction w (digit_value c) 1) t e in (ltb-true _ _ g.0, g.1)
 step_cases (Fraction w f j) t c e =
     ⊎_elim (λ h. let g = guard_some (ltb j places_of_decimal) (Fraction w (f * 10 + digit_value c) (j + 1)) t h.1 in inl
     (ltb-true _ _ h.0, ltb-true _ _ g.0, g.1))
-    (λ h. inr (after_number_cases (precise w f j) c t h.1))
+    (λ h. inr (after_number_cases (fixed_point w f j) c t h.1))
     (cond_cases (is_digit c) (cond (ltb j places_of_decimal) (Some (Fraction w (f * 10 + digit_value c) (j + 1))) None)
-    (after_number (precise w f j) c) (Some t) e)
+    (after_number (fixed_point w f j) c) (Some t) e)
 step_cases (Gap n) t c e = after_number_cases n c t e
 step_cases (UnitAt n s) t c e = some_mapped (UnitAt n) t (unit_step s c) e
 
@@ -83,10 +83,10 @@ pub step_keeps : (s t : SizeScan) (c : ℕ) → IsScan s → StepOf s c t → Is
 step_keeps Beginning t c h k = subst IsScan k.1 (omega (arith, k.0))
 step_keeps (Whole w) t c h (inl k) = subst IsScan k.2 k.1
 step_keeps (Whole w) t c h (inr (inl k)) = subst IsScan k.1 h
-step_keeps (Whole w) t c h (inr (inr k)) = number_keeps (w * one) c t k
+step_keeps (Whole w) t c h (inr (inr k)) = number_keeps (w * scale) c t k
 step_keeps (Point w) t c h k = subst IsScan k.1 (h, omega (arith, k.0), omega arith)
 step_keeps (Fraction w f j) t c h (inl k) =
     subst IsScan k.2 (h.0, digits_more f (digit_value c) j h.1 k.0, omega (arith, k.1))
-step_keeps (Fraction w f j) t c h (inr k) = number_keeps (precise w f j) c t k
+step_keeps (Fraction w f j) t c h (inr k) = number_keeps (fixed_point w f j) c t k
 step_keeps (Gap n) t c h k = number_keeps n c t k
 step_keeps (UnitAt n s) t c h k = subst IsScan k.2 tt

@@ -7,10 +7,10 @@ use Rattle.std.proofs.lemmas.Bool.{cases_lt}
 use Rattle.byte_unit_math.specs.Bounds.{places_of_decimal}
 use Rattle.byte_unit_math.specs.Exact.{IsExactAt}
 use Rattle.byte_unit_base.specs.Shape.{Shape, bits}
-use Rattle.byte_unit_base.specs.Edition.{Edition}
+use Rattle.byte_unit_base.specs.Version.{Version}
 use Rattle.byte_unit_base.specs.Family.{HasKind}
-use Rattle.byte_unit_base.specs.Multiples.{falling_from}
-use Rattle.byte_unit_base.specs.Choice.{States, places_within}
+use Rattle.byte_unit_base.specs.Multiples.{units_of_prefixes}
+use Rattle.byte_unit_base.specs.Choice.{IsExactUnitIn, places_within}
 use Rattle.byte_unit_base.specs.ChoiceLaws.{EachSizeHasAChoiceOrNone}
 use Rattle.byte_unit_base.specs.declared.unit.family.Family.{Family}
 use Rattle.byte_unit_base.specs.declared.unit.family.Family.TheVariants.{All, Bytes, Bits}
@@ -45,11 +45,11 @@ exact_decided size unit places =
     ∙ mul-mod_left e.0 unit in omega (arith, none, some)))
     (cases_lt (scaled % unit) 1)
 
-states_decided : (edition : Edition) (family : Family) (in_bits precision : ℕ) (unit : Shape)
-    → Decided (States edition family in_bits precision unit)
-states_decided edition family in_bits precision unit =
+states_decided : (version : Version) (family : Family) (in_bits precision : ℕ) (unit : Shape)
+    → Decided (IsExactUnitIn version family in_bits precision unit)
+states_decided version family in_bits precision unit =
     let places = places_within precision in
-    let last = length edition.letters in
+    let last = length version.letters in
     let prefix = both_decided (1 ≤ unit.power) (unit.power ≤ last) (le_decided 1 unit.power)
     (le_decided unit.power last) in
     let in_family = (1 ≤ unit.power) × (unit.power ≤ last) in
@@ -136,11 +136,11 @@ largest_or_none Has decided (x ∷ xs) =
 
 -- a size has a chosen unit and number, or it is exact in no unit at the precision
 pub choice_or_none : EachSizeHasAChoiceOrNone
-choice_or_none edition family in_bits precision =
-    let Has : Shape → Type 0 = States edition family in_bits precision in
+choice_or_none version family in_bits precision =
+    let Has : Shape → Type 0 = IsExactUnitIn version family in_bits precision in
     let there =
     λ (unit : Shape) (s : Has unit).
-    in_falling family (length edition.letters) unit s.member.kind s.member.prefix.some s.member.prefix.known in
+    in_falling family (length version.letters) unit s.member.kind s.member.prefix.some s.member.prefix.known in
     ⊎_elim
     (λ found.
     let exact = found.1.has.exact in
@@ -153,5 +153,5 @@ choice_or_none edition family in_bits precision =
       },
     ))
     (λ none. inr (λ unit s. none unit (there unit s) s))
-    (largest_or_none Has (states_decided edition family in_bits precision)
-    (falling_from family (length edition.letters)))
+    (largest_or_none Has (states_decided version family in_bits precision)
+    (units_of_prefixes family (length version.letters)))

@@ -8,7 +8,7 @@ use Rattle.std.specs.Char.{is_whitespace}
 use Rattle.std.proofs.lemmas.Bool.{and_from, and_parts}
 use Rattle.std.proofs.lemmas.Bool.Decides.{nat_tests}
 use Rattle.std.proofs.lemmas.Str.{chars-encodes, scalars-chars, chars-IsAscii}
-use Rattle.byte_unit_base.specs.SizeText.{trimmed}
+use Rattle.byte_unit_base.specs.SizeText.{trim_of}
 
 scalars_cond : (t : Bool) (xs ys : List ℕ) → all_scalars xs ≡ true → all_scalars ys ≡ true
     → all_scalars (cond t xs ys) ≡ true
@@ -31,7 +31,7 @@ chars-trim_start bs u =
     chars-encodes (skip_leading_whitespace (chars bs)) (scalars_skip (chars bs) (scalars-chars bs u))
 
 -- the characters of a string that std trims are the characters without the white space at both ends
-pub chars-trim : (bs : List ℕ) → IsUtf8 bs → chars (trim bs) ≡ trimmed bs
+pub chars-trim : (bs : List ℕ) → IsUtf8 bs → chars (trim bs) ≡ trim_of bs
 unfolding trim_end
 chars-trim bs u =
     let e = chars-trim_start bs u in
@@ -73,7 +73,7 @@ keep_last (next ∷ front) last is_none =
 
 -- trimming does not change ASCII that has a character other than white space at each end
 pub trimmed_same : (text : List ℕ) → StartsWithoutSpace text → EndsWithoutSpace text → IsAscii text
-    → trimmed text ≡ text
+    → trim_of text ≡ text
 trimmed_same text start end ascii =
     let skipped : skip_leading_whitespace text ≡ text =
     ap skip_leading_whitespace start.text_is

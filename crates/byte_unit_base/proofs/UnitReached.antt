@@ -9,7 +9,7 @@ use Rattle.std.specs.Char.{to_ascii_lowercase, to_ascii_uppercase}
 use Rattle.std.specs.Str.{str_to_ascii_lowercase}
 use Rattle.std.proofs.lemmas.Bool.Decides.{nat_tests}
 use Rattle.byte_unit_base.specs.Shape.{Shape}
-use Rattle.byte_unit_base.specs.Edition.{current}
+use Rattle.byte_unit_base.specs.Version.{current}
 use Rattle.byte_unit_base.specs.Spelling.{Flags, IsPrefixLetter, SpellsBinary, SpellsCount, Spells}
 use Rattle.byte_unit_base.specs.UnitScan.{unit_step, unit_of, start, scan_of, power_of, prefix_at, is_i, multiple_step}
 use Rattle.byte_unit_base.specs.UnitScan.{word_step, or_word}

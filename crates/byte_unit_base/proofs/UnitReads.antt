@@ -5,20 +5,20 @@ use Rattle.std.proofs.Common.{refl, append-nil}
 use Rattle.std.proofs.Common.{false, true}
 use Rattle.std.specs.Str.{str_to_ascii_lowercase}
 use Rattle.byte_unit_base.specs.Shape.{Shape}
-use Rattle.byte_unit_base.specs.Edition.{current}
+use Rattle.byte_unit_base.specs.Version.{current}
 use Rattle.byte_unit_base.specs.Units.{shape_of}
 use Rattle.byte_unit_base.specs.Errors.{unit_fault}
 use Rattle.byte_unit_base.specs.Spelling.{Flags, Spells}
-use Rattle.byte_unit_base.specs.SizeText.{trimmed}
-use Rattle.byte_unit_base.specs.Front.{Place, after_b, after_bi, after_bit, after_bits, IsWord, IsPrefix, IsWordFront}
-use Rattle.byte_unit_base.specs.Front.{IsUnitFront}
+use Rattle.byte_unit_base.specs.SizeText.{trim_of}
+use Rattle.byte_unit_base.specs.ViablePrefix.{ParserState, after_b, after_bi, after_bit, after_bits, IsWord, IsPrefix, IsViableWordPrefix}
+use Rattle.byte_unit_base.specs.ViablePrefix.{IsViableUnitPrefix}
 use Rattle.byte_unit_base.specs.Fault.{fault_at_end}
 use Rattle.byte_unit_base.specs.Readings.{IsUnitReading}
-use Rattle.byte_unit_base.specs.ReaderLaws.{UnitTextsHaveOneAnswer, UnitFrontsAreBeginnings}
+use Rattle.byte_unit_base.specs.ReaderLaws.{UnitTextsHaveOneAnswer, ViableUnitPrefixesAreBeginnings}
 use Rattle.byte_unit_base.specs.Scan.{read}
-use Rattle.byte_unit_base.specs.UnitScan.{unit_step, unit_scan, unit_of, unit_at_end, unit_seen, start, scan_of}
-use Rattle.byte_unit_base.specs.UnitScan.{power_of, word_place}
-use Rattle.byte_unit_base.specs.UnitScan.{empty_place, IsMultipleText}
+use Rattle.byte_unit_base.specs.UnitScan.{unit_step, unit_scan, unit_of, unit_at_end, unit_result, start, scan_of}
+use Rattle.byte_unit_base.specs.UnitScan.{power_of, word_parser_state}
+use Rattle.byte_unit_base.specs.UnitScan.{multiple_parser_state, IsMultipleText}
 use Rattle.byte_unit_base.specs.declared.unit.Unit.{Unit as UnitName}
 use Rattle.byte_unit_base.specs.declared.errors.UnitParseError.{UnitParseError}
 use Rattle.byte_unit_base.specs.declared.unit.scan.Word.{Word}
@@ -30,7 +30,7 @@ use Rattle.byte_unit_base.proofs.Scans.{fronts_are_beginnings}
 use Rattle.byte_unit_base.proofs.UnitReached.{Reached, Reached-step, Reached-start, Spells-reached}
 use Rattle.byte_unit_base.proofs.UnitRuns.{spelling_runs, unit_front_runs}
 
-empty_front : (m : Multiple) (text : List ℕ) → IsMultipleText m text → IsUnitFront current (empty_place m) text
+empty_front : (m : Multiple) (text : List ℕ) → IsMultipleText m text → IsViableUnitPrefix current (multiple_parser_state m) text
 empty_front One text h = h
 empty_front (Decimal p) text h = (power_of p, false, h)
 empty_front (Binary p) text h = (power_of p, true, h)
@@ -40,9 +40,9 @@ some_prefix One text h = inl h
 some_prefix (Decimal p) text h = inr (power_of p, false, h)
 some_prefix (Binary p) text h = inr (power_of p, true, h)
 
-word_front : (place : Place) (m : Multiple) (w : Word) (text : List ℕ) (r : Reached (scan_of m w) text)
+word_front : (place : ParserState) (m : Multiple) (w : Word) (text : List ℕ) (r : Reached (scan_of m w) text)
     → IsWord place r.word
-    → IsWordFront current place text
+    → IsViableWordPrefix current place text
 word_front place m w text r h =
     record {
       prefix_part = r.front;
@@ -54,10 +54,10 @@ word_front place m w text r h =
 
 -- the text that led to a state is a viable prefix of a unit, with the parser state of the state
 pub unit_front : (m : Multiple) (w : Word) (text : List ℕ) → Reached (scan_of m w) text
-    → IsUnitFront current (word_place m w) text
+    → IsViableUnitPrefix current (word_parser_state m w) text
 unit_front m Empty text r =
     let e : text ≡ r.front = r.text_is ∙ (ap (λ w. r.front ++ w) r.word_is ∙ append-nil r.front) in
-    subst (IsUnitFront current (empty_place m)) (sym e) (empty_front m r.front r.front_is)
+    subst (IsViableUnitPrefix current (multiple_parser_state m)) (sym e) (empty_front m r.front r.front_is)
 unit_front m UpperB text r = word_front after_b m UpperB text r (ap str_to_ascii_lowercase r.word_is)
 unit_front m LowerB text r = word_front after_b m LowerB text r (ap str_to_ascii_lowercase r.word_is)
 unit_front m Bi text r = word_front after_bi m Bi text r r.word_is
@@ -73,7 +73,7 @@ spelled_at_end flags m w text unit e r = (unit, Spells-reached flags m w text un
 
 -- an input that ends in a state spells the unit of the state, or has the error of its parser state
 pub unit_ends : (flags : Flags) (m : Multiple) (w : Word) (text : List ℕ) → Reached (scan_of m w) text
-    → EndsIn (Spells current flags text) (fault_at_end (word_place m w)) (unit_at_end (unit_of flags (scan_of m w)))
+    → EndsIn (Spells current flags text) (fault_at_end (word_parser_state m w)) (unit_at_end (unit_of flags (scan_of m w)))
 unit_ends flags One Empty text r = spelled_at_end flags One Empty text _ refl r
 unit_ends flags (Decimal p) Empty text r = spelled_at_end flags (Decimal p) Empty text _ refl r
 unit_ends flags (Binary p) Empty text r = spelled_at_end flags (Binary p) Empty text _ refl r
@@ -88,7 +88,7 @@ unit_goes_on flags m Bi = (116 ∷ [], _, refl)
 unit_goes_on flags m w = ([], _, refl)
 
 -- the state machine of units accepts exactly the spellings of units, and its states are those after the viable prefixes
-pub unit_scan_is : (flags : Flags) → IsScanOf (unit_scan flags) Reached (IsUnitFront current) (Spells current flags)
+pub unit_scan_is : (flags : Flags) → IsScanOf (unit_scan flags) Reached (IsViableUnitPrefix current) (Spells current flags)
 unit_scan_is flags = record {
   starts = Reached-start;
   steps = λ s t c text e r. Reached-step s.multiple s.word t c text e r;
@@ -102,12 +102,12 @@ unit_scan_is flags = record {
 
 -- a parser that returns the result of the state machine returns the unit that the input spells, or its error
 pub unit_reading : (flags : Flags) (bytes : List ℕ) (r : Result UnitName UnitParseError)
-    → unit_seen r ≡ read (unit_scan flags) start (trimmed bytes)
+    → unit_result r ≡ read (unit_scan flags) start (trim_of bytes)
     → IsUnitReading flags bytes r
 unit_reading flags bytes r e = record {
-  found = read_found (unit_scan_is flags) shape_of unit_fault (trimmed bytes) r e;
-  reads = λ unit h. read_meant (unit_scan_is flags) shape_of unit_fault (trimmed bytes) r unit e h;
-  fault = read_refused (unit_scan_is flags) shape_of unit_fault (trimmed bytes) r e;
+  found = read_found (unit_scan_is flags) shape_of unit_fault (trim_of bytes) r e;
+  reads = λ unit h. read_meant (unit_scan_is flags) shape_of unit_fault (trim_of bytes) r unit e h;
+  fault = read_refused (unit_scan_is flags) shape_of unit_fault (trim_of bytes) r e;
 }
 
 -- each input spells exactly one unit, or has exactly one error, and not both
@@ -115,5 +115,5 @@ pub unit_texts_have_one_answer : UnitTextsHaveOneAnswer
 unit_texts_have_one_answer flags text = one_answer (unit_scan_is flags) text
 
 -- the viable prefixes of a unit are exactly the beginnings of the spellings of units
-pub unit_fronts_are_beginnings : UnitFrontsAreBeginnings
+pub unit_fronts_are_beginnings : ViableUnitPrefixesAreBeginnings
 unit_fronts_are_beginnings flags text = fronts_are_beginnings (unit_scan_is flags) text

@@ -7,17 +7,17 @@ use Rattle.std.specs.Option.{option_map}
 use Rattle.std.specs.Char.{to_ascii_lowercase}
 use Rattle.std.specs.Str.{str_to_ascii_lowercase}
 use Rattle.byte_unit_base.specs.Shape.{Shape, shape}
-use Rattle.byte_unit_base.specs.Edition.{current}
+use Rattle.byte_unit_base.specs.Version.{current}
 use Rattle.byte_unit_base.specs.Spelling.{Flags, IsPrefixLetter, SpellsCount, SpellsBinary, SpellsPrefix}
 use Rattle.byte_unit_base.specs.Spelling.{SpellsMultiple, SpellsPlain}
 use Rattle.byte_unit_base.specs.Spelling.{Spells}
-use Rattle.byte_unit_base.specs.Front.{Place, before_unit, after_prefix, after_b, after_bi, after_bit, after_bits}
-use Rattle.byte_unit_base.specs.Front.{IsWord, IsWordFront}
-use Rattle.byte_unit_base.specs.Front.{IsUnitFront}
+use Rattle.byte_unit_base.specs.ViablePrefix.{ParserState, before_unit, after_prefix, after_b, after_bi, after_bit, after_bits}
+use Rattle.byte_unit_base.specs.ViablePrefix.{IsWord, IsViableWordPrefix}
+use Rattle.byte_unit_base.specs.ViablePrefix.{IsViableUnitPrefix}
 use Rattle.byte_unit_base.specs.Scan.{run}
 use Rattle.byte_unit_base.specs.UnitScan.{unit_step, unit_of, unit_scan, start, scan_of, power_of, prefix_at, count_of}
 use Rattle.byte_unit_base.specs.UnitScan.{multiple_shape}
-use Rattle.byte_unit_base.specs.UnitScan.{word_place, empty_place}
+use Rattle.byte_unit_base.specs.UnitScan.{word_parser_state, multiple_parser_state}
 use Rattle.byte_unit_base.specs.declared.unit.scan.Prefix.{Prefix}
 use Rattle.byte_unit_base.specs.declared.unit.scan.Prefix.TheVariants.{Kilo, Mega, Giga, Tera, Peta, Exa, Zetta, Yotta}
 use Rattle.byte_unit_base.specs.declared.unit.scan.Prefix.TheVariants.{Ronna}
@@ -152,7 +152,7 @@ step_infix : (p : Prefix) (c : ℕ) → to_ascii_lowercase c ≡ 105
 unfolding unit_step
 step_infix p c e = rw e refl
 
--- each letter at a place of the edition is that of a prefix of the code, with this place
+-- each letter at a place of the version is that of a prefix of the code, with this place
 letter_prefix : (c power : ℕ) → IsPrefixLetter current power c
     → (p : Prefix) × (prefix_at c ≡ Some p) × (power_of p ≡ power)
 letter_prefix c zero h = absurd (omega (arith, h.0))
@@ -170,7 +170,7 @@ letter_prefix c (suc (suc (suc (suc (suc (suc (suc (suc (suc (suc n)))))))))) h 
 -- the letter of a prefix is followed by an `i` or by nothing
 run_infix : (p : Prefix) (text : List ℕ) (binary : Bool) → SpellsBinary text binary
     → (m : Multiple) × (run unit_step (scan_of (Decimal p) Empty) text ≡ Some (scan_of m Empty)) ×
-    ((bit : Bool) → multiple_shape m bit ≡ shape (power_of p) binary bit) × (empty_place m ≡ after_prefix)
+    ((bit : Bool) → multiple_shape m bit ≡ shape (power_of p) binary bit) × (multiple_parser_state m ≡ after_prefix)
 run_infix p text binary (inl h) = (
   Decimal p,
   ap (run unit_step (scan_of (Decimal p) Empty)) h.0,
@@ -194,7 +194,7 @@ pub record RunsToPrefix (text : List ℕ) (power : ℕ) (binary : Bool) : Type 0
   pub multiple : Multiple
   pub run : run unit_step start text ≡ Some (scan_of multiple Empty)
   pub shape_is : (bit : Bool) → multiple_shape multiple bit ≡ shape power binary bit
-  pub place_is : empty_place multiple ≡ after_prefix
+  pub place_is : multiple_parser_state multiple ≡ after_prefix
 
 -- a prefix is read to its end
 run_prefix : (text : List ℕ) (power : ℕ) (binary : Bool) → SpellsPrefix current text power binary
@@ -243,16 +243,16 @@ pub spelling_runs : (flags : Flags) (text : List ℕ) (s : Shape) → Spells cur
 spelling_runs flags text s (inl h) = run_plain flags text s h
 spelling_runs flags text s (inr h) = run_multiple flags text s h
 
-run_word : (place : Place) (m : Multiple) (text : List ℕ) → IsWord place text
-    → (w : Word) × (run unit_step (scan_of m Empty) text ≡ Some (scan_of m w)) × (word_place m w ≡ place)
+run_word : (place : ParserState) (m : Multiple) (text : List ℕ) → IsWord place text
+    → (w : Word) × (run unit_step (scan_of m Empty) text ≡ Some (scan_of m w)) × (word_parser_state m w ≡ place)
 run_word after_b m text h =
-    let r = run_b m text h in (r.0, r.1, ⊎_elim (λ k. ap (word_place m) k) (λ k. ap (word_place m) k) r.2)
+    let r = run_b m text h in (r.0, r.1, ⊎_elim (λ k. ap (word_parser_state m) k) (λ k. ap (word_parser_state m) k) r.2)
 run_word after_bi m text h = (Bi, run_bi m text h, refl)
 run_word after_bit m text h = (Bit, run_bit m text h, refl)
 run_word after_bits m text h = (Bits, run_bits m text h, refl)
 run_word _ m text h = absurd h
 
-run_word_front : (flags : Flags) (place : Place) (text : List ℕ) → IsWordFront current place text
+run_word_front : (flags : Flags) (place : ParserState) (text : List ℕ) → IsViableWordPrefix current place text
     → IsScanned (unit_scan flags) place text
 run_word_front flags place text h =
     ⊎_elim
@@ -270,7 +270,7 @@ run_word_front flags place text h =
     h.prefix_is
 
 -- the state machine reads each viable prefix to its end, and has its parser state there
-pub unit_front_runs : (flags : Flags) (place : Place) (text : List ℕ) → IsUnitFront current place text
+pub unit_front_runs : (flags : Flags) (place : ParserState) (text : List ℕ) → IsViableUnitPrefix current place text
     → IsScanned (unit_scan flags) place text
 unit_front_runs flags before_unit text h = record {
   state = start;

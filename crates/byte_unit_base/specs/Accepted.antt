@@ -1,8 +1,8 @@
 -- What it means that an input is accepted as a size, or rejected. An input is given by its UTF-8 bytes.
 use Rattle.std.specs.Prelude.{◌≡◌, ℕ, ◌<◌, ◌≤◌, ◌⊎◌, Bool, List}
 use Rattle.byte_unit_base.specs.Shape.{Shape}
-use Rattle.byte_unit_base.specs.Edition.{Edition}
-use Rattle.byte_unit_base.specs.SizeText.{IsSizeText, trimmed}
+use Rattle.byte_unit_base.specs.Version.{Version, current}
+use Rattle.byte_unit_base.specs.SizeText.{IsSizeText, trim_of}
 use Rattle.byte_unit_base.specs.Fault.{Fault, exceeded, IsSizeFault}
 use Rattle.byte_unit_base.specs.declared.kind.Kind.{Kind}
 use Rattle.byte_unit_base.specs.Kinds.{flags_for}
@@ -10,31 +10,47 @@ use Rattle.byte_unit_base.specs.LeastOfKind.{IsLeastOf}
 
 -- without the white space at its ends, the input is `number` (scaled by 10^28) of some unit, and `n` is that size,
 -- rounded up to a whole number of bytes or bits
-pub record IsRead (edition : Edition) (kind : Kind) (ignore_case : Bool) (text : List ℕ) (number n : ℕ) : Type 0 where
+pub record IsRead (version : Version) (kind : Kind) (ignore_case : Bool) (text : List ℕ) (number n : ℕ) : Type 0 where
   pub unit : Shape
-  pub is_size : IsSizeText edition (flags_for kind ignore_case) (trimmed text) number unit
+  pub is_size : IsSizeText version (flags_for kind ignore_case) (trim_of text) number unit
   pub is_least : IsLeastOf kind number unit n
 
--- the input is accepted as a size of `n` bytes or bits, which is below the limit of the edition
-pub record IsAccepted (edition : Edition) (kind : Kind) (ignore_case : Bool) (text : List ℕ) (n : ℕ) : Type 0 where
+-- the input is accepted as a size of `n` bytes or bits, which is below the limit of the version
+pub record IsAcceptedIn (version : Version) (kind : Kind) (ignore_case : Bool) (text : List ℕ) (n : ℕ) : Type 0 where
   pub number : ℕ
-  pub is_read : IsRead edition kind ignore_case text number n
-  pub below : n < edition.size_limit
+  pub is_read : IsRead version kind ignore_case text number n
+  pub below : n < version.size_limit
 
--- the input is in the grammar, but its size reaches the limit of the edition; `number` is its number as written, scaled
+-- The string is accepted as the size n in the current version.
+abbrev pub IsAccepted : Kind → Bool → List ℕ → ℕ → Type 0
+IsAccepted = IsAcceptedIn current
+
+-- the input is in the grammar, but its size reaches the limit of the version; `number` is its number as written, scaled
 -- by 10^28
-pub record Exceeds (edition : Edition) (kind : Kind) (ignore_case : Bool) (text : List ℕ) (number : ℕ) : Type 0 where
+pub record ExceedsIn (version : Version) (kind : Kind) (ignore_case : Bool) (text : List ℕ) (number : ℕ) : Type 0 where
   pub size : ℕ
-  pub is_read : IsRead edition kind ignore_case text number size
-  pub above : edition.size_limit ≤ size
+  pub is_read : IsRead version kind ignore_case text number size
+  pub above : version.size_limit ≤ size
+
+-- The string is in the grammar of the current version, but its size, with this number as it is written, is 10^30 or more.
+abbrev pub Exceeds : Kind → Bool → List ℕ → ℕ → Type 0
+Exceeds = ExceedsIn current
 
 -- without the white space at its ends, the input is not in the grammar, and this is its error: that of the first
 -- character which no valid input has there
-abbrev pub HasFault : Edition → Kind → Bool → List ℕ → Fault → Type 0
-HasFault edition kind ignore_case text fault = IsSizeFault edition (flags_for kind ignore_case) (trimmed text) fault
+abbrev pub HasFaultIn : Version → Kind → Bool → List ℕ → Fault → Type 0
+HasFaultIn version kind ignore_case text fault = IsSizeFault version (flags_for kind ignore_case) (trim_of text) fault
+
+-- The string is not in the grammar of the current version, and this is the error at its first wrong character.
+abbrev pub HasFault : Kind → Bool → List ℕ → Fault → Type 0
+HasFault = HasFaultIn current
 
 -- the input is rejected with this error: its size is too large, or it is not in the grammar
-abbrev pub IsRefused : Edition → Kind → Bool → List ℕ → Fault → Type 0
-IsRefused edition kind ignore_case text fault =
-    ((number : ℕ) × (fault ≡ exceeded number) × Exceeds edition kind ignore_case text number)
-    ⊎ HasFault edition kind ignore_case text fault
+abbrev pub IsRejectedIn : Version → Kind → Bool → List ℕ → Fault → Type 0
+IsRejectedIn version kind ignore_case text fault =
+    ((number : ℕ) × (fault ≡ exceeded number) × ExceedsIn version kind ignore_case text number)
+    ⊎ HasFaultIn version kind ignore_case text fault
+
+-- The string is rejected with this error in the current version.
+abbrev pub IsRejected : Kind → Bool → List ℕ → Fault → Type 0
+IsRejected = IsRejectedIn current

@@ -1,7 +1,5 @@
 -- Adjusted sizes, which have the unit that they are shown in, and how they are parsed.
 use Rattle.std.specs.Prelude.{ℕ, false, List, Result, Ok, Err, IfOk}
-use Rattle.byte_unit_base.specs.Edition.{current}
-use Rattle.byte_unit_base.specs.Units.{shape_of}
 use Rattle.byte_unit_base.specs.Choice.{IsAppropriate}
 use Rattle.byte_unit_base.specs.SizeReading.{IsSizeReading}
 use Rattle.byte_unit_base.specs.declared.errors.ParseError.{ParseError}
@@ -23,4 +21,4 @@ size_answer (Err error) = Err error
 -- not above it, binary or decimal
 pub record IsAdjustedReading (kind : Kind) (bytes : List ℕ) (result : Result AdjustedSize ParseError) : Type 0 where
   pub size : IsSizeReading kind false bytes (size_answer result)
-  pub unit : IfOk result (λ adjusted. IsAppropriate current kind Both adjusted.size (shape_of adjusted.unit))
+  pub unit : IfOk result (λ adjusted. IsAppropriate kind Both adjusted.size adjusted.unit)

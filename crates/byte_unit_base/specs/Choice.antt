@@ -1,11 +1,11 @@
 -- Which unit a size is shown in. A size is in bits here, unless a kind (bytes or bits) is given with it.
 use Rattle.std.specs.Prelude.{◌≡◌, ℕ, ◌+◌, ◌*◌, ◌≤◌, ◌⊎◌, min, Bool, true, false}
-use Rattle.byte_unit_math.specs.Bounds.{one, places_of_decimal}
-use Rattle.byte_unit_math.specs.Steps.{raised}
+use Rattle.byte_unit_math.specs.Bounds.{scale, places_of_decimal}
+use Rattle.byte_unit_math.specs.Steps.{saturating_add}
 use Rattle.byte_unit_math.specs.Exact.{IsExactAt, IsLeastPlaces, IsQuotient}
 use Rattle.byte_unit_math.specs.Powers.{IsTwoFive}
 use Rattle.byte_unit_base.specs.Shape.{Shape, bits}
-use Rattle.byte_unit_base.specs.Edition.{Edition}
+use Rattle.byte_unit_base.specs.Version.{Version, current}
 use Rattle.byte_unit_base.specs.Kinds.{bits_in, own_unit, own_family}
 use Rattle.byte_unit_base.specs.Family.{InFamily, IsOfType}
 use Rattle.byte_unit_base.specs.declared.kind.Kind.{Kind}
@@ -13,6 +13,8 @@ use Rattle.byte_unit_base.specs.declared.kind.Kind.TheVariants.{Byte, Bit}
 use Rattle.byte_unit_base.specs.declared.unit.family.Family.{Family}
 use Rattle.byte_unit_base.specs.declared.unit.family.Family.TheVariants.{All}
 use Rattle.byte_unit_base.specs.declared.unit.unit_type.UnitType.{UnitType}
+use Rattle.byte_unit_base.specs.Units.{shape_of}
+use Rattle.byte_unit_base.specs.declared.unit.Unit.{Unit as UnitName}
 
 -- the unit has the property, and no larger unit has it
 pub record IsLargest (Has : Shape → Type 0) (unit : Shape) : Type 0 where
@@ -33,23 +35,35 @@ places_within precision = min precision places_of_decimal
 
 -- the size is exact in this unit of the unit set: the unit is not above the size, and their quotient has no more digits
 -- after the point than the precision allows
-pub record States (edition : Edition) (family : Family) (in_bits precision : ℕ) (unit : Shape) : Type 0 where
-  pub member : InFamily edition family unit
+pub record IsExactUnitIn (version : Version) (family : Family) (in_bits precision : ℕ) (unit : Shape) : Type 0 where
+  pub member : InFamily version family unit
   pub not_above : bits unit ≤ in_bits
   pub exact : IsExactAt in_bits (bits unit) (places_within precision)
 
+-- A unit of the current version's family, not above the size, in which the size is exact within the precision.
+abbrev pub IsExactUnit : Family → ℕ → ℕ → Shape → Type 0
+IsExactUnit = IsExactUnitIn current
+
 -- the largest unit in which the size is exact, and the number of it in the size, scaled by 10^28
-pub record IsChosen (edition : Edition) (family : Family) (in_bits precision : ℕ) (unit : Shape) (number : ℕ)
+pub record IsChosenIn (version : Version) (family : Family) (in_bits precision : ℕ) (unit : Shape) (number : ℕ)
     : Type 0 where
-  pub unit_is : IsLargest (States edition family in_bits precision) unit
+  pub unit_is : IsLargest (IsExactUnitIn version family in_bits precision) unit
   pub number_is : IsQuotient in_bits (bits unit) (places_within precision) number
 
+-- The largest such unit of the current version, with the size in this unit, scaled by 10^28.
+abbrev pub IsChosen : Family → ℕ → ℕ → Shape → ℕ → Type 0
+IsChosen = IsChosenIn current
+
 -- a unit of this unit set and of this type (binary, decimal or both) that is not above the size
-pub record Suits (edition : Edition) (family : Family) (unit_type : UnitType) (in_bits : ℕ) (unit : Shape)
+pub record IsEligibleUnitIn (version : Version) (family : Family) (unit_type : UnitType) (in_bits : ℕ) (unit : Shape)
     : Type 0 where
-  pub member : InFamily edition family unit
+  pub member : InFamily version family unit
   pub of_type : IsOfType unit_type unit.binary
   pub not_above : bits unit ≤ in_bits
+
+-- A unit of the current version's family and of the type, not above the size.
+abbrev pub IsEligibleUnit : Family → UnitType → ℕ → Shape → Type 0
+IsEligibleUnit = IsEligibleUnitIn current
 
 -- the unit set for a size of this kind: the multiples of its own unit, or, if the flag is set, those of bytes and of
 -- bits
@@ -59,9 +73,13 @@ family_for kind true = All
 
 -- the exact unit of a size: the largest unit in which it is exact within the precision, or the own unit of its kind if
 -- there is none. `both` says whether the units of the other kind are allowed
-abbrev pub IsRecovered : Edition → Kind → Bool → ℕ → ℕ → Shape → Type 0
-IsRecovered edition kind both size precision =
-    IsLargestOrOwn kind (States edition (family_for kind both) (size * bits_in kind) precision)
+abbrev pub IsRecoveredIn : Version → Kind → Bool → ℕ → ℕ → Shape → Type 0
+IsRecoveredIn version kind both size precision =
+    IsLargestOrOwn kind (IsExactUnitIn version (family_for kind both) (size * bits_in kind) precision)
+
+-- The exact unit of a size within the precision, among the units of the current version.
+abbrev pub IsRecovered : Kind → Bool → ℕ → ℕ → UnitName → Type 0
+IsRecovered kind both size precision unit = IsRecoveredIn current kind both size precision (shape_of unit)
 
 -- the step count of choosing a unit for a size that is not zero, counted in its kind. `number` is the chosen number,
 -- scaled by 10^28, or 0 if no unit is chosen
@@ -70,7 +88,7 @@ pub record TakesSteps (size number steps : ℕ) : Type 0 where
   pub fives : ℕ
   pub places : ℕ
   pub powers : IsTwoFive size twos fives
-  pub is_places : IsLeastPlaces number one places
+  pub is_places : IsLeastPlaces number scale places
   -- one step for each factor 2 and each factor 5 of the size, one for each of the two trials that find no further
   -- factor, and one for each digit after the point
   pub steps_are : steps ≡ twos + fives + 2 + places
@@ -78,7 +96,7 @@ pub record TakesSteps (size number steps : ℕ) : Type 0 where
 -- `new` is the step counter `old` after choosing a unit; it saturates at 2^64 - 1. A size of zero takes no step
 abbrev pub CountsChoice : ℕ → ℕ → ℕ → ℕ → Type 0
 CountsChoice size number old new =
-    (size ≡ 0) × (new ≡ old) ⊎ (steps : ℕ) × TakesSteps size number steps × (new ≡ raised old steps)
+    (size ≡ 0) × (new ≡ old) ⊎ (steps : ℕ) × TakesSteps size number steps × (new ≡ saturating_add old steps)
 
 -- the greatest step count of choosing a unit for a size of this kind. At a precision of 27, 7 * 2^87 bytes take 116
 -- steps, and 7 * 2^90 bits take 119 if units of bytes are allowed
@@ -88,6 +106,10 @@ most_steps Bit = 119
 
 -- the unit in which an adjusted size is shown: the largest of its kind and of this type that is not above the size, or
 -- the own unit of the kind if there is none
-abbrev pub IsAppropriate : Edition → Kind → UnitType → ℕ → Shape → Type 0
-IsAppropriate edition kind unit_type size =
-    IsLargestOrOwn kind (Suits edition (own_family kind) unit_type (size * bits_in kind))
+abbrev pub IsAppropriateIn : Version → Kind → UnitType → ℕ → Shape → Type 0
+IsAppropriateIn version kind unit_type size =
+    IsLargestOrOwn kind (IsEligibleUnitIn version (own_family kind) unit_type (size * bits_in kind))
+
+-- The largest unit of the type that is not above the size, among the units of the current version.
+abbrev pub IsAppropriate : Kind → UnitType → ℕ → UnitName → Type 0
+IsAppropriate kind unit_type size unit = IsAppropriateIn current kind unit_type size (shape_of unit)

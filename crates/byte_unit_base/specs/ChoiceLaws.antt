@@ -1,12 +1,12 @@
 -- The laws of choosing a unit. A size is in bits, and a number of a unit is scaled by 10^28.
 use Rattle.std.specs.Prelude.{◌≡◌, ◌≢◌, ◌↔◌, ℕ, ◌+◌, ◌*◌, ◌<◌, ◌≤◌, ◌⊎◌}
-use Rattle.byte_unit_math.specs.Bounds.{one}
+use Rattle.byte_unit_math.specs.Bounds.{scale}
 use Rattle.byte_unit_math.specs.Exact.{IsExactAt}
 use Rattle.byte_unit_math.specs.Powers.{IsTwoFive}
 use Rattle.byte_unit_base.specs.Shape.{Shape, bits, twos, fives}
-use Rattle.byte_unit_base.specs.Edition.{Edition}
+use Rattle.byte_unit_base.specs.Version.{Version}
 use Rattle.byte_unit_base.specs.Family.{InFamily}
-use Rattle.byte_unit_base.specs.Choice.{IsChosen, NoneHas, States}
+use Rattle.byte_unit_base.specs.Choice.{IsChosenIn, NoneHas, IsExactUnitIn}
 use Rattle.byte_unit_base.specs.Kinds.{bits_in}
 use Rattle.byte_unit_base.specs.declared.kind.Kind.{Kind}
 use Rattle.byte_unit_base.specs.declared.unit.family.Family.{Family}
@@ -16,54 +16,54 @@ abbrev pub Divides : Shape → ℕ → Type 0
 Divides unit in_bits = (whole : ℕ) × (in_bits ≡ whole * bits unit)
 
 -- the number is whole, and no larger unit of the unit set divides the size
-pub record IsWholeChoice (edition : Edition) (family : Family) (in_bits : ℕ) (unit : Shape) (number : ℕ)
+pub record IsWholeChoice (version : Version) (family : Family) (in_bits : ℕ) (unit : Shape) (number : ℕ)
     : Type 0 where
-  pub whole : (n : ℕ) × (number ≡ n * one)
-  pub no_larger : (other : Shape) → InFamily edition family other → bits unit < bits other → ¬ (Divides other in_bits)
+  pub whole : (n : ℕ) × (number ≡ n * scale)
+  pub no_larger : (other : Shape) → InFamily version family other → bits unit < bits other → ¬ (Divides other in_bits)
 
 -- law: at a precision of 0 the chosen number is whole, and no larger unit of the unit set divides the size
 abbrev pub ChoicesAtNoPlacesAreWhole : Type 0
 ChoicesAtNoPlacesAreWhole =
-    (edition : Edition) (family : Family) (in_bits number : ℕ) (unit : Shape)
-    → IsChosen edition family in_bits 0 unit number
-    → IsWholeChoice edition family in_bits unit number
+    (version : Version) (family : Family) (in_bits number : ℕ) (unit : Shape)
+    → IsChosenIn version family in_bits 0 unit number
+    → IsWholeChoice version family in_bits unit number
 
 -- a unit is chosen at this precision, and each one that is chosen is at least as large as the given unit
-pub record IsNoSmaller (edition : Edition) (family : Family) (in_bits precision : ℕ) (unit : Shape) : Type 0 where
-  pub some : (other : Shape) × (number : ℕ) × IsChosen edition family in_bits precision other number
+pub record IsNoSmaller (version : Version) (family : Family) (in_bits precision : ℕ) (unit : Shape) : Type 0 where
+  pub some : (other : Shape) × (number : ℕ) × IsChosenIn version family in_bits precision other number
   pub larger : (other : Shape) (number : ℕ)
-      → IsChosen edition family in_bits precision other number
+      → IsChosenIn version family in_bits precision other number
       → bits unit ≤ bits other
 
 -- law: if a unit is chosen at some precision, then one is chosen at each higher precision, and it is no smaller
 abbrev pub MorePlacesGiveNoSmallerUnit : Type 0
 MorePlacesGiveNoSmallerUnit =
-    (edition : Edition) (family : Family) (in_bits low high number : ℕ) (unit : Shape)
+    (version : Version) (family : Family) (in_bits low high number : ℕ) (unit : Shape)
     → low ≤ high
-    → IsChosen edition family in_bits low unit number
-    → IsNoSmaller edition family in_bits high unit
+    → IsChosenIn version family in_bits low unit number
+    → IsNoSmaller version family in_bits high unit
 
 -- law: the chosen number times the chosen unit is exactly the size
 abbrev pub NumberTimesUnitIsSize : Type 0
 NumberTimesUnitIsSize =
-    (edition : Edition) (family : Family) (in_bits precision number : ℕ) (unit : Shape)
-    → IsChosen edition family in_bits precision unit number
-    → number * bits unit ≡ in_bits * one
+    (version : Version) (family : Family) (in_bits precision number : ℕ) (unit : Shape)
+    → IsChosenIn version family in_bits precision unit number
+    → number * bits unit ≡ in_bits * scale
 
 -- law: a size has at most one chosen unit and number
 abbrev pub ChoicesAreOne : Type 0
 ChoicesAreOne =
-    (edition : Edition) (family : Family) (in_bits precision number other_number : ℕ) (unit other_unit : Shape)
-    → IsChosen edition family in_bits precision unit number
-    → IsChosen edition family in_bits precision other_unit other_number
+    (version : Version) (family : Family) (in_bits precision number other_number : ℕ) (unit other_unit : Shape)
+    → IsChosenIn version family in_bits precision unit number
+    → IsChosenIn version family in_bits precision other_unit other_number
     → (unit ≡ other_unit) × (number ≡ other_number)
 
 -- law: a size has a chosen unit and number, or there is no unit in which it is exact at this precision
 abbrev pub EachSizeHasAChoiceOrNone : Type 0
 EachSizeHasAChoiceOrNone =
-    (edition : Edition) (family : Family) (in_bits precision : ℕ)
-    → ((unit : Shape) × (number : ℕ) × IsChosen edition family in_bits precision unit number)
-    ⊎ NoneHas (States edition family in_bits precision)
+    (version : Version) (family : Family) (in_bits precision : ℕ)
+    → ((unit : Shape) × (number : ℕ) × IsChosenIn version family in_bits precision unit number)
+    ⊎ NoneHas (IsExactUnitIn version family in_bits precision)
 
 -- the size is exact in the unit at this many digits after the point if and only if the exponents of 2 and 5 in the unit
 -- are at most those in the size plus that number of digits

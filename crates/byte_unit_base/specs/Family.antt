@@ -1,7 +1,7 @@
 -- Unit sets (of bytes, of bits, or of both) and types of units (binary, decimal, or both).
 use Rattle.std.specs.Prelude.{◌≡◌, ◌≤◌, Bool, true, false, length, ⊤}
 use Rattle.byte_unit_base.specs.Shape.{Shape}
-use Rattle.byte_unit_base.specs.Edition.{Edition}
+use Rattle.byte_unit_base.specs.Version.{Version}
 use Rattle.byte_unit_base.specs.declared.unit.family.Family.{Family}
 use Rattle.byte_unit_base.specs.declared.unit.family.Family.TheVariants.{All, Bytes, Bits}
 use Rattle.byte_unit_base.specs.declared.unit.unit_type.UnitType.{UnitType}
@@ -19,12 +19,12 @@ IsOfType Binary binary = binary ≡ true
 IsOfType Decimal binary = binary ≡ false
 IsOfType Both binary = ⊤
 
--- the unit has a prefix, and the edition knows this prefix
-pub record HasPrefix (edition : Edition) (unit : Shape) : Type 0 where
+-- the unit has a prefix, and the version knows this prefix
+pub record HasPrefix (version : Version) (unit : Shape) : Type 0 where
   pub some : 1 ≤ unit.power
-  pub known : unit.power ≤ length edition.letters
+  pub known : unit.power ≤ length version.letters
 
--- the unit is in the unit set: it has a prefix that the edition knows, and is of the kind of the set
-pub record InFamily (edition : Edition) (family : Family) (unit : Shape) : Type 0 where
-  pub prefix : HasPrefix edition unit
+-- the unit is in the unit set: it has a prefix that the version knows, and is of the kind of the set
+pub record InFamily (version : Version) (family : Family) (unit : Shape) : Type 0 where
+  pub prefix : HasPrefix version unit
   pub kind : HasKind family unit.bit

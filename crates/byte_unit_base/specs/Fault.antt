@@ -3,12 +3,12 @@
 use Rattle.std.specs.Prelude.{◌≡◌, ℕ, Bool, true, false, if◌then◌else◌, nat_lt, List, [], ◌∷◌, ◌++◌, Option, Some, None}
 use Rattle.std.specs.Prelude.{codes}
 use Rattle.std.specs.Char.{digit_value}
-use Rattle.byte_unit_base.specs.Edition.{Edition}
+use Rattle.byte_unit_base.specs.Version.{Version}
 use Rattle.byte_unit_base.specs.Spelling.{Flags}
 use Rattle.byte_unit_base.specs.Number.{point}
-use Rattle.byte_unit_base.specs.Front.{Place, beginning, in_whole, after_point, in_fraction, before_unit, after_prefix}
-use Rattle.byte_unit_base.specs.Front.{after_b, after_bi, after_bit, after_bits, IsUnitFront, IsSizeFront}
-use Rattle.byte_unit_base.specs.Front.{IsLongestFront}
+use Rattle.byte_unit_base.specs.ViablePrefix.{ParserState, beginning, in_whole, after_point, in_fraction, before_unit, after_prefix}
+use Rattle.byte_unit_base.specs.ViablePrefix.{after_b, after_bi, after_bit, after_bits, IsViableUnitPrefix, IsViableSizePrefix}
+use Rattle.byte_unit_base.specs.ViablePrefix.{IsLongestViablePrefix}
 
 -- the error of an input, as the specification has it
 pub data Fault : Type 0 where
@@ -26,12 +26,12 @@ pub data Fault : Type 0 where
   bad_unit : ℕ → List ℕ → Bool → Fault
 
 -- the error at a character that cannot begin a unit
-abbrev pub no_unit : Edition → ℕ → Fault
-no_unit edition c = bad_unit c (codes "B" ++ edition.letters) true
+abbrev pub no_unit : Version → ℕ → Fault
+no_unit version c = bad_unit c (codes "B" ++ version.letters) true
 
 -- the error at a character after a digit: a digit too many, or a character that cannot begin a unit
-abbrev pub after_digit : Edition → ℕ → Fault
-after_digit edition c = if nat_lt (digit_value c) 10 then too_long else no_unit edition c
+abbrev pub after_digit : Version → ℕ → Fault
+after_digit version c = if nat_lt (digit_value c) 10 then too_long else no_unit version c
 
 -- the characters that an error after a prefix names: both letters if case is significant, and otherwise `B` if bytes
 -- are preferred, or `b` if bits are
@@ -40,17 +40,17 @@ expected_after_prefix flags =
     if flags.ignore_case then (if flags.prefer_byte then codes "B" else codes "b") else codes "Bb"
 
 -- the error at the character `c` that follows the longest viable prefix, by the parser state after that prefix
-abbrev pub fault_at : Edition → Flags → Place → ℕ → Fault
-fault_at edition flags beginning c = not_number c
-fault_at edition flags in_whole c = after_digit edition c
-fault_at edition flags after_point c = not_number c
-fault_at edition flags in_fraction c = after_digit edition c
-fault_at edition flags before_unit c = no_unit edition c
-fault_at edition flags after_prefix c = bad_unit c (expected_after_prefix flags) true
-fault_at edition flags after_b c = bad_unit c (codes "i") true
-fault_at edition flags after_bi c = bad_unit c (codes "t") false
-fault_at edition flags after_bit c = bad_unit c (codes "s") true
-fault_at edition flags after_bits c = bad_unit c [] true
+abbrev pub fault_at : Version → Flags → ParserState → ℕ → Fault
+fault_at version flags beginning c = not_number c
+fault_at version flags in_whole c = after_digit version c
+fault_at version flags after_point c = not_number c
+fault_at version flags in_fraction c = after_digit version c
+fault_at version flags before_unit c = no_unit version c
+fault_at version flags after_prefix c = bad_unit c (expected_after_prefix flags) true
+fault_at version flags after_b c = bad_unit c (codes "i") true
+fault_at version flags after_bi c = bad_unit c (codes "t") false
+fault_at version flags after_bit c = bad_unit c (codes "s") true
+fault_at version flags after_bits c = bad_unit c [] true
 
 -- the character `i`
 abbrev pub letter_i : ℕ
@@ -61,31 +61,31 @@ abbrev pub stops_at_bi : Fault
 stops_at_bi = bad_unit letter_i [] true
 
 -- the error of an input that is a viable prefix as a whole, by the parser state at its end; `None` if it can end there
-abbrev pub fault_at_end : Place → Option Fault
+abbrev pub fault_at_end : ParserState → Option Fault
 fault_at_end beginning = Some no_value
 fault_at_end after_point = Some (not_number point)
 fault_at_end after_bi = Some stops_at_bi
 fault_at_end _ = None
 
 -- the error by the parser state after the longest viable prefix, and by the rest of the input
-abbrev pub IsFaultAfter : Edition → Flags → Place → List ℕ → Fault → Type 0
-IsFaultAfter edition flags place [] fault = fault_at_end place ≡ Some fault
-IsFaultAfter edition flags place (c ∷ rest) fault = fault ≡ fault_at edition flags place c
+abbrev pub IsFaultAfter : Version → Flags → ParserState → List ℕ → Fault → Type 0
+IsFaultAfter version flags place [] fault = fault_at_end place ≡ Some fault
+IsFaultAfter version flags place (c ∷ rest) fault = fault ≡ fault_at version flags place c
 
--- the error of an input is that after its longest viable prefix; `IsFront` says what a viable prefix is
+-- the error of an input is that after its longest viable prefix; `IsViable` says what a viable prefix is
 pub record IsFirstFault
-    (IsFront : Place → List ℕ → Type 0) (edition : Edition) (flags : Flags) (text : List ℕ) (fault : Fault)
+    (IsViable : ParserState → List ℕ → Type 0) (version : Version) (flags : Flags) (text : List ℕ) (fault : Fault)
     : Type 0 where
-  pub place : Place
+  pub place : ParserState
   pub front : List ℕ
   pub rest : List ℕ
-  pub longest : IsLongestFront IsFront text place front rest
-  pub fault_is : IsFaultAfter edition flags place rest fault
+  pub longest : IsLongestViablePrefix IsViable text place front rest
+  pub fault_is : IsFaultAfter version flags place rest fault
 
 -- the error of an input that does not spell a unit
-abbrev pub IsUnitFault : Edition → Flags → List ℕ → Fault → Type 0
-IsUnitFault edition = IsFirstFault (IsUnitFront edition) edition
+abbrev pub IsUnitFault : Version → Flags → List ℕ → Fault → Type 0
+IsUnitFault version = IsFirstFault (IsViableUnitPrefix version) version
 
 -- the error of an input that is not a number and a unit
-abbrev pub IsSizeFault : Edition → Flags → List ℕ → Fault → Type 0
-IsSizeFault edition = IsFirstFault (IsSizeFront edition) edition
+abbrev pub IsSizeFault : Version → Flags → List ℕ → Fault → Type 0
+IsSizeFault version = IsFirstFault (IsViableSizePrefix version) version

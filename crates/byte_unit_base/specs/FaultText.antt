@@ -3,7 +3,7 @@
 use Rattle.std.specs.Prelude.{ℕ, Bool, if◌then◌else◌, ◌==◌, length, List, [], ◌∷◌, ◌++◌, Option, Some, None, codes}
 use Rattle.std.specs.Fmt.{debug_char, ◌++?◌}
 use Rattle.byte_unit_math.specs.Bounds.{places_of_decimal}
-use Rattle.byte_unit_math.specs.Numeral.{short}
+use Rattle.byte_unit_math.specs.Numeral.{short_numeral}
 use Rattle.byte_unit_base.specs.declared.errors.ExceededBoundsError.{ExceededBoundsError}
 use Rattle.byte_unit_base.specs.declared.errors.UnitParseError.{UnitParseError}
 use Rattle.byte_unit_base.specs.declared.errors.ValueParseError.{ValueParseError}
@@ -21,7 +21,7 @@ exceeded_text e = Some (codes "value exceeds the valid range")
 -- the message of an error in the number
 abbrev pub value_text : ValueParseError → Option (List ℕ)
 value_text (ExceededBounds n) =
-    Some (codes "the value " ++ short n places_of_decimal ++ codes " exceeds the valid range")
+    Some (codes "the value " ++ short_numeral n places_of_decimal ++ codes " exceeds the valid range")
 value_text (NotNumber c) = Some (codes "the character ") ++? debug_char c ++? Some (codes " is not a number")
 value_text NoValue = Some (codes "no value can be found")
 value_text NumberTooLong = Some (codes "value number is too long")

@@ -1,7 +1,7 @@
 -- How sizes in bytes and sizes in bits differ.
 use Rattle.std.specs.Prelude.{ℕ, Bool, true, false, not}
 use Rattle.byte_unit_base.specs.Shape.{Shape, shape}
-use Rattle.byte_unit_base.specs.Spelling.{Flags, reading}
+use Rattle.byte_unit_base.specs.Spelling.{Flags, flags_of}
 use Rattle.byte_unit_base.specs.declared.kind.Kind.{Kind}
 use Rattle.byte_unit_base.specs.declared.kind.Kind.TheVariants.{Byte, Bit}
 use Rattle.byte_unit_base.specs.declared.unit.family.Family.{Family}
@@ -29,5 +29,5 @@ own_family Bit = Bits
 -- how the parser of this kind reads a unit: for sizes in bytes, bytes are preferred; for sizes in bits, bits are, and
 -- case is always significant
 abbrev pub flags_for : Kind → Bool → Flags
-flags_for Byte ignore_case = reading ignore_case true
-flags_for Bit ignore_case = reading false false
+flags_for Byte ignore_case = flags_of ignore_case true
+flags_for Bit ignore_case = flags_of false false

@@ -1,13 +1,13 @@
 -- The definitions that the contracts of this crate are written in.
 pub mod Shape
-pub mod Edition
+pub mod Version
 pub mod Units
 pub mod Spelling
 pub mod Number
 pub mod SizeText
-pub mod Front
+pub mod ViablePrefix
 pub mod Fault
-pub mod UnitRefusal
+pub mod UnitErrorView
 pub mod FaultText
 pub mod Errors
 pub mod Readings
@@ -23,7 +23,7 @@ pub mod AdjustedSize
 pub mod ReaderLaws
 pub mod ChoiceLaws
 pub mod SizeLaws
-pub mod EditionLaws
+pub mod Versions
 -- private: no public contract cites these
 pub mod Scan
 pub mod UnitScan

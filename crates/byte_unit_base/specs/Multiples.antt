@@ -2,27 +2,27 @@
 use Rattle.std.specs.Prelude.{◌≡◌, ℕ, zero, suc, ◌≤◌, true, false, List, [], ◌∷◌, ◌++◌, length, map}
 use Rattle.byte_unit_base.specs.Shape.{Shape, shape, bits, twos, fives}
 use Rattle.byte_unit_base.specs.Units.{shape_of}
-use Rattle.byte_unit_base.specs.Edition.{current}
+use Rattle.byte_unit_base.specs.Version.{current}
 use Rattle.byte_unit_base.specs.Family.{HasPrefix}
 use Rattle.byte_unit_base.specs.declared.unit.family.UnitRow.{UnitRow}
 use Rattle.byte_unit_base.specs.declared.unit.family.Family.{Family}
 use Rattle.byte_unit_base.specs.declared.unit.family.Family.TheVariants.{All, Bytes, Bits}
 
 -- the number of prefix letters
-abbrev pub known_prefixes : ℕ
-known_prefixes = length current.letters
+abbrev pub prefix_count : ℕ
+prefix_count = length current.letters
 
 -- the units of a unit set that have this one prefix letter, from the largest to the smallest
-abbrev pub of_prefix : Family → ℕ → List Shape
-of_prefix All power =
+abbrev pub units_of_prefix : Family → ℕ → List Shape
+units_of_prefix All power =
     shape power true false ∷ shape power false false ∷ shape power true true ∷ shape power false true ∷ []
-of_prefix Bytes power = shape power true false ∷ shape power false false ∷ []
-of_prefix Bits power = shape power true true ∷ shape power false true ∷ []
+units_of_prefix Bytes power = shape power true false ∷ shape power false false ∷ []
+units_of_prefix Bits power = shape power true true ∷ shape power false true ∷ []
 
 -- the units of a unit set that have one of the first n prefix letters, from the largest to the smallest
-abbrev pub falling_from : Family → ℕ → List Shape
-falling_from family zero = []
-falling_from family (suc power) = of_prefix family (suc power) ++ falling_from family power
+abbrev pub units_of_prefixes : Family → ℕ → List Shape
+units_of_prefixes family zero = []
+units_of_prefixes family (suc power) = units_of_prefix family (suc power) ++ units_of_prefixes family power
 
 -- a row of the table of units: a unit, its number of bits, and the exponents of 2 and 5 in it
 pub record ShapeRow : Type 0 where
@@ -43,7 +43,7 @@ row_shape row = record { unit = shape_of row.unit; bits = row.bits; twos = row.t
 -- unit of the set that has at most `in_bits` bits, and one of the `first` first prefix letters, is among them
 pub record ListsUnits (family : Family) (in_bits first : ℕ) (rows : List UnitRow) : Type 0 where
   pub prefixes : ℕ
-  pub few : prefixes ≤ known_prefixes
-  pub rows_are : map row_shape rows ≡ map row_of (falling_from family prefixes)
+  pub few : prefixes ≤ prefix_count
+  pub rows_are : map row_shape rows ≡ map row_of (units_of_prefixes family prefixes)
   pub within : (unit : Shape) → HasPrefix current unit → bits unit ≤ in_bits → unit.power ≤ first
       → unit.power ≤ prefixes

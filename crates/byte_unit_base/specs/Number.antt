@@ -2,16 +2,16 @@
 -- part.
 use Rattle.std.specs.Prelude.{◌≡◌, ℕ, ◌+◌, ◌-◌, ◌*◌, ◌^◌, ◌<◌, ◌≤◌, ◌⊎◌, List, [], ◌∷◌, ◌++◌, length}
 use Rattle.std.specs.Str.Parse.{IsNumeral, digits_value}
-use Rattle.byte_unit_math.specs.Bounds.{one, places_of_decimal}
-use Rattle.byte_unit_base.specs.Edition.{Edition}
+use Rattle.byte_unit_math.specs.Bounds.{scale, places_of_decimal}
+use Rattle.byte_unit_base.specs.Version.{Version}
 
 -- the character `.`
 abbrev pub point : ℕ
 point = 46
 
 -- the text is decimal digits of this value, which is below the limit of a whole part
-abbrev pub IsWholePart : Edition → List ℕ → ℕ → Type 0
-IsWholePart edition text value = IsNumeral 10 text × (value ≡ digits_value 10 text) × (value < edition.whole_limit)
+abbrev pub IsWholePart : Version → List ℕ → ℕ → Type 0
+IsWholePart version text value = IsNumeral 10 text × (value ≡ digits_value 10 text) × (value < version.whole_limit)
 
 -- the text is the digits after a point, at most 28; `n` is the fraction, scaled by 10^28
 abbrev pub IsFraction : List ℕ → ℕ → Type 0
@@ -21,23 +21,23 @@ IsFraction text n =
     × (n ≡ digits_value 10 text * 10 ^ (places_of_decimal - length text))
 
 -- the text is a whole part of this value, and a point
-pub record IsPointed (edition : Edition) (text : List ℕ) (value : ℕ) : Type 0 where
+pub record IsPointed (version : Version) (text : List ℕ) (value : ℕ) : Type 0 where
   pub whole : List ℕ
   pub text_is : text ≡ whole ++ point ∷ []
-  pub whole_is : IsWholePart edition whole value
+  pub whole_is : IsWholePart version whole value
 
 -- the text is a whole part, a point and a fraction; `n` is the number, scaled by 10^28
-pub record IsPrecise (edition : Edition) (text : List ℕ) (n : ℕ) : Type 0 where
+pub record IsPrecise (version : Version) (text : List ℕ) (n : ℕ) : Type 0 where
   pub whole : List ℕ
   pub fraction : List ℕ
   pub value : ℕ
   pub part : ℕ
   pub text_is : text ≡ whole ++ point ∷ fraction
-  pub whole_is : IsWholePart edition whole value
+  pub whole_is : IsWholePart version whole value
   pub fraction_is : IsFraction fraction part
-  pub number_is : n ≡ value * one + part
+  pub number_is : n ≡ value * scale + part
 
 -- the text is a number, with or without a fraction; `n` is its value, scaled by 10^28
-abbrev pub IsNumberText : Edition → List ℕ → ℕ → Type 0
-IsNumberText edition text n =
-    ((value : ℕ) × IsWholePart edition text value × (n ≡ value * one)) ⊎ IsPrecise edition text n
+abbrev pub IsNumberText : Version → List ℕ → ℕ → Type 0
+IsNumberText version text n =
+    ((value : ℕ) × IsWholePart version text value × (n ≡ value * scale)) ⊎ IsPrecise version text n

@@ -1,11 +1,11 @@
 -- The laws of the parsers. An input is the list of its characters.
 use Rattle.std.specs.Prelude.{◌≡◌, ◌↔◌, ℕ, Bool, false, ◌⊎◌, List, ◌++◌}
 use Rattle.byte_unit_base.specs.Shape.{Shape}
-use Rattle.byte_unit_base.specs.Edition.{current, name}
+use Rattle.byte_unit_base.specs.Version.{current, unit_name}
 use Rattle.byte_unit_base.specs.Units.{shape_of}
-use Rattle.byte_unit_base.specs.Spelling.{Flags, reading, Spells}
-use Rattle.byte_unit_base.specs.SizeText.{trimmed, IsSizeText}
-use Rattle.byte_unit_base.specs.Front.{Place, IsUnitFront, IsSizeFront}
+use Rattle.byte_unit_base.specs.Spelling.{Flags, flags_of, Spells}
+use Rattle.byte_unit_base.specs.SizeText.{trim_of, IsSizeText}
+use Rattle.byte_unit_base.specs.ViablePrefix.{ParserState, IsViableUnitPrefix, IsViableSizePrefix}
 use Rattle.byte_unit_base.specs.Fault.{Fault, IsUnitFault, IsSizeFault}
 use Rattle.byte_unit_base.specs.declared.unit.Unit.{Unit as UnitName}
 
@@ -22,35 +22,35 @@ UnitTextsHaveOneAnswer =
     (flags : Flags) (text : List ℕ) → IsOneAnswer Shape (Spells current flags text) (IsUnitFault current flags text)
 
 -- the input is this number (scaled by 10^28) of this unit
-abbrev pub States : Flags → List ℕ → ℕ × Shape → Type 0
-States flags text stated = IsSizeText current flags text stated.0 stated.1
+abbrev pub Represents : Flags → List ℕ → ℕ × Shape → Type 0
+Represents flags text stated = IsSizeText current flags text stated.0 stated.1
 
 -- law: each input is exactly one number and unit, or has exactly one error, and not both
 abbrev pub SizeTextsHaveOneAnswer : Type 0
 SizeTextsHaveOneAnswer =
-    (flags : Flags) (text : List ℕ) → IsOneAnswer (ℕ × Shape) (States flags text) (IsSizeFault current flags text)
+    (flags : Flags) (text : List ℕ) → IsOneAnswer (ℕ × Shape) (Represents flags text) (IsSizeFault current flags text)
 
 -- the text can be completed: with some rest, or with nothing, it has a meaning
-abbrev pub Begins : (Meaning : Type 0) → (List ℕ → Meaning → Type 0) → List ℕ → Type 0
-Begins Meaning Means text = (rest : List ℕ) × (meaning : Meaning) × Means (text ++ rest) meaning
+abbrev pub CanBecome : (Meaning : Type 0) → (List ℕ → Meaning → Type 0) → List ℕ → Type 0
+CanBecome Meaning Means text = (rest : List ℕ) × (meaning : Meaning) × Means (text ++ rest) meaning
 
 -- law: the viable prefixes of a unit are exactly the beginnings of the spellings of units
-abbrev pub UnitFrontsAreBeginnings : Type 0
-UnitFrontsAreBeginnings =
+abbrev pub ViableUnitPrefixesAreBeginnings : Type 0
+ViableUnitPrefixesAreBeginnings =
     (flags : Flags) (text : List ℕ)
-    → ((place : Place) × IsUnitFront current place text) ↔ Begins Shape (Spells current flags) text
+    → ((place : ParserState) × IsViableUnitPrefix current place text) ↔ CanBecome Shape (Spells current flags) text
 
 -- law: the viable prefixes of a number and a unit are exactly the beginnings of the inputs in the grammar
-abbrev pub SizeFrontsAreBeginnings : Type 0
-SizeFrontsAreBeginnings =
+abbrev pub ViableSizePrefixesAreBeginnings : Type 0
+ViableSizePrefixesAreBeginnings =
     (flags : Flags) (text : List ℕ)
-    → ((place : Place) × IsSizeFront current place text) ↔ Begins (ℕ × Shape) (States flags) text
+    → ((place : ParserState) × IsViableSizePrefix current place text) ↔ CanBecome (ℕ × Shape) (Represents flags) text
 
 -- the name of the unit spells it if case is significant, whether bytes or bits are preferred, and has no white space at
 -- its ends
 pub record IsSpelledByItsName (unit : UnitName) (prefer_byte : Bool) : Type 0 where
-  pub spells : Spells current (reading false prefer_byte) (name current (shape_of unit)) (shape_of unit)
-  pub trimmed_is : trimmed (name current (shape_of unit)) ≡ name current (shape_of unit)
+  pub spells : Spells current (flags_of false prefer_byte) (unit_name unit) (shape_of unit)
+  pub trimmed_is : trim_of (unit_name unit) ≡ unit_name unit
 
 -- law: the name of each unit is parsed as this unit
 abbrev pub NamesSpellTheirUnits : Type 0

@@ -2,10 +2,10 @@
 -- says both that what is returned is right, and that what is right is returned.
 use Rattle.std.specs.Prelude.{◌≡◌, ◌≢◌, ℕ, List, Result, IfOk, IfErr, IsOkAnd}
 use Rattle.byte_unit_base.specs.Shape.{Shape}
-use Rattle.byte_unit_base.specs.Edition.{current}
+use Rattle.byte_unit_base.specs.Version.{current}
 use Rattle.byte_unit_base.specs.Units.{shape_of}
 use Rattle.byte_unit_base.specs.Spelling.{Flags, Spells}
-use Rattle.byte_unit_base.specs.SizeText.{trimmed, IsSizeText}
+use Rattle.byte_unit_base.specs.SizeText.{trim_of, IsSizeText}
 use Rattle.byte_unit_base.specs.Fault.{IsUnitFault, IsSizeFault, exceeded}
 use Rattle.byte_unit_base.specs.Errors.{unit_fault, size_fault}
 use Rattle.byte_unit_base.specs.declared.unit.Unit.{Unit as UnitName}
@@ -15,20 +15,20 @@ use Rattle.byte_unit_base.specs.declared.errors.ParseError.{ParseError}
 -- the result is the unit that the input spells, or the error of an input that spells none
 pub record IsUnitReading (flags : Flags) (bytes : List ℕ) (result : Result UnitName UnitParseError) : Type 0 where
   -- the input spells the unit that is returned
-  pub found : IfOk result (λ unit. Spells current flags (trimmed bytes) (shape_of unit))
+  pub found : IfOk result (λ unit. Spells current flags (trim_of bytes) (shape_of unit))
   -- the unit that the input spells is returned
-  pub reads : (unit : Shape) → Spells current flags (trimmed bytes) unit → IsOkAnd result (λ name. shape_of name ≡ unit)
+  pub reads : (unit : Shape) → Spells current flags (trim_of bytes) unit → IsOkAnd result (λ name. shape_of name ≡ unit)
   -- an error that is returned is that of the input
-  pub fault : IfErr result (λ error. IsUnitFault current flags (trimmed bytes) (unit_fault error))
+  pub fault : IfErr result (λ error. IsUnitFault current flags (trim_of bytes) (unit_fault error))
 
 -- the result is the number (scaled by 10^28) and the unit of the input, or the error of an input that is none
 pub record IsNumberReading (flags : Flags) (bytes : List ℕ) (result : Result (ℕ × UnitName) ParseError) : Type 0 where
   -- the input is the number and unit that are returned
-  pub found : IfOk result (λ r. IsSizeText current flags (trimmed bytes) r.0 (shape_of r.1))
+  pub found : IfOk result (λ r. IsSizeText current flags (trim_of bytes) r.0 (shape_of r.1))
   -- the number and unit of the input are returned
-  pub reads : (number : ℕ) (unit : Shape) → IsSizeText current flags (trimmed bytes) number unit
+  pub reads : (number : ℕ) (unit : Shape) → IsSizeText current flags (trim_of bytes) number unit
       → IsOkAnd result (λ r. (r.0 ≡ number) × (shape_of r.1 ≡ unit))
   -- an error that is returned is that of the input
-  pub fault : IfErr result (λ error. IsSizeFault current flags (trimmed bytes) (size_fault error))
+  pub fault : IfErr result (λ error. IsSizeFault current flags (trim_of bytes) (size_fault error))
   -- the error is never that of a size which is too large
   pub no_bounds : IfErr result (λ error. (number : ℕ) → size_fault error ≢ exceeded number)

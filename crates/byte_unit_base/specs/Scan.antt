@@ -1,9 +1,9 @@
 -- Private: a state machine that reads an input character by character. No public contract cites this file; it is proved
 -- that the state machines accept the inputs, and give the errors, of the other files.
 use Rattle.std.specs.Prelude.{ℕ, List, [], ◌∷◌, Option, Some, None, Result, Ok, Err, option_and_then}
-use Rattle.byte_unit_base.specs.Edition.{current}
+use Rattle.byte_unit_base.specs.Version.{current}
 use Rattle.byte_unit_base.specs.Spelling.{Flags}
-use Rattle.byte_unit_base.specs.Front.{Place}
+use Rattle.byte_unit_base.specs.ViablePrefix.{ParserState}
 use Rattle.byte_unit_base.specs.Fault.{Fault, fault_at}
 
 -- a state machine: its first state and its steps, the parser state of each state, and the result for an input that ends
@@ -12,7 +12,7 @@ pub record Scan (State Meaning : Type 0) : Type 0 where
   pub flags : Flags
   pub start : State
   pub step : State → ℕ → Option State
-  pub place : State → Place
+  pub place : State → ParserState
   pub at_end : State → Result Meaning Fault
 
 -- the state after a text, or `None` if a character of it has no step
@@ -27,6 +27,6 @@ read scan s (c ∷ cs) =
     elim (scan.step s c) [ Some t ↦ read scan t cs | None ↦ Err (fault_at current scan.flags (scan.place s) c) ]
 
 -- a result of the code, as the specification has it: `meaning` translates its value, and `fault` its error
-abbrev pub seen : {R E Meaning : Type 0} → (R → Meaning) → (E → Fault) → Result R E → Result Meaning Fault
-seen meaning fault (Ok value) = Ok (meaning value)
-seen meaning fault (Err error) = Err (fault error)
+abbrev pub map_result : {R E Meaning : Type 0} → (R → Meaning) → (E → Fault) → Result R E → Result Meaning Fault
+map_result meaning fault (Ok value) = Ok (meaning value)
+map_result meaning fault (Err error) = Err (fault error)

@@ -1,10 +1,9 @@
 -- The laws of sizes. An input is given by its UTF-8 bytes, and a number of a unit is scaled by 10^28.
 use Rattle.std.specs.Prelude.{◌≡◌, ℕ, ◌≤◌, ◌⊎◌, Bool, List}
 use Rattle.byte_unit_base.specs.Shape.{Shape}
-use Rattle.byte_unit_base.specs.Edition.{current}
 use Rattle.byte_unit_base.specs.Fault.{Fault}
 use Rattle.byte_unit_base.specs.LeastOfKind.{IsLeastOf}
-use Rattle.byte_unit_base.specs.Accepted.{IsAccepted, Exceeds, HasFault, IsRefused}
+use Rattle.byte_unit_base.specs.Accepted.{IsAccepted, Exceeds, HasFault, IsRejected}
 use Rattle.byte_unit_base.specs.ReaderLaws.{IsOneAnswer}
 use Rattle.byte_unit_base.specs.declared.kind.Kind.{Kind}
 
@@ -26,14 +25,14 @@ EachNumberHasOneLeastSize = (kind : Kind) (number : ℕ) (unit : Shape) → HasO
 
 -- an input is accepted as exactly one size, or its size is too large and it has exactly one number, or it has exactly
 -- one error; no two of these hold
-pub record IsOneOfThree (Accepts Exceeds : ℕ → Type 0) (Fails : Fault → Type 0) : Type 0 where
-  pub some : ((n : ℕ) × Accepts n) ⊎ (((number : ℕ) × Exceeds number) ⊎ ((fault : Fault) × Fails fault))
+pub record IsOneOfThree (Accepts Overflows : ℕ → Type 0) (Fails : Fault → Type 0) : Type 0 where
+  pub some : ((n : ℕ) × Accepts n) ⊎ (((number : ℕ) × Overflows number) ⊎ ((fault : Fault) × Fails fault))
   pub one_size : (n other : ℕ) → Accepts n → Accepts other → n ≡ other
-  pub one_number : (number other : ℕ) → Exceeds number → Exceeds other → number ≡ other
+  pub one_number : (number other : ℕ) → Overflows number → Overflows other → number ≡ other
   pub one_fault : (fault other : Fault) → Fails fault → Fails other → fault ≡ other
-  pub no_excess : (n number : ℕ) → Accepts n → ¬ (Exceeds number)
+  pub no_excess : (n number : ℕ) → Accepts n → ¬ (Overflows number)
   pub no_fault : (n : ℕ) (fault : Fault) → Accepts n → ¬ (Fails fault)
-  pub no_fault_of_excess : (number : ℕ) (fault : Fault) → Exceeds number → ¬ (Fails fault)
+  pub no_fault_of_excess : (number : ℕ) (fault : Fault) → Overflows number → ¬ (Fails fault)
 
 -- law: each input is accepted as one size, or is in the grammar but its size is too large, or is not in the grammar and
 -- has one error; no two of these hold
@@ -41,13 +40,13 @@ abbrev pub EachTextIsOneOfThree : Type 0
 EachTextIsOneOfThree =
     (kind : Kind) (ignore_case : Bool) (text : List ℕ)
     → IsOneOfThree
-    (IsAccepted current kind ignore_case text)
-    (Exceeds current kind ignore_case text)
-    (HasFault current kind ignore_case text)
+    (IsAccepted kind ignore_case text)
+    (Exceeds kind ignore_case text)
+    (HasFault kind ignore_case text)
 
 -- law: each input is accepted as exactly one size, or rejected with exactly one error, and not both. Here a size that
 -- is too large is an error
-abbrev pub TextsAreAcceptedOrRefused : Type 0
-TextsAreAcceptedOrRefused =
+abbrev pub TextsAreAcceptedOrRejected : Type 0
+TextsAreAcceptedOrRejected =
     (kind : Kind) (ignore_case : Bool) (text : List ℕ)
-    → IsOneAnswer ℕ (IsAccepted current kind ignore_case text) (IsRefused current kind ignore_case text)
+    → IsOneAnswer ℕ (IsAccepted kind ignore_case text) (IsRejected kind ignore_case text)

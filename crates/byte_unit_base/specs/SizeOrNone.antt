@@ -1,19 +1,31 @@
 -- Results that are `None` or an error if a number is not a size: a size is not negative, and is below the limit of the
--- edition.
-use Rattle.std.specs.Prelude.{◌≡◌, ℕ, ◌<◌, ◌≤◌, ℤ, pos, negsuc, Option, Some, None, Result, OkIff, IsErr}
-use Rattle.byte_unit_base.specs.Edition.{Edition}
+-- version.
+use Rattle.std.specs.Prelude.{◌≡◌, ℕ, ◌<◌, ◌≤◌, ℤ, pos, negsuc, Option, Some, None, Result, OkIff, IsErr, ◌*◌}
+use Rattle.byte_unit_math.specs.Bounds.{scale, size_limit}
+use Rattle.byte_unit_base.specs.LeastOfKind.{IsLeastOf}
+use Rattle.byte_unit_base.specs.Units.{shape_of}
+use Rattle.byte_unit_base.specs.declared.kind.Kind.{Kind}
+use Rattle.byte_unit_base.specs.declared.unit.Unit.{Unit as UnitName}
 
 -- the number that has this property, if it is below the limit of a size; `None` if it reaches the limit
-abbrev pub IsSizeOrNone : Edition → (ℕ → Type 0) → Option ℕ → Type 0
-IsSizeOrNone edition Has None = (n : ℕ) → Has n → edition.size_limit ≤ n
-IsSizeOrNone edition Has (Some n) = Has n × (n < edition.size_limit)
+abbrev pub IsSizeOrNone : (ℕ → Type 0) → Option ℕ → Type 0
+IsSizeOrNone Has None = (n : ℕ) → Has n → size_limit ≤ n
+IsSizeOrNone Has (Some n) = Has n × (n < size_limit)
+
+-- The size of a number of the unit, scaled by 10^28: rounded up to a whole byte or bit, and `None` if it is 10^30 or more.
+abbrev pub IsSizeOfDecimal : Kind → ℕ → UnitName → Option ℕ → Type 0
+IsSizeOfDecimal kind number unit = IsSizeOrNone (IsLeastOf kind number (shape_of unit))
+
+-- The size of n of the unit: rounded up to a whole byte or bit, and `None` if it is 10^30 or more.
+abbrev pub IsSizeOfUnit : Kind → ℕ → UnitName → Option ℕ → Type 0
+IsSizeOfUnit kind n unit = IsSizeOfDecimal kind (n * scale) unit
 
 -- `None` for a negative number, and for any other the result for it as a natural number
-abbrev pub OfSigned : (ℕ → Option ℕ → Type 0) → ℤ → Option ℕ → Type 0
-OfSigned Gives (pos n) result = Gives n result
-OfSigned Gives (negsuc n) result = result ≡ None
+abbrev pub IfNonNegative : (ℕ → Option ℕ → Type 0) → ℤ → Option ℕ → Type 0
+IfNonNegative Gives (pos n) result = Gives n result
+IfNonNegative Gives (negsuc n) result = result ≡ None
 
 -- the number itself if it is a size; an error if it is negative or reaches the limit of a size
-abbrev pub TriesSigned : {E : Type 0} → Edition → ℤ → Result ℕ E → Type 0
-TriesSigned edition (pos n) result = OkIff result (n < edition.size_limit) n
-TriesSigned edition (negsuc n) result = IsErr result
+abbrev pub IsSizeOrError : {E : Type 0} → ℤ → Result ℕ E → Type 0
+IsSizeOrError (pos n) result = OkIff result (n < size_limit) n
+IsSizeOrError (negsuc n) result = IsErr result

@@ -1,23 +1,22 @@
 -- What the parsers of a size return, for a string and for bytes.
 use Rattle.std.specs.Prelude.{◌≡◌, ℕ, Bool, List, Option, MatchOption, Result, Ok, IfOk, IfErr, IsErrAnd}
 use Rattle.std.specs.Str.{IsUtf8}
-use Rattle.byte_unit_base.specs.Edition.{current}
 use Rattle.byte_unit_base.specs.Fault.{exceeded}
 use Rattle.byte_unit_base.specs.Errors.{size_fault}
 use Rattle.byte_unit_base.specs.declared.errors.ParseError.{ParseError}
 use Rattle.byte_unit_base.specs.declared.kind.Kind.{Kind}
-use Rattle.byte_unit_base.specs.Accepted.{IsAccepted, Exceeds, IsRefused}
+use Rattle.byte_unit_base.specs.Accepted.{IsAccepted, Exceeds, IsRejected}
 
 -- the result is the size that the input is accepted as, the error of a size that is too large (with its number, scaled
 -- by 10^28), or the error of an input that is not in the grammar. What is returned is right, and what is right is
 -- returned
 pub record IsSizeReading
     (kind : Kind) (ignore_case : Bool) (bytes : List ℕ) (result : Result ℕ ParseError) : Type 0 where
-  pub found : IfOk result (IsAccepted current kind ignore_case bytes)
-  pub reads : (n : ℕ) → IsAccepted current kind ignore_case bytes n → result ≡ Ok n
-  pub exceeds : (number : ℕ) → Exceeds current kind ignore_case bytes number
+  pub found : IfOk result (IsAccepted kind ignore_case bytes)
+  pub reads : (n : ℕ) → IsAccepted kind ignore_case bytes n → result ≡ Ok n
+  pub exceeds : (number : ℕ) → Exceeds kind ignore_case bytes number
       → IsErrAnd result (λ error. size_fault error ≡ exceeded number)
-  pub fault : IfErr result (λ error. IsRefused current kind ignore_case bytes (size_fault error))
+  pub fault : IfErr result (λ error. IsRejected kind ignore_case bytes (size_fault error))
 
 -- `None` if the bytes are not UTF-8, and otherwise the result of parsing them as a string
 abbrev pub IsBytesReading : Kind → Bool → List ℕ → Option (Result ℕ ParseError) → Type 0

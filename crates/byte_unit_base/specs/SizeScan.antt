@@ -4,7 +4,7 @@ use Rattle.std.specs.Prelude.{ℕ, ◌+◌, ◌-◌, ◌*◌, ◌^◌, ◌<◌, 
 use Rattle.std.specs.Prelude.{Result, Ok, Err}
 use Rattle.std.specs.Option.{option_map}
 use Rattle.std.specs.Char.{digit_value}
-use Rattle.byte_unit_math.specs.Bounds.{one, places_of_decimal, whole_limit}
+use Rattle.byte_unit_math.specs.Bounds.{scale, places_of_decimal, whole_limit}
 use Rattle.byte_unit_base.specs.Shape.{Shape}
 use Rattle.byte_unit_base.specs.Units.{shape_of}
 use Rattle.byte_unit_base.specs.Errors.{size_fault}
@@ -13,10 +13,10 @@ use Rattle.byte_unit_base.specs.SizeText.{space}
 use Rattle.byte_unit_base.specs.declared.unit.Unit.{Unit as UnitName}
 use Rattle.byte_unit_base.specs.declared.errors.ParseError.{ParseError}
 use Rattle.byte_unit_base.specs.Spelling.{Flags}
-use Rattle.byte_unit_base.specs.Front.{Place, beginning, in_whole, after_point, in_fraction, before_unit}
+use Rattle.byte_unit_base.specs.ViablePrefix.{ParserState, beginning, in_whole, after_point, in_fraction, before_unit}
 use Rattle.byte_unit_base.specs.Fault.{Fault, not_number, no_value, stops_at_bi}
-use Rattle.byte_unit_base.specs.Scan.{Scan, seen}
-use Rattle.byte_unit_base.specs.UnitScan.{unit_step, unit_of, place_of, start as unit_start}
+use Rattle.byte_unit_base.specs.Scan.{Scan, map_result}
+use Rattle.byte_unit_base.specs.UnitScan.{unit_step, unit_of, unit_parser_state, start as unit_start}
 use Rattle.byte_unit_base.specs.declared.read.scan.SizeScan.{SizeScan}
 use Rattle.byte_unit_base.specs.declared.read.scan.SizeScan.TheVariants.{Beginning, Whole, Point, Fraction, Gap}
 use Rattle.byte_unit_base.specs.declared.read.scan.SizeScan.TheVariants.{Unit as UnitAt}
@@ -37,8 +37,8 @@ abbrev pub after_number : ℕ → ℕ → Option SizeScan
 after_number n c = if c == space then Some (Gap n) else option_map (UnitAt n) (unit_step unit_start c)
 
 -- the number with the whole part `w` and with `f` as the `j` digits after the point, scaled by 10^28
-abbrev pub precise : ℕ → ℕ → ℕ → ℕ
-precise w f j = w * one + f * 10 ^ (places_of_decimal - j)
+abbrev pub fixed_point : ℕ → ℕ → ℕ → ℕ
+fixed_point w f j = w * scale + f * 10 ^ (places_of_decimal - j)
 
 -- the state after one character more, or `None` if it cannot follow
 unfoldable pub size_step : SizeScan → ℕ → Option SizeScan
@@ -46,42 +46,42 @@ size_step Beginning c = if is_digit c then Some (Whole (digit_value c)) else Non
 size_step (Whole w) c =
     if is_digit c
     then (if nat_lt (w * 10 + digit_value c) whole_limit then Some (Whole (w * 10 + digit_value c)) else None)
-    else (if c == point then Some (Point w) else after_number (w * one) c)
+    else (if c == point then Some (Point w) else after_number (w * scale) c)
 size_step (Point w) c = if is_digit c then Some (Fraction w (digit_value c) 1) else None
 size_step (Fraction w f j) c =
     if is_digit c then (if nat_lt j places_of_decimal then Some (Fraction w (f * 10 + digit_value c) (j + 1)) else None)
-    else after_number (precise w f j) c
+    else after_number (fixed_point w f j) c
 size_step (Gap n) c = after_number n c
 size_step (UnitAt n s) c = option_map (UnitAt n) (unit_step s c)
 
 -- the parser state that belongs to a state of the machine
-abbrev pub size_place : SizeScan → Place
-size_place Beginning = beginning
-size_place (Whole w) = in_whole
-size_place (Point w) = after_point
-size_place (Fraction w f j) = in_fraction
-size_place (Gap n) = before_unit
-size_place (UnitAt n s) = place_of s
+abbrev pub size_parser_state : SizeScan → ParserState
+size_parser_state Beginning = beginning
+size_parser_state (Whole w) = in_whole
+size_parser_state (Point w) = after_point
+size_parser_state (Fraction w f j) = in_fraction
+size_parser_state (Gap n) = before_unit
+size_parser_state (UnitAt n s) = unit_parser_state s
 
 -- the number, scaled by 10^28, if the last character was one of its digits, and otherwise `None`
-abbrev pub number_of : SizeScan → Option ℕ
-number_of (Whole w) = Some (w * one)
-number_of (Fraction w f j) = Some (precise w f j)
-number_of _ = None
+abbrev pub number_at : SizeScan → Option ℕ
+number_at (Whole w) = Some (w * scale)
+number_at (Fraction w f j) = Some (fixed_point w f j)
+number_at _ = None
 
 -- the result for an input that ends after this number and this unit, or (`None`) within a unit, in `bi`
-abbrev pub sized : ℕ → Option Shape → Result (ℕ × Shape) Fault
-sized n (Some s) = Ok (n, s)
-sized n None = Err stops_at_bi
+abbrev pub size_or_fault : ℕ → Option Shape → Result (ℕ × Shape) Fault
+size_or_fault n (Some s) = Ok (n, s)
+size_or_fault n None = Err stops_at_bi
 
 -- the result for an input that ends in this state
 abbrev pub size_at_end : Flags → SizeScan → Result (ℕ × Shape) Fault
 size_at_end flags Beginning = Err no_value
-size_at_end flags (Whole w) = sized (w * one) (unit_of flags unit_start)
+size_at_end flags (Whole w) = size_or_fault (w * scale) (unit_of flags unit_start)
 size_at_end flags (Point w) = Err (not_number point)
-size_at_end flags (Fraction w f j) = sized (precise w f j) (unit_of flags unit_start)
-size_at_end flags (Gap n) = sized n (unit_of flags unit_start)
-size_at_end flags (UnitAt n s) = sized n (unit_of flags s)
+size_at_end flags (Fraction w f j) = size_or_fault (fixed_point w f j) (unit_of flags unit_start)
+size_at_end flags (Gap n) = size_or_fault n (unit_of flags unit_start)
+size_at_end flags (UnitAt n s) = size_or_fault n (unit_of flags s)
 
 -- the state machine of a number and a unit
 abbrev pub size_scan : Flags → Scan SizeScan (ℕ × Shape)
@@ -89,14 +89,14 @@ size_scan flags = record {
   flags = flags;
   start = Beginning;
   step = size_step;
-  place = size_place;
+  place = size_parser_state;
   at_end = size_at_end flags;
 }
 
 -- the number and unit that the code returns, with the unit as a `Shape`
-abbrev pub stated : ℕ × UnitName → ℕ × Shape
-stated found = (found.0, shape_of found.1)
+abbrev pub with_shape : ℕ × UnitName → ℕ × Shape
+with_shape found = (found.0, shape_of found.1)
 
 -- a result of the code, as the specification has it
-abbrev pub size_seen : Result (ℕ × UnitName) ParseError → Result (ℕ × Shape) Fault
-size_seen = seen stated size_fault
+abbrev pub size_result : Result (ℕ × UnitName) ParseError → Result (ℕ × Shape) Fault
+size_result = map_result with_shape size_fault

@@ -2,23 +2,23 @@
 use Rattle.std.specs.Prelude.{◌≡◌, ℕ, List, ◌++◌, replicate}
 use Rattle.std.specs.Str.{chars, skip_leading_whitespace, drop_trailing_whitespace}
 use Rattle.byte_unit_base.specs.Shape.{Shape}
-use Rattle.byte_unit_base.specs.Edition.{Edition}
+use Rattle.byte_unit_base.specs.Version.{Version}
 use Rattle.byte_unit_base.specs.Spelling.{Flags, Spells}
 use Rattle.byte_unit_base.specs.Number.{IsNumberText}
 
 -- the characters of an input, given by its UTF-8 bytes, without the white space at both its ends
-abbrev pub trimmed : List ℕ → List ℕ
-trimmed bytes = drop_trailing_whitespace (skip_leading_whitespace (chars bytes))
+abbrev pub trim_of : List ℕ → List ℕ
+trim_of bytes = drop_trailing_whitespace (skip_leading_whitespace (chars bytes))
 
 -- the space, the one character that can be between a number and a unit
 abbrev pub space : ℕ
 space = 32
 
 -- the text is this number (scaled by 10^28), any number of spaces, and a spelling of this unit
-pub record IsSizeText (edition : Edition) (flags : Flags) (text : List ℕ) (number : ℕ) (unit : Shape) : Type 0 where
+pub record IsSizeText (version : Version) (flags : Flags) (text : List ℕ) (number : ℕ) (unit : Shape) : Type 0 where
   pub number_part : List ℕ
   pub spaces : ℕ
   pub unit_part : List ℕ
   pub text_is : text ≡ number_part ++ (replicate spaces space ++ unit_part)
-  pub number_is : IsNumberText edition number_part number
-  pub unit_is : Spells edition flags unit_part unit
+  pub number_is : IsNumberText version number_part number
+  pub unit_is : Spells version flags unit_part unit

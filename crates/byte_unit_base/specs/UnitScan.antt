@@ -9,12 +9,12 @@ use Rattle.std.specs.Char.{to_ascii_uppercase, to_ascii_lowercase}
 use Rattle.byte_unit_base.specs.Shape.{Shape, shape}
 use Rattle.byte_unit_base.specs.Units.{shape_of}
 use Rattle.byte_unit_base.specs.Errors.{unit_fault}
-use Rattle.byte_unit_base.specs.Edition.{current}
+use Rattle.byte_unit_base.specs.Version.{current}
 use Rattle.byte_unit_base.specs.Spelling.{Flags, SpellsPrefix}
-use Rattle.byte_unit_base.specs.Scan.{Scan, seen}
+use Rattle.byte_unit_base.specs.Scan.{Scan, map_result}
 use Rattle.byte_unit_base.specs.declared.unit.Unit.{Unit as UnitName}
 use Rattle.byte_unit_base.specs.declared.errors.UnitParseError.{UnitParseError}
-use Rattle.byte_unit_base.specs.Front.{Place, before_unit, after_prefix, after_b, after_bi, after_bit, after_bits}
+use Rattle.byte_unit_base.specs.ViablePrefix.{ParserState, before_unit, after_prefix, after_b, after_bi, after_bit, after_bits}
 use Rattle.byte_unit_base.specs.declared.unit.scan.Prefix.{Prefix}
 use Rattle.byte_unit_base.specs.declared.unit.scan.Prefix.TheVariants.{Kilo, Mega, Giga, Tera, Peta, Exa}
 use Rattle.byte_unit_base.specs.declared.unit.scan.Prefix.TheVariants.{Zetta, Yotta, Ronna}
@@ -120,22 +120,22 @@ abbrev pub unit_of : Flags → UnitScan → Option Shape
 unit_of flags s = option_map (multiple_shape s.multiple) (count_of flags s.word)
 
 -- the parser state after this prefix, before a suffix
-abbrev pub empty_place : Multiple → Place
-empty_place One = before_unit
-empty_place _ = after_prefix
+abbrev pub multiple_parser_state : Multiple → ParserState
+multiple_parser_state One = before_unit
+multiple_parser_state _ = after_prefix
 
 -- the parser state after this prefix and this suffix
-abbrev pub word_place : Multiple → Word → Place
-word_place m Empty = empty_place m
-word_place m UpperB = after_b
-word_place m LowerB = after_b
-word_place m Bi = after_bi
-word_place m Bit = after_bit
-word_place m Bits = after_bits
+abbrev pub word_parser_state : Multiple → Word → ParserState
+word_parser_state m Empty = multiple_parser_state m
+word_parser_state m UpperB = after_b
+word_parser_state m LowerB = after_b
+word_parser_state m Bi = after_bi
+word_parser_state m Bit = after_bit
+word_parser_state m Bits = after_bits
 
 -- the parser state that belongs to a state of the machine
-abbrev pub place_of : UnitScan → Place
-place_of s = word_place s.multiple s.word
+abbrev pub unit_parser_state : UnitScan → ParserState
+unit_parser_state s = word_parser_state s.multiple s.word
 
 -- the result for an input that ends after this unit, or (`None`) in `bi`
 abbrev pub unit_at_end : Option Shape → Result Shape Fault
@@ -148,10 +148,10 @@ unit_scan flags = record {
   flags = flags;
   start = start;
   step = unit_step;
-  place = place_of;
+  place = unit_parser_state;
   at_end = λ s. unit_at_end (unit_of flags s);
 }
 
 -- a result of the code, as the specification has it
-abbrev pub unit_seen : Result UnitName UnitParseError → Result Shape Fault
-unit_seen = seen shape_of unit_fault
+abbrev pub unit_result : Result UnitName UnitParseError → Result Shape Fault
+unit_result = map_result shape_of unit_fault

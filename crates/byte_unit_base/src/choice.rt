@@ -1,15 +1,14 @@
 //! The choice of a unit for a size.
 
 ghost use Rattle.std.specs.Prelude.{◌≡◌, ◌↔◌, ℕ, ◌+◌, ◌*◌, ◌^◌, ◌<◌, ◌≤◌, ◌⊎◌, IsTrue, IfSome, IfNone};
-ghost use Rattle.byte_unit_math.specs.Bounds.{one, places_of_decimal};
+ghost use Rattle.byte_unit_math.specs.Bounds.{scale, places_of_decimal, size_limit};
 ghost use Rattle.byte_unit_math.specs.Exact.{IsLeastPlaces};
-ghost use Rattle.byte_unit_math.specs.Factored.{value_of};
-ghost use Rattle.byte_unit_math.specs.Steps.{raised};
+ghost use Rattle.byte_unit_math.specs.Factored.{product_of};
+ghost use Rattle.byte_unit_math.specs.Steps.{saturating_add};
 ghost use Rattle.byte_unit_base.specs.Shape.{bits};
-ghost use Rattle.byte_unit_base.specs.Edition.{current};
 ghost use Rattle.byte_unit_base.specs.Kinds.{bits_in};
 ghost use Rattle.byte_unit_base.specs.Units.{shape_of};
-ghost use Rattle.byte_unit_base.specs.Choice.{IsLargest, NoneHas, States, IsChosen, Suits, CountsChoice, most_steps};
+ghost use Rattle.byte_unit_base.specs.Choice.{IsLargest, NoneHas, IsExactUnit, IsChosen, IsEligibleUnit, CountsChoice, most_steps};
 ghost use Rattle.byte_unit_base.specs.declared.kind.Kind.{Kind};
 
 use crate::unit::Unit;
@@ -55,14 +54,15 @@ pub fn choose_unit(
     steps: &mut Steps,
 ) -> Option<(Decimal, Unit)>
     requires divisor { (divisor ≡ 8) ⊎ (divisor ≡ 1) }
-    requires small { size < current.size_limit }
-    ensures chosen { IfSome result (λ c. IsChosen current family (size * divisor) places (shape_of c.1) c.0) }
-    ensures none { IfNone result (NoneHas (States current family (size * divisor) places)) }
-    ensures exact { IfSome result (λ c. c.0 * bits (shape_of c.1) ≡ size * divisor * one) }
+    requires small { size < size_limit }
+    ensures chosen { IfSome result
+        (λ c. IsChosen family (size * divisor) places (shape_of c.1) c.0) }
+    ensures none { IfNone result (NoneHas (IsExactUnit family (size * divisor) places)) }
+    ensures exact { IfSome result (λ c. c.0 * bits (shape_of c.1) ≡ size * divisor * scale) }
     ensures ticks { IfSome result (λ c. CountsChoice size c.0 steps.old steps.new) }
     ensures ticks_of_none { IfNone result (CountsChoice size 0 steps.old steps.new) }
     ensures few_ticks { (kind : Kind) → divisor ≡ bits_in kind
-        → steps.new ≤ raised steps.old (most_steps kind) }
+        → steps.new ≤ saturating_add steps.old (most_steps kind) }
 {
     if size == 0 {
         return None;
@@ -114,8 +114,8 @@ pub fn choose_unit(
 pub fn largest_unit(size: u128, family: Family, unit_type: UnitType, divisor: u128) -> Option<Unit>
     requires { (divisor ≡ 8) ⊎ (divisor ≡ 1) }
     ensures found { IfSome result (λ unit.
-        IsLargest (Suits current family unit_type (size * divisor)) (shape_of unit)) }
-    ensures none { IfNone result (NoneHas (Suits current family unit_type (size * divisor))) }
+        IsLargest (IsEligibleUnit family unit_type (size * divisor)) (shape_of unit)) }
+    ensures none { IfNone result (NoneHas (IsEligibleUnit family unit_type (size * divisor))) }
 {
     // Every unit is far below `u128::MAX`, so saturation changes nothing.
     let in_bits = size.saturating_mul(divisor);

@@ -78,9 +78,9 @@ pub struct UnitParseError {
 /// The model is the record of the fields. It hides the reference from the borrow checker, which has no rule for passing
 /// on a result that holds one beside a size.
 impl Model for UnitParseError {
-    ghost use Rattle.byte_unit_base.specs.UnitRefusal.{UnitRefusal};
+    ghost use Rattle.byte_unit_base.specs.UnitErrorView.{UnitErrorView};
 
-    ghost Value = { UnitRefusal };
+    ghost Value = { UnitErrorView };
 
     ghost view = { λ e. record {
       character = e.character;
@@ -280,7 +280,8 @@ fn write_expected<W: fmt::Write>(
     also_expect_no_character: bool,
     f: &mut fmt::Formatter<W>,
 ) -> fmt::Result
-    ensures { DisplaysOnOk W.write_str_gives f.old result (expected_text expected.now also_expect_no_character) f.new }
+    ensures { DisplaysOnOk W.write_str_gives f.old result
+        (expected_text expected.now also_expect_no_character) f.new }
 {
     match expected {
         [] => f.write_str(" (no character is expected)"),

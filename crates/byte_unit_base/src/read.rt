@@ -2,10 +2,10 @@
 
 ghost use Rattle.std.specs.Prelude.{◌≡◌};
 ghost use Rattle.std.specs.Str.{chars};
-ghost use Rattle.byte_unit_base.specs.Spelling.{reading};
+ghost use Rattle.byte_unit_base.specs.Spelling.{flags_of};
 ghost use Rattle.byte_unit_base.specs.Readings.{IsNumberReading};
 ghost use Rattle.byte_unit_base.specs.Scan.{read};
-ghost use Rattle.byte_unit_base.specs.SizeScan.{IsScan, size_seen, size_scan};
+ghost use Rattle.byte_unit_base.specs.SizeScan.{IsScan, size_result, size_scan};
 
 use crate::errors::ParseError;
 use crate::read::digits::scan_digits;
@@ -53,7 +53,7 @@ pub fn read_size(
     ignore_case: bool,
     prefer_byte: bool,
 ) -> Result<(Decimal, Unit), ParseError>
-    ensures { IsNumberReading (reading ignore_case prefer_byte) s.now result }
+    ensures { IsNumberReading (flags_of ignore_case prefer_byte) s.now result }
 {
     let flags = Flags {
         ignore_case,
@@ -80,7 +80,7 @@ pub(crate) fn read_slow(s: &str, flags: Flags) -> Result<(Decimal, Unit), ParseE
 /// Parses the rest of a string, from the state that the characters before it lead to.
 fn read_rest(start: SizeScan, rest: &str, flags: Flags) -> Result<(Decimal, Unit), ParseError>
     requires { IsScan start }
-    ensures { size_seen result ≡ read (size_scan flags) start (chars rest.now) }
+    ensures { size_result result ≡ read (size_scan flags) start (chars rest.now) }
 {
     let mut scan = start;
     for c in rest.chars() {

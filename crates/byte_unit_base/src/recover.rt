@@ -1,10 +1,9 @@
 //! The unit of a size: the exact unit within a precision, the appropriate unit, or `B` or `Bit`.
 
 ghost use Rattle.std.specs.Prelude.{◌≡◌, ◌*◌, ◌<◌, ◌≤◌};
-ghost use Rattle.byte_unit_math.specs.Bounds.{one};
-ghost use Rattle.byte_unit_math.specs.Steps.{raised};
+ghost use Rattle.byte_unit_math.specs.Bounds.{scale, size_limit};
+ghost use Rattle.byte_unit_math.specs.Steps.{saturating_add};
 ghost use Rattle.byte_unit_base.specs.Shape.{bits};
-ghost use Rattle.byte_unit_base.specs.Edition.{current};
 ghost use Rattle.byte_unit_base.specs.Kinds.{bits_in};
 ghost use Rattle.byte_unit_base.specs.Units.{shape_of};
 ghost use Rattle.byte_unit_base.specs.Choice.{IsRecovered, IsAppropriate, CountsChoice, family_for, most_steps};
@@ -47,11 +46,11 @@ pub fn recoverable_unit(
     precision: usize,
     steps: &mut Steps,
 ) -> (Decimal, Unit)
-    requires { size < current.size_limit }
-    ensures recovered { IsRecovered current kind allow size precision (shape_of result.1) }
-    ensures exact { result.0 * bits (shape_of result.1) ≡ size * bits_in kind * one }
+    requires { size < size_limit }
+    ensures recovered { IsRecovered kind allow size precision result.1 }
+    ensures exact { result.0 * bits (shape_of result.1) ≡ size * bits_in kind * scale }
     ensures ticks { CountsChoice size result.0 steps.old steps.new }
-    ensures few_ticks { steps.new ≤ raised steps.old (most_steps kind) }
+    ensures few_ticks { steps.new ≤ saturating_add steps.old (most_steps kind) }
 {
     let family = family_for(kind, allow);
     match choose_unit(size, family, kind.bits(), precision, steps) {
@@ -77,8 +76,8 @@ pub fn recoverable_unit(
 /// assert_eq!(rt; exact_unit(16, Kind::Bit, true), (16, Unit::Bit));
 /// ```
 pub fn exact_unit(size: u128, kind: Kind, allow: bool) -> (u128, Unit)
-    requires { size < current.size_limit }
-    ensures recovered { IsRecovered current kind allow size 0 (shape_of result.1) }
+    requires { size < size_limit }
+    ensures recovered { IsRecovered kind allow size 0 result.1 }
     ensures exact { result.0 * bits (shape_of result.1) ≡ size * bits_in kind }
 {
     let (number, unit) = recoverable_unit(size, kind, allow, 0, &mut Steps::new());
@@ -97,7 +96,7 @@ pub fn exact_unit(size: u128, kind: Kind, allow: bool) -> (u128, Unit)
 /// assert_eq!(rt; appropriate_unit(1000, Kind::Byte, UnitType::Binary), Unit::B);
 /// ```
 pub fn appropriate_unit(size: u128, kind: Kind, unit_type: UnitType) -> Unit
-    ensures { IsAppropriate current kind unit_type size (shape_of result) }
+    ensures { IsAppropriate kind unit_type size result }
 {
     match largest_unit(size, family_for(kind, false), unit_type, kind.bits()) {
         Some(unit) => unit,

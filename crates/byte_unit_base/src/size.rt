@@ -1,15 +1,14 @@
 //! Sizes of either kind, as numbers below the limit: what the size types have in common.
 
 ghost use Rattle.std.specs.Prelude.{◌≡◌, ℕ, Bool, List, ◌+◌, ◌*◌, ◌<◌, ◌≤◌, SomeIff, IfSome, IfOk};
-ghost use Rattle.byte_unit_math.specs.Bounds.{one};
+ghost use Rattle.byte_unit_math.specs.Bounds.{size_limit};
 ghost use Rattle.byte_unit_base.specs.Shape.{bits};
-ghost use Rattle.byte_unit_base.specs.Edition.{current};
+ghost use Rattle.byte_unit_base.specs.Version.{current};
 ghost use Rattle.byte_unit_base.specs.Units.{shape_of};
 ghost use Rattle.byte_unit_base.specs.Kinds.{bits_in, flags_for};
-ghost use Rattle.byte_unit_base.specs.SizeText.{trimmed, IsSizeText};
+ghost use Rattle.byte_unit_base.specs.SizeText.{trim_of, IsSizeText};
 ghost use Rattle.byte_unit_base.specs.SizeReading.{IsSizeReading, IsBytesReading};
-ghost use Rattle.byte_unit_base.specs.LeastOfKind.{IsLeastOf};
-ghost use Rattle.byte_unit_base.specs.SizeOrNone.{IsSizeOrNone};
+ghost use Rattle.byte_unit_base.specs.SizeOrNone.{IsSizeOfUnit, IsSizeOfDecimal};
 
 use crate::errors::{ParseError, ValueParseError};
 use crate::kind::Kind;
@@ -33,8 +32,8 @@ const SIZE_LIMIT: u128 = 1_000_000_000_000_000_000_000_000_000_000;
 /// assert_eq!(rt; bounded(1_000_000_000_000_000_000_000_000_000_000), None);
 /// ```
 pub fn bounded(size: u128) -> Option<u128>
-    ensures size { SomeIff result (size < current.size_limit) size }
-    ensures small { IfSome result (λ n. n < current.size_limit) }
+    ensures size { SomeIff result (size < size_limit) size }
+    ensures small { IfSome result (λ n. n < size_limit) }
 {
     (size < SIZE_LIMIT).then_some(size)
 }
@@ -65,8 +64,8 @@ fn ceil_to_kind(in_bits: u128, kind: Kind) -> u128
 /// assert_eq!(rt; with_unit(1000, Unit::RB, Kind::Byte), None);
 /// ```
 pub fn with_unit(size: u128, unit: Unit, kind: Kind) -> Option<u128>
-    ensures size { IsSizeOrNone current (IsLeastOf kind (size * one) (shape_of unit)) result }
-    ensures small { IfSome result (λ n. n < current.size_limit) }
+    ensures size { IsSizeOfUnit kind size unit result }
+    ensures small { IfSome result (λ n. n < size_limit) }
 {
     let in_bits = size.checked_mul(unit.as_bits_u128())?;
     bounded(ceil_to_kind(in_bits, kind))
@@ -89,8 +88,8 @@ pub fn with_unit(size: u128, unit: Unit, kind: Kind) -> Option<u128>
 /// ```
 #[inline(always)]
 pub fn from_decimal(number: Decimal, unit: Unit, kind: Kind) -> Option<u128>
-    ensures size { IsSizeOrNone current (IsLeastOf kind number (shape_of unit)) result }
-    ensures small { IfSome result (λ n. n < current.size_limit) }
+    ensures size { IsSizeOfDecimal kind number unit result }
+    ensures small { IfSome result (λ n. n < size_limit) }
 {
     // One bit more than the greatest size. The product is rounded up twice, to bits and to the kind, which is the same
     // as once: ceil(ceil(x) / 8) = ceil(x / 8).
@@ -125,7 +124,7 @@ pub fn from_decimal(number: Decimal, unit: Unit, kind: Kind) -> Option<u128>
 /// ```
 pub fn parse(s: &str, ignore_case: bool, kind: Kind) -> Result<u128, ParseError>
     ensures reading { IsSizeReading kind ignore_case s.now result }
-    ensures small { IfOk result (λ n. n < current.size_limit) }
+    ensures small { IfOk result (λ n. n < size_limit) }
 {
     match read_fast(s.as_bytes(), flags_for(kind, ignore_case)) {
         Some((number, unit)) => size_of(number, unit, kind),
@@ -152,7 +151,7 @@ pub fn parse(s: &str, ignore_case: bool, kind: Kind) -> Result<u128, ParseError>
 #[inline(always)]
 pub fn parse_bytes(bytes: &[u8], ignore_case: bool, kind: Kind) -> Option<Result<u128, ParseError>>
     ensures reading { IsBytesReading kind ignore_case bytes.now result }
-    ensures small { IfSome result (λ answer. IfOk answer (λ n. n < current.size_limit)) }
+    ensures small { IfSome result (λ answer. IfOk answer (λ n. n < size_limit)) }
 {
     // What the fast path accepts is ASCII, so the test for UTF-8 is skipped.
     if let Some((number, unit)) = read_fast(bytes, flags_for(kind, ignore_case)) {
@@ -169,7 +168,7 @@ pub fn parse_bytes(bytes: &[u8], ignore_case: bool, kind: Kind) -> Option<Result
 #[inline(never)]
 fn parse_slow(s: &str, ignore_case: bool, kind: Kind) -> Result<u128, ParseError>
     ensures reading { IsSizeReading kind ignore_case s.now result }
-    ensures small { IfOk result (λ n. n < current.size_limit) }
+    ensures small { IfOk result (λ n. n < size_limit) }
 {
     let (number, unit) = read_slow(s, flags_for(kind, ignore_case))?;
     size_of(number, unit, kind)
@@ -181,9 +180,9 @@ fn parse_slow(s: &str, ignore_case: bool, kind: Kind) -> Result<u128, ParseError
 #[inline(always)]
 fn size_of(number: Decimal, unit: Unit, kind: Kind) -> Result<u128, ParseError>
     ensures reading { (ignore_case : Bool) (bytes : List ℕ)
-        → IsSizeText current (flags_for kind ignore_case) (trimmed bytes) number (shape_of unit)
+        → IsSizeText current (flags_for kind ignore_case) (trim_of bytes) number (shape_of unit)
         → IsSizeReading kind ignore_case bytes result }
-    ensures small { IfOk result (λ n. n < current.size_limit) }
+    ensures small { IfOk result (λ n. n < size_limit) }
 {
     match from_decimal(number, unit, kind) {
         Some(size) => Ok(size),

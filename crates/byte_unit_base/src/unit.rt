@@ -3,7 +3,7 @@
 ghost use Rattle.std.specs.Prelude.{◌≡◌, ◌≤◌};
 ghost use Rattle.byte_unit_math.specs.Bounds.{unit_limit};
 ghost use Rattle.byte_unit_base.specs.Shape.{bits, twos, fives};
-ghost use Rattle.byte_unit_base.specs.Edition.{name, current};
+ghost use Rattle.byte_unit_base.specs.Version.{unit_name};
 
 use std::fmt;
 
@@ -217,7 +217,7 @@ impl Unit {
     /// assert_eq!(rt; Unit::MB.as_str(), "MB");
     /// ```
     pub fn as_str(self) -> &'static str
-        ensures { result.now ≡ name current (shape_of self) }
+        ensures { result.now ≡ unit_name self }
     {
         UNITS[self as usize].name
     }
@@ -306,9 +306,9 @@ impl fmt::Display for Unit {
     ghost use Rattle.std.specs.Prelude.{Some};
     ghost use Rattle.byte_unit_base.specs.Units.{shape_of};
 
-    ghost output = { λ unit. Some (name current (shape_of unit)) };
+    ghost output = { λ unit. Some (unit_name unit) };
 
-    ghost styled_output = { λ unit spec. Some (name current (shape_of unit)) };
+    ghost styled_output = { λ unit spec. Some (unit_name unit) };
 
     fn fmt<W: fmt::Write>(&self, f: &mut fmt::Formatter<W>) -> fmt::Result {
         f.write_str(self.as_str())

@@ -3,11 +3,8 @@
 
 ghost use Rattle.std.specs.Prelude.{◌≡◌, ◌+◌, ◌-◌, ◌*◌, ◌/◌, ◌^◌, ◌<◌, ◌≤◌, ◌↔◌, IsTrue, SomeIff, min};
 ghost use Rattle.std.specs.Ordering.{nat_cmp};
-ghost use Rattle.byte_unit_math.specs.Bounds.{one};
-ghost use Rattle.byte_unit_base.specs.Edition.{current};
-ghost use Rattle.byte_unit_base.specs.Units.{shape_of};
-ghost use Rattle.byte_unit_base.specs.LeastOfKind.{IsLeastOf};
-ghost use Rattle.byte_unit_base.specs.SizeOrNone.{IsSizeOrNone, OfSigned};
+ghost use Rattle.byte_unit_math.specs.Bounds.{size_limit};
+ghost use Rattle.byte_unit_base.specs.SizeOrNone.{IfNonNegative, IsSizeOfUnit};
 ghost use Rattle.byte_unit_base.specs.declared.kind.Kind.TheVariants.{Bit as InBits};
 
 use byte_unit_base::{Kind, Unit, size};
@@ -44,13 +41,13 @@ pub struct Bit {
 
 impl Model for Bit {
     ghost use Rattle.std.specs.Prelude.{ℕ, ◌<◌};
-    ghost use Rattle.byte_unit_base.specs.Edition.{current};
+    ghost use Rattle.byte_unit_math.specs.Bounds.{size_limit};
 
     ghost Value = { ℕ };
 
     ghost view = { λ b. b.size };
 
-    ghost invariant = { λ b. b.size < current.size_limit };
+    ghost invariant = { λ b. b.size < size_limit };
 
     ghost inverse = { λ n. record { size = n } };
 }
@@ -69,7 +66,7 @@ impl Bit {
     /// assert_eq!(rt; Bit::from_u128(Bit::MAX.as_u128() + 1), None);
     /// ```
     pub fn from_u128(size: u128) -> Option<Bit>
-        ensures { SomeIff result (size < current.size_limit) size }
+        ensures { SomeIff result (size < size_limit) size }
     {
         let size = size::bounded(size)?;
         Some(Bit { size })
@@ -87,7 +84,7 @@ impl Bit {
     /// assert_eq!(rt; Bit::from_u128_unsafe(15_000_000), Bit::from_u64(15_000_000));
     /// ```
     pub fn from_u128_unsafe(size: u128) -> Bit
-        requires { size < current.size_limit }
+        requires { size < size_limit }
         ensures { result ≡ size }
     {
         // The bound is a precondition, so it is not tested here.
@@ -124,7 +121,7 @@ impl Bit {
     /// assert_eq!(rt; Bit::from_i128(i128::MAX), None);
     /// ```
     pub fn from_i128(size: i128) -> Option<Bit>
-        ensures { OfSigned (λ n answer. SomeIff answer (n < current.size_limit) n) size result }
+        ensures { IfNonNegative (λ n answer. SomeIff answer (n < size_limit) n) size result }
     {
         Bit::from_u128(u128::try_from(size).ok()?)
     }
@@ -140,7 +137,7 @@ impl Bit {
     /// assert_eq!(rt; Bit::from_i64(-1), None);
     /// ```
     pub fn from_i64(size: i64) -> Option<Bit>
-        ensures { OfSigned (λ n answer. SomeIff answer (n < current.size_limit) n) size result }
+        ensures { IfNonNegative (λ n answer. SomeIff answer (n < size_limit) n) size result }
     {
         Bit::from_i128(i128::from(size))
     }
@@ -162,7 +159,7 @@ impl Bit {
     /// assert_eq!(rt; Bit::from_u128_with_unit(1_000, Unit::Rbit), None);
     /// ```
     pub fn from_u128_with_unit(size: u128, unit: Unit) -> Option<Bit>
-        ensures { IsSizeOrNone current (IsLeastOf InBits (size * one) (shape_of unit)) result }
+        ensures { IsSizeOfUnit InBits size unit result }
     {
         let size = size::with_unit(size, unit, Kind::Bit)?;
         Some(Bit { size })
@@ -182,7 +179,7 @@ impl Bit {
     /// assert_eq!(rt; Bit::from_u64_with_unit(1_000, Unit::Rbit), None);
     /// ```
     pub fn from_u64_with_unit(size: u64, unit: Unit) -> Option<Bit>
-        ensures { IsSizeOrNone current (IsLeastOf InBits (size * one) (shape_of unit)) result }
+        ensures { IsSizeOfUnit InBits size unit result }
     {
         Bit::from_u128_with_unit(u128::from(size), unit)
     }
@@ -201,8 +198,7 @@ impl Bit {
     /// assert_eq!(rt; Bit::from_i128_with_unit(1_000, Unit::Rbit), None);
     /// ```
     pub fn from_i128_with_unit(size: i128, unit: Unit) -> Option<Bit>
-        ensures { OfSigned
-            (λ n answer. IsSizeOrNone current (IsLeastOf InBits (n * one) (shape_of unit)) answer) size result }
+        ensures { IfNonNegative (λ n. IsSizeOfUnit InBits n unit) size result }
     {
         Bit::from_u128_with_unit(u128::try_from(size).ok()?, unit)
     }
@@ -220,8 +216,7 @@ impl Bit {
     /// assert_eq!(rt; Bit::from_i64_with_unit(-15, Unit::Kibit), None);
     /// ```
     pub fn from_i64_with_unit(size: i64, unit: Unit) -> Option<Bit>
-        ensures { OfSigned
-            (λ n answer. IsSizeOrNone current (IsLeastOf InBits (n * one) (shape_of unit)) answer) size result }
+        ensures { IfNonNegative (λ n. IsSizeOfUnit InBits n unit) size result }
     {
         Bit::from_i128_with_unit(i128::from(size), unit)
     }
@@ -241,7 +236,7 @@ impl Bit {
     /// ```
     pub fn as_u128(self) -> u128
         ensures number { result ≡ self }
-        ensures small { result < current.size_limit }
+        ensures small { result < size_limit }
     {
         self.size
     }
@@ -362,7 +357,7 @@ impl Bit {
     /// assert_eq!(rt; size.add(Bit::MAX), None);
     /// ```
     pub fn add(self, rhs: Bit) -> Option<Bit>
-        ensures { SomeIff result (self + rhs < current.size_limit) (self + rhs) }
+        ensures { SomeIff result (self + rhs < size_limit) (self + rhs) }
     {
         Bit::from_u128(self.size + rhs.size)
     }
@@ -396,7 +391,7 @@ impl Bit {
     /// assert_eq!(rt; Bit::MAX.multiply(2), None);
     /// ```
     pub fn multiply(self, rhs: usize) -> Option<Bit>
-        ensures { SomeIff result (self * rhs < current.size_limit) (self * rhs) }
+        ensures { SomeIff result (self * rhs < size_limit) (self * rhs) }
     {
         Bit::from_u128(self.size.checked_mul(rhs as u128)?)
     }

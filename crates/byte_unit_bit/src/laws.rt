@@ -3,7 +3,7 @@
 
 ghost use Rattle.std.specs.Prelude.{◌≡◌, ◌*◌, ◌+◌, MatchOption};
 ghost use Rattle.byte_unit_base.specs.Shape.{bits};
-ghost use Rattle.byte_unit_base.specs.Edition.{current};
+ghost use Rattle.byte_unit_math.specs.Bounds.{size_limit};
 ghost use Rattle.byte_unit_base.specs.Units.{shape_of};
 ghost use Rattle.byte_unit_base.specs.Kinds.{bits_in};
 ghost use Rattle.byte_unit_base.specs.declared.kind.Kind.TheVariants.{Bit as InBits};
@@ -25,7 +25,8 @@ use byte_unit_base::Unit;
 /// assert_eq!(rt; bit_constant(Unit::B), None);
 /// ```
 pub fn bit_constant(unit: Unit) -> Option<Bit>
-    ensures { MatchOption result (unit ≡ Unit.B) (λ size. size * bits_in InBits ≡ bits (shape_of unit)) }
+    ensures { MatchOption result (unit ≡ Unit.B)
+        (λ size. size * bits_in InBits ≡ bits (shape_of unit)) }
 {
     match unit {
         Unit::B => None,
@@ -81,7 +82,7 @@ pub fn bit_constant(unit: Unit) -> Option<Bit>
 /// ```
 pub fn bit_bounds() -> (Bit, Bit)
     ensures least { result.0 ≡ 0 }
-    ensures greatest { result.1 + 1 ≡ current.size_limit }
+    ensures greatest { result.1 + 1 ≡ size_limit }
 {
     (Bit::MIN, Bit::MAX)
 }

@@ -2,11 +2,8 @@
 
 ghost use Rattle.std.specs.Prelude.{◌≡◌, ◌+◌, ◌-◌, ◌*◌, ◌/◌, ◌^◌, ◌<◌, ◌≤◌, ◌↔◌, IsTrue, SomeIff, min};
 ghost use Rattle.std.specs.Ordering.{nat_cmp};
-ghost use Rattle.byte_unit_math.specs.Bounds.{one};
-ghost use Rattle.byte_unit_base.specs.Edition.{current};
-ghost use Rattle.byte_unit_base.specs.Units.{shape_of};
-ghost use Rattle.byte_unit_base.specs.LeastOfKind.{IsLeastOf};
-ghost use Rattle.byte_unit_base.specs.SizeOrNone.{IsSizeOrNone, OfSigned};
+ghost use Rattle.byte_unit_math.specs.Bounds.{size_limit};
+ghost use Rattle.byte_unit_base.specs.SizeOrNone.{IfNonNegative, IsSizeOfUnit};
 ghost use Rattle.byte_unit_base.specs.declared.kind.Kind.TheVariants.{Byte as InBytes};
 
 use byte_unit_base::{Kind, Unit, size};
@@ -43,13 +40,13 @@ pub struct Byte {
 
 impl Model for Byte {
     ghost use Rattle.std.specs.Prelude.{ℕ, ◌<◌};
-    ghost use Rattle.byte_unit_base.specs.Edition.{current};
+    ghost use Rattle.byte_unit_math.specs.Bounds.{size_limit};
 
     ghost Value = { ℕ };
 
     ghost view = { λ b. b.size };
 
-    ghost invariant = { λ b. b.size < current.size_limit };
+    ghost invariant = { λ b. b.size < size_limit };
 
     ghost inverse = { λ n. record { size = n } };
 }
@@ -68,7 +65,7 @@ impl Byte {
     /// assert_eq!(rt; Byte::from_u128(Byte::MAX.as_u128() + 1), None);
     /// ```
     pub fn from_u128(size: u128) -> Option<Byte>
-        ensures { SomeIff result (size < current.size_limit) size }
+        ensures { SomeIff result (size < size_limit) size }
     {
         let size = size::bounded(size)?;
         Some(Byte { size })
@@ -86,7 +83,7 @@ impl Byte {
     /// assert_eq!(rt; Byte::from_u128_unsafe(15_000_000), Byte::from_u64(15_000_000));
     /// ```
     pub fn from_u128_unsafe(size: u128) -> Byte
-        requires { size < current.size_limit }
+        requires { size < size_limit }
         ensures { result ≡ size }
     {
         // The bound is a precondition, so it is not tested here.
@@ -123,7 +120,7 @@ impl Byte {
     /// assert_eq!(rt; Byte::from_i128(i128::MAX), None);
     /// ```
     pub fn from_i128(size: i128) -> Option<Byte>
-        ensures { OfSigned (λ n answer. SomeIff answer (n < current.size_limit) n) size result }
+        ensures { IfNonNegative (λ n answer. SomeIff answer (n < size_limit) n) size result }
     {
         Byte::from_u128(u128::try_from(size).ok()?)
     }
@@ -139,7 +136,7 @@ impl Byte {
     /// assert_eq!(rt; Byte::from_i64(-1), None);
     /// ```
     pub fn from_i64(size: i64) -> Option<Byte>
-        ensures { OfSigned (λ n answer. SomeIff answer (n < current.size_limit) n) size result }
+        ensures { IfNonNegative (λ n answer. SomeIff answer (n < size_limit) n) size result }
     {
         Byte::from_i128(i128::from(size))
     }
@@ -161,7 +158,7 @@ impl Byte {
     /// assert_eq!(rt; Byte::from_u128_with_unit(1_000, Unit::RB), None);
     /// ```
     pub fn from_u128_with_unit(size: u128, unit: Unit) -> Option<Byte>
-        ensures { IsSizeOrNone current (IsLeastOf InBytes (size * one) (shape_of unit)) result }
+        ensures { IsSizeOfUnit InBytes size unit result }
     {
         let size = size::with_unit(size, unit, Kind::Byte)?;
         Some(Byte { size })
@@ -181,7 +178,7 @@ impl Byte {
     /// assert_eq!(rt; Byte::from_u64_with_unit(1_000, Unit::RB), None);
     /// ```
     pub fn from_u64_with_unit(size: u64, unit: Unit) -> Option<Byte>
-        ensures { IsSizeOrNone current (IsLeastOf InBytes (size * one) (shape_of unit)) result }
+        ensures { IsSizeOfUnit InBytes size unit result }
     {
         Byte::from_u128_with_unit(u128::from(size), unit)
     }
@@ -200,8 +197,7 @@ impl Byte {
     /// assert_eq!(rt; Byte::from_i128_with_unit(1_000, Unit::RB), None);
     /// ```
     pub fn from_i128_with_unit(size: i128, unit: Unit) -> Option<Byte>
-        ensures { OfSigned
-            (λ n answer. IsSizeOrNone current (IsLeastOf InBytes (n * one) (shape_of unit)) answer) size result }
+        ensures { IfNonNegative (λ n. IsSizeOfUnit InBytes n unit) size result }
     {
         Byte::from_u128_with_unit(u128::try_from(size).ok()?, unit)
     }
@@ -219,8 +215,7 @@ impl Byte {
     /// assert_eq!(rt; Byte::from_i64_with_unit(-15, Unit::KiB), None);
     /// ```
     pub fn from_i64_with_unit(size: i64, unit: Unit) -> Option<Byte>
-        ensures { OfSigned
-            (λ n answer. IsSizeOrNone current (IsLeastOf InBytes (n * one) (shape_of unit)) answer) size result }
+        ensures { IfNonNegative (λ n. IsSizeOfUnit InBytes n unit) size result }
     {
         Byte::from_i128_with_unit(i128::from(size), unit)
     }
@@ -240,7 +235,7 @@ impl Byte {
     /// ```
     pub fn as_u128(self) -> u128
         ensures number { result ≡ self }
-        ensures small { result < current.size_limit }
+        ensures small { result < size_limit }
     {
         self.size
     }
@@ -361,7 +356,7 @@ impl Byte {
     /// assert_eq!(rt; size.add(Byte::MAX), None);
     /// ```
     pub fn add(self, rhs: Byte) -> Option<Byte>
-        ensures { SomeIff result (self + rhs < current.size_limit) (self + rhs) }
+        ensures { SomeIff result (self + rhs < size_limit) (self + rhs) }
     {
         Byte::from_u128(self.size + rhs.size)
     }
@@ -395,7 +390,7 @@ impl Byte {
     /// assert_eq!(rt; Byte::MAX.multiply(2), None);
     /// ```
     pub fn multiply(self, rhs: usize) -> Option<Byte>
-        ensures { SomeIff result (self * rhs < current.size_limit) (self * rhs) }
+        ensures { SomeIff result (self * rhs < size_limit) (self * rhs) }
     {
         Byte::from_u128(self.size.checked_mul(rhs as u128)?)
     }

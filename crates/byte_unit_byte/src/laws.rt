@@ -2,7 +2,7 @@
 
 ghost use Rattle.std.specs.Prelude.{◌≡◌, ◌*◌, ◌+◌, MatchOption};
 ghost use Rattle.byte_unit_base.specs.Shape.{bits};
-ghost use Rattle.byte_unit_base.specs.Edition.{current};
+ghost use Rattle.byte_unit_math.specs.Bounds.{size_limit};
 ghost use Rattle.byte_unit_base.specs.Units.{shape_of};
 ghost use Rattle.byte_unit_base.specs.Kinds.{bits_in};
 ghost use Rattle.byte_unit_base.specs.declared.kind.Kind.TheVariants.{Byte as InBytes};
@@ -24,7 +24,8 @@ use byte_unit_base::Unit;
 /// assert_eq!(rt; byte_constant(Unit::Bit), None);
 /// ```
 pub fn byte_constant(unit: Unit) -> Option<Byte>
-    ensures { MatchOption result (unit ≡ Unit.Bit) (λ size. size * bits_in InBytes ≡ bits (shape_of unit)) }
+    ensures { MatchOption result (unit ≡ Unit.Bit)
+        (λ size. size * bits_in InBytes ≡ bits (shape_of unit)) }
 {
     match unit {
         Unit::Bit => None,
@@ -80,7 +81,7 @@ pub fn byte_constant(unit: Unit) -> Option<Byte>
 /// ```
 pub fn byte_bounds() -> (Byte, Byte)
     ensures least { result.0 ≡ 0 }
-    ensures greatest { result.1 + 1 ≡ current.size_limit }
+    ensures greatest { result.1 + 1 ≡ size_limit }
 {
     (Byte::MIN, Byte::MAX)
 }

@@ -18,22 +18,22 @@ abbrev pub as_byte : ℕ → ℕ
 as_byte c = if nat_lt c 128 then c else 63
 
 -- the first fifteen characters as bytes, padded with zeros to sixteen bytes
-abbrev pub shown : List ℕ → List ℕ
-shown characters =
+abbrev pub expected_bytes : List ℕ → List ℕ
+expected_bytes characters =
     let kept = take 15 characters in
     map as_byte kept ++ replicate (16 - length kept) 0
 
 -- the fields have these values
-pub record Tells (character : ℕ) (expected : List ℕ) (may_end : Bool) (number : ℕ) (told : Told) : Type 0 where
+pub record HasFields (character : ℕ) (expected : List ℕ) (may_end : Bool) (number : ℕ) (told : Told) : Type 0 where
   pub character_is : told.character ≡ character
-  pub expected_is : told.expected ≡ shown expected
+  pub expected_is : told.expected ≡ expected_bytes expected
   pub may_end_is : told.also_expect_no_character ≡ may_end
   pub number_is : IsParts told.number number
 
 -- the fields of each error; a field that it does not use is zero
-abbrev pub TellsFault : Fault → Told → Type 0
-TellsFault no_value = Tells 0 [] false 0
-TellsFault (not_number c) = Tells c [] false 0
-TellsFault too_long = Tells 0 [] false 0
-TellsFault (exceeded number) = Tells 0 [] false number
-TellsFault (bad_unit c expected may_end) = Tells c expected may_end 0
+abbrev pub IsFaultTold : Fault → Told → Type 0
+IsFaultTold no_value = HasFields 0 [] false 0
+IsFaultTold (not_number c) = HasFields c [] false 0
+IsFaultTold too_long = HasFields 0 [] false 0
+IsFaultTold (exceeded number) = HasFields 0 [] false number
+IsFaultTold (bad_unit c expected may_end) = HasFields c expected may_end 0

@@ -2,7 +2,7 @@
 
 ghost use Rattle.std.specs.Prelude.{◌≡◌};
 ghost use Rattle.byte_unit_base.specs.Errors.{value_fault};
-ghost use Rattle.byte_unit_c.specs.Fault.{code_of, shown, as_byte, TellsFault};
+ghost use Rattle.byte_unit_c.specs.Fault.{code_of, expected_bytes, as_byte, IsFaultTold};
 
 use crate::values::Parts;
 use byte_unit_base::ValueParseError;
@@ -54,7 +54,7 @@ impl Fault {
     /// Returns the code and the details of an error in the number.
     pub fn of_value(error: ValueParseError) -> (u32, Fault)
         ensures code { result.0 ≡ code_of (value_fault error) }
-        ensures fault { TellsFault (value_fault error) result.1 }
+        ensures fault { IsFaultTold (value_fault error) result.1 }
     {
         match error {
             ValueParseError::ExceededBounds(number) => (
@@ -80,7 +80,7 @@ impl Fault {
 /// Returns the first 15 characters as bytes, padded with zeros to 16. The parsers expect at most ten characters, all
 /// of them ASCII.
 pub fn expected_bytes(characters: &[char]) -> [u8; 16]
-    ensures { result ≡ shown characters.now }
+    ensures { result ≡ expected_bytes characters.now }
 {
     let mut bytes = [0; 16];
     for i in 0..characters.len().min(15) {

@@ -7,7 +7,7 @@ ghost use Rattle.byte_unit_base.specs.FaultText.{parse_text};
 ghost use Rattle.byte_unit_base.specs.SizeReading.{IsBytesReading};
 ghost use Rattle.byte_unit_base.specs.declared.errors.ParseError.{ParseError};
 ghost use Rattle.byte_unit_c.specs.Codes.{kind_of};
-ghost use Rattle.byte_unit_c.specs.Reading.{Answers, Explains};
+ghost use Rattle.byte_unit_c.specs.Reading.{IsReturned, IsExplanation};
 
 use crate::codes::kind_of;
 use crate::fault::{Fault, NOT_UTF8, OK, UNIT, expected_bytes};
@@ -33,7 +33,7 @@ pub extern "C" fn byte_unit_parse(
 ) -> u32
     ensures { (answer : Option (Result ℕ ParseError))
         × IsBytesReading (kind_of in_bits) ignore_case text.now answer
-        × Answers answer result size.old size.new fault.old fault.new }
+        × IsReturned answer result size.old size.new fault.old fault.new }
 {
     match size::parse_bytes(text, ignore_case, kind_of(in_bits)) {
         Some(Ok(found)) => {
@@ -72,7 +72,7 @@ pub extern "C" fn byte_unit_explain(
 ) -> usize
     ensures reading { (answer : Option (Result ℕ ParseError))
         × IsBytesReading (kind_of in_bits) ignore_case text.now answer
-        × Explains answer out.old out.new result }
+        × IsExplanation answer out.old out.new result }
     ensures bound { result ≤ 256 }
 {
     match size::parse_bytes(text, ignore_case, kind_of(in_bits)) {

@@ -1,11 +1,11 @@
 //! Formatting of sizes and names of units into a buffer of the caller.
 
 ghost use Rattle.std.specs.Prelude.{◌≡◌, ◌<◌, ◌≤◌, ◌⊎◌, None, IfSome, IfNone};
-ghost use Rattle.byte_unit_base.specs.Edition.{current, name};
-ghost use Rattle.byte_unit_base.specs.Units.{shape_of};
+ghost use Rattle.byte_unit_math.specs.Bounds.{size_limit};
+ghost use Rattle.byte_unit_base.specs.Version.{unit_name};
 ghost use Rattle.byte_unit_format.specs.Forms.{IsText, text_limit};
 ghost use Rattle.byte_unit_format.specs.Adjusted.{IsAdjustedForm};
-ghost use Rattle.byte_unit_format.specs.Written.{Writes};
+ghost use Rattle.byte_unit_format.specs.Written.{WritesForm};
 ghost use Rattle.byte_unit_c.specs.Codes.{kind_of, unit_at};
 ghost use Rattle.byte_unit_c.specs.Values.{number_of};
 ghost use Rattle.byte_unit_c.specs.Spec.{spec_at};
@@ -22,9 +22,9 @@ use byte_unit_format::{write_adjusted, write_text};
 /// For example, 1536 bytes with an alternate spec gives 7, the length of `1.5 KiB`.
 #[unsafe(no_mangle)]
 pub extern "C" fn byte_unit_text(size: Number, in_bits: bool, spec: Spec, out: &mut [u8]) -> usize
-    ensures text { number_of size < current.size_limit → IfSome (spec_at spec) (λ asked.
-        Writes (IsText current (kind_of in_bits) (number_of size) asked) out.old out.new result) }
-    ensures rejected { (current.size_limit ≤ number_of size) ⊎ (spec_at spec ≡ None)
+    ensures text { number_of size < size_limit → IfSome (spec_at spec) (λ asked.
+        WritesForm (IsText (kind_of in_bits) (number_of size) asked) out.old out.new result) }
+    ensures rejected { (size_limit ≤ number_of size) ⊎ (spec_at spec ≡ None)
         → (result ≡ 0) × (out.new ≡ out.old) }
     ensures bound { result < text_limit }
 {
@@ -47,11 +47,12 @@ pub extern "C" fn byte_unit_adjusted_text(
     spec: Spec,
     out: &mut [u8],
 ) -> usize
-    ensures text { number_of size < current.size_limit → IfSome (unit_at unit) (λ of. IfSome (spec_at spec) (λ asked.
-        Writes
-        (IsAdjustedForm current (kind_of in_bits) (number_of size) (shape_of of) asked)
+    ensures text { number_of size < size_limit
+        → IfSome (unit_at unit) (λ of. IfSome (spec_at spec) (λ asked.
+        WritesForm
+        (IsAdjustedForm (kind_of in_bits) (number_of size) of asked)
         out.old out.new result)) }
-    ensures rejected { (current.size_limit ≤ number_of size) ⊎ (unit_at unit ≡ None) ⊎ (spec_at spec ≡ None)
+    ensures rejected { (size_limit ≤ number_of size) ⊎ (unit_at unit ≡ None) ⊎ (spec_at spec ≡ None)
         → (result ≡ 0) × (out.new ≡ out.old) }
     ensures bound { result < text_limit }
 {
@@ -70,7 +71,7 @@ pub extern "C" fn byte_unit_adjusted_text(
 #[unsafe(no_mangle)]
 pub extern "C" fn byte_unit_unit_name(unit: u32, out: &mut [u8]) -> usize
     ensures name { IfSome (unit_at unit) (λ of.
-        Writes (λ form. form ≡ name current (shape_of of)) out.old out.new result) }
+        WritesForm (λ form. form ≡ unit_name of) out.old out.new result) }
     ensures rejected { IfNone (unit_at unit) ((result ≡ 0) × (out.new ≡ out.old)) }
 {
     match unit_at(unit) {
@@ -81,7 +82,7 @@ pub extern "C" fn byte_unit_unit_name(unit: u32, out: &mut [u8]) -> usize
 
 /// Copies bytes to the start of `out` if they fit, and returns their number.
 pub fn write(text: &[u8], out: &mut [u8]) -> usize
-    ensures { Writes (λ form. form ≡ text.now) out.old out.new result }
+    ensures { WritesForm (λ form. form ≡ text.now) out.old out.new result }
 {
     let len = text.len();
     if len <= out.len() {

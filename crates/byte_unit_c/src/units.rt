@@ -1,12 +1,12 @@
 //! Units of sizes: the choice of a unit for a size, and sizes from a number of a unit.
 
 ghost use Rattle.std.specs.Prelude.{◌≡◌, ℕ, ◌*◌, ◌<◌, ◌≤◌, Some, None, false, slice_get, IfSome, IfNone, if◌then◌else◌};
-ghost use Rattle.byte_unit_math.specs.Bounds.{one};
+ghost use Rattle.byte_unit_math.specs.Bounds.{scale, size_limit};
 ghost use Rattle.byte_unit_base.specs.Shape.{bits};
-ghost use Rattle.byte_unit_base.specs.Edition.{current};
+ghost use Rattle.byte_unit_base.specs.Version.{current};
 ghost use Rattle.byte_unit_base.specs.Units.{shape_of};
 ghost use Rattle.byte_unit_base.specs.Kinds.{bits_in};
-ghost use Rattle.byte_unit_base.specs.Choice.{IsRecovered, IsAppropriate};
+ghost use Rattle.byte_unit_base.specs.Choice.{IsRecoveredIn, IsAppropriateIn};
 ghost use Rattle.byte_unit_base.specs.LeastOfKind.{IsLeastOf};
 ghost use Rattle.byte_unit_base.specs.SizeOrNone.{IsSizeOrNone};
 ghost use Rattle.byte_unit_c.specs.Codes.{kind_of, unit_at, types, CodesUnit};
@@ -32,11 +32,11 @@ pub extern "C" fn byte_unit_exact_unit(
     of_either: bool,
     count: &mut Number,
 ) -> u32
-    ensures found { number_of size < current.size_limit → CodesUnit
-        (λ unit. IsRecovered current (kind_of in_bits) of_either (number_of size) 0 unit
+    ensures found { number_of size < size_limit → CodesUnit
+        (λ unit. IsRecoveredIn current (kind_of in_bits) of_either (number_of size) 0 unit
         × (number_of count.new * bits unit ≡ number_of size * bits_in (kind_of in_bits)))
         result }
-    ensures rejected { current.size_limit ≤ number_of size → (result ≡ u32.MAX) × (count.new ≡ count.old) }
+    ensures rejected { size_limit ≤ number_of size → (result ≡ u32.MAX) × (count.new ≡ count.old) }
 {
     match size::bounded(size.get()) {
         Some(size) => {
@@ -62,12 +62,12 @@ pub extern "C" fn byte_unit_recoverable_unit(
     precision: usize,
     count: &mut Parts,
 ) -> u32
-    ensures found { number_of size < current.size_limit → CodesUnit
-        (λ unit. IsRecovered current (kind_of in_bits) of_either (number_of size) precision unit
+    ensures found { number_of size < size_limit → CodesUnit
+        (λ unit. IsRecoveredIn current (kind_of in_bits) of_either (number_of size) precision unit
         × (number : ℕ) × IsParts count.new number
-        × (number * bits unit ≡ number_of size * bits_in (kind_of in_bits) * one))
+        × (number * bits unit ≡ number_of size * bits_in (kind_of in_bits) * scale))
         result }
-    ensures rejected { current.size_limit ≤ number_of size → (result ≡ u32.MAX) × (count.new ≡ count.old) }
+    ensures rejected { size_limit ≤ number_of size → (result ≡ u32.MAX) × (count.new ≡ count.old) }
 {
     let steps = &mut Steps::new();
     match size::bounded(size.get()) {
@@ -94,7 +94,7 @@ pub extern "C" fn byte_unit_recoverable_unit(
 #[unsafe(no_mangle)]
 pub extern "C" fn byte_unit_appropriate_unit(size: Number, in_bits: bool, unit_type: u32) -> u32
     ensures found { IfSome (slice_get types unit_type) (λ asked. CodesUnit
-        (IsAppropriate current (kind_of in_bits) asked (number_of size))
+        (IsAppropriateIn current (kind_of in_bits) asked (number_of size))
         result) }
     ensures rejected { IfNone (slice_get types unit_type) (result ≡ u32.MAX) }
 {
@@ -116,8 +116,7 @@ pub extern "C" fn byte_unit_from_unit(
     size: &mut Number,
 ) -> bool
     ensures size { IfSome (unit_at unit) (λ of. IsSizeOrNone
-        current
-        (IsLeastOf (kind_of in_bits) (number_of count * one) (shape_of of))
+        (IsLeastOf (kind_of in_bits) (number_of count * scale) (shape_of of))
         (if result then Some (number_of size.new) else None)) }
     ensures no_unit { IfNone (unit_at unit) (result ≡ false) }
     ensures unchanged { result ≡ false → size.new ≡ size.old }

@@ -8,9 +8,9 @@ use Rattle.std.proofs.lemmas.Nat.{pow-add, mul-pow, mod_below}
 use Rattle.std.proofs.lemmas.Bool.{cases_lt}
 use Rattle.byte_unit_math.specs.Finite.{Finite, IsExpansion}
 use Rattle.byte_unit_math.specs.Nearest.{IsNearest}
-use Rattle.byte_unit_math.specs.Digits.{at_places, shortened}
-use Rattle.byte_unit_math.specs.Numeral.{text_of, numeral, short}
-use Rattle.byte_unit_math.specs.Padded.{padded}
+use Rattle.byte_unit_math.specs.Digits.{at_places, trim_expansion}
+use Rattle.byte_unit_math.specs.Numeral.{text_of, numeral, short_numeral}
+use Rattle.byte_unit_math.specs.Padded.{pad_of}
 use Rattle.byte_unit_math.specs.declared.expansion.Ties.{Ties}
 use Rattle.byte_unit_math.specs.declared.expansion.Ties.TheVariants.{Even, Up}
 use Rattle.byte_unit_math.proofs.Digits.{one_le_pow10}
@@ -19,14 +19,14 @@ use Rattle.byte_unit_math.proofs.Nearest.{tie_even_this}
 use Rattle.byte_unit_math.proofs.Texts.{expansion_unique, nearest_unique, short_numeral_is_expansion}
 use Rattle.byte_unit_math.proofs.Texts.{expansion_of_same_fraction}
 use Rattle.byte_unit_base.specs.Shape.{Shape, bits, twos, fives}
-use Rattle.byte_unit_base.specs.Edition.{Edition, current, name}
+use Rattle.byte_unit_base.specs.Version.{Version, current, unit_name_in}
 use Rattle.byte_unit_base.proofs.Choosing.{some_bits}
 use Rattle.byte_unit_base.specs.declared.kind.Kind.{Kind}
 use Rattle.byte_unit_format.specs.declared.spec.FormatSpec.{FormatSpec}
 use Rattle.byte_unit_base.specs.Kinds.{bits_in}
-use Rattle.byte_unit_format.specs.Layout.{layout, layout_of}
+use Rattle.byte_unit_format.specs.Layout.{layout, layout_of_in}
 use Rattle.byte_unit_format.specs.Adjusted.{Rule, full, round_to, short_to, IsNumeralBy, rule_of}
-use Rattle.byte_unit_format.specs.Adjusted.{alternate_places, IsAdjustedForm, is_single}
+use Rattle.byte_unit_format.specs.Adjusted.{alternate_places, IsAdjustedFormIn, has_no_prefix}
 use Rattle.byte_unit_format.specs.FormLaws.{SizeHasOneAdjustedForm}
 
 -- A text formatted by one rule is formatted by an equal one.
@@ -58,7 +58,7 @@ rule_of_alternate spec unit precision places set flag few =
 -- For a unit without a prefix outside the alternate form, all digits are written.
 pub rule_without_prefix : (spec : FormatSpec) (unit : Shape) (precision : ℕ) → spec.precision ≡ Some precision
     → spec.alternate ≡ false
-    → is_single unit ≡ true → rule_of spec.precision spec.alternate unit ≡ full
+    → has_no_prefix unit ≡ true → rule_of spec.precision spec.alternate unit ≡ full
 rule_without_prefix spec unit precision set flag single =
     rule_set spec unit precision false set flag ∙ ap (λ single. if single then full else round_to precision) single
 
@@ -66,7 +66,7 @@ rule_without_prefix spec unit precision set flag single =
 -- precision.
 pub rule_with_precision : (spec : FormatSpec) (unit : Shape) (precision places : ℕ) → spec.precision ≡ Some precision
     → spec.alternate ≡ false
-    → is_single unit ≡ false → places ≡ precision → rule_of spec.precision spec.alternate unit ≡ round_to places
+    → has_no_prefix unit ≡ false → places ≡ precision → rule_of spec.precision spec.alternate unit ≡ round_to places
 rule_with_precision spec unit precision places set flag prefixed same =
     rule_set spec unit precision false set flag
     ∙ (ap (λ single. if single then full else round_to precision) prefixed ∙ ap round_to (sym same))
@@ -83,19 +83,19 @@ numeral_unique (round_to places) num den text other some of_text of_other =
 numeral_unique (short_to places) num den text other some of_text of_other =
     let same = nearest_unique num den places Up of_text.0 of_other.0
     (record { positive = some; this = of_text.1; other = of_other.1 }) in
-    of_text.2 ∙ (ap (λ nearest. short nearest places) same ∙ sym of_other.2)
+    of_text.2 ∙ (ap (λ nearest. short_numeral nearest places) same ∙ sym of_other.2)
 
 -- A size has at most one text in a unit by a spec.
-pub adjusted_form_unique : {edition : Edition} {kind : Kind} {size : ℕ} {unit : Shape} {spec : FormatSpec}
+pub adjusted_form_unique : {version : Version} {kind : Kind} {size : ℕ} {unit : Shape} {spec : FormatSpec}
     {text other : List ℕ}
-    → IsAdjustedForm edition kind size unit spec text → IsAdjustedForm edition kind size unit spec other → text ≡ other
-adjusted_form_unique {edition} {kind} {size} {unit} {spec} form other =
+    → IsAdjustedFormIn version kind size unit spec text → IsAdjustedFormIn version kind size unit spec other → text ≡ other
+adjusted_form_unique {version} {kind} {size} {unit} {spec} form other =
     let rule = rule_of spec.precision spec.alternate unit in
     let some : 0 < bits unit = omega (arith, some_bits unit) in
     let same =
     numeral_unique rule (size * bits_in kind) (bits unit) form.number other.number some form.number_is
     other.number_is in
-    form.text_is ∙ (ap (λ number. layout number (name edition unit) spec) same ∙ sym other.text_is)
+    form.text_is ∙ (ap (λ number. layout number (unit_name_in version unit) spec) same ∙ sym other.text_is)
 
 record HasNearest (num den places : ℕ) (ties : Ties) : Type 0 where
   number : ℕ
@@ -109,8 +109,10 @@ nearest_at_tie : (num den places below rest : ℕ) (ties : Ties) → LiesAbove n
 nearest_at_tie num den places below rest Up lies tie =
     record { number = below + 1; is_nearest = tie_up_next num den places below rest lies tie }
 nearest_at_tie num den places below rest Even lies tie =
-    ⊎_elim (λ even. record { number = below;
-    is_nearest = tie_even_this num den places below rest lies tie (even_below_one below even) })
+    ⊎_elim (λ even. record {
+      number = below;
+      is_nearest = tie_even_this num den places below rest lies tie (even_below_one below even);
+    })
     (λ odd.
     let is_odd : below % 2 ≡ 1 = omega (arith, odd) in
     record { number = below + 1; is_nearest = tie_even_next num den places below rest lies tie is_odd })
@@ -153,9 +155,9 @@ expansion_exists num twos fives some =
     let multiple = ap (λ power. num * power) (pow10_of_sum twos fives) in
     let same : number * den ≡ num * 10 ^ places = omega (arith, multiple) in
     record {
-      e = shortened (at_places places number);
+      e = trim_expansion (at_places places number);
       is_expansion =
-          expansion_of_same_fraction number (10 ^ places) num den (shortened (at_places places number))
+          expansion_of_same_fraction number (10 ^ places) num den (trim_expansion (at_places places number))
           (record { positive = omega (arith, one_le_pow10 places); positive' = some; same = same })
           (short_numeral_is_expansion number places);
     }
@@ -174,16 +176,16 @@ numeral_exists (round_to places) num twos fives some =
     record { number = numeral found.number places; is_numeral = (found.number, found.is_nearest, refl) }
 numeral_exists (short_to places) num twos fives some =
     let found = nearest_exists num (2 ^ twos * 5 ^ fives) places Up some in
-    record { number = short found.number places; is_numeral = (found.number, found.is_nearest, refl) }
+    record { number = short_numeral found.number places; is_numeral = (found.number, found.is_nearest, refl) }
 
 -- A size has exactly one text in a unit by a spec.
 pub has_one_adjusted_form : SizeHasOneAdjustedForm
-has_one_adjusted_form edition kind size unit spec =
+has_one_adjusted_form version kind size unit spec =
     let some : 0 < bits unit = omega (arith, some_bits unit) in
     let found = numeral_exists (rule_of spec.precision spec.alternate unit) (size * bits_in kind) (twos unit)
     (fives unit) some in
-    let form = layout found.number (name edition unit) spec in
-    let is_form : IsAdjustedForm edition kind size unit spec form =
+    let form = layout found.number (unit_name_in version unit) spec in
+    let is_form : IsAdjustedFormIn version kind size unit spec form =
     record { number = found.number; number_is = found.is_numeral; text_is = refl } in
     record { form = form; is_form = is_form; one = λ other is_other. adjusted_form_unique is_other is_form }
 
@@ -191,20 +193,20 @@ has_one_adjusted_form edition kind size unit spec =
 pub record IsShown (kind : Kind) (size : ℕ) (unit : Shape) (spec : FormatSpec) (e : Finite) (places : ℕ) : Type 0 where
   pub is_numeral :
       IsNumeralBy (rule_of spec.precision spec.alternate unit) (size * bits_in kind) (bits unit)
-      (text_of (padded places e))
+      (text_of (pad_of places e))
 
 -- Such a decimal, formatted with its unit, is the text of the size in the unit.
 pub shown_is_adjusted_form :
     {kind : Kind} {size : ℕ} {unit : Shape} {spec : FormatSpec} {e : Finite} {places : ℕ}
     → IsShown kind size unit spec e places
-    → IsAdjustedForm current kind size unit spec (layout_of current e places unit spec)
+    → IsAdjustedFormIn current kind size unit spec (layout_of_in current e places unit spec)
 shown_is_adjusted_form {kind} {size} {unit} {spec} {e} {places} shown =
-    record { number = text_of (padded places e); number_is = shown.is_numeral; text_is = refl }
+    record { number = text_of (pad_of places e); number_is = shown.is_numeral; text_is = refl }
 
 -- Each text of the size in the unit is as long as that of such a decimal.
 pub adjusted_form_length :
     {kind : Kind} {size : ℕ} {unit : Shape} {spec : FormatSpec} {e : Finite} {places : ℕ}
     → IsShown kind size unit spec e places
-    → (form : List ℕ) → IsAdjustedForm current kind size unit spec form
-    → length form ≡ length (layout_of current e places unit spec)
+    → (form : List ℕ) → IsAdjustedFormIn current kind size unit spec form
+    → length form ≡ length (layout_of_in current e places unit spec)
 adjusted_form_length shown form is_form = ap length (adjusted_form_unique is_form (shown_is_adjusted_form shown))

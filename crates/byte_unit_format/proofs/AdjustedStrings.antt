@@ -4,17 +4,17 @@ use Rattle.std.proofs.Common.{length, refl, sym, ap, subst, ◌∙◌, arith}
 use Rattle.std.proofs.Math.Nat.{le_of_mul-le-mul_right}
 use Rattle.std.proofs.lemmas.Nat.{pow-add, mul-le}
 use Rattle.std.proofs.lemmas.Bool.{cases_lt}
-use Rattle.byte_unit_math.specs.Bounds.{one, places_of_decimal}
+use Rattle.byte_unit_math.specs.Bounds.{scale, places_of_decimal}
 use Rattle.byte_unit_math.specs.Exact.{IsExactAt}
-use Rattle.byte_unit_math.specs.Finite.{Finite, IsExpansion, value_of, scaled}
+use Rattle.byte_unit_math.specs.Finite.{Finite, IsExpansion, value_of_digits, ulps_of}
 use Rattle.byte_unit_math.proofs.Digits.{one_le_pow10}
 use Rattle.byte_unit_base.specs.Shape.{Shape, bits}
-use Rattle.byte_unit_base.specs.Edition.{current, name}
+use Rattle.byte_unit_base.specs.Version.{current, unit_name_in}
 use Rattle.byte_unit_base.specs.Units.{shape_of}
-use Rattle.byte_unit_base.specs.SizeText.{trimmed}
+use Rattle.byte_unit_base.specs.SizeText.{trim_of}
 use Rattle.byte_unit_base.specs.Fault.{too_long, IsSizeFault}
 use Rattle.byte_unit_base.specs.Kinds.{bits_in, flags_for}
-use Rattle.byte_unit_base.specs.Accepted.{IsAccepted, IsRefused}
+use Rattle.byte_unit_base.specs.Accepted.{IsAccepted, IsRejected}
 use Rattle.byte_unit_format.specs.Layout.{layout}
 use Rattle.byte_unit_format.specs.Plain.{spaces}
 use Rattle.byte_unit_format.specs.Adjusted.{IsAdjustedForm}
@@ -34,7 +34,7 @@ use Rattle.byte_unit_format.proofs.ReadBack.{size_form_reads_back}
 whole_not_above : (num den : ℕ) (e : Finite) → 1 ≤ den → IsExpansion num den e → e.whole ≤ num
 whole_not_above num den e some expansion =
     let scale = 10 ^ length e.digits in
-    let not_above = mul-le (scaled e) 1 (scaled e) den (omega arith) some in
+    let not_above = mul-le (ulps_of e) 1 (ulps_of e) den (omega arith) some in
     let scaled_whole : e.whole * scale ≤ num * scale = omega (arith, not_above, expansion.exact) in
     le_of_mul-le-mul_right scaled_whole
     (let positive : 0 < scale = omega (arith, one_le_pow10 (length e.digits)) in positive)
@@ -48,22 +48,22 @@ expansion_bounded kind size unit e below expansion =
 
 -- The expansion scaled by 10^28, times the unit, is the size scaled by 10^28.
 expansion_product : (num den : ℕ) (e : Finite) → IsExpansion num den e → length e.digits ≤ places_of_decimal
-    → fixed_point_of e.whole e.digits * den ≡ num * one
+    → fixed_point_of e.whole e.digits * den ≡ num * scale
 expansion_product num den e expansion few =
     let places = length e.digits in
     let rest = 10 ^ (places_of_decimal - places) in
     let split : places_of_decimal ≡ places + (places_of_decimal - places) = omega arith in
-    let power : one ≡ 10 ^ places * rest =
+    let power : scale ≡ 10 ^ places * rest =
     ap (λ places. 10 ^ places) split ∙ pow-add 10 places (places_of_decimal - places) in
-    let number : fixed_point_of e.whole e.digits ≡ scaled e * rest =
-    fixed_point_of_digits e.whole (value_of e.digits) (scaled e * rest) places few refl in
+    let number : fixed_point_of e.whole e.digits ≡ ulps_of e * rest =
+    fixed_point_of_digits e.whole (value_of_digits e.digits) (ulps_of e * rest) places few refl in
     let of_rest = ap (λ number. number * rest) expansion.exact in
     let of_power = ap (λ power. num * power) power in
     ap (λ number. number * den) number ∙ omega (arith, of_rest, of_power)
 
 form_accepted : (kind : Kind) (size : ℕ) (unit : UnitName) (text : List ℕ) → size < current.size_limit
-    → IsAdjustedForm current kind size (shape_of unit) ALTERNATE text
-    → IsExactAt (size * bits_in kind) (bits (shape_of unit)) places_of_decimal → IsAccepted current kind false text size
+    → IsAdjustedForm kind size unit ALTERNATE text
+    → IsExactAt (size * bits_in kind) (bits (shape_of unit)) places_of_decimal → IsAccepted kind false text size
 form_accepted kind size unit text below form exact =
     let shape = shape_of unit in
     let e = form.number_is.0 in
@@ -77,14 +77,14 @@ form_accepted kind size unit text below form exact =
       exact = expansion_product (size * bits_in kind) (bits shape) e expansion few;
       below = below;
     } in
-    let text_is = form.text_is ∙ ap (λ number. layout number (name current shape) ALTERNATE) form.number_is.2 in
-    let Accepted : List ℕ → Type 0 = λ text. IsAccepted current kind false text size in
+    let text_is = form.text_is ∙ ap (λ number. layout number (unit_name_in current shape) ALTERNATE) form.number_is.2 in
+    let Accepted : List ℕ → Type 0 = λ text. IsAccepted kind false text size in
     subst Accepted (sym text_is) (layout_accepted kind false size ALTERNATE e shape represents)
 
 form_rejected : (kind : Kind) (size : ℕ) (unit : UnitName) (text : List ℕ) → size < current.size_limit
-    → IsAdjustedForm current kind size (shape_of unit) ALTERNATE text
+    → IsAdjustedForm kind size unit ALTERNATE text
     → ¬ (IsExactAt (size * bits_in kind) (bits (shape_of unit)) places_of_decimal)
-    → IsSizeFault current (flags_for kind false) (trimmed text) too_long
+    → IsSizeFault current (flags_for kind false) (trim_of text) too_long
 form_rejected kind size unit text below form long =
     let shape = shape_of unit in
     let e = form.number_is.0 in
@@ -93,19 +93,19 @@ form_rejected kind size unit text below form long =
     ⊎_elim (λ many. many)
     (λ few.
     absurd (long (exact_more (size * bits_in kind) (bits shape) (length e.digits) places_of_decimal few
-    (scaled e, expansion.exact))))
+    (ulps_of e, expansion.exact))))
     (cases_lt places_of_decimal (length e.digits)) in
     let bounded = expansion_bounded kind size shape e below expansion in
     let layout_is = trimmed_layout kind false ALTERNATE e shape bounded (IsGoodName-unit kind unit) in
     let text_is =
-    ap trimmed (form.text_is ∙ ap (λ number. layout number (name current shape) ALTERNATE) form.number_is.2)
+    ap trim_of (form.text_is ∙ ap (λ number. layout number (unit_name_in current shape) ALTERNATE) form.number_is.2)
     ∙ layout_is.trims in
-    long_fault (flags_for kind false) e (spaces layout_is.spaces_between ++ name current shape) (trimmed text) bounded
+    long_fault (flags_for kind false) e (spaces layout_is.spaces_between ++ unit_name_in current shape) (trim_of text) bounded
     many text_is
 
 string_accepted : (kind : Kind) (size : ℕ) (unit : UnitName) (text : List ℕ) → size < current.size_limit
-    → IsAdjustedString current kind size (shape_of unit) text → FitsDecimal current kind size (shape_of unit)
-    → IsAccepted current kind false text size
+    → IsAdjustedString kind size unit text → FitsDecimal current kind size (shape_of unit)
+    → IsAccepted kind false text size
 string_accepted kind size unit text below (inl greatest) fits =
     size_form_reads_back kind size ALTERNATE false text below greatest.1
 string_accepted kind size unit text below (inr other) (inl greatest) = absurd (other.0 greatest)
@@ -113,8 +113,8 @@ string_accepted kind size unit text below (inr other) (inr exact) =
     form_accepted kind size unit text below other.1 exact
 
 string_rejected : (kind : Kind) (size : ℕ) (unit : UnitName) (text : List ℕ) → size < current.size_limit
-    → IsAdjustedString current kind size (shape_of unit) text → ¬ (FitsDecimal current kind size (shape_of unit))
-    → IsRefused current kind false text too_long
+    → IsAdjustedString kind size unit text → ¬ (FitsDecimal current kind size (shape_of unit))
+    → IsRejected kind false text too_long
 string_rejected kind size unit text below (inl greatest) long = absurd (long (inl greatest.0))
 string_rejected kind size unit text below (inr other) long =
     inr (form_rejected kind size unit text below other.1 (λ exact. long (inr exact)))

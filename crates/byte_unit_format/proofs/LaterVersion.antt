@@ -4,18 +4,18 @@ use Rattle.std.proofs.Common.{length, arith, refl, sym, ap, ◌∙◌, subst}
 use Rattle.std.specs.Prelude.{◌↔◌, slice_index}
 use Rattle.std.proofs.lemmas.Bool.{cases_lt}
 use Rattle.byte_unit_math.specs.Bounds.{places_of_decimal}
-use Rattle.byte_unit_math.specs.Numeral.{short}
+use Rattle.byte_unit_math.specs.Numeral.{short_numeral}
 use Rattle.byte_unit_base.specs.Shape.{Shape, shape, bits}
-use Rattle.byte_unit_base.specs.Edition.{old, current, name}
+use Rattle.byte_unit_base.specs.Version.{first_version, current, unit_name_in}
 use Rattle.byte_unit_base.specs.Spelling.{Spells, SpellsPrefix, IsPrefixLetter}
 use Rattle.byte_unit_base.specs.Number.{IsWholePart, IsNumberText}
 use Rattle.byte_unit_base.specs.SizeText.{IsSizeText}
 use Rattle.byte_unit_base.specs.Family.{HasKind, InFamily}
 use Rattle.byte_unit_base.specs.Kinds.{bits_in, own_family, flags_for}
-use Rattle.byte_unit_base.specs.Choice.{IsLargestOrOwn, States, Suits, IsRecovered}
+use Rattle.byte_unit_base.specs.Choice.{IsLargestOrOwn, IsExactUnit, IsExactUnitIn, IsEligibleUnit, IsEligibleUnitIn, IsRecoveredIn}
 use Rattle.byte_unit_format.specs.Layout.{layout}
-use Rattle.byte_unit_format.specs.Forms.{IsSizeForm, places_of}
-use Rattle.byte_unit_format.specs.Adjusted.{IsAdjustedForm}
+use Rattle.byte_unit_format.specs.Forms.{IsSizeForm, IsSizeFormIn, places_of}
+use Rattle.byte_unit_format.specs.Adjusted.{IsAdjustedFormIn}
 use Rattle.byte_unit_format.specs.VersionLaws.{AcceptedTextsStay, SizeFormsStay, AppropriateUnitsStay}
 use Rattle.byte_unit_format.specs.VersionLaws.{AdjustedFormsStay}
 use Rattle.byte_unit_base.specs.declared.kind.Kind.{Kind}
@@ -25,8 +25,8 @@ use Rattle.byte_unit_base.specs.declared.unit.unit_type.UnitType.{UnitType}
 use Rattle.byte_unit_format.specs.declared.spec.FormatSpec.{FormatSpec}
 
 -- A prefix of the first version has the same letter.
-letter_stays : (power : ℕ) → 0 < power → power ≤ length old.letters
-    → slice_index old.letters (power - 1) ≡ slice_index current.letters (power - 1)
+letter_stays : (power : ℕ) → 0 < power → power ≤ length first_version.letters
+    → slice_index first_version.letters (power - 1) ≡ slice_index current.letters (power - 1)
 letter_stays zero some known = absurd (omega (arith, some))
 letter_stays (suc zero) some known = refl
 letter_stays (suc (suc zero)) some known = refl
@@ -39,22 +39,22 @@ letter_stays (suc (suc (suc (suc (suc (suc (suc (suc zero)))))))) some known = r
 letter_stays (suc (suc (suc (suc (suc (suc (suc (suc (suc more))))))))) some known = absurd (omega (arith, known))
 
 -- A unit of the first version has the same name.
-name_of_shape_stays : (power : ℕ) (binary bit : Bool) → power ≤ length old.letters
-    → name old (shape power binary bit) ≡ name current (shape power binary bit)
+name_of_shape_stays : (power : ℕ) (binary bit : Bool) → power ≤ length first_version.letters
+    → unit_name_in first_version (shape power binary bit) ≡ unit_name_in current (shape power binary bit)
 name_of_shape_stays zero binary bit known = refl
 name_of_shape_stays (suc power) binary bit known = rw (letter_stays (suc power) (omega arith) known) refl
 
-name_stays : (unit : Shape) → unit.power ≤ length old.letters → name old unit ≡ name current unit
+name_stays : (unit : Shape) → unit.power ≤ length first_version.letters → unit_name_in first_version unit ≡ unit_name_in current unit
 name_stays unit known = name_of_shape_stays unit.power unit.binary unit.bit known
 
 -- A prefix of the first version is one of the current version.
-known_stays : (power : ℕ) → power ≤ length old.letters → power ≤ length current.letters
+known_stays : (power : ℕ) → power ≤ length first_version.letters → power ≤ length current.letters
 known_stays power known = omega (arith, known)
 
-prefix_letter : (power c : ℕ) → IsPrefixLetter old power c → IsPrefixLetter current power c
+prefix_letter : (power c : ℕ) → IsPrefixLetter first_version power c → IsPrefixLetter current power c
 prefix_letter power c h = (h.0, known_stays power h.1, h.2 ∙ letter_stays power h.0 h.1)
 
-prefix_stays : (text : List ℕ) (power : ℕ) (binary : Bool) → SpellsPrefix old text power binary
+prefix_stays : (text : List ℕ) (power : ℕ) (binary : Bool) → SpellsPrefix first_version text power binary
     → SpellsPrefix current text power binary
 prefix_stays text power binary h = record {
   letter = h.letter;
@@ -65,7 +65,7 @@ prefix_stays text power binary h = record {
 }
 
 spelling_stays : (kind : Kind) (ignore_case : Bool) (text : List ℕ) (unit : Shape)
-    → Spells old (flags_for kind ignore_case) text unit → Spells current (flags_for kind ignore_case) text unit
+    → Spells first_version (flags_for kind ignore_case) text unit → Spells current (flags_for kind ignore_case) text unit
 spelling_stays kind ignore_case text unit (inl h) = inl h
 spelling_stays kind ignore_case text unit (inr h) = inr (record {
   prefix_part = h.prefix_part;
@@ -75,10 +75,10 @@ spelling_stays kind ignore_case text unit (inr h) = inr (record {
   count_is = h.count_is;
 })
 
-whole_part_stays : (text : List ℕ) (value : ℕ) → IsWholePart old text value → IsWholePart current text value
+whole_part_stays : (text : List ℕ) (value : ℕ) → IsWholePart first_version text value → IsWholePart current text value
 whole_part_stays text value h = (h.0, h.1, omega (arith, h.2))
 
-number_stays : (text : List ℕ) (number : ℕ) → IsNumberText old text number → IsNumberText current text number
+number_stays : (text : List ℕ) (number : ℕ) → IsNumberText first_version text number → IsNumberText current text number
 number_stays text number (inl h) = inl (h.0, whole_part_stays text h.0 h.1, h.2)
 number_stays text number (inr h) = inr (record {
   whole = h.whole;
@@ -92,7 +92,7 @@ number_stays text number (inr h) = inr (record {
 })
 
 size_text_stays : (kind : Kind) (ignore_case : Bool) (text : List ℕ) (number : ℕ) (unit : Shape)
-    → IsSizeText old (flags_for kind ignore_case) text number unit
+    → IsSizeText first_version (flags_for kind ignore_case) text number unit
     → IsSizeText current (flags_for kind ignore_case) text number unit
 size_text_stays kind ignore_case text number unit h = record {
   number_part = h.number_part;
@@ -117,7 +117,7 @@ accepted_stays kind ignore_case text size h = record {
 
 -- A unit of the new prefix is larger than each size of the first version.
 last_prefix_above_old : (kind : Kind) (binary bit : Bool) → HasKind (own_family kind) bit
-    → old.size_limit * bits_in kind ≤ bits (shape (length current.letters) binary bit)
+    → first_version.size_limit * bits_in kind ≤ bits (shape (length current.letters) binary bit)
 last_prefix_above_old Byte true true h = absurd (let k : ⊥ = cc in k)
 last_prefix_above_old Byte false true h = absurd (let k : ⊥ = cc in k)
 last_prefix_above_old Byte true false h = omega arith
@@ -127,32 +127,32 @@ last_prefix_above_old Bit false true h = omega arith
 last_prefix_above_old Bit true false h = absurd (let k : ⊥ = cc in k)
 last_prefix_above_old Bit false false h = absurd (let k : ⊥ = cc in k)
 
-bound_below_old_limit : (kind : Kind) (size bound : ℕ) → size < old.size_limit → bound ≤ size * bits_in kind
-    → ¬ (old.size_limit * bits_in kind ≤ bound)
+bound_below_old_limit : (kind : Kind) (size bound : ℕ) → size < first_version.size_limit → bound ≤ size * bits_in kind
+    → ¬ (first_version.size_limit * bits_in kind ≤ bound)
 bound_below_old_limit Byte size bound small within above = omega (arith, small, within, above)
 bound_below_old_limit Bit size bound small within above = omega (arith, small, within, above)
 
 -- A unit that is at most a size of the first version is a unit of the first version.
-unit_is_old : (kind : Kind) (size : ℕ) (unit : Shape) → size < old.size_limit → InFamily current (own_family kind) unit
-    → bits unit ≤ size * bits_in kind → unit.power ≤ length old.letters
+unit_is_old : (kind : Kind) (size : ℕ) (unit : Shape) → size < first_version.size_limit → InFamily current (own_family kind) unit
+    → bits unit ≤ size * bits_in kind → unit.power ≤ length first_version.letters
 unit_is_old kind size unit small h not_above =
     ⊎_elim
     (λ last.
     let power : unit.power ≡ length current.letters = omega (arith, last, h.prefix.known) in
-    let IsAboveOld : ℕ → Type 0 = λ p. old.size_limit * bits_in kind ≤ bits (shape p unit.binary unit.bit) in
+    let IsAboveOld : ℕ → Type 0 = λ p. first_version.size_limit * bits_in kind ≤ bits (shape p unit.binary unit.bit) in
     let above = subst IsAboveOld (sym power) (last_prefix_above_old kind unit.binary unit.bit h.kind) in
     absurd (bound_below_old_limit kind size (bits unit) small not_above above))
     (λ known. known)
-    (cases_lt (length old.letters) unit.power)
+    (cases_lt (length first_version.letters) unit.power)
 
-member_stays : (family : Family) (unit : Shape) → InFamily old family unit → InFamily current family unit
+member_stays : (family : Family) (unit : Shape) → InFamily first_version family unit → InFamily current family unit
 member_stays family unit h =
     record { prefix = record { some = h.prefix.some; known = known_stays unit.power h.prefix.known }; kind = h.kind }
 
 -- A member of the unit set that is at most a size of the first version was one in that version.
-member_is_old : (kind : Kind) (size : ℕ) (unit : Shape) → size < old.size_limit
+member_is_old : (kind : Kind) (size : ℕ) (unit : Shape) → size < first_version.size_limit
     → InFamily current (own_family kind) unit
-    → bits unit ≤ size * bits_in kind → InFamily old (own_family kind) unit
+    → bits unit ≤ size * bits_in kind → InFamily first_version (own_family kind) unit
 member_is_old kind size unit small h not_above =
     record {
       prefix = record { some = h.prefix.some; known = unit_is_old kind size unit small h not_above };
@@ -167,14 +167,14 @@ same_largest kind Has Had unit there back (inl h) =
 same_largest kind Has Had unit there back (inr h) = inr ((λ other had. h.0 other (back other had)), h.1)
 
 exact_unit_stays : (kind : Kind) (size precision : ℕ) (unit : Shape)
-    → States old (own_family kind) (size * bits_in kind) precision unit
-    → States current (own_family kind) (size * bits_in kind) precision unit
+    → IsExactUnitIn first_version (own_family kind) (size * bits_in kind) precision unit
+    → IsExactUnit (own_family kind) (size * bits_in kind) precision unit
 exact_unit_stays kind size precision unit h =
     record { member = member_stays (own_family kind) unit h.member; not_above = h.not_above; exact = h.exact }
 
-exact_unit_before : (kind : Kind) (size precision : ℕ) (unit : Shape) → size < old.size_limit
-    → States current (own_family kind) (size * bits_in kind) precision unit
-    → States old (own_family kind) (size * bits_in kind) precision unit
+exact_unit_before : (kind : Kind) (size precision : ℕ) (unit : Shape) → size < first_version.size_limit
+    → IsExactUnit (own_family kind) (size * bits_in kind) precision unit
+    → IsExactUnitIn first_version (own_family kind) (size * bits_in kind) precision unit
 exact_unit_before kind size precision unit small h =
     record {
       member = member_is_old kind size unit small h.member h.not_above;
@@ -183,14 +183,14 @@ exact_unit_before kind size precision unit small h =
     }
 
 eligible_unit_stays : (kind : Kind) (unit_type : UnitType) (size : ℕ) (unit : Shape)
-    → Suits old (own_family kind) unit_type (size * bits_in kind) unit
-    → Suits current (own_family kind) unit_type (size * bits_in kind) unit
+    → IsEligibleUnitIn first_version (own_family kind) unit_type (size * bits_in kind) unit
+    → IsEligibleUnit (own_family kind) unit_type (size * bits_in kind) unit
 eligible_unit_stays kind unit_type size unit h =
     record { member = member_stays (own_family kind) unit h.member; of_type = h.of_type; not_above = h.not_above }
 
-eligible_unit_before : (kind : Kind) (unit_type : UnitType) (size : ℕ) (unit : Shape) → size < old.size_limit
-    → Suits current (own_family kind) unit_type (size * bits_in kind) unit
-    → Suits old (own_family kind) unit_type (size * bits_in kind) unit
+eligible_unit_before : (kind : Kind) (unit_type : UnitType) (size : ℕ) (unit : Shape) → size < first_version.size_limit
+    → IsEligibleUnit (own_family kind) unit_type (size * bits_in kind) unit
+    → IsEligibleUnitIn first_version (own_family kind) unit_type (size * bits_in kind) unit
 eligible_unit_before kind unit_type size unit small h =
     record {
       member = member_is_old kind size unit small h.member h.not_above;
@@ -206,24 +206,24 @@ appropriate_stays kind unit_type size unit small =
     (same_largest kind _ _ unit there back, same_largest kind _ _ unit back there)
 
 -- The exact unit of a size in the first version is a unit of that version.
-recovered_old : (kind : Kind) (size precision : ℕ) (unit : Shape) → IsRecovered old kind false size precision unit
-    → unit.power ≤ length old.letters
+recovered_old : (kind : Kind) (size precision : ℕ) (unit : Shape) → IsRecoveredIn first_version kind false size precision unit
+    → unit.power ≤ length first_version.letters
 recovered_old kind size precision unit (inl h) = h.has.member.prefix.known
 recovered_old kind size precision unit (inr h) = omega (arith, ap (λ s. s.power) h.1)
 
-recovered_stays : (kind : Kind) (size precision : ℕ) (unit : Shape) → size < old.size_limit
-    → IsRecovered old kind false size precision unit ↔ IsRecovered current kind false size precision unit
+recovered_stays : (kind : Kind) (size precision : ℕ) (unit : Shape) → size < first_version.size_limit
+    → IsRecoveredIn first_version kind false size precision unit ↔ IsRecoveredIn current kind false size precision unit
 recovered_stays kind size precision unit small =
     let there = exact_unit_stays kind size precision in
     let back = λ (other : Shape). exact_unit_before kind size precision other small in
     (same_largest kind _ _ unit there back, same_largest kind _ _ unit back there)
 
-layout_stays : (number : List ℕ) (unit : Shape) (spec : FormatSpec) → unit.power ≤ length old.letters
-    → layout number (name old unit) spec ≡ layout number (name current unit) spec
+layout_stays : (number : List ℕ) (unit : Shape) (spec : FormatSpec) → unit.power ≤ length first_version.letters
+    → layout number (unit_name_in first_version unit) spec ≡ layout number (unit_name_in current unit) spec
 layout_stays number unit spec known = ap (λ letters. layout number letters spec) (name_stays unit known)
 
-form_stays : (kind : Kind) (size : ℕ) (spec : FormatSpec) (text : List ℕ) → size < old.size_limit
-    → IsSizeForm old kind size spec text → IsSizeForm current kind size spec text
+form_stays : (kind : Kind) (size : ℕ) (spec : FormatSpec) (text : List ℕ) → size < first_version.size_limit
+    → IsSizeFormIn first_version kind size spec text → IsSizeForm kind size spec text
 form_stays kind size spec text small h =
     let precision = places_of spec.precision in
     let known = recovered_old kind size precision h.unit h.is_recovered in
@@ -232,11 +232,11 @@ form_stays kind size spec text small h =
       number = h.number;
       is_recovered = (recovered_stays kind size precision h.unit small).0 h.is_recovered;
       number_is = h.number_is;
-      text_is = h.text_is ∙ layout_stays (short h.number places_of_decimal) h.unit spec known;
+      text_is = h.text_is ∙ layout_stays (short_numeral h.number places_of_decimal) h.unit spec known;
     }
 
-form_before : (kind : Kind) (size : ℕ) (spec : FormatSpec) (text : List ℕ) → size < old.size_limit
-    → IsSizeForm current kind size spec text → IsSizeForm old kind size spec text
+form_before : (kind : Kind) (size : ℕ) (spec : FormatSpec) (text : List ℕ) → size < first_version.size_limit
+    → IsSizeForm kind size spec text → IsSizeFormIn first_version kind size spec text
 form_before kind size spec text small h =
     let precision = places_of spec.precision in
     let is_recovered = (recovered_stays kind size precision h.unit small).1 h.is_recovered in
@@ -246,7 +246,7 @@ form_before kind size spec text small h =
       number = h.number;
       is_recovered = is_recovered;
       number_is = h.number_is;
-      text_is = h.text_is ∙ sym (layout_stays (short h.number places_of_decimal) h.unit spec known);
+      text_is = h.text_is ∙ sym (layout_stays (short_numeral h.number places_of_decimal) h.unit spec known);
     }
 
 -- A size of the first version has the same texts with a unit.
@@ -254,14 +254,14 @@ pub forms_stay : SizeFormsStay
 forms_stay kind size spec text small = (form_stays kind size spec text small, form_before kind size spec text small)
 
 adjusted_stays : (kind : Kind) (size : ℕ) (unit : Shape) (spec : FormatSpec) (text : List ℕ)
-    → unit.power ≤ length old.letters
-    → IsAdjustedForm old kind size unit spec text → IsAdjustedForm current kind size unit spec text
+    → unit.power ≤ length first_version.letters
+    → IsAdjustedFormIn first_version kind size unit spec text → IsAdjustedFormIn current kind size unit spec text
 adjusted_stays kind size unit spec text known h =
     record { number = h.number; number_is = h.number_is; text_is = h.text_is ∙ layout_stays h.number unit spec known }
 
 adjusted_before : (kind : Kind) (size : ℕ) (unit : Shape) (spec : FormatSpec) (text : List ℕ)
-    → unit.power ≤ length old.letters
-    → IsAdjustedForm current kind size unit spec text → IsAdjustedForm old kind size unit spec text
+    → unit.power ≤ length first_version.letters
+    → IsAdjustedFormIn current kind size unit spec text → IsAdjustedFormIn first_version kind size unit spec text
 adjusted_before kind size unit spec text known h =
     record {
       number = h.number;

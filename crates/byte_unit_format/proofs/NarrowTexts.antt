@@ -9,17 +9,17 @@ use Rattle.std.proofs.lemmas.Bool.{cases_lt}
 use Rattle.std.proofs.lemmas.Fmt.{length-decimal-le_wide}
 use Rattle.std.proofs.lemmas.List.{length-append}
 use Rattle.std.proofs.lemmas.Nat.{mul-pow, pow-add}
-use Rattle.byte_unit_math.specs.Bounds.{one, places_of_decimal}
-use Rattle.byte_unit_math.specs.Digits.{at_places, shortened}
+use Rattle.byte_unit_math.specs.Bounds.{scale, places_of_decimal}
+use Rattle.byte_unit_math.specs.Digits.{at_places, trim_expansion}
 use Rattle.byte_unit_math.specs.Exact.{IsExactAt}
 use Rattle.byte_unit_math.specs.Finite.{Finite}
-use Rattle.byte_unit_math.specs.Numeral.{fraction_text, text_of, short}
+use Rattle.byte_unit_math.specs.Numeral.{fraction_text, text_of, short_numeral}
 use Rattle.byte_unit_math.proofs.Scales.{pow10_split}
 use Rattle.byte_unit_math.proofs.Texts.{short_numeral_is_expansion}
 use Rattle.byte_unit_base.specs.Shape.{Shape, shape, bits}
-use Rattle.byte_unit_base.specs.Edition.{current, name}
+use Rattle.byte_unit_base.specs.Version.{current, unit_name_in}
 use Rattle.byte_unit_base.specs.Family.{HasKind}
-use Rattle.byte_unit_base.specs.Choice.{IsLargest, IsRecovered, States, places_within}
+use Rattle.byte_unit_base.specs.Choice.{IsLargest, IsRecoveredIn, IsExactUnit, places_within}
 use Rattle.byte_unit_base.specs.Kinds.{bits_in, own_family, own_unit}
 use Rattle.byte_unit_base.specs.declared.kind.Kind.{Kind}
 use Rattle.byte_unit_base.specs.declared.kind.Kind.TheVariants.{Byte, Bit}
@@ -128,19 +128,19 @@ bits_lt_next kind power true bit same few =
 -- precision.
 record IsNumberInLargest (kind : Kind) (size precision : ℕ) (unit : Shape) (number : ℕ) : Type 0 where
   below : size < current.size_limit
-  largest : IsLargest (States current (own_family kind) (size * bits_in kind) precision) unit
-  number_is : number * bits unit ≡ size * bits_in kind * one
+  largest : IsLargest (IsExactUnit (own_family kind) (size * bits_in kind) precision) unit
+  number_is : number * bits unit ≡ size * bits_in kind * scale
 
 -- The whole part times the decimal prefix of the same power is at most the size.
 whole_times_prefix :
     {kind : Kind} {size precision : ℕ} {unit : Shape} {number : ℕ}
     → IsNumberInLargest kind size precision unit number
-    → number / one * 10 ^ (3 * unit.power) ≤ size
+    → number / scale * 10 ^ (3 * unit.power) ≤ size
 whole_times_prefix {kind} {size} {precision} {unit} {number} is_number =
-    let whole = number / one in
+    let whole = number / scale in
     let least = bits_at_least kind unit.power unit.binary unit.bit is_number.largest.has.member.kind in
-    let cut : whole * one ≤ number = omega arith in
-    let product : whole * one * bits unit ≤ size * bits_in kind * one =
+    let cut : whole * scale ≤ number = omega arith in
+    let product : whole * scale * bits unit ≤ size * bits_in kind * scale =
     omega (arith, mul-le-mul_right (bits unit) cut, is_number.number_is) in
     let in_bits : whole * bits unit ≤ size * bits_in kind = omega (arith, product) in
     let with_prefix : whole * 10 ^ (3 * unit.power) * bits_in kind ≤ size * bits_in kind =
@@ -151,14 +151,14 @@ whole_times_prefix {kind} {size} {precision} {unit} {number} is_number =
 number_exact :
     {kind : Kind} {size precision : ℕ} {unit : Shape} {number : ℕ}
     → IsNumberInLargest kind size precision unit number
-    → IsExactAt number one (places_within precision)
+    → IsExactAt number scale (places_within precision)
 number_exact {kind} {size} {precision} {unit} {number} is_number =
-    let scale = 10 ^ places_within precision in
+    let power = 10 ^ places_within precision in
     let exact = is_number.largest.has.exact in
-    let left = ap (λ n. n * scale) is_number.number_is in
-    let right = ap (λ n. n * one) exact.1 in
-    let same : number * scale * bits unit ≡ exact.0 * one * bits unit = omega (arith, left, right) in
-    (exact.0, eq_of_mul-eq-mul_right (bits unit) (some_bits unit) (number * scale) (exact.0 * one) same)
+    let left = ap (λ n. n * power) is_number.number_is in
+    let right = ap (λ n. n * scale) exact.1 in
+    let same : number * power * bits unit ≡ exact.0 * scale * bits unit = omega (arith, left, right) in
+    (exact.0, eq_of_mul-eq-mul_right (bits unit) (some_bits unit) (number * power) (exact.0 * scale) same)
 
 -- In the next decimal unit each size is exact with as many digits after the point as its prefix has zeros. So if the
 -- precision allows these, the size is below that unit.
@@ -176,7 +176,7 @@ size_lt_next {kind} {size} {precision} {unit} {number} is_number few places =
     ⊎_elim
     (λ less. less)
     (λ above.
-    let next_is_exact : States current (own_family kind) (size * bits_in kind) precision next =
+    let next_is_exact : IsExactUnit (own_family kind) (size * bits_in kind) precision next =
     record {
       member = record { prefix = record { some = omega arith; known = omega (arith, few) }; kind = member.kind };
       not_above = omega (arith, next_bits, mul-le-mul_right (bits_in kind) above);
@@ -202,21 +202,21 @@ numeral_length e =
 
 -- The same for a numeral without trailing zeros.
 short_length :
-    (number : ℕ) → let places = length (shortened (at_places places_of_decimal number)).digits in
-    length (short number places_of_decimal) ≤ length (decimal (number / one)) + places + 1
-short_length number = numeral_length (shortened (at_places places_of_decimal number))
+    (number : ℕ) → let places = length (trim_expansion (at_places places_of_decimal number)).digits in
+    length (short_numeral number places_of_decimal) ≤ length (decimal (number / scale)) + places + 1
+short_length number = numeral_length (trim_expansion (at_places places_of_decimal number))
 
 -- A number of units with a prefix has at most 33 characters: its whole part has three digits fewer for each power of
 -- the prefix, and if it has more digits after the point than that allows, it is below a thousand.
 prefixed_length :
     {kind : Kind} {size precision : ℕ} {unit : Shape} {number : ℕ}
     → IsNumberInLargest kind size precision unit number
-    → length (short number places_of_decimal) ≤ 33
+    → length (short_numeral number places_of_decimal) ≤ 33
 prefixed_length {kind} {size} {precision} {unit} {number} is_number =
-    let whole = number / one in
+    let whole = number / scale in
     let power = unit.power in
     let prefix = 10 ^ (3 * power) in
-    let places = length (shortened (at_places places_of_decimal number)).digits in
+    let places = length (trim_expansion (at_places places_of_decimal number)).digits in
     let known : power ≤ 9 = is_number.largest.has.member.prefix.known in
     let few : places ≤ places_within precision =
     (short_numeral_is_expansion number places_of_decimal).least (places_within precision) (number_exact is_number) in
@@ -245,22 +245,22 @@ prefixed_length {kind} {size} {precision} {unit} {number} is_number =
 -- In the kind's own unit the number is the size, without digits after the point: at most 33 characters.
 own_length :
     (kind : Kind) (size number : ℕ) (unit : Shape) → size < current.size_limit → unit ≡ own_unit kind
-    → number * bits unit ≡ size * bits_in kind * one → length (short number places_of_decimal) ≤ 33
+    → number * bits unit ≡ size * bits_in kind * scale → length (short_numeral number places_of_decimal) ≤ 33
 own_length kind size number unit below own number_is =
-    let own_number : number * bits_in kind ≡ size * one * bits_in kind =
+    let own_number : number * bits_in kind ≡ size * scale * bits_in kind =
     ap (λ bits. number * bits) (sym (ap bits own ∙ own_bits kind)) ∙ number_is ∙ omega arith in
-    let same : number ≡ size * one =
-    eq_of_mul-eq-mul_right (bits_in kind) (bits_in_positive kind) number (size * one) own_number in
+    let same : number ≡ size * scale =
+    eq_of_mul-eq-mul_right (bits_in kind) (bits_in_positive kind) number (size * scale) own_number in
     let no_places = (short_numeral_is_expansion number places_of_decimal).least 0 (size, omega (arith, same)) in
-    let small : number / one < 10 ^ 30 = omega (arith, same, below) in
-    let digits = decimal_length (number / one) 30 (omega arith) (omega arith) small in
+    let small : number / scale < 10 ^ 30 = omega (arith, same, below) in
+    let digits = decimal_length (number / scale) 30 (omega arith) (omega arith) small in
     omega (arith, no_places, short_length number, digits)
 
 -- The number of units of a size in its exact unit, or in its kind's own unit, has at most 33 characters.
 recovered_length :
     (kind : Kind) (size precision number : ℕ) (unit : Shape) → size < current.size_limit
-    → IsRecovered current kind false size precision unit
-    → number * bits unit ≡ size * bits_in kind * one → length (short number places_of_decimal) ≤ 33
+    → IsRecoveredIn current kind false size precision unit
+    → number * bits unit ≡ size * bits_in kind * scale → length (short_numeral number places_of_decimal) ≤ 33
 recovered_length kind size precision number unit below (inl largest) number_is =
     let is_number : IsNumberInLargest kind size precision unit number =
     record { below = below; largest = largest; number_is = number_is } in
@@ -281,10 +281,10 @@ no_columns width none = ap least_columns none
 -- A size formatted with a unit has at most 37 bytes if no width is set.
 form_narrow :
     (kind : Kind) (size : ℕ) (spec : FormatSpec) (text : List ℕ) → size < current.size_limit → spec.width ≡ None
-    → IsSizeForm current kind size spec text → length text ≤ narrow_text
+    → IsSizeForm kind size spec text → length text ≤ narrow_text
 form_narrow kind size spec text below none form =
-    let unit = name current form.unit in
-    let number = short form.number places_of_decimal in
+    let unit = unit_name_in current form.unit in
+    let number = short_numeral form.number places_of_decimal in
     let places = places_of spec.precision in
     let numeral = recovered_length kind size places form.number form.unit below form.is_recovered form.number_is in
     let gap = gap_length spec.sign unit (name_short form.unit) in
@@ -308,7 +308,7 @@ plain_narrow size spec below none =
 -- Both have, whether the alternate form is set or not.
 either_narrow :
     (alternate : Bool) (kind : Kind) (size : ℕ) (spec : FormatSpec) (text : List ℕ) → size < current.size_limit
-    → spec.width ≡ None → MatchBool alternate (IsSizeForm current kind size spec text) (text ≡ plain size spec)
+    → spec.width ≡ None → MatchBool alternate (IsSizeForm kind size spec text) (text ≡ plain size spec)
     → length text ≤ narrow_text
 either_narrow true kind size spec text below none form = form_narrow kind size spec text below none form
 either_narrow false kind size spec text below none form =
@@ -317,6 +317,6 @@ either_narrow false kind size spec text below none form =
 -- The text of a size has at most 37 bytes if no width is set.
 pub text_without_width_narrow :
     (kind : Kind) (size : ℕ) (spec : FormatSpec) (text : List ℕ) → size < current.size_limit → spec.width ≡ None
-    → IsText current kind size spec text → length text ≤ narrow_text
+    → IsText kind size spec text → length text ≤ narrow_text
 text_without_width_narrow kind size spec text below none is_text =
     either_narrow spec.alternate kind size spec text below none is_text

@@ -8,14 +8,14 @@ use Rattle.std.specs.Str.Parse.{AllDigits}
 use Rattle.std.proofs.lemmas.Nat.{pow-add, mul-le}
 use Rattle.std.proofs.lemmas.List.{replicate-append-replicate}
 use Rattle.std.proofs.lemmas.Str.{IsAscii-append}
-use Rattle.byte_unit_math.specs.Bounds.{one, places_of_decimal, whole_limit, bits_limit}
+use Rattle.byte_unit_math.specs.Bounds.{scale, places_of_decimal, whole_limit, bits_limit}
 use Rattle.byte_unit_base.specs.Shape.{Shape, bits}
-use Rattle.byte_unit_base.specs.Edition.{current, name}
+use Rattle.byte_unit_base.specs.Version.{current, unit_name_in}
 use Rattle.byte_unit_base.specs.Units.{shape_of}
 use Rattle.byte_unit_base.specs.Spelling.{Spells}
-use Rattle.byte_unit_base.specs.SizeText.{trimmed}
-use Rattle.byte_unit_math.specs.Finite.{Finite, value_of}
-use Rattle.byte_unit_math.specs.Digits.{at_places, shortened}
+use Rattle.byte_unit_base.specs.SizeText.{trim_of}
+use Rattle.byte_unit_math.specs.Finite.{Finite, value_of_digits}
+use Rattle.byte_unit_math.specs.Digits.{at_places, trim_expansion}
 use Rattle.byte_unit_math.specs.Numeral.{fraction_text, text_of}
 use Rattle.byte_unit_math.proofs.Digits.{ShortOf-shortened}
 use Rattle.byte_unit_base.specs.declared.kind.Kind.{Kind}
@@ -25,14 +25,14 @@ use Rattle.byte_unit_format.specs.declared.spec.Sign.{Sign}
 use Rattle.byte_unit_format.specs.declared.spec.Sign.TheVariants.{Unset, Plus, Minus}
 use Rattle.byte_unit_base.specs.declared.unit.Unit.{Unit as UnitName}
 use Rattle.byte_unit_base.specs.Family.{InFamily, HasKind}
-use Rattle.byte_unit_base.specs.Choice.{IsRecovered}
+use Rattle.byte_unit_base.specs.Choice.{IsRecoveredIn}
 use Rattle.byte_unit_base.proofs.Choosing.{some_bits, own_bits}
 use Rattle.byte_unit_base.proofs.Names.{IsKnown, SaysKind, unit_known, name_spells, name_ascii, name_end}
 use Rattle.byte_unit_base.specs.Kinds.{bits_in, counts_bits, own_unit, own_family, flags_for}
 use Rattle.byte_unit_base.specs.LeastOfKind.{IsLeastOf}
 use Rattle.byte_unit_base.specs.Accepted.{IsAccepted}
-use Rattle.byte_unit_format.specs.Layout.{layout, layout_padding, before_layout, gap_of}
-use Rattle.byte_unit_format.specs.Plain.{spaces, plus_of, plain, plain_padding, before_plain}
+use Rattle.byte_unit_format.specs.Layout.{layout, layout_padding, layout_left_padding, gap_of}
+use Rattle.byte_unit_format.specs.Plain.{spaces, plus_of, plain, plain_padding, plain_left_padding}
 use Rattle.byte_unit_format.specs.Forms.{places_of}
 use Rattle.byte_unit_format.specs.FormLaws.{SizeFormReadsBack, PlainFormReadsBack}
 use Rattle.byte_unit_base.proofs.NumberTexts.{fixed_point_of, number_text, number_start, number_ascii, decimal_ascii}
@@ -43,9 +43,9 @@ use Rattle.byte_unit_format.proofs.TrimmedTexts.{trim_between, spaces_ascii}
 
 -- The unit's name is ASCII, is read as the unit, and does not end in white space.
 pub record IsGoodName (kind : Kind) (ignore_case : Bool) (unit : Shape) : Type 0 where
-  end : EndsWithoutSpace (name current unit)
-  ascii : IsAscii (name current unit)
-  spells : Spells current (flags_for kind ignore_case) (name current unit) unit
+  end : EndsWithoutSpace (unit_name_in current unit)
+  ascii : IsAscii (unit_name_in current unit)
+  spells : Spells current (flags_for kind ignore_case) (unit_name_in current unit) unit
 
 IsGoodName-known : (kind : Kind) (ignore_case : Bool) (unit : Shape) → IsKnown unit
     → SaysKind (flags_for kind ignore_case) unit.bit
@@ -87,7 +87,7 @@ case_counts Bit = refl
 pub IsGoodName-unit : (kind : Kind) (unit : UnitName) → IsGoodName kind false (shape_of unit)
 IsGoodName-unit kind unit = IsGoodName-known kind false (shape_of unit) (unit_known unit) (λ bit. case_counts kind)
 
-IsLeastOf-exact : (kind : Kind) (number size : ℕ) (unit : Shape) → number * bits unit ≡ size * bits_in kind * one
+IsLeastOf-exact : (kind : Kind) (number size : ℕ) (unit : Shape) → number * bits unit ≡ size * bits_in kind * scale
     → IsLeastOf kind number unit size
 IsLeastOf-exact Byte number size unit exact =
     record { has = omega (arith, exact); least = λ other covers. omega (arith, exact, covers) }
@@ -104,7 +104,7 @@ layout_regrouped before behind gap number unit =
 trim_layout :
     (before between : ℕ) (number unit : List ℕ) → StartsWithoutSpace number → EndsWithoutSpace unit → IsAscii number
     → IsAscii unit
-    → trimmed (spaces before ++ ((number ++ (spaces between ++ unit)) ++ spaces 0)) ≡ number ++ (spaces between ++ unit)
+    → trim_of (spaces before ++ ((number ++ (spaces between ++ unit)) ++ spaces 0)) ≡ number ++ (spaces between ++ unit)
 trim_layout before between number unit start end number_ascii unit_ascii =
     let behind = spaces between ++ unit in
     let ascii : IsAscii (number ++ behind) =
@@ -132,25 +132,25 @@ trim_layout before between number unit start end number_ascii unit_ascii =
 -- The text without the spaces at both ends is the number, some spaces and the unit.
 pub record TrimmedLayout (text number unit : List ℕ) : Type 0 where
   pub spaces_between : ℕ
-  pub trims : trimmed text ≡ number ++ (spaces spaces_between ++ unit)
+  pub trims : trim_of text ≡ number ++ (spaces spaces_between ++ unit)
 
 -- A number formatted with its unit is, without the spaces at both ends, the number, some spaces and the unit.
 pub trimmed_layout :
     (kind : Kind) (ignore_case : Bool) (spec : FormatSpec) (e : Finite) (unit : Shape) → IsBounded e
     → IsGoodName kind ignore_case unit
-    → TrimmedLayout (layout (text_of e) (name current unit) spec) (text_of e) (name current unit)
+    → TrimmedLayout (layout (text_of e) (unit_name_in current unit) spec) (text_of e) (unit_name_in current unit)
 trimmed_layout kind ignore_case spec e unit bounded good =
-    let pad = layout_padding (text_of e) (name current unit) spec in
-    let before = before_layout spec.align pad in
-    let gap = gap_of spec.sign (name current unit) in
+    let pad = layout_padding (text_of e) (unit_name_in current unit) spec in
+    let before = layout_left_padding spec.align pad in
+    let gap = gap_of spec.sign (unit_name_in current unit) in
     let between = (pad - before) + gap in
     let start = number_start e.whole (fraction_text e.digits) bounded.bound in
     let ascii = number_ascii e.whole e.digits bounded.small bounded.bound in
     record {
       spaces_between = between;
       trims =
-          ap trimmed (layout_regrouped before (pad - before) gap (text_of e) (name current unit))
-          ∙ trim_layout before between (text_of e) (name current unit) start good.end ascii good.ascii;
+          ap trim_of (layout_regrouped before (pad - before) gap (text_of e) (unit_name_in current unit))
+          ∙ trim_layout before between (text_of e) (unit_name_in current unit) start good.end ascii good.ascii;
     }
 
 -- A decimal of at most 28 digits after the point, of a unit whose name is read, is exactly the size.
@@ -158,14 +158,14 @@ pub record RepresentsSize (kind : Kind) (ignore_case : Bool) (size : ℕ) (e : F
   pub bounded : IsBounded e
   pub few : length e.digits ≤ places_of_decimal
   pub good : IsGoodName kind ignore_case unit
-  pub exact : fixed_point_of e.whole e.digits * bits unit ≡ size * bits_in kind * one
+  pub exact : fixed_point_of e.whole e.digits * bits unit ≡ size * bits_in kind * scale
   pub below : size < current.size_limit
 
 -- Such a decimal, formatted with its unit, is accepted as the size.
 pub layout_accepted :
     (kind : Kind) (ignore_case : Bool) (size : ℕ) (spec : FormatSpec) (e : Finite) (unit : Shape)
     → RepresentsSize kind ignore_case size e unit
-    → IsAccepted current kind ignore_case (layout (text_of e) (name current unit) spec) size
+    → IsAccepted kind ignore_case (layout (text_of e) (unit_name_in current unit) spec) size
 layout_accepted kind ignore_case size spec e unit represents =
     let layout = trimmed_layout kind ignore_case spec e unit represents.bounded represents.good in
     record {
@@ -175,7 +175,7 @@ layout_accepted kind ignore_case size spec e unit represents =
         is_size = record {
           number_part = text_of e;
           spaces = layout.spaces_between;
-          unit_part = name current unit;
+          unit_part = unit_name_in current unit;
           text_is = layout.trims;
           number_is = number_text e.whole e.digits represents.bounded.small represents.few
               represents.bounded.bound;
@@ -191,10 +191,10 @@ layout_accepted kind ignore_case size spec e unit represents =
 pub fixed_point_of_digits :
     (whole part number places : ℕ) → places ≤ places_of_decimal
     → number ≡ (whole * 10 ^ places + part) * 10 ^ (places_of_decimal - places)
-    → whole * one + part * 10 ^ (places_of_decimal - places) ≡ number
+    → whole * scale + part * 10 ^ (places_of_decimal - places) ≡ number
 fixed_point_of_digits whole part number places few scaled_is =
     let split : places_of_decimal ≡ places + (places_of_decimal - places) = omega arith in
-    let power : one ≡ 10 ^ places * 10 ^ (places_of_decimal - places) =
+    let power : scale ≡ 10 ^ places * 10 ^ (places_of_decimal - places) =
     ap (λ places. 10 ^ places) split ∙ pow-add 10 places (places_of_decimal - places) in
     let of_whole = ap (λ power. whole * power) power in
     omega (arith, of_whole, scaled_is)
@@ -207,7 +207,7 @@ bits_of_size_bound Bit size below = omega (arith, below)
 -- The name of the exact unit of a size is read as the unit.
 recovered_name :
     (kind : Kind) (ignore_case : Bool) (size precision : ℕ) (unit : Shape)
-    → IsRecovered current kind false size precision unit
+    → IsRecoveredIn current kind false size precision unit
     → IsGoodName kind ignore_case unit
 recovered_name kind ignore_case size precision unit (inl largest) =
     multiple_name kind ignore_case unit largest.has.member
@@ -216,8 +216,8 @@ recovered_name kind ignore_case size precision unit (inr own) =
 
 whole_bound :
     (kind : Kind) (size number unit : ℕ) → size < current.size_limit → 1 ≤ unit
-    → number * unit ≡ size * bits_in kind * one
-    → number / one < whole_limit
+    → number * unit ≡ size * bits_in kind * scale
+    → number / scale < whole_limit
 whole_bound kind size number unit below some exact =
     let few : size * bits_in kind < bits_limit = bits_of_size_bound kind size below in
     let not_above : number ≤ number * unit = omega (arith, mul-le number 1 number unit (omega arith) some) in
@@ -226,10 +226,10 @@ whole_bound kind size number unit below some exact =
 -- A size formatted with a unit is read as the size.
 pub size_form_reads_back : SizeFormReadsBack
 size_form_reads_back kind size spec ignore_case text below form =
-    let e = shortened (at_places places_of_decimal form.number) in
+    let e = trim_expansion (at_places places_of_decimal form.number) in
     let short = ShortOf-shortened form.number places_of_decimal in
     let bound = whole_bound kind size form.number (bits form.unit) below (some_bits form.unit) form.number_is in
-    let number = fixed_point_of_digits e.whole (value_of e.digits) form.number (length e.digits) short.few
+    let number = fixed_point_of_digits e.whole (value_of_digits e.digits) form.number (length e.digits) short.few
     short.scaled_is in
     let represents : RepresentsSize kind ignore_case size e form.unit =
     record {
@@ -239,7 +239,7 @@ size_form_reads_back kind size spec ignore_case text below form =
       exact = ap (λ number. number * bits form.unit) number ∙ form.number_is;
       below = below;
     } in
-    let Accepted : List ℕ → Type 0 = λ text. IsAccepted current kind ignore_case text size in
+    let Accepted : List ℕ → Type 0 = λ text. IsAccepted kind ignore_case text size in
     subst Accepted (sym form.text_is) (layout_accepted kind ignore_case size spec e form.unit represents)
 
 no_plus : (sign : Sign) → sign ≢ Plus → plus_of sign ≡ []
@@ -263,12 +263,12 @@ no_unit Byte ignore_case = inl record { count_is = inl (refl, refl); power_is = 
 no_unit Bit ignore_case = inl record { count_is = inl (refl, refl); power_is = refl; binary_is = refl }
 
 trim_number : (before behind whole : ℕ) → whole < whole_limit
-    → trimmed ((spaces before ++ decimal whole) ++ spaces behind) ≡ decimal whole
+    → trim_of ((spaces before ++ decimal whole) ++ spaces behind) ≡ decimal whole
 trim_number before behind whole bound =
     let text = whole_text whole bound in
     let start = starts_with_digit (decimal whole) text.0 in
     let end = last_digit start.head start.tail (subst (AllDigits 10) start.text_is text.0.1) in
-    ap trimmed (append_assoc (spaces before) (decimal whole) (spaces behind))
+    ap trim_of (append_assoc (spaces before) (decimal whole) (spaces behind))
     ∙ trim_between before behind (decimal whole) start (subst EndsWithoutSpace (sym start.text_is) end)
     (decimal_ascii whole bound)
 
@@ -277,13 +277,13 @@ pub plain_form_reads_back : PlainFormReadsBack
 plain_form_reads_back kind size spec ignore_case below sign =
     let bound : size < whole_limit = omega (arith, below) in
     let pad = plain_padding size spec in
-    let before = before_plain spec.align pad in
-    let trims : trimmed (plain size spec) ≡ decimal size =
-    ap (λ plus. trimmed ((spaces before ++ (plus ++ decimal size)) ++ spaces (pad - before))) (no_plus spec.sign sign)
+    let before = plain_left_padding spec.align pad in
+    let trims : trim_of (plain size spec) ≡ decimal size =
+    ap (λ plus. trim_of ((spaces before ++ (plus ++ decimal size)) ++ spaces (pad - before))) (no_plus spec.sign sign)
     ∙ trim_number before (pad - before) size bound in
-    let own = ap (λ bits. (size * one) * bits) (own_bits kind) in
+    let own = ap (λ bits. (size * scale) * bits) (own_bits kind) in
     record {
-      number = size * one;
+      number = size * scale;
       is_read = record {
         unit = own_unit kind;
         is_size = record {
@@ -294,7 +294,7 @@ plain_form_reads_back kind size spec ignore_case below sign =
           number_is = inl (size, whole_text size bound, refl);
           unit_is = no_unit kind ignore_case;
         };
-        is_least = IsLeastOf-exact kind (size * one) size (own_unit kind) (omega (arith, own));
+        is_least = IsLeastOf-exact kind (size * scale) size (own_unit kind) (omega (arith, own));
       };
       below = below;
     }

@@ -11,7 +11,7 @@ use Rattle.byte_unit_math.specs.Numeral.{text_of}
 use Rattle.byte_unit_math.proofs.Expanding.{powers_are_exact}
 use Rattle.byte_unit_math.proofs.Texts.{expansion_is_by_division, expansion_of_is_expansion}
 use Rattle.byte_unit_base.specs.Shape.{bits, twos, fives}
-use Rattle.byte_unit_base.specs.Edition.{name}
+use Rattle.byte_unit_base.specs.Version.{unit_name_in}
 use Rattle.byte_unit_base.specs.Units.{shape_of}
 use Rattle.byte_unit_base.specs.Kinds.{bits_in}
 use Rattle.byte_unit_format.specs.Layout.{layout}
@@ -43,16 +43,16 @@ plain_layout number unit = ap (λ front. front ++ codes " " ++ unit) (sym (appen
 
 -- The digits of a size are its text by the plain spec.
 pub shown_size_is_plain : ShownSizeIsPlainForm
-shown_size_is_plain edition kind size = sym (append-nil (decimal size))
+shown_size_is_plain version kind size = sym (append-nil (decimal size))
 
 -- All digits of a size in a unit, a space and the unit's name are its text in that unit by the plain spec.
 pub shown_adjusted_size_is_plain : ShownAdjustedSizeIsPlainForm
-shown_adjusted_size_is_plain edition kind size unit =
+shown_adjusted_size_is_plain version kind size unit =
     let num : ℕ = size * bits_in kind in
     let den : ℕ = bits (shape_of unit) in
     let some : 0 < den = omega (arith, some_bits (shape_of unit)) in
     record {
       number = text_of (expansion_of num den);
       number_is = (expansion_of num den, expansion_of_is_expansion num den some (exact_in_unit num unit), refl);
-      text_is = plain_layout (text_of (expansion_of num den)) (name edition (shape_of unit));
+      text_is = plain_layout (text_of (expansion_of num den)) (unit_name_in version (shape_of unit));
     }

@@ -10,9 +10,9 @@ use Rattle.std.proofs.lemmas.Str.Ascii.{IsAscii-from_all}
 use Rattle.byte_unit_math.specs.Digits.{last_digits}
 use Rattle.byte_unit_math.proofs.Digits.{length_last_digits}
 use Rattle.byte_unit_format.specs.Plain.{spaces}
-use Rattle.byte_unit_format.specs.Layout.{layout, layout_padding, before_layout, gap_of}
-use Rattle.byte_unit_format.specs.Row.{fraction_of, places_in, IsReady, row_text}
-use Rattle.byte_unit_format.specs.Written.{Writes}
+use Rattle.byte_unit_format.specs.Layout.{layout, layout_padding, layout_left_padding, gap_of}
+use Rattle.byte_unit_format.specs.TextParts.{fraction_of, places_in, IsReady, parts_text}
+use Rattle.byte_unit_format.specs.Written.{WritesForm}
 use Rattle.byte_unit_format.specs.declared.spec.FormatSpec.{FormatSpec}
 use Rattle.byte_unit_format.specs.declared.parts.TextParts.{TextParts}
 use Rattle.byte_unit_format.specs.declared.parts.Fraction.{Fraction}
@@ -39,7 +39,7 @@ gap_after_padding before behind gap number name =
 -- A call that has written one text of a form has written a text of that form.
 pub writes_form :
     {IsForm : List ℕ → Type 0} {old new : List ℕ} {needed : ℕ} (text : List ℕ) → IsForm text
-    → Writes (λ form. form ≡ text) old new needed → Writes IsForm old new needed
+    → WritesForm (λ form. form ≡ text) old new needed → WritesForm IsForm old new needed
 writes_form {IsForm} text is_form this = record {
   form = this.form;
   is_form = subst IsForm (sym this.is_form) is_form;
@@ -51,7 +51,7 @@ writes_form {IsForm} text is_form this = record {
 -- Padding, number, one run of spaces and the unit's name are the number formatted with its unit.
 pub layout_of_parts :
     (number name : List ℕ) (spec : FormatSpec) (pad before gap : ℕ) → pad ≡ layout_padding number name spec
-    → before ≡ before_layout spec.align pad → gap ≡ gap_of spec.sign name
+    → before ≡ layout_left_padding spec.align pad → gap ≡ gap_of spec.sign name
     → spaces before ++ number ++ spaces (pad - before + gap) ++ name ≡ layout number name spec
 layout_of_parts number name spec pad before gap pad_is before_is gap_is =
     let of : ℕ → ℕ → ℕ → List ℕ =
@@ -59,7 +59,7 @@ layout_of_parts number name spec pad before gap pad_is before_is gap_is =
     gap_after_padding before (pad - before) gap number name
     ∙ (ap (λ gap. of pad before gap) gap_is
     ∙ (ap (λ before. of pad before (gap_of spec.sign name)) before_is
-    ∙ ap (λ pad. of pad (before_layout spec.align pad) (gap_of spec.sign name)) pad_is))
+    ∙ ap (λ pad. of pad (layout_left_padding spec.align pad) (gap_of spec.sign name)) pad_is))
 
 -- A run of an ASCII byte is ASCII.
 pub run_ascii : (count byte : ℕ) → byte < 128 → IsAscii (replicate count byte)
@@ -68,7 +68,7 @@ run_ascii count byte small = IsAscii-from_all (replicate count byte)
 
 -- The text of parts that can be written is ASCII.
 pub row_ascii : (row : TextParts) → IsReady row → IsAscii (decimal row.whole) → IsAscii (fraction_of row.fraction)
-    → IsAscii (row_text row)
+    → IsAscii (parts_text row)
 row_ascii row ready whole fraction =
     let number = IsAscii-append _ _ (IsAscii-append _ _ ready.1 whole) fraction in
     let front = IsAscii-append _ _ (run_ascii row.before 32 (omega arith)) number in

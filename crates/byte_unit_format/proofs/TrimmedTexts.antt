@@ -7,7 +7,7 @@ use Rattle.std.specs.Str.{skip_leading_whitespace, drop_trailing_whitespace, IsA
 use Rattle.std.proofs.lemmas.Str.{chars-IsAscii, IsAscii-append}
 use Rattle.std.proofs.lemmas.Str.Ascii.{IsAscii-from_all}
 use Rattle.std.proofs.lemmas.List.Elements.{All-replicate}
-use Rattle.byte_unit_base.specs.SizeText.{trimmed}
+use Rattle.byte_unit_base.specs.SizeText.{trim_of}
 use Rattle.byte_unit_base.proofs.Trim.{StartsWithoutSpace, EndsWithoutSpace, keep_last}
 use Rattle.byte_unit_format.specs.Plain.{spaces}
 
@@ -32,7 +32,7 @@ spaces_ascii count = IsAscii-from_all (spaces count) (All-replicate (λ byte. by
 -- Trimming a text between spaces gives the text, if it begins and ends with no white space.
 pub trim_between :
     (before behind : ℕ) (text : List ℕ) → StartsWithoutSpace text → EndsWithoutSpace text → IsAscii text
-    → trimmed (spaces before ++ (text ++ spaces behind)) ≡ text
+    → trim_of (spaces before ++ (text ++ spaces behind)) ≡ text
 trim_between before behind text start end ascii =
     let padded = spaces before ++ (text ++ spaces behind) in
     let all : IsAscii padded =

@@ -2,7 +2,7 @@
 use Rattle.std.proofs.Common.{◌≤◌, ℕ, Bool, true, false, [], ◌∷◌, ◌++◌, length, arith}
 use Rattle.std.specs.Prelude.{codes, if◌then◌else◌, ◌&&◌, nat_lt, ◌-◌, slice_index}
 use Rattle.byte_unit_base.specs.Shape.{Shape}
-use Rattle.byte_unit_base.specs.Edition.{name, current}
+use Rattle.byte_unit_base.specs.Version.{unit_name_in, current}
 
 parts_short : (prefix binary bit : Bool) (letter : ℕ)
     → length
@@ -17,5 +17,5 @@ parts_short false binary true letter = omega arith
 parts_short false binary false letter = omega arith
 
 -- The name of a unit has at most three characters.
-pub name_short : (unit : Shape) → length (name current unit) ≤ 3
+pub name_short : (unit : Shape) → length (unit_name_in current unit) ≤ 3
 name_short unit = parts_short (nat_lt 0 unit.power) unit.binary unit.bit (slice_index current.letters (unit.power - 1))

@@ -7,19 +7,19 @@ use Rattle.std.specs.Fmt.{decimal}
 use Rattle.std.proofs.Math.Nat.{mod-eq_of_lt}
 use Rattle.std.proofs.lemmas.Bool.{cases_lt}
 use Rattle.std.proofs.lemmas.List.{length-take, length-map, map-append, length-append, length-replicate}
-use Rattle.byte_unit_math.specs.Bounds.{one, places_of_decimal}
+use Rattle.byte_unit_math.specs.Bounds.{scale, places_of_decimal}
 use Rattle.byte_unit_math.specs.Digits.{last_digits}
 use Rattle.byte_unit_math.specs.Exact.{IsExactAt, IsLeastPlaces}
-use Rattle.byte_unit_math.specs.Finite.{Finite, IsExpansion, value_of}
+use Rattle.byte_unit_math.specs.Finite.{Finite, IsExpansion, value_of_digits}
 use Rattle.byte_unit_math.specs.Numeral.{glyphs, fraction_text, text_of}
-use Rattle.byte_unit_math.specs.Padded.{padded}
+use Rattle.byte_unit_math.specs.Padded.{pad_of}
 use Rattle.byte_unit_math.proofs.Digits.{length_last_digits, last_digits_below_ten, value_of_last_digits}
 use Rattle.byte_unit_math.proofs.Fractions.{fraction_text_none, fraction_text_some}
 use Rattle.byte_unit_math.proofs.Scales.{pow10_split}
 use Rattle.byte_unit_math.proofs.Texts.{text_of_short_numeral, padded_to_own_places}
 use Rattle.byte_unit_base.specs.Shape.{Shape, bits}
-use Rattle.byte_unit_base.specs.Edition.{current, name}
-use Rattle.byte_unit_base.specs.Choice.{IsRecovered}
+use Rattle.byte_unit_base.specs.Version.{current, unit_name_in}
+use Rattle.byte_unit_base.specs.Choice.{IsRecoveredIn}
 use Rattle.byte_unit_base.specs.declared.kind.Kind.{Kind}
 use Rattle.byte_unit_format.specs.declared.spec.FormatSpec.{FormatSpec}
 use Rattle.byte_unit_base.specs.Kinds.{bits_in}
@@ -88,33 +88,33 @@ fraction_length places digits =
     (cases_lt 0 places)
 
 -- Padded to its own number of digits after the point, a decimal has the same text.
-pub all_places : (e : Finite) (places : ℕ) → places ≡ length e.digits → text_of (padded places e) ≡ text_of e
-all_places e places count = ap (λ places. text_of (padded places e)) count ∙ ap text_of (padded_to_own_places e)
+pub all_places : (e : Finite) (places : ℕ) → places ≡ length e.digits → text_of (pad_of places e) ≡ text_of e
+all_places e places count = ap (λ places. text_of (pad_of places e)) count ∙ ap text_of (padded_to_own_places e)
 
 -- The whole part of a number that is scaled by 10^28, and its digits after the point without trailing zeros.
 pub record AreParts (number whole digits places : ℕ) : Type 0 where
   pub few : places ≤ places_of_decimal
-  pub least : IsLeastPlaces number one places
-  pub whole_is : whole ≡ number / one
-  pub digits_are : digits * 10 ^ (places_of_decimal - places) ≡ number % one
+  pub least : IsLeastPlaces number scale places
+  pub whole_is : whole ≡ number / scale
+  pub digits_are : digits * 10 ^ (places_of_decimal - places) ≡ number % scale
   pub below : digits < 10 ^ places
 
 parts_expansion :
     {number whole digits places : ℕ} → AreParts number whole digits places
-    → IsExpansion number one (record { whole = whole; digits = last_digits places digits })
+    → IsExpansion number scale (record { whole = whole; digits = last_digits places digits })
 parts_expansion {number} {whole} {digits} {places} parts =
     let these = last_digits places digits in
     let len : length these ≡ places = length_last_digits places digits in
-    let value : value_of these ≡ digits = value_of_last_digits places digits ∙ mod-eq_of_lt parts.below in
+    let value : value_of_digits these ≡ digits = value_of_last_digits places digits ∙ mod-eq_of_lt parts.below in
     let product = ap (λ power. digits * power) (pow10_split places places_of_decimal parts.few) in
-    let split : number ≡ whole * one + digits * 10 ^ (places_of_decimal - places) =
+    let split : number ≡ whole * scale + digits * 10 ^ (places_of_decimal - places) =
     omega (arith, parts.whole_is, parts.digits_are) in
     let times = ap (λ number. number * 10 ^ places) split in
-    let Exact : ℕ → Type 0 = λ places. number * 10 ^ places ≡ (whole * 10 ^ places + value_of these) * one in
-    let Least : ℕ → Type 0 = λ places. (p : ℕ) → IsExactAt number one p → places ≤ p in
+    let Exact : ℕ → Type 0 = λ places. number * 10 ^ places ≡ (whole * 10 ^ places + value_of_digits these) * scale in
+    let Least : ℕ → Type 0 = λ places. (p : ℕ) → IsExactAt number scale p → places ≤ p in
     record {
       small = last_digits_below_ten places digits;
-      exact = subst Exact (sym len) (omega (arith, times, product, ap (λ value. value * one) value));
+      exact = subst Exact (sym len) (omega (arith, times, product, ap (λ value. value * scale) value));
       least = subst Least (sym len) parts.least.least;
     }
 
@@ -122,45 +122,45 @@ parts_expansion {number} {whole} {digits} {places} parts =
 pub size_form_of_parts : (kind : Kind) (size : ℕ) (spec : FormatSpec) {unit : Shape}
     {number places whole digits count : ℕ}
     → places ≡ places_of spec.precision
-    → IsRecovered current kind false size places unit
-    → number * bits unit ≡ size * bits_in kind * one
+    → IsRecoveredIn current kind false size places unit
+    → number * bits unit ≡ size * bits_in kind * scale
     → AreParts number whole digits count
-    → IsSizeForm current kind size spec
-    (layout (decimal whole ++ fraction_text (last_digits count digits)) (name current unit) spec)
+    → IsSizeForm kind size spec
+    (layout (decimal whole ++ fraction_text (last_digits count digits)) (unit_name_in current unit) spec)
 size_form_of_parts kind size spec {unit} {number} {places} {whole} {digits} {count} places_are recovered product parts =
-    let within : ℕ → Type 0 = λ places. IsRecovered current kind false size places unit in
+    let within : ℕ → Type 0 = λ places. IsRecoveredIn current kind false size places unit in
     let e : Finite = record { whole = whole; digits = last_digits count digits } in
     record {
       unit = unit;
       number = number;
       is_recovered = subst within places_are recovered;
       number_is = product;
-      text_is = ap (λ number. layout number (name current unit) spec)
+      text_is = ap (λ number. layout number (unit_name_in current unit) spec)
           (text_of_short_numeral number places_of_decimal e (parts_expansion parts));
     }
 
 -- If the alternate form is set, the size formatted with a unit is its text.
 pub size_form_is_text :
     (kind : Kind) (size : ℕ) (spec : FormatSpec) {text : List ℕ} → spec.alternate ≡ true
-    → IsSizeForm current kind size spec text
-    → IsText current kind size spec text
+    → IsSizeForm kind size spec text
+    → IsText kind size spec text
 size_form_is_text kind size spec {text} alternate form =
     let Text : Bool → Type 0 =
-    λ alternate. MatchBool alternate (IsSizeForm current kind size spec text) (text ≡ plain size spec) in
+    λ alternate. MatchBool alternate (IsSizeForm kind size spec text) (text ≡ plain size spec) in
     subst Text (sym alternate) form
 
 -- A size has at most one text by a spec.
 text_unique :
     (alternate : Bool) (kind : Kind) (size : ℕ) (spec : FormatSpec) (text other : List ℕ)
-    → MatchBool alternate (IsSizeForm current kind size spec text) (text ≡ plain size spec)
-    → MatchBool alternate (IsSizeForm current kind size spec other) (other ≡ plain size spec) → other ≡ text
+    → MatchBool alternate (IsSizeForm kind size spec text) (text ≡ plain size spec)
+    → MatchBool alternate (IsSizeForm kind size spec other) (other ≡ plain size spec) → other ≡ text
 text_unique true kind size spec text other is_text is_other =
     size_form_unique current kind size spec other text is_other is_text
 text_unique false kind size spec text other is_text is_other = is_other ∙ sym is_text
 
 -- All texts of a size by one spec are equally long.
 pub text_length_unique :
-    (kind : Kind) (size : ℕ) (spec : FormatSpec) (text : List ℕ) → IsText current kind size spec text
-    → (other : List ℕ) → IsText current kind size spec other → length other ≡ length text
+    (kind : Kind) (size : ℕ) (spec : FormatSpec) (text : List ℕ) → IsText kind size spec text
+    → (other : List ℕ) → IsText kind size spec other → length other ≡ length text
 text_length_unique kind size spec text is_text other is_other =
     ap length (text_unique spec.alternate kind size spec text other is_text is_other)

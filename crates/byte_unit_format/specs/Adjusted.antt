@@ -4,14 +4,16 @@ use Rattle.std.specs.Prelude.{if◌then◌else◌}
 use Rattle.byte_unit_math.specs.Finite.{Finite, IsExpansion}
 use Rattle.byte_unit_math.specs.Nearest.{IsNearest}
 use Rattle.byte_unit_math.specs.Digits.{expansion_of}
-use Rattle.byte_unit_math.specs.Numeral.{text_of, numeral, short}
+use Rattle.byte_unit_math.specs.Numeral.{text_of, numeral, short_numeral}
 use Rattle.byte_unit_math.specs.declared.expansion.Ties.TheVariants.{Even, Up}
 use Rattle.byte_unit_base.specs.Shape.{Shape, bits}
-use Rattle.byte_unit_base.specs.Edition.{Edition, name}
+use Rattle.byte_unit_base.specs.Version.{Version, unit_name_in, current}
 use Rattle.byte_unit_base.specs.declared.kind.Kind.{Kind}
 use Rattle.byte_unit_format.specs.declared.spec.FormatSpec.{FormatSpec}
 use Rattle.byte_unit_base.specs.Kinds.{bits_in}
 use Rattle.byte_unit_format.specs.Layout.{layout}
+use Rattle.byte_unit_base.specs.Units.{shape_of}
+use Rattle.byte_unit_base.specs.declared.unit.Unit.{Unit as UnitName}
 
 -- The text is num / den with all its digits after the point.
 abbrev pub IsFullNumeral : ℕ → ℕ → List ℕ → Type 0
@@ -23,7 +25,7 @@ IsRoundNumeral num den places text = (q : ℕ) × IsNearest num den places Even 
 
 -- The text is num / den rounded to `places` digits after the point, ties up, without trailing zeros.
 abbrev pub IsShortNumeral : ℕ → ℕ → ℕ → List ℕ → Type 0
-IsShortNumeral num den places text = (q : ℕ) × IsNearest num den places Up q × (text ≡ short q places)
+IsShortNumeral num den places text = (q : ℕ) × IsNearest num den places Up q × (text ≡ short_numeral q places)
 
 -- How a number is formatted: with all digits after the point, with exactly the given number, or with at most the given
 -- number.
@@ -43,24 +45,32 @@ abbrev pub alternate_places : ℕ
 alternate_places = 16
 
 -- Whether the unit has no prefix, as the bit and the byte.
-abbrev pub is_single : Shape → Bool
-is_single unit = unit.power == 0
+abbrev pub has_no_prefix : Shape → Bool
+has_no_prefix unit = unit.power == 0
 
 -- The rule for a precision, the alternate flag and a unit. All digits are written if no precision is set, and for a
 -- unit without a prefix outside the alternate form.
 abbrev pub rule_of : Option ℕ → Bool → Shape → Rule
 rule_of None alternate unit = full
 rule_of (Some precision) true unit = short_to (min precision alternate_places)
-rule_of (Some precision) false unit = if is_single unit then full else round_to precision
+rule_of (Some precision) false unit = if has_no_prefix unit then full else round_to precision
 
 -- The text is the size in the unit, formatted by the precision, width, alignment and sign of the spec.
-pub record IsAdjustedForm (edition : Edition) (kind : Kind) (size : ℕ) (unit : Shape) (spec : FormatSpec)
+pub record IsAdjustedFormIn (version : Version) (kind : Kind) (size : ℕ) (unit : Shape) (spec : FormatSpec)
     (text : List ℕ) : Type 0 where
   pub number : List ℕ
   pub number_is : IsNumeralBy (rule_of spec.precision spec.alternate unit) (size * bits_in kind) (bits unit) number
-  pub text_is : text ≡ layout number (name edition unit) spec
+  pub text_is : text ≡ layout number (unit_name_in version unit) spec
+
+-- The size formatted in a unit of the crate, by its name in the current version.
+abbrev pub IsAdjustedForm : Kind → ℕ → UnitName → FormatSpec → List ℕ → Type 0
+IsAdjustedForm kind size unit spec text = IsAdjustedFormIn current kind size (shape_of unit) spec text
 
 -- What `Display` writes of a size in a unit: the number with all its digits, a space, and the unit's name.
-abbrev pub adjusted_text : Edition → Kind → ℕ → Shape → List ℕ
-adjusted_text edition kind size unit =
-    text_of (expansion_of (size * bits_in kind) (bits unit)) ++ codes " " ++ name edition unit
+abbrev pub adjusted_text_in : Version → Kind → ℕ → Shape → List ℕ
+adjusted_text_in version kind size unit =
+    text_of (expansion_of (size * bits_in kind) (bits unit)) ++ codes " " ++ unit_name_in version unit
+
+-- What `Display` writes of the size in a unit of the crate.
+abbrev pub adjusted_text : Kind → ℕ → UnitName → List ℕ
+adjusted_text kind size unit = adjusted_text_in current kind size (shape_of unit)

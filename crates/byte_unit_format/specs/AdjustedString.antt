@@ -1,19 +1,25 @@
 -- The string that an adjusted size is stored as.
 use Rattle.std.specs.Prelude.{◌≡◌, ℕ, ◌+◌, ◌⊎◌, List}
 use Rattle.byte_unit_base.specs.Shape.{Shape}
-use Rattle.byte_unit_base.specs.Edition.{Edition}
-use Rattle.byte_unit_format.specs.Forms.{IsSizeForm}
-use Rattle.byte_unit_format.specs.Adjusted.{IsAdjustedForm}
+use Rattle.byte_unit_base.specs.Version.{Version, current}
+use Rattle.byte_unit_format.specs.Forms.{IsSizeFormIn}
+use Rattle.byte_unit_format.specs.Adjusted.{IsAdjustedFormIn}
 use Rattle.byte_unit_base.specs.declared.kind.Kind.{Kind}
 use Rattle.byte_unit_format.specs.declared.spec.TheConstants.FormatSpec.{ALTERNATE}
+use Rattle.byte_unit_base.specs.Units.{shape_of}
+use Rattle.byte_unit_base.specs.declared.unit.Unit.{Unit as UnitName}
 
 -- The size is the largest: one more is the limit.
-abbrev pub IsGreatest : Edition → ℕ → Type 0
-IsGreatest edition size = size + 1 ≡ edition.size_limit
+abbrev pub IsGreatest : Version → ℕ → Type 0
+IsGreatest version size = size + 1 ≡ version.size_limit
 
 -- The text is the size with all its digits in the unit. Only the largest size is stored in its own exact unit, since
 -- its digits in another could not be read again.
-abbrev pub IsAdjustedString : Edition → Kind → ℕ → Shape → List ℕ → Type 0
-IsAdjustedString edition kind size unit text =
-    IsGreatest edition size × IsSizeForm edition kind size ALTERNATE text
-    ⊎ ¬ (IsGreatest edition size) × IsAdjustedForm edition kind size unit ALTERNATE text
+abbrev pub IsAdjustedStringIn : Version → Kind → ℕ → Shape → List ℕ → Type 0
+IsAdjustedStringIn version kind size unit text =
+    IsGreatest version size × IsSizeFormIn version kind size ALTERNATE text
+    ⊎ ¬ (IsGreatest version size) × IsAdjustedFormIn version kind size unit ALTERNATE text
+
+-- The string that the size in a unit of the crate is stored as.
+abbrev pub IsAdjustedString : Kind → ℕ → UnitName → List ℕ → Type 0
+IsAdjustedString kind size unit text = IsAdjustedStringIn current kind size (shape_of unit) text

@@ -6,13 +6,13 @@ use Rattle.byte_unit_math.specs.Bounds.{places_of_decimal, expansion_places}
 use Rattle.byte_unit_math.specs.Exact.{IsExactAt, IsLeastPlaces}
 use Rattle.byte_unit_math.specs.Powers.{TakesLackingPlaces}
 use Rattle.byte_unit_base.specs.Shape.{Shape, bits, twos, fives}
-use Rattle.byte_unit_base.specs.Edition.{Edition, current}
+use Rattle.byte_unit_base.specs.Version.{Version, current}
 use Rattle.byte_unit_base.specs.Units.{shape_of}
-use Rattle.byte_unit_base.specs.Accepted.{IsAccepted, IsRefused}
+use Rattle.byte_unit_base.specs.Accepted.{IsAccepted, IsAcceptedIn, IsRejectedIn}
 use Rattle.byte_unit_base.specs.Fault.{too_long}
-use Rattle.byte_unit_format.specs.Adjusted.{IsAdjustedForm, adjusted_text}
+use Rattle.byte_unit_format.specs.Adjusted.{IsAdjustedFormIn, adjusted_text_in}
 use Rattle.byte_unit_format.specs.AdjustedString.{IsAdjustedString, IsGreatest}
-use Rattle.byte_unit_format.specs.Forms.{IsSizeForm, IsText}
+use Rattle.byte_unit_format.specs.Forms.{IsSizeForm, IsSizeFormIn, IsText, IsTextIn}
 use Rattle.byte_unit_format.specs.Layout.{layout, gap_of}
 use Rattle.byte_unit_format.specs.Plain.{plain, signed_digits}
 use Rattle.byte_unit_base.specs.Kinds.{bits_in}
@@ -27,53 +27,53 @@ use Rattle.byte_unit_format.specs.declared.spec.Sign.TheVariants.{Plus}
 abbrev pub SizeFormReadsBack : Type 0
 SizeFormReadsBack =
     (kind : Kind) (size : ℕ) (spec : FormatSpec) (ignore_case : Bool) (text : List ℕ) → size < current.size_limit
-    → IsSizeForm current kind size spec text → IsAccepted current kind ignore_case text size
+    → IsSizeForm kind size spec text → IsAccepted kind ignore_case text size
 
 -- A size formatted as digits is read as the size, unless it has a plus sign.
 abbrev pub PlainFormReadsBack : Type 0
 PlainFormReadsBack =
     (kind : Kind) (size : ℕ) (spec : FormatSpec) (ignore_case : Bool) → size < current.size_limit
-    → spec.sign ≢ Plus → IsAccepted current kind ignore_case (plain size spec) size
+    → spec.sign ≢ Plus → IsAccepted kind ignore_case (plain size spec) size
 
 -- The string that a size is stored as is read as the size.
 abbrev pub SizeStringReadsBack : Type 0
 SizeStringReadsBack =
     (kind : Kind) (size : ℕ) (text : List ℕ) → size < current.size_limit
-    → IsText current kind size ALTERNATE text → IsAccepted current kind false text size
+    → IsText kind size ALTERNATE text → IsAccepted kind false text size
 
 -- The size has exactly one text with a unit by this spec.
-pub record HasOneForm (edition : Edition) (kind : Kind) (size : ℕ) (spec : FormatSpec) : Type 0 where
+pub record HasOneForm (version : Version) (kind : Kind) (size : ℕ) (spec : FormatSpec) : Type 0 where
   pub form : List ℕ
-  pub is_form : IsSizeForm edition kind size spec form
-  pub one : (other : List ℕ) → IsSizeForm edition kind size spec other → other ≡ form
+  pub is_form : IsSizeFormIn version kind size spec form
+  pub one : (other : List ℕ) → IsSizeFormIn version kind size spec other → other ≡ form
 
 -- Every size has exactly one text with a unit by each spec.
 abbrev pub SizeHasOneForm : Type 0
 SizeHasOneForm =
-    (edition : Edition) (kind : Kind) (size : ℕ) (spec : FormatSpec) → HasOneForm edition kind size spec
+    (version : Version) (kind : Kind) (size : ℕ) (spec : FormatSpec) → HasOneForm version kind size spec
 
 -- The size has exactly one text in this unit by this spec.
-pub record HasOneAdjustedForm (edition : Edition) (kind : Kind) (size : ℕ) (unit : Shape) (spec : FormatSpec)
+pub record HasOneAdjustedForm (version : Version) (kind : Kind) (size : ℕ) (unit : Shape) (spec : FormatSpec)
     : Type 0 where
   pub form : List ℕ
-  pub is_form : IsAdjustedForm edition kind size unit spec form
-  pub one : (other : List ℕ) → IsAdjustedForm edition kind size unit spec other → other ≡ form
+  pub is_form : IsAdjustedFormIn version kind size unit spec form
+  pub one : (other : List ℕ) → IsAdjustedFormIn version kind size unit spec other → other ≡ form
 
 -- Every size has exactly one text in each unit by each spec.
 abbrev pub SizeHasOneAdjustedForm : Type 0
 SizeHasOneAdjustedForm =
-    (edition : Edition) (kind : Kind) (size : ℕ) (unit : Shape) (spec : FormatSpec)
-    → HasOneAdjustedForm edition kind size unit spec
+    (version : Version) (kind : Kind) (size : ℕ) (unit : Shape) (spec : FormatSpec)
+    → HasOneAdjustedForm version kind size unit spec
 
 -- What `Display` writes of a size by default, its digits, is its text by the plain spec.
 abbrev pub ShownSizeIsPlainForm : Type 0
-ShownSizeIsPlainForm = (edition : Edition) (kind : Kind) (size : ℕ) → IsText edition kind size PLAIN (decimal size)
+ShownSizeIsPlainForm = (version : Version) (kind : Kind) (size : ℕ) → IsTextIn version kind size PLAIN (decimal size)
 
 -- What `Display` writes of a size in a unit by default is its text in that unit by the plain spec.
 abbrev pub ShownAdjustedSizeIsPlainForm : Type 0
 ShownAdjustedSizeIsPlainForm =
-    (edition : Edition) (kind : Kind) (size : ℕ) (unit : UnitName)
-    → IsAdjustedForm edition kind size (shape_of unit) PLAIN (adjusted_text edition kind size (shape_of unit))
+    (version : Version) (kind : Kind) (size : ℕ) (unit : UnitName)
+    → IsAdjustedFormIn version kind size (shape_of unit) PLAIN (adjusted_text_in version kind size (shape_of unit))
 
 -- The least number of columns for a width: 0 if no width is set.
 abbrev pub least_columns : Option ℕ → ℕ
@@ -95,20 +95,20 @@ LayoutFillsWidth =
 
 -- The string of the adjusted size has at most 28 digits after the point, as many as a decimal keeps; that of the
 -- largest size always has.
-abbrev pub FitsDecimal : Edition → Kind → ℕ → Shape → Type 0
-FitsDecimal edition kind size unit =
-    IsGreatest edition size ⊎ IsExactAt (size * bits_in kind) (bits unit) places_of_decimal
+abbrev pub FitsDecimal : Version → Kind → ℕ → Shape → Type 0
+FitsDecimal version kind size unit =
+    IsGreatest version size ⊎ IsExactAt (size * bits_in kind) (bits unit) places_of_decimal
 
 -- The string is read as the size if it has at most 28 digits after the point, and is else rejected as too long.
-pub record ReadsBack (edition : Edition) (kind : Kind) (size : ℕ) (unit : Shape) (text : List ℕ) : Type 0 where
-  pub accepted : FitsDecimal edition kind size unit → IsAccepted edition kind false text size
-  pub refused : ¬ (FitsDecimal edition kind size unit) → IsRefused edition kind false text too_long
+pub record ReadsBack (version : Version) (kind : Kind) (size : ℕ) (unit : Shape) (text : List ℕ) : Type 0 where
+  pub accepted : FitsDecimal version kind size unit → IsAcceptedIn version kind false text size
+  pub refused : ¬ (FitsDecimal version kind size unit) → IsRejectedIn version kind false text too_long
 
 -- The string that an adjusted size is stored as is read as the size, or rejected as too long.
 abbrev pub AdjustedStringReadsBack : Type 0
 AdjustedStringReadsBack =
     (kind : Kind) (size : ℕ) (unit : UnitName) (text : List ℕ) → size < current.size_limit
-    → IsAdjustedString current kind size (shape_of unit) text → ReadsBack current kind size (shape_of unit) text
+    → IsAdjustedString kind size unit text → ReadsBack current kind size (shape_of unit) text
 
 -- A size in a unit takes as many digits after the point as its number of bits lacks factors of 2 or factors of 5 of the
 -- unit, whichever is more.

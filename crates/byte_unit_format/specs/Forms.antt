@@ -1,10 +1,10 @@
 -- The text of a size, with a unit or as digits.
 use Rattle.std.specs.Prelude.{◌≡◌, ℕ, ◌*◌, MatchBool, false, List, Option, None, Some}
-use Rattle.byte_unit_math.specs.Bounds.{one, places_of_decimal}
-use Rattle.byte_unit_math.specs.Numeral.{short}
+use Rattle.byte_unit_math.specs.Bounds.{scale, places_of_decimal}
+use Rattle.byte_unit_math.specs.Numeral.{short_numeral}
 use Rattle.byte_unit_base.specs.Shape.{Shape, bits}
-use Rattle.byte_unit_base.specs.Edition.{Edition, name}
-use Rattle.byte_unit_base.specs.Choice.{IsRecovered}
+use Rattle.byte_unit_base.specs.Version.{Version, unit_name_in, current}
+use Rattle.byte_unit_base.specs.Choice.{IsRecoveredIn}
 use Rattle.byte_unit_base.specs.declared.kind.Kind.{Kind}
 use Rattle.byte_unit_format.specs.declared.spec.FormatSpec.{FormatSpec}
 use Rattle.byte_unit_base.specs.Kinds.{bits_in}
@@ -22,18 +22,26 @@ places_of (Some precision) = precision
 
 -- The text is the size in a unit, without trailing zeros: in the largest unit of its own unit set that is at most the
 -- size and in which it is exact within the precision, or in bytes or bits themselves if there is none.
-pub record IsSizeForm (edition : Edition) (kind : Kind) (size : ℕ) (spec : FormatSpec) (text : List ℕ) : Type 0 where
+pub record IsSizeFormIn (version : Version) (kind : Kind) (size : ℕ) (spec : FormatSpec) (text : List ℕ) : Type 0 where
   pub unit : Shape
   -- the number of units, scaled by 10^28
   pub number : ℕ
-  pub is_recovered : IsRecovered edition kind false size (places_of spec.precision) unit
-  pub number_is : number * bits unit ≡ size * bits_in kind * one
-  pub text_is : text ≡ layout (short number places_of_decimal) (name edition unit) spec
+  pub is_recovered : IsRecoveredIn version kind false size (places_of spec.precision) unit
+  pub number_is : number * bits unit ≡ size * bits_in kind * scale
+  pub text_is : text ≡ layout (short_numeral number places_of_decimal) (unit_name_in version unit) spec
+
+-- The size formatted with a unit of the current version.
+abbrev pub IsSizeForm : Kind → ℕ → FormatSpec → List ℕ → Type 0
+IsSizeForm = IsSizeFormIn current
 
 -- The text of a size by a spec: with a unit if the alternate form is set, and else as digits.
-abbrev pub IsText : Edition → Kind → ℕ → FormatSpec → List ℕ → Type 0
-IsText edition kind size spec text =
-    MatchBool spec.alternate (IsSizeForm edition kind size spec text) (text ≡ plain size spec)
+abbrev pub IsTextIn : Version → Kind → ℕ → FormatSpec → List ℕ → Type 0
+IsTextIn version kind size spec text =
+    MatchBool spec.alternate (IsSizeFormIn version kind size spec text) (text ≡ plain size spec)
+
+-- The size formatted under the spec, with the units of the current version.
+abbrev pub IsText : Kind → ℕ → FormatSpec → List ℕ → Type 0
+IsText = IsTextIn current
 
 -- The most bytes of the text of a size if no width is set: 27 digits, the point, 5 digits, a space and `KiB`, as in
 -- 976562499999999999999999999.96875 KiB.

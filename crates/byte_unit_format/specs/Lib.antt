@@ -6,6 +6,6 @@ pub mod Adjusted
 pub mod AdjustedString
 pub mod Room
 pub mod Written
-pub mod Row
+pub mod TextParts
 pub mod FormLaws
 pub mod VersionLaws

@@ -18,9 +18,9 @@ abbrev pub signed_digits : ℕ → FormatSpec → List ℕ
 signed_digits size spec = plus_of spec.sign ++ decimal size
 
 -- The number of spaces that a text of this length lacks of the width; 0 if no width is set.
-abbrev pub missing : Option ℕ → ℕ → ℕ
-missing None len = 0
-missing (Some width) len = width - len
+abbrev pub padding_for : Option ℕ → ℕ → ℕ
+padding_for None len = 0
+padding_for (Some width) len = width - len
 
 -- A run of spaces.
 abbrev pub spaces : ℕ → List ℕ
@@ -28,19 +28,19 @@ spaces n = replicate n 32
 
 -- The number of padding spaces before the digits: all by default, as Rust's numbers are aligned to the right, and half
 -- of them, rounded down, if they are centered.
-abbrev pub before_plain : Option Align → ℕ → ℕ
-before_plain None pad = pad
-before_plain (Some Left) pad = 0
-before_plain (Some Center) pad = pad / 2
-before_plain (Some Right) pad = pad
+abbrev pub plain_left_padding : Option Align → ℕ → ℕ
+plain_left_padding None pad = pad
+plain_left_padding (Some Left) pad = 0
+plain_left_padding (Some Center) pad = pad / 2
+plain_left_padding (Some Right) pad = pad
 
 -- The number of padding spaces of a size formatted as digits.
 abbrev pub plain_padding : ℕ → FormatSpec → ℕ
-plain_padding size spec = missing spec.width (length (signed_digits size spec))
+plain_padding size spec = padding_for spec.width (length (signed_digits size spec))
 
 -- The digits of a size with their sign, padded to the width.
 abbrev pub plain : ℕ → FormatSpec → List ℕ
 plain size spec =
     let pad = plain_padding size spec in
-    let before = before_plain spec.align pad in
+    let before = plain_left_padding spec.align pad in
     spaces before ++ signed_digits size spec ++ spaces (pad - before)

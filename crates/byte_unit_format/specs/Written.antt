@@ -3,7 +3,7 @@ use Rattle.std.specs.Prelude.{◌≡◌, ℕ, ◌<◌, ◌≤◌, List, ◌++◌
 
 -- `needed` is the length of a text of this form in bytes. If the text fits, it is at the beginning of the buffer, and
 -- the bytes after it are unchanged; if it does not fit, all bytes are unchanged.
-pub record Writes (IsForm : List ℕ → Type 0) (old new : List ℕ) (needed : ℕ) : Type 0 where
+pub record WritesForm (IsForm : List ℕ → Type 0) (old new : List ℕ) (needed : ℕ) : Type 0 where
   pub form : List ℕ
   pub is_form : IsForm form
   pub needed_is : needed ≡ length form

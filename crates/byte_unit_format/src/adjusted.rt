@@ -4,15 +4,15 @@ ghost use Rattle.std.specs.Prelude.{◌≡◌, ℕ, ◌*◌, ◌<◌, ◌≤◌,
 ghost use Rattle.std.specs.Fmt.{DisplaysOnOk, DisplaysStyledOnOk};
 ghost use Rattle.byte_unit_math.specs.Finite.{IsExpansion};
 ghost use Rattle.byte_unit_math.specs.Numeral.{text_of};
-ghost use Rattle.byte_unit_math.specs.Padded.{padded};
+ghost use Rattle.byte_unit_math.specs.Padded.{pad_of};
 ghost use Rattle.byte_unit_base.specs.Shape.{bits};
-ghost use Rattle.byte_unit_base.specs.Edition.{current};
+ghost use Rattle.byte_unit_math.specs.Bounds.{size_limit};
 ghost use Rattle.byte_unit_base.specs.Units.{shape_of};
 ghost use Rattle.byte_unit_base.specs.Kinds.{bits_in};
-ghost use Rattle.byte_unit_format.specs.Room.{Appends};
-ghost use Rattle.byte_unit_format.specs.Written.{Writes};
+ghost use Rattle.byte_unit_format.specs.Room.{AppendsForm};
+ghost use Rattle.byte_unit_format.specs.Written.{WritesForm};
 ghost use Rattle.byte_unit_format.specs.Forms.{text_limit};
-ghost use Rattle.byte_unit_format.specs.Adjusted.{IsNumeralBy, rule_of, IsAdjustedForm, adjusted_text, is_single};
+ghost use Rattle.byte_unit_format.specs.Adjusted.{IsNumeralBy, rule_of, IsAdjustedForm, adjusted_text, has_no_prefix};
 
 use crate::layout::{append_layout, layout_len, write_layout};
 use crate::spec::FormatSpec;
@@ -46,8 +46,8 @@ struct Shown {
 /// assert_eq!(rt; adjusted_len(1536, Kind::Byte, Unit::KB, unset), "1.536 KB".len());
 /// ```
 pub fn adjusted_len(size: u128, kind: Kind, unit: Unit, spec: FormatSpec) -> usize
-    requires { size < current.size_limit }
-    ensures exact { (form : List ℕ) → IsAdjustedForm current kind size (shape_of unit) spec form
+    requires { size < size_limit }
+    ensures exact { (form : List ℕ) → IsAdjustedForm kind size unit spec form
         → result ≡ length form }
     ensures small { result < text_limit }
 {
@@ -86,8 +86,8 @@ pub fn append_adjusted<A: Allocator>(
     spec: FormatSpec,
     text: &mut String<A>,
 ) -> Result<(), AllocError>
-    requires { size < current.size_limit }
-    ensures { Appends (IsAdjustedForm current kind size (shape_of unit) spec) text.old text.new result }
+    requires { size < size_limit }
+    ensures { AppendsForm (IsAdjustedForm kind size unit spec) text.old text.new result }
 {
     let shown = rounded_in_unit(size, kind, unit, spec);
     append_layout(&shown.decimal, shown.places, unit, spec, text)
@@ -109,8 +109,8 @@ pub fn append_adjusted<A: Allocator>(
 /// assert!(rt; out == *b"1.536 KB.");
 /// ```
 pub fn write_adjusted(size: u128, kind: Kind, unit: Unit, spec: FormatSpec, out: &mut [u8]) -> usize
-    requires { size < current.size_limit }
-    ensures written { Writes (IsAdjustedForm current kind size (shape_of unit) spec) out.old out.new result }
+    requires { size < size_limit }
+    ensures written { WritesForm (IsAdjustedForm kind size unit spec) out.old out.new result }
     ensures small { result < text_limit }
 {
     let shown = rounded_in_unit(size, kind, unit, spec);
@@ -130,10 +130,10 @@ pub fn display_adjusted<W: fmt::Write>(
     unit: Unit,
     f: &mut fmt::Formatter<W>,
 ) -> fmt::Result
-    requires { size < current.size_limit }
-    ensures plain { let text = adjusted_text current kind size (shape_of unit) in
+    requires { size < size_limit }
+    ensures plain { let text = adjusted_text kind size unit in
         DisplaysOnOk W.write_str_gives f.old result (Some text) f.new }
-    ensures styled { let text = adjusted_text current kind size (shape_of unit) in
+    ensures styled { let text = adjusted_text kind size unit in
         DisplaysStyledOnOk W.write_str_gives f.old result (Some text) f.new }
 {
     number_in_unit(size, kind, unit).fmt(f)?;
@@ -143,10 +143,11 @@ pub fn display_adjusted<W: fmt::Write>(
 
 /// Returns the size in the unit, rounded as the spec says.
 fn rounded_in_unit(size: u128, kind: Kind, unit: Unit, spec: FormatSpec) -> Shown
-    requires { size < current.size_limit }
+    requires { size < size_limit }
     ensures number { let unit = shape_of unit in
-        let text = text_of (padded result.places result.decimal) in
-        IsNumeralBy (rule_of spec.precision spec.alternate unit) (size * bits_in kind) (bits unit) text }
+        let text = text_of (pad_of result.places result.decimal) in
+        IsNumeralBy (rule_of spec.precision spec.alternate unit) (size * bits_in kind)
+        (bits unit) text }
     ensures few { result.places ≤ u16.MAX }
 {
     let exact = number_in_unit(size, kind, unit);
@@ -172,7 +173,7 @@ fn rounded_in_unit(size: u128, kind: Kind, unit: Unit, spec: FormatSpec) -> Show
 /// Shows all digits of a decimal.
 #[tactic(auto, using(crate::proofs::WrittenForms::all_places))]
 fn all_places(decimal: Expansion) -> Shown
-    ensures text { text_of (padded result.places result.decimal) ≡ text_of decimal }
+    ensures text { text_of (pad_of result.places result.decimal) ≡ text_of decimal }
     ensures few { result.places ≤ u16.MAX }
 {
     let places = decimal.places();
@@ -194,7 +195,7 @@ fn all_places(decimal: Expansion) -> Shown
 /// assert_eq!(rt; number_in_unit(1, Kind::Bit, Unit::KB).places(), 6);
 /// ```
 pub fn number_in_unit(size: u128, kind: Kind, unit: Unit) -> Expansion
-    requires { size < current.size_limit }
+    requires { size < size_limit }
     ensures { IsExpansion (size * bits_in kind) (bits (shape_of unit)) result }
 {
     let (twos, fives) = unit.powers();
@@ -203,7 +204,7 @@ pub fn number_in_unit(size: u128, kind: Kind, unit: Unit) -> Expansion
 
 /// Returns whether the unit has no prefix.
 fn is_single(unit: Unit) -> bool
-    ensures { result ≡ is_single (shape_of unit) }
+    ensures { result ≡ has_no_prefix (shape_of unit) }
 {
     matches!(unit, Unit::Bit | Unit::B)
 }

@@ -2,7 +2,7 @@
 
 ghost use Rattle.std.specs.Prelude.{◌≡◌, ◌+◌, ◌≤◌, ◌<◌, [], ◌∷◌, ◌++◌, length, replicate, OnOk, OnErr, IsAscii};
 ghost use Rattle.std.specs.String.{string_bytes};
-ghost use Rattle.byte_unit_format.specs.Room.{spare};
+ghost use Rattle.byte_unit_format.specs.Room.{spare_capacity};
 
 use std::alloc::{AllocError, Allocator};
 use std::str;
@@ -14,10 +14,10 @@ const RUN: usize = 64;
 /// capacity suffices. If it fails, the string and its capacity are unchanged.
 pub(crate) fn reserve<A: Allocator>(text: &mut String<A>, len: usize) -> Result<(), AllocError>
     ensures bytes { string_bytes text.new ≡ string_bytes text.old }
-    ensures ok { OnOk result (len ≤ spare text.new) }
-    ensures no_less { OnOk result (spare text.old ≤ spare text.new) }
-    ensures kept { OnErr result (spare text.new ≡ spare text.old) }
-    ensures full { OnErr result (spare text.old < len) }
+    ensures ok { OnOk result (len ≤ spare_capacity text.new) }
+    ensures no_less { OnOk result (spare_capacity text.old ≤ spare_capacity text.new) }
+    ensures kept { OnErr result (spare_capacity text.new ≡ spare_capacity text.old) }
+    ensures full { OnErr result (spare_capacity text.old < len) }
 {
     text.try_reserve_exact(len)
 }
@@ -25,9 +25,9 @@ pub(crate) fn reserve<A: Allocator>(text: &mut String<A>, len: usize) -> Result<
 /// Appends ASCII bytes.
 pub(crate) fn push_ascii<A: Allocator>(text: &mut String<A>, ascii: &[u8])
     requires ascii { IsAscii ascii.now }
-    requires room { length ascii.now ≤ spare text.old }
+    requires room { length ascii.now ≤ spare_capacity text.old }
     ensures bytes { string_bytes text.new ≡ string_bytes text.old ++ ascii.now }
-    ensures spare { spare text.old ≤ spare text.new + length ascii.now }
+    ensures spare { spare_capacity text.old ≤ spare_capacity text.new + length ascii.now }
 {
     text.push_str(unsafe { str::from_utf8_unchecked(ascii) })
         .unwrap();
@@ -36,9 +36,9 @@ pub(crate) fn push_ascii<A: Allocator>(text: &mut String<A>, ascii: &[u8])
 /// Appends an ASCII character.
 pub(crate) fn push<A: Allocator>(text: &mut String<A>, c: char)
     requires ascii { c < 128 }
-    requires room { 1 ≤ spare text.old }
+    requires room { 1 ≤ spare_capacity text.old }
     ensures bytes { string_bytes text.new ≡ string_bytes text.old ++ c ∷ [] }
-    ensures spare { spare text.old ≤ spare text.new + 1 }
+    ensures spare { spare_capacity text.old ≤ spare_capacity text.new + 1 }
 {
     text.push(c).unwrap();
 }
@@ -46,9 +46,9 @@ pub(crate) fn push<A: Allocator>(text: &mut String<A>, c: char)
 /// Appends `count` copies of an ASCII character.
 pub(crate) fn push_run<A: Allocator>(text: &mut String<A>, byte: u8, count: usize)
     requires ascii { byte < 128 }
-    requires room { count ≤ spare text.old }
+    requires room { count ≤ spare_capacity text.old }
     ensures bytes { string_bytes text.new ≡ string_bytes text.old ++ replicate count byte }
-    ensures spare { spare text.old ≤ spare text.new + count }
+    ensures spare { spare_capacity text.old ≤ spare_capacity text.new + count }
 {
     if count == 0 {
         return;

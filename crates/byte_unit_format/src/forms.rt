@@ -1,10 +1,10 @@
 //! Formatting of a size: digits only, or with a unit.
 
 ghost use Rattle.std.specs.Prelude.{◌≡◌, ℕ, ◌<◌, ◌≤◌, List, length};
-ghost use Rattle.byte_unit_base.specs.Edition.{current};
-ghost use Rattle.byte_unit_format.specs.Room.{Appends};
-ghost use Rattle.byte_unit_format.specs.Row.{IsReady, row_text};
-ghost use Rattle.byte_unit_format.specs.Written.{Writes};
+ghost use Rattle.byte_unit_math.specs.Bounds.{size_limit};
+ghost use Rattle.byte_unit_format.specs.Room.{AppendsForm};
+ghost use Rattle.byte_unit_format.specs.TextParts.{IsReady, parts_text};
+ghost use Rattle.byte_unit_format.specs.Written.{WritesForm};
 ghost use Rattle.byte_unit_format.specs.Forms.{IsText, narrow_text, text_limit};
 
 use crate::layout::layout_parts;
@@ -22,8 +22,8 @@ const DEFAULT_PRECISION: usize = 3;
 ///
 /// Precondition (proved at every call): the size is below 10^30.
 pub fn text_len(size: u128, kind: Kind, spec: FormatSpec) -> usize
-    requires { size < current.size_limit }
-    ensures exact { (form : List ℕ) → IsText current kind size spec form → result ≡ length form }
+    requires { size < size_limit }
+    ensures exact { (form : List ℕ) → IsText kind size spec form → result ≡ length form }
     ensures small { result < text_limit }
     ensures narrow { spec.width ≡ None → result ≤ narrow_text }
 {
@@ -58,8 +58,8 @@ pub fn append_text<A: Allocator>(
     spec: FormatSpec,
     text: &mut String<A>,
 ) -> Result<(), AllocError>
-    requires { size < current.size_limit }
-    ensures { Appends (IsText current kind size spec) text.old text.new result }
+    requires { size < size_limit }
+    ensures { AppendsForm (IsText kind size spec) text.old text.new result }
 {
     text_parts(size, kind, spec).append(text)
 }
@@ -81,8 +81,8 @@ pub fn append_text<A: Allocator>(
 /// ```
 #[inline(always)]
 pub fn write_text(size: u128, kind: Kind, spec: FormatSpec, out: &mut [u8]) -> usize
-    requires { size < current.size_limit }
-    ensures written { Writes (IsText current kind size spec) out.old out.new result }
+    requires { size < size_limit }
+    ensures written { WritesForm (IsText kind size spec) out.old out.new result }
     ensures small { result < text_limit }
     ensures narrow { spec.width ≡ None → result ≤ narrow_text }
 {
@@ -92,9 +92,9 @@ pub fn write_text(size: u128, kind: Kind, spec: FormatSpec, out: &mut [u8]) -> u
 /// Returns the parts of a formatted size. In the alternate form all digits of the number are shown.
 #[inline(always)]
 fn text_parts(size: u128, kind: Kind, spec: FormatSpec) -> TextParts<'static>
-    requires { size < current.size_limit }
-    ensures text { IsText current kind size spec (row_text result) }
-    ensures len { result.len ≡ length (row_text result) }
+    requires { size < size_limit }
+    ensures text { IsText kind size spec (parts_text result) }
+    ensures len { result.len ≡ length (parts_text result) }
     ensures small { result.len < text_limit }
     ensures ready { IsReady result }
 {

@@ -2,12 +2,11 @@
 
 ghost use Rattle.std.specs.Prelude.{◌≡◌, ◌+◌, ◌≤◌, ◌++◌, length, max};
 ghost use Rattle.std.specs.Fmt.{decimal};
-ghost use Rattle.byte_unit_base.specs.Edition.{name, current};
-ghost use Rattle.byte_unit_base.specs.Units.{shape_of};
-ghost use Rattle.byte_unit_format.specs.Room.{Appends};
+ghost use Rattle.byte_unit_base.specs.Version.{unit_name};
+ghost use Rattle.byte_unit_format.specs.Room.{AppendsForm};
 ghost use Rattle.byte_unit_format.specs.Layout.{layout, layout_of};
-ghost use Rattle.byte_unit_format.specs.Row.{fraction_of, places_in, IsShort, IsReady, row_text};
-ghost use Rattle.byte_unit_format.specs.Written.{Writes};
+ghost use Rattle.byte_unit_format.specs.TextParts.{fraction_of, places_in, FitsPlaces, IsReady, parts_text};
+ghost use Rattle.byte_unit_format.specs.Written.{WritesForm};
 
 use crate::parts::{Fraction, TextParts};
 use crate::plain::padding;
@@ -18,7 +17,7 @@ use std::alloc::{AllocError, Allocator};
 
 /// Returns the length in bytes of a decimal with `places` digits after the point and its unit. Does not allocate.
 pub fn layout_len(e: &Expansion, places: u32, unit: Unit, spec: FormatSpec) -> usize
-    ensures exact { result ≡ length (layout_of current e.now places (shape_of unit) spec) }
+    ensures exact { result ≡ length (layout_of e.now places unit spec) }
     // The integer part, the point and the unit with its spaces take at most 44 columns.
     ensures small { result ≤ max u16.MAX (places + 44) }
 {
@@ -54,7 +53,8 @@ pub fn append_layout<A: Allocator>(
     spec: FormatSpec,
     text: &mut String<A>,
 ) -> Result<(), AllocError>
-    ensures { Appends (λ form. form ≡ layout_of current e.now places (shape_of unit) spec) text.old text.new result }
+    ensures { AppendsForm (λ form. form
+        ≡ layout_of e.now places unit spec) text.old text.new result }
 {
     layout_parts(e.whole(), Fraction::First(e, places), unit, spec).append(text)
 }
@@ -68,8 +68,8 @@ pub fn write_layout(
     spec: FormatSpec,
     out: &mut [u8],
 ) -> usize
-    ensures written { let text = layout_of current e.now places (shape_of unit) spec in
-        Writes (λ form. form ≡ text) out.old out.new result }
+    ensures written { let text = layout_of e.now places unit spec in
+        WritesForm (λ form. form ≡ text) out.old out.new result }
     ensures small { result ≤ max u16.MAX (places + 44) }
 {
     layout_parts(e.whole(), Fraction::First(e, places), unit, spec).write(out)
@@ -84,10 +84,10 @@ pub(crate) fn layout_parts<'a>(
     unit: Unit,
     spec: FormatSpec,
 ) -> TextParts<'a>
-    requires short { IsShort fraction }
+    requires short { FitsPlaces fraction }
     ensures text { let number = decimal whole ++ fraction_of fraction.entry in
-        row_text result ≡ layout number (name current (shape_of unit)) spec }
-    ensures len { result.len ≡ length (row_text result) }
+        parts_text result ≡ layout number (unit_name unit) spec }
+    ensures len { result.len ≡ length (parts_text result) }
     ensures small { result.len ≤ max u16.MAX (places_in fraction.entry + 44) }
     ensures ready { IsReady result }
 {

@@ -5,10 +5,10 @@ ghost use Rattle.std.specs.String.{string_bytes};
 ghost use Rattle.byte_unit_math.specs.Bounds.{places_of_decimal};
 ghost use Rattle.byte_unit_math.specs.Digits.{last_digits};
 ghost use Rattle.byte_unit_math.specs.Numeral.{fraction_text};
-ghost use Rattle.byte_unit_math.specs.Padded.{padded};
-ghost use Rattle.byte_unit_format.specs.Room.{spare, Appends};
-ghost use Rattle.byte_unit_format.specs.Row.{fraction_of, places_in, IsShort, IsReady, row_text};
-ghost use Rattle.byte_unit_format.specs.Written.{Writes};
+ghost use Rattle.byte_unit_math.specs.Padded.{pad_of};
+ghost use Rattle.byte_unit_format.specs.Room.{spare_capacity, AppendsForm};
+ghost use Rattle.byte_unit_format.specs.TextParts.{fraction_of, places_in, FitsPlaces, IsReady, parts_text};
+ghost use Rattle.byte_unit_format.specs.Written.{WritesForm};
 
 use crate::capacity::{push, push_ascii, push_run, reserve};
 use crate::put::{put, put_run};
@@ -47,9 +47,9 @@ impl TextParts<'_> {
     /// Writes the parts to the beginning of `out` if they fit, and returns their length.
     #[inline(always)]
     pub(crate) fn write(&self, out: &mut [u8]) -> usize
-        requires len { self.now.len ≡ length (row_text self.now) }
+        requires len { self.now.len ≡ length (parts_text self.now) }
         requires ready { IsReady self.now }
-        ensures written { Writes (λ form. form ≡ row_text self.now) out.old out.new result }
+        ensures written { WritesForm (λ form. form ≡ parts_text self.now) out.old out.new result }
         ensures len { result ≡ self.now.len }
     {
         if self.len <= out.len() {
@@ -60,9 +60,9 @@ impl TextParts<'_> {
 
     /// Appends the parts to a string. Allocates at most once, before it writes.
     pub(crate) fn append<A: Allocator>(&self, text: &mut String<A>) -> Result<(), AllocError>
-        requires len { self.now.len ≡ length (row_text self.now) }
+        requires len { self.now.len ≡ length (parts_text self.now) }
         requires ready { IsReady self.now }
-        ensures { Appends (λ form. form ≡ row_text self.now) text.old text.new result }
+        ensures { AppendsForm (λ form. form ≡ parts_text self.now) text.old text.new result }
     {
         reserve(text, self.len)?;
         if self.len <= BUFFER_LEN {
@@ -75,11 +75,12 @@ impl TextParts<'_> {
 
     /// Appends the parts by one copy from a buffer on the stack.
     fn push_whole<A: Allocator>(&self, text: &mut String<A>)
-        requires few { length (row_text self.now) ≤ BUFFER_LEN }
+        requires few { length (parts_text self.now) ≤ BUFFER_LEN }
         requires ready { IsReady self.now }
-        requires room { length (row_text self.now) ≤ spare text.old }
-        ensures bytes { string_bytes text.new ≡ string_bytes text.old ++ row_text self.now }
-        ensures spare { spare text.old ≤ spare text.new + length (row_text self.now) }
+        requires room { length (parts_text self.now) ≤ spare_capacity text.old }
+        ensures bytes { string_bytes text.new ≡ string_bytes text.old ++ parts_text self.now }
+        ensures spare { spare_capacity text.old
+            ≤ spare_capacity text.new + length (parts_text self.now) }
     {
         let mut bytes = [0; BUFFER_LEN];
         let start = self.put(&mut bytes, BUFFER_LEN);
@@ -89,9 +90,10 @@ impl TextParts<'_> {
     /// Appends the parts one after another.
     fn push_parts<A: Allocator>(&self, text: &mut String<A>)
         requires ready { IsReady self.now }
-        requires room { length (row_text self.now) ≤ spare text.old }
-        ensures bytes { string_bytes text.new ≡ string_bytes text.old ++ row_text self.now }
-        ensures spare { spare text.old ≤ spare text.new + length (row_text self.now) }
+        requires room { length (parts_text self.now) ≤ spare_capacity text.old }
+        ensures bytes { string_bytes text.new ≡ string_bytes text.old ++ parts_text self.now }
+        ensures spare { spare_capacity text.old
+            ≤ spare_capacity text.new + length (parts_text self.now) }
     {
         push_run(text, b' ', self.before);
         text.push_str(self.sign).unwrap();
@@ -104,12 +106,12 @@ impl TextParts<'_> {
     /// Writes the parts so that they end before the index `end`, and returns the index where they begin.
     #[inline(always)]
     fn put(&self, out: &mut [u8], end: usize) -> usize
-        requires room { length (row_text self.now) ≤ end }
+        requires room { length (parts_text self.now) ≤ end }
         requires within { end ≤ length out.old }
         requires ready { IsReady self.now }
-        ensures begins { result + length (row_text self.now) ≡ end }
-        ensures bytes { drop result out.new ≡ row_text self.now ++ drop end out.old }
-        ensures ascii { IsAscii (row_text self.now) }
+        ensures begins { result + length (parts_text self.now) ≡ end }
+        ensures bytes { drop result out.new ≡ parts_text self.now ++ drop end out.old }
+        ensures ascii { IsAscii (parts_text self.now) }
     {
         let name = put(self.name.as_bytes(), out, end);
         let behind = put_run(b' ', self.after, out, name);
@@ -137,10 +139,11 @@ impl Fraction<'_> {
 
     /// Appends the point and the digits.
     fn push<A: Allocator>(&self, text: &mut String<A>)
-        requires short { IsShort self.now }
-        requires room { length (fraction_of self.now) ≤ spare text.old }
+        requires short { FitsPlaces self.now }
+        requires room { length (fraction_of self.now) ≤ spare_capacity text.old }
         ensures bytes { string_bytes text.new ≡ string_bytes text.old ++ fraction_of self.now }
-        ensures spare { spare text.old ≤ spare text.new + length (fraction_of self.now) }
+        ensures spare { spare_capacity text.old
+            ≤ spare_capacity text.new + length (fraction_of self.now) }
     {
         match self {
             Fraction::Last(digits, places) => push_last(text, *digits, *places),
@@ -153,7 +156,7 @@ impl Fraction<'_> {
     fn put(&self, out: &mut [u8], end: usize) -> usize
         requires room { length (fraction_of self.now) ≤ end }
         requires within { end ≤ length out.old }
-        requires short { IsShort self.now }
+        requires short { FitsPlaces self.now }
         ensures begins { result + length (fraction_of self.now) ≡ end }
         ensures bytes { drop result out.new ≡ fraction_of self.now ++ drop end out.old }
         ensures ascii { IsAscii (fraction_of self.now) }
@@ -167,11 +170,12 @@ impl Fraction<'_> {
 
 /// Writes the point and `places` digits of an expansion, or nothing if `places` is 0.
 fn put_first(e: &Expansion, places: u32, out: &mut [u8], end: usize) -> usize
-    requires room { length (fraction_text (padded places e.now).digits) ≤ end }
+    requires room { length (fraction_text (pad_of places e.now).digits) ≤ end }
     requires within { end ≤ length out.old }
-    ensures begins { result + length (fraction_text (padded places e.now).digits) ≡ end }
-    ensures bytes { drop result out.new ≡ fraction_text (padded places e.now).digits ++ drop end out.old }
-    ensures ascii { IsAscii (fraction_text (padded places e.now).digits) }
+    ensures begins { result + length (fraction_text (pad_of places e.now).digits) ≡ end }
+    ensures bytes { drop result out.new
+        ≡ fraction_text (pad_of places e.now).digits ++ drop end out.old }
+    ensures ascii { IsAscii (fraction_text (pad_of places e.now).digits) }
 {
     if places == 0 {
         return end;
@@ -185,9 +189,11 @@ fn put_first(e: &Expansion, places: u32, out: &mut [u8], end: usize) -> usize
 /// Appends the point and the last `places` digits of a number.
 fn push_last<A: Allocator>(text: &mut String<A>, digits: u128, places: u32)
     requires short { (places ≤ places_of_decimal) × (digits < 10 ^ places) }
-    requires room { length (fraction_text (last_digits places digits)) ≤ spare text.old }
-    ensures bytes { string_bytes text.new ≡ string_bytes text.old ++ fraction_text (last_digits places digits) }
-    ensures spare { spare text.old ≤ spare text.new + length (fraction_text (last_digits places digits)) }
+    requires room { length (fraction_text (last_digits places digits)) ≤ spare_capacity text.old }
+    ensures bytes { string_bytes text.new
+        ≡ string_bytes text.old ++ fraction_text (last_digits places digits) }
+    ensures spare { spare_capacity text.old
+        ≤ spare_capacity text.new + length (fraction_text (last_digits places digits)) }
 {
     let mut bytes = [0; BUFFER_LEN];
     let start = put_fraction(digits, places, &mut bytes, BUFFER_LEN);
@@ -197,9 +203,11 @@ fn push_last<A: Allocator>(text: &mut String<A>, digits: u128, places: u32)
 /// Appends the point and `places` digits of an expansion, or nothing if `places` is 0.
 #[tactic(auto, using(crate::proofs::WrittenForms::fraction_length))]
 fn push_first<A: Allocator>(text: &mut String<A>, e: &Expansion, places: u32)
-    requires room { length (fraction_text (padded places e.now).digits) ≤ spare text.old }
-    ensures bytes { string_bytes text.new ≡ string_bytes text.old ++ fraction_text (padded places e.now).digits }
-    ensures spare { spare text.old ≤ spare text.new + length (fraction_text (padded places e.now).digits) }
+    requires room { length (fraction_text (pad_of places e.now).digits) ≤ spare_capacity text.old }
+    ensures bytes { string_bytes text.new
+        ≡ string_bytes text.old ++ fraction_text (pad_of places e.now).digits }
+    ensures spare { spare_capacity text.old
+        ≤ spare_capacity text.new + length (fraction_text (pad_of places e.now).digits) }
 {
     if places > 0 {
         let shown = places.min(e.places()) as usize;

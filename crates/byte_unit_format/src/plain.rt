@@ -1,10 +1,10 @@
 //! Formatting of a whole number: digits only.
 
 ghost use Rattle.std.specs.Prelude.{◌≡◌, ◌+◌, ◌≤◌, length, max};
-ghost use Rattle.byte_unit_format.specs.Room.{Appends};
-ghost use Rattle.byte_unit_format.specs.Plain.{plain, missing};
-ghost use Rattle.byte_unit_format.specs.Row.{IsReady, row_text};
-ghost use Rattle.byte_unit_format.specs.Written.{Writes};
+ghost use Rattle.byte_unit_format.specs.Room.{AppendsForm};
+ghost use Rattle.byte_unit_format.specs.Plain.{plain, padding_for};
+ghost use Rattle.byte_unit_format.specs.TextParts.{IsReady, parts_text};
+ghost use Rattle.byte_unit_format.specs.Written.{WritesForm};
 
 use crate::parts::{Fraction, TextParts};
 use crate::spec::{Align, FormatSpec, Sign};
@@ -41,7 +41,7 @@ pub fn append_plain<A: Allocator>(
     spec: FormatSpec,
     text: &mut String<A>,
 ) -> Result<(), AllocError>
-    ensures { Appends (λ form. form ≡ plain size spec) text.old text.new result }
+    ensures { AppendsForm (λ form. form ≡ plain size spec) text.old text.new result }
 {
     plain_parts(size, spec).append(text)
 }
@@ -49,7 +49,7 @@ pub fn append_plain<A: Allocator>(
 /// Writes what `append_plain` appends to the beginning of `out`, and returns its length. Writes nothing if it does not
 /// fit. Does not allocate.
 pub fn write_plain(size: u128, spec: FormatSpec, out: &mut [u8]) -> usize
-    ensures written { Writes (λ form. form ≡ plain size spec) out.old out.new result }
+    ensures written { WritesForm (λ form. form ≡ plain size spec) out.old out.new result }
     ensures small { result ≤ u16.MAX }
 {
     plain_parts(size, spec).write(out)
@@ -58,7 +58,7 @@ pub fn write_plain(size: u128, spec: FormatSpec, out: &mut [u8]) -> usize
 /// Returns the parts of a number's digits with their sign and padding.
 #[inline(always)]
 pub(crate) fn plain_parts(size: u128, spec: FormatSpec) -> TextParts<'static>
-    ensures text { row_text result ≡ plain size spec }
+    ensures text { parts_text result ≡ plain size spec }
     ensures len { result.len ≡ length (plain size spec) }
     ensures small { result.len ≤ u16.MAX }
     ensures ready { IsReady result }
@@ -88,7 +88,7 @@ pub(crate) fn plain_parts(size: u128, spec: FormatSpec) -> TextParts<'static>
 /// Returns the padding needed to reach the requested width.
 #[inline(always)]
 pub(crate) fn padding(columns: usize, width: Option<u16>) -> usize
-    ensures exact { result ≡ missing width columns }
+    ensures exact { result ≡ padding_for width columns }
     ensures small { result + columns ≤ max u16.MAX columns }
 {
     match width {

@@ -7,12 +7,11 @@ use Rattle.std.specs.Prelude.{⊤}
 use Rattle.std.specs.Str.{IsUtf8}
 use Rattle.std.proofs.lemmas.List.{length-append, length-take, length-drop, take_at, take_more_set}
 use borrow.Rule.Slice.PartMut.{put_mid}
-use Rattle.byte_unit.specs.Accepted.{IsAccepted, IsRefused}
-use Rattle.byte_unit.specs.Edition.{current}
+use Rattle.byte_unit.specs.Accepted.{IsAccepted, IsRejected}
 use Rattle.byte_unit.specs.Fault.{Fault}
 use Rattle.byte_unit.specs.Forms.{IsText, narrow_text}
 use Rattle.byte_unit.specs.NamedSpecs.{plain_spec, alternate_spec}
-use Rattle.byte_unit.specs.Written.{Writes}
+use Rattle.byte_unit.specs.Written.{WritesForm}
 use Rattle.byte_unit_lines.specs.Answer.{Kind, IsAnswer, words_of, not_text, size, rejected}
 use Rattle.byte_unit_lines.specs.Progress.{AddsAnswer}
 
@@ -24,13 +23,13 @@ AddsAnswer-if_ok kind line (Err _) old added new is_answer is_added = tt
 
 -- the bytes are the digits of a size, ` = `, the size with a unit, and the line end
 pub record HasParts (kind : Kind) (number : ℕ) (digits form all : List ℕ) : Type 0 where
-  pub is_digits : IsText current kind number plain_spec digits
-  pub is_form : IsText current kind number alternate_spec form
+  pub is_digits : IsText kind number plain_spec digits
+  pub is_form : IsText kind number alternate_spec form
   pub put : all ≡ ((digits ++ codes " = ") ++ form) ++ 10 ∷ []
 
 -- they are the answer to a line that is accepted as this size
 pub answer_with_size :
-    {kind : Kind} {number : ℕ} {digits form all : List ℕ} (line : List ℕ) → IsUtf8 line → IsAccepted current kind false line number
+    {kind : Kind} {number : ℕ} {digits form all : List ℕ} (line : List ℕ) → IsUtf8 line → IsAccepted kind false line number
     → HasParts kind number digits form all → IsAnswer kind line all
 answer_with_size {kind} {number} {digits} {form} {all} line is_text is_accepted parts = record {
   message = digits ++ codes " = " ++ form;
@@ -47,7 +46,7 @@ answer_with_size {kind} {number} {digits} {form} {all} line is_text is_accepted 
 }
 
 -- the words for a parse error and a line end are the answer to a line that has this error
-pub answer_with_error : (kind : Kind) (line : List ℕ) (fault : Fault) (all : List ℕ) → IsUtf8 line → IsRefused current kind false line fault
+pub answer_with_error : (kind : Kind) (line : List ℕ) (fault : Fault) (all : List ℕ) → IsUtf8 line → IsRejected kind false line fault
     → all ≡ words_of fault ++ 10 ∷ [] → IsAnswer kind line all
 answer_with_error kind line fault all is_text is_refused put =
     record { message = words_of fault; is_message = rejected fault is_text is_refused refl; ended = put }
@@ -70,7 +69,7 @@ take-put_after at end old front form rest behind front_is within end_is =
     ∙ take_at (take at old ++ form) (rest ++ behind) end long))
 
 -- a form that is written to a buffer that has capacity for it begins the buffer, whose length stays
-module _ {IsForm : List ℕ → Type 0} {old new : List ℕ} {count : ℕ} (wrote : Writes IsForm old new count) (room : count ≤ length old) where
+module _ {IsForm : List ℕ → Type 0} {old new : List ℕ} {count : ℕ} (wrote : WritesForm IsForm old new count) (room : count ≤ length old) where
   written_is : new ≡ wrote.form ++ drop (length wrote.form) old
   written_is = wrote.fits (omega (arith, wrote.needed_is, room))
 
@@ -113,8 +112,8 @@ answer_room = 2 * narrow_text + 4
 -- the digits, ` = `, the size with a unit and the line end, written to the buffer one after another, are these parts
 pub HasParts-put :
     (kind : Kind) (number : ℕ) {blank first sign second : List ℕ} {few many : ℕ}
-    (digits : Writes (IsText current kind number plain_spec) blank first few) → few ≤ narrow_text → sign ≡ codes " = "
-    → (form : Writes (IsText current kind number alternate_spec)
+    (digits : WritesForm (IsText kind number plain_spec) blank first few) → few ≤ narrow_text → sign ≡ codes " = "
+    → (form : WritesForm (IsText kind number alternate_spec)
     (take (answer_room - (few + 3)) (drop (few + 3) (put_mid few (few + 3 - few) first sign))) second many)
     → many ≤ narrow_text → length blank ≡ answer_room
     → HasParts kind number digits.form form.form

@@ -7,16 +7,16 @@ use Rattle.byte_unit_lines.specs.Answer.{Kind, ShowsSize, IsMessageFor, IsAnswer
 use Rattle.byte_unit_lines.specs.Laws.{EachLineHasAnAnswer, HasOneReport}
 use Rattle.byte_unit_lines.specs.Lines.{lines_of}
 use Rattle.byte_unit_lines.specs.Report.{AreAnswers}
-use Rattle.byte_unit.specs.Accepted.{IsAccepted, IsRefused}
-use Rattle.byte_unit.specs.Edition.{current}
+use Rattle.byte_unit.specs.Accepted.{IsAccepted, IsRejected}
+use Rattle.byte_unit.specs.Version.{current}
 use Rattle.byte_unit.specs.Fault.{Fault}
 use Rattle.byte_unit.specs.FormLaws.{SizeHasOneForm}
 use Rattle.byte_unit.specs.NamedSpecs.{plain_spec, alternate_spec}
 use Rattle.byte_unit.specs.Plain.{plain}
-use Rattle.byte_unit.specs.SizeLaws.{TextsAreAcceptedOrRefused}
+use Rattle.byte_unit.specs.SizeLaws.{TextsAreAcceptedOrRejected}
 use Rattle.byte_unit_lines.proofs.Answering.{lines_have_answers}
 
-module _ (texts : TextsAreAcceptedOrRefused) (forms : SizeHasOneForm) (kind : Kind) where
+module _ (texts : TextsAreAcceptedOrRejected) (forms : SizeHasOneForm) (kind : Kind) where
   -- each size has a message
   size_has_message : (number : ℕ) → (said : List ℕ) × ShowsSize kind number said
   size_has_message number =
@@ -43,7 +43,7 @@ module _ (texts : TextsAreAcceptedOrRefused) (forms : SizeHasOneForm) (kind : Ki
 
   -- each string that is accepted or rejected has a message
   text_has_message : (text : List ℕ) → IsUtf8 text
-      → ((number : ℕ) × IsAccepted current kind false text number) ⊎ ((fault : Fault) × IsRefused current kind false text fault)
+      → ((number : ℕ) × IsAccepted kind false text number) ⊎ ((fault : Fault) × IsRejected kind false text fault)
       → (said : List ℕ) × IsMessageFor kind text said
   text_has_message text is_text (inl (number, is_accepted)) =
       let says = size_has_message number in (says.0, size number is_text is_accepted says.1)

@@ -8,32 +8,32 @@ use Rattle.std.proofs.lemmas.Nat.{pow-add, mod-mul-add, mod_below}
 use Rattle.std.proofs.lemmas.List.{length-replicate}
 use Rattle.std.proofs.lemmas.List.Elements.{All-nil, All-cons, All-head, All-tail}
 use Rattle.std.proofs.lemmas.List.Sums.{fold-append}
-use Rattle.byte_unit_math.specs.Finite.{Finite, value_of, scaled}
-use Rattle.byte_unit_math.specs.Digits.{last_digits, at_places, before, without_zeros, shortened}
+use Rattle.byte_unit_math.specs.Finite.{Finite, value_of_digits, ulps_of}
+use Rattle.byte_unit_math.specs.Digits.{last_digits, at_places, prepend_digit, trim_zeros, trim_expansion}
 
 -- A power of ten is at least 1.
 pub one_le_pow10 : (p : ℕ) → 1 ≤ 10 ^ p
 one_le_pow10 p = one-le-pow p 10 (omega arith)
 
 -- Appending digits to a number n multiplies it by ten for each of them and adds their value.
-pub fold_digits_from : (n : ℕ) (ds : List ℕ) → fold (λ n d. n * 10 + d) n ds ≡ n * 10 ^ length ds + value_of ds
+pub fold_digits_from : (n : ℕ) (ds : List ℕ) → fold (λ n d. n * 10 + d) n ds ≡ n * 10 ^ length ds + value_of_digits ds
 fold_digits_from n [] = omega arith
 fold_digits_from n (d ∷ ds) = rw (pow-succ' 10 (length ds))
     (omega (arith, fold_digits_from (n * 10 + d) ds, fold_digits_from (0 * 10 + d) ds))
 
 -- A first digit counts as often as the power of ten of the digits after it.
-pub value_cons : (d : ℕ) (ds : List ℕ) → value_of (d ∷ ds) ≡ d * 10 ^ length ds + value_of ds
+pub value_cons : (d : ℕ) (ds : List ℕ) → value_of_digits (d ∷ ds) ≡ d * 10 ^ length ds + value_of_digits ds
 value_cons d ds = omega (arith, fold_digits_from (0 * 10 + d) ds)
 
-pub value_zeros : (k : ℕ) → value_of (replicate k 0) ≡ 0
+pub value_zeros : (k : ℕ) → value_of_digits (replicate k 0) ≡ 0
 value_zeros zero = refl
 value_zeros (suc k) = value_zeros k
 
 -- k trailing zeros multiply the value of digits by 10^k.
-pub value_append_zeros : (ds : List ℕ) (k : ℕ) → value_of (ds ++ replicate k 0) ≡ value_of ds * 10 ^ k
+pub value_append_zeros : (ds : List ℕ) (k : ℕ) → value_of_digits (ds ++ replicate k 0) ≡ value_of_digits ds * 10 ^ k
 value_append_zeros ds k =
     fold-append (λ n d. n * 10 + d) 0 ds (replicate k 0)
-    ∙ (fold_digits_from (value_of ds) (replicate k 0) ∙ rw (length-replicate {A = ℕ} k 0, value_zeros k) (omega arith))
+    ∙ (fold_digits_from (value_of_digits ds) (replicate k 0) ∙ rw (length-replicate {A = ℕ} k 0, value_zeros k) (omega arith))
 
 -- The last p digits of a number are p digits.
 pub length_last_digits : (p q : ℕ) → length (last_digits p q) ≡ p
@@ -61,7 +61,7 @@ mod_next_power q power one =
     ∙ mod-mul-add (q / power / 10) (10 * power) (q / power % 10 * power + q % power) few
 
 -- The last p digits of q represent the remainder of q by 10^p.
-pub value_of_last_digits : (p q : ℕ) → value_of (last_digits p q) ≡ q % 10 ^ p
+pub value_of_last_digits : (p q : ℕ) → value_of_digits (last_digits p q) ≡ q % 10 ^ p
 value_of_last_digits zero q = omega arith
 value_of_last_digits (suc p) q =
     value_cons (q / 10 ^ p % 10) (last_digits p q)
@@ -69,7 +69,7 @@ value_of_last_digits (suc p) q =
     (sym (mod_next_power q (10 ^ p) (one_le_pow10 p)))
 
 -- q / 10^p with p digits after the point, times 10^p, is q.
-pub scaled_at_places : (p q : ℕ) → scaled (at_places p q) ≡ q
+pub scaled_at_places : (p q : ℕ) → ulps_of (at_places p q) ≡ q
 scaled_at_places p q = rw (length_last_digits p q, value_of_last_digits p q) (omega (arith, one_le_pow10 p))
 
 -- `ds` is `front` with trailing zeros.
@@ -77,53 +77,53 @@ pub record HasTrailingZeros (ds front : List ℕ) : Type 0 where
   pub zeros : ℕ
   pub list_is : ds ≡ front ++ replicate zeros 0
 
-HasTrailingZeros-prepend : (d : ℕ) (es ds : List ℕ) → HasTrailingZeros ds es → HasTrailingZeros (d ∷ ds) (before d es)
+HasTrailingZeros-prepend : (d : ℕ) (es ds : List ℕ) → HasTrailingZeros ds es → HasTrailingZeros (d ∷ ds) (prepend_digit d es)
 HasTrailingZeros-prepend zero [] ds h = record { zeros = suc h.zeros; list_is = ap (λ l. zero ∷ l) h.list_is }
 HasTrailingZeros-prepend (suc d) [] ds h = record { zeros = h.zeros; list_is = ap (λ l. suc d ∷ l) h.list_is }
 HasTrailingZeros-prepend zero (e ∷ es) ds h = record { zeros = h.zeros; list_is = ap (λ l. zero ∷ l) h.list_is }
 HasTrailingZeros-prepend (suc d) (e ∷ es) ds h = record { zeros = h.zeros; list_is = ap (λ l. suc d ∷ l) h.list_is }
 
-pub HasTrailingZeros-trim : (ds : List ℕ) → HasTrailingZeros ds (without_zeros ds)
+pub HasTrailingZeros-trim : (ds : List ℕ) → HasTrailingZeros ds (trim_zeros ds)
 HasTrailingZeros-trim [] = record { zeros = 0; list_is = refl }
-HasTrailingZeros-trim (d ∷ ds) = HasTrailingZeros-prepend d (without_zeros ds) ds (HasTrailingZeros-trim ds)
+HasTrailingZeros-trim (d ∷ ds) = HasTrailingZeros-prepend d (trim_zeros ds) ds (HasTrailingZeros-trim ds)
 
-small_before_digit : (d : ℕ) (es : List ℕ) → d < 10 → All (λ d. d < 10) es → All (λ d. d < 10) (before d es)
+small_before_digit : (d : ℕ) (es : List ℕ) → d < 10 → All (λ d. d < 10) es → All (λ d. d < 10) (prepend_digit d es)
 small_before_digit zero [] h k = k
 small_before_digit (suc d) [] h k = All-cons (λ d. d < 10) (suc d) [] h k
 small_before_digit zero (e ∷ es) h k = All-cons (λ d. d < 10) zero (e ∷ es) h k
 small_before_digit (suc d) (e ∷ es) h k = All-cons (λ d. d < 10) (suc d) (e ∷ es) h k
 
-pub small_without_zeros : (ds : List ℕ) → All (λ d. d < 10) ds → All (λ d. d < 10) (without_zeros ds)
+pub small_without_zeros : (ds : List ℕ) → All (λ d. d < 10) ds → All (λ d. d < 10) (trim_zeros ds)
 small_without_zeros [] h = h
 small_without_zeros (d ∷ ds) h =
-    small_before_digit d (without_zeros ds) (All-head (λ d. d < 10) d ds h)
+    small_before_digit d (trim_zeros ds) (All-head (λ d. d < 10) d ds h)
     (small_without_zeros ds (All-tail (λ d. d < 10) d ds h))
 
 -- q / 10^p is the decimal `e`, which has at most p digits after the point.
 pub record ShortOf (q p : ℕ) (e : Finite) : Type 0 where
   pub few : length e.digits ≤ p
   pub small : All (λ d. d < 10) e.digits
-  pub scaled_is : q ≡ scaled e * 10 ^ (p - length e.digits)
+  pub scaled_is : q ≡ ulps_of e * 10 ^ (p - length e.digits)
 
 -- q / 10^p without trailing zeros is q / 10^p.
-pub ShortOf-shortened : (q p : ℕ) → ShortOf q p (shortened (at_places p q))
+pub ShortOf-shortened : (q p : ℕ) → ShortOf q p (trim_expansion (at_places p q))
 ShortOf-shortened q p =
     let ds = last_digits p q in
     let behind = HasTrailingZeros-trim ds in
-    let len : length (without_zeros ds) + behind.zeros ≡ p =
+    let len : length (trim_zeros ds) + behind.zeros ≡ p =
     omega (
       arith,
       ap length behind.list_is,
-      length-append (without_zeros ds) (replicate behind.zeros 0),
+      length-append (trim_zeros ds) (replicate behind.zeros 0),
       length-replicate {A = ℕ} behind.zeros 0,
       length_last_digits p q,
     ) in
-    let left : p - length (without_zeros ds) ≡ behind.zeros = omega (arith, len) in
-    let value : q % 10 ^ p ≡ value_of (without_zeros ds) * 10 ^ behind.zeros =
+    let left : p - length (trim_zeros ds) ≡ behind.zeros = omega (arith, len) in
+    let value : q % 10 ^ p ≡ value_of_digits (trim_zeros ds) * 10 ^ behind.zeros =
     sym (value_of_last_digits p q)
-    ∙ (ap value_of behind.list_is ∙ value_append_zeros (without_zeros ds) behind.zeros) in
-    let power : 10 ^ p ≡ 10 ^ length (without_zeros ds) * 10 ^ behind.zeros =
-    ap (λ n. 10 ^ n) (sym len) ∙ pow-add 10 (length (without_zeros ds)) behind.zeros in
+    ∙ (ap value_of_digits behind.list_is ∙ value_append_zeros (trim_zeros ds) behind.zeros) in
+    let power : 10 ^ p ≡ 10 ^ length (trim_zeros ds) * 10 ^ behind.zeros =
+    ap (λ n. 10 ^ n) (sym len) ∙ pow-add 10 (length (trim_zeros ds)) behind.zeros in
     let product = ap (λ n. q / 10 ^ p * n) power in
     let parts : q ≡ q / 10 ^ p * 10 ^ p + q % 10 ^ p = omega (arith, one_le_pow10 p) in
     record {

@@ -6,7 +6,7 @@ use Rattle.std.proofs.Math.Nat.{eq_of_mul-eq-mul_right}
 use Rattle.std.proofs.lemmas.Nat.{pow-add, div_below, mod_below}
 use Rattle.std.proofs.lemmas.Bool.{cases_lt}
 use Rattle.std.proofs.Math.Numerals.{add-one}
-use Rattle.byte_unit_math.specs.Bounds.{one, places_of_decimal, whole_limit}
+use Rattle.byte_unit_math.specs.Bounds.{scale, places_of_decimal, whole_limit}
 use Rattle.byte_unit_math.specs.Exact.{IsExactAt, IsLeastPlaces, IsQuotient}
 use Rattle.byte_unit_math.proofs.Scales.{pow10_bounds, pow10_times_rest, pow10_split}
 
@@ -123,7 +123,7 @@ split_power few more most h k =
 pub IsQuotient-digits :
     (size unit fraction digits places : ℕ) → digits ≤ places → places ≤ places_of_decimal
     → size * 10 ^ digits ≡ (size / unit * 10 ^ digits + fraction) * unit
-    → IsQuotient size unit places (size / unit * one + fraction * 10 ^ (places_of_decimal - digits))
+    → IsQuotient size unit places (size / unit * scale + fraction * 10 ^ (places_of_decimal - digits))
 IsQuotient-digits size unit fraction digits places few room product =
     let count = size / unit * 10 ^ digits + fraction in
     let power = ap (λ n. size * n) (pow10_split digits places few) in
@@ -138,7 +138,7 @@ IsQuotient-digits size unit fraction digits places few room product =
 
 -- The quotient times the unit is the size, both scaled by 10^28.
 pub IsQuotient-times :
-    (size unit places N : ℕ) → places ≤ places_of_decimal → IsQuotient size unit places N → N * unit ≡ size * one
+    (size unit places N : ℕ) → places ≤ places_of_decimal → IsQuotient size unit places N → N * unit ≡ size * scale
 IsQuotient-times size unit places N few h =
     let exact = ap (λ n. n * 10 ^ (places_of_decimal - places)) h.exact in
     let parts = ap (λ n. size * n) (pow10_times_rest places few) in
@@ -147,7 +147,7 @@ IsQuotient-times size unit places N few h =
 -- Digits after the point, scaled by 10^28, are below 10^28.
 pub fraction_below_one :
     (fraction digits : ℕ) → digits ≤ places_of_decimal → fraction < 10 ^ digits
-    → fraction * 10 ^ (places_of_decimal - digits) < one
+    → fraction * 10 ^ (places_of_decimal - digits) < scale
 fraction_below_one fraction digits room small =
     let bound = pow10_bounds (places_of_decimal - digits) (omega arith) in
     let product = mul-le-mul_right {m = fraction + 1} {n = 10 ^ digits} (10 ^ (places_of_decimal - digits))
@@ -155,7 +155,7 @@ fraction_below_one fraction digits room small =
     omega (arith, product, pow10_times_rest digits room, bound.0)
 
 -- At most 28 digits after the point, held as one number, are below 10^28.
-pub digits_below_one : (fraction digits : ℕ) → digits ≤ places_of_decimal → fraction < 10 ^ digits → fraction < one
+pub digits_below_one : (fraction digits : ℕ) → digits ≤ places_of_decimal → fraction < 10 ^ digits → fraction < scale
 digits_below_one fraction digits room small = omega (arith, small, pow10_bounds digits room)
 
 -- The quotient of a number below 2^112 is below 2^112.

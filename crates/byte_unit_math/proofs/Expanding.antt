@@ -11,9 +11,9 @@ use Rattle.std.proofs.lemmas.List.Elements.{All-set, All-replicate, All-take, Al
 use Rattle.std.proofs.lemmas.List.Sums.{fold-append}
 use Rattle.std.proofs.lemmas.Nat.{pow-add, pow_below, mul-le, div-add-mod'}
 use Rattle.std.proofs.Math.Nat.{pow-succ', one-le-pow}
-use Rattle.byte_unit_math.specs.Bounds.{expansion_places, one, places_of_decimal, unit_limit}
+use Rattle.byte_unit_math.specs.Bounds.{expansion_places, scale, places_of_decimal, unit_limit}
 use Rattle.byte_unit_math.specs.Exact.{IsExactAt}
-use Rattle.byte_unit_math.specs.Finite.{value_of, IsExpansion}
+use Rattle.byte_unit_math.specs.Finite.{value_of_digits, IsExpansion}
 use Rattle.byte_unit_math.proofs.Division.{rest_is_zero, divide_one_more_digit, append_digit, IsLeastPlaces-last_digit}
 
 -- Setting a digit of an array leaves the zeros after it.
@@ -33,7 +33,7 @@ pub record IsDividing (numerator den whole rest places : ℕ) (digits : List ℕ
   pub small : All (λ d. d < 10) digits
   pub zeros : drop places digits ≡ replicate (expansion_places - places) 0
   pub below : rest < den
-  pub exact : numerator * 10 ^ places ≡ (whole * 10 ^ places + value_of (take places digits)) * den + rest
+  pub exact : numerator * 10 ^ places ≡ (whole * 10 ^ places + value_of_digits (take places digits)) * den + rest
   pub last : rest ≡ 0 → 0 < places → 0 < get_or digits (places - 1) 0
 
 digit_below_ten : (rest den digit next : ℕ) → rest < den → den * digit + next ≡ rest * 10 → digit < 10
@@ -55,8 +55,8 @@ module _ (numerator den whole rest places : ℕ) (digits : List ℕ)
   pub IsUnfinished-room : places < expansion_places
   IsUnfinished-room = ⊎_elim (λ room. room)
       (λ k. let full : places ≡ expansion_places = omega (arith, k, h.so_far.few) in
-      let ExactAt : ℕ → Type 0 = λ p. numerator * 10 ^ p ≡ (whole * 10 ^ p + value_of (take p digits)) * den + rest in
-      let count = whole * 10 ^ expansion_places + value_of (take expansion_places digits) in
+      let ExactAt : ℕ → Type 0 = λ p. numerator * 10 ^ p ≡ (whole * 10 ^ p + value_of_digits (take p digits)) * den + rest in
+      let count = whole * 10 ^ expansion_places + value_of_digits (take expansion_places digits) in
       absurd (h.some (rest_is_zero numerator den expansion_places count rest (subst ExactAt full h.so_far.exact)
       h.so_far.below h.ends)))
       (cases_lt places expansion_places)
@@ -76,9 +76,9 @@ module _ (numerator den whole rest places : ℕ) (digits : List ℕ)
       let fits : places < length digits = omega (arith, IsUnfinished-room, now.size) in
       let split : den * digit + rest * 10 % den ≡ rest * 10 = omega arith in
       let power : 10 ^ (places + 1) ≡ 10 * 10 ^ places = ap (λ n. 10 ^ n) (add-one places) ∙ pow-succ' 10 places in
-      let front = value_of (take places digits) in
-      let value : value_of (take (places + 1) (set digits places digit)) ≡ front * 10 + digit =
-      ap value_of (take_more_set digits places digit fits)
+      let front = value_of_digits (take places digits) in
+      let value : value_of_digits (take (places + 1) (set digits places digit)) ≡ front * 10 + digit =
+      ap value_of_digits (take_more_set digits places digit fits)
       ∙ fold-append (λ n d. n * 10 + d) 0 (take places digits) (digit ∷ []) in
       let product =
       divide_one_more_digit numerator den (10 ^ places) (whole * 10 ^ places + front) rest digit (rest * 10 % den)
@@ -112,19 +112,19 @@ IsDividing-start whole rest den below = record {
 
 -- Digits represent ten times the number of all but the last, plus the last.
 pub value_by_last_digit : (ds : List ℕ) → 0 < length ds
-    → value_of ds ≡ value_of (take (length ds - 1) ds) * 10 + get_or ds (length ds - 1) 0
+    → value_of_digits ds ≡ value_of_digits (take (length ds - 1) ds) * 10 + get_or ds (length ds - 1) 0
 value_by_last_digit ds h =
     let n = length ds - 1 in
     let whole : take (n + 1) ds ≡ ds =
     ap (λ k. take k ds) (let k : n + 1 ≡ length ds = omega arith in k)
     ∙ take_all (length ds) ds (let k : length ds ≤ length ds = omega arith in k) in
-    ap value_of (sym whole ∙ take_more ds n 0 (omega arith))
+    ap value_of_digits (sym whole ∙ take_more ds n 0 (omega arith))
     ∙ fold-append (λ n d. n * 10 + d) 0 (take n ds) (get_or ds n 0 ∷ [])
 
 -- The fraction is exactly the whole part and these digits, and the last digit is not zero.
 pub record IsExactByDigits (num den whole : ℕ) (digits : List ℕ) : Type 0 where
   pub small : All (λ d. d < 10) digits
-  pub exact : num * 10 ^ length digits ≡ (whole * 10 ^ length digits + value_of digits) * den
+  pub exact : num * 10 ^ length digits ≡ (whole * 10 ^ length digits + value_of_digits digits) * den
   pub last : 0 < length digits → 0 < get_or digits (length digits - 1) 0
 
 last_digit_of_value : (front value last : ℕ) → last < 10 → value ≡ front * 10 + last → value % 10 ≡ last
@@ -136,16 +136,16 @@ pub expansion_of_digits :
     → IsExpansion num den (record { whole = whole; digits = digits })
 expansion_of_digits num den whole digits positive h =
     let places = length digits in
-    let count = whole * 10 ^ places + value_of digits in
+    let count = whole * 10 ^ places + value_of_digits digits in
     let least =
     IsLeastPlaces-last_digit num den count places positive h.exact
     (λ some. let before : ℕ = places - 1 in
     let last = get_or digits before 0 in
-    let front = value_of (take before digits) in
+    let front = value_of_digits (take before digits) in
     let power : 10 ^ places ≡ 10 * 10 ^ before =
     ap (λ n. 10 ^ n) (let e : places ≡ suc before = omega (arith, some) in e) ∙ pow-succ' 10 before in
     let parts : count ≡ (whole * 10 ^ before + front) * 10 + last =
-    ap (λ n. whole * n + value_of digits) power
+    ap (λ n. whole * n + value_of_digits digits) power
     ∙ (ap (λ n. whole * (10 * 10 ^ before) + n) (value_by_last_digit digits some)
     ∙ sym (append_digit whole (10 ^ before) front last)) in
     let small : last < 10 = All-get_or (λ d. d < 10) digits before 0 (omega (arith, some)) h.small in
@@ -157,7 +157,7 @@ expansion_of_digits num den whole digits positive h =
 pub record IsExactByFirstDigits (num den whole places : ℕ) (digits : List ℕ) : Type 0 where
   pub few : places ≤ length digits
   pub small : All (λ d. d < 10) digits
-  pub exact : num * 10 ^ places ≡ (whole * 10 ^ places + value_of (take places digits)) * den
+  pub exact : num * 10 ^ places ≡ (whole * 10 ^ places + value_of_digits (take places digits)) * den
   pub last : 0 < places → 0 < get_or digits (places - 1) 0
 
 -- A whole part and first digits of an array that are exactly the fraction, the last not zero, are its expansion.
@@ -167,7 +167,7 @@ pub expansion_of_first_digits :
 expansion_of_first_digits num den whole places digits positive h =
     let front = take places digits in
     let len : length front ≡ places = length-take-le places digits h.few in
-    let ExactAt : ℕ → Type 0 = λ n. num * 10 ^ n ≡ (whole * 10 ^ n + value_of front) * den in
+    let ExactAt : ℕ → Type 0 = λ n. num * 10 ^ n ≡ (whole * 10 ^ n + value_of_digits front) * den in
     let LastIsPositive : ℕ → Type 0 = λ n. 0 < n → 0 < get_or front (n - 1) 0 in
     expansion_of_digits num den whole front positive
     (record {
@@ -185,8 +185,12 @@ pub IsDividing-ended :
     → IsExpansion num den (record { whole = whole; digits = take places digits })
 IsDividing-ended num den whole rest places digits h none =
     expansion_of_first_digits num den whole places digits (omega (arith, h.below))
-    (record { few = omega (arith, h.few, h.size); small = h.small; exact = omega (arith, h.exact, none);
-    last = h.last none })
+    (record {
+      few = omega (arith, h.few, h.size);
+      small = h.small;
+      exact = omega (arith, h.exact, none);
+      last = h.last none;
+    })
 
 two_below_five : (b : ℕ) → 2 ^ b ≤ 5 ^ b
 two_below_five zero = omega arith
@@ -195,10 +199,18 @@ two_below_five (suc b) = rw (pow-succ' 2 b, pow-succ' 5 b) (omega (arith, two_be
 -- If 2^a * 5^b is at most 2^93, so are 2^a and 5^b.
 pub factors_within_limit : (a b : ℕ) → 2 ^ a * 5 ^ b ≤ unit_limit → (2 ^ a ≤ unit_limit) × (5 ^ b ≤ unit_limit)
 factors_within_limit a b h = (
-  omega (arith, h, mul-le (2 ^ a) 1 (2 ^ a) (5 ^ b) (let k : 2 ^ a ≤ 2 ^ a = omega arith in k)
-      (one-le-pow b 5 (omega arith))),
-  omega (arith, h, mul-le 1 (5 ^ b) (2 ^ a) (5 ^ b) (one-le-pow a 2 (omega arith))
-      (let k : 5 ^ b ≤ 5 ^ b = omega arith in k)),
+  omega (
+    arith,
+    h,
+    mul-le (2 ^ a) 1 (2 ^ a) (5 ^ b) (let k : 2 ^ a ≤ 2 ^ a = omega arith in k)
+        (one-le-pow b 5 (omega arith)),
+  ),
+  omega (
+    arith,
+    h,
+    mul-le 1 (5 ^ b) (2 ^ a) (5 ^ b) (one-le-pow a 2 (omega arith))
+        (let k : 5 ^ b ≤ 5 ^ b = omega arith in k),
+  ),
 )
 
 exponents_within_places : (a b : ℕ) → 2 ^ a * 5 ^ b ≤ unit_limit → (a ≤ expansion_places) × (b ≤ expansion_places)
@@ -206,7 +218,7 @@ exponents_within_places a b h =
     let small = factors_within_limit a b h in
     let z = two_below_five b in (
       ⊎_elim (λ l. absurd (omega (arith, small.0, pow_below expansion_places a l))) (λ k. k)
-      (cases_lt expansion_places a),
+          (cases_lt expansion_places a),
       ⊎_elim
           (λ l. absurd (omega (arith, small.1, z, pow_below expansion_places b l))) (λ k. k)
           (cases_lt expansion_places b),
@@ -236,7 +248,7 @@ product_positive a b = mul-le 1 1 (2 ^ a) (5 ^ b) (one-le-pow a 2 (omega arith))
 pub ruleset powers = (factors_within_limit, product_positive, powers_are_exact)
 
 -- A fraction over 10^28 is exact with 93 digits after the point.
-pub decimal_is_exact : (num : ℕ) → IsExactAt num (one) expansion_places
+pub decimal_is_exact : (num : ℕ) → IsExactAt num (scale) expansion_places
 decimal_is_exact num = (num * 10 ^ (expansion_places - places_of_decimal), omega arith)
 
 -- A fraction over 2^a * 5^b, given by its whole part and remainder, is exact with 93 digits after the point.

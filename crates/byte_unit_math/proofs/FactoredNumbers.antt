@@ -2,7 +2,7 @@
 use Rattle.std.proofs.Common.{◌≡◌, ℕ, get_or, ◌∙◌, ◌+◌, ◌-◌, ◌*◌, ◌^◌, ◌/◌, ◌%◌, ◌<◌, ◌≤◌, ⊎_elim, arith, ap, sym}
 use Rattle.std.proofs.Math.Nat.{one-le-pow, pow-le-pow_right, mul-le-mul_left, mul-le-mul_right, lt_of_mul-lt-mul_right}
 use Rattle.std.proofs.lemmas.Bool.{cases_lt}
-use Rattle.byte_unit_math.specs.Bounds.{one, places_of_decimal, whole_limit}
+use Rattle.byte_unit_math.specs.Bounds.{scale, places_of_decimal, whole_limit}
 use Rattle.byte_unit_math.proofs.Scales.{pow10_times_rest, powers_from, powers_from_at}
 
 -- A power below 2^112 has a bounded exponent.
@@ -53,7 +53,7 @@ module _ (number unit count places : ℕ) (same : number * 10 ^ places ≡ count
   count_below_limit small = lt_of_mul-lt-mul_right unit {m = count} {n = whole_limit} (omega (arith, same, small))
 
   -- The multiple, scaled by the rest of 10^28, times the unit is the number scaled by 10^28.
-  pub count_is_exact : places ≤ places_of_decimal → count * 10 ^ (places_of_decimal - places) * unit ≡ number * one
+  pub count_is_exact : places ≤ places_of_decimal → count * 10 ^ (places_of_decimal - places) * unit ≡ number * scale
   count_is_exact few =
       let scaled = ap (λ n. n * 10 ^ (places_of_decimal - places)) same in
       let parts = ap (λ n. number * n) (pow10_times_rest places few) in

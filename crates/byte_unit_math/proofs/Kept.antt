@@ -8,7 +8,7 @@ use Rattle.std.proofs.lemmas.List.Elements.{All-nil, All-replicate, All-set, All
 use Rattle.std.proofs.lemmas.List.Sums.{fold-append}
 use Rattle.std.proofs.Math.Nat.{pow-succ'}
 use Rattle.byte_unit_math.specs.Bounds.{expansion_places}
-use Rattle.byte_unit_math.specs.Finite.{Finite, value_of, scaled, cut_after, IsExpansion}
+use Rattle.byte_unit_math.specs.Finite.{Finite, value_of_digits, ulps_of, cut_after, IsExpansion}
 use Rattle.byte_unit_math.proofs.Digits.{one_le_pow10, value_append_zeros}
 use Rattle.byte_unit_math.proofs.Expanding.{expansion_of_digits, expansion_of_first_digits, zeros_after_set}
 use Rattle.byte_unit_math.proofs.Scales.{pow10_split}
@@ -28,16 +28,16 @@ pub record BeginsWith (e : Finite) (kept : ℕ) (ds : List ℕ) : Type 0 where
   pub small : All (λ d. d < 10) ds
 
 scaled_cut : (e : Finite) (p : ℕ) → p ≤ length e.digits
-    → scaled (cut_after p e) ≡ e.whole * 10 ^ p + value_of (take p e.digits)
-scaled_cut e p within = ap (λ n. e.whole * 10 ^ n + value_of (take p e.digits)) (length-take-le p e.digits within)
+    → ulps_of (cut_after p e) ≡ e.whole * 10 ^ p + value_of_digits (take p e.digits)
+scaled_cut e p within = ap (λ n. e.whole * 10 ^ n + value_of_digits (take p e.digits)) (length-take-le p e.digits within)
 
 -- If the last of them are zeros, the decimal cut off after p digits is that of the digits kept, times a power of ten.
 scaled_zeros :
     (e : Finite) (p kept : ℕ) → EndsInRunOf e p kept 0
-    → scaled (cut_after p e) ≡ (e.whole * 10 ^ kept + value_of (take kept e.digits)) * 10 ^ (p - kept)
+    → ulps_of (cut_after p e) ≡ (e.whole * 10 ^ kept + value_of_digits (take kept e.digits)) * 10 ^ (p - kept)
 scaled_zeros e p kept h =
     let product = ap (λ n. e.whole * n) (pow10_split kept p h.few) in
-    let value = ap value_of h.same ∙ value_append_zeros (take kept e.digits) (p - kept) in
+    let value = ap value_of_digits h.same ∙ value_append_zeros (take kept e.digits) (p - kept) in
     scaled_cut e p h.within ∙ omega (arith, product, value)
 
 fold_nines : (n k : ℕ) → fold (λ n d. n * 10 + d) n (replicate k 9) + 1 ≡ (n + 1) * 10 ^ k
@@ -48,11 +48,11 @@ fold_nines n (suc k) = rw (pow-succ' 10 k) (omega (arith, fold_nines (n * 10 + 9
 -- kept, plus one in their last digit, times a power of ten.
 scaled_nines :
     (e : Finite) (p kept : ℕ) → EndsInRunOf e p kept 9
-    → scaled (cut_after p e) + 1 ≡ (e.whole * 10 ^ kept + (value_of (take kept e.digits) + 1)) * 10 ^ (p - kept)
+    → ulps_of (cut_after p e) + 1 ≡ (e.whole * 10 ^ kept + (value_of_digits (take kept e.digits) + 1)) * 10 ^ (p - kept)
 scaled_nines e p kept h =
     let product = ap (λ n. e.whole * n) (pow10_split kept p h.few) in
-    let value = ap value_of h.same ∙ fold-append (λ n d. n * 10 + d) 0 (take kept e.digits) (replicate (p - kept) 9) in
-    let nines = fold_nines (value_of (take kept e.digits)) (p - kept) in
+    let value = ap value_of_digits h.same ∙ fold-append (λ n d. n * 10 + d) 0 (take kept e.digits) (replicate (p - kept) 9) in
+    let nines = fold_nines (value_of_digits (take kept e.digits)) (p - kept) in
     ap (λ n. n + 1) (scaled_cut e p h.within) ∙ omega (arith, product, value, nines)
 
 -- The last of the digits that are kept is the same in the array.
@@ -70,14 +70,14 @@ pow10_on_both_sides count kept p few = let product = ap (λ n. count * n) (pow10
 -- A decimal cut off after p digits, without the zeros at their end, is the expansion of the cut number.
 pub cut_is_expansion :
     (e : Finite) (p kept : ℕ) (ds : List ℕ) → IsShown e → EndsInRunOf e p kept 0 → BeginsWith e kept ds
-    → IsExpansion (scaled (cut_after p e)) (10 ^ p) (record { whole = e.whole; digits = take kept ds })
+    → IsExpansion (ulps_of (cut_after p e)) (10 ^ p) (record { whole = e.whole; digits = take kept ds })
 cut_is_expansion e p kept ds shown h array =
-    let count = e.whole * 10 ^ kept + value_of (take kept e.digits) in
-    let exact : scaled (cut_after p e) * 10 ^ kept ≡ count * 10 ^ p =
+    let count = e.whole * 10 ^ kept + value_of_digits (take kept e.digits) in
+    let exact : ulps_of (cut_after p e) * 10 ^ kept ≡ count * 10 ^ p =
     ap (λ n. n * 10 ^ kept) (scaled_zeros e p kept h) ∙ pow10_on_both_sides count kept p h.few in
     let Exact : List ℕ → Type 0 =
-    λ l. scaled (cut_after p e) * 10 ^ kept ≡ (e.whole * 10 ^ kept + value_of l) * 10 ^ p in
-    expansion_of_first_digits (scaled (cut_after p e)) (10 ^ p) e.whole kept ds (omega (arith, one_le_pow10 p))
+    λ l. ulps_of (cut_after p e) * 10 ^ kept ≡ (e.whole * 10 ^ kept + value_of_digits l) * 10 ^ p in
+    expansion_of_first_digits (ulps_of (cut_after p e)) (10 ^ p) e.whole kept ds (omega (arith, one_le_pow10 p))
     (record {
       few = omega (arith, array.size, h.few, h.within, shown.few);
       small = array.small;
@@ -89,20 +89,20 @@ cut_is_expansion e p kept ds shown h array =
 -- If the first p digits are all nines, the cut number plus one in its last digit is the whole part plus one.
 pub next_whole_is_expansion :
     (e : Finite) (p kept : ℕ) → EndsInRunOf e p kept 9 → kept ≡ 0
-    → IsExpansion (scaled (cut_after p e) + 1) (10 ^ p) (record { whole = e.whole + 1; digits = [] })
+    → IsExpansion (ulps_of (cut_after p e) + 1) (10 ^ p) (record { whole = e.whole + 1; digits = [] })
 next_whole_is_expansion e p kept h none =
     let nines = scaled_nines e p 0 (subst (λ k. EndsInRunOf e p k 9) none h) in
-    let inner : e.whole * 10 ^ 0 + (value_of (take 0 e.digits) + 1) ≡ e.whole + 1 = omega arith in
-    let all : scaled (cut_after p e) + 1 ≡ (e.whole + 1) * 10 ^ p =
+    let inner : e.whole * 10 ^ 0 + (value_of_digits (take 0 e.digits) + 1) ≡ e.whole + 1 = omega arith in
+    let all : ulps_of (cut_after p e) + 1 ≡ (e.whole + 1) * 10 ^ p =
     nines ∙ (ap (λ n. n * 10 ^ (p - 0)) inner
     ∙ ap (λ n. (e.whole + 1) * 10 ^ n) (let same : p - 0 ≡ p = omega arith in same)) in
-    expansion_of_digits (scaled (cut_after p e) + 1) (10 ^ p) (e.whole + 1) [] (omega (arith, one_le_pow10 p))
+    expansion_of_digits (ulps_of (cut_after p e) + 1) (10 ^ p) (e.whole + 1) [] (omega (arith, one_le_pow10 p))
     (record { small = All-nil (λ d. d < 10); exact = omega (arith, all); last = λ some. absurd (omega (arith, some)) })
 
 -- An array in which the last digit kept is one more represents one more.
 value_one_more :
     (e : Finite) (kept : ℕ) (ds : List ℕ) → BeginsWith e kept ds → 0 < kept → kept ≤ length ds
-    → value_of (take kept (set ds (kept - 1) (get_or ds (kept - 1) 0 + 1))) ≡ value_of (take kept e.digits) + 1
+    → value_of_digits (take kept (set ds (kept - 1) (get_or ds (kept - 1) 0 + 1))) ≡ value_of_digits (take kept e.digits) + 1
 value_one_more e kept ds array some room =
     let last : ℕ = kept - 1 in
     let digit = get_or ds last 0 in
@@ -110,15 +110,15 @@ value_one_more e kept ds array some room =
     let one : kept ≡ last + 1 = omega (arith, some) in
     let old = ap (λ i. take i ds) one ∙ take_more ds last 0 fits in
     let new = ap (λ i. take i (set ds last (digit + 1))) one ∙ take_more_set ds last (digit + 1) fits in
-    let old_value = ap value_of old ∙ fold-append (λ n d. n * 10 + d) 0 (take last ds) (digit ∷ []) in
-    let new_value = ap value_of new ∙ fold-append (λ n d. n * 10 + d) 0 (take last ds) ((digit + 1) ∷ []) in
-    omega (arith, old_value, new_value, ap value_of array.front)
+    let old_value = ap value_of_digits old ∙ fold-append (λ n d. n * 10 + d) 0 (take last ds) (digit ∷ []) in
+    let new_value = ap value_of_digits new ∙ fold-append (λ n d. n * 10 + d) 0 (take last ds) ((digit + 1) ∷ []) in
+    omega (arith, old_value, new_value, ap value_of_digits array.front)
 
 -- If nines follow the digits that are kept, the cut number plus one in its last digit has these digits, the last of
 -- them one more.
 pub next_digit_is_expansion :
     (e : Finite) (p kept : ℕ) (ds : List ℕ) → IsShown e → EndsInRunOf e p kept 9 → BeginsWith e kept ds → 0 < kept
-    → IsExpansion (scaled (cut_after p e) + 1) (10 ^ p)
+    → IsExpansion (ulps_of (cut_after p e) + 1) (10 ^ p)
     (record { whole = e.whole; digits = take kept (set ds (kept - 1) (get_or ds (kept - 1) 0 + 1)) })
 next_digit_is_expansion e p kept ds shown h array some =
     let last : ℕ = kept - 1 in
@@ -126,15 +126,15 @@ next_digit_is_expansion e p kept ds shown h array some =
     let fits : last < length ds = omega (arith, array.size, h.few, h.within, shown.few, some) in
     let room : kept ≤ length ds = omega (arith, fits) in
     let new = set ds last (digit + 1) in
-    let count = e.whole * 10 ^ kept + (value_of (take kept e.digits) + 1) in
-    let exact : (scaled (cut_after p e) + 1) * 10 ^ kept ≡ count * 10 ^ p =
+    let count = e.whole * 10 ^ kept + (value_of_digits (take kept e.digits) + 1) in
+    let exact : (ulps_of (cut_after p e) + 1) * 10 ^ kept ≡ count * 10 ^ p =
     ap (λ n. n * 10 ^ kept) (scaled_nines e p kept h) ∙ pow10_on_both_sides count kept p h.few in
-    let Exact : ℕ → Type 0 = λ value. (scaled (cut_after p e) + 1) * 10 ^ kept
+    let Exact : ℕ → Type 0 = λ value. (ulps_of (cut_after p e) + 1) * 10 ^ kept
     ≡ (e.whole * 10 ^ kept + value) * 10 ^ p in
     let small : digit < 10 = All-get_or (λ d. d < 10) ds last 0 fits array.small in
     let other = h.stops some in
     let nine : digit + 1 < 10 = omega (arith, small, same_last_digit e kept ds array some, other) in
-    expansion_of_first_digits (scaled (cut_after p e) + 1) (10 ^ p) e.whole kept new (omega (arith, one_le_pow10 p))
+    expansion_of_first_digits (ulps_of (cut_after p e) + 1) (10 ^ p) e.whole kept new (omega (arith, one_le_pow10 p))
     (record {
       few = omega (arith, length-set ds last (digit + 1), room);
       small = All-set (λ d. d < 10) ds last (digit + 1) nine array.small;

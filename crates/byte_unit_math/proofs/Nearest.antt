@@ -3,7 +3,7 @@ use Rattle.std.proofs.Common.{◌≢◌, ◌≡◌, ◌+◌, ◌*◌, ◌^◌, �
 use Rattle.std.proofs.lemmas.Bool.{cases_lt}
 use Rattle.std.proofs.Math.Nat.{mul-le-mul_right}
 use Rattle.std.specs.Int.{abs_diff}
-use Rattle.byte_unit_math.specs.Nearest.{WinsTie, IsNearest}
+use Rattle.byte_unit_math.specs.Nearest.{BreaksTie, IsNearest}
 use Rattle.byte_unit_math.specs.declared.expansion.Ties.{Ties}
 use Rattle.byte_unit_math.specs.declared.expansion.Ties.TheVariants.{Even, Up}
 
@@ -69,7 +69,7 @@ module _ (num den p count low : ℕ) (lies : LiesAbove num den p count low) wher
   nearest_down ties h = record {
     nearest = this_is_nearest (omega (arith, h));
     tie =
-        cases_around count (λ other. other ≢ count → distance other ≡ distance count → WinsTie ties count other)
+        cases_around count (λ other. other ≢ count → distance other ≡ distance count → BreaksTie ties count other)
         (λ other l n e. absurd (omega (arith, e, at_count, lower_is_far other l, lies.below))) (λ n e. absurd (n refl))
         (λ n e. absurd (omega (arith, e, at_count, at_next, h)))
         (λ other l n e. absurd (omega (arith, e, at_count, upper_is_far other l, h)));
@@ -81,7 +81,7 @@ module _ (num den p count low : ℕ) (lies : LiesAbove num den p count low) wher
     nearest = next_is_nearest (omega (arith, h));
     tie =
         cases_around count (λ other. other ≢ count + 1 → distance other ≡ distance (count + 1)
-        → WinsTie ties (count + 1) other)
+        → BreaksTie ties (count + 1) other)
         (λ other l n e. absurd (omega (arith, e, at_next, lower_is_far other l, h, lies.below)))
         (λ n e. absurd (omega (arith, e, at_count, at_next, h))) (λ n e. absurd (n refl))
         (λ other l n e. absurd (omega (arith, e, at_next, upper_is_far other l, h, lies.below)));
@@ -93,7 +93,7 @@ module _ (num den p count low : ℕ) (lies : LiesAbove num den p count low) wher
     nearest = next_is_nearest (omega (arith, h));
     tie =
         cases_around count (λ other. other ≢ count + 1 → distance other ≡ distance (count + 1)
-        → WinsTie Up (count + 1) other)
+        → BreaksTie Up (count + 1) other)
         (λ other l n e. omega (arith, l)) (λ n e. omega arith) (λ n e. omega arith)
         (λ other l n e. absurd (omega (arith, e, at_next, upper_is_far other l, h, lies.below)));
   }

@@ -2,7 +2,7 @@
 use Rattle.std.proofs.Common.{◌≡◌, ℕ, suc, ◌+◌, ◌-◌, ◌*◌, ◌/◌, ◌%◌, ◌^◌, ◌<◌, ◌≤◌, arith, ap, sym, subst, ◌∙◌}
 use Rattle.std.proofs.Math.Nat.{pow-succ'}
 use Rattle.std.proofs.Math.Numerals.{add-one}
-use Rattle.byte_unit_math.specs.Bounds.{one, places_of_decimal}
+use Rattle.byte_unit_math.specs.Bounds.{scale, places_of_decimal}
 use Rattle.byte_unit_math.specs.Exact.{IsLeastPlaces}
 use Rattle.byte_unit_math.proofs.Division.{IsLeastPlaces-last_digit}
 use Rattle.byte_unit_math.proofs.Scales.{pow10_times_rest}
@@ -10,7 +10,7 @@ use Rattle.byte_unit_math.proofs.Scales.{pow10_times_rest}
 -- The fraction of N / 10^28 is `rest` in `places` digits after the point, followed by zeros.
 pub record FractionEndsAt (N rest places : ℕ) : Type 0 where
   pub few : places ≤ places_of_decimal
-  pub fraction_is : N % one ≡ rest * 10 ^ (places_of_decimal - places)
+  pub fraction_is : N % scale ≡ rest * 10 ^ (places_of_decimal - places)
 
 -- `rest` in `places` digits is `digits` in `all` digits with some trailing zeros removed.
 pub record FewerZeros (digits all rest places : ℕ) : Type 0 where
@@ -48,10 +48,10 @@ FewerZeros-less digits all rest places tenth h some parts =
 
 -- N / 10^28 is exact with the digits after the point at which its fraction ends.
 number_at_places : (N rest places : ℕ) → FractionEndsAt N rest places
-    → N * 10 ^ places ≡ (N / one * 10 ^ places + rest) * one
+    → N * 10 ^ places ≡ (N / scale * 10 ^ places + rest) * scale
 number_at_places N rest places h =
-    let whole : N ≡ N / one * one + N % one = omega arith in
-    let product = ap (λ n. n * 10 ^ places) (whole ∙ ap (λ fraction. N / one * one + fraction) h.fraction_is) in
+    let whole : N ≡ N / scale * scale + N % scale = omega arith in
+    let product = ap (λ n. n * 10 ^ places) (whole ∙ ap (λ fraction. N / scale * scale + fraction) h.fraction_is) in
     let parts = ap (λ scale. rest * scale) (pow10_times_rest places h.few) in
     product ∙ omega (arith, parts)
 
@@ -64,33 +64,33 @@ last_digit_kept whole rest places some last =
 
 -- If the last digit is not zero, N / 10^28 is exact with no fewer digits after the point.
 pub FractionEndsAt-least : (N rest places : ℕ) → FractionEndsAt N rest places → (0 < places → 0 < rest % 10)
-    → IsLeastPlaces N one places
+    → IsLeastPlaces N scale places
 FractionEndsAt-least N rest places h last =
-    IsLeastPlaces-last_digit N one (N / one * 10 ^ places + rest) places (omega arith)
+    IsLeastPlaces-last_digit N scale (N / scale * 10 ^ places + rest) places (omega arith)
     (number_at_places N rest places h)
-    (λ some. last_digit_kept (N / one) rest places some (last some))
+    (λ some. last_digit_kept (N / scale) rest places some (last some))
 
-pub fraction_ends_at_shortened : (N short places : ℕ) → IsShortened (N % one) places_of_decimal short places
+pub fraction_ends_at_shortened : (N short places : ℕ) → IsShortened (N % scale) places_of_decimal short places
     → FractionEndsAt N short places
 fraction_ends_at_shortened N short places h = record { few = h.fewer.few; fraction_is = h.fewer.same }
 
 -- The fraction of N / 10^28 without trailing zeros has the least number of digits after the point.
-pub least_places_of_shortened : (N short places : ℕ) → IsShortened (N % one) places_of_decimal short places
-    → IsLeastPlaces N one places
+pub least_places_of_shortened : (N short places : ℕ) → IsShortened (N % scale) places_of_decimal short places
+    → IsLeastPlaces N scale places
 least_places_of_shortened N short places h =
     FractionEndsAt-least N short places (fraction_ends_at_shortened N short places h) h.last
 
 -- There is only one least number of digits after the point.
-pub least_places_unique : (N places others : ℕ) → IsLeastPlaces N one places → IsLeastPlaces N one others
+pub least_places_unique : (N places others : ℕ) → IsLeastPlaces N scale places → IsLeastPlaces N scale others
     → places ≡ others
 least_places_unique N places others h k = omega (arith, h.least others k.has, k.least places h.has)
 
 -- The digits without trailing zeros, scaled by the rest of 10^28, are the fraction, and fit into the least number of
 -- digits.
 pub value_of_shortened :
-    (N short places least : ℕ) → IsShortened (N % one) places_of_decimal short places → IsLeastPlaces N one least
-    → (short * 10 ^ (places_of_decimal - least) ≡ N % one) × (short < 10 ^ least)
+    (N short places least : ℕ) → IsShortened (N % scale) places_of_decimal short places → IsLeastPlaces N scale least
+    → (short * 10 ^ (places_of_decimal - least) ≡ N % scale) × (short < 10 ^ least)
 value_of_shortened N short places least h k =
     let same = least_places_unique N places least (least_places_of_shortened N short places h) k in
-    subst (λ n. (short * 10 ^ (places_of_decimal - n) ≡ N % one) × (short < 10 ^ n)) same
+    subst (λ n. (short * 10 ^ (places_of_decimal - n) ≡ N % scale) × (short < 10 ^ n)) same
     (sym h.fewer.same, h.fewer.below)

@@ -100,9 +100,10 @@ enough_fives num a b twos fives p h e = ⊎_elim
 -- A fraction num / (2^a * 5^b) is exact with p digits after the point if and only if num * 10^p has at least a factors
 -- of 2 and b of 5.
 pub exact_by_powers : ExactByPowers
-exact_by_powers num a b twos fives p h =
-    (λ e. (enough_twos num a b twos fives p h e, enough_fives num a b twos fives p h e),
-    λ few. exact_with_powers num a b twos fives p h few)
+exact_by_powers num a b twos fives p h = (
+  λ e. (enough_twos num a b twos fives p h e, enough_fives num a b twos fives p h e),
+  λ few. exact_with_powers num a b twos fives p h few,
+)
 
 -- A fraction num / (2^a * 5^b) takes as many digits after the point as num lacks factors of 2 or of 5, whichever is
 -- more.
@@ -117,9 +118,16 @@ pub zero_takes_no_places : ZeroTakesNoPlaces
 zero_takes_no_places den = record { has = (0, omega arith); least = λ p e. omega arith }
 
 nothing_left : (n left twos fives : ℕ) → n ≡ left * (2 ^ twos * 5 ^ fives) → 0 < left % 2 → 0 < left % 5 → HasTwoFive n
-nothing_left n left twos fives e odd no_five =
-    (twos, fives, record { left = left; product = e; odd = λ k. omega (arith, odd, k);
-    no_five = λ k. omega (arith, no_five, k) })
+nothing_left n left twos fives e odd no_five = (
+  twos,
+  fives,
+  record {
+    left = left;
+    product = e;
+    odd = λ k. omega (arith, odd, k);
+    no_five = λ k. omega (arith, no_five, k);
+  },
+)
 
 -- A number that is a product of powers of 2 and 5 and a rest has exponents of 2 and 5.
 exponents_exist : (turns n left twos fives : ℕ) → left ≤ turns → 0 < left → n ≡ left * (2 ^ twos * 5 ^ fives)

@@ -6,7 +6,7 @@ use Rattle.std.specs.Bool.{then_some}
 use Rattle.std.proofs.Math.Nat.{one-le-pow, pow-le-pow_right, mul-le-mul_right}
 use Rattle.std.proofs.lemmas.Bool.{cases_lt}
 use Rattle.std.proofs.lemmas.Bool.Decides.{nat_tests}
-use Rattle.byte_unit_math.specs.Bounds.{one, places_of_decimal}
+use Rattle.byte_unit_math.specs.Bounds.{scale, places_of_decimal}
 use Rattle.byte_unit_math.specs.Least.{IsLeastSize}
 use Rattle.byte_unit_math.specs.RoundedUp.{group_limit, half_places, half_limit, IsRoundedUp}
 use Rattle.byte_unit_math.proofs.Scales.{pow10_split}
@@ -71,7 +71,7 @@ IsLeastSize-none digits power unit none =
 -- The least size of a decimal is the size of its whole part plus the least size of its fraction.
 pub IsLeastSize-whole :
     (whole fraction unit part : ℕ) → IsLeastSize fraction unit part
-    → IsLeastSize (whole * one + fraction) unit (whole * unit + part)
+    → IsLeastSize (whole * scale + fraction) unit (whole * unit + part)
 IsLeastSize-whole whole fraction unit part h =
     record {
       has = omega (arith, h.has);
@@ -84,15 +84,15 @@ IsLeastSize-whole whole fraction unit part h =
 
 -- The whole part and the fraction of N / 10^28, and the least size of the fraction.
 pub record InParts (N unit whole fraction part : ℕ) : Type 0 where
-  pub whole_is : whole ≡ N / one
-  pub fraction_is : fraction ≡ N % one
+  pub whole_is : whole ≡ N / scale
+  pub fraction_is : fraction ≡ N % scale
   pub least : IsLeastSize fraction unit part
 
 -- The size of the whole part plus the least size of the fraction is the least size of the decimal.
 pub IsLeastSize-parts : (N unit whole fraction part : ℕ) → InParts N unit whole fraction part
     → IsLeastSize N unit (whole * unit + part)
 IsLeastSize-parts N unit whole fraction part h =
-    let parts : whole * one + fraction ≡ N = omega (arith, h.whole_is, h.fraction_is) in
+    let parts : whole * scale + fraction ≡ N = omega (arith, h.whole_is, h.fraction_is) in
     subst (λ number. IsLeastSize number unit (whole * unit + part)) parts
     (IsLeastSize-whole whole fraction unit part h.least)
 

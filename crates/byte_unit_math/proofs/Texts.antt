@@ -15,11 +15,11 @@ use Rattle.std.specs.Int.{abs_diff}
 use Rattle.byte_unit_math.specs.Nearest.{IsNearest}
 use Rattle.byte_unit_math.specs.declared.expansion.Ties.{Ties}
 use Rattle.byte_unit_math.specs.declared.expansion.Ties.TheVariants.{Even, Up}
-use Rattle.byte_unit_math.specs.Finite.{Finite, value_of, scaled, IsExpansion}
-use Rattle.byte_unit_math.specs.Digits.{last_digits, at_places, before, without_zeros, shortened, expansion_of}
+use Rattle.byte_unit_math.specs.Finite.{Finite, value_of_digits, ulps_of, IsExpansion}
+use Rattle.byte_unit_math.specs.Digits.{last_digits, at_places, prepend_digit, trim_zeros, trim_expansion, expansion_of}
 use Rattle.byte_unit_math.specs.NumberLaws.{ExpansionsAreFoundByDivision, ShortNumeralsAreExpansions}
-use Rattle.byte_unit_math.specs.Numeral.{text_of, numeral, short}
-use Rattle.byte_unit_math.specs.Padded.{padded}
+use Rattle.byte_unit_math.specs.Numeral.{text_of, numeral, short_numeral}
+use Rattle.byte_unit_math.specs.Padded.{pad_of}
 use Rattle.byte_unit_math.proofs.Digits.{one_le_pow10, value_cons, value_append_zeros, length_last_digits}
 use Rattle.byte_unit_math.proofs.Digits.{last_digits_below_ten, scaled_at_places, ShortOf-shortened}
 use Rattle.byte_unit_math.proofs.Expanding.{expansion_of_digits}
@@ -30,7 +30,7 @@ use Rattle.byte_unit_math.proofs.Cut.{value_below_power}
 abbrev AllBelowTen : List ℕ → Type 0
 AllBelowTen ds = All (λ d. d < 10) ds
 
-same_digits : (ds es : List ℕ) → AllBelowTen ds → AllBelowTen es → length ds ≡ length es → value_of ds ≡ value_of es
+same_digits : (ds es : List ℕ) → AllBelowTen ds → AllBelowTen es → length ds ≡ length es → value_of_digits ds ≡ value_of_digits es
     → ds ≡ es
 same_digits [] [] h k len e = refl
 same_digits [] (x ∷ es) h k len e = absurd (omega (arith, len))
@@ -40,21 +40,21 @@ same_digits (d ∷ ds) (x ∷ es) h k len e =
     let hs = All-tail (λ d. d < 10) d ds h in
     let ks = All-tail (λ d. d < 10) x es k in
     let scale : 10 ^ length es ≡ 10 ^ length ds = ap (λ n. 10 ^ n) (sym l) in
-    let small : value_of es < 10 ^ length ds = omega (arith, value_below_power es ks, scale) in
+    let small : value_of_digits es < 10 ^ length ds = omega (arith, value_below_power es ks, scale) in
     let product = ap (λ n. x * n) scale in
     let parts =
-    same_from_place d (value_of ds) x (value_of es) (10 ^ length ds) (value_below_power ds hs) small
+    same_from_place d (value_of_digits ds) x (value_of_digits es) (10 ^ length ds) (value_below_power ds hs) small
     (omega (arith, product, value_cons d ds, value_cons x es, e)) in
     ap (λ n. n ∷ ds) parts.0 ∙ ap (λ l. x ∷ l) (same_digits ds es hs ks l parts.1)
 
 -- Two decimals with as many digits after the point and the same scaled value are equal.
 pub same_finite : (e f : Finite) → AllBelowTen e.digits → AllBelowTen f.digits → length e.digits ≡ length f.digits
-    → scaled e ≡ scaled f → e ≡ f
+    → ulps_of e ≡ ulps_of f → e ≡ f
 same_finite e f h k len same =
     let scale : 10 ^ length f.digits ≡ 10 ^ length e.digits = ap (λ n. 10 ^ n) (sym len) in
     let product = ap (λ n. f.whole * n) scale in
     let parts =
-    same_from_place e.whole (value_of e.digits) f.whole (value_of f.digits) (10 ^ length e.digits)
+    same_from_place e.whole (value_of_digits e.digits) f.whole (value_of_digits f.digits) (10 ^ length e.digits)
     (value_below_power e.digits h)
     (omega (arith, value_below_power f.digits k, scale)) (omega (arith, same, product)) in
     let digits = same_digits e.digits f.digits h k len parts.1 in
@@ -65,11 +65,11 @@ same_finite e f h k len same =
 -- A fraction has only one expansion.
 pub expansion_unique : (num den : ℕ) (e f : Finite) → 0 < den → IsExpansion num den e → IsExpansion num den f → e ≡ f
 expansion_unique num den e f positive h k =
-    let no_more = h.least (length f.digits) (scaled f, k.exact) in
-    let no_fewer = k.least (length e.digits) (scaled e, h.exact) in
+    let no_more = h.least (length f.digits) (ulps_of f, k.exact) in
+    let no_fewer = k.least (length e.digits) (ulps_of e, h.exact) in
     let len : length e.digits ≡ length f.digits = omega (arith, no_more, no_fewer) in
-    let same : scaled e * den ≡ scaled f * den = sym h.exact ∙ (ap (λ n. num * 10 ^ n) len ∙ k.exact) in
-    same_finite e f h.small k.small len (eq_of_mul-eq-mul_right den positive (scaled e) (scaled f) same)
+    let same : ulps_of e * den ≡ ulps_of f * den = sym h.exact ∙ (ap (λ n. num * 10 ^ n) len ∙ k.exact) in
+    same_finite e f h.small k.small len (eq_of_mul-eq-mul_right den positive (ulps_of e) (ulps_of f) same)
 
 -- The last digit is not zero.
 abbrev EndsSome : List ℕ → Type 0
@@ -77,15 +77,15 @@ EndsSome [] = ⊤
 EndsSome (d ∷ []) = 0 < d
 EndsSome (d ∷ e ∷ es) = EndsSome (e ∷ es)
 
-ends_before_digit : (d : ℕ) (es : List ℕ) → EndsSome es → EndsSome (before d es)
+ends_before_digit : (d : ℕ) (es : List ℕ) → EndsSome es → EndsSome (prepend_digit d es)
 ends_before_digit zero [] h = h
 ends_before_digit (suc d) [] h = omega arith
 ends_before_digit zero (e ∷ es) h = h
 ends_before_digit (suc d) (e ∷ es) h = h
 
-ends_without_zeros : (ds : List ℕ) → EndsSome (without_zeros ds)
+ends_without_zeros : (ds : List ℕ) → EndsSome (trim_zeros ds)
 ends_without_zeros [] = tt
-ends_without_zeros (d ∷ ds) = ends_before_digit d (without_zeros ds) (ends_without_zeros ds)
+ends_without_zeros (d ∷ ds) = ends_before_digit d (trim_zeros ds) (ends_without_zeros ds)
 
 ends_last : (ds : List ℕ) → EndsSome ds → 0 < length ds → 0 < get_or ds (length ds - 1) 0
 ends_last [] h k = absurd (omega (arith, k))
@@ -101,10 +101,10 @@ ends_last (d ∷ e ∷ es) h k =
 -- q / 10^p without trailing zeros is its expansion.
 pub short_numeral_is_expansion : ShortNumeralsAreExpansions
 short_numeral_is_expansion q p =
-    let e = shortened (at_places p q) in
+    let e = trim_expansion (at_places p q) in
     let is_short = ShortOf-shortened q p in
     let exact = ap (λ n. n * 10 ^ length e.digits) is_short.scaled_is in
-    let product = ap (λ n. scaled e * n) (pow10_split (length e.digits) p is_short.few) in
+    let product = ap (λ n. ulps_of e * n) (pow10_split (length e.digits) p is_short.few) in
     expansion_of_digits q (10 ^ p) e.whole e.digits (omega (arith, one_le_pow10 p))
     (record {
       small = is_short.small;
@@ -113,13 +113,13 @@ short_numeral_is_expansion q p =
     })
 
 -- The text of the expansion of q / 10^p is the numeral of q without trailing zeros.
-pub text_of_short_numeral : (q p : ℕ) (e : Finite) → IsExpansion q (10 ^ p) e → text_of e ≡ short q p
+pub text_of_short_numeral : (q p : ℕ) (e : Finite) → IsExpansion q (10 ^ p) e → text_of e ≡ short_numeral q p
 text_of_short_numeral q p e h =
-    ap text_of (expansion_unique q (10 ^ p) e (shortened (at_places p q)) (omega (arith, one_le_pow10 p)) h
+    ap text_of (expansion_unique q (10 ^ p) e (trim_expansion (at_places p q)) (omega (arith, one_le_pow10 p)) h
     (short_numeral_is_expansion q p))
 
 -- The expansion of q / 10^p, padded with zeros to p digits after the point, has the digits of q.
-pub padded_is_at_places : (q p : ℕ) (e : Finite) → IsExpansion q (10 ^ p) e → padded p e ≡ at_places p q
+pub padded_is_at_places : (q p : ℕ) (e : Finite) → IsExpansion q (10 ^ p) e → pad_of p e ≡ at_places p q
 padded_is_at_places q p e h =
     let len = length e.digits in
     let few : len ≤ p = h.least p (q, refl) in
@@ -131,12 +131,12 @@ padded_is_at_places q p e h =
     omega (arith, length-append e.digits zeros, length-replicate {A = ℕ} (p - len) 0, few) in
     let power = pow10_split len p few in
     let whole = ap (λ n. e.whole * n) power in
-    let number = ap (λ n. scaled e * n) power in
+    let number = ap (λ n. ulps_of e * n) power in
     let value = ap (λ n. n * 10 ^ len) (value_append_zeros e.digits (p - len)) in
-    let scaled_f : scaled f ≡ e.whole * 10 ^ p + value_of f.digits =
-    ap (λ n. e.whole * 10 ^ n + value_of f.digits) count in
-    let same : scaled f ≡ q =
-    eq_of_mul-eq-mul_right (10 ^ len) (omega (arith, one_le_pow10 len)) (scaled f) q
+    let scaled_f : ulps_of f ≡ e.whole * 10 ^ p + value_of_digits f.digits =
+    ap (λ n. e.whole * 10 ^ n + value_of_digits f.digits) count in
+    let same : ulps_of f ≡ q =
+    eq_of_mul-eq-mul_right (10 ^ len) (omega (arith, one_le_pow10 len)) (ulps_of f) q
     (omega (arith, ap (λ n. n * 10 ^ len) scaled_f, whole, number, value, h.exact, ap (λ n. n * 10 ^ len) whole)) in
     let small = All-append (λ d. d < 10) e.digits zeros h.small
     (All-replicate (λ d. d < 10) (p - len) 0 (omega arith)) in
@@ -144,11 +144,11 @@ padded_is_at_places q p e h =
     (count ∙ sym (length_last_digits p q)) (same ∙ sym (scaled_at_places p q))
 
 -- The text of the expansion of q / 10^p, padded to p digits after the point, is the numeral with all p digits.
-pub text_of_padded : (q p : ℕ) (e : Finite) → IsExpansion q (10 ^ p) e → text_of (padded p e) ≡ numeral q p
+pub text_of_padded : (q p : ℕ) (e : Finite) → IsExpansion q (10 ^ p) e → text_of (pad_of p e) ≡ numeral q p
 text_of_padded q p e h = ap text_of (padded_is_at_places q p e h)
 
 -- Padded to its own number of digits after the point, a decimal is unchanged.
-pub padded_to_own_places : (e : Finite) → padded (length e.digits) e ≡ e
+pub padded_to_own_places : (e : Finite) → pad_of (length e.digits) e ≡ e
 padded_to_own_places e =
     let none : length e.digits - length e.digits ≡ 0 = omega arith in
     let of_count : ℕ → Finite =
@@ -174,11 +174,11 @@ difference_times a b k =
 
 -- What is nearest to the expansion of a fraction is nearest to the fraction.
 pub nearest_of_expansion :
-    (num den : ℕ) (e : Finite) (p : ℕ) (ties : Ties) (q : ℕ) → (0 < den) × (num * 10 ^ length e.digits ≡ scaled e * den)
-    → IsNearest (scaled e) (10 ^ length e.digits) p ties q → IsNearest num den p ties q
+    (num den : ℕ) (e : Finite) (p : ℕ) (ties : Ties) (q : ℕ) → (0 < den) × (num * 10 ^ length e.digits ≡ ulps_of e * den)
+    → IsNearest (ulps_of e) (10 ^ length e.digits) p ties q → IsNearest num den p ties q
 nearest_of_expansion num den e p ties q is_exact h =
     let power = 10 ^ length e.digits in
-    let number = scaled e in
+    let number = ulps_of e in
     let some : 0 < power = omega (arith, one_le_pow10 (length e.digits)) in
     let goal_is : number * 10 ^ p * den ≡ num * 10 ^ p * power = let exact = ap (λ n. n * 10 ^ p) is_exact.1 in
     omega (arith, exact) in
@@ -224,17 +224,17 @@ expansion_of_same_fraction num den num' den' e same h =
     record { positive = same.positive'; positive' = same.positive; same = sym same.same } in
     record {
       small = h.small;
-      exact = same_places num' den' num den (length e.digits) (scaled e) swapped h.exact;
+      exact = same_places num' den' num den (length e.digits) (ulps_of e) swapped h.exact;
       least = λ p k. h.least p (k.0, same_places num den num' den' p k.0 same k.1);
     }
 
 expansion_at : (num den p : ℕ) → 0 < den → IsExactAt num den p
-    → IsExpansion num den (shortened (at_places p (num * 10 ^ p / den)))
+    → IsExpansion num den (trim_expansion (at_places p (num * 10 ^ p / den)))
 expansion_at num den p some h =
     let quotient : num * 10 ^ p / den ≡ h.0 = ap (λ n. n / den) h.1 ∙ mul-div_cancel h.0 some in
-    let ExpandsTo : ℕ → Type 0 = λ q. IsExpansion num den (shortened (at_places p q)) in
+    let ExpandsTo : ℕ → Type 0 = λ q. IsExpansion num den (trim_expansion (at_places p q)) in
     subst ExpandsTo (sym quotient)
-    (expansion_of_same_fraction h.0 (10 ^ p) num den (shortened (at_places p h.0))
+    (expansion_of_same_fraction h.0 (10 ^ p) num den (trim_expansion (at_places p h.0))
     (record { positive = omega (arith, one_le_pow10 p); positive' = some; same = sym h.1 })
     (short_numeral_is_expansion h.0 p))
 
@@ -254,9 +254,10 @@ expansion_is_by_division num den e some ends h =
 -- If num / den is exact with 93 digits after the point, its expansions are exactly the quotient cut off there.
 pub expansions_by_division : ExpansionsAreFoundByDivision
 expansions_by_division num den e other ends =
-    let some : 0 < den = ⊎_elim (λ l. l) (λ k. absurd (other (omega (arith, k)))) (cases_lt 0 den) in
-    (λ h. expansion_is_by_division num den e some ends h,
-    λ is. subst (IsExpansion num den) (sym is) (expansion_of_is_expansion num den some ends))
+    let some : 0 < den = ⊎_elim (λ l. l) (λ k. absurd (other (omega (arith, k)))) (cases_lt 0 den) in (
+      λ h. expansion_is_by_division num den e some ends h,
+      λ is. subst (IsExpansion num den) (sym is) (expansion_of_is_expansion num den some ends),
+    )
 
 -- q and r are both nearest to num / den.
 pub record BothNearest (num den p : ℕ) (ties : Ties) (q r : ℕ) : Type 0 where

@@ -6,8 +6,8 @@ abbrev pub places_of_decimal : ℕ
 places_of_decimal = 28
 
 -- 10^28, the scale of decimals: a `Decimal` is seen as its value times 10^28, a natural number N.
-abbrev pub one : ℕ
-one = 10 ^ places_of_decimal
+abbrev pub scale : ℕ
+scale = 10 ^ places_of_decimal
 
 -- The whole part of a decimal is below 2^112.
 abbrev pub whole_limit : ℕ

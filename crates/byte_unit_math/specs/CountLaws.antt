@@ -1,7 +1,7 @@
 -- The law of step counts that have reached their maximum.
 use Rattle.std.specs.Prelude.{◌≡◌, ℕ}
-use Rattle.byte_unit_math.specs.Steps.{last_count, raised}
+use Rattle.byte_unit_math.specs.Steps.{max_count, saturating_add}
 
 -- A step count of 2^64 - 1 stays as it is, however many steps are added.
 abbrev pub GreatestCountStays : Type 0
-GreatestCountStays = (ticks : ℕ) → raised last_count ticks ≡ last_count
+GreatestCountStays = (ticks : ℕ) → saturating_add max_count ticks ≡ max_count

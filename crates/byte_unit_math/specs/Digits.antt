@@ -13,20 +13,20 @@ abbrev pub at_places : ℕ → ℕ → Finite
 at_places p q = record { whole = q / 10 ^ p; digits = last_digits p q }
 
 -- Prepends a digit to digits after the point, except a zero to none: it would be a trailing zero.
-abbrev pub before : ℕ → List ℕ → List ℕ
-before zero [] = []
-before (suc d) [] = suc d ∷ []
-before d (e ∷ es) = d ∷ e ∷ es
+abbrev pub prepend_digit : ℕ → List ℕ → List ℕ
+prepend_digit zero [] = []
+prepend_digit (suc d) [] = suc d ∷ []
+prepend_digit d (e ∷ es) = d ∷ e ∷ es
 
 -- The digits without trailing zeros.
-abbrev pub without_zeros : List ℕ → List ℕ
-without_zeros [] = []
-without_zeros (d ∷ ds) = before d (without_zeros ds)
+abbrev pub trim_zeros : List ℕ → List ℕ
+trim_zeros [] = []
+trim_zeros (d ∷ ds) = prepend_digit d (trim_zeros ds)
 
 -- The same decimal without trailing zeros after the point.
-abbrev pub shortened : Finite → Finite
-shortened e = record { whole = e.whole; digits = without_zeros e.digits }
+abbrev pub trim_expansion : Finite → Finite
+trim_expansion e = record { whole = e.whole; digits = trim_zeros e.digits }
 
 -- The quotient num / den, cut off after 93 digits after the point and without trailing zeros.
 abbrev pub expansion_of : ℕ → ℕ → Finite
-expansion_of num den = shortened (at_places expansion_places (num * 10 ^ expansion_places / den))
+expansion_of num den = trim_expansion (at_places expansion_places (num * 10 ^ expansion_places / den))

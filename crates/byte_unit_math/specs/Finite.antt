@@ -16,17 +16,17 @@ finite_code =
     (λ p. record { whole = p.0; digits = p.1 }) (λ _. refl)
 
 -- The number with these decimal digits, the most significant first; 0 if there are none.
-abbrev pub value_of : List ℕ → ℕ
-value_of digits = fold (λ n d. n * 10 + d) 0 digits
+abbrev pub value_of_digits : List ℕ → ℕ
+value_of_digits digits = fold (λ n d. n * 10 + d) 0 digits
 
 -- The decimal times 10^d, a whole number, where d is the number of its digits after the point.
-abbrev pub scaled : Finite → ℕ
-scaled e = e.whole * 10 ^ length e.digits + value_of e.digits
+abbrev pub ulps_of : Finite → ℕ
+ulps_of e = e.whole * 10 ^ length e.digits + value_of_digits e.digits
 
 -- `e` is the quotient num / den as a decimal, with the fewest digits after the point that are exact.
 pub record IsExpansion (num den : ℕ) (e : Finite) : Type 0 where
   pub small : All (λ d. d < 10) e.digits
-  pub exact : num * 10 ^ length e.digits ≡ scaled e * den
+  pub exact : num * 10 ^ length e.digits ≡ ulps_of e * den
   pub least : (p : ℕ) → IsExactAt num den p → length e.digits ≤ p
 
 -- The decimal cut off after its first `places` digits after the point.

@@ -2,8 +2,8 @@
 use Rattle.std.specs.Prelude.{◌≡◌, ◌≢◌, ◌↔◌, ℕ, ◌+◌, ◌*◌, ◌^◌, ◌≤◌}
 use Rattle.byte_unit_math.specs.Bounds.{expansion_places}
 use Rattle.byte_unit_math.specs.Exact.{IsExactAt, IsLeastPlaces}
-use Rattle.byte_unit_math.specs.Finite.{Finite, IsExpansion, scaled}
-use Rattle.byte_unit_math.specs.Digits.{at_places, expansion_of, shortened}
+use Rattle.byte_unit_math.specs.Finite.{Finite, IsExpansion, ulps_of}
+use Rattle.byte_unit_math.specs.Digits.{at_places, expansion_of, trim_expansion}
 use Rattle.byte_unit_math.specs.Powers.{IsTwoFive, HasTwoFive, TakesLackingPlaces}
 
 -- A fraction num / (2^a * 5^b) is exact with p digits after the point if and only if a and b are at most p plus the
@@ -33,10 +33,10 @@ ExpansionsAreFoundByDivision = (num den : ℕ) (e : Finite) → den ≢ 0 → Is
 
 -- A number with a point before its last `places` digits has the same digits: without the point it is the number again.
 abbrev pub NumeralsAreExact : Type 0
-NumeralsAreExact = (number places : ℕ) → scaled (at_places places number) ≡ number
+NumeralsAreExact = (number places : ℕ) → ulps_of (at_places places number) ≡ number
 
 -- A number with a point before its last `places` digits and without trailing zeros is the expansion of number /
 -- 10^places.
 abbrev pub ShortNumeralsAreExpansions : Type 0
 ShortNumeralsAreExpansions =
-    (number places : ℕ) → IsExpansion number (10 ^ places) (shortened (at_places places number))
+    (number places : ℕ) → IsExpansion number (10 ^ places) (trim_expansion (at_places places number))

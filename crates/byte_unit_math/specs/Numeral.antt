@@ -1,7 +1,7 @@
 -- The text of decimals.
 use Rattle.std.specs.Prelude.{ℕ, ◌+◌, List, [], ◌∷◌, ◌++◌, map}
 use Rattle.std.specs.Fmt.{decimal}
-use Rattle.byte_unit_math.specs.Digits.{at_places, shortened}
+use Rattle.byte_unit_math.specs.Digits.{at_places, trim_expansion}
 use Rattle.byte_unit_math.specs.Finite.{Finite}
 
 -- The digits as ASCII characters.
@@ -22,5 +22,5 @@ abbrev pub numeral : ℕ → ℕ → List ℕ
 numeral q p = text_of (at_places p q)
 
 -- The text of q / 10^p without trailing zeros, nor a point if no digit is after it: 1.5 for q = 150 and p = 2.
-abbrev pub short : ℕ → ℕ → List ℕ
-short q p = text_of (shortened (at_places p q))
+abbrev pub short_numeral : ℕ → ℕ → List ℕ
+short_numeral q p = text_of (trim_expansion (at_places p q))

@@ -2,9 +2,9 @@
 use Rattle.std.specs.Prelude.{ℕ, ◌+◌, ◌-◌, ◌^◌, min, max}
 
 -- The largest step count, 2^64 - 1.
-abbrev pub last_count : ℕ
-last_count = 2 ^ 64 - 1
+abbrev pub max_count : ℕ
+max_count = 2 ^ 64 - 1
 
 -- The step count after `ticks` more steps. It saturates at 2^64 - 1, and never falls.
-abbrev pub raised : ℕ → ℕ → ℕ
-raised count ticks = max count (min (count + ticks) last_count)
+abbrev pub saturating_add : ℕ → ℕ → ℕ
+saturating_add count ticks = max count (min (count + ticks) max_count)

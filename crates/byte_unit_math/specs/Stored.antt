@@ -6,8 +6,8 @@ use Rattle.byte_unit_math.specs.Finite.{Finite}
 use Rattle.byte_unit_math.specs.declared.expansion.Expansion.TheInside.{Inside}
 
 -- The decimal of the fields: the whole part, and the first `places` digits of the array.
-abbrev pub view_of : Inside → Finite
-view_of e = record { whole = e.whole; digits = take e.places e.digits }
+abbrev pub expansion_view : Inside → Finite
+expansion_view e = record { whole = e.whole; digits = take e.places e.digits }
 
 -- The array holds the digits after the point, the last of them not zero, and then zeros. The whole part is at most
 -- 2^112, and below it if there are such digits: rounding up can add one to it, and then leaves no digits.
@@ -21,7 +21,7 @@ pub record IsStored (e : Inside) : Type 0 where
   pub room : 0 < e.places → e.whole < whole_limit
 
 -- The fields of a decimal: its digits after the point, and zeros up to the length of the array, 93.
-abbrev pub fields_of : Finite → Inside
-fields_of v =
+abbrev pub expansion_fields : Finite → Inside
+expansion_fields v =
     let zeros = replicate (expansion_places - length v.digits) 0 in
     record { whole = v.whole; digits = v.digits ++ zeros; places = length v.digits }

@@ -4,9 +4,9 @@ ghost use Rattle.std.specs.Cmp.{partial_order_from_own_ties, partial_equiv_from_
 ghost use Rattle.std.specs.Cmp.Rules.{comparing};
 ghost use Rattle.std.specs.Ordering.{nat_cmp, as_partial_cmp};
 ghost use Rattle.std.proofs.Common.{rules};
-ghost use Rattle.byte_unit_math.specs.Bounds.{one, places_of_decimal, whole_limit};
+ghost use Rattle.byte_unit_math.specs.Bounds.{scale, places_of_decimal, whole_limit};
 ghost use Rattle.byte_unit_math.specs.Exact.{IsLeastPlaces};
-ghost use Rattle.byte_unit_math.specs.Numeral.{short};
+ghost use Rattle.byte_unit_math.specs.Numeral.{short_numeral};
 
 use crate::expansion::Expansion;
 use crate::tens::power_of_ten;
@@ -38,17 +38,17 @@ pub struct Decimal {
 impl Model for Decimal {
     ghost use Rattle.std.specs.Prelude.{ℕ};
     ghost use Rattle.std.specs.Coded.{coded_ℕ};
-    ghost use Rattle.byte_unit_math.specs.StoredDecimal.{number_of, IsShort, fields_of};
+    ghost use Rattle.byte_unit_math.specs.StoredDecimal.{decimal_value, IsNormalized, decimal_fields};
 
     ghost Value = { ℕ };
 
     ghost coded = { coded_ℕ };
 
-    ghost view = { number_of };
+    ghost view = { decimal_value };
 
-    ghost invariant = { IsShort };
+    ghost invariant = { IsNormalized };
 
-    ghost inverse = { fields_of };
+    ghost inverse = { decimal_fields };
 
     // Without trailing zeros, the fields are unique.
     ghost inverse_ok = { λ d h. h.only };
@@ -74,7 +74,8 @@ impl Decimal {
     /// assert_eq!(rt; Decimal::new(1, 10u128.pow(28)), None);
     /// ```
     pub fn new(whole: u128, fraction: u128) -> Option<Decimal>
-        ensures { SomeIff result ((whole < whole_limit) × (fraction < one)) (whole * one + fraction) }
+        ensures { SomeIff result ((whole < whole_limit) × (fraction < scale))
+            (whole * scale + fraction) }
     {
         if whole < WHOLE_LIMIT && fraction < ONE {
             Some(Decimal::from_digits(whole, fraction, DECIMAL_PLACES))
@@ -94,7 +95,7 @@ impl Decimal {
     /// assert_eq!(rt; Decimal::from_u128(1 << 112), None);
     /// ```
     pub fn from_u128(n: u128) -> Option<Decimal>
-        ensures { SomeIff result (n < whole_limit) (n * one) }
+        ensures { SomeIff result (n < whole_limit) (n * scale) }
     {
         if n < WHOLE_LIMIT {
             Some(Decimal::from_digits(n, 0, 0))
@@ -103,7 +104,7 @@ impl Decimal {
         }
     }
 
-    /// Creates `mantissa / 10^scale`. Returns `None` if `scale` exceeds 28 or the whole part is 2^112 or more.
+    /// Creates `mantissa / 10^places`. Returns `None` if `places` exceeds 28 or the whole part is 2^112 or more.
     ///
     /// # Examples
     ///
@@ -114,18 +115,18 @@ impl Decimal {
     /// assert_eq!(rt; (d.whole(), d.digits(), d.places()), (50, 84, 2));
     /// assert_eq!(rt; Decimal::from_u128_with_scale(1, 29), None);
     /// ```
-    pub fn from_u128_with_scale(mantissa: u128, scale: u32) -> Option<Decimal>
+    pub fn from_u128_with_scale(mantissa: u128, places: u32) -> Option<Decimal>
         ensures { SomeIff result
-            ((scale ≤ places_of_decimal) × (mantissa / 10 ^ scale < whole_limit))
-            (mantissa * 10 ^ (places_of_decimal - scale)) }
+            ((places ≤ places_of_decimal) × (mantissa / 10 ^ places < whole_limit))
+            (mantissa * 10 ^ (places_of_decimal - places)) }
     {
-        if scale > DECIMAL_PLACES {
+        if places > DECIMAL_PLACES {
             return None;
         }
-        let unit = power_of_ten(scale);
+        let unit = power_of_ten(places);
         let whole = mantissa / unit;
         if whole < WHOLE_LIMIT {
-            Some(Decimal::from_digits(whole, mantissa % unit, scale))
+            Some(Decimal::from_digits(whole, mantissa % unit, places))
         } else {
             None
         }
@@ -148,7 +149,7 @@ impl Decimal {
         requires whole { whole < whole_limit }
         requires places { places ≤ places_of_decimal }
         requires digits { digits < 10 ^ places }
-        ensures { result ≡ whole * one + digits * 10 ^ (places_of_decimal - places) }
+        ensures { result ≡ whole * scale + digits * 10 ^ (places_of_decimal - places) }
     {
         if digits >= 1 << 64 {
             return Decimal::from_wide_digits(whole, digits, places);
@@ -172,7 +173,7 @@ impl Decimal {
         requires whole { whole < whole_limit }
         requires places { places ≤ places_of_decimal }
         requires digits { digits < 10 ^ places }
-        ensures { result ≡ whole * one + digits * 10 ^ (places_of_decimal - places) }
+        ensures { result ≡ whole * scale + digits * 10 ^ (places_of_decimal - places) }
     {
         let mut short = digits;
         let mut left = places;
@@ -198,7 +199,7 @@ impl Decimal {
     /// assert_eq!(rt; Decimal::from(7u8).whole(), 7);
     /// ```
     pub fn whole(self) -> u128
-        ensures value { result ≡ self / one }
+        ensures value { result ≡ self / scale }
         ensures bound { result < whole_limit }
     {
         self.whole
@@ -215,8 +216,8 @@ impl Decimal {
     /// assert_eq!(rt; Decimal::from(7u8).fraction(), 0);
     /// ```
     pub fn fraction(self) -> u128
-        ensures value { result ≡ self % one }
-        ensures bound { result < one }
+        ensures value { result ≡ self % scale }
+        ensures bound { result < scale }
     {
         self.digits * power_of_ten(DECIMAL_PLACES - self.places)
     }
@@ -233,7 +234,7 @@ impl Decimal {
     /// ```
     pub fn places(self) -> u32
         ensures bound { result ≤ places_of_decimal }
-        ensures least { IsLeastPlaces self one result }
+        ensures least { IsLeastPlaces self scale result }
     {
         self.places
     }
@@ -249,16 +250,16 @@ impl Decimal {
     /// assert_eq!(rt; Decimal::from(7u8).digits(), 0);
     /// ```
     pub fn digits(self) -> u128
-        ensures value { (places : ℕ) → IsLeastPlaces self one places
-            → result * 10 ^ (places_of_decimal - places) ≡ self % one }
-        ensures bound { (places : ℕ) → IsLeastPlaces self one places → result < 10 ^ places }
+        ensures value { (places : ℕ) → IsLeastPlaces self scale places
+            → result * 10 ^ (places_of_decimal - places) ≡ self % scale }
+        ensures bound { (places : ℕ) → IsLeastPlaces self scale places → result < 10 ^ places }
     {
         self.digits
     }
 }
 
 impl From<u8> for Decimal {
-    ghost from_gives = { λ n d. d ≡ n * one };
+    ghost from_gives = { λ n d. d ≡ n * scale };
 
     fn from(n: u8) -> Decimal {
         Decimal::from(u64::from(n))
@@ -266,7 +267,7 @@ impl From<u8> for Decimal {
 }
 
 impl From<u16> for Decimal {
-    ghost from_gives = { λ n d. d ≡ n * one };
+    ghost from_gives = { λ n d. d ≡ n * scale };
 
     fn from(n: u16) -> Decimal {
         Decimal::from(u64::from(n))
@@ -274,7 +275,7 @@ impl From<u16> for Decimal {
 }
 
 impl From<u32> for Decimal {
-    ghost from_gives = { λ n d. d ≡ n * one };
+    ghost from_gives = { λ n d. d ≡ n * scale };
 
     fn from(n: u32) -> Decimal {
         Decimal::from(u64::from(n))
@@ -282,7 +283,7 @@ impl From<u32> for Decimal {
 }
 
 impl From<u64> for Decimal {
-    ghost from_gives = { λ n d. d ≡ n * one };
+    ghost from_gives = { λ n d. d ≡ n * scale };
 
     fn from(n: u64) -> Decimal {
         Decimal::from_digits(u128::from(n), 0, 0)
@@ -339,9 +340,9 @@ impl PartialOrd for Decimal {
 
 /// Writes the whole part and, if the fraction is not zero, a point and its digits without trailing zeros.
 impl fmt::Display for Decimal {
-    ghost output = { λ d. Some (short d places_of_decimal) };
+    ghost output = { λ d. Some (short_numeral d places_of_decimal) };
 
-    ghost styled_output = { λ d spec. Some (short d places_of_decimal) };
+    ghost styled_output = { λ d spec. Some (short_numeral d places_of_decimal) };
 
     fn fmt<W: fmt::Write>(&self, f: &mut fmt::Formatter<W>) -> fmt::Result {
         Expansion::from_decimal(*self).fmt(f)

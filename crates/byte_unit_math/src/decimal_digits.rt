@@ -203,7 +203,8 @@ pub fn put_fraction(digits: u128, places: u32, bytes: &mut [u8], end: usize) -> 
     requires room { length (fraction_text (last_digits places digits)) ≤ end }
     requires within { end ≤ length bytes.old }
     ensures begins { result + length (fraction_text (last_digits places digits)) ≡ end }
-    ensures digits { drop result bytes.new ≡ fraction_text (last_digits places digits) ++ drop end bytes.old }
+    ensures digits { drop result bytes.new
+        ≡ fraction_text (last_digits places digits) ++ drop end bytes.old }
     ensures ascii { IsAscii (fraction_text (last_digits places digits)) }
 {
     if places == 0 {

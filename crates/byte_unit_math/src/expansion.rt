@@ -4,9 +4,9 @@ ghost use Rattle.std.specs.Prelude.{replicate, slice_index, IsAscii, Some};
 ghost use Rattle.std.specs.List.{All};
 ghost use Rattle.std.specs.Bool.{MatchBool};
 ghost use Rattle.std.specs.Fmt.{DisplaysOnOk, DisplaysStyledOnOk};
-ghost use Rattle.byte_unit_math.specs.Bounds.{bits_limit, expansion_places, one, unit_limit, whole_limit};
+ghost use Rattle.byte_unit_math.specs.Bounds.{bits_limit, expansion_places, scale, unit_limit, whole_limit};
 ghost use Rattle.byte_unit_math.specs.Exact.{IsExactAt};
-ghost use Rattle.byte_unit_math.specs.Finite.{IsExpansion, scaled, cut_after};
+ghost use Rattle.byte_unit_math.specs.Finite.{IsExpansion, ulps_of, cut_after};
 ghost use Rattle.byte_unit_math.specs.Nearest.{IsNearest};
 ghost use Rattle.byte_unit_math.specs.Numeral.{fraction_text, glyphs, text_of};
 
@@ -40,7 +40,7 @@ pub struct Expansion {
 
 impl Model for Expansion {
     ghost use Rattle.byte_unit_math.specs.Finite.{Finite, finite_code};
-    ghost use Rattle.byte_unit_math.specs.Stored.{view_of, IsStored, fields_of};
+    ghost use Rattle.byte_unit_math.specs.Stored.{expansion_view, IsStored, expansion_fields};
     ghost use Rattle.std.specs.Prelude.{◌≤◌};
     ghost use Rattle.std.proofs.Common.{length-take-le, take-append-drop, sym, refl, subst};
 
@@ -48,11 +48,11 @@ impl Model for Expansion {
 
     ghost coded = { finite_code };
 
-    ghost view = { view_of };
+    ghost view = { expansion_view };
 
     ghost invariant = { IsStored };
 
-    ghost inverse = { fields_of };
+    ghost inverse = { expansion_fields };
 
     // The array holds the digits of the model and then zeros.
     ghost inverse_ok = { λ e h. let few = subst (λ n. e.places ≤ n) (sym h.size) h.few in
@@ -93,7 +93,7 @@ impl Expansion {
     /// assert_eq!(rt; (e.whole(), e.places(), e.digit(3)), (50, 3, 4));
     /// ```
     pub fn from_decimal(d: Decimal) -> Expansion
-        ensures { IsExpansion d one result }
+        ensures { IsExpansion d scale result }
     {
         divide(d.whole(), d.fraction(), ONE)
     }
@@ -162,7 +162,7 @@ impl Expansion {
     /// ```
     pub fn rounded(&self, places: u32, ties: Ties) -> Expansion
         ensures { (q : ℕ)
-            × IsNearest (scaled self.now) (10 ^ length self.now.digits) places ties q
+            × IsNearest (ulps_of self.now) (10 ^ length self.now.digits) places ties q
             × IsExpansion q (10 ^ places) result }
     {
         if self.places <= places {
@@ -177,8 +177,9 @@ impl Expansion {
     /// Returns whether rounding to `places` digits goes up.
     fn rounds_up(&self, places: u32, ties: Ties) -> bool
         requires { places < length self.now.digits }
-        ensures { let nearest = IsNearest (scaled self.now) (10 ^ length self.now.digits) places ties in
-            let cut = scaled (cut_after places self.now) in
+        ensures { let nearest = IsNearest (ulps_of self.now)
+            (10 ^ length self.now.digits) places ties in
+            let cut = ulps_of (cut_after places self.now) in
             MatchBool result (nearest (cut + 1)) (nearest cut) }
     {
         let count = self.places;
@@ -199,7 +200,7 @@ impl Expansion {
     /// Returns whether the last digit is odd if the number is rounded down to `places` digits.
     fn is_odd_at(&self, places: u32) -> bool
         requires { places < length self.now.digits }
-        ensures { let cut = scaled (cut_after places self.now) in
+        ensures { let cut = ulps_of (cut_after places self.now) in
             MatchBool result (cut % 2 ≡ 1) (cut % 2 ≡ 0) }
     {
         if places == 0 {
@@ -213,7 +214,8 @@ impl Expansion {
     fn trim_end_len(&self, places: u32, last: u8) -> u32
         requires { places ≤ length self.now.digits }
         ensures few { result ≤ places }
-        ensures same { take places self.now.digits ≡ take result self.now.digits ++ replicate (places - result) last }
+        ensures same { take places self.now.digits
+            ≡ take result self.now.digits ++ replicate (places - result) last }
         ensures stops { 0 < result → slice_index self.now.digits (result - 1) ≢ last }
     {
         let mut kept = places;
@@ -243,7 +245,7 @@ impl Expansion {
     /// Rounds down to `places` digits after the point.
     fn floor_to(&self, places: u32) -> Expansion
         requires { places ≤ length self.now.digits }
-        ensures { IsExpansion (scaled (cut_after places self.now)) (10 ^ places) result }
+        ensures { IsExpansion (ulps_of (cut_after places self.now)) (10 ^ places) result }
     {
         let kept = self.trim_end_len(places, 0);
         Expansion {
@@ -256,7 +258,7 @@ impl Expansion {
     /// Rounds up to `places` digits after the point, of which the number has more.
     fn ceil_to(&self, places: u32) -> Expansion
         requires { places < length self.now.digits }
-        ensures { IsExpansion (scaled (cut_after places self.now) + 1) (10 ^ places) result }
+        ensures { IsExpansion (ulps_of (cut_after places self.now) + 1) (10 ^ places) result }
     {
         // The carry turns trailing nines into zeros, and adds one to the digit before them.
         let kept = self.trim_end_len(places, 9);
@@ -292,8 +294,10 @@ impl fmt::Display for Expansion {
 
 /// Writes the point and the digits after it, or nothing if there are none.
 fn fmt_fraction<W: fmt::Write>(e: &Expansion, f: &mut fmt::Formatter<W>) -> fmt::Result
-    ensures plain { DisplaysOnOk W.write_str_gives f.old result (Some (fraction_text e.now.digits)) f.new }
-    ensures styled { DisplaysStyledOnOk W.write_str_gives f.old result (Some (fraction_text e.now.digits)) f.new }
+    ensures plain { DisplaysOnOk W.write_str_gives f.old result
+        (Some (fraction_text e.now.digits)) f.new }
+    ensures styled { DisplaysStyledOnOk W.write_str_gives f.old result
+        (Some (fraction_text e.now.digits)) f.new }
 {
     if e.places() == 0 {
         return Ok(());

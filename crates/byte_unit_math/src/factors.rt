@@ -1,9 +1,9 @@
 //! The exponents of 2 and 5 in a size, and its cofactor.
 ghost use Rattle.std.specs.Prelude.{◌≡◌, ◌≢◌, ◌+◌, ◌*◌, ◌%◌, ◌^◌, ◌<◌, ◌≤◌};
 ghost use Rattle.byte_unit_math.specs.Bounds.{size_limit};
-ghost use Rattle.byte_unit_math.specs.Factored.{value_of};
+ghost use Rattle.byte_unit_math.specs.Factored.{product_of};
 ghost use Rattle.byte_unit_math.specs.Powers.{IsTwoFive};
-ghost use Rattle.byte_unit_math.specs.Steps.{raised};
+ghost use Rattle.byte_unit_math.specs.Steps.{saturating_add};
 
 use crate::steps::Steps;
 
@@ -36,7 +36,7 @@ pub fn two_five(size: u128, steps: &mut Steps) -> (u32, u32)
     requires some { 1 ≤ size }
     requires small { size < size_limit }
     ensures powers { IsTwoFive size result.0 result.1 }
-    ensures ticks { steps.new ≡ raised steps.old (result.0 + result.1 + 2) }
+    ensures ticks { steps.new ≡ saturating_add steps.old (result.0 + result.1 + 2) }
     ensures few { result.0 + result.1 + 2 ≤ 101 }
 {
     let Factors {
@@ -63,9 +63,9 @@ pub fn two_five(size: u128, steps: &mut Steps) -> (u32, u32)
 pub fn factors_of(size: u128, steps: &mut Steps) -> Factors
     requires some { 1 ≤ size }
     requires small { size < size_limit }
-    ensures product { value_of result ≡ size }
+    ensures product { product_of result ≡ size }
     ensures powers { IsTwoFive size result.twos result.fives }
-    ensures ticks { steps.new ≡ raised steps.old (result.twos + result.fives + 2) }
+    ensures ticks { steps.new ≡ saturating_add steps.old (result.twos + result.fives + 2) }
     ensures few { result.twos + result.fives + 2 ≤ 101 }
 {
     let twos = size.trailing_zeros();

@@ -3,7 +3,7 @@ ghost use Rattle.std.specs.Prelude.{◌≡◌, ℕ, ◌+◌, ◌-◌, ◌*◌, �
 ghost use Rattle.byte_unit_math.specs.Bounds.{bits_limit, places_of_decimal, unit_limit};
 ghost use Rattle.byte_unit_math.specs.Least.{IsLeastSize};
 ghost use Rattle.byte_unit_math.specs.RoundedUp.{group_limit, half_limit, IsRoundedUp};
-ghost use Rattle.byte_unit_math.specs.Steps.{raised};
+ghost use Rattle.byte_unit_math.specs.Steps.{saturating_add};
 
 use crate::decimal::{DECIMAL_PLACES, Decimal};
 use crate::dividing::{div_rem_by_inverse, div_rem_u24};
@@ -73,7 +73,7 @@ pub fn least_size_counted(
     ensures least { IfSome result (IsLeastSize d unit_size) }
     ensures below { IfSome result (λ n. n < limit) }
     ensures none { IfNone result ((n : ℕ) → IsLeastSize d unit_size n → limit ≤ n) }
-    ensures ticks { steps.new ≡ raised steps.old 4 }
+    ensures ticks { steps.new ≡ saturating_add steps.old 4 }
 {
     let (digits, places) = (d.digits(), d.places());
     let part = if digits == 0 {
@@ -116,7 +116,7 @@ fn carry_of_group(digits: u64, unit_size: u128, carry: u128, steps: &mut Steps) 
     requires carry { carry ≤ unit_size }
     ensures rounded { IsRoundedUp (digits * unit_size + carry) group_limit result }
     ensures bound { result ≤ unit_size }
-    ensures ticks { steps.new ≡ raised steps.old 1 }
+    ensures ticks { steps.new ≡ saturating_add steps.old 1 }
 {
     steps.advance_by(1);
     if digits == 0 && carry == 0 {

@@ -1,9 +1,9 @@
 //! Exact quotients by long division and by factors.
 ghost use Rattle.std.specs.Prelude.{◌≡◌, ℕ, ◌+◌, ◌*◌, ◌-◌, ◌/◌, ◌%◌, ◌^◌, ◌<◌, ◌≤◌, min, IfSome, IfNone};
-ghost use Rattle.byte_unit_math.specs.Bounds.{one, places_of_decimal, unit_limit, whole_limit};
-ghost use Rattle.byte_unit_math.specs.Steps.{raised};
+ghost use Rattle.byte_unit_math.specs.Bounds.{scale, places_of_decimal, unit_limit, whole_limit};
+ghost use Rattle.byte_unit_math.specs.Steps.{saturating_add};
 ghost use Rattle.byte_unit_math.specs.Exact.{IsExactAt, IsLeastPlaces, IsQuotient, IsFirstExact};
-ghost use Rattle.byte_unit_math.specs.Factored.{value_of};
+ghost use Rattle.byte_unit_math.specs.Factored.{product_of};
 
 use crate::decimal::{DECIMAL_PLACES, Decimal};
 use crate::dividing::{div_rem, div_rem_digit, div_rem_u24};
@@ -36,11 +36,11 @@ pub fn exact_quotient(size: u128, unit: u128, places: u32, steps: &mut Steps) ->
     requires small_unit { unit ≤ unit_limit }
     requires small_size { size < whole_limit }
     ensures quotient { IfSome result (IsQuotient size unit (min places places_of_decimal)) }
-    ensures exact { IfSome result (λ N. N * unit ≡ size * one) }
+    ensures exact { IfSome result (λ N. N * unit ≡ size * scale) }
     ensures none { IfNone result (¬ IsExactAt size unit (min places places_of_decimal)) }
     ensures ticks { (digits : ℕ)
         × IsFirstExact size unit (min places places_of_decimal) digits
-        × (steps.new ≡ raised steps.old digits) }
+        × (steps.new ≡ saturating_add steps.old digits) }
 {
     let most = places.min(DECIMAL_PLACES);
     let (whole, mut rest) = div_rem(size, unit);
@@ -88,9 +88,10 @@ pub fn factored_quotient(
     requires few { (number.twos < 2 ^ 16) × (number.fives < 2 ^ 16) }
     requires places { places ≤ places_of_decimal }
     requires exact { (twos ≤ number.twos + places) × (fives ≤ number.fives + places) }
-    requires small { value_of number * 10 ^ places < whole_limit * (2 ^ twos * 5 ^ fives) }
-    ensures exact { result * (2 ^ twos * 5 ^ fives) ≡ value_of number * one }
-    ensures ticks { (least : ℕ) × IsLeastPlaces result one least × (steps.new ≡ raised steps.old least) }
+    requires small { product_of number * 10 ^ places < whole_limit * (2 ^ twos * 5 ^ fives) }
+    ensures exact { result * (2 ^ twos * 5 ^ fives) ≡ product_of number * scale }
+    ensures ticks { (least : ℕ) × IsLeastPlaces result scale least
+        × (steps.new ≡ saturating_add steps.old least) }
 {
     let power = POWERS_OF_FIVE[(number.fives + places - fives) as usize];
     let count = (number.left << (number.twos + places - twos)) * power;

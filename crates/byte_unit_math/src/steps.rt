@@ -1,6 +1,6 @@
 //! A step counter for complexity contracts.
 ghost use Rattle.std.specs.Prelude.{◌≡◌, ℕ};
-ghost use Rattle.byte_unit_math.specs.Steps.{raised};
+ghost use Rattle.byte_unit_math.specs.Steps.{saturating_add};
 
 use std::marker::Model;
 
@@ -63,7 +63,7 @@ impl Steps {
 
     /// Adds a number of steps, saturating.
     pub(crate) fn advance_by(&mut self, steps: u32)
-        ensures { self.new ≡ raised self.old steps }
+        ensures { self.new ≡ saturating_add self.old steps }
     {
         self.count = self.count.saturating_add(u64::from(steps));
     }

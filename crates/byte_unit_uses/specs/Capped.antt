@@ -1,7 +1,6 @@
 -- Limits with a maximum, and their errors.
 use Rattle.std.specs.Prelude.{◌≡◌, ℕ, ◌<◌, false, List, Option, Some, None, Result, Ok, Err}
-use Rattle.byte_unit.specs.Accepted.{IsAccepted, IsRefused}
-use Rattle.byte_unit.specs.Edition.{current}
+use Rattle.byte_unit.specs.Accepted.{IsAccepted, IsRejected}
 use Rattle.byte_unit.specs.Errors.{size_fault}
 use Rattle.byte_unit.specs.declared.ParseError.{ParseError}
 use Rattle.byte_unit.specs.declared.Kind.TheVariants.{Byte as InBytes}
@@ -10,9 +9,9 @@ use Rattle.byte_unit_uses.specs.declared.capped.LimitError.TheVariants.{Parse, A
 
 -- the string is rejected with this error, or represents a size above the maximum, which the error holds
 abbrev pub IsLimitError : List ℕ → ℕ → LimitError → Type 0
-IsLimitError text max (Parse error) = IsRefused current InBytes false text (size_fault error)
+IsLimitError text max (Parse error) = IsRejected InBytes false text (size_fault error)
 IsLimitError text max (Above held) =
-    (held ≡ max) × (size : ℕ) × IsAccepted current InBytes false text size × (max < size)
+    (held ≡ max) × (size : ℕ) × IsAccepted InBytes false text size × (max < size)
 
 -- the limit, or the maximum if the limit exceeds it
 abbrev pub capped_limit : Result ℕ LimitError → Result ℕ ParseError

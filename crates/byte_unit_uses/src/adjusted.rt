@@ -2,11 +2,11 @@
 
 ghost use Rattle.std.specs.Prelude.{◌≡◌, ℕ, IfOk, IfErr, true, false};
 ghost use Rattle.byte_unit.specs.AdjustedSize.{IsAdjustedReading};
-ghost use Rattle.byte_unit.specs.Edition.{current};
+ghost use Rattle.byte_unit.specs.Version.{current};
 ghost use Rattle.byte_unit.specs.Errors.{unit_fault};
 ghost use Rattle.byte_unit.specs.Fault.{IsUnitFault};
-ghost use Rattle.byte_unit.specs.Spelling.{reading, Spells};
-ghost use Rattle.byte_unit.specs.SizeText.{trimmed, IsSizeText};
+ghost use Rattle.byte_unit.specs.Spelling.{flags_of, Spells};
+ghost use Rattle.byte_unit.specs.SizeText.{trim_of, IsSizeText};
 ghost use Rattle.byte_unit.specs.Units.{shape_of};
 ghost use Rattle.byte_unit.specs.declared.Kind.TheVariants.{Byte as InBytes};
 
@@ -29,9 +29,10 @@ use byte_unit::{AdjustedByte, Byte, ParseError, Unit, UnitParseError, read_size}
 /// ```
 pub fn in_unit(size: Byte, text: &str) -> Result<AdjustedByte, UnitParseError>
     ensures size { IfOk result (λ adjusted. adjusted.size ≡ size) }
-    ensures unit { IfOk result (λ shown. Spells current (reading false true) (trimmed text.now) (shape_of shown.unit)) }
+    ensures unit { IfOk result
+        (λ shown. Spells current (flags_of false true) (trim_of text.now) (shape_of shown.unit)) }
     ensures fault { IfErr result
-        (λ error. IsUnitFault current (reading false true) (trimmed text.now) (unit_fault error)) }
+        (λ error. IsUnitFault current (flags_of false true) (trim_of text.now) (unit_fault error)) }
 {
     let unit = Unit::parse_str(text, false, true)?;
     Ok(size.get_adjusted_unit(unit))
@@ -54,7 +55,8 @@ pub fn in_unit(size: Byte, text: &str) -> Result<AdjustedByte, UnitParseError>
 /// ```
 pub fn parse_unit(text: &str) -> Result<Unit, ParseError>
     ensures { IfOk result
-        (λ unit. (number : ℕ) × IsSizeText current (reading false true) (trimmed text.now) number (shape_of unit)) }
+        (λ unit. (number : ℕ)
+        × IsSizeText current (flags_of false true) (trim_of text.now) number (shape_of unit)) }
 {
     let (_, unit) = read_size(text, false, true)?;
     Ok(unit)

@@ -1,8 +1,7 @@
 //! Limits with a maximum, and matches on an error that holds a size.
 
 ghost use Rattle.std.specs.Prelude.{◌≡◌, ◌≤◌, ℕ, IfOk, IfErr, min, false};
-ghost use Rattle.byte_unit.specs.Accepted.{IsAccepted, IsRefused};
-ghost use Rattle.byte_unit.specs.Edition.{current};
+ghost use Rattle.byte_unit.specs.Accepted.{IsAccepted, IsRejected};
 ghost use Rattle.byte_unit.specs.Errors.{size_fault};
 ghost use Rattle.byte_unit.specs.declared.Kind.TheVariants.{Byte as InBytes};
 ghost use Rattle.byte_unit_uses.specs.Capped.{IsLimitError, capped_limit, exceeded_max};
@@ -36,7 +35,7 @@ pub enum LimitError {
 /// assert!(rt; matches!(&error, Err(LimitError::Above(_))));
 /// ```
 pub fn read_limit(text: &str, max: Byte) -> Result<Byte, LimitError>
-    ensures size { IfOk result (IsAccepted current InBytes false text.now) }
+    ensures size { IfOk result (IsAccepted InBytes false text.now) }
     ensures bound { IfOk result (λ limit. limit ≤ max) }
     ensures reason { IfErr result (IsLimitError text.now max) }
 {
@@ -97,9 +96,9 @@ pub fn max_exceeded(read: &Result<Byte, LimitError>) -> Option<Byte>
 /// ```
 pub fn limit_at_most(text: &str, max: Byte) -> Result<Byte, ParseError>
     ensures limit { IfOk result (λ limit.
-        (size : ℕ) × IsAccepted current InBytes false text.now size × (limit ≡ min size max)) }
+        (size : ℕ) × IsAccepted InBytes false text.now size × (limit ≡ min size max)) }
     ensures reason { IfErr result (λ error.
-        IsRefused current InBytes false text.now (size_fault error)) }
+        IsRejected InBytes false text.now (size_fault error)) }
 {
     cap(read_limit(text, max))
 }

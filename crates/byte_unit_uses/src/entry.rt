@@ -2,7 +2,6 @@
 
 ghost use Rattle.std.specs.Prelude.{◌≡◌, ◌++◌, ◌∷◌, [], ◌<◌, IfOk, SomeIff, OnOk, false};
 ghost use Rattle.byte_unit.specs.Accepted.{IsAccepted};
-ghost use Rattle.byte_unit.specs.Edition.{current};
 ghost use Rattle.byte_unit.specs.declared.Kind.TheVariants.{Byte as InBytes};
 
 use byte_unit::{Byte, ParseError};
@@ -47,7 +46,7 @@ impl<'a> Entry<'a> {
     /// ```
     pub fn read(name: &'a str, text: &str) -> Result<Entry<'a>, ParseError>
         ensures name { IfOk result (λ entry. entry.name.now ≡ name.now) }
-        ensures size { IfOk result (λ entry. IsAccepted current InBytes false text.now entry.size) }
+        ensures size { IfOk result (λ entry. IsAccepted InBytes false text.now entry.size) }
     {
         let size = text.parse()?;
         Ok(Entry { name, size })

@@ -2,7 +2,6 @@
 
 ghost use Rattle.std.specs.Prelude.{◌≡◌, ℕ, ◌⊎◌, IfSome, false, true};
 ghost use Rattle.std.specs.Result.{result_unwrap_or};
-ghost use Rattle.byte_unit.specs.Edition.{current};
 ghost use Rattle.byte_unit.specs.Accepted.{IsAccepted};
 ghost use Rattle.byte_unit.specs.SizeReading.{IsSizeReading};
 ghost use Rattle.byte_unit.specs.declared.Kind.TheVariants.{Byte as InBytes, Bit as InBits};
@@ -65,8 +64,8 @@ pub fn rate(text: &str) -> Result<Bit, ParseError>
 /// assert_eq!(rt; limit_ok("1 mx"), None);
 /// ```
 pub fn limit_ok(text: &str) -> Option<Byte>
-    ensures sound { IfSome result (IsAccepted current InBytes true text.now) }
-    ensures complete { (limit : ℕ) → IsAccepted current InBytes true text.now limit → result ≡ Some limit }
+    ensures sound { IfSome result (IsAccepted InBytes true text.now) }
+    ensures complete { (limit : ℕ) → IsAccepted InBytes true text.now limit → result ≡ Some limit }
 {
     Byte::parse_str(text, true).ok()
 }
@@ -83,8 +82,8 @@ pub fn limit_ok(text: &str) -> Option<Byte>
 /// assert_eq!(rt; limit_or("much", Byte::KILOBYTE), Byte::KILOBYTE);
 /// ```
 pub fn limit_or(text: &str, default: Byte) -> Byte
-    ensures complete { (limit : ℕ) → IsAccepted current InBytes false text.now limit → result ≡ limit }
-    ensures sound { IsAccepted current InBytes false text.now result ⊎ (result ≡ default) }
+    ensures complete { (limit : ℕ) → IsAccepted InBytes false text.now limit → result ≡ limit }
+    ensures sound { IsAccepted InBytes false text.now result ⊎ (result ≡ default) }
 {
     text.parse().unwrap_or(default)
 }

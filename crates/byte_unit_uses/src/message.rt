@@ -1,7 +1,6 @@
 //! Error messages with context, for a program that only prints its errors.
 
 ghost use Rattle.std.specs.Prelude.{◌≡◌, ℕ, IfOk, IsOk, false};
-ghost use Rattle.byte_unit.specs.Edition.{current};
 ghost use Rattle.byte_unit.specs.Accepted.{IsAccepted};
 ghost use Rattle.byte_unit.specs.declared.Kind.TheVariants.{Byte as InBytes};
 
@@ -24,8 +23,8 @@ use byte_unit::Byte;
 /// assert!(rt; parse_argument("1 QB").is_err());
 /// ```
 pub fn parse_argument(argument: &str) -> Result<Byte>
-    ensures sound { IfOk result (IsAccepted current InBytes false argument.now) }
-    ensures complete { (limit : ℕ) → IsAccepted current InBytes false argument.now limit → IsOk result }
+    ensures sound { IfOk result (IsAccepted InBytes false argument.now) }
+    ensures complete { (limit : ℕ) → IsAccepted InBytes false argument.now limit → IsOk result }
 {
     let limit = argument
         .parse::<Byte>()

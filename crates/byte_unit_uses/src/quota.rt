@@ -1,7 +1,6 @@
 //! Quotas from strings, and what remains of them.
 
 ghost use Rattle.std.specs.Prelude.{◌+◌, ◌/◌, ◌<◌, ℕ, IfOk, IfErr, SomeIff, false};
-ghost use Rattle.byte_unit.specs.Edition.{current};
 ghost use Rattle.byte_unit.specs.Accepted.{IsAccepted};
 ghost use Rattle.byte_unit.specs.declared.Kind.TheVariants.{Byte as InBytes};
 ghost use Rattle.byte_unit_uses.specs.Quota.{IsReason};
@@ -59,7 +58,7 @@ impl From<ParseError> for QuotaError {
 /// assert!(rt; matches!(&error, Err(QuotaError::Exceeded)));
 /// ```
 pub fn left(text: &str, used: Byte) -> Result<Byte, QuotaError>
-    ensures left { IfOk result (λ left. IsAccepted current InBytes false text.now (used + left)) }
+    ensures left { IfOk result (λ left. IsAccepted InBytes false text.now (used + left)) }
     ensures reason { IfErr result (IsReason text.now used) }
 {
     let quota: Byte = text.parse()?;
@@ -83,7 +82,7 @@ pub fn left(text: &str, used: Byte) -> Result<Byte, QuotaError>
 /// assert_eq!(rt; share("1 MB", 0)?, None);
 /// ```
 pub fn share(text: &str, users: usize) -> Result<Option<Byte>, QuotaError>
-    ensures share { IfOk result (λ share. (quota : ℕ) × IsAccepted current InBytes false text.now quota
+    ensures share { IfOk result (λ share. (quota : ℕ) × IsAccepted InBytes false text.now quota
         × SomeIff share (0 < users) (quota / users)) }
     ensures reason { IfErr result (IsReason text.now 0) }
 {

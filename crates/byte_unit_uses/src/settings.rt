@@ -6,7 +6,7 @@ ghost use Rattle.serde_json.specs.View.{view};
 ghost use Rattle.byte_unit.specs.JsonReading.{ReadsString, size_errors};
 ghost use Rattle.byte_unit.specs.Readings.{IsUnitReading};
 ghost use Rattle.byte_unit.specs.SizeReading.{IsSizeReading};
-ghost use Rattle.byte_unit.specs.Spelling.{reading};
+ghost use Rattle.byte_unit.specs.Spelling.{flags_of};
 ghost use Rattle.byte_unit.specs.UnitJson.{unit_errors};
 ghost use Rattle.byte_unit.specs.declared.Kind.TheVariants.{Byte as InBytes};
 
@@ -55,9 +55,11 @@ pub struct Settings {
 /// ```
 pub fn read_settings(cache: &Value, unit: &Value) -> Result<Settings, SettingsError>
     ensures cache { IfOk result (λ settings.
-        ReadsString size_errors (IsSizeReading InBytes false) (as_str (view cache.now)) (Ok settings.cache)) }
+        ReadsString size_errors (IsSizeReading InBytes false) (as_str (view cache.now))
+        (Ok settings.cache)) }
     ensures unit { IfOk result (λ settings.
-        ReadsString unit_errors (IsUnitReading (reading false true)) (as_str (view unit.now)) (Ok settings.unit)) }
+        ReadsString unit_errors (IsUnitReading (flags_of false true)) (as_str (view unit.now))
+        (Ok settings.unit)) }
 {
     Ok(Settings {
         cache: Byte::from_json(cache)?,

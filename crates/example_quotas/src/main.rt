@@ -2,7 +2,7 @@
 #![tactic(auto)]
 
 ghost use Rattle.std.specs.Prelude.{◌+◌, ◌<◌, SomeIff, sum_by};
-ghost use Rattle.byte_unit.specs.Edition.{current};
+ghost use Rattle.byte_unit.specs.Bounds.{size_limit};
 ghost use Rattle.example_quotas.specs.Quotas.{IsBalance};
 
 use anyhow::{Context, Result, anyhow};
@@ -38,7 +38,8 @@ fn balance_of(used: Byte, quota: Byte) -> Balance
 
 /// Returns the total size used by all users. Returns `None` if it is 10^30 bytes or more.
 fn total_used(users: &[User]) -> Option<Byte>
-    ensures { let used = sum_by (λ user. user.used) users.now in SomeIff result (used < current.size_limit) used }
+    ensures { let used = sum_by (λ user. user.used) users.now in
+        SomeIff result (used < size_limit) used }
 {
     let mut sum = Byte::default();
     for user in users {

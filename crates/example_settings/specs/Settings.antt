@@ -3,10 +3,9 @@ use Rattle.std.specs.Prelude.{◌≡◌, ℕ, List, Some, false}
 use Rattle.serde_json.specs.Data.{Data, string}
 use Rattle.serde_json.specs.Find.{get}
 use Rattle.byte_unit.specs.Accepted.{IsAccepted}
-use Rattle.byte_unit.specs.Edition.{current}
 use Rattle.byte_unit.specs.declared.Kind.TheVariants.{Byte as InBytes}
 
 -- the settings have a string by this name, and it represents this size
-abbrev pub States : Data → List ℕ → ℕ → Type 0
-States settings name size =
-    (text : List ℕ) × (get name settings ≡ Some (string text)) × IsAccepted current InBytes false text size
+abbrev pub HasSize : Data → List ℕ → ℕ → Type 0
+HasSize settings name size =
+    (text : List ℕ) × (get name settings ≡ Some (string text)) × IsAccepted InBytes false text size

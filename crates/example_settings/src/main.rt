@@ -4,7 +4,7 @@
 ghost use Rattle.std.specs.Prelude.{◌≡◌, ◌⊎◌, ℕ, IfOk};
 ghost use Rattle.serde_json.specs.Find.{get};
 ghost use Rattle.serde_json.specs.View.{view};
-ghost use Rattle.example_settings.specs.Settings.{States};
+ghost use Rattle.example_settings.specs.Settings.{HasSize};
 
 use anyhow::{Result, anyhow};
 use byte_unit::{Byte, FormatSpec, JsonSizeError};
@@ -50,9 +50,9 @@ impl Setting {
 ///
 /// Returns the parse error if the value is not a string that represents a size.
 fn limit(settings: &Value, name: &str, default: Byte) -> Result<Byte, JsonSizeError>
-    ensures present { (size : ℕ) → States (view settings.now) name.now size → result ≡ Ok size }
+    ensures present { (size : ℕ) → HasSize (view settings.now) name.now size → result ≡ Ok size }
     ensures absent { get name.now (view settings.now) ≡ None → result ≡ Ok default }
-    ensures sound { IfOk result (λ size. States (view settings.now) name.now size
+    ensures sound { IfOk result (λ size. HasSize (view settings.now) name.now size
         ⊎ ((get name.now (view settings.now) ≡ None) × (size ≡ default))) }
 {
     match settings.get(name) {

@@ -2,7 +2,7 @@
 #![tactic(auto)]
 
 ghost use Rattle.std.specs.Prelude.{◌≡◌, ◌+◌, ◌*◌, ◌/◌, ◌^◌, ◌<◌, SomeIff};
-ghost use Rattle.byte_unit.specs.Edition.{current};
+ghost use Rattle.byte_unit.specs.Bounds.{size_limit};
 
 use anyhow::{Context, Result, anyhow};
 use byte_unit::{Align, Bit, Byte, FormatSpec, ParseError, UnitType};
@@ -28,7 +28,7 @@ impl Transfer {
     /// Returns the sum of two transfers. Returns `None` if it is 10^30 bytes or more, or 2^64 seconds or more.
     fn add(self, other: Transfer) -> Option<Transfer>
         ensures { SomeIff result
-            ((self.size + other.size < current.size_limit) × (self.seconds + other.seconds < 2 ^ 64))
+            ((self.size + other.size < size_limit) × (self.seconds + other.seconds < 2 ^ 64))
             (record { size = self.size + other.size; seconds = self.seconds + other.seconds }) }
     {
         Some(Transfer {
@@ -41,7 +41,7 @@ impl Transfer {
     /// bits or more.
     fn rate(self) -> Option<Bit>
         ensures { SomeIff result
-            ((8 * self.size < current.size_limit) × (0 < self.seconds))
+            ((8 * self.size < size_limit) × (0 < self.seconds))
             (8 * self.size / self.seconds) }
     {
         Bit::from_u128(8 * self.size.as_u128())?.divide(self.seconds as usize)

@@ -1,7 +1,7 @@
 //! Laws of the parsers. Each function does nothing; its contract is the law.
 
 ghost use Rattle.byte_unit_base.specs.ReaderLaws.{UnitTextsHaveOneAnswer, SizeTextsHaveOneAnswer};
-ghost use Rattle.byte_unit_base.specs.ReaderLaws.{UnitFrontsAreBeginnings, SizeFrontsAreBeginnings};
+ghost use Rattle.byte_unit_base.specs.ReaderLaws.{ViableUnitPrefixesAreBeginnings, ViableSizePrefixesAreBeginnings};
 ghost use Rattle.byte_unit_base.specs.ReaderLaws.{NamesSpellTheirUnits};
 
 /// States that under given flags each string spells one unit or has one error, and not both.
@@ -16,12 +16,12 @@ pub fn size_texts_have_one_answer()
 
 /// States that the viable prefixes of the error of a unit are exactly the beginnings of units.
 pub fn unit_fronts_are_beginnings()
-    ensures { UnitFrontsAreBeginnings }
+    ensures { ViableUnitPrefixesAreBeginnings }
 {}
 
 /// States that the viable prefixes of an error are exactly the beginnings of strings with a number and a unit.
 pub fn size_fronts_are_beginnings()
-    ensures { SizeFrontsAreBeginnings }
+    ensures { ViableSizePrefixesAreBeginnings }
 {}
 
 /// States that the name of a unit spells that unit if case counts, whichever kind is preferred.

@@ -1,7 +1,7 @@
 //! Laws of sizes in bytes and in bits. Each function does nothing; its contract is the law.
 
 ghost use Rattle.byte_unit_base.specs.SizeLaws.{GreaterNumbersGiveNoSmallerSizes, EachNumberHasOneLeastSize};
-ghost use Rattle.byte_unit_base.specs.SizeLaws.{EachTextIsOneOfThree, TextsAreAcceptedOrRefused};
+ghost use Rattle.byte_unit_base.specs.SizeLaws.{EachTextIsOneOfThree, TextsAreAcceptedOrRejected};
 
 /// States that of two numbers of one unit the greater has no smaller size.
 pub fn greater_numbers_give_no_smaller_sizes()
@@ -22,5 +22,5 @@ pub fn each_text_is_one_of_three()
 /// States that each string is accepted as one size of the kind or rejected with one error, and not both. A size that is
 /// too large is an error here, with the number as it was written.
 pub fn texts_are_accepted_or_refused()
-    ensures { TextsAreAcceptedOrRefused }
+    ensures { TextsAreAcceptedOrRejected }
 {}

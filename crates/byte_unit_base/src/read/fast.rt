@@ -2,9 +2,9 @@
 
 ghost use Rattle.std.specs.Prelude.{◌≡◌, ◌≤◌, IfSome, length, take, replicate};
 ghost use Rattle.std.specs.Str.{IsUtf8};
-ghost use Rattle.byte_unit_base.specs.Edition.{current};
+ghost use Rattle.byte_unit_base.specs.Version.{current};
 ghost use Rattle.byte_unit_base.specs.Units.{shape_of};
-ghost use Rattle.byte_unit_base.specs.SizeText.{space, trimmed, IsSizeText};
+ghost use Rattle.byte_unit_base.specs.SizeText.{space, trim_of, IsSizeText};
 ghost use Rattle.byte_unit_base.specs.UnitScan.{IsMultipleText, IsWordText};
 
 use crate::read::digits::scan_digits;
@@ -18,7 +18,7 @@ use byte_unit_math::Decimal;
 #[inline(always)]
 pub fn read_fast(bytes: &[u8], flags: Flags) -> Option<(Decimal, Unit)>
     ensures stated { IfSome result
-        (λ stated. IsSizeText current flags (trimmed bytes.now) stated.0 (shape_of stated.1)) }
+        (λ stated. IsSizeText current flags (trim_of bytes.now) stated.0 (shape_of stated.1)) }
     ensures text { IfSome result (λ stated. IsUtf8 bytes.now) }
 {
     // With a visible character at each end there is nothing to trim.

@@ -1,10 +1,10 @@
 //! The state machine that parses a number and a unit, character by character.
 
 ghost use Rattle.std.specs.Prelude.{◌≡◌};
-ghost use Rattle.byte_unit_base.specs.Edition.{current};
+ghost use Rattle.byte_unit_base.specs.Version.{current};
 ghost use Rattle.byte_unit_base.specs.Fault.{fault_at};
 ghost use Rattle.byte_unit_base.specs.Errors.{size_fault};
-ghost use Rattle.byte_unit_base.specs.SizeScan.{after_number, size_seen};
+ghost use Rattle.byte_unit_base.specs.SizeScan.{after_number, size_result};
 
 use crate::errors::{ParseError, UnitParseError, ValueParseError};
 use crate::unit::Unit;
@@ -32,7 +32,7 @@ pub enum SizeScan {
 pub const WHOLE_LIMIT: u128 = 5_192_296_858_534_827_628_530_496_329_220_096;
 
 impl SizeScan {
-    ghost use Rattle.byte_unit_base.specs.SizeScan.{IsScan, size_step, size_place, size_at_end, number_of};
+    ghost use Rattle.byte_unit_base.specs.SizeScan.{IsScan, size_step, size_parser_state, size_at_end, number_at};
 
     /// Returns the state after one more character. Returns `None` if the character cannot continue a size.
     #[tactic(auto, unfolding(crate::specs::SizeScan::size_step))]
@@ -68,7 +68,7 @@ impl SizeScan {
     /// Returns the error of a character that cannot continue a size.
     pub fn error_at(&self, flags: Flags, c: char) -> ParseError
         requires { IsScan self.now }
-        ensures { size_fault result ≡ fault_at current flags (size_place self.now) c }
+        ensures { size_fault result ≡ fault_at current flags (size_parser_state self.now) c }
     {
         match *self {
             SizeScan::Beginning | SizeScan::Point(_) => {
@@ -87,7 +87,7 @@ impl SizeScan {
     #[inline(always)]
     pub fn number(&self) -> Option<Decimal>
         requires { IsScan self.now }
-        ensures { result ≡ number_of self.now }
+        ensures { result ≡ number_at self.now }
     {
         match *self {
             SizeScan::Whole(whole) => Some(Decimal::from_digits(whole, 0, 0)),
@@ -105,7 +105,7 @@ impl SizeScan {
     /// Returns `NoValue` for an empty string, `NotNumber('.')` after the point, and `Unit` if the unit is incomplete.
     pub fn finish(&self, flags: Flags) -> Result<(Decimal, Unit), ParseError>
         requires { IsScan self.now }
-        ensures { size_seen result ≡ size_at_end flags self.now }
+        ensures { size_result result ≡ size_at_end flags self.now }
     {
         let (number, scan) = match *self {
             SizeScan::Beginning => return Err(ParseError::Value(ValueParseError::NoValue)),

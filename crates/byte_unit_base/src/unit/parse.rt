@@ -2,9 +2,9 @@
 
 ghost use Rattle.std.specs.Prelude.{◌≡◌};
 ghost use Rattle.std.specs.Str.{chars};
-ghost use Rattle.byte_unit_base.specs.Spelling.{reading};
+ghost use Rattle.byte_unit_base.specs.Spelling.{flags_of};
 ghost use Rattle.byte_unit_base.specs.Scan.{read};
-ghost use Rattle.byte_unit_base.specs.UnitScan.{unit_seen, unit_scan, start};
+ghost use Rattle.byte_unit_base.specs.UnitScan.{unit_result, unit_scan, start};
 
 use crate::errors::UnitParseError;
 use crate::unit::Unit;
@@ -38,7 +38,7 @@ impl Unit {
     /// assert!(rt; Unit::parse_str("Kx", false, true).is_err());
     /// ```
     pub fn parse_str(s: &str, ignore_case: bool, prefer_byte: bool) -> Result<Unit, UnitParseError>
-        ensures { IsUnitReading (reading ignore_case prefer_byte) s.now result }
+        ensures { IsUnitReading (flags_of ignore_case prefer_byte) s.now result }
     {
         let flags = Flags {
             ignore_case,
@@ -55,7 +55,7 @@ impl FromStr for Unit {
     ghost use Rattle.std.specs.Prelude.{true, false};
     ghost use Rattle.byte_unit_base.specs.Readings.{IsUnitReading};
 
-    ghost from_str_gives = { IsUnitReading (reading false true) };
+    ghost from_str_gives = { IsUnitReading (flags_of false true) };
 
     fn from_str(s: &str) -> Result<Unit, UnitParseError> {
         Unit::parse_str(s, false, true)
@@ -68,7 +68,7 @@ impl FromStr for Unit {
 ///
 /// As `Unit::parse_str`.
 fn read_unit(text: &str, flags: Flags) -> Result<Unit, UnitParseError>
-    ensures { unit_seen result ≡ read (unit_scan flags) start (chars text.now) }
+    ensures { unit_result result ≡ read (unit_scan flags) start (chars text.now) }
 {
     let mut scan = UnitScan::START;
     for c in text.chars() {

@@ -147,9 +147,9 @@ fn is_i(c: char) -> bool
 }
 
 impl UnitScan {
-    ghost use Rattle.byte_unit_base.specs.UnitScan.{unit_step, unit_of, place_of};
+    ghost use Rattle.byte_unit_base.specs.UnitScan.{unit_step, unit_of, unit_parser_state};
     ghost use Rattle.byte_unit_base.specs.Units.{shape_of};
-    ghost use Rattle.byte_unit_base.specs.Edition.{current};
+    ghost use Rattle.byte_unit_base.specs.Version.{current};
     ghost use Rattle.byte_unit_base.specs.Fault.{fault_at};
     ghost use Rattle.byte_unit_base.specs.Errors.{unit_fault};
 
@@ -200,7 +200,7 @@ impl UnitScan {
 
     /// Returns the error of a character that cannot continue a unit.
     pub fn error_at(self, flags: Flags, character: char) -> UnitParseError
-        ensures { unit_fault result ≡ fault_at current flags (place_of self) character }
+        ensures { unit_fault result ≡ fault_at current flags (unit_parser_state self) character }
     {
         let expected_characters: &'static [char] = match self.word {
             Word::Empty => match self.multiple {

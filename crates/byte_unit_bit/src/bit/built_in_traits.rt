@@ -3,8 +3,8 @@
 
 ghost use Rattle.std.specs.Prelude.{◌≡◌, ◌^◌, ◌<◌, ◌-◌, min, Some, OkIff, false};
 ghost use Rattle.std.specs.Fmt.{decimal};
-ghost use Rattle.byte_unit_base.specs.Edition.{current};
-ghost use Rattle.byte_unit_base.specs.SizeOrNone.{TriesSigned};
+ghost use Rattle.byte_unit_math.specs.Bounds.{size_limit};
+ghost use Rattle.byte_unit_base.specs.SizeOrNone.{IsSizeOrError};
 ghost use Rattle.byte_unit_base.specs.SizeReading.{IsSizeReading};
 ghost use Rattle.byte_unit_base.specs.declared.kind.Kind.TheVariants.{Bit as InBits};
 
@@ -96,7 +96,7 @@ impl From<usize> for Bit {
 impl TryFrom<u128> for Bit {
     type Error = ExceededBoundsError;
 
-    ghost try_from_gives = { λ n answer. OkIff answer (n < current.size_limit) n };
+    ghost try_from_gives = { λ n answer. OkIff answer (n < size_limit) n };
 
     fn try_from(size: u128) -> Result<Bit, ExceededBoundsError> {
         Bit::from_u128(size).ok_or(ExceededBoundsError)
@@ -107,7 +107,7 @@ impl TryFrom<u128> for Bit {
 impl TryFrom<i128> for Bit {
     type Error = ExceededBoundsError;
 
-    ghost try_from_gives = { λ n answer. TriesSigned current n answer };
+    ghost try_from_gives = { λ n answer. IsSizeOrError n answer };
 
     fn try_from(size: i128) -> Result<Bit, ExceededBoundsError> {
         Bit::from_i128(size).ok_or(ExceededBoundsError)
@@ -118,7 +118,7 @@ impl TryFrom<i128> for Bit {
 impl TryFrom<i64> for Bit {
     type Error = ExceededBoundsError;
 
-    ghost try_from_gives = { λ n answer. TriesSigned current n answer };
+    ghost try_from_gives = { λ n answer. IsSizeOrError n answer };
 
     fn try_from(size: i64) -> Result<Bit, ExceededBoundsError> {
         Bit::from_i64(size).ok_or(ExceededBoundsError)
@@ -129,7 +129,7 @@ impl TryFrom<i64> for Bit {
 impl TryFrom<i32> for Bit {
     type Error = ExceededBoundsError;
 
-    ghost try_from_gives = { λ n answer. TriesSigned current n answer };
+    ghost try_from_gives = { λ n answer. IsSizeOrError n answer };
 
     fn try_from(size: i32) -> Result<Bit, ExceededBoundsError> {
         Bit::from_i64(i64::from(size)).ok_or(ExceededBoundsError)
@@ -140,7 +140,7 @@ impl TryFrom<i32> for Bit {
 impl TryFrom<i16> for Bit {
     type Error = ExceededBoundsError;
 
-    ghost try_from_gives = { λ n answer. TriesSigned current n answer };
+    ghost try_from_gives = { λ n answer. IsSizeOrError n answer };
 
     fn try_from(size: i16) -> Result<Bit, ExceededBoundsError> {
         Bit::from_i64(i64::from(size)).ok_or(ExceededBoundsError)
@@ -151,7 +151,7 @@ impl TryFrom<i16> for Bit {
 impl TryFrom<i8> for Bit {
     type Error = ExceededBoundsError;
 
-    ghost try_from_gives = { λ n answer. TriesSigned current n answer };
+    ghost try_from_gives = { λ n answer. IsSizeOrError n answer };
 
     fn try_from(size: i8) -> Result<Bit, ExceededBoundsError> {
         Bit::from_i64(i64::from(size)).ok_or(ExceededBoundsError)
@@ -162,7 +162,7 @@ impl TryFrom<i8> for Bit {
 impl TryFrom<isize> for Bit {
     type Error = ExceededBoundsError;
 
-    ghost try_from_gives = { λ n answer. TriesSigned current n answer };
+    ghost try_from_gives = { λ n answer. IsSizeOrError n answer };
 
     fn try_from(size: isize) -> Result<Bit, ExceededBoundsError> {
         Bit::from_i64(size as i64).ok_or(ExceededBoundsError)

@@ -1,9 +1,7 @@
 // Rendered from crates/byte_unit_byte/src/byte/decimal.rt by tools/mirror. Do not edit.
 //! Sizes in bits from decimals.
 
-ghost use Rattle.byte_unit_base.specs.Edition.{current};
-ghost use Rattle.byte_unit_base.specs.Units.{shape_of};
-ghost use Rattle.byte_unit_base.specs.SizeOrNone.{IsSizeOrNone};
+ghost use Rattle.byte_unit_base.specs.SizeOrNone.{IsSizeOrNone, IsSizeOfDecimal};
 ghost use Rattle.byte_unit_base.specs.Kinds.{own_unit};
 ghost use Rattle.byte_unit_base.specs.LeastOfKind.{IsLeastOf};
 ghost use Rattle.byte_unit_base.specs.declared.kind.Kind.TheVariants.{Bit as InBits};
@@ -28,7 +26,7 @@ impl Bit {
     /// assert_eq!(rt; number.and_then(Bit::from_decimal), Some(Bit::MAX));
     /// ```
     pub fn from_decimal(size: Decimal) -> Option<Bit>
-        ensures { IsSizeOrNone current (IsLeastOf InBits size (own_unit InBits)) result }
+        ensures { IsSizeOrNone (IsLeastOf InBits size (own_unit InBits)) result }
     {
         Bit::from_decimal_with_unit(size, Unit::Bit)
     }
@@ -48,7 +46,7 @@ impl Bit {
     /// assert_eq!(rt; Bit::from_decimal_with_unit(number, Unit::Rbit), None);
     /// ```
     pub fn from_decimal_with_unit(size: Decimal, unit: Unit) -> Option<Bit>
-        ensures { IsSizeOrNone current (IsLeastOf InBits size (shape_of unit)) result }
+        ensures { IsSizeOfDecimal InBits size unit result }
     {
         let size = size::from_decimal(size, unit, Kind::Bit)?;
         Some(Bit { size })

@@ -5,7 +5,6 @@ ghost use Rattle.std.specs.Prelude.{◌≡◌, ℕ, List, false, IfOk};
 ghost use Rattle.serde_json.specs.Data.{string};
 ghost use Rattle.serde_json.specs.Find.{as_str};
 ghost use Rattle.serde_json.specs.View.{view};
-ghost use Rattle.byte_unit_base.specs.Edition.{current};
 ghost use Rattle.byte_unit_format.specs.Forms.{IsText};
 ghost use Rattle.byte_unit_base.specs.JsonReading.{ReadsString, size_errors};
 ghost use Rattle.byte_unit_base.specs.SizeReading.{IsSizeReading};
@@ -37,7 +36,7 @@ impl Bit {
     /// ```
     pub fn to_json(self, alloc: Global) -> Result<Value, AllocError>
         ensures { IfOk result
-            (λ value. (text : List ℕ) × IsText current InBits self FormatSpec.ALTERNATE text
+            (λ value. (text : List ℕ) × IsText InBits self FormatSpec.ALTERNATE text
             × (view value ≡ string text)) }
     {
         Ok(Value::String(self.to_text(alloc, FormatSpec::ALTERNATE)?))
@@ -60,7 +59,8 @@ impl Bit {
     /// assert!(rt; matches!(Bit::from_json(&Value::Null), Err(JsonSizeError::NotString)));
     /// ```
     pub fn from_json(value: &Value) -> Result<Bit, JsonSizeError>
-        ensures { ReadsString size_errors (IsSizeReading InBits false) (as_str (view value.now)) result }
+        ensures { ReadsString size_errors (IsSizeReading InBits false)
+            (as_str (view value.now)) result }
     {
         let text = value.as_str().ok_or(JsonSizeError::NotString)?;
         text.parse().map_err(JsonSizeError::Parse)

@@ -3,10 +3,9 @@
 
 ghost use Rattle.std.specs.Prelude.{◌≡◌, ◌<◌, ◌≤◌, ℕ, List, length, IfOk};
 ghost use Rattle.std.specs.String.{string_bytes};
-ghost use Rattle.byte_unit_base.specs.Edition.{current};
 ghost use Rattle.byte_unit_format.specs.Forms.{IsText, narrow_text, text_limit};
-ghost use Rattle.byte_unit_format.specs.Room.{Appends};
-ghost use Rattle.byte_unit_format.specs.Written.{Writes};
+ghost use Rattle.byte_unit_format.specs.Room.{AppendsForm};
+ghost use Rattle.byte_unit_format.specs.Written.{WritesForm};
 ghost use Rattle.byte_unit_base.specs.declared.kind.Kind.TheVariants.{Bit as InBits};
 
 use super::Bit;
@@ -28,7 +27,7 @@ impl Bit {
     /// assert_eq!(rt; size.text_len(FormatSpec::PLAIN), "1536".len());
     /// ```
     pub fn text_len(self, spec: FormatSpec) -> usize
-        ensures exact { (form : List ℕ) → IsText current InBits self spec form → result ≡ length form }
+        ensures exact { (form : List ℕ) → IsText InBits self spec form → result ≡ length form }
         ensures small { result < text_limit }
         ensures narrow { spec.width ≡ None → result ≤ narrow_text }
     {
@@ -68,7 +67,7 @@ impl Bit {
         spec: FormatSpec,
         text: &mut String<A>,
     ) -> Result<(), AllocError>
-        ensures { Appends (IsText current InBits self spec) text.old text.new result }
+        ensures { AppendsForm (IsText InBits self spec) text.old text.new result }
     {
         byte_unit_format::append_text(self.size, Kind::Bit, spec, text)
     }
@@ -91,7 +90,7 @@ impl Bit {
     /// ```
     #[inline(always)]
     pub fn write_text(self, spec: FormatSpec, out: &mut [u8]) -> usize
-        ensures written { Writes (IsText current InBits self spec) out.old out.new result }
+        ensures written { WritesForm (IsText InBits self spec) out.old out.new result }
         ensures small { result < text_limit }
         ensures narrow { spec.width ≡ None → result ≤ narrow_text }
     {
@@ -114,7 +113,7 @@ impl Bit {
     /// assert_eq!(rt; size.to_text(alloc, FormatSpec::PLAIN)?.as_str(), "1536");
     /// ```
     pub fn to_text(self, alloc: Global, spec: FormatSpec) -> Result<String, AllocError>
-        ensures { IfOk result (λ text. IsText current InBits self spec (string_bytes text)) }
+        ensures { IfOk result (λ text. IsText InBits self spec (string_bytes text)) }
     {
         self.to_text_in(alloc, spec)
     }
@@ -138,7 +137,7 @@ impl Bit {
         alloc: A,
         spec: FormatSpec,
     ) -> Result<String<A>, AllocError>
-        ensures { IfOk result (λ text. IsText current InBits self spec (string_bytes text)) }
+        ensures { IfOk result (λ text. IsText InBits self spec (string_bytes text)) }
     {
         let mut text = String::new(alloc);
         self.append_text(spec, &mut text)?;

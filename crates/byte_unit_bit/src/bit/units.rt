@@ -2,10 +2,9 @@
 //! The units that represent a size in bits exactly.
 
 ghost use Rattle.std.specs.Prelude.{◌≡◌, ◌*◌, ◌≤◌};
-ghost use Rattle.byte_unit_math.specs.Bounds.{one};
-ghost use Rattle.byte_unit_math.specs.Steps.{raised};
+ghost use Rattle.byte_unit_math.specs.Bounds.{scale};
+ghost use Rattle.byte_unit_math.specs.Steps.{saturating_add};
 ghost use Rattle.byte_unit_base.specs.Shape.{bits};
-ghost use Rattle.byte_unit_base.specs.Edition.{current};
 ghost use Rattle.byte_unit_base.specs.Units.{shape_of};
 ghost use Rattle.byte_unit_base.specs.Kinds.{bits_in};
 ghost use Rattle.byte_unit_base.specs.Choice.{IsRecovered, CountsChoice, most_steps};
@@ -31,7 +30,7 @@ impl Bit {
     /// assert_eq!(rt; Bit::from_u64(999).get_exact_unit(false), (999, Unit::Bit));
     /// ```
     pub fn get_exact_unit(self, allow_in_bytes: bool) -> (u128, Unit)
-        ensures recovered { IsRecovered current InBits allow_in_bytes self 0 (shape_of result.1) }
+        ensures recovered { IsRecovered InBits allow_in_bytes self 0 result.1 }
         ensures exact { result.0 * bits (shape_of result.1) ≡ self * bits_in InBits }
     {
         exact_unit(self.size, Kind::Bit, allow_in_bytes)
@@ -56,8 +55,8 @@ impl Bit {
     /// assert_eq!(rt; Bit::MEGABYTE.get_recoverable_unit(true, 3).1, Unit::MB);
     /// ```
     pub fn get_recoverable_unit(self, allow_in_bytes: bool, precision: usize) -> (Decimal, Unit)
-        ensures recovered { IsRecovered current InBits allow_in_bytes self precision (shape_of result.1) }
-        ensures exact { result.0 * bits (shape_of result.1) ≡ self * bits_in InBits * one }
+        ensures recovered { IsRecovered InBits allow_in_bytes self precision result.1 }
+        ensures exact { result.0 * bits (shape_of result.1) ≡ self * bits_in InBits * scale }
     {
         self.get_recoverable_unit_counted(allow_in_bytes, precision, &mut Steps::new())
     }
@@ -82,10 +81,10 @@ impl Bit {
         precision: usize,
         steps: &mut Steps,
     ) -> (Decimal, Unit)
-        ensures recovered { IsRecovered current InBits allow_in_bytes self precision (shape_of result.1) }
-        ensures exact { result.0 * bits (shape_of result.1) ≡ self * bits_in InBits * one }
+        ensures recovered { IsRecovered InBits allow_in_bytes self precision result.1 }
+        ensures exact { result.0 * bits (shape_of result.1) ≡ self * bits_in InBits * scale }
         ensures ticks { CountsChoice self result.0 steps.old steps.new }
-        ensures few_ticks { steps.new ≤ raised steps.old (most_steps InBits) }
+        ensures few_ticks { steps.new ≤ saturating_add steps.old (most_steps InBits) }
     {
         recoverable_unit(self.size, Kind::Bit, allow_in_bytes, precision, steps)
     }

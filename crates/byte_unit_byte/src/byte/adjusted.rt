@@ -3,14 +3,13 @@
 ghost use Rattle.std.specs.Prelude.{◌≡◌, ◌*◌, ◌<◌, ℕ, List, length, IfOk};
 ghost use Rattle.std.specs.String.{string_bytes};
 ghost use Rattle.byte_unit_base.specs.Shape.{bits};
-ghost use Rattle.byte_unit_base.specs.Edition.{current};
 ghost use Rattle.byte_unit_base.specs.Units.{shape_of};
 ghost use Rattle.byte_unit_base.specs.Kinds.{bits_in};
 ghost use Rattle.byte_unit_base.specs.Choice.{IsAppropriate};
 ghost use Rattle.byte_unit_format.specs.Forms.{text_limit};
 ghost use Rattle.byte_unit_format.specs.Adjusted.{IsAdjustedForm};
-ghost use Rattle.byte_unit_format.specs.Room.{Appends};
-ghost use Rattle.byte_unit_format.specs.Written.{Writes};
+ghost use Rattle.byte_unit_format.specs.Room.{AppendsForm};
+ghost use Rattle.byte_unit_format.specs.Written.{WritesForm};
 ghost use Rattle.byte_unit_base.specs.declared.kind.Kind.TheVariants.{Byte as InBytes};
 
 use super::Byte;
@@ -112,7 +111,7 @@ impl AdjustedByte {
     /// assert_eq!(rt; adjusted.text_len(FormatSpec::PLAIN), "123.456 KB".len());
     /// ```
     pub fn text_len(self, spec: FormatSpec) -> usize
-        ensures exact { (form : List ℕ) → IsAdjustedForm current InBytes self.size (shape_of self.unit) spec form
+        ensures exact { (form : List ℕ) → IsAdjustedForm InBytes self.size self.unit spec form
             → result ≡ length form }
         ensures small { result < text_limit }
     {
@@ -150,8 +149,8 @@ impl AdjustedByte {
         spec: FormatSpec,
         text: &mut String<A>,
     ) -> Result<(), AllocError>
-        ensures { let IsForm = IsAdjustedForm current InBytes self.size (shape_of self.unit) spec in
-            Appends IsForm text.old text.new result }
+        ensures { let IsForm = IsAdjustedForm InBytes self.size self.unit spec in
+            AppendsForm IsForm text.old text.new result }
     {
         byte_unit_format::append_adjusted(self.size.as_u128(), Kind::Byte, self.unit, spec, text)
     }
@@ -173,8 +172,8 @@ impl AdjustedByte {
     /// assert_eq!(rt; adjusted.write_text(FormatSpec::PLAIN, &mut []), len);
     /// ```
     pub fn write_text(self, spec: FormatSpec, out: &mut [u8]) -> usize
-        ensures written { let IsForm = IsAdjustedForm current InBytes self.size (shape_of self.unit) spec in
-            Writes IsForm out.old out.new result }
+        ensures written { let IsForm = IsAdjustedForm InBytes self.size self.unit spec in
+            WritesForm IsForm out.old out.new result }
         ensures small { result < text_limit }
     {
         byte_unit_format::write_adjusted(self.size.as_u128(), Kind::Byte, self.unit, spec, out)
@@ -196,7 +195,7 @@ impl AdjustedByte {
     /// ```
     pub fn to_text(self, alloc: Global, spec: FormatSpec) -> Result<String, AllocError>
         ensures { IfOk result
-            (λ text. IsAdjustedForm current InBytes self.size (shape_of self.unit) spec (string_bytes text)) }
+            (λ text. IsAdjustedForm InBytes self.size self.unit spec (string_bytes text)) }
     {
         self.to_text_in(alloc, spec)
     }
@@ -222,7 +221,7 @@ impl AdjustedByte {
         spec: FormatSpec,
     ) -> Result<String<A>, AllocError>
         ensures { IfOk result
-            (λ text. IsAdjustedForm current InBytes self.size (shape_of self.unit) spec (string_bytes text)) }
+            (λ text. IsAdjustedForm InBytes self.size self.unit spec (string_bytes text)) }
     {
         let mut text = String::new(alloc);
         self.append_text(spec, &mut text)?;
@@ -263,7 +262,7 @@ impl Byte {
     /// ```
     pub fn get_appropriate_unit(&self, unit_type: UnitType) -> AdjustedByte
         ensures size { result.size ≡ self.now }
-        ensures unit { IsAppropriate current InBytes unit_type self.now (shape_of result.unit) }
+        ensures unit { IsAppropriate InBytes unit_type self.now result.unit }
     {
         let unit = appropriate_unit(self.size, Kind::Byte, unit_type);
         self.get_adjusted_unit(unit)

@@ -2,8 +2,8 @@
 
 ghost use Rattle.std.specs.Prelude.{◌≡◌, ◌^◌, ◌<◌, ◌-◌, min, Some, OkIff, false};
 ghost use Rattle.std.specs.Fmt.{decimal};
-ghost use Rattle.byte_unit_base.specs.Edition.{current};
-ghost use Rattle.byte_unit_base.specs.SizeOrNone.{TriesSigned};
+ghost use Rattle.byte_unit_math.specs.Bounds.{size_limit};
+ghost use Rattle.byte_unit_base.specs.SizeOrNone.{IsSizeOrError};
 ghost use Rattle.byte_unit_base.specs.SizeReading.{IsSizeReading};
 ghost use Rattle.byte_unit_base.specs.declared.kind.Kind.TheVariants.{Byte as InBytes};
 
@@ -95,7 +95,7 @@ impl From<usize> for Byte {
 impl TryFrom<u128> for Byte {
     type Error = ExceededBoundsError;
 
-    ghost try_from_gives = { λ n answer. OkIff answer (n < current.size_limit) n };
+    ghost try_from_gives = { λ n answer. OkIff answer (n < size_limit) n };
 
     fn try_from(size: u128) -> Result<Byte, ExceededBoundsError> {
         Byte::from_u128(size).ok_or(ExceededBoundsError)
@@ -106,7 +106,7 @@ impl TryFrom<u128> for Byte {
 impl TryFrom<i128> for Byte {
     type Error = ExceededBoundsError;
 
-    ghost try_from_gives = { λ n answer. TriesSigned current n answer };
+    ghost try_from_gives = { λ n answer. IsSizeOrError n answer };
 
     fn try_from(size: i128) -> Result<Byte, ExceededBoundsError> {
         Byte::from_i128(size).ok_or(ExceededBoundsError)
@@ -117,7 +117,7 @@ impl TryFrom<i128> for Byte {
 impl TryFrom<i64> for Byte {
     type Error = ExceededBoundsError;
 
-    ghost try_from_gives = { λ n answer. TriesSigned current n answer };
+    ghost try_from_gives = { λ n answer. IsSizeOrError n answer };
 
     fn try_from(size: i64) -> Result<Byte, ExceededBoundsError> {
         Byte::from_i64(size).ok_or(ExceededBoundsError)
@@ -128,7 +128,7 @@ impl TryFrom<i64> for Byte {
 impl TryFrom<i32> for Byte {
     type Error = ExceededBoundsError;
 
-    ghost try_from_gives = { λ n answer. TriesSigned current n answer };
+    ghost try_from_gives = { λ n answer. IsSizeOrError n answer };
 
     fn try_from(size: i32) -> Result<Byte, ExceededBoundsError> {
         Byte::from_i64(i64::from(size)).ok_or(ExceededBoundsError)
@@ -139,7 +139,7 @@ impl TryFrom<i32> for Byte {
 impl TryFrom<i16> for Byte {
     type Error = ExceededBoundsError;
 
-    ghost try_from_gives = { λ n answer. TriesSigned current n answer };
+    ghost try_from_gives = { λ n answer. IsSizeOrError n answer };
 
     fn try_from(size: i16) -> Result<Byte, ExceededBoundsError> {
         Byte::from_i64(i64::from(size)).ok_or(ExceededBoundsError)
@@ -150,7 +150,7 @@ impl TryFrom<i16> for Byte {
 impl TryFrom<i8> for Byte {
     type Error = ExceededBoundsError;
 
-    ghost try_from_gives = { λ n answer. TriesSigned current n answer };
+    ghost try_from_gives = { λ n answer. IsSizeOrError n answer };
 
     fn try_from(size: i8) -> Result<Byte, ExceededBoundsError> {
         Byte::from_i64(i64::from(size)).ok_or(ExceededBoundsError)
@@ -161,7 +161,7 @@ impl TryFrom<i8> for Byte {
 impl TryFrom<isize> for Byte {
     type Error = ExceededBoundsError;
 
-    ghost try_from_gives = { λ n answer. TriesSigned current n answer };
+    ghost try_from_gives = { λ n answer. IsSizeOrError n answer };
 
     fn try_from(size: isize) -> Result<Byte, ExceededBoundsError> {
         Byte::from_i64(size as i64).ok_or(ExceededBoundsError)

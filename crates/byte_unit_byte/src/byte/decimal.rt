@@ -1,8 +1,6 @@
 //! Sizes in bytes from decimals.
 
-ghost use Rattle.byte_unit_base.specs.Edition.{current};
-ghost use Rattle.byte_unit_base.specs.Units.{shape_of};
-ghost use Rattle.byte_unit_base.specs.SizeOrNone.{IsSizeOrNone};
+ghost use Rattle.byte_unit_base.specs.SizeOrNone.{IsSizeOrNone, IsSizeOfDecimal};
 ghost use Rattle.byte_unit_base.specs.Kinds.{own_unit};
 ghost use Rattle.byte_unit_base.specs.LeastOfKind.{IsLeastOf};
 ghost use Rattle.byte_unit_base.specs.declared.kind.Kind.TheVariants.{Byte as InBytes};
@@ -27,7 +25,7 @@ impl Byte {
     /// assert_eq!(rt; number.and_then(Byte::from_decimal), Some(Byte::MAX));
     /// ```
     pub fn from_decimal(size: Decimal) -> Option<Byte>
-        ensures { IsSizeOrNone current (IsLeastOf InBytes size (own_unit InBytes)) result }
+        ensures { IsSizeOrNone (IsLeastOf InBytes size (own_unit InBytes)) result }
     {
         Byte::from_decimal_with_unit(size, Unit::B)
     }
@@ -47,7 +45,7 @@ impl Byte {
     /// assert_eq!(rt; Byte::from_decimal_with_unit(number, Unit::RB), None);
     /// ```
     pub fn from_decimal_with_unit(size: Decimal, unit: Unit) -> Option<Byte>
-        ensures { IsSizeOrNone current (IsLeastOf InBytes size (shape_of unit)) result }
+        ensures { IsSizeOfDecimal InBytes size unit result }
     {
         let size = size::from_decimal(size, unit, Kind::Byte)?;
         Some(Byte { size })

@@ -4,7 +4,6 @@ ghost use Rattle.std.specs.Prelude.{◌≡◌, ℕ, List, false, IfOk};
 ghost use Rattle.serde_json.specs.Data.{string};
 ghost use Rattle.serde_json.specs.Find.{as_str};
 ghost use Rattle.serde_json.specs.View.{view};
-ghost use Rattle.byte_unit_base.specs.Edition.{current};
 ghost use Rattle.byte_unit_format.specs.Forms.{IsText};
 ghost use Rattle.byte_unit_base.specs.JsonReading.{ReadsString, size_errors};
 ghost use Rattle.byte_unit_base.specs.SizeReading.{IsSizeReading};
@@ -36,7 +35,7 @@ impl Byte {
     /// ```
     pub fn to_json(self, alloc: Global) -> Result<Value, AllocError>
         ensures { IfOk result
-            (λ value. (text : List ℕ) × IsText current InBytes self FormatSpec.ALTERNATE text
+            (λ value. (text : List ℕ) × IsText InBytes self FormatSpec.ALTERNATE text
             × (view value ≡ string text)) }
     {
         Ok(Value::String(self.to_text(alloc, FormatSpec::ALTERNATE)?))
@@ -59,7 +58,8 @@ impl Byte {
     /// assert!(rt; matches!(Byte::from_json(&Value::Null), Err(JsonSizeError::NotString)));
     /// ```
     pub fn from_json(value: &Value) -> Result<Byte, JsonSizeError>
-        ensures { ReadsString size_errors (IsSizeReading InBytes false) (as_str (view value.now)) result }
+        ensures { ReadsString size_errors (IsSizeReading InBytes false)
+            (as_str (view value.now)) result }
     {
         let text = value.as_str().ok_or(JsonSizeError::NotString)?;
         text.parse().map_err(JsonSizeError::Parse)

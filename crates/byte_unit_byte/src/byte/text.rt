@@ -2,10 +2,9 @@
 
 ghost use Rattle.std.specs.Prelude.{◌≡◌, ◌<◌, ◌≤◌, ℕ, List, length, IfOk};
 ghost use Rattle.std.specs.String.{string_bytes};
-ghost use Rattle.byte_unit_base.specs.Edition.{current};
 ghost use Rattle.byte_unit_format.specs.Forms.{IsText, narrow_text, text_limit};
-ghost use Rattle.byte_unit_format.specs.Room.{Appends};
-ghost use Rattle.byte_unit_format.specs.Written.{Writes};
+ghost use Rattle.byte_unit_format.specs.Room.{AppendsForm};
+ghost use Rattle.byte_unit_format.specs.Written.{WritesForm};
 ghost use Rattle.byte_unit_base.specs.declared.kind.Kind.TheVariants.{Byte as InBytes};
 
 use super::Byte;
@@ -27,7 +26,7 @@ impl Byte {
     /// assert_eq!(rt; size.text_len(FormatSpec::PLAIN), "1536".len());
     /// ```
     pub fn text_len(self, spec: FormatSpec) -> usize
-        ensures exact { (form : List ℕ) → IsText current InBytes self spec form → result ≡ length form }
+        ensures exact { (form : List ℕ) → IsText InBytes self spec form → result ≡ length form }
         ensures small { result < text_limit }
         ensures narrow { spec.width ≡ None → result ≤ narrow_text }
     {
@@ -67,7 +66,7 @@ impl Byte {
         spec: FormatSpec,
         text: &mut String<A>,
     ) -> Result<(), AllocError>
-        ensures { Appends (IsText current InBytes self spec) text.old text.new result }
+        ensures { AppendsForm (IsText InBytes self spec) text.old text.new result }
     {
         byte_unit_format::append_text(self.size, Kind::Byte, spec, text)
     }
@@ -90,7 +89,7 @@ impl Byte {
     /// ```
     #[inline(always)]
     pub fn write_text(self, spec: FormatSpec, out: &mut [u8]) -> usize
-        ensures written { Writes (IsText current InBytes self spec) out.old out.new result }
+        ensures written { WritesForm (IsText InBytes self spec) out.old out.new result }
         ensures small { result < text_limit }
         ensures narrow { spec.width ≡ None → result ≤ narrow_text }
     {
@@ -113,7 +112,7 @@ impl Byte {
     /// assert_eq!(rt; size.to_text(alloc, FormatSpec::PLAIN)?.as_str(), "1536");
     /// ```
     pub fn to_text(self, alloc: Global, spec: FormatSpec) -> Result<String, AllocError>
-        ensures { IfOk result (λ text. IsText current InBytes self spec (string_bytes text)) }
+        ensures { IfOk result (λ text. IsText InBytes self spec (string_bytes text)) }
     {
         self.to_text_in(alloc, spec)
     }
@@ -137,7 +136,7 @@ impl Byte {
         alloc: A,
         spec: FormatSpec,
     ) -> Result<String<A>, AllocError>
-        ensures { IfOk result (λ text. IsText current InBytes self spec (string_bytes text)) }
+        ensures { IfOk result (λ text. IsText InBytes self spec (string_bytes text)) }
     {
         let mut text = String::new(alloc);
         self.append_text(spec, &mut text)?;

@@ -1,10 +1,9 @@
 //! The units that represent a size in bytes exactly.
 
 ghost use Rattle.std.specs.Prelude.{◌≡◌, ◌*◌, ◌≤◌};
-ghost use Rattle.byte_unit_math.specs.Bounds.{one};
-ghost use Rattle.byte_unit_math.specs.Steps.{raised};
+ghost use Rattle.byte_unit_math.specs.Bounds.{scale};
+ghost use Rattle.byte_unit_math.specs.Steps.{saturating_add};
 ghost use Rattle.byte_unit_base.specs.Shape.{bits};
-ghost use Rattle.byte_unit_base.specs.Edition.{current};
 ghost use Rattle.byte_unit_base.specs.Units.{shape_of};
 ghost use Rattle.byte_unit_base.specs.Kinds.{bits_in};
 ghost use Rattle.byte_unit_base.specs.Choice.{IsRecovered, CountsChoice, most_steps};
@@ -30,7 +29,7 @@ impl Byte {
     /// assert_eq!(rt; Byte::from_u64(999).get_exact_unit(false), (999, Unit::B));
     /// ```
     pub fn get_exact_unit(self, allow_in_bits: bool) -> (u128, Unit)
-        ensures recovered { IsRecovered current InBytes allow_in_bits self 0 (shape_of result.1) }
+        ensures recovered { IsRecovered InBytes allow_in_bits self 0 result.1 }
         ensures exact { result.0 * bits (shape_of result.1) ≡ self * bits_in InBytes }
     {
         exact_unit(self.size, Kind::Byte, allow_in_bits)
@@ -55,8 +54,8 @@ impl Byte {
     /// assert_eq!(rt; Byte::MEGABIT.get_recoverable_unit(true, 3).1, Unit::Mbit);
     /// ```
     pub fn get_recoverable_unit(self, allow_in_bits: bool, precision: usize) -> (Decimal, Unit)
-        ensures recovered { IsRecovered current InBytes allow_in_bits self precision (shape_of result.1) }
-        ensures exact { result.0 * bits (shape_of result.1) ≡ self * bits_in InBytes * one }
+        ensures recovered { IsRecovered InBytes allow_in_bits self precision result.1 }
+        ensures exact { result.0 * bits (shape_of result.1) ≡ self * bits_in InBytes * scale }
     {
         self.get_recoverable_unit_counted(allow_in_bits, precision, &mut Steps::new())
     }
@@ -81,10 +80,10 @@ impl Byte {
         precision: usize,
         steps: &mut Steps,
     ) -> (Decimal, Unit)
-        ensures recovered { IsRecovered current InBytes allow_in_bits self precision (shape_of result.1) }
-        ensures exact { result.0 * bits (shape_of result.1) ≡ self * bits_in InBytes * one }
+        ensures recovered { IsRecovered InBytes allow_in_bits self precision result.1 }
+        ensures exact { result.0 * bits (shape_of result.1) ≡ self * bits_in InBytes * scale }
         ensures ticks { CountsChoice self result.0 steps.old steps.new }
-        ensures few_ticks { steps.new ≤ raised steps.old (most_steps InBytes) }
+        ensures few_ticks { steps.new ≤ saturating_add steps.old (most_steps InBytes) }
     {
         recoverable_unit(self.size, Kind::Byte, allow_in_bits, precision, steps)
     }

@@ -1,5 +1,5 @@
 use Rattle.std.proofs.Common.{◌≡◌, ◌<◌, sum_by, take}
-use Rattle.byte_unit.specs.Edition.{current}
+use Rattle.byte_unit.specs.Version.{current}
 use Rattle.example_quotas.proofs.total_used.Given as goal
 
 -- `sum` is the total of the users before this one, and is below the limit

@@ -1,9 +1,8 @@
 use Rattle.std.proofs.Common.{◌≡◌, ◌*◌, ◌^◌, ℕ, IfSome, get_or, min, arith, refl, ap, subst, sym, ◌∙◌}
-use Rattle.byte_unit_math.specs.Bounds.{one, places_of_decimal, whole_limit}
+use Rattle.byte_unit_math.specs.Bounds.{scale, places_of_decimal, whole_limit}
 use Rattle.byte_unit_math.specs.Exact.{IsLeastPlaces, IsQuotient}
-use Rattle.byte_unit_math.specs.Steps.{raised}
-use Rattle.byte_unit_base.specs.Edition.{current}
-use Rattle.byte_unit_base.specs.Choice.{IsChosen}
+use Rattle.byte_unit_math.specs.Steps.{saturating_add}
+use Rattle.byte_unit_base.specs.Choice.{IsChosen, IsChosenIn}
 use Rattle.byte_unit_base.proofs.Choosing.{some_if_holds, some_bits}
 use Rattle.byte_unit_base.proofs.FewSteps.{few_of_choice, few_of_none}
 use Rattle.byte_unit_base.proofs.Quotients.{places_of_quotient, quotient_of_product, whole_takes_none}
@@ -86,12 +85,12 @@ returns-then-row-in_bits-clause-exact c =
     elim c.if-places-gt-FEW_PLACES.branch [
       | then-places-gt-FEW_PLACES w ↦
           ap (λ n. n * _) w.number-is
-          ∙ subst (λ answer. IfSome answer (λ n. n * _ ≡ in_bits * one)) w.unwrap-number.ensures
+          ∙ subst (λ answer. IfSome answer (λ n. n * _ ≡ in_bits * scale)) w.unwrap-number.ensures
           w.exact_quotient.ensures.exact
       | else-places-gt-FEW_PLACES w ↦
           ap (λ n. n * _) w.number-is
           ∙ (ap (λ n. w.factored_quotient-number.result * n) multiple.powers
-          ∙ (w.factored_quotient-number.ensures.exact ∙ ap (λ n. n * one) product))
+          ∙ (w.factored_quotient-number.ensures.exact ∙ ap (λ n. n * scale) product))
     ]
 
 pub returns-then-row-in_bits-clause-chosen : goal.returns-then-row-in_bits-clause-chosen
@@ -118,8 +117,8 @@ returns-then-row-in_bits-clause-ticks c =
     let trials = c.factors_of-left.ensures in
     let unmoved = c.loop-row.invariant.steps in
     let number = c.if-places-gt-FEW_PLACES.number in
-    let counted : (places : ℕ) × IsLeastPlaces number one places
-    × (c.if-places-gt-FEW_PLACES.steps ≡ raised mid places) =
+    let counted : (places : ℕ) × IsLeastPlaces number scale places
+    × (c.if-places-gt-FEW_PLACES.steps ≡ saturating_add mid places) =
     elim c.if-places-gt-FEW_PLACES.branch [
       | then-places-gt-FEW_PLACES w ↦
           let digits = w.exact_quotient.ensures.ticks in
@@ -133,11 +132,11 @@ returns-then-row-in_bits-clause-ticks c =
             quotient = quotient;
             first = digits.1;
           }) in
-          let same = subst (λ n. IsLeastPlaces n one digits.0) (sym w.number-is) least in
+          let same = subst (λ n. IsLeastPlaces n scale digits.0) (sym w.number-is) least in
           (digits.0, same, omega (arith, w.steps-is, digits.2, unmoved))
       | else-places-gt-FEW_PLACES w ↦
           let places = w.factored_quotient-number.ensures.ticks in
-          let same = subst (λ n. IsLeastPlaces n one places.0) (sym w.number-is) places.1 in
+          let same = subst (λ n. IsLeastPlaces n scale places.0) (sym w.number-is) places.1 in
           (places.0, same, omega (arith, w.steps-is, places.2, unmoved))
     ] in
     counted_choice {places = counted.0} c.args.steps.now mid c.if-places-gt-FEW_PLACES.steps trials.powers counted.1
@@ -147,7 +146,7 @@ pub returns-then-row-in_bits-clause-few_ticks : goal.returns-then-row-in_bits-cl
 returns-then-row-in_bits-clause-few_ticks c = λ kind same.
     let unit = unit_in (get_or c.multiples_within-row-items.result.now c.loop-row.row-index no_row) in
     let number = c.if-places-gt-FEW_PLACES.number in
-    let IsChosenIn : ℕ → Type 0 = λ n. IsChosen current c.args.family (c.args.size * n) c.args.places unit number in
+    let IsChosenIn : ℕ → Type 0 = λ n. IsChosen c.args.family (c.args.size * n) c.args.places unit number in
     let chosen = subst IsChosenIn same (returns-then-row-in_bits-clause-chosen c) in
     let counted = returns-then-row-in_bits-clause-ticks c in
     few_of_choice kind c.args.family c.args.size c.args.places number _ _ unit c.requires.small chosen counted
@@ -163,7 +162,7 @@ pub returns-clause-ticks_of_none : goal.returns-clause-ticks_of_none
 returns-clause-ticks_of_none c =
     let mid = c.factors_of-left.new.steps in
     let trials = c.factors_of-left.ensures in
-    let still : c.loop-row.steps ≡ raised mid 0 = omega (arith, c.loop-row.invariant.steps) in
+    let still : c.loop-row.steps ≡ saturating_add mid 0 = omega (arith, c.loop-row.invariant.steps) in
     counted_choice c.args.steps.now mid c.loop-row.steps trials.powers (whole_takes_none 0) trials.ticks still
 
 pub returns-clause-few_ticks : goal.returns-clause-few_ticks

@@ -1,6 +1,5 @@
 use Rattle.std.proofs.Common.{◌*◌, arith, subst, sym}
-use Rattle.byte_unit_base.specs.Edition.{current}
-use Rattle.byte_unit_base.specs.Choice.{Suits}
+use Rattle.byte_unit_base.specs.Choice.{IsEligibleUnit}
 use Rattle.byte_unit_base.specs.Family.{IsOfType}
 use Rattle.byte_unit_base.proofs.Choosing.{small_bits}
 use Rattle.byte_unit_base.proofs.Rows.{no_row, search_start, row_at_is_row}
@@ -11,7 +10,7 @@ use Rattle.byte_unit_base.proofs.choice.largest_unit.Goals.{else-row-in_bits-via
 
 pub loop-row-init : goal.loop-row-init
 loop-row-init c =
-    let fit = Suits current c.args.family c.args.unit_type (c.args.size * c.args.divisor) in
+    let fit = IsEligibleUnit c.args.family c.args.unit_type (c.args.size * c.args.divisor) in
     search_start fit c.args.family c.saturating_mul-in_bits.result _ c.multiples_within-row-items.result.now
     c.multiples_within-row-items.ensures
     (λ unit h. (
@@ -22,7 +21,7 @@ loop-row-init c =
 
 pub loop-row-preserved : goal.loop-row-preserved
 loop-row-preserved c =
-    let fit = Suits current c.args.family c.args.unit_type (c.args.size * c.args.divisor) in
+    let fit = IsEligibleUnit c.args.family c.args.unit_type (c.args.size * c.args.divisor) in
     let rows = c.multiples_within-row-items.result.now in
     let i = c.loop-row.row-index in
     let is_row = row_at_is_row i no_row c.multiples_within-row-items.ensures c.loop-row-test.true in
@@ -50,7 +49,7 @@ returns-then-takes-clause-found c =
     let i = c.loop-row.row-index in
     let listed = c.multiples_within-row-items.ensures in
     let is_row = row_at_is_row i no_row listed c.loop-row-test.true in
-    let has : Suits current c.args.family c.args.unit_type in_bits _ = record {
+    let has : IsEligibleUnit c.args.family c.args.unit_type in_bits _ = record {
       member = is_row.member;
       of_type = subst (IsOfType c.args.unit_type) c.is_binary_multiples.ensures (c.takes.ensures.0 c.if-takes.true);
       not_above = omega (arith, is_row.bits_are, c.if-row-in_bits.true, c.saturating_mul-in_bits.ensures);

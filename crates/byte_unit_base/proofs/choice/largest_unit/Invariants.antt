@@ -1,6 +1,5 @@
 use Rattle.std.proofs.Common.{◌*◌, drop, map}
-use Rattle.byte_unit_base.specs.Edition.{current}
-use Rattle.byte_unit_base.specs.Choice.{Suits}
+use Rattle.byte_unit_base.specs.Choice.{IsEligibleUnit}
 use Rattle.byte_unit_base.proofs.Falling.{Remain}
 use Rattle.byte_unit_base.proofs.Rows.{unit_in}
 use Rattle.byte_unit_base.proofs.choice.largest_unit.Given as goal
@@ -8,5 +7,5 @@ use Rattle.byte_unit_base.proofs.choice.largest_unit.Given as goal
 -- each unit of the type that is not above the size is in this row or in a later one
 abbrev pub invariant-loop-row : goal.invariant-loop-row
 invariant-loop-row l =
-    Remain (Suits current l.fn.family l.unit_type (l.fn.size * l.fn.divisor))
+    Remain (IsEligibleUnit l.fn.family l.unit_type (l.fn.size * l.fn.divisor))
     (drop l.row-index (map unit_in l.row-items))

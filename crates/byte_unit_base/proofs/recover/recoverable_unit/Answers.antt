@@ -1,5 +1,5 @@
 use Rattle.std.proofs.Common.{◌≡◌, ◌*◌, arith}
-use Rattle.byte_unit_math.specs.Bounds.{one}
+use Rattle.byte_unit_math.specs.Bounds.{scale}
 use Rattle.byte_unit_base.specs.Units.{shape_of}
 use Rattle.byte_unit_base.proofs.Choosing.{own_number}
 use Rattle.byte_unit_base.proofs.SizePowers.{counted_whole}
@@ -7,10 +7,10 @@ use Rattle.byte_unit_base.proofs.recover.recoverable_unit.Goals as goal
 
 pub returns-in-None-clause-exact : goal.returns-in-None-clause-exact
 returns-in-None-clause-exact c =
-    let value : c.from_digits.result ≡ c.args.size * one = omega (arith, c.from_digits.ensures) in
+    let value : c.from_digits.result ≡ c.args.size * scale = omega (arith, c.from_digits.ensures) in
     own_number c.args.kind c.args.size c.from_digits.result (shape_of c.unit.result) value c.unit.ensures
 
 pub returns-in-None-clause-ticks : goal.returns-in-None-clause-ticks
 returns-in-None-clause-ticks c =
-    let value : c.from_digits.result ≡ c.args.size * one = omega (arith, c.from_digits.ensures) in
+    let value : c.from_digits.result ≡ c.args.size * scale = omega (arith, c.from_digits.ensures) in
     counted_whole c.args.size c.from_digits.result _ _ value c.in-None.ensures.ticks_of_none

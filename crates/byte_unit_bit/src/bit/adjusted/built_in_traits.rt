@@ -6,8 +6,6 @@ ghost use Rattle.std.specs.Cmp.{partial_order_from_own_ties, partial_equiv_from_
 ghost use Rattle.std.specs.Cmp.Rules.{comparing};
 ghost use Rattle.std.specs.Ordering.{nat_cmp, as_partial_cmp};
 ghost use Rattle.std.proofs.Common.{rules};
-ghost use Rattle.byte_unit_base.specs.Edition.{current};
-ghost use Rattle.byte_unit_base.specs.Units.{shape_of};
 ghost use Rattle.byte_unit_format.specs.Adjusted.{adjusted_text};
 ghost use Rattle.byte_unit_base.specs.AdjustedSize.{IsAdjustedReading};
 ghost use Rattle.byte_unit_base.specs.Choice.{IsAppropriate};
@@ -24,9 +22,9 @@ use std::str::FromStr;
 /// Writes the size in its unit with all its digits, a space and the unit's name, as `FormatSpec::PLAIN` does. The
 /// formatter's flags have no effect; [`AdjustedBit::to_text`] takes a spec instead.
 impl fmt::Display for AdjustedBit {
-    ghost output = { λ a. Some (adjusted_text current InBits a.size (shape_of a.unit)) };
+    ghost output = { λ a. Some (adjusted_text InBits a.size a.unit) };
 
-    ghost styled_output = { λ a spec. Some (adjusted_text current InBits a.size (shape_of a.unit)) };
+    ghost styled_output = { λ a spec. Some (adjusted_text InBits a.size a.unit) };
 
     fn fmt<W: fmt::Write>(&self, f: &mut fmt::Formatter<W>) -> fmt::Result {
         let size = self.get_bit().as_u128();
@@ -76,7 +74,7 @@ impl PartialOrd for AdjustedBit {
 
 /// Returns the size with the largest unit of bits that is at most the size, or with `Unit::Bit` if there is none.
 impl From<Bit> for AdjustedBit {
-    ghost from_gives = { λ size a. (a.size ≡ size) × IsAppropriate current InBits Both size (shape_of a.unit) };
+    ghost from_gives = { λ size a. (a.size ≡ size) × IsAppropriate InBits Both size a.unit };
 
     fn from(size: Bit) -> AdjustedBit {
         size.get_appropriate_unit(UnitType::Both)

@@ -5,8 +5,6 @@ ghost use Rattle.std.specs.Prelude.{◌≡◌, ℕ, List, IfOk};
 ghost use Rattle.serde_json.specs.Data.{string};
 ghost use Rattle.serde_json.specs.Find.{as_str};
 ghost use Rattle.serde_json.specs.View.{view};
-ghost use Rattle.byte_unit_base.specs.Edition.{current};
-ghost use Rattle.byte_unit_base.specs.Units.{shape_of};
 ghost use Rattle.byte_unit_base.specs.AdjustedSize.{IsAdjustedReading};
 ghost use Rattle.byte_unit_format.specs.AdjustedString.{IsAdjustedString};
 ghost use Rattle.byte_unit_base.specs.JsonReading.{ReadsString, size_errors};
@@ -42,7 +40,7 @@ impl AdjustedBit {
     /// ```
     pub fn to_json(self, alloc: Global) -> Result<Value, AllocError>
         ensures { IfOk result
-            (λ value. (text : List ℕ) × IsAdjustedString current InBits self.size (shape_of self.unit) text
+            (λ value. (text : List ℕ) × IsAdjustedString InBits self.size self.unit text
             × (view value ≡ string text)) }
     {
         let size = self.get_bit();
@@ -73,7 +71,8 @@ impl AdjustedBit {
     /// assert!(rt; matches!(AdjustedBit::from_json(&Value::Null), Err(JsonSizeError::NotString)));
     /// ```
     pub fn from_json(value: &Value) -> Result<AdjustedBit, JsonSizeError>
-        ensures { ReadsString size_errors (IsAdjustedReading InBits) (as_str (view value.now)) result }
+        ensures { ReadsString size_errors (IsAdjustedReading InBits)
+            (as_str (view value.now)) result }
     {
         let text = value.as_str().ok_or(JsonSizeError::NotString)?;
         text.parse().map_err(JsonSizeError::Parse)

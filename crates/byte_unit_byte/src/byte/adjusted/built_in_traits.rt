@@ -5,8 +5,6 @@ ghost use Rattle.std.specs.Cmp.{partial_order_from_own_ties, partial_equiv_from_
 ghost use Rattle.std.specs.Cmp.Rules.{comparing};
 ghost use Rattle.std.specs.Ordering.{nat_cmp, as_partial_cmp};
 ghost use Rattle.std.proofs.Common.{rules};
-ghost use Rattle.byte_unit_base.specs.Edition.{current};
-ghost use Rattle.byte_unit_base.specs.Units.{shape_of};
 ghost use Rattle.byte_unit_format.specs.Adjusted.{adjusted_text};
 ghost use Rattle.byte_unit_base.specs.AdjustedSize.{IsAdjustedReading};
 ghost use Rattle.byte_unit_base.specs.Choice.{IsAppropriate};
@@ -23,9 +21,9 @@ use std::str::FromStr;
 /// Writes the size in its unit with all its digits, a space and the unit's name, as `FormatSpec::PLAIN` does. The
 /// formatter's flags have no effect; [`AdjustedByte::to_text`] takes a spec instead.
 impl fmt::Display for AdjustedByte {
-    ghost output = { λ a. Some (adjusted_text current InBytes a.size (shape_of a.unit)) };
+    ghost output = { λ a. Some (adjusted_text InBytes a.size a.unit) };
 
-    ghost styled_output = { λ a spec. Some (adjusted_text current InBytes a.size (shape_of a.unit)) };
+    ghost styled_output = { λ a spec. Some (adjusted_text InBytes a.size a.unit) };
 
     fn fmt<W: fmt::Write>(&self, f: &mut fmt::Formatter<W>) -> fmt::Result {
         let size = self.get_byte().as_u128();
@@ -75,7 +73,7 @@ impl PartialOrd for AdjustedByte {
 
 /// Returns the size with the largest unit of bytes that is at most the size, or with `Unit::B` if there is none.
 impl From<Byte> for AdjustedByte {
-    ghost from_gives = { λ size a. (a.size ≡ size) × IsAppropriate current InBytes Both size (shape_of a.unit) };
+    ghost from_gives = { λ size a. (a.size ≡ size) × IsAppropriate InBytes Both size a.unit };
 
     fn from(size: Byte) -> AdjustedByte {
         size.get_appropriate_unit(UnitType::Both)

@@ -4,8 +4,6 @@ ghost use Rattle.std.specs.Prelude.{◌≡◌, ℕ, List, IfOk};
 ghost use Rattle.serde_json.specs.Data.{string};
 ghost use Rattle.serde_json.specs.Find.{as_str};
 ghost use Rattle.serde_json.specs.View.{view};
-ghost use Rattle.byte_unit_base.specs.Edition.{current};
-ghost use Rattle.byte_unit_base.specs.Units.{shape_of};
 ghost use Rattle.byte_unit_base.specs.AdjustedSize.{IsAdjustedReading};
 ghost use Rattle.byte_unit_format.specs.AdjustedString.{IsAdjustedString};
 ghost use Rattle.byte_unit_base.specs.JsonReading.{ReadsString, size_errors};
@@ -41,7 +39,7 @@ impl AdjustedByte {
     /// ```
     pub fn to_json(self, alloc: Global) -> Result<Value, AllocError>
         ensures { IfOk result
-            (λ value. (text : List ℕ) × IsAdjustedString current InBytes self.size (shape_of self.unit) text
+            (λ value. (text : List ℕ) × IsAdjustedString InBytes self.size self.unit text
             × (view value ≡ string text)) }
     {
         let size = self.get_byte();
@@ -72,7 +70,8 @@ impl AdjustedByte {
     /// assert!(rt; matches!(AdjustedByte::from_json(&Value::Null), Err(JsonSizeError::NotString)));
     /// ```
     pub fn from_json(value: &Value) -> Result<AdjustedByte, JsonSizeError>
-        ensures { ReadsString size_errors (IsAdjustedReading InBytes) (as_str (view value.now)) result }
+        ensures { ReadsString size_errors (IsAdjustedReading InBytes)
+            (as_str (view value.now)) result }
     {
         let text = value.as_str().ok_or(JsonSizeError::NotString)?;
         text.parse().map_err(JsonSizeError::Parse)

@@ -4,7 +4,7 @@ use Rattle.byte_unit_base.specs.SizeReading.{IsBytesReading}
 use Rattle.byte_unit_base.specs.declared.errors.ParseError.{ParseError}
 use Rattle.byte_unit_base.specs.declared.errors.ParseError.TheVariants.{Unit as UnitError}
 use Rattle.byte_unit_base.specs.declared.kind.Kind.{Kind}
-use Rattle.byte_unit_c.specs.Fault.{shown}
+use Rattle.byte_unit_c.specs.Fault.{expected_bytes}
 use Rattle.byte_unit_c.proofs.Zeros.{zero_parts}
 use Rattle.byte_unit_c.proofs.reading.byte_unit_parse.Goals as goal
 
@@ -22,7 +22,7 @@ returns-in-Some-Err-Unit c =
         refl,
         record {
           character_is = ap (λ v. v.character) view;
-          expected_is = c.expected_bytes.ensures ∙ ap (λ v. shown v.expected_characters.now) view;
+          expected_is = c.expected_bytes.ensures ∙ ap (λ v. expected_bytes v.expected_characters.now) view;
           may_end_is = ap (λ v. v.also_expect_no_character) view;
           number_is = zero_parts;
         },

@@ -1,7 +1,7 @@
 -- The number is formatted by the rule for the precision, the alternate flag and the unit.
 use Rattle.std.proofs.Common.{sym, ◌∙◌, ◌*◌, arith}
 use Rattle.byte_unit_math.specs.Numeral.{text_of}
-use Rattle.byte_unit_math.specs.Padded.{padded}
+use Rattle.byte_unit_math.specs.Padded.{pad_of}
 use Rattle.byte_unit_math.specs.declared.expansion.Ties.TheVariants.{Even, Up}
 use Rattle.byte_unit_math.proofs.Texts.{nearest_of_expansion, text_of_short_numeral, text_of_padded}
 use Rattle.byte_unit_base.specs.Shape.{bits}
@@ -17,7 +17,7 @@ returns-in-None-clause-number c =
     let unit = shape_of c.args.unit in
     let shown = c.all_places.result in
     let exact = c.number_in_unit-exact in
-    numeral_by_same_rule (c.args.size * bits_in c.args.kind) (bits unit) (text_of (padded shown.places shown.decimal))
+    numeral_by_same_rule (c.args.size * bits_in c.args.kind) (bits unit) (text_of (pad_of shown.places shown.decimal))
     (rule_without_precision c.args.spec unit c.in-None.is)
     (exact.result, exact.ensures, c.all_places.ensures.text)
 
@@ -29,12 +29,12 @@ returns-then-spec-clause-number c =
     let shown = c.all_places-then-spec.result in
     let exact = c.number_in_unit-exact in
     let near = c.rounded.ensures in
-    numeral_by_same_rule num (bits unit) (text_of (padded shown.places shown.decimal))
+    numeral_by_same_rule num (bits unit) (text_of (pad_of shown.places shown.decimal))
     (rule_of_alternate c.args.spec unit c.in-Some.precision places c.in-Some.is c.if-spec.true
     (c.from-places.ensures ∙ c.min.ensures)) (
       near.0,
       nearest_of_expansion num (bits unit) exact.result places Up near.0
-      (omega (arith, some_bits unit), exact.ensures.exact) near.1,
+          (omega (arith, some_bits unit), exact.ensures.exact) near.1,
       c.all_places-then-spec.ensures.text ∙ text_of_short_numeral near.0 places c.rounded.result near.2,
     )
 
@@ -43,7 +43,7 @@ returns-then-is_single-clause-number c =
     let unit = shape_of c.args.unit in
     let shown = c.all_places-then-is_single.result in
     let exact = c.number_in_unit-exact in
-    numeral_by_same_rule (c.args.size * bits_in c.args.kind) (bits unit) (text_of (padded shown.places shown.decimal))
+    numeral_by_same_rule (c.args.size * bits_in c.args.kind) (bits unit) (text_of (pad_of shown.places shown.decimal))
     (rule_without_prefix c.args.spec unit c.in-Some.precision c.in-Some.is c.if-spec.false
     (sym c.is_single.ensures ∙ c.if-is_single.true))
     (exact.result, exact.ensures, c.all_places-then-is_single.ensures.text)
@@ -57,11 +57,11 @@ returns-else-is_single-clause-number c =
     let exact = c.number_in_unit-exact in
     let near = c.rounded-else-is_single.ensures in
     let many = sym c.is_single.ensures ∙ c.if-is_single.false in
-    numeral_by_same_rule num (bits unit) (text_of (padded places.result decimal))
+    numeral_by_same_rule num (bits unit) (text_of (pad_of places.result decimal))
     (rule_with_precision c.args.spec unit c.in-Some.precision places.result c.in-Some.is c.if-spec.false many
     places.ensures) (
       near.0,
       nearest_of_expansion num (bits unit) exact.result places.result Even near.0
-      (omega (arith, some_bits unit), exact.ensures.exact) near.1,
+          (omega (arith, some_bits unit), exact.ensures.exact) near.1,
       text_of_padded near.0 places.result decimal near.2,
     )

@@ -1,6 +1,6 @@
-use Rattle.byte_unit_base.specs.Edition.{current}
+use Rattle.byte_unit_base.specs.Version.{current}
 use Rattle.byte_unit_base.specs.Units.{shape_of}
-use Rattle.byte_unit_format.specs.Layout.{layout_of}
+use Rattle.byte_unit_format.specs.Layout.{layout_of_in}
 use Rattle.byte_unit_format.proofs.TextParts.{writes_form}
 use Rattle.byte_unit_format.proofs.AdjustedForms.{IsShown, shown_is_adjusted_form}
 use Rattle.byte_unit_format.proofs.adjusted.write_adjusted.Goals as goal
@@ -11,5 +11,5 @@ returns-clause-written c =
     let unit = shape_of c.args.unit in
     let shown : IsShown c.args.kind c.args.size unit c.args.spec number.decimal number.places =
     record { is_numeral = c.rounded_in_unit-shown.ensures.number } in
-    writes_form (layout_of current number.decimal number.places unit c.args.spec) (shown_is_adjusted_form shown)
+    writes_form (layout_of_in current number.decimal number.places unit c.args.spec) (shown_is_adjusted_form shown)
     c.write_layout.ensures.written

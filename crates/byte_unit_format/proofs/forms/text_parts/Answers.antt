@@ -1,5 +1,4 @@
 use Rattle.std.proofs.Common.{◌≡◌, true, rules, sym, subst}
-use Rattle.byte_unit_base.specs.Edition.{current}
 use Rattle.byte_unit_format.specs.Forms.{IsSizeForm, places_of}
 use Rattle.byte_unit_format.proofs.WrittenForms.{AreParts, size_form_is_text, size_form_of_parts}
 use Rattle.byte_unit_format.proofs.forms.text_parts.Goals as goal
@@ -20,5 +19,5 @@ returns-clause-text c =
       below = c.digits.ensures.bound c.places.result least;
     } in
     size_form_is_text c.args.kind c.args.size spec alternate
-    (subst (IsSizeForm current c.args.kind c.args.size spec) (sym c.layout_parts.ensures.text)
+    (subst (IsSizeForm c.args.kind c.args.size spec) (sym c.layout_parts.ensures.text)
     (size_form_of_parts c.args.kind c.args.size spec places_are found.recovered found.exact parts))

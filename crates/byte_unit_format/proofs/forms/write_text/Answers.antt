@@ -1,15 +1,15 @@
 use Rattle.std.proofs.Common.{arith}
-use Rattle.byte_unit_format.specs.Row.{row_text}
+use Rattle.byte_unit_format.specs.TextParts.{parts_text}
 use Rattle.byte_unit_format.proofs.TextParts.{writes_form}
 use Rattle.byte_unit_format.proofs.NarrowTexts.{text_without_width_narrow}
 use Rattle.byte_unit_format.proofs.forms.write_text.Goals as goal
 
 pub returns-clause-written : goal.returns-clause-written
-returns-clause-written c = writes_form (row_text c.text_parts.result) c.text_parts.ensures.text c.write.ensures.written
+returns-clause-written c = writes_form (parts_text c.text_parts.result) c.text_parts.ensures.text c.write.ensures.written
 
 pub returns-clause-narrow : goal.returns-clause-narrow
 returns-clause-narrow c = λ none.
-    let text = row_text c.text_parts.result in
+    let text = parts_text c.text_parts.result in
     let narrow = text_without_width_narrow c.args.kind c.args.size c.args.spec text c.requires none
     c.text_parts.ensures.text in
     omega (arith, c.text_parts.ensures.len, narrow)

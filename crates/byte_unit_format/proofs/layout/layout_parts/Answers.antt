@@ -1,8 +1,8 @@
 use Rattle.std.proofs.Common.{◌≡◌, ◌+◌, ◌++◌, ◌∙◌, ℕ, length, length-append, arith, ap, rules}
 use Rattle.std.specs.Fmt.{decimal}
-use Rattle.byte_unit_format.specs.Layout.{layout, before_layout, gap_of}
-use Rattle.byte_unit_format.specs.Plain.{missing}
-use Rattle.byte_unit_format.specs.Row.{fraction_of}
+use Rattle.byte_unit_format.specs.Layout.{layout, layout_left_padding, gap_of}
+use Rattle.byte_unit_format.specs.Plain.{padding_for}
+use Rattle.byte_unit_format.specs.TextParts.{fraction_of}
 use Rattle.byte_unit_format.proofs.TextParts.{layout_of_parts}
 use Rattle.byte_unit_format.proofs.layout.layout_parts.Goals as goal
 
@@ -14,10 +14,10 @@ returns-clause-text c =
     let unit = c.as_str-name.result.now in
     let pad = c.padding-pad.result in
     let gap_is : c.match-spec.gap ≡ gap_of spec.sign unit = search rules in
-    let before_is : c.match-spec-2.before ≡ before_layout spec.align pad = search rules in
+    let before_is : c.match-spec-2.before ≡ layout_left_padding spec.align pad = search rules in
     let columns : c.decimal_len.result + c.len.result + c.match-spec.gap + length unit
     ≡ length (whole ++ fraction) + gap_of spec.sign unit + length unit =
     omega (arith, length-append {A = ℕ} whole fraction, c.decimal_len.ensures.exact, c.len.ensures.exact, gap_is) in
     layout_of_parts (whole ++ fraction) unit spec pad c.match-spec-2.before c.match-spec.gap
-    (c.padding-pad.ensures.exact ∙ ap (λ columns. missing spec.width columns) columns) before_is gap_is
+    (c.padding-pad.ensures.exact ∙ ap (λ columns. padding_for spec.width columns) columns) before_is gap_is
     ∙ ap (λ unit. layout (whole ++ fraction) unit spec) c.as_str-name.ensures

@@ -6,8 +6,13 @@ pub returns : goal.returns
 returns c =
     let digit = c.subtract_multiple-eights.result.0 + c.subtract_multiple-fours.result.0 + c.subtract_multiple-twos.result.0 + c.subtract_multiple-ones.result.0 in
     let parts : digit * c.args.divisor + c.subtract_multiple-ones.result.1 ≡ c.args.dividend =
-    omega (arith, c.subtract_multiple-eights.ensures.parts, c.subtract_multiple-fours.ensures.parts, c.subtract_multiple-twos.ensures.parts,
-    c.subtract_multiple-ones.ensures.parts) in
+    omega (
+      arith,
+      c.subtract_multiple-eights.ensures.parts,
+      c.subtract_multiple-fours.ensures.parts,
+      c.subtract_multiple-twos.ensures.parts,
+      c.subtract_multiple-ones.ensures.parts,
+    ) in
     let below = c.subtract_multiple-ones.ensures.below in
     record {
       digit =

@@ -52,12 +52,16 @@ no_five c = λ five.
     ]
 
 pub overflow_add-twos : goal.overflow_add-twos
-overflow_add-twos c = omega (arith,
-    FivesOff-few _ _ _ _ c.requires.small (all_off (goal.at.overflow_add-twos c).Joined-left))
+overflow_add-twos c = omega (
+  arith,
+  FivesOff-few _ _ _ _ c.requires.small (all_off (goal.at.overflow_add-twos c).Joined-left),
+)
 
 pub overflow_add-twos-2 : goal.overflow_add-twos-2
-overflow_add-twos-2 c = omega (arith,
-    FivesOff-few _ _ _ _ c.requires.small (all_off (goal.at.overflow_add-twos-2 c).Joined-left))
+overflow_add-twos-2 c = omega (
+  arith,
+  FivesOff-few _ _ _ _ c.requires.small (all_off (goal.at.overflow_add-twos-2 c).Joined-left),
+)
 
 pub returns-clause-product : goal.returns-clause-product
 returns-clause-product c = sym (all_off (goal.at.returns-clause-product c).Joined-left).product
@@ -69,5 +73,7 @@ returns-clause-powers c =
     record { left = c.if-left.left; product = off.product; odd = off.odd; no_five = no_five s }
 
 pub returns-clause-few : goal.returns-clause-few
-returns-clause-few c = omega (arith,
-    FivesOff-few _ _ _ _ c.requires.small (all_off (goal.at.returns-clause-few c).Joined-left))
+returns-clause-few c = omega (
+  arith,
+  FivesOff-few _ _ _ _ c.requires.small (all_off (goal.at.returns-clause-few c).Joined-left),
+)

@@ -2,7 +2,7 @@
 use Rattle.std.proofs.Common.{ℕ, get_or, Fits, ◌≡◌, ◌+◌, ◌-◌, ◌*◌, ◌/◌, ◌%◌, ◌^◌, ◌<◌, arith, ap, sym, subst, ◌∙◌}
 use Rattle.std.specs.Int.{w128}
 use Rattle.byte_unit_math.specs.Bounds.{places_of_decimal, whole_limit}
-use Rattle.byte_unit_math.specs.Factored.{value_of}
+use Rattle.byte_unit_math.specs.Factored.{product_of}
 use Rattle.byte_unit_math.proofs.Powers.{count_of_units}
 use Rattle.byte_unit_math.proofs.FactoredNumbers.{FewFactors-below_limit, product_by_table, count_below_limit}
 use Rattle.byte_unit_math.proofs.FactoredNumbers.{count_is_exact, FewFactors, quotient_and_rest_of_equal}
@@ -23,13 +23,13 @@ abbrev count_of : Start → ℕ
 count_of c = c.args.number.left * (2 ^ twos_of c * 5 ^ fives_of c)
 
 count_is_exact_quotient : (c : Start)
-    → value_of c.args.number * 10 ^ c.args.places ≡ count_of c * (2 ^ c.args.twos * 5 ^ c.args.fives)
+    → product_of c.args.number * 10 ^ c.args.places ≡ count_of c * (2 ^ c.args.twos * 5 ^ c.args.fives)
 count_is_exact_quotient c =
     count_of_units c.args.number.left c.args.number.twos c.args.number.fives c.args.twos c.args.fives c.args.places
     c.requires.exact
 
 count_fits : (c : Start) → count_of c < whole_limit
-count_fits c = count_below_limit (value_of c.args.number) (2 ^ c.args.twos * 5 ^ c.args.fives) (count_of c)
+count_fits c = count_below_limit (product_of c.args.number) (2 ^ c.args.twos * 5 ^ c.args.fives) (count_of c)
     c.args.places (count_is_exact_quotient c) c.requires.small
 
 count_has_few_factors : (c : Start) → FewFactors c.args.number.left (twos_of c) (fives_of c)
@@ -111,5 +111,5 @@ returns-clause-exact c =
     rw (c.from_digits-quotient.ensures, at_point.0, at_point.1)
     (cut_at_point (count_of s) c.args.places c.requires.places) in
     ap (λ n. n * unit) quotient
-    ∙ count_is_exact (value_of c.args.number) unit (count_of s) c.args.places (count_is_exact_quotient s)
+    ∙ count_is_exact (product_of c.args.number) unit (count_of s) c.args.places (count_is_exact_quotient s)
     c.requires.places

@@ -4,7 +4,7 @@ use Rattle.std.proofs.lemmas.Iterator.{YieldsList-from_chars}
 use Rattle.std.proofs.lemmas.Iterator.Consumers.{YieldsList-turn, YieldsList-end}
 use Rattle.std.proofs.lemmas.List.{length_push}
 use Rattle.std.specs.Str.{chars}
-use Rattle.byte_unit_base.specs.UnitScan.{unit_scan, unit_seen, unit_at_end}
+use Rattle.byte_unit_base.specs.UnitScan.{unit_scan, unit_result, unit_at_end}
 use Rattle.byte_unit_base.specs.Units.{shape_of}
 use Rattle.byte_unit_base.specs.Errors.{unit_fault}
 use Rattle.byte_unit_base.specs.Fault.{stops_at_bi}
@@ -30,7 +30,7 @@ returns-in-None-step c =
 
 -- a spelling that may end, and one that stops after `bi`
 ends_or_stops : (unit : Option UnitName) (error : UnitParseError) → unit_fault error ≡ stops_at_bi
-    → unit_seen (ok_or unit error) ≡ unit_at_end (option_map shape_of unit)
+    → unit_result (ok_or unit error) ≡ unit_at_end (option_map shape_of unit)
 ends_or_stops None error e = ap Err e
 ends_or_stops (Some unit) error e = refl
 
@@ -39,4 +39,4 @@ returns c =
     let t = YieldsList-end (YieldsList-from_chars c.args.text.now c.utf8.text cc) c.loop-c.yielded _ c.loop-c.yielded_by _ _ c.in-None.is
     c.next.ensures.steps in
     let end = read_end (unit_scan c.args.flags) c.loop-c.scan (chars c.args.text.now) _ (omega (arith, t)) in
-    ap unit_seen c.ok_or.ensures.value ∙ (ends_or_stops c.unit.result _ refl ∙ (ap unit_at_end c.unit.ensures ∙ (end ∙ c.loop-c.invariant)))
+    ap unit_result c.ok_or.ensures.value ∙ (ends_or_stops c.unit.result _ refl ∙ (ap unit_at_end c.unit.ensures ∙ (end ∙ c.loop-c.invariant)))

@@ -2,14 +2,14 @@ use Rattle.std.proofs.Common.{◌≡◌, sym, subst, refl}
 use Rattle.byte_unit_base.specs.Errors.{value_fault}
 use Rattle.byte_unit_base.specs.declared.errors.ValueParseError.{ValueParseError}
 use Rattle.byte_unit_c.specs.declared.fault.Fault.{Fault as Told}
-use Rattle.byte_unit_c.specs.Fault.{TellsFault}
+use Rattle.byte_unit_c.specs.Fault.{IsFaultTold}
 use Rattle.byte_unit_c.proofs.Zeros.{zero_parts}
 use Rattle.byte_unit_c.proofs.fault.Fault.of_value.Goals as goal
 
--- `TellsFault` holds of an error if it holds of an equal one
-tells : (error is : ValueParseError) (told : Told) → error ≡ is → TellsFault (value_fault is) told
-    → TellsFault (value_fault error) told
-tells error is told e given = subst (λ x. TellsFault (value_fault x) told) (sym e) given
+-- `IsFaultTold` holds of an error if it holds of an equal one
+tells : (error is : ValueParseError) (told : Told) → error ≡ is → IsFaultTold (value_fault is) told
+    → IsFaultTold (value_fault error) told
+tells error is told e given = subst (λ x. IsFaultTold (value_fault x) told) (sym e) given
 
 pub returns-in-ExceededBounds-clause-fault : goal.returns-in-ExceededBounds-clause-fault
 returns-in-ExceededBounds-clause-fault c =

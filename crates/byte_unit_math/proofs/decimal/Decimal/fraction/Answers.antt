@@ -6,8 +6,11 @@ use Rattle.byte_unit_math.proofs.decimal.Decimal.fraction.Goals as goal
 pub overflow_mul-result : goal.overflow_mul-result
 overflow_mul-result c =
     rw c.power_of_ten.ensures
-    (omega (arith, fraction_below_one c.self.inside.digits c.self.inside.places c.self.invariant.few
-    c.self.invariant.below))
+    (omega (
+      arith,
+      fraction_below_one c.self.inside.digits c.self.inside.places c.self.invariant.few
+          c.self.invariant.below,
+    ))
 
 pub returns-clause-value : goal.returns-clause-value
 returns-clause-value c = rw c.power_of_ten.ensures

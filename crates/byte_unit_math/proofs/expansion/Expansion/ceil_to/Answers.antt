@@ -1,5 +1,5 @@
 use Rattle.std.proofs.Common.{arith, ap, ◌≡◌, ◌+◌, ◌-◌, ◌^◌, ℕ, [], sym, subst, take, set, get_or}
-use Rattle.byte_unit_math.specs.Finite.{IsExpansion, scaled, cut_after}
+use Rattle.byte_unit_math.specs.Finite.{IsExpansion, ulps_of, cut_after}
 use Rattle.byte_unit_math.proofs.Cut.{IsShown-view}
 use Rattle.byte_unit_math.proofs.Kept.{next_whole_is_expansion, next_digit_is_expansion}
 use Rattle.byte_unit_math.proofs.expansion.Expansion.ceil_to.Goals as goal
@@ -9,7 +9,7 @@ returns-then-kept-eq0 c =
     let e = c.args.self.now in
     let p = c.args.places in
     let whole : e.whole ≡ c.self.inside.whole = sym (ap (λ v. v.whole) c.self.view_is) in
-    let IsNext : ℕ → Type 0 = λ w. IsExpansion (scaled (cut_after p e) + 1) (10 ^ p)
+    let IsNext : ℕ → Type 0 = λ w. IsExpansion (ulps_of (cut_after p e) + 1) (10 ^ p)
     (record { whole = w + 1; digits = [] }) in
     subst IsNext whole
     (next_whole_is_expansion e p c.trim_end_len-kept.result
@@ -29,7 +29,7 @@ returns-else-kept-eq0 c =
     let ds = c.leading_digits-digits.result in
     let whole : e.whole ≡ c.self.inside.whole = sym (ap (λ v. v.whole) c.self.view_is) in
     let digits = take kept (set ds (kept - 1) (get_or ds (kept - 1) 0 + 1)) in
-    let IsNext : ℕ → Type 0 = λ w. IsExpansion (scaled (cut_after p e) + 1) (10 ^ p)
+    let IsNext : ℕ → Type 0 = λ w. IsExpansion (ulps_of (cut_after p e) + 1) (10 ^ p)
     (record { whole = w; digits = digits }) in
     subst IsNext whole
     (next_digit_is_expansion e p kept ds (IsShown-view c.self.inside e c.self.invariant c.self.view_is)
@@ -39,6 +39,9 @@ returns-else-kept-eq0 c =
       same = c.trim_end_len-kept.ensures.same;
       stops = c.trim_end_len-kept.ensures.stops;
     })
-    (record { size = c.leading_digits-digits.ensures.size; front = c.leading_digits-digits.ensures.front;
-    small = c.leading_digits-digits.ensures.small })
+    (record {
+      size = c.leading_digits-digits.ensures.size;
+      front = c.leading_digits-digits.ensures.front;
+      small = c.leading_digits-digits.ensures.small;
+    })
     (omega (arith, c.if-kept-eq0.false)))

@@ -1,5 +1,5 @@
 use Rattle.std.proofs.Common.{ap, ◌≡◌, ◌^◌, ℕ, sym, subst, take}
-use Rattle.byte_unit_math.specs.Finite.{IsExpansion, scaled, cut_after}
+use Rattle.byte_unit_math.specs.Finite.{IsExpansion, ulps_of, cut_after}
 use Rattle.byte_unit_math.proofs.Cut.{IsShown-view}
 use Rattle.byte_unit_math.proofs.Kept.{cut_is_expansion}
 use Rattle.byte_unit_math.proofs.expansion.Expansion.floor_to.Goals as goal
@@ -10,7 +10,7 @@ returns c =
     let p = c.args.places in
     let kept = c.trim_end_len-kept.result in
     let whole : e.whole ≡ c.self.inside.whole = sym (ap (λ v. v.whole) c.self.view_is) in
-    let IsCut : ℕ → Type 0 = λ w. IsExpansion (scaled (cut_after p e)) (10 ^ p)
+    let IsCut : ℕ → Type 0 = λ w. IsExpansion (ulps_of (cut_after p e)) (10 ^ p)
     (record { whole = w; digits = take kept c.leading_digits.result }) in
     subst IsCut whole
     (cut_is_expansion e p kept c.leading_digits.result (IsShown-view c.self.inside e c.self.invariant c.self.view_is)

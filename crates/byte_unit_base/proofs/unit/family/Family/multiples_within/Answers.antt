@@ -1,18 +1,18 @@
 use Rattle.std.proofs.Common.{◌≡◌, ◌-◌, ◌*◌, ◌/◌, ◌<◌, ◌^◌, arith, length, map, take, drop, ap, rules, refl, ◌∙◌}
 use Rattle.std.proofs.lemmas.List.{length-drop, take_all}
 use Rattle.std.specs.Int.{w128, leading_zeros}
-use Rattle.byte_unit_base.specs.Multiples.{falling_from, known_prefixes, row_of, row_shape}
+use Rattle.byte_unit_base.specs.Multiples.{units_of_prefixes, prefix_count, row_of, row_shape}
 use Rattle.byte_unit_base.proofs.Rows.{rows_behind, prefix_within}
 use Rattle.byte_unit_base.proofs.unit.family.Family.multiples_within.Goals as goal
 use Rattle.byte_unit_base.proofs.unit.family.Family.multiples_within.Goals.{in-All, in-Bytes, in-Bits}
 
 pub returns : goal.returns
 returns c =
-    let all : map row_shape c.match-self.units.now ≡ map row_of (falling_from c.args.self known_prefixes) =
+    let all : map row_shape c.match-self.units.now ≡ map row_of (units_of_prefixes c.args.self prefix_count) =
     elim c.match-self.branch [ in-All w ↦ search rules | in-Bytes w ↦ search rules | in-Bits w ↦ search rules ] in
     let rows = c.match-self.units.now in
     let prefixes = c.min-prefixes.result in
-    let skipped = length rows / known_prefixes * (known_prefixes - prefixes) in
+    let skipped = length rows / prefix_count * (prefix_count - prefixes) in
     let whole : take (length rows - skipped) (drop skipped rows) ≡ drop skipped rows =
     take_all (length rows - skipped) (drop skipped rows) (omega (arith, length-drop skipped rows)) in
     let behind = rows_behind c.args.self rows prefixes skipped all (omega (arith, c.min-prefixes.ensures)) refl in

@@ -3,7 +3,7 @@ use Rattle.std.specs.Prelude.{ℕ, Bool, List}
 use Rattle.std.specs.Borrow.{Bor}
 
 -- what an error in a unit says
-pub record UnitRefusal : Type 0 where
+pub record UnitErrorView : Type 0 where
   -- the first character that cannot continue a unit
   pub character : ℕ
   -- the characters that the message names as expected, in this order
