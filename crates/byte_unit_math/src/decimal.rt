@@ -21,7 +21,7 @@ pub const DECIMAL_PLACES: u32 = 28;
 pub(crate) const ONE: u128 = 10_000_000_000_000_000_000_000_000_000;
 
 /// The limit of whole parts, 2^112.
-const WHOLE_LIMIT: u128 = 5_192_296_858_534_827_628_530_496_329_220_096;
+pub const WHOLE_LIMIT: u128 = 5_192_296_858_534_827_628_530_496_329_220_096;
 
 /// A non-negative decimal with at most 28 digits after the point and a whole part below 2^112.
 ///

@@ -2,7 +2,7 @@
 //! expansions.
 #![tactic(auto)]
 
-pub use crate::decimal::{DECIMAL_PLACES, Decimal};
+pub use crate::decimal::{DECIMAL_PLACES, Decimal, WHOLE_LIMIT};
 pub use crate::decimal_digits::{
     DecimalDigits, NUMBER_DIGITS, decimal_len, fmt_u128, put_fraction, put_u128,
 };

@@ -17,16 +17,6 @@ use byte_unit::{AdjustedByte, Byte, ParseError, Unit, UnitParseError, read_size}
 /// # Errors
 ///
 /// Returns the parse error if the string spells no unit.
-///
-/// # Examples
-///
-/// ```rust
-/// use byte_unit::{Byte, Unit};
-/// use byte_unit_uses::adjusted::in_unit;
-///
-/// assert_eq!(rt; in_unit(Byte::MEGABYTE, "KiB")?.get_unit(), Unit::KiB);
-/// assert!(rt; in_unit(Byte::MEGABYTE, "KX").is_err());
-/// ```
 pub fn in_unit(size: Byte, text: &str) -> Result<AdjustedByte, UnitParseError>
     ensures size { IfOk result (λ adjusted. adjusted.size ≡ size) }
     ensures unit { IfOk result
@@ -43,16 +33,6 @@ pub fn in_unit(size: Byte, text: &str) -> Result<AdjustedByte, UnitParseError>
 /// # Errors
 ///
 /// Returns the parse error if the string is not a number with a unit.
-///
-/// # Examples
-///
-/// ```rust
-/// use byte_unit::Unit;
-/// use byte_unit_uses::adjusted::parse_unit;
-///
-/// assert_eq!(rt; parse_unit("3 Mbit")?, Unit::Mbit);
-/// assert!(rt; parse_unit("3 Mbyte").is_err());
-/// ```
 pub fn parse_unit(text: &str) -> Result<Unit, ParseError>
     ensures { IfOk result
         (λ unit. (number : ℕ)
@@ -67,16 +47,6 @@ pub fn parse_unit(text: &str) -> Result<Unit, ParseError>
 /// # Errors
 ///
 /// Returns the parse error if the string represents no size.
-///
-/// # Examples
-///
-/// ```rust
-/// use byte_unit::Unit;
-/// use byte_unit_uses::adjusted::parse_adjusted;
-///
-/// assert_eq!(rt; parse_adjusted("1500 B")?.get_unit(), Unit::KiB);
-/// assert!(rt; parse_adjusted("1500 X").is_err());
-/// ```
 pub fn parse_adjusted(text: &str) -> Result<AdjustedByte, ParseError>
     ensures { IsAdjustedReading InBytes text.now result }
 {

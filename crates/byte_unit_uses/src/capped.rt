@@ -22,18 +22,6 @@ pub enum LimitError {
 /// # Errors
 ///
 /// Returns `Parse` if the string represents no size, and `Above` with `max` if the size is larger.
-///
-/// # Examples
-///
-/// ```rust
-/// use byte_unit::Byte;
-/// use byte_unit_uses::capped::{LimitError, read_limit};
-///
-/// let limit = read_limit("20 MB", Byte::GIGABYTE).ok();
-/// assert_eq!(rt; limit, Some(Byte::from_u64(20_000_000)));
-/// let error = read_limit("2 GB", Byte::GIGABYTE);
-/// assert!(rt; matches!(&error, Err(LimitError::Above(_))));
-/// ```
 pub fn read_limit(text: &str, max: Byte) -> Result<Byte, LimitError>
     ensures size { IfOk result (IsAccepted InBytes false text.now) }
     ensures bound { IfOk result (λ limit. limit ≤ max) }
@@ -84,16 +72,6 @@ pub fn max_exceeded(read: &Result<Byte, LimitError>) -> Option<Byte>
 /// # Errors
 ///
 /// Returns the parse error if the string represents no size.
-///
-/// # Examples
-///
-/// ```rust
-/// use byte_unit::Byte;
-/// use byte_unit_uses::capped::limit_at_most;
-///
-/// assert_eq!(rt; limit_at_most("2 GB", Byte::GIGABYTE).ok(), Some(Byte::GIGABYTE));
-/// assert!(rt; limit_at_most("2 GX", Byte::GIGABYTE).is_err());
-/// ```
 pub fn limit_at_most(text: &str, max: Byte) -> Result<Byte, ParseError>
     ensures limit { IfOk result (λ limit.
         (size : ℕ) × IsAccepted InBytes false text.now size × (limit ≡ min size max)) }

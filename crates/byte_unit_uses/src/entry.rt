@@ -33,17 +33,6 @@ impl<'a> Entry<'a> {
     /// # Errors
     ///
     /// Returns the parse error if the string represents no size.
-    ///
-    /// # Examples
-    ///
-    /// ```rust
-    /// use byte_unit::Byte;
-    /// use byte_unit_uses::entry::Entry;
-    ///
-    /// let entry = Entry::read("cache", "1 KB")?;
-    /// assert_eq!(rt; entry.size(), Byte::KILOBYTE);
-    /// assert!(rt; Entry::read("cache", "1 byte").is_err());
-    /// ```
     pub fn read(name: &'a str, text: &str) -> Result<Entry<'a>, ParseError>
         ensures name { IfOk result (λ entry. entry.name.now ≡ name.now) }
         ensures size { IfOk result (λ entry. IsAccepted InBytes false text.now entry.size) }

@@ -13,16 +13,6 @@ use byte_unit::{Bit, Byte, ParseError};
 /// # Errors
 ///
 /// Returns the parse error if the string represents no size.
-///
-/// # Examples
-///
-/// ```rust
-/// use byte_unit::Byte;
-/// use byte_unit_uses::limit::limit;
-///
-/// assert_eq!(rt; limit("1.5 KiB")?, Byte::from_u64(1536));
-/// assert!(rt; limit("1 byte").is_err());
-/// ```
 pub fn limit(text: &str) -> Result<Byte, ParseError>
     ensures { IsSizeReading InBytes false text.now result }
 {
@@ -35,16 +25,6 @@ pub fn limit(text: &str) -> Result<Byte, ParseError>
 /// # Errors
 ///
 /// Returns the parse error if the string represents no size.
-///
-/// # Examples
-///
-/// ```rust
-/// use byte_unit::Bit;
-/// use byte_unit_uses::limit::rate;
-///
-/// assert_eq!(rt; rate("1 Mb")?, Bit::MEGABIT);
-/// assert!(rt; rate("-1 Mb").is_err());
-/// ```
 pub fn rate(text: &str) -> Result<Bit, ParseError>
     ensures { IsSizeReading InBits false text.now result }
 {
@@ -53,16 +33,6 @@ pub fn rate(text: &str) -> Result<Bit, ParseError>
 }
 
 /// Parses a limit, ignoring case. Returns `None` if the string represents no size.
-///
-/// # Examples
-///
-/// ```rust
-/// use byte_unit::Byte;
-/// use byte_unit_uses::limit::limit_ok;
-///
-/// assert_eq!(rt; limit_ok("1 mb"), Some(Byte::MEGABYTE));
-/// assert_eq!(rt; limit_ok("1 mx"), None);
-/// ```
 pub fn limit_ok(text: &str) -> Option<Byte>
     ensures sound { IfSome result (IsAccepted InBytes true text.now) }
     ensures complete { (limit : ℕ) → IsAccepted InBytes true text.now limit → result ≡ Some limit }
@@ -71,16 +41,6 @@ pub fn limit_ok(text: &str) -> Option<Byte>
 }
 
 /// Parses a limit, and returns the default if the string represents no size.
-///
-/// # Examples
-///
-/// ```rust
-/// use byte_unit::Byte;
-/// use byte_unit_uses::limit::limit_or;
-///
-/// assert_eq!(rt; limit_or("1 MB", Byte::KILOBYTE), Byte::MEGABYTE);
-/// assert_eq!(rt; limit_or("much", Byte::KILOBYTE), Byte::KILOBYTE);
-/// ```
 pub fn limit_or(text: &str, default: Byte) -> Byte
     ensures complete { (limit : ℕ) → IsAccepted InBytes false text.now limit → result ≡ limit }
     ensures sound { IsAccepted InBytes false text.now result ⊎ (result ≡ default) }

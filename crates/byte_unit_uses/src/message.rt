@@ -12,16 +12,6 @@ use byte_unit::Byte;
 /// # Errors
 ///
 /// Returns an error that names the argument, with the parse error as its cause, if the argument represents no size.
-///
-/// # Examples
-///
-/// ```rust
-/// use byte_unit::Byte;
-/// use byte_unit_uses::message::parse_argument;
-///
-/// assert_eq!(rt; parse_argument("1 GB")?, Byte::GIGABYTE);
-/// assert!(rt; parse_argument("1 QB").is_err());
-/// ```
 pub fn parse_argument(argument: &str) -> Result<Byte>
     ensures sound { IfOk result (IsAccepted InBytes false argument.now) }
     ensures complete { (limit : ℕ) → IsAccepted InBytes false argument.now limit → IsOk result }

@@ -46,17 +46,6 @@ impl From<ParseError> for QuotaError {
 /// # Errors
 ///
 /// Returns `Text` if the string represents no size, and `Exceeded` if more is used than the quota.
-///
-/// # Examples
-///
-/// ```rust
-/// use byte_unit::Byte;
-/// use byte_unit_uses::quota::{QuotaError, left};
-///
-/// assert_eq!(rt; left("1 MB", Byte::from_u64(1000))?, Byte::from_u64(999_000));
-/// let error = left("1 MB", Byte::GIGABYTE);
-/// assert!(rt; matches!(&error, Err(QuotaError::Exceeded)));
-/// ```
 pub fn left(text: &str, used: Byte) -> Result<Byte, QuotaError>
     ensures left { IfOk result (λ left. IsAccepted InBytes false text.now (used + left)) }
     ensures reason { IfErr result (IsReason text.now used) }
@@ -71,16 +60,6 @@ pub fn left(text: &str, used: Byte) -> Result<Byte, QuotaError>
 /// # Errors
 ///
 /// Returns `Text` if the string represents no size.
-///
-/// # Examples
-///
-/// ```rust
-/// use byte_unit::Byte;
-/// use byte_unit_uses::quota::share;
-///
-/// assert_eq!(rt; share("1 MB", 8)?, Some(Byte::from_u64(125_000)));
-/// assert_eq!(rt; share("1 MB", 0)?, None);
-/// ```
 pub fn share(text: &str, users: usize) -> Result<Option<Byte>, QuotaError>
     ensures share { IfOk result (λ share. (quota : ℕ) × IsAccepted InBytes false text.now quota
         × SomeIff share (0 < users) (quota / users)) }

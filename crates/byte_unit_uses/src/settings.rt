@@ -38,21 +38,6 @@ pub struct Settings {
 ///
 /// Returns `Cache` if the first value is not a string that represents a size, and `Unit` if the second is not a string
 /// that spells a unit.
-///
-/// # Examples
-///
-/// ```rust
-/// use byte_unit::{Byte, Unit};
-/// use byte_unit_uses::settings::read_settings;
-/// use serde_json::Value;
-///
-/// let cache = Value::from_str(alloc, "\"20 MB\"")?;
-/// let unit = Value::from_str(alloc, "\"KiB\"")?;
-/// let settings = read_settings(&cache, &unit)?;
-/// assert_eq!(rt; settings.cache, Byte::from_u64(20_000_000));
-/// assert_eq!(rt; settings.unit, Unit::KiB);
-/// assert!(rt; read_settings(&unit, &cache).is_err());
-/// ```
 pub fn read_settings(cache: &Value, unit: &Value) -> Result<Settings, SettingsError>
     ensures cache { IfOk result (λ settings.
         ReadsString size_errors (IsSizeReading InBytes false) (as_str (view cache.now))

@@ -4,8 +4,8 @@ ghost use Rattle.std.specs.Prelude.{◌≡◌, ◌≤◌, ◌%◌, ◌^◌, leng
 ghost use Rattle.std.specs.Str.Parse.{AllDigits, digits_value};
 ghost use Rattle.byte_unit_base.specs.FastReading.{AreDigits, AreScanned};
 
-use crate::read::scan::{SizeScan, WHOLE_LIMIT};
-use byte_unit_math::DECIMAL_PLACES;
+use crate::read::scan::SizeScan;
+use byte_unit_math::{DECIMAL_PLACES, WHOLE_LIMIT};
 use core::dec2flt::read_digits;
 
 /// The number of digits of which a `u64` holds any: 19.

@@ -9,7 +9,7 @@ ghost use Rattle.byte_unit_base.specs.SizeScan.{after_number, size_result};
 use crate::errors::{ParseError, UnitParseError, ValueParseError};
 use crate::unit::Unit;
 use crate::unit::scan::{Flags, UnitScan};
-use byte_unit_math::{DECIMAL_PLACES, Decimal};
+use byte_unit_math::{DECIMAL_PLACES, Decimal, WHOLE_LIMIT};
 
 /// The state of the parser of a number and a unit.
 #[derive(Clone, Copy)]
@@ -27,9 +27,6 @@ pub enum SizeScan {
     /// The number, and the state of the unit, of which at least one character is read.
     Unit(Decimal, UnitScan),
 }
-
-/// The limit of whole parts: 2^112.
-pub const WHOLE_LIMIT: u128 = 5_192_296_858_534_827_628_530_496_329_220_096;
 
 impl SizeScan {
     ghost use Rattle.byte_unit_base.specs.SizeScan.{IsScan, size_step, size_parser_state, size_at_end, number_at};

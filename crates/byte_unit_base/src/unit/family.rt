@@ -58,23 +58,23 @@ impl Family {
     }
 }
 
-/// The units of bytes and of bits, the largest first.
-static ALL: [UnitRow; 36] = [
-    RIB, RB, RIBIT, RBIT, YIB, YB, YIBIT, YBIT, ZIB, ZB, ZIBIT, ZBIT, EIB, EB, EIBIT, EBIT, PIB,
-    PB, PIBIT, PBIT, TIB, TB, TIBIT, TBIT, GIB, GB, GIBIT, GBIT, MIB, MB, MIBIT, MBIT, KIB, KB,
-    KIBIT, KBIT,
-];
-
-/// The units of bytes, the largest first.
-static BYTES: [UnitRow; 18] = [
-    RIB, RB, YIB, YB, ZIB, ZB, EIB, EB, PIB, PB, TIB, TB, GIB, GB, MIB, MB, KIB, KB,
-];
-
-/// The units of bits, the largest first.
-static BITS: [UnitRow; 18] = [
-    RIBIT, RBIT, YIBIT, YBIT, ZIBIT, ZBIT, EIBIT, EBIT, PIBIT, PBIT, TIBIT, TBIT, GIBIT, GBIT,
-    MIBIT, MBIT, KIBIT, KBIT,
-];
+/// Calls a macro with each prefix, the largest first: its units, its position, and its value as a binary and as a
+/// decimal prefix.
+macro_rules! with_prefixes {
+    ($table:ident) => {
+        $table![
+            RiB RB Ribit Rbit 9 1_237_940_039_285_380_274_899_124_224 1_000_000_000_000_000_000_000_000_000,
+            YiB YB Yibit Ybit 8 1_208_925_819_614_629_174_706_176 1_000_000_000_000_000_000_000_000,
+            ZiB ZB Zibit Zbit 7 1_180_591_620_717_411_303_424 1_000_000_000_000_000_000_000,
+            EiB EB Eibit Ebit 6 1_152_921_504_606_846_976 1_000_000_000_000_000_000,
+            PiB PB Pibit Pbit 5 1_125_899_906_842_624 1_000_000_000_000_000,
+            TiB TB Tibit Tbit 4 1_099_511_627_776 1_000_000_000_000,
+            GiB GB Gibit Gbit 3 1_073_741_824 1_000_000_000,
+            MiB MB Mibit Mbit 2 1_048_576 1_000_000,
+            KiB KB Kibit Kbit 1 1_024 1_000
+        ]
+    };
+}
 
 /// Writes the row of one unit.
 macro_rules! row {
@@ -88,74 +88,40 @@ macro_rules! row {
     };
 }
 
-const RIB: UnitRow = row!(RiB, 9_903_520_314_283_042_199_192_993_792, 93, 0);
+macro_rules! all_rows {
+    ($($ib:ident $b:ident $ibit:ident $bit:ident $n:literal $binary:literal $decimal:literal),*) => {
+        [$(
+            row!($ib, $binary * 8, 10 * $n + 3, 0),
+            row!($b, $decimal * 8, 3 * $n + 3, 3 * $n),
+            row!($ibit, $binary, 10 * $n, 0),
+            row!($bit, $decimal, 3 * $n, 3 * $n),
+        )*]
+    };
+}
 
-const RB: UnitRow = row!(RB, 8_000_000_000_000_000_000_000_000_000, 30, 27);
+macro_rules! byte_rows {
+    ($($ib:ident $b:ident $ibit:ident $bit:ident $n:literal $binary:literal $decimal:literal),*) => {
+        [$(
+            row!($ib, $binary * 8, 10 * $n + 3, 0),
+            row!($b, $decimal * 8, 3 * $n + 3, 3 * $n),
+        )*]
+    };
+}
 
-const RIBIT: UnitRow = row!(Ribit, 1_237_940_039_285_380_274_899_124_224, 90, 0);
+macro_rules! bit_rows {
+    ($($ib:ident $b:ident $ibit:ident $bit:ident $n:literal $binary:literal $decimal:literal),*) => {
+        [$(
+            row!($ibit, $binary, 10 * $n, 0),
+            row!($bit, $decimal, 3 * $n, 3 * $n),
+        )*]
+    };
+}
 
-const RBIT: UnitRow = row!(Rbit, 1_000_000_000_000_000_000_000_000_000, 27, 27);
+/// The units of bytes and of bits, the largest first.
+static ALL: [UnitRow; 36] = with_prefixes!(all_rows);
 
-const YIB: UnitRow = row!(YiB, 9_671_406_556_917_033_397_649_408, 83, 0);
+/// The units of bytes, the largest first.
+static BYTES: [UnitRow; 18] = with_prefixes!(byte_rows);
 
-const YB: UnitRow = row!(YB, 8_000_000_000_000_000_000_000_000, 27, 24);
-
-const YIBIT: UnitRow = row!(Yibit, 1_208_925_819_614_629_174_706_176, 80, 0);
-
-const YBIT: UnitRow = row!(Ybit, 1_000_000_000_000_000_000_000_000, 24, 24);
-
-const ZIB: UnitRow = row!(ZiB, 9_444_732_965_739_290_427_392, 73, 0);
-
-const ZB: UnitRow = row!(ZB, 8_000_000_000_000_000_000_000, 24, 21);
-
-const ZIBIT: UnitRow = row!(Zibit, 1_180_591_620_717_411_303_424, 70, 0);
-
-const ZBIT: UnitRow = row!(Zbit, 1_000_000_000_000_000_000_000, 21, 21);
-
-const EIB: UnitRow = row!(EiB, 9_223_372_036_854_775_808, 63, 0);
-
-const EB: UnitRow = row!(EB, 8_000_000_000_000_000_000, 21, 18);
-
-const EIBIT: UnitRow = row!(Eibit, 1_152_921_504_606_846_976, 60, 0);
-
-const EBIT: UnitRow = row!(Ebit, 1_000_000_000_000_000_000, 18, 18);
-
-const PIB: UnitRow = row!(PiB, 9_007_199_254_740_992, 53, 0);
-
-const PB: UnitRow = row!(PB, 8_000_000_000_000_000, 18, 15);
-
-const PIBIT: UnitRow = row!(Pibit, 1_125_899_906_842_624, 50, 0);
-
-const PBIT: UnitRow = row!(Pbit, 1_000_000_000_000_000, 15, 15);
-
-const TIB: UnitRow = row!(TiB, 8_796_093_022_208, 43, 0);
-
-const TB: UnitRow = row!(TB, 8_000_000_000_000, 15, 12);
-
-const TIBIT: UnitRow = row!(Tibit, 1_099_511_627_776, 40, 0);
-
-const TBIT: UnitRow = row!(Tbit, 1_000_000_000_000, 12, 12);
-
-const GIB: UnitRow = row!(GiB, 8_589_934_592, 33, 0);
-
-const GB: UnitRow = row!(GB, 8_000_000_000, 12, 9);
-
-const GIBIT: UnitRow = row!(Gibit, 1_073_741_824, 30, 0);
-
-const GBIT: UnitRow = row!(Gbit, 1_000_000_000, 9, 9);
-
-const MIB: UnitRow = row!(MiB, 8_388_608, 23, 0);
-
-const MB: UnitRow = row!(MB, 8_000_000, 9, 6);
-
-const MIBIT: UnitRow = row!(Mibit, 1_048_576, 20, 0);
-
-const MBIT: UnitRow = row!(Mbit, 1_000_000, 6, 6);
-
-const KIB: UnitRow = row!(KiB, 8_192, 13, 0);
-
-const KB: UnitRow = row!(KB, 8_000, 6, 3);
-
-const KIBIT: UnitRow = row!(Kibit, 1_024, 10, 0);
-
-const KBIT: UnitRow = row!(Kbit, 1_000, 3, 3);
+/// The units of bits, the largest first.
+static BITS: [UnitRow; 18] = with_prefixes!(bit_rows);
