@@ -5,7 +5,6 @@ pub use byte_unit_base::laws::choices::{
     choices_are_one, choices_at_no_places_are_whole, each_size_has_a_choice_or_none,
     more_places_give_no_smaller_unit, number_times_unit_is_size, sizes_are_exact_by_powers,
 };
-pub use byte_unit_base::laws::editions::current_extends_old;
 pub use byte_unit_base::laws::readers::{
     names_spell_their_units, size_fronts_are_beginnings, size_texts_have_one_answer,
     unit_fronts_are_beginnings, unit_texts_have_one_answer,
@@ -14,6 +13,7 @@ pub use byte_unit_base::laws::sizes::{
     each_number_has_one_least_size, each_text_is_one_of_three,
     greater_numbers_give_no_smaller_sizes, texts_are_accepted_or_refused,
 };
+pub use byte_unit_base::laws::versions::current_extends_old;
 pub use byte_unit_bit::laws::{bit_bounds, bit_constant};
 pub use byte_unit_byte::laws::{byte_bounds, byte_constant};
 pub use byte_unit_format::laws::{

@@ -50,7 +50,8 @@ pub record IsChosenIn (version : Version) (family : Family) (in_bits precision :
   pub unit_is : IsLargest (IsExactUnitIn version family in_bits precision) unit
   pub number_is : IsQuotient in_bits (bits unit) (places_within precision) number
 
--- The largest such unit of the current version, with the size in this unit, scaled by 10^28.
+-- The largest unit of the family, not above the size, in which it is exact within the precision; and the size in it,
+-- scaled by 10^28.
 abbrev pub IsChosen : Family → ℕ → ℕ → Shape → ℕ → Type 0
 IsChosen = IsChosenIn current
 

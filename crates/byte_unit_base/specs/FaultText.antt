@@ -14,7 +14,7 @@ use Rattle.byte_unit_base.specs.declared.errors.ParseError.TheVariants.{Value, U
 use Rattle.byte_unit_base.specs.declared.errors.JsonSizeError.{JsonSizeError}
 use Rattle.byte_unit_base.specs.declared.errors.JsonSizeError.TheVariants.{NotString, Parse}
 
--- the message of a number that fits no size
+-- the message of `ExceededBoundsError`
 abbrev pub exceeded_text : ExceededBoundsError → Option (List ℕ)
 exceeded_text e = Some (codes "value exceeds the valid range")
 

@@ -1,5 +1,5 @@
 -- What the parsers of a unit, and of a number and a unit, return for an input, given by its UTF-8 bytes. Each record
--- says both that what is returned is right, and that what is right is returned.
+-- says both: `Ok` is returned if and only if the input is accepted, and otherwise the error of the input.
 use Rattle.std.specs.Prelude.{◌≡◌, ◌≢◌, ℕ, List, Result, IfOk, IfErr, IsOkAnd}
 use Rattle.byte_unit_base.specs.Shape.{Shape}
 use Rattle.byte_unit_base.specs.Version.{current}

@@ -29,7 +29,7 @@ pub record SpellsPrefix (version : Version) (text : List ℕ) (power : ℕ) (bin
   pub letter_is : IsPrefixLetter version power letter
   pub infix_is : SpellsBinary infix_part binary
 
--- the text is a suffix (nothing, `B`, `b`, `bit` or `bits`) that means bits, or bytes if `bit` is false. An version has
+-- the text is a suffix (nothing, `B`, `b`, `bit` or `bits`) that means bits, or bytes if `bit` is false. A version has
 -- no field for the suffixes, so one more here would change v1 too, and the law that v2 extends v1: give `Version` a
 -- field for them first
 abbrev pub SpellsCount : Flags → List ℕ → Bool → Type 0

@@ -205,8 +205,8 @@ impl Unit {
         UNIT_BITS[self as usize]
     }
 
-    /// Returns the name of the unit, of one to three ASCII letters: the prefix letter, an `i` if the prefix is binary,
-    /// and `b` for bits or `B` for bytes.
+    /// Returns the name of the unit, of one to three ASCII letters: the prefix letter if there is one, an `i` if the
+    /// prefix is binary, and `b` for bits or `B` for bytes.
     ///
     /// # Examples
     ///

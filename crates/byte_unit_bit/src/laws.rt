@@ -11,7 +11,7 @@ ghost use Rattle.byte_unit_base.specs.declared.kind.Kind.TheVariants.{Bit as InB
 use crate::Bit;
 use byte_unit_base::Unit;
 
-/// Returns the constant of `Bit` that is named after the unit, which is as large as the unit.
+/// Returns the constant of `Bit` that is named after the unit; it equals one unit.
 ///
 /// Returns `None` for `Unit::B`, since no constant is named after it.
 ///

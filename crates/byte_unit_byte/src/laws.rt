@@ -10,7 +10,7 @@ ghost use Rattle.byte_unit_base.specs.declared.kind.Kind.TheVariants.{Byte as In
 use crate::Byte;
 use byte_unit_base::Unit;
 
-/// Returns the constant of `Byte` that is named after the unit, which is as large as the unit.
+/// Returns the constant of `Byte` that is named after the unit; it equals one unit.
 ///
 /// Returns `None` for `Unit::Bit`, since no constant is named after it.
 ///

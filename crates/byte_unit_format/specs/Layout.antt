@@ -44,6 +44,6 @@ layout number name spec =
 abbrev pub layout_of_in : Version → Finite → ℕ → Shape → FormatSpec → List ℕ
 layout_of_in version e places unit spec = layout (text_of (pad_of places e)) (unit_name_in version unit) spec
 
--- The same with a unit of the crate, by its name in the current version.
+-- A decimal with exactly this many places, formatted with its unit by the unit's name in the current version.
 abbrev pub layout_of : Finite → ℕ → UnitName → FormatSpec → List ℕ
 layout_of e places unit spec = layout_of_in current e places (shape_of unit) spec

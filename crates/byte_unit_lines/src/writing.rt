@@ -43,7 +43,7 @@ impl<W: Write> Writing<W> {
     ///
     /// Precondition (proved at every call): `bytes` is not empty.
     ///
-    /// Returns `None` if the writer returns an error of any kind, or accepts no byte. After that, returns `None`
+    /// Returns `None` if the writer returns an error of any kind, or accepts no byte. After a failure, returns `None`
     /// without calling the writer.
     pub fn write(&mut self, bytes: &[u8]) -> Option<usize>
         requires { 0 < length bytes.now }

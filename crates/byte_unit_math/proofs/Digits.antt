@@ -46,7 +46,7 @@ last_digits_below_ten zero q = All-nil (λ d. d < 10)
 last_digits_below_ten (suc p) q =
     All-cons (λ d. d < 10) (q / 10 ^ p % 10) (last_digits p q) (omega arith) (last_digits_below_ten p q)
 
--- The remainder by ten times a power is the next digit at that power, and the remainder by the power.
+-- `q mod 10m` is the next digit, `(q / m) mod 10`, times m, plus `q mod m`.
 pub mod_next_power : (q power : ℕ) → 1 ≤ power → q % (10 * power) ≡ q / power % 10 * power + q % power
 mod_next_power q power one =
     let low : q % power < power = omega (arith, one, mod_below q power (omega arith)) in

@@ -1,4 +1,4 @@
--- The exponents of 2 and 5 in a number, and the digits after the point that follow from them.
+-- The exponents of 2 and 5 in a number, and the number of digits after the point that they determine.
 use Rattle.std.specs.Prelude.{◌≡◌, ◌≢◌, ℕ, ◌-◌, ◌*◌, ◌%◌, ◌^◌, max}
 use Rattle.byte_unit_math.specs.Exact.{IsLeastPlaces}
 

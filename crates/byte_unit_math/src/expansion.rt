@@ -82,7 +82,7 @@ impl Expansion {
         divide(numerator / den, numerator % den, den)
     }
 
-    /// Creates the expansion of a decimal.
+    /// Creates an `Expansion` with the digits of a `Decimal`.
     ///
     /// # Examples
     ///

@@ -4,13 +4,13 @@ ghost use Rattle.byte_unit_math.specs.NumberLaws.{ZeroTakesNoPlaces, ExpansionsA
 ghost use Rattle.byte_unit_math.specs.NumberLaws.{NumeralsAreExact, ShortNumeralsAreExpansions};
 ghost use Rattle.byte_unit_math.specs.CountLaws.{GreatestCountStays};
 
-/// Proves that a nonzero `num / (2^a * 5^b)` is exact within `p` places if and only if neither exponent exceeds `p`
+/// States that a nonzero `num / (2^a * 5^b)` is exact within `p` places if and only if neither exponent exceeds `p`
 /// plus the numerator's own exponent.
 pub fn exact_by_powers()
     ensures { ExactByPowers }
 {}
 
-/// Proves that the quotient needs as many places as the numerator lacks factors of 2 or of 5, whichever is more. Zero
+/// States that the quotient needs as many places as the numerator lacks factors of 2 or of 5, whichever is more. Zero
 /// needs none.
 pub fn places_by_powers()
     ensures some { NumbersHaveTwosAndFives }
@@ -18,19 +18,19 @@ pub fn places_by_powers()
     ensures zero { ZeroTakesNoPlaces }
 {}
 
-/// Proves that if `num / den` is exact within 93 places, its expansion is the one that long division finds.
+/// States that if `num / den` is exact within 93 places, its expansion is the one that long division finds.
 pub fn expansions_are_found_by_division()
     ensures { ExpansionsAreFoundByDivision }
 {}
 
-/// Proves that the numeral of `number / 10^places` with all its places represents that number, and is its terminating
+/// States that the numeral of `number / 10^places` with all its places represents that number, and is its terminating
 /// decimal expansion if trailing zeros are removed.
 pub fn numerals_are_exact()
     ensures all { NumeralsAreExact }
     ensures short { ShortNumeralsAreExpansions }
 {}
 
-/// Proves that a step count at its maximum stays there, whatever number of steps is added.
+/// States that a step count at its maximum stays there, whatever number of steps is added.
 pub fn greatest_count_stays()
     ensures { GreatestCountStays }
 {}

@@ -3,7 +3,7 @@
 ghost use Rattle.byte_unit_base.specs.SizeLaws.{GreaterNumbersGiveNoSmallerSizes, EachNumberHasOneLeastSize};
 ghost use Rattle.byte_unit_base.specs.SizeLaws.{EachTextIsOneOfThree, TextsAreAcceptedOrRejected};
 
-/// States that of two numbers of one unit the greater has no smaller size.
+/// States that sizes grow with their numbers: for one unit, a greater number never has a smaller size.
 pub fn greater_numbers_give_no_smaller_sizes()
     ensures { GreaterNumbersGiveNoSmallerSizes }
 {}

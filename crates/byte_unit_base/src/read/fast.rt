@@ -13,8 +13,8 @@ use crate::unit::scan::{Flags, Multiple, Prefix, UnitScan, Word};
 use byte_unit_math::Decimal;
 
 /// Parses a number and a unit from bytes. Returns `None` if the slow path has to decide: for every invalid input, and
-/// for valid input with a character outside ASCII, with white space at an end, with more than 34 digits before the
-/// point, or with `bit` or `bits` in capital letters.
+/// for valid input with white space at an end, with more than 34 digits before the point, or with `bit` or `bits` not
+/// all in lower case.
 #[inline(always)]
 pub fn read_fast(bytes: &[u8], flags: Flags) -> Option<(Decimal, Unit)>
     ensures stated { IfSome result

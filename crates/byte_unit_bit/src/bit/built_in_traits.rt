@@ -36,7 +36,7 @@ impl fmt::Display for Bit {
     }
 }
 
-/// Parses a size as [`Bit::parse_str`] does, case sensitive.
+/// Parses a size as [`Bit::parse_str`] does, with `b` for bytes and `b` for bits.
 impl FromStr for Bit {
     type Err = ParseError;
 

@@ -35,7 +35,7 @@ impl fmt::Display for Byte {
     }
 }
 
-/// Parses a size as [`Byte::parse_str`] does, case sensitive.
+/// Parses a size as [`Byte::parse_str`] does, with `b` for bits and `B` for bytes.
 impl FromStr for Byte {
     type Err = ParseError;
 

@@ -1,4 +1,4 @@
-//! The law of the two versions of the grammar. The function does nothing; its contract is the law.
+//! The law of the two versions of the grammar. The body of the function does nothing; its contract is the law.
 
 ghost use Rattle.byte_unit_base.specs.Versions.{ExtendsFirst};
 
