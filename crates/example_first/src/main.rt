@@ -7,14 +7,14 @@ use anyhow::{Context, Result};
 use byte_unit::{Byte, FormatSpec, UnitType};
 use std::alloc::Global;
 
-/// Returns what is left of a quota, `None` if more is used.
+/// Returns `quota - used`, or `None` if `used` is larger.
 fn left(quota: Byte, used: Byte) -> Option<Byte>
     ensures { SomeIff result (used ≤ quota) (quota - used) }
 {
     quota.subtract(used)
 }
 
-/// Returns the report on the quota of a line.
+/// Formats what is left of the quota in `line`.
 fn report(alloc: Global, line: &str) -> Result<String> {
     let quota: Byte = line.parse()?;
     let free = left(quota, Byte::from_u64(900_000_000)).context("more is used")?;
