@@ -76,8 +76,8 @@ pub fn unit_to_json(alloc: Global, unit: Unit) -> Result<Value, AllocError>
     Ok(Value::String(String::from_str(alloc, unit.as_str())?))
 }
 
-/// Parses a unit from a JSON string, as `FromStr` parses its text: case sensitive, and a prefix alone is a multiple
-/// of bytes. Does not allocate.
+/// Parses a unit from a JSON string, as `FromStr` parses its text: `b` means bits, `B` bytes, and a prefix alone is a
+/// multiple of bytes. Does not allocate.
 ///
 /// # Errors
 ///

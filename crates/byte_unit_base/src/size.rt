@@ -101,8 +101,8 @@ pub fn from_decimal(number: Decimal, unit: Unit, kind: Kind) -> Option<u128>
 /// Parses a size from a string: the exact product of its number and its unit, rounded up to a whole number of the kind.
 ///
 /// The grammar is that of [`read_size`](crate::read_size). If the string names no unit, its number is in bytes for
-/// `Kind::Byte`, and in bits for `Kind::Bit`. With `ignore_case` a `b` means bytes. For `Kind::Bit` case always counts,
-/// and `ignore_case` has no effect.
+/// `Kind::Byte`, and in bits for `Kind::Bit`. A suffix `b` means bits and `B` bytes; with `ignore_case` both mean bytes.
+/// For `Kind::Bit` `ignore_case` has no effect.
 ///
 /// # Errors
 ///
@@ -190,7 +190,7 @@ fn size_of(number: Decimal, unit: Unit, kind: Kind) -> Result<u128, ParseError>
     }
 }
 
-/// Returns the flags for parsing a size of the kind. For bits case always counts.
+/// Returns the flags for parsing a size of the kind. For bits `ignore_case` has no effect.
 #[inline]
 fn flags_for(kind: Kind, ignore_case: bool) -> Flags
     ensures { result ≡ flags_for kind ignore_case }
