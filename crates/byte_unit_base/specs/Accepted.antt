@@ -32,7 +32,8 @@ pub record ExceedsIn (version : Version) (kind : Kind) (ignore_case : Bool) (tex
   pub is_read : IsRead version kind ignore_case text number size
   pub above : version.size_limit ≤ size
 
--- The string is in the grammar of the current version, but its size, with this number as it is written, is 10^30 or more.
+-- The string is in the grammar of the current version, but its size, with this number as it is written, is 10^30 or
+-- more.
 abbrev pub Exceeds : Kind → Bool → List ℕ → ℕ → Type 0
 Exceeds = ExceedsIn current
 

@@ -40,7 +40,7 @@ pub record IsExactUnitIn (version : Version) (family : Family) (in_bits precisio
   pub not_above : bits unit ≤ in_bits
   pub exact : IsExactAt in_bits (bits unit) (places_within precision)
 
--- A unit of the current version's family, not above the size, in which the size is exact within the precision.
+-- A unit of the unit set, in the current version, not above the size, in which it is exact within the precision.
 abbrev pub IsExactUnit : Family → ℕ → ℕ → Shape → Type 0
 IsExactUnit = IsExactUnitIn current
 
@@ -50,8 +50,8 @@ pub record IsChosenIn (version : Version) (family : Family) (in_bits precision :
   pub unit_is : IsLargest (IsExactUnitIn version family in_bits precision) unit
   pub number_is : IsQuotient in_bits (bits unit) (places_within precision) number
 
--- The largest unit of the family, not above the size, in which it is exact within the precision; and the size in it,
--- scaled by 10^28.
+-- The largest unit of the unit set, in the current version, not above the size, in which it is exact within the
+-- precision; and the size in it, scaled by 10^28.
 abbrev pub IsChosen : Family → ℕ → ℕ → Shape → ℕ → Type 0
 IsChosen = IsChosenIn current
 
@@ -62,7 +62,7 @@ pub record IsEligibleUnitIn (version : Version) (family : Family) (unit_type : U
   pub of_type : IsOfType unit_type unit.binary
   pub not_above : bits unit ≤ in_bits
 
--- A unit of the current version's family and of the type, not above the size.
+-- A unit of the unit set and of the type, in the current version, not above the size. `IsAppropriate` is the largest.
 abbrev pub IsEligibleUnit : Family → UnitType → ℕ → Shape → Type 0
 IsEligibleUnit = IsEligibleUnitIn current
 
@@ -72,13 +72,13 @@ abbrev pub family_for : Kind → Bool → Family
 family_for kind false = own_family kind
 family_for kind true = All
 
--- the exact unit of a size: the largest unit in which it is exact within the precision, or the own unit of its kind if
--- there is none. `both` says whether the units of the other kind are allowed
+-- the recovered unit of a size: the largest unit in which it is exact within the precision, or the own unit of its kind
+-- if there is none. `both` says whether the units of the other kind are allowed
 abbrev pub IsRecoveredIn : Version → Kind → Bool → ℕ → ℕ → Shape → Type 0
 IsRecoveredIn version kind both size precision =
     IsLargestOrOwn kind (IsExactUnitIn version (family_for kind both) (size * bits_in kind) precision)
 
--- The exact unit of a size within the precision, among the units of the current version.
+-- The recovered unit of a size within the precision, among the units of the current version.
 abbrev pub IsRecovered : Kind → Bool → ℕ → ℕ → UnitName → Type 0
 IsRecovered kind both size precision unit = IsRecoveredIn current kind both size precision (shape_of unit)
 

@@ -24,7 +24,8 @@ pub record HasPrefix (version : Version) (unit : Shape) : Type 0 where
   pub some : 1 ≤ unit.power
   pub known : unit.power ≤ length version.letters
 
--- the unit is in the unit set: it has a prefix that the version knows, and is of the kind of the set
+-- the unit is in the unit set: it has a prefix that the version knows, and is of the kind of the set.
+-- So a unit without a prefix is in no unit set
 pub record InFamily (version : Version) (family : Family) (unit : Shape) : Type 0 where
   pub prefix : HasPrefix version unit
   pub kind : HasKind family unit.bit

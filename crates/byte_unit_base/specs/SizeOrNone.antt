@@ -12,7 +12,8 @@ abbrev pub IsSizeOrNone : (ℕ → Type 0) → Option ℕ → Type 0
 IsSizeOrNone Has None = (n : ℕ) → Has n → size_limit ≤ n
 IsSizeOrNone Has (Some n) = Has n × (n < size_limit)
 
--- The size of a number of the unit, scaled by 10^28: rounded up to a whole byte or bit, and `None` if it is 10^30 or more.
+-- The size of a number of the unit, scaled by 10^28: rounded up to a whole byte or bit, and `None` if it is 10^30 or
+-- more.
 abbrev pub IsSizeOfDecimal : Kind → ℕ → UnitName → Option ℕ → Type 0
 IsSizeOfDecimal kind number unit = IsSizeOrNone (IsLeastOf kind number (shape_of unit))
 

@@ -12,7 +12,7 @@ pub use Rattle.byte_unit_base.specs.declared.unit.scan.Flags.{Flags}
 abbrev pub flags_of : Bool → Bool → Flags
 flags_of ignore_case prefer_byte = record { ignore_case = ignore_case; prefer_byte = prefer_byte }
 
--- `c` is the prefix letter at this place, in either case
+-- `c` is the prefix letter at this index, in either case
 abbrev pub IsPrefixLetter : Version → ℕ → ℕ → Type 0
 IsPrefixLetter version power c =
     (0 < power) × (power ≤ length version.letters) × (to_ascii_uppercase c ≡ slice_index version.letters (power - 1))
@@ -21,7 +21,7 @@ IsPrefixLetter version power c =
 abbrev pub SpellsBinary : List ℕ → Bool → Type 0
 SpellsBinary text binary = (text ≡ []) × (binary ≡ false) ⊎ (str_to_ascii_lowercase text ≡ codes "i") × (binary ≡ true)
 
--- the text is a prefix: the letter at this place, and an `i` if the prefix is binary
+-- the text is a prefix: the letter at this index, and an `i` if the prefix is binary
 pub record SpellsPrefix (version : Version) (text : List ℕ) (power : ℕ) (binary : Bool) : Type 0 where
   pub letter : ℕ
   pub infix_part : List ℕ

@@ -1,5 +1,5 @@
--- The versions of the grammar, v1 and v2. What depends on their prefixes and limits has the version (the version) as a
--- parameter; the code implements `current`.
+-- The versions of the grammar, v1 and v2. What depends on their prefixes and limits takes the version as a parameter;
+-- the code implements `current`.
 use Rattle.std.specs.Prelude.{ℕ, ◌-◌, ◌^◌, if◌then◌else◌, List, [], ◌∷◌, ◌++◌, slice_index, nat_lt, ◌&&◌, codes}
 use Rattle.byte_unit_math.specs.Bounds
 use Rattle.byte_unit_base.specs.Shape.{Shape}
@@ -20,7 +20,7 @@ pub record Version : Type 0 where
 abbrev pub first_version : Version
 first_version = record { letters = codes "KMGTPEZY"; whole_limit = 2 ^ 96; size_limit = 10 ^ 27 }
 
--- v2, which the code implements: it adds ronna, which the SI has since 2022. A size is below 10^30, which is 1000 RB,
+-- v2, which the code implements: it adds ronna, which the SI adopted in 2022. A size is below 10^30, which is 1000 RB,
 -- and a whole part is below 2^112
 abbrev pub current : Version
 current = record { letters = codes "KMGTPEZYR"; whole_limit = Bounds.whole_limit; size_limit = Bounds.size_limit }

@@ -12,7 +12,7 @@ use Rattle.byte_unit_base.specs.SizeText.{space}
 pub data ParserState : Type 0 where
   beginning in_whole after_point in_fraction before_unit after_prefix after_b after_bi after_bit after_bits : ParserState
 
--- the text is a beginning of `bits`, in either case, and leads to this parser state
+-- the text is a beginning of `bits`, in either case (so `B` too leads to `after_b`), and leads to this parser state
 abbrev pub IsWord : ParserState → List ℕ → Type 0
 IsWord after_b word = str_to_ascii_lowercase word ≡ codes "b"
 IsWord after_bi word = str_to_ascii_lowercase word ≡ codes "bi"
@@ -57,7 +57,7 @@ IsViableSizePrefix version in_fraction text = (number : ℕ) × IsPrecise versio
 IsViableSizePrefix version before_unit text = (front : IsNumberAndUnitPrefix version before_unit text) × (0 < front.spaces)
 IsViableSizePrefix version place text = IsNumberAndUnitPrefix version place text
 
--- the input is `front` and then `rest`, and `front` is its longest viable prefix, with this parser state after it
+-- the input is `front` followed by `rest`, and `front` is its longest viable prefix, with this parser state after it
 pub record IsLongestViablePrefix
     (IsViable : ParserState → List ℕ → Type 0) (text : List ℕ) (place : ParserState) (front rest : List ℕ) : Type 0 where
   pub text_is : text ≡ front ++ rest

@@ -18,7 +18,8 @@ ok = 0
 abbrev pub not_utf8 : ℕ
 not_utf8 = 6
 
--- `OK` with the size, or the code of the error with its details; what is not written is unchanged
+-- Returns 0 with the size, the code of the error with its details, or 6 if the bytes are not UTF-8; what is not written
+-- is unchanged
 abbrev pub IsReturned : Option (Result ℕ ParseError) → ℕ → Number → Number → Told → Told → Type 0
 IsReturned None code size size' fault fault' = (code ≡ not_utf8) × (size' ≡ size) × (fault' ≡ fault)
 IsReturned (Some (Ok n)) code size size' fault fault' = (code ≡ ok) × (number_of size' ≡ n) × (fault' ≡ fault)

@@ -13,8 +13,8 @@ use Rattle.byte_unit_base.specs.declared.unit.Unit.{Unit as UnitName}
 abbrev pub IsGreatest : Version → ℕ → Type 0
 IsGreatest version size = size + 1 ≡ version.size_limit
 
--- The text is the size with all its digits in the unit. Only the largest size is stored in its own exact unit, since
--- its digits in another could not be read again.
+-- The text is the size with all its digits in the unit. Only the greatest size is stored with its recovered unit,
+-- since its digits in another could not be read again.
 abbrev pub IsAdjustedStringIn : Version → Kind → ℕ → Shape → List ℕ → Type 0
 IsAdjustedStringIn version kind size unit text =
     IsGreatest version size × IsSizeFormIn version kind size ALTERNATE text

@@ -1,5 +1,5 @@
--- Laws of formatted sizes. What a string is read as depends on the prefixes and bounds of a version of the grammar:
--- such laws are about the current one.
+-- Laws of formatted sizes. How a string is parsed depends on the version of the grammar; laws about parsing are about
+-- the current one.
 use Rattle.std.specs.Prelude.{◌≡◌, ◌≢◌, ℕ, ◌+◌, ◌-◌, ◌*◌, ◌<◌, ◌⊎◌, max, Bool, false, List, length, Option, None, Some}
 use Rattle.std.specs.Fmt.{decimal}
 use Rattle.byte_unit_math.specs.Bounds.{places_of_decimal, expansion_places}
@@ -23,19 +23,19 @@ use Rattle.byte_unit_format.specs.declared.spec.FormatSpec.{FormatSpec}
 use Rattle.byte_unit_format.specs.declared.spec.TheConstants.FormatSpec.{PLAIN, ALTERNATE}
 use Rattle.byte_unit_format.specs.declared.spec.Sign.TheVariants.{Plus}
 
--- A size formatted with a unit, by any spec, is read as the size.
+-- A size formatted with a unit, by any spec, is parsed as that size.
 abbrev pub SizeFormReadsBack : Type 0
 SizeFormReadsBack =
     (kind : Kind) (size : ℕ) (spec : FormatSpec) (ignore_case : Bool) (text : List ℕ) → size < current.size_limit
     → IsSizeForm kind size spec text → IsAccepted kind ignore_case text size
 
--- A size formatted as digits is read as the size, unless it has a plus sign.
+-- A size formatted as digits is parsed as that size, unless it has a plus sign.
 abbrev pub PlainFormReadsBack : Type 0
 PlainFormReadsBack =
     (kind : Kind) (size : ℕ) (spec : FormatSpec) (ignore_case : Bool) → size < current.size_limit
     → spec.sign ≢ Plus → IsAccepted kind ignore_case (plain size spec) size
 
--- The string that a size is stored as is read as the size.
+-- The string that a size is stored as is parsed as that size.
 abbrev pub SizeStringReadsBack : Type 0
 SizeStringReadsBack =
     (kind : Kind) (size : ℕ) (text : List ℕ) → size < current.size_limit
@@ -99,7 +99,7 @@ abbrev pub FitsDecimal : Version → Kind → ℕ → Shape → Type 0
 FitsDecimal version kind size unit =
     IsGreatest version size ⊎ IsExactAt (size * bits_in kind) (bits unit) places_of_decimal
 
--- The string is read as the size if it has at most 28 digits after the point, and is else rejected as too long.
+-- The string is parsed as the size if it has at most 28 digits after the point, and is otherwise rejected as too long.
 pub record ReadsBack (version : Version) (kind : Kind) (size : ℕ) (unit : Shape) (text : List ℕ) : Type 0 where
   pub accepted : FitsDecimal version kind size unit → IsAcceptedIn version kind false text size
   pub refused : ¬ (FitsDecimal version kind size unit) → IsRejectedIn version kind false text too_long

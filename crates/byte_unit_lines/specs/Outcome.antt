@@ -16,8 +16,8 @@ AnswerFirst kind lines written =
     (answered : List (List ℕ)) × IsPrefix answered lines × AreAnswers kind answered written
 
 -- what a run has written that has read these bytes and returns this result: the whole report on `Ok`; the answers to
--- all finished lines if a read failed; the answers to the first of them if it was out of memory; and a prefix of the
--- report if a write failed
+-- all finished lines if a read failed; the answers to some first ones of them if it was out of memory; and a prefix of
+-- the report if a write failed
 abbrev pub IsWritten : Kind → List ℕ → Result ⊤ RunError → List ℕ → Type 0
 IsWritten kind read (Ok _) written = IsReport kind read written
 IsWritten kind read (Err Read) written = AreAnswers kind (finished_lines read) written
