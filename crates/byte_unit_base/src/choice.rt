@@ -59,9 +59,9 @@ pub fn choose_unit(
         (λ c. IsChosen family (size * divisor) places (shape_of c.1) c.0) }
     ensures none { IfNone result (NoneHas (IsExactUnit family (size * divisor) places)) }
     ensures exact { IfSome result (λ c. c.0 * bits (shape_of c.1) ≡ size * divisor * scale) }
-    ensures ticks { IfSome result (λ c. CountsChoice size c.0 steps.old steps.new) }
-    ensures ticks_of_none { IfNone result (CountsChoice size 0 steps.old steps.new) }
-    ensures few_ticks { (kind : Kind) → divisor ≡ bits_in kind
+    ensures steps { IfSome result (λ c. CountsChoice size c.0 steps.old steps.new) }
+    ensures steps_of_none { IfNone result (CountsChoice size 0 steps.old steps.new) }
+    ensures few_steps { (kind : Kind) → divisor ≡ bits_in kind
         → steps.new ≤ saturating_add steps.old (most_steps kind) }
 {
     if size == 0 {

@@ -49,8 +49,8 @@ pub fn recoverable_unit(
     requires { size < size_limit }
     ensures recovered { IsRecovered kind allow size precision result.1 }
     ensures exact { result.0 * bits (shape_of result.1) ≡ size * bits_in kind * scale }
-    ensures ticks { CountsChoice size result.0 steps.old steps.new }
-    ensures few_ticks { steps.new ≤ saturating_add steps.old (most_steps kind) }
+    ensures steps { CountsChoice size result.0 steps.old steps.new }
+    ensures few_steps { steps.new ≤ saturating_add steps.old (most_steps kind) }
 {
     let family = family_for(kind, allow);
     match choose_unit(size, family, kind.bits(), precision, steps) {

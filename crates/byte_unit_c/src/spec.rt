@@ -22,8 +22,8 @@ pub struct Spec {
 }
 
 impl Spec {
-    /// Converts to a `FormatSpec`. Returns `None` if the code of the sign or of the alignment is unknown, or the precision
-    /// or the width exceeds 65,535.
+    /// Converts to a `FormatSpec`. Returns `None` if the code of the sign or of the alignment is unknown, or the
+    /// precision or the width exceeds 65,535.
     pub fn get(self) -> Option<FormatSpec>
         ensures { result ≡ spec_at self }
     {

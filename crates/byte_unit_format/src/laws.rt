@@ -71,9 +71,10 @@ pub fn expansions_end()
     ensures { ExpansionsEnd }
 {}
 
-/// States that what the first version accepts or prints keeps its meaning. Each string that it accepts is accepted as the same size, under the same flags. Each size of the first version has the same form with a unit under
-/// each spec, and the same appropriate unit of its own kind by each type; and in each unit of the first version a size
-/// has the same form under each spec.
+/// States that what the first version accepts or prints keeps its meaning. Each string that it accepts is accepted as
+/// the same size, under the same flags. Each size of the first version has the same form with a unit under each spec,
+/// and the same appropriate unit of its own kind by each type; and in each unit of the first version a size has the
+/// same form under each spec.
 pub fn old_meanings_stay()
     ensures accepted_texts { AcceptedTextsStay }
     ensures size_forms { SizeFormsStay }

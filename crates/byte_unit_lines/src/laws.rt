@@ -1,4 +1,4 @@
-//! Laws of answers and reports. The contract of each function is the law; its body only calls the laws that it follows from.
+//! Laws of answers and reports. The contract of each function is the law; its body calls the laws that it follows from.
 
 ghost use Rattle.byte_unit_lines.specs.Laws.{EachLineHasAnAnswer, EachInputHasOneReport};
 

@@ -4,4 +4,4 @@ use Rattle.byte_unit_math.specs.Steps.{max_count, saturating_add}
 
 -- A step count of 2^64 - 1 stays as it is, however many steps are added.
 abbrev pub GreatestCountStays : Type 0
-GreatestCountStays = (ticks : ℕ) → saturating_add max_count ticks ≡ max_count
+GreatestCountStays = (steps : ℕ) → saturating_add max_count steps ≡ max_count

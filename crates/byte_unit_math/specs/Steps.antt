@@ -5,6 +5,6 @@ use Rattle.std.specs.Prelude.{ℕ, ◌+◌, ◌-◌, ◌^◌, min, max}
 abbrev pub max_count : ℕ
 max_count = 2 ^ 64 - 1
 
--- The step count after `ticks` more steps. It saturates at 2^64 - 1, and never falls.
+-- The step count after `steps` more steps. It saturates at 2^64 - 1, and never falls.
 abbrev pub saturating_add : ℕ → ℕ → ℕ
-saturating_add count ticks = max count (min (count + ticks) max_count)
+saturating_add count steps = max count (min (count + steps) max_count)

@@ -73,7 +73,7 @@ pub fn least_size_counted(
     ensures least { IfSome result (IsLeastSize d unit_size) }
     ensures below { IfSome result (λ n. n < limit) }
     ensures none { IfNone result ((n : ℕ) → IsLeastSize d unit_size n → limit ≤ n) }
-    ensures ticks { steps.new ≡ saturating_add steps.old 4 }
+    ensures steps { steps.new ≡ saturating_add steps.old 4 }
 {
     let (digits, places) = (d.digits(), d.places());
     let part = if digits == 0 {
@@ -116,7 +116,7 @@ fn carry_of_group(digits: u64, unit_size: u128, carry: u128, steps: &mut Steps) 
     requires carry { carry ≤ unit_size }
     ensures rounded { IsRoundedUp (digits * unit_size + carry) group_limit result }
     ensures bound { result ≤ unit_size }
-    ensures ticks { steps.new ≡ saturating_add steps.old 1 }
+    ensures steps { steps.new ≡ saturating_add steps.old 1 }
 {
     steps.advance_by(1);
     if digits == 0 && carry == 0 {

@@ -38,7 +38,7 @@ pub fn exact_quotient(size: u128, unit: u128, places: u32, steps: &mut Steps) ->
     ensures quotient { IfSome result (IsQuotient size unit (min places places_of_decimal)) }
     ensures exact { IfSome result (λ N. N * unit ≡ size * scale) }
     ensures none { IfNone result (¬ IsExactAt size unit (min places places_of_decimal)) }
-    ensures ticks { (digits : ℕ)
+    ensures steps { (digits : ℕ)
         × IsFirstExact size unit (min places places_of_decimal) digits
         × (steps.new ≡ saturating_add steps.old digits) }
 {
@@ -90,7 +90,7 @@ pub fn factored_quotient(
     requires exact { (twos ≤ number.twos + places) × (fives ≤ number.fives + places) }
     requires small { product_of number * 10 ^ places < whole_limit * (2 ^ twos * 5 ^ fives) }
     ensures exact { result * (2 ^ twos * 5 ^ fives) ≡ product_of number * scale }
-    ensures ticks { (least : ℕ) × IsLeastPlaces result scale least
+    ensures steps { (least : ℕ) × IsLeastPlaces result scale least
         × (steps.new ≡ saturating_add steps.old least) }
 {
     let power = POWERS_OF_FIVE[(number.fives + places - fives) as usize];

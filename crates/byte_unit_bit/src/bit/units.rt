@@ -83,8 +83,8 @@ impl Bit {
     ) -> (Decimal, Unit)
         ensures recovered { IsRecovered InBits allow_in_bytes self precision result.1 }
         ensures exact { result.0 * bits (shape_of result.1) ≡ self * bits_in InBits * scale }
-        ensures ticks { CountsChoice self result.0 steps.old steps.new }
-        ensures few_ticks { steps.new ≤ saturating_add steps.old (most_steps InBits) }
+        ensures steps { CountsChoice self result.0 steps.old steps.new }
+        ensures few_steps { steps.new ≤ saturating_add steps.old (most_steps InBits) }
     {
         recoverable_unit(self.size, Kind::Bit, allow_in_bytes, precision, steps)
     }

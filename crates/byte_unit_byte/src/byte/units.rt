@@ -82,8 +82,8 @@ impl Byte {
     ) -> (Decimal, Unit)
         ensures recovered { IsRecovered InBytes allow_in_bits self precision result.1 }
         ensures exact { result.0 * bits (shape_of result.1) ≡ self * bits_in InBytes * scale }
-        ensures ticks { CountsChoice self result.0 steps.old steps.new }
-        ensures few_ticks { steps.new ≤ saturating_add steps.old (most_steps InBytes) }
+        ensures steps { CountsChoice self result.0 steps.old steps.new }
+        ensures few_steps { steps.new ≤ saturating_add steps.old (most_steps InBytes) }
     {
         recoverable_unit(self.size, Kind::Byte, allow_in_bits, precision, steps)
     }

@@ -106,8 +106,8 @@ returns-then-row-in_bits-clause-chosen c =
     (returns-then-row-in_bits-clause-exact c) exact in
     chosen_by_powers c.args.places _ c.min-most.ensures powers found quotient
 
-pub returns-then-row-in_bits-clause-ticks : goal.returns-then-row-in_bits-clause-ticks
-returns-then-row-in_bits-clause-ticks c =
+pub returns-then-row-in_bits-clause-steps : goal.returns-then-row-in_bits-clause-steps
+returns-then-row-in_bits-clause-steps c =
     let in_bits = c.args.size * c.args.divisor in
     let row = get_or c.multiples_within-row-items.result.now c.loop-row.row-index no_row in
     let multiple = row_multiple (row_at_is_row c.loop-row.row-index no_row c.multiples_within-row-items.ensures
@@ -121,7 +121,7 @@ returns-then-row-in_bits-clause-ticks c =
     × (c.if-places-gt-FEW_PLACES.steps ≡ saturating_add mid places) =
     elim c.if-places-gt-FEW_PLACES.branch [
       | then-places-gt-FEW_PLACES w ↦
-          let digits = w.exact_quotient.ensures.ticks in
+          let digits = w.exact_quotient.ensures.steps in
           let quotient =
           subst (λ answer. IfSome answer (IsQuotient in_bits row.bits most)) w.unwrap-number.ensures
           w.exact_quotient.ensures.quotient in
@@ -135,20 +135,20 @@ returns-then-row-in_bits-clause-ticks c =
           let same = subst (λ n. IsLeastPlaces n scale digits.0) (sym w.number-is) least in
           (digits.0, same, omega (arith, w.steps-is, digits.2, unmoved))
       | else-places-gt-FEW_PLACES w ↦
-          let places = w.factored_quotient-number.ensures.ticks in
+          let places = w.factored_quotient-number.ensures.steps in
           let same = subst (λ n. IsLeastPlaces n scale places.0) (sym w.number-is) places.1 in
           (places.0, same, omega (arith, w.steps-is, places.2, unmoved))
     ] in
     counted_choice {places = counted.0} c.args.steps.now mid c.if-places-gt-FEW_PLACES.steps trials.powers counted.1
-    trials.ticks counted.2
+    trials.steps counted.2
 
-pub returns-then-row-in_bits-clause-few_ticks : goal.returns-then-row-in_bits-clause-few_ticks
-returns-then-row-in_bits-clause-few_ticks c = λ kind same.
+pub returns-then-row-in_bits-clause-few_steps : goal.returns-then-row-in_bits-clause-few_steps
+returns-then-row-in_bits-clause-few_steps c = λ kind same.
     let unit = unit_in (get_or c.multiples_within-row-items.result.now c.loop-row.row-index no_row) in
     let number = c.if-places-gt-FEW_PLACES.number in
     let IsChosenIn : ℕ → Type 0 = λ n. IsChosen c.args.family (c.args.size * n) c.args.places unit number in
     let chosen = subst IsChosenIn same (returns-then-row-in_bits-clause-chosen c) in
-    let counted = returns-then-row-in_bits-clause-ticks c in
+    let counted = returns-then-row-in_bits-clause-steps c in
     few_of_choice kind c.args.family c.args.size c.args.places number _ _ unit c.requires.small chosen counted
 
 pub returns-clause-none : goal.returns-clause-none
@@ -158,13 +158,13 @@ returns-clause-none c =
     (none_found _ c.multiples_within-row-items.result.now c.loop-row.row-index c.loop-row-test.false
     c.loop-row.invariant.remain)
 
-pub returns-clause-ticks_of_none : goal.returns-clause-ticks_of_none
-returns-clause-ticks_of_none c =
+pub returns-clause-steps_of_none : goal.returns-clause-steps_of_none
+returns-clause-steps_of_none c =
     let mid = c.factors_of-left.new.steps in
     let trials = c.factors_of-left.ensures in
     let still : c.loop-row.steps ≡ saturating_add mid 0 = omega (arith, c.loop-row.invariant.steps) in
-    counted_choice c.args.steps.now mid c.loop-row.steps trials.powers (whole_takes_none 0) trials.ticks still
+    counted_choice c.args.steps.now mid c.loop-row.steps trials.powers (whole_takes_none 0) trials.steps still
 
-pub returns-clause-few_ticks : goal.returns-clause-few_ticks
-returns-clause-few_ticks c =
-    λ kind same. few_of_none kind c.args.size _ _ c.requires.small (returns-clause-ticks_of_none c)
+pub returns-clause-few_steps : goal.returns-clause-few_steps
+returns-clause-few_steps c =
+    λ kind same. few_of_none kind c.args.size _ _ c.requires.small (returns-clause-steps_of_none c)

@@ -10,7 +10,7 @@ returns-in-None-clause-exact c =
     let value : c.from_digits.result ≡ c.args.size * scale = omega (arith, c.from_digits.ensures) in
     own_number c.args.kind c.args.size c.from_digits.result (shape_of c.unit.result) value c.unit.ensures
 
-pub returns-in-None-clause-ticks : goal.returns-in-None-clause-ticks
-returns-in-None-clause-ticks c =
+pub returns-in-None-clause-steps : goal.returns-in-None-clause-steps
+returns-in-None-clause-steps c =
     let value : c.from_digits.result ≡ c.args.size * scale = omega (arith, c.from_digits.ensures) in
-    counted_whole c.args.size c.from_digits.result _ _ value c.in-None.ensures.ticks_of_none
+    counted_whole c.args.size c.from_digits.result _ _ value c.in-None.ensures.steps_of_none

@@ -4,6 +4,6 @@ use Rattle.byte_unit_math.specs.Steps.{max_count}
 use Rattle.byte_unit_math.proofs.laws.greatest_count_stays.Goals as goal
 
 pub returns : goal.returns
-returns c = λ ticks.
-    let none_more = max-le (le_refl max_count) (min-le_right (max_count + ticks) max_count) in
-    le_antisymm none_more (le-max_left max_count (min (max_count + ticks) max_count))
+returns c = λ steps.
+    let none_more = max-le (le_refl max_count) (min-le_right (max_count + steps) max_count) in
+    le_antisymm none_more (le-max_left max_count (min (max_count + steps) max_count))

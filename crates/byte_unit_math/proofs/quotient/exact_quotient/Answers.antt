@@ -31,7 +31,7 @@ loop-rest-preserved c =
       divides =
           rw (c.div_rem_digit-digit.ensures.digit, c.div_rem_digit-digit.ensures.rest)
           (Dividing-more _ _ loop.rest loop.fraction loop.digits (omega arith) (omega arith) loop.invariant.divides);
-      ticks = omega (arith, c.advance_by.ensures, loop.invariant.ticks);
+      steps = omega (arith, c.advance_by.ensures, loop.invariant.steps);
     }
 
 pub returns-then-rest-gt0-clause-none : goal.returns-then-rest-gt0-clause-none
