@@ -54,7 +54,8 @@ IsViableSizePrefix version beginning text = text ≡ []
 IsViableSizePrefix version in_whole text = (value : ℕ) × IsWholePart version text value
 IsViableSizePrefix version after_point text = (value : ℕ) × IsPointed version text value
 IsViableSizePrefix version in_fraction text = (number : ℕ) × IsPrecise version text number
-IsViableSizePrefix version before_unit text = (front : IsNumberAndUnitPrefix version before_unit text) × (0 < front.spaces)
+IsViableSizePrefix version before_unit text =
+    (front : IsNumberAndUnitPrefix version before_unit text) × (0 < front.spaces)
 IsViableSizePrefix version place text = IsNumberAndUnitPrefix version place text
 
 -- the input is `front` followed by `rest`, and `front` is its longest viable prefix, with this parser state after it

@@ -31,5 +31,6 @@ AppropriateUnitsStay =
 -- Each size has the same texts in each unit of the first version.
 abbrev pub AdjustedFormsStay : Type 0
 AdjustedFormsStay =
-    (kind : Kind) (size : ℕ) (unit : Shape) (spec : FormatSpec) (text : List ℕ) → unit.power ≤ length first_version.letters
+    (kind : Kind) (size : ℕ) (unit : Shape) (spec : FormatSpec) (text : List ℕ)
+    → unit.power ≤ length first_version.letters
     → IsAdjustedFormIn first_version kind size unit spec text ↔ IsAdjustedFormIn current kind size unit spec text

@@ -4,7 +4,9 @@ use Rattle.byte_unit_math.proofs.dividing.div_rem_digit.Goals as goal
 
 pub returns : goal.returns
 returns c =
-    let digit = c.subtract_multiple-eights.result.0 + c.subtract_multiple-fours.result.0 + c.subtract_multiple-twos.result.0 + c.subtract_multiple-ones.result.0 in
+    let digit =
+    c.subtract_multiple-eights.result.0 + c.subtract_multiple-fours.result.0 + c.subtract_multiple-twos.result.0
+    + c.subtract_multiple-ones.result.0 in
     let parts : digit * c.args.divisor + c.subtract_multiple-ones.result.1 ≡ c.args.dividend =
     omega (
       arith,

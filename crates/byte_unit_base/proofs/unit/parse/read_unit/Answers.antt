@@ -39,4 +39,5 @@ returns c =
     let t = YieldsList-end (YieldsList-from_chars c.args.text.now c.utf8.text cc) c.loop-c.yielded _ c.loop-c.yielded_by _ _ c.in-None.is
     c.next.ensures.steps in
     let end = read_end (unit_scan c.args.flags) c.loop-c.scan (chars c.args.text.now) _ (omega (arith, t)) in
-    ap unit_result c.ok_or.ensures.value ∙ (ends_or_stops c.unit.result _ refl ∙ (ap unit_at_end c.unit.ensures ∙ (end ∙ c.loop-c.invariant)))
+    ap unit_result c.ok_or.ensures.value
+    ∙ (ends_or_stops c.unit.result _ refl ∙ (ap unit_at_end c.unit.ensures ∙ (end ∙ c.loop-c.invariant)))
