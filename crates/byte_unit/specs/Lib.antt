@@ -21,6 +21,10 @@ pub use Rattle.byte_unit_base.specs.Fault
 pub use Rattle.byte_unit_base.specs.UnitErrorView
 pub use Rattle.byte_unit_base.specs.FaultText
 pub use Rattle.byte_unit_base.specs.Errors
+pub use Rattle.byte_unit_base.specs.Scan
+pub use Rattle.byte_unit_base.specs.UnitScan
+pub use Rattle.byte_unit_base.specs.SizeScan
+pub use Rattle.byte_unit_base.specs.Parsed
 pub use Rattle.byte_unit_base.specs.Readings
 pub use Rattle.byte_unit_base.specs.Kinds
 pub use Rattle.byte_unit_base.specs.LeastOfKind
@@ -42,6 +46,7 @@ pub use Rattle.byte_unit_format.specs.Written
 pub use Rattle.byte_unit_base.specs.ReaderLaws
 pub use Rattle.byte_unit_base.specs.ChoiceLaws
 pub use Rattle.byte_unit_base.specs.SizeLaws
+pub use Rattle.byte_unit_base.specs.ParsedLaws
 pub use Rattle.byte_unit_base.specs.Versions
 pub use Rattle.byte_unit_format.specs.FormLaws
 pub use Rattle.byte_unit_format.specs.VersionLaws

@@ -6,6 +6,7 @@ pub mod Scales
 pub mod Scans
 pub mod UnitReached
 pub mod UnitRuns
+pub mod Computed
 pub mod UnitReads
 pub mod SizeSteps
 pub mod SizeReached
@@ -15,6 +16,8 @@ pub mod Names
 pub mod Rounding
 pub mod SizeOfText
 pub mod SizeOrFault
+pub mod ParsedTexts
+pub mod OnLiterals
 pub mod Quotients
 pub mod Falling
 pub mod Choosing

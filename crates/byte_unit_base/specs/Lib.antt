@@ -10,11 +10,15 @@ pub mod Fault
 pub mod UnitErrorView
 pub mod FaultText
 pub mod Errors
-pub mod Readings
 pub mod Kinds
 pub mod LeastOfKind
 pub mod SizeOrNone
 pub mod Accepted
+pub mod Scan
+pub mod UnitScan
+pub mod SizeScan
+pub mod Parsed
+pub mod Readings
 pub mod SizeReading
 pub mod JsonReading
 pub mod Family
@@ -23,10 +27,8 @@ pub mod AdjustedSize
 pub mod ReaderLaws
 pub mod ChoiceLaws
 pub mod SizeLaws
+pub mod ParsedLaws
 pub mod Versions
 -- private: no public contract cites these
-pub mod Scan
-pub mod UnitScan
-pub mod SizeScan
 pub mod FastReading
 pub mod Multiples
