@@ -6,6 +6,7 @@ pub mod adjusted;
 pub mod capped;
 pub mod entry;
 pub mod limit;
+pub mod literal;
 pub mod message;
 pub mod quota;
 pub mod settings;
