@@ -26,7 +26,7 @@ use Rattle.byte_unit_base.specs.declared.read.scan.SizeScan.TheVariants.{Beginni
 use Rattle.byte_unit_base.specs.declared.unit.Unit.TheVariants as UnitNames
 
 -- the unit of the crate that has the shape of a unit is that unit
-unit_of_its_shape : (unit : UnitName) → unit_of_shape (shape_of unit) ≡ unit
+pub unit_of_its_shape : (unit : UnitName) → unit_of_shape (shape_of unit) ≡ unit
 unit_of_its_shape UnitNames.B = refl
 unit_of_its_shape _ = refl
 

@@ -17,7 +17,6 @@ pub mod Rounding
 pub mod SizeOfText
 pub mod SizeOrFault
 pub mod ParsedTexts
-pub mod OnLiterals
 pub mod Quotients
 pub mod Falling
 pub mod Choosing
@@ -27,6 +26,8 @@ pub mod FewSteps
 pub mod SomeChoice
 pub mod LaterChoices
 pub mod OneChoice
+pub mod AdjustedLiterals
+pub mod OnLiterals
 pub mod ErrorTexts
 pub mod NumberTexts
 pub mod LongFractions

@@ -24,6 +24,7 @@ pub mod JsonReading
 pub mod Family
 pub mod Choice
 pub mod AdjustedSize
+pub mod ParsedAdjusted
 pub mod ReaderLaws
 pub mod ChoiceLaws
 pub mod SizeLaws

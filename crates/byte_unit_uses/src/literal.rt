@@ -6,7 +6,9 @@ ghost use Rattle.byte_unit.specs.Bounds.{scale};
 ghost use Rattle.byte_unit.specs.Errors.{size_fault, unit_fault};
 ghost use Rattle.byte_unit.specs.Fault.{bad_unit, exceeded, no_value, too_long};
 
-use byte_unit::{AdjustedByte, Bit, Byte, ParseError, Unit, UnitParseError};
+use byte_unit::{
+    AdjustedBit, AdjustedByte, Bit, Byte, Decimal, ParseError, Unit, UnitParseError, read_size,
+};
 
 /// Returns 20 MB.
 pub fn default_limit() -> Byte
@@ -64,11 +66,28 @@ pub fn unit_from_str() -> Unit
     "m".parse().unwrap()
 }
 
-/// Returns 20 MB, to be shown in a unit.
+/// Returns 20 MB, to be formatted in a unit.
 pub fn adjusted() -> AdjustedByte
     ensures { result.size ≡ 20000000 }
 {
     "20 MB".parse().unwrap()
+}
+
+/// Returns 20 Mbit in the largest unit that is not above it. The unit takes a lemma more than the size.
+#[tactic(auto, using(byte_unit::proofs::OnLiterals::adjusted_computed), unfolding(byte_unit::proofs::OnLiterals::byte_unit_on_literals))]
+pub fn adjusted_unit() -> AdjustedBit
+    ensures size { result.size ≡ 20000000 }
+    ensures unit { result.unit ≡ Unit.Mibit }
+{
+    "20 Mbit".parse().unwrap()
+}
+
+/// Returns a number and its unit, with nothing rounded.
+pub fn number_and_unit() -> (Decimal, Unit)
+    ensures number { result.0 * 2 ≡ 3 * scale }
+    ensures unit { result.1 ≡ Unit.KiB }
+{
+    read_size("1.5 KiB", false, true).unwrap()
 }
 
 /// Returns 1.5 GB. White space around a size is ignored, also beyond ASCII: here a no-break space and an em space.
