@@ -35,6 +35,6 @@ pub json_literal : (kind : Kind) (value : Data) (bytes : List ℕ) (n : ℕ) (r 
     → value ≡ string bytes → parsed_size kind false bytes ≡ Ok n
     → ReadsString size_errors (IsSizeReading kind false) (as_str value) r → r ≡ Ok n
 json_literal kind value bytes n r is_string e reads =
-    let IsReadFrom : Data → Type 0 = λ data. ReadsString size_errors (IsSizeReading kind false) (as_str data) r in
+    let IsReadFrom : Data → Type 0 = λ json. ReadsString size_errors (IsSizeReading kind false) (as_str json) r in
     let answer = subst IsReadFrom is_string reads in
     answer.2 ∙ ap (string_answer size_errors) (answer.1.reads n (accepted_literal kind false bytes n e))

@@ -27,6 +27,7 @@ pub use Rattle.byte_unit_base.specs.SizeScan
 pub use Rattle.byte_unit_base.specs.Parsed
 pub use Rattle.byte_unit_base.specs.Readings
 pub use Rattle.byte_unit_base.specs.Kinds
+pub use Rattle.byte_unit_base.specs.UnitLists
 pub use Rattle.byte_unit_base.specs.LeastOfKind
 pub use Rattle.byte_unit_base.specs.SizeOrNone
 pub use Rattle.byte_unit_base.specs.Accepted
@@ -40,6 +41,7 @@ pub use Rattle.byte_unit_format.specs.Forms
 pub use Rattle.byte_unit_format.specs.NamedSpecs
 pub use Rattle.byte_unit_format.specs.Adjusted
 pub use Rattle.byte_unit_base.specs.AdjustedSize
+pub use Rattle.byte_unit_base.specs.ParsedAdjusted
 pub use Rattle.byte_unit_format.specs.AdjustedString
 pub use Rattle.byte_unit_format.specs.Room
 pub use Rattle.byte_unit_format.specs.Written

@@ -4,7 +4,8 @@ use Rattle.std.specs.Prelude.{nat_lt}
 use Rattle.std.specs.Result.{result_map_both}
 use Rattle.byte_unit_math.specs.Bounds.{size_limit}
 use Rattle.byte_unit_base.specs.Shape.{Shape}
-use Rattle.byte_unit_base.specs.Units.{shape_of, unit_of_shape}
+use Rattle.byte_unit_base.specs.Units.{shape_of}
+use Rattle.byte_unit_base.specs.UnitLists.{unit_of_shape}
 use Rattle.byte_unit_base.specs.Errors.{unit_fault, size_fault}
 use Rattle.byte_unit_base.specs.Spelling.{Flags}
 use Rattle.byte_unit_base.specs.SizeText.{trim_of, IsSizeText}

@@ -1,7 +1,7 @@
 -- Unit sets (of bytes, of bits, or of both) and types of units (binary, decimal, or both).
-use Rattle.std.specs.Prelude.{◌≡◌, ◌≤◌, ℕ, zero, suc, Bool, true, false, List, [], ◌∷◌, ◌++◌, length, ⊤}
-use Rattle.byte_unit_base.specs.Shape.{Shape, shape}
-use Rattle.byte_unit_base.specs.Version.{Version, current}
+use Rattle.std.specs.Prelude.{◌≡◌, ◌≤◌, Bool, true, false, length, ⊤}
+use Rattle.byte_unit_base.specs.Shape.{Shape}
+use Rattle.byte_unit_base.specs.Version.{Version}
 use Rattle.byte_unit_base.specs.declared.unit.family.Family.{Family}
 use Rattle.byte_unit_base.specs.declared.unit.family.Family.TheVariants.{All, Bytes, Bits}
 use Rattle.byte_unit_base.specs.declared.unit.unit_type.UnitType.{UnitType}
@@ -29,19 +29,3 @@ pub record HasPrefix (version : Version) (unit : Shape) : Type 0 where
 pub record InFamily (version : Version) (family : Family) (unit : Shape) : Type 0 where
   pub prefix : HasPrefix version unit
   pub kind : HasKind family unit.bit
-
--- the number of prefix letters
-abbrev pub prefix_count : ℕ
-prefix_count = length current.letters
-
--- the units of a unit set that have this one prefix letter, from the largest to the smallest
-abbrev pub units_of_prefix : Family → ℕ → List Shape
-units_of_prefix All power =
-    shape power true false ∷ shape power false false ∷ shape power true true ∷ shape power false true ∷ []
-units_of_prefix Bytes power = shape power true false ∷ shape power false false ∷ []
-units_of_prefix Bits power = shape power true true ∷ shape power false true ∷ []
-
--- the units of a unit set that have one of the first n prefix letters, from the largest to the smallest
-abbrev pub units_of_prefixes : Family → ℕ → List Shape
-units_of_prefixes family zero = []
-units_of_prefixes family (suc power) = units_of_prefix family (suc power) ++ units_of_prefixes family power

@@ -11,6 +11,7 @@ pub mod UnitErrorView
 pub mod FaultText
 pub mod Errors
 pub mod Kinds
+pub mod UnitLists
 pub mod LeastOfKind
 pub mod SizeOrNone
 pub mod Accepted

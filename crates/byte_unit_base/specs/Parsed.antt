@@ -3,7 +3,7 @@
 use Rattle.std.specs.Prelude.{ℕ, ◌+◌, ◌-◌, ◌*◌, ◌/◌, Bool, List, Result, Ok, Err, if◌then◌else◌, nat_lt}
 use Rattle.byte_unit_math.specs.Bounds.{scale, size_limit}
 use Rattle.byte_unit_base.specs.Shape.{Shape, bits}
-use Rattle.byte_unit_base.specs.Units.{unit_of_shape}
+use Rattle.byte_unit_base.specs.UnitLists.{unit_of_shape}
 use Rattle.byte_unit_base.specs.Spelling.{Flags}
 use Rattle.byte_unit_base.specs.SizeText.{trim_of}
 use Rattle.byte_unit_base.specs.Fault.{Fault, exceeded}

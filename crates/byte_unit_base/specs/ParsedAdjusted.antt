@@ -2,10 +2,10 @@
 use Rattle.std.specs.Prelude.{ℕ, ◌*◌, false, List, [], ◌∷◌, Result, if◌then◌else◌, nat_le}
 use Rattle.std.specs.Result.{result_map_both}
 use Rattle.byte_unit_base.specs.Shape.{Shape, bits}
-use Rattle.byte_unit_base.specs.Units.{unit_of_shape}
+use Rattle.byte_unit_base.specs.UnitLists.{unit_of_shape}
 use Rattle.byte_unit_base.specs.Fault.{Fault}
 use Rattle.byte_unit_base.specs.Kinds.{bits_in, own_unit, own_family}
-use Rattle.byte_unit_base.specs.Family.{units_of_prefixes, prefix_count}
+use Rattle.byte_unit_base.specs.UnitLists.{units_of_prefixes, prefix_count}
 use Rattle.byte_unit_base.specs.Parsed.{parsed_size}
 use Rattle.byte_unit_base.specs.AdjustedSize.{AdjustedSize}
 use Rattle.byte_unit_base.specs.declared.kind.Kind.{Kind}

@@ -4,7 +4,8 @@ use Rattle.std.specs.Prelude.{◌≡◌, ◌≢◌, ℕ, List, Result, IfOk, IfE
 use Rattle.std.specs.Result.{result_map_both}
 use Rattle.byte_unit_base.specs.Shape.{Shape}
 use Rattle.byte_unit_base.specs.Version.{current}
-use Rattle.byte_unit_base.specs.Units.{shape_of, unit_of_shape}
+use Rattle.byte_unit_base.specs.Units.{shape_of}
+use Rattle.byte_unit_base.specs.UnitLists.{unit_of_shape}
 use Rattle.byte_unit_base.specs.Spelling.{Flags, Spells}
 use Rattle.byte_unit_base.specs.SizeText.{trim_of, IsSizeText}
 use Rattle.byte_unit_base.specs.Fault.{IsUnitFault, IsSizeFault, exceeded}

@@ -2,7 +2,7 @@
 
 ghost use Rattle.std.specs.Prelude.{◌≡◌, map};
 ghost use Rattle.byte_unit_base.specs.Multiples.{ListsUnits, row_of, row_shape};
-ghost use Rattle.byte_unit_base.specs.Family.{units_of_prefixes, prefix_count};
+ghost use Rattle.byte_unit_base.specs.UnitLists.{units_of_prefixes, prefix_count};
 
 use crate::unit::Unit;
 
