@@ -50,7 +50,6 @@ impl Setting {
 /// Reads a limit by its name. Returns the default if the settings have no such name.
 ///
 /// # Errors
-///
 /// Returns the parse error if the value is not a string that represents a size.
 fn limit(settings: &Value, name: &str, default: Byte) -> Result<Byte, JsonSizeError>
     ensures present { (size : ℕ) → HasSize (view settings.now) name.now size → result ≡ Ok size }

@@ -2,7 +2,7 @@ use Rattle.std.proofs.Common.{◌≡◌, ◌*◌, ◌^◌, ℕ, IfSome, get_or, 
 use Rattle.byte_unit_math.specs.Bounds.{scale, places_of_decimal, whole_limit}
 use Rattle.byte_unit_math.specs.Exact.{IsLeastPlaces, IsQuotient}
 use Rattle.byte_unit_math.specs.Steps.{saturating_add}
-use Rattle.byte_unit_base.specs.Choice.{IsChosen, IsChosenIn}
+use Rattle.byte_unit_base.specs.Choice.{IsChosen}
 use Rattle.byte_unit_base.proofs.Choosing.{some_if_holds, some_bits}
 use Rattle.byte_unit_base.proofs.FewSteps.{few_of_choice, few_of_none}
 use Rattle.byte_unit_base.proofs.Quotients.{places_of_quotient, quotient_of_product, whole_takes_none}
