@@ -1,3 +1,5 @@
+-- The first row that passes the test is the largest unit in which the size is exact; the number times the unit is the
+-- size; if no row passes, no unit of the set is such. The steps are those of `factors_of` and one for each place.
 use Rattle.std.proofs.Common.{◌≡◌, ◌*◌, ◌^◌, ℕ, IfSome, get_or, min, arith, refl, ap, subst, sym, ◌∙◌}
 use Rattle.byte_unit_math.specs.Bounds.{scale, places_of_decimal, whole_limit}
 use Rattle.byte_unit_math.specs.Exact.{IsLeastPlaces, IsQuotient}

@@ -1,3 +1,5 @@
+-- The slice has the rows of the prefixes that are left; a unit that is not above the size has a prefix among them,
+-- since it has ten binary digits for each.
 use Rattle.std.proofs.Common.{◌≡◌, ◌-◌, ◌*◌, ◌/◌, ◌<◌, ◌^◌, arith, length, map, take, drop, ap, rules, refl, ◌∙◌}
 use Rattle.std.proofs.lemmas.List.{length-drop, take_all}
 use Rattle.std.specs.Int.{w128, leading_zeros}
