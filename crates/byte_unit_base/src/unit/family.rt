@@ -1,7 +1,8 @@
 //! Unit sets: which units a choice may take, and their tables.
 
 ghost use Rattle.std.specs.Prelude.{◌≡◌, map};
-ghost use Rattle.byte_unit_base.specs.Multiples.{ListsUnits, units_of_prefixes, prefix_count, row_of, row_shape};
+ghost use Rattle.byte_unit_base.specs.Multiples.{ListsUnits, row_of, row_shape};
+ghost use Rattle.byte_unit_base.specs.UnitLists.{units_of_prefixes, prefix_count};
 
 use crate::unit::Unit;
 

@@ -1,0 +1,5 @@
+use Rattle.byte_unit_base.proofs.ParsedTexts.{parsed_sizes_are_accepted}
+use Rattle.byte_unit_base.proofs.laws.parsed.parsed_sizes_are_accepted.Goals as goal
+
+pub returns : goal.returns
+returns c = parsed_sizes_are_accepted
