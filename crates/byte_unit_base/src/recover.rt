@@ -59,7 +59,6 @@ pub fn recoverable_unit(
 /// # Examples
 /// ```rust
 /// assert_eq!(rt; exact_unit(50_840_000, Kind::Byte, false), (50_840, Unit::KB));
-/// assert_eq!(rt; exact_unit(24_000_000, Kind::Bit, true), (3, Unit::MB));
 /// assert_eq!(rt; exact_unit(16, Kind::Bit, true), (16, Unit::Bit));
 /// ```
 pub fn exact_unit(size: u128, kind: Kind, allow: bool) -> (u128, Unit)
