@@ -242,6 +242,10 @@ def sizes(prefix, work):
 
 
 def run(folder, options):
+    missing = next((program for program in ("gcc", "pkg-config") if not shutil.which(program)), None)
+    if missing:
+        print(f"skipped: tools/install: there is no {missing} (Debian's packages: {' '.join(APT_PACKAGES)})")
+        return
     folder = os.path.abspath(folder)
     with tempfile.TemporaryDirectory() as work:
         prefix = os.path.join(work, "prefix")

@@ -12,6 +12,8 @@ FOLDER has libbyte_unit.a and byte_unit.h. Checks that
 - CHECK, generated columns, indexes by the collation and by an expression work, and integrity_check finds nothing;
 - the statements in docs/CALLERS.md have the results that stand beside them;
 - a million rows have the sum that they should have, and prints what that takes beside length().
+
+Prints what is skipped if a program or sqlite3ext.h is missing.
 """
 
 import argparse
@@ -174,6 +176,7 @@ CREATE TABLE quotas(
     bytes INTEGER GENERATED ALWAYS AS (size_parse(quota)) VIRTUAL, shown TEXT AS (size_text(bytes)));
 CREATE TABLE stored(quota TEXT, bytes INTEGER AS (size_parse(quota)) STORED);
 CREATE TABLE checked(quota TEXT CHECK (size_explain(quota) IS NULL));
+CREATE VIEW totals AS SELECT size_in(sum(size_parse(quota)), 'KB') AS total FROM quotas;
 CREATE UNIQUE INDEX by_quota ON quotas(quota COLLATE SIZE);
 CREATE INDEX by_parsed ON quotas(size_parse(quota));
 INSERT INTO quotas VALUES ('a', '1.5 KiB'), ('b', '1 MB'), ('c', 12);
@@ -195,6 +198,7 @@ SELECTED = {
     "INSERT INTO checked VALUES (NULL), ('1 KB'); SELECT count(*) FROM checked;": ["2"],
     "INSERT INTO stored VALUES (NULL), ('2 KB'); SELECT bytes FROM stored;": ["", "2000"],
     "SELECT * FROM quotas ORDER BY quota COLLATE SIZE;": ["c|12|12|12 B", "a|1.5 KiB|1536|1.5 KiB", "b|1 MB|1000000|1 MB"],
+    "SELECT total FROM totals;": ["1001.548 KB"],
     "PRAGMA integrity_check;": ["ok"],
     "EXPLAIN QUERY PLAN SELECT * FROM quotas WHERE quota = '1000 KB' COLLATE SIZE;": [
         "QUERY PLAN", "`--SEARCH quotas USING INDEX by_quota (quota=?)"],
@@ -241,6 +245,11 @@ ERRORS = {
     "size_parse('1' || char(10) || '2')": r"'1\x0a2' is not a size: the character '\n' is incorrect "
     "('B', 'K', 'M', 'G', 'T', 'P', 'E', 'Z', 'Y' or 'R' or no character is expected)",
     "size_parse(replace(hex(zeroblob(300)), '00', 'é'))": f"'{'é' * 32}'.. is not a size: the character 'é' is not a number",
+    "size_parse('x' || replace(hex(zeroblob(300)), '00', 'é'))": f"'x{'é' * 31}'.. is not a size: the character 'x' is not "
+    "a number",
+    "size_parse(replace(hex(zeroblob(33)), '00', '12'))": f"'{'12' * 32}'.. is not a size: value number is too long",
+    "size_parse(replace(hex(zeroblob(32)), '00', '12'))": f"'{'12' * 32}' is not a size: value number is too long",
+    "size_parse(char(127) || char(31))": r"'\x7f\x1f' is not a size: the character '\u{7f}' is not a number",
     "size_parse(CAST(x'31ff' AS TEXT))": r"'1\xff' is not a size: the text is not UTF-8",
 }
 RESULTS = {
@@ -336,7 +345,17 @@ def million(extension, speed):
         print(f"    {what:<34} {taken:6.2f} s")
 
 
+def is_missing(program):
+    if program == "sqlite3ext.h":
+        return call("gcc", "-E", "-", input="#include <sqlite3ext.h>\n").returncode != 0
+    return not shutil.which(program)
+
+
 def run(folder, options):
+    missing = next(filter(is_missing, ["gcc", "sqlite3", "sqlite3ext.h"]), None)
+    if missing:
+        print(f"skipped: SQLite: there is no {missing} (Debian's packages: {' '.join(APT_PACKAGES)})")
+        return
     rng = random.Random(options.seed)
     lines = [some_line(rng) for _ in range(options.lines)]
     with tempfile.TemporaryDirectory() as work:
