@@ -7,8 +7,7 @@
  *     COLLATE SIZE                                orders texts by the sizes that they represent
  *
  * Flags are words in a text, separated by spaces: 'bits' for bits in place of bytes, 'ignore-case' for `b` as bytes.
- * docs/CALLERS.md has the details. To build it by hand, where DIR is a folder that tools/make-libraries has filled:
- *
+ * docs/CALLERS.md says more. To build it by hand, in a folder that tools/make-libraries has filled as DIR:
  *     cc -shared -fPIC -O2 -I DIR byte_unit_sqlite.c DIR/libbyte_unit.a -Wl,--exclude-libs,ALL -o byte_unit.so
  */
 #include <sqlite3ext.h>
@@ -148,9 +147,7 @@ static uint32_t flag_of(const char *word, size_t len)
 /* Gets the flags in a text of words. Returns false if one of them is not in `allowed`. */
 static bool flags_in(struct text words, uint32_t allowed, uint32_t *flags)
 {
-    size_t end;
-
-    for (size_t begin = 0; begin < words.len; begin = end + 1) {
+    for (size_t begin = 0, end; begin < words.len; begin = end + 1) {
         for (end = begin; end < words.len && words.at[end] != ' ';)
             end++;
         uint32_t flag = flag_of(words.at + begin, end - begin) & allowed;
@@ -245,7 +242,7 @@ static void reject_above_integers(sqlite3_context *context, struct text text, ui
 
     append_quoted(message, text, true);
     sqlite3_str_appendf(message, " is %.*s %s, above the greatest INTEGER, %lld", len <= sizeof digits ? (int)len : 0,
-                        digits, flags & BYTE_UNIT_BITS ? "bits" : "bytes", INT64_MAX);
+                        digits, flags & BYTE_UNIT_BITS ? "bits" : "bytes", (sqlite3_int64)INT64_MAX);
     return_message(context, message, true);
 }
 

@@ -218,6 +218,7 @@ def tables(extension):
     prints(extension, "and accept; indexes by collation and expression serve", [SCHEMA, *SELECTED], expected)
 
 
+X = "the character 'x' is not a number"
 ERRORS = {
     "size_parse(1.5)": "the REAL value 1.5 is not a size: TEXT or an INTEGER is expected",
     "size_parse(x'3132')": "a BLOB of length 2 is not a size: TEXT or an INTEGER is expected",
@@ -245,8 +246,8 @@ ERRORS = {
     "size_parse('1' || char(10) || '2')": r"'1\x0a2' is not a size: the character '\n' is incorrect "
     "('B', 'K', 'M', 'G', 'T', 'P', 'E', 'Z', 'Y' or 'R' or no character is expected)",
     "size_parse(replace(hex(zeroblob(300)), '00', 'é'))": f"'{'é' * 32}'.. is not a size: the character 'é' is not a number",
-    "size_parse('x' || replace(hex(zeroblob(300)), '00', 'é'))": f"'x{'é' * 31}'.. is not a size: the character 'x' is not "
-    "a number",
+    "size_parse('x' || replace(hex(zeroblob(300)), '00', 'é'))": f"'x{'é' * 31}'.. is not a size: {X}",
+    "size_parse('x' || replace(hex(zeroblob(300)), '00', '😀'))": f"'x{'😀' * 15}'.. is not a size: {X}",
     "size_parse(replace(hex(zeroblob(33)), '00', '12'))": f"'{'12' * 32}'.. is not a size: value number is too long",
     "size_parse(replace(hex(zeroblob(32)), '00', '12'))": f"'{'12' * 32}' is not a size: value number is too long",
     "size_parse(char(127) || char(31))": r"'\x7f\x1f' is not a size: the character '\u{7f}' is not a number",
