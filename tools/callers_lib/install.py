@@ -6,7 +6,8 @@
 FOLDER has libbyte_unit.a and byte_unit.h. Checks that
 
 - the program in the manual page compiles with the words of pkg-config alone, from another folder, by gcc and clang as C99 to
-  C23 and as C++17, and links and runs in each way that these compilers have: shared, static, as PIE and not, with LTO;
+  C23 and as C++17, and links and runs in each way that these compilers have: shared, static, as PIE and not, with LTO, and
+  with musl;
 - the shared library has its soname and exports the calls of the header, and no more;
 - the manual page has no finding of `mandoc -T lint`, and its declarations are those of the header;
 - an installation that fails, at a file in the way or at a full disk, leaves nothing and says why;
@@ -28,7 +29,7 @@ ROOT = os.path.dirname(os.path.dirname(HERE))
 sys.path[:0] = [HERE]
 from report import call, check, succeeds  # noqa: E402
 
-APT_PACKAGES = ["binutils", "clang", "g++", "gcc", "libsqlite3-dev", "lld", "mandoc", "pkg-config", "sqlite3"]
+APT_PACKAGES = ["binutils", "clang", "g++", "gcc", "libsqlite3-dev", "lld", "mandoc", "musl-tools", "pkg-config", "sqlite3"]
 INSTALL = os.path.join(ROOT, "tools/install")
 PAGE = os.path.join(ROOT, "interface/byte_unit.3")
 STANDARDS = {
@@ -100,6 +101,10 @@ def compilers(prefix, work):
             runs(f"{cc} {' '.join(how)}, the archive", prefix, work, [*source, *how, *archive])
         for how in (["-static"], ["-static-pie"], ["-static", "-O2", "-flto", *lld]):
             runs(f"{cc} {' '.join(how)}", prefix, work, [*source, *how, *static])
+    if shutil.which("musl-gcc"):
+        runs("musl-gcc -static, the archive", prefix, work, ["musl-gcc", *WARNINGS, program, "-static", *archive])
+    else:
+        print("skipped: there is no musl-gcc")
 
 
 def declarations(prefix):
@@ -185,10 +190,23 @@ def failures(folder, work):
         pass
     fails("a file in the place of a folder", prefix, folder, f"{prefix}/lib: ")
     full(folder, work)
+    outside(work)
     got = call(INSTALL, "--from", work, os.path.join(work, "nothing"))
     check("no library in the folder", got.returncode == 1 and "libbyte_unit.a: No such file or directory\n" in got.stdout, got.stdout)
     got = call(INSTALL, "--uninstall", os.path.join(work, "nothing"))
     check("nothing to uninstall", got.returncode == 1 and "is missing: nothing was installed" in got.stdout, got.stdout)
+
+
+def outside(work):
+    """Uninstalls by a list that names a file outside."""
+    prefix, victim = os.path.join(work, "listed"), os.path.join(work, "victim")
+    os.makedirs(os.path.join(prefix, "share/byte_unit"))
+    for path, text in ((victim, ""), (os.path.join(prefix, "share/byte_unit/installed"), "../victim\n")):
+        with open(path, "w", encoding="utf-8") as file:
+            file.write(text)
+    got = call(INSTALL, "--uninstall", prefix)
+    right = got.returncode == 1 and "'../victim' is not a path below the prefix" in got.stdout and os.path.exists(victim)
+    check("a list that names a file outside the prefix removes nothing", right, got.stdout)
 
 
 def full(folder, work):
