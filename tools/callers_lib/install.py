@@ -107,18 +107,26 @@ def compilers(prefix, work):
         print("skipped: there is no musl-gcc")
 
 
-def declarations(prefix):
-    """Returns the calls that the header declares, each with its result and parameters."""
+def declarations(prefix, end):
+    """Returns the functions of the header, each with its result and parameters: those that it declares if `end` is a
+    semicolon, and its inline functions if it is a brace."""
     text = re.sub(r"/\*.*?\*/", "", read(os.path.join(prefix, "include/byte_unit.h")), flags=re.S)
-    found = re.findall(r"^(?:BYTE_UNIT_API )?(\w+) (byte_unit_\w+)\(([^()]*)\);", text, re.M)
+    found = re.findall(rf"^(?:\w+ )*?(\w+) (byte_unit_\w+)\(([^()]*)\)\s*{end}", text, re.M)
     return {name: (result, " ".join(parameters.split())) for result, name, parameters in found}
+
+
+def calls(prefix):
+    """Returns the functions of the header but for those, named `.._to`, that only its inline functions call."""
+    inline, declared = declarations(prefix, "{"), declarations(prefix, ";")
+    return {**{name: row for name, row in declared.items() if name.removesuffix("_to") not in inline}, **inline}
 
 
 def symbols(prefix):
     library = os.path.join(prefix, "lib/libbyte_unit.so")
     exported = [line.split()[-1] for line in call("nm", "-D", "--defined-only", library).stdout.splitlines()]
-    declared = sorted(declarations(prefix))
-    check(f"the shared library exports the {len(declared)} calls of the header alone", sorted(exported) == declared, str(exported))
+    declared = sorted(declarations(prefix, ";"))
+    what = f"the shared library exports the {len(declared)} functions that the header declares, and no other"
+    check(what, sorted(exported) == declared, str(exported))
     dynamic = call("readelf", "-d", library).stdout
     check("its soname is libbyte_unit.so.5", "soname: [libbyte_unit.so.5]" in dynamic, dynamic)
     check("it needs libc alone", re.findall(r"NEEDED.*\[(.*)\]", dynamic) == ["libc.so.6"], dynamic)
@@ -150,7 +158,7 @@ def manual(prefix):
         synopsis[name] = (result, ", ".join(re.findall(r'"(.*)"', parameters)))
     for result, name, parameter in re.findall(r'^\.Ft (\w+)\n\.Fn (\w+) "?(\w+)"?$', text, re.M):
         synopsis[name] = (result, parameter)
-    declared = declarations(prefix)
+    declared = calls(prefix)
     wrong = [(name, synopsis.get(name), declared.get(name)) for name in {*synopsis, *declared}
              if synopsis.get(name) != declared.get(name)]  # fmt: skip
     check("the manual page declares the calls of the header", not wrong, str(wrong))
