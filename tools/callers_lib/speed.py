@@ -1,5 +1,6 @@
 #!/usr/bin/env python3
-"""Prints what the calls of the C library take, in nanoseconds, and the size of the archive: figures of docs/CALLERS.md.
+"""Prints what the calls of the C library take, in nanoseconds, the size of the archive, and what tools/callers has taken:
+figures of docs/CALLERS.md.
 
     tools/callers_lib/speed.py FOLDER
 
@@ -9,6 +10,7 @@ what SQLite takes by sqlite.py, each with --speed.
 """
 
 import os
+import resource
 import sys
 import tempfile
 
@@ -34,6 +36,8 @@ def run(folder, options):  # noqa: ARG001: each part of tools/callers takes both
             print(got.stdout, end="")
             check(f"checks/{name} ends with status 0", got.returncode == 0, got.stdout)
     print(f"{'libbyte_unit.a':<50} {os.path.getsize(archive):>7,} bytes")
+    spent = [resource.getrusage(who) for who in (resource.RUSAGE_SELF, resource.RUSAGE_CHILDREN)]
+    print(f"{'processor time of this run so far':<50} {sum(use.ru_utime + use.ru_stime for use in spent):7.1f} s")
 
 
 if __name__ == "__main__":
