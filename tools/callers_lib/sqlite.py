@@ -320,30 +320,33 @@ MILLION = {
     "size_text(n)": "SELECT count(size_text(n)) FROM big;",
 }
 SORTED = {
-    "ORDER BY t": "SELECT t FROM big ORDER BY t LIMIT 1 OFFSET 999999;",
-    "ORDER BY t COLLATE SIZE": "SELECT t FROM big ORDER BY t COLLATE SIZE LIMIT 1 OFFSET 999999;",
+    "CREATE TABLE .. ORDER BY t": "CREATE TABLE by_t AS SELECT n FROM big ORDER BY t;",
+    "CREATE TABLE .. ORDER BY t COLLATE SIZE": "CREATE TABLE by_s AS SELECT n FROM big ORDER BY t COLLATE SIZE;",
+    "CREATE INDEX .. (t)": "CREATE INDEX by_text ON big(t);",
     "CREATE INDEX .. (t COLLATE SIZE)": "CREATE INDEX by_size ON big(t COLLATE SIZE);",
     "integrity_check": "PRAGMA integrity_check;",
 }
 
 
 def million(extension, speed):
-    """Checks sums over a million rows, `0.000 MB` to `999.999 MB` in another order, and prints what they take; with
-    `speed` also the order of the rows, and an index."""
+    """Checks sums over a million rows, `0.000 MB` to `999.999 MB` in another order, and prints the processor
+    time that they take; with `speed` also of the order of the rows, and of an index."""
     statements = {**MILLION, **(SORTED if speed else {})}
     make = ["CREATE TABLE big(t TEXT, n INTEGER);",
             "INSERT INTO big WITH RECURSIVE i(k) AS (SELECT 0 UNION ALL SELECT k + 1 FROM i WHERE k < 999999) SELECT "
             "printf('%d.%03d MB', k * 7919 % 1000000 / 1000, k * 7919 % 1000), k FROM i;", ".timer on"]  # fmt: skip
-    got, errors = sql(extension, [*make, *statements.values()])
+    ends = [".timer off", "SELECT n FROM by_s WHERE rowid IN (1, 1000000);"] * speed
+    got, errors = sql(extension, [*make, *statements.values(), *ends])
     results = [line for line in got if not line.startswith("Run Time")]
-    times = [float(line.split()[3]) for line in got if line.startswith("Run Time")]
-    total, length = 1000 * sum(range(10**6)), sum((len(str(whole)) + 7) * 1000 for whole in range(1000))
-    expected = [str(length), str(total), "1000000", "1000000"] + ["999.999 MB", "999.999 MB", "ok"] * speed
+    times = [sum(map(float, line.split()[5::2])) for line in got if line.startswith("Run Time")]
+    total, length = sum(range(10**6)), sum((len(str(whole)) + 7) * 1000 for whole in range(1000))
+    expected = [str(length), str(1000 * total), "1000000", "1000000"]
+    expected += ["ok", "0", str(pow(7919, -1, 10**6) * 999999 % 10**6)] * speed
     seconds = dict(zip(statements, times))
     check(f"a million rows: size_parse {seconds['size_parse(t)']:.2f} s, length {seconds['length(t)']:.2f} s",
           results == expected and not errors, f"{results}\n{errors}\n{expected}")  # fmt: skip
     for what, taken in seconds.items() if speed else ():
-        print(f"    {what:<34} {taken:6.2f} s")
+        print(f"    {what:<40} {taken:6.2f} s")
 
 
 def is_missing(program):
