@@ -46,6 +46,13 @@ def read(path):
         return file.read()
 
 
+def is_there(program):
+    """Tells whether there is a program, and prints what is skipped if not."""
+    if not shutil.which(program):
+        print(f"skipped: there is no {program}")
+    return shutil.which(program) is not None
+
+
 def files_in(folder):
     """Returns every file and folder below `folder`."""
     return sorted(os.path.relpath(os.path.join(at, name), folder) for at, *names in os.walk(folder) for name in sum(names, []))
@@ -86,25 +93,20 @@ def compilers(prefix, work):
     program, shared = example(work), flags(prefix, "--cflags", "--libs")
     static = flags(prefix, "--cflags", "--libs", "--static")
     archive = [*flags(prefix, "--cflags"), os.path.join(prefix, "lib/libbyte_unit.a")]
-    for cc, standards in STANDARDS.items():
-        if not shutil.which(cc):
-            print(f"skipped: there is no {cc}")
-            continue
+    for cc in filter(is_there, STANDARDS):
         source = [cc, *WARNINGS, program]
         if "++" in cc:
             source = [cc, *WARNINGS, "-Wno-missing-field-initializers", "-x", "c++", program, "-x", "none"]
-        for standard in standards:
+        for standard in STANDARDS[cc]:
             runs(f"{cc} -std={standard}", prefix, work, [*source, f"-std={standard}", *shared])
-        lld = ["-fuse-ld=lld"] if "clang" in cc else []
-        for how in (["-pie"], ["-no-pie"], ["-O2", "-flto", *lld]):
+        links = [["-O2", "-flto", *["-fuse-ld=lld"] * ("clang" in cc)]] if "clang" not in cc or is_there("ld.lld") else []
+        for how in (["-pie"], ["-no-pie"], *links):
             runs(f"{cc} {' '.join(how)}, shared", prefix, work, [*source, *how, *shared])
             runs(f"{cc} {' '.join(how)}, the archive", prefix, work, [*source, *how, *archive])
-        for how in (["-static"], ["-static-pie"], ["-static", "-O2", "-flto", *lld]):
+        for how in (["-static"], ["-static-pie"], *(["-static", *words] for words in links)):
             runs(f"{cc} {' '.join(how)}", prefix, work, [*source, *how, *static])
-    if shutil.which("musl-gcc"):
+    if is_there("musl-gcc"):
         runs("musl-gcc -static, the archive", prefix, work, ["musl-gcc", *WARNINGS, program, "-static", *archive])
-    else:
-        print("skipped: there is no musl-gcc")
 
 
 def declarations(prefix, end):
@@ -148,11 +150,9 @@ def version(prefix, work):
 
 def manual(prefix):
     page = os.path.join(prefix, "share/man/man3/byte_unit.3")
-    if shutil.which("mandoc"):
+    if is_there("mandoc"):
         found = call("mandoc", "-T", "lint", page).stdout
         check("mandoc -T lint finds nothing in the manual page", found == "", found)
-    else:
-        print("skipped: there is no mandoc")
     text, synopsis = read(page), {}
     for result, name, parameters in re.findall(r'^\.Ft (\w+)\n\.Fo (\w+)\n((?:\.Fa ".*"\n)+)\.Fc$', text, re.M):
         synopsis[name] = (result, ", ".join(re.findall(r'"(.*)"', parameters)))
@@ -174,7 +174,7 @@ def extension(prefix):
         return
     exported = call("nm", "-D", "--defined-only", path + ".so").stdout.split()[2::3]
     check("the extension exports its entry point alone", exported == ["sqlite3_byteunit_init"], str(exported))
-    if shutil.which("sqlite3"):
+    if is_there("sqlite3"):
         got = call("sqlite3", "-cmd", f".load {path}", ":memory:", "SELECT size_parse('1.5 KiB');").stdout
         check("the extension loads from there", got == "1536\n", got)
 
