@@ -204,7 +204,10 @@ SELECTED = {
         "QUERY PLAN", "`--SEARCH quotas USING INDEX by_quota (quota=?)"],
     "EXPLAIN QUERY PLAN SELECT * FROM quotas WHERE size_parse(quota) > 1000;": [
         "QUERY PLAN", "`--SEARCH quotas USING INDEX by_parsed (<expr>>?)"],
+    "EXPLAIN QUERY PLAN SELECT quota FROM quotas WHERE quota > '1' COLLATE SIZE ORDER BY quota COLLATE SIZE;": [
+        "QUERY PLAN", "`--SEARCH quotas USING COVERING INDEX by_quota (quota>?)"],
     "SELECT name FROM quotas WHERE quota = '1000 KB' COLLATE SIZE;": ["b"],
+    "SELECT min(quota COLLATE SIZE), max(quota COLLATE SIZE) FROM quotas;": ["12|1 MB"],
     "SELECT name FROM quotas WHERE size_parse(quota) < 2000 ORDER BY 1;": ["a", "c"],
 }  # fmt: skip
 
