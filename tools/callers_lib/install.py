@@ -55,7 +55,8 @@ def is_there(program):
 
 def files_in(folder):
     """Returns every file and folder below `folder`."""
-    return sorted(os.path.relpath(os.path.join(at, name), folder) for at, *names in os.walk(folder) for name in sum(names, []))
+    found = [os.path.join(at, name) for at, folders, files in os.walk(folder) for name in folders + files]
+    return sorted(os.path.relpath(path, folder) for path in found)
 
 
 def example(work):
@@ -141,8 +142,8 @@ def version(prefix, work):
     """Compares the version of pkg-config, of the header and of the call."""
     program, text = os.path.join(work, "version.c"), flags(prefix, "--modversion")[0]
     with open(program, "w", encoding="utf-8") as file:
-        file.write("#include <byte_unit.h>\n#include <string.h>\nint main(void) { return byte_unit_version() != BYTE_UNIT_VERSION"
-                   f' || strcmp(BYTE_UNIT_VERSION_STRING, "{text}") != 0; }}\n')  # fmt: skip
+        file.write("#include <byte_unit.h>\n#include <string.h>\nint main(void) { return ")
+        file.write(f'byte_unit_version() != BYTE_UNIT_VERSION || strcmp(BYTE_UNIT_VERSION_STRING, "{text}") != 0; }}\n')
     static = flags(prefix, "--cflags", "--libs", "--static")
     succeeds("a program that asks for the version compiles", "gcc", program, "-static", *static, "-o", program + ".out")
     succeeds(f"the version is {text} in the library, the header and byte_unit.pc", program + ".out")
@@ -160,7 +161,7 @@ def manual(prefix):
         synopsis[name] = (result, parameter)
     declared = calls(prefix)
     wrong = [(name, synopsis.get(name), declared.get(name)) for name in {*synopsis, *declared}
-             if synopsis.get(name) != declared.get(name)]  # fmt: skip
+             if synopsis.get(name) != declared.get(name)]
     check("the manual page declares the calls of the header", not wrong, str(wrong))
     names = re.findall(r"^\.Nm (\w+)", text, re.M)
     links = [name for name in declared if os.path.exists(os.path.join(os.path.dirname(page), f"{name}.3"))]
@@ -185,7 +186,7 @@ def fails(what, prefix, folder, reason, *before):
     got = call(*before, INSTALL, "--from", folder, prefix, stderr=-1)
     one_line = re.fullmatch(r"tools/install: .*\n", got.stderr) and reason in got.stderr
     check(f"{what}: one line says so, and nothing is left", got.returncode == 1 and one_line and files_in(prefix) == kept,
-          f"{got.stderr}{set(files_in(prefix)) ^ set(kept)}")  # fmt: skip
+          f"{got.stderr}{set(files_in(prefix)) ^ set(kept)}")
 
 
 def failures(folder, work):
@@ -200,7 +201,8 @@ def failures(folder, work):
     full(folder, work)
     outside(work)
     got = call(INSTALL, "--from", work, os.path.join(work, "nothing"))
-    check("no library in the folder", got.returncode == 1 and "libbyte_unit.a: No such file or directory\n" in got.stdout, got.stdout)
+    right = got.returncode == 1 and "libbyte_unit.a: No such file or directory\n" in got.stdout
+    check("no library in the folder", right, got.stdout)
     got = call(INSTALL, "--uninstall", os.path.join(work, "nothing"))
     check("nothing to uninstall", got.returncode == 1 and "is missing: nothing was installed" in got.stdout, got.stdout)
 
@@ -228,7 +230,7 @@ def full(folder, work):
     got = call(*inner, f"{mount} && {INSTALL} --from {folder} {prefix}; echo $?; find {prefix} -mindepth 1")
     lines = got.stdout.splitlines()
     check("a full disk: one line says so, and nothing is left",
-          lines[-2].endswith(": No space left on device") and lines[-1] == "1", got.stdout)  # fmt: skip
+          lines[-2].endswith(": No space left on device") and lines[-1] == "1", got.stdout)
 
 
 def removal(folder, work):
@@ -236,7 +238,8 @@ def removal(folder, work):
     prefix, other = os.path.join(work, "again"), "lib/other.so"
     for words in ([], ["--without-sqlite"]):
         succeeds(f"an installation {' '.join(words)}".strip(), INSTALL, "--from", folder, *words, prefix)
-    check("--without-sqlite removes the extension of before", not os.path.exists(os.path.join(prefix, "lib/sqlite3/byte_unit.so")))
+    path = os.path.join(prefix, "lib/sqlite3/byte_unit.so")
+    check("--without-sqlite removes the extension of before", not os.path.exists(path))
     with open(os.path.join(prefix, other), "w", encoding="utf-8"):
         pass
     succeeds("--uninstall", INSTALL, "--uninstall", prefix)
@@ -252,7 +255,8 @@ def staged(folder, work):
     succeeds("an installation with DESTDIR", INSTALL, "--from", folder, "/usr", env={**os.environ, "DESTDIR": stage})
     config = read(os.path.join(stage, "usr/lib/pkgconfig/byte_unit.pc"))
     check("byte_unit.pc names the prefix alone", config.startswith("prefix=/usr\n") and stage not in config, config)
-    listed = [line for line in read(os.path.join(stage, "usr/share/byte_unit/installed")).split("\n") if not line.endswith("/")]
+    lines = read(os.path.join(stage, "usr/share/byte_unit/installed")).split("\n")
+    listed = [line for line in lines if not line.endswith("/")]
     files = [path for path in files_in(stage) if not os.path.isdir(os.path.join(stage, path))]
     check("the list has each file", sorted(f"usr/{line}" for line in listed if line) == files, f"{listed}\n{files}")
 

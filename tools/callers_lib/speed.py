@@ -24,7 +24,7 @@ APT_PACKAGES = ["gcc"]
 PROGRAMS = ["speed.c", "speed_many.c"]
 
 
-def run(folder, options):  # noqa: ARG001: each part of tools/callers takes both
+def run(folder, options):
     archive = os.path.join(folder, "libbyte_unit.a")
     cc = os.environ.get("CC", "cc")
     with tempfile.TemporaryDirectory() as work:

@@ -5,8 +5,8 @@
 
 FOLDER has libbyte_unit.a and byte_unit.h. Checks that
 
-- interface/sqlite/byte_unit_sqlite.c has no warning in C99 by gcc and clang, and no run of interface/checks/sqlite.c, in which
-  one allocation of SQLite after another fails, has a finding of ASan or UBSan;
+- interface/sqlite/byte_unit_sqlite.c has no warning in C99 by gcc and clang, and no run of interface/checks/sqlite.c, in
+  which one allocation of SQLite after another fails, has a finding of ASan or UBSan;
 - for N generated lines (4,000), as bytes and as bits, the functions return what tools/exact_model.py computes, and the
   collation SIZE orders them as the model does;
 - CHECK, generated columns, indexes by the collation and by an expression work, and integrity_check finds nothing;
@@ -101,7 +101,7 @@ def texts(extension, lines, kind):
     """Compares size_parse, size_text and size_explain with the model."""
     flags = ", 'bits'" if kind == "bit" else ""
     rows = [f"SELECT size_parse(t{flags}) AS n, size_text(size_parse(t{flags}){flags}), size_explain(t{flags}) IS NULL"
-            f" FROM (SELECT {quoted(line)} AS t);" for line in lines]  # fmt: skip
+            f" FROM (SELECT {quoted(line)} AS t);" for line in lines]
     got, errors = sql(extension, rows)
     expected, wrong = [], []
     for number, (line, found) in enumerate(zip(lines, model(lines, kind)), 1):
@@ -117,7 +117,7 @@ def texts(extension, lines, kind):
     seen = [pair for pair in zip(got, expected) if pair[0] != pair[1]]
     same = got == expected and not wrong and not errors
     check(f"{len(lines)} lines as {kind}: {len(expected)} INTEGERs and the other errors are the exact model's", same,
-          f"{seen[:3]}\n{wrong[:3]}\n{list(errors.items())[:3]}")  # fmt: skip
+          f"{seen[:3]}\n{wrong[:3]}\n{list(errors.items())[:3]}")
 
 
 def explanations(extension, lines):
@@ -154,7 +154,7 @@ def in_units(extension, rng, count):
 def order_of(lines):
     """Returns the order of the model: sizes, then the other lines by their bytes; equal ones by their numbers."""
     keys = [(0, found[0], b"") if isinstance(found, tuple) else (1, 0, line)
-            for line, found in zip(lines, model(lines, "byte"))]  # fmt: skip
+            for line, found in zip(lines, model(lines, "byte"))]
     return [str(at + 1) for at in sorted(range(len(lines)), key=lambda at: (keys[at], at))]
 
 
@@ -167,7 +167,7 @@ def ordered(extension, lines, encoding):
     prints(extension, f"{encoding}: the same by an index", [*make, index, order], expected)
     odd = "DELETE FROM lines WHERE id % 3 = 1; UPDATE lines SET t = t || ' ' WHERE id % 3 = 2;"
     prints(extension, f"{encoding}: integrity_check of the index after deletes and updates",
-           [*make, index, odd, "PRAGMA integrity_check;"], ["ok"])  # fmt: skip
+           [*make, index, odd, "PRAGMA integrity_check;"], ["ok"])
 
 
 SCHEMA = """PRAGMA trusted_schema = OFF;
@@ -209,7 +209,7 @@ SELECTED = {
     "SELECT name FROM quotas WHERE quota = '1000 KB' COLLATE SIZE;": ["b"],
     "SELECT min(quota COLLATE SIZE), max(quota COLLATE SIZE) FROM quotas;": ["12|1 MB"],
     "SELECT name FROM quotas WHERE size_parse(quota) < 2000 ORDER BY 1;": ["a", "c"],
-}  # fmt: skip
+}
 
 
 def tables(extension):
@@ -248,7 +248,8 @@ ERRORS = {
     "size_in(1, x'4b')": "a BLOB of length 1 is not a unit such as 'KiB' or 'MB'",
     "size_parse('1' || char(10) || '2')": r"'1\x0a2' is not a size: the character '\n' is incorrect "
     "('B', 'K', 'M', 'G', 'T', 'P', 'E', 'Z', 'Y' or 'R' or no character is expected)",
-    "size_parse(replace(hex(zeroblob(300)), '00', 'é'))": f"'{'é' * 32}'.. is not a size: the character 'é' is not a number",
+    "size_parse(replace(hex(zeroblob(300)), '00', 'é'))": f"'{'é' * 32}'.. is not a size: "
+    "the character 'é' is not a number",
     "size_parse('x' || replace(hex(zeroblob(300)), '00', 'é'))": f"'x{'é' * 31}'.. is not a size: {X}",
     "size_parse('x' || replace(hex(zeroblob(300)), '00', '😀'))": f"'x{'😀' * 15}'.. is not a size: {X}",
     "size_parse(replace(hex(zeroblob(33)), '00', '12'))": f"'{'12' * 32}'.. is not a size: value number is too long",
@@ -267,7 +268,7 @@ RESULTS = {
     "size_in(NULL, 'KiB') IS NULL": "1", "size_in(1, NULL) IS NULL": "1", "size_in(1536, 'MB')": "0.001536 MB",
     "size_in(1024, 'kib')": "8 Kib", "size_in(1000, 'Kb', 'ignore-case')": "1 KB", "size_in(1000, 'K', 'bits')": "1 Kb",
     "length(size_in(1, 'KiB', 65535))": str(65537 + 4),
-}  # fmt: skip
+}
 
 
 def values(extension):
@@ -286,7 +287,8 @@ def page(extension):
     lines = [line for block in blocks for line in block.splitlines() if not line.startswith(".load")]
     wanted = [line.split(" -- ")[1] for line in lines if " -- " in line]
     got, errors = sql(extension, lines)
-    check(f"the {len(wanted)} results in docs/CALLERS.md", got + list(errors.values()) == wanted, f"{got}\n{errors}\n{wanted}")
+    got += errors.values()
+    check(f"the {len(wanted)} results in docs/CALLERS.md", got == wanted, f"{got}\n{wanted}")
 
 
 FROM_PYTHON = """import sqlite3, sys
@@ -337,7 +339,7 @@ def million(extension, speed):
     statements = {**MILLION, **(SORTED if speed else {})}
     make = ["CREATE TABLE big(t TEXT, n INTEGER);",
             "INSERT INTO big WITH RECURSIVE i(k) AS (SELECT 0 UNION ALL SELECT k + 1 FROM i WHERE k < 999999) SELECT "
-            "printf('%d.%03d MB', k * 7919 % 1000000 / 1000, k * 7919 % 1000), k FROM i;", ".timer on"]  # fmt: skip
+            "printf('%d.%03d MB', k * 7919 % 1000000 / 1000, k * 7919 % 1000), k FROM i;", ".timer on"]
     ends = [".timer off", "SELECT n FROM by_s WHERE rowid IN (1, 1000000);"] * speed
     got, errors = sql(extension, [*make, *statements.values(), *ends])
     results = [line for line in got if not line.startswith("Run Time")]
@@ -347,7 +349,7 @@ def million(extension, speed):
     expected += ["ok", "0", str(pow(7919, -1, 10**6) * 999999 % 10**6)] * speed
     seconds = dict(zip(statements, times))
     check(f"a million rows: size_parse {seconds['size_parse(t)']:.2f} s, length {seconds['length(t)']:.2f} s",
-          results == expected and not errors, f"{results}\n{errors}\n{expected}")  # fmt: skip
+          results == expected and not errors, f"{results}\n{errors}\n{expected}")
     for what, taken in seconds.items() if speed else ():
         print(f"    {what:<40} {taken:6.2f} s")
 
