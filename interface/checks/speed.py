@@ -1,0 +1,101 @@
+"""Prints nanoseconds per call from Python, beside humanfriendly, humanize and a split, a float and a dictionary.
+
+The minimum of some runs, in one process. The columns have N texts (200,000), or as many as the argument says.
+"""
+
+import random
+import sys
+import timeit
+from array import array
+from collections.abc import Callable
+from itertools import accumulate
+
+import byte_unit
+
+try:
+    import humanfriendly
+    import humanize
+except ImportError:
+    sys.exit("skipped: speed from Python: humanfriendly and humanize are not installed")
+
+NAMES = ["B", "KB", "KiB", "MB", "MiB", "GB", "GiB", "TB", "TiB"]
+UNITS = {name: byte_unit.from_unit(1, name) for name in NAMES}
+
+
+def naive(text: str) -> int:
+    """Parses as a program without a library does."""
+    number, unit = text.split()
+    return int(float(number) * UNITS[unit])
+
+
+def rejected(call: Callable[[str], object], text: str) -> None:
+    """Makes a call that raises an error."""
+    try:
+        call(text)
+    except (ValueError, humanfriendly.InvalidSize):
+        return
+    raise AssertionError(text)
+
+
+def nanoseconds(call: Callable[[], object], number: int, repeat: int = 15) -> float:
+    return min(timeit.repeat(call, number=number, repeat=repeat)) / number * 1e9
+
+
+def one(name: str, call: Callable[[], object]) -> None:
+    print(f"{name:64} {nanoseconds(call, 10_000):8.0f}")
+
+
+def single() -> None:
+    print("nanoseconds per call")
+    text = "1.5 KiB"
+    one("byte_unit.parse('1.5 KiB')", lambda: byte_unit.parse(text))
+    one("split, float and dictionary", lambda: naive(text))
+    one("humanfriendly.parse_size", lambda: humanfriendly.parse_size(text))
+    one("byte_unit.parse('1.5 XB'), an error", lambda: rejected(byte_unit.parse, "1.5 XB"))
+    one("humanfriendly.parse_size('1.5 XB'), an error", lambda: rejected(humanfriendly.parse_size, "1.5 XB"))
+    one("byte_unit.text(1536)", lambda: byte_unit.text(1536))
+    one("humanfriendly.format_size(1536, binary=True)", lambda: humanfriendly.format_size(1536, binary=True))
+    one("humanize.naturalsize(1536, binary=True)", lambda: humanize.naturalsize(1536, binary=True))
+    one("byte_unit.adjusted_text(1536, 'KB', precision=2)", lambda: byte_unit.adjusted_text(1536, "KB", precision=2))
+    one("an empty call, counted above", lambda: None)
+
+
+def some_text(rng: random.Random) -> str:
+    whole, places = rng.randrange(10 ** rng.randrange(1, 5)), rng.randrange(4)
+    fraction = f".{rng.randrange(10**places):0{places}}" if places else ""
+    return f"{whole}{fraction} {rng.choice(NAMES)}"
+
+
+def columns(count: int) -> None:
+    rng = random.Random(1)
+    texts = [some_text(rng) for _ in range(count)]
+    data, offsets = "".join(texts).encode(), array("q", accumulate(map(len, texts), initial=0))
+    narrow = array("i", offsets)
+    column = byte_unit.parse_many(texts)
+    ways: list[tuple[str, Callable[[], object]]] = [
+        ("byte_unit.parse_buffers, 64-bit offsets", lambda: byte_unit.parse_buffers(data, offsets)),
+        ("byte_unit.parse_buffers, 32-bit offsets", lambda: byte_unit.parse_buffers(data, narrow)),
+        ("byte_unit.parse_many, of a list", lambda: byte_unit.parse_many(texts)),
+        ("its ints()", column.ints),
+        ("its int64()", column.int64),
+        ("[byte_unit.parse(text) for text in texts]", lambda: [byte_unit.parse(text) for text in texts]),
+        ("the same with a split, a float and a dictionary", lambda: [naive(text) for text in texts]),
+    ]
+    try:
+        import pandas
+    except ImportError:
+        print("skipped: pandas is not installed")
+    else:
+        series = pandas.Series(texts)
+        ways += [("pandas: series.map(byte_unit.parse)", lambda: series.map(byte_unit.parse)),
+                 ("pandas: byte_unit.parse_many(series)", lambda: byte_unit.parse_many(series))]
+    print(f"nanoseconds per text of {count}")
+    for name, call in ways:
+        print(f"{name:64} {nanoseconds(call, 1, 5) / count:8.0f}")
+    few = texts[: count // 10]
+    time = nanoseconds(lambda: [humanfriendly.parse_size(text) for text in few], 1, 3) / len(few)
+    print(f"{'[humanfriendly.parse_size(text) for text in texts]':64} {time:8.0f}")
+
+
+single()
+columns(int(sys.argv[1]) if len(sys.argv) > 1 else 200_000)
