@@ -37,27 +37,30 @@ def rejected(call: Callable[[str], object], text: str) -> None:
     raise AssertionError(text)
 
 
-def nanoseconds(call: Callable[[], object], number: int, repeat: int = 15) -> float:
-    return min(timeit.repeat(call, number=number, repeat=repeat)) / number * 1e9
+def nanoseconds(function: Callable[..., object], *arguments: object, number: int = 1, repeat: int = 5) -> float:
+    """Returns the minimum of some runs of `number` calls, per call."""
+    names: dict[str, object] = {f"a{place}": argument for place, argument in enumerate(arguments)}
+    names["function"] = function
+    call = f"function({', '.join(f'a{place}' for place in range(len(arguments)))})"
+    return min(timeit.repeat(call, globals=names, number=number, repeat=repeat)) / number * 1e9
 
 
-def one(name: str, call: Callable[[], object]) -> None:
-    print(f"{name:64} {nanoseconds(call, 10_000):8.0f}")
+def one(name: str, function: Callable[..., object], *arguments: object) -> None:
+    print(f"{name:64} {nanoseconds(function, *arguments, number=10_000, repeat=20):8.0f}")
 
 
 def single() -> None:
     print("nanoseconds per call")
     text = "1.5 KiB"
-    one("byte_unit.parse('1.5 KiB')", lambda: byte_unit.parse(text))
-    one("split, float and dictionary", lambda: naive(text))
-    one("humanfriendly.parse_size", lambda: humanfriendly.parse_size(text))
-    one("byte_unit.parse('1.5 XB'), an error", lambda: rejected(byte_unit.parse, "1.5 XB"))
-    one("humanfriendly.parse_size('1.5 XB'), an error", lambda: rejected(humanfriendly.parse_size, "1.5 XB"))
-    one("byte_unit.text(1536)", lambda: byte_unit.text(1536))
-    one("humanfriendly.format_size(1536, binary=True)", lambda: humanfriendly.format_size(1536, binary=True))
-    one("humanize.naturalsize(1536, binary=True)", lambda: humanize.naturalsize(1536, binary=True))
-    one("byte_unit.adjusted_text(1536, 'KB', precision=2)", lambda: byte_unit.adjusted_text(1536, "KB", precision=2))
-    one("an empty call, counted above", lambda: None)
+    one("byte_unit.parse('1.5 KiB')", byte_unit.parse, text)
+    one("split, float and dictionary", naive, text)
+    one("humanfriendly.parse_size", humanfriendly.parse_size, text)
+    one("byte_unit.parse('1.5 XB'), an error", rejected, byte_unit.parse, "1.5 XB")
+    one("humanfriendly.parse_size('1.5 XB'), an error", rejected, humanfriendly.parse_size, "1.5 XB")
+    one("byte_unit.text(1536)", byte_unit.text, 1536)
+    one("humanfriendly.format_size(1536)", humanfriendly.format_size, 1536)
+    one("humanize.naturalsize(1536)", humanize.naturalsize, 1536)
+    one("byte_unit.adjusted_text(1536, 'KB')", byte_unit.adjusted_text, 1536, "KB")
 
 
 def some_text(rng: random.Random) -> str:
@@ -91,10 +94,10 @@ def columns(count: int) -> None:
                  ("pandas: byte_unit.parse_many(series)", lambda: byte_unit.parse_many(series))]
     print(f"nanoseconds per text of {count}")
     for name, call in ways:
-        print(f"{name:64} {nanoseconds(call, 1, 5) / count:8.0f}")
+        print(f"{name:64} {nanoseconds(call) / count:8.0f}")
     few = texts[: count // 10]
-    time = nanoseconds(lambda: [humanfriendly.parse_size(text) for text in few], 1, 3) / len(few)
-    print(f"{'[humanfriendly.parse_size(text) for text in texts]':64} {time:8.0f}")
+    time = nanoseconds(lambda: [humanfriendly.parse_size(text) for text in few]) / len(few)
+    print(f"{'[humanfriendly.parse_size(text) for text in texts], of a tenth':64} {time:8.0f}")
 
 
 single()

@@ -16,10 +16,12 @@ import tempfile
 ROOT = os.path.dirname(os.path.dirname(os.path.dirname(os.path.realpath(__file__))))
 INTERFACE = os.path.join(ROOT, "interface")
 EXAMPLE = os.path.join(INTERFACE, "examples/example.py")
+COLUMNS = os.path.join(INTERFACE, "examples/columns.py")
 APT_PACKAGES = [
     "gcc",
     "pkg-config",
     "mypy",
+    "python3-dask",
     "python3-dev",
     "python3-humanfriendly",
     "python3-humanize",
@@ -127,7 +129,9 @@ def run(folder, options):
         check(f"Python: {lines[-3]}: {lines[-1]}" if not got.returncode else "tests in Python", got.returncode == 0, got.stdout)
         types(os.path.join(work, "package"), work)
         got = output(inner, EXAMPLE, cwd=work, env=environment())
-        check(f"each call from Python: {got.stdout.split(chr(10))[-2:-1]}", got.returncode == 0, got.stdout)
+        check(f"each call from Python: {got.stdout.rstrip().rpartition(chr(10))[2]}", got.returncode == 0, got.stdout)
+        got = output(inner, COLUMNS, cwd=work, env=environment())
+        check(f"columns: {', '.join(got.stdout.splitlines())}", got.returncode == 0, got.stdout)
         if getattr(options, "speed", False):
             print(output(inner, os.path.join(INTERFACE, "checks/speed.py"), cwd=work, env=environment()).stdout, end="")
 
