@@ -3,6 +3,7 @@
 import doctest
 import importlib.metadata
 import importlib.resources
+import inspect
 import os
 import sys
 import threading
@@ -33,6 +34,24 @@ class Package(unittest.TestCase):
                 self.assertTrue(value.__doc__, name)
         public = {name for name in vars(byte_unit) if not name.startswith("_")} - {"Final"}
         self.assertEqual(public, set(byte_unit.__all__) - {"__version__"})
+
+    def test_arguments(self) -> None:
+        """Flags and options are keyword-only, and have one default each."""
+        defaults = {"bits": False, "ignore_case": False, "either_kind": False, "alternate": True, "unit_type": "both"}
+        for name in byte_unit.__all__:
+            value = getattr(byte_unit, name)
+            if not inspect.isfunction(value):
+                continue
+            for argument in inspect.signature(value).parameters.values():
+                with self.subTest(name, argument=argument.name):
+                    is_option = argument.default is not argument.empty
+                    self.assertEqual(argument.kind is argument.KEYWORD_ONLY, is_option)
+                    if is_option:
+                        precision = 3 if (name, argument.name) == ("recoverable_unit", "precision") else None
+                        self.assertIs(argument.default, defaults.get(argument.name, precision))
+        for call in (byte_unit.parse, byte_unit.explain, byte_unit.parse_unit):
+            with self.assertRaises(TypeError):
+                call("B", True)
 
     def test_version(self) -> None:
         self.assertEqual(importlib.metadata.version("byte_unit"), byte_unit.__version__)
@@ -105,7 +124,8 @@ class Memory(unittest.TestCase):
         offsets = array("q", [0, 1, 5])
 
         def work() -> None:
-            for _ in range(200):
+            for _ in range(1000):
+                byte_unit.parse("999 RB")
                 byte_unit.explain(text)
                 byte_unit.parse_many(many)
                 byte_unit.parse_buffers(b"1 1 KB", offsets)

@@ -100,11 +100,6 @@ class Parse(unittest.TestCase):
                     with self.subTest(call.__name__, flag=flag, value=value), self.assertRaises(TypeError):
                         call("1", **{flag: value})
 
-    def test_flags_are_keyword_only(self) -> None:
-        for call in (byte_unit.parse, byte_unit.explain, byte_unit.parse_unit, byte_unit.text, byte_unit.exact_unit):
-            with self.assertRaises(TypeError):
-                call(1, True)
-
     def test_subclasses_of_str(self) -> None:
         class Word(str):
             pass
