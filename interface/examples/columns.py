@@ -1,4 +1,4 @@
-"""Columns of texts with numpy, pandas and Dask, each if it is installed. Stops at a result that is not as written here."""
+"""Columns of texts with numpy, pandas and Dask, each if it is installed. Stops at a result that is not as expected."""
 
 from array import array
 from typing import TYPE_CHECKING

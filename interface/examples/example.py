@@ -36,7 +36,8 @@ def parsing() -> None:
     look("-1", line("-1"), "not_number: the character '-' is not a number")
     look("1.é", line("1.é", bits=True), "not_number: the character 'é' is not a number")
     look("1é", line("1é"), f"unit: the character 'é' is incorrect ({TEN} is expected)")
-    look("1K😀", line("1K😀", ignore_case=True), "unit: the character '😀' is incorrect ('B' or no character is expected)")
+    message = "unit: the character '😀' is incorrect ('B' or no character is expected)"
+    look("1K😀", line("1K😀", ignore_case=True), message)
     look("", line(""), "no_value: no value can be found")
     look("not UTF-8", line(b"\xff"), "not_utf8: the text is not UTF-8")
     look("a lone surrogate", line("\ud800"), "not_utf8: the text is not UTF-8")

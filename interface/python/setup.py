@@ -17,8 +17,10 @@ from setuptools import Extension, setup
 
 HERE = os.path.dirname(os.path.abspath(__file__))
 HEADER, ARCHIVE = "byte_unit.h", "libbyte_unit.a"
-NOT_FOUND = f"""byte_unit: {HEADER} and {ARCHIVE} are not found. Build them by `tools/make-libraries DIR` in the repository, \
-and set BYTE_UNIT_LIBRARY_DIR=DIR; or install them by `tools/install PREFIX`, so that `pkg-config byte_unit` finds them."""
+NOT_FOUND = (
+    f"byte_unit: {HEADER} and {ARCHIVE} are not found. Build them by `tools/make-libraries DIR` in the repository, and "
+    "set BYTE_UNIT_LIBRARY_DIR=DIR; or by `tools/install PREFIX`, so that `pkg-config byte_unit` finds them."
+)
 
 
 def pair(header, archive):

@@ -81,11 +81,13 @@ def find_library(python, package, folder, work):
         got = output(python, "setup.py", "--version", cwd=package, env=environment(**variables))
         check(f"the package finds the library by {way}", got.returncode == 0, got.stdout)
     lacks = [({"BYTE_UNIT_LIBRARY_DIR": work}, "has no byte_unit.h and libbyte_unit.a"),
-             ({"BYTE_UNIT_LIBRARY_DIR": "sizes"}, "is not an absolute path"), ({}, "tools/make-libraries DIR")]
+             ({"BYTE_UNIT_LIBRARY_DIR": "sizes"}, "is not an absolute path"),
+             ({"PKG_CONFIG_LIBDIR": os.path.join(work, "none")}, "tools/make-libraries DIR")]
     for variables, words in lacks:
         got = output(python, "setup.py", "--version", cwd=package, env=environment(**variables))
         one_line = got.stdout.startswith("byte_unit: ") and got.stdout.count("\n") == 1
-        check(f"without a library: {got.stdout.rstrip()}", got.returncode == 1 and one_line and words in got.stdout, got.stdout)
+        holds = got.returncode == 1 and one_line and words in got.stdout
+        check(f"without a library, one line says: {words}", holds, got.stdout)
 
 
 def install(python, folder, work):
@@ -116,17 +118,17 @@ def types(package, work):
 
 
 def run(folder, options):
-    """Builds and tests the package with the library in the folder. With `options.speed`, prints nanoseconds per call."""
+    """Builds and tests the package with the library in the folder. With `options.speed`, prints times per call."""
     python = interpreter()
     if not python:
-        print(f"skipped: Python: no python3 of 3.11 or later has headers, setuptools and wheel: {' '.join(APT_PACKAGES)}")
+        print(f"skipped: Python: needs 3.11 or later, with the packages {', '.join(APT_PACKAGES)}")
         return
     with tempfile.TemporaryDirectory() as work:
         inner = install(python, os.path.abspath(folder), work)
         tests = os.path.join(INTERFACE, "python/tests")
         got = output(inner, "-m", "unittest", "discover", "-s", tests, cwd=work, env=environment())
         lines = got.stdout.rstrip().split("\n")
-        check(f"Python: {lines[-3]}: {lines[-1]}" if not got.returncode else "tests in Python", got.returncode == 0, got.stdout)
+        check(f"tests in Python: {': '.join(lines[-3::2])}", got.returncode == 0, got.stdout)
         types(os.path.join(work, "package"), work)
         got = output(inner, EXAMPLE, cwd=work, env=environment())
         check(f"each call from Python: {got.stdout.rstrip().rpartition(chr(10))[2]}", got.returncode == 0, got.stdout)

@@ -84,7 +84,7 @@ PyObject *parse_many(PyObject *module, PyObject *const *args, Py_ssize_t count)
     return from_column(&column, holds);
 }
 
-/* Whether the buffer is an array of signed integers of 32 or 64 bits, at an address that is a multiple of their size. */
+/* Whether the buffer is an aligned array of signed integers of 32 or 64 bits. */
 static bool is_offsets(const Py_buffer *offsets)
 {
     const char *format = offsets->format ? offsets->format : "B";
@@ -134,7 +134,8 @@ PyObject *parse_buffers(PyObject *module, PyObject *const *args, Py_ssize_t coun
     (void)module;
     uint32_t flags;
     Py_buffer data, offsets;
-    if (!has_arguments(count, 4) || !parse_flags(args + 2, &flags) || PyObject_GetBuffer(args[0], &data, PyBUF_SIMPLE)) {
+    if (!has_arguments(count, 4) || !parse_flags(args + 2, &flags) ||
+        PyObject_GetBuffer(args[0], &data, PyBUF_SIMPLE)) {
         return NULL;
     }
     PyObject *result = NULL;

@@ -2,7 +2,8 @@
 #include "native.h"
 
 /* Writes a text as the library's calls do. The unit is BYTE_UNIT_NO_UNIT for a text that is not adjusted. */
-static size_t write_text(byte_unit_number size, uint32_t flags, uint32_t unit, byte_unit_spec spec, char *out, size_t len)
+static size_t write_text(byte_unit_number size, uint32_t flags, uint32_t unit, byte_unit_spec spec, char *out,
+                         size_t len)
 {
     if (unit == BYTE_UNIT_NO_UNIT) {
         return byte_unit_text(size, flags, spec, out, len);

@@ -44,7 +44,7 @@ static int fill(PyObject *module)
 {
     static const byte_unit_number LIMIT = BYTE_UNIT_SIZE_LIMIT_INIT;
     if (byte_unit_version() != BYTE_UNIT_VERSION) {
-        PyErr_Format(PyExc_ImportError, "byte_unit.h has version %s, and libbyte_unit.a another: build the package again",
+        PyErr_Format(PyExc_ImportError, "byte_unit.h has version %s, libbyte_unit.a another: build the package again",
                      BYTE_UNIT_VERSION_STRING);
         return -1;
     }

@@ -135,13 +135,15 @@ class Results(unittest.TestCase):
     def test_helpers(self) -> None:
         column = byte_unit.parse_many(TEXTS)
         self.assertEqual([place for place, _ in column.errors()], [i for i, code in enumerate(CODES) if code])
-        self.assertEqual(column.validity(), sum(1 << i for i, code in enumerate(CODES) if not code).to_bytes(2, "little"))
+        bits = sum(1 << i for i, code in enumerate(CODES) if not code)
+        self.assertEqual(column.validity(), bits.to_bytes(2, "little"))
         self.assertEqual(byte_unit.parse_many([]).validity(), b"")
         self.assertEqual(byte_unit.parse_many(["1"] * 8).validity(), b"\xff")
 
     def test_int64(self) -> None:
         view = byte_unit.parse_many(["1", "x", str(2**63 - 1)]).int64()
-        self.assertEqual((view.tolist(), view.format, view.strides, view.readonly), ([1, 0, 2**63 - 1], "q", (16,), True))
+        self.assertEqual(view.tolist(), [1, 0, 2**63 - 1])
+        self.assertEqual((view.format, view.strides, view.readonly), ("q", (16,), True))
         self.assertEqual(byte_unit.parse_many([]).int64().tolist(), [])
         for size in (2**63, 2**64 - 1, 2**64, 2**72, 2**96, 10**30 - 1):
             with self.subTest(size), self.assertRaises(ByteUnitError):

@@ -22,7 +22,7 @@ PREFIXES = "KMGTPEZYR"
 
 
 def line_of(text: str | bytes, bits: bool) -> str:
-    """Returns what the model answers to a line."""
+    """Returns the line that the model gives for a text."""
     try:
         size = byte_unit.parse(text, bits=bits)
     except byte_unit.SizeError as error:
@@ -60,7 +60,8 @@ class Model(unittest.TestCase):
                 self.assertEqual(line_of(line, bits), wanted, line)
                 self.assertEqual(line_of(line.decode("utf-8", "surrogateescape"), bits), wanted, line)
                 name = byte_unit.ERROR_NAMES[code]
-                self.assertEqual(f"{size} = {wanted.partition(' = ')[2]}" if size is not None else WORDS[name], wanted, line)
+                seen = WORDS[name] if size is None else f"{size} = {byte_unit.text(size, bits=bits)}"
+                self.assertEqual(seen, wanted, line)
 
 
 class Fractions(unittest.TestCase):
@@ -79,7 +80,8 @@ class Fractions(unittest.TestCase):
     def test_from_unit(self) -> None:
         rng = random.Random(4)
         for _ in range(LINES):
-            count, unit, bits = rng.randrange(10 ** rng.randrange(1, 34)), rng.choice(byte_unit.UNITS), rng.random() < 0.5
+            count, bits = rng.randrange(10 ** rng.randrange(1, 34)), rng.random() < 0.5
+            unit = rng.choice(byte_unit.UNITS)
             wanted = -(-count * unit_in_bits(unit) // (1 if bits else 8))
             if wanted < 10**30:
                 self.assertEqual(byte_unit.from_unit(count, unit, bits=bits), wanted)

@@ -1,5 +1,6 @@
 """The package: its names, version, documentation and behaviour in threads."""
 
+import ast
 import doctest
 import importlib.metadata
 import importlib.resources
@@ -7,6 +8,7 @@ import inspect
 import os
 import sys
 import threading
+import time
 import tracemalloc
 import unittest
 from array import array
@@ -58,6 +60,15 @@ class Package(unittest.TestCase):
 
     def test_typed(self) -> None:
         self.assertTrue(importlib.resources.files("byte_unit").joinpath("py.typed").is_file())
+
+    def test_stub(self) -> None:
+        """The stub of the extension module declares what is there."""
+        stub = ast.parse(importlib.resources.files("byte_unit").joinpath("_native.pyi").read_text("utf-8"))
+        names = {node.name for node in stub.body if isinstance(node, ast.FunctionDef)}
+        for node in stub.body:
+            if isinstance(node, ast.AnnAssign) and isinstance(node.target, ast.Name) and node.value is None:
+                names.add(node.target.id)
+        self.assertEqual(names, {name for name in vars(_native) if not name.startswith("__")})
 
     def test_constants(self) -> None:
         self.assertEqual(byte_unit.SIZE_LIMIT, 10**30)
@@ -115,6 +126,18 @@ class Threads(unittest.TestCase):
         for thread in threads:
             thread.join(60)
         self.assertEqual(seen, [True] * (8 * 21))
+
+
+    def test_buffers_release_the_gil(self) -> None:
+        """This thread goes on while another one parses a long text."""
+        data = bytes(b"0") * 30_000_000
+        worker = threading.Thread(target=byte_unit.parse_buffers, args=(data, array("q", [0, len(data)])))
+        turns = 0
+        worker.start()
+        while worker.is_alive():
+            turns += 1
+            time.sleep(0.001)
+        self.assertGreater(turns, 9)
 
 
 class Memory(unittest.TestCase):

@@ -88,8 +88,8 @@ class Column:
 def parse_many(texts: Iterable[str | bytes], *, bits: bool = False, ignore_case: bool = False) -> Column:
     """Parses each text of a list or another iterable, as `parse` does.
 
-    A text that is not a size has its code in `Column.codes`, and raises nothing. Raises `TypeError` if one of `texts` is
-    not `str` or `bytes`. The GIL is held.
+    A text that is not a size has its code in `Column.codes`, and raises nothing. Raises `TypeError` if one of `texts`
+    is not `str` or `bytes`. The GIL is held.
 
     >>> parse_many(["1.5 KiB", b"9 b"]).ints()
     [1536, 2]
@@ -104,12 +104,12 @@ def parse_many(texts: Iterable[str | bytes], *, bits: bool = False, ignore_case:
 def parse_buffers(data: object, offsets: object, *, bits: bool = False, ignore_case: bool = False) -> Column:
     """Parses texts in Arrow's layout, without copying them: text `i` is `data[offsets[i]:offsets[i + 1]]`.
 
-    `data` is an object with the buffer protocol (`bytes`, `memoryview`, an array of numpy, a buffer of Arrow), contiguous
-    and in UTF-8. `offsets` is one of signed integers of 32 or 64 bits, one more than there are texts. A buffer whose
-    elements are bytes, such as Arrow's, is one of integers by `memoryview(buffer).cast("i")`, or `"q"`.
+    `data` is an object with the buffer protocol (`bytes`, `memoryview`, an array of numpy, a buffer of Arrow),
+    contiguous and in UTF-8. `offsets` is another, of signed integers of 32 or 64 bits, one more than there are texts.
+    If the elements of a buffer are bytes, as those of Arrow are, cast it: `memoryview(buffer).cast("i")`, or `"q"`.
 
-    Raises `ByteUnitError` if an offset is negative, less than the one before it, or past the end of `data`, or if a buffer
-    is not contiguous, and `TypeError` if an argument is no buffer or the elements of `offsets` are others.
+    Raises `ByteUnitError` if an offset is negative, less than the one before it, or past the end of `data`, or if a
+    buffer is not contiguous. Raises `TypeError` if an argument is not a buffer, or `offsets` not of such integers.
 
     The GIL is released: other threads run meanwhile, and they must not change `data` or `offsets`.
 

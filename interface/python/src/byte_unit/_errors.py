@@ -35,8 +35,8 @@ class SizeError(ByteUnitError):
     - `not_number`: a digit is expected in place of `character`, or after it if the text ends there.
     - `number_too_long`: the whole part is 2^112 or more, or more than 28 digits follow the decimal point.
     - `exceeded_bounds`: the size is 10^30 or more. `number` is the number in the text, without its unit.
-    - `unit`: the unit is misspelled at `character`. In its place one of the characters in `expected` is expected, or the
-      end of the text if `also_expect_no_character` is true.
+    - `unit`: the unit is misspelled at `character`. In its place one of the characters in `expected` is expected, or
+      the end of the text if `also_expect_no_character` is true.
     - `not_utf8`: the text has bytes that are not UTF-8, or a lone surrogate.
 
     `character` and `number` are `None` if the name does not use them. An instance can be pickled and copied.
