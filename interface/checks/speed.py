@@ -4,7 +4,9 @@ The minimum of some runs, in processor time, in one process. The columns have 20
 argument says.
 """
 
+import os
 import random
+import subprocess
 import sys
 import time
 import timeit
@@ -72,6 +74,18 @@ def some_text(rng: random.Random) -> str:
     return f"{whole}{fraction} {rng.choice(NAMES)}"
 
 
+def with_numfmt(texts: list[str]) -> float:
+    """Returns the processor time of the program numfmt, per text, with the texts in its own spelling: `1.5Ki`."""
+    lines = "".join(text.replace(" ", "").removesuffix("B") + "\n" for text in texts).encode()
+    times = []
+    for _ in range(5):
+        before = os.times()
+        subprocess.run(["numfmt", "--from=auto"], input=lines, stdout=subprocess.DEVNULL, check=True)
+        after = os.times()
+        times.append(after.children_user + after.children_system - before.children_user - before.children_system)
+    return min(times) / len(texts) * 1e9
+
+
 def columns(count: int) -> None:
     rng = random.Random(1)
     texts = [some_text(rng) for _ in range(count)]
@@ -98,6 +112,7 @@ def columns(count: int) -> None:
     print(f"nanoseconds per text of {count}")
     for name, call in ways:
         print(f"{name:64} {nanoseconds(call) / count:8.0f}")
+    print(f"{'numfmt --from=auto, as a program':64} {with_numfmt(texts):8.0f}")
     few = texts[: count // 10]
     time = nanoseconds(lambda: [humanfriendly.parse_size(text) for text in few]) / len(few)
     print(f"{'[humanfriendly.parse_size(text) for text in texts], of a tenth':64} {time:8.0f}")
