@@ -17,8 +17,8 @@ from itertools import accumulate
 import byte_unit
 
 try:
-    import humanfriendly
-    import humanize
+    from humanfriendly import InvalidSize, format_size, parse_size
+    from humanize import naturalsize
 except ImportError:
     sys.exit("skipped: speed from Python: humanfriendly and humanize are not installed")
 
@@ -36,7 +36,7 @@ def rejected(call: Callable[[str], object], text: str) -> None:
     """Makes a call that raises an error."""
     try:
         call(text)
-    except (ValueError, humanfriendly.InvalidSize):
+    except (ValueError, InvalidSize):
         return
     raise AssertionError(text)
 
@@ -59,12 +59,12 @@ def single() -> None:
     text = "1.5 KiB"
     one("byte_unit.parse('1.5 KiB')", byte_unit.parse, text)
     one("split, float and dictionary", naive, text)
-    one("humanfriendly.parse_size", humanfriendly.parse_size, text)
+    one("humanfriendly.parse_size", parse_size, text)
     one("byte_unit.parse('1.5 XB'), an error", rejected, byte_unit.parse, "1.5 XB")
-    one("humanfriendly.parse_size('1.5 XB'), an error", rejected, humanfriendly.parse_size, "1.5 XB")
+    one("humanfriendly.parse_size('1.5 XB'), an error", rejected, parse_size, "1.5 XB")
     one("byte_unit.text(1536)", byte_unit.text, 1536)
-    one("humanfriendly.format_size(1536)", humanfriendly.format_size, 1536)
-    one("humanize.naturalsize(1536)", humanize.naturalsize, 1536)
+    one("humanfriendly.format_size(1536)", format_size, 1536)
+    one("humanize.naturalsize(1536)", naturalsize, 1536)
     one("byte_unit.adjusted_text(1536, 'KB')", byte_unit.adjusted_text, 1536, "KB")
 
 
@@ -114,7 +114,7 @@ def columns(count: int) -> None:
         print(f"{name:64} {nanoseconds(call) / count:8.0f}")
     print(f"{'numfmt --from=auto, as a program':64} {with_numfmt(texts):8.0f}")
     few = texts[: count // 10]
-    time = nanoseconds(lambda: [humanfriendly.parse_size(text) for text in few]) / len(few)
+    time = nanoseconds(lambda: [parse_size(text) for text in few]) / len(few)
     print(f"{'[humanfriendly.parse_size(text) for text in texts], of a tenth':64} {time:8.0f}")
 
 

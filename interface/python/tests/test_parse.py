@@ -70,6 +70,8 @@ UNITS = [
     ("bit", False, True, "b"),
     ("rib", False, False, "Rib"),
     ("RiB", True, False, "RiB"),
+    (" MBits\t", False, False, "Mb"),
+    ("\u3000", False, False, "B"),
 ]
 
 
@@ -119,7 +121,7 @@ class Parse(unittest.TestCase):
 
     def test_errors_of_units(self) -> None:
         """The message is that of a size with the unit."""
-        for text in ("x", "Kx", "Kix", "bi", "bx", "bitx", "bitsx", "biz", "1", "é", "KiBB", "bI"):
+        for text in ("x", "Kx", "Kix", "bi", "bx", "bitx", "bitsx", "biz", "K x", " x ", "1", "é", "KiBB", "bI"):
             for ignore_case in (False, True):
                 with self.subTest(text, ignore_case=ignore_case), self.assertRaises(SizeError) as caught:
                     byte_unit.parse_unit(text, ignore_case=ignore_case)

@@ -15,6 +15,7 @@ def parse_unit(text: str | bytes, *, bits: bool = False, ignore_case: bool = Fal
     """Parses a unit in any of its spellings, and returns its name.
 
     A spelling without a suffix is of bytes, or of bits with `bits`. With `ignore_case` the suffix `b` means bytes too.
+    White space at both ends is ignored.
 
     Raises `SizeError` if the text is not a unit.
 
