@@ -4,6 +4,10 @@ use std::env;
 use std::path::{Path, PathBuf};
 use std::process::{exit, Command};
 
+/// How to get the archive, for errors.
+const ADVICE: &str = "run tools/make-libraries DIR and set BYTE_UNIT_LIBRARY_DIR to DIR, \
+    or run tools/install PREFIX and set PKG_CONFIG_PATH to PREFIX/lib/pkgconfig";
+
 fn main() {
     println!("cargo:rerun-if-changed=build.rs");
     for name in ["BYTE_UNIT_LIBRARY_DIR", "PKG_CONFIG", "PKG_CONFIG_PATH"] {
@@ -12,11 +16,7 @@ fn main() {
     let (folder, library) = find_archive();
     let archive = folder.join(format!("lib{library}.a"));
     if !is_current(&archive) {
-        fail(&format!(
-            "{} is missing, or not of this version: run tools/make-libraries {}",
-            archive.display(),
-            folder.display()
-        ));
+        fail(&format!("{} is missing, or not of this version: {ADVICE}", archive.display()));
     }
     println!("cargo:rerun-if-changed={}", archive.display());
     println!("cargo:rustc-link-search=native={}", folder.display());
@@ -28,19 +28,29 @@ fn main() {
 /// the repository around this package has built.
 fn find_archive() -> (PathBuf, &'static str) {
     if let Some(folder) = env::var_os("BYTE_UNIT_LIBRARY_DIR") {
-        return (folder.into(), "byte_unit");
+        return (named(folder.into()), "byte_unit");
     }
     if let Some(folder) = installed() {
         return (folder, "byte_unit");
     }
     let built = Path::new(env!("CARGO_MANIFEST_DIR")).join("../../crates/byte_unit_c/out");
-    if built.join("libbyte_unit_c.a").exists() {
+    if is_current(&built.join("libbyte_unit_c.a")) {
         return (built, "byte_unit_c");
     }
-    fail(
-        "libbyte_unit.a is not found: run tools/make-libraries DIR and set BYTE_UNIT_LIBRARY_DIR to DIR, \
-         or run tools/install PREFIX and set PKG_CONFIG_PATH to PREFIX/lib/pkgconfig",
-    )
+    fail(&format!("libbyte_unit.a is not found: {ADVICE}"))
+}
+
+/// Returns the folder that `BYTE_UNIT_LIBRARY_DIR` names: that of the archive, or a prefix with the folder `lib`.
+fn named(folder: PathBuf) -> PathBuf {
+    if !folder.is_absolute() {
+        fail(&format!("BYTE_UNIT_LIBRARY_DIR is {}: it must be an absolute path", folder.display()));
+    }
+    let lib = folder.join("lib");
+    if lib.join("libbyte_unit.a").exists() {
+        lib
+    } else {
+        folder
+    }
 }
 
 /// Returns the folder of the installed library, as pkg-config knows it.

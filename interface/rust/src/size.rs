@@ -118,7 +118,7 @@ macro_rules! size_type {
             #[doc = concat!("assert_eq!(", stringify!($Size), "::from_f64(f64::NAN), None);")]
             /// ```
             pub fn from_f64(size: f64) -> Option<Self> {
-                if !(size >= 0.0) {
+                if size.is_nan() || size < 0.0 {
                     return None;
                 }
                 // Below 2^53 the whole part is exact as a float; from there on a float has no other part.

@@ -89,12 +89,12 @@ fn decimals_of_floats_are_exact() {
         (0.0, "0"),
         (3.5, "3.5"),
         (437.5, "437.5"),
-        (0.0000000037252902984619140625, "0.0000000037252902984619140625"),
+        (2f64.powi(-28), "0.0000000037252902984619140625"),
         (2f64.powi(60), "1152921504606846976"),
     ] {
         assert_eq!(Decimal::try_from(number).unwrap().to_string(), text);
     }
-    for number in [0.1, 50.84, -1.0, 0.00000000186264514923095703125, 2f64.powi(112), f64::NAN, f64::INFINITY] {
+    for number in [0.1, 50.84, -1.0, 2f64.powi(-29), 2f64.powi(112), f64::NAN, f64::INFINITY] {
         assert_eq!(Decimal::try_from(number), Err(InexactFloatError), "{number}");
     }
 }
