@@ -95,7 +95,7 @@ def compilers(folder, work):
 
 def copy_package(work):
     """Copies the package, and returns the copy and the features to test. Without Debian's serde, leaves out serde."""
-    package = os.path.join(work, "byte-unit")
+    package = os.path.join(work, "interface/rust")
     shutil.copytree(PACKAGE, package, ignore=shutil.ignore_patterns("target", "Cargo.lock"))
     if os.path.isdir(REGISTRY) and any(name.startswith("serde_json-") for name in os.listdir(REGISTRY)):
         os.mkdir(os.path.join(package, ".cargo"))
@@ -175,14 +175,19 @@ def extras(compiler, package, features):
 def find_archive(compiler, package, work):
     """Checks each way in which the build script finds the archive, and what it prints if there is none."""
     folder = compiler.env.pop("BYTE_UNIT_LIBRARY_DIR")
-    prefix = os.path.join(work, "prefix")
+    archive, prefix = os.path.join(folder, "libbyte_unit.a"), os.path.join(work, "prefix")
+    nowhere, example = {"PKG_CONFIG": "/nowhere"}, ["run", "--example", "example"]
     os.makedirs(os.path.join(prefix, "lib"))
-    shutil.copy(os.path.join(folder, "libbyte_unit.a"), os.path.join(prefix, "lib"))
-    compiler.succeeds("the archive is found in a prefix", package, "build", BYTE_UNIT_LIBRARY_DIR=prefix)
+    shutil.copy(archive, os.path.join(prefix, "lib"))
+    compiler.succeeds("the archive is found in a prefix", package, *example, BYTE_UNIT_LIBRARY_DIR=prefix)
+    built = os.path.join(work, "crates/byte_unit_c/out")
+    os.makedirs(built)
+    shutil.copy(archive, os.path.join(built, "libbyte_unit_c.a"))
+    compiler.succeeds("the archive is found where rt lib puts it", package, *example, **nowhere)
+    shutil.rmtree(built)
     if shutil.which("pkg-config"):
         write(os.path.join(work, "byte_unit.pc"), PKG_CONFIG.format(folder))
-        compiler.succeeds("the archive is found by pkg-config", package, "build", PKG_CONFIG_PATH=work)
-    nowhere = {"PKG_CONFIG": "/nowhere"}
+        compiler.succeeds("the archive is found by pkg-config", package, *example, PKG_CONFIG_PATH=work)
     for variables, error in (
         (nowhere, "libbyte_unit.a is not found: run tools/make-libraries DIR and set BYTE_UNIT_LIBRARY_DIR to DIR, or"),
         ({"BYTE_UNIT_LIBRARY_DIR": work}, f"{work}/libbyte_unit.a is missing, or not of this version: run"),

@@ -75,7 +75,7 @@ macro_rules! compare_flags {
 
 #[test]
 fn texts_are_those_of_the_library() {
-    for number in [0, 1, 8, 999, 1000, 1024, 1536, 123_456_789, 3_211_776, 10u128.pow(30) - 1] {
+    for number in [0, 1, 8, 999, 1000, 1024, 1536, 123_456_789, 3_211_776, (1 << 30) + 4, 10u128.pow(30) - 1] {
         let (byte, bit) = (Byte::from_u128(number).unwrap(), Bit::from_u128(number).unwrap());
         for width in [0, 1, 4, 10, 38, 200] {
             for precision in [0, 1, 3, 16, 28, 29, 93, 94, 200] {
@@ -88,6 +88,16 @@ fn texts_are_those_of_the_library() {
             }
         }
     }
+}
+
+#[test]
+fn a_size_with_its_unit_has_at_most_28_digits_after_the_point() {
+    let size = Byte::from_u64((1 << 30) + 4);
+    assert_eq!(format!("{size:#.28}"), "1.0000000037252902984619140625 GiB");
+    assert_eq!(format!("{size:#.65535}"), "1.0000000037252902984619140625 GiB");
+    assert_eq!(format!("{size:#.27}"), "1.073741828 GB");
+    let smaller = Byte::from_u64((1 << 30) + 2);
+    assert_eq!(format!("{smaller:#.65535}"), "1.073741826 GB");
 }
 
 #[test]

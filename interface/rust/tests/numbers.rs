@@ -3,7 +3,7 @@
 use std::collections::HashSet;
 use std::convert::TryFrom;
 
-use byte_unit::{Bit, Byte, Decimal, ExceededBoundsError, InexactFloatError, Unit};
+use byte_unit::{AdjustedBit, AdjustedByte, Bit, Byte, Decimal, ExceededBoundsError, InexactFloatError, Unit};
 
 const LIMIT: u128 = 10u128.pow(30);
 
@@ -36,7 +36,7 @@ fn arithmetic_at_the_limits() {
     assert_eq!(Byte::MAX.add(Byte::MIN), Some(Byte::MAX));
     assert_eq!(Byte::MAX.add(Byte::BYTE), None);
     assert_eq!(Byte::MIN.subtract(Byte::BYTE), None);
-    assert_eq!(Byte::MAX.multiply(usize::MAX), None);
+    assert_eq!((Byte::MAX.multiply(2), Byte::MAX.multiply(usize::MAX)), (None, None));
     assert_eq!(Byte::MAX.multiply(0), Some(Byte::MIN));
     assert_eq!(Byte::MAX.divide(0), None);
 }
@@ -108,9 +108,21 @@ fn decimals() {
     assert_eq!(Byte::from_decimal(number), Some(Byte::from_u64(51)));
     assert_eq!(Bit::from_decimal_with_unit(number, Unit::KB), Some(Bit::from_u64(406_720)));
     assert_eq!(Byte::from_decimal_with_unit(Decimal::from(1000u16), Unit::RB), None);
+    assert_eq!(Decimal::new(0, 10u128.pow(28)), None);
+    assert_eq!(Byte::from_decimal_with_unit(Decimal::from(9u8), Unit::Bit), Some(Byte::from_u64(2)));
     let least = Decimal::new(0, 1).unwrap();
     assert_eq!(Byte::from_decimal_with_unit(least, Unit::Bit), Some(Byte::BYTE));
     assert_eq!(Byte::from_decimal_with_unit(least, Unit::RiB).unwrap(), 1u64);
+}
+
+#[test]
+fn adjusted_sizes_of_sizes_and_of_strings() {
+    assert_eq!(AdjustedByte::from(Byte::from_u64(10_000)).get_unit(), Unit::KiB);
+    assert_eq!(AdjustedBit::from(Bit::from_u64(1_000)).get_unit(), Unit::Kbit);
+    assert_eq!("10 Kb".parse::<AdjustedByte>().unwrap().to_string(), "1.220703125 KiB");
+    assert_eq!("7".parse::<AdjustedBit>().unwrap().to_string(), "7 b");
+    assert!("7 x".parse::<AdjustedBit>().is_err());
+    assert!(Unit::B.is_binary_multiples() && !Unit::Bit.is_binary_multiples());
 }
 
 /// The quotient of two floats is the nearest float if both are exact.
