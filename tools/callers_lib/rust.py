@@ -124,7 +124,8 @@ def tests(compiler, package, features):
     print(f"{count} tests passed")
     for module, expected in (("as_written", AS_WRITTEN), ("changed", CHANGED)):
         count = compiler.passed(package, "--test", "upstream_examples", *features, module)
-        check(f"{count} of the original's 100 documentation examples pass, {module.replace('_', ' ')}", count == expected)
+        what = f"{count} of the original's 100 documentation examples pass, {module.replace('_', ' ')}"
+        check(what, count == expected)
     compiler.succeeds("the example", package, "run", "--example", "example")
 
 
@@ -135,7 +136,8 @@ def moved_programs(compiler, package, work):
     source, printed = re.search(r"```rust\n(.*?)```\n\n```text\n(.*?)```", section, re.S).groups()
     check("docs/CALLERS.md says how many examples pass", f" {AS_WRITTEN} run here as they are written" in section)
     moved = read(os.path.join(PACKAGE, "checks/moved.rs"))
-    for name, text, expected in (("checks/moved.rs", moved, "0 wrong\n"), ("the program of docs/CALLERS.md", source, printed)):
+    programs = [("checks/moved.rs", moved, "0 wrong\n"), ("the program of docs/CALLERS.md", source, printed)]
+    for name, text, expected in programs:
         with tempfile.TemporaryDirectory(dir=work) as folder:
             os.mkdir(os.path.join(folder, "src"))
             write(os.path.join(folder, "Cargo.toml"), MOVED.format(package=package))
@@ -150,7 +152,8 @@ def lines(compiler, package, given):
     program = os.path.join(compiler.target, "release/examples/lines")
     for kind in ("byte", "bit"):
         text = b"".join(line + b"\n" for line in given)
-        got = subprocess.run([program, kind], input=text, stdout=subprocess.PIPE, check=True).stdout.decode().split("\n")[:-1]
+        output = subprocess.run([program, kind], input=text, stdout=subprocess.PIPE, check=True).stdout
+        got = output.decode().split("\n")[:-1]
         expected = [answer(line, kind) for line in given]
         wrong = next((row for row in zip(given, got, expected) if row[1] != row[2]), None)
         same = len(got) == len(expected) and not wrong

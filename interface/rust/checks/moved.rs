@@ -1,5 +1,5 @@
-//! A program as it is written for the original crate, which tools/callers builds against this package by `[patch]`: every
-//! name and signature that it uses is the original's.
+//! A program as it is written for the original crate, which `tools/callers` builds against this package by `[patch]`.
+//! It uses names and signatures of the original alone.
 
 use std::collections::BTreeMap;
 use std::error::Error;

@@ -1,4 +1,4 @@
-//! Parses, calculates, converts and formats sizes. Prints what it gets, and stops at a result that is not the expected one.
+//! Parses, calculates, converts and formats sizes. Prints what it gets, and stops at the first unexpected result.
 
 use byte_unit::{AdjustedByte, Bit, Byte, FormatSpec, Needed, ParseError, Unit, UnitType, ValueParseError};
 

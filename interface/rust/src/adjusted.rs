@@ -26,12 +26,30 @@ macro_rules! adjusted_type {
 
         impl $Adjusted {
             /// Returns the size.
+            ///
+            /// # Examples
+            ///
+            /// ```
+            #[doc = concat!("use byte_unit::{", stringify!($Size), ", Unit};")]
+            ///
+            #[doc = concat!("let adjusted = ", stringify!($Size), "::MAX.get_adjusted_unit(Unit::MiB);")]
+            #[doc = concat!("assert_eq!(adjusted.", stringify!($get_size), "(), ", stringify!($Size), "::MAX);")]
+            /// ```
             #[inline]
             pub const fn $get_size(&self) -> $Size {
                 self.size
             }
 
             /// Returns the unit.
+            ///
+            /// # Examples
+            ///
+            /// ```
+            #[doc = concat!("use byte_unit::{", stringify!($Size), ", Unit};")]
+            ///
+            #[doc = concat!("let adjusted = ", stringify!($Size), "::MAX.get_adjusted_unit(Unit::MiB);")]
+            /// assert_eq!(adjusted.get_unit(), Unit::MiB);
+            /// ```
             #[inline]
             pub const fn get_unit(&self) -> $crate::Unit {
                 self.unit
@@ -55,7 +73,8 @@ macro_rules! adjusted_type {
             ///
             /// # Errors
             ///
-            /// Returns [`Needed`](crate::Needed), with the length of the text, if `out` is shorter. `out` is then unchanged.
+            /// Returns [`Needed`](crate::Needed) with the length of the text if `out` is shorter, and leaves `out`
+            /// unchanged.
             ///
             /// # Examples
             ///

@@ -153,7 +153,8 @@ macro_rules! size_methods {
             ///
             /// # Errors
             ///
-            /// Returns [`Needed`](crate::Needed), with the length of the text, if `out` is shorter. `out` is then unchanged.
+            /// Returns [`Needed`](crate::Needed) with the length of the text if `out` is shorter, and leaves `out`
+            /// unchanged.
             ///
             /// # Examples
             ///

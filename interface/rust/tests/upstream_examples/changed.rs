@@ -35,8 +35,8 @@ fn bit_from_decimal_with_unit() {
     assert_eq!(Bit::from_decimal_with_unit(Decimal::from(15u64), Unit::Mbit).unwrap().as_u64(), 15000000);
 }
 
-// The last four call `from_f64_with_unit` or `from_f32_with_unit`, which this package has not: 0.1 as a float is more than
-// 0.1. The decimal that is meant is written in a string.
+// The last four call `from_f64_with_unit` or `from_f32_with_unit`, which this package leaves out: 0.1 as a float is
+// more than 0.1. A string says which decimal is meant.
 
 #[test]
 fn byte_from_f64_with_unit() {
