@@ -94,7 +94,7 @@ def compilers(folder, work):
 
 
 def copy_package(work):
-    """Copies the package, and returns the copy and the features to test. Without Debian's serde, leaves out serde."""
+    """Copies the package, and returns the copy and the features to test. Without Debian's serde, leaves it out."""
     package = os.path.join(work, "interface/rust")
     shutil.copytree(PACKAGE, package, ignore=shutil.ignore_patterns("target", "Cargo.lock"))
     if os.path.isdir(REGISTRY) and any(name.startswith("serde_json-") for name in os.listdir(REGISTRY)):
@@ -103,9 +103,8 @@ def copy_package(work):
         return package, ["--features", "serde"]
     print("skipped: the feature serde: Debian's librust-serde-json-dev is not installed")
     manifest = os.path.join(package, "Cargo.toml")
-    without = re.compile(r'^serde.*\n|^\[\[test\]\]\nname = "serde"\nrequired-features.*\n', re.M)
-    write(manifest, without.sub("", read(manifest)))
-    os.remove(os.path.join(package, "tests/serde.rs"))
+    text = re.sub(r'^serde = {.*\n|^serde_json.*\n', "", read(manifest), flags=re.M)
+    write(manifest, text.replace('serde = ["dep:serde"]', "serde = []"))
     return package, []
 
 
