@@ -64,7 +64,7 @@ fn installed() -> Option<PathBuf> {
 
 /// Returns whether the file can be read and has a function that only archives of this version's interface have.
 fn is_current(archive: &Path) -> bool {
-    let name = b"byte_unit_version";
+    let name = b"byte_unit_parse_to";
     std::fs::read(archive).map_or(false, |bytes| bytes.windows(name.len()).any(|part| part == name))
 }
 

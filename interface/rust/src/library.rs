@@ -80,7 +80,7 @@ impl From<FormatSpec> for sys::Spec {
 pub(crate) fn parse(text: &str, kind: Kind, ignore_case: bool) -> Result<u128, ParseError> {
     let (mut size, mut error) = (sys::Number::default(), sys::Error::default());
     let flags = kind.flag() | case_flag(ignore_case);
-    let code = unsafe { sys::byte_unit_parse(text.as_ptr(), text.len(), flags, &mut size, &mut error) };
+    let code = unsafe { sys::byte_unit_parse_to(text.as_ptr(), text.len(), flags, &mut size, &mut error, 1) };
     match code {
         sys::BYTE_UNIT_OK => Ok(size.into()),
         sys::BYTE_UNIT_NO_VALUE => Err(ValueParseError::NoValue.into()),
@@ -97,7 +97,7 @@ pub(crate) fn parse_unit(text: &str, ignore_case: bool, prefer_byte: bool) -> Re
     let (mut unit, mut error) = (0, sys::Error::default());
     let kind = if prefer_byte { Kind::Byte } else { Kind::Bit };
     let flags = kind.flag() | case_flag(ignore_case);
-    let code = unsafe { sys::byte_unit_parse_unit(text.as_ptr(), text.len(), flags, &mut unit, &mut error) };
+    let code = unsafe { sys::byte_unit_parse_unit_to(text.as_ptr(), text.len(), flags, &mut unit, &mut error, 1) };
     match Unit::at(unit) {
         Some(unit) if code == sys::BYTE_UNIT_OK => Ok(unit),
         _ => Err(unit_error(&error)),

@@ -51,8 +51,22 @@ pub const BYTE_UNIT_NUMBER_TOO_LONG: u32 = 3;
 pub const BYTE_UNIT_EXCEEDED_BOUNDS: u32 = 4;
 
 extern "C" {
-    pub fn byte_unit_parse(text: *const u8, len: usize, flags: u32, size: *mut Number, error: *mut Error) -> u32;
-    pub fn byte_unit_parse_unit(text: *const u8, len: usize, flags: u32, unit: *mut u32, error: *mut Error) -> u32;
+    pub fn byte_unit_parse_to(
+        text: *const u8,
+        len: usize,
+        flags: u32,
+        size: *mut Number,
+        error: *mut Error,
+        error_len: usize,
+    ) -> u32;
+    pub fn byte_unit_parse_unit_to(
+        text: *const u8,
+        len: usize,
+        flags: u32,
+        unit: *mut u32,
+        error: *mut Error,
+        error_len: usize,
+    ) -> u32;
     pub fn byte_unit_text(size: Number, flags: u32, spec: Spec, out: *mut u8, out_len: usize) -> usize;
     pub fn byte_unit_adjusted_text(
         size: Number,
