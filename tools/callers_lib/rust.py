@@ -1,7 +1,7 @@
 #!/usr/bin/env python3
 """The Rust package of tools/callers: builds and tests interface/rust with the compilers that are there.
 
-    tools/callers_lib/rust.py FOLDER [--lines N] [--seed S]
+    tools/callers_lib/rust.py FOLDER [--lines N] [--seed S] [--speed]
 
 FOLDER has libbyte_unit.a. In a temporary folder, with cargo --offline, by each of the cargo on the path and Debian's
 /usr/bin/cargo, checks that
@@ -12,7 +12,8 @@ FOLDER has libbyte_unit.a. In a temporary folder, with cargo --offline, by each 
 - for N generated lines (4,000), as bytes and as bits, the example lines.rs prints what tools/exact_model.py computes.
 
 By the first of them also that its documentation and its examples pass, that clippy and rustfmt have no finding, that it
-builds without std, and that its build script finds the archive in each way or says in one line that it does not.
+builds without std, and that its build script finds the archive in each way or says in one line that it does not. With
+--speed, also prints the nanoseconds of one call: tools/original/calls.rs, which is written for the original crate.
 """
 
 import argparse
@@ -137,12 +138,17 @@ def moved_programs(compiler, package, work):
     moved = read(os.path.join(PACKAGE, "checks/moved.rs"))
     programs = [("checks/moved.rs", moved, "0 wrong\n"), ("the program of docs/CALLERS.md", source, printed)]
     for name, text, expected in programs:
-        with tempfile.TemporaryDirectory(dir=work) as folder:
-            os.mkdir(os.path.join(folder, "src"))
-            write(os.path.join(folder, "Cargo.toml"), MOVED.format(package=package))
-            write(os.path.join(folder, "src/main.rs"), text)
-            got = compiler.succeeds(f"{name} builds by [patch.crates-io]", folder, "run")
-            check(f"it prints {expected.strip()}", got == expected, got)
+        got = run_program(compiler, package, work, name, text)
+        check(f"it prints {expected.strip()}", got == expected, got)
+
+
+def run_program(compiler, package, work, name, text, *words):
+    """Builds and runs a program, given as a text, and returns what it prints."""
+    with tempfile.TemporaryDirectory(dir=work) as folder:
+        os.mkdir(os.path.join(folder, "src"))
+        write(os.path.join(folder, "Cargo.toml"), MOVED.format(package=package))
+        write(os.path.join(folder, "src/main.rs"), text)
+        return compiler.succeeds(f"{name} builds by [patch.crates-io]", folder, "run", *words)
 
 
 def lines(compiler, package, given):
@@ -202,7 +208,7 @@ def find_archive(compiler, package, work):
 
 
 def run(folder, options):
-    """Makes all checks; `options` has the number of `lines` and the `seed`."""
+    """Makes all checks; `options` has the number of `lines`, the `seed`, and whether to print the `speed`."""
     with tempfile.TemporaryDirectory() as work:
         work = os.path.realpath(work)
         found = compilers(folder, work)
@@ -218,6 +224,9 @@ def run(folder, options):
             lines(compiler, package, given)
         extras(found[0], package, features)
         find_archive(found[0], package, work)
+        if options.speed:
+            calls = read(os.path.join(ROOT, "tools/original/calls.rs"))
+            print(run_program(found[0], package, work, "tools/original/calls.rs", calls, "--release"), end="")
 
 
 def main():
@@ -225,6 +234,7 @@ def main():
     options.add_argument("folder", metavar="FOLDER")
     options.add_argument("--lines", type=int, default=4000)
     options.add_argument("--seed", type=int, default=1)
+    options.add_argument("--speed", action="store_true")
     given = options.parse_args()
     run(given.folder, given)
 

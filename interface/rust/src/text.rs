@@ -29,8 +29,8 @@ pub(crate) fn format_adjusted(size: u128, kind: Kind, unit: Unit, f: &mut Format
     let mut out = [0; TEXT_LEN];
     let len = library::adjusted_text(size, kind, unit, spec, &mut out);
     let text = text_in(&out, len)?;
-    let places = number_of(text).split_once('.').map_or(0, |(_, fraction)| fraction.len());
-    lay_out(text, if places == MOST_PLACES { left_out } else { 0 }, f)
+    let all_shown = left_out > 0 && places_of(text) == MOST_PLACES;
+    lay_out(text, if all_shown { left_out } else { 0 }, f)
 }
 
 /// Returns the 64-bit float that is nearest to a size in a unit.
@@ -55,8 +55,13 @@ fn text_in(out: &[u8], len: usize) -> Result<&str, fmt::Error> {
 
 /// Returns the digits and the point at the beginning of a text.
 fn number_of(text: &str) -> &str {
-    let end = text.find(|c: char| !c.is_ascii_digit() && c != '.');
+    let end = text.bytes().position(|byte| !byte.is_ascii_digit() && byte != b'.');
     &text[..end.unwrap_or(text.len())]
+}
+
+/// Returns the number of digits after the point.
+fn places_of(text: &str) -> usize {
+    number_of(text).split_once('.').map_or(0, |(_, fraction)| fraction.len())
 }
 
 /// Returns the formatter's options without the width and with a precision of at most `most` places, and the number of
@@ -75,9 +80,12 @@ fn spec_of(f: &Formatter<'_>, most: usize) -> (FormatSpec, usize) {
 /// Writes a number with its unit, with zeros after the number, padded with spaces to the formatter's width: before the
 /// number if it is aligned right, else after it.
 fn lay_out(text: &str, zeros: usize, f: &mut Formatter<'_>) -> fmt::Result {
-    let number = number_of(text);
     let columns = text.len().saturating_add(zeros);
     let pad = f.width().unwrap_or(0).saturating_sub(columns);
+    if pad == 0 && zeros == 0 {
+        return f.write_str(text);
+    }
+    let number = number_of(text);
     let right = f.align() == Some(Alignment::Right);
     repeat(' ', if right { pad } else { 0 }, f)?;
     f.write_str(number)?;
