@@ -34,7 +34,7 @@ pub enum Unit {
 
 /// The units, each at its index.
 #[rustfmt::skip]
-pub(crate) static UNITS: [Unit; 38] = [
+pub(crate) const UNITS: [Unit; 38] = [
     Unit::Bit, Unit::B,
     Unit::Kbit, Unit::Kibit, Unit::KB, Unit::KiB,
     Unit::Mbit, Unit::Mibit, Unit::MB, Unit::MiB,
@@ -61,6 +61,21 @@ const NAMES: [&str; 38] = [
     "Yb", "Yib", "YB", "YiB",
     "Rb", "Rib", "RB", "RiB",
 ];
+
+/// The bits of the units, each at the unit's index.
+const BITS: [u128; 38] = {
+    let mut bits = [0; 38];
+    let mut code = 0;
+    while code < 38 {
+        let unit = UNITS[code];
+        // After `Bit` and `B`, four units have each prefix.
+        let power = (code as u32 + 2) / 4;
+        let prefix: u128 = if unit.is_binary_prefixed() { 1024 } else { 1000 };
+        bits[code] = prefix.pow(power) * if unit.is_bit() { 1 } else { 8 };
+        code += 1;
+    }
+    bits
+};
 
 /// The type of the units from which one is chosen.
 ///
@@ -118,10 +133,7 @@ impl Unit {
     /// assert_eq!(Unit::Kibit.as_bits_u128(), 1024);
     /// ```
     pub const fn as_bits_u128(self) -> u128 {
-        let power = (self as u32 + 2) / 4;
-        let prefix: u128 = if self.is_binary_prefixed() { 1024 } else { 1000 };
-        let base = if self.is_bit() { 1 } else { 8 };
-        prefix.pow(power) * base
+        BITS[self as usize]
     }
 
     /// Returns the name of the unit.
