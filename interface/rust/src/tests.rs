@@ -81,6 +81,26 @@ fn parsed_units() {
     assert_eq!(Unit::parse_str("mI", false, false), Ok(Unit::Mibit));
 }
 
+#[test]
+fn errors_of_units() {
+    const FIRST: &[char] = &['B', 'K', 'M', 'G', 'T', 'P', 'E', 'Z', 'Y', 'R'];
+    for (text, ignore_case, prefer_byte, character, expected, also_none) in [
+        ("é", false, true, 'é', FIRST, true),
+        ("KX", false, true, 'X', &['B', 'b'][..], true),
+        ("KX", true, true, 'X', &['B'][..], true),
+        ("KX", true, false, 'X', &['b'][..], true),
+        ("Kb!", false, false, '!', &['i'][..], true),
+        ("Kbi!", false, true, '!', &['t'][..], false),
+        ("bit!", false, true, '!', &['s'][..], true),
+        ("bits!", false, true, '!', &[][..], true),
+        ("KiBI", false, true, 'i', &[][..], true),
+    ] {
+        let error = Unit::parse_str(text, ignore_case, prefer_byte).unwrap_err();
+        assert_eq!((error.character, error.expected_characters), (character, expected), "{text}");
+        assert_eq!(error.also_expect_no_character, also_none, "{text}");
+    }
+}
+
 /// Returns the message of an error here, or the empty string.
 fn message(text: &str, kind: Kind, ignore_case: bool) -> String {
     match kind {
