@@ -58,10 +58,14 @@ def interpreter():
     return None
 
 
-def find_library(python, package, folder, work):
-    """Checks each way in which setup.py finds the library, and what it prints if there is none."""
-    config = os.path.join(work, "byte_unit.pc")
-    with open(config, "w", encoding="utf-8") as file:
+def version(python, package, **variables):
+    """Calls setup.py, which finds the library before it prints the package's version."""
+    return call(python, "setup.py", "--version", cwd=package, env=environment(**variables))
+
+
+def finds_library(python, package, folder, work):
+    """Checks each way in which setup.py finds the library."""
+    with open(os.path.join(work, "byte_unit.pc"), "w", encoding="utf-8") as file:
         file.write(PACKAGE_CONFIG.format(folder))
     prefix = os.path.join(work, "prefix")
     for part, name in (("include", "byte_unit.h"), ("lib", "libbyte_unit.a")):
@@ -71,13 +75,22 @@ def find_library(python, package, folder, work):
     if shutil.which("pkg-config"):
         ways["pkg-config"] = {"PKG_CONFIG_PATH": work}
     for way, variables in ways.items():
-        got = call(python, "setup.py", "--version", cwd=package, env=environment(**variables))
+        got = version(python, package, **variables)
         check(f"the package finds the library by {way}", got.returncode == 0, got.stdout)
-    lacks = [({"BYTE_UNIT_LIBRARY_DIR": work}, "has no byte_unit.h and libbyte_unit.a"),
+
+
+def reports_missing_library(python, package, work):
+    """Checks what setup.py prints if there is no library, or an old one."""
+    old = os.path.join(work, "old")
+    os.makedirs(old)
+    for name in ("byte_unit.h", "libbyte_unit.a"):
+        open(os.path.join(old, name), "w", encoding="utf-8").close()
+    cases = [({"BYTE_UNIT_LIBRARY_DIR": work}, "has no byte_unit.h and libbyte_unit.a"),
              ({"BYTE_UNIT_LIBRARY_DIR": "sizes"}, "is not an absolute path"),
-             ({"PKG_CONFIG_LIBDIR": os.path.join(work, "none")}, "tools/make-libraries DIR")]
-    for variables, words in lacks:
-        got = call(python, "setup.py", "--version", cwd=package, env=environment(**variables))
+             ({"PKG_CONFIG_LIBDIR": os.path.join(work, "none")}, "tools/make-libraries DIR"),
+             ({"BYTE_UNIT_LIBRARY_DIR": old}, "has no version")]
+    for variables, words in cases:
+        got = version(python, package, **variables)
         one_line = got.stdout.startswith("byte_unit: ") and got.stdout.count("\n") == 1
         holds = got.returncode == 1 and one_line and words in got.stdout
         check(f"without a library, one line says: {words}", holds, got.stdout)
@@ -87,7 +100,8 @@ def install(python, folder, work):
     """Builds the package offline in a copy of its folder, and returns the Python of an environment that has it."""
     package = shutil.copytree(os.path.join(INTERFACE, "python"), os.path.join(work, "package"),
                               ignore=shutil.ignore_patterns("build", "*.egg-info", "__pycache__"))
-    find_library(python, package, folder, work)
+    finds_library(python, package, folder, work)
+    reports_missing_library(python, package, work)
     inside = os.path.join(work, "venv")
     made = call(python, "-m", "venv", "--system-site-packages", inside, env=environment())
     check("a virtual environment", made.returncode == 0, made.stdout)
