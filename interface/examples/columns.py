@@ -60,7 +60,7 @@ def with_the_standard_library() -> None:
 for part in (with_the_standard_library, with_numpy, with_pandas, with_dask):
     try:
         part()
-    except ModuleNotFoundError as error:
+    except ImportError as error:
         print(f"skipped: {part.__name__}: {error}")
     else:
         print(f"{part.__name__}: as expected")

@@ -59,7 +59,8 @@ def from_repository():
 
 def version_of(header):
     with open(header, encoding="utf-8") as file:
-        return re.search(r'^#define BYTE_UNIT_VERSION_STRING "(.+)"$', file.read(), re.MULTILINE)[1]
+        version = re.search(r'^#define BYTE_UNIT_VERSION_STRING "(.+)"$', file.read(), re.MULTILINE)
+    return version[1] if version else sys.exit(f"byte_unit: {header} has no version: is it that of an older library?")
 
 
 def extension(header, archive):

@@ -6,14 +6,19 @@
 FOLDER has libbyte_unit.a and byte_unit.h. `tools/callers` calls `run`.
 """
 
+import argparse
 import os
 import re
 import shutil
-import subprocess
 import sys
 import tempfile
 
-ROOT = os.path.dirname(os.path.dirname(os.path.dirname(os.path.realpath(__file__))))
+sys.dont_write_bytecode = True
+HERE = os.path.dirname(os.path.realpath(__file__))
+ROOT = os.path.dirname(os.path.dirname(HERE))
+sys.path[:0] = [HERE]
+from report import call, check  # noqa: E402
+
 INTERFACE = os.path.join(ROOT, "interface")
 EXAMPLE = os.path.join(INTERFACE, "examples/example.py")
 COLUMNS = os.path.join(INTERFACE, "examples/columns.py")
@@ -37,18 +42,6 @@ sys.exit(sys.version_info < (3, 11) or not os.path.isfile(sysconfig.get_path('in
 PACKAGE_CONFIG = "Name: byte_unit\nDescription: -\nVersion: 0\nincludedir={0}\nlibdir={0}\n"
 
 
-def check(what, holds, seen=""):
-    print(f"{'ok' if holds else 'FAILED'}: {what}", flush=True)
-    if not holds:
-        print(seen)
-        sys.exit(1)
-
-
-def output(*words, **more):
-    how = {"stdout": subprocess.PIPE, "stderr": subprocess.STDOUT, "encoding": "utf-8", "errors": "replace"}
-    return subprocess.run(words, check=False, **how, **more)
-
-
 def environment(**variables):
     """Returns this environment without what could lead to another library or package."""
     here = {**os.environ, "PYTHONDONTWRITEBYTECODE": "1", "PYTHONUTF8": "1", "PIP_DISABLE_PIP_VERSION_CHECK": "1"}
@@ -60,15 +53,19 @@ def environment(**variables):
 def interpreter():
     """Returns the first Python that can build the package: Debian's, or the one that runs this."""
     for python in ("/usr/bin/python3", sys.executable):
-        if os.path.isfile(python) and output(python, "-c", NEEDED, env=environment()).returncode == 0:
+        if os.path.isfile(python) and call(python, "-c", NEEDED, env=environment()).returncode == 0:
             return python
     return None
 
 
-def find_library(python, package, folder, work):
-    """Checks each way in which setup.py finds the library, and what it prints if there is none."""
-    config = os.path.join(work, "byte_unit.pc")
-    with open(config, "w", encoding="utf-8") as file:
+def version(python, package, **variables):
+    """Calls setup.py, which finds the library before it prints the package's version."""
+    return call(python, "setup.py", "--version", cwd=package, env=environment(**variables))
+
+
+def finds_library(python, package, folder, work):
+    """Checks each way in which setup.py finds the library."""
+    with open(os.path.join(work, "byte_unit.pc"), "w", encoding="utf-8") as file:
         file.write(PACKAGE_CONFIG.format(folder))
     prefix = os.path.join(work, "prefix")
     for part, name in (("include", "byte_unit.h"), ("lib", "libbyte_unit.a")):
@@ -78,13 +75,22 @@ def find_library(python, package, folder, work):
     if shutil.which("pkg-config"):
         ways["pkg-config"] = {"PKG_CONFIG_PATH": work}
     for way, variables in ways.items():
-        got = output(python, "setup.py", "--version", cwd=package, env=environment(**variables))
+        got = version(python, package, **variables)
         check(f"the package finds the library by {way}", got.returncode == 0, got.stdout)
-    lacks = [({"BYTE_UNIT_LIBRARY_DIR": work}, "has no byte_unit.h and libbyte_unit.a"),
+
+
+def reports_missing_library(python, package, work):
+    """Checks what setup.py prints if there is no library, or an old one."""
+    old = os.path.join(work, "old")
+    os.makedirs(old)
+    for name in ("byte_unit.h", "libbyte_unit.a"):
+        open(os.path.join(old, name), "w", encoding="utf-8").close()
+    cases = [({"BYTE_UNIT_LIBRARY_DIR": work}, "has no byte_unit.h and libbyte_unit.a"),
              ({"BYTE_UNIT_LIBRARY_DIR": "sizes"}, "is not an absolute path"),
-             ({"PKG_CONFIG_LIBDIR": os.path.join(work, "none")}, "tools/make-libraries DIR")]
-    for variables, words in lacks:
-        got = output(python, "setup.py", "--version", cwd=package, env=environment(**variables))
+             ({"PKG_CONFIG_LIBDIR": os.path.join(work, "none")}, "tools/make-libraries DIR"),
+             ({"BYTE_UNIT_LIBRARY_DIR": old}, "has no version")]
+    for variables, words in cases:
+        got = version(python, package, **variables)
         one_line = got.stdout.startswith("byte_unit: ") and got.stdout.count("\n") == 1
         holds = got.returncode == 1 and one_line and words in got.stdout
         check(f"without a library, one line says: {words}", holds, got.stdout)
@@ -94,13 +100,14 @@ def install(python, folder, work):
     """Builds the package offline in a copy of its folder, and returns the Python of an environment that has it."""
     package = shutil.copytree(os.path.join(INTERFACE, "python"), os.path.join(work, "package"),
                               ignore=shutil.ignore_patterns("build", "*.egg-info", "__pycache__"))
-    find_library(python, package, folder, work)
+    finds_library(python, package, folder, work)
+    reports_missing_library(python, package, work)
     inside = os.path.join(work, "venv")
-    made = output(python, "-m", "venv", "--system-site-packages", inside, env=environment())
+    made = call(python, "-m", "venv", "--system-site-packages", inside, env=environment())
     check("a virtual environment", made.returncode == 0, made.stdout)
     inner = os.path.join(inside, "bin/python")
     words = ["-m", "pip", "install", "-v", "--no-index", "--no-build-isolation", package]
-    made = output(inner, *words, env=environment(BYTE_UNIT_LIBRARY_DIR=folder))
+    made = call(inner, *words, env=environment(BYTE_UNIT_LIBRARY_DIR=folder))
     check("pip installs the package offline", made.returncode == 0, made.stdout)
     check("its C compiles without a warning", not re.search(r"\.[ch]:\d+.*warning: ", made.stdout), made.stdout)
     return inner
@@ -113,7 +120,7 @@ def types(package, work):
         return
     here = environment(MYPYPATH=os.path.join(package, "src"))
     for name, words in (("the package", ["-p", "byte_unit"]), ("the example", [EXAMPLE])):
-        got = output("mypy", "--strict", "--cache-dir", os.path.join(work, "mypy"), *words, cwd=work, env=here)
+        got = call("mypy", "--strict", "--cache-dir", os.path.join(work, "mypy"), *words, cwd=work, env=here)
         check(f"mypy --strict of {name}: {got.stdout.rstrip()}", got.returncode == 0, got.stdout)
 
 
@@ -126,21 +133,19 @@ def run(folder, options):
     with tempfile.TemporaryDirectory() as work:
         inner = install(python, os.path.abspath(folder), work)
         tests = os.path.join(INTERFACE, "python/tests")
-        got = output(inner, "-m", "unittest", "discover", "-s", tests, cwd=work, env=environment())
+        got = call(inner, "-m", "unittest", "discover", "-s", tests, cwd=work, env=environment())
         lines = got.stdout.rstrip().split("\n")
         check(f"tests in Python: {': '.join(lines[-3::2])}", got.returncode == 0, got.stdout)
         types(os.path.join(work, "package"), work)
-        got = output(inner, EXAMPLE, cwd=work, env=environment())
+        got = call(inner, EXAMPLE, cwd=work, env=environment())
         check(f"each call from Python: {got.stdout.rstrip().rpartition(chr(10))[2]}", got.returncode == 0, got.stdout)
-        got = output(inner, COLUMNS, cwd=work, env=environment())
+        got = call(inner, COLUMNS, cwd=work, env=environment())
         check(f"columns: {', '.join(got.stdout.splitlines())}", got.returncode == 0, got.stdout)
         if getattr(options, "speed", False):
-            print(output(inner, os.path.join(INTERFACE, "checks/speed.py"), cwd=work, env=environment()).stdout, end="")
+            print(call(inner, os.path.join(INTERFACE, "checks/speed.py"), cwd=work, env=environment()).stdout, end="")
 
 
 def main():
-    import argparse
-
     options = argparse.ArgumentParser(description=__doc__, formatter_class=argparse.RawDescriptionHelpFormatter)
     options.add_argument("folder")
     options.add_argument("--speed", action="store_true")
