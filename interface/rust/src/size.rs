@@ -54,6 +54,7 @@ macro_rules! size_type {
             /// ```
             #[inline]
             pub const unsafe fn from_u128_unsafe(size: u128) -> Self {
+                debug_assert!(size < $crate::SIZE_LIMIT);
                 Self(size)
             }
 
