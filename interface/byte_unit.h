@@ -159,7 +159,7 @@ uint32_t byte_unit_parse_many_32_to(const char *data, size_t data_len, const int
 static inline uint32_t byte_unit_parse(const char *text, size_t len, uint32_t flags, byte_unit_number *size,
                                        byte_unit_error *error)
 {
-    return byte_unit_parse_to(text, len, flags, size, error, error != NULL);
+    return byte_unit_parse_to(text, len, flags, size, error, error ? 1 : 0);
 }
 
 /* Parses a unit by its name or another of its spellings: `KiB`, `kib`, `K`, ` MBits `, and the empty string for B. Returns
@@ -169,7 +169,7 @@ static inline uint32_t byte_unit_parse(const char *text, size_t len, uint32_t fl
 static inline uint32_t byte_unit_parse_unit(const char *text, size_t len, uint32_t flags, uint32_t *unit,
                                             byte_unit_error *error)
 {
-    return byte_unit_parse_unit_to(text, len, flags, unit, error, error != NULL);
+    return byte_unit_parse_unit_to(text, len, flags, unit, error, error ? 1 : 0);
 }
 
 /* Parses `count` texts, each as byte_unit_parse does. Text i is data[offsets[i]] up to data[offsets[i + 1]], so `offsets`
@@ -181,7 +181,7 @@ static inline uint32_t byte_unit_parse_unit(const char *text, size_t len, uint32
 static inline uint32_t byte_unit_parse_many(const char *data, size_t data_len, const int64_t *offsets, size_t count,
                                             uint32_t flags, byte_unit_number *sizes, uint8_t *codes)
 {
-    return byte_unit_parse_many_to(data, data_len, offsets, offsets != NULL ? count + 1 : 0, flags, sizes, count, codes,
+    return byte_unit_parse_many_to(data, data_len, offsets, offsets ? count + 1 : 0, flags, sizes, count, codes,
                                    count);
 }
 
@@ -189,7 +189,7 @@ static inline uint32_t byte_unit_parse_many(const char *data, size_t data_len, c
 static inline uint32_t byte_unit_parse_many_32(const char *data, size_t data_len, const int32_t *offsets, size_t count,
                                                uint32_t flags, byte_unit_number *sizes, uint8_t *codes)
 {
-    return byte_unit_parse_many_32_to(data, data_len, offsets, offsets != NULL ? count + 1 : 0, flags, sizes, count,
+    return byte_unit_parse_many_32_to(data, data_len, offsets, offsets ? count + 1 : 0, flags, sizes, count,
                                       codes, count);
 }
 

@@ -113,7 +113,9 @@ static void flags(uint32_t word)
 /* NULL with length 0, and without an error. */
 static void nulls(void)
 {
-    byte_unit_number size = { 7, 7 };
+    static const int64_t zeros[3] = { 0, 0, 0 };
+    byte_unit_number size = { 7, 7 }, sizes[2] = { { 7, 7 }, { 7, 7 } };
+    uint8_t codes[2] = { 77, 77 };
     byte_unit_error error;
     byte_unit_spec spec;
     uint32_t unit = 77;
@@ -131,6 +133,9 @@ static void nulls(void)
     check("adjusted_text", byte_unit_adjusted_text(number(1536), 0, BYTE_UNIT_KIB, spec, NULL, 0) == 7);
     check("unit_name", byte_unit_unit_name(BYTE_UNIT_KIB, NULL, 0) == 3);
     check("parse_many", byte_unit_parse_many(NULL, 0, NULL, 0, 0, NULL, NULL) == BYTE_UNIT_OK);
+    check("parse_many_32", byte_unit_parse_many_32(NULL, 0, NULL, 0, 0, NULL, NULL) == BYTE_UNIT_OK);
+    check("empty texts without data", byte_unit_parse_many(NULL, 0, zeros, 2, 0, sizes, codes) == BYTE_UNIT_OK
+              && codes[0] == BYTE_UNIT_NO_VALUE && codes[1] == BYTE_UNIT_NO_VALUE && sizes[1].low == 0);
 }
 
 static void out_of_range(void)

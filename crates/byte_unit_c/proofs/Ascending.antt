@@ -1,10 +1,10 @@
 -- Offsets that ascend.
 use Rattle.std.proofs.Common.{◌≡◌, ℕ, zero, suc, ◌+◌, ◌<◌, ◌≤◌, true, false, ℤ, pos, negsuc, ◌≤ℤ◌, List, [], ◌∷◌, length, get_or, drop}
-use Rattle.std.proofs.Common.{arith, IsTrue, leb, sym, subst, ap, refl, ◌∙◌, add-one, ◌↔◌}
+use Rattle.std.proofs.Common.{arith, IsTrue, leb, sym, subst, refl, add-one, ◌↔◌}
 use Rattle.std.proofs.lemmas.Int.{ints}
 use Rattle.std.proofs.lemmas.Bool.Decides.{nat_tests}
 use Rattle.std.proofs.Math.IntN.{nat_abs}
-use Rattle.std.specs.Int.Signed.{lt_z, lt_z_no}
+use Rattle.std.specs.Int.Signed.{lt_z}
 use Rattle.std.proofs.Math.Seq.{drop-cons}
 use Rattle.std.proofs.Math.ListN.{drop_of_length-le}
 use Rattle.byte_unit_c.specs.Many.{Ascends, position}

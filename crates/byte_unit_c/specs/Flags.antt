@@ -1,5 +1,5 @@
 -- The flags words of the C API: sums of the flags 1 (bits), 2 (ignore case) and 4 (units of either kind).
-use Rattle.std.specs.Prelude.{ℕ, ◌==◌, Bool, true, false, if◌then◌else◌, List, [], ◌∷◌, Option, Some, None, slice_get}
+use Rattle.std.specs.Prelude.{ℕ, ◌==◌, Bool, true, false, if◌then◌else◌, [], ◌∷◌, Option, Some, None, slice_get}
 use Rattle.byte_unit_base.specs.declared.kind.Kind.{Kind}
 use Rattle.byte_unit_base.specs.declared.kind.Kind.TheVariants.{Byte as InBytes, Bit as InBits}
 use Rattle.byte_unit_c.specs.declared.flags.Reading.{Reading}

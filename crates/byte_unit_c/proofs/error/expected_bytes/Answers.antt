@@ -1,3 +1,4 @@
+-- Setting the next byte makes one more character a byte, and leaves a zero fewer.
 use Rattle.std.proofs.Common.{◌≡◌, ◌+◌, ◌-◌, ◌<◌, ℕ, List, [], ◌∷◌, ◌++◌, length, map, take, drop, set, replicate}
 use Rattle.std.proofs.Common.{get_or, arith, ap, sym, ◌∙◌}
 use Rattle.std.proofs.lemmas.List.{take_more, take_more_set, drop-set-lt, drop-drop, drop-replicate, map-append, length-set}

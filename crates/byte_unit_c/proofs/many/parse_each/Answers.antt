@@ -1,3 +1,4 @@
+-- Text i gets its code and its size, and the places before it stay.
 use Rattle.std.proofs.Common.{arith, ℕ, List, subst}
 use Rattle.byte_unit_c.specs.declared.values.Number.{Number}
 use Rattle.byte_unit_c.specs.Many.{offsets_of, text_of, IsParsed, zero_number}

@@ -1,3 +1,4 @@
+-- Before text i: each text before it has its code and its size.
 use Rattle.byte_unit_c.specs.Many.{offsets_of, AreParsed}
 use Rattle.byte_unit_c.proofs.many.parse_each.Given as goal
 

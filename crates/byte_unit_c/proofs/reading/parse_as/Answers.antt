@@ -1,3 +1,4 @@
+-- The error of a unit is what parsing gives, and its details are what is written.
 use Rattle.std.specs.Prelude.{Result, Err, Some}
 use Rattle.std.proofs.Common.{◌≡◌, ℕ, refl, ap, subst, ◌∙◌}
 use Rattle.byte_unit_base.specs.SizeReading.{IsBytesReading}

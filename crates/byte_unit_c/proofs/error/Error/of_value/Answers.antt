@@ -1,3 +1,4 @@
+-- Each error of a number has its code and its details.
 use Rattle.std.proofs.Common.{◌≡◌, sym, subst, refl}
 use Rattle.byte_unit_base.specs.Errors.{value_fault}
 use Rattle.byte_unit_base.specs.declared.errors.ValueParseError.{ValueParseError}

@@ -1,6 +1,7 @@
+-- The loop stops at the first offset that is less than the one before it; otherwise the last decides.
 use Rattle.std.proofs.Common.{rules, arith, ◌≡◌, ◌∙◌, pos, ◌≤ℤ◌, get_or, SFits, w64, to_z, of_z, true≢false, sym}
-use Rattle.std.proofs.lemmas.Int.{ints, to_z-of_z}
-use Rattle.byte_unit_c.specs.Many.{offsets_of, Ascends}
+use Rattle.std.proofs.lemmas.Int.{to_z-of_z}
+use Rattle.byte_unit_c.specs.Many.{offsets_of}
 use Rattle.byte_unit_c.proofs.Ascending.{through, next, falls, last, not_below, not_both, is_at_most}
 use Rattle.byte_unit_c.proofs.offsets.Offsets.ascend_to.Goals as goal
 

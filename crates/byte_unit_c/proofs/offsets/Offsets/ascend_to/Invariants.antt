@@ -1,3 +1,4 @@
+-- Before offset i: the offsets ascend if and only if those from i on ascend from the one before.
 use Rattle.std.proofs.Common.{◌↔◌, pos, drop, ◌≤ℤ◌}
 use Rattle.byte_unit_c.specs.Many.{offsets_of, Ascends}
 use Rattle.byte_unit_c.proofs.offsets.Offsets.ascend_to.Given as goal

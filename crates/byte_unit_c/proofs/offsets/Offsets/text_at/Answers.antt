@@ -1,7 +1,8 @@
-use Rattle.std.proofs.Common.{rules, arith, ◌≡◌, ◌∙◌, ap, sym, subst, ℕ, ◌+◌, ◌≤◌, ℤ, pos, ◌≤ℤ◌, get_or, length, SFits, w64, to_z, of_z}
-use Rattle.std.proofs.Common.{slice_range, List}
+-- Two offsets in a row that ascend within the data are the ends of a part of it.
+use Rattle.std.proofs.Common.{rules, arith, ◌≡◌, ◌∙◌, ap, sym, subst, ◌+◌, ◌≤◌, ℤ, pos, ◌≤ℤ◌, get_or, length, SFits, w64}
+use Rattle.std.proofs.Common.{slice_range}
 use Rattle.std.proofs.lemmas.Int.{to_z-of_z}
-use Rattle.byte_unit_c.specs.Many.{offsets_of, Ascends, position, text_of}
+use Rattle.byte_unit_c.specs.Many.{offsets_of, position}
 use Rattle.byte_unit_c.proofs.Ascending.{between, rises, positions}
 use Rattle.byte_unit_c.proofs.offsets.Offsets.text_at.Goals as goal
 
