@@ -31,19 +31,21 @@ pub unit_of_its_shape : (unit : UnitName) → unit_of_shape (shape_of unit) ≡ 
 unit_of_its_shape UnitNames.B = refl
 unit_of_its_shape _ = refl
 
--- a parser of a unit that returns the result of the state machine
+-- a parser of a unit that returns the result of the state machine returns what the function gives
 pub unit_computed : (flags : Flags) (bytes : List ℕ) (r : Result UnitName UnitParseError)
     → unit_result r ≡ read (unit_scan flags) start (trim_of bytes)
-    → result_map_both (λ unit. unit) unit_fault r ≡ result_map_both unit_of_shape (λ fault. fault) (parsed_unit flags bytes)
+    → result_map_both (λ unit. unit) unit_fault r
+    ≡ result_map_both unit_of_shape (λ fault. fault) (parsed_unit flags bytes)
 unfolding parsed_unit
 unit_computed flags bytes (Ok unit) e =
     ap Ok (sym (unit_of_its_shape unit)) ∙ ap (result_map_both unit_of_shape (λ fault. fault)) e
 unit_computed flags bytes (Err error) e = ap (result_map_both unit_of_shape (λ fault. fault)) e
 
--- a parser of a number and a unit that returns the result of the state machine
+-- a parser of a number and a unit that returns the result of the state machine returns what the function gives
 pub number_computed : (flags : Flags) (bytes : List ℕ) (r : Result (ℕ × UnitName) ParseError)
     → size_result r ≡ read (size_scan flags) Beginning (trim_of bytes)
-    → result_map_both (λ r. r) size_fault r ≡ result_map_both parts_of_crate (λ fault. fault) (parsed_number flags bytes)
+    → result_map_both (λ r. r) size_fault r
+    ≡ result_map_both parts_of_crate (λ fault. fault) (parsed_number flags bytes)
 unfolding parsed_number
 number_computed flags bytes (Ok found) e =
     ap (λ unit. Ok (found.0, unit)) (sym (unit_of_its_shape found.1))
