@@ -99,7 +99,6 @@ pub fn choose_unit(
 /// # Examples
 /// ```rust
 /// assert_eq!(rt; largest_unit(10_000, Family::Bytes, UnitType::Both, 8), Some(Unit::KiB));
-/// assert_eq!(rt; largest_unit(1000, Family::Bytes, UnitType::Both, 8), Some(Unit::KB));
 /// assert_eq!(rt; largest_unit(1000, Family::Bytes, UnitType::Binary, 8), None);
 /// ```
 pub fn largest_unit(size: u128, family: Family, unit_type: UnitType, divisor: u128) -> Option<Unit>

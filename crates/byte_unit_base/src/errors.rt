@@ -15,7 +15,6 @@ use std::marker::Model;
 /// # Examples
 /// ```rust
 /// assert!(rt; matches!(Byte::try_from(-1i8), Err(ExceededBoundsError)));
-/// assert!(rt; matches!(Byte::try_from(u128::MAX), Err(ExceededBoundsError)));
 /// ```
 #[derive(Clone, Copy, Debug, PartialEq, Eq)]
 pub struct ExceededBoundsError;

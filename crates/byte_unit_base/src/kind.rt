@@ -21,8 +21,7 @@ impl Kind {
     ///
     /// # Examples
     /// ```rust
-    /// assert_eq!(rt; Kind::Byte.bits(), 8);
-    /// assert_eq!(rt; Kind::Bit.bits(), 1);
+    /// assert_eq!(rt; (Kind::Byte.bits(), Kind::Bit.bits()), (8, 1));
     /// ```
     pub fn bits(self) -> u128
         ensures bits { result ≡ bits_in self }
@@ -39,8 +38,7 @@ impl Kind {
     ///
     /// # Examples
     /// ```rust
-    /// assert_eq!(rt; Kind::Byte.unit(), Unit::B);
-    /// assert_eq!(rt; Kind::Bit.unit(), Unit::Bit);
+    /// assert_eq!(rt; (Kind::Byte.unit(), Kind::Bit.unit()), (Unit::B, Unit::Bit));
     /// ```
     pub fn unit(self) -> Unit
         ensures { shape_of result ≡ own_unit self }

@@ -1,7 +1,6 @@
 //! Laws of the definitions. Each function does nothing; its contract is the law.
 
 pub mod choices;
-pub mod parsed;
 pub mod readers;
 pub mod sizes;
 pub mod versions;

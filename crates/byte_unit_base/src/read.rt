@@ -40,7 +40,6 @@ mod scan;
 /// assert_eq!(rt; read, (Decimal::from_digits(1, 5, 1), Unit::KiB));
 /// let error = read_size("1.", false, true);
 /// assert!(rt; matches!(error, Err(ParseError::Value(ValueParseError::NotNumber('.')))));
-/// assert!(rt; matches!(read_size("1 x", false, true), Err(ParseError::Unit(_))));
 /// ```
 pub fn read_size(
     s: &str,

@@ -25,8 +25,6 @@ use byte_unit_math::{Decimal, Steps};
 /// ```rust
 /// let (number, unit) = recoverable_unit(50_840_000, Kind::Byte, false, 2, &mut Steps::new());
 /// assert!(rt; number == Decimal::from_digits(50, 84, 2) && unit == Unit::MB);
-/// let (number, unit) = recoverable_unit(500, Kind::Byte, false, 3, &mut Steps::new());
-/// assert!(rt; number == Decimal::from_digits(500, 0, 0) && unit == Unit::B);
 /// ```
 #[inline(always)]
 pub fn recoverable_unit(
@@ -59,7 +57,6 @@ pub fn recoverable_unit(
 /// # Examples
 /// ```rust
 /// assert_eq!(rt; exact_unit(50_840_000, Kind::Byte, false), (50_840, Unit::KB));
-/// assert_eq!(rt; exact_unit(24_000_000, Kind::Bit, true), (3, Unit::MB));
 /// assert_eq!(rt; exact_unit(16, Kind::Bit, true), (16, Unit::Bit));
 /// ```
 pub fn exact_unit(size: u128, kind: Kind, allow: bool) -> (u128, Unit)

@@ -182,8 +182,7 @@ impl Unit {
     ///
     /// # Examples
     /// ```rust
-    /// assert_eq!(rt; Unit::KiB.as_bits_u128(), 8192);
-    /// assert_eq!(rt; Unit::RiB.as_bits_u128(), 1 << 93);
+    /// assert_eq!(rt; (Unit::KiB.as_bits_u128(), Unit::RiB.as_bits_u128()), (8192, 1 << 93));
     /// ```
     pub fn as_bits_u128(self) -> u128
         ensures bits { result ≡ bits (shape_of self) }
@@ -198,8 +197,7 @@ impl Unit {
     ///
     /// # Examples
     /// ```rust
-    /// assert_eq!(rt; Unit::Kibit.as_str(), "Kib");
-    /// assert_eq!(rt; Unit::MB.as_str(), "MB");
+    /// assert_eq!(rt; (Unit::Kibit.as_str(), Unit::MB.as_str()), ("Kib", "MB"));
     /// ```
     pub fn as_str(self) -> &'static str
         ensures { result.now ≡ unit_name self }
@@ -238,7 +236,6 @@ impl Unit {
     /// # Examples
     /// ```rust
     /// assert_eq!(rt; Unit::KB.powers(), (6, 3)); // 8000 is 2^6 * 5^3.
-    /// assert_eq!(rt; Unit::KiB.powers(), (13, 0));
     /// ```
     pub fn powers(self) -> (u32, u32)
         ensures twos { result.0 ≡ twos (shape_of self) }

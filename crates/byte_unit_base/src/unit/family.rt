@@ -12,7 +12,6 @@ use crate::unit::Unit;
 /// ```rust
 /// assert_eq!(rt; largest_unit(1000, Family::All, UnitType::Both, 8), Some(Unit::KB));
 /// assert_eq!(rt; largest_unit(1000, Family::Bits, UnitType::Both, 8), Some(Unit::Kibit));
-/// assert_eq!(rt; largest_unit(7, Family::Bits, UnitType::Both, 8), None);
 /// ```
 #[derive(Clone, Copy, Debug, PartialEq, Eq)]
 pub enum Family {

@@ -29,7 +29,6 @@ impl Unit {
     /// ```rust
     /// assert_eq!(rt; Unit::parse_str("Kib", false, true)?, Unit::Kibit);
     /// assert_eq!(rt; Unit::parse_str("Kib", true, true)?, Unit::KiB);
-    /// assert_eq!(rt; Unit::parse_str("K", false, true)?, Unit::KB);
     /// assert!(rt; Unit::parse_str("Kx", false, true).is_err());
     /// ```
     pub fn parse_str(s: &str, ignore_case: bool, prefer_byte: bool) -> Result<Unit, UnitParseError>
