@@ -1,17 +1,20 @@
 -- The parser of an adjusted size as a function: the unit that it computes is the appropriate one.
-use Rattle.std.proofs.Common.{◌≡◌, ℕ, ◌*◌, ◌≤◌, Bool, true, false, List, [], ◌∷◌, Result, Ok, Err, refl, sym, ap, ◌∙◌}
+use Rattle.std.proofs.Common.{◌≡◌, ℕ, ◌*◌, ◌≤◌, Bool, true, false, List, [], ◌∷◌, Result, Ok, Err, refl, sym, ap, subst, ◌∙◌}
 use Rattle.std.proofs.Common.{◌+◌, arith, cond, ◌⊎◌, ⊎_elim, inl, inr, IfOk}
 use Rattle.std.specs.Prelude.{nat_le}
 use Rattle.std.specs.Result.{result_map_both}
-use Rattle.std.proofs.lemmas.Bool.{and_parts}
+use Rattle.std.proofs.lemmas.Bool.{and_parts, leb-true}
 use Rattle.byte_unit_math.specs.Bounds.{unit_limit}
 use Rattle.byte_unit_base.specs.Shape.{Shape, bits}
 use Rattle.byte_unit_base.specs.Units.{shape_of}
 use Rattle.byte_unit_base.specs.UnitLists.{unit_of_shape}
+use Rattle.byte_unit_base.specs.Version.{current}
 use Rattle.byte_unit_base.specs.Errors.{size_fault}
+use Rattle.byte_unit_base.specs.Fault.{Fault}
 use Rattle.byte_unit_base.specs.Kinds.{bits_in, own_unit, own_family}
+use Rattle.byte_unit_base.specs.Family.{HasKind}
 use Rattle.byte_unit_base.specs.UnitLists.{units_of_prefixes, prefix_count}
-use Rattle.byte_unit_base.specs.Choice.{IsLargestOrOwn, IsEligibleUnit, IsAppropriate}
+use Rattle.byte_unit_base.specs.Choice.{IsLargest, NoneHas, IsLargestOrOwn, IsEligibleUnit, IsAppropriate}
 use Rattle.byte_unit_base.specs.AdjustedSize.{AdjustedSize, IsAdjustedReading, size_answer}
 use Rattle.byte_unit_base.specs.Parsed.{parsed_size}
 use Rattle.byte_unit_base.specs.ParsedAdjusted.{first_not_above, largest_unit_of, in_largest_unit_of, parsed_adjusted}
@@ -77,8 +80,7 @@ module _ (in_bits : ℕ) (own : Shape) where
       → first_not_above in_bits own units ≡ own
   first_is_own [] none = refl
   first_is_own (x ∷ xs) none =
-      own_or_later (nat_le (bits x) in_bits) x _ refl (none x (inl refl))
-      (first_is_own xs (λ other i. none other (inr i)))
+      own_or_later (nat_le (bits x) in_bits) x _ refl (none x (inl refl)) (first_is_own xs (λ other i. none other (inr i)))
 
 module _ (kind : Kind) (size : ℕ) where
   -- the units of the kind that are not above the size are those that are eligible
@@ -86,14 +88,9 @@ module _ (kind : Kind) (size : ℕ) where
       → bits other ≤ size * bits_in kind → IsEligibleUnit (own_family kind) Both (size * bits_in kind) other
   eligible other among not_above =
       let has = from_falling (own_family kind) prefix_count other among in
-      record {
-        member = record { prefix = record { some = has.0; known = has.1 }; kind = has.2 };
-        of_type = tt;
-        not_above = not_above;
-      }
+      record { member = record { prefix = record { some = has.0; known = has.1 }; kind = has.2 }; of_type = tt; not_above = not_above }
 
-  computed_shape : (unit : Shape)
-      → IsLargestOrOwn kind (IsEligibleUnit (own_family kind) Both (size * bits_in kind)) unit
+  computed_shape : (unit : Shape) → IsLargestOrOwn kind (IsEligibleUnit (own_family kind) Both (size * bits_in kind)) unit
       → largest_unit_of kind size ≡ unit
   computed_shape unit (inl largest) =
       let units = units_of_prefixes (own_family kind) prefix_count in
@@ -122,13 +119,11 @@ adjusted_by_size : (kind : Kind) (bytes : List ℕ) (r : Result AdjustedSize Par
     → result_map_both (λ adjusted. adjusted) size_fault r ≡ parsed_adjusted kind bytes
 unfolding parsed_adjusted
 adjusted_by_size kind bytes (Ok adjusted) size unit =
-    ap (λ name. Ok (record { size = adjusted.size; unit = name }))
-    (sym (computed_unit kind adjusted.size adjusted.unit unit))
+    ap (λ name. Ok (record { size = adjusted.size; unit = name })) (sym (computed_unit kind adjusted.size adjusted.unit unit))
     ∙ ap (result_map_both (in_largest_unit_of kind) (λ fault. fault)) size
 adjusted_by_size kind bytes (Err error) size unit = ap (result_map_both (in_largest_unit_of kind) (λ fault. fault)) size
 
 -- what the parser of an adjusted size returns is what the function gives
-pub adjusted_computed : (kind : Kind) (bytes : List ℕ) (r : Result AdjustedSize ParseError)
-    → IsAdjustedReading kind bytes r
+pub adjusted_computed : (kind : Kind) (bytes : List ℕ) (r : Result AdjustedSize ParseError) → IsAdjustedReading kind bytes r
     → result_map_both (λ adjusted. adjusted) size_fault r ≡ parsed_adjusted kind bytes
 adjusted_computed kind bytes r reading = adjusted_by_size kind bytes r reading.size.computed reading.unit

@@ -8,13 +8,15 @@ use Rattle.byte_unit_base.specs.Units.{shape_of}
 use Rattle.byte_unit_base.specs.UnitLists.{unit_of_shape}
 use Rattle.byte_unit_base.specs.Errors.{unit_fault, size_fault}
 use Rattle.byte_unit_base.specs.Spelling.{Flags}
-use Rattle.byte_unit_base.specs.SizeText.{trim_of}
-use Rattle.byte_unit_base.specs.Fault.{exceeded}
+use Rattle.byte_unit_base.specs.SizeText.{trim_of, IsSizeText}
+use Rattle.byte_unit_base.specs.Version.{current}
+use Rattle.byte_unit_base.specs.Fault.{Fault, exceeded, IsSizeFault}
+use Rattle.byte_unit_base.specs.Kinds.{flags_for}
 use Rattle.byte_unit_base.specs.LeastOfKind.{IsLeastOf}
 use Rattle.byte_unit_base.specs.UnitScan.{unit_scan, unit_result, start}
-use Rattle.byte_unit_base.specs.SizeScan.{size_scan, size_result}
+use Rattle.byte_unit_base.specs.SizeScan.{size_scan, size_result, with_shape}
 use Rattle.byte_unit_base.specs.Scan.{read}
-use Rattle.byte_unit_base.specs.Parsed.{parsed_unit, parsed_number, parts_of_crate, rounded_up}
+use Rattle.byte_unit_base.specs.Parsed.{parsed_unit, parsed_number, parsed_size, parts_of_crate, rounded_up, size_of_parsed}
 use Rattle.byte_unit_base.specs.Parsed.{size_within_limit}
 use Rattle.byte_unit_base.specs.declared.unit.Unit.{Unit as UnitName}
 use Rattle.byte_unit_base.specs.declared.errors.UnitParseError.{UnitParseError}
@@ -29,21 +31,19 @@ pub unit_of_its_shape : (unit : UnitName) → unit_of_shape (shape_of unit) ≡ 
 unit_of_its_shape UnitNames.B = refl
 unit_of_its_shape _ = refl
 
--- a parser of a unit that returns the result of the state machine returns what the function gives
+-- a parser of a unit that returns the result of the state machine
 pub unit_computed : (flags : Flags) (bytes : List ℕ) (r : Result UnitName UnitParseError)
     → unit_result r ≡ read (unit_scan flags) start (trim_of bytes)
-    → result_map_both (λ unit. unit) unit_fault r
-    ≡ result_map_both unit_of_shape (λ fault. fault) (parsed_unit flags bytes)
+    → result_map_both (λ unit. unit) unit_fault r ≡ result_map_both unit_of_shape (λ fault. fault) (parsed_unit flags bytes)
 unfolding parsed_unit
 unit_computed flags bytes (Ok unit) e =
     ap Ok (sym (unit_of_its_shape unit)) ∙ ap (result_map_both unit_of_shape (λ fault. fault)) e
 unit_computed flags bytes (Err error) e = ap (result_map_both unit_of_shape (λ fault. fault)) e
 
--- a parser of a number and a unit that returns the result of the state machine returns what the function gives
+-- a parser of a number and a unit that returns the result of the state machine
 pub number_computed : (flags : Flags) (bytes : List ℕ) (r : Result (ℕ × UnitName) ParseError)
     → size_result r ≡ read (size_scan flags) Beginning (trim_of bytes)
-    → result_map_both (λ r. r) size_fault r
-    ≡ result_map_both parts_of_crate (λ fault. fault) (parsed_number flags bytes)
+    → result_map_both (λ r. r) size_fault r ≡ result_map_both parts_of_crate (λ fault. fault) (parsed_number flags bytes)
 unfolding parsed_number
 number_computed flags bytes (Ok found) e =
     ap (λ unit. Ok (found.0, unit)) (sym (unit_of_its_shape found.1))

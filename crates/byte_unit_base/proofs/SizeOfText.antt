@@ -21,6 +21,7 @@ use Rattle.byte_unit_base.specs.Fault.{IsSizeFault}
 use Rattle.byte_unit_base.specs.SizeScan.{with_shape}
 use Rattle.byte_unit_base.specs.Errors.{size_fault}
 use Rattle.byte_unit_base.specs.Parsed.{parsed_number, parsed_size, rounded_up, size_of_parsed, size_within_limit}
+use Rattle.byte_unit_base.specs.Version.{current}
 use Rattle.byte_unit_base.proofs.Computed.{rounded_up_is_least, size_within, size_above}
 use Rattle.byte_unit_base.proofs.Scans.{reads_meaning, reads_fault}
 use Rattle.byte_unit_base.proofs.SizeReads.{size_scan_is}

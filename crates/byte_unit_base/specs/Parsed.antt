@@ -1,6 +1,5 @@
--- What the parsers return for an input, as functions. A proof can compute them for a literal, an input that is written
--- in a program. An input is given by its UTF-8 bytes. It is proved that they give what the other files say
--- (`ParsedLaws`).
+-- What the parsers return for an input, as functions. A proof can compute them for a literal, an input that is written in
+-- a program. An input is given by its UTF-8 bytes. It is proved that they are what the other files say (`ParsedLaws`).
 use Rattle.std.specs.Prelude.{ℕ, ◌+◌, ◌-◌, ◌*◌, ◌/◌, Bool, List, Result, Ok, Err, if◌then◌else◌, nat_lt}
 use Rattle.byte_unit_math.specs.Bounds.{scale, size_limit}
 use Rattle.byte_unit_base.specs.Shape.{Shape, bits}

@@ -11,11 +11,12 @@ use Rattle.byte_unit_base.specs.declared.unit.Unit.TheVariants.{Pbit, Pibit, PB,
 use Rattle.byte_unit_base.specs.declared.unit.Unit.TheVariants.{Zbit, Zibit, ZB, ZiB, Ybit, Yibit, YB, YiB}
 use Rattle.byte_unit_base.specs.declared.unit.Unit.TheVariants.{Rbit, Ribit, RB, RiB}
 
--- the units of the crate by the index of their prefix: with binary prefixes, or with decimal ones if the first flag is
--- false, and of bits, or of bytes if the second one is
+-- the units of the crate with this kind of prefix that count bits, or bytes if `bit` is false, by the index of the prefix
 abbrev pub units_with : Bool → Bool → List UnitName
-units_with false true = Bit ∷ Kbit ∷ Mbit ∷ Gbit ∷ Tbit ∷ Pbit ∷ Ebit ∷ Zbit ∷ Ybit ∷ Rbit ∷ []
-units_with true true = Bit ∷ Kibit ∷ Mibit ∷ Gibit ∷ Tibit ∷ Pibit ∷ Eibit ∷ Zibit ∷ Yibit ∷ Ribit ∷ []
+units_with false true =
+    Bit ∷ Kbit ∷ Mbit ∷ Gbit ∷ Tbit ∷ Pbit ∷ Ebit ∷ Zbit ∷ Ybit ∷ Rbit ∷ []
+units_with true true =
+    Bit ∷ Kibit ∷ Mibit ∷ Gibit ∷ Tibit ∷ Pibit ∷ Eibit ∷ Zibit ∷ Yibit ∷ Ribit ∷ []
 units_with false false = B ∷ KB ∷ MB ∷ GB ∷ TB ∷ PB ∷ EB ∷ ZB ∷ YB ∷ RB ∷ []
 units_with true false = B ∷ KiB ∷ MiB ∷ GiB ∷ TiB ∷ PiB ∷ EiB ∷ ZiB ∷ YiB ∷ RiB ∷ []
 

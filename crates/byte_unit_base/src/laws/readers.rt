@@ -41,8 +41,7 @@ pub fn parsed_numbers_are_represented()
     ensures { ParsedNumbersAreRepresented }
 {}
 
-/// States that `parsed_size` gives exactly the size that a string is accepted as, or the error that it is rejected
-/// with.
+/// States that `parsed_size` gives exactly the size that a string is accepted as, or the error that it is rejected with.
 pub fn parsed_sizes_are_accepted()
     ensures { ParsedSizesAreAccepted }
 {}

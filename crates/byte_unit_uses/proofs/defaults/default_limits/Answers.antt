@@ -1,4 +1,3 @@
--- The text computes to its value, so each name is found, and each size is the one that is computed for its string.
 use Rattle.std.proofs.Common.{◌≡◌, Option, Some, None, Result, Ok, Err, IsSome, codes, refl, sym, ap, ◌∙◌}
 use Rattle.std.specs.Prelude.{⊤}
 use Rattle.std.specs.Option.{option_map}
@@ -16,18 +15,16 @@ use Rattle.byte_unit_uses.proofs.defaults.default_limits.Goals as goal
 -- the value of the JSON text
 abbrev defaults : Data
 defaults =
-    object (member (codes "cache") (string (codes "64 MiB"))
-    (member (codes "upload") (string (codes "20 MB")) no_members))
+    object (member (codes "cache") (string (codes "64 MiB")) (member (codes "upload") (string (codes "20 MB")) no_members))
 
 -- a search that finds the data of a value finds a value
-is_found : {A : Type 0} (f : A → Data) (found : Option A) (data_of : Data) → option_map f found ≡ Some data_of
-    → IsSome found
+is_found : {A : Type 0} (f : A → Data) (found : Option A) (data_of : Data) → option_map f found ≡ Some data_of → IsSome found
 is_found f (Some value) data_of e = refl
 is_found f None data_of e = absurd (let z : ⊥ = cc in z)
 
 -- and this is the data of the value
-has_data : {A : Type 0} (f : A → Data) (found : Option A) (value : A) (data_of : Data)
-    → option_map f found ≡ Some data_of → found ≡ Some value → f value ≡ data_of
+has_data : {A : Type 0} (f : A → Data) (found : Option A) (value : A) (data_of : Data) → option_map f found ≡ Some data_of
+    → found ≡ Some value → f value ≡ data_of
 has_data f found value data_of e is = same_Some _ _ (ap (option_map f) (sym is) ∙ e)
 
 pub returns-in_err-settings-clause-memory : goal.returns-in_err-settings-clause-memory
