@@ -1,3 +1,4 @@
+-- Reading the table at a code below its length is the unit with that code.
 use Rattle.std.proofs.Common.{arith, sym}
 use Rattle.std.proofs.lemmas.Option.{slice_get-get_or, slice_get_past}
 use Rattle.byte_unit_c.specs.Codes.{units}

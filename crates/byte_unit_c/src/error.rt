@@ -1,20 +1,20 @@
 //! The errors of parsing in the C API: a code, and a struct of details.
 
-ghost use Rattle.std.specs.Prelude.{◌≡◌};
-ghost use Rattle.byte_unit_base.specs.Errors.{value_fault};
-ghost use Rattle.byte_unit_c.specs.Fault.{code_of, expected_bytes, as_byte, IsFaultTold};
+ghost use Rattle.std.specs.Prelude.{◌≡◌, slice_set};
+ghost use Rattle.byte_unit_base.specs.Errors.{value_fault, unit_fault};
+ghost use Rattle.byte_unit_c.specs.Error.{code_of, expected_bytes, as_byte, IsErrorOf};
 
 use crate::values::Parts;
-use byte_unit_base::ValueParseError;
+use byte_unit_base::{UnitParseError, ValueParseError};
 
 /// The details of a parse error. A field that the error's code does not use is zero.
 #[repr(C)]
 #[derive(Clone, Copy)]
-pub struct Fault {
+pub struct Error {
     /// With `NOT_NUMBER` and `UNIT`: the code point of the character that was rejected.
     pub character: u32,
-    /// With `UNIT`: whether the string could end before that character.
-    pub also_expect_no_character: bool,
+    /// With `UNIT`: 1 if the string could end before that character, and else 0.
+    pub also_expect_no_character: u8,
     /// With `UNIT`: the characters that are expected in its place, in ASCII, followed by at least one zero byte.
     pub expected: [u8; 16],
     /// With `EXCEEDED_BOUNDS`: the number in the string, without its unit.
@@ -42,37 +42,61 @@ pub const UNIT: u32 = 5;
 /// The bytes are not UTF-8.
 pub const NOT_UTF8: u32 = 6;
 
-impl Fault {
+/// A flag is unknown, or the offsets and lengths of many texts do not fit each other.
+pub const INVALID_ARGUMENT: u32 = 7;
+
+impl Error {
     /// The details of an error that has only a code: every field is zero.
-    pub const NONE: Fault = Fault {
+    pub const NONE: Error = Error {
         character: 0,
-        also_expect_no_character: false,
+        also_expect_no_character: 0,
         expected: [0; 16],
         number: Parts::ZERO,
     };
 
     /// Returns the code and the details of an error in the number.
-    pub fn of_value(error: ValueParseError) -> (u32, Fault)
+    pub fn of_value(error: ValueParseError) -> (u32, Error)
         ensures code { result.0 ≡ code_of (value_fault error) }
-        ensures fault { IsFaultTold (value_fault error) result.1 }
+        ensures details { IsErrorOf (value_fault error) result.1 }
     {
         match error {
             ValueParseError::ExceededBounds(number) => (
                 EXCEEDED_BOUNDS,
-                Fault {
+                Error {
                     number: Parts::new(number),
-                    ..Fault::NONE
+                    ..Error::NONE
                 },
             ),
             ValueParseError::NotNumber(c) => (
                 NOT_NUMBER,
-                Fault {
+                Error {
                     character: c as u32,
-                    ..Fault::NONE
+                    ..Error::NONE
                 },
             ),
-            ValueParseError::NoValue => (NO_VALUE, Fault::NONE),
-            ValueParseError::NumberTooLong => (NUMBER_TOO_LONG, Fault::NONE),
+            ValueParseError::NoValue => (NO_VALUE, Error::NONE),
+            ValueParseError::NumberTooLong => (NUMBER_TOO_LONG, Error::NONE),
+        }
+    }
+
+    /// Returns the details of an error in the unit. Its code is `UNIT`.
+    pub fn of_unit(error: UnitParseError) -> Error
+        ensures { IsErrorOf (unit_fault error) result }
+    {
+        Error {
+            character: error.character as u32,
+            also_expect_no_character: error.also_expect_no_character as u8,
+            expected: expected_bytes(error.expected_characters),
+            ..Error::NONE
+        }
+    }
+
+    /// Writes the details to the first of `errors`, if it is not empty.
+    pub fn write(self, errors: &mut [Error])
+        ensures { errors.new ≡ slice_set errors.old 0 self }
+    {
+        if !errors.is_empty() {
+            errors[0] = self;
         }
     }
 }

@@ -1,8 +1,9 @@
+-- Setting the next byte makes one more character a byte, and leaves a zero fewer.
 use Rattle.std.proofs.Common.{◌≡◌, ◌+◌, ◌-◌, ◌<◌, ℕ, List, [], ◌∷◌, ◌++◌, length, map, take, drop, set, replicate}
 use Rattle.std.proofs.Common.{get_or, arith, ap, sym, ◌∙◌}
 use Rattle.std.proofs.lemmas.List.{take_more, take_more_set, drop-set-lt, drop-drop, drop-replicate, map-append, length-set}
-use Rattle.byte_unit_c.specs.Fault.{as_byte}
-use Rattle.byte_unit_c.proofs.fault.expected_bytes.Goals as goal
+use Rattle.byte_unit_c.specs.Error.{as_byte}
+use Rattle.byte_unit_c.proofs.error.expected_bytes.Goals as goal
 
 -- the written bytes are one more after the next byte is set
 written_more : (bytes cs : List ℕ) (i byte c : ℕ) → i < length bytes → i < length cs

@@ -1,6 +1,7 @@
+-- Before character i: the characters before it are bytes, and zeros follow.
 use Rattle.std.proofs.Common.{◌≡◌, ◌-◌, map, take, drop, replicate, length}
-use Rattle.byte_unit_c.specs.Fault.{as_byte}
-use Rattle.byte_unit_c.proofs.fault.expected_bytes.Given as goal
+use Rattle.byte_unit_c.specs.Error.{as_byte}
+use Rattle.byte_unit_c.proofs.error.expected_bytes.Given as goal
 
 abbrev pub invariant-loop-i : goal.invariant-loop-i
 invariant-loop-i l = record {
