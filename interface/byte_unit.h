@@ -1,23 +1,24 @@
 /* byte_unit: exact sizes in bytes and in bits. The C API of a library that is written in Rattle and proved.
  *
- * Link libbyte_unit.a or libbyte_unit.so (`tools/make-libraries DIR` builds both). The library calls memcpy, memmove and
- * memset, and one function of libgcc, __udivti3. It does not allocate, keeps no state between calls and never ends the
- * program, so every call may be made from any thread.
+ * Link libbyte_unit.a or libbyte_unit.so (`tools/make-libraries DIR` builds both), which run on every x86-64 processor.
+ * The library calls memcpy, memmove and memset, and one function of libgcc, __udivti3. It does not allocate, keeps no
+ * state between calls and never ends the program, so every call may be made from any thread.
  *
  * Preconditions of every call, which nothing checks:
  *
  * - A pointer is valid for its type and its length: `text` for reading `len` bytes, `out` for writing `out_len` bytes,
  *   arrays for their number of elements. With a length of 0 it may be NULL, as an empty std::string_view, Go slice or
  *   Arrow buffer has it. `error` may be NULL. `size`, `unit` and `count`, as pointers, may not.
- * - What is written overlaps no other argument of the call, and no other thread uses it during the call. No other thread
- *   writes what is read.
+ * - What is written overlaps no other argument of the call, and no other thread uses it during the call. No other
+ *   thread writes what is read.
  *
- * Every other argument is checked: a size that is out of range, an unknown code or flag, an invalid spec, offsets that do
- * not fit and bytes that are not UTF-8 are reported, and nothing is written but what a call says. docs/CALLERS.md has more.
+ * Every other argument is checked: a size that is out of range, an unknown code or flag, an invalid spec, offsets that
+ * do not fit and bytes that are not UTF-8 are reported, and nothing is written but what a call says. docs/CALLERS.md
+ * has more.
  *
- * Callers by a foreign function interface: a `static inline` call is no symbol of the library. The symbol is the name with
- * `_to` added, and takes the length of each array after its pointer: byte_unit_parse_to(text, len, flags, size, error,
- * error_len), where error_len is 1, or 0 for no error.
+ * Callers by a foreign function interface: a `static inline` call is no symbol of the library. The symbol is the name
+ * with `_to` added, and takes the length of each array after its pointer: byte_unit_parse_to(text, len, flags, size,
+ * error, error_len), where error_len is 1, or 0 for no error.
  */
 #ifndef BYTE_UNIT_H
 #define BYTE_UNIT_H
@@ -37,8 +38,8 @@ extern "C" {
 #define BYTE_UNIT_VERSION 5002006
 #define BYTE_UNIT_VERSION_STRING "5.2.6"
 
-/* An unsigned integer of 128 bits: high * 2^64 + low. On a little-endian machine, as x86-64 is, an array of these is laid
- * out as Arrow's Decimal128 of scale 0. */
+/* An unsigned integer of 128 bits: high * 2^64 + low. On a little-endian machine, as x86-64 is, an array of these is
+ * laid out as Arrow's Decimal128 of scale 0. */
 typedef struct byte_unit_number {
     uint64_t low;
     uint64_t high;
@@ -55,7 +56,8 @@ typedef struct byte_unit_decimal {
     byte_unit_number fraction;
 } byte_unit_decimal;
 
-/* Flags. A flags word is the sum of its flags. Each call lists the flags that it knows; a call with any other is rejected. */
+/* Flags. A flags word is the sum of its flags. Each call lists the flags that it knows; a call with any other is
+ * rejected. */
 enum {
     BYTE_UNIT_BYTES = 0,       /* sizes are in bytes: the default */
     BYTE_UNIT_BITS = 1,        /* sizes are in bits */
@@ -63,10 +65,10 @@ enum {
     BYTE_UNIT_EITHER_KIND = 4  /* choice of a unit: from the units of bytes and of bits */
 };
 
-/* A format spec, with the fields of a format spec of the Rust crate. If every field is zero, it is `{}`: digits only.
- * `{ .alternate = 1 }` is `{:#}`, `{ .alternate = 1, .width = 12 }` is `{:#12}`, and
- * `{ .has_precision = 1, .precision = 2 }` is `{:.2}`. A spec with any other value in a field than those listed is invalid,
- * and is rejected. */
+/* A format spec, with the fields of a format spec of the Rust crate. If every field is zero, it is `{}`: digits
+ * only. `{ .alternate = 1 }` is `{:#}`, `{ .alternate = 1, .width = 12 }` is `{:#12}`, and
+ * `{ .has_precision = 1, .precision = 2 }` is `{:.2}`. A spec with any other value in a field than those listed is
+ * invalid, and is rejected. */
 typedef struct byte_unit_spec {
     uint32_t precision;    /* digits after the decimal point, 0 to 65535, if has_precision is 1; otherwise 0 */
     uint32_t width;        /* minimum width in columns, 1 to 65535; 0: none */
@@ -101,7 +103,7 @@ typedef struct byte_unit_error {
 enum {
     BYTE_UNIT_OK,
     BYTE_UNIT_NO_VALUE,        /* the string is empty or only white space */
-    BYTE_UNIT_NOT_NUMBER,      /* a digit is expected in place of the character, or after it if the string ends with `.` */
+    BYTE_UNIT_NOT_NUMBER,      /* a digit is expected in place of the character, or after a point at the end */
     BYTE_UNIT_NUMBER_TOO_LONG, /* the integer part is 2^112 or more, or more than 28 digits follow the decimal point */
     BYTE_UNIT_EXCEEDED_BOUNDS, /* the size is 10^30 or more */
     BYTE_UNIT_UNIT,            /* the unit is misspelled */
@@ -141,8 +143,8 @@ enum {
 uint32_t byte_unit_version(void);
 
 /* The symbols of the inline calls below. */
-uint32_t byte_unit_parse_to(const char *text, size_t len, uint32_t flags, byte_unit_number *size, byte_unit_error *error,
-                            size_t error_len);
+uint32_t byte_unit_parse_to(const char *text, size_t len, uint32_t flags, byte_unit_number *size,
+                            byte_unit_error *error, size_t error_len);
 uint32_t byte_unit_parse_unit_to(const char *text, size_t len, uint32_t flags, uint32_t *unit, byte_unit_error *error,
                                  size_t error_len);
 uint32_t byte_unit_parse_many_to(const char *data, size_t data_len, const int64_t *offsets, size_t offsets_len,
@@ -152,9 +154,9 @@ uint32_t byte_unit_parse_many_32_to(const char *data, size_t data_len, const int
                                     uint32_t flags, byte_unit_number *sizes, size_t sizes_len, uint8_t *codes,
                                     size_t codes_len);
 
-/* Parses a size: the exact value, rounded up to a whole byte, or to a whole bit with BYTE_UNIT_BITS. Returns BYTE_UNIT_OK
- * and writes `size`, or returns the code of the error and writes its details to `error` if it is not NULL. Writes nothing
- * if it returns BYTE_UNIT_NOT_UTF8 or BYTE_UNIT_INVALID_ARGUMENT.
+/* Parses a size: the exact value, rounded up to a whole byte, or to a whole bit with BYTE_UNIT_BITS. Returns
+ * BYTE_UNIT_OK and writes `size`, or returns the code of the error and writes its details to `error` if it is not
+ * NULL. Writes nothing if it returns BYTE_UNIT_NOT_UTF8 or BYTE_UNIT_INVALID_ARGUMENT.
  * Flags: BITS, IGNORE_CASE (which has no effect with BITS). */
 static inline uint32_t byte_unit_parse(const char *text, size_t len, uint32_t flags, byte_unit_number *size,
                                        byte_unit_error *error)
@@ -162,9 +164,9 @@ static inline uint32_t byte_unit_parse(const char *text, size_t len, uint32_t fl
     return byte_unit_parse_to(text, len, flags, size, error, error ? 1 : 0);
 }
 
-/* Parses a unit by its name or another of its spellings: `KiB`, `kib`, `K`, ` MBits `, and the empty string for B. Returns
- * BYTE_UNIT_OK and writes its code, or returns BYTE_UNIT_UNIT and writes the details to `error` if it is not NULL. Writes
- * nothing if it returns BYTE_UNIT_NOT_UTF8 or BYTE_UNIT_INVALID_ARGUMENT.
+/* Parses a unit by its name or another of its spellings: `KiB`, `kib`, `K`, ` MBits `, and the empty string for B.
+ * Returns BYTE_UNIT_OK and writes its code, or returns BYTE_UNIT_UNIT and writes the details to `error` if it is not
+ * NULL. Writes nothing if it returns BYTE_UNIT_NOT_UTF8 or BYTE_UNIT_INVALID_ARGUMENT.
  * Flags: BITS (a spelling without a suffix is of bits: `K` is Kb), IGNORE_CASE. */
 static inline uint32_t byte_unit_parse_unit(const char *text, size_t len, uint32_t flags, uint32_t *unit,
                                             byte_unit_error *error)
@@ -172,11 +174,11 @@ static inline uint32_t byte_unit_parse_unit(const char *text, size_t len, uint32
     return byte_unit_parse_unit_to(text, len, flags, unit, error, error ? 1 : 0);
 }
 
-/* Parses `count` texts, each as byte_unit_parse does. Text i is data[offsets[i]] up to data[offsets[i + 1]], so `offsets`
- * has count + 1 elements: Arrow's layout of a LargeUtf8 or LargeBinary column. If `count` is 0, `offsets` may be NULL.
- * Returns BYTE_UNIT_OK, and writes the code of each text to `codes` and its size to `sizes`, 0 there if it has none.
- * Returns BYTE_UNIT_INVALID_ARGUMENT and writes nothing if a flag is unknown, an offset is negative, less than the one
- * before it or greater than `data_len`.
+/* Parses `count` texts, each as byte_unit_parse does. Text i is data[offsets[i]] up to data[offsets[i + 1]], so
+ * `offsets` has count + 1 elements: Arrow's layout of a LargeUtf8 or LargeBinary column. If `count` is 0, `offsets`
+ * may be NULL. Returns BYTE_UNIT_OK, and writes the code of each text to `codes` and its size to `sizes`, 0 there if
+ * it has none. Returns BYTE_UNIT_INVALID_ARGUMENT and writes nothing if a flag is unknown, an offset is negative,
+ * less than the one before it or greater than `data_len`.
  * Flags: BITS, IGNORE_CASE. */
 static inline uint32_t byte_unit_parse_many(const char *data, size_t data_len, const int64_t *offsets, size_t count,
                                             uint32_t flags, byte_unit_number *sizes, uint8_t *codes)
@@ -193,22 +195,22 @@ static inline uint32_t byte_unit_parse_many_32(const char *data, size_t data_len
                                       codes, count);
 }
 
-/* The calls that write a text return its length, also if it is greater than `out_len`; then they write nothing. They write
- * no terminating zero, and leave the bytes after the text as they are. */
+/* The calls that write a text return its length, also if it is greater than `out_len`; then they write nothing. They
+ * write no terminating zero, and leave the bytes after the text as they are. */
 
-/* Writes the error message for a string that byte_unit_parse rejects, at most 256 bytes of UTF-8. Returns 0 if the string
- * represents a size. An unknown flag has a message too.
+/* Writes the error message for a string that byte_unit_parse rejects, at most 256 bytes of UTF-8. Returns 0 if the
+ * string represents a size. An unknown flag has a message too.
  * Flags: BITS, IGNORE_CASE. */
 size_t byte_unit_explain(const char *text, size_t len, uint32_t flags, char *out, size_t out_len);
 
-/* Writes the text of a size: its digits, or in the alternate form the size in the largest unit of its kind, not above it,
- * that represents it exactly within the precision (3 if none is set, 28 at most), or in B or b if there is none. Returns 0
- * if the size is out of range, the spec is invalid or a flag is unknown.
+/* Writes the text of a size: its digits, or in the alternate form the size in the largest unit of its kind, not
+ * above it, that represents it exactly within the precision (3 if none is set, 28 at most), or in B or b if there is
+ * none. Returns 0 if the size is out of range, the spec is invalid or a flag is unknown.
  * Flags: BITS. */
 size_t byte_unit_text(byte_unit_number size, uint32_t flags, byte_unit_spec spec, char *out, size_t out_len);
 
-/* Writes the text of a size in a unit: all its digits, or rounded to the precision. Returns 0 if the size is out of range,
- * the unit or a flag is unknown, or the spec is invalid. `alternate` has no effect.
+/* Writes the text of a size in a unit: all its digits, or rounded to the precision. Returns 0 if the size is out of
+ * range, the unit or a flag is unknown, or the spec is invalid. `alternate` has no effect.
  * Flags: BITS. */
 size_t byte_unit_adjusted_text(byte_unit_number size, uint32_t flags, uint32_t unit, byte_unit_spec spec, char *out,
                                size_t out_len);
@@ -216,24 +218,24 @@ size_t byte_unit_adjusted_text(byte_unit_number size, uint32_t flags, uint32_t u
 /* Writes the name of a unit, such as "KiB". Returns 0 if the unit is unknown. */
 size_t byte_unit_unit_name(uint32_t unit, char *out, size_t out_len);
 
-/* Returns the largest unit of the size's kind and of the unit type that is not above the size, or B or b if there is none.
- * The number may be 10^30 or more. Returns BYTE_UNIT_NO_UNIT if the unit type or a flag is unknown.
+/* Returns the largest unit of the size's kind and of the unit type that is not above the size, or B or b if there is
+ * none. The number may be 10^30 or more. Returns BYTE_UNIT_NO_UNIT if the unit type or a flag is unknown.
  * Flags: BITS. */
 uint32_t byte_unit_appropriate_unit(byte_unit_number size, uint32_t flags, uint32_t unit_type);
 
-/* Returns the largest unit, not above the size, that divides it, or B or b if there is none, and writes the size in that
- * unit to `count`. The unit is of the size's kind, or of either kind with BYTE_UNIT_EITHER_KIND. Returns BYTE_UNIT_NO_UNIT
- * and writes nothing if the size is out of range or a flag is unknown.
+/* Returns the largest unit, not above the size, that divides it, or B or b if there is none, and writes the size in
+ * that unit to `count`. The unit is of the size's kind, or of either kind with BYTE_UNIT_EITHER_KIND. Returns
+ * BYTE_UNIT_NO_UNIT and writes nothing if the size is out of range or a flag is unknown.
  * Flags: BITS, EITHER_KIND. */
 uint32_t byte_unit_exact_unit(byte_unit_number size, uint32_t flags, byte_unit_number *count);
 
-/* The same, with the largest unit that represents the size exactly within `precision` digits after the decimal point, 28
- * at most.
+/* The same, with the largest unit that represents the size exactly within `precision` digits after the decimal
+ * point, 28 at most.
  * Flags: BITS, EITHER_KIND. */
 uint32_t byte_unit_recoverable_unit(byte_unit_number size, uint32_t flags, size_t precision, byte_unit_decimal *count);
 
-/* Writes the size of `count` units, rounded up to a whole byte, or bit with BYTE_UNIT_BITS, and returns true. Returns false
- * and writes nothing if the size is 10^30 or more, or the unit or a flag is unknown.
+/* Writes the size of `count` units, rounded up to a whole byte, or bit with BYTE_UNIT_BITS, and returns true.
+ * Returns false and writes nothing if the size is 10^30 or more, or the unit or a flag is unknown.
  * Flags: BITS. */
 bool byte_unit_from_unit(byte_unit_number count, uint32_t unit, uint32_t flags, byte_unit_number *size);
 

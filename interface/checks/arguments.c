@@ -1,6 +1,6 @@
-/* Arguments that are at the border of what each call takes, or past it: specs with one field that is invalid, flags that are
- * unknown, null pointers, and offsets that do not fit. Prints the number of checks, and exits with 1 if one is wrong. It is C and
- * C++. */
+/* Arguments that are at the border of what each call takes, or past it: specs with one field that is invalid, flags
+ * that are unknown, null pointers, and offsets that do not fit. Prints the number of checks, and exits with 1 if one
+ * is wrong. It is C and C++. */
 #include "byte_unit.h"
 
 #include <stdio.h>

@@ -1,6 +1,6 @@
-/* Strings and buffers that end where the memory ends: each is read from, or written to, the last bytes before a page that may
- * not be touched, so that one byte too many ends this program by a signal. Prints the number of calls, and exits with 1 if a
- * result is wrong. */
+/* Strings and buffers that end where the memory ends: each is read from, or written to, the last bytes before a page
+ * that may not be touched, so that one byte too many ends this program by a signal. Prints the number of calls, and
+ * exits with 1 if a result is wrong. */
 #define _GNU_SOURCE
 #include "byte_unit.h"
 

@@ -5,12 +5,12 @@
 
 FOLDER has libbyte_unit.a and byte_unit.h. In a temporary folder, checks that
 
-- interface/examples/example.c and interface/checks/arguments.c compile without a warning as C99 to C23 and, the second, as
-  C++17 by each compiler that is there, and succeed: each compares its results with what is written in it;
+- interface/examples/example.c and interface/checks/arguments.c compile without a warning as C99 to C23 and, the second,
+  as C++17 by each compiler that is there, and succeed: each compares its results with what is written in it;
 - both succeed on the emulated processors qemu64, kvm64 and core2duo, which have no SSE4 (if qemu-x86_64 is there);
 - strings, buffers and arrays that end at an unmapped page are read and written without an overrun (checks/edges.c);
-- for N generated lines (4,000), as bytes and as bits, checks/lines.c prints what tools/exact_model.py computes, and what the
-  program byte_unit_lines prints if it is built.
+- for N generated lines (4,000), as bytes and as bits, checks/lines.c prints what tools/exact_model.py computes, and what
+  the program byte_unit_lines prints if it is built.
 
 Prints a line for each check, and what is skipped if a program is missing.
 """
