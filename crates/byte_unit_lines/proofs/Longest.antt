@@ -53,8 +53,8 @@ pub longest_line-below : (bytes line : List ℕ) (bound : ℕ) → line ≡ begu
 longest_line-below bytes line bound line_is ended unfinished =
     omega (arith, longest_line-ended_lines bytes, ap length line_is, ended, unfinished)
 
--- between two reads: each finished line is shorter than the limit and a read together, the unfinished line is within the
--- limit, and no capacity has fallen
+-- between two reads: each finished line is shorter than the limit and a read together, the unfinished line is within
+-- the limit, and no capacity has fallen
 pub record IsWithin {Z : Type 0} (longest chunk : ℕ) (line answers : Vec ℕ Z) (read : List ℕ) (line_now answers_now : Vec ℕ Z) : Type 0 where
   pub finished : longest_of (ended_lines [] read) < longest + chunk
   pub unfinished : vec_len line_now ≤ longest

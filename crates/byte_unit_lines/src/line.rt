@@ -19,8 +19,8 @@ pub(crate) const ANSWER_MAX: usize = 78;
 ///
 /// # Errors
 ///
-/// Returns `AllocError`, and appends nothing, if allocation fails. It never does if `out` has capacity for [`ANSWER_MAX`]
-/// bytes more.
+/// Returns `AllocError`, and appends nothing, if allocation fails. It never does if `out` has capacity for
+/// [`ANSWER_MAX`] bytes more.
 pub(crate) fn add_answer<A: Allocator>(
     line: &[u8],
     kind: Kind,

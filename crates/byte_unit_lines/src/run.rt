@@ -113,18 +113,19 @@ pub fn run_in<A: Allocator, R: Read, W: Write>(
     )
 }
 
-/// Does what [`run_in`] does, in memory that it allocates at the start, for lines of at most `longest` bytes.
+/// Does what [`run_in`] does, for lines of at most `longest` bytes, without an allocation after the start.
 ///
-/// It allocates `longest` bytes and 79 times the length of `buffer`, and nothing after the start.
+/// At the start it allocates `longest` bytes and 79 times the length of `buffer`.
 ///
 /// Precondition (proved at every call): `buffer` is not empty.
 ///
 /// # Errors
 ///
-/// Returns `Err(AllocError)`, and has read and written nothing, if an allocation at the start fails. After that the
-/// inner result is that of the run: `Memory` if a line has more than `longest` bytes, and never else. A longer line
-/// that is shorter than `longest` and the length of `buffer` together may be answered, if a read ends in it early
-/// enough.
+/// Returns `Err(AllocError)` if an allocation at the start fails; nothing has been read or written then. The inner
+/// result is that of the run, with the errors of [`run`]. There `Memory` means that more than `longest` bytes of a line
+/// have been read without its line end, and so that the line is longer than `longest`. A longer line is answered only if
+/// the read in which it exceeds `longest` returns its line end too, and never if it has as many bytes as `longest` and
+/// the length of `buffer` together.
 pub fn run_with_capacity<A: Allocator, R: Read, W: Write>(
     alloc: &A,
     longest: usize,
@@ -166,18 +167,18 @@ pub fn run_with_capacity<A: Allocator, R: Read, W: Write>(
     ))
 }
 
-/// Does what [`run_in`] does, with the caller's buffers, for lines of at most `longest` bytes.
+/// Does what [`run_in`] does, for lines of at most `longest` bytes, in the caller's buffers.
 ///
 /// `line` is for the part that was read of a line without a line end so far, and `waiting` for the answers that are not
 /// written yet.
 ///
-/// Precondition (proved at every call): `buffer` is not empty, and `line` and `waiting` are empty.
+/// Precondition (proved at every call): `buffer` is not empty; `line` and `waiting` are empty.
 ///
 /// # Errors
 ///
-/// Those of [`run`], and `Memory` if more than `longest` bytes of a line have been read without its line end. If the
-/// capacity of `line` is at least `longest` and the length of `buffer` together, and that of `waiting` at least 78 times
-/// the length of `buffer`, `Memory` is returned for no other reason.
+/// Those of [`run`], and `Memory` if more than `longest` bytes of a line have been read without its line end. `Memory`
+/// is returned for no other reason if `line` has capacity for `longest` bytes and a `buffer` more, and `waiting` for 78
+/// times the length of `buffer`.
 pub fn run_with_buffers<A: Allocator, R: Read, W: Write>(
     line: &mut Vec<u8, A>,
     waiting: &mut Vec<u8, A>,

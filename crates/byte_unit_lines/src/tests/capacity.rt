@@ -87,7 +87,7 @@ fn a_line_one_byte_longer(rt: HostRuntime) -> Result<(), Fail> {
     Ok(expect(&rt, 3, b"1 KB", 3, failed, b"")?)
 }
 
-/// The number of zeros in front of a digit, with a limit of 100 bytes.
+/// The number of zeros before the digit 1, and the result and the report with a limit of 100 bytes.
 const ROWS: &[(usize, Result<(), RunError>, &[u8])] = &[
     (98, Ok(()), b"1 = 1 B\n"),
     (99, Ok(()), b"1 = 1 B\n"),
