@@ -5,7 +5,7 @@ use Rattle.std.proofs.lemmas.List.{take_more}
 use Rattle.std.specs.Prelude.{vec_capacity}
 use Rattle.std.specs.declared.vec.Vec.{Vec}
 use Rattle.byte_unit_lines.specs.Answer.{Kind, IsAnswer}
-use Rattle.byte_unit_lines.specs.Capacity.{longest_answer}
+use Rattle.byte_unit_lines.specs.Capacity.{answer_max}
 use Rattle.byte_unit_lines.specs.Progress.{ended_lines, begun_line, IsUnbroken, AddsAnswer, AddsAnswers}
 use Rattle.byte_unit_lines.proofs.Answering.{AreAnswers-append, AreAnswers-single}
 use Rattle.byte_unit_lines.proofs.Lines.{ended_lines-take-line_end, begun_line-take-line_end}
@@ -118,6 +118,6 @@ IsFed-step kind start now next place fed is_answered =
 pub record IsFedWithin {Z : Type 0} (line answers : Vec ℕ Z) (bytes : List ℕ) (line_now answers_now : Vec ℕ Z) (rest : List ℕ)
     : Type 0 where
   pub line_len : vec_len line_now + length rest ≤ vec_len line + length bytes
-  pub answers_len : vec_len answers_now + longest_answer * length rest ≤ vec_len answers + longest_answer * length bytes
+  pub answers_len : vec_len answers_now + answer_max * length rest ≤ vec_len answers + answer_max * length bytes
   pub line_capacity : vec_capacity line ≤ vec_capacity line_now
   pub answers_capacity : vec_capacity answers ≤ vec_capacity answers_now

@@ -4,7 +4,7 @@ ghost use Rattle.std.specs.Prelude.{◌≡◌, ◌+◌, ◌≤◌, ◌∷◌, []
 ghost use Rattle.byte_unit.specs.Errors.{size_fault};
 ghost use Rattle.byte_unit.specs.declared.Kind.TheVariants.{Byte as InBytes, Bit as InBits};
 ghost use Rattle.byte_unit_lines.specs.Answer.{words_of};
-ghost use Rattle.byte_unit_lines.specs.Capacity.{longest_answer};
+ghost use Rattle.byte_unit_lines.specs.Capacity.{answer_max};
 ghost use Rattle.byte_unit_lines.specs.Lines.{line_end};
 ghost use Rattle.byte_unit_lines.specs.Progress.{AddsAnswer};
 
@@ -28,8 +28,8 @@ pub(crate) fn add_answer<A: Allocator>(
 ) -> Result<(), AllocError>
     ensures ok { OnOk result (AddsAnswer kind line.now out.old.items out.new.items) }
     ensures err { OnErr result (out.new.items ≡ out.old.items) }
-    ensures succeeds { vec_len out.old + longest_answer ≤ vec_capacity out.old → IsOk result }
-    ensures len { vec_len out.new ≤ vec_len out.old + longest_answer }
+    ensures succeeds { vec_len out.old + answer_max ≤ vec_capacity out.old → IsOk result }
+    ensures len { vec_len out.new ≤ vec_len out.old + answer_max }
     ensures capacity { vec_capacity out.old ≤ vec_capacity out.new }
 {
     match kind {
@@ -42,8 +42,8 @@ pub(crate) fn add_answer<A: Allocator>(
 fn answer_bytes<A: Allocator>(line: &[u8], out: &mut Vec<u8, A>) -> Result<(), AllocError>
     ensures ok { OnOk result (AddsAnswer InBytes line.now out.old.items out.new.items) }
     ensures err { OnErr result (out.new.items ≡ out.old.items) }
-    ensures succeeds { vec_len out.old + longest_answer ≤ vec_capacity out.old → IsOk result }
-    ensures len { vec_len out.new ≤ vec_len out.old + longest_answer }
+    ensures succeeds { vec_len out.old + answer_max ≤ vec_capacity out.old → IsOk result }
+    ensures len { vec_len out.new ≤ vec_len out.old + answer_max }
     ensures capacity { vec_capacity out.old ≤ vec_capacity out.new }
 {
     match Byte::parse_bytes(line, false) {
@@ -65,8 +65,8 @@ fn answer_bytes<A: Allocator>(line: &[u8], out: &mut Vec<u8, A>) -> Result<(), A
 fn answer_bits<A: Allocator>(line: &[u8], out: &mut Vec<u8, A>) -> Result<(), AllocError>
     ensures ok { OnOk result (AddsAnswer InBits line.now out.old.items out.new.items) }
     ensures err { OnErr result (out.new.items ≡ out.old.items) }
-    ensures succeeds { vec_len out.old + longest_answer ≤ vec_capacity out.old → IsOk result }
-    ensures len { vec_len out.new ≤ vec_len out.old + longest_answer }
+    ensures succeeds { vec_len out.old + answer_max ≤ vec_capacity out.old → IsOk result }
+    ensures len { vec_len out.new ≤ vec_len out.old + answer_max }
     ensures capacity { vec_capacity out.old ≤ vec_capacity out.new }
 {
     match Bit::parse_bytes(line) {

@@ -6,7 +6,7 @@ use super::mixed::{ANSWERS, INPUT, answers_to};
 use super::streams::{MemoryReader, MemoryWriter, Then};
 use super::*;
 use crate::refusing::Refusing;
-use crate::run::run_with_capacity;
+use crate::run::{run_with_buffers, run_with_capacity};
 use std::alloc::{AllocError, Allocator};
 use std::process::Abort;
 use std::test::Fail;
@@ -131,6 +131,36 @@ fn the_longest_answers(rt: HostRuntime) -> Result<(), Fail> {
     let report = b"1000000000000000000000000000 = 1 RB\n".repeat(rt.alloc(), 5_000)?;
     expect(&rt, 2, &input, 3, Ok(()), &report)?;
     Ok(expect(&rt, 2, &input, 4096, Ok(()), &report)?)
+}
+
+/// The limit, and the result for `1 KB` without a line end in reads of two bytes, with the report.
+const LIMITS: &[(usize, Result<(), RunError>, &[u8])] = &[
+    (usize::MAX, Ok(()), b"1000 = 1 KB\n"),
+    (4, Ok(()), b"1000 = 1 KB\n"),
+    (3, Err(RunError::Memory), b""),
+    (0, Err(RunError::Memory), b""),
+];
+
+#[test]
+fn the_limit_without_capacity(rt: HostRuntime) {
+    for (longest, wanted, report) in LIMITS {
+        let mut line = Vec::new(rt.alloc());
+        let mut waiting = Vec::new(rt.alloc());
+        let mut reader = Reading::new(b"1 KB".as_slice());
+        let mut writer = Writing::new(MemoryWriter::open(rt.alloc()));
+        let result = run_with_buffers(
+            &mut line,
+            &mut waiting,
+            *longest,
+            &mut [0u8; 2],
+            &mut reader,
+            &mut writer,
+            Kind::Byte,
+        );
+        let taken = writer.into_inner().into_taken();
+        let ended = Ended { result, taken };
+        ended.expect(&rt, *wanted, report, "limit", &[*longest]);
+    }
 }
 
 /// Asserts that a run whose allocation of this number fails makes no other after it, and reads and writes nothing.
