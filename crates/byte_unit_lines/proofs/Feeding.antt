@@ -1,8 +1,11 @@
 -- Lemmas: the loop over the lines that end in a chunk.
-use Rattle.std.proofs.Common.{◌≡◌, ◌≢◌, ◌+◌, ◌<◌, ◌≤◌, ℕ, zero, suc, List, [], ◌∷◌, ◌++◌, take, drop, get_or, length}
-use Rattle.std.proofs.Common.{arith, false, eqb, sym, ap, subst, ◌∙◌, append_assoc, false-eqb}
+use Rattle.std.proofs.Common.{◌≡◌, ◌≢◌, ◌+◌, ◌*◌, ◌<◌, ◌≤◌, ℕ, zero, suc, List, [], ◌∷◌, ◌++◌, take, drop, get_or, length}
+use Rattle.std.proofs.Common.{vec_len, arith, false, eqb, sym, ap, subst, ◌∙◌, append_assoc, false-eqb}
 use Rattle.std.proofs.lemmas.List.{take_more}
+use Rattle.std.specs.Prelude.{vec_capacity}
+use Rattle.std.specs.declared.vec.Vec.{Vec}
 use Rattle.byte_unit_lines.specs.Answer.{Kind, IsAnswer}
+use Rattle.byte_unit_lines.specs.Capacity.{answer_max}
 use Rattle.byte_unit_lines.specs.Progress.{ended_lines, begun_line, IsUnbroken, AddsAnswer, AddsAnswers}
 use Rattle.byte_unit_lines.proofs.Answering.{AreAnswers-append, AreAnswers-single}
 use Rattle.byte_unit_lines.proofs.Lines.{ended_lines-take-line_end, begun_line-take-line_end}
@@ -109,3 +112,12 @@ IsFed-step kind start now next place fed is_answered =
           ∙ sym (append_assoc fed.answered (this ∷ []) (ended_lines next.line next.rest));
       begun = fed.begun ∙ begun_line-next kind now next place is_answered;
     }
+
+-- from the start to now, the buffers have grown by no more than the bytes that are no longer left account for: the line
+-- by these bytes, the answers by an answer to each; and no capacity has fallen
+pub record IsFedWithin {Z : Type 0} (line answers : Vec ℕ Z) (bytes : List ℕ) (line_now answers_now : Vec ℕ Z) (rest : List ℕ)
+    : Type 0 where
+  pub line_len : vec_len line_now + length rest ≤ vec_len line + length bytes
+  pub answers_len : vec_len answers_now + answer_max * length rest ≤ vec_len answers + answer_max * length bytes
+  pub line_capacity : vec_capacity line ≤ vec_capacity line_now
+  pub answers_capacity : vec_capacity answers ≤ vec_capacity answers_now

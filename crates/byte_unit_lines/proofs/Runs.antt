@@ -178,3 +178,18 @@ IsWritten-piece each kind course served piece error written at =
     IsWritten-ended_lines each kind (course.read ++ piece) error (course.written ++ written)
     (subst (λ lines. IsAnswered kind lines (Err error) (course.written ++ written)) (ended_lines-piece kind course served piece)
     (IsAnswered-append kind ended (ended_lines course.line piece) course.written served.answered error written at))
+
+-- reading a piece and answering the lines that end in it keeps the invariant
+abbrev pub HasServed-piece : {kind : Kind} {left between held holds : Option (List ℕ)} {line answers : List ℕ}
+    → (so_far : HasServed kind left between held holds line answers)
+    → (rest now_holds : Option (List ℕ)) (piece written next_line next_answers : List ℕ)
+    → Consumes between rest piece → Appends holds now_holds written → AreAnswers kind (ended_lines line piece) written
+    → next_line ≡ begun_line line piece → next_answers ≡ [] → HasServed kind left rest held now_holds next_line next_answers
+HasServed-piece {kind = kind} so_far rest now_holds piece written next_line next_answers came took are_answers line_is none_wait = record {
+  read = so_far.read ++ piece;
+  written = so_far.written ++ written;
+  gave = Consumes-piece so_far rest piece came;
+  took = Appends-more so_far now_holds written took;
+  served = IsServed-piece kind (course_of so_far) so_far.served piece written next_line are_answers line_is;
+  none_wait = none_wait;
+}

@@ -1,5 +1,5 @@
 -- The lines of an input, which is a list of bytes. A line ends at the byte 0A, which is not part of it.
-use Rattle.std.specs.Prelude.{ℕ, List, [], ◌∷◌, ◌==◌}
+use Rattle.std.specs.Prelude.{ℕ, List, [], ◌∷◌, ◌==◌, length, max}
 use Rattle.std.specs.List.{slice_split}
 
 -- the byte that ends a line
@@ -30,3 +30,12 @@ lines_of bytes = but_empty_last (parts bytes)
 -- the lines of an input that have a line end
 abbrev pub finished_lines : List ℕ → List (List ℕ)
 finished_lines bytes = but_last (parts bytes)
+
+-- the number of bytes of the longest of these lines; 0 if there is none
+abbrev pub longest_of : List (List ℕ) → ℕ
+longest_of [] = 0
+longest_of (line ∷ lines) = max (length line) (longest_of lines)
+
+-- the number of bytes of the longest line of an input
+abbrev pub longest_line : List ℕ → ℕ
+longest_line bytes = longest_of (lines_of bytes)

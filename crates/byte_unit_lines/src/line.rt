@@ -1,9 +1,10 @@
 //! The answer to one line.
 
-ghost use Rattle.std.specs.Prelude.{◌≡◌, ◌∷◌, [], ◌++◌, OnOk, OnErr};
+ghost use Rattle.std.specs.Prelude.{◌≡◌, ◌+◌, ◌≤◌, ◌∷◌, [], ◌++◌, OnOk, OnErr, IsOk, vec_len, vec_capacity};
 ghost use Rattle.byte_unit.specs.Errors.{size_fault};
 ghost use Rattle.byte_unit.specs.declared.Kind.TheVariants.{Byte as InBytes, Bit as InBits};
 ghost use Rattle.byte_unit_lines.specs.Answer.{words_of};
+ghost use Rattle.byte_unit_lines.specs.Capacity.{answer_max};
 ghost use Rattle.byte_unit_lines.specs.Lines.{line_end};
 ghost use Rattle.byte_unit_lines.specs.Progress.{AddsAnswer};
 
@@ -11,14 +12,14 @@ use crate::arguments::Kind;
 use byte_unit::{Bit, Byte, FormatSpec, ParseError, ValueParseError};
 use std::alloc::{AllocError, Allocator};
 
-/// The maximum length in bytes of an answer with a size: two strings of at most 37 bytes, ` = ` between them, and the
-/// line end.
-const ROOM: usize = 78;
+/// The maximum length in bytes of an answer: two strings of at most 37 bytes, ` = ` between them, and the line end.
+pub(crate) const ANSWER_MAX: usize = 78;
 
 /// Appends the answer to a line, with its line end.
 ///
 /// # Errors
-/// Returns `AllocError`, and appends nothing, if allocation fails.
+/// Returns `AllocError`, and appends nothing, if allocation fails. It never does if `out` has capacity for
+/// [`ANSWER_MAX`] bytes more.
 pub(crate) fn add_answer<A: Allocator>(
     line: &[u8],
     kind: Kind,
@@ -26,6 +27,9 @@ pub(crate) fn add_answer<A: Allocator>(
 ) -> Result<(), AllocError>
     ensures ok { OnOk result (AddsAnswer kind line.now out.old.items out.new.items) }
     ensures err { OnErr result (out.new.items ≡ out.old.items) }
+    ensures succeeds { vec_len out.old + answer_max ≤ vec_capacity out.old → IsOk result }
+    ensures len { vec_len out.new ≤ vec_len out.old + answer_max }
+    ensures capacity { vec_capacity out.old ≤ vec_capacity out.new }
 {
     match kind {
         Kind::Byte => answer_bytes(line, out),
@@ -37,10 +41,13 @@ pub(crate) fn add_answer<A: Allocator>(
 fn answer_bytes<A: Allocator>(line: &[u8], out: &mut Vec<u8, A>) -> Result<(), AllocError>
     ensures ok { OnOk result (AddsAnswer InBytes line.now out.old.items out.new.items) }
     ensures err { OnErr result (out.new.items ≡ out.old.items) }
+    ensures succeeds { vec_len out.old + answer_max ≤ vec_capacity out.old → IsOk result }
+    ensures len { vec_len out.new ≤ vec_len out.old + answer_max }
+    ensures capacity { vec_capacity out.old ≤ vec_capacity out.new }
 {
     match Byte::parse_bytes(line, false) {
         Some(Ok(size)) => {
-            let mut answer = [0; ROOM];
+            let mut answer = [0; ANSWER_MAX];
             let digits = size.write_text(FormatSpec::PLAIN, &mut answer);
             let form = digits + 3;
             answer[digits..form].copy_from_slice(b" = ");
@@ -57,10 +64,13 @@ fn answer_bytes<A: Allocator>(line: &[u8], out: &mut Vec<u8, A>) -> Result<(), A
 fn answer_bits<A: Allocator>(line: &[u8], out: &mut Vec<u8, A>) -> Result<(), AllocError>
     ensures ok { OnOk result (AddsAnswer InBits line.now out.old.items out.new.items) }
     ensures err { OnErr result (out.new.items ≡ out.old.items) }
+    ensures succeeds { vec_len out.old + answer_max ≤ vec_capacity out.old → IsOk result }
+    ensures len { vec_len out.new ≤ vec_len out.old + answer_max }
+    ensures capacity { vec_capacity out.old ≤ vec_capacity out.new }
 {
     match Bit::parse_bytes(line) {
         Some(Ok(size)) => {
-            let mut answer = [0; ROOM];
+            let mut answer = [0; ANSWER_MAX];
             let digits = size.write_text(FormatSpec::PLAIN, &mut answer);
             let form = digits + 3;
             answer[digits..form].copy_from_slice(b" = ");

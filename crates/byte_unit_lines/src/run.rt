@@ -4,8 +4,10 @@
 //! `line` has the part that was read of a line without a line end so far.
 
 ghost use Rattle.std.specs.Prelude.{◌≡◌, ◌+◌, ◌^◌, ◌<◌, ◌≤◌, ℕ, List, [], slice_index, take, length};
-ghost use Rattle.std.specs.Prelude.{IsTrue, IsErrOf, IfErr, OnOk, OnErr, IfSome, IfNone};
-ghost use Rattle.byte_unit_lines.specs.Lines.{line_end};
+ghost use Rattle.std.specs.Prelude.{IsTrue, IsOk, IsErrOf, IfOk, IfErr, OnOk, OnErr, IfSome, IfNone};
+ghost use Rattle.std.specs.Prelude.{vec_len, vec_capacity};
+ghost use Rattle.byte_unit_lines.specs.Capacity.{HaveCapacity};
+ghost use Rattle.byte_unit_lines.specs.Lines.{line_end, longest_line};
 ghost use Rattle.byte_unit_lines.specs.Outcome.{IsPrefix, IsWritten};
 ghost use Rattle.byte_unit_lines.specs.Progress.{ended_lines, begun_line, IsUnbroken};
 ghost use Rattle.byte_unit_lines.specs.Progress.{AddsAnswers, AddsFirst, IsAnswered};
@@ -14,7 +16,7 @@ ghost use Rattle.byte_unit_lines.specs.Streams.{HasWritten, writing_failed};
 
 use crate::arguments::Kind;
 use crate::laws::each_line_has_an_answer;
-use crate::line::add_answer;
+use crate::line::{ANSWER_MAX, add_answer};
 use crate::reading::Reading;
 use crate::writing::Writing;
 use std::alloc::{AllocError, Allocator, Global};
@@ -97,22 +99,128 @@ pub fn run_in<A: Allocator, R: Read, W: Write>(
     ensures read_failed { IsErrOf result RunError.Read → IsTrue (reading_failed reader.new) }
     ensures write_failed { IsErrOf result RunError.Write → IsTrue (writing_failed writer.new) }
 {
-    // For the proof: if a write fails, the report that was begun has an answer to each unanswered line too.
-    each_line_has_an_answer();
     let mut line = Vec::new(alloc);
     let mut waiting = Vec::new(alloc);
+    run_with_buffers(
+        &mut line,
+        &mut waiting,
+        usize::MAX,
+        buffer,
+        reader,
+        writer,
+        kind,
+    )
+}
+
+/// Does what [`run_in`] does, for lines of at most `longest` bytes, without an allocation after the start.
+///
+/// At the start it allocates `longest` bytes and 79 times the length of `buffer`.
+///
+/// Precondition (proved at every call): `buffer` is not empty.
+///
+/// # Errors
+///
+/// Returns `Err(AllocError)` if an allocation at the start fails; nothing has been read or written then. The inner
+/// result is that of the run, with the errors of [`run`]. There `Memory` means that more than `longest` bytes of a line
+/// have been read without its line end, and so that the line is longer than `longest`. A longer line is answered only if
+/// the read in which it exceeds `longest` returns its line end too, and so never if it has at least as many bytes as
+/// `longest` and the length of `buffer` together.
+pub fn run_with_capacity<A: Allocator, R: Read, W: Write>(
+    alloc: &A,
+    longest: usize,
+    buffer: &mut [u8],
+    reader: &mut Reading<R>,
+    writer: &mut Writing<W>,
+    kind: Kind,
+) -> Result<Result<(), RunError>, AllocError>
+    requires { 0 < length buffer.old }
+    ensures run { IfOk result (λ ended. (read written : List ℕ)
+        × HasRead R.remaining reader.old reader.new read
+        × HasWritten W.contents writer.old writer.new written
+        × IsWritten kind read ended written) }
+    ensures memory { IfOk result (λ ended. IsErrOf ended RunError.Memory → (read : List ℕ)
+        × HasRead R.remaining reader.old reader.new read × (longest < longest_line read)) }
+    ensures bound { IfOk result (λ ended. OnOk ended ((read : List ℕ)
+        × HasRead R.remaining reader.old reader.new read
+        × (longest_line read < longest + length buffer.old))) }
+    ensures end { IfOk result (λ ended. OnOk ended (HasReadAll R.remaining reader.new)) }
+    ensures read_failed { IfOk result
+        (λ ended. IsErrOf ended RunError.Read → IsTrue (reading_failed reader.new)) }
+    ensures write_failed { IfOk result
+        (λ ended. IsErrOf ended RunError.Write → IsTrue (writing_failed writer.new)) }
+    ensures unstarted { OnErr result ((reader.new ≡ reader.old) × (writer.new ≡ writer.old)) }
+{
+    let mut line = Vec::new(alloc);
+    let mut waiting = Vec::new(alloc);
+    let chunk = buffer.len();
+    line.try_reserve_exact(longest.checked_add(chunk).ok_or(AllocError)?)?;
+    waiting.try_reserve_exact(chunk.checked_mul(ANSWER_MAX).ok_or(AllocError)?)?;
+    Ok(run_with_buffers(
+        &mut line,
+        &mut waiting,
+        longest,
+        buffer,
+        reader,
+        writer,
+        kind,
+    ))
+}
+
+/// Does what [`run_in`] does, for lines of at most `longest` bytes, in the caller's buffers.
+///
+/// `line` is for the part that was read of a line without a line end so far, and `waiting` for the answers that are not
+/// written yet.
+///
+/// Precondition (proved at every call): `buffer` is not empty; `line` and `waiting` are empty.
+///
+/// # Errors
+///
+/// Those of [`run`], and `Memory` if more than `longest` bytes of a line have been read without its line end. `Memory`
+/// is returned for no other reason if `line` has capacity for `longest` bytes and a `buffer` more, and `waiting` for 78
+/// times the length of `buffer`.
+pub fn run_with_buffers<A: Allocator, R: Read, W: Write>(
+    line: &mut Vec<u8, A>,
+    waiting: &mut Vec<u8, A>,
+    longest: usize,
+    buffer: &mut [u8],
+    reader: &mut Reading<R>,
+    writer: &mut Writing<W>,
+    kind: Kind,
+) -> Result<(), RunError>
+    requires buffer { 0 < length buffer.old }
+    requires line { line.old.items ≡ [] }
+    requires waiting { waiting.old.items ≡ [] }
+    ensures run { (read written : List ℕ)
+        × HasRead R.remaining reader.old reader.new read
+        × HasWritten W.contents writer.old writer.new written
+        × IsWritten kind read result written }
+    ensures memory { HaveCapacity longest (length buffer.old) line.old waiting.old
+        → IsErrOf result RunError.Memory → (read : List ℕ)
+        × HasRead R.remaining reader.old reader.new read × (longest < longest_line read) }
+    ensures bound { OnOk result ((read : List ℕ)
+        × HasRead R.remaining reader.old reader.new read
+        × (longest_line read < longest + length buffer.old)) }
+    ensures end { OnOk result (HasReadAll R.remaining reader.new) }
+    ensures read_failed { IsErrOf result RunError.Read → IsTrue (reading_failed reader.new) }
+    ensures write_failed { IsErrOf result RunError.Write → IsTrue (writing_failed writer.new) }
+{
+    // For the proof: if a write fails, the report that was begun has an answer to each unanswered line too.
+    each_line_has_an_answer();
     'reads: loop {
         match reader.read(buffer) {
             None => return Err(RunError::Read),
             Some(0) => break 'reads,
-            Some(n) => answer_piece(&mut line, &buffer[..n], kind, &mut waiting, writer)?,
+            Some(n) => answer_piece(line, &buffer[..n], kind, waiting, writer)?,
+        }
+        if line.len() > longest {
+            return Err(RunError::Memory);
         }
     }
     if line.is_empty() {
         Ok(())
     } else {
-        add_answer(&line, kind, &mut waiting)?;
-        write_whole(writer, &waiting)
+        add_answer(line, kind, waiting)?;
+        write_whole(writer, waiting)
     }
 }
 
@@ -139,6 +247,10 @@ fn answer_piece<A: Allocator, W: Write>(
     ensures line { OnOk result (line.new.items ≡ begun_line line.old.items bytes.now) }
     ensures waiting { OnOk result (waiting.new.items ≡ []) }
     ensures failed { IsErrOf result RunError.Write → IsTrue (writing_failed writer.new) }
+    ensures memory { HaveCapacity (vec_len line.old) (length bytes.now) line.old waiting.old
+        → ¬ IsErrOf result RunError.Memory }
+    ensures line_capacity { vec_capacity line.old ≤ vec_capacity line.new }
+    ensures waiting_capacity { vec_capacity waiting.old ≤ vec_capacity waiting.new }
 {
     let fed = feed(line, bytes, kind, waiting);
     // If allocation failed, the answers to the lines before are written all the same.
@@ -164,6 +276,9 @@ fn feed<A: Allocator>(
     ensures ok { OnOk result (AddsAnswers kind (ended_lines line.old.items bytes.now)
         waiting.old.items waiting.new.items) }
     ensures line { OnOk result (line.new.items ≡ begun_line line.old.items bytes.now) }
+    ensures succeeds { HaveCapacity (vec_len line.old) (length bytes.now) line.old waiting.old → IsOk result }
+    ensures line_capacity { vec_capacity line.old ≤ vec_capacity line.new }
+    ensures waiting_capacity { vec_capacity waiting.old ≤ vec_capacity waiting.new }
 {
     let mut rest = bytes;
     while let Some(n) = end_of(rest) {

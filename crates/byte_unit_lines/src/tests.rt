@@ -9,6 +9,7 @@ use crate::run::{RunError, run};
 use crate::writing::Writing;
 use std::alloc::Global;
 
+mod capacity;
 mod chunks;
 mod ended;
 mod endings;

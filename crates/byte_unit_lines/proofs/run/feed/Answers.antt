@@ -1,6 +1,7 @@
-use Rattle.std.proofs.Common.{◌+◌, ◌-◌, ◌++◌, ◌≡◌, length, take, drop, sym, ap, ◌∙◌, vec_len}
+use Rattle.std.proofs.Common.{◌+◌, ◌-◌, ◌++◌, ◌≡◌, length, take, drop, sym, ap, ◌∙◌, arith, length-drop, vec_len}
+use Rattle.std.specs.Prelude.{vec_capacity}
 use Rattle.std.proofs.lemmas.List.{take_rest}
-use Rattle.byte_unit_lines.proofs.Feeding.{Feed, IsAnsweredTo, AddsAnswer-same, IsFed-step}
+use Rattle.byte_unit_lines.proofs.Feeding.{Feed, IsAnsweredTo, AddsAnswer-same, IsFed-step, IsFedWithin}
 use Rattle.byte_unit_lines.proofs.Runs.{empty_from_length}
 use Rattle.byte_unit_lines.proofs.run.feed.Goals.{then-is_empty+in_ok-add_answer}
 use Rattle.byte_unit_lines.proofs.run.feed.Goals.{else-is_empty+in_ok-extend_from_slice+in_ok-add_answer-2}
@@ -42,4 +43,39 @@ loop-n-preserved g c =
             rest_is = rest_is;
           }
     ] in
-    IsFed-step c.args.kind start now next place c.loop-n.invariant answered
+    let so_far = c.loop-n.invariant in
+    let within = ends.0 in
+    let left = ap length rest_is ∙ length-drop (place + 1) rest in
+    let fits : IsFedWithin c.args.line.now c.args.waiting.now c.args.bytes.now c.if-is_empty.line c.if-is_empty.waiting next.rest = elim c.if-is_empty.branch [
+      | then-is_empty+in_ok-add_answer w ↦
+          let same = ap (λ line. vec_len line) w.line-is in
+          let added = ap (λ waiting. vec_len waiting) w.waiting-is in
+          record {
+            line_len = omega (arith, so_far.0.line_len, same, left, within);
+            answers_len = omega (arith, so_far.0.answers_len, added, w.add_answer.ensures.len, left, within);
+            line_capacity = omega (arith, so_far.0.line_capacity, ap (λ line. vec_capacity line) w.line-is);
+            answers_capacity =
+                omega (arith, so_far.0.answers_capacity, ap (λ waiting. vec_capacity waiting) w.waiting-is, w.add_answer.ensures.capacity);
+          }
+      | else-is_empty+in_ok-extend_from_slice+in_ok-add_answer-2 w ↦
+          let cleared = ap (λ line. vec_len line) w.line-is in
+          let added = ap (λ waiting. vec_len waiting) w.waiting-is in
+          record {
+            line_len = omega (arith, so_far.0.line_len, cleared, w.clear.ensures.len, left, within);
+            answers_len = omega (arith, so_far.0.answers_len, added, w.add_answer-else-is_empty.ensures.len, left, within);
+            line_capacity = omega (
+              arith,
+              so_far.0.line_capacity,
+              ap (λ line. vec_capacity line) w.line-is,
+              w.extend_from_slice.ensures.capacity,
+              w.clear.ensures.capacity,
+            );
+            answers_capacity = omega (
+              arith,
+              so_far.0.answers_capacity,
+              ap (λ waiting. vec_capacity waiting) w.waiting-is,
+              w.add_answer-else-is_empty.ensures.capacity,
+            );
+          }
+    ] in
+    (fits, IsFed-step c.args.kind start now next place so_far.1 answered)

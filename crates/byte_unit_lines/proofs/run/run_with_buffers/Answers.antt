@@ -1,0 +1,210 @@
+use Rattle.std.proofs.Common.{◌≡◌, ◌≢◌, ◌+◌, ◌≤◌, [], ◌++◌, refl, sym, ap, subst, ◌∙◌, take, length, vec_len, arith, rules}
+use Rattle.std.proofs.lemmas.List.{length-take}
+use Rattle.std.proofs.lemmas.Result.{on_ok_weaker}
+use Rattle.std.proofs.KnownBytes.{Consumes-kept}
+use Rattle.byte_unit_lines.specs.Answer.{IsAnswer}
+use Rattle.byte_unit_lines.specs.Streams.{reader_of, writer_of}
+use Rattle.byte_unit_lines.specs.declared.run.RunError.TheVariants.{Memory}
+use Rattle.byte_unit_lines.specs.Progress.{begun_line}
+use Rattle.byte_unit_lines.proofs.Lines.{begun_line-append}
+use Rattle.byte_unit_lines.proofs.Longest.{longest_of-ended_lines-append, longest_line-unfinished, longest_line-below}
+use Rattle.byte_unit_lines.proofs.Runs.{Course, IsServed, course_of, Consumes-piece, Consumes-at_end, Appends-more}
+use Rattle.byte_unit_lines.proofs.Runs.{HasServed-piece, finished_lines_answered}
+use Rattle.byte_unit_lines.proofs.Runs.{empty_from_length, nonempty_from_length, IsWritten-piece, IsWritten-error}
+use Rattle.byte_unit_lines.proofs.Runs.{report_without_last_line, first_lines_answered, IsWrittenBy}
+use Rattle.byte_unit_lines.proofs.Runs.{IsWritten-last_line}
+use Rattle.byte_unit_lines.proofs.run.run_with_buffers.Goals as goal
+
+pub returns-in-None-clause-run : goal.returns-in-None-clause-run
+returns-in-None-clause-run g c =
+    let left = g.R.Read.remaining (reader_of c.args.reader.now) in
+    let between = g.R.Read.remaining (reader_of c.reads.reader) in
+    let rest = g.R.Read.remaining (reader_of c.read.new.self) in
+    let so_far = c.reads.invariant.0 in (
+      so_far.read,
+      so_far.written,
+      Consumes-kept left between rest so_far.read so_far.gave c.in-None.ensures.none,
+      so_far.took,
+      finished_lines_answered c.args.kind (course_of so_far) so_far.served,
+    )
+
+pub reads-init : goal.reads-init
+reads-init g c = (
+  record {
+    read = [];
+    written = [];
+    gave = search rules;
+    took = search rules;
+    served = record { answered = refl; begun = c.requires.line };
+    none_wait = c.requires.waiting;
+  },
+  record {
+    finished = omega (arith, c.requires.buffer);
+    unfinished = omega (arith, c.args.line.now.ok.0, ap length c.requires.line);
+    line_capacity = omega arith;
+    answers_capacity = omega arith;
+  },
+)
+
+pub reads-preserved : goal.reads-preserved
+reads-preserved g c =
+    let rest = g.R.Read.remaining (reader_of c.read.new.self) in
+    let holds = g.W.Write.contents (writer_of c.answer_piece.new.writer) in
+    let so_far = c.reads.invariant.0 in
+    let within = c.reads.invariant.1 in
+    let piece = take c.in-Some.n c.read.new.buf in
+    let fed = c.in_ok-answer_piece-in-Some.ensures in
+    let answers = fed.written in
+    let line = c.answer_piece.new.line in
+    let begun : length (begun_line [] so_far.read) ≤ c.args.longest =
+    omega (arith, ap length so_far.served.begun, c.reads.line.ok.0, within.unfinished) in
+    let short : length piece ≤ length c.args.buffer.now =
+    omega (arith, length-take c.in-Some.n c.read.new.buf, c.read.auto.buf, c.reads.auto.buffer) in (
+      HasServed-piece so_far rest holds piece answers.0 line.items c.answer_piece.new.waiting.items c.in-Some.ensures.came
+          answers.1 answers.2 fed.line fed.waiting,
+      record {
+        finished = longest_of-ended_lines-append so_far.read piece (c.args.longest + length c.args.buffer.now) within.finished
+            (omega (arith, begun, short));
+        unfinished = omega (arith, c.if-len-longest.false, c.len.ensures);
+        line_capacity = omega (arith, within.line_capacity, fed.line_capacity);
+        answers_capacity = omega (arith, within.answers_capacity, fed.waiting_capacity);
+      },
+    )
+
+pub returns-then-len-longest-clause-run : goal.returns-then-len-longest-clause-run
+returns-then-len-longest-clause-run g c =
+    let rest = g.R.Read.remaining (reader_of c.read.new.self) in
+    let holds = g.W.Write.contents (writer_of c.answer_piece.new.writer) in
+    let so_far = c.reads.invariant.0 in
+    let piece = take c.in-Some.n c.read.new.buf in
+    let fed = c.in_ok-answer_piece-in-Some.ensures in
+    let answers = fed.written in
+    let next = HasServed-piece so_far rest holds piece answers.0 c.answer_piece.new.line.items c.answer_piece.new.waiting.items
+    c.in-Some.ensures.came answers.1 answers.2 fed.line fed.waiting in
+    (next.read, next.written, next.gave, next.took, first_lines_answered c.args.kind (course_of next) next.served)
+
+pub returns-then-len-longest-clause-memory : goal.returns-then-len-longest-clause-memory
+returns-then-len-longest-clause-memory g c = λ _ _.
+    let rest = g.R.Read.remaining (reader_of c.read.new.self) in
+    let so_far = c.reads.invariant.0 in
+    let piece = take c.in-Some.n c.read.new.buf in
+    let read = so_far.read ++ piece in
+    let line = c.answer_piece.new.line in
+    let fed = c.in_ok-answer_piece-in-Some.ensures in
+    let begun : line.items ≡ begun_line [] read =
+    fed.line ∙ ap (λ begun. begun_line begun piece) so_far.served.begun ∙ sym (begun_line-append [] so_far.read piece) in
+    let long = longest_line-unfinished read line.items begun in (
+      read,
+      Consumes-piece so_far rest piece c.in-Some.ensures.came,
+      omega (arith, long, c.if-len-longest.true, c.len.ensures, line.ok.0),
+    )
+
+pub returns-then-is_empty-clause-bound : goal.returns-then-is_empty-clause-bound
+returns-then-is_empty-clause-bound g c =
+    let rest = g.R.Read.remaining (reader_of c.read.new.self) in
+    let so_far = c.reads.invariant.0 in
+    let within = c.reads.invariant.1 in
+    let end = c.in-Some-eq0 in
+    let none = ap (λ count. take count c.read.new.buf) end.field-0-test in
+    let line = c.reads.line in
+    let bound = c.args.longest + length c.args.buffer.now in (
+      so_far.read,
+      Consumes-at_end so_far rest (take end.field-0 c.read.new.buf) end.ensures.came none,
+      longest_line-below so_far.read line.items bound so_far.served.begun within.finished
+          (omega (arith, within.unfinished, line.ok.0, c.requires.buffer)),
+    )
+
+pub returns-in_ok-add_answer-clause-bound : goal.returns-in_ok-add_answer-clause-bound
+returns-in_ok-add_answer-clause-bound g c =
+    let rest = g.R.Read.remaining (reader_of c.read.new.self) in
+    let so_far = c.reads.invariant.0 in
+    let within = c.reads.invariant.1 in
+    let end = c.in-Some-eq0 in
+    let none = ap (λ count. take count c.read.new.buf) end.field-0-test in
+    let line = c.reads.line in
+    let bound = c.args.longest + length c.args.buffer.now in
+    on_ok_weaker c.write_whole.result (λ _. (
+      so_far.read,
+      Consumes-at_end so_far rest (take end.field-0 c.read.new.buf) end.ensures.came none,
+      longest_line-below so_far.read line.items bound so_far.served.begun within.finished
+          (omega (arith, within.unfinished, line.ok.0, c.requires.buffer)),
+    )) c.write_whole.ensures.ok
+
+pub returns-in_err-answer_piece-in-Some-clause-run : goal.returns-in_err-answer_piece-in-Some-clause-run
+returns-in_err-answer_piece-in-Some-clause-run g c =
+    let rest = g.R.Read.remaining (reader_of c.read.new.self) in
+    let holds = g.W.Write.contents (writer_of c.answer_piece.new.writer) in
+    let each = c.each_line_has_an_answer.ensures in
+    let so_far = c.reads.invariant.0 in
+    let piece = take c.in-Some.n c.read.new.buf in
+    let failed = c.in_err-answer_piece-in-Some in
+    let error = failed.field-0.0 in
+    let answers = failed.ensures.written in
+    let read = so_far.read ++ piece in
+    let written = so_far.written ++ answers.0 in
+    let at = IsWritten-piece each c.args.kind (course_of so_far) so_far.served piece error answers.0 answers.2 in (
+      read,
+      written,
+      Consumes-piece so_far rest piece c.in-Some.ensures.came,
+      Appends-more so_far holds answers.0 answers.1,
+      IsWritten-error c.args.kind read written c.from_residual.result error c.from_residual.ensures.1 at,
+    )
+
+pub returns-then-is_empty-clause-run : goal.returns-then-is_empty-clause-run
+returns-then-is_empty-clause-run g c =
+    let rest = g.R.Read.remaining (reader_of c.read.new.self) in
+    let so_far = c.reads.invariant.0 in
+    let end = c.in-Some-eq0 in
+    let none = ap (λ count. take count c.read.new.buf) end.field-0-test in
+    let empty = empty_from_length c.reads.line.items (vec_len c.reads.line) c.reads.line.ok.0 c.if-is_empty.ensures in (
+      so_far.read,
+      so_far.written,
+      Consumes-at_end so_far rest (take end.field-0 c.read.new.buf) end.ensures.came none,
+      so_far.took,
+      report_without_last_line c.args.kind (course_of so_far) so_far.served empty,
+    )
+
+pub returns-in_err-add_answer-clause-run : goal.returns-in_err-add_answer-clause-run
+returns-in_err-add_answer-clause-run g c =
+    let rest = g.R.Read.remaining (reader_of c.read.new.self) in
+    let so_far = c.reads.invariant.0 in
+    let end = c.in-Some-eq0 in
+    let none = ap (λ count. take count c.read.new.buf) end.field-0-test in
+    let error = c.from_residual-in_err-add_answer in
+    let at = first_lines_answered c.args.kind (course_of so_far) so_far.served in (
+      so_far.read,
+      so_far.written,
+      Consumes-at_end so_far rest (take end.field-0 c.read.new.buf) end.ensures.came none,
+      so_far.took,
+      IsWritten-error c.args.kind so_far.read so_far.written error.result Memory error.ensures.1 at,
+    )
+
+pub returns-in_ok-add_answer-clause-run : goal.returns-in_ok-add_answer-clause-run
+returns-in_ok-add_answer-clause-run g c =
+    let rest = g.R.Read.remaining (reader_of c.read.new.self) in
+    let held = g.W.Write.contents (writer_of c.reads.writer) in
+    let holds = g.W.Write.contents (writer_of c.write_whole.new.writer) in
+    let so_far = c.reads.invariant.0 in
+    let end = c.in-Some-eq0 in
+    let none = ap (λ count. take count c.read.new.buf) end.field-0-test in
+    let line = c.deref.result.now in
+    let begun = nonempty_from_length c.reads.line.items (vec_len c.reads.line) c.reads.line.ok.0 c.if-is_empty.ensures in
+    let some : line ≢ [] = λ empty. begun (sym c.deref.ensures.value ∙ empty) in
+    let course : Course = record { read = so_far.read; written = so_far.written; line = line } in
+    let served : IsServed c.args.kind course =
+    record { answered = so_far.served.answered; begun = c.deref.ensures.value ∙ so_far.served.begun } in
+    let added = c.in_ok-add_answer.ensures.ok in
+    let bytes = c.deref-else-is_empty.result.now in
+    let same : added.0 ≡ bytes =
+    sym (c.deref-else-is_empty.ensures.value ∙ added.2 ∙ ap (λ before. before ++ added.0) so_far.none_wait) in
+    let is_answer = subst (IsAnswer c.args.kind line) same added.1 in
+    let write = c.write_whole.ensures in
+    let by : IsWrittenBy held holds bytes c.write_whole.result =
+    record { whole = write.ok; part = write.err; error = write.write } in
+    let answer = IsWritten-last_line c.args.kind course served some bytes is_answer c.write_whole.result by in (
+      so_far.read,
+      so_far.written ++ answer.0,
+      Consumes-at_end so_far rest (take end.field-0 c.read.new.buf) end.ensures.came none,
+      Appends-more so_far holds answer.0 answer.1,
+      answer.2,
+    )
