@@ -7,7 +7,9 @@ ghost use Rattle.byte_unit_serde.specs.Stored.{ReadsString, SpellsUnit};
 
 use crate::{bit, byte, unit};
 use byte_unit::{Bit, Byte, Unit};
-use serde::{Described, Deserialize, DeserializeOwned, Deserializer, Format, Serialize, Serializer};
+use serde::{
+    Described, Deserialize, DeserializeOwned, Deserializer, Format, Serialize, Serializer,
+};
 use std::alloc::Global;
 
 /// A `Byte`, `Bit` or `Unit` that is written and read as a string, for fields and items of collections.

@@ -1,11 +1,12 @@
 //! Sizes as options of a command line.
 
-ghost use Rattle.std.specs.Prelude.{◌≡◌, ℕ, List, Some, None, IfOk, IfErr, codes, map, false};
-ghost use Rattle.clap.specs.Words.{found_of, kind_of, matches_of, one_of, one_text};
+ghost use Rattle.std.specs.Prelude.{◌≡◌, ℕ, List, Some, None, IfOk, IfErr, codes, true, false};
+ghost use Rattle.clap.specs.Walk.{texts};
+ghost use Rattle.clap.specs.Words.{found_of, one_text, takes};
 ghost use Rattle.byte_unit.specs.Accepted.{IsAccepted, IsRejected};
 ghost use Rattle.byte_unit.specs.Errors.{size_fault};
 ghost use Rattle.byte_unit.specs.declared.Kind.TheVariants.{Byte as InBytes};
-ghost use Rattle.byte_unit_uses.specs.CommandLine.{IsOption, copy_app};
+ghost use Rattle.byte_unit_uses.specs.CommandLine.{IsOption, IsOptionError, copy_app, option_value};
 
 use byte_unit::{Byte, ParseError};
 use clap::error::ErrorKind;
@@ -38,8 +39,9 @@ pub fn size_option(matches: &ArgMatches<'_>) -> Result<Option<Byte>, ParseError>
 /// Returns an error that names the value and the reason if the value represents no size, and the error of `clap` if it
 /// rejects the command line, or the command line asks for help.
 pub fn max_size<'a>(alloc: Global, words: &'a [&'a str]) -> Result<Option<Byte>, Error>
-    ensures { IfOk result (IsOption
-        (one_of (codes "max-size") (matches_of copy_app (map (λ word. word.now) words.now)))) }
+    ensures size { IfOk result (IsOption (option_value words.now)) }
+    ensures reason { takes copy_app (texts words.now) ≡ true
+        → IfErr result (IsOptionError (option_value words.now)) }
 {
     let option = Arg::new(alloc, "max-size").long("max-size");
     let mut command = Command::new(alloc, "copy").arg(option)?;
