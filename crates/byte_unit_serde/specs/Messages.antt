@@ -4,7 +4,7 @@ use Rattle.byte_unit.specs.Fault.{Fault, exceeded, not_number, no_value, too_lon
 
 -- The message for a string that is rejected with this error.
 abbrev pub message_of : Fault → List ℕ
-message_of (exceeded number) = codes "size too large"
+message_of (exceeded number) = codes "out of range"
 message_of (not_number c) = codes "not a number"
 message_of no_value = codes "no value"
 message_of too_long = codes "number too long"

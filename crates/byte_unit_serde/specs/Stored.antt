@@ -1,7 +1,7 @@
 -- What is written for a size or a unit, and what is read as one.
-use Rattle.std.specs.Prelude.{◌≡◌, ℕ, List, Option, Some, None, MatchOption, true, false}
-use Rattle.serde.specs.Event.{Event, Log, Logs, text, nothing}
-use Rattle.serde.specs.Steps.{Gives, Begins}
+use Rattle.std.specs.Prelude.{◌≡◌, ℕ, List, [], ◌∷◌, Option, Some, None, true, false}
+use Rattle.serde.specs.Event.{Event, Log, Logs, text, nothing, seq_begins, seq_ends}
+use Rattle.serde.specs.Steps.{Gives, Begins, Stays}
 use Rattle.serde.specs.declared.deserializer.Deserializer.{Deserializer}
 use Rattle.byte_unit.specs.Version.{current, unit_name}
 use Rattle.byte_unit.specs.Units.{shape_of}
@@ -38,3 +38,20 @@ abbrev pub ReadsOption :
 ReadsOption Means gives stays old new None = Gives gives old nothing new
 ReadsOption Means gives stays old new (Some value) =
     (bytes : List ℕ) × Means bytes value × Begins gives stays old (text bytes) new
+
+-- The format gave, one after the other and each after a look, strings that have these meanings.
+abbrev pub ReadsEach :
+    {A F E M : Type 0} → (List ℕ → A → Type 0) → (F → List ℕ → Event → F → Type 0) → (F → F → Type 0)
+    → Deserializer F E M → Deserializer F E M → List A → Type 0
+ReadsEach Means gives stays old new [] = new ≡ old
+ReadsEach {A} {F} {E} {M} Means gives stays old new (value ∷ values) =
+    (looked next : Deserializer F E M) × Stays stays old looked × ReadsString Means gives looked next value
+    × ReadsEach Means gives stays next new values
+
+-- The format gave a sequence of strings that have these meanings, from its begin to its end.
+abbrev pub ReadsSeq :
+    {A F E M : Type 0} → (List ℕ → A → Type 0) → (F → List ℕ → Event → F → Type 0) → (F → F → Type 0)
+    → Deserializer F E M → Deserializer F E M → List A → Type 0
+ReadsSeq {A} {F} {E} {M} Means gives stays old new values =
+    (first last : Deserializer F E M) × Gives gives old (seq_begins None) first
+    × ReadsEach Means gives stays first last values × Gives gives last seq_ends new

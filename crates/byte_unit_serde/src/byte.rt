@@ -19,6 +19,7 @@ pub fn serialize<S: Serializer>(size: &Byte, out: &mut S) -> Result<(), S::Error
     ensures { OnOk result
         (WritesSize InBytes size.now (S.written out.old) (S.written out.new)) }
 {
+    // As long as the longest text without a width.
     let mut bytes = [0; 37];
     let len = size.write_text(FormatSpec::ALTERNATE, &mut bytes);
     match std::str::from_utf8(&bytes[..len]) {

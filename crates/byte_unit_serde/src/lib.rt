@@ -2,7 +2,9 @@
 #![tactic(auto)]
 
 pub mod bit;
+pub mod bit_vec;
 pub mod byte;
+pub mod byte_vec;
 mod messages;
 pub mod optional_bit;
 pub mod optional_byte;

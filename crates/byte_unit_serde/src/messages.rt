@@ -15,7 +15,7 @@ pub(crate) fn size_message(error: &ParseError) -> &'static str
     ensures { result.now ≡ message_of (size_fault error.now) }
 {
     match error {
-        ParseError::Value(ValueParseError::ExceededBounds(_)) => "size too large",
+        ParseError::Value(ValueParseError::ExceededBounds(_)) => "out of range",
         ParseError::Value(ValueParseError::NotNumber(_)) => "not a number",
         ParseError::Value(ValueParseError::NoValue) => "no value",
         ParseError::Value(ValueParseError::NumberTooLong) => "number too long",

@@ -1,6 +1,6 @@
 //! Sizes and units from TOML values.
 
-ghost use Rattle.std.specs.Prelude.{false, true, ⊤};
+ghost use Rattle.std.specs.Prelude.{false, true};
 ghost use Rattle.toml.specs.Data.{as_str};
 ghost use Rattle.toml.specs.View.{view};
 ghost use Rattle.byte_unit.specs.JsonReading.{ReadsString};
@@ -80,7 +80,7 @@ pub fn byte_from_toml(value: &Value) -> Result<Byte, TomlSizeError>
         (as_str (view value.now)) result }
 {
     let text = value.as_str().ok_or(TomlSizeError::NotString)?;
-    text.parse().map_err(TomlSizeError::Parse)
+    text.parse::<Byte>().map_err(TomlSizeError::Parse)
 }
 
 /// Parses a size in bits from a TOML string, as `FromStr` parses its text. Does not allocate.
@@ -102,7 +102,7 @@ pub fn bit_from_toml(value: &Value) -> Result<Bit, TomlSizeError>
     ensures { ReadsString size_errors (IsSizeReading InBits false) (as_str (view value.now)) result }
 {
     let text = value.as_str().ok_or(TomlSizeError::NotString)?;
-    text.parse().map_err(TomlSizeError::Parse)
+    text.parse::<Bit>().map_err(TomlSizeError::Parse)
 }
 
 /// Parses a unit from a TOML string, as `FromStr` parses its text: `b` means bits, `B` bytes, and a prefix alone is a
@@ -126,5 +126,5 @@ pub fn unit_from_toml(value: &Value) -> Result<Unit, TomlUnitError>
         (as_str (view value.now)) result }
 {
     let text = value.as_str().ok_or(TomlUnitError::NotString)?;
-    text.parse().map_err(TomlUnitError::Unit)
+    text.parse::<Unit>().map_err(TomlUnitError::Unit)
 }

@@ -15,7 +15,7 @@ const REJECTED: &[(&str, &str)] = &[
     ("\"much\"", "not a number"),
     ("\"\"", "no value"),
     ("\"1.12345678901234567890123456789\"", "number too long"),
-    ("\"1000 RB\"", "size too large"),
+    ("\"1000 RB\"", "out of range"),
 ];
 
 /// Reads the value of `limit` from a TOML document.
@@ -104,10 +104,14 @@ struct Report {
     most: Option<Bit>,
     #[serde(with = "byte_unit_serde::optional_unit", default)]
     other: Option<Unit>,
+    #[serde(with = "byte_unit_serde::byte_vec")]
+    parts: Vec<Byte>,
+    #[serde(with = "byte_unit_serde::bit_vec")]
+    rates: Vec<Bit>,
 }
 
 const FULL: &str =
-    "{\"size\":\"20 MB\",\"rate\":\"8 Mb\",\"unit\":\"GiB\",\"limit\":\"1 GiB\",\"most\":\"1 Kb\",\"other\":\"Kb\"}";
+    "{\"size\":\"20 MB\",\"rate\":\"8 Mb\",\"unit\":\"GiB\",\"limit\":\"1 GiB\",\"most\":\"1 Kb\",\"other\":\"Kb\",\"parts\":[\"1 KB\",\"0 B\"],\"rates\":[\"1 Kb\"]}";
 
 #[test]
 fn fields_of_a_struct(rt: HostRuntime) -> Result<(), Fail> {
@@ -119,8 +123,11 @@ fn fields_of_a_struct(rt: HostRuntime) -> Result<(), Fail> {
     assert_is(&rt, report.limit, Some(Byte::GIBIBYTE));
     assert_is(&rt, report.most, Some(Bit::from_u64(1000)));
     assert_is(&rt, report.other, Some(Unit::Kbit));
+    assert!(rt; report.parts.as_slice() == [Byte::KILOBYTE, Byte::MIN].as_slice());
+    assert!(rt; report.rates.as_slice() == [Bit::KILOBIT].as_slice());
     assert_is(&rt, serde_json::to_string(alloc, &report)?.as_str(), FULL);
-    let document = "size = \"20 MB\"\nrate = \"8 Mb\"\nunit = \"GiB\"\n";
+    let document =
+        "size = \"20 MB\"\nrate = \"8 Mb\"\nunit = \"GiB\"\nparts = [\"1 KB\"]\nrates = []\n";
     let report: Report = toml::from_str(alloc, document)?;
     assert!(rt; report.limit.is_none() && report.most.is_none() && report.other.is_none());
     assert_is(&rt, toml::to_string(alloc, &report)?.as_str(), document);
