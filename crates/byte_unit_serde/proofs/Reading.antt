@@ -1,5 +1,5 @@
 -- Lemmas on sequences that are read.
-use Rattle.std.proofs.Common.{◌≡◌, ℕ, List, [], ◌∷◌, ◌++◌, refl, subst, sym}
+use Rattle.std.proofs.Common.{ℕ, List, [], ◌∷◌, ◌++◌, refl, subst}
 use Rattle.serde.specs.Event.{Event}
 use Rattle.serde.specs.Steps.{Stays}
 use Rattle.serde.specs.declared.deserializer.Deserializer.{Deserializer}

@@ -1,6 +1,6 @@
 -- The errors of sizes and units that are read from TOML strings.
-use Rattle.std.specs.Prelude.{ℕ, List, Option, Some, None, codes}
-use Rattle.byte_unit.specs.FaultText.{parse_text, styled_parse_text, unit_text}
+use Rattle.std.specs.Prelude.{ℕ, List, Option, Some, codes}
+use Rattle.byte_unit.specs.FaultText.{parse_text, unit_text}
 use Rattle.byte_unit.specs.JsonReading.{JsonErrors}
 use Rattle.byte_unit.specs.declared.ParseError.{ParseError}
 use Rattle.byte_unit.specs.declared.UnitParseError.{UnitParseError}

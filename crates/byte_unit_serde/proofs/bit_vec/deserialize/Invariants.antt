@@ -6,4 +6,5 @@ use Rattle.byte_unit_serde.specs.Stored.{ReadsEach}
 use Rattle.byte_unit_serde.proofs.bit_vec.deserialize.Given as goal
 
 abbrev pub invariant-loop : goal.invariant-loop
-invariant-loop g l = ReadsEach (IsAccepted InBits false) g.F.Format.gives g.F.Format.stays l.initial.from l.from l.items.items
+invariant-loop g l =
+    ReadsEach (IsAccepted InBits false) g.F.Format.gives g.F.Format.stays l.initial.from l.from l.items.items

@@ -7,7 +7,13 @@ use Rattle.byte_unit_serde.specs.Stored.{WritesSize}
 use Rattle.byte_unit_serde.proofs.bit_vec.serialize.Goals as goal
 
 pub loop-item-preserved : goal.loop-item-preserved
-loop-item-preserved g c = WritesEach-more (WritesSize InBits) _ _ _ _ _ _ c.loop-item-test.true c.item-item.is c.loop-item.invariant c.in_ok-serialize.ensures
+loop-item-preserved g c =
+    WritesEach-more (WritesSize InBits) _ _ _ _ _ _ c.loop-item-test.true c.item-item.is c.loop-item.invariant
+    c.in_ok-serialize.ensures
 
 pub returns : goal.returns
-returns g c = on_ok_weaker c.end_seq.result (WritesSeq-ends (WritesSize InBits) _ _ _ c.len.result _ _ _ _ c.deref-item-items.ensures.value (search rules) c.loop-item-test.false c.in_ok-begin_seq.ensures c.loop-item.invariant) c.end_seq.ensures
+returns g c =
+    on_ok_weaker c.end_seq.result
+    (WritesSeq-ends (WritesSize InBits) _ _ _ c.len.result _ _ _ _ c.deref-item-items.ensures.value (search rules)
+    c.loop-item-test.false c.in_ok-begin_seq.ensures c.loop-item.invariant)
+    c.end_seq.ensures

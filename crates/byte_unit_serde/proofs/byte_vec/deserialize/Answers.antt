@@ -14,6 +14,7 @@ pub loop-preserved : goal.loop-preserved
 loop-preserved g c =
     let pushed : c.push.new.self.items ≡ c.loop.items.items ++ c.in_ok-item.item ∷ [] = search rules in
     let looks : Stays g.F.Format.stays c.loop.from c.next_item.new.self = search rules in
-    subst (λ items. ReadsEach (IsAccepted InBytes false) g.F.Format.gives g.F.Format.stays c.begin_seq.new.self c.deserialize.new.from items)
-    (sym pushed)
-    (reads_each_snoc (IsAccepted InBytes false) g.F.Format.gives g.F.Format.stays c.loop.items.items c.in_ok-item.item _ c.loop.from c.next_item.new.self c.deserialize.new.from c.loop.invariant looks c.in_ok-item.ensures)
+    let more = reads_each_snoc (IsAccepted InBytes false) g.F.Format.gives g.F.Format.stays c.loop.items.items c.in_ok-item.item
+    _ c.loop.from c.next_item.new.self c.deserialize.new.from c.loop.invariant looks c.in_ok-item.ensures in
+    subst (λ items. ReadsEach (IsAccepted InBytes false) g.F.Format.gives g.F.Format.stays c.begin_seq.new.self
+    c.deserialize.new.from items) (sym pushed) more
