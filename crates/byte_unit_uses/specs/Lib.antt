@@ -1,3 +1,4 @@
 pub mod Capped
+pub mod CommandLine
 pub mod Quota
 pub mod EntryView

@@ -4,6 +4,7 @@
 
 pub mod adjusted;
 pub mod capped;
+pub mod command_line;
 pub mod defaults;
 pub mod entry;
 pub mod limit;

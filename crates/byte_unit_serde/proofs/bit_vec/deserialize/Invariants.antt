@@ -1,0 +1,10 @@
+-- Rendered from crates/byte_unit_serde/proofs/byte_vec/deserialize/Invariants.antt by tools/mirror. Do not edit.
+use Rattle.std.proofs.Common.{false}
+use Rattle.byte_unit.specs.Accepted.{IsAccepted}
+use Rattle.byte_unit.specs.declared.Kind.TheVariants.{Bit as InBits}
+use Rattle.byte_unit_serde.specs.Stored.{ReadsEach}
+use Rattle.byte_unit_serde.proofs.bit_vec.deserialize.Given as goal
+
+abbrev pub invariant-loop : goal.invariant-loop
+invariant-loop g l =
+    ReadsEach (IsAccepted InBits false) g.F.Format.gives g.F.Format.stays l.initial.from l.from l.items.items

@@ -1,0 +1,9 @@
+use Rattle.std.proofs.Common.{false}
+use Rattle.byte_unit.specs.Accepted.{IsAccepted}
+use Rattle.byte_unit.specs.declared.Kind.TheVariants.{Byte as InBytes}
+use Rattle.byte_unit_serde.specs.Stored.{ReadsEach}
+use Rattle.byte_unit_serde.proofs.byte_vec.deserialize.Given as goal
+
+abbrev pub invariant-loop : goal.invariant-loop
+invariant-loop g l =
+    ReadsEach (IsAccepted InBytes false) g.F.Format.gives g.F.Format.stays l.initial.from l.from l.items.items

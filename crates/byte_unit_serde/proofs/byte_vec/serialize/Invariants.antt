@@ -1,0 +1,10 @@
+use Rattle.std.proofs.Common.{take}
+use Rattle.serde.specs.Event.{WritesEach}
+use Rattle.byte_unit.specs.declared.Kind.TheVariants.{Byte as InBytes}
+use Rattle.byte_unit_serde.specs.Stored.{WritesSize}
+use Rattle.byte_unit_serde.proofs.byte_vec.serialize.Given as goal
+
+abbrev pub invariant-loop-item : goal.invariant-loop-item
+invariant-loop-item g l =
+    WritesEach (WritesSize InBytes) (take l.item-index l.item-items) (g.S.Serializer.written l.initial.out)
+    (g.S.Serializer.written l.out)

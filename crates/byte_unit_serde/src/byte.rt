@@ -1,0 +1,46 @@
+//! A size in bytes as a string, for `#[serde(with = "byte_unit_serde::byte")]`.
+
+ghost use Rattle.std.specs.Prelude.{false, IfOk, OnOk};
+ghost use Rattle.byte_unit.specs.Accepted.{IsAccepted};
+ghost use Rattle.byte_unit.specs.declared.Kind.TheVariants.{Byte as InBytes};
+ghost use Rattle.byte_unit_serde.specs.Stored.{ReadsString, WritesSize};
+
+use crate::messages::size_message;
+use byte_unit::{Byte, FormatSpec};
+use serde::{Deserializer, Format, Serializer};
+use std::alloc::Global;
+
+/// Writes the string of the size: its text with a unit, by `FormatSpec::ALTERNATE`. Does not allocate.
+///
+/// # Errors
+///
+/// Returns the format's error if the format cannot write a string.
+pub fn serialize<S: Serializer>(size: &Byte, out: &mut S) -> Result<(), S::Error>
+    ensures { OnOk result
+        (WritesSize InBytes size.now (S.written out.old) (S.written out.new)) }
+{
+    // As long as the longest text without a width.
+    let mut bytes = [0; 37];
+    let len = size.write_text(FormatSpec::ALTERNATE, &mut bytes);
+    match std::str::from_utf8(&bytes[..len]) {
+        Ok(text) => out.str(text),
+        Err(_) => Err(out.custom("not UTF-8")),
+    }
+}
+
+/// Reads a string as `FromStr` parses it.
+///
+/// # Errors
+///
+/// Returns the format's error if the value is not a string, or the string is rejected.
+pub fn deserialize<'de, F: Format>(
+    alloc: Global,
+    from: &mut Deserializer<'de, '_, F>,
+) -> Result<Byte, F::Error>
+    ensures { IfOk result
+        (ReadsString (IsAccepted InBytes false) F.gives from.old from.new) }
+{
+    let text = from.string(alloc)?;
+    text.parse::<Byte>()
+        .map_err(|error| from.custom(size_message(&error)))
+}

@@ -1,0 +1,19 @@
+//! Sizes and units as fields of types that derive the traits of `serde`, and in TOML.
+#![tactic(auto)]
+
+pub mod bit;
+pub mod bit_vec;
+pub mod byte;
+pub mod byte_vec;
+mod messages;
+pub mod optional_bit;
+pub mod optional_byte;
+pub mod optional_unit;
+mod stored;
+mod toml_values;
+pub mod unit;
+
+pub use stored::Stored;
+pub use toml_values::{
+    TomlSizeError, TomlUnitError, bit_from_toml, byte_from_toml, unit_from_toml,
+};

@@ -1,0 +1,45 @@
+//! A size in bytes as a string, or nothing, for `#[serde(with = "byte_unit_serde::optional_byte", default)]`.
+
+ghost use Rattle.std.specs.Prelude.{false, IfOk, OnOk};
+ghost use Rattle.serde.specs.Event.{WritesOption};
+ghost use Rattle.byte_unit.specs.Accepted.{IsAccepted};
+ghost use Rattle.byte_unit.specs.declared.Kind.TheVariants.{Byte as InBytes};
+ghost use Rattle.byte_unit_serde.specs.Stored.{ReadsOption, WritesSize};
+
+use crate::byte;
+use byte_unit::Byte;
+use serde::{Deserializer, Format, Serializer};
+use std::alloc::Global;
+
+/// Writes the string of the size, as [`byte::serialize`] does, or nothing. Does not allocate.
+///
+/// # Errors
+///
+/// Returns the format's error if the format cannot write it.
+pub fn serialize<S: Serializer>(size: &Option<Byte>, out: &mut S) -> Result<(), S::Error>
+    ensures { OnOk result
+        (WritesOption (WritesSize InBytes) size.now (S.written out.old) (S.written out.new)) }
+{
+    match size {
+        Some(size) => byte::serialize(size, out),
+        None => out.unit(),
+    }
+}
+
+/// Reads nothing, or a string as [`byte::deserialize`] does.
+///
+/// # Errors
+///
+/// Returns the format's error if the value is neither nothing nor a string, or the string is rejected.
+pub fn deserialize<'de, F: Format>(
+    alloc: Global,
+    from: &mut Deserializer<'de, '_, F>,
+) -> Result<Option<Byte>, F::Error>
+    ensures { IfOk result
+        (ReadsOption (IsAccepted InBytes false) F.gives F.stays from.old from.new) }
+{
+    if from.take_none()? {
+        return Ok(None);
+    }
+    Ok(Some(byte::deserialize(alloc, from)?))
+}

@@ -1,0 +1,43 @@
+//! A unit as a string, or nothing, for `#[serde(with = "byte_unit_serde::optional_unit", default)]`.
+
+ghost use Rattle.std.specs.Prelude.{IfOk, OnOk};
+ghost use Rattle.serde.specs.Event.{WritesOption};
+ghost use Rattle.byte_unit_serde.specs.Stored.{ReadsOption, SpellsUnit, WritesUnit};
+
+use crate::unit;
+use byte_unit::Unit;
+use serde::{Deserializer, Format, Serializer};
+use std::alloc::Global;
+
+/// Writes the string of the unit, as [`unit::serialize`] does, or nothing. Does not allocate.
+///
+/// # Errors
+///
+/// Returns the format's error if the format cannot write it.
+pub fn serialize<S: Serializer>(value: &Option<Unit>, out: &mut S) -> Result<(), S::Error>
+    ensures { OnOk result
+        (WritesOption WritesUnit value.now (S.written out.old) (S.written out.new)) }
+{
+    match value {
+        Some(value) => unit::serialize(value, out),
+        None => out.unit(),
+    }
+}
+
+/// Reads nothing, or a string as [`unit::deserialize`] does.
+///
+/// # Errors
+///
+/// Returns the format's error if the value is neither nothing nor a string, or the string is not the spelling of a
+/// unit.
+pub fn deserialize<'de, F: Format>(
+    alloc: Global,
+    from: &mut Deserializer<'de, '_, F>,
+) -> Result<Option<Unit>, F::Error>
+    ensures { IfOk result (ReadsOption SpellsUnit F.gives F.stays from.old from.new) }
+{
+    if from.take_none()? {
+        return Ok(None);
+    }
+    Ok(Some(unit::deserialize(alloc, from)?))
+}

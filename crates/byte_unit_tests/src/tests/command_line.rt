@@ -1,0 +1,48 @@
+//! Tests of a size as an option of a command line.
+use super::traits::assert_is;
+use byte_unit::Byte;
+use byte_unit_uses::command_line::max_size;
+use clap::Error;
+use std::alloc::{AllocError, Global};
+
+/// Returns the message and the exit status of an error; an empty message for a size.
+fn failure(
+    alloc: Global,
+    outcome: Result<Option<Byte>, Error>,
+) -> Result<(String, i32), AllocError> {
+    match outcome {
+        Ok(_) => Ok((String::new(alloc), 0)),
+        Err(error) => Ok((format!(in alloc; "{error}")?, error.exit_code())),
+    }
+}
+
+#[test]
+fn sizes_of_an_option(rt: HostRuntime) {
+    let alloc = rt.alloc();
+    let size = max_size(alloc, &["copy", "--max-size", "20MB"]).ok();
+    assert_is(&rt, size, Some(Some(Byte::from_u64(20_000_000))));
+    let size = max_size(alloc, &["copy", "--max-size=1.5 GiB"]).ok();
+    assert_is(&rt, size, Some(Some(Byte::from_u64(1_610_612_736))));
+    assert_is(&rt, max_size(alloc, &["copy"]).ok(), Some(None));
+}
+
+const REJECTED: &str =
+    "error: invalid value '20XB' for '--max-size <max-size>': the character 'X' is incorrect ('B', 'K', 'M', 'G', 'T', 'P', 'E', 'Z', 'Y' or 'R' or no character is expected)
+
+Usage: copy [OPTIONS]
+
+For more information, try '--help'.
+";
+
+#[test]
+fn a_value_that_is_no_size(rt: HostRuntime) -> Result<(), AllocError> {
+    let alloc = rt.alloc();
+    let (message, status) = failure(alloc, max_size(alloc, &["copy", "--max-size", "20XB"]))?;
+    assert_is(&rt, message.as_str(), REJECTED);
+    assert_is(&rt, status, 2);
+    let (_, status) = failure(alloc, max_size(alloc, &["copy", "--max-size"]))?;
+    assert_is(&rt, status, 2);
+    let (_, status) = failure(alloc, max_size(alloc, &["copy", "--help"]))?;
+    assert_is(&rt, status, 0);
+    Ok(())
+}

@@ -1,0 +1,6 @@
+use Rattle.byte_unit_uses.proofs.CommandLine.{accepted-option}
+use Rattle.byte_unit_uses.proofs.command_line.size_option.Goals as goal
+
+pub returns-clause-complete : goal.returns-clause-complete
+returns-clause-complete c = λ value size has accepted.
+    accepted-option value size _ (c.try_get_one.ensures.value value has) accepted

@@ -1,0 +1,116 @@
+//! Reads the limits of a service from TOML into a struct, and prints them and the rules that they break.
+#![tactic(auto)]
+
+ghost use Rattle.std.specs.Prelude.{◌↔◌, IsTrue};
+ghost use Rattle.example_limits.specs.Rules.{IsBroken};
+
+use anyhow::{Result, anyhow};
+use byte_unit::{Bit, Byte, FormatSpec};
+use serde::Deserialize;
+use std::alloc::{AllocError, Global};
+use std::io;
+
+/// The limits of a service that stores uploaded files.
+#[derive(Drop, Deserialize)]
+#[serde(deny_unknown_fields)]
+struct Limits {
+    /// The largest file.
+    #[serde(with = "byte_unit_serde::byte")]
+    file: Byte,
+    /// All files together.
+    #[serde(with = "byte_unit_serde::byte")]
+    total: Byte,
+    #[serde(with = "byte_unit_serde::optional_byte", default)]
+    cache: Option<Byte>,
+    #[serde(with = "byte_unit_serde::byte")]
+    disk: Byte,
+    /// Bits per second.
+    #[serde(with = "byte_unit_serde::bit")]
+    rate: Bit,
+}
+
+/// A rule for limits.
+#[derive(Clone, Copy)]
+enum Rule {
+    FileInTotal,
+    AllOnDisk,
+    WithinHour,
+}
+
+impl Rule {
+    const ALL: [Rule; 3] = [Rule::FileInTotal, Rule::AllOnDisk, Rule::WithinHour];
+
+    /// Returns the message for limits that break the rule.
+    fn message(self) -> &'static str {
+        match self {
+            Rule::FileInTotal => "`file` exceeds `total`",
+            Rule::AllOnDisk => "`total` and `cache` exceed `disk`",
+            Rule::WithinHour => "a file of the size `file` takes more than an hour at `rate`",
+        }
+    }
+}
+
+impl Limits {
+    /// Returns whether the limits break the rule.
+    fn breaks(&self, rule: Rule) -> bool
+        ensures { IsTrue result ↔ IsBroken self.now rule }
+    {
+        match rule {
+            Rule::FileInTotal => self.file > self.total,
+            Rule::AllOnDisk => match self.disk.subtract(self.total) {
+                Some(left) => self.cache.unwrap_or(Byte::MIN) > left,
+                None => true,
+            },
+            Rule::WithinHour => 8 * self.file.as_u128() > 3600 * self.rate.as_u128(),
+        }
+    }
+}
+
+/// Returns the message of an error in one line.
+fn in_one_line(alloc: Global, error: &toml::de::Error) -> Result<String, AllocError> {
+    let message = format!(in alloc; "{error}")?;
+    let mut line = String::new(alloc);
+    for part in message.lines() {
+        if !line.is_empty() {
+            line.push_str(" ")?;
+        }
+        line.push_str(part)?;
+    }
+    Ok(line)
+}
+
+fn main(rt: HostRuntime) -> Result<()> {
+    let alloc = rt.alloc();
+    let text = io::read_to_string(alloc, rt.reader())?;
+    let limits: Limits = match toml::from_str(alloc, text.as_str()) {
+        Ok(limits) => limits,
+        Err(error) => {
+            let reason = in_one_line(alloc, &error)?;
+            return Err(anyhow!("the limits are rejected: {reason}"));
+        }
+    };
+    let sizes = [
+        ("file", Some(limits.file)),
+        ("total", Some(limits.total)),
+        ("cache", limits.cache),
+        ("disk", Some(limits.disk)),
+    ];
+    for (name, size) in sizes {
+        match size {
+            Some(size) => {
+                let text = size.to_text(alloc, FormatSpec::ALTERNATE)?;
+                println!(rt; "{name}: {text}")?;
+            }
+            None => println!(rt; "{name}: none")?,
+        }
+    }
+    let rate = limits.rate.to_text(alloc, FormatSpec::ALTERNATE)?;
+    println!(rt; "rate: {rate} a second")?;
+    for rule in Rule::ALL {
+        if limits.breaks(rule) {
+            let message = rule.message();
+            println!(rt; "rejected: {message}")?;
+        }
+    }
+    Ok(())
+}
