@@ -6,8 +6,6 @@ mod ending;
 mod laws;
 mod line;
 mod reading;
-#[cfg(test)]
-mod refusing;
 mod run;
 #[cfg(test)]
 mod tests;

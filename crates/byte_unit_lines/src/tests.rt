@@ -20,6 +20,7 @@ mod memory;
 mod mixed;
 mod order;
 mod refusals;
+mod refusing;
 mod rows;
 mod streams;
 

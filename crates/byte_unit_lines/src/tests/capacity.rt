@@ -3,9 +3,9 @@ ghost use Rattle.std.specs.Prelude.{◌<◌, length};
 
 use super::ended::Ended;
 use super::mixed::{ANSWERS, INPUT, answers_to};
+use super::refusing::Refusing;
 use super::streams::{MemoryReader, MemoryWriter, Then};
 use super::*;
-use crate::refusing::Refusing;
 use crate::run::{run_with_buffers, run_with_capacity};
 use std::alloc::{AllocError, Allocator};
 use std::process::Abort;

@@ -1,9 +1,9 @@
 //! The results of runs.
 ghost use Rattle.std.specs.Prelude.{◌<◌, length};
 
+use super::refusing::Refusing;
 use super::streams::{MemoryReader, MemoryWriter};
 use super::*;
-use crate::refusing::Refusing;
 use crate::run::run_in;
 use std::alloc::Allocator;
 use std::process::Abort;

@@ -1,9 +1,9 @@
 //! Inputs in pieces, and streams that fail.
 use super::ended::{Ended, expect_failed_allocation, ran, ran_in};
 use super::mixed::finished;
+use super::refusing::Refusing;
 use super::streams::{FAILING, MemoryReader, MemoryWriter, Then};
 use super::*;
-use crate::refusing::Refusing;
 use crate::run::run_in;
 use std::io::{self, Read, Write};
 use std::process::Abort;

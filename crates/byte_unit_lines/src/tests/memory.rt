@@ -1,5 +1,5 @@
 //! The number of allocations of the calls that format, and their effect if one fails.
-use crate::refusing::Refusing;
+use super::refusing::Refusing;
 use byte_unit::{Bit, Byte, Expansion, FormatSpec, Unit, append_layout, append_plain};
 use std::alloc::{AllocError, Allocator};
 use std::process::Abort;

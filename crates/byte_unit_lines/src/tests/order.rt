@@ -1,7 +1,7 @@
 //! The order of reads and writes.
+use super::refusing::Refusing;
 use super::streams::{CountingWriter, FAILING, MemoryReader, MemoryWriter, NotingReader, Then};
 use super::*;
-use crate::refusing::Refusing;
 use crate::run::run_in;
 use std::cell::Cell;
 use std::process::Abort;

@@ -1,9 +1,9 @@
 //! Runs in which each allocation fails in turn.
 use super::ended::{expect_failed_allocation, ran_in};
 use super::mixed::{ANSWERS, INPUT, answers_to};
+use super::refusing::Refusing;
 use super::streams::{MemoryReader, MemoryWriter, Then};
 use super::*;
-use crate::refusing::Refusing;
 use std::test::Fail;
 
 /// The numbers of bytes per read.

@@ -1,3 +1,4 @@
+-- The law is the statement of a lemma.
 use Rattle.byte_unit_lines.proofs.OneAnswer.{input_has_one_report}
 use Rattle.byte_unit_lines.proofs.laws.each_input_has_one_report.Goals as goal
 

@@ -1,3 +1,4 @@
+-- The law is the statement of a lemma.
 use Rattle.byte_unit_lines.proofs.OneAnswer.{line_has_answer}
 use Rattle.byte_unit_lines.proofs.laws.each_line_has_an_answer.Goals as goal
 

@@ -1,3 +1,4 @@
+-- The answer in each case: the size with its two texts, the words of the error, or that the line is not UTF-8.
 use Rattle.std.proofs.Common.{refl, List, ℕ, [], ◌∷◌, ◌++◌, codes}
 use Rattle.byte_unit.specs.Errors.{size_fault}
 use Rattle.byte_unit.specs.declared.Kind.TheVariants.{Bit}

@@ -1,3 +1,5 @@
+-- The mask has a bit for each of 16 bytes, set at a line end, so its trailing zeros are the bytes before the first
+-- line end. They are counted in 64 bits by the code, and in 16 here, which bounds the index.
 use Rattle.std.proofs.Common.{◌+◌, ◌^◌, ◌<◌, ◌≤◌, eqb, not, ℕ, Bool, get_or, length, map, w8, w16}
 use Rattle.std.proofs.Common.{refl, ap, sym, subst, eqb-true, ◌∙◌, arith}
 use Rattle.std.proofs.lemmas.List.{length-map}

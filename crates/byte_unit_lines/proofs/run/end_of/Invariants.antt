@@ -1,3 +1,4 @@
+-- No line ends before the index, in the steps of 16 bytes and then of one.
 use Rattle.std.proofs.Common.{length, take, ◌-◌, ◌≤◌}
 use Rattle.byte_unit_lines.specs.Progress.{IsUnbroken}
 use Rattle.byte_unit_lines.proofs.run.end_of.Given as goal

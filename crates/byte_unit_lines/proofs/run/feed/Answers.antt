@@ -1,3 +1,5 @@
+-- Each iteration appends the answer to one line, the first of the rest: with the part that was read before, or alone.
+-- The capacity that is left covers the lines that are left.
 use Rattle.std.proofs.Common.{◌+◌, ◌-◌, ◌++◌, ◌≡◌, length, take, drop, sym, ap, ◌∙◌, arith, length-drop, vec_len}
 use Rattle.std.specs.Prelude.{vec_capacity}
 use Rattle.std.proofs.lemmas.List.{take_rest}

@@ -1,3 +1,4 @@
+-- The lines before the rest are answered, and the buffers have grown by no more than these lines allow.
 use Rattle.std.proofs.Common.{length}
 use Rattle.byte_unit_lines.proofs.Feeding.{IsFed, IsFedWithin}
 use Rattle.byte_unit_lines.proofs.run.feed.Given as goal

@@ -1,3 +1,5 @@
+-- Each read is served: the answers to the lines that end in it are written, and the line that it has begun waits.
+-- Memory is not the answer while the lines are no longer than the limit.
 use Rattle.std.proofs.Common.{◌≡◌, ◌≢◌, ◌+◌, ◌≤◌, [], ◌++◌, refl, sym, ap, subst, ◌∙◌, take, length, vec_len, arith, rules}
 use Rattle.std.proofs.lemmas.List.{length-take}
 use Rattle.std.proofs.lemmas.Result.{on_ok_weaker}

@@ -1,3 +1,4 @@
+-- What was read so far is served, no answer is pending, and the line that was begun is within the limit.
 use Rattle.std.proofs.Common.{length}
 use Rattle.byte_unit_lines.specs.Streams.{reader_of, writer_of, reads_left}
 use Rattle.byte_unit_lines.proofs.Longest.{IsWithin}

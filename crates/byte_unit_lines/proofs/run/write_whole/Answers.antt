@@ -1,3 +1,4 @@
+-- Each write takes a prefix of what is left.
 use Rattle.byte_unit_lines.specs.Streams.{writer_of}
 use Rattle.byte_unit_lines.proofs.Bytes.{IsWrittenTo-step}
 use Rattle.byte_unit_lines.proofs.run.write_whole.Goals as goal

@@ -1,3 +1,4 @@
+-- What was written so far and the rest are the bytes.
 use Rattle.std.proofs.Common.{length}
 use Rattle.byte_unit_lines.specs.Streams.{writer_of}
 use Rattle.byte_unit_lines.proofs.Bytes.{IsWrittenTo}

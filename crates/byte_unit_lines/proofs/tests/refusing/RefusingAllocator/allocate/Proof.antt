@@ -45,14 +45,14 @@ use denote.Triple.Spec.{Meets, triple_of}
 use denote.Triple.Statement.{Contract}
 use denote.Triple.Table.{framed}
 use denote.Triple.Walked.{Stays, stay_dropped, Goes-dropped, walk_of}
-use Rattle.byte_unit_lines.specs.contracts.refusing.Refusing as heap
-use Rattle.byte_unit_lines.specs.contracts.refusing.Requests as requests
-use Rattle.byte_unit_lines.specs.contracts.refusing.Requests.grants as grants
-use Rattle.byte_unit_lines.specs.contracts.refusing.RefusingAllocator.allocate as allocate
-use Rattle.byte_unit_lines.specs.contracts.refusing.RefusingAllocator.allocate.Key as key
-use Rattle.byte_unit_lines.proofs.refusing.Requests.grants.Met.{met as grants_met}
-use Rattle.byte_unit_lines.proofs.refusing.RefusingAllocator.allocate.Statement.{statement}
-use Rattle.byte_unit_lines.proofs.refusing.RefusingAllocator.allocate.Code as code
+use Rattle.byte_unit_lines.specs.contracts.tests.refusing.Refusing as heap
+use Rattle.byte_unit_lines.specs.contracts.tests.refusing.Requests as requests
+use Rattle.byte_unit_lines.specs.contracts.tests.refusing.Requests.grants as grants
+use Rattle.byte_unit_lines.specs.contracts.tests.refusing.RefusingAllocator.allocate as allocate
+use Rattle.byte_unit_lines.specs.contracts.tests.refusing.RefusingAllocator.allocate.Key as key
+use Rattle.byte_unit_lines.proofs.tests.refusing.Requests.grants.Met.{met as grants_met}
+use Rattle.byte_unit_lines.proofs.tests.refusing.RefusingAllocator.allocate.Statement.{statement}
+use Rattle.byte_unit_lines.proofs.tests.refusing.RefusingAllocator.allocate.Code as code
 
 abbrev word : Slot 2
 word = plain (λ _. usize)

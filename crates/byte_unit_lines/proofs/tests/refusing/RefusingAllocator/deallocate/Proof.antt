@@ -38,11 +38,11 @@ use denote.Triple.Spec.{Meets}
 use denote.Triple.Statement.{Contract}
 use denote.Triple.Table.{framed}
 use denote.Triple.Walked.{Stays, stay_dropped, Goes-dropped, walk_of}
-use Rattle.byte_unit_lines.specs.contracts.refusing.Refusing as heap
-use Rattle.byte_unit_lines.specs.contracts.refusing.RefusingAllocator.deallocate as deallocate
-use Rattle.byte_unit_lines.specs.contracts.refusing.RefusingAllocator.deallocate.Key as key
-use Rattle.byte_unit_lines.proofs.refusing.RefusingAllocator.deallocate.Statement.{statement}
-use Rattle.byte_unit_lines.proofs.refusing.RefusingAllocator.deallocate.Code as code
+use Rattle.byte_unit_lines.specs.contracts.tests.refusing.Refusing as heap
+use Rattle.byte_unit_lines.specs.contracts.tests.refusing.RefusingAllocator.deallocate as deallocate
+use Rattle.byte_unit_lines.specs.contracts.tests.refusing.RefusingAllocator.deallocate.Key as key
+use Rattle.byte_unit_lines.proofs.tests.refusing.RefusingAllocator.deallocate.Statement.{statement}
+use Rattle.byte_unit_lines.proofs.tests.refusing.RefusingAllocator.deallocate.Code as code
 
 abbrev word : Slot 2
 word = plain (λ _. usize)
