@@ -1,0 +1,1 @@
+//! Converts one field.
