@@ -9,6 +9,7 @@ use Rattle.byte_unit_cli.specs.Output.{AreFields, IsRecord, AreRecords, HasRejec
 use Rattle.byte_unit_cli.specs.Sums.{is_beyond}
 use Rattle.byte_unit_cli.specs.declared.options.Invalid.TheVariants.{Abort}
 use Rattle.byte_unit_cli.specs.declared.options.Options.{Options}
+use Rattle.byte_unit_cli.specs.declared.records.Progress.{Progress}
 use Rattle.byte_unit_cli.specs.declared.tally.Tally.{Tally}
 
 -- the tally after one more field
@@ -46,3 +47,40 @@ pub record AddsFields (options : Options) (bytes : List ℕ) (old : Tally) (old_
 pub record Aborts (options : Options) (bytes : List ℕ) : Type 0 where
   pub mode : options.invalid ≡ Abort
   pub has_rejected : HasRejectedField options 1 (fields_of options.delimiter bytes)
+
+-- the records that end in these bytes, if `part` is the part of the first one that came before them
+abbrev pub ended_records : ℕ → List ℕ → List ℕ → List (List ℕ)
+ended_records end part [] = []
+ended_records end part (byte ∷ bytes) =
+    if byte == end then part ∷ ended_records end [] bytes else ended_records end (part ++ byte ∷ []) bytes
+
+-- the part of an unfinished record that there is after these bytes, if `part` is the part before them
+abbrev pub begun_record : ℕ → List ℕ → List ℕ → List ℕ
+begun_record end part [] = part
+begun_record end part (byte ∷ bytes) =
+    if byte == end then begun_record end [] bytes else begun_record end (part ++ byte ∷ []) bytes
+
+-- no record ends in these bytes
+abbrev pub IsUnbroken : ℕ → List ℕ → Type 0
+IsUnbroken end bytes = (part : List ℕ) → (ended_records end part bytes ≡ []) × (begun_record end part bytes ≡ part ++ bytes)
+
+
+-- how far a run has come: the number of header records to come, what was counted, and what is to be written
+pub record State : Type 0 where
+  pub header : ℕ
+  pub tally : Tally
+  pub out : List ℕ
+
+-- the state of a run
+abbrev pub state_of : Progress → List ℕ → State
+state_of progress out = record { header = progress.header; tally = progress.tally; out = out }
+
+-- the texts of these records were appended and counted
+pub record AddsRecords (options : Options) (records : List (List ℕ)) (old new : State) : Type 0 where
+  pub text : List ℕ
+  pub found : List Found
+  pub are_records : AreRecords options old.header records text found
+  pub passes : Passes options found
+  pub header_is : new.header ≡ old.header - length records
+  pub out_is : new.out ≡ old.out ++ text
+  pub tally_is : new.tally ≡ tally_after options old.tally found

@@ -2,11 +2,17 @@
 #![tactic(auto)]
 
 mod field;
+mod notice;
 mod options;
+mod place;
+mod reading;
+mod records;
+mod search;
 mod size;
 mod stop;
 mod tally;
 mod text;
+mod writing;
 
 use std::process::ExitCode;
 
