@@ -163,3 +163,16 @@ AddsRecords-after options records front old new adds = record {
   out_is = ap (λ out. front ++ out) adds.out_is ∙ sym (append_assoc front old.out adds.text);
   tally_is = adds.tally_is;
 }
+
+-- the same fields, with bytes and tally replaced by equal ones
+pub AddsFields-same : (options : Options) (bytes : List ℕ) (old : Tally) {between new : Tally} {old_text text new_text : List ℕ}
+    → AddsFields options bytes old old_text between text → old_text ≡ [] → new ≡ between → new_text ≡ text
+    → AddsFields options bytes old [] new new_text
+AddsFields-same options bytes old adds begins tally_is text_is = record {
+  text = adds.text;
+  found = adds.found;
+  are_fields = adds.are_fields;
+  passes = adds.passes;
+  text_is = text_is ∙ adds.text_is ∙ ap (λ front. front ++ adds.text) begins;
+  tally_is = tally_is ∙ adds.tally_is;
+}

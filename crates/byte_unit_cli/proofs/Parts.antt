@@ -6,7 +6,7 @@ use Rattle.std.proofs.lemmas.List.{take_more}
 use Rattle.std.proofs.lemmas.Bool.{eq-eqb, ne_eqb}
 use Rattle.std.specs.List.{onto_first}
 use Rattle.byte_unit_cli.specs.Records.{parts, but_last, but_empty_last, records_of, finished_records}
-use Rattle.byte_unit_cli.specs.Progress.{ended_records, begun_record}
+use Rattle.byte_unit_cli.specs.Progress.{ended_records, begun_record, nonempty_record}
 
 -- the last part, or the empty list if there is none
 abbrev pub last_of : List (List ℕ) → List ℕ
@@ -22,11 +22,6 @@ onto part (own ∷ others) = (part ++ own) ∷ others
 -- there is a first part, so the list is not empty
 abbrev pub IsSplit : List (List ℕ) → Type 0
 IsSplit split = (own : List ℕ) × (others : List (List ℕ)) × (split ≡ own ∷ others)
-
--- the list of this record, or no record if it is empty
-abbrev pub nonempty_record : List ℕ → List (List ℕ)
-nonempty_record [] = []
-nonempty_record (byte ∷ bytes) = (byte ∷ bytes) ∷ []
 
 nonempty-last : (part : List ℕ) (others : List (List ℕ)) → part ∷ others ≡ but_last (part ∷ others) ++ last_of (part ∷ others) ∷ []
 nonempty-last part [] = refl

@@ -1,15 +1,18 @@
 -- Private: how far a run has come, step by step. No public contract cites this file.
 use Rattle.std.specs.Prelude.{◌≡◌, ℕ, ◌+◌, ◌-◌, ◌≤◌, min, Bool, true, false, ◌||◌, if◌then◌else◌, ◌==◌, List, [], ◌∷◌, ◌++◌, Some, None}
-use Rattle.std.specs.Prelude.{length}
+use Rattle.std.specs.Prelude.{length, ◌<◌, ◌⊎◌, MatchBool, Result, Ok, Err, ⊤}
 use Rattle.byte_unit.specs.Bounds.{size_limit}
 use Rattle.byte_unit_cli.specs.Field.{Found, IsField}
 use Rattle.byte_unit_cli.specs.Fields.{fields_of}
 use Rattle.byte_unit_cli.specs.Outcome.{Passes, IsPrefix}
 use Rattle.byte_unit_cli.specs.Output.{AreFields, IsRecord, AreRecords, HasRejectedField}
+use Rattle.byte_unit_cli.specs.Shown.{IsShown}
 use Rattle.byte_unit_cli.specs.Sums.{is_beyond}
 use Rattle.byte_unit_cli.specs.declared.options.Invalid.TheVariants.{Abort}
 use Rattle.byte_unit_cli.specs.declared.options.Options.{Options}
 use Rattle.byte_unit_cli.specs.declared.records.Progress.{Progress}
+use Rattle.byte_unit_cli.specs.declared.stop.Stop.{Stop}
+use Rattle.byte_unit_cli.specs.declared.stop.Stop.TheVariants.{Memory, Read, Write, Rejected, Total}
 use Rattle.byte_unit_cli.specs.declared.tally.Tally.{Tally}
 
 -- the tally after one more field
@@ -64,6 +67,10 @@ begun_record end part (byte ∷ bytes) =
 abbrev pub IsUnbroken : ℕ → List ℕ → Type 0
 IsUnbroken end bytes = (part : List ℕ) → (ended_records end part bytes ≡ []) × (begun_record end part bytes ≡ part ++ bytes)
 
+-- the list of this record, or no record if it is empty
+abbrev pub nonempty_record : List ℕ → List (List ℕ)
+nonempty_record [] = []
+nonempty_record (byte ∷ bytes) = (byte ∷ bytes) ∷ []
 
 -- how far a run has come: the number of header records to come, what was counted, and what is to be written
 pub record State : Type 0 where
@@ -84,3 +91,55 @@ pub record AddsRecords (options : Options) (records : List (List ℕ)) (old new 
   pub header_is : new.header ≡ old.header - length records
   pub out_is : new.out ≡ old.out ++ text
   pub tally_is : new.tally ≡ tally_after options old.tally found
+
+-- what a call that converts these records leaves appended if it stops: the texts of some first ones of them if it is out
+-- of memory; or those of the records before the one that has a rejected field, in the mode `abort`
+abbrev pub Stops : Options → List (List ℕ) → State → Stop → List ℕ → Type 0
+Stops options records old Memory out =
+    (first : List (List ℕ)) × (new : State) × IsPrefix first records × AddsRecords options first old new × (new.out ≡ out)
+Stops options records old Rejected out =
+    (before after : List (List ℕ)) × (bytes : List ℕ) × (new : State) × (records ≡ before ++ bytes ∷ after)
+    × AddsRecords options before old new × (new.out ≡ out) × (new.header ≡ 0) × Aborts options bytes
+Stops options records old _ out = ⊥
+
+-- what a call has written that converts these records, reads nothing and returns this result: nothing was to be written
+-- before
+abbrev pub IsAnswered : Options → List (List ℕ) → State → State → Result ⊤ Stop → List ℕ → Type 0
+IsAnswered options records old new (Ok _) written = AddsRecords options records old (record new { out = written })
+IsAnswered options records old new (Err Write) written =
+    (first : List (List ℕ)) × (whole : State) × IsPrefix first records × AddsRecords options first old whole
+    × IsPrefix written whole.out
+IsAnswered options records old new (Err stop) written = Stops options records old stop written
+
+-- the line of the total, if it is asked for and is a size
+abbrev pub IsTotalFor : Options → ℕ → List ℕ → Type 0
+IsTotalFor options total line =
+    (shown : List ℕ) × (total < size_limit) × IsShown options total shown × (line ≡ shown ++ options.record_end ∷ [])
+
+-- what a call has written that writes these bytes and then the total
+abbrev pub IsTotalWritten : Options → ℕ → List ℕ → Result ⊤ Stop → List ℕ → Type 0
+IsTotalWritten options total before (Ok _) written =
+    (line : List ℕ) × IsTotalFor options total line × (written ≡ before ++ line)
+IsTotalWritten options total before (Err Memory) written = written ≡ []
+IsTotalWritten options total before (Err Total) written = (size_limit ≤ total) × (written ≡ before)
+IsTotalWritten options total before (Err Write) written =
+    (line : List ℕ) × ((line ≡ []) ⊎ IsTotalFor options total line) × IsPrefix written (before ++ line)
+IsTotalWritten options total before (Err _) written = ⊥
+
+-- what a call has written that converts the last record, if there is one, and then writes the total, if it is asked for.
+-- Nothing was to be written before
+abbrev pub IsFinished : Options → List ℕ → State → Result Tally Stop → List ℕ → Type 0
+IsFinished options part old (Ok tally) written =
+    (new : State) × (line : List ℕ) × AddsRecords options (nonempty_record part) old new × (tally ≡ new.tally)
+    × MatchBool options.total (IsTotalFor options new.tally.total line) (line ≡ []) × (written ≡ new.out ++ line)
+IsFinished options part old (Err Memory) written = written ≡ []
+IsFinished options part old (Err Rejected) written =
+    (written ≡ []) × (old.header ≡ 0) × Aborts options part × (nonempty_record part ≡ part ∷ [])
+IsFinished options part old (Err Total) written =
+    (new : State) × AddsRecords options (nonempty_record part) old new × (options.total ≡ true)
+    × (size_limit ≤ new.tally.total) × (written ≡ new.out)
+IsFinished options part old (Err Write) written =
+    (new : State) × (line : List ℕ) × AddsRecords options (nonempty_record part) old new
+    × ((line ≡ []) ⊎ MatchBool options.total (IsTotalFor options new.tally.total line) (line ≡ []))
+    × IsPrefix written (new.out ++ line)
+IsFinished options part old (Err Read) written = ⊥

@@ -2,11 +2,13 @@
 #![tactic(auto)]
 
 mod field;
+mod finish;
 mod notice;
 mod options;
 mod place;
 mod reading;
 mod records;
+mod run;
 mod search;
 mod size;
 mod stop;

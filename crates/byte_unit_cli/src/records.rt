@@ -1,6 +1,6 @@
 //! Converts one record.
 
-ghost use Rattle.std.specs.Prelude.{◌≡◌, ◌≤◌, ◌-◌, ◌⊎◌, length, OnOk, OnErr, IfErr, IsErrOf, ◌∷◌, [], Some};
+ghost use Rattle.std.specs.Prelude.{◌≡◌, ◌≤◌, ◌-◌, ◌⊎◌, length, OnOk, OnErr, IfErr, IsErrOf, ◌∷◌, [], Some, false};
 ghost use Rattle.byte_unit.specs.Forms.{text_limit};
 ghost use Rattle.byte_unit_cli.specs.Progress.{AddsFields, AddsRecords, Aborts, state_of};
 
@@ -21,6 +21,26 @@ pub(crate) struct Progress {
     pub tally: Tally,
     /// The number of the record, and what a record is called.
     pub place: Place,
+}
+
+impl Progress {
+    /// Creates the progress of a run that has not begun.
+    pub(crate) fn new(options: &Options, word: &'static str) -> Progress
+        ensures header { result.header ≡ options.now.header }
+        ensures total { result.tally.total ≡ 0 }
+        ensures beyond { result.tally.beyond ≡ false }
+        ensures rejected { result.tally.rejected ≡ false }
+    {
+        Progress {
+            header: options.header,
+            tally: Tally::new(),
+            place: Place {
+                word,
+                record: 0,
+                field: 0,
+            },
+        }
+    }
 }
 
 /// Appends what is written for the fields of a record, which is no header record, to `text`, and counts what is found in

@@ -1,14 +1,13 @@
 //! What a run counts.
 
-ghost use Rattle.std.specs.Prelude.{◌≡◌, false, ◌<◌, ◌≤◌, IfSome, IfNone};
-ghost use Rattle.byte_unit.specs.Bounds.{size_limit};
+ghost use Rattle.std.specs.Prelude.{◌≡◌, false};
 ghost use Rattle.byte_unit_cli.specs.Progress.{tally_with};
 ghost use Rattle.byte_unit_cli.specs.Sums.{is_beyond as has_beyond};
 
 use crate::options::Options;
 
 /// The total from which on no sum is a size, 10^30.
-const TOTAL_LIMIT: u128 = 1_000_000_000_000_000_000_000_000_000_000;
+pub(crate) const TOTAL_LIMIT: u128 = 1_000_000_000_000_000_000_000_000_000_000;
 
 /// What was counted in the fields that were converted.
 #[derive(Debug, Clone, Copy, PartialEq, Eq)]
@@ -32,18 +31,6 @@ impl Tally {
             total: 0,
             beyond: false,
             rejected: false,
-        }
-    }
-
-    /// Returns the total, or `None` if it is 10^30 or more.
-    pub fn sum(&self) -> Option<u128>
-        ensures some { IfSome result (λ total. (total ≡ self.now.total) × (total < size_limit)) }
-        ensures none { IfNone result (size_limit ≤ self.now.total) }
-    {
-        if self.total < TOTAL_LIMIT {
-            Some(self.total)
-        } else {
-            None
         }
     }
 
