@@ -1,8 +1,14 @@
 -- Lemmas: the loop over the records that end in a chunk.
-use Rattle.std.proofs.Common.{◌≡◌, ℕ, ◌+◌, List, [], ◌∷◌, ◌++◌, take, drop, refl, sym, ap, subst, ◌∙◌, append_assoc, append-nil}
+use Rattle.std.proofs.Common.{◌≡◌, ℕ, ◌+◌, List, [], ◌∷◌, ◌++◌, take, drop, refl, sym, ap, subst, ◌∙◌, append_assoc, append-nil, ◌⊎◌, inl, inr, Err, Result, ◌==◌, true, false, length}
 use Rattle.byte_unit_cli.specs.Outcome.{IsPrefix}
 use Rattle.byte_unit_cli.specs.Progress.{ended_records, begun_record, IsUnbroken, AddsRecords, Aborts, State, Stops}
 use Rattle.byte_unit_cli.specs.declared.options.Options.{Options}
+use Rattle.std.proofs.lemmas.Bool.{eqb-true}
+use Rattle.std.proofs.lemmas.List.{nil_from_length}
+use Rattle.std.specs.Prelude.{⊤}
+use Rattle.byte_unit_cli.specs.Progress.{state_of}
+use Rattle.byte_unit_cli.specs.declared.stop.Stop.{Stop}
+use Rattle.byte_unit_cli.specs.declared.records.Progress.{Progress}
 use Rattle.byte_unit_cli.specs.declared.stop.Stop.TheVariants.{Memory, Rejected}
 use Rattle.byte_unit_cli.proofs.Ends.{EndsAt, ended_records-EndsAt, begun_record-EndsAt}
 use Rattle.byte_unit_cli.proofs.Converting.{AddsRecords-append, AddsRecords-none}
@@ -91,3 +97,28 @@ Stops-rejected options start now place bytes fed next out same header aborts = (
   header,
   aborts,
 )
+
+-- a call that converts the next record stopped
+pub Stops-record : (options : Options) (start now : Feed) (place : ℕ) (bytes : List ℕ) → IsFed options start now
+    → IsNext options now place bytes → (out : List ℕ) → now.state.out ≡ out → (error : Stop)
+    → (error ≡ Memory) ⊎ (error ≡ Rejected) → (Err {T = ⊤} error ≡ Err Rejected → (now.state.header ≡ 0) × Aborts options bytes)
+    → Stops options (ended_records options.record_end start.part start.rest) start.state error out
+Stops-record options start now place bytes fed next out same error (inl memory) aborts =
+    subst (λ error. Stops options (ended_records options.record_end start.part start.rest) start.state error out) (sym memory)
+    (Stops-memory options start now fed out same)
+Stops-record options start now place bytes fed next out same error (inr rejected) aborts =
+    let at = aborts (ap (λ error. Err error) rejected) in
+    subst (λ error. Stops options (ended_records options.record_end start.part start.rest) start.state error out) (sym rejected)
+    (Stops-rejected options start now place bytes fed next out same at.0 at.1)
+
+-- a part whose length is tested to be 0 is empty
+pub empty_from_length : (part : List ℕ) (count : ℕ) → count ≡ length part → true ≡ (count == 0) → part ≡ []
+empty_from_length part count count_is none = nil_from_length part (sym count_is ∙ eqb-true count 0 (sym none))
+
+-- appended records, with the state replaced by an equal one
+pub AddsRecords-same : (options : Options) (records : List (List ℕ)) (old : State) {progress same : Progress} {out now : List ℕ}
+    → AddsRecords options records old (state_of progress out) → same ≡ progress → now ≡ out
+    → AddsRecords options records old (state_of same now)
+AddsRecords-same options records old {progress} {same} {out} {now} adds progress_is out_is =
+    subst (λ now. AddsRecords options records old (state_of same now)) (sym out_is)
+    (subst (λ progress. AddsRecords options records old (state_of progress out)) (sym progress_is) adds)

@@ -1,8 +1,10 @@
+pub mod Bytes
+pub mod Converting
 pub mod Ends
+pub mod Feeding
+pub mod Finishing
 pub mod Parts
+pub mod Results
+pub mod Runs
 pub mod Splitting
 pub mod Tallies
-pub mod Converting
-pub mod Results
-pub mod Bytes
-pub mod Feeding

@@ -1,3 +1,4 @@
+pub mod Ending
 pub mod Fields
 pub mod Field
 pub mod Outcome

@@ -15,6 +15,10 @@ use Rattle.byte_unit_cli.specs.declared.stop.Stop.{Stop}
 use Rattle.byte_unit_cli.specs.declared.stop.Stop.TheVariants.{Memory, Read, Write, Rejected, Total}
 use Rattle.byte_unit_cli.specs.declared.tally.Tally.{Tally}
 
+-- the tally of no field
+abbrev pub no_tally : Tally
+no_tally = record { total = 0; beyond = false; rejected = false }
+
 -- the tally after one more field
 abbrev pub tally_with : Options → Tally → Found → Tally
 tally_with options tally None = record tally { rejected = true }
@@ -81,6 +85,10 @@ pub record State : Type 0 where
 -- the state of a run
 abbrev pub state_of : Progress → List ℕ → State
 state_of progress out = record { header = progress.header; tally = progress.tally; out = out }
+
+-- the state of a run that has not begun
+abbrev pub start_of : Options → State
+start_of options = record { header = options.header; tally = no_tally; out = [] }
 
 -- the texts of these records were appended and counted
 pub record AddsRecords (options : Options) (records : List (List ℕ)) (old new : State) : Type 0 where

@@ -1,9 +1,9 @@
 //! The end of a run: the last record, and the total.
 
-ghost use Rattle.std.specs.Prelude.{◌≡◌, ◌≤◌, ℕ, List, [], length, true, OnOk, OnErr, IfErr, IsErrOf, IsTrue};
+ghost use Rattle.std.specs.Prelude.{◌≡◌, ◌≤◌, ◌⊎◌, ◌∷◌, ℕ, List, [], length, true, OnOk, OnErr, IfErr, IsErrOf, IsTrue};
 ghost use Rattle.byte_unit.specs.Forms.{text_limit};
 ghost use Rattle.byte_unit_cli.specs.Outcome.{IsPrefix};
-ghost use Rattle.byte_unit_cli.specs.Progress.{IsFinished, IsTotalWritten, state_of};
+ghost use Rattle.byte_unit_cli.specs.Progress.{IsFinished, IsTotalWritten, AddsRecords, Aborts, nonempty_record, state_of};
 ghost use Rattle.byte_unit_cli.specs.Streams.{HasWritten, writing_failed};
 
 use crate::options::Options;
@@ -43,11 +43,9 @@ pub(crate) fn finish<A: Allocator, W: Write, E: Write>(
         × IsFinished options.now part.now (state_of progress.old []) result written }
     ensures failed { IsErrOf result Stop.Write → IsTrue (writing_failed writer.new) }
 {
-    if !part.is_empty() {
-        let added = add_record(options, part, digits, progress, text, waiting, notices);
-        tell(notices, errors);
-        added?;
-    }
+    let added = add_last(options, part, digits, progress, text, waiting, notices);
+    tell(notices, errors);
+    added?;
     let tally = progress.tally;
     if options.total {
         write_with_total(options, tally.total, digits, text, waiting, writer)?;
@@ -55,6 +53,36 @@ pub(crate) fn finish<A: Allocator, W: Write, E: Write>(
         write_whole(writer, waiting)?;
     }
     Ok(tally)
+}
+
+/// Appends what is written for the last record to `waiting`, if there is one.
+///
+/// Precondition (proved at every call): `digits` has capacity for the text of any size.
+///
+/// # Errors
+///
+/// - `Memory` if allocation fails.
+/// - `Rejected` if a field is rejected in the mode `abort`.
+fn add_last<A: Allocator>(
+    options: &Options,
+    part: &[u8],
+    digits: &mut [u8],
+    progress: &mut Progress,
+    text: &mut Vec<u8, A>,
+    waiting: &mut Vec<u8, A>,
+    notices: &mut String<A>,
+) -> Result<(), Stop>
+    requires { text_limit ≤ length digits.old }
+    ensures ok { OnOk result (AddsRecords options.now (nonempty_record part.now)
+        (state_of progress.old waiting.old.items) (state_of progress.new waiting.new.items)) }
+    ensures rejected { IsErrOf result Stop.Rejected → (progress.old.header ≡ 0)
+        × Aborts options.now part.now × (nonempty_record part.now ≡ part.now ∷ []) }
+    ensures stop { IfErr result (λ stop. (stop ≡ Stop.Memory) ⊎ (stop ≡ Stop.Rejected)) }
+{
+    match part {
+        [] => Ok(()),
+        [_, ..] => add_record(options, part, digits, progress, text, waiting, notices),
+    }
 }
 
 /// Writes what waits, and then the total.

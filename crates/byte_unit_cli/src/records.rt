@@ -1,8 +1,8 @@
 //! Converts one record.
 
-ghost use Rattle.std.specs.Prelude.{◌≡◌, ◌≤◌, ◌-◌, ◌⊎◌, length, OnOk, OnErr, IfErr, IsErrOf, ◌∷◌, [], Some, false};
+ghost use Rattle.std.specs.Prelude.{◌≡◌, ◌≤◌, ◌-◌, ◌⊎◌, length, OnOk, OnErr, IfErr, IsErrOf, ◌∷◌, [], Some};
 ghost use Rattle.byte_unit.specs.Forms.{text_limit};
-ghost use Rattle.byte_unit_cli.specs.Progress.{AddsFields, AddsRecords, Aborts, state_of};
+ghost use Rattle.byte_unit_cli.specs.Progress.{AddsFields, AddsRecords, Aborts, no_tally, state_of};
 
 use crate::field::add_field;
 use crate::options::Options;
@@ -27,9 +27,7 @@ impl Progress {
     /// Creates the progress of a run that has not begun.
     pub(crate) fn new(options: &Options, word: &'static str) -> Progress
         ensures header { result.header ≡ options.now.header }
-        ensures total { result.tally.total ≡ 0 }
-        ensures beyond { result.tally.beyond ≡ false }
-        ensures rejected { result.tally.rejected ≡ false }
+        ensures tally { result.tally ≡ no_tally }
     {
         Progress {
             header: options.header,

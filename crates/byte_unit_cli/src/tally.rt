@@ -1,7 +1,7 @@
 //! What a run counts.
 
-ghost use Rattle.std.specs.Prelude.{◌≡◌, false};
-ghost use Rattle.byte_unit_cli.specs.Progress.{tally_with};
+ghost use Rattle.std.specs.Prelude.{◌≡◌};
+ghost use Rattle.byte_unit_cli.specs.Progress.{tally_with, no_tally};
 ghost use Rattle.byte_unit_cli.specs.Sums.{is_beyond as has_beyond};
 
 use crate::options::Options;
@@ -23,9 +23,7 @@ pub struct Tally {
 impl Tally {
     /// Creates a tally of no field.
     pub fn new() -> Tally
-        ensures total { result.total ≡ 0 }
-        ensures beyond { result.beyond ≡ false }
-        ensures rejected { result.rejected ≡ false }
+        ensures { result ≡ no_tally }
     {
         Tally {
             total: 0,

@@ -3,13 +3,14 @@
 ghost use Rattle.std.specs.Prelude.{false, ◌≡◌, ◌≤◌, ◌<◌, ◌↔◌, take, length, IsTrue, IsNone, IfNone, IfSome};
 ghost use Rattle.byte_unit_cli.specs.Streams.{HasWritten, HasWrittenNothing, writer_of, writing_failed};
 
-use std::io::Write;
+use std::io::{ErrorKind, Write};
 
 /// A writer that records whether a write has failed. After a failure it does not call the writer again.
 #[derive(Drop)]
 pub struct Writing<W> {
     inner: W,
     failed: bool,
+    closed: bool,
 }
 
 impl<W: Write> Writing<W> {
@@ -21,6 +22,7 @@ impl<W: Write> Writing<W> {
         Writing {
             inner,
             failed: false,
+            closed: false,
         }
     }
 
@@ -31,11 +33,20 @@ impl<W: Write> Writing<W> {
         self.failed
     }
 
+    /// Returns `true` if a write has failed because the reader of the output has gone.
+    pub fn closed(&self) -> bool {
+        self.closed
+    }
+
     /// Returns the writer inside, with the bytes that it holds.
     pub fn into_inner(self) -> W
         ensures { result ≡ writer_of self }
     {
-        let Writing { inner, failed: _ } = self;
+        let Writing {
+            inner,
+            failed: _,
+            closed: _,
+        } = self;
         inner
     }
 
@@ -60,8 +71,13 @@ impl<W: Write> Writing<W> {
         }
         match self.inner.write(bytes) {
             Ok(n) if n > 0 => Some(n),
-            _ => {
+            Ok(_) => {
                 self.failed = true;
+                None
+            }
+            Err(error) => {
+                self.failed = true;
+                self.closed = error.kind() == ErrorKind::BrokenPipe;
                 None
             }
         }
