@@ -101,13 +101,13 @@ Stops-rejected options start now place bytes fed next out same header aborts = (
 -- a call that converts the next record stopped
 pub Stops-record : (options : Options) (start now : Feed) (place : ℕ) (bytes : List ℕ) → IsFed options start now
     → IsNext options now place bytes → (out : List ℕ) → now.state.out ≡ out → (error : Stop)
-    → (error ≡ Memory) ⊎ (error ≡ Rejected) → (Err {T = ⊤} error ≡ Err Rejected → (now.state.header ≡ 0) × Aborts options bytes)
+    → (error ≡ Memory) ⊎ (error ≡ Rejected) → (error ≡ Rejected → (now.state.header ≡ 0) × Aborts options bytes)
     → Stops options (ended_records options.record_end start.part start.rest) start.state error out
 Stops-record options start now place bytes fed next out same error (inl memory) aborts =
     subst (λ error. Stops options (ended_records options.record_end start.part start.rest) start.state error out) (sym memory)
     (Stops-memory options start now fed out same)
 Stops-record options start now place bytes fed next out same error (inr rejected) aborts =
-    let at = aborts (ap (λ error. Err error) rejected) in
+    let at = aborts rejected in
     subst (λ error. Stops options (ended_records options.record_end start.part start.rest) start.state error out) (sym rejected)
     (Stops-rejected options start now place bytes fed next out same at.0 at.1)
 

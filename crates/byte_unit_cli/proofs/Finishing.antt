@@ -1,5 +1,5 @@
 -- Lemmas: the end of a run.
-use Rattle.std.proofs.Common.{◌≡◌, ℕ, ◌<◌, ◌≤◌, List, [], ◌∷◌, ◌++◌, true, false, Option, Result, Ok, Err, OnOk, OnErr, IfErr}
+use Rattle.std.proofs.Common.{◌≡◌, ◌≢◌, ℕ, ◌<◌, ◌≤◌, List, [], ◌∷◌, ◌++◌, true, false, Option, Result, Ok, Err, OnOk, OnErr, IfErr}
 use Rattle.std.proofs.Common.{refl, sym, ap, subst, ◌∙◌, append_assoc, append-nil, inl, inr, MatchBool, ◌⊎◌}
 use Rattle.std.specs.Prelude.{⊤, IsErrAnd}
 use Rattle.std.specs.Io.KnownBytes.{Appends}
@@ -9,6 +9,18 @@ use Rattle.byte_unit_cli.specs.declared.options.Options.{Options}
 use Rattle.byte_unit_cli.specs.declared.stop.Stop.{Stop}
 use Rattle.byte_unit_cli.specs.declared.stop.Stop.TheVariants.{Memory, Read, Write, Rejected, Total}
 use Rattle.byte_unit_cli.specs.declared.tally.Tally.{Tally}
+
+memory_is_not_write : Memory ≢ Write
+memory_is_not_write same = cc
+
+read_is_not_write : Read ≢ Write
+read_is_not_write same = cc
+
+rejected_is_not_write : Rejected ≢ Write
+rejected_is_not_write same = cc
+
+total_is_not_write : Total ≢ Write
+total_is_not_write same = cc
 
 -- the effect of a call that writes these bytes: it appends them, or it fails with `Write` and appends a prefix of them
 pub record IsWrittenBy (held holds : Option (List ℕ)) (bytes : List ℕ) (result : Result ⊤ Stop) : Type 0 where
@@ -30,10 +42,10 @@ module _ (options : Options) (total : ℕ) (before : List ℕ) where
   IsTotalWritten-line line bytes is_for are (Ok _) by = (bytes, by.whole, (line, is_for, are))
   IsTotalWritten-line line bytes is_for are (Err Write) by =
       (by.part.0, by.part.1, (line, inr is_for, subst (IsPrefix by.part.0) are by.part.2))
-  IsTotalWritten-line line bytes is_for are (Err Memory) by = let same : Memory ≡ Write = by.error in absurd (elim same [ ])
-  IsTotalWritten-line line bytes is_for are (Err Read) by = let same : Read ≡ Write = by.error in absurd (elim same [ ])
-  IsTotalWritten-line line bytes is_for are (Err Rejected) by = let same : Rejected ≡ Write = by.error in absurd (elim same [ ])
-  IsTotalWritten-line line bytes is_for are (Err Total) by = let same : Total ≡ Write = by.error in absurd (elim same [ ])
+  IsTotalWritten-line line bytes is_for are (Err Memory) by = absurd (memory_is_not_write by.error)
+  IsTotalWritten-line line bytes is_for are (Err Read) by = absurd (read_is_not_write by.error)
+  IsTotalWritten-line line bytes is_for are (Err Rejected) by = absurd (rejected_is_not_write by.error)
+  IsTotalWritten-line line bytes is_for are (Err Total) by = absurd (total_is_not_write by.error)
 
 module _ (options : Options) (part : List ℕ) (old new : State) (adds : AddsRecords options (nonempty_record part) old new) where
   -- the total is asked for
@@ -59,9 +71,9 @@ module _ (options : Options) (part : List ℕ) (old new : State) (adds : AddsRec
 
   -- the total is not asked for
   pub IsFinished-plain_ok : options.total ≡ false → IsFinished options part old (Ok new.tally) new.out
-  IsFinished-plain_ok no =
+  IsFinished-plain_ok not_asked =
       let For : Type 0 = IsTotalFor options new.tally.total [] in
-      (new, [], adds, refl, subst (λ total. MatchBool total For ([] ≡ [])) (sym no) refl, sym (append-nil new.out))
+      (new, [], adds, refl, subst (λ total. MatchBool total For ([] ≡ [])) (sym not_asked) refl, sym (append-nil new.out))
 
   pub IsFinished-plain_error : (error : Stop) (written : List ℕ) → error ≡ Write → IsPrefix written new.out
       → IsFinished options part old (Err error) written

@@ -1,6 +1,7 @@
 -- Lemmas: tallies, and the mode `abort`, over lists of what is found.
 use Rattle.std.proofs.Common.{◌≡◌, ◌≤◌, ℕ, ◌+◌, min, sum, Bool, true, false, ◌||◌, List, [], ◌∷◌, ◌++◌, Option, Some, None}
 use Rattle.std.proofs.Common.{refl, sym, ap, subst, ◌∙◌, arith, append_assoc, append-nil, zero-add}
+use Rattle.std.proofs.lemmas.List.Sums.{sum_by-cons}
 use Rattle.byte_unit.specs.Bounds.{size_limit}
 use Rattle.byte_unit_cli.specs.Field.{Found}
 use Rattle.byte_unit_cli.specs.Outcome.{Passes}
@@ -57,7 +58,9 @@ total-after options tally (None ∷ found) small = total-after options (tally_wi
 total-after options tally (Some size ∷ found) small =
     let next = min (tally.total + size) size_limit in
     let few : next ≤ size_limit = omega arith in
-    total-after options (tally_with options tally (Some size)) found few ∙ saturating-sum tally.total size (sum_of found) size_limit
+    total-after options (tally_with options tally (Some size)) found few
+    ∙ saturating-sum tally.total size (sum_of found) size_limit
+    ∙ ap (λ sum. min (tally.total + sum) size_limit) (sym (sum_by-cons (λ n. n) size (sizes_of found)))
 
 beyond-after : (options : Options) (tally : Tally) (found : List Found)
     → (tally_after options tally found).beyond ≡ (tally.beyond || any_beyond options (sizes_of found))

@@ -40,7 +40,7 @@ pub(crate) struct Wrong<'a> {
 /// # Errors
 ///
 /// Returns `AllocError` if allocation fails.
-pub(crate) fn command(alloc: Global) -> Result<Command<'static>, AllocError> {
+pub(crate) fn command<'a>(alloc: Global) -> Result<Command<'a>, AllocError> {
     let command = Command::new(alloc, "byte-unit")
         .version("1.0.0")
         .about("Converts sizes in bytes or bits, exactly: the operands, or the lines of standard input.")
@@ -65,7 +65,7 @@ pub(crate) fn command(alloc: Global) -> Result<Command<'static>, AllocError> {
 }
 
 /// Returns an option without a value.
-fn flag(alloc: Global, name: &'static str, help: &'static str) -> Arg<'static> {
+fn flag<'a>(alloc: Global, name: &'a str, help: &'a str) -> Arg<'a> {
     Arg::new(alloc, name).long(name).action(ArgAction::SetTrue).help(help)
 }
 
@@ -74,22 +74,22 @@ fn flag(alloc: Global, name: &'static str, help: &'static str) -> Arg<'static> {
 /// # Errors
 ///
 /// Returns `AllocError` if allocation fails.
-fn ignore_case(alloc: Global) -> Result<Arg<'static>, AllocError> {
+fn ignore_case<'a>(alloc: Global) -> Result<Arg<'a>, AllocError> {
     flag(alloc, "ignore-case", "ignore case; b then means bytes").short('i').conflicts_with("bits")
 }
 
 /// Returns an option with a value.
-fn value(alloc: Global, name: &'static str, value: &'static str, help: &'static str) -> Arg<'static> {
+fn value<'a>(alloc: Global, name: &'a str, value: &'a str, help: &'a str) -> Arg<'a> {
     Arg::new(alloc, name).long(name).value_name(value).help(help)
 }
 
 /// Returns an option with a number of 16 bits.
-fn number(alloc: Global, name: &'static str, short: char, value_name: &'static str, help: &'static str) -> Arg<'static> {
+fn number<'a>(alloc: Global, name: &'static str, short: char, value_name: &'a str, help: &'a str) -> Arg<'a> {
     value(alloc, name, value_name, help).short(short).value_parser(value_parser!(u16))
 }
 
 /// Returns the option for header records.
-fn header(alloc: Global) -> Arg<'static> {
+fn header<'a>(alloc: Global) -> Arg<'a> {
     value(alloc, "header", "N", "copy the first records, 1 without a number")
         .num_args(0..=1)
         .require_equals(true)

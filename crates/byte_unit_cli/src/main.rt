@@ -15,6 +15,8 @@ mod search;
 mod size;
 mod stop;
 mod tally;
+#[cfg(test)]
+mod tests;
 mod text;
 mod writing;
 

@@ -53,8 +53,8 @@ returns-in_ok-write_whole-clause-written g c =
     let new : State = state_of c.add_last-added.new.progress c.add_last-added.new.waiting.items in
     let adds : AddsRecords options (nonempty_record c.args.part.now) old new =
     subst (λ out. AddsRecords options (nonempty_record c.args.part.now) (state_of c.args.progress.now out) new) c.requires.empty c.in_ok-added.ensures.ok in
-    let no : options.total ≡ false = search rules in
+    let not_asked : options.total ≡ false = search rules in
     let held = g.W.Write.contents (writer_of c.args.writer.now) in
     let holds = g.W.Write.contents (writer_of c.write_whole.new.writer) in
     let wrote = subst (Appends held holds) c.deref.ensures.value c.in_ok-write_whole.ensures.ok in
-    (new.out, wrote, IsFinished-plain_ok options c.args.part.now old new adds no)
+    (new.out, wrote, IsFinished-plain_ok options c.args.part.now old new adds not_asked)

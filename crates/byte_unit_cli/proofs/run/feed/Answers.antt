@@ -1,4 +1,4 @@
-use Rattle.std.proofs.Common.{◌≡◌, ◌+◌, ◌-◌, ◌++◌, ◌∷◌, [], length, take, drop, sym, ap, ◌∙◌, vec_len}
+use Rattle.std.proofs.Common.{◌≡◌, ◌+◌, ◌-◌, ◌++◌, ◌∷◌, [], length, take, drop, sym, ap, ◌∙◌, vec_len, Err}
 use Rattle.std.proofs.lemmas.List.{take_rest}
 use Rattle.byte_unit_cli.specs.Progress.{state_of}
 use Rattle.byte_unit_cli.proofs.Feeding.{Feed, IsNext, IsFed-step, Stops-record, empty_from_length, AddsRecords-same}
@@ -23,9 +23,9 @@ returns-in_err-add_record-clause-stop g c =
     record { ends = c.in-Some.ensures.some; bytes_are = ap (λ part. part ++ take place rest) (sym none) } in
     let failed = c.in_err-add_record in
     let error = failed.field-0.0 in
-    IfErr-passed c.from_residual.result error c.from_residual.ensures.1
+    IfErr-passed _ c.from_residual.result error c.from_residual.ensures.1
     (Stops-record options start now place (take place rest) c.loop-n.invariant next c.add_record.new.waiting.items
-    (sym failed.ensures.err) error failed.ensures.stop failed.ensures.rejected)
+    (sym failed.ensures.err) error failed.ensures.stop (λ is. failed.ensures.rejected (ap Err is)))
 
 pub returns-in_err-add_record-2-clause-stop : goal.returns-in_err-add_record-2-clause-stop
 returns-in_err-add_record-2-clause-stop g c =
@@ -43,9 +43,9 @@ returns-in_err-add_record-2-clause-stop g c =
     record { ends = c.in-Some.ensures.some; bytes_are = c.deref.ensures.value ∙ c.in_ok-extend_from_slice.ensures.items } in
     let failed = c.in_err-add_record-2 in
     let error = failed.field-0.0 in
-    IfErr-passed c.from_residual-in_err-add_record-2.result error c.from_residual-in_err-add_record-2.ensures.1
+    IfErr-passed _ c.from_residual-in_err-add_record-2.result error c.from_residual-in_err-add_record-2.ensures.1
     (Stops-record options start now place bytes c.loop-n.invariant next c.add_record-2.new.waiting.items
-    (sym failed.ensures.err) error failed.ensures.stop failed.ensures.rejected)
+    (sym failed.ensures.err) error failed.ensures.stop (λ is. failed.ensures.rejected (ap Err is)))
 
 pub loop-n-preserved : goal.loop-n-preserved
 loop-n-preserved g c =

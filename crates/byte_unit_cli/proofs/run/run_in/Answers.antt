@@ -18,8 +18,8 @@ reads-init g c = record {
   none_waits = c.new-waiting.ensures.items;
 }
 
-pub returns-in_None-clause-run : goal.returns-in_None-clause-run
-returns-in_None-clause-run g c =
+pub returns-in-None-clause-run : goal.returns-in-None-clause-run
+returns-in-None-clause-run g c =
     let options = c.args.options.now in
     let left = g.R.Read.remaining (reader_of c.args.reader.now) in
     let between = g.R.Read.remaining (reader_of c.reads.reader) in
