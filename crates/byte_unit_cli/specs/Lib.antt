@@ -1,6 +1,7 @@
 pub mod Ending
 pub mod Fields
 pub mod Field
+pub mod Laws
 pub mod Outcome
 pub mod Output
 pub mod Progress

@@ -5,6 +5,7 @@ mod arguments;
 mod ending;
 mod field;
 mod finish;
+mod laws;
 mod notice;
 mod options;
 mod place;

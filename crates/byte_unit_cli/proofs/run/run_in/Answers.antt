@@ -1,10 +1,15 @@
-use Rattle.std.proofs.Common.{◌≡◌, [], ◌++◌, sym, ap, subst, ◌∙◌, take}
+use Rattle.std.proofs.Common.{◌≡◌, [], ◌++◌, sym, ap, subst, ◌∙◌, take, Err, Result}
 use Rattle.std.proofs.KnownBytes.{Consumes-kept, Consumes-nil, Appends-nil}
 use Rattle.byte_unit_cli.specs.Progress.{begun_record, state_of}
 use Rattle.byte_unit_cli.specs.Streams.{reader_of, writer_of}
 use Rattle.byte_unit_cli.specs.Records.{finished_records, records_of}
 use Rattle.byte_unit_cli.proofs.Runs.{IsServed, IsServed-start, IsServed-piece, IsWritten-read, IsWritten-piece, IsWritten-finished}
 use Rattle.byte_unit_cli.proofs.Runs.{IsWritten-error, Consumes-piece, Consumes-at_end, Appends-more}
+use Rattle.byte_unit_cli.specs.Progress.{IsFinished}
+use Rattle.byte_unit_cli.specs.declared.stop.Stop.{Stop}
+use Rattle.byte_unit_cli.specs.declared.stop.Stop.TheVariants.{Read, Total}
+use Rattle.byte_unit_cli.specs.declared.tally.Tally.{Tally}
+use Rattle.byte_unit_cli.proofs.Results.{error-passed}
 use Rattle.byte_unit_cli.proofs.run.run_in.Goals as goal
 
 pub reads-init : goal.reads-init
@@ -90,3 +95,22 @@ returns-clause-run g c =
       Appends-more so_far holds more.0 more.1,
       IsWritten-finished options so_far.read so_far.written part c.reads.progress served more.0 c.finish.result more.2,
     )
+
+pub returns-in_err-answer_piece-in-Some-clause-total : goal.returns-in_err-answer_piece-in-Some-clause-total
+returns-in_err-answer_piece-in-Some-clause-total g c = λ is.
+    let failed = c.in_err-answer_piece-in-Some in
+    let same = error-passed c.from_residual.result failed.field-0.0 Total c.from_residual.ensures.1 is in
+    absurd (failed.ensures.no_total (ap Err same))
+
+pub returns-in_err-answer_piece-in-Some-clause-read_failed : goal.returns-in_err-answer_piece-in-Some-clause-read_failed
+returns-in_err-answer_piece-in-Some-clause-read_failed g c = λ is.
+    let failed = c.in_err-answer_piece-in-Some in
+    let same = error-passed c.from_residual.result failed.field-0.0 Read c.from_residual.ensures.1 is in
+    absurd (failed.ensures.no_read (ap Err same))
+
+pub returns-clause-read_failed : goal.returns-clause-read_failed
+returns-clause-read_failed g c = λ is.
+    let more = c.finish.ensures.written in
+    let Ends : Result Tally Stop → Type 0 =
+    λ result. IsFinished c.args.options.now c.deref.result.now (state_of c.reads.progress []) result more.0 in
+    absurd (subst Ends is more.2)
