@@ -73,7 +73,9 @@ module _ (options : Options) (part : List ℕ) (old new : State) (adds : AddsRec
   pub IsFinished-plain_ok : options.total ≡ false → IsFinished options part old (Ok new.tally) new.out
   IsFinished-plain_ok not_asked =
       let For : Type 0 = IsTotalFor options new.tally.total [] in
-      (new, [], adds, refl, subst (λ total. MatchBool total For ([] ≡ [])) (sym not_asked) refl, sym (append-nil new.out))
+      let Nothing : Type 0 = ◌≡◌ {A = List ℕ} [] [] in
+      let nothing : Nothing = refl in
+      (new, [], adds, refl, subst (λ total. MatchBool total For Nothing) (sym not_asked) nothing, sym (append-nil new.out))
 
   pub IsFinished-plain_error : (error : Stop) (written : List ℕ) → error ≡ Write → IsPrefix written new.out
       → IsFinished options part old (Err error) written

@@ -44,7 +44,7 @@ returns-in_err-add_record-2-clause-stop g c =
     let failed = c.in_err-add_record-2 in
     let error = failed.field-0.0 in
     IfErr-passed _ c.from_residual-in_err-add_record-2.result error c.from_residual-in_err-add_record-2.ensures.1
-    (Stops-record options start now place bytes c.loop-n.invariant next c.add_record-2.new.waiting.items
+    (Stops-record options start now place bytes c.loop-n.invariant next c.add_record-else-is_empty.new.waiting.items
     (sym failed.ensures.err) error failed.ensures.stop (λ is. failed.ensures.rejected (ap Err is)))
 
 pub loop-n-preserved : goal.loop-n-preserved
