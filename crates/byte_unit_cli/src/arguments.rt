@@ -43,7 +43,9 @@ pub(crate) struct Wrong<'a> {
 pub(crate) fn command<'a>(alloc: Global) -> Result<Command<'a>, AllocError> {
     let command = Command::new(alloc, "byte-unit")
         .version("1.0.0")
-        .about("Converts sizes in bytes or bits, exactly: the operands, or the lines of standard input.")
+        .about(
+            "Converts sizes in bytes or bits, exactly: the operands, or the lines of standard input.",
+        )
         .override_usage("byte-unit [OPTION].. [SIZE]..")
         .after_help(AFTER_HELP);
     let command = command
@@ -51,22 +53,57 @@ pub(crate) fn command<'a>(alloc: Global) -> Result<Command<'a>, AllocError> {
         .arg(ignore_case(alloc)?)?
         .arg(value(alloc, "to", "UNIT", "convert to this form"))?
         .arg(number(alloc, "precision", 'p', "N", "digits after the point"))?
-        .arg(value(alloc, "delimiter", "C", "fields are separated by this character").short('d'))?
-        .arg(value(alloc, "field", "FIELDS", "convert these fields [default: 1]").requires_arg("delimiter")?)?;
+        .arg(value(
+            alloc,
+            "delimiter",
+            "C",
+            "fields are separated by this character",
+        )
+        .short('d'))?
+        .arg(value(
+            alloc,
+            "field",
+            "FIELDS",
+            "convert these fields [default: 1]",
+        )
+        .requires_arg("delimiter")?)?;
     let command = command
         .arg(header(alloc))?
-        .arg(value(alloc, "padding", "N", "columns of a size; left-aligned if negative").allow_hyphen_values(true))?
-        .arg(value(alloc, "invalid", "MODE", "what a rejected field does: abort, fail, warn or ignore"))?
+        .arg(value(
+            alloc,
+            "padding",
+            "N",
+            "columns of a size; left-aligned if negative",
+        )
+        .allow_hyphen_values(true))?
+        .arg(value(
+            alloc,
+            "invalid",
+            "MODE",
+            "what a rejected field does: abort, fail, warn or ignore",
+        ))?
         .arg(flag(alloc, "total", "a last line has the exact sum"))?
         .arg(value(alloc, "max", "SIZE", "status 3 if a size is above it"))?
         .arg(value(alloc, "min", "SIZE", "status 3 if a size is below it"))?
-        .arg(flag(alloc, "zero-terminated", "records end with a zero byte, not a line end").short('z'))?;
-    command.arg(Arg::new(alloc, "SIZE").num_args(0..).help("the sizes, in place of standard input"))
+        .arg(flag(
+            alloc,
+            "zero-terminated",
+            "records end with a zero byte, not a line end",
+        )
+        .short('z'))?;
+    command.arg(
+        Arg::new(alloc, "SIZE")
+            .num_args(0..)
+            .help("the sizes, in place of standard input"),
+    )
 }
 
 /// Returns an option without a value.
 fn flag<'a>(alloc: Global, name: &'a str, help: &'a str) -> Arg<'a> {
-    Arg::new(alloc, name).long(name).action(ArgAction::SetTrue).help(help)
+    Arg::new(alloc, name)
+        .long(name)
+        .action(ArgAction::SetTrue)
+        .help(help)
 }
 
 /// Returns the option that ignores case.
@@ -75,26 +112,44 @@ fn flag<'a>(alloc: Global, name: &'a str, help: &'a str) -> Arg<'a> {
 ///
 /// Returns `AllocError` if allocation fails.
 fn ignore_case<'a>(alloc: Global) -> Result<Arg<'a>, AllocError> {
-    flag(alloc, "ignore-case", "ignore case; b then means bytes").short('i').conflicts_with("bits")
+    flag(alloc, "ignore-case", "ignore case; b then means bytes")
+        .short('i')
+        .conflicts_with("bits")
 }
 
 /// Returns an option with a value.
 fn value<'a>(alloc: Global, name: &'a str, value: &'a str, help: &'a str) -> Arg<'a> {
-    Arg::new(alloc, name).long(name).value_name(value).help(help)
+    Arg::new(alloc, name)
+        .long(name)
+        .value_name(value)
+        .help(help)
 }
 
 /// Returns an option with a number of 16 bits.
-fn number<'a>(alloc: Global, name: &'static str, short: char, value_name: &'a str, help: &'a str) -> Arg<'a> {
-    value(alloc, name, value_name, help).short(short).value_parser(value_parser!(u16))
+fn number<'a>(
+    alloc: Global,
+    name: &'static str,
+    short: char,
+    value_name: &'a str,
+    help: &'a str,
+) -> Arg<'a> {
+    value(alloc, name, value_name, help)
+        .short(short)
+        .value_parser(value_parser!(u16))
 }
 
 /// Returns the option for header records.
 fn header<'a>(alloc: Global) -> Arg<'a> {
-    value(alloc, "header", "N", "copy the first records, 1 without a number")
-        .num_args(0..=1)
-        .require_equals(true)
-        .default_missing_value("1")
-        .value_parser(value_parser!(u64))
+    value(
+        alloc,
+        "header",
+        "N",
+        "copy the first records, 1 without a number",
+    )
+    .num_args(0..=1)
+    .require_equals(true)
+    .default_missing_value("1")
+    .value_parser(value_parser!(u64))
 }
 
 /// Returns the options of the call. `fields` are those that [`fields_of`] returned.
@@ -102,11 +157,22 @@ fn header<'a>(alloc: Global) -> Arg<'a> {
 /// # Errors
 ///
 /// Returns the first option that is wrong.
-pub(crate) fn options_of<'a, 'b>(matches: &ArgMatches<'a>, fields: &'b [FieldRange]) -> Result<Options<'b>, Wrong<'a>> {
-    let kind = if matches.get_flag("bits") { Kind::Bit } else { Kind::Byte };
+pub(crate) fn options_of<'a, 'b>(
+    matches: &ArgMatches<'a>,
+    fields: &'b [FieldRange],
+) -> Result<Options<'b>, Wrong<'a>> {
+    let kind = if matches.get_flag("bits") {
+        Kind::Bit
+    } else {
+        Kind::Byte
+    };
     let ignore_case = matches.get_flag("ignore-case");
     let (width, align_left) = padding_of(matches)?;
-    let record_end = if matches.get_flag("zero-terminated") { 0 } else { b'\n' };
+    let record_end = if matches.get_flag("zero-terminated") {
+        0
+    } else {
+        b'\n'
+    };
     Ok(Options {
         kind,
         ignore_case,
@@ -138,7 +204,11 @@ fn form_of<'a>(matches: &ArgMatches<'a>, kind: Kind) -> Result<Form, Wrong<'a>> 
         "auto" => Ok(Form::Largest(UnitType::Both)),
         _ => match Unit::parse_str(value, false, kind == Kind::Byte) {
             Ok(unit) => Ok(Form::InUnit(unit)),
-            Err(_) => Err(Wrong { option: "--to", value, reason: "not a form or a unit" }),
+            Err(_) => Err(Wrong {
+                option: "--to",
+                value,
+                reason: "not a form or a unit",
+            }),
         },
     }
 }
@@ -154,7 +224,11 @@ fn padding_of<'a>(matches: &ArgMatches<'a>) -> Result<(u16, bool), Wrong<'a>> {
     };
     match digits.parse::<u16>() {
         Ok(width) if width > 0 => Ok((width, align_left)),
-        _ => Err(Wrong { option: "--padding", value, reason: "not a number from 1 to 65535, or its negative" }),
+        _ => Err(Wrong {
+            option: "--padding",
+            value,
+            reason: "not a number from 1 to 65535, or its negative",
+        }),
     }
 }
 
@@ -166,7 +240,11 @@ fn delimiter_of<'a>(matches: &ArgMatches<'a>) -> Result<Option<u8>, Wrong<'a>> {
     match value.as_bytes() {
         [byte] => Ok(Some(*byte)),
         [b'\\', b't'] => Ok(Some(b'\t')),
-        _ => Err(Wrong { option: "--delimiter", value, reason: "not one character of one byte" }),
+        _ => Err(Wrong {
+            option: "--delimiter",
+            value,
+            reason: "not one character of one byte",
+        }),
     }
 }
 
@@ -180,23 +258,38 @@ fn invalid_of<'a>(matches: &ArgMatches<'a>) -> Result<Invalid, Wrong<'a>> {
         "fail" => Ok(Invalid::Fail),
         "warn" => Ok(Invalid::Warn),
         "ignore" => Ok(Invalid::Ignore),
-        _ => Err(Wrong { option: "--invalid", value, reason: "not abort, fail, warn or ignore" }),
+        _ => Err(Wrong {
+            option: "--invalid",
+            value,
+            reason: "not abort, fail, warn or ignore",
+        }),
     }
 }
 
 /// Returns a limit of the sizes.
-fn limit_of<'a>(matches: &ArgMatches<'a>, name: &'static str, kind: Kind, ignore_case: bool) -> Result<Option<u128>, Wrong<'a>> {
+fn limit_of<'a>(
+    matches: &ArgMatches<'a>,
+    name: &'static str,
+    kind: Kind,
+    ignore_case: bool,
+) -> Result<Option<u128>, Wrong<'a>> {
     let Some(value) = matches.get_str(name) else {
         return Ok(None);
     };
     let size = match kind {
-        Kind::Byte => Byte::parse_str(value, ignore_case).ok().map(|size| size.as_u128()),
+        Kind::Byte => Byte::parse_str(value, ignore_case)
+            .ok()
+            .map(|size| size.as_u128()),
         Kind::Bit => Bit::parse_str(value).ok().map(|size| size.as_u128()),
     };
     let option = if name == "max" { "--max" } else { "--min" };
     match size {
         Some(size) => Ok(Some(size)),
-        None => Err(Wrong { option, value, reason: "not a size" }),
+        None => Err(Wrong {
+            option,
+            value,
+            reason: "not a size",
+        }),
     }
 }
 
@@ -205,7 +298,10 @@ fn limit_of<'a>(matches: &ArgMatches<'a>, name: &'static str, kind: Kind, ignore
 /// # Errors
 ///
 /// Returns `AllocError` if allocation fails.
-pub(crate) fn fields_of(alloc: Global, list: Option<&str>) -> Result<Option<Vec<FieldRange>>, AllocError> {
+pub(crate) fn fields_of(
+    alloc: Global,
+    list: Option<&str>,
+) -> Result<Option<Vec<FieldRange>>, AllocError> {
     let mut fields = Vec::new(alloc);
     for item in list.unwrap_or("1").split(',') {
         match range_of(item) {
@@ -220,9 +316,16 @@ pub(crate) fn fields_of(alloc: Global, list: Option<&str>) -> Result<Option<Vec<
 fn range_of(item: &str) -> Option<FieldRange> {
     let Some((first, last)) = item.split_once('-') else {
         let field = field_of(item)?;
-        return Some(FieldRange { first: field, last: Some(field) });
+        return Some(FieldRange {
+            first: field,
+            last: Some(field),
+        });
     };
-    let first = if first.is_empty() { 1 } else { field_of(first)? };
+    let first = if first.is_empty() {
+        1
+    } else {
+        field_of(first)?
+    };
     if last.is_empty() {
         return Some(FieldRange { first, last: None });
     }
@@ -230,7 +333,10 @@ fn range_of(item: &str) -> Option<FieldRange> {
     if last < first {
         return None;
     }
-    Some(FieldRange { first, last: Some(last) })
+    Some(FieldRange {
+        first,
+        last: Some(last),
+    })
 }
 
 /// Returns the number of a field, which is 1 or more.

@@ -6,7 +6,7 @@ ghost use Rattle.byte_unit_cli.specs.Field.{IsNoSize};
 ghost use Rattle.byte_unit_cli.specs.Fields.{IsChosen, InRange};
 ghost use Rattle.byte_unit_cli.specs.Progress.{AddsField, tally_with};
 
-use crate::notice::{Reason, add_notice, add_limit_notice};
+use crate::notice::{Reason, add_limit_notice, add_notice};
 use crate::options::{FieldRange, Invalid, Options};
 use crate::place::Place;
 use crate::size::parse;

@@ -41,11 +41,23 @@ const WRONG: u8 = 2;
 const CLOSED: u8 = 141;
 
 /// Converts what `input` gives, and returns the exit status.
-fn convert<R: Read + Drop>(rt: &HostRuntime, options: &Options, word: &'static str, input: R) -> u8 {
+fn convert<R: Read + Drop>(
+    rt: &HostRuntime,
+    options: &Options,
+    word: &'static str,
+    input: R,
+) -> u8 {
     let mut reader = Reading::new(input);
     let mut writer = Writing::new(io::writer(rt));
     let mut errors = rt.stderr();
-    let ended = run(rt.alloc(), options, word, &mut reader, &mut writer, &mut errors);
+    let ended = run(
+        rt.alloc(),
+        options,
+        word,
+        &mut reader,
+        &mut writer,
+        &mut errors,
+    );
     if writer.closed() {
         return CLOSED;
     }
@@ -77,16 +89,26 @@ fn joined(rt: &HostRuntime, operands: &[&str], record_end: u8) -> Result<Vec<u8>
 /// # Errors
 ///
 /// Returns `AllocError` if allocation fails before anything is read.
-fn convert_call(rt: &HostRuntime, matches: &ArgMatches, options: &Options) -> Result<u8, AllocError> {
+fn convert_call(
+    rt: &HostRuntime,
+    matches: &ArgMatches,
+    options: &Options,
+) -> Result<u8, AllocError> {
     if let Some(operands) = matches.get_strs("SIZE") {
         let input = joined(rt, operands, options.record_end)?;
         return Ok(convert(rt, options, "operand", input.as_slice()));
     }
     let input = rt.reader();
     if input.is_terminal() {
-        let _ = eprintln!(rt; "byte-unit: reading sizes from the terminal, one a line; end with Ctrl-D");
+        let _ = eprintln!(rt;
+            "byte-unit: reading sizes from the terminal, one a line; end with Ctrl-D"
+        );
     }
-    let word = if options.record_end == 0 { "record" } else { "line" };
+    let word = if options.record_end == 0 {
+        "record"
+    } else {
+        "line"
+    };
     Ok(convert(rt, options, word, input))
 }
 
@@ -119,7 +141,11 @@ fn answer(rt: &HostRuntime) -> io::Result<u8> {
     let list = matches.get_str("field");
     let Some(fields) = fields_of(rt.alloc(), list)? else {
         let value = list.unwrap_or("");
-        let wrong = Wrong { option: "--field", value, reason: "not a list of fields" };
+        let wrong = Wrong {
+            option: "--field",
+            value,
+            reason: "not a list of fields",
+        };
         return Ok(report(rt, &wrong));
     };
     match options_of(&matches, fields.as_slice()) {

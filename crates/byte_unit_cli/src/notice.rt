@@ -157,7 +157,10 @@ fn add_escaped<A: Allocator>(text: &str, notices: &mut String<A>) -> Result<(), 
 /// # Errors
 ///
 /// Returns `AllocError` if allocation fails.
-fn add_escaped_bytes<A: Allocator>(bytes: &[u8], notices: &mut String<A>) -> Result<(), AllocError> {
+fn add_escaped_bytes<A: Allocator>(
+    bytes: &[u8],
+    notices: &mut String<A>,
+) -> Result<(), AllocError> {
     for byte in bytes {
         if byte.is_ascii_graphic() || *byte == b' ' {
             notices.push(*byte as char)?;

@@ -69,7 +69,9 @@ fn add_fields<A: Allocator>(
             add_field(options, whole, bytes, digits, tally, text, notices)
         }
         Some(delimiter) => {
-            add_split(options, delimiter, place, bytes, digits, tally, text, notices)
+            add_split(
+                options, delimiter, place, bytes, digits, tally, text, notices,
+            )
         }
     }
 }
@@ -97,13 +99,19 @@ fn add_split<A: Allocator>(
     let mut rest = bytes;
     let mut number = 1u64;
     while let Some(n) = end_of(rest, delimiter) {
-        let here = Place { field: number, ..place };
+        let here = Place {
+            field: number,
+            ..place
+        };
         add_field(options, here, &rest[..n], digits, tally, text, notices)?;
         text.extend_from_slice(&[delimiter])?;
         rest = &rest[n + 1..];
         number += 1;
     }
-    let last = Place { field: number, ..place };
+    let last = Place {
+        field: number,
+        ..place
+    };
     add_field(options, last, rest, digits, tally, text, notices)
 }
 
@@ -140,7 +148,15 @@ pub(crate) fn add_record<A: Allocator>(
         text.extend_from_slice(bytes)?;
     } else {
         let place = progress.place;
-        add_fields(options, place, bytes, digits, &mut progress.tally, text, notices)?;
+        add_fields(
+            options,
+            place,
+            bytes,
+            digits,
+            &mut progress.tally,
+            text,
+            notices,
+        )?;
     }
     text.extend_from_slice(&[options.record_end])?;
     waiting.extend_from_slice(text)?;

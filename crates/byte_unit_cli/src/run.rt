@@ -56,7 +56,7 @@ pub fn run<R: Read, W: Write, E: Write>(
         × HasRead R.remaining reader.old reader.new read
         × HasWritten W.contents writer.old writer.new written
         × IsWritten options.now (finished_records options.now.record_end read)
-            (records_of options.now.record_end read) result written }
+        (records_of options.now.record_end read) result written }
     ensures end { OnOk result (HasReadAll R.remaining reader.new) }
     ensures total { IsErrOf result Stop.Total → HasReadAll R.remaining reader.new }
     ensures read_failed { IsErrOf result Stop.Read → IsTrue (reading_failed reader.new) }
@@ -64,7 +64,16 @@ pub fn run<R: Read, W: Write, E: Write>(
 {
     let mut buffer = [0u8; CHUNK];
     let mut digits = [0u8; DIGITS];
-    run_in(&alloc, options, word, &mut buffer, &mut digits, reader, writer, errors)
+    run_in(
+        &alloc,
+        options,
+        word,
+        &mut buffer,
+        &mut digits,
+        reader,
+        writer,
+        errors,
+    )
 }
 
 /// Does what [`run`] does, with any allocator, and with reads of at most the length of `buffer`.
@@ -86,7 +95,7 @@ pub fn run_in<A: Allocator, R: Read, W: Write, E: Write>(
         × HasRead R.remaining reader.old reader.new read
         × HasWritten W.contents writer.old writer.new written
         × IsWritten options.now (finished_records options.now.record_end read)
-            (records_of options.now.record_end read) result written }
+        (records_of options.now.record_end read) result written }
     ensures end { OnOk result (HasReadAll R.remaining reader.new) }
     ensures total { IsErrOf result Stop.Total → HasReadAll R.remaining reader.new }
     ensures read_failed { IsErrOf result Stop.Read → IsTrue (reading_failed reader.new) }
@@ -156,7 +165,7 @@ fn answer_piece<A: Allocator, W: Write, E: Write>(
     ensures written { (written : List ℕ)
         × HasWritten W.contents writer.old writer.new written
         × IsAnswered options.now (ended_records options.now.record_end part.old.items bytes.now)
-            (state_of progress.old []) (state_of progress.new []) result written }
+        (state_of progress.old []) (state_of progress.new []) result written }
     ensures part { OnOk result
         (part.new.items ≡ begun_record options.now.record_end part.old.items bytes.now) }
     ensures waiting { OnOk result (waiting.new.items ≡ []) }
@@ -164,7 +173,9 @@ fn answer_piece<A: Allocator, W: Write, E: Write>(
     ensures no_total { ¬ (result ≡ Err Stop.Total) }
     ensures no_read { ¬ (result ≡ Err Stop.Read) }
 {
-    let fed = feed(options, part, bytes, digits, progress, text, waiting, notices);
+    let fed = feed(
+        options, part, bytes, digits, progress, text, waiting, notices,
+    );
     // Even if the call stopped, the records before are written.
     write_whole(writer, waiting)?;
     waiting.clear();
@@ -201,7 +212,7 @@ fn feed<A: Allocator>(
     requires { text_limit ≤ length digits.old }
     ensures ok { OnOk result
         (AddsRecords options.now (ended_records options.now.record_end part.old.items bytes.now)
-            (state_of progress.old waiting.old.items) (state_of progress.new waiting.new.items)) }
+        (state_of progress.old waiting.old.items) (state_of progress.new waiting.new.items)) }
     ensures part { OnOk result
         (part.new.items ≡ begun_record options.now.record_end part.old.items bytes.now) }
     ensures stop { IfErr result (λ stop. Stops options.now
@@ -211,7 +222,15 @@ fn feed<A: Allocator>(
     let mut rest = bytes;
     while let Some(n) = end_of(rest, options.record_end) {
         if part.is_empty() {
-            add_record(options, &rest[..n], digits, progress, text, waiting, notices)?;
+            add_record(
+                options,
+                &rest[..n],
+                digits,
+                progress,
+                text,
+                waiting,
+                notices,
+            )?;
         } else {
             part.extend_from_slice(&rest[..n])?;
             add_record(options, part, digits, progress, text, waiting, notices)?;

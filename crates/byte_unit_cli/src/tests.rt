@@ -56,7 +56,14 @@ fn ended(alloc: Global, options: &Options, input: &[u8]) -> Written {
     let mut reader = Reading::new(input);
     let mut writer = Writing::new(Vec::new(alloc));
     let mut errors = Vec::new(alloc);
-    let result = run(alloc, options, "line", &mut reader, &mut writer, &mut errors);
+    let result = run(
+        alloc,
+        options,
+        "line",
+        &mut reader,
+        &mut writer,
+        &mut errors,
+    );
     Written {
         result,
         written: writer.into_inner(),

@@ -14,7 +14,14 @@ fn ended_over(alloc: Global, reader: MemoryReader, writer: MemoryWriter) -> Writ
     let mut reader = Reading::new(reader);
     let mut writer = Writing::new(writer);
     let mut errors = Vec::new(alloc);
-    let result = run(alloc, &plain(), "line", &mut reader, &mut writer, &mut errors);
+    let result = run(
+        alloc,
+        &plain(),
+        "line",
+        &mut reader,
+        &mut writer,
+        &mut errors,
+    );
     Written {
         result,
         written: writer.into_inner().into_taken(),
@@ -36,7 +43,13 @@ fn small_steps(rt: HostRuntime) {
 #[test]
 fn failed_reads(rt: HostRuntime) {
     // By the number of reads of five bytes before the failure.
-    let wanted: &[&[u8]] = &[b"", b"1 KiB\n", b"1 KiB\n", b"1 KiB\n1.5 KiB\n", b"1 KiB\n1.5 KiB\n100 MB\n"];
+    let wanted: &[&[u8]] = &[
+        b"",
+        b"1 KiB\n",
+        b"1 KiB\n",
+        b"1 KiB\n1.5 KiB\n",
+        b"1 KiB\n1.5 KiB\n100 MB\n",
+    ];
     for (calls, output) in wanted.iter().enumerate() {
         let reader = MemoryReader::new(INPUT, 5, calls, Then::Fail);
         let ended = ended_over(rt.alloc(), reader, MemoryWriter::open(rt.alloc()));

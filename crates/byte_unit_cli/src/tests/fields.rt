@@ -27,7 +27,10 @@ fn fields(rt: HostRuntime) {
         ..plain()
     };
     let ended = ended(rt.alloc(), &options, b"1K,1K,1K,1K,1K,1K\n1K\n2K,,3K,\n");
-    assert_eq!(rt; ended.written.as_slice(), b"1000,1K,1000,1K,1000,1000\n1000\n2000,,3000,\n".as_slice());
+    assert_eq!(rt;
+        ended.written.as_slice(),
+        b"1000,1K,1000,1K,1000,1000\n1000\n2000,,3000,\n".as_slice()
+    );
 }
 
 #[test]
@@ -84,7 +87,10 @@ fn other_modes(rt: HostRuntime) {
             rejected: true,
         });
         assert_eq!(rt; ended.result, wanted);
-        assert_eq!(rt; ended.written.as_slice(), b"x,1024,1 KiB\n\xff,y,1 B\n1.025 KB\n".as_slice());
+        assert_eq!(rt;
+            ended.written.as_slice(),
+            b"x,1024,1 KiB\n\xff,y,1 B\n1.025 KB\n".as_slice()
+        );
         assert_eq!(rt; ended.errors.is_empty(), invalid == Invalid::Ignore);
     }
 }

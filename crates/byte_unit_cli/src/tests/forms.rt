@@ -23,8 +23,18 @@ const ROWS: &[Row] = &[
     (Form::InUnit(Unit::KiB), Some(1), "2.75KiB", "2.8 KiB\n"),
     (Form::InUnit(Unit::Kbit), None, "1KB", "8 Kb\n"),
     (Form::InUnit(Unit::B), Some(2), "1KB", "1000 B\n"),
-    (Form::Largest(UnitType::Decimal), Some(1), "1234567", "1.2 MB\n"),
-    (Form::Largest(UnitType::Binary), Some(1), "1536", "1.5 KiB\n"),
+    (
+        Form::Largest(UnitType::Decimal),
+        Some(1),
+        "1234567",
+        "1.2 MB\n",
+    ),
+    (
+        Form::Largest(UnitType::Binary),
+        Some(1),
+        "1536",
+        "1.5 KiB\n",
+    ),
     (Form::Largest(UnitType::Both), None, "1024", "1 KiB\n"),
     (Form::Largest(UnitType::Both), None, "1000", "1 KB\n"),
     (Form::Largest(UnitType::Both), Some(1), "999", "999 B\n"),
@@ -51,7 +61,10 @@ fn bits(rt: HostRuntime) {
         ..plain()
     };
     let ended = ended(rt.alloc(), &options, b"1536\n1KB\n1 K\n");
-    assert_eq!(rt; ended.written.as_slice(), b"1.5 Kib\n8 Kb\n1 Kb\n".as_slice());
+    assert_eq!(rt;
+        ended.written.as_slice(),
+        b"1.5 Kib\n8 Kb\n1 Kb\n".as_slice()
+    );
 }
 
 #[test]
@@ -60,8 +73,14 @@ fn case(rt: HostRuntime) {
         ignore_case: true,
         ..plain()
     };
-    assert_eq!(rt; ended(rt.alloc(), &options, b"1kb\n").written.as_slice(), b"1 KB\n".as_slice());
-    assert_eq!(rt; ended(rt.alloc(), &plain(), b"1kb\n").written.as_slice(), b"125 B\n".as_slice());
+    assert_eq!(rt;
+        ended(rt.alloc(), &options, b"1kb\n").written.as_slice(),
+        b"1 KB\n".as_slice()
+    );
+    assert_eq!(rt;
+        ended(rt.alloc(), &plain(), b"1kb\n").written.as_slice(),
+        b"125 B\n".as_slice()
+    );
 }
 
 #[test]
@@ -71,13 +90,22 @@ fn total(rt: HostRuntime) {
         ..plain()
     };
     let both = ended(rt.alloc(), &options, b"1.5 KiB\n2 KB");
-    assert_eq!(rt; both.written.as_slice(), b"1.5 KiB\n2 KB\n3.536 KB\n".as_slice());
-    assert_eq!(rt; ended(rt.alloc(), &options, b"").written.as_slice(), b"0 B\n".as_slice());
+    assert_eq!(rt;
+        both.written.as_slice(),
+        b"1.5 KiB\n2 KB\n3.536 KB\n".as_slice()
+    );
+    assert_eq!(rt;
+        ended(rt.alloc(), &options, b"").written.as_slice(),
+        b"0 B\n".as_slice()
+    );
     let most = ended(rt.alloc(), &options, b"999999999999999999999999999999\n");
     assert!(rt; most.result.is_ok());
     let large = ended(rt.alloc(), &options, b"999999999999999999999999999999\n1 B");
     assert_eq!(rt; large.result, Err(Stop::Total));
-    assert_eq!(rt; large.written.as_slice(), b"999999999999999999999999999.999 KB\n1 B\n".as_slice());
+    assert_eq!(rt;
+        large.written.as_slice(),
+        b"999999999999999999999999999.999 KB\n1 B\n".as_slice()
+    );
 }
 
 #[test]
@@ -109,11 +137,18 @@ fn padding(rt: HostRuntime) {
         width: 8,
         ..plain()
     };
-    assert_eq!(rt; ended(rt.alloc(), &right, b"1KB\n1.5 KiB\n123456789\n").written.as_slice(),
-        b"    1 KB\n 1.5 KiB\n123456.789 KB\n".as_slice());
+    assert_eq!(rt;
+        ended(rt.alloc(), &right, b"1KB\n1.5 KiB\n123456789\n")
+            .written
+            .as_slice(),
+        b"    1 KB\n 1.5 KiB\n123456.789 KB\n".as_slice()
+    );
     let left = Options {
         align_left: true,
         ..right
     };
-    assert_eq!(rt; ended(rt.alloc(), &left, b"1KB\n").written.as_slice(), b"1 KB    \n".as_slice());
+    assert_eq!(rt;
+        ended(rt.alloc(), &left, b"1KB\n").written.as_slice(),
+        b"1 KB    \n".as_slice()
+    );
 }
