@@ -1,0 +1,20 @@
+-- Lemmas: results of calls.
+use Rattle.std.proofs.Common.{◌≡◌, Result, Ok, Err, OnOk, OnErr, IfErr, refl, sym, subst, ap}
+use Rattle.std.specs.Prelude.{⊤, IsErrAnd}
+
+-- a fact at `Ok` that follows from another one
+pub OnOk-map : {T E : Type 0} {P Q : Type 0} (result : Result T E) → (P → Q) → OnOk result P → OnOk result Q
+OnOk-map (Ok _) gives holds = gives holds
+OnOk-map (Err _) gives holds = tt
+
+-- the error that `?` passes on is this one
+pub error-passed : {T E : Type 0} (result : Result T E) (error target : E) → IsErrAnd result (λ other. other ≡ error)
+    → result ≡ Err target → error ≡ target
+error-passed {T} {E} result error target passed is =
+    let Passed : Result T E → Type 0 = λ result. IsErrAnd result (λ other. other ≡ error) in sym (subst Passed is passed)
+
+-- a fact of the error that `?` passes on
+pub IfErr-passed : {T E : Type 0} (P : E → Type 0) (result : Result T E) (error : E) → IsErrAnd result (λ other. other ≡ error)
+    → P error → IfErr result P
+IfErr-passed P (Ok _) error passed holds = tt
+IfErr-passed P (Err other) error passed holds = subst P (sym passed) holds

@@ -1,0 +1,40 @@
+use Rattle.std.proofs.Common.{rules, ◌+◌, ap, sym, subst, take, Err}
+use Rattle.std.proofs.lemmas.List.{take_rest}
+use Rattle.byte_unit_cli.specs.declared.stop.Stop.TheVariants.{Rejected}
+use Rattle.byte_unit_cli.proofs.Results.{OnOk-map, error-passed}
+use Rattle.byte_unit_cli.proofs.Splitting.{IsSplitting, IsSplitting-step, Aborts-step, AddsFields-last, Aborts-last}
+use Rattle.byte_unit_cli.proofs.records.add_split.Goals as goal
+
+pub returns-in_err-add_field-clause-rejected : goal.returns-in_err-add_field-clause-rejected
+returns-in_err-add_field-clause-rejected g c = λ is.
+    let error = c.in_err-add_field.field-0.0 in
+    let same = error-passed c.from_residual.result error Rejected c.from_residual.ensures.1 is in
+    let aborted = c.in_err-add_field.ensures.rejected (ap Err same) in
+    Aborts-step c.args.options.now c.args.delimiter c.args.bytes.now c.args.tally.now c.args.text.now.items c.loop-n.number
+    c.loop-n.rest.now c.loop-n.tally c.loop-n.text.items c.loop-n.invariant c.requires.delimiter c.in-Some.n
+    c.in-Some.ensures.some aborted.0 aborted.1 aborted.2
+
+pub loop-n-preserved : goal.loop-n-preserved
+loop-n-preserved g c =
+    let rest = c.loop-n.rest.now in
+    let place = c.in-Some.n in
+    let next = c.add_field.new.tally in
+    let text = c.extend_from_slice.new.self.items in
+    let stepped = IsSplitting-step c.args.options.now c.args.delimiter c.args.bytes.now c.args.tally.now c.args.text.now.items
+    c.loop-n.number rest c.loop-n.tally c.loop-n.text.items c.loop-n.invariant c.requires.delimiter place c.in-Some.ensures.some
+    next c.add_field.new.text.items c.in_ok-add_field.ensures.ok text c.in_ok-extend_from_slice.ensures.items in
+    subst (λ rest. IsSplitting c.args.options.now c.args.delimiter c.args.bytes.now c.args.tally.now c.args.text.now.items
+    (c.loop-n.number + 1) rest next text) (sym (take_rest rest (place + 1))) stepped
+
+pub returns-clause-ok : goal.returns-clause-ok
+returns-clause-ok g c =
+    OnOk-map c.add_field-2.result (AddsFields-last c.args.options.now c.args.delimiter c.args.bytes.now c.args.tally.now
+    c.args.text.now.items c.loop-n.number c.loop-n.rest.now c.loop-n.tally c.loop-n.text.items c.loop-n.invariant
+    c.requires.delimiter c.in_default.ensures.none c.add_field-2.new.tally c.add_field-2.new.text.items) c.add_field-2.ensures.ok
+
+pub returns-clause-rejected : goal.returns-clause-rejected
+returns-clause-rejected g c = λ is.
+    let aborted = c.add_field-2.ensures.rejected is in
+    Aborts-last c.args.options.now c.args.delimiter c.args.bytes.now c.args.tally.now c.args.text.now.items c.loop-n.number
+    c.loop-n.rest.now c.loop-n.tally c.loop-n.text.items c.loop-n.invariant c.requires.delimiter c.in_default.ensures.none
+    aborted.0 aborted.1 aborted.2

@@ -1,0 +1,11 @@
+pub mod Ending
+pub mod Fields
+pub mod Field
+pub mod Laws
+pub mod Outcome
+pub mod Output
+pub mod Progress
+pub mod Records
+pub mod Shown
+pub mod Streams
+pub mod Sums

@@ -1,0 +1,170 @@
+//! Converts sizes: the operands, or the lines of standard input, each to the form that the options ask for.
+#![tactic(auto)]
+
+mod arguments;
+mod ending;
+mod field;
+mod finish;
+mod laws;
+mod notice;
+mod options;
+mod place;
+mod reading;
+mod records;
+mod run;
+mod search;
+mod size;
+mod stop;
+mod tally;
+#[cfg(test)]
+mod tests;
+mod text;
+mod writing;
+
+use arguments::{Wrong, command, fields_of, options_of};
+use clap::ArgMatches;
+use ending::{message, status};
+use options::Options;
+use reading::Reading;
+use run::run;
+use std::alloc::AllocError;
+use std::io::{IsTerminal, Read};
+use std::process::ExitCode;
+use std::{env, io};
+use stop::Stop;
+use writing::Writing;
+
+/// The exit status of a call that is wrong.
+const WRONG: u8 = 2;
+
+/// The exit status if the reader of the output has gone, as a shell has it for the signal of a broken pipe.
+const CLOSED: u8 = 141;
+
+/// Converts what `input` gives, and returns the exit status.
+fn convert<R: Read + Drop>(
+    rt: &HostRuntime,
+    options: &Options,
+    word: &'static str,
+    input: R,
+) -> u8 {
+    let mut reader = Reading::new(input);
+    let mut writer = Writing::new(io::writer(rt));
+    let mut errors = rt.stderr();
+    let ended = run(
+        rt.alloc(),
+        options,
+        word,
+        &mut reader,
+        &mut writer,
+        &mut errors,
+    );
+    if writer.closed() {
+        return CLOSED;
+    }
+    if let Err(stop) = ended {
+        if let Some(text) = message(stop) {
+            // Ignored on failure: the exit status reports the ending too.
+            let _ = eprintln!(rt; "byte-unit: {text}");
+        }
+    }
+    status(options.invalid, ended)
+}
+
+/// Returns the operands as an input, each with the byte that ends a record.
+///
+/// # Errors
+///
+/// Returns `AllocError` if allocation fails.
+fn joined(rt: &HostRuntime, operands: &[&str], record_end: u8) -> Result<Vec<u8>, AllocError> {
+    let mut input = Vec::new(rt.alloc());
+    for operand in operands {
+        input.extend_from_slice(operand.as_bytes())?;
+        input.extend_from_slice(&[record_end])?;
+    }
+    Ok(input)
+}
+
+/// Converts the operands, or standard input if there are none, and returns the exit status.
+///
+/// # Errors
+///
+/// Returns `AllocError` if allocation fails before anything is read.
+fn convert_call(
+    rt: &HostRuntime,
+    matches: &ArgMatches,
+    options: &Options,
+) -> Result<u8, AllocError> {
+    if let Some(operands) = matches.get_strs("SIZE") {
+        let input = joined(rt, operands, options.record_end)?;
+        return Ok(convert(rt, options, "operand", input.as_slice()));
+    }
+    let input = rt.reader();
+    if input.is_terminal() {
+        let _ = eprintln!(rt;
+            "byte-unit: reading sizes from the terminal, one a line; end with Ctrl-D"
+        );
+    }
+    let word = if options.record_end == 0 {
+        "record"
+    } else {
+        "line"
+    };
+    Ok(convert(rt, options, word, input))
+}
+
+/// Writes what is wrong with the call, and returns the exit status.
+fn report(rt: &HostRuntime, wrong: &Wrong) -> u8 {
+    let option = wrong.option;
+    let value = wrong.value;
+    let reason = wrong.reason;
+    let _ = eprintln!(rt; "byte-unit: {option}: '{value}': {reason}");
+    WRONG
+}
+
+/// Parses the command line, does what it asks for, and returns the exit status.
+///
+/// # Errors
+///
+/// Returns an error if the arguments cannot be read, or if allocation fails.
+fn answer(rt: &HostRuntime) -> io::Result<u8> {
+    let mut words = Vec::new(rt.alloc());
+    for word in env::args(rt)? {
+        words.push(word)?;
+    }
+    let matches = match command(rt.alloc())?.try_get_matches_from(words.as_slice()) {
+        Ok(matches) => matches,
+        Err(error) => {
+            let _ = error.print(rt);
+            return Ok(error.exit_code() as u8);
+        }
+    };
+    let list = matches.get_str("field");
+    let Some(fields) = fields_of(rt.alloc(), list)? else {
+        let value = list.unwrap_or("");
+        let wrong = Wrong {
+            option: "--field",
+            value,
+            reason: "not a list of fields",
+        };
+        return Ok(report(rt, &wrong));
+    };
+    match options_of(&matches, fields.as_slice()) {
+        Ok(options) => Ok(convert_call(rt, &matches, &options)?),
+        Err(wrong) => Ok(report(rt, &wrong)),
+    }
+}
+
+/// Runs the program, and exits with its status.
+fn main(rt: HostRuntime) -> ExitCode {
+    match answer(&rt) {
+        Ok(status) => ExitCode::from(status),
+        Err(error) if error.kind() == io::ErrorKind::OutOfMemory => {
+            let _ = eprintln!(rt; "byte-unit: out of memory");
+            ExitCode::from(1)
+        }
+        Err(_) => {
+            let _ = eprintln!(rt; "byte-unit: an argument is not UTF-8");
+            ExitCode::from(WRONG)
+        }
+    }
+}

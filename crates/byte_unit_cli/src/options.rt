@@ -1,0 +1,71 @@
+//! What a call of the program is to do.
+
+pub use byte_unit::{Kind, Unit, UnitType};
+
+/// How a size is shown.
+#[derive(Debug, Clone, Copy, PartialEq, Eq)]
+pub enum Form {
+    /// In the largest unit that represents it exactly within the precision.
+    Exact,
+    /// As digits.
+    Plain,
+    /// In this unit.
+    InUnit(Unit),
+    /// In the largest unit of the type that is not above it.
+    Largest(UnitType),
+}
+
+/// What a field that is not a size does.
+#[derive(Debug, Clone, Copy, PartialEq, Eq)]
+pub enum Invalid {
+    /// It ends the run before its record, with a message.
+    Abort,
+    /// It is copied, with a message and the exit status 2.
+    Fail,
+    /// It is copied, with a message.
+    Warn,
+    /// It is copied.
+    Ignore,
+}
+
+/// A range of fields, which are counted from 1.
+#[derive(Debug, Clone, Copy, PartialEq, Eq)]
+pub struct FieldRange {
+    /// The first field.
+    pub first: u64,
+    /// The last field; `None` for all that follow the first.
+    pub last: Option<u64>,
+}
+
+/// The options of a call.
+#[derive(Debug, Clone, Copy, Drop)]
+pub struct Options<'a> {
+    /// Whether sizes are in bytes or in bits.
+    pub kind: Kind,
+    /// Whether case is ignored in sizes in bytes.
+    pub ignore_case: bool,
+    /// How a size is shown.
+    pub form: Form,
+    /// The number of digits after the point.
+    pub precision: Option<u16>,
+    /// The least number of columns of a size.
+    pub width: u16,
+    /// Whether the spaces that fill the width are after the size, and not before it.
+    pub align_left: bool,
+    /// The byte between two fields; `None` if a record is one field.
+    pub delimiter: Option<u8>,
+    /// The fields that are converted.
+    pub fields: &'a [FieldRange],
+    /// The byte that ends a record.
+    pub record_end: u8,
+    /// The number of records at the beginning that are copied.
+    pub header: u64,
+    /// What a field that is not a size does.
+    pub invalid: Invalid,
+    /// Whether the total of the sizes follows the last record.
+    pub total: bool,
+    /// The maximum of the sizes.
+    pub max: Option<u128>,
+    /// The minimum of the sizes.
+    pub min: Option<u128>,
+}

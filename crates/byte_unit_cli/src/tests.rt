@@ -1,0 +1,72 @@
+//! Tests of the run with input and output in memory.
+
+ghost use Rattle.std.specs.Prelude.{IfOk, List, ℕ, ◌≡◌};
+ghost use Rattle.byte_unit_cli.specs.Outcome.{IsWritten};
+ghost use Rattle.byte_unit_cli.specs.Records.{finished_records, records_of};
+
+use crate::options::{FieldRange, Form, Invalid, Kind, Options, Unit, UnitType};
+use crate::reading::Reading;
+use crate::run::run;
+use crate::stop::Stop;
+use crate::tally::Tally;
+use crate::writing::Writing;
+use std::alloc::Global;
+
+mod failing;
+mod fields;
+mod forms;
+mod streams;
+
+/// The first field.
+const FIRST: &[FieldRange] = &[FieldRange {
+    first: 1,
+    last: Some(1),
+}];
+
+/// Returns the options of a call without options.
+fn plain() -> Options<'static> {
+    Options {
+        kind: Kind::Byte,
+        ignore_case: false,
+        form: Form::Exact,
+        precision: None,
+        width: 0,
+        align_left: false,
+        delimiter: None,
+        fields: FIRST,
+        record_end: b'\n',
+        header: 0,
+        invalid: Invalid::Abort,
+        total: false,
+        max: None,
+        min: None,
+    }
+}
+
+/// What a run has returned, and the bytes that it has written to both streams.
+#[derive(Drop)]
+struct Written {
+    result: Result<Tally, Stop>,
+    written: Vec<u8>,
+    errors: Vec<u8>,
+}
+
+/// Runs over an input in memory.
+fn ended(alloc: Global, options: &Options, input: &[u8]) -> Written {
+    let mut reader = Reading::new(input);
+    let mut writer = Writing::new(Vec::new(alloc));
+    let mut errors = Vec::new(alloc);
+    let result = run(
+        alloc,
+        options,
+        "line",
+        &mut reader,
+        &mut writer,
+        &mut errors,
+    );
+    Written {
+        result,
+        written: writer.into_inner(),
+        errors,
+    }
+}

@@ -1,0 +1,31 @@
+# Completions of byte-unit for bash.
+_byte_unit() {
+    local cur prev
+    cur=${COMP_WORDS[COMP_CWORD]}
+    prev=${COMP_WORDS[COMP_CWORD - 1]}
+    # bash splits a word at `=`.
+    if [[ $cur == = ]]; then
+        cur=
+    elif [[ $prev == = ]]; then
+        prev=${COMP_WORDS[COMP_CWORD - 2]}
+    fi
+    case $prev in
+    --to)
+        mapfile -t COMPREPLY < <(compgen -W 'exact plain si iec auto
+            B KB KiB MB MiB GB GiB TB TiB PB PiB EB EiB b Kb Kib Mb Mib Gb Gib Tb Tib' -- "$cur")
+        return
+        ;;
+    --invalid)
+        mapfile -t COMPREPLY < <(compgen -W 'abort fail warn ignore' -- "$cur")
+        return
+        ;;
+    esac
+    if [[ $cur == -* ]]; then
+        mapfile -t COMPREPLY < <(compgen -W '--bits --ignore-case --to= --precision= --delimiter= --field= --header
+            --padding= --invalid= --total --max= --min= --zero-terminated --help --version' -- "$cur")
+        if [[ ${#COMPREPLY[@]} == 1 && ${COMPREPLY[0]} == *= ]]; then
+            compopt -o nospace
+        fi
+    fi
+}
+complete -F _byte_unit byte-unit
