@@ -209,8 +209,10 @@ size_t byte_unit_explain(const char *text, size_t len, uint32_t flags, char *out
  * Flags: BITS. */
 size_t byte_unit_text(byte_unit_number size, uint32_t flags, byte_unit_spec spec, char *out, size_t out_len);
 
-/* Writes the text of a size in a unit: all its digits, or rounded to the precision. Returns 0 if the size is out of
- * range, the unit or a flag is unknown, or the spec is invalid. `alternate` has no effect.
+/* Writes the text of a size in a unit. Without a precision the number has all its digits, and so it has in `b` and `B`
+ * unless `alternate` is set. With a precision it is rounded to that number of digits after the point, ties to the even
+ * digit; with `alternate` to at most 16 of them, ties up, without zeros at the end. Returns 0 if the size is out of
+ * range, the unit or a flag is unknown, or the spec is invalid.
  * Flags: BITS. */
 size_t byte_unit_adjusted_text(byte_unit_number size, uint32_t flags, uint32_t unit, byte_unit_spec spec, char *out,
                                size_t out_len);
