@@ -1,20 +1,23 @@
-/* Exact sizes in bytes and in bits: the C interface of byte_unit, which is written in Rattle and proved.
+/* byte_unit: exact sizes in bytes and in bits. The C API of a library that is written in Rattle and proved.
  *
- * Link libbyte_unit.a or libbyte_unit.so, which `tools/make-libraries DIR` makes. Beside itself the library calls memcpy,
- * memmove and memset alone. It asks for no memory and keeps nothing, so each call may be made from any thread.
+ * Link libbyte_unit.a or libbyte_unit.so (`tools/make-libraries DIR` builds both). The library calls memcpy, memmove and
+ * memset, and one function of libgcc, __udivti3. It does not allocate, keeps no state between calls and never ends the
+ * program, so every call may be made from any thread.
  *
- * What a caller owes, at each call, and nothing checks:
+ * Preconditions of every call, which nothing checks:
  *
- * - No pointer is null; with a length of 0 too it leads somewhere.
- * - `text` leads to `len` bytes that can be read, and `out` to `room` bytes that can be written.
- * - `size`, `count` and `fault`, where they are pointers, lead to one of their type that can be written. What stands there
- *   before may be anything.
- * - What is written shares no byte with another argument of the call, and no other thread uses it meanwhile; what is
- *   read no other thread changes.
- * - A `bool` is 0 or 1, as the compiler makes it.
+ * - A pointer is valid for its type and its length: `text` for reading `len` bytes, `out` for writing `out_len` bytes,
+ *   arrays for their number of elements. With a length of 0 it may be NULL, as an empty std::string_view, Go slice or
+ *   Arrow buffer has it. `error` may be NULL. `size`, `unit` and `count`, as pointers, may not.
+ * - What is written overlaps no other argument of the call, and no other thread uses it during the call. No other thread
+ *   writes what is read.
  *
- * Nothing else is owed: a number that is no size, a code that is none, a spec that is none, bytes that are no text and an
- * `out` without room are answered. `docs/CALLERS.md` says more.
+ * Every other argument is checked: a size that is out of range, an unknown code or flag, an invalid spec, offsets that do
+ * not fit and bytes that are not UTF-8 are reported, and nothing is written but what a call says. docs/CALLERS.md has more.
+ *
+ * Callers by a foreign function interface: a `static inline` call is no symbol of the library. The symbol is the name with
+ * `_to` added, and takes the length of each array after its pointer: byte_unit_parse_to(text, len, flags, size, error,
+ * error_len), where error_len is 1, or 0 for no error.
  */
 #ifndef BYTE_UNIT_H
 #define BYTE_UNIT_H
@@ -27,63 +30,86 @@
 extern "C" {
 #endif
 
-/* A number of 128 bits: high * 2^64 + low. A size is below 10^30. */
+/* The version of this header: major * 1000000 + minor * 1000 + patch. */
+#define BYTE_UNIT_VERSION_MAJOR 5
+#define BYTE_UNIT_VERSION_MINOR 2
+#define BYTE_UNIT_VERSION_PATCH 6
+#define BYTE_UNIT_VERSION 5002006
+#define BYTE_UNIT_VERSION_STRING "5.2.6"
+
+/* An unsigned integer of 128 bits: high * 2^64 + low. On a little-endian machine, as x86-64 is, an array of these is laid
+ * out as Arrow's Decimal128 of scale 0. */
 typedef struct byte_unit_number {
     uint64_t low;
     uint64_t high;
 } byte_unit_number;
 
-/* A decimal: whole + fraction / 10^28, with the fraction below 10^28. */
-typedef struct byte_unit_parts {
+/* The limit of sizes, 10^30: a size is less. BYTE_UNIT_SIZE_LIMIT_INIT initializes a byte_unit_number. */
+#define BYTE_UNIT_SIZE_LIMIT_LOW UINT64_C(5076944270305263616)
+#define BYTE_UNIT_SIZE_LIMIT_HIGH UINT64_C(54210108624)
+#define BYTE_UNIT_SIZE_LIMIT_INIT { BYTE_UNIT_SIZE_LIMIT_LOW, BYTE_UNIT_SIZE_LIMIT_HIGH }
+
+/* A decimal: whole + fraction / 10^28. The fraction is less than 10^28. */
+typedef struct byte_unit_decimal {
     byte_unit_number whole;
     byte_unit_number fraction;
-} byte_unit_parts;
+} byte_unit_decimal;
 
-/* How a text is laid out, as the flags of a format string of the Rust crate. */
+/* Flags. A flags word is the sum of its flags. Each call lists the flags that it knows; a call with any other is rejected. */
+enum {
+    BYTE_UNIT_BYTES = 0,       /* sizes are in bytes: the default */
+    BYTE_UNIT_BITS = 1,        /* sizes are in bits */
+    BYTE_UNIT_IGNORE_CASE = 2, /* parsing: the suffix `b` means bytes too */
+    BYTE_UNIT_EITHER_KIND = 4  /* choice of a unit: from the units of bytes and of bits */
+};
+
+/* A format spec, with the fields of a format spec of the Rust crate. If every field is zero, it is `{}`: digits only.
+ * `{ .alternate = 1 }` is `{:#}`, `{ .alternate = 1, .width = 12 }` is `{:#12}`, and
+ * `{ .has_precision = 1, .precision = 2 }` is `{:.2}`. A spec with any other value in a field than those listed is invalid,
+ * and is rejected. */
 typedef struct byte_unit_spec {
-    int32_t precision; /* the digits after the point, 65535 at most; below 0, none is set */
-    int32_t width;     /* the least number of columns, 65535 at most; below 0, none is set */
-    uint8_t sign;      /* BYTE_UNIT_SIGN_.. */
-    uint8_t align;     /* BYTE_UNIT_ALIGN_.. */
-    bool alternate;    /* whether a size is printed with a unit */
+    uint32_t precision;    /* digits after the decimal point, 0 to 65535, if has_precision is 1; otherwise 0 */
+    uint32_t width;        /* minimum width in columns, 1 to 65535; 0: none */
+    uint8_t has_precision; /* whether a precision is set: 0 or 1 */
+    uint8_t alternate;     /* whether a size is formatted with a unit: 0 or 1 */
+    uint8_t sign;          /* BYTE_UNIT_SIGN_.. */
+    uint8_t align;         /* BYTE_UNIT_ALIGN_.. */
 } byte_unit_spec;
 
 enum {
     BYTE_UNIT_SIGN_UNSET, /* no sign; one space before a unit */
-    BYTE_UNIT_SIGN_PLUS,  /* a plus sign before a plain number; spaces and unit together take four columns */
+    BYTE_UNIT_SIGN_PLUS,  /* a plus sign before digits only; the spaces and the unit take four columns */
     BYTE_UNIT_SIGN_MINUS  /* no sign; no space before a unit */
 };
 
 enum {
-    BYTE_UNIT_ALIGN_UNSET,
+    BYTE_UNIT_ALIGN_UNSET, /* digits only: to the right; with a unit: the number to the left, the unit to the right */
     BYTE_UNIT_ALIGN_LEFT,
     BYTE_UNIT_ALIGN_CENTER,
     BYTE_UNIT_ALIGN_RIGHT
 };
 
-#define BYTE_UNIT_PLAIN_INIT { -1, -1, BYTE_UNIT_SIGN_UNSET, BYTE_UNIT_ALIGN_UNSET, false }    /* {} */
-#define BYTE_UNIT_ALTERNATE_INIT { -1, -1, BYTE_UNIT_SIGN_UNSET, BYTE_UNIT_ALIGN_UNSET, true } /* {:#} */
+/* The details of a parse error. A field that the error's code does not use is zero. */
+typedef struct byte_unit_error {
+    uint32_t character;               /* NOT_NUMBER, UNIT: the code point of the character that is rejected */
+    uint8_t also_expect_no_character; /* UNIT: 1 if the string could end before that character */
+    char expected[16];                /* UNIT: the characters that are expected in its place, zero-terminated */
+    byte_unit_decimal number;         /* EXCEEDED_BOUNDS: the number as it was written, without its unit */
+} byte_unit_error;
 
-/* Why a text is refused. A field of which the answer says nothing is zero. */
-typedef struct byte_unit_fault {
-    uint32_t character;            /* at NOT_NUMBER and UNIT: the character, by its code point */
-    bool also_expect_no_character; /* at UNIT: whether the text could end in its place */
-    char expected[16];             /* at UNIT: the characters that are named in its place; it ends with a zero */
-    byte_unit_parts number;        /* at EXCEEDED_BOUNDS: the number as it was written, without its unit */
-} byte_unit_fault;
-
-/* The answers of byte_unit_parse. */
+/* The codes that the parsing calls return. */
 enum {
     BYTE_UNIT_OK,
-    BYTE_UNIT_NO_VALUE,        /* the text is empty or white space alone */
-    BYTE_UNIT_NOT_NUMBER,      /* a digit has to stand at the character, or after it where the text ends in a point */
-    BYTE_UNIT_NUMBER_TOO_LONG, /* the whole part is 2^112 or more, or more than 28 digits follow the point */
+    BYTE_UNIT_NO_VALUE,        /* the string is empty or only white space */
+    BYTE_UNIT_NOT_NUMBER,      /* a digit is expected in place of the character, or after it if the string ends with `.` */
+    BYTE_UNIT_NUMBER_TOO_LONG, /* the integer part is 2^112 or more, or more than 28 digits follow the decimal point */
     BYTE_UNIT_EXCEEDED_BOUNDS, /* the size is 10^30 or more */
-    BYTE_UNIT_UNIT,            /* the spelling of the unit is wrong */
-    BYTE_UNIT_NOT_UTF8         /* the bytes are no text */
+    BYTE_UNIT_UNIT,            /* the unit is misspelled */
+    BYTE_UNIT_NOT_UTF8,        /* the bytes are not UTF-8 */
+    BYTE_UNIT_INVALID_ARGUMENT /* an unknown flag, or offsets or lengths of many texts that do not fit */
 };
 
-/* The units, by their codes. */
+/* The codes of the units. */
 enum {
     BYTE_UNIT_BIT, BYTE_UNIT_B,
     BYTE_UNIT_KBIT, BYTE_UNIT_KIBIT, BYTE_UNIT_KB, BYTE_UNIT_KIB,
@@ -97,58 +123,119 @@ enum {
     BYTE_UNIT_RBIT, BYTE_UNIT_RIBIT, BYTE_UNIT_RB, BYTE_UNIT_RIB
 };
 
+/* The code that no unit has. */
 #define BYTE_UNIT_NO_UNIT UINT32_MAX
 
-/* The types of units. */
+/* The codes of the unit types. */
 enum {
     BYTE_UNIT_BINARY,
     BYTE_UNIT_DECIMAL,
     BYTE_UNIT_BOTH
 };
 
-/* Room for each text with no width and with no precision or one up to 200, and for the words of each fault. */
-#define BYTE_UNIT_ROOM 256
+/* A buffer length that fits the message of every error, and every text without a width and with a precision of at most
+ * 200 or none. */
+#define BYTE_UNIT_BUFFER_SIZE 256
 
-/* The calls that write a text answer its length, also where that is above `room`; then nothing is written. A zero byte is
- * not put behind it. What stands in `out` behind the text stays as it is. */
+/* Returns the version of the linked library, as BYTE_UNIT_VERSION is that of this header. */
+uint32_t byte_unit_version(void);
 
-/* Reads a size: the least number of bytes, or of bits, that is not below what the text states. At BYTE_UNIT_OK `size` is
- * written, at the codes of faults `fault`, and at BYTE_UNIT_NOT_UTF8 nothing. With `ignore_case` a `b` is a byte;
- * texts of bits are always case sensitive. */
-uint32_t byte_unit_parse(const char *text, size_t len, bool in_bits, bool ignore_case, byte_unit_number *size,
-                         byte_unit_fault *fault);
+/* The symbols of the inline calls below. */
+uint32_t byte_unit_parse_to(const char *text, size_t len, uint32_t flags, byte_unit_number *size, byte_unit_error *error,
+                            size_t error_len);
+uint32_t byte_unit_parse_unit_to(const char *text, size_t len, uint32_t flags, uint32_t *unit, byte_unit_error *error,
+                                 size_t error_len);
+uint32_t byte_unit_parse_many_to(const char *data, size_t data_len, const int64_t *offsets, size_t offsets_len,
+                                 uint32_t flags, byte_unit_number *sizes, size_t sizes_len, uint8_t *codes,
+                                 size_t codes_len);
+uint32_t byte_unit_parse_many_32_to(const char *data, size_t data_len, const int32_t *offsets, size_t offsets_len,
+                                    uint32_t flags, byte_unit_number *sizes, size_t sizes_len, uint8_t *codes,
+                                    size_t codes_len);
 
-/* Writes why a text is refused, in words, at most 256 bytes of UTF-8. 0 where the text states a size. */
-size_t byte_unit_explain(const char *text, size_t len, bool in_bits, bool ignore_case, char *out, size_t room);
+/* Parses a size: the exact value, rounded up to a whole byte, or to a whole bit with BYTE_UNIT_BITS. Returns BYTE_UNIT_OK
+ * and writes `size`, or returns the code of the error and writes its details to `error` if it is not NULL. Writes nothing
+ * if it returns BYTE_UNIT_NOT_UTF8 or BYTE_UNIT_INVALID_ARGUMENT.
+ * Flags: BITS, IGNORE_CASE (which has no effect with BITS). */
+static inline uint32_t byte_unit_parse(const char *text, size_t len, uint32_t flags, byte_unit_number *size,
+                                       byte_unit_error *error)
+{
+    return byte_unit_parse_to(text, len, flags, size, error, error != NULL);
+}
 
-/* Writes the text of a size: its digits, or in the alternate form the size in the largest unit of its kind, not above
- * it, that states it exactly within the precision (3 if none is set, 28 at most), or in B or b if there is none.
- * Returns 0 if the number is not a size or the spec is invalid. */
-size_t byte_unit_text(byte_unit_number size, bool in_bits, byte_unit_spec spec, char *out, size_t room);
+/* Parses a unit by its name or another of its spellings: `KiB`, `kib`, `K`, ` MBits `, and the empty string for B. Returns
+ * BYTE_UNIT_OK and writes its code, or returns BYTE_UNIT_UNIT and writes the details to `error` if it is not NULL. Writes
+ * nothing if it returns BYTE_UNIT_NOT_UTF8 or BYTE_UNIT_INVALID_ARGUMENT.
+ * Flags: BITS (a spelling without a suffix is of bits: `K` is Kb), IGNORE_CASE. */
+static inline uint32_t byte_unit_parse_unit(const char *text, size_t len, uint32_t flags, uint32_t *unit,
+                                            byte_unit_error *error)
+{
+    return byte_unit_parse_unit_to(text, len, flags, unit, error, error != NULL);
+}
 
-/* Writes the text of a size in a unit. 0 where the number is no size, the spec none, or the code that of no unit. */
-size_t byte_unit_adjusted_text(byte_unit_number size, bool in_bits, uint32_t unit, byte_unit_spec spec, char *out,
-                               size_t room);
+/* Parses `count` texts, each as byte_unit_parse does. Text i is data[offsets[i]] up to data[offsets[i + 1]], so `offsets`
+ * has count + 1 elements: Arrow's layout of a LargeUtf8 or LargeBinary column. If `count` is 0, `offsets` may be NULL.
+ * Returns BYTE_UNIT_OK, and writes the code of each text to `codes` and its size to `sizes`, 0 there if it has none.
+ * Returns BYTE_UNIT_INVALID_ARGUMENT and writes nothing if a flag is unknown, an offset is negative, less than the one
+ * before it or greater than `data_len`.
+ * Flags: BITS, IGNORE_CASE. */
+static inline uint32_t byte_unit_parse_many(const char *data, size_t data_len, const int64_t *offsets, size_t count,
+                                            uint32_t flags, byte_unit_number *sizes, uint8_t *codes)
+{
+    return byte_unit_parse_many_to(data, data_len, offsets, offsets != NULL ? count + 1 : 0, flags, sizes, count, codes,
+                                   count);
+}
 
-/* Writes the name of a unit, as "KiB". 0 where the code is that of no unit. */
-size_t byte_unit_unit_name(uint32_t unit, char *out, size_t room);
+/* The same with offsets of 32 bits: Arrow's layout of a Utf8 or Binary column. */
+static inline uint32_t byte_unit_parse_many_32(const char *data, size_t data_len, const int32_t *offsets, size_t count,
+                                               uint32_t flags, byte_unit_number *sizes, uint8_t *codes)
+{
+    return byte_unit_parse_many_32_to(data, data_len, offsets, offsets != NULL ? count + 1 : 0, flags, sizes, count,
+                                      codes, count);
+}
 
-/* The largest unit of the kind and of the type that is not above the size, or the kind's own. BYTE_UNIT_NO_UNIT where
- * the type is none. */
-uint32_t byte_unit_appropriate_unit(byte_unit_number size, bool in_bits, uint32_t unit_type);
+/* The calls that write a text return its length, also if it is greater than `out_len`; then they write nothing. They write
+ * no terminating zero, and leave the bytes after the text as they are. */
 
-/* Returns the largest unit of the kind, not above the size, that divides it, or the kind's own, and writes how many of
- * it; with `of_either`, of either kind's units. Returns BYTE_UNIT_NO_UNIT and writes nothing if the number is not a
- * size. */
-uint32_t byte_unit_exact_unit(byte_unit_number size, bool in_bits, bool of_either, byte_unit_number *count);
+/* Writes the error message for a string that byte_unit_parse rejects, at most 256 bytes of UTF-8. Returns 0 if the string
+ * represents a size. An unknown flag has a message too.
+ * Flags: BITS, IGNORE_CASE. */
+size_t byte_unit_explain(const char *text, size_t len, uint32_t flags, char *out, size_t out_len);
 
-/* The same, with the largest unit, not above the size, that states it exactly within `precision` places, 28 at most. */
-uint32_t byte_unit_recoverable_unit(byte_unit_number size, bool in_bits, bool of_either, size_t precision,
-                                    byte_unit_parts *count);
+/* Writes the text of a size: its digits, or in the alternate form the size in the largest unit of its kind, not above it,
+ * that represents it exactly within the precision (3 if none is set, 28 at most), or in B or b if there is none. Returns 0
+ * if the size is out of range, the spec is invalid or a flag is unknown.
+ * Flags: BITS. */
+size_t byte_unit_text(byte_unit_number size, uint32_t flags, byte_unit_spec spec, char *out, size_t out_len);
 
-/* Writes the least size that is not below so many of the unit. false, and nothing is written, where that is 10^30 or more
- * or the code is that of no unit. */
-bool byte_unit_from_unit(byte_unit_number count, uint32_t unit, bool in_bits, byte_unit_number *size);
+/* Writes the text of a size in a unit: all its digits, or rounded to the precision. Returns 0 if the size is out of range,
+ * the unit or a flag is unknown, or the spec is invalid. `alternate` has no effect.
+ * Flags: BITS. */
+size_t byte_unit_adjusted_text(byte_unit_number size, uint32_t flags, uint32_t unit, byte_unit_spec spec, char *out,
+                               size_t out_len);
+
+/* Writes the name of a unit, such as "KiB". Returns 0 if the unit is unknown. */
+size_t byte_unit_unit_name(uint32_t unit, char *out, size_t out_len);
+
+/* Returns the largest unit of the size's kind and of the unit type that is not above the size, or B or b if there is none.
+ * The number may be 10^30 or more. Returns BYTE_UNIT_NO_UNIT if the unit type or a flag is unknown.
+ * Flags: BITS. */
+uint32_t byte_unit_appropriate_unit(byte_unit_number size, uint32_t flags, uint32_t unit_type);
+
+/* Returns the largest unit, not above the size, that divides it, or B or b if there is none, and writes the size in that
+ * unit to `count`. The unit is of the size's kind, or of either kind with BYTE_UNIT_EITHER_KIND. Returns BYTE_UNIT_NO_UNIT
+ * and writes nothing if the size is out of range or a flag is unknown.
+ * Flags: BITS, EITHER_KIND. */
+uint32_t byte_unit_exact_unit(byte_unit_number size, uint32_t flags, byte_unit_number *count);
+
+/* The same, with the largest unit that represents the size exactly within `precision` digits after the decimal point, 28
+ * at most.
+ * Flags: BITS, EITHER_KIND. */
+uint32_t byte_unit_recoverable_unit(byte_unit_number size, uint32_t flags, size_t precision, byte_unit_decimal *count);
+
+/* Writes the size of `count` units, rounded up to a whole byte, or bit with BYTE_UNIT_BITS, and returns true. Returns false
+ * and writes nothing if the size is 10^30 or more, or the unit or a flag is unknown.
+ * Flags: BITS. */
+bool byte_unit_from_unit(byte_unit_number count, uint32_t unit, uint32_t flags, byte_unit_number *size);
 
 #ifdef __cplusplus
 }

@@ -1,5 +1,6 @@
-/* Texts that end where the memory ends: each is written into, or read from, the last bytes before a page that may not be
- * touched, so a byte too many stops this program. It prints how many calls it made, and ends with 1 at a wrong length. */
+/* Strings and buffers that end where the memory ends: each is read from, or written to, the last bytes before a page that may
+ * not be touched, so that one byte too many ends this program by a signal. Prints the number of calls, and exits with 1 if a
+ * result is wrong. */
 #define _GNU_SOURCE
 #include "byte_unit.h"
 
@@ -9,57 +10,104 @@
 
 enum { PAGE = 4096, PAGES = 32 };
 
-static char *end; /* where the memory ends */
+static const char *const texts[] = { "1.5 KiB", "1", "", " ", "9.", "12 Ki", "1 bi", "1000 RB", "\xc3", "\xf0\x9f\x98" };
+enum { TEXTS = sizeof texts / sizeof *texts };
+
+static char *end; /* the end of the memory */
 static unsigned long calls, wrong;
 
-/* A size in each unit, under one precision and one width. */
-static void adjusted_texts(int precision, int width)
+/* Maps memory of `pages` pages before a page that may not be touched, and returns its end. */
+static char *map_memory(size_t pages)
+{
+    char *memory = mmap(NULL, PAGE * (pages + 1), PROT_READ | PROT_WRITE, MAP_PRIVATE | MAP_ANONYMOUS, -1, 0);
+
+    if (memory == MAP_FAILED || mprotect(memory + PAGE * pages, PAGE, PROT_NONE) != 0)
+        return NULL;
+    return memory + PAGE * pages;
+}
+
+/* Formats a size in each unit, with a precision (none if it is negative) and a width. */
+static void format_in_each_unit(int precision, uint32_t width)
 {
     for (uint32_t unit = 0; unit <= BYTE_UNIT_RIB; unit++) {
-        byte_unit_spec spec = { precision, width, unit % 3, (uint8_t)(width + 1) % 4, unit & 1 };
+        byte_unit_spec spec = { .precision = precision < 0 ? 0 : (uint32_t)precision, .width = width,
+                                .has_precision = precision >= 0, .alternate = unit & 1, .sign = (uint8_t)(unit % 3),
+                                .align = (uint8_t)((width + unit) % 4) };
         byte_unit_number size = { 0x123456789abcdefull * (unit + 1), unit * 1000000ull };
-        bool in_bits = unit & 2;
-        size_t length = byte_unit_adjusted_text(size, in_bits, unit, spec, end, 0);
-        bool is_short = width < 0 && precision <= 200;
+        uint32_t kind = unit & 2 ? BYTE_UNIT_BITS : BYTE_UNIT_BYTES;
+        size_t length = byte_unit_adjusted_text(size, kind, unit, spec, NULL, 0);
+        bool is_short = width == 0 && precision <= 200;
 
-        wrong += length == 0 || length > (is_short ? BYTE_UNIT_ROOM : PAGE * PAGES);
-        wrong += byte_unit_adjusted_text(size, in_bits, unit, spec, end - length, length) != length;
-        wrong += byte_unit_adjusted_text(size, in_bits, unit, spec, end - length + 1, length - 1) != length;
-        length = byte_unit_text(size, in_bits, spec, end, 0);
-        wrong += length == 0 || byte_unit_text(size, in_bits, spec, end - length, length) != length;
+        wrong += length == 0 || length > (is_short ? BYTE_UNIT_BUFFER_SIZE : PAGE * PAGES);
+        wrong += byte_unit_adjusted_text(size, kind, unit, spec, end - length, length) != length;
+        wrong += byte_unit_adjusted_text(size, kind, unit, spec, end - length + 1, length - 1) != length;
+        length = byte_unit_text(size, kind, spec, end, 0);
+        wrong += length == 0 || byte_unit_text(size, kind, spec, end - length, length) != length;
         calls += 5;
     }
 }
 
-/* A text is read, and its words are written. */
-static void reading(const char *text)
+/* Parses a string, as a size and as a unit, and writes its error message. */
+static void parse(const char *text)
 {
-    size_t length = strlen(text), words;
+    size_t length = strlen(text), message;
     byte_unit_number size;
-    byte_unit_fault fault;
+    byte_unit_error error;
+    uint32_t unit;
     char *begin = memcpy(end - length, text, length);
-    char out[BYTE_UNIT_ROOM];
+    char out[BYTE_UNIT_BUFFER_SIZE];
 
-    byte_unit_parse(begin, length, false, false, &size, &fault);
-    words = byte_unit_explain(begin, length, false, false, out, sizeof out);
-    wrong += words > sizeof out || byte_unit_explain(text, length, false, false, end - words, words) != words;
-    calls += 3;
+    byte_unit_parse(begin, length, BYTE_UNIT_BYTES, &size, &error);
+    byte_unit_parse_unit(begin, length, BYTE_UNIT_BYTES, &unit, &error);
+    message = byte_unit_explain(begin, length, BYTE_UNIT_BYTES, out, sizeof out);
+    wrong += message > sizeof out;
+    wrong += byte_unit_explain(text, length, BYTE_UNIT_BYTES, end - message, message) != message;
+    calls += 4;
+}
+
+/* Parses all strings, and each prefix of their list, in one call, with each array at the end of memory of its own. */
+static void parse_many(char *ends[3])
+{
+    for (size_t count = 0; count <= TEXTS; count++) {
+        int64_t *offsets = (int64_t *)(void *)ends[0] - (count + 1);
+        byte_unit_number *sizes = (byte_unit_number *)(void *)ends[1] - count, size;
+        uint8_t *codes = (uint8_t *)ends[2] - count;
+        size_t length = 0, at = 0;
+
+        for (size_t i = 0; i < count; i++)
+            length += strlen(texts[i]);
+        for (size_t i = 0; i < count; i++) {
+            memcpy(end - length + at, texts[i], strlen(texts[i]));
+            offsets[i] = (int64_t)at;
+            at += strlen(texts[i]);
+        }
+        offsets[count] = (int64_t)at;
+        wrong += byte_unit_parse_many(end - length, length, offsets, count, 0, sizes, codes) != BYTE_UNIT_OK;
+        for (size_t i = 0; i < count; i++) {
+            size.low = size.high = 0;
+            wrong += byte_unit_parse(texts[i], strlen(texts[i]), 0, &size, NULL) != codes[i];
+            wrong += size.low != sizes[i].low || size.high != sizes[i].high;
+        }
+        offsets[count] = (int64_t)at + 1;
+        wrong += byte_unit_parse_many(end - length, length, offsets, count, 0, sizes, codes) != BYTE_UNIT_INVALID_ARGUMENT;
+        calls += 2 + count;
+    }
 }
 
 int main(void)
 {
-    static const char *const texts[] = { "1.5 KiB", "1", "", " ", "9.", "12 Ki", "1 bi", "1000 RB", "\xc3", "\xf0\x9f\x98" };
-    char *memory = mmap(NULL, PAGE * (PAGES + 1), PROT_READ | PROT_WRITE, MAP_PRIVATE | MAP_ANONYMOUS, -1, 0);
+    char *ends[3] = { map_memory(1), map_memory(1), map_memory(1) };
 
-    end = memory + PAGE * PAGES;
-    if (memory == MAP_FAILED || mprotect(end, PAGE, PROT_NONE) != 0)
+    end = map_memory(PAGES);
+    if (end == NULL || ends[0] == NULL || ends[1] == NULL || ends[2] == NULL)
         return 2;
-    for (int width = -1; width < 65536; width += width < 40 ? 1 : 8191)
+    for (uint32_t width = 0; width < 65536; width += width < 40 ? 1 : 8191)
         for (int precision = -1; precision < 65536; precision += precision < 100 ? 3 : 8191)
-            adjusted_texts(precision, width);
-    adjusted_texts(200, -1);
-    for (size_t at = 0; at < sizeof texts / sizeof *texts; at++)
-        reading(texts[at]);
+            format_in_each_unit(precision, width);
+    format_in_each_unit(200, 0);
+    for (size_t at = 0; at < TEXTS; at++)
+        parse(texts[at]);
+    parse_many(ends);
     printf("%lu calls, %lu wrong\n", calls, wrong);
     return wrong != 0;
 }

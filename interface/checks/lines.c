@@ -1,4 +1,4 @@
-/* What the program byte_unit_lines does, through the C interface. */
+/* Does what the program byte_unit_lines does, by the C API. */
 #define _GNU_SOURCE
 #include "byte_unit.h"
 
@@ -15,33 +15,32 @@ static const char *const words[] = {
     [BYTE_UNIT_NOT_UTF8] = "not text",
 };
 
-static void answer(const char *line, size_t length, bool in_bits)
+static void answer(const char *line, size_t length, uint32_t kind)
 {
-    static const byte_unit_spec plain = BYTE_UNIT_PLAIN_INIT, with_unit = BYTE_UNIT_ALTERNATE_INIT;
+    static const byte_unit_spec plain, alternate = { .alternate = 1 };
     byte_unit_number size;
-    byte_unit_fault fault;
-    char out[BYTE_UNIT_ROOM];
-    uint32_t code = byte_unit_parse(line, length, in_bits, false, &size, &fault);
+    char out[BYTE_UNIT_BUFFER_SIZE];
+    uint32_t code = byte_unit_parse(line, length, kind, &size, NULL);
 
     if (code != BYTE_UNIT_OK) {
         puts(words[code]);
         return;
     }
-    fwrite(out, 1, byte_unit_text(size, in_bits, plain, out, sizeof out), stdout);
+    fwrite(out, 1, byte_unit_text(size, kind, plain, out, sizeof out), stdout);
     fputs(" = ", stdout);
-    fwrite(out, 1, byte_unit_text(size, in_bits, with_unit, out, sizeof out), stdout);
+    fwrite(out, 1, byte_unit_text(size, kind, alternate, out, sizeof out), stdout);
     putchar('\n');
 }
 
 int main(int argc, char **argv)
 {
-    bool in_bits = argc > 1 && strcmp(argv[1], "bit") == 0;
+    uint32_t kind = argc > 1 && strcmp(argv[1], "bit") == 0 ? BYTE_UNIT_BITS : BYTE_UNIT_BYTES;
     char *line = NULL;
-    size_t room = 0;
+    size_t capacity = 0;
     ssize_t length;
 
-    while ((length = getline(&line, &room, stdin)) > 0)
-        answer(line, (size_t)(length - (line[length - 1] == '\n')), in_bits);
+    while ((length = getline(&line, &capacity, stdin)) > 0)
+        answer(line, (size_t)(length - (line[length - 1] == '\n')), kind);
     free(line);
     return ferror(stdin) || fflush(stdout) != 0;
 }

@@ -1,4 +1,4 @@
-/* Nanoseconds of one call from C: the least of 200 runs of 1,000 calls each. */
+/* Nanoseconds of one call from C: the minimum of 200 runs of 1,000 calls each. */
 #define _GNU_SOURCE
 #include "byte_unit.h"
 
@@ -8,7 +8,7 @@
 
 enum { RUNS = 200, CALLS = 1000 };
 
-static volatile size_t seen; /* keeps each answer in use */
+static volatile size_t seen; /* keeps each result in use */
 
 static double now(void)
 {
@@ -35,33 +35,36 @@ int main(void)
     static const char *const texts[] = { "12", "1.5 KiB", "100 MB", "1.123456789012 KiB",
                                          "1.1234567890123456789012345678 KiB", "1 byte" };
     static const uint64_t sizes[] = { 12, 1536, 123456789 };
-    byte_unit_spec plain = BYTE_UNIT_PLAIN_INIT, with_unit = BYTE_UNIT_ALTERNATE_INIT, two = BYTE_UNIT_PLAIN_INIT;
-    char out[BYTE_UNIT_ROOM], what[100];
+    const byte_unit_spec plain = { 0 }, alternate = { .alternate = 1 }, two = { .has_precision = 1, .precision = 2 };
+    char out[BYTE_UNIT_BUFFER_SIZE], what[100];
     byte_unit_number size;
-    byte_unit_fault fault;
+    byte_unit_error error;
 
-    two.precision = 2;
     for (size_t at = 0; at < sizeof texts / sizeof *texts; at++) {
         const char *text = texts[at];
         size_t length = strlen(text);
         snprintf(what, sizeof what, "parse %s", text);
-        TIMED(what, byte_unit_parse(text, length, false, false, &size, &fault));
+        TIMED(what, byte_unit_parse(text, length, 0, &size, &error));
     }
-    TIMED("explain 1 byte", byte_unit_explain("1 byte", 6, false, false, out, sizeof out));
+    TIMED("explain 1 byte", byte_unit_explain("1 byte", 6, 0, out, sizeof out));
     for (size_t at = 0; at < sizeof sizes / sizeof *sizes; at++) {
         byte_unit_number n = { sizes[at], 0 };
         snprintf(what, sizeof what, "text of %llu, its digits", (unsigned long long)n.low);
-        TIMED(what, byte_unit_text(n, false, plain, out, sizeof out));
+        TIMED(what, byte_unit_text(n, 0, plain, out, sizeof out));
         snprintf(what, sizeof what, "text of %llu, with its unit", (unsigned long long)n.low);
-        TIMED(what, byte_unit_text(n, false, with_unit, out, sizeof out));
+        TIMED(what, byte_unit_text(n, 0, alternate, out, sizeof out));
         snprintf(what, sizeof what, "text of %llu in KiB, all digits", (unsigned long long)n.low);
-        TIMED(what, byte_unit_adjusted_text(n, false, BYTE_UNIT_KIB, plain, out, sizeof out));
+        TIMED(what, byte_unit_adjusted_text(n, 0, BYTE_UNIT_KIB, plain, out, sizeof out));
         snprintf(what, sizeof what, "text of %llu in KiB, two places", (unsigned long long)n.low);
-        TIMED(what, byte_unit_adjusted_text(n, false, BYTE_UNIT_KIB, two, out, sizeof out));
+        TIMED(what, byte_unit_adjusted_text(n, 0, BYTE_UNIT_KIB, two, out, sizeof out));
         snprintf(what, sizeof what, "appropriate unit of %llu", (unsigned long long)n.low);
-        TIMED(what, byte_unit_appropriate_unit(n, false, BYTE_UNIT_BOTH));
+        TIMED(what, byte_unit_appropriate_unit(n, 0, BYTE_UNIT_BOTH));
         snprintf(what, sizeof what, "size of %llu KiB", (unsigned long long)n.low);
-        TIMED(what, byte_unit_from_unit(n, BYTE_UNIT_KIB, false, &size));
+        TIMED(what, byte_unit_from_unit(n, BYTE_UNIT_KIB, 0, &size));
+    }
+    {
+        uint32_t unit;
+        TIMED("unit of KiB", byte_unit_parse_unit("KiB", 3, 0, &unit, &error));
     }
     TIMED("name of a unit", byte_unit_unit_name(BYTE_UNIT_KIB, out, sizeof out));
     return 0;

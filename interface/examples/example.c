@@ -1,177 +1,232 @@
-/* Each call from C. Prints what it gets; the last line counts the answers that are not the ones written here.
+/* Every call of the C API. Prints what it returns; the last line is the number of results that are not as written here.
  *
- *     cc example.c libbyte_unit.a
+ *     cc -I DIR example.c DIR/libbyte_unit.a
  */
 #include "byte_unit.h"
 
-#include <stddef.h>
 #include <stdio.h>
 #include <string.h>
 
-_Static_assert(sizeof(byte_unit_number) == 16, "number");
-_Static_assert(sizeof(byte_unit_parts) == 32, "parts");
-_Static_assert(sizeof(byte_unit_spec) == 12 && offsetof(byte_unit_spec, alternate) == 10, "spec");
-_Static_assert(sizeof(byte_unit_fault) == 56, "fault");
-_Static_assert(offsetof(byte_unit_fault, expected) == 5 && offsetof(byte_unit_fault, number) == 24, "fault's fields");
-
-static const byte_unit_spec plain = BYTE_UNIT_PLAIN_INIT;
-static const byte_unit_spec with_unit = BYTE_UNIT_ALTERNATE_INIT;
 static int wrong;
 
-/* Compares a text of so many bytes with the wanted one. */
-static void look(const char *what, const char *got, size_t length, const char *wanted)
+/* Compares a text with the expected one. */
+static void expect(const char *what, const char *got, size_t length, const char *expected)
 {
-    bool same = length == strlen(wanted) && memcmp(got, wanted, length) == 0;
+    bool same = length == strlen(expected) && memcmp(got, expected, length) == 0;
     wrong += !same;
-    printf("%-24s %.*s%s%s\n", what, (int)length, got, same ? "" : "   WANTED ", same ? "" : wanted);
+    printf("%-28s %.*s%s%s\n", what, (int)length, got, same ? "" : "   EXPECTED ", same ? "" : expected);
 }
 
-static void look_if(const char *what, bool holds)
+static void expect_true(const char *what, bool holds)
 {
     wrong += !holds;
-    printf("%-24s %s\n", what, holds ? "so" : "NOT SO");
+    printf("%-28s %s\n", what, holds ? "yes" : "NO");
 }
 
-/* Reads a text: its size in both forms, or what is wrong with it. */
-static void line(const char *text, bool in_bits, bool ignore_case, const char *wanted)
+static byte_unit_number number(uint64_t n)
+{
+    byte_unit_number result = { 0, 0 };
+    result.low = n;
+    return result;
+}
+
+/* A spec with every field zero is that of `{}`. */
+static byte_unit_spec plain_spec(void)
+{
+    byte_unit_spec spec;
+    memset(&spec, 0, sizeof spec);
+    return spec;
+}
+
+static byte_unit_spec alternate_spec(void)
+{
+    byte_unit_spec spec = plain_spec();
+    spec.alternate = 1;
+    return spec;
+}
+
+/* Parses a string: its size in both forms, or the error message. */
+static void line(const char *text, uint32_t flags, const char *expected)
 {
     byte_unit_number size;
-    byte_unit_fault fault;
-    char out[2 * BYTE_UNIT_ROOM];
+    char out[2 * BYTE_UNIT_BUFFER_SIZE];
     size_t length;
 
-    if (byte_unit_parse(text, strlen(text), in_bits, ignore_case, &size, &fault) == BYTE_UNIT_OK) {
-        length = byte_unit_text(size, in_bits, plain, out, BYTE_UNIT_ROOM);
+    if (byte_unit_parse(text, strlen(text), flags, &size, NULL) == BYTE_UNIT_OK) {
+        length = byte_unit_text(size, flags & BYTE_UNIT_BITS, plain_spec(), out, BYTE_UNIT_BUFFER_SIZE);
         memcpy(out + length, " = ", 3);
         length += 3;
-        length += byte_unit_text(size, in_bits, with_unit, out + length, BYTE_UNIT_ROOM);
+        length += byte_unit_text(size, flags & BYTE_UNIT_BITS, alternate_spec(), out + length, BYTE_UNIT_BUFFER_SIZE);
     } else {
-        length = byte_unit_explain(text, strlen(text), in_bits, ignore_case, out, sizeof out);
+        length = byte_unit_explain(text, strlen(text), flags, out, sizeof out);
     }
-    look(text, out, length, wanted);
+    expect(text, out, length, expected);
 }
 
-static void texts_are_read(void)
+static void parse_sizes(void)
 {
-    line("100 MB", false, false, "100000000 = 100 MB");
-    line("1 KiB", false, false, "1024 = 1 KiB");
-    line("100 mbits", false, false, "12500000 = 12.5 MB");
-    line("9 b", false, false, "2 = 2 B");
-    line("50.84 mb", false, true, "50840000 = 50.84 MB");
-    line("123Kib", true, false, "125952 = 123 Kib");
-    line("999 RB", false, false, "999000000000000000000000000000 = 999 RB");
-    line("123456789", false, false, "123456789 = 123456.789 KB");
-    line("1 byte", false, false, "the character 'y' is incorrect ('i' or no character is expected)");
-    line("1,000", false, false,
+    line("100 MB", 0, "100000000 = 100 MB");
+    line("1 KiB", 0, "1024 = 1 KiB");
+    line("100 mbits", 0, "12500000 = 12.5 MB");
+    line("9 b", 0, "2 = 2 B");
+    line("50.84 mb", BYTE_UNIT_IGNORE_CASE, "50840000 = 50.84 MB");
+    line("123Kib", BYTE_UNIT_BITS, "125952 = 123 Kib");
+    line("1 KB", BYTE_UNIT_BITS | BYTE_UNIT_IGNORE_CASE, "8000 = 8 Kb");
+    line("999 RB", 0, "999000000000000000000000000000 = 999 RB");
+    line("123456789", 0, "123456789 = 123456.789 KB");
+    line("1 byte", 0, "the character 'y' is incorrect ('i' or no character is expected)");
+    line("1,000", 0,
          "the character ',' is incorrect ('B', 'K', 'M', 'G', 'T', 'P', 'E', 'Z', 'Y' or 'R' or no character is expected)");
-    line("-1", false, false, "the character '-' is not a number");
-    line("\xc3\xa9", false, false, "the character 'é' is not a number");
-    line("\xf0\x9f\x98\x80", false, false, "the character '😀' is not a number");
-    line("1.\xc3\xa9", true, false, "the character 'é' is not a number");
-    line("1\xc3\xa9", false, false,
-         "the character 'é' is incorrect ('B', 'K', 'M', 'G', 'T', 'P', 'E', 'Z', 'Y' or 'R' or no character is expected)");
-    line("1K\xf0\x9f\x98\x80", true, false, "the character '😀' is incorrect ('B' or 'b' or no character is expected)");
-    line("", false, false, "no value can be found");
-    line("  ", false, false, "no value can be found");
-    line("1.23456789012345678901234567890", false, false, "value number is too long");
-    line("1000.00 RB", false, false, "the value 1000 exceeds the valid range");
-    line("\xff", false, false, "the text is not UTF-8");
+    line("-1", 0, "the character '-' is not a number");
+    line("\xc3\xa9", 0, "the character '\xc3\xa9' is not a number");
+    line("\xf0\x9f\x98\x80", 0, "the character '\xf0\x9f\x98\x80' is not a number");
+    line("1K\xf0\x9f\x98\x80", BYTE_UNIT_BITS,
+         "the character '\xf0\x9f\x98\x80' is incorrect ('B' or 'b' or no character is expected)");
+    line("", 0, "no value can be found");
+    line("  ", 0, "no value can be found");
+    line("1.23456789012345678901234567890", 0, "value number is too long");
+    line("1000.00 RB", 0, "the value 1000 exceeds the valid range");
+    line("\xff", 0, "the text is not UTF-8");
+    line("1", BYTE_UNIT_EITHER_KIND, "a flag is unknown");
 }
 
-static void faults_have_fields(void)
+static void details_of_errors(void)
 {
     byte_unit_number size = { 7, 7 };
-    byte_unit_fault fault;
-    char out[BYTE_UNIT_ROOM];
-    uint32_t code;
+    byte_unit_error error;
+    char out[BYTE_UNIT_BUFFER_SIZE];
+    uint32_t code = byte_unit_parse("12 Kiq", 6, 0, &size, &error);
 
-    code = byte_unit_parse("12 Kiq", 6, false, false, &size, &fault);
-    look_if("a code", code == BYTE_UNIT_UNIT && size.low == 7 && size.high == 7);
-    snprintf(out, sizeof out, "%c for one of %s%s", (int)fault.character, fault.expected,
-             fault.also_expect_no_character ? " or the end" : "");
-    look("fields of a fault", out, strlen(out), "q for one of Bb or the end");
-    byte_unit_parse("1x", 2, false, false, &size, &fault);
-    look("ten characters", fault.expected, strlen(fault.expected), "BKMGTPEZYR");
-    code = byte_unit_parse("1000.5 RB", 9, false, false, &size, &fault);
-    look_if("a number too large", code == BYTE_UNIT_EXCEEDED_BOUNDS && fault.number.whole.low == 1000
-                                      && fault.number.fraction.high == 271050543 && fault.character == 0);
+    expect_true("the code", code == BYTE_UNIT_UNIT && size.low == 7 && size.high == 7);
+    snprintf(out, sizeof out, "%c, expected one of %s%s", (int)error.character, error.expected,
+             error.also_expect_no_character ? " or the end" : "");
+    expect("the details", out, strlen(out), "q, expected one of Bb or the end");
+    byte_unit_parse("1x", 2, 0, &size, &error);
+    expect("ten characters", error.expected, strlen(error.expected), "BKMGTPEZYR");
+    code = byte_unit_parse("1000.5 RB", 9, 0, &size, &error);
+    expect_true("a number that is too large", code == BYTE_UNIT_EXCEEDED_BOUNDS && error.number.whole.low == 1000
+                                                  && error.number.fraction.high == 271050543 && error.character == 0);
 }
 
-static void sizes_are_written(void)
+static void parse_units(void)
 {
-    byte_unit_number size = { 123456, 0 };
-    byte_unit_spec columns = with_unit, rounded = plain;
-    char out[BYTE_UNIT_ROOM];
+    uint32_t unit = 77;
+    byte_unit_error error;
+
+    expect_true("KiB", byte_unit_parse_unit("KiB", 3, 0, &unit, NULL) == BYTE_UNIT_OK && unit == BYTE_UNIT_KIB);
+    expect_true("mbits", byte_unit_parse_unit("mbits", 5, 0, &unit, NULL) == BYTE_UNIT_OK && unit == BYTE_UNIT_MBIT);
+    expect_true("K of bytes", byte_unit_parse_unit("K", 1, 0, &unit, NULL) == BYTE_UNIT_OK && unit == BYTE_UNIT_KB);
+    expect_true("K of bits",
+                byte_unit_parse_unit("K", 1, BYTE_UNIT_BITS, &unit, NULL) == BYTE_UNIT_OK && unit == BYTE_UNIT_KBIT);
+    expect_true("kib without case", byte_unit_parse_unit("kib", 3, BYTE_UNIT_IGNORE_CASE, &unit, NULL) == BYTE_UNIT_OK
+                                        && unit == BYTE_UNIT_KIB);
+    expect_true("Kx", byte_unit_parse_unit("Kx", 2, 0, &unit, &error) == BYTE_UNIT_UNIT && error.character == 'x'
+                          && unit == BYTE_UNIT_KIB);
+}
+
+static void many_texts(void)
+{
+    static const char data[] = "1.5 KiB2 xxx\xff 8 b";
+    static const int64_t offsets[] = { 0, 7, 10, 12, 13, 17 };
+    static const int32_t decreasing[] = { 0, 7, 6 };
+    byte_unit_number sizes[5] = { { 9, 9 }, { 9, 9 }, { 9, 9 }, { 9, 9 }, { 9, 9 } };
+    uint8_t codes[5];
+    char out[64];
+
+    expect_true("many texts", byte_unit_parse_many(data, 17, offsets, 5, 0, sizes, codes) == BYTE_UNIT_OK);
+    snprintf(out, sizeof out, "%d %d %d %d %d", codes[0], codes[1], codes[2], codes[3], codes[4]);
+    expect("their codes", out, strlen(out), "0 5 2 6 0");
+    snprintf(out, sizeof out, "%d %d %d %d %d", (int)sizes[0].low, (int)sizes[1].low, (int)sizes[2].low,
+             (int)sizes[3].low, (int)sizes[4].low);
+    expect("their sizes", out, strlen(out), "1536 0 0 0 1");
+    sizes[0].low = 42;
+    expect_true("offsets that decrease",
+                byte_unit_parse_many_32(data, 17, decreasing, 2, 0, sizes, codes) == BYTE_UNIT_INVALID_ARGUMENT
+                    && sizes[0].low == 42);
+    expect_true("no texts", byte_unit_parse_many_32(NULL, 0, NULL, 0, 0, NULL, NULL) == BYTE_UNIT_OK);
+}
+
+static void format_sizes(void)
+{
+    byte_unit_number size = number(123456);
+    byte_unit_spec spec = plain_spec();
+    char out[BYTE_UNIT_BUFFER_SIZE];
     size_t length;
     uint32_t unit;
 
-    length = byte_unit_adjusted_text(size, false, BYTE_UNIT_KIB, plain, out, sizeof out);
-    look("in KiB", out, length, "120.5625 KiB");
-    rounded.precision = 2;
-    length = byte_unit_adjusted_text(size, false, BYTE_UNIT_KIB, rounded, out, sizeof out);
-    look("to two places", out, length, "120.56 KiB");
-    unit = byte_unit_appropriate_unit(size, false, BYTE_UNIT_DECIMAL);
-    length = byte_unit_adjusted_text(size, false, unit, plain, out, sizeof out);
-    look("in its decimal unit", out, length, "123.456 KB");
-    columns.width = 12;
-    columns.align = BYTE_UNIT_ALIGN_RIGHT;
-    length = byte_unit_text(size, false, columns, out, sizeof out);
-    look("in twelve columns", out, length, "  123.456 KB");
+    length = byte_unit_adjusted_text(size, 0, BYTE_UNIT_KIB, spec, out, sizeof out);
+    expect("in KiB", out, length, "120.5625 KiB");
+    spec.has_precision = 1;
+    spec.precision = 2;
+    length = byte_unit_adjusted_text(size, 0, BYTE_UNIT_KIB, spec, out, sizeof out);
+    expect("to two places", out, length, "120.56 KiB");
+    unit = byte_unit_appropriate_unit(size, 0, BYTE_UNIT_DECIMAL);
+    length = byte_unit_adjusted_text(size, 0, unit, plain_spec(), out, sizeof out);
+    expect("in its decimal unit", out, length, "123.456 KB");
+    spec = alternate_spec();
+    spec.width = 12;
+    length = byte_unit_text(number(1536), 0, spec, out, sizeof out);
+    expect("in twelve columns", out, length, "1.5      KiB");
+    spec.align = BYTE_UNIT_ALIGN_RIGHT;
+    length = byte_unit_text(size, 0, spec, out, sizeof out);
+    expect("to the right", out, length, "  123.456 KB");
     length = byte_unit_unit_name(BYTE_UNIT_RIBIT, out, sizeof out);
-    look("a name", out, length, "Rib");
+    expect("a name", out, length, "Rib");
 }
 
-static void units_are_chosen(void)
+static void choose_units(void)
 {
-    byte_unit_number size = { 50840000, 0 }, count;
-    byte_unit_parts parts;
+    byte_unit_number size = number(50840000), count;
+    byte_unit_decimal decimal;
     uint32_t unit;
 
-    unit = byte_unit_exact_unit(size, false, false, &count);
-    look_if("50840 KB exactly", unit == BYTE_UNIT_KB && count.low == 50840 && count.high == 0);
-    unit = byte_unit_recoverable_unit(size, false, false, 2, &parts);
-    look_if("50.84 MB in two places", unit == BYTE_UNIT_MB && parts.whole.low == 50 && parts.whole.high == 0
-                                          && parts.fraction.high == 455364912
-                                          && parts.fraction.low == 8188728514820702208u);
-    count = (byte_unit_number){ 17, 0 };
-    look_if("17 bits in 3 bytes", byte_unit_from_unit(count, BYTE_UNIT_BIT, false, &size) && size.low == 3);
-    look_if("1000 RB are no size", !byte_unit_from_unit((byte_unit_number){ 1000, 0 }, BYTE_UNIT_RB, false, &size));
+    unit = byte_unit_exact_unit(size, 0, &count);
+    expect_true("50840 KB exactly", unit == BYTE_UNIT_KB && count.low == 50840 && count.high == 0);
+    unit = byte_unit_exact_unit(number(125), BYTE_UNIT_EITHER_KIND, &count);
+    expect_true("125 B are 1 Kb", unit == BYTE_UNIT_KBIT && count.low == 1);
+    unit = byte_unit_recoverable_unit(size, 0, 2, &decimal);
+    expect_true("50.84 MB in two places", unit == BYTE_UNIT_MB && decimal.whole.low == 50 && decimal.whole.high == 0
+                                              && decimal.fraction.high == 455364912
+                                              && decimal.fraction.low == UINT64_C(8188728514820702208));
+    expect_true("17 bits in 3 bytes",
+                byte_unit_from_unit(number(17), BYTE_UNIT_BIT, 0, &size) && size.low == 3 && size.high == 0);
+    expect_true("1000 RB are no size", !byte_unit_from_unit(number(1000), BYTE_UNIT_RB, 0, &size));
 }
 
-/* Nothing is written where there is no room, and what stands behind a text stays. */
-static void room_is_kept(void)
+/* Nothing is written if the buffer is too short, and the bytes after a text stay. */
+static void short_buffers(void)
 {
-    byte_unit_number size = { 1536, 0 };
     char out[9] = "########";
+    byte_unit_spec spec = alternate_spec();
 
-    look_if("no room for seven", byte_unit_text(size, false, with_unit, out, 6) == 7 && strcmp(out, "########") == 0);
-    look_if("room for seven", byte_unit_text(size, false, with_unit, out, 7) == 7 && strcmp(out, "1.5 KiB#") == 0);
+    expect_true("six bytes are too few",
+                byte_unit_text(number(1536), 0, spec, out, 6) == 7 && strcmp(out, "########") == 0);
+    expect_true("seven are enough",
+                byte_unit_text(number(1536), 0, spec, out, 7) == 7 && strcmp(out, "1.5 KiB#") == 0);
+    expect_true("the length alone", byte_unit_text(number(1536), 0, spec, NULL, 0) == 7);
 }
 
-static void the_rest_is_refused(void)
+static void versions_and_limits(void)
 {
-    byte_unit_number none = { 0, UINT64_MAX }, size = { 1, 0 }, count;
-    byte_unit_spec spec = with_unit;
-    char out[BYTE_UNIT_ROOM];
+    byte_unit_number limit = BYTE_UNIT_SIZE_LIMIT_INIT;
+    byte_unit_number count;
 
-    look_if("a number that is none", byte_unit_text(none, false, spec, out, sizeof out) == 0
-                                         && byte_unit_exact_unit(none, false, false, &count) == BYTE_UNIT_NO_UNIT);
-    look_if("a unit that is none", byte_unit_adjusted_text(size, false, 38, spec, out, sizeof out) == 0
-                                       && byte_unit_unit_name(38, out, sizeof out) == 0
-                                       && !byte_unit_from_unit(size, 38, false, &count));
-    look_if("a type that is none", byte_unit_appropriate_unit(size, false, 3) == BYTE_UNIT_NO_UNIT);
-    spec.sign = 3;
-    look_if("a spec that is none", byte_unit_text(size, false, spec, out, sizeof out) == 0);
+    expect_true("version 5.2.6", byte_unit_version() == BYTE_UNIT_VERSION && BYTE_UNIT_VERSION == 5002006);
+    expect_true("the limit is no size", byte_unit_exact_unit(limit, 0, &count) == BYTE_UNIT_NO_UNIT);
+    limit.low -= 1;
+    expect_true("one less is", byte_unit_exact_unit(limit, 0, &count) == BYTE_UNIT_B);
 }
 
 int main(void)
 {
-    texts_are_read();
-    faults_have_fields();
-    sizes_are_written();
-    units_are_chosen();
-    room_is_kept();
-    the_rest_is_refused();
+    parse_sizes();
+    details_of_errors();
+    parse_units();
+    many_texts();
+    format_sizes();
+    choose_units();
+    short_buffers();
+    versions_and_limits();
     printf("%d wrong\n", wrong);
     return wrong != 0;
 }

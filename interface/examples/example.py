@@ -1,67 +1,104 @@
 """Each call from Python. Prints what it gets, and stops at an answer that is not the one written here."""
 
+from array import array
+from collections.abc import Callable
+from decimal import Decimal
+
 import byte_unit
 
 
-def line(text, **flags):
-    """The size of a text in both forms, or what is wrong with it."""
+def line(text: str | bytes, *, bits: bool = False, ignore_case: bool = False) -> str:
+    """Returns the size of a text in both forms, or the error."""
     try:
-        size = byte_unit.parse(text, **flags)
+        size = byte_unit.parse(text, bits=bits, ignore_case=ignore_case)
     except byte_unit.SizeError as error:
         return f"{error.name}: {error}"
     return f"{byte_unit.text(size, alternate=False)} = {byte_unit.text(size)}"
 
 
-def look(what, got, wanted):
+def look(what: str, got: object, wanted: object) -> None:
+    """Prints what was got, and checks it."""
     print(f"{what!r:24} {got}")
     assert got == wanted, wanted
 
 
-look("100 MB", line("100 MB"), "100000000 = 100 MB")
-look("1 KiB", line("1 KiB"), "1024 = 1 KiB")
-look("9 b", line("9 b"), "2 = 2 B")
-look("9 b", line("9 b", ignore_case=True), "9 = 9 B")
-look("999 RB", line("999 RB"), "999000000000000000000000000000 = 999 RB")
-look("1 byte", line("1 byte"), "unit: the character 'y' is incorrect ('i' or no character is expected)")
-look("1 KÖB", line("1 KÖB"), "unit: the character 'Ö' is incorrect ('B' or 'b' or no character is expected)")
-look("-1", line("-1"), "not_number: the character '-' is not a number")
-look("é", line("é"), "not_number: the character 'é' is not a number")
-look("😀", line("😀"), "not_number: the character '😀' is not a number")
-look("1.é", line("1.é", in_bits=True), "not_number: the character 'é' is not a number")
 TEN = "'B', 'K', 'M', 'G', 'T', 'P', 'E', 'Z', 'Y' or 'R' or no character"
-look("1é", line("1é"), f"unit: the character 'é' is incorrect ({TEN} is expected)")
-look("1K😀", line("1K😀", ignore_case=True), "unit: the character '😀' is incorrect ('B' or no character is expected)")
-look("", line(""), "no_value: no value can be found")
-look("a byte of no text", line("\udcff"), "not_utf8: the text is not UTF-8")
 
-try:
-    byte_unit.parse("1000.5 RB")
-except byte_unit.SizeError as error:
-    look("a number too large", (error.name, error.number), ("exceeded_bounds", "1000.5"))
-try:
-    byte_unit.parse("1x")
-except byte_unit.SizeError as error:
-    seen = (error.character, error.expected, error.also_expect_no_character)
-    look("fields of a fault", seen, ("x", "BKMGTPEZYR", True))
 
-look("in KiB", byte_unit.adjusted_text(123456, "KiB"), "120.5625 KiB")
-look("to two places", byte_unit.adjusted_text(123456, "KiB", precision=2), "120.56 KiB")
-look("in twelve columns", byte_unit.text(123456, width=12, align="right"), "  123.456 KB")
-look("in 300 columns", len(byte_unit.text(123456, width=300)), 300)
-look("with a plus sign", byte_unit.text(15500, alternate=False, sign="plus", width=10), "    +15500")
-look("the greatest", byte_unit.text(10**30 - 1, in_bits=True, alternate=False), "9" * 30)
-look("by type", byte_unit.appropriate_unit(10000, unit_type="binary"), "KiB")
-look("exact", byte_unit.exact_unit(50840000), (50840, "KB"))
-look("within two places", byte_unit.recoverable_unit(50840000, precision=2), ("50.84", "MB"))
-look("17 bits in bytes", byte_unit.from_unit(17, "b"), 3)
-look("past 64 bits", byte_unit.adjusted_text(10**29 + 1, "RB"), "100.000000000000000000000000001 RB")
-look("exact, past 64 bits", byte_unit.exact_unit(10**29), (100, "RB"))
-look("within one place, too", byte_unit.recoverable_unit(1005 * 10**26, precision=1), ("100.5", "RB"))
-look("from a unit, too", byte_unit.from_unit(999, "RB"), 999 * 10**27)
-look("names", byte_unit.UNITS[-4:], ["Rb", "Rib", "RB", "RiB"])
-for call in (lambda: byte_unit.text(10**30), lambda: byte_unit.from_unit(1000, "RB"), lambda: byte_unit.text(1, width=65536)):
+def parsing() -> None:
+    look("100 MB", line("100 MB"), "100000000 = 100 MB")
+    look("1 KiB", line(b"1 KiB"), "1024 = 1 KiB")
+    look("9 b", line("9 b"), "2 = 2 B")
+    look("9 b", line("9 b", ignore_case=True), "9 = 9 B")
+    look("999 RB", line("999 RB"), "999000000000000000000000000000 = 999 RB")
+    look("1 byte", line("1 byte"), "unit: the character 'y' is incorrect ('i' or no character is expected)")
+    look("1 KÖB", line("1 KÖB"), "unit: the character 'Ö' is incorrect ('B' or 'b' or no character is expected)")
+    look("-1", line("-1"), "not_number: the character '-' is not a number")
+    look("1.é", line("1.é", bits=True), "not_number: the character 'é' is not a number")
+    look("1é", line("1é"), f"unit: the character 'é' is incorrect ({TEN} is expected)")
+    message = "unit: the character '😀' is incorrect ('B' or no character is expected)"
+    look("1K😀", line("1K😀", ignore_case=True), message)
+    look("", line(""), "no_value: no value can be found")
+    look("not UTF-8", line(b"\xff"), "not_utf8: the text is not UTF-8")
+    look("a lone surrogate", line("\ud800"), "not_utf8: the text is not UTF-8")
+    look("explained", byte_unit.explain("1 byte"), "the character 'y' is incorrect ('i' or no character is expected)")
+    look("a unit", byte_unit.parse_unit("kibits"), "Kib")
     try:
-        raise AssertionError(call())
-    except OverflowError as error:
-        print(f"refused: {error}")
+        byte_unit.parse("1000.5 RB")
+    except byte_unit.SizeError as error:
+        look("a number too large", (error.name, error.number), ("exceeded_bounds", Decimal("1000.5")))
+    try:
+        byte_unit.parse("1x")
+    except byte_unit.SizeError as error:
+        seen = (error.character, error.expected, error.also_expect_no_character)
+        look("fields of an error", seen, ("x", "BKMGTPEZYR", True))
+
+
+def formatting() -> None:
+    look("in KiB", byte_unit.adjusted_text(123456, "KiB"), "120.5625 KiB")
+    look("to two places", byte_unit.adjusted_text(123456, "KiB", precision=2), "120.56 KiB")
+    look("in twelve columns", byte_unit.text(123456, width=12, align="right"), "  123.456 KB")
+    look("in 300 columns", len(byte_unit.text(123456, width=300)), 300)
+    look("with a plus sign", byte_unit.text(15500, alternate=False, sign="plus", width=10), "    +15500")
+    look("the greatest", byte_unit.text(byte_unit.SIZE_LIMIT - 1, bits=True, alternate=False), "9" * 30)
+    look("past 64 bits", byte_unit.adjusted_text(10**29 + 1, "RB"), "100.000000000000000000000000001 RB")
+
+
+def units() -> None:
+    look("by type", byte_unit.appropriate_unit(10000, unit_type="binary"), "KiB")
+    look("exact", byte_unit.exact_unit(50840000), (50840, "KB"))
+    look("exact, past 64 bits", byte_unit.exact_unit(10**29), (100, "RB"))
+    look("within two places", byte_unit.recoverable_unit(50840000, precision=2), (Decimal("50.84"), "MB"))
+    look("within one place, too", byte_unit.recoverable_unit(1005 * 10**26, precision=1), (Decimal("100.5"), "RB"))
+    look("17 bits in bytes", byte_unit.from_unit(17, "b"), 3)
+    look("from a unit, too", byte_unit.from_unit(999, "RB"), 999 * 10**27)
+    look("names", byte_unit.UNITS[-4:], ("Rb", "Rib", "RB", "RiB"))
+
+
+def columns() -> None:
+    column = byte_unit.parse_many(["1 KB", "1 x", "2 KiB"])
+    look("many", column.ints(), [1000, None, 2048])
+    look("errors of many", list(column.errors()), [(1, "unit")])
+    column = byte_unit.parse_buffers(b"1 KB2 KiB", array("q", [0, 4, 9]))
+    look("buffers", column.int64().tolist(), [1000, 2048])
+
+
+def ranges() -> None:
+    calls: list[Callable[[], object]] = [
+        lambda: byte_unit.text(10**30),
+        lambda: byte_unit.text(-1),
+        lambda: byte_unit.text(1, width=65536),
+        lambda: byte_unit.adjusted_text(1, "kib"),
+        lambda: byte_unit.from_unit(1000, "RB"),
+        lambda: byte_unit.parse_buffers(b"1 KB", array("q", [0, 5])),
+    ]
+    for call in calls:
+        try:
+            raise AssertionError(call())
+        except byte_unit.ByteUnitError as error:
+            print(f"rejected: {error}")
+
+
+for part in (parsing, formatting, units, columns, ranges):
+    part()
 print("0 wrong")

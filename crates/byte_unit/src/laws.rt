@@ -6,7 +6,8 @@ pub use byte_unit_base::laws::choices::{
     more_places_give_no_smaller_unit, number_times_unit_is_size, sizes_are_exact_by_powers,
 };
 pub use byte_unit_base::laws::readers::{
-    names_spell_their_units, size_fronts_are_beginnings, size_texts_have_one_answer,
+    names_spell_their_units, parsed_numbers_are_represented, parsed_sizes_are_accepted,
+    parsed_units_are_spelled, size_fronts_are_beginnings, size_texts_have_one_answer,
     unit_fronts_are_beginnings, unit_texts_have_one_answer,
 };
 pub use byte_unit_base::laws::sizes::{

@@ -1,7 +1,9 @@
 //! Exact sizes in bytes and in bits: parsing, arithmetic, units, formatting and JSON.
 //!
-//! # Examples
+//! The examples of the library have the names of this crate in scope; `rt` is the program's `HostRuntime`, and `alloc`
+//! its allocator.
 //!
+//! # Examples
 //! ```rust
 //! use byte_unit::{Byte, FormatSpec, Unit};
 //!

@@ -58,14 +58,10 @@ impl Error for JsonUnitError {}
 /// Returns the JSON string of the unit: its name. The string round-trips.
 ///
 /// # Errors
-///
 /// `AllocError` if an allocation fails.
 ///
 /// # Examples
-///
 /// ```rust
-/// use byte_unit::{Unit, unit_from_json, unit_to_json};
-///
 /// let value = unit_to_json(alloc, Unit::Kbit)?;
 /// assert_eq!(rt; value.as_str(), Some("Kb"));
 /// assert_eq!(rt; unit_from_json(&value)?, Unit::Kbit);
@@ -80,13 +76,10 @@ pub fn unit_to_json(alloc: Global, unit: Unit) -> Result<Value, AllocError>
 /// multiple of bytes. Does not allocate.
 ///
 /// # Errors
-///
 /// `NotString` if the value is not a string, `Unit` if the string is not the spelling of a unit.
 ///
 /// # Examples
-///
 /// ```rust
-/// use byte_unit::{JsonUnitError, Unit, unit_from_json};
 /// use serde_json::Value;
 ///
 /// let value = Value::String(String::from_str(alloc, "Kb")?);

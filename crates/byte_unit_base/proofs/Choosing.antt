@@ -9,7 +9,7 @@ use Rattle.byte_unit_math.specs.Exact.{IsExactAt}
 use Rattle.byte_unit_base.specs.Shape.{Shape, bits, twos, fives}
 use Rattle.byte_unit_base.specs.Version.{current}
 use Rattle.byte_unit_base.specs.Family.{InFamily}
-use Rattle.byte_unit_base.specs.Multiples.{units_of_prefixes, prefix_count}
+use Rattle.byte_unit_base.specs.UnitLists.{units_of_prefixes, prefix_count}
 use Rattle.byte_unit_base.specs.Choice.{IsRecoveredIn}
 use Rattle.byte_unit_base.specs.Kinds.{bits_in, own_unit}
 use Rattle.byte_unit_base.specs.declared.kind.Kind.{Kind}

@@ -7,7 +7,7 @@ use Rattle.std.proofs.lemmas.Bool.{and_parts, cases_lt, leb-true}
 use Rattle.byte_unit_math.specs.Bounds.{unit_limit}
 use Rattle.byte_unit_base.specs.Shape.{Shape, shape, bits}
 use Rattle.byte_unit_base.specs.Family.{HasKind}
-use Rattle.byte_unit_base.specs.Multiples.{units_of_prefix, units_of_prefixes, prefix_count}
+use Rattle.byte_unit_base.specs.UnitLists.{units_of_prefix, units_of_prefixes, prefix_count}
 use Rattle.byte_unit_base.specs.declared.unit.family.Family.{Family}
 use Rattle.byte_unit_base.specs.declared.unit.family.Family.TheVariants.{All, Bytes, Bits}
 use Rattle.byte_unit_base.specs.Choice.{IsLargest, NoneHas}

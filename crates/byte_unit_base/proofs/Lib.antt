@@ -6,6 +6,7 @@ pub mod Scales
 pub mod Scans
 pub mod UnitReached
 pub mod UnitRuns
+pub mod Computed
 pub mod UnitReads
 pub mod SizeSteps
 pub mod SizeReached
@@ -15,6 +16,7 @@ pub mod Names
 pub mod Rounding
 pub mod SizeOfText
 pub mod SizeOrFault
+pub mod ParsedTexts
 pub mod Quotients
 pub mod Falling
 pub mod Choosing
@@ -24,6 +26,8 @@ pub mod FewSteps
 pub mod SomeChoice
 pub mod LaterChoices
 pub mod OneChoice
+pub mod AdjustedLiterals
+pub mod OnLiterals
 pub mod ErrorTexts
 pub mod NumberTexts
 pub mod LongFractions

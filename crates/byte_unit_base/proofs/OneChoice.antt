@@ -50,7 +50,7 @@ same_fields power false true other false false h = absurd (omega (arith, h.twos,
 same_fields power false false other false true h = absurd (omega (arith, h.twos, h.fives))
 
 -- two units with a prefix and the same number of bits are the same
-same_unit : (unit other : Shape) → 1 ≤ unit.power → 1 ≤ other.power → bits unit ≡ bits other → unit ≡ other
+pub same_unit : (unit other : Shape) → 1 ≤ unit.power → 1 ≤ other.power → bits unit ≡ bits other → unit ≡ other
 same_unit unit other prefix other_prefix same =
     let low = no_greater (twos unit) (fives unit) (twos other) (fives other) same in
     let high = no_greater (twos other) (fives other) (twos unit) (fives unit) (sym same) in

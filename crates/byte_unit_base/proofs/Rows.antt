@@ -14,7 +14,8 @@ use Rattle.byte_unit_base.specs.Version.{current}
 use Rattle.byte_unit_base.specs.Units.{shape_of}
 use Rattle.byte_unit_base.specs.Family.{HasPrefix, InFamily}
 use Rattle.byte_unit_base.specs.Choice.{IsLargest, NoneHas}
-use Rattle.byte_unit_base.specs.Multiples.{ListsUnits, units_of_prefixes, prefix_count, row_of, row_shape}
+use Rattle.byte_unit_base.specs.Multiples.{ListsUnits, row_of, row_shape}
+use Rattle.byte_unit_base.specs.UnitLists.{units_of_prefixes, prefix_count}
 use Rattle.byte_unit_base.specs.declared.unit.Unit.TheVariants.{Bit}
 use Rattle.byte_unit_base.specs.declared.unit.family.UnitRow.{UnitRow}
 use Rattle.byte_unit_base.specs.declared.unit.family.Family.{Family}

@@ -1,5 +1,5 @@
 -- What the parser of a size returns, by the result of parsing its number and unit.
-use Rattle.std.proofs.Common.{◌≡◌, ℕ, Bool, List, Option, Some, None, Ok, Err, sym, ap, subst, arith, inl, inr, refl}
+use Rattle.std.proofs.Common.{◌≡◌, ℕ, Bool, List, Option, Some, None, Ok, Err, sym, ap, subst, arith, inl, inr, refl, ◌∙◌}
 use Rattle.std.specs.Option.{ok_or}
 use Rattle.byte_unit_base.specs.Shape.{Shape}
 use Rattle.byte_unit_base.specs.Version.{current}
@@ -16,6 +16,15 @@ use Rattle.byte_unit_base.specs.Kinds.{flags_for}
 use Rattle.byte_unit_base.specs.Readings.{IsNumberReading}
 use Rattle.byte_unit_base.specs.Accepted.{IsRead}
 use Rattle.byte_unit_base.specs.SizeReading.{IsSizeReading}
+use Rattle.byte_unit_base.specs.SizeText.{trim_of, IsSizeText}
+use Rattle.byte_unit_base.specs.Fault.{IsSizeFault}
+use Rattle.byte_unit_base.specs.SizeScan.{with_shape}
+use Rattle.byte_unit_base.specs.Errors.{size_fault}
+use Rattle.byte_unit_base.specs.Parsed.{parsed_number, parsed_size, rounded_up, size_of_parsed, size_within_limit}
+use Rattle.byte_unit_base.specs.Version.{current}
+use Rattle.byte_unit_base.proofs.Computed.{rounded_up_is_least, size_within, size_above}
+use Rattle.byte_unit_base.proofs.Scans.{reads_meaning, reads_fault}
+use Rattle.byte_unit_base.proofs.SizeReads.{size_scan_is}
 use Rattle.byte_unit_base.proofs.Rounding.{least_is_unique, least_exists}
 
 -- an input has only the number and unit that the parser found, so each of its sizes is that number rounded up
@@ -28,6 +37,26 @@ found_as_read kind ignore_case bytes found number n reading read =
     let IsLeastOfNumber : ℕ → Type 0 = λ m. IsLeastOf kind m (shape_of found.1) n in
     let IsLeastOfUnit : Shape → Type 0 = λ s. IsLeastOf kind number s n in
     (same.0, subst IsLeastOfNumber (sym same.0) (subst IsLeastOfUnit (sym same.1) read.is_least))
+
+-- the parser as a function finds the number and unit that the parser found, rounds the number up, and gives the result
+-- by the size
+
+parsed_found : (kind : Kind) (ignore_case : Bool) (bytes : List ℕ) (found : ℕ × UnitName)
+    → IsSizeText current (flags_for kind ignore_case) (trim_of bytes) found.0 (shape_of found.1)
+    → parsed_size kind ignore_case bytes
+    ≡ size_within_limit found.0 (rounded_up kind found.0 (shape_of found.1))
+unfolding parsed_size parsed_number
+parsed_found kind ignore_case bytes found h =
+    ap (size_of_parsed kind)
+    (reads_meaning (size_scan_is (flags_for kind ignore_case)) (trim_of bytes) (with_shape found) h)
+
+parsed_fault : (kind : Kind) (ignore_case : Bool) (bytes : List ℕ) (error : ParseError)
+    → IsSizeFault current (flags_for kind ignore_case) (trim_of bytes) (size_fault error)
+    → parsed_size kind ignore_case bytes ≡ Err (size_fault error)
+unfolding parsed_size parsed_number
+parsed_fault kind ignore_case bytes error h =
+    ap (size_of_parsed kind)
+    (reads_fault (size_scan_is (flags_for kind ignore_case)) (trim_of bytes) (size_fault error) h)
 
 -- the result if the number and unit give a size
 pub reading_of_size :
@@ -47,6 +76,13 @@ reading_of_size kind ignore_case bytes found n reading size = record {
       let same = least_is_unique kind found.0 (shape_of found.1) n e.size size.0 other.1 in
       absurd (omega (arith, same, size.1, e.above));
   fault = tt;
+  computed =
+      let unit = shape_of found.1 in
+      let rounded = rounded_up kind found.0 unit in
+      let same : rounded ≡ n =
+      least_is_unique kind found.0 unit rounded n (rounded_up_is_least kind found.0 unit) size.0 in
+      sym (parsed_found kind ignore_case bytes found reading.found
+      ∙ (ap (size_within_limit found.0) same ∙ size_within found.0 n size.1));
 }
 
 -- the result if the size of the number and unit reaches the limit: an error with the number
@@ -71,6 +107,11 @@ reading_of_excess kind ignore_case bytes found least reading none = record {
       above = none least.0 least.1;
     },
   );
+  computed =
+      let unit = shape_of found.1 in
+      let rounded = rounded_up kind found.0 unit in
+      sym (parsed_found kind ignore_case bytes found reading.found
+      ∙ size_above found.0 rounded (none rounded (rounded_up_is_least kind found.0 unit)));
 }
 
 -- the result by the size of the number and unit, or `None` if it reaches the limit
@@ -94,4 +135,5 @@ reading_of_fault kind ignore_case bytes error reading = record {
   reads = λ m a. absurd (reading.reads a.number a.is_read.unit a.is_read.is_size);
   exceeds = λ number e. absurd (reading.reads number e.is_read.unit e.is_read.is_size);
   fault = inr reading.fault;
+  computed = sym (parsed_fault kind ignore_case bytes error reading.fault);
 }

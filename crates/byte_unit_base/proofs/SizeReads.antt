@@ -32,6 +32,7 @@ use Rattle.byte_unit_base.specs.declared.unit.scan.Word.TheVariants.{Empty, Bi}
 use Rattle.byte_unit_base.specs.declared.read.scan.SizeScan.{SizeScan}
 use Rattle.byte_unit_base.specs.declared.read.scan.SizeScan.TheVariants.{Beginning, Whole, Point, Fraction, Gap}
 use Rattle.byte_unit_base.specs.declared.read.scan.SizeScan.TheVariants.{Unit as UnitAt}
+use Rattle.byte_unit_base.proofs.Computed.{number_computed}
 use Rattle.byte_unit_base.proofs.Scans.{EndsIn, IsScanOf, read_found, read_meant, read_refused, reads_meaning}
 use Rattle.byte_unit_base.proofs.Scans.{one_answer, fronts_are_beginnings}
 use Rattle.byte_unit_base.proofs.UnitReached.{Reached-start, Spells-reached}
@@ -222,6 +223,7 @@ number_reading flags bytes r e = record {
       (read_meant (size_scan_is flags) with_shape size_fault (trim_of bytes) r (n, unit) e h);
   fault = read_refused (size_scan_is flags) with_shape size_fault (trim_of bytes) r e;
   no_bounds = read_no_bounds flags (trim_of bytes) r e;
+  computed = number_computed flags bytes r e;
 }
 
 -- each input is exactly one number and unit, or has exactly one error, and not both

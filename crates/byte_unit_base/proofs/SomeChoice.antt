@@ -9,7 +9,7 @@ use Rattle.byte_unit_math.specs.Exact.{IsExactAt}
 use Rattle.byte_unit_base.specs.Shape.{Shape, bits}
 use Rattle.byte_unit_base.specs.Version.{Version}
 use Rattle.byte_unit_base.specs.Family.{HasKind}
-use Rattle.byte_unit_base.specs.Multiples.{units_of_prefixes}
+use Rattle.byte_unit_base.specs.UnitLists.{units_of_prefixes}
 use Rattle.byte_unit_base.specs.Choice.{IsExactUnitIn, places_within}
 use Rattle.byte_unit_base.specs.ChoiceLaws.{EachSizeHasAChoiceOrNone}
 use Rattle.byte_unit_base.specs.declared.unit.family.Family.{Family}

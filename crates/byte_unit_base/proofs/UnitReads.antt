@@ -27,6 +27,7 @@ use Rattle.byte_unit_base.specs.declared.unit.scan.Multiple.{Multiple}
 use Rattle.byte_unit_base.specs.declared.unit.scan.Multiple.TheVariants.{One, Decimal, Binary}
 use Rattle.byte_unit_base.proofs.Scans.{EndsIn, IsScanOf, read_found, read_meant, read_refused, one_answer}
 use Rattle.byte_unit_base.proofs.Scans.{fronts_are_beginnings}
+use Rattle.byte_unit_base.proofs.Computed.{unit_computed}
 use Rattle.byte_unit_base.proofs.UnitReached.{Reached, Reached-step, Reached-start, Spells-reached}
 use Rattle.byte_unit_base.proofs.UnitRuns.{spelling_runs, unit_front_runs}
 
@@ -108,6 +109,7 @@ unit_reading flags bytes r e = record {
   found = read_found (unit_scan_is flags) shape_of unit_fault (trim_of bytes) r e;
   reads = λ unit h. read_meant (unit_scan_is flags) shape_of unit_fault (trim_of bytes) r unit e h;
   fault = read_refused (unit_scan_is flags) shape_of unit_fault (trim_of bytes) r e;
+  computed = unit_computed flags bytes r e;
 }
 
 -- each input spells exactly one unit, or has exactly one error, and not both

@@ -1,28 +1,12 @@
 -- Private: the lists of units that the search for a unit goes through. No public contract cites this file.
-use Rattle.std.specs.Prelude.{◌≡◌, ℕ, zero, suc, ◌≤◌, true, false, List, [], ◌∷◌, ◌++◌, length, map}
-use Rattle.byte_unit_base.specs.Shape.{Shape, shape, bits, twos, fives}
+use Rattle.std.specs.Prelude.{◌≡◌, ℕ, ◌≤◌, List, map}
+use Rattle.byte_unit_base.specs.Shape.{Shape, bits, twos, fives}
 use Rattle.byte_unit_base.specs.Units.{shape_of}
 use Rattle.byte_unit_base.specs.Version.{current}
 use Rattle.byte_unit_base.specs.Family.{HasPrefix}
+use Rattle.byte_unit_base.specs.UnitLists.{prefix_count, units_of_prefixes}
 use Rattle.byte_unit_base.specs.declared.unit.family.UnitRow.{UnitRow}
 use Rattle.byte_unit_base.specs.declared.unit.family.Family.{Family}
-use Rattle.byte_unit_base.specs.declared.unit.family.Family.TheVariants.{All, Bytes, Bits}
-
--- the number of prefix letters
-abbrev pub prefix_count : ℕ
-prefix_count = length current.letters
-
--- the units of a unit set that have this one prefix letter, from the largest to the smallest
-abbrev pub units_of_prefix : Family → ℕ → List Shape
-units_of_prefix All power =
-    shape power true false ∷ shape power false false ∷ shape power true true ∷ shape power false true ∷ []
-units_of_prefix Bytes power = shape power true false ∷ shape power false false ∷ []
-units_of_prefix Bits power = shape power true true ∷ shape power false true ∷ []
-
--- the units of a unit set that have one of the first n prefix letters, from the largest to the smallest
-abbrev pub units_of_prefixes : Family → ℕ → List Shape
-units_of_prefixes family zero = []
-units_of_prefixes family (suc power) = units_of_prefix family (suc power) ++ units_of_prefixes family power
 
 -- a row of the table of units: a unit, its number of bits, and the exponents of 2 and 5 in it
 pub record ShapeRow : Type 0 where

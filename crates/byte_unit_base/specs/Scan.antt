@@ -1,5 +1,5 @@
--- Private: a state machine that reads an input character by character. No public contract cites this file; it is proved
--- that the state machines accept the inputs, and give the errors, of the other files.
+-- A state machine that reads an input character by character, so that a proof can compute what is read from a literal.
+-- It is proved that the state machines accept the inputs, and give the errors, of the other files (`ParsedLaws`).
 use Rattle.std.specs.Prelude.{ℕ, List, [], ◌∷◌, Option, Some, None, Result, Ok, Err, option_and_then}
 use Rattle.byte_unit_base.specs.Version.{current}
 use Rattle.byte_unit_base.specs.Spelling.{Flags}

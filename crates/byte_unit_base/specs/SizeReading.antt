@@ -1,11 +1,13 @@
 -- What the parsers of a size return, for a string and for bytes.
 use Rattle.std.specs.Prelude.{◌≡◌, ℕ, Bool, List, Option, MatchOption, Result, Ok, IfOk, IfErr, IsErrAnd}
+use Rattle.std.specs.Result.{result_map_both}
 use Rattle.std.specs.Str.{IsUtf8}
 use Rattle.byte_unit_base.specs.Fault.{exceeded}
 use Rattle.byte_unit_base.specs.Errors.{size_fault}
 use Rattle.byte_unit_base.specs.declared.errors.ParseError.{ParseError}
 use Rattle.byte_unit_base.specs.declared.kind.Kind.{Kind}
 use Rattle.byte_unit_base.specs.Accepted.{IsAccepted, Exceeds, IsRejected}
+use Rattle.byte_unit_base.specs.Parsed.{parsed_size}
 
 -- the result is the size that the input is accepted as, the error of a size that is too large (with its number, scaled
 -- by 10^28), or the error of an input that is not in the grammar. What is returned is right, and what is right is
@@ -17,6 +19,8 @@ pub record IsSizeReading
   pub exceeds : (number : ℕ) → Exceeds kind ignore_case bytes number
       → IsErrAnd result (λ error. size_fault error ≡ exceeded number)
   pub fault : IfErr result (λ error. IsRejected kind ignore_case bytes (size_fault error))
+  -- the same as an equation, which a proof can compute for a literal; it follows from the others
+  pub computed : result_map_both (λ n. n) size_fault result ≡ parsed_size kind ignore_case bytes
 
 -- `None` if the bytes are not UTF-8, and otherwise the result of parsing them as a string
 abbrev pub IsBytesReading : Kind → Bool → List ℕ → Option (Result ℕ ParseError) → Type 0

@@ -1,5 +1,5 @@
--- Private: the state machine that reads a number and a unit, character by character. No public contract cites this
--- file; it is proved that it accepts the inputs, and gives the errors, of the other files.
+-- The state machine that reads a number and a unit, character by character. It is proved that it accepts the inputs,
+-- and gives the errors, of the other files (`ParsedLaws`).
 use Rattle.std.specs.Prelude.{ℕ, ◌+◌, ◌-◌, ◌*◌, ◌^◌, ◌<◌, ◌≤◌, ⊤, Bool, if◌then◌else◌, ◌==◌, nat_lt, Option, Some, None}
 use Rattle.std.specs.Prelude.{Result, Ok, Err}
 use Rattle.std.specs.Option.{option_map}

@@ -1,5 +1,5 @@
--- Private: the state machine that reads a unit, character by character. No public contract cites this file; it is
--- proved that it accepts the inputs, and gives the errors, of the other files.
+-- The state machine that reads a unit, character by character. It is proved that it accepts the inputs, and gives the
+-- errors, of the other files (`ParsedLaws`).
 use Rattle.std.specs.Prelude.{◌≡◌, ℕ, Bool, true, false, not, if◌then◌else◌, ◌==◌, List, [], Option, Some, None, Result}
 use Rattle.std.specs.Prelude.{Ok, Err, codes}
 use Rattle.std.specs.Str.{str_to_ascii_lowercase}

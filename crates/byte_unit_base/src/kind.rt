@@ -6,15 +6,6 @@ ghost use Rattle.byte_unit_base.specs.Units.{shape_of};
 use crate::unit::Unit;
 
 /// The kind of a size: what it counts.
-///
-/// # Examples
-///
-/// ```rust
-/// use byte_unit::{Kind, Unit};
-///
-/// assert_eq!(rt; Kind::Byte.bits(), 8);
-/// assert_eq!(rt; Kind::Bit.unit(), Unit::Bit);
-/// ```
 #[derive(Debug, Clone, Copy, PartialEq, Eq)]
 pub enum Kind {
     /// Bytes, of eight bits each.
@@ -29,12 +20,8 @@ impl Kind {
     /// Returns the number of bits in one of the kind: 8 or 1.
     ///
     /// # Examples
-    ///
     /// ```rust
-    /// use byte_unit::Kind;
-    ///
-    /// assert_eq!(rt; Kind::Byte.bits(), 8);
-    /// assert_eq!(rt; Kind::Bit.bits(), 1);
+    /// assert_eq!(rt; (Kind::Byte.bits(), Kind::Bit.bits()), (8, 1));
     /// ```
     pub fn bits(self) -> u128
         ensures bits { result ≡ bits_in self }
@@ -50,12 +37,8 @@ impl Kind {
     /// Returns the unit without a prefix of the kind: `B` or `Bit`.
     ///
     /// # Examples
-    ///
     /// ```rust
-    /// use byte_unit::{Kind, Unit};
-    ///
-    /// assert_eq!(rt; Kind::Byte.unit(), Unit::B);
-    /// assert_eq!(rt; Kind::Bit.unit(), Unit::Bit);
+    /// assert_eq!(rt; (Kind::Byte.unit(), Kind::Bit.unit()), (Unit::B, Unit::Bit));
     /// ```
     pub fn unit(self) -> Unit
         ensures { shape_of result ≡ own_unit self }

@@ -8,11 +8,7 @@ ghost use Rattle.byte_unit_base.specs.Kinds.{bits_in};
 ghost use Rattle.byte_unit_base.specs.Units.{shape_of};
 ghost use Rattle.byte_unit_base.specs.Choice.{IsRecovered, IsAppropriate, CountsChoice, family_for, most_steps};
 
-use crate::choice::{choose_unit, largest_unit};
-use crate::kind::Kind;
-use crate::unit::Unit;
-use crate::unit::family::Family;
-use crate::unit::unit_type::UnitType;
+use crate::{Family, Kind, Unit, UnitType, choose_unit, largest_unit};
 use byte_unit_math::{Decimal, Steps};
 
 /// Returns the size in the largest unit, not above it, in which it is exact within `precision` decimal places: the
@@ -26,17 +22,9 @@ use byte_unit_math::{Decimal, Steps};
 /// `7 << 87` bytes take 116 steps, and `7 << 90` bits take 119 if `allow` is set.
 ///
 /// # Examples
-///
 /// ```rust
-/// use byte_unit_base::{Kind, Unit, recoverable_unit};
-/// use byte_unit_math::{Decimal, Steps};
-///
 /// let (number, unit) = recoverable_unit(50_840_000, Kind::Byte, false, 2, &mut Steps::new());
 /// assert!(rt; number == Decimal::from_digits(50, 84, 2) && unit == Unit::MB);
-/// let (number, unit) = recoverable_unit(437_500, Kind::Byte, true, 3, &mut Steps::new());
-/// assert!(rt; number == Decimal::from_digits(3, 5, 1) && unit == Unit::Mbit);
-/// let (number, unit) = recoverable_unit(500, Kind::Byte, false, 3, &mut Steps::new());
-/// assert!(rt; number == Decimal::from_digits(500, 0, 0) && unit == Unit::B);
 /// ```
 #[inline(always)]
 pub fn recoverable_unit(
@@ -67,12 +55,8 @@ pub fn recoverable_unit(
 /// Precondition (proved at every call): `size < 10^30`.
 ///
 /// # Examples
-///
 /// ```rust
-/// use byte_unit_base::{Kind, Unit, exact_unit};
-///
 /// assert_eq!(rt; exact_unit(50_840_000, Kind::Byte, false), (50_840, Unit::KB));
-/// assert_eq!(rt; exact_unit(24_000_000, Kind::Bit, true), (3, Unit::MB));
 /// assert_eq!(rt; exact_unit(16, Kind::Bit, true), (16, Unit::Bit));
 /// ```
 pub fn exact_unit(size: u128, kind: Kind, allow: bool) -> (u128, Unit)
@@ -88,20 +72,15 @@ pub fn exact_unit(size: u128, kind: Kind, allow: bool) -> (u128, Unit)
 /// returns `B` or `Bit`.
 ///
 /// # Examples
-///
 /// ```rust
-/// use byte_unit_base::{Kind, Unit, UnitType, appropriate_unit};
-///
 /// assert_eq!(rt; appropriate_unit(10_000, Kind::Byte, UnitType::Both), Unit::KiB);
 /// assert_eq!(rt; appropriate_unit(1000, Kind::Byte, UnitType::Binary), Unit::B);
 /// ```
 pub fn appropriate_unit(size: u128, kind: Kind, unit_type: UnitType) -> Unit
     ensures { IsAppropriate kind unit_type size result }
 {
-    match largest_unit(size, family_for(kind, false), unit_type, kind.bits()) {
-        Some(unit) => unit,
-        None => kind.unit(),
-    }
+    let family = family_for(kind, false);
+    largest_unit(size, family, unit_type, kind.bits()).unwrap_or(kind.unit())
 }
 
 /// Returns the unit set for sizes of the kind: its own units, or all if `allow` is set.

@@ -10,11 +10,9 @@ ghost use Rattle.byte_unit_base.specs.SizeText.{trim_of, IsSizeText};
 ghost use Rattle.byte_unit_base.specs.SizeReading.{IsSizeReading, IsBytesReading};
 ghost use Rattle.byte_unit_base.specs.SizeOrNone.{IsSizeOfUnit, IsSizeOfDecimal};
 
-use crate::errors::{ParseError, ValueParseError};
-use crate::kind::Kind;
 use crate::read::{read_fast, read_slow};
-use crate::unit::Unit;
 use crate::unit::scan::Flags;
+use crate::{Kind, ParseError, Unit, ValueParseError};
 use byte_unit_math::{Decimal, least_size};
 use std::str;
 
@@ -24,12 +22,9 @@ const SIZE_LIMIT: u128 = 1_000_000_000_000_000_000_000_000_000_000;
 /// Returns the number if it is a size, that is below 10^30. Returns `None` if it is 10^30 or more.
 ///
 /// # Examples
-///
 /// ```rust
-/// use byte_unit_base::size::bounded;
-///
-/// assert_eq!(rt; bounded(1536), Some(1536));
-/// assert_eq!(rt; bounded(1_000_000_000_000_000_000_000_000_000_000), None);
+/// assert_eq!(rt; size::bounded(1536), Some(1536));
+/// assert_eq!(rt; size::bounded(1_000_000_000_000_000_000_000_000_000_000), None);
 /// ```
 pub fn bounded(size: u128) -> Option<u128>
     ensures size { SomeIff result (size < size_limit) size }
@@ -54,14 +49,9 @@ fn ceil_to_kind(in_bits: u128, kind: Kind) -> u128
 /// 10^30 or more.
 ///
 /// # Examples
-///
 /// ```rust
-/// use byte_unit_base::size::with_unit;
-/// use byte_unit_base::{Kind, Unit};
-///
-/// assert_eq!(rt; with_unit(3, Unit::KB, Kind::Byte), Some(3000));
-/// assert_eq!(rt; with_unit(9, Unit::Bit, Kind::Byte), Some(2));
-/// assert_eq!(rt; with_unit(1000, Unit::RB, Kind::Byte), None);
+/// assert_eq!(rt; size::with_unit(9, Unit::Bit, Kind::Byte), Some(2));
+/// assert_eq!(rt; size::with_unit(1000, Unit::RB, Kind::Byte), None);
 /// ```
 pub fn with_unit(size: u128, unit: Unit, kind: Kind) -> Option<u128>
     ensures size { IsSizeOfUnit kind size unit result }
@@ -75,16 +65,10 @@ pub fn with_unit(size: u128, unit: Unit, kind: Kind) -> Option<u128>
 /// `None` if the size would be 10^30 or more.
 ///
 /// # Examples
-///
 /// ```rust
-/// use byte_unit_base::size::from_decimal;
-/// use byte_unit_base::{Kind, Unit};
-/// use byte_unit_math::Decimal;
-///
 /// let half = Decimal::from_digits(0, 5, 1);
-/// assert_eq!(rt; from_decimal(half, Unit::KiB, Kind::Byte), Some(512));
-/// assert_eq!(rt; from_decimal(half, Unit::B, Kind::Byte), Some(1));
-/// assert_eq!(rt; from_decimal(Decimal::from_digits(1000, 0, 0), Unit::RB, Kind::Byte), None);
+/// assert_eq!(rt; size::from_decimal(half, Unit::KiB, Kind::Byte), Some(512));
+/// assert_eq!(rt; size::from_decimal(Decimal::from_digits(1000, 0, 0), Unit::RB, Kind::Byte), None);
 /// ```
 #[inline(always)]
 pub fn from_decimal(number: Decimal, unit: Unit, kind: Kind) -> Option<u128>
@@ -105,21 +89,15 @@ pub fn from_decimal(number: Decimal, unit: Unit, kind: Kind) -> Option<u128>
 /// For `Kind::Bit` `ignore_case` has no effect.
 ///
 /// # Errors
-///
 /// Returns the error of `read_size` if the string is not in the grammar: `NoValue`, `NotNumber` or `NumberTooLong` for
 /// its number, or `Unit`. Returns `ExceededBounds`, with the number as it was written, if the size would be 10^30 or
 /// more.
 ///
 /// # Examples
-///
 /// ```rust
-/// use byte_unit_base::size::parse;
-/// use byte_unit_base::{Kind, ParseError, ValueParseError};
-///
-/// assert_eq!(rt; parse("1.5 KiB", false, Kind::Byte)?, 1536);
-/// assert_eq!(rt; parse("9 bits", false, Kind::Byte)?, 2);
-/// assert_eq!(rt; parse("9", false, Kind::Bit)?, 9);
-/// let error = parse("1.", false, Kind::Byte);
+/// assert_eq!(rt; size::parse("1.5 KiB", false, Kind::Byte)?, 1536);
+/// assert_eq!(rt; size::parse("9 bits", false, Kind::Byte)?, 2);
+/// let error = size::parse("1.", false, Kind::Byte);
 /// assert!(rt; matches!(error, Err(ParseError::Value(ValueParseError::NotNumber('.')))));
 /// ```
 pub fn parse(s: &str, ignore_case: bool, kind: Kind) -> Result<u128, ParseError>
@@ -135,18 +113,12 @@ pub fn parse(s: &str, ignore_case: bool, kind: Kind) -> Result<u128, ParseError>
 /// Parses a size from bytes, as [`parse`] does from a string. Returns `None` if the bytes are not UTF-8.
 ///
 /// # Errors
-///
 /// Returns `Some` with the error of `parse` if the bytes are UTF-8 and `parse` rejects the string.
 ///
 /// # Examples
-///
 /// ```rust
-/// use byte_unit_base::Kind;
-/// use byte_unit_base::size::parse_bytes;
-///
-/// assert!(rt; matches!(parse_bytes(b"1.5 KiB", false, Kind::Byte), Some(Ok(1536))));
-/// assert!(rt; matches!(parse_bytes(b"1.", false, Kind::Byte), Some(Err(_))));
-/// assert!(rt; parse_bytes(b"1 KiB\xFF", false, Kind::Byte).is_none());
+/// assert!(rt; matches!(size::parse_bytes(b"1.5 KiB", false, Kind::Byte), Some(Ok(1536))));
+/// assert!(rt; size::parse_bytes(b"1 KiB\xFF", false, Kind::Byte).is_none());
 /// ```
 #[inline(always)]
 pub fn parse_bytes(bytes: &[u8], ignore_case: bool, kind: Kind) -> Option<Result<u128, ParseError>>
@@ -157,10 +129,7 @@ pub fn parse_bytes(bytes: &[u8], ignore_case: bool, kind: Kind) -> Option<Result
     if let Some((number, unit)) = read_fast(bytes, flags_for(kind, ignore_case)) {
         return Some(size_of(number, unit, kind));
     }
-    match str::from_utf8(bytes) {
-        Ok(text) => Some(parse_slow(text, ignore_case, kind)),
-        Err(_) => None,
-    }
+    Some(parse_slow(str::from_utf8(bytes).ok()?, ignore_case, kind))
 }
 
 /// Parses as `parse` does, on the slow path.
@@ -195,14 +164,9 @@ fn size_of(number: Decimal, unit: Unit, kind: Kind) -> Result<u128, ParseError>
 fn flags_for(kind: Kind, ignore_case: bool) -> Flags
     ensures { result ≡ flags_for kind ignore_case }
 {
-    match kind {
-        Kind::Byte => Flags {
-            ignore_case,
-            prefer_byte: true,
-        },
-        Kind::Bit => Flags {
-            ignore_case: false,
-            prefer_byte: false,
-        },
+    let prefer_byte = matches!(kind, Kind::Byte);
+    Flags {
+        ignore_case: ignore_case && prefer_byte,
+        prefer_byte,
     }
 }

@@ -16,15 +16,6 @@ pub(crate) mod unit_type;
 ///
 /// The variants are in ascending order of their prefixes, from K to R, and within a prefix in ascending order of their
 /// bits.
-///
-/// # Examples
-///
-/// ```rust
-/// use byte_unit::Unit;
-///
-/// assert_eq!(rt; Unit::KiB.as_bits_u128(), 8192);
-/// assert_eq!(rt; Unit::parse_str("kib", true, true)?, Unit::KiB);
-/// ```
 #[derive(Clone, Copy, Debug, PartialEq, Eq)]
 pub enum Unit {
     /// One bit.
@@ -190,12 +181,8 @@ impl Unit {
     /// Returns the number of bits of the unit: from 1 to 2^93.
     ///
     /// # Examples
-    ///
     /// ```rust
-    /// use byte_unit::Unit;
-    ///
-    /// assert_eq!(rt; Unit::KiB.as_bits_u128(), 8192);
-    /// assert_eq!(rt; Unit::RiB.as_bits_u128(), 1 << 93);
+    /// assert_eq!(rt; (Unit::KiB.as_bits_u128(), Unit::RiB.as_bits_u128()), (8192, 1 << 93));
     /// ```
     pub fn as_bits_u128(self) -> u128
         ensures bits { result ≡ bits (shape_of self) }
@@ -209,12 +196,8 @@ impl Unit {
     /// prefix is binary, and `b` for bits or `B` for bytes.
     ///
     /// # Examples
-    ///
     /// ```rust
-    /// use byte_unit::Unit;
-    ///
-    /// assert_eq!(rt; Unit::Kibit.as_str(), "Kib");
-    /// assert_eq!(rt; Unit::MB.as_str(), "MB");
+    /// assert_eq!(rt; (Unit::Kibit.as_str(), Unit::MB.as_str()), ("Kib", "MB"));
     /// ```
     pub fn as_str(self) -> &'static str
         ensures { result.now ≡ unit_name self }
@@ -225,12 +208,8 @@ impl Unit {
     /// Returns `true` if the unit counts bits, and `false` if it counts bytes.
     ///
     /// # Examples
-    ///
     /// ```rust
-    /// use byte_unit::Unit;
-    ///
-    /// assert!(rt; Unit::Kbit.is_bit());
-    /// assert!(rt; !Unit::KB.is_bit());
+    /// assert!(rt; Unit::Kbit.is_bit() && !Unit::KB.is_bit());
     /// ```
     pub fn is_bit(self) -> bool
         ensures { result ≡ (shape_of self).bit }
@@ -242,12 +221,8 @@ impl Unit {
     /// not.
     ///
     /// # Examples
-    ///
     /// ```rust
-    /// use byte_unit::Unit;
-    ///
-    /// assert!(rt; Unit::KiB.is_binary_multiples());
-    /// assert!(rt; !Unit::KB.is_binary_multiples());
+    /// assert!(rt; Unit::KiB.is_binary_multiples() && !Unit::KB.is_binary_multiples());
     /// assert!(rt; Unit::B.is_binary_multiples() && !Unit::Bit.is_binary_multiples());
     /// ```
     pub fn is_binary_multiples(self) -> bool
@@ -259,13 +234,8 @@ impl Unit {
     /// Returns the exponents of 2 and of 5 in the number of bits of the unit, which has no other prime factor.
     ///
     /// # Examples
-    ///
     /// ```rust
-    /// use byte_unit::Unit;
-    ///
-    /// // 8000 is 2^6 * 5^3.
-    /// assert_eq!(rt; Unit::KB.powers(), (6, 3));
-    /// assert_eq!(rt; Unit::KiB.powers(), (13, 0));
+    /// assert_eq!(rt; Unit::KB.powers(), (6, 3)); // 8000 is 2^6 * 5^3.
     /// ```
     pub fn powers(self) -> (u32, u32)
         ensures twos { result.0 ≡ twos (shape_of self) }

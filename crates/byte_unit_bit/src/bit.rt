@@ -25,10 +25,7 @@ pub use adjusted::AdjustedBit;
 /// A size in bits: a whole number below 10^30. In a contract a `Bit` is that number.
 ///
 /// # Examples
-///
 /// ```rust
-/// use byte_unit::Bit;
-///
 /// let limit = "1.5 Gib".parse::<Bit>()?;
 /// let used = Bit::from_u64(900_000_000);
 /// assert_eq!(rt; limit.subtract(used), Some(Bit::from_u64(710_612_736)));
@@ -57,10 +54,7 @@ impl Bit {
     /// Creates a `Bit` from a number of bits. Returns `None` if it is 10^30 or more.
     ///
     /// # Examples
-    ///
     /// ```rust
-    /// use byte_unit::Bit;
-    ///
     /// assert_eq!(rt; Bit::from_u128(15_000_000), Some(Bit::from_u64(15_000_000)));
     /// assert_eq!(rt; Bit::from_u128(Bit::MAX.as_u128()), Some(Bit::MAX));
     /// assert_eq!(rt; Bit::from_u128(Bit::MAX.as_u128() + 1), None);
@@ -77,10 +71,7 @@ impl Bit {
     /// Precondition (proved at every call): `size < 10^30`.
     ///
     /// # Examples
-    ///
     /// ```rust
-    /// use byte_unit::Bit;
-    ///
     /// assert_eq!(rt; Bit::from_u128_unsafe(15_000_000), Bit::from_u64(15_000_000));
     /// ```
     pub fn from_u128_unsafe(size: u128) -> Bit
@@ -94,10 +85,7 @@ impl Bit {
     /// Creates a `Bit` from a number of bits.
     ///
     /// # Examples
-    ///
     /// ```rust
-    /// use byte_unit::Bit;
-    ///
     /// assert_eq!(rt; Bit::from_u64(1024), Bit::KIBIBIT);
     /// assert_eq!(rt; Bit::from_u64(u64::MAX).as_u128(), u128::from(u64::MAX));
     /// ```
@@ -112,10 +100,7 @@ impl Bit {
     /// Creates a `Bit` from a number of bits. Returns `None` if it is negative, or 10^30 or more.
     ///
     /// # Examples
-    ///
     /// ```rust
-    /// use byte_unit::Bit;
-    ///
     /// assert_eq!(rt; Bit::from_i128(15_000_000), Some(Bit::from_u64(15_000_000)));
     /// assert_eq!(rt; Bit::from_i128(-1), None);
     /// assert_eq!(rt; Bit::from_i128(i128::MAX), None);
@@ -129,10 +114,7 @@ impl Bit {
     /// Creates a `Bit` from a number of bits. Returns `None` if it is negative.
     ///
     /// # Examples
-    ///
     /// ```rust
-    /// use byte_unit::Bit;
-    ///
     /// assert_eq!(rt; Bit::from_i64(15_000_000), Some(Bit::from_u64(15_000_000)));
     /// assert_eq!(rt; Bit::from_i64(-1), None);
     /// ```
@@ -150,10 +132,7 @@ impl Bit {
     /// Returns `None` if the size is 10^30 bits or more.
     ///
     /// # Examples
-    ///
     /// ```rust
-    /// use byte_unit::{Bit, Unit};
-    ///
     /// assert_eq!(rt; Bit::from_u128_with_unit(15, Unit::Mbit), Some(Bit::from_u64(15_000_000)));
     /// assert_eq!(rt; Bit::from_u128_with_unit(17, Unit::B), Some(Bit::from_u64(136)));
     /// assert_eq!(rt; Bit::from_u128_with_unit(1_000, Unit::Rbit), None);
@@ -170,10 +149,7 @@ impl Bit {
     /// Returns `None` if the size is 10^30 bits or more.
     ///
     /// # Examples
-    ///
     /// ```rust
-    /// use byte_unit::{Bit, Unit};
-    ///
     /// assert_eq!(rt; Bit::from_u64_with_unit(15, Unit::Kibit), Some(Bit::from_u64(15_360)));
     /// assert_eq!(rt; Bit::from_u64_with_unit(999, Unit::Rbit), Bit::RONNABIT.multiply(999));
     /// assert_eq!(rt; Bit::from_u64_with_unit(1_000, Unit::Rbit), None);
@@ -189,10 +165,7 @@ impl Bit {
     /// Returns `None` if the number is negative, or the size is 10^30 bits or more.
     ///
     /// # Examples
-    ///
     /// ```rust
-    /// use byte_unit::{Bit, Unit};
-    ///
     /// assert_eq!(rt; Bit::from_i128_with_unit(15, Unit::Kibit), Some(Bit::from_u64(15_360)));
     /// assert_eq!(rt; Bit::from_i128_with_unit(-15, Unit::Kibit), None);
     /// assert_eq!(rt; Bit::from_i128_with_unit(1_000, Unit::Rbit), None);
@@ -208,10 +181,7 @@ impl Bit {
     /// Returns `None` if the number is negative, or the size is 10^30 bits or more.
     ///
     /// # Examples
-    ///
     /// ```rust
-    /// use byte_unit::{Bit, Unit};
-    ///
     /// assert_eq!(rt; Bit::from_i64_with_unit(15, Unit::Kibit), Some(Bit::from_u64(15_360)));
     /// assert_eq!(rt; Bit::from_i64_with_unit(-15, Unit::Kibit), None);
     /// ```
@@ -227,10 +197,7 @@ impl Bit {
     /// Returns the number of bits, which is below 10^30.
     ///
     /// # Examples
-    ///
     /// ```rust
-    /// use byte_unit::Bit;
-    ///
     /// assert_eq!(rt; Bit::KIBIBIT.as_u128(), 1024);
     /// assert_eq!(rt; Bit::MAX.as_u128(), 999_999_999_999_999_999_999_999_999_999);
     /// ```
@@ -244,10 +211,7 @@ impl Bit {
     /// Returns the number of bits, or 2^64 - 1 if it is larger.
     ///
     /// # Examples
-    ///
     /// ```rust
-    /// use byte_unit::Bit;
-    ///
     /// assert_eq!(rt; Bit::KIBIBIT.as_u64(), 1024);
     /// assert_eq!(rt; Bit::ZETTABIT.as_u64(), u64::MAX);
     /// ```
@@ -260,10 +224,7 @@ impl Bit {
     /// Returns the number of bits, or `None` if it is larger than 2^64 - 1.
     ///
     /// # Examples
-    ///
     /// ```rust
-    /// use byte_unit::Bit;
-    ///
     /// assert_eq!(rt; Bit::KIBIBIT.as_u64_checked(), Some(1024));
     /// assert_eq!(rt; Bit::ZETTABIT.as_u64_checked(), None);
     /// ```
@@ -279,10 +240,7 @@ impl Bit {
     /// Returns whether the size is equal to a number of bits.
     ///
     /// # Examples
-    ///
     /// ```rust
-    /// use byte_unit::Bit;
-    ///
     /// assert!(rt; Bit::KILOBIT.eq_u64(1000));
     /// assert!(rt; !Bit::KILOBIT.eq_u64(1024));
     /// ```
@@ -295,10 +253,7 @@ impl Bit {
     /// Returns whether the size is equal to a number of bits.
     ///
     /// # Examples
-    ///
     /// ```rust
-    /// use byte_unit::Bit;
-    ///
     /// assert!(rt; Bit::KILOBIT.eq_u128(1000));
     /// assert!(rt; !Bit::KILOBIT.eq_u128(1024));
     /// ```
@@ -311,9 +266,7 @@ impl Bit {
     /// Compares the size with a number of bits.
     ///
     /// # Examples
-    ///
     /// ```rust
-    /// use byte_unit::Bit;
     /// use std::cmp::Ordering;
     ///
     /// assert_eq!(rt; Bit::KILOBIT.cmp_u64(1024), Ordering::Less);
@@ -328,9 +281,7 @@ impl Bit {
     /// Compares the size with a number of bits.
     ///
     /// # Examples
-    ///
     /// ```rust
-    /// use byte_unit::Bit;
     /// use std::cmp::Ordering;
     ///
     /// assert_eq!(rt; Bit::KILOBIT.cmp_u128(1024), Ordering::Less);
@@ -348,10 +299,7 @@ impl Bit {
     /// Returns the sum, or `None` if it is 10^30 bits or more.
     ///
     /// # Examples
-    ///
     /// ```rust
-    /// use byte_unit::Bit;
-    ///
     /// let size = Bit::from_u64(15_500);
     /// assert_eq!(rt; size.add(Bit::from_u64(500)), Some(Bit::from_u64(16_000)));
     /// assert_eq!(rt; size.add(Bit::MAX), None);
@@ -365,10 +313,7 @@ impl Bit {
     /// Returns the difference, or `None` if `rhs` is larger than the size.
     ///
     /// # Examples
-    ///
     /// ```rust
-    /// use byte_unit::Bit;
-    ///
     /// let size = Bit::from_u64(15_500);
     /// assert_eq!(rt; size.subtract(Bit::from_u64(500)), Some(Bit::from_u64(15_000)));
     /// assert_eq!(rt; size.subtract(Bit::MAX), None);
@@ -383,10 +328,7 @@ impl Bit {
     /// Returns the product, or `None` if it is 10^30 bits or more.
     ///
     /// # Examples
-    ///
     /// ```rust
-    /// use byte_unit::Bit;
-    ///
     /// assert_eq!(rt; Bit::from_u64(15_500).multiply(2), Some(Bit::from_u64(31_000)));
     /// assert_eq!(rt; Bit::MAX.multiply(2), None);
     /// ```
@@ -399,10 +341,7 @@ impl Bit {
     /// Returns the quotient, rounded down, or `None` if `rhs` is zero.
     ///
     /// # Examples
-    ///
     /// ```rust
-    /// use byte_unit::Bit;
-    ///
     /// assert_eq!(rt; Bit::from_u64(15_500).divide(3), Some(Bit::from_u64(5166)));
     /// assert_eq!(rt; Bit::from_u64(15_500).divide(0), None);
     /// ```

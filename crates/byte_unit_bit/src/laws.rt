@@ -16,13 +16,9 @@ use byte_unit_base::Unit;
 /// Returns `None` for `Unit::B`, since no constant is named after it.
 ///
 /// # Examples
-///
 /// ```rust
-/// use byte_unit::laws::bit_constant;
-/// use byte_unit::{Bit, Unit};
-///
-/// assert_eq!(rt; bit_constant(Unit::Kibit), Some(Bit::KIBIBIT));
-/// assert_eq!(rt; bit_constant(Unit::B), None);
+/// assert_eq!(rt; laws::bit_constant(Unit::Kibit), Some(Bit::KIBIBIT));
+/// assert_eq!(rt; laws::bit_constant(Unit::B), None);
 /// ```
 pub fn bit_constant(unit: Unit) -> Option<Bit>
     ensures { MatchOption result (unit ≡ Unit.B)
@@ -73,12 +69,8 @@ pub fn bit_constant(unit: Unit) -> Option<Bit>
 /// Returns the smallest and the largest size: `Bit::MIN` and `Bit::MAX`.
 ///
 /// # Examples
-///
 /// ```rust
-/// use byte_unit::laws::bit_bounds;
-/// use byte_unit::Bit;
-///
-/// assert_eq!(rt; bit_bounds(), (Bit::MIN, Bit::MAX));
+/// assert_eq!(rt; laws::bit_bounds(), (Bit::MIN, Bit::MAX));
 /// ```
 pub fn bit_bounds() -> (Bit, Bit)
     ensures least { result.0 ≡ 0 }

@@ -24,10 +24,7 @@ pub use adjusted::AdjustedByte;
 /// A size in bytes: a whole number below 10^30. In a contract a `Byte` is that number.
 ///
 /// # Examples
-///
 /// ```rust
-/// use byte_unit::Byte;
-///
 /// let limit = "1.5 GiB".parse::<Byte>()?;
 /// let used = Byte::from_u64(900_000_000);
 /// assert_eq!(rt; limit.subtract(used), Some(Byte::from_u64(710_612_736)));
@@ -56,10 +53,7 @@ impl Byte {
     /// Creates a `Byte` from a number of bytes. Returns `None` if it is 10^30 or more.
     ///
     /// # Examples
-    ///
     /// ```rust
-    /// use byte_unit::Byte;
-    ///
     /// assert_eq!(rt; Byte::from_u128(15_000_000), Some(Byte::from_u64(15_000_000)));
     /// assert_eq!(rt; Byte::from_u128(Byte::MAX.as_u128()), Some(Byte::MAX));
     /// assert_eq!(rt; Byte::from_u128(Byte::MAX.as_u128() + 1), None);
@@ -76,10 +70,7 @@ impl Byte {
     /// Precondition (proved at every call): `size < 10^30`.
     ///
     /// # Examples
-    ///
     /// ```rust
-    /// use byte_unit::Byte;
-    ///
     /// assert_eq!(rt; Byte::from_u128_unsafe(15_000_000), Byte::from_u64(15_000_000));
     /// ```
     pub fn from_u128_unsafe(size: u128) -> Byte
@@ -93,10 +84,7 @@ impl Byte {
     /// Creates a `Byte` from a number of bytes.
     ///
     /// # Examples
-    ///
     /// ```rust
-    /// use byte_unit::Byte;
-    ///
     /// assert_eq!(rt; Byte::from_u64(1024), Byte::KIBIBYTE);
     /// assert_eq!(rt; Byte::from_u64(u64::MAX).as_u128(), u128::from(u64::MAX));
     /// ```
@@ -111,10 +99,7 @@ impl Byte {
     /// Creates a `Byte` from a number of bytes. Returns `None` if it is negative, or 10^30 or more.
     ///
     /// # Examples
-    ///
     /// ```rust
-    /// use byte_unit::Byte;
-    ///
     /// assert_eq!(rt; Byte::from_i128(15_000_000), Some(Byte::from_u64(15_000_000)));
     /// assert_eq!(rt; Byte::from_i128(-1), None);
     /// assert_eq!(rt; Byte::from_i128(i128::MAX), None);
@@ -128,10 +113,7 @@ impl Byte {
     /// Creates a `Byte` from a number of bytes. Returns `None` if it is negative.
     ///
     /// # Examples
-    ///
     /// ```rust
-    /// use byte_unit::Byte;
-    ///
     /// assert_eq!(rt; Byte::from_i64(15_000_000), Some(Byte::from_u64(15_000_000)));
     /// assert_eq!(rt; Byte::from_i64(-1), None);
     /// ```
@@ -149,10 +131,7 @@ impl Byte {
     /// Returns `None` if the size is 10^30 bytes or more.
     ///
     /// # Examples
-    ///
     /// ```rust
-    /// use byte_unit::{Byte, Unit};
-    ///
     /// assert_eq!(rt; Byte::from_u128_with_unit(15, Unit::MB), Some(Byte::from_u64(15_000_000)));
     /// assert_eq!(rt; Byte::from_u128_with_unit(17, Unit::Bit), Some(Byte::from_u64(3)));
     /// assert_eq!(rt; Byte::from_u128_with_unit(1_000, Unit::RB), None);
@@ -169,10 +148,7 @@ impl Byte {
     /// Returns `None` if the size is 10^30 bytes or more.
     ///
     /// # Examples
-    ///
     /// ```rust
-    /// use byte_unit::{Byte, Unit};
-    ///
     /// assert_eq!(rt; Byte::from_u64_with_unit(15, Unit::KiB), Some(Byte::from_u64(15_360)));
     /// assert_eq!(rt; Byte::from_u64_with_unit(999, Unit::RB), Byte::RONNABYTE.multiply(999));
     /// assert_eq!(rt; Byte::from_u64_with_unit(1_000, Unit::RB), None);
@@ -188,10 +164,7 @@ impl Byte {
     /// Returns `None` if the number is negative, or the size is 10^30 bytes or more.
     ///
     /// # Examples
-    ///
     /// ```rust
-    /// use byte_unit::{Byte, Unit};
-    ///
     /// assert_eq!(rt; Byte::from_i128_with_unit(15, Unit::KiB), Some(Byte::from_u64(15_360)));
     /// assert_eq!(rt; Byte::from_i128_with_unit(-15, Unit::KiB), None);
     /// assert_eq!(rt; Byte::from_i128_with_unit(1_000, Unit::RB), None);
@@ -207,10 +180,7 @@ impl Byte {
     /// Returns `None` if the number is negative, or the size is 10^30 bytes or more.
     ///
     /// # Examples
-    ///
     /// ```rust
-    /// use byte_unit::{Byte, Unit};
-    ///
     /// assert_eq!(rt; Byte::from_i64_with_unit(15, Unit::KiB), Some(Byte::from_u64(15_360)));
     /// assert_eq!(rt; Byte::from_i64_with_unit(-15, Unit::KiB), None);
     /// ```
@@ -226,10 +196,7 @@ impl Byte {
     /// Returns the number of bytes, which is below 10^30.
     ///
     /// # Examples
-    ///
     /// ```rust
-    /// use byte_unit::Byte;
-    ///
     /// assert_eq!(rt; Byte::KIBIBYTE.as_u128(), 1024);
     /// assert_eq!(rt; Byte::MAX.as_u128(), 999_999_999_999_999_999_999_999_999_999);
     /// ```
@@ -243,10 +210,7 @@ impl Byte {
     /// Returns the number of bytes, or 2^64 - 1 if it is larger.
     ///
     /// # Examples
-    ///
     /// ```rust
-    /// use byte_unit::Byte;
-    ///
     /// assert_eq!(rt; Byte::KIBIBYTE.as_u64(), 1024);
     /// assert_eq!(rt; Byte::ZETTABYTE.as_u64(), u64::MAX);
     /// ```
@@ -259,10 +223,7 @@ impl Byte {
     /// Returns the number of bytes, or `None` if it is larger than 2^64 - 1.
     ///
     /// # Examples
-    ///
     /// ```rust
-    /// use byte_unit::Byte;
-    ///
     /// assert_eq!(rt; Byte::KIBIBYTE.as_u64_checked(), Some(1024));
     /// assert_eq!(rt; Byte::ZETTABYTE.as_u64_checked(), None);
     /// ```
@@ -278,10 +239,7 @@ impl Byte {
     /// Returns whether the size is equal to a number of bytes.
     ///
     /// # Examples
-    ///
     /// ```rust
-    /// use byte_unit::Byte;
-    ///
     /// assert!(rt; Byte::KILOBYTE.eq_u64(1000));
     /// assert!(rt; !Byte::KILOBYTE.eq_u64(1024));
     /// ```
@@ -294,10 +252,7 @@ impl Byte {
     /// Returns whether the size is equal to a number of bytes.
     ///
     /// # Examples
-    ///
     /// ```rust
-    /// use byte_unit::Byte;
-    ///
     /// assert!(rt; Byte::KILOBYTE.eq_u128(1000));
     /// assert!(rt; !Byte::KILOBYTE.eq_u128(1024));
     /// ```
@@ -310,9 +265,7 @@ impl Byte {
     /// Compares the size with a number of bytes.
     ///
     /// # Examples
-    ///
     /// ```rust
-    /// use byte_unit::Byte;
     /// use std::cmp::Ordering;
     ///
     /// assert_eq!(rt; Byte::KILOBYTE.cmp_u64(1024), Ordering::Less);
@@ -327,9 +280,7 @@ impl Byte {
     /// Compares the size with a number of bytes.
     ///
     /// # Examples
-    ///
     /// ```rust
-    /// use byte_unit::Byte;
     /// use std::cmp::Ordering;
     ///
     /// assert_eq!(rt; Byte::KILOBYTE.cmp_u128(1024), Ordering::Less);
@@ -347,10 +298,7 @@ impl Byte {
     /// Returns the sum, or `None` if it is 10^30 bytes or more.
     ///
     /// # Examples
-    ///
     /// ```rust
-    /// use byte_unit::Byte;
-    ///
     /// let size = Byte::from_u64(15_500);
     /// assert_eq!(rt; size.add(Byte::from_u64(500)), Some(Byte::from_u64(16_000)));
     /// assert_eq!(rt; size.add(Byte::MAX), None);
@@ -364,10 +312,7 @@ impl Byte {
     /// Returns the difference, or `None` if `rhs` is larger than the size.
     ///
     /// # Examples
-    ///
     /// ```rust
-    /// use byte_unit::Byte;
-    ///
     /// let size = Byte::from_u64(15_500);
     /// assert_eq!(rt; size.subtract(Byte::from_u64(500)), Some(Byte::from_u64(15_000)));
     /// assert_eq!(rt; size.subtract(Byte::MAX), None);
@@ -382,10 +327,7 @@ impl Byte {
     /// Returns the product, or `None` if it is 10^30 bytes or more.
     ///
     /// # Examples
-    ///
     /// ```rust
-    /// use byte_unit::Byte;
-    ///
     /// assert_eq!(rt; Byte::from_u64(15_500).multiply(2), Some(Byte::from_u64(31_000)));
     /// assert_eq!(rt; Byte::MAX.multiply(2), None);
     /// ```
@@ -398,10 +340,7 @@ impl Byte {
     /// Returns the quotient, rounded down, or `None` if `rhs` is zero.
     ///
     /// # Examples
-    ///
     /// ```rust
-    /// use byte_unit::Byte;
-    ///
     /// assert_eq!(rt; Byte::from_u64(15_500).divide(3), Some(Byte::from_u64(5166)));
     /// assert_eq!(rt; Byte::from_u64(15_500).divide(0), None);
     /// ```

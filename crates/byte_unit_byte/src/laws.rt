@@ -15,13 +15,9 @@ use byte_unit_base::Unit;
 /// Returns `None` for `Unit::Bit`, since no constant is named after it.
 ///
 /// # Examples
-///
 /// ```rust
-/// use byte_unit::laws::byte_constant;
-/// use byte_unit::{Byte, Unit};
-///
-/// assert_eq!(rt; byte_constant(Unit::KiB), Some(Byte::KIBIBYTE));
-/// assert_eq!(rt; byte_constant(Unit::Bit), None);
+/// assert_eq!(rt; laws::byte_constant(Unit::KiB), Some(Byte::KIBIBYTE));
+/// assert_eq!(rt; laws::byte_constant(Unit::Bit), None);
 /// ```
 pub fn byte_constant(unit: Unit) -> Option<Byte>
     ensures { MatchOption result (unit ≡ Unit.Bit)
@@ -72,12 +68,8 @@ pub fn byte_constant(unit: Unit) -> Option<Byte>
 /// Returns the smallest and the largest size: `Byte::MIN` and `Byte::MAX`.
 ///
 /// # Examples
-///
 /// ```rust
-/// use byte_unit::laws::byte_bounds;
-/// use byte_unit::Byte;
-///
-/// assert_eq!(rt; byte_bounds(), (Byte::MIN, Byte::MAX));
+/// assert_eq!(rt; laws::byte_bounds(), (Byte::MIN, Byte::MAX));
 /// ```
 pub fn byte_bounds() -> (Byte, Byte)
     ensures least { result.0 ≡ 0 }

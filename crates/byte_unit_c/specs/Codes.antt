@@ -1,9 +1,7 @@
--- The codes of units, unit types and kinds in the C API. A code is an index into a list.
-use Rattle.std.specs.Prelude.{◌≡◌, ℕ, Bool, true, false, List, [], ◌∷◌, Option, Some, slice_get}
+-- The codes of units and unit types in the C API. A code is an index into a list.
+use Rattle.std.specs.Prelude.{◌≡◌, ℕ, List, [], ◌∷◌, Option, Some, slice_get}
 use Rattle.byte_unit_base.specs.Shape.{Shape}
 use Rattle.byte_unit_base.specs.Units.{shape_of}
-use Rattle.byte_unit_base.specs.declared.kind.Kind.{Kind}
-use Rattle.byte_unit_base.specs.declared.kind.Kind.TheVariants.{Byte as InBytes, Bit as InBits}
 use Rattle.byte_unit_base.specs.declared.unit.unit_type.UnitType.{UnitType}
 use Rattle.byte_unit_base.specs.declared.unit.unit_type.UnitType.TheVariants.{Binary, Decimal, Both}
 use Rattle.byte_unit_base.specs.declared.unit.Unit.{Unit as UnitName}
@@ -33,8 +31,3 @@ CodesUnit Has code = (unit : UnitName) × (unit_at code ≡ Some unit) × Has (s
 -- the unit types, in the order of their codes
 abbrev pub types : List UnitType
 types = Binary ∷ Decimal ∷ Both ∷ []
-
--- the kind of a size, by the argument `in_bits`
-abbrev pub kind_of : Bool → Kind
-kind_of true = InBits
-kind_of false = InBytes

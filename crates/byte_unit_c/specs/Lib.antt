@@ -1,5 +1,8 @@
+pub mod Version
+pub mod Flags
 pub mod Values
 pub mod Codes
 pub mod Spec
-pub mod Fault
+pub mod Error
 pub mod Reading
+pub mod Many

@@ -1,30 +1,43 @@
 -- What the parsing calls of the C API return and write.
-use Rattle.std.specs.Prelude.{◌≡◌, ℕ, List, Option, Some, None, Result, Ok, Err, IfSome, codes}
+use Rattle.std.specs.Prelude.{◌≡◌, ℕ, Bool, List, Option, Some, None, MatchOption, Result, Ok, Err, IfSome, codes}
 use Rattle.std.specs.Fmt.Cut.{IsTextOrCut}
-use Rattle.byte_unit_base.specs.Errors.{size_fault}
+use Rattle.std.specs.Str.{IsUtf8}
+use Rattle.byte_unit_base.specs.Errors.{size_fault, unit_fault}
 use Rattle.byte_unit_base.specs.FaultText.{parse_text}
+use Rattle.byte_unit_base.specs.Readings.{IsUnitReading}
+use Rattle.byte_unit_base.specs.Spelling.{flags_of}
 use Rattle.byte_unit_base.specs.declared.errors.ParseError.{ParseError}
+use Rattle.byte_unit_base.specs.declared.errors.UnitParseError.{UnitParseError}
+use Rattle.byte_unit_base.specs.declared.unit.Unit.{Unit as UnitName}
 use Rattle.byte_unit_format.specs.Written.{WritesForm}
 use Rattle.byte_unit_c.specs.declared.values.Number.{Number}
-use Rattle.byte_unit_c.specs.declared.fault.Fault.{Fault as Told}
+use Rattle.byte_unit_c.specs.declared.error.Error.{Error}
 use Rattle.byte_unit_c.specs.Values.{number_of}
-use Rattle.byte_unit_c.specs.Fault.{code_of, IsFaultTold}
+use Rattle.byte_unit_c.specs.Codes.{unit_at}
+use Rattle.byte_unit_c.specs.Error.{ok, code_of, not_utf8, IsErrorWritten}
 
--- the return value if the string represents a size
-abbrev pub ok : ℕ
-ok = 0
+-- 0 with the size, the code of the error with its details, or 6 if the bytes are not UTF-8; what is not written is
+-- unchanged
+abbrev pub IsReturned : Option (Result ℕ ParseError) → ℕ → Number → Number → List Error → List Error → Type 0
+IsReturned None code size size' errors errors' = (code ≡ not_utf8) × (size' ≡ size) × (errors' ≡ errors)
+IsReturned (Some (Ok n)) code size size' errors errors' = (code ≡ ok) × (number_of size' ≡ n) × (errors' ≡ errors)
+IsReturned (Some (Err e)) code size size' errors errors' =
+    (code ≡ code_of (size_fault e)) × IsErrorWritten (size_fault e) errors errors' × (size' ≡ size)
 
--- the return value if the bytes are not UTF-8; the values between are the codes of errors
-abbrev pub not_utf8 : ℕ
-not_utf8 = 6
+-- `None` if the bytes are not UTF-8, and otherwise the result of parsing them as a unit
+abbrev pub IsUnitBytesReading : Bool → Bool → List ℕ → Option (Result UnitName UnitParseError) → Type 0
+IsUnitBytesReading ignore_case prefer_byte bytes result =
+    MatchOption result (¬ IsUtf8 bytes)
+    (λ answer. IsUtf8 bytes × IsUnitReading (flags_of ignore_case prefer_byte) bytes answer)
 
--- Returns 0 with the size, the code of the error with its details, or 6 if the bytes are not UTF-8; what is not written
--- is unchanged
-abbrev pub IsReturned : Option (Result ℕ ParseError) → ℕ → Number → Number → Told → Told → Type 0
-IsReturned None code size size' fault fault' = (code ≡ not_utf8) × (size' ≡ size) × (fault' ≡ fault)
-IsReturned (Some (Ok n)) code size size' fault fault' = (code ≡ ok) × (number_of size' ≡ n) × (fault' ≡ fault)
-IsReturned (Some (Err e)) code size size' fault fault' =
-    (code ≡ code_of (size_fault e)) × IsFaultTold (size_fault e) fault' × (size' ≡ size)
+-- 0 with the code of the unit, the code of the error with its details, or 6 if the bytes are not UTF-8; what is not
+-- written is unchanged
+abbrev pub IsUnitReturned : Option (Result UnitName UnitParseError) → ℕ → ℕ → ℕ → List Error → List Error → Type 0
+IsUnitReturned None code unit unit' errors errors' = (code ≡ not_utf8) × (unit' ≡ unit) × (errors' ≡ errors)
+IsUnitReturned (Some (Ok name)) code unit unit' errors errors' =
+    (code ≡ ok) × (unit_at unit' ≡ Some name) × (errors' ≡ errors)
+IsUnitReturned (Some (Err e)) code unit unit' errors errors' =
+    (code ≡ code_of (unit_fault e)) × IsErrorWritten (unit_fault e) errors errors' × (unit' ≡ unit)
 
 -- the message of the error, or at most 256 bytes of it that end in dots; no claim if std specifies no message
 abbrev pub IsErrorText : ParseError → List ℕ → Type 0

@@ -1,6 +1,6 @@
 -- Format specs in the C API.
-use Rattle.std.specs.Prelude.{ℕ, ℤ, pos, negsuc, Bool, List, [], ◌∷◌, Option, Some, None, slice_get, nat_lt}
-use Rattle.std.specs.Prelude.{if◌then◌else◌}
+use Rattle.std.specs.Prelude.{ℕ, ◌==◌, nat_lt, Bool, true, false, if◌then◌else◌, List, [], ◌∷◌, slice_get}
+use Rattle.std.specs.Prelude.{Option, Some, None, option_map}
 use Rattle.byte_unit_format.specs.declared.spec.Sign.{Sign}
 use Rattle.byte_unit_format.specs.declared.spec.Sign.TheVariants.{Unset, Plus, Minus}
 use Rattle.byte_unit_format.specs.declared.spec.Align.{Align}
@@ -16,19 +16,34 @@ signs = Unset ∷ Plus ∷ Minus ∷ []
 abbrev pub aligns : List (Option Align)
 aligns = None ∷ Some Left ∷ Some Center ∷ Some Right ∷ []
 
--- an unsigned number of 16 bits; unset if it is negative, and invalid if it is 65536 or more
-abbrev pub count_at : ℤ → Option (Option ℕ)
-count_at (pos n) = if nat_lt n 65536 then Some (Some n) else None
-count_at (negsuc n) = Some None
+-- the values of a switch, in the order of their codes
+abbrev pub switches : List Bool
+switches = false ∷ true ∷ []
+
+-- a number of 16 bits
+abbrev pub short : ℕ → Option ℕ
+short n = if nat_lt n 65536 then Some n else None
+
+-- the precision, by whether there is one; if there is none, its number has to be 0
+abbrev pub precision_at : ℕ → ℕ → Option (Option ℕ)
+precision_at has n =
+    if has == 0 then (if n == 0 then Some None else None)
+    else if has == 1 then option_map Some (short n)
+    else None
+
+-- the width; unset if it is 0
+abbrev pub width_at : ℕ → Option (Option ℕ)
+width_at n = if n == 0 then Some None else option_map Some (short n)
 
 -- the spec with these fields, if each of them is valid
-abbrev pub spec_of : Bool → Option Sign → Option (Option ℕ) → Option (Option ℕ) → Option (Option Align)
+abbrev pub spec_of : Option Bool → Option Sign → Option (Option ℕ) → Option (Option ℕ) → Option (Option Align)
     → Option FormatSpec
-spec_of alternate (Some sign) (Some precision) (Some width) (Some align) =
+spec_of (Some alternate) (Some sign) (Some precision) (Some width) (Some align) =
     Some (record { alternate = alternate; sign = sign; precision = precision; width = width; align = align })
 spec_of _ _ _ _ _ = None
 
--- the spec, if each of its codes and numbers is valid
+-- the spec, if each of its fields is valid
 abbrev pub spec_at : Spec → Option FormatSpec
 spec_at s =
-    spec_of s.alternate (slice_get signs s.sign) (count_at s.precision) (count_at s.width) (slice_get aligns s.align)
+    spec_of (slice_get switches s.alternate) (slice_get signs s.sign) (precision_at s.has_precision s.precision)
+    (width_at s.width) (slice_get aligns s.align)

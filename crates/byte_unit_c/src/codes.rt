@@ -1,9 +1,9 @@
-//! The codes of units, base units and unit types in the C API.
+//! The codes of units and unit types in the C API.
 
 ghost use Rattle.std.specs.Prelude.{◌≡◌, slice_get, Some};
-ghost use Rattle.byte_unit_c.specs.Codes.{kind_of, types, unit_at};
+ghost use Rattle.byte_unit_c.specs.Codes.{types, unit_at};
 
-use byte_unit_base::{Kind, Unit, UnitType};
+use byte_unit_base::{Unit, UnitType};
 
 /// The units, each at the index that is its code.
 static UNITS: [Unit; 38] = [
@@ -63,13 +63,6 @@ pub fn code_of(unit: Unit) -> u32
     ensures { unit_at result ≡ Some unit }
 {
     unit as u32
-}
-
-/// Returns the kind of a size: bits with `in_bits`, else bytes.
-pub fn kind_of(in_bits: bool) -> Kind
-    ensures { result ≡ kind_of in_bits }
-{
-    if in_bits { Kind::Bit } else { Kind::Byte }
 }
 
 /// Returns the unit type with a code: 0 binary, 1 decimal, 2 both. Returns `None` if the code is 3 or more.

@@ -1,81 +1,191 @@
-//! Parsing of sizes, and messages for strings that are rejected.
+//! Parsing of sizes and of units, and messages for strings that are rejected.
 
-ghost use Rattle.std.specs.Prelude.{ℕ, ◌≤◌, Option, Result, IfSome};
+ghost use Rattle.std.specs.Prelude.{◌≡◌, ℕ, ◌≤◌, Option, Result, IfSome, IfNone, codes};
 ghost use Rattle.std.specs.Fmt.Cut.{IsTextOrCut};
 ghost use Rattle.std.specs.Fmt.InlineText.{inline_text};
 ghost use Rattle.byte_unit_base.specs.FaultText.{parse_text};
 ghost use Rattle.byte_unit_base.specs.SizeReading.{IsBytesReading};
 ghost use Rattle.byte_unit_base.specs.declared.errors.ParseError.{ParseError};
-ghost use Rattle.byte_unit_c.specs.Codes.{kind_of};
-ghost use Rattle.byte_unit_c.specs.Reading.{IsReturned, IsExplanation};
+ghost use Rattle.byte_unit_base.specs.declared.errors.UnitParseError.{UnitParseError};
+ghost use Rattle.byte_unit_base.specs.declared.unit.Unit.{Unit as UnitName};
+ghost use Rattle.byte_unit_format.specs.Written.{WritesForm};
+ghost use Rattle.byte_unit_c.specs.Flags.{reading_at, prefers_byte};
+ghost use Rattle.byte_unit_c.specs.Error.{invalid_argument};
+ghost use Rattle.byte_unit_c.specs.Reading.{IsReturned, IsUnitBytesReading, IsUnitReturned, IsExplanation};
 
-use crate::codes::kind_of;
-use crate::fault::{Fault, NOT_UTF8, OK, UNIT, expected_bytes};
+use crate::codes::code_of;
+use crate::error::{Error, INVALID_ARGUMENT, NOT_UTF8, OK, UNIT};
+use crate::flags::reading_at;
 use crate::texts::write;
 use crate::values::Number;
-use byte_unit_base::{ParseError, size};
+use byte_unit_base::{Kind, ParseError, Unit, UnitParseError, size};
 use std::fmt::InlineText;
+use std::str;
 
-/// Parses a size, rounded up to the next whole byte, or to the next whole bit with `in_bits`. Sizes are below 10^30.
-/// Sizes in bits are always case-sensitive: with `in_bits`, `ignore_case` has no effect.
+/// Parses a size, rounded up to the next whole byte, or to the next whole bit with the flag `BITS` (1). Sizes are below
+/// 10^30. With the flag `IGNORE_CASE` (2) the suffix `b` means bytes too. Sizes in bits are always case-sensitive: with
+/// `BITS`, `IGNORE_CASE` has no effect.
 ///
 /// Returns `OK` and writes `size` if the string represents a size. Otherwise returns the code of the error and writes
-/// `fault`, or returns `NOT_UTF8` and writes nothing if the bytes are not UTF-8. What is not written is unchanged.
+/// its details to the first of `error`, if it is not empty. Returns `NOT_UTF8` and writes nothing if the bytes are not
+/// UTF-8, and `INVALID_ARGUMENT` and writes nothing if another flag is set. What is not written is unchanged.
 ///
 /// For example, `1.5 KiB` in bytes gives `OK` and the size 1536, and `1 x` gives `UNIT` with the character `x`.
 #[unsafe(no_mangle)]
-pub extern "C" fn byte_unit_parse(
+pub extern "C" fn byte_unit_parse_to(
     text: &[u8],
-    in_bits: bool,
+    flags: u32,
+    size: &mut Number,
+    error: &mut [Error],
+) -> u32
+    ensures reading { IfSome (reading_at flags) (λ asked. (answer : Option (Result ℕ ParseError))
+        × IsBytesReading asked.kind asked.ignore_case text.now answer
+        × IsReturned answer result size.old size.new error.old error.new) }
+    ensures rejected { IfNone (reading_at flags)
+        ((result ≡ invalid_argument) × (size.new ≡ size.old) × (error.new ≡ error.old)) }
+{
+    match reading_at(flags) {
+        Some(asked) => parse_as(text, asked.kind, asked.ignore_case, size, error),
+        None => INVALID_ARGUMENT,
+    }
+}
+
+/// Parses as `byte_unit_parse_to` does, with known flags.
+#[inline(always)]
+fn parse_as(
+    text: &[u8],
+    kind: Kind,
     ignore_case: bool,
     size: &mut Number,
-    fault: &mut Fault,
+    errors: &mut [Error],
 ) -> u32
     ensures { (answer : Option (Result ℕ ParseError))
-        × IsBytesReading (kind_of in_bits) ignore_case text.now answer
-        × IsReturned answer result size.old size.new fault.old fault.new }
+        × IsBytesReading kind ignore_case text.now answer
+        × IsReturned answer result size.old size.new errors.old errors.new }
 {
-    match size::parse_bytes(text, ignore_case, kind_of(in_bits)) {
+    match size::parse_bytes(text, ignore_case, kind) {
         Some(Ok(found)) => {
             *size = Number::new(found);
             OK
         }
         Some(Err(ParseError::Value(error))) => {
-            let (code, told) = Fault::of_value(error);
-            *fault = told;
+            let (code, details) = Error::of_value(error);
+            details.write(errors);
             code
         }
         Some(Err(ParseError::Unit(error))) => {
-            *fault = Fault {
-                character: error.character as u32,
-                also_expect_no_character: error.also_expect_no_character,
-                expected: expected_bytes(error.expected_characters),
-                ..Fault::NONE
-            };
+            Error::of_unit(error).write(errors);
             UNIT
         }
         None => NOT_UTF8,
     }
 }
 
+/// Parses a unit by one of its spellings, as `Unit::parse_str` does, and writes its code to `unit`. A spelling without a
+/// suffix is of bytes, or of bits with the flag `BITS` (1). With the flag `IGNORE_CASE` (2) the suffix `b` means bytes
+/// too.
+///
+/// Returns `OK` and writes `unit` if the string spells a unit. Otherwise returns `UNIT` and writes the details of the
+/// error to the first of `error`, if it is not empty. Returns `NOT_UTF8` and writes nothing if the bytes are not UTF-8,
+/// and `INVALID_ARGUMENT` and writes nothing if another flag is set. What is not written is unchanged.
+///
+/// For example, `KiB` gives `OK` and the unit 5, and `Kx` gives `UNIT` with the character `x`.
+#[unsafe(no_mangle)]
+pub extern "C" fn byte_unit_parse_unit_to(
+    text: &[u8],
+    flags: u32,
+    unit: &mut u32,
+    error: &mut [Error],
+) -> u32
+    ensures reading { IfSome (reading_at flags) (λ asked. (answer : Option (Result UnitName UnitParseError))
+        × IsUnitBytesReading asked.ignore_case (prefers_byte asked.kind) text.now answer
+        × IsUnitReturned answer result unit.old unit.new error.old error.new) }
+    ensures rejected { IfNone (reading_at flags)
+        ((result ≡ invalid_argument) × (unit.new ≡ unit.old) × (error.new ≡ error.old)) }
+{
+    match reading_at(flags) {
+        Some(asked) => parse_unit_as(text, asked.kind, asked.ignore_case, unit, error),
+        None => INVALID_ARGUMENT,
+    }
+}
+
+/// Parses as `byte_unit_parse_unit_to` does, with known flags.
+fn parse_unit_as(
+    text: &[u8],
+    kind: Kind,
+    ignore_case: bool,
+    unit: &mut u32,
+    errors: &mut [Error],
+) -> u32
+    ensures { (answer : Option (Result UnitName UnitParseError))
+        × IsUnitBytesReading ignore_case (prefers_byte kind) text.now answer
+        × IsUnitReturned answer result unit.old unit.new errors.old errors.new }
+{
+    match read_unit(text, ignore_case, prefers_byte(kind)) {
+        Some(Ok(found)) => {
+            *unit = code_of(found);
+            OK
+        }
+        Some(Err(error)) => {
+            Error::of_unit(error).write(errors);
+            UNIT
+        }
+        None => NOT_UTF8,
+    }
+}
+
+/// Parses a unit from bytes, as `Unit::parse_str` does from a string. Returns `None` if the bytes are not UTF-8.
+fn read_unit(
+    bytes: &[u8],
+    ignore_case: bool,
+    prefer_byte: bool,
+) -> Option<Result<Unit, UnitParseError>>
+    ensures { IsUnitBytesReading ignore_case prefer_byte bytes.now result }
+{
+    match str::from_utf8(bytes) {
+        Ok(text) => Some(Unit::parse_str(text, ignore_case, prefer_byte)),
+        Err(_) => None,
+    }
+}
+
+/// Whether a unit with no suffix is of bytes, by the kind of sizes.
+fn prefers_byte(kind: Kind) -> bool
+    ensures { result ≡ prefers_byte kind }
+{
+    match kind {
+        Kind::Byte => true,
+        Kind::Bit => false,
+    }
+}
+
 /// Writes the error message for a string that is rejected to the start of `out`, and returns its length, at most 256
 /// bytes. Returns the length and writes nothing if `out` is shorter. Returns 0 and writes nothing if the string
-/// represents a size.
+/// represents a size. The flags are those of `byte_unit_parse_to`; the message for another is `a flag is unknown`.
 ///
 /// For example, `-1` gives 33, the length of `the character '-' is not a number`.
 #[unsafe(no_mangle)]
-pub extern "C" fn byte_unit_explain(
-    text: &[u8],
-    in_bits: bool,
-    ignore_case: bool,
-    out: &mut [u8],
-) -> usize
+pub extern "C" fn byte_unit_explain(text: &[u8], flags: u32, out: &mut [u8]) -> usize
+    ensures reading { IfSome (reading_at flags) (λ asked. (answer : Option (Result ℕ ParseError))
+        × IsBytesReading asked.kind asked.ignore_case text.now answer
+        × IsExplanation answer out.old out.new result) }
+    ensures unknown_flag { IfNone (reading_at flags)
+        (WritesForm (λ words. words ≡ codes "a flag is unknown") out.old out.new result) }
+    ensures bound { result ≤ 256 }
+{
+    match reading_at(flags) {
+        Some(asked) => explain_as(text, asked.kind, asked.ignore_case, out),
+        None => write(b"a flag is unknown", out),
+    }
+}
+
+/// Explains as `byte_unit_explain` does, with known flags.
+fn explain_as(text: &[u8], kind: Kind, ignore_case: bool, out: &mut [u8]) -> usize
     ensures reading { (answer : Option (Result ℕ ParseError))
-        × IsBytesReading (kind_of in_bits) ignore_case text.now answer
+        × IsBytesReading kind ignore_case text.now answer
         × IsExplanation answer out.old out.new result }
     ensures bound { result ≤ 256 }
 {
-    match size::parse_bytes(text, ignore_case, kind_of(in_bits)) {
+    match size::parse_bytes(text, ignore_case, kind) {
         Some(Ok(_)) => 0,
         Some(Err(error)) => write(message_of(&error).as_str().as_bytes(), out),
         None => write(b"the text is not UTF-8", out),

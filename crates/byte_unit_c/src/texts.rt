@@ -6,59 +6,70 @@ ghost use Rattle.byte_unit_base.specs.Version.{unit_name};
 ghost use Rattle.byte_unit_format.specs.Forms.{IsText, text_limit};
 ghost use Rattle.byte_unit_format.specs.Adjusted.{IsAdjustedForm};
 ghost use Rattle.byte_unit_format.specs.Written.{WritesForm};
-ghost use Rattle.byte_unit_c.specs.Codes.{kind_of, unit_at};
+ghost use Rattle.byte_unit_c.specs.Codes.{unit_at};
+ghost use Rattle.byte_unit_c.specs.Flags.{kind_at};
 ghost use Rattle.byte_unit_c.specs.Values.{number_of};
 ghost use Rattle.byte_unit_c.specs.Spec.{spec_at};
 
-use crate::codes::{kind_of, unit_at};
+use crate::codes::unit_at;
+use crate::flags::kind_at;
 use crate::spec::Spec;
 use crate::values::Number;
 use byte_unit_base::size;
 use byte_unit_format::{write_adjusted, write_text};
 
-/// Formats a size to the start of `out`, and returns the length of the text. Returns the length and writes nothing if
-/// `out` is shorter. Returns 0 and writes nothing if the size is out of range or the spec is invalid.
+/// Formats a size to the start of `out`, and returns the length of the text. The size is in bytes, or in bits with the
+/// flag `BITS` (1). Returns the length and writes nothing if `out` is shorter. Returns 0 and writes nothing if the size
+/// is out of range, another flag is set or the spec is invalid.
 ///
 /// For example, 1536 bytes with an alternate spec gives 7, the length of `1.5 KiB`.
 #[unsafe(no_mangle)]
-pub extern "C" fn byte_unit_text(size: Number, in_bits: bool, spec: Spec, out: &mut [u8]) -> usize
-    ensures text { number_of size < size_limit → IfSome (spec_at spec) (λ asked.
-        WritesForm (IsText (kind_of in_bits) (number_of size) asked) out.old out.new result) }
-    ensures rejected { (size_limit ≤ number_of size) ⊎ (spec_at spec ≡ None)
+pub extern "C" fn byte_unit_text(size: Number, flags: u32, spec: Spec, out: &mut [u8]) -> usize
+    ensures text { number_of size < size_limit
+        → IfSome (kind_at flags) (λ kind. IfSome (spec_at spec) (λ asked.
+        WritesForm (IsText kind (number_of size) asked) out.old out.new result)) }
+    ensures rejected { (size_limit ≤ number_of size) ⊎ (kind_at flags ≡ None) ⊎ (spec_at spec ≡ None)
         → (result ≡ 0) × (out.new ≡ out.old) }
     ensures bound { result < text_limit }
 {
-    match (size::bounded(size.get()), spec.get()) {
-        (Some(size), Some(spec)) => write_text(size, kind_of(in_bits), spec, out),
+    match (size::bounded(size.get()), kind_at(flags), spec.get()) {
+        (Some(size), Some(kind), Some(spec)) => write_text(size, kind, spec, out),
         _ => 0,
     }
 }
 
-/// Formats a size in the unit with a code to the start of `out`, and returns the length of the text. Returns the length
-/// and writes nothing if `out` is shorter. Returns 0 and writes nothing if the size is out of range, the code is not
-/// that of a unit, or the spec is invalid.
+/// Formats a size in the unit with a code to the start of `out`, and returns the length of the text. The size is in
+/// bytes, or in bits with the flag `BITS` (1). Returns the length and writes nothing if `out` is shorter. Returns 0 and
+/// writes nothing if the size is out of range, another flag is set, the code is not that of a unit, or the spec is
+/// invalid.
 ///
-/// For example, 1536 bytes in the unit 4 (`KB`) with an unset spec gives 8, the length of `1.536 KB`.
+/// For example, 1536 bytes in the unit 4 (`KB`) with a zeroed spec gives 8, the length of `1.536 KB`.
 #[unsafe(no_mangle)]
 pub extern "C" fn byte_unit_adjusted_text(
     size: Number,
-    in_bits: bool,
+    flags: u32,
     unit: u32,
     spec: Spec,
     out: &mut [u8],
 ) -> usize
     ensures text { number_of size < size_limit
-        → IfSome (unit_at unit) (λ of. IfSome (spec_at spec) (λ asked.
+        → IfSome (kind_at flags) (λ kind. IfSome (unit_at unit) (λ of. IfSome (spec_at spec) (λ asked.
         WritesForm
-        (IsAdjustedForm (kind_of in_bits) (number_of size) of asked)
-        out.old out.new result)) }
-    ensures rejected { (size_limit ≤ number_of size) ⊎ (unit_at unit ≡ None) ⊎ (spec_at spec ≡ None)
+        (IsAdjustedForm kind (number_of size) of asked)
+        out.old out.new result))) }
+    ensures rejected { (size_limit ≤ number_of size) ⊎ (kind_at flags ≡ None) ⊎ (unit_at unit ≡ None)
+        ⊎ (spec_at spec ≡ None)
         → (result ≡ 0) × (out.new ≡ out.old) }
     ensures bound { result < text_limit }
 {
-    match (size::bounded(size.get()), unit_at(unit), spec.get()) {
-        (Some(size), Some(unit), Some(spec)) => {
-            write_adjusted(size, kind_of(in_bits), unit, spec, out)
+    match (
+        size::bounded(size.get()),
+        kind_at(flags),
+        unit_at(unit),
+        spec.get(),
+    ) {
+        (Some(size), Some(kind), Some(unit), Some(spec)) => {
+            write_adjusted(size, kind, unit, spec, out)
         }
         _ => 0,
     }

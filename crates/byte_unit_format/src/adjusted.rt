@@ -14,8 +14,7 @@ ghost use Rattle.byte_unit_format.specs.Written.{WritesForm};
 ghost use Rattle.byte_unit_format.specs.Forms.{text_limit};
 ghost use Rattle.byte_unit_format.specs.Adjusted.{IsNumeralBy, rule_of, IsAdjustedForm, adjusted_text, has_no_prefix};
 
-use crate::layout::{append_layout, layout_len, write_layout};
-use crate::spec::FormatSpec;
+use crate::{FormatSpec, append_layout, layout_len, write_layout};
 use byte_unit_base::{Kind, Unit};
 use byte_unit_math::{Expansion, Ties};
 use std::alloc::{AllocError, Allocator};
@@ -37,11 +36,7 @@ struct Shown {
 /// Precondition (proved at every call): the size is below 10^30.
 ///
 /// # Examples
-///
 /// ```rust
-/// use byte_unit_base::{Kind, Unit};
-/// use byte_unit_format::{FormatSpec, adjusted_len};
-///
 /// let unset = FormatSpec::PLAIN;
 /// assert_eq!(rt; adjusted_len(1536, Kind::Byte, Unit::KB, unset), "1.536 KB".len());
 /// ```
@@ -64,16 +59,11 @@ pub fn adjusted_len(size: u128, kind: Kind, unit: Unit, spec: FormatSpec) -> usi
 /// Precondition (proved at every call): the size is below 10^30.
 ///
 /// # Errors
-///
 /// Returns `AllocError` if the string's spare capacity is below `adjusted_len` and allocation fails; the string and its
 /// capacity are then unchanged. It allocates at most once, before it writes.
 ///
 /// # Examples
-///
 /// ```rust
-/// use byte_unit_base::{Kind, Unit};
-/// use byte_unit_format::{FormatSpec, append_adjusted};
-///
 /// let two = FormatSpec { precision: Some(2), ..FormatSpec::PLAIN };
 /// let mut text = String::new(alloc);
 /// append_adjusted(1005, Kind::Byte, Unit::KB, two, &mut text)?;
@@ -99,11 +89,7 @@ pub fn append_adjusted<A: Allocator>(
 /// Precondition (proved at every call): the size is below 10^30.
 ///
 /// # Examples
-///
 /// ```rust
-/// use byte_unit_base::{Kind, Unit};
-/// use byte_unit_format::{FormatSpec, write_adjusted};
-///
 /// let mut out = [b'.'; 9];
 /// assert_eq!(rt; write_adjusted(1536, Kind::Byte, Unit::KB, FormatSpec::PLAIN, &mut out), 8);
 /// assert!(rt; out == *b"1.536 KB.");
@@ -122,7 +108,6 @@ pub fn write_adjusted(size: u128, kind: Kind, unit: Unit, spec: FormatSpec, out:
 /// Precondition (proved at every call): the size is below 10^30.
 ///
 /// # Errors
-///
 /// Returns `fmt::Error` if the writer does.
 pub fn display_adjusted<W: fmt::Write>(
     size: u128,
@@ -185,11 +170,7 @@ fn all_places(decimal: Expansion) -> Shown
 /// Precondition (proved at every call): the size is below 10^30.
 ///
 /// # Examples
-///
 /// ```rust
-/// use byte_unit_base::{Kind, Unit};
-/// use byte_unit_format::number_in_unit;
-///
 /// let number = number_in_unit(1536, Kind::Byte, Unit::KiB);
 /// assert_eq!(rt; (number.whole(), number.digit(1)), (1, 5));
 /// assert_eq!(rt; number_in_unit(1, Kind::Bit, Unit::KB).places(), 6);

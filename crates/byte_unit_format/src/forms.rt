@@ -37,16 +37,11 @@ pub fn text_len(size: u128, kind: Kind, spec: FormatSpec) -> usize
 /// Precondition (proved at every call): the size is below 10^30.
 ///
 /// # Errors
-///
 /// Returns `AllocError` if the string's spare capacity is below `text_len` and allocation fails; the string and its
 /// capacity are then unchanged. It allocates at most once, before it writes.
 ///
 /// # Examples
-///
 /// ```rust
-/// use byte_unit_base::Kind;
-/// use byte_unit_format::{FormatSpec, append_text};
-///
 /// let mut text = String::new(alloc);
 /// append_text(1536, Kind::Byte, FormatSpec::ALTERNATE, &mut text)?;
 /// append_text(1536, Kind::Byte, FormatSpec::PLAIN, &mut text)?;
@@ -70,11 +65,7 @@ pub fn append_text<A: Allocator>(
 /// Precondition (proved at every call): the size is below 10^30.
 ///
 /// # Examples
-///
 /// ```rust
-/// use byte_unit_base::Kind;
-/// use byte_unit_format::{FormatSpec, write_text};
-///
 /// let mut out = [b'.'; 8];
 /// assert_eq!(rt; write_text(1536, Kind::Byte, FormatSpec::ALTERNATE, &mut out), 7);
 /// assert!(rt; out == *b"1.5 KiB.");

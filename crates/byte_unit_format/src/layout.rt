@@ -30,17 +30,11 @@ pub fn layout_len(e: &Expansion, places: u32, unit: Unit, spec: FormatSpec) -> u
 /// unit. The sign sets the spaces between number and unit, and is never printed.
 ///
 /// # Errors
-///
 /// Returns `AllocError` if the string's spare capacity is below `layout_len` and allocation fails; the string and its
 /// capacity are then unchanged. It allocates at most once, before it writes.
 ///
 /// # Examples
-///
 /// ```rust
-/// use byte_unit_base::Unit;
-/// use byte_unit_format::{FormatSpec, append_layout};
-/// use byte_unit_math::Expansion;
-///
 /// let ten = FormatSpec { width: Some(10), ..FormatSpec::ALTERNATE };
 /// let mut text = String::new(alloc);
 /// append_layout(&Expansion::new(10, 0, 0), 0, Unit::KiB, ten, &mut text)?;

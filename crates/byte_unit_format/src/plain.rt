@@ -23,15 +23,11 @@ pub fn plain_len(size: u128, spec: FormatSpec) -> usize
 /// the spaces are on the left.
 ///
 /// # Errors
-///
 /// Returns `AllocError` if the string's spare capacity is below `plain_len` and allocation fails; the string and its
 /// capacity are then unchanged. It allocates at most once, before it writes.
 ///
 /// # Examples
-///
 /// ```rust
-/// use byte_unit_format::{FormatSpec, append_plain};
-///
 /// let mut text = String::new(alloc);
 /// append_plain(10240, FormatSpec { width: Some(8), ..FormatSpec::PLAIN }, &mut text)?;
 /// assert_eq!(rt; text.as_str(), "   10240");

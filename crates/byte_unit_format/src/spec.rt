@@ -28,10 +28,7 @@ pub enum Align {
 /// a precision of 2.
 ///
 /// # Examples
-///
 /// ```rust
-/// use byte_unit_format::FormatSpec;
-///
 /// let wide = FormatSpec { width: Some(10), ..FormatSpec::ALTERNATE };
 /// assert!(rt; wide.alternate && wide.precision == None);
 /// ```

@@ -18,7 +18,6 @@ const ROOM: usize = 78;
 /// Appends the answer to a line, with its line end.
 ///
 /// # Errors
-///
 /// Returns `AllocError`, and appends nothing, if allocation fails.
 pub(crate) fn add_answer<A: Allocator>(
     line: &[u8],

@@ -24,7 +24,6 @@ use writing::Writing;
 /// Returns the program's arguments, without its name.
 ///
 /// # Errors
-///
 /// Returns an error of kind `OutOfMemory` if allocation fails, and one of another kind if an argument is not UTF-8.
 fn words_after_name(rt: &HostRuntime) -> io::Result<Vec<String>> {
     let mut words = Vec::new(rt.alloc());

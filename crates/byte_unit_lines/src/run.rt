@@ -57,7 +57,6 @@ impl From<AllocError> for RunError {
 /// On `Ok` the report on the whole input has been written.
 ///
 /// # Errors
-///
 /// - `Read` if a read fails. The answers to all lines that ended before have been written.
 /// - `Memory` if allocation fails. The answers to some number of first lines have been written, each whole.
 /// - `Write` if a write fails. A prefix of the report on what was read has been written.
@@ -124,7 +123,6 @@ pub fn run_in<A: Allocator, R: Read, W: Write>(
 /// Precondition (proved at every call): `waiting` is empty.
 ///
 /// # Errors
-///
 /// - `Memory` if allocation fails. The answers to the lines before have been written.
 /// - `Write` if a write fails. A prefix of the answers has been written.
 fn answer_piece<A: Allocator, W: Write>(
@@ -154,7 +152,6 @@ fn answer_piece<A: Allocator, W: Write>(
 /// `line` is the part of the first of them that was read before, and then the part of the next one that was read.
 ///
 /// # Errors
-///
 /// Returns `AllocError` if allocation fails. The answers to the lines before have been appended, each whole.
 fn feed<A: Allocator>(
     line: &mut Vec<u8, A>,
@@ -212,7 +209,6 @@ fn end_of(bytes: &[u8]) -> Option<usize>
 /// Writes all of `bytes`, in as many calls of the writer as it takes.
 ///
 /// # Errors
-///
 /// Returns `Write` if a write fails. A prefix of `bytes` has been written.
 fn write_whole<W: Write>(writer: &mut Writing<W>, bytes: &[u8]) -> Result<(), RunError>
     ensures ok { OnOk result (HasWritten W.contents writer.old writer.new bytes.now) }

@@ -8,8 +8,7 @@ ghost use Rattle.byte_unit_math.specs.Bounds.{scale, places_of_decimal, whole_li
 ghost use Rattle.byte_unit_math.specs.Exact.{IsLeastPlaces};
 ghost use Rattle.byte_unit_math.specs.Numeral.{short_numeral};
 
-use crate::expansion::Expansion;
-use crate::tens::power_of_ten;
+use crate::{Expansion, power_of_ten};
 use std::cmp::Ordering;
 use std::fmt;
 use std::marker::Model;
@@ -65,10 +64,7 @@ impl Decimal {
     /// Creates `whole + fraction / 10^28`. Returns `None` if `whole` is 2^112 or more, or `fraction` 10^28 or more.
     ///
     /// # Examples
-    ///
     /// ```rust
-    /// use byte_unit_math::Decimal;
-    ///
     /// let half = Decimal::new(1, 5 * 10u128.pow(27)).unwrap();
     /// assert_eq!(rt; half.digits(), 5);
     /// assert_eq!(rt; Decimal::new(1, 10u128.pow(28)), None);
@@ -87,10 +83,7 @@ impl Decimal {
     /// Creates a whole number. Returns `None` if it is 2^112 or more.
     ///
     /// # Examples
-    ///
     /// ```rust
-    /// use byte_unit_math::Decimal;
-    ///
     /// assert_eq!(rt; Decimal::from_u128(7), Some(Decimal::from(7u8)));
     /// assert_eq!(rt; Decimal::from_u128(1 << 112), None);
     /// ```
@@ -107,10 +100,7 @@ impl Decimal {
     /// Creates `mantissa / 10^places`. Returns `None` if `places` exceeds 28 or the whole part is 2^112 or more.
     ///
     /// # Examples
-    ///
     /// ```rust
-    /// use byte_unit_math::Decimal;
-    ///
     /// let d = Decimal::from_u128_with_scale(5084, 2).unwrap();
     /// assert_eq!(rt; (d.whole(), d.digits(), d.places()), (50, 84, 2));
     /// assert_eq!(rt; Decimal::from_u128_with_scale(1, 29), None);
@@ -137,10 +127,7 @@ impl Decimal {
     /// Precondition (proved at every call): `whole < 2^112`, `places <= 28` and `digits < 10^places`.
     ///
     /// # Examples
-    ///
     /// ```rust
-    /// use byte_unit_math::Decimal;
-    ///
     /// assert_eq!(rt; Some(Decimal::from_digits(50, 84, 3)), Decimal::from_u128_with_scale(50_084, 3));
     /// assert_eq!(rt; Decimal::from_digits(1, 500, 3).places(), 1);
     /// ```
@@ -191,10 +178,7 @@ impl Decimal {
     /// Returns the part before the point, below 2^112.
     ///
     /// # Examples
-    ///
     /// ```rust
-    /// use byte_unit_math::Decimal;
-    ///
     /// assert_eq!(rt; Decimal::from_digits(50, 84, 3).whole(), 50);
     /// assert_eq!(rt; Decimal::from(7u8).whole(), 7);
     /// ```
@@ -208,10 +192,7 @@ impl Decimal {
     /// Returns the part after the point scaled by 10^28, below 10^28.
     ///
     /// # Examples
-    ///
     /// ```rust
-    /// use byte_unit_math::Decimal;
-    ///
     /// assert_eq!(rt; Decimal::from_digits(1, 5, 1).fraction(), 5 * 10u128.pow(27));
     /// assert_eq!(rt; Decimal::from(7u8).fraction(), 0);
     /// ```
@@ -225,10 +206,7 @@ impl Decimal {
     /// Returns the least number of places that represents it exactly, 0 to 28.
     ///
     /// # Examples
-    ///
     /// ```rust
-    /// use byte_unit_math::Decimal;
-    ///
     /// assert_eq!(rt; Decimal::from_digits(50, 840, 4).places(), 3);
     /// assert_eq!(rt; Decimal::from(7u8).places(), 0);
     /// ```
@@ -242,10 +220,7 @@ impl Decimal {
     /// Returns the digits after the point as a number of `places()` digits, leading zeros included.
     ///
     /// # Examples
-    ///
     /// ```rust
-    /// use byte_unit_math::Decimal;
-    ///
     /// assert_eq!(rt; Decimal::from_digits(50, 84, 3).digits(), 84);
     /// assert_eq!(rt; Decimal::from(7u8).digits(), 0);
     /// ```

@@ -28,10 +28,7 @@ static PAIRS: [u8; 200] = *b"\
 /// The decimal digits of a number, as ASCII. In contracts it is the list of these bytes.
 ///
 /// # Examples
-///
 /// ```rust
-/// use byte_unit_math::DecimalDigits;
-///
 /// assert_eq!(rt; DecimalDigits::of(1536).as_slice(), b"1536".as_slice());
 /// assert_eq!(rt; DecimalDigits::of(0).as_slice(), b"0".as_slice());
 /// ```
@@ -56,9 +53,8 @@ impl DecimalDigits {
     /// Creates the digits of a number.
     ///
     /// # Examples
-    ///
     /// ```rust
-    /// assert_eq!(rt; byte_unit_math::DecimalDigits::of(1536).as_slice(), b"1536".as_slice());
+    /// assert_eq!(rt; DecimalDigits::of(1536).as_slice(), b"1536".as_slice());
     /// ```
     pub fn of(n: u128) -> DecimalDigits
         ensures digits { result ≡ decimal n }
@@ -73,10 +69,9 @@ impl DecimalDigits {
     /// Returns the number of digits, 1 to 39.
     ///
     /// # Examples
-    ///
     /// ```rust
-    /// assert_eq!(rt; byte_unit_math::DecimalDigits::of(1536).len(), 4);
-    /// assert_eq!(rt; byte_unit_math::DecimalDigits::of(u128::MAX).len(), 39);
+    /// assert_eq!(rt; DecimalDigits::of(1536).len(), 4);
+    /// assert_eq!(rt; DecimalDigits::of(u128::MAX).len(), 39);
     /// ```
     #[inline]
     pub fn len(&self) -> usize
@@ -88,9 +83,8 @@ impl DecimalDigits {
     /// Returns the digits as a slice.
     ///
     /// # Examples
-    ///
     /// ```rust
-    /// assert_eq!(rt; byte_unit_math::DecimalDigits::of(1000).as_slice(), b"1000".as_slice());
+    /// assert_eq!(rt; DecimalDigits::of(1000).as_slice(), b"1000".as_slice());
     /// ```
     #[inline]
     pub fn as_slice(&self) -> &[u8]
@@ -103,13 +97,10 @@ impl DecimalDigits {
 /// Writes the digits of a number to a formatter, and ignores its flags.
 ///
 /// # Errors
-///
 /// Returns `fmt::Error` if the writer does.
 ///
 /// # Examples
-///
 /// ```rust
-/// use byte_unit_math::fmt_u128;
 /// use std::fmt;
 ///
 /// struct Number(u128);
@@ -131,10 +122,7 @@ pub fn fmt_u128<W: fmt::Write>(n: u128, f: &mut fmt::Formatter<W>) -> fmt::Resul
 /// Returns the number of decimal digits of a number, 1 to 39.
 ///
 /// # Examples
-///
 /// ```rust
-/// use byte_unit_math::decimal_len;
-///
 /// assert_eq!(rt; decimal_len(1536), 4);
 /// assert_eq!(rt; decimal_len(0), 1);
 /// ```
@@ -158,10 +146,7 @@ pub fn decimal_len(n: u128) -> usize
 /// Precondition (proved at every call): the digits fit before `end`, and `end <= bytes.len()`.
 ///
 /// # Examples
-///
 /// ```rust
-/// use byte_unit_math::put_u128;
-///
 /// let mut bytes = *b"......";
 /// assert_eq!(rt; put_u128(1536, &mut bytes, 5), 1);
 /// assert_eq!(rt; &bytes, b".1536.");
@@ -187,10 +172,7 @@ pub fn put_u128(n: u128, bytes: &mut [u8], end: usize) -> usize
 /// `end <= bytes.len()`.
 ///
 /// # Examples
-///
 /// ```rust
-/// use byte_unit_math::put_fraction;
-///
 /// let mut bytes = *b"1.....";
 /// assert_eq!(rt; put_fraction(5, 2, &mut bytes, 4), 1);
 /// assert_eq!(rt; &bytes, b"1.05..");

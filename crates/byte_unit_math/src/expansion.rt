@@ -65,10 +65,7 @@ impl Expansion {
     /// Precondition (proved at every call): `numerator < 8 * 10^30` and `2^twos * 5^fives <= 2^93`.
     ///
     /// # Examples
-    ///
     /// ```rust
-    /// use byte_unit_math::Expansion;
-    ///
     /// assert_eq!(rt; format!(in alloc; "{}", Expansion::new(13, 3, 0))?.as_str(), "1.625");
     /// assert_eq!(rt; format!(in alloc; "{}", Expansion::new(8, 3, 0))?.as_str(), "1");
     /// ```
@@ -85,10 +82,7 @@ impl Expansion {
     /// Creates an `Expansion` with the digits of a `Decimal`.
     ///
     /// # Examples
-    ///
     /// ```rust
-    /// use byte_unit_math::{Decimal, Expansion};
-    ///
     /// let e = Expansion::from_decimal(Decimal::from_digits(50, 84, 3));
     /// assert_eq!(rt; (e.whole(), e.places(), e.digit(3)), (50, 3, 4));
     /// ```
@@ -101,9 +95,8 @@ impl Expansion {
     /// Returns the part before the point.
     ///
     /// # Examples
-    ///
     /// ```rust
-    /// assert_eq!(rt; byte_unit_math::Expansion::new(13, 3, 0).whole(), 1);
+    /// assert_eq!(rt; Expansion::new(13, 3, 0).whole(), 1);
     /// ```
     pub fn whole(&self) -> u128
         ensures { result ≡ self.now.whole }
@@ -114,10 +107,9 @@ impl Expansion {
     /// Returns the number of digits after the point, without trailing zeros: at most 93.
     ///
     /// # Examples
-    ///
     /// ```rust
-    /// assert_eq!(rt; byte_unit_math::Expansion::new(13, 3, 0).places(), 3);
-    /// assert_eq!(rt; byte_unit_math::Expansion::new(1, 93, 0).places(), 93);
+    /// assert_eq!(rt; Expansion::new(13, 3, 0).places(), 3);
+    /// assert_eq!(rt; Expansion::new(1, 93, 0).places(), 93);
     /// ```
     pub fn places(&self) -> u32
         ensures exact { result ≡ length self.now.digits }
@@ -131,9 +123,8 @@ impl Expansion {
     /// Precondition (proved at every call): `1 <= i`.
     ///
     /// # Examples
-    ///
     /// ```rust
-    /// let e = byte_unit_math::Expansion::new(13, 3, 0);
+    /// let e = Expansion::new(13, 3, 0);
     /// assert_eq!(rt; (e.digit(1), e.digit(3), e.digit(4)), (6, 5, 0));
     /// ```
     pub fn digit(&self, i: u32) -> u8
@@ -151,10 +142,7 @@ impl Expansion {
     /// Rounds to the nearest decimal with at most `places` digits after the point, ties as `ties` says.
     ///
     /// # Examples
-    ///
     /// ```rust
-    /// use byte_unit_math::{Expansion, Ties};
-    ///
     /// assert_eq!(rt; Expansion::new(9_996, 3, 3).rounded(2, Ties::Even).whole(), 10);
     /// let tie = Expansion::new(1_005, 3, 3);
     /// assert_eq!(rt; format!(in alloc; "{}", tie.rounded(2, Ties::Even))?.as_str(), "1");
@@ -309,10 +297,7 @@ fn fmt_fraction<W: fmt::Write>(e: &Expansion, f: &mut fmt::Formatter<W>) -> fmt:
 /// Returns the digits after the point as ASCII, followed by zeros (`b'0'`).
 ///
 /// # Examples
-///
 /// ```rust
-/// use byte_unit_math::{Expansion, glyphs_of};
-///
 /// assert_eq!(rt; &glyphs_of(&Expansion::new(13, 3, 0))[..4], b"6250".as_slice());
 /// ```
 pub fn glyphs_of(e: &Expansion) -> [u8; EXPANSION_PLACES]

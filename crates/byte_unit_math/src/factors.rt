@@ -23,10 +23,7 @@ pub struct Factors {
 /// fail, at most 101 in all. The exponent of 2 is read from the trailing zero bits, without division.
 ///
 /// # Examples
-///
 /// ```rust
-/// use byte_unit_math::{Steps, two_five};
-///
 /// let mut steps = Steps::new();
 /// assert_eq!(rt; two_five(1_000, &mut steps), (3, 3));
 /// assert_eq!(rt; two_five(7, &mut steps), (0, 0));
@@ -50,10 +47,7 @@ pub fn two_five(size: u128, steps: &mut Steps) -> (u32, u32)
 /// Returns the size as its factors, with the precondition and the step count of [`two_five`].
 ///
 /// # Examples
-///
 /// ```rust
-/// use byte_unit_math::{Steps, factors_of};
-///
 /// let mut steps = Steps::new();
 /// let factors = factors_of(7_000, &mut steps);
 /// assert_eq!(rt; (factors.left, factors.twos, factors.fives), (7, 3, 3));

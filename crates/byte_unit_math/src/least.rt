@@ -5,10 +5,8 @@ ghost use Rattle.byte_unit_math.specs.Least.{IsLeastSize};
 ghost use Rattle.byte_unit_math.specs.RoundedUp.{group_limit, half_limit, IsRoundedUp};
 ghost use Rattle.byte_unit_math.specs.Steps.{saturating_add};
 
-use crate::decimal::{DECIMAL_PLACES, Decimal};
 use crate::dividing::{div_rem_by_inverse, div_rem_u24};
-use crate::steps::Steps;
-use crate::tens::power_of_ten;
+use crate::{DECIMAL_PLACES, Decimal, Steps, power_of_ten};
 
 /// The radix of groups of seven digits: the product of a group and a unit of less than 40 bits fits a `u64`.
 const GROUP: u64 = 10_000_000;
@@ -27,10 +25,7 @@ const HALF_PLACES: u32 = 14;
 /// Precondition (proved at every call): `1 <= unit_size <= 2^93` and `limit <= 8 * 10^30`.
 ///
 /// # Examples
-///
 /// ```rust
-/// use byte_unit_math::{Decimal, least_size};
-///
 /// assert_eq!(rt; least_size(Decimal::from_digits(1, 5, 1), 1024, 2000), Some(1536));
 /// assert_eq!(rt; least_size(Decimal::from_digits(0, 1, 1), 1024, 2000), Some(103));
 /// assert_eq!(rt; least_size(Decimal::from_digits(1, 5, 1), 1024, 1536), None);
@@ -52,10 +47,7 @@ pub fn least_size(d: Decimal, unit_size: u128, limit: u128) -> Option<u128>
 /// seven-digit groups of the fraction, least significant first.
 ///
 /// # Examples
-///
 /// ```rust
-/// use byte_unit_math::{Decimal, Steps, least_size_counted};
-///
 /// let mut steps = Steps::new();
 /// assert_eq!(rt; least_size_counted(Decimal::from_digits(1, 5, 1), 1024, 2000, &mut steps), Some(1536));
 /// assert_eq!(rt; steps.count(), 4);

@@ -5,11 +5,9 @@ ghost use Rattle.byte_unit_math.specs.Steps.{saturating_add};
 ghost use Rattle.byte_unit_math.specs.Exact.{IsExactAt, IsLeastPlaces, IsQuotient, IsFirstExact};
 ghost use Rattle.byte_unit_math.specs.Factored.{product_of};
 
-use crate::decimal::{DECIMAL_PLACES, Decimal};
 use crate::dividing::{div_rem, div_rem_digit, div_rem_u24};
-use crate::factors::Factors;
-use crate::steps::Steps;
 use crate::tens::{POWERS_OF_FIVE, power_of_ten};
+use crate::{DECIMAL_PLACES, Decimal, Factors, Steps};
 
 /// The limit of numbers of 64 bits.
 const TWO_POW_64: u128 = 1 << 64;
@@ -22,10 +20,7 @@ const TWO_POW_64: u128 = 1 << 64;
 /// at which the quotient is exact, or else after all of them.
 ///
 /// # Examples
-///
 /// ```rust
-/// use byte_unit_math::{Decimal, Steps, exact_quotient};
-///
 /// let mut steps = Steps::new();
 /// assert_eq!(rt; exact_quotient(1, 8, 3, &mut steps), Some(Decimal::from_digits(0, 125, 3)));
 /// assert_eq!(rt; exact_quotient(1, 8, 2, &mut steps), None);
@@ -67,10 +62,7 @@ pub fn exact_quotient(size: u128, unit: u128, places: u32, steps: &mut Steps) ->
 /// Counts one step for each digit after the point of the result.
 ///
 /// # Examples
-///
 /// ```rust
-/// use byte_unit_math::{Decimal, Factors, Steps, factored_quotient};
-///
 /// let mut steps = Steps::new();
 /// let twelve = Factors { left: 3, twos: 2, fives: 0 };
 /// assert_eq!(rt; factored_quotient(twelve, 3, 0, 1, &mut steps), Decimal::from_digits(1, 5, 1));

@@ -7,10 +7,7 @@ use std::marker::Model;
 /// A step count. It starts at 0, never falls, and saturates at `u64::MAX`.
 ///
 /// # Examples
-///
 /// ```rust
-/// use byte_unit_math::{Steps, two_five};
-///
 /// let mut steps = Steps::new();
 /// assert_eq!(rt; two_five(1_000, &mut steps), (3, 3));
 /// assert_eq!(rt; steps.count(), 8);
@@ -34,9 +31,8 @@ impl Steps {
     /// Creates a step count of 0.
     ///
     /// # Examples
-    ///
     /// ```rust
-    /// assert_eq!(rt; byte_unit_math::Steps::new().count(), 0);
+    /// assert_eq!(rt; Steps::new().count(), 0);
     /// ```
     pub fn new() -> Steps
         ensures { result ≡ 0 }
@@ -47,10 +43,7 @@ impl Steps {
     /// Returns the number of steps counted so far.
     ///
     /// # Examples
-    ///
     /// ```rust
-    /// use byte_unit_math::{Steps, two_five};
-    ///
     /// let mut steps = Steps::new();
     /// two_five(7, &mut steps);
     /// assert_eq!(rt; steps.count(), 2);

@@ -49,10 +49,9 @@ const POWERS: [u128; 39] = [
 /// Precondition (proved at every call): `exponent <= 38`, the greatest whose power fits 128 bits.
 ///
 /// # Examples
-///
 /// ```rust
-/// assert_eq!(rt; byte_unit_math::power_of_ten(3), 1_000);
-/// assert_eq!(rt; byte_unit_math::power_of_ten(38), 10u128.pow(38));
+/// assert_eq!(rt; power_of_ten(3), 1_000);
+/// assert_eq!(rt; power_of_ten(38), 10u128.pow(38));
 /// ```
 #[inline]
 pub fn power_of_ten(exponent: u32) -> u128

@@ -15,7 +15,6 @@ use byte_unit::{AdjustedByte, Byte, ParseError, Unit, UnitParseError, read_size}
 /// Returns the size in the unit that a string spells.
 ///
 /// # Errors
-///
 /// Returns the parse error if the string spells no unit.
 pub fn in_unit(size: Byte, text: &str) -> Result<AdjustedByte, UnitParseError>
     ensures size { IfOk result (λ adjusted. adjusted.size ≡ size) }
@@ -31,7 +30,6 @@ pub fn in_unit(size: Byte, text: &str) -> Result<AdjustedByte, UnitParseError>
 /// Parses a number with a unit, and returns the unit.
 ///
 /// # Errors
-///
 /// Returns the parse error if the string is not a number with a unit.
 pub fn parse_unit(text: &str) -> Result<Unit, ParseError>
     ensures { IfOk result
@@ -45,7 +43,6 @@ pub fn parse_unit(text: &str) -> Result<Unit, ParseError>
 /// Parses a size, and returns it in the largest unit that is not above it.
 ///
 /// # Errors
-///
 /// Returns the parse error if the string represents no size.
 pub fn parse_adjusted(text: &str) -> Result<AdjustedByte, ParseError>
     ensures { IsAdjustedReading InBytes text.now result }

@@ -20,7 +20,6 @@ pub enum LimitError {
 /// Parses a limit, which is at most `max`.
 ///
 /// # Errors
-///
 /// Returns `Parse` if the string represents no size, and `Above` with `max` if the size is larger.
 pub fn read_limit(text: &str, max: Byte) -> Result<Byte, LimitError>
     ensures size { IfOk result (IsAccepted InBytes false text.now) }
@@ -40,7 +39,6 @@ pub fn read_limit(text: &str, max: Byte) -> Result<Byte, LimitError>
 /// where it binds the size by value.
 ///
 /// # Errors
-///
 /// Returns the parse error if the string represents no size.
 pub fn cap(read: Result<Byte, LimitError>) -> Result<Byte, ParseError>
     ensures { result ≡ capped_limit read }
@@ -70,7 +68,6 @@ pub fn max_exceeded(read: &Result<Byte, LimitError>) -> Option<Byte>
 /// Parses a limit, and returns `max` if the size is larger.
 ///
 /// # Errors
-///
 /// Returns the parse error if the string represents no size.
 pub fn limit_at_most(text: &str, max: Byte) -> Result<Byte, ParseError>
     ensures limit { IfOk result (λ limit.

@@ -31,7 +31,6 @@ impl<'a> Entry<'a> {
     /// Creates an entry from a name and a string that represents its size.
     ///
     /// # Errors
-    ///
     /// Returns the parse error if the string represents no size.
     pub fn read(name: &'a str, text: &str) -> Result<Entry<'a>, ParseError>
         ensures name { IfOk result (λ entry. entry.name.now ≡ name.now) }
@@ -70,7 +69,6 @@ pub fn filter_below<'a>(candidate: Entry<'a>, limit: Byte) -> Option<Entry<'a>>
 /// Appends an entry to a report.
 ///
 /// # Errors
-///
 /// Returns `AllocError` if allocation fails.
 pub fn add<'a>(report: &mut Vec<Entry<'a>>, entry: Entry<'a>) -> Result<(), AllocError>
     ensures { OnOk result (report.new.items ≡ report.old.items ++ entry.entry ∷ []) }

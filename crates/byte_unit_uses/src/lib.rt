@@ -4,8 +4,10 @@
 
 pub mod adjusted;
 pub mod capped;
+pub mod defaults;
 pub mod entry;
 pub mod limit;
+pub mod literal;
 pub mod message;
 pub mod quota;
 pub mod settings;

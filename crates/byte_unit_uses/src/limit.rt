@@ -11,7 +11,6 @@ use byte_unit::{Bit, Byte, ParseError};
 /// Parses a limit. The parse error is propagated by `?`, and its contract with it.
 ///
 /// # Errors
-///
 /// Returns the parse error if the string represents no size.
 pub fn limit(text: &str) -> Result<Byte, ParseError>
     ensures { IsSizeReading InBytes false text.now result }
@@ -23,7 +22,6 @@ pub fn limit(text: &str) -> Result<Byte, ParseError>
 /// Parses a rate in bits per second.
 ///
 /// # Errors
-///
 /// Returns the parse error if the string represents no size.
 pub fn rate(text: &str) -> Result<Bit, ParseError>
     ensures { IsSizeReading InBits false text.now result }

@@ -10,7 +10,6 @@ use byte_unit::Byte;
 /// Parses a limit from a command line argument.
 ///
 /// # Errors
-///
 /// Returns an error that names the argument, with the parse error as its cause, if the argument represents no size.
 pub fn parse_argument(argument: &str) -> Result<Byte>
     ensures sound { IfOk result (IsAccepted InBytes false argument.now) }

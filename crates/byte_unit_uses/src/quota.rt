@@ -44,7 +44,6 @@ impl From<ParseError> for QuotaError {
 /// Parses a quota, and returns what remains of it.
 ///
 /// # Errors
-///
 /// Returns `Text` if the string represents no size, and `Exceeded` if more is used than the quota.
 pub fn left(text: &str, used: Byte) -> Result<Byte, QuotaError>
     ensures left { IfOk result (λ left. IsAccepted InBytes false text.now (used + left)) }
@@ -58,7 +57,6 @@ pub fn left(text: &str, used: Byte) -> Result<Byte, QuotaError>
 /// the parse error by `map_err`.
 ///
 /// # Errors
-///
 /// Returns `Text` if the string represents no size.
 pub fn share(text: &str, users: usize) -> Result<Option<Byte>, QuotaError>
     ensures share { IfOk result (λ share. (quota : ℕ) × IsAccepted InBytes false text.now quota

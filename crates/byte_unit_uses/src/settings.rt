@@ -35,7 +35,6 @@ pub struct Settings {
 /// Reads settings from two JSON values.
 ///
 /// # Errors
-///
 /// Returns `Cache` if the first value is not a string that represents a size, and `Unit` if the second is not a string
 /// that spells a unit.
 pub fn read_settings(cache: &Value, unit: &Value) -> Result<Settings, SettingsError>

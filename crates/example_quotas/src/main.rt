@@ -51,7 +51,6 @@ fn total_used(users: &[User]) -> Option<Byte>
 /// Parses a size.
 ///
 /// # Errors
-///
 /// Returns an error that names the string if it represents no size.
 fn parse_size(text: &str) -> Result<Byte> {
     text.parse()
@@ -61,7 +60,6 @@ fn parse_size(text: &str) -> Result<Byte> {
 /// Splits a string at the first comma.
 ///
 /// # Errors
-///
 /// Returns an error that names the string if it has no comma.
 fn split(text: &str) -> Result<(&str, &str)> {
     text.split_once(',')

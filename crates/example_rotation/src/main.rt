@@ -72,7 +72,6 @@ impl Log {
 /// Parses a size.
 ///
 /// # Errors
-///
 /// Returns an error that names the string if it represents no size.
 fn parse_size(text: &str) -> Result<Byte> {
     text.parse()

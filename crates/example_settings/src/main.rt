@@ -4,7 +4,7 @@
 ghost use Rattle.std.specs.Prelude.{◌≡◌, ◌⊎◌, ℕ, IfOk};
 ghost use Rattle.serde_json.specs.Find.{get};
 ghost use Rattle.serde_json.specs.View.{view};
-ghost use Rattle.example_settings.specs.Settings.{HasSize};
+ghost use Rattle.example_settings.specs.Settings.{HasSize, default_of};
 
 use anyhow::{Result, anyhow};
 use byte_unit::{Byte, FormatSpec, JsonSizeError};
@@ -34,12 +34,15 @@ impl Setting {
     }
 
     /// Returns the limit that applies if the setting is absent or rejected.
-    fn default_limit(self) -> Byte {
+    #[tactic(auto, unfolding(byte_unit::proofs::OnLiterals::byte_unit_on_literals))]
+    fn default_limit(self) -> Byte
+        ensures { result ≡ default_of self }
+    {
         match self {
-            Setting::Upload => Byte::MEGABYTE,
-            Setting::Cache => Byte::GIBIBYTE,
-            Setting::Log => Byte::MEBIBYTE,
-            Setting::Line => Byte::KIBIBYTE,
+            Setting::Upload => Byte::parse_str("1 MB", false).unwrap(),
+            Setting::Cache => Byte::parse_str("1 GiB", false).unwrap(),
+            Setting::Log => Byte::parse_str("1 MiB", false).unwrap(),
+            Setting::Line => Byte::parse_str("1 KiB", false).unwrap(),
         }
     }
 }
@@ -47,7 +50,6 @@ impl Setting {
 /// Reads a limit by its name. Returns the default if the settings have no such name.
 ///
 /// # Errors
-///
 /// Returns the parse error if the value is not a string that represents a size.
 fn limit(settings: &Value, name: &str, default: Byte) -> Result<Byte, JsonSizeError>
     ensures present { (size : ℕ) → HasSize (view settings.now) name.now size → result ≡ Ok size }

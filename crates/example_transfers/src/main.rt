@@ -51,7 +51,6 @@ impl Transfer {
 /// Splits a string at the first comma.
 ///
 /// # Errors
-///
 /// Returns an error that names the string if it has no comma.
 fn split(text: &str) -> Result<(&str, &str)> {
     text.split_once(',')

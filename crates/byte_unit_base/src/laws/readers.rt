@@ -3,6 +3,8 @@
 ghost use Rattle.byte_unit_base.specs.ReaderLaws.{UnitTextsHaveOneAnswer, SizeTextsHaveOneAnswer};
 ghost use Rattle.byte_unit_base.specs.ReaderLaws.{ViableUnitPrefixesAreBeginnings, ViableSizePrefixesAreBeginnings};
 ghost use Rattle.byte_unit_base.specs.ReaderLaws.{NamesSpellTheirUnits};
+ghost use Rattle.byte_unit_base.specs.ParsedLaws.{ParsedUnitsAreSpelled, ParsedNumbersAreRepresented};
+ghost use Rattle.byte_unit_base.specs.ParsedLaws.{ParsedSizesAreAccepted};
 
 /// States that under given flags each string spells one unit or has one error, and not both.
 pub fn unit_texts_have_one_answer()
@@ -27,4 +29,19 @@ pub fn size_fronts_are_beginnings()
 /// States that the name of a unit spells that unit if case counts, whichever kind is preferred.
 pub fn names_spell_their_units()
     ensures { NamesSpellTheirUnits }
+{}
+
+/// States that `parsed_unit` gives exactly the unit that a string spells, or its error.
+pub fn parsed_units_are_spelled()
+    ensures { ParsedUnitsAreSpelled }
+{}
+
+/// States that `parsed_number` gives exactly the number and unit that a string represents, or its error.
+pub fn parsed_numbers_are_represented()
+    ensures { ParsedNumbersAreRepresented }
+{}
+
+/// States that `parsed_size` gives exactly the size that a string is accepted as, or the error that it is rejected with.
+pub fn parsed_sizes_are_accepted()
+    ensures { ParsedSizesAreAccepted }
 {}

@@ -37,10 +37,8 @@ pub fn scan_digits(bytes: &[u8]) -> (SizeScan, usize)
     if places == 0 {
         return (SizeScan::Whole(whole), end);
     }
-    (
-        SizeScan::Fraction(whole, fraction, places as u32),
-        end + 1 + places,
-    )
+    let scan = SizeScan::Fraction(whole, fraction, places as u32);
+    (scan, end + 1 + places)
 }
 
 /// Parses the leading digits. Returns their value and their number, or 0 for both if there are more than `most`.

@@ -6,9 +6,8 @@ ghost use Rattle.byte_unit_base.specs.Fault.{fault_at};
 ghost use Rattle.byte_unit_base.specs.Errors.{size_fault};
 ghost use Rattle.byte_unit_base.specs.SizeScan.{after_number, size_result};
 
-use crate::errors::{ParseError, UnitParseError, ValueParseError};
-use crate::unit::Unit;
 use crate::unit::scan::{Flags, UnitScan};
+use crate::{ParseError, Unit, UnitParseError, ValueParseError};
 use byte_unit_math::{DECIMAL_PLACES, Decimal, WHOLE_LIMIT};
 
 /// The state of the parser of a number and a unit.
@@ -98,7 +97,6 @@ impl SizeScan {
     /// Returns the number and the unit of a string that ends here.
     ///
     /// # Errors
-    ///
     /// Returns `NoValue` for an empty string, `NotNumber('.')` after the point, and `Unit` if the unit is incomplete.
     pub fn finish(&self, flags: Flags) -> Result<(Decimal, Unit), ParseError>
         requires { IsScan self.now }
@@ -114,10 +112,8 @@ impl SizeScan {
             SizeScan::Gap(number) => (number, UnitScan::START),
             SizeScan::Unit(number, scan) => (number, scan),
         };
-        match scan.unit(flags) {
-            Some(unit) => Ok((number, unit)),
-            None => Err(ParseError::Unit(UnitParseError::STOPS_AT_BI)),
-        }
+        let stops_at_bi = ParseError::Unit(UnitParseError::STOPS_AT_BI);
+        Ok((number, scan.unit(flags).ok_or(stops_at_bi)?))
     }
 }
 

@@ -1,20 +1,17 @@
 //! Unit sets: which units a choice may take, and their tables.
 
 ghost use Rattle.std.specs.Prelude.{◌≡◌, map};
-ghost use Rattle.byte_unit_base.specs.Multiples.{ListsUnits, units_of_prefixes, prefix_count, row_of, row_shape};
+ghost use Rattle.byte_unit_base.specs.Multiples.{ListsUnits, row_of, row_shape};
+ghost use Rattle.byte_unit_base.specs.UnitLists.{units_of_prefixes, prefix_count};
 
 use crate::unit::Unit;
 
 /// The set of units that a choice may take. All of them have a prefix: `Bit` and `B` are in no set.
 ///
 /// # Examples
-///
 /// ```rust
-/// use byte_unit::{Family, Unit, UnitType, largest_unit};
-///
 /// assert_eq!(rt; largest_unit(1000, Family::All, UnitType::Both, 8), Some(Unit::KB));
 /// assert_eq!(rt; largest_unit(1000, Family::Bits, UnitType::Both, 8), Some(Unit::Kibit));
-/// assert_eq!(rt; largest_unit(7, Family::Bits, UnitType::Both, 8), None);
 /// ```
 #[derive(Clone, Copy, Debug, PartialEq, Eq)]
 pub enum Family {
@@ -61,8 +58,8 @@ impl Family {
 /// Calls a macro with each prefix, the largest first: its units, its position, and its value as a binary and as a
 /// decimal prefix.
 macro_rules! with_prefixes {
-    ($table:ident) => {
-        $table![
+    ($table:ident $set:ident) => {
+        $table![$set
             RiB RB Ribit Rbit 9 1_237_940_039_285_380_274_899_124_224 1_000_000_000_000_000_000_000_000_000,
             YiB YB Yibit Ybit 8 1_208_925_819_614_629_174_706_176 1_000_000_000_000_000_000_000_000,
             ZiB ZB Zibit Zbit 7 1_180_591_620_717_411_303_424 1_000_000_000_000_000_000_000,
@@ -88,8 +85,9 @@ macro_rules! row {
     };
 }
 
-macro_rules! all_rows {
-    ($($ib:ident $b:ident $ibit:ident $bit:ident $n:literal $binary:literal $decimal:literal),*) => {
+/// Writes the rows of a unit set.
+macro_rules! rows {
+    (all $($ib:ident $b:ident $ibit:ident $bit:ident $n:literal $binary:literal $decimal:literal),*) => {
         [$(
             row!($ib, $binary * 8, 10 * $n + 3, 0),
             row!($b, $decimal * 8, 3 * $n + 3, 3 * $n),
@@ -97,31 +95,22 @@ macro_rules! all_rows {
             row!($bit, $decimal, 3 * $n, 3 * $n),
         )*]
     };
-}
-
-macro_rules! byte_rows {
-    ($($ib:ident $b:ident $ibit:ident $bit:ident $n:literal $binary:literal $decimal:literal),*) => {
+    (bytes $($ib:ident $b:ident $ibit:ident $bit:ident $n:literal $binary:literal $decimal:literal),*) => {
         [$(
             row!($ib, $binary * 8, 10 * $n + 3, 0),
             row!($b, $decimal * 8, 3 * $n + 3, 3 * $n),
         )*]
     };
-}
-
-macro_rules! bit_rows {
-    ($($ib:ident $b:ident $ibit:ident $bit:ident $n:literal $binary:literal $decimal:literal),*) => {
-        [$(
-            row!($ibit, $binary, 10 * $n, 0),
-            row!($bit, $decimal, 3 * $n, 3 * $n),
-        )*]
+    (bits $($ib:ident $b:ident $ibit:ident $bit:ident $n:literal $binary:literal $decimal:literal),*) => {
+        [$(row!($ibit, $binary, 10 * $n, 0), row!($bit, $decimal, 3 * $n, 3 * $n),)*]
     };
 }
 
 /// The units of bytes and of bits, the largest first.
-static ALL: [UnitRow; 36] = with_prefixes!(all_rows);
+static ALL: [UnitRow; 36] = with_prefixes!(rows all);
 
 /// The units of bytes, the largest first.
-static BYTES: [UnitRow; 18] = with_prefixes!(byte_rows);
+static BYTES: [UnitRow; 18] = with_prefixes!(rows bytes);
 
 /// The units of bits, the largest first.
-static BITS: [UnitRow; 18] = with_prefixes!(bit_rows);
+static BITS: [UnitRow; 18] = with_prefixes!(rows bits);

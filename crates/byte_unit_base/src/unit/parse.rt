@@ -6,9 +6,8 @@ ghost use Rattle.byte_unit_base.specs.Spelling.{flags_of};
 ghost use Rattle.byte_unit_base.specs.Scan.{read};
 ghost use Rattle.byte_unit_base.specs.UnitScan.{unit_result, unit_scan, start};
 
-use crate::errors::UnitParseError;
-use crate::unit::Unit;
 use crate::unit::scan::{Flags, UnitScan};
+use crate::{Unit, UnitParseError};
 use std::str::FromStr;
 
 impl Unit {
@@ -21,20 +20,15 @@ impl Unit {
     /// any case for bits. Without a suffix the unit is of bytes if `prefer_byte` is set, and else of bits.
     ///
     /// # Errors
-    ///
     /// Returns the first character, from the left, that cannot continue a unit, with characters that are valid in its
     /// place, and whether the string could end there. The characters are not all that are valid: the other case of a
     /// letter and an `i` after a prefix are left out. If the string ends after the `bi` of a suffix, the character is
     /// `i`, also for an `I`.
     ///
     /// # Examples
-    ///
     /// ```rust
-    /// use byte_unit::Unit;
-    ///
     /// assert_eq!(rt; Unit::parse_str("Kib", false, true)?, Unit::Kibit);
     /// assert_eq!(rt; Unit::parse_str("Kib", true, true)?, Unit::KiB);
-    /// assert_eq!(rt; Unit::parse_str("K", false, true)?, Unit::KB);
     /// assert!(rt; Unit::parse_str("Kx", false, true).is_err());
     /// ```
     pub fn parse_str(s: &str, ignore_case: bool, prefer_byte: bool) -> Result<Unit, UnitParseError>
@@ -65,7 +59,6 @@ impl FromStr for Unit {
 /// Parses a unit from the whole string.
 ///
 /// # Errors
-///
 /// As `Unit::parse_str`.
 fn read_unit(text: &str, flags: Flags) -> Result<Unit, UnitParseError>
     ensures { unit_result result ≡ read (unit_scan flags) start (chars text.now) }

@@ -4,8 +4,7 @@ ghost use Rattle.std.specs.Prelude.{◌≡◌};
 ghost use Rattle.std.specs.Option.{option_map};
 ghost use Rattle.byte_unit_base.specs.UnitScan.{is_i};
 
-use crate::errors::UnitParseError;
-use crate::unit::Unit;
+use crate::{Unit, UnitParseError};
 
 /// A prefix letter, of a decimal or a binary prefix.
 #[derive(Clone, Copy)]
@@ -166,16 +165,11 @@ impl UnitScan {
     {
         if let Word::Empty = self.word {
             if let Some(multiple) = self.multiple.step(c) {
-                return Some(UnitScan {
-                    multiple,
-                    word: Word::Empty,
-                });
+                return Some(UnitScan { multiple, ..self });
             }
         }
-        Some(UnitScan {
-            multiple: self.multiple,
-            word: self.word.step(c)?,
-        })
+        let word = self.word.step(c)?;
+        Some(UnitScan { word, ..self })
     }
 
     /// Returns the unit of a string that ends here. Returns `None` if the suffix is incomplete: `bi`.

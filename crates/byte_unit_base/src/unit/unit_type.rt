@@ -6,13 +6,9 @@ ghost use Rattle.byte_unit_base.specs.Family.{IsOfType};
 /// The type of the prefixes that a choice may take.
 ///
 /// # Examples
-///
 /// ```rust
-/// use byte_unit::{Family, Unit, UnitType, largest_unit};
-///
 /// assert_eq!(rt; largest_unit(2000, Family::Bytes, UnitType::Binary, 8), Some(Unit::KiB));
 /// assert_eq!(rt; largest_unit(2000, Family::Bytes, UnitType::Decimal, 8), Some(Unit::KB));
-/// assert_eq!(rt; largest_unit(1000, Family::Bytes, UnitType::Binary, 8), None);
 /// ```
 #[derive(Clone, Copy, Debug, PartialEq, Eq)]
 pub enum UnitType {

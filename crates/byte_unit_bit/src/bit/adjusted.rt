@@ -25,10 +25,7 @@ mod json;
 /// A size in bits, and the unit that its text uses. Equality and order are those of the sizes, whatever the units.
 ///
 /// # Examples
-///
 /// ```rust
-/// use byte_unit::{Bit, FormatSpec, Unit};
-///
 /// let adjusted = Bit::from_u64(123_456).get_adjusted_unit(Unit::Kbit);
 /// assert_eq!(rt; adjusted.to_text(alloc, FormatSpec::PLAIN)?.as_str(), "123.456 Kb");
 /// assert_eq!(rt; adjusted, Bit::from_u64(123_456).get_adjusted_unit(Unit::Mibit));
@@ -53,10 +50,7 @@ impl AdjustedBit {
     /// Returns the size in its unit as a fraction that is not reduced: its bits over the bits of the unit.
     ///
     /// # Examples
-    ///
     /// ```rust
-    /// use byte_unit::{Bit, Unit};
-    ///
     /// let (numerator, denominator) = Bit::MEGABIT.get_adjusted_unit(Unit::Kbit).get_value();
     /// assert_eq!(rt; numerator, 1000 * denominator);
     /// assert_eq!(rt; denominator, Unit::Kbit.as_bits_u128());
@@ -74,10 +68,7 @@ impl AdjustedBit {
     /// Returns the unit.
     ///
     /// # Examples
-    ///
     /// ```rust
-    /// use byte_unit::{Bit, Unit};
-    ///
     /// assert_eq!(rt; Bit::MEGABIT.get_adjusted_unit(Unit::Kibit).get_unit(), Unit::Kibit);
     /// ```
     pub fn get_unit(&self) -> Unit
@@ -89,10 +80,7 @@ impl AdjustedBit {
     /// Returns the size, exactly.
     ///
     /// # Examples
-    ///
     /// ```rust
-    /// use byte_unit::{Bit, Unit};
-    ///
     /// assert_eq!(rt; Bit::MEGABIT.get_adjusted_unit(Unit::Kibit).get_bit(), Bit::MEGABIT);
     /// ```
     pub fn get_bit(&self) -> Bit
@@ -104,10 +92,7 @@ impl AdjustedBit {
     /// Returns the length of the text under the spec, in bytes: below 65,600. Does not allocate.
     ///
     /// # Examples
-    ///
     /// ```rust
-    /// use byte_unit::{Bit, FormatSpec, Unit};
-    ///
     /// let adjusted = Bit::from_u64(123_456).get_adjusted_unit(Unit::Kbit);
     /// assert_eq!(rt; adjusted.text_len(FormatSpec::PLAIN), "123.456 Kb".len());
     /// ```
@@ -131,15 +116,11 @@ impl AdjustedBit {
     /// Allocates at most once, before it writes, and uses at most `text_len` of the spare capacity.
     ///
     /// # Errors
-    ///
     /// `AllocError` if an allocation fails, which happens only if the spare capacity is less than `text_len`. The
     /// text and its capacity are then unchanged.
     ///
     /// # Examples
-    ///
     /// ```rust
-    /// use byte_unit::{Bit, FormatSpec, Unit};
-    ///
     /// let spec = FormatSpec { precision: Some(2), ..FormatSpec::PLAIN };
     /// let mut text = String::new(alloc);
     /// Bit::from_u64(123_456).get_adjusted_unit(Unit::Kbit).append_text(spec, &mut text)?;
@@ -162,10 +143,7 @@ impl AdjustedBit {
     /// not allocate.
     ///
     /// # Examples
-    ///
     /// ```rust
-    /// use byte_unit::{Bit, FormatSpec, Unit};
-    ///
     /// let adjusted = Bit::from_u64(123_456).get_adjusted_unit(Unit::Kbit);
     /// let mut out = [0; 16];
     /// let len = adjusted.write_text(FormatSpec::PLAIN, &mut out);
@@ -183,14 +161,10 @@ impl AdjustedBit {
     /// Returns the text of the size in its unit, as [`AdjustedBit::append_text`] appends it.
     ///
     /// # Errors
-    ///
     /// `AllocError` if an allocation fails.
     ///
     /// # Examples
-    ///
     /// ```rust
-    /// use byte_unit::{Bit, FormatSpec, Unit};
-    ///
     /// let adjusted = Bit::from_u64(1536).get_adjusted_unit(Unit::Kibit);
     /// assert_eq!(rt; adjusted.to_text(alloc, FormatSpec::PLAIN)?.as_str(), "1.5 Kib");
     /// ```
@@ -205,14 +179,10 @@ impl AdjustedBit {
     /// allocator.
     ///
     /// # Errors
-    ///
     /// `AllocError` if an allocation fails.
     ///
     /// # Examples
-    ///
     /// ```rust
-    /// use byte_unit::{Bit, FormatSpec, Unit};
-    ///
     /// let adjusted = Bit::from_u64(1536).get_adjusted_unit(Unit::Kibit);
     /// assert_eq!(rt; adjusted.to_text_in(alloc, FormatSpec::PLAIN)?.as_str(), "1.5 Kib");
     /// ```
@@ -234,10 +204,7 @@ impl Bit {
     /// Returns the size with the given unit for its text.
     ///
     /// # Examples
-    ///
     /// ```rust
-    /// use byte_unit::{Bit, FormatSpec, Unit};
-    ///
     /// let adjusted = Bit::from_u64(123_456).get_adjusted_unit(Unit::Kbit);
     /// assert_eq!(rt; adjusted.to_text(alloc, FormatSpec::PLAIN)?.as_str(), "123.456 Kb");
     /// ```
@@ -252,10 +219,7 @@ impl Bit {
     /// `Unit::Bit` if there is none.
     ///
     /// # Examples
-    ///
     /// ```rust
-    /// use byte_unit::{Bit, Unit, UnitType};
-    ///
     /// let size = Bit::from_u64(10_000);
     /// assert_eq!(rt; size.get_appropriate_unit(UnitType::Both).get_unit(), Unit::Kibit);
     /// assert_eq!(rt; size.get_appropriate_unit(UnitType::Decimal).get_unit(), Unit::Kbit);

@@ -16,10 +16,7 @@ impl Bit {
     /// Returns `None` if the size is 10^30 bits or more.
     ///
     /// # Examples
-    ///
     /// ```rust
-    /// use byte_unit::{Bit, Decimal};
-    ///
     /// let number = Decimal::from_u128_with_scale(5084, 2);
     /// assert_eq!(rt; number.and_then(Bit::from_decimal), Some(Bit::from_u64(51)));
     /// let number = Decimal::from_u128(Bit::MAX.as_u128());
@@ -36,10 +33,7 @@ impl Bit {
     /// Returns `None` if the size is 10^30 bits or more.
     ///
     /// # Examples
-    ///
     /// ```rust
-    /// use byte_unit::{Bit, Decimal, Unit};
-    ///
     /// let number = Decimal::from(3u8);
     /// assert_eq!(rt; Bit::from_decimal_with_unit(number, Unit::Kibit), Some(Bit::from_u64(3072)));
     /// let number = Decimal::from(1000u16);

@@ -21,14 +21,10 @@ impl Bit {
     /// round-trips.
     ///
     /// # Errors
-    ///
     /// `AllocError` if an allocation fails.
     ///
     /// # Examples
-    ///
     /// ```rust
-    /// use byte_unit::Bit;
-    ///
     /// let size = Bit::from_u64(15_500);
     /// let value = size.to_json(alloc)?;
     /// assert_eq!(rt; value.as_str(), Some("15.5 Kb"));
@@ -45,13 +41,10 @@ impl Bit {
     /// Parses a size from a JSON string, as `FromStr` parses its text. Does not allocate.
     ///
     /// # Errors
-    ///
     /// `NotString` if the value is not a string, `Parse` if the string is rejected.
     ///
     /// # Examples
-    ///
     /// ```rust
-    /// use byte_unit::{Bit, JsonSizeError};
     /// use serde_json::Value;
     ///
     /// let value = Value::String(String::from_str(alloc, "15.5 Kb")?);

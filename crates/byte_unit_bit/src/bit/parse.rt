@@ -17,7 +17,6 @@ impl Bit {
     /// The case of letters counts: a `b` that does not begin `bit` or `bits` means bits, a `B` bytes.
     ///
     /// # Errors
-    ///
     /// The error is the first one from the left:
     ///
     /// - `Value` with `NoValue` if the string is empty or white space;
@@ -29,10 +28,7 @@ impl Bit {
     ///   10^30 bits or more.
     ///
     /// # Examples
-    ///
     /// ```rust
-    /// use byte_unit::{Bit, ParseError, ValueParseError};
-    ///
     /// assert_eq!(rt; Bit::parse_str("50.84 Mb")?, Bit::from_u64(50_840_000));
     /// assert_eq!(rt; Bit::parse_str("9 b")?, Bit::from_u64(9));
     /// assert_eq!(rt; Bit::parse_str("9 B")?, Bit::from_u64(72));
@@ -54,10 +50,7 @@ impl Bit {
     /// If it represents a size, this is faster than making a `str` of it first.
     ///
     /// # Examples
-    ///
     /// ```rust
-    /// use byte_unit::{Bit, ParseError, ValueParseError};
-    ///
     /// let size = Bit::parse_bytes(b"1.5 Kib");
     /// assert!(rt; matches!(size, Some(Ok(size)) if size == Bit::from_u64(1536)));
     /// let result = Bit::parse_bytes(b"1.");

@@ -18,10 +18,7 @@ impl Bit {
     /// width is set. Does not allocate.
     ///
     /// # Examples
-    ///
     /// ```rust
-    /// use byte_unit::{Bit, FormatSpec};
-    ///
     /// let size = Bit::from_u64(1536);
     /// assert_eq!(rt; size.text_len(FormatSpec::ALTERNATE), "1.5 Kib".len());
     /// assert_eq!(rt; size.text_len(FormatSpec::PLAIN), "1536".len());
@@ -49,15 +46,11 @@ impl Bit {
     /// Allocates at most once, before it writes, and uses at most `text_len` of the spare capacity.
     ///
     /// # Errors
-    ///
     /// `AllocError` if an allocation fails, which happens only if the spare capacity is less than `text_len`. The
     /// text and its capacity are then unchanged.
     ///
     /// # Examples
-    ///
     /// ```rust
-    /// use byte_unit::{Bit, FormatSpec};
-    ///
     /// let mut text = String::from_str(alloc, "size: ")?;
     /// Bit::from_u64(3_211_776).append_text(FormatSpec::ALTERNATE, &mut text)?;
     /// assert_eq!(rt; text.as_str(), "size: 3136.5 Kib");
@@ -79,10 +72,7 @@ impl Bit {
     /// not allocate.
     ///
     /// # Examples
-    ///
     /// ```rust
-    /// use byte_unit::{Bit, FormatSpec};
-    ///
     /// let mut out = [0; 16];
     /// let len = Bit::from_u64(1536).write_text(FormatSpec::ALTERNATE, &mut out);
     /// assert_eq!(rt; &out[..len], b"1.5 Kib".as_slice());
@@ -100,14 +90,10 @@ impl Bit {
     /// Returns the text of the size, as [`Bit::append_text`] appends it.
     ///
     /// # Errors
-    ///
     /// `AllocError` if an allocation fails.
     ///
     /// # Examples
-    ///
     /// ```rust
-    /// use byte_unit::{Bit, FormatSpec};
-    ///
     /// let size = Bit::from_u64(1536);
     /// assert_eq!(rt; size.to_text(alloc, FormatSpec::ALTERNATE)?.as_str(), "1.5 Kib");
     /// assert_eq!(rt; size.to_text(alloc, FormatSpec::PLAIN)?.as_str(), "1536");
@@ -121,14 +107,10 @@ impl Bit {
     /// Returns the text of the size, as [`Bit::append_text`] appends it, in memory of any allocator.
     ///
     /// # Errors
-    ///
     /// `AllocError` if an allocation fails.
     ///
     /// # Examples
-    ///
     /// ```rust
-    /// use byte_unit::{Bit, FormatSpec};
-    ///
     /// let text = Bit::from_u64(1536).to_text_in(alloc, FormatSpec::ALTERNATE)?;
     /// assert_eq!(rt; text.as_str(), "1.5 Kib");
     /// ```

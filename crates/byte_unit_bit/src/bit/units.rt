@@ -21,10 +21,7 @@ impl Bit {
     /// is none, it is `Unit::Bit`.
     ///
     /// # Examples
-    ///
     /// ```rust
-    /// use byte_unit::{Bit, Unit};
-    ///
     /// assert_eq!(rt; Bit::from_u64(50_840_000).get_exact_unit(false), (50_840, Unit::Kbit));
     /// assert_eq!(rt; Bit::MEGABYTE.get_exact_unit(true), (1, Unit::MB));
     /// assert_eq!(rt; Bit::from_u64(999).get_exact_unit(false), (999, Unit::Bit));
@@ -44,10 +41,7 @@ impl Bit {
     /// the usual one.
     ///
     /// # Examples
-    ///
     /// ```rust
-    /// use byte_unit::{Bit, Decimal, Unit};
-    ///
     /// let (number, unit) = Bit::from_u64(50_840_000).get_recoverable_unit(false, 2);
     /// assert_eq!(rt; Some(number), Decimal::from_u128_with_scale(5084, 2));
     /// assert_eq!(rt; unit, Unit::Mbit);
@@ -67,10 +61,7 @@ impl Bit {
     /// the point. That is at most 119 steps; a size of zero takes none. The count saturates at its maximum.
     ///
     /// # Examples
-    ///
     /// ```rust
-    /// use byte_unit::{Bit, Steps};
-    ///
     /// let mut steps = Steps::new();
     /// Bit::from_u128_unsafe(7 << 90).get_recoverable_unit_counted(true, 27, &mut steps);
     /// assert_eq!(rt; steps.count(), 119);

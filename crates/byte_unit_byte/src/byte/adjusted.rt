@@ -24,10 +24,7 @@ mod json;
 /// A size in bytes, and the unit that its text uses. Equality and order are those of the sizes, whatever the units.
 ///
 /// # Examples
-///
 /// ```rust
-/// use byte_unit::{Byte, FormatSpec, Unit};
-///
 /// let adjusted = Byte::from_u64(123_456).get_adjusted_unit(Unit::KB);
 /// assert_eq!(rt; adjusted.to_text(alloc, FormatSpec::PLAIN)?.as_str(), "123.456 KB");
 /// assert_eq!(rt; adjusted, Byte::from_u64(123_456).get_adjusted_unit(Unit::MiB));
@@ -52,10 +49,7 @@ impl AdjustedByte {
     /// Returns the size in its unit as a fraction that is not reduced: its bits over the bits of the unit.
     ///
     /// # Examples
-    ///
     /// ```rust
-    /// use byte_unit::{Byte, Unit};
-    ///
     /// let (numerator, denominator) = Byte::MEGABYTE.get_adjusted_unit(Unit::KB).get_value();
     /// assert_eq!(rt; numerator, 1000 * denominator);
     /// assert_eq!(rt; denominator, Unit::KB.as_bits_u128());
@@ -73,10 +67,7 @@ impl AdjustedByte {
     /// Returns the unit.
     ///
     /// # Examples
-    ///
     /// ```rust
-    /// use byte_unit::{Byte, Unit};
-    ///
     /// assert_eq!(rt; Byte::MEGABYTE.get_adjusted_unit(Unit::KiB).get_unit(), Unit::KiB);
     /// ```
     pub fn get_unit(&self) -> Unit
@@ -88,10 +79,7 @@ impl AdjustedByte {
     /// Returns the size, exactly.
     ///
     /// # Examples
-    ///
     /// ```rust
-    /// use byte_unit::{Byte, Unit};
-    ///
     /// assert_eq!(rt; Byte::MEGABYTE.get_adjusted_unit(Unit::KiB).get_byte(), Byte::MEGABYTE);
     /// ```
     pub fn get_byte(&self) -> Byte
@@ -103,10 +91,7 @@ impl AdjustedByte {
     /// Returns the length of the text under the spec, in bytes: below 65,600. Does not allocate.
     ///
     /// # Examples
-    ///
     /// ```rust
-    /// use byte_unit::{Byte, FormatSpec, Unit};
-    ///
     /// let adjusted = Byte::from_u64(123_456).get_adjusted_unit(Unit::KB);
     /// assert_eq!(rt; adjusted.text_len(FormatSpec::PLAIN), "123.456 KB".len());
     /// ```
@@ -130,15 +115,11 @@ impl AdjustedByte {
     /// Allocates at most once, before it writes, and uses at most `text_len` of the spare capacity.
     ///
     /// # Errors
-    ///
     /// `AllocError` if an allocation fails, which happens only if the spare capacity is less than `text_len`. The
     /// text and its capacity are then unchanged.
     ///
     /// # Examples
-    ///
     /// ```rust
-    /// use byte_unit::{Byte, FormatSpec, Unit};
-    ///
     /// let spec = FormatSpec { precision: Some(2), ..FormatSpec::PLAIN };
     /// let mut text = String::new(alloc);
     /// Byte::from_u64(123_456).get_adjusted_unit(Unit::KB).append_text(spec, &mut text)?;
@@ -161,10 +142,7 @@ impl AdjustedByte {
     /// not allocate.
     ///
     /// # Examples
-    ///
     /// ```rust
-    /// use byte_unit::{Byte, FormatSpec, Unit};
-    ///
     /// let adjusted = Byte::from_u64(123_456).get_adjusted_unit(Unit::KB);
     /// let mut out = [0; 16];
     /// let len = adjusted.write_text(FormatSpec::PLAIN, &mut out);
@@ -182,14 +160,10 @@ impl AdjustedByte {
     /// Returns the text of the size in its unit, as [`AdjustedByte::append_text`] appends it.
     ///
     /// # Errors
-    ///
     /// `AllocError` if an allocation fails.
     ///
     /// # Examples
-    ///
     /// ```rust
-    /// use byte_unit::{Byte, FormatSpec, Unit};
-    ///
     /// let adjusted = Byte::from_u64(1536).get_adjusted_unit(Unit::KiB);
     /// assert_eq!(rt; adjusted.to_text(alloc, FormatSpec::PLAIN)?.as_str(), "1.5 KiB");
     /// ```
@@ -204,14 +178,10 @@ impl AdjustedByte {
     /// allocator.
     ///
     /// # Errors
-    ///
     /// `AllocError` if an allocation fails.
     ///
     /// # Examples
-    ///
     /// ```rust
-    /// use byte_unit::{Byte, FormatSpec, Unit};
-    ///
     /// let adjusted = Byte::from_u64(1536).get_adjusted_unit(Unit::KiB);
     /// assert_eq!(rt; adjusted.to_text_in(alloc, FormatSpec::PLAIN)?.as_str(), "1.5 KiB");
     /// ```
@@ -233,10 +203,7 @@ impl Byte {
     /// Returns the size with the given unit for its text.
     ///
     /// # Examples
-    ///
     /// ```rust
-    /// use byte_unit::{Byte, FormatSpec, Unit};
-    ///
     /// let adjusted = Byte::from_u64(123_456).get_adjusted_unit(Unit::KB);
     /// assert_eq!(rt; adjusted.to_text(alloc, FormatSpec::PLAIN)?.as_str(), "123.456 KB");
     /// ```
@@ -251,10 +218,7 @@ impl Byte {
     /// `Unit::B` if there is none.
     ///
     /// # Examples
-    ///
     /// ```rust
-    /// use byte_unit::{Byte, Unit, UnitType};
-    ///
     /// let size = Byte::from_u64(10_000);
     /// assert_eq!(rt; size.get_appropriate_unit(UnitType::Both).get_unit(), Unit::KiB);
     /// assert_eq!(rt; size.get_appropriate_unit(UnitType::Decimal).get_unit(), Unit::KB);

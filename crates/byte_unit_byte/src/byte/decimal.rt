@@ -15,10 +15,7 @@ impl Byte {
     /// Returns `None` if the size is 10^30 bytes or more.
     ///
     /// # Examples
-    ///
     /// ```rust
-    /// use byte_unit::{Byte, Decimal};
-    ///
     /// let number = Decimal::from_u128_with_scale(5084, 2);
     /// assert_eq!(rt; number.and_then(Byte::from_decimal), Some(Byte::from_u64(51)));
     /// let number = Decimal::from_u128(Byte::MAX.as_u128());
@@ -35,10 +32,7 @@ impl Byte {
     /// Returns `None` if the size is 10^30 bytes or more.
     ///
     /// # Examples
-    ///
     /// ```rust
-    /// use byte_unit::{Byte, Decimal, Unit};
-    ///
     /// let number = Decimal::from(3u8);
     /// assert_eq!(rt; Byte::from_decimal_with_unit(number, Unit::KiB), Some(Byte::from_u64(3072)));
     /// let number = Decimal::from(1000u16);

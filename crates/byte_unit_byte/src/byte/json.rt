@@ -20,14 +20,10 @@ impl Byte {
     /// round-trips.
     ///
     /// # Errors
-    ///
     /// `AllocError` if an allocation fails.
     ///
     /// # Examples
-    ///
     /// ```rust
-    /// use byte_unit::Byte;
-    ///
     /// let size = Byte::from_u64(15_500);
     /// let value = size.to_json(alloc)?;
     /// assert_eq!(rt; value.as_str(), Some("15.5 KB"));
@@ -44,13 +40,10 @@ impl Byte {
     /// Parses a size from a JSON string, as `FromStr` parses its text. Does not allocate.
     ///
     /// # Errors
-    ///
     /// `NotString` if the value is not a string, `Parse` if the string is rejected.
     ///
     /// # Examples
-    ///
     /// ```rust
-    /// use byte_unit::{Byte, JsonSizeError};
     /// use serde_json::Value;
     ///
     /// let value = Value::String(String::from_str(alloc, "15.5 KB")?);

@@ -15,7 +15,6 @@ impl Byte {
     /// With `ignore_case` a `b` that does not begin `bit` or `bits` means bytes, otherwise bits.
     ///
     /// # Errors
-    ///
     /// The error is the first one from the left:
     ///
     /// - `Value` with `NoValue` if the string is empty or white space;
@@ -27,10 +26,7 @@ impl Byte {
     ///   10^30 bytes or more.
     ///
     /// # Examples
-    ///
     /// ```rust
-    /// use byte_unit::{Byte, ParseError, ValueParseError};
-    ///
     /// assert_eq!(rt; Byte::parse_str("50.84 MB", false)?, Byte::from_u64(50_840_000));
     /// assert_eq!(rt; Byte::parse_str("9 b", true)?, Byte::from_u64(9));
     /// assert_eq!(rt; Byte::parse_str("9 b", false)?, Byte::from_u64(2));
@@ -52,10 +48,7 @@ impl Byte {
     /// If it represents a size, this is faster than making a `str` of it first.
     ///
     /// # Examples
-    ///
     /// ```rust
-    /// use byte_unit::{Byte, ParseError, ValueParseError};
-    ///
     /// let size = Byte::parse_bytes(b"1.5 KiB", false);
     /// assert!(rt; matches!(size, Some(Ok(size)) if size == Byte::from_u64(1536)));
     /// let result = Byte::parse_bytes(b"1.", false);

@@ -17,10 +17,7 @@ impl Byte {
     /// width is set. Does not allocate.
     ///
     /// # Examples
-    ///
     /// ```rust
-    /// use byte_unit::{Byte, FormatSpec};
-    ///
     /// let size = Byte::from_u64(1536);
     /// assert_eq!(rt; size.text_len(FormatSpec::ALTERNATE), "1.5 KiB".len());
     /// assert_eq!(rt; size.text_len(FormatSpec::PLAIN), "1536".len());
@@ -48,15 +45,11 @@ impl Byte {
     /// Allocates at most once, before it writes, and uses at most `text_len` of the spare capacity.
     ///
     /// # Errors
-    ///
     /// `AllocError` if an allocation fails, which happens only if the spare capacity is less than `text_len`. The
     /// text and its capacity are then unchanged.
     ///
     /// # Examples
-    ///
     /// ```rust
-    /// use byte_unit::{Byte, FormatSpec};
-    ///
     /// let mut text = String::from_str(alloc, "size: ")?;
     /// Byte::from_u64(3_211_776).append_text(FormatSpec::ALTERNATE, &mut text)?;
     /// assert_eq!(rt; text.as_str(), "size: 3136.5 KiB");
@@ -78,10 +71,7 @@ impl Byte {
     /// not allocate.
     ///
     /// # Examples
-    ///
     /// ```rust
-    /// use byte_unit::{Byte, FormatSpec};
-    ///
     /// let mut out = [0; 16];
     /// let len = Byte::from_u64(1536).write_text(FormatSpec::ALTERNATE, &mut out);
     /// assert_eq!(rt; &out[..len], b"1.5 KiB".as_slice());
@@ -99,14 +89,10 @@ impl Byte {
     /// Returns the text of the size, as [`Byte::append_text`] appends it.
     ///
     /// # Errors
-    ///
     /// `AllocError` if an allocation fails.
     ///
     /// # Examples
-    ///
     /// ```rust
-    /// use byte_unit::{Byte, FormatSpec};
-    ///
     /// let size = Byte::from_u64(1536);
     /// assert_eq!(rt; size.to_text(alloc, FormatSpec::ALTERNATE)?.as_str(), "1.5 KiB");
     /// assert_eq!(rt; size.to_text(alloc, FormatSpec::PLAIN)?.as_str(), "1536");
@@ -120,14 +106,10 @@ impl Byte {
     /// Returns the text of the size, as [`Byte::append_text`] appends it, in memory of any allocator.
     ///
     /// # Errors
-    ///
     /// `AllocError` if an allocation fails.
     ///
     /// # Examples
-    ///
     /// ```rust
-    /// use byte_unit::{Byte, FormatSpec};
-    ///
     /// let text = Byte::from_u64(1536).to_text_in(alloc, FormatSpec::ALTERNATE)?;
     /// assert_eq!(rt; text.as_str(), "1.5 KiB");
     /// ```

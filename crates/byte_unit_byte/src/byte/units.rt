@@ -20,10 +20,7 @@ impl Byte {
     /// is none, it is `Unit::B`.
     ///
     /// # Examples
-    ///
     /// ```rust
-    /// use byte_unit::{Byte, Unit};
-    ///
     /// assert_eq!(rt; Byte::from_u64(50_840_000).get_exact_unit(false), (50_840, Unit::KB));
     /// assert_eq!(rt; Byte::MEGABIT.get_exact_unit(true), (1, Unit::Mbit));
     /// assert_eq!(rt; Byte::from_u64(999).get_exact_unit(false), (999, Unit::B));
@@ -43,10 +40,7 @@ impl Byte {
     /// the usual one.
     ///
     /// # Examples
-    ///
     /// ```rust
-    /// use byte_unit::{Byte, Decimal, Unit};
-    ///
     /// let (number, unit) = Byte::from_u64(50_840_000).get_recoverable_unit(false, 2);
     /// assert_eq!(rt; Some(number), Decimal::from_u128_with_scale(5084, 2));
     /// assert_eq!(rt; unit, Unit::MB);
@@ -66,10 +60,7 @@ impl Byte {
     /// the point. That is at most 116 steps; a size of zero takes none. The count saturates at its maximum.
     ///
     /// # Examples
-    ///
     /// ```rust
-    /// use byte_unit::{Byte, Steps};
-    ///
     /// let mut steps = Steps::new();
     /// Byte::from_u128_unsafe(7 << 87).get_recoverable_unit_counted(true, 27, &mut steps);
     /// assert_eq!(rt; steps.count(), 116);

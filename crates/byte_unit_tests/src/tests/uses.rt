@@ -6,8 +6,10 @@ use byte_unit::{
 };
 use byte_unit_uses::adjusted::{in_unit, parse_adjusted, parse_unit};
 use byte_unit_uses::capped::{LimitError, limit_at_most, max_exceeded, read_limit};
+use byte_unit_uses::defaults::default_limits;
 use byte_unit_uses::entry::{Entry, add, filter_below};
 use byte_unit_uses::limit::{limit, limit_ok, limit_or, rate, unwrap_limit_or};
+use byte_unit_uses::literal::{adjusted_unit, spaces, unit};
 use byte_unit_uses::message::parse_argument;
 use byte_unit_uses::quota::{QuotaError, left, share};
 use byte_unit_uses::settings::{Settings, SettingsError, read_settings};
@@ -38,6 +40,17 @@ fn limits_from_strings(rt: HostRuntime) {
         unwrap_limit_or(limit("1 x"), Byte::KIBIBYTE),
         Byte::KIBIBYTE,
     );
+}
+
+#[test]
+fn literals(rt: HostRuntime) -> Result<(), serde_json::Error> {
+    assert_is(&rt, spaces(), Byte::from_u64(1_500_000_000));
+    assert_is(&rt, unit(), Unit::Kibit);
+    assert_is(&rt, adjusted_unit().get_unit(), Unit::Mibit);
+    let limits = default_limits(rt.alloc())?;
+    assert_is(&rt, limits.cache, Byte::from_u64(67_108_864));
+    assert_is(&rt, limits.upload, Byte::from_u64(20_000_000));
+    Ok(())
 }
 
 #[test]

@@ -1,8 +1,10 @@
+-- The first row that passes the test is the largest unit in which the size is exact; the number times the unit is the
+-- size; if no row passes, no unit of the set is such. The steps are those of `factors_of` and one for each place.
 use Rattle.std.proofs.Common.{◌≡◌, ◌*◌, ◌^◌, ℕ, IfSome, get_or, min, arith, refl, ap, subst, sym, ◌∙◌}
 use Rattle.byte_unit_math.specs.Bounds.{scale, places_of_decimal, whole_limit}
 use Rattle.byte_unit_math.specs.Exact.{IsLeastPlaces, IsQuotient}
 use Rattle.byte_unit_math.specs.Steps.{saturating_add}
-use Rattle.byte_unit_base.specs.Choice.{IsChosen, IsChosenIn}
+use Rattle.byte_unit_base.specs.Choice.{IsChosen}
 use Rattle.byte_unit_base.proofs.Choosing.{some_if_holds, some_bits}
 use Rattle.byte_unit_base.proofs.FewSteps.{few_of_choice, few_of_none}
 use Rattle.byte_unit_base.proofs.Quotients.{places_of_quotient, quotient_of_product, whole_takes_none}

@@ -1,3 +1,5 @@
+-- The first row of the type that is not above the size is the largest such unit: the rows before it fail, and the
+-- units that no row has are above the size.
 use Rattle.std.proofs.Common.{◌*◌, arith, subst, sym}
 use Rattle.byte_unit_base.specs.Choice.{IsEligibleUnit}
 use Rattle.byte_unit_base.specs.Family.{IsOfType}

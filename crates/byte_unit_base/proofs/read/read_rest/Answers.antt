@@ -1,3 +1,5 @@
+-- Each character takes the machine one step further in the definition `read`; at an error and at the end its result
+-- is that of `read`.
 use Rattle.std.proofs.Common.{Err, sym, ap, ◌∙◌, arith}
 use Rattle.std.proofs.lemmas.Iterator.{YieldsList-from_chars}
 use Rattle.std.proofs.lemmas.Iterator.Consumers.{YieldsList-turn, YieldsList-end}

@@ -1,3 +1,4 @@
+-- What the fast path returns is a reading of the string.
 use Rattle.std.proofs.Common.{List, ℕ, subst}
 use Rattle.byte_unit_base.specs.Version.{current}
 use Rattle.byte_unit_base.specs.Spelling.{flags_of}

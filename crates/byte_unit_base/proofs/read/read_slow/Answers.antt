@@ -1,3 +1,4 @@
+-- The digits lead to a state from which the rest is read; together that is the reading of the whole trimmed string.
 use Rattle.std.proofs.Common.{List, ℕ, ap, subst, ◌∙◌}
 use Rattle.std.specs.Str.{chars}
 use Rattle.byte_unit_base.specs.Scan.{read}

@@ -1,3 +1,4 @@
+-- At precision 0 the chosen number is whole, so its whole part times the unit is the size.
 use Rattle.std.proofs.Common.{◌*◌, ap, ◌∙◌}
 use Rattle.byte_unit_base.specs.Shape.{bits}
 use Rattle.byte_unit_base.specs.Units.{shape_of}

@@ -1,3 +1,4 @@
+-- If no unit is chosen, the number is the size itself, in `B` or `Bit`, and no step is counted for its places.
 use Rattle.std.proofs.Common.{◌≡◌, ◌*◌, arith}
 use Rattle.byte_unit_math.specs.Bounds.{scale}
 use Rattle.byte_unit_base.specs.Units.{shape_of}

@@ -1,3 +1,5 @@
+-- The bits, rounded up to the kind, are the least size that holds the number; it is below the limit if and only if
+-- the bits are.
 use Rattle.std.proofs.Common.{arith, rules}
 use Rattle.byte_unit_base.proofs.Rounding.{least_holding, least_above, least_below}
 use Rattle.byte_unit_base.specs.Version.{current}

@@ -1,3 +1,4 @@
+-- The reading of a size from that of its number and unit, and its error from that of the slow path.
 use Rattle.std.proofs.Common.{subst, Ok, Err}
 use Rattle.std.proofs.lemmas.Result.{err_from_is_err_and}
 use Rattle.byte_unit_base.specs.Readings.{IsNumberReading}

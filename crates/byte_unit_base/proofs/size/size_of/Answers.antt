@@ -1,3 +1,5 @@
+-- A number and a unit whose size is below the limit are accepted as it; if the size is too large, the error is
+-- `ExceededBounds`.
 use Rattle.std.proofs.Common.{ℕ}
 use Rattle.byte_unit_base.specs.Kinds.{flags_for}
 use Rattle.byte_unit_base.specs.Units.{shape_of}

@@ -25,14 +25,10 @@ impl AdjustedBit {
     /// Otherwise [`AdjustedBit::from_json`] rejects it.
     ///
     /// # Errors
-    ///
     /// `AllocError` if an allocation fails.
     ///
     /// # Examples
-    ///
     /// ```rust
-    /// use byte_unit::{AdjustedBit, Bit, Unit};
-    ///
     /// let adjusted = Bit::from_u64(4).get_adjusted_unit(Unit::Gibit);
     /// let value = adjusted.to_json(alloc)?;
     /// assert_eq!(rt; value.as_str(), Some("0.0000000037252902984619140625 Gib"));
@@ -55,13 +51,10 @@ impl AdjustedBit {
     /// Parses an adjusted size from a JSON string, as `FromStr` parses its text. Does not allocate.
     ///
     /// # Errors
-    ///
     /// `NotString` if the value is not a string, `Parse` if the string is rejected.
     ///
     /// # Examples
-    ///
     /// ```rust
-    /// use byte_unit::{AdjustedBit, Bit, JsonSizeError, Unit};
     /// use serde_json::Value;
     ///
     /// let value = Value::String(String::from_str(alloc, "15.5 Kb")?);

@@ -24,14 +24,10 @@ impl AdjustedByte {
     /// Otherwise [`AdjustedByte::from_json`] rejects it.
     ///
     /// # Errors
-    ///
     /// `AllocError` if an allocation fails.
     ///
     /// # Examples
-    ///
     /// ```rust
-    /// use byte_unit::{AdjustedByte, Byte, Unit};
-    ///
     /// let adjusted = Byte::from_u64(4).get_adjusted_unit(Unit::GiB);
     /// let value = adjusted.to_json(alloc)?;
     /// assert_eq!(rt; value.as_str(), Some("0.0000000037252902984619140625 GiB"));
@@ -54,13 +50,10 @@ impl AdjustedByte {
     /// Parses an adjusted size from a JSON string, as `FromStr` parses its text. Does not allocate.
     ///
     /// # Errors
-    ///
     /// `NotString` if the value is not a string, `Parse` if the string is rejected.
     ///
     /// # Examples
-    ///
     /// ```rust
-    /// use byte_unit::{AdjustedByte, Byte, JsonSizeError, Unit};
     /// use serde_json::Value;
     ///
     /// let value = Value::String(String::from_str(alloc, "15.5 KB")?);

@@ -1,3 +1,4 @@
+-- The layout of the rounded number is the adjusted text, so it has its length.
 use Rattle.std.proofs.Common.{sym, ◌∙◌}
 use Rattle.byte_unit_base.specs.Units.{shape_of}
 use Rattle.byte_unit_format.proofs.AdjustedForms.{IsShown, adjusted_form_length}

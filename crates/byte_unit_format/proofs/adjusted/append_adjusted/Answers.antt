@@ -1,3 +1,4 @@
+-- The layout of the rounded number is the adjusted text.
 use Rattle.byte_unit_base.specs.Version.{current}
 use Rattle.byte_unit_base.specs.Units.{shape_of}
 use Rattle.byte_unit_format.specs.Layout.{layout_of_in}

@@ -1,3 +1,4 @@
+-- The number, a space and the name are written, one after the other, both for a plain and for a styled formatter.
 use Rattle.std.proofs.Common.{◌++◌, ◌*◌, refl, ap, ◌∙◌}
 use Rattle.std.specs.Prelude.{codes}
 use Rattle.std.proofs.Output.{has_written_append, has_written_of_eq, has_written_styled_append}

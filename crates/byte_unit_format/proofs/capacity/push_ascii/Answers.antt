@@ -1,3 +1,4 @@
+-- ASCII is UTF-8.
 use Rattle.std.proofs.lemmas.Str.{IsUtf8-from_ascii}
 use Rattle.byte_unit_format.proofs.capacity.push_ascii.Goals as goal
 

@@ -1,3 +1,4 @@
+-- Each iteration appends a part of the run of at most 64 bytes.
 use Rattle.std.proofs.Common.{List, ℕ, arith, refl, replicate}
 use Rattle.std.specs.String.{string_bytes}
 use Rattle.byte_unit_format.proofs.WrittenDigits.{IsRunPart, run_part_ascii, run_more, length_of_run_part}

@@ -1,3 +1,4 @@
+-- The bytes that are no longer left have been appended, and the capacity for those that are left is there.
 use Rattle.std.proofs.Common.{◌≡◌, ◌+◌, ◌-◌, ◌≤◌, ◌++◌, replicate}
 use Rattle.std.specs.String.{string_bytes}
 use Rattle.byte_unit_format.specs.Room.{spare_capacity}

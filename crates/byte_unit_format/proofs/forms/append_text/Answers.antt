@@ -1,3 +1,4 @@
+-- The parts of the text are a text of the size, and a size has only one, so the length is known.
 use Rattle.byte_unit_format.specs.Forms.{IsText}
 use Rattle.byte_unit_format.specs.TextParts.{parts_text}
 use Rattle.byte_unit_format.proofs.Appending.{appends_form}

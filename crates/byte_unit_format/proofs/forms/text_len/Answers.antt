@@ -1,3 +1,4 @@
+-- The length is that of the parts, and a size has one text. Without a width it is at most 37 bytes.
 use Rattle.std.proofs.Common.{arith, sym, ◌∙◌}
 use Rattle.byte_unit_format.specs.TextParts.{parts_text}
 use Rattle.byte_unit_format.proofs.WrittenForms.{text_length_unique}

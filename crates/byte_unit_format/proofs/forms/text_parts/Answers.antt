@@ -1,3 +1,4 @@
+-- The chosen unit and the number in it are the form with a unit; its parts are laid out as the spec says.
 use Rattle.std.proofs.Common.{◌≡◌, true, rules, sym, subst}
 use Rattle.byte_unit_format.specs.Forms.{IsSizeForm, places_of}
 use Rattle.byte_unit_format.proofs.WrittenForms.{AreParts, size_form_is_text, size_form_of_parts}

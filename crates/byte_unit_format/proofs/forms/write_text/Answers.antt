@@ -1,3 +1,4 @@
+-- The parts of the text are a text of the size. Without a width it has at most 37 bytes.
 use Rattle.std.proofs.Common.{arith}
 use Rattle.byte_unit_format.specs.TextParts.{parts_text}
 use Rattle.byte_unit_format.proofs.TextParts.{writes_form}

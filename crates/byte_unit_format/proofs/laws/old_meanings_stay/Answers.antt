@@ -1,3 +1,4 @@
+-- Each clause of the law is a lemma.
 use Rattle.byte_unit_format.proofs.LaterVersion.{accepted_stays, forms_stay, appropriate_stays, adjusted_forms_stay}
 use Rattle.byte_unit_format.proofs.laws.old_meanings_stay.Goals as goal
 

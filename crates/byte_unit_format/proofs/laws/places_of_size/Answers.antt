@@ -1,3 +1,4 @@
+-- The law of numbers, for a size in bits and a unit.
 use Rattle.std.proofs.Common.{◌*◌}
 use Rattle.byte_unit_math.proofs.Powers.{places_by_powers, zero_takes_no_places}
 use Rattle.byte_unit_base.specs.Shape.{bits, twos, fives}

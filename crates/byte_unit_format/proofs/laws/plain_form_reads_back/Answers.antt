@@ -1,3 +1,4 @@
+-- The law is the statement of a lemma.
 use Rattle.byte_unit_format.proofs.ReadBack.{plain_form_reads_back}
 use Rattle.byte_unit_format.proofs.laws.plain_form_reads_back.Goals as goal
 

@@ -1,3 +1,4 @@
+-- The law of all layouts, for the spec `ALTERNATE`.
 use Rattle.std.proofs.Common.{false}
 use Rattle.byte_unit_format.specs.declared.spec.TheConstants.FormatSpec.{ALTERNATE}
 use Rattle.byte_unit_format.proofs.ReadBack.{size_form_reads_back}

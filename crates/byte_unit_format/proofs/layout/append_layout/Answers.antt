@@ -1,3 +1,4 @@
+-- The parts are the layout of the number, its digits after the point padded with zeros to the places.
 use Rattle.std.proofs.Common.{◌++◌, ◌∙◌, ap}
 use Rattle.std.specs.Fmt.{decimal}
 use Rattle.byte_unit_math.specs.Numeral.{fraction_text}

@@ -1,3 +1,4 @@
+-- The columns of number, spaces and name are counted, and what they lack of the width is the padding.
 use Rattle.std.proofs.Common.{◌≡◌, ◌+◌, ◌++◌, ◌∙◌, ℕ, length, length-append, arith, ap, rules}
 use Rattle.std.specs.Fmt.{decimal}
 use Rattle.byte_unit_format.specs.Layout.{layout, layout_left_padding, gap_of}

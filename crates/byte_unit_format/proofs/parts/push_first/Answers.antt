@@ -1,3 +1,4 @@
+-- The point, the digits that are shown and the zeros after them are appended, one after the other.
 use Rattle.std.proofs.Common.{◌≡◌, arith, min, length}
 use Rattle.std.specs.String.{string_bytes}
 use Rattle.byte_unit_format.proofs.WrittenDigits.{AreShown, AddsFraction, shown_digits_ascii, fraction_added}

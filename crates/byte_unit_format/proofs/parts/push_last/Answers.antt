@@ -1,3 +1,4 @@
+-- The point and the digits fit the array, and are ASCII.
 use Rattle.std.proofs.Common.{arith}
 use Rattle.byte_unit_math.specs.Digits.{last_digits}
 use Rattle.byte_unit_math.specs.Numeral.{fraction_text}

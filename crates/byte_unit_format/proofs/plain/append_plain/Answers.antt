@@ -1,3 +1,4 @@
+-- The parts are the digits of the size, with sign and padding.
 use Rattle.byte_unit_format.proofs.Appending.{appends_same}
 use Rattle.byte_unit_format.proofs.plain.append_plain.Goals as goal
 

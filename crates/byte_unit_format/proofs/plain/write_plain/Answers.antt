@@ -1,3 +1,4 @@
+-- The parts are the digits of the size, with sign and padding.
 use Rattle.byte_unit_format.specs.TextParts.{parts_text}
 use Rattle.byte_unit_format.proofs.TextParts.{writes_form}
 use Rattle.byte_unit_format.proofs.plain.write_plain.Goals as goal

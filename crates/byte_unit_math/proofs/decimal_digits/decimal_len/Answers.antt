@@ -1,3 +1,4 @@
+-- The number of binary digits leaves two possible lengths, and a power of ten decides between them.
 use Rattle.std.proofs.Common.{◌<◌, ◌≤◌, arith, refl, subst, sym}
 use Rattle.byte_unit_math.proofs.WrittenDigits.{decimal_length_one}
 use Rattle.byte_unit_math.proofs.BinaryDigits.{LengthBy-leading_zeros}

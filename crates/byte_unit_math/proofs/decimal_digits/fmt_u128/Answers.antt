@@ -1,3 +1,4 @@
+-- Digits are ASCII, so they are UTF-8.
 use Rattle.std.proofs.Common.{sym, subst}
 use Rattle.std.specs.Str.{IsAscii}
 use Rattle.byte_unit_math.proofs.WrittenDigits.{ascii_is_ok}

@@ -1,3 +1,4 @@
+-- The row of the table has the two digits of the number.
 use Rattle.std.proofs.Common.{◌≡◌, ◌+◌, ◌-◌, ◌/◌, ◌%◌, ◌++◌, ◌∙◌, ap, arith, drop}
 use Rattle.byte_unit_math.specs.Digits.{last_digits}
 use Rattle.byte_unit_math.specs.Numeral.{glyphs}

@@ -1,3 +1,4 @@
+-- The digits are written as those of 10^places + digits, whose first one is then replaced by the point.
 use Rattle.std.proofs.Common.{ℕ, subst, sym, ◌+◌, ◌<◌, ◌≤◌, ◌^◌, ◌++◌, ◌∙◌, arith, ap, drop, length}
 use Rattle.std.proofs.Math.Nat.{pow-le-pow_right}
 use Rattle.std.specs.Fmt.{decimal}

@@ -1,3 +1,4 @@
+-- Digits are ASCII.
 use Rattle.std.proofs.Common.{arith}
 use Rattle.std.proofs.lemmas.Fmt.{IsAscii-decimal_wide}
 use Rattle.byte_unit_math.proofs.decimal_digits.put_u128.Goals as goal

@@ -1,3 +1,4 @@
+-- Each iteration writes the last 18 digits, as those of 10^18 + rest without their first one.
 use Rattle.std.proofs.Common.{◌+◌, ◌/◌, ◌%◌, ◌^◌, ◌≤◌, ◌++◌, ◌∙◌, ap, arith, length, drop}
 use Rattle.std.specs.Fmt.{decimal}
 use Rattle.std.proofs.lemmas.Nat.{mod_below}

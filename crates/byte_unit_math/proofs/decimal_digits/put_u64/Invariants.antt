@@ -1,3 +1,4 @@
+-- The last digits of n, those that `rest` does not have, are written from `start` to `end`.
 use Rattle.byte_unit_math.proofs.WrittenDigits.{IsWritten}
 use Rattle.byte_unit_math.proofs.decimal_digits.put_u64.Given as goal
 

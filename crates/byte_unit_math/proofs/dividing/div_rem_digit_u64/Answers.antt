@@ -1,3 +1,5 @@
+-- The digit is the sum of the multiples 8, 4, 2 and 1 of the divisor that were subtracted, and what is left is below
+-- the divisor.
 use Rattle.std.proofs.Common.{◌≡◌, ◌+◌, ◌*◌, ◌/◌, ◌%◌, arith, ap, sym, ◌∙◌}
 use Rattle.std.proofs.lemmas.Nat.{div-mul-add, mod-mul-add}
 use Rattle.byte_unit_math.proofs.dividing.div_rem_digit_u64.Goals as goal

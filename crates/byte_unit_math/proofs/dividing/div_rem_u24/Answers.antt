@@ -1,3 +1,4 @@
+-- Long division in base 2^40 gives the quotient and the remainder.
 use Rattle.std.proofs.Common.{refl}
 use Rattle.byte_unit_math.proofs.Estimates.{long_division}
 use Rattle.byte_unit_math.proofs.dividing.div_rem_u24.Goals as goal

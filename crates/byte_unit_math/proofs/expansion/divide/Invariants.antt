@@ -1,3 +1,4 @@
+-- The digits so far and the remainder are those of the long division.
 use Rattle.std.proofs.Common.{◌-◌, ◌+◌, ◌*◌}
 use Rattle.byte_unit_math.specs.Bounds.{expansion_places}
 use Rattle.byte_unit_math.proofs.Expanding.{IsDividing}

@@ -1,3 +1,4 @@
+-- The digits are ASCII; the point is written, and then the digits.
 use Rattle.std.proofs.Common.{rules, ◌≡◌, ◌<◌, ◌∷◌, length, take, arith, refl, ap, sym, ◌∙◌}
 use Rattle.std.proofs.Output.{has_written_styled_append, has_written_styled_of_eq}
 use Rattle.std.proofs.lemmas.Grind.{common_steps}

@@ -1,3 +1,4 @@
+-- At the start the array has 93 zeros in ASCII.
 use Rattle.std.proofs.Common.{◌<◌, arith, refl, replicate}
 use Rattle.std.proofs.lemmas.List.Elements.{All-replicate}
 use Rattle.std.proofs.lemmas.Str.Ascii.{IsAscii-from_all}

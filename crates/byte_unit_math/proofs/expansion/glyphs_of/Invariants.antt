@@ -1,3 +1,4 @@
+-- The first i bytes are the first i digits in ASCII.
 use Rattle.std.proofs.Common.{◌≡◌, take, length}
 use Rattle.std.specs.Str.{IsAscii}
 use Rattle.byte_unit_math.specs.Numeral.{glyphs}

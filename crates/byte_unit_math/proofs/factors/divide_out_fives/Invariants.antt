@@ -1,3 +1,4 @@
+-- What is left, times five to the count, is the number.
 use Rattle.byte_unit_math.proofs.TwosFives.{FivesOff}
 use Rattle.byte_unit_math.proofs.factors.divide_out_fives.Given as goal
 

@@ -1,3 +1,4 @@
+-- What is left, times the powers of 2 and 5 found, is the size.
 use Rattle.byte_unit_math.proofs.TwosFives.{FivesOff}
 use Rattle.byte_unit_math.proofs.factors.factors_of.Given as goal
 

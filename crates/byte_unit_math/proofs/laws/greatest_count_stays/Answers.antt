@@ -1,3 +1,4 @@
+-- The minimum of `max_count` and `max_count + steps` is `max_count`.
 use Rattle.std.proofs.Math.Nat.{le_antisymm, le_refl, le-max_left, max-le, min-le_right}
 use Rattle.std.specs.Prelude.{◌+◌, min}
 use Rattle.byte_unit_math.specs.Steps.{max_count}

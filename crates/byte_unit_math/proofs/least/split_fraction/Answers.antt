@@ -1,3 +1,4 @@
+-- The fraction scaled by 10^28 is below 10^28, so its halves of 14 digits fit 64 bits and nothing overflows.
 use Rattle.std.proofs.Common.{◌*◌, ap, arith, ◌∙◌, refl}
 use Rattle.byte_unit_math.proofs.Division.{fraction_below_one}
 use Rattle.byte_unit_math.proofs.RoundedUp.{InFirstHalf-places}

@@ -1,3 +1,4 @@
+-- Each row of the table is ten times the row before it.
 use Rattle.std.proofs.Common.{◌∙◌, arith}
 use Rattle.byte_unit_math.proofs.Scales.{powers_of_ten_at}
 use Rattle.byte_unit_math.proofs.tens.power_of_ten.Goals as goal

@@ -1,3 +1,5 @@
+-- `ExceededBounds` writes three parts, one after the other: the words before the number, the number, and the words
+-- after it.
 use Rattle.std.proofs.Common.{refl}
 use Rattle.std.proofs.Output.{has_written_styled_append}
 use Rattle.byte_unit_base.proofs.errors.ValueParseErrorDisplay.fmt.Goals as goal

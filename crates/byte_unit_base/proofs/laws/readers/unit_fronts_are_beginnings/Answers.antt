@@ -1,3 +1,4 @@
+-- The law is the statement of a lemma.
 use Rattle.byte_unit_base.proofs.UnitReads.{unit_fronts_are_beginnings}
 use Rattle.byte_unit_base.proofs.laws.readers.unit_fronts_are_beginnings.Goals as goal
 

@@ -1,3 +1,4 @@
+-- The law is the statement of a lemma.
 use Rattle.byte_unit_base.proofs.SizeOrFault.{one_of_three}
 use Rattle.byte_unit_base.proofs.laws.sizes.each_text_is_one_of_three.Goals as goal
 

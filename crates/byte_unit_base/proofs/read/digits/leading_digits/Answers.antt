@@ -1,3 +1,4 @@
+-- A run of up to 19 digits has its value in 64 bits; of a longer run `long_value` returns it.
 use Rattle.std.proofs.Common.{◌∙◌}
 use Rattle.byte_unit_base.proofs.FastReads.{digits_of_run, short_run}
 use Rattle.byte_unit_base.proofs.read.digits.leading_digits.Goals as goal

@@ -1,3 +1,5 @@
+-- The value of the digits is that of the first ones times 10^19, and that of the last 19, which their last 64 bits
+-- determine.
 use Rattle.std.proofs.Common.{◌≡◌, ◌+◌, ◌*◌, ◌^◌, ◌<◌, length, ap, subst, ◌∙◌, arith}
 use Rattle.std.specs.Str.Parse.{AllDigits, digits_value}
 use Rattle.std.proofs.lemmas.Int.Digits.{digits_value-lt}

@@ -1,3 +1,5 @@
+-- The bytes up to the end that is returned lead the state machine to the state that is returned: a whole part, or one
+-- with a fraction.
 use Rattle.std.proofs.Common.{◌+◌, subst, arith}
 use Rattle.std.proofs.lemmas.List.{take_rest}
 use Rattle.byte_unit_base.specs.FastReading.{AreDigits}

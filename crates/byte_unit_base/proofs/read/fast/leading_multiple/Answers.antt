@@ -1,3 +1,4 @@
+-- A prefix letter that is the last byte is a decimal prefix. The check proves the other cases.
 use Rattle.std.proofs.Common.{◌<◌, length, ap, sym, arith, ◌∙◌}
 use Rattle.std.proofs.lemmas.Bool.Decides.{nat_tests}
 use Rattle.byte_unit_base.specs.UnitScan.{prefix_at}

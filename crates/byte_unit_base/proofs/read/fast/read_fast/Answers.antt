@@ -1,3 +1,5 @@
+-- The bytes are digits, spaces, a prefix and a suffix, one after the other, so they are a text of the number and the
+-- unit; with visible characters at both ends there is nothing to trim.
 use Rattle.std.proofs.Common.{◌≡◌, ℕ, List, Option, IfSome, ◌++◌, length, take, ap, subst, sym, ◌∙◌, slice_range}
 use Rattle.std.proofs.Common.{take-append-drop, arith}
 use Rattle.std.proofs.lemmas.Bool.Decides.{nat_tests}

@@ -1,3 +1,4 @@
+-- The table has the bits of each unit at its index.
 use Rattle.std.proofs.Common.{◌≡◌, slice_index_or, refl}
 use denote.Enum.Declared.{tag_of}
 use Rattle.byte_unit_base.specs.Shape.{bits}

@@ -1,3 +1,4 @@
+-- What the machine returns for the trimmed string is its reading as a unit.
 use Rattle.std.proofs.Common.{ap, ◌∙◌}
 use Rattle.std.specs.Str.{chars}
 use Rattle.byte_unit_base.specs.Spelling.{flags_of}

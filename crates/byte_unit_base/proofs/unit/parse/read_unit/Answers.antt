@@ -1,3 +1,5 @@
+-- Each character takes the machine one step further in the definition `read`; at an error and at the end its result
+-- is that of `read`.
 use Rattle.std.proofs.Common.{◌≡◌, Option, Some, None, Err, refl, sym, ap, ◌∙◌, arith}
 use Rattle.std.specs.Option.{ok_or, option_map}
 use Rattle.std.proofs.lemmas.Iterator.{YieldsList-from_chars}

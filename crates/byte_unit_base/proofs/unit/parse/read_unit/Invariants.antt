@@ -1,3 +1,4 @@
+-- The result for the characters that are left, from this state, is that for all characters.
 use Rattle.std.proofs.Common.{◌≡◌, length, drop}
 use Rattle.std.specs.Str.{chars}
 use Rattle.byte_unit_base.specs.Scan.{read}

@@ -1,3 +1,4 @@
+-- What `put` has written at the end of the array is ASCII.
 use Rattle.byte_unit_format.specs.TextParts.{parts_text}
 use Rattle.byte_unit_format.proofs.TextParts.{piece_ascii}
 use Rattle.byte_unit_format.proofs.parts.TextParts.push_whole.Goals as goal

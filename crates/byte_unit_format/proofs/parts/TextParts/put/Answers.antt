@@ -1,3 +1,4 @@
+-- Each part is ASCII, so their text is.
 use Rattle.byte_unit_format.proofs.TextParts.{row_ascii}
 use Rattle.byte_unit_format.proofs.parts.TextParts.put.Goals as goal
 

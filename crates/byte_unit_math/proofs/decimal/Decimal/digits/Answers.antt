@@ -1,3 +1,4 @@
+-- The stored digits are those of the fraction without trailing zeros.
 use Rattle.byte_unit_math.proofs.Places.{value_of_shortened}
 use Rattle.byte_unit_math.proofs.ShortDecimals.{fields_are_shortened}
 use Rattle.byte_unit_math.proofs.decimal.Decimal.digits.Goals as goal

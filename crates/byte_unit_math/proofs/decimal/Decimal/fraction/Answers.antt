@@ -1,3 +1,4 @@
+-- The stored digits times a power of ten are the fraction scaled by 10^28; it is below 10^28, so nothing overflows.
 use Rattle.std.proofs.Common.{arith}
 use Rattle.byte_unit_math.proofs.Division.{fraction_below_one}
 use Rattle.byte_unit_math.proofs.ShortDecimals.{fraction_of_fields}

@@ -1,3 +1,4 @@
+-- The digits that are left are those at the start, without some zeros at their end.
 use Rattle.byte_unit_math.proofs.Places.{FewerZeros}
 use Rattle.byte_unit_math.proofs.decimal.Decimal.from_digits.Given as goal
 

@@ -1,3 +1,4 @@
+-- Each iteration takes off a zero at the end; what is left is the same number without trailing zeros.
 use Rattle.std.proofs.Common.{arith}
 use Rattle.byte_unit_math.proofs.Places.{FewerZeros-all, FewerZeros-less}
 use Rattle.byte_unit_math.proofs.ShortDecimals.{IsShort-parts, number_of_shortened}

@@ -1,3 +1,4 @@
+-- The stored whole part is that of the number, and below 2^112.
 use Rattle.byte_unit_math.proofs.ShortDecimals.{whole_of_fields}
 use Rattle.byte_unit_math.proofs.decimal.Decimal.whole.Goals as goal
 

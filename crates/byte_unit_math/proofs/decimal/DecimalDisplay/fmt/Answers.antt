@@ -1,3 +1,4 @@
+-- The expansion of the decimal has its shortest numeral as its text.
 use Rattle.std.proofs.Common.{rules}
 use Rattle.std.proofs.Output.{has_written_of_eq, has_written_styled_of_eq}
 use Rattle.byte_unit_math.specs.Bounds.{places_of_decimal}

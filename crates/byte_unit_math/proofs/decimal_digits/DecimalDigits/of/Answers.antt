@@ -1,3 +1,4 @@
+-- A number of 128 bits has at most 39 digits, all ASCII.
 use Rattle.std.proofs.Common.{append-nil, arith, sym, subst, ap, length, ◌∙◌}
 use Rattle.std.specs.Fmt.{decimal}
 use Rattle.std.specs.Str.{IsAscii}

@@ -1,3 +1,5 @@
+-- One is added at the last place that is not a nine, and the digits after it go; if there is none, it is added to the
+-- whole part.
 use Rattle.std.proofs.Common.{arith, ap, ◌≡◌, ◌+◌, ◌-◌, ◌^◌, ℕ, [], sym, subst, take, set, get_or}
 use Rattle.byte_unit_math.specs.Finite.{IsExpansion, ulps_of, cut_after}
 use Rattle.byte_unit_math.proofs.Cut.{IsShown-view}

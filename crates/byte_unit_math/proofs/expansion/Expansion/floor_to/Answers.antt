@@ -1,3 +1,4 @@
+-- The digits after the places go, and then the zeros at the end: the number cut off after the places.
 use Rattle.std.proofs.Common.{ap, ◌≡◌, ◌^◌, ℕ, sym, subst, take}
 use Rattle.byte_unit_math.specs.Finite.{IsExpansion, ulps_of, cut_after}
 use Rattle.byte_unit_math.proofs.Cut.{IsShown-view}

@@ -1,3 +1,4 @@
+-- A decimal is whole and fraction over 10^28, and 10^28 divides a power of ten.
 use Rattle.std.proofs.Common.{◌≡◌, ◌+◌, ◌*◌, arith, subst}
 use Rattle.byte_unit_math.specs.Bounds.{scale}
 use Rattle.byte_unit_math.specs.Finite.{IsExpansion}

@@ -1,3 +1,4 @@
+-- The number cut off after the places is odd if and only if its last digit is.
 use Rattle.std.proofs.Common.{arith, ◌%◌, ap, sym, ◌∙◌}
 use Rattle.byte_unit_math.specs.Finite.{ulps_of, cut_after}
 use Rattle.byte_unit_math.proofs.Cut.{odd_by_last_digit, is_odd_by_digit}

@@ -1,3 +1,4 @@
+-- Each iteration copies one digit.
 use Rattle.std.proofs.Common.{arith}
 use Rattle.byte_unit_math.proofs.Kept.{no_digits_copied, one_more_digit_copied}
 use Rattle.byte_unit_math.proofs.expansion.Expansion.leading_digits.Goals as goal

@@ -1,3 +1,4 @@
+-- The first i digits are copied, and zeros follow.
 use Rattle.byte_unit_math.proofs.Kept.{IsCopied}
 use Rattle.byte_unit_math.proofs.expansion.Expansion.leading_digits.Given as goal
 

@@ -1,3 +1,4 @@
+-- The divisor 2^twos * 5^fives divides 10^93.
 use Rattle.byte_unit_math.proofs.Expanding.{new_is_exact}
 use Rattle.byte_unit_math.proofs.expansion.Expansion.new.Goals as goal
 

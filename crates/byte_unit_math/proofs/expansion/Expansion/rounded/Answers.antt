@@ -1,3 +1,4 @@
+-- With no more digits than places the number is its own nearest decimal.
 use Rattle.std.proofs.Common.{arith, subst, sym, ◌^◌}
 use Rattle.byte_unit_math.specs.Finite.{Finite, IsExpansion}
 use Rattle.byte_unit_math.proofs.Cut.{IsShown-view, length_of_view, rounded_to_itself}

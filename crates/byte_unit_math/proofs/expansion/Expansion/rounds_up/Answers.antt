@@ -1,3 +1,4 @@
+-- The next digit decides unless it is five; then any digit after it; a five alone is a tie, which the rule decides.
 use Rattle.std.proofs.Common.{arith, sym, ◌∙◌}
 use Rattle.byte_unit_math.proofs.Cut.{IsCutAt-view, nearest_by_digit, nearest_after_five, tie_goes_up, tie_goes_even}
 use Rattle.byte_unit_math.proofs.expansion.Expansion.rounds_up.Goals as goal

@@ -1,3 +1,4 @@
+-- The digits from `kept` up to the places are all the same digit, that which is trimmed.
 use Rattle.std.proofs.Common.{◌≡◌, ◌-◌, ◌≤◌, ◌++◌, take, replicate}
 use Rattle.byte_unit_math.proofs.expansion.Expansion.trim_end_len.Given as goal
 

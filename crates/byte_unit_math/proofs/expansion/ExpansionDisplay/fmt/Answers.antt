@@ -1,3 +1,4 @@
+-- The whole part is written, and then the point with the digits.
 use Rattle.std.proofs.Common.{◌++◌, refl, ap}
 use Rattle.std.proofs.Output.{has_written_styled_append, has_written_styled_of_eq}
 use Rattle.std.specs.Fmt.{decimal}

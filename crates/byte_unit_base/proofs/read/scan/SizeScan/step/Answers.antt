@@ -1,3 +1,4 @@
+-- With at most 28 digits after the point, one more digit fits 128 bits.
 use Rattle.std.proofs.Common.{subst, arith}
 use Rattle.byte_unit_base.specs.SizeScan.{IsScan}
 use Rattle.byte_unit_base.proofs.Scales.{digits_small}

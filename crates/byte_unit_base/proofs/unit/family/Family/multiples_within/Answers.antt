@@ -1,7 +1,10 @@
+-- The slice has the rows of the prefixes that are left; a unit that is not above the size has a prefix among them,
+-- since it has ten binary digits for each.
 use Rattle.std.proofs.Common.{◌≡◌, ◌-◌, ◌*◌, ◌/◌, ◌<◌, ◌^◌, arith, length, map, take, drop, ap, rules, refl, ◌∙◌}
 use Rattle.std.proofs.lemmas.List.{length-drop, take_all}
 use Rattle.std.specs.Int.{w128, leading_zeros}
-use Rattle.byte_unit_base.specs.Multiples.{units_of_prefixes, prefix_count, row_of, row_shape}
+use Rattle.byte_unit_base.specs.Multiples.{row_of, row_shape}
+use Rattle.byte_unit_base.specs.UnitLists.{units_of_prefixes, prefix_count}
 use Rattle.byte_unit_base.proofs.Rows.{rows_behind, prefix_within}
 use Rattle.byte_unit_base.proofs.unit.family.Family.multiples_within.Goals as goal
 use Rattle.byte_unit_base.proofs.unit.family.Family.multiples_within.Goals.{in-All, in-Bytes, in-Bits}

@@ -1,0 +1,5 @@
+use Rattle.byte_unit_c.specs.Many.{offsets_of, AreParsed}
+use Rattle.byte_unit_c.proofs.many.parse_each.Given as goal
+
+abbrev pub invariant-loop-i : goal.invariant-loop-i
+invariant-loop-i l = AreParsed l.asked.kind l.asked.ignore_case l.data (offsets_of l.offsets) l.i l.codes l.sizes

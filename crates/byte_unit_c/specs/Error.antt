@@ -1,0 +1,55 @@
+-- The errors of parsing as the C API reports them.
+use Rattle.std.specs.Prelude.{◌≡◌, ℕ, ◌-◌, Bool, false, List, [], ◌++◌, length, map, take, replicate, nat_lt, slice_set}
+use Rattle.std.specs.Prelude.{if◌then◌else◌}
+use Rattle.byte_unit_base.specs.Fault.{Fault, bad_unit, not_number, no_value, too_long, exceeded}
+use Rattle.byte_unit_c.specs.declared.error.Error.{Error}
+use Rattle.byte_unit_c.specs.Values.{IsParts}
+
+-- the code if the string represents a size
+abbrev pub ok : ℕ
+ok = 0
+
+-- the code of an error
+abbrev pub code_of : Fault → ℕ
+code_of no_value = 1
+code_of (not_number c) = 2
+code_of too_long = 3
+code_of (exceeded number) = 4
+code_of (bad_unit c expected may_end) = 5
+
+-- the code if the bytes are not UTF-8
+abbrev pub not_utf8 : ℕ
+not_utf8 = 6
+
+-- the code of a call that is rejected: a flag is unknown, or offsets and lengths do not fit each other
+abbrev pub invalid_argument : ℕ
+invalid_argument = 7
+
+-- an ASCII character as its byte, and a question mark (63) for any other
+abbrev pub as_byte : ℕ → ℕ
+as_byte c = if nat_lt c 128 then c else 63
+
+-- the first fifteen characters as bytes, padded with zeros to sixteen bytes
+abbrev pub expected_bytes : List ℕ → List ℕ
+expected_bytes characters =
+    let kept = take 15 characters in
+    map as_byte kept ++ replicate (16 - length kept) 0
+
+-- the fields have these values
+pub record HasFields (character : ℕ) (expected : List ℕ) (may_end : Bool) (number : ℕ) (error : Error) : Type 0 where
+  pub character_is : error.character ≡ character
+  pub expected_is : error.expected ≡ expected_bytes expected
+  pub may_end_is : error.also_expect_no_character ≡ (if may_end then 1 else 0)
+  pub number_is : IsParts error.number number
+
+-- the fields of each error; a field that it does not use is zero
+abbrev pub IsErrorOf : Fault → Error → Type 0
+IsErrorOf no_value = HasFields 0 [] false 0
+IsErrorOf (not_number c) = HasFields c [] false 0
+IsErrorOf too_long = HasFields 0 [] false 0
+IsErrorOf (exceeded number) = HasFields 0 [] false number
+IsErrorOf (bad_unit c expected may_end) = HasFields c expected may_end 0
+
+-- the details of the error are written to the first place of the buffer, if it is not empty
+abbrev pub IsErrorWritten : Fault → List Error → List Error → Type 0
+IsErrorWritten fault old new = (error : Error) × IsErrorOf fault error × (new ≡ slice_set old 0 error)

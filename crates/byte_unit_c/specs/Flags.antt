@@ -1,0 +1,32 @@
+-- The flags words of the C API: sums of the flags 1 (bits), 2 (ignore case) and 4 (units of either kind).
+use Rattle.std.specs.Prelude.{ℕ, ◌==◌, Bool, true, false, if◌then◌else◌, List, [], ◌∷◌, Option, Some, None, slice_get}
+use Rattle.byte_unit_base.specs.declared.kind.Kind.{Kind}
+use Rattle.byte_unit_base.specs.declared.kind.Kind.TheVariants.{Byte as InBytes, Bit as InBits}
+use Rattle.byte_unit_c.specs.declared.flags.Reading.{Reading}
+use Rattle.byte_unit_c.specs.declared.flags.Choice.{Choice}
+
+-- the kind of sizes: bytes with no flag, bits with the flag 1; `None` with any other flag
+abbrev pub kind_at : ℕ → Option Kind
+kind_at flags = slice_get (InBytes ∷ InBits ∷ []) flags
+
+-- how a parsing call parses, by the flags 1 and 2; `None` with any other flag
+abbrev pub reading_at : ℕ → Option Reading
+reading_at flags =
+    slice_get
+    (record { kind = InBytes; ignore_case = false } ∷ record { kind = InBits; ignore_case = false }
+    ∷ record { kind = InBytes; ignore_case = true } ∷ record { kind = InBits; ignore_case = true } ∷ [])
+    flags
+
+-- how a unit is chosen, by the flags 1 and 4; `None` with any other flag
+unfoldable pub choice_at : ℕ → Option Choice
+choice_at flags =
+    if flags == 0 then Some (record { kind = InBytes; of_either = false })
+    else if flags == 1 then Some (record { kind = InBits; of_either = false })
+    else if flags == 4 then Some (record { kind = InBytes; of_either = true })
+    else if flags == 5 then Some (record { kind = InBits; of_either = true })
+    else None
+
+-- whether a unit with no suffix is of bytes: it is of the kind of sizes
+abbrev pub prefers_byte : Kind → Bool
+prefers_byte InBytes = true
+prefers_byte InBits = false

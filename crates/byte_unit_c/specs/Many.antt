@@ -1,0 +1,61 @@
+-- Many texts in one call: text i is the bytes from offset i up to offset i + 1.
+use Rattle.std.specs.Prelude.{◌≡◌, ℕ, ◌+◌, ◌-◌, ◌<◌, ℤ, pos, negsuc, ◌≤ℤ◌, Bool, List, [], ◌∷◌, length}
+use Rattle.std.specs.Prelude.{slice_index, slice_index_or, slice_range, Option, Some, None, Result, Ok, Err}
+use Rattle.byte_unit_base.specs.Errors.{size_fault}
+use Rattle.byte_unit_base.specs.SizeReading.{IsBytesReading}
+use Rattle.byte_unit_base.specs.declared.errors.ParseError.{ParseError}
+use Rattle.byte_unit_base.specs.declared.kind.Kind.{Kind}
+use Rattle.byte_unit_c.specs.declared.offsets.Offsets.{Offsets}
+use Rattle.byte_unit_c.specs.declared.offsets.Offsets.TheVariants.{Long, Short}
+use Rattle.byte_unit_c.specs.declared.values.Number.{Number}
+use Rattle.byte_unit_c.specs.Values.{number_of}
+use Rattle.byte_unit_c.specs.Error.{ok, code_of, not_utf8}
+
+-- the offsets, of 64 or of 32 bits
+abbrev pub offsets_of : Offsets → List ℤ
+offsets_of (Long offsets) = offsets.now
+offsets_of (Short offsets) = offsets.now
+
+-- low ≤ o₀ ≤ o₁ ≤ .. ≤ high: no offset is below the one before it
+abbrev pub Ascends : ℤ → ℤ → List ℤ → Type 0
+Ascends low high [] = low ≤ℤ high
+Ascends low high (offset ∷ rest) = (low ≤ℤ offset) × Ascends offset high rest
+
+-- the offsets ascend from 0 to the number of bytes at most, and there is a size and a code for each text. There is a
+-- text less than offsets, or no text and no offset
+pub record IsLayout (bytes_len : ℕ) (offsets : List ℤ) (sizes_len codes_len : ℕ) : Type 0 where
+  pub ascends : Ascends (pos 0) (pos bytes_len) offsets
+  pub sizes_fit : sizes_len ≡ length offsets - 1
+  pub codes_fit : codes_len ≡ length offsets - 1
+
+-- an offset as a position in the bytes
+abbrev pub position : ℤ → ℕ
+position (pos n) = n
+position (negsuc n) = 0
+
+-- the bytes of text i
+abbrev pub text_of : List ℕ → List ℤ → ℕ → List ℕ
+text_of bytes offsets i =
+    slice_range bytes (position (slice_index_or offsets i (pos 0))) (position (slice_index_or offsets (i + 1) (pos 0)))
+
+-- 0 with the size, the code of the error, or 6 if the bytes are not UTF-8; without a size, the number is 0
+abbrev pub IsCoded : Option (Result ℕ ParseError) → ℕ → ℕ → Type 0
+IsCoded None code size = (code ≡ not_utf8) × (size ≡ 0)
+IsCoded (Some (Ok n)) code size = (code ≡ ok) × (size ≡ n)
+IsCoded (Some (Err e)) code size = (code ≡ code_of (size_fault e)) × (size ≡ 0)
+
+-- the code and the size are those of parsing the bytes
+abbrev pub IsParsed : Kind → Bool → List ℕ → ℕ → Number → Type 0
+IsParsed kind ignore_case bytes code size =
+    (answer : Option (Result ℕ ParseError)) × IsBytesReading kind ignore_case bytes answer
+    × IsCoded answer code (number_of size)
+
+-- the number zero
+abbrev pub zero_number : Number
+zero_number = record { low = 0; high = 0 }
+
+-- each of the first n texts has its code and its size
+abbrev pub AreParsed : Kind → Bool → List ℕ → List ℤ → ℕ → List ℕ → List Number → Type 0
+AreParsed kind ignore_case bytes offsets n codes sizes =
+    (i : ℕ) → i < n
+    → IsParsed kind ignore_case (text_of bytes offsets i) (slice_index codes i) (slice_index_or sizes i zero_number)

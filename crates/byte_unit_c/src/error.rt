@@ -1,0 +1,121 @@
+//! The errors of parsing in the C API: a code, and a struct of details.
+
+ghost use Rattle.std.specs.Prelude.{◌≡◌, slice_set};
+ghost use Rattle.byte_unit_base.specs.Errors.{value_fault, unit_fault};
+ghost use Rattle.byte_unit_c.specs.Error.{code_of, expected_bytes, as_byte, IsErrorOf};
+
+use crate::values::Parts;
+use byte_unit_base::{UnitParseError, ValueParseError};
+
+/// The details of a parse error. A field that the error's code does not use is zero.
+#[repr(C)]
+#[derive(Clone, Copy)]
+pub struct Error {
+    /// With `NOT_NUMBER` and `UNIT`: the code point of the character that was rejected.
+    pub character: u32,
+    /// With `UNIT`: 1 if the string could end before that character, and else 0.
+    pub also_expect_no_character: u8,
+    /// With `UNIT`: the characters that are expected in its place, in ASCII, followed by at least one zero byte.
+    pub expected: [u8; 16],
+    /// With `EXCEEDED_BOUNDS`: the number in the string, without its unit.
+    pub number: Parts,
+}
+
+/// Success: the string represents a size.
+pub const OK: u32 = 0;
+
+/// The string is empty or has only white space.
+pub const NO_VALUE: u32 = 1;
+
+/// A digit is expected in place of the character, or after it if the string ends with a decimal point.
+pub const NOT_NUMBER: u32 = 2;
+
+/// The integer part is 2^112 or more, or more than 28 digits follow the decimal point.
+pub const NUMBER_TOO_LONG: u32 = 3;
+
+/// The size is 10^30 or more.
+pub const EXCEEDED_BOUNDS: u32 = 4;
+
+/// The unit is misspelled.
+pub const UNIT: u32 = 5;
+
+/// The bytes are not UTF-8.
+pub const NOT_UTF8: u32 = 6;
+
+/// A flag is unknown, or the offsets and lengths of many texts do not fit each other.
+pub const INVALID_ARGUMENT: u32 = 7;
+
+impl Error {
+    /// The details of an error that has only a code: every field is zero.
+    pub const NONE: Error = Error {
+        character: 0,
+        also_expect_no_character: 0,
+        expected: [0; 16],
+        number: Parts::ZERO,
+    };
+
+    /// Returns the code and the details of an error in the number.
+    pub fn of_value(error: ValueParseError) -> (u32, Error)
+        ensures code { result.0 ≡ code_of (value_fault error) }
+        ensures details { IsErrorOf (value_fault error) result.1 }
+    {
+        match error {
+            ValueParseError::ExceededBounds(number) => (
+                EXCEEDED_BOUNDS,
+                Error {
+                    number: Parts::new(number),
+                    ..Error::NONE
+                },
+            ),
+            ValueParseError::NotNumber(c) => (
+                NOT_NUMBER,
+                Error {
+                    character: c as u32,
+                    ..Error::NONE
+                },
+            ),
+            ValueParseError::NoValue => (NO_VALUE, Error::NONE),
+            ValueParseError::NumberTooLong => (NUMBER_TOO_LONG, Error::NONE),
+        }
+    }
+
+    /// Returns the details of an error in the unit. Its code is `UNIT`.
+    pub fn of_unit(error: UnitParseError) -> Error
+        ensures { IsErrorOf (unit_fault error) result }
+    {
+        Error {
+            character: error.character as u32,
+            also_expect_no_character: error.also_expect_no_character as u8,
+            expected: expected_bytes(error.expected_characters),
+            ..Error::NONE
+        }
+    }
+
+    /// Writes the details to the first of `errors`, if it is not empty.
+    pub fn write(self, errors: &mut [Error])
+        ensures { errors.new ≡ slice_set errors.old 0 self }
+    {
+        if !errors.is_empty() {
+            errors[0] = self;
+        }
+    }
+}
+
+/// Returns the first 15 characters as bytes, padded with zeros to 16. The parsers expect at most ten characters, all
+/// of them ASCII.
+pub fn expected_bytes(characters: &[char]) -> [u8; 16]
+    ensures { result ≡ expected_bytes characters.now }
+{
+    let mut bytes = [0; 16];
+    for i in 0..characters.len().min(15) {
+        bytes[i] = as_byte(characters[i]);
+    }
+    bytes
+}
+
+/// Returns an ASCII character as its byte, and `?` for any other character.
+fn as_byte(c: char) -> u8
+    ensures { result ≡ as_byte c }
+{
+    if c.is_ascii() { c as u8 } else { b'?' }
+}

@@ -1,0 +1,142 @@
+//! Parsing of many texts in one call.
+
+ghost use Rattle.std.specs.Prelude.{◌≡◌, ◌↔◌, IsTrue, length, IfSome, IfNone};
+ghost use Rattle.byte_unit_base.specs.Errors.{size_fault};
+ghost use Rattle.byte_unit_c.specs.Error.{ok, invalid_argument, code_of};
+ghost use Rattle.byte_unit_c.specs.Flags.{reading_at};
+ghost use Rattle.byte_unit_c.specs.Many.{offsets_of, IsLayout, IsParsed, AreParsed};
+
+use crate::error::{Error, INVALID_ARGUMENT, NOT_UTF8, OK, UNIT};
+use crate::flags::{Reading, reading_at};
+use crate::offsets::Offsets;
+use crate::values::Number;
+use byte_unit_base::{ParseError, size};
+
+/// Parses many texts, each as `byte_unit_parse_to` does. Text `i` is the bytes of `data` from `offsets[i]` up to
+/// `offsets[i + 1]`, so there is one offset more than texts; no text may have no offset too. Returns `OK`, and writes the
+/// code of each text to `codes`, and its size to `sizes`, or 0 there if it has none.
+///
+/// Returns `INVALID_ARGUMENT` and writes nothing if a flag is unknown, the first offset is negative, an offset is less
+/// than the one before it, the last is past the end of `data`, or `sizes` or `codes` has not one place for each text.
+///
+/// For example, the data `1 KB2x` with the offsets 0, 4, 6 gives the codes `OK` and `UNIT` and the sizes 1000 and 0.
+#[unsafe(no_mangle)]
+pub extern "C" fn byte_unit_parse_many_to(
+    data: &[u8],
+    offsets: &[i64],
+    flags: u32,
+    sizes: &mut [Number],
+    codes: &mut [u8],
+) -> u32
+    ensures parsed { IfSome (reading_at flags) (λ asked.
+        IsLayout (length «data».now) offsets.now (length sizes.old) (length codes.old)
+        → (result ≡ ok)
+        × AreParsed asked.kind asked.ignore_case «data».now offsets.now (length codes.old) codes.new sizes.new) }
+    ensures unknown_flag { IfNone (reading_at flags)
+        ((result ≡ invalid_argument) × (sizes.new ≡ sizes.old) × (codes.new ≡ codes.old)) }
+    ensures no_layout { ¬ IsLayout (length «data».now) offsets.now (length sizes.old) (length codes.old)
+        → (result ≡ invalid_argument) × (sizes.new ≡ sizes.old) × (codes.new ≡ codes.old) }
+{
+    parse_many(data, Offsets::Long(offsets), flags, sizes, codes)
+}
+
+/// Parses many texts, as `byte_unit_parse_many_to` does, with offsets of 32 bits.
+#[unsafe(no_mangle)]
+pub extern "C" fn byte_unit_parse_many_32_to(
+    data: &[u8],
+    offsets: &[i32],
+    flags: u32,
+    sizes: &mut [Number],
+    codes: &mut [u8],
+) -> u32
+    ensures parsed { IfSome (reading_at flags) (λ asked.
+        IsLayout (length «data».now) offsets.now (length sizes.old) (length codes.old)
+        → (result ≡ ok)
+        × AreParsed asked.kind asked.ignore_case «data».now offsets.now (length codes.old) codes.new sizes.new) }
+    ensures unknown_flag { IfNone (reading_at flags)
+        ((result ≡ invalid_argument) × (sizes.new ≡ sizes.old) × (codes.new ≡ codes.old)) }
+    ensures no_layout { ¬ IsLayout (length «data».now) offsets.now (length sizes.old) (length codes.old)
+        → (result ≡ invalid_argument) × (sizes.new ≡ sizes.old) × (codes.new ≡ codes.old) }
+{
+    parse_many(data, Offsets::Short(offsets), flags, sizes, codes)
+}
+
+/// Parses many texts, as `byte_unit_parse_many_to` does, with offsets of either width.
+fn parse_many(
+    data: &[u8],
+    offsets: Offsets<'_>,
+    flags: u32,
+    sizes: &mut [Number],
+    codes: &mut [u8],
+) -> u32
+    ensures parsed { IfSome (reading_at flags) (λ asked.
+        IsLayout (length «data».now) (offsets_of offsets.entry) (length sizes.old) (length codes.old)
+        → (result ≡ ok)
+        × AreParsed asked.kind asked.ignore_case «data».now (offsets_of offsets.entry) (length codes.old) codes.new
+        sizes.new) }
+    ensures unknown_flag { IfNone (reading_at flags)
+        ((result ≡ invalid_argument) × (sizes.new ≡ sizes.old) × (codes.new ≡ codes.old)) }
+    ensures no_layout { ¬ IsLayout (length «data».now) (offsets_of offsets.entry) (length sizes.old) (length codes.old)
+        → (result ≡ invalid_argument) × (sizes.new ≡ sizes.old) × (codes.new ≡ codes.old) }
+{
+    let Some(asked) = reading_at(flags) else {
+        return INVALID_ARGUMENT;
+    };
+    if !is_layout(data, offsets, sizes.len(), codes.len()) {
+        return INVALID_ARGUMENT;
+    }
+    parse_each(data, offsets, asked, sizes, codes);
+    OK
+}
+
+/// Whether the offsets ascend within the data, and there is a size and a code for each text.
+fn is_layout(data: &[u8], offsets: Offsets<'_>, sizes_len: usize, codes_len: usize) -> bool
+    ensures { IsTrue result ↔ IsLayout (length «data».now) (offsets_of offsets.entry) sizes_len codes_len }
+{
+    let texts = offsets.len().saturating_sub(1);
+    sizes_len == texts && codes_len == texts && offsets.ascend_to(data.len())
+}
+
+/// Parses each text, and writes its code and its size.
+///
+/// Precondition: the offsets and lengths are a layout.
+fn parse_each(
+    data: &[u8],
+    offsets: Offsets<'_>,
+    asked: Reading,
+    sizes: &mut [Number],
+    codes: &mut [u8],
+)
+    requires { IsLayout (length «data».now) (offsets_of offsets) (length sizes.old) (length codes.old) }
+    ensures { AreParsed asked.kind asked.ignore_case «data».now (offsets_of offsets.entry) (length codes.old) codes.new
+        sizes.new }
+{
+    for i in 0..codes.len() {
+        let (code, size) = parse_one(offsets.text_at(data, i), asked);
+        codes[i] = code;
+        sizes[i] = size;
+    }
+}
+
+/// Parses one text to its code and its size, which is 0 if there is none.
+#[inline(always)]
+fn parse_one(text: &[u8], asked: Reading) -> (u8, Number)
+    ensures { IsParsed asked.kind asked.ignore_case text.now result.0 result.1 }
+{
+    match size::parse_bytes(text, asked.ignore_case, asked.kind) {
+        Some(Ok(size)) => (OK as u8, Number::new(size)),
+        Some(Err(error)) => (code_of(error), Number::ZERO),
+        None => (NOT_UTF8 as u8, Number::ZERO),
+    }
+}
+
+/// Returns the code of an error.
+#[cold]
+fn code_of(error: ParseError) -> u8
+    ensures { result ≡ code_of (size_fault error) }
+{
+    match error {
+        ParseError::Value(error) => Error::of_value(error).0 as u8,
+        ParseError::Unit(_) => UNIT as u8,
+    }
+}

@@ -1,0 +1,216 @@
+/* Arguments that are at the border of what each call takes, or past it: specs with one field that is invalid, flags that are
+ * unknown, null pointers, and offsets that do not fit. Prints the number of checks, and exits with 1 if one is wrong. It is C and
+ * C++. */
+#include "byte_unit.h"
+
+#include <stdio.h>
+#include <string.h>
+
+static unsigned long checks, wrong;
+
+static void check(const char *what, bool holds)
+{
+    checks++;
+    if (!holds) {
+        wrong++;
+        printf("wrong: %s\n", what);
+    }
+}
+
+static byte_unit_number number(uint64_t n)
+{
+    byte_unit_number result = { 0, 0 };
+    result.low = n;
+    return result;
+}
+
+/* Whether both calls that take a spec reject this one, and write nothing. */
+static bool rejects(byte_unit_spec spec)
+{
+    char out[8] = { 'x', 'x', 'x', 'x', 'x', 'x', 'x', 'x' };
+    size_t length = byte_unit_text(number(1), 0, spec, out, sizeof out);
+
+    length += byte_unit_adjusted_text(number(1), 0, BYTE_UNIT_B, spec, out, sizeof out);
+    return length == 0 && memcmp(out, "xxxxxxxx", sizeof out) == 0;
+}
+
+static void specs(void)
+{
+    byte_unit_spec zero, spec;
+    char out[BYTE_UNIT_BUFFER_SIZE];
+
+    memset(&zero, 0, sizeof zero);
+    check("a zeroed spec", byte_unit_text(number(1536), 0, zero, out, sizeof out) == 4 && memcmp(out, "1536", 4) == 0);
+    spec = zero, spec.has_precision = 1;
+    check("precision 0", byte_unit_adjusted_text(number(1536), 0, BYTE_UNIT_KIB, spec, out, sizeof out) == 5
+                             && memcmp(out, "2 KiB", 5) == 0);
+    spec.precision = 65535;
+    check("precision 65535", !rejects(spec));
+    for (int bit = 16; bit < 32; bit++) {
+        spec.precision = UINT32_C(1) << bit;
+        check("a precision that is too large", rejects(spec));
+    }
+    spec = zero, spec.precision = 1;
+    check("a precision without has_precision", rejects(spec));
+    spec = zero, spec.width = 65535;
+    check("width 65535", !rejects(spec));
+    for (int bit = 16; bit < 32; bit++) {
+        spec.width = UINT32_C(1) << bit;
+        check("a width that is too large", rejects(spec));
+    }
+    for (int code = 0; code < 256; code++) {
+        spec = zero, spec.has_precision = (uint8_t)code;
+        check("has_precision", rejects(spec) == (code > 1));
+        spec = zero, spec.alternate = (uint8_t)code;
+        check("alternate", rejects(spec) == (code > 1));
+        spec = zero, spec.sign = (uint8_t)code;
+        check("sign", rejects(spec) == (code > BYTE_UNIT_SIGN_MINUS));
+        spec = zero, spec.align = (uint8_t)code;
+        check("align", rejects(spec) == (code > BYTE_UNIT_ALIGN_RIGHT));
+    }
+}
+
+/* Each call with these flags, by whether it knows them. */
+static void flags(uint32_t word)
+{
+    static const int64_t offsets[] = { 0, 1 };
+    bool parses = (word & ~(uint32_t)(BYTE_UNIT_BITS | BYTE_UNIT_IGNORE_CASE)) == 0;
+    bool formats = (word & ~(uint32_t)BYTE_UNIT_BITS) == 0;
+    bool chooses = (word & ~(uint32_t)(BYTE_UNIT_BITS | BYTE_UNIT_EITHER_KIND)) == 0;
+    byte_unit_number size = { 7, 7 };
+    byte_unit_decimal decimal = { { 7, 7 }, { 7, 7 } };
+    byte_unit_error error;
+    byte_unit_spec spec;
+    uint32_t unit = 77;
+    uint8_t code = 77;
+    char out[64];
+
+    memset(&spec, 0, sizeof spec);
+    memset(&error, 'x', sizeof error);
+    check("parse", byte_unit_parse("x", 1, word, &size, &error)
+                       == (parses ? (uint32_t)BYTE_UNIT_NOT_NUMBER : (uint32_t)BYTE_UNIT_INVALID_ARGUMENT));
+    check("error", error.character == (parses ? 'x' : UINT32_C(0x78787878)));
+    check("size", size.low == 7 && (byte_unit_parse("1", 1, word, &size, NULL) == BYTE_UNIT_OK) == parses
+                      && size.low == (parses ? 1 : 7));
+    check("parse_unit", (byte_unit_parse_unit("b", 1, word, &unit, NULL) == BYTE_UNIT_OK) == parses
+                            && (unit == 77) == !parses);
+    check("parse_many", (byte_unit_parse_many("1", 1, offsets, 1, word, &size, &code) == BYTE_UNIT_OK) == parses
+                            && code == (parses ? 0 : 77));
+    check("explain", byte_unit_explain("", 0, word, out, sizeof out) == (parses ? 21u : 17u)
+                         && memcmp(out, parses ? "no value" : "a flag i", 8) == 0);
+    check("text", (byte_unit_text(number(1), word, spec, out, sizeof out) != 0) == formats);
+    check("adjusted_text", (byte_unit_adjusted_text(number(1), word, 0, spec, out, sizeof out) != 0) == formats);
+    check("appropriate_unit", (byte_unit_appropriate_unit(number(1), word, 0) != BYTE_UNIT_NO_UNIT) == formats);
+    size.high = 7;
+    check("from_unit", byte_unit_from_unit(number(1), 0, word, &size) == formats && (size.high == 7) == !formats);
+    size.high = 7;
+    check("exact_unit", (byte_unit_exact_unit(number(1), word, &size) != BYTE_UNIT_NO_UNIT) == chooses
+                            && (size.high == 7) == !chooses);
+    check("recoverable_unit", (byte_unit_recoverable_unit(number(1), word, 0, &decimal) != BYTE_UNIT_NO_UNIT) == chooses
+                                  && (decimal.whole.high == 7) == !chooses);
+}
+
+/* NULL with length 0, and without an error. */
+static void nulls(void)
+{
+    byte_unit_number size = { 7, 7 };
+    byte_unit_error error;
+    byte_unit_spec spec;
+    uint32_t unit = 77;
+
+    memset(&spec, 0, sizeof spec);
+    check("parse", byte_unit_parse(NULL, 0, 0, &size, &error) == BYTE_UNIT_NO_VALUE && size.low == 7);
+    check("parse without error", byte_unit_parse(NULL, 0, 0, &size, NULL) == BYTE_UNIT_NO_VALUE);
+    check("each error without a place for it", byte_unit_parse("x", 1, 0, &size, NULL) == BYTE_UNIT_NOT_NUMBER
+              && byte_unit_parse("1x", 2, 0, &size, NULL) == BYTE_UNIT_UNIT
+              && byte_unit_parse("1000 RB", 7, 0, &size, NULL) == BYTE_UNIT_EXCEEDED_BOUNDS
+              && byte_unit_parse("\xff", 1, 0, &size, NULL) == BYTE_UNIT_NOT_UTF8);
+    check("parse_unit", byte_unit_parse_unit(NULL, 0, 0, &unit, NULL) == BYTE_UNIT_OK && unit == BYTE_UNIT_B);
+    check("explain", byte_unit_explain(NULL, 0, 0, NULL, 0) == 21 && byte_unit_explain("1", 1, 0, NULL, 0) == 0);
+    check("text", byte_unit_text(number(1536), 0, spec, NULL, 0) == 4);
+    check("adjusted_text", byte_unit_adjusted_text(number(1536), 0, BYTE_UNIT_KIB, spec, NULL, 0) == 7);
+    check("unit_name", byte_unit_unit_name(BYTE_UNIT_KIB, NULL, 0) == 3);
+    check("parse_many", byte_unit_parse_many(NULL, 0, NULL, 0, 0, NULL, NULL) == BYTE_UNIT_OK);
+}
+
+static void out_of_range(void)
+{
+    static const uint32_t codes[] = { 38, 39, 255, 256, UINT32_C(65536), UINT32_C(0x80000000), UINT32_MAX };
+    byte_unit_number sizes[3] = { BYTE_UNIT_SIZE_LIMIT_INIT, { 0, UINT64_MAX }, { UINT64_MAX, UINT64_MAX } }, count;
+    byte_unit_decimal decimal;
+    byte_unit_spec spec;
+    char out[64];
+
+    memset(&spec, 0, sizeof spec);
+    for (int at = 0; at < 3; at++) {
+        check("text", byte_unit_text(sizes[at], 0, spec, out, sizeof out) == 0);
+        check("adjusted_text", byte_unit_adjusted_text(sizes[at], 0, 0, spec, out, sizeof out) == 0);
+        check("exact_unit", byte_unit_exact_unit(sizes[at], 0, &count) == BYTE_UNIT_NO_UNIT);
+        check("recoverable_unit", byte_unit_recoverable_unit(sizes[at], 0, 0, &decimal) == BYTE_UNIT_NO_UNIT);
+        check("from_unit", !byte_unit_from_unit(sizes[at], BYTE_UNIT_B, 0, &count));
+        check("appropriate_unit", byte_unit_appropriate_unit(sizes[at], 0, BYTE_UNIT_BOTH) == BYTE_UNIT_RIB);
+    }
+    for (size_t at = 0; at < sizeof codes / sizeof *codes; at++) {
+        check("unit_name", byte_unit_unit_name(codes[at], out, sizeof out) == 0);
+        check("adjusted_text", byte_unit_adjusted_text(number(1), 0, codes[at], spec, out, sizeof out) == 0);
+        check("from_unit", !byte_unit_from_unit(number(1), codes[at], 0, &count));
+        check("unit type", byte_unit_appropriate_unit(number(1), 0, codes[at] - 35) == BYTE_UNIT_NO_UNIT);
+    }
+}
+
+/* Offsets of both widths: each list, with 8 bytes of data, is right or is rejected with nothing written. */
+static void offsets(bool right, int64_t first, int64_t second, int64_t third)
+{
+    int64_t wide[3];
+    int32_t narrow[3];
+    byte_unit_number sizes[2] = { { 7, 7 }, { 7, 7 } };
+    uint8_t codes[2] = { 77, 77 };
+    uint32_t expected = right ? BYTE_UNIT_OK : BYTE_UNIT_INVALID_ARGUMENT;
+
+    wide[0] = first, wide[1] = second, wide[2] = third;
+    check("offsets", byte_unit_parse_many("1 KB2 MB", 8, wide, 2, 0, sizes, codes) == expected);
+    check("nothing written", right || (codes[0] == 77 && codes[1] == 77 && sizes[0].low == 7 && sizes[1].low == 7));
+    check("both written", !right || (codes[0] != 77 && codes[1] != 77 && sizes[0].high == 0 && sizes[1].high == 0));
+    for (int at = 0; at < 3; at++) {
+        if (wide[at] != (int32_t)wide[at])
+            return;
+        narrow[at] = (int32_t)wide[at];
+    }
+    codes[0] = codes[1] = 77;
+    check("offsets of 32 bits", byte_unit_parse_many_32("1 KB2 MB", 8, narrow, 2, 0, sizes, codes) == expected);
+    check("nothing written", right == (codes[0] != 77));
+}
+
+static void many_offsets(void)
+{
+    static const int64_t borders[] = { INT64_MIN, INT32_MIN, -1, 0, 4, 8, 9, INT32_MAX, INT64_MAX };
+    byte_unit_number size;
+    uint8_t code;
+    int64_t zero[2] = { 0, 0 };
+
+    for (int i = 0; i < 9; i++)
+        for (int j = 0; j < 9; j++)
+            for (int k = 0; k < 9; k++)
+                offsets(i >= 3 && i <= j && j <= k && k <= 5, borders[i], borders[j], borders[k]);
+    check("lengths that differ",
+          byte_unit_parse_many_to("1", 1, zero, 2, 0, &size, 1, &code, 0) == BYTE_UNIT_INVALID_ARGUMENT
+              && byte_unit_parse_many_to("1", 1, zero, 2, 0, &size, 0, &code, 1) == BYTE_UNIT_INVALID_ARGUMENT
+              && byte_unit_parse_many_to("1", 1, zero, 1, 0, &size, 1, &code, 1) == BYTE_UNIT_INVALID_ARGUMENT
+              && byte_unit_parse_many_to("1", 1, NULL, 0, 0, &size, 1, &code, 1) == BYTE_UNIT_INVALID_ARGUMENT);
+    check("as many texts as there can be",
+          byte_unit_parse_many("1", 1, zero, SIZE_MAX, 0, &size, &code) == BYTE_UNIT_INVALID_ARGUMENT);
+}
+
+int main(void)
+{
+    specs();
+    for (uint32_t word = 0; word < 64; word++)
+        flags(word);
+    for (int bit = 6; bit < 32; bit++)
+        flags(UINT32_C(1) << bit);
+    nulls();
+    out_of_range();
+    many_offsets();
+    printf("%lu checks, %lu wrong\n", checks, wrong);
+    return wrong != 0;
+}

@@ -1,0 +1,122 @@
+"""Prints nanoseconds per call from Python, beside humanfriendly, humanize and a split, a float and a dictionary.
+
+The minimum of some runs, in processor time, in one process. The columns have 200,000 texts, or as many as the
+argument says.
+"""
+
+import os
+import random
+import subprocess
+import sys
+import time
+import timeit
+from array import array
+from collections.abc import Callable
+from itertools import accumulate
+
+import byte_unit
+
+try:
+    from humanfriendly import InvalidSize, format_size, parse_size
+    from humanize import naturalsize
+except ImportError:
+    sys.exit("skipped: speed from Python: humanfriendly and humanize are not installed")
+
+NAMES = ["B", "KB", "KiB", "MB", "MiB", "GB", "GiB", "TB", "TiB"]
+UNITS = {name: byte_unit.from_unit(1, name) for name in NAMES}
+
+
+def naive(text: str) -> int:
+    """Parses as a program without a library does."""
+    number, unit = text.split()
+    return int(float(number) * UNITS[unit])
+
+
+def rejected(call: Callable[[str], object], text: str) -> None:
+    """Makes a call that raises an error."""
+    try:
+        call(text)
+    except (ValueError, InvalidSize):
+        return
+    raise AssertionError(text)
+
+
+def nanoseconds(function: Callable[..., object], *arguments: object, number: int = 1, repeat: int = 5) -> float:
+    """Returns the minimum of some runs of `number` calls, per call."""
+    names: dict[str, object] = {f"a{place}": argument for place, argument in enumerate(arguments)}
+    names["function"] = function
+    call = f"function({', '.join(f'a{place}' for place in range(len(arguments)))})"
+    times = timeit.repeat(call, globals=names, number=number, repeat=repeat, timer=time.process_time)
+    return min(times) / number * 1e9
+
+
+def one(name: str, function: Callable[..., object], *arguments: object) -> None:
+    print(f"{name:64} {nanoseconds(function, *arguments, number=10_000, repeat=20):8.0f}")
+
+
+def single() -> None:
+    print("nanoseconds per call")
+    text = "1.5 KiB"
+    one("byte_unit.parse('1.5 KiB')", byte_unit.parse, text)
+    one("split, float and dictionary", naive, text)
+    one("humanfriendly.parse_size", parse_size, text)
+    one("byte_unit.parse('1.5 XB'), an error", rejected, byte_unit.parse, "1.5 XB")
+    one("humanfriendly.parse_size('1.5 XB'), an error", rejected, parse_size, "1.5 XB")
+    one("byte_unit.text(1536)", byte_unit.text, 1536)
+    one("humanfriendly.format_size(1536)", format_size, 1536)
+    one("humanize.naturalsize(1536)", naturalsize, 1536)
+    one("byte_unit.adjusted_text(1536, 'KB')", byte_unit.adjusted_text, 1536, "KB")
+
+
+def some_text(rng: random.Random) -> str:
+    whole, places = rng.randrange(10 ** rng.randrange(1, 5)), rng.randrange(4)
+    fraction = f".{rng.randrange(10**places):0{places}}" if places else ""
+    return f"{whole}{fraction} {rng.choice(NAMES)}"
+
+
+def with_numfmt(texts: list[str]) -> float:
+    """Returns the processor time of the program numfmt, per text, with the texts in its own spelling: `1.5Ki`."""
+    lines = "".join(text.replace(" ", "").removesuffix("B") + "\n" for text in texts).encode()
+    times = []
+    for _ in range(5):
+        before = os.times()
+        subprocess.run(["numfmt", "--from=auto"], input=lines, stdout=subprocess.DEVNULL, check=True)
+        after = os.times()
+        times.append(after.children_user + after.children_system - before.children_user - before.children_system)
+    return min(times) / len(texts) * 1e9
+
+
+def columns(count: int) -> None:
+    rng = random.Random(1)
+    texts = [some_text(rng) for _ in range(count)]
+    data, offsets = "".join(texts).encode(), array("q", accumulate(map(len, texts), initial=0))
+    narrow = array("i", offsets)
+    column = byte_unit.parse_many(texts)
+    ways: list[tuple[str, Callable[[], object]]] = [
+        ("byte_unit.parse_buffers, 64-bit offsets", lambda: byte_unit.parse_buffers(data, offsets)),
+        ("byte_unit.parse_buffers, 32-bit offsets", lambda: byte_unit.parse_buffers(data, narrow)),
+        ("byte_unit.parse_many, of a list", lambda: byte_unit.parse_many(texts)),
+        ("its ints()", column.ints),
+        ("its int64()", column.int64),
+        ("[byte_unit.parse(text) for text in texts]", lambda: [byte_unit.parse(text) for text in texts]),
+        ("the same with a split, a float and a dictionary", lambda: [naive(text) for text in texts]),
+    ]
+    try:
+        import pandas
+    except ImportError:
+        print("skipped: pandas is not installed")
+    else:
+        series = pandas.Series(texts)
+        ways += [("pandas: series.map(byte_unit.parse)", lambda: series.map(byte_unit.parse)),
+                 ("pandas: byte_unit.parse_many(series)", lambda: byte_unit.parse_many(series))]
+    print(f"nanoseconds per text of {count}")
+    for name, call in ways:
+        print(f"{name:64} {nanoseconds(call) / count:8.0f}")
+    print(f"{'numfmt --from=auto, as a program':64} {with_numfmt(texts):8.0f}")
+    few = texts[: count // 10]
+    time = nanoseconds(lambda: [parse_size(text) for text in few]) / len(few)
+    print(f"{'[humanfriendly.parse_size(text) for text in texts], of a tenth':64} {time:8.0f}")
+
+
+single()
+columns(int(sys.argv[1]) if len(sys.argv) > 1 else 200_000)

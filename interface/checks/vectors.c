@@ -1,0 +1,203 @@
+/* Answers test vectors through the C API. Reads records that end with a zero byte, each a call of vectors/byte-unit.txt with
+ * its text unescaped, and writes a line with the answer for each, or `-` for a call that the C API does not have. */
+#include "byte_unit.h"
+
+#include <stdio.h>
+#include <stdlib.h>
+#include <string.h>
+
+__extension__ typedef unsigned __int128 wide;
+
+static char out[1 << 18];
+
+static byte_unit_number number(const char *digits)
+{
+    wide n = 0;
+    for (; *digits >= '0' && *digits <= '9'; digits++)
+        n = n * 10 + (wide)(*digits - '0');
+    return (byte_unit_number){(uint64_t)n, (uint64_t)(n >> 64)};
+}
+
+static void print_number(byte_unit_number number)
+{
+    wide n = (wide)number.high << 64 | number.low;
+    char digits[40], *at = digits + sizeof digits - 1;
+    *at = 0;
+    do
+        *--at = (char)('0' + (int)(n % 10));
+    while (n /= 10);
+    printf("%s", at);
+}
+
+/* Prints a decimal without the zeros at its end. */
+static void print_decimal(byte_unit_decimal decimal)
+{
+    char digits[29] = "0000000000000000000000000000";
+    wide n = (wide)decimal.fraction.high << 64 | decimal.fraction.low;
+    print_number(decimal.whole);
+    for (int i = 27; n; i--, n /= 10)
+        digits[i] = (char)('0' + (int)(n % 10));
+    size_t len = 28;
+    while (len && digits[len - 1] == '0')
+        len--;
+    if (len)
+        printf(".%.*s", (int)len, digits);
+}
+
+static void print_unit(uint32_t unit)
+{
+    char name[4];
+    printf("%.*s", (int)byte_unit_unit_name(unit, name, sizeof name), name);
+}
+
+static uint32_t unit_of(const char *name)
+{
+    uint32_t unit = BYTE_UNIT_NO_UNIT;
+    byte_unit_parse_unit(name, strlen(name), 0, &unit, NULL);
+    return unit;
+}
+
+static void print_character(uint32_t c)
+{
+    if (c < 0x80)
+        putchar((int)c);
+    else if (c < 0x800)
+        printf("%c%c", (int)(0xC0 | c >> 6), (int)(0x80 | (c & 63)));
+    else if (c < 0x10000)
+        printf("%c%c%c", (int)(0xE0 | c >> 12), (int)(0x80 | (c >> 6 & 63)), (int)(0x80 | (c & 63)));
+    else
+        printf("%c%c%c%c", (int)(0xF0 | c >> 18), (int)(0x80 | (c >> 12 & 63)), (int)(0x80 | (c >> 6 & 63)), (int)(0x80 | (c & 63)));
+}
+
+static void print_error(uint32_t code, const byte_unit_error *error)
+{
+    static const char *const names[] = {"", "NoValue", "NotNumber", "NumberTooLong", "ExceededBounds", "Unit", "NotUtf8"};
+    printf("%s", code < 7 ? names[code] : "InvalidArgument");
+    if (code == BYTE_UNIT_NOT_NUMBER || code == BYTE_UNIT_UNIT) {
+        printf(" \"");
+        print_character(error->character);
+        putchar('"');
+    }
+    if (code == BYTE_UNIT_UNIT)
+        printf(" [%s]%s", error->expected, error->also_expect_no_character ? " end" : "");
+    if (code == BYTE_UNIT_EXCEEDED_BOUNDS) {
+        putchar(' ');
+        print_decimal(error->number);
+    }
+}
+
+/* Returns the spec of a format string of the Rust crate. */
+static byte_unit_spec spec_of(const char *s)
+{
+    byte_unit_spec spec = {0};
+    s += strncmp(s, "{:", 2) ? 1 : 2;
+    for (int i = 0; i < 3; i++)
+        if (*s == "<^>"[i])
+            spec.align = (uint8_t)(i + 1), s++, i = 3;
+    if (*s == '+' || *s == '-')
+        spec.sign = *s++ == '+' ? BYTE_UNIT_SIGN_PLUS : BYTE_UNIT_SIGN_MINUS;
+    if (*s == '#')
+        spec.alternate = 1, s++;
+    spec.width = (uint32_t)strtoul(s, (char **)&s, 10);
+    if (*s == '.')
+        spec.has_precision = 1, spec.precision = (uint32_t)strtoul(s + 1, NULL, 10);
+    return spec;
+}
+
+static void answer_parse(uint32_t flags, const char *text)
+{
+    byte_unit_number size;
+    byte_unit_error error;
+    uint32_t code = byte_unit_parse(text, strlen(text), flags, &size, &error);
+    if (code == BYTE_UNIT_OK)
+        print_number(size);
+    else
+        print_error(code, &error);
+}
+
+static void answer_unit(uint32_t flags, const char *text)
+{
+    uint32_t unit;
+    byte_unit_error error;
+    uint32_t code = byte_unit_parse_unit(text, strlen(text), flags, &unit, &error);
+    if (code == BYTE_UNIT_OK)
+        print_unit(unit);
+    else
+        print_error(code, &error);
+}
+
+/* Answers `text KIND SIZE [in UNIT | by TYPE] SPEC`. */
+static void answer_text(uint32_t flags, char **words)
+{
+    byte_unit_number size = number(words[2]);
+    size_t len;
+    if (words[3][0] == '{')
+        len = byte_unit_text(size, flags, spec_of(words[3]), out, sizeof out);
+    else {
+        uint32_t type = words[4][0] == 'd' ? BYTE_UNIT_DECIMAL : words[4][1] == 'i' ? BYTE_UNIT_BINARY : BYTE_UNIT_BOTH;
+        uint32_t unit = words[3][0] == 'i' ? unit_of(words[4]) : byte_unit_appropriate_unit(size, flags, type);
+        len = byte_unit_adjusted_text(size, flags, unit, spec_of(words[5]), out, sizeof out);
+    }
+    printf("\"%.*s\"", (int)len, out);
+}
+
+/* Answers `exact KIND SET SIZE` and `recoverable KIND SET PLACES SIZE`. */
+static void answer_choice(uint32_t flags, char **words)
+{
+    byte_unit_decimal count = {{0, 0}, {0, 0}};
+    uint32_t unit;
+    flags |= strcmp(words[2], "any") ? 0 : BYTE_UNIT_EITHER_KIND;
+    if (words[0][0] == 'e')
+        unit = byte_unit_exact_unit(number(words[3]), flags, &count.whole);
+    else
+        unit = byte_unit_recoverable_unit(number(words[4]), flags, strtoul(words[3], NULL, 10), &count);
+    print_decimal(count);
+    putchar(' ');
+    print_unit(unit);
+}
+
+static void answer_make_in(uint32_t flags, char **words)
+{
+    byte_unit_number size;
+    if (byte_unit_from_unit(number(words[2]), unit_of(words[3]), flags, &size))
+        print_number(size);
+    else
+        printf("none");
+}
+
+static void answer(char *record)
+{
+    char *words[8] = {0}, *text = strchr(record, '"');
+    size_t count = 0;
+    if (text)
+        *text++ = 0;
+    for (char *word = strtok(record, " "); word && count < 8; word = strtok(NULL, " "))
+        words[count++] = word;
+    uint32_t bits = count > 1 && !strcmp(words[1], "bit") ? BYTE_UNIT_BITS : 0;
+    uint32_t uncased = count > 1 && (!strcmp(words[count - 1], "uncased") || !strcmp(words[1], "uncased")) ? BYTE_UNIT_IGNORE_CASE : 0;
+    if (!strcmp(words[0], "parse"))
+        answer_parse(bits | uncased, text);
+    else if (!strcmp(words[0], "unit"))
+        answer_unit(uncased | (strcmp(words[2], "bits") ? 0 : BYTE_UNIT_BITS), text);
+    else if (!strcmp(words[0], "says"))
+        printf("\"%.*s\"", (int)byte_unit_explain(text, strlen(text), bits | uncased, out, sizeof out), out);
+    else if (!strcmp(words[0], "text"))
+        answer_text(bits, words);
+    else if (!strcmp(words[0], "exact") || !strcmp(words[0], "recoverable"))
+        answer_choice(bits, words);
+    else if (!strcmp(words[0], "make_in"))
+        answer_make_in(bits, words);
+    else
+        putchar('-');
+    putchar('\n');
+}
+
+int main(void)
+{
+    char *record = NULL;
+    size_t room = 0;
+    while (getdelim(&record, &room, 0, stdin) > 0)
+        answer(record);
+    free(record);
+    return 0;
+}

@@ -1,0 +1,66 @@
+"""Columns of texts with numpy, pandas and Dask, each if it is installed. Stops at a result that is not as expected."""
+
+from array import array
+from typing import TYPE_CHECKING
+
+import byte_unit
+
+if TYPE_CHECKING:
+    import pandas
+
+
+def with_numpy() -> None:
+    """Parses texts in Arrow's layout, and views the results without copying."""
+    import numpy
+
+    data = numpy.frombuffer(b"1 KB1 x2 KiB", numpy.uint8)
+    offsets = numpy.array([0, 4, 7, 12], numpy.int64)
+    column = byte_unit.parse_buffers(data, offsets)
+    sizes = numpy.asarray(column.int64())
+    codes = numpy.frombuffer(column.codes, numpy.uint8)
+    assert sizes.tolist() == [1000, 0, 2048] and not sizes.flags.owndata
+    assert sizes[codes == 0].sum() == 3048
+
+
+def with_pandas() -> None:
+    """Parses a series, in which a missing text and one that is not a size become missing numbers."""
+    import pandas
+
+    quota = pandas.Series(["1 KB", None, "1 x", "2 KiB"], ["a", "b", "c", "d"])
+    sizes = sizes_of(quota)
+    assert sizes.dropna().to_dict() == {"a": 1000, "d": 2048}
+    assert sizes.dtype == "Int64"
+
+
+def sizes_of(quota: "pandas.Series") -> "pandas.Series":
+    """Returns the sizes of a series of texts, below 2^63."""
+    import pandas
+
+    return pandas.Series(byte_unit.parse_many(quota.fillna("")).ints(), quota.index, "Int64")
+
+
+def with_dask() -> None:
+    """Parses the partitions of a Dask series."""
+    import pandas
+    from dask import dataframe
+
+    texts = pandas.Series([f"{number} KiB" for number in range(1000)])
+    quota = dataframe.from_pandas(texts, npartitions=4)
+    sizes = quota.map_partitions(sizes_of, meta=("quota", "Int64"))
+    assert sizes.sum().compute() == 1024 * 499500
+
+
+def with_the_standard_library() -> None:
+    """Parses texts in Arrow's layout with 32-bit offsets."""
+    column = byte_unit.parse_buffers(b"1 KB1 x999 RB", array("i", [0, 4, 7, 13]))
+    assert column.ints() == [1000, None, 999 * 10**27]
+    assert column.validity() == b"\5"
+
+
+for part in (with_the_standard_library, with_numpy, with_pandas, with_dask):
+    try:
+        part()
+    except ImportError as error:
+        print(f"skipped: {part.__name__}: {error}")
+    else:
+        print(f"{part.__name__}: as expected")

@@ -1,0 +1,87 @@
+"""Builds the extension module, with the library inside.
+
+The header byte_unit.h and the archive libbyte_unit.a are those of the first of these that is there:
+
+1. the folder BYTE_UNIT_LIBRARY_DIR, which `tools/make-libraries DIR` filled, or a prefix with `include` and `lib`;
+2. what `pkg-config byte_unit` names, after `tools/install PREFIX`;
+3. the repository around this folder, if `tools/make-libraries` was run in it.
+"""
+
+import os
+import re
+import shutil
+import subprocess
+import sys
+
+from setuptools import Extension, setup
+
+HERE = os.path.dirname(os.path.abspath(__file__))
+HEADER, ARCHIVE = "byte_unit.h", "libbyte_unit.a"
+NOT_FOUND = (
+    f"byte_unit: {HEADER} and {ARCHIVE} are not found. Build them by `tools/make-libraries DIR` in the repository, and "
+    "set BYTE_UNIT_LIBRARY_DIR=DIR; or by `tools/install PREFIX`, so that `pkg-config byte_unit` finds them."
+)
+
+
+def pair(header, archive):
+    """Returns both paths if both are files."""
+    paths = (header, archive)
+    return paths if all(map(os.path.isfile, paths)) else None
+
+
+def from_variable():
+    folder = os.environ.get("BYTE_UNIT_LIBRARY_DIR")
+    if not folder:
+        return None
+    if not os.path.isabs(folder):
+        sys.exit(f"byte_unit: BYTE_UNIT_LIBRARY_DIR={folder} is not an absolute path")
+    flat = pair(os.path.join(folder, HEADER), os.path.join(folder, ARCHIVE))
+    found = flat or pair(os.path.join(folder, "include", HEADER), os.path.join(folder, "lib", ARCHIVE))
+    if not found:
+        sys.exit(f"byte_unit: BYTE_UNIT_LIBRARY_DIR={folder} has no {HEADER} and {ARCHIVE}")
+    return found
+
+
+def from_pkg_config():
+    def variable(name):
+        words = ["pkg-config", f"--variable={name}", "byte_unit"]
+        return subprocess.run(words, stdout=subprocess.PIPE, stderr=subprocess.DEVNULL, text=True).stdout.strip()
+
+    if not shutil.which("pkg-config"):
+        return None
+    return pair(os.path.join(variable("includedir"), HEADER), os.path.join(variable("libdir"), ARCHIVE))
+
+
+def from_repository():
+    root = os.path.dirname(os.path.dirname(HERE))
+    return pair(os.path.join(root, "interface", HEADER), os.path.join(root, "crates/byte_unit_c/out/libbyte_unit_c.a"))
+
+
+def version_of(header):
+    with open(header, encoding="utf-8") as file:
+        version = re.search(r'^#define BYTE_UNIT_VERSION_STRING "(.+)"$', file.read(), re.MULTILINE)
+    return version[1] if version else sys.exit(f"byte_unit: {header} has no version: is it that of an older library?")
+
+
+def extension(header, archive):
+    names = ["values", "parse", "columns", "format", "module"]
+    return Extension(
+        "byte_unit._native",
+        sources=[f"native/{name}.c" for name in names],
+        include_dirs=[os.path.dirname(header)],
+        extra_objects=[archive],
+        extra_compile_args=["-std=c11", "-Wall", "-Wextra", "-fvisibility=hidden"],
+        extra_link_args=["-Wl,--exclude-libs,ALL"],  # the module exports its own name alone
+        py_limited_api=True,
+    )
+
+
+found = from_variable() or from_pkg_config() or from_repository()
+if not found:
+    sys.exit(NOT_FOUND)
+setup(
+    version=version_of(found[0]),
+    ext_modules=[extension(*map(os.path.abspath, found))],
+    # Always compiled again: a file of an earlier build may have another library inside.
+    options={"bdist_wheel": {"py_limited_api": "cp311"}, "build_ext": {"force": True}},
+)

@@ -1,0 +1,80 @@
+"""The exceptions."""
+
+from decimal import Decimal
+
+from . import _native
+
+
+class ByteUnitError(ValueError):
+    """The base class of this package's errors.
+
+    Raised itself if an argument is out of range.
+
+    >>> text(10**30)
+    Traceback (most recent call last):
+    byte_unit.ByteUnitError: size must be from 0 to 10**30 - 1, not 1000000000000000000000000000000
+    """
+
+    __module__ = "byte_unit"
+
+
+class SizeError(ByteUnitError):
+    """A text is not a size, or not the name of a unit.
+
+    >>> try:
+    ...     parse("1 Kx")
+    ... except SizeError as error:
+    ...     print(error)
+    ...     print(error.name, error.character, error.expected, error.also_expect_no_character)
+    the character 'x' is incorrect ('B' or 'b' or no character is expected)
+    unit x Bb True
+
+    The names are those of the codes in byte_unit.h:
+
+    - `no_value`: the text is empty or has only white space.
+    - `not_number`: a digit is expected in place of `character`, or after it if the text ends there.
+    - `number_too_long`: the whole part is 2^112 or more, or more than 28 digits follow the decimal point.
+    - `exceeded_bounds`: the size is 10^30 or more. `number` is the number in the text, without its unit.
+    - `unit`: the unit is misspelled at `character`. In its place one of the characters in `expected` is expected, or
+      the end of the text if `also_expect_no_character` is true.
+    - `not_utf8`: the text has bytes that are not UTF-8, or a lone surrogate.
+
+    `character` and `number` are `None` if the name does not use them. An instance can be pickled and copied.
+    """
+
+    __module__ = "byte_unit"
+
+    def __init__(
+        self,
+        message: str,
+        name: str,
+        character: str | None = None,
+        expected: str = "",
+        also_expect_no_character: bool = False,
+        number: Decimal | None = None,
+    ) -> None:
+        """Creates the error. All arguments are in `args`, from which it is pickled and copied."""
+        super().__init__(message, name, character, expected, also_expect_no_character, number)
+        self.name = name
+        self.character = character
+        self.expected = expected
+        self.also_expect_no_character = also_expect_no_character
+        self.number = number
+
+    def __str__(self) -> str:
+        """Returns the message."""
+        return str(self.args[0])
+
+
+def decimal_of(parts: tuple[int, int]) -> Decimal:
+    """Returns the decimal with a whole part and a fraction, which is scaled by 10^28."""
+    whole, fraction = parts
+    digits = f"{fraction:028}".rstrip("0")
+    return Decimal(f"{whole}.{digits}" if digits else whole)
+
+
+def error_of(fields: "_native._Error", message: str) -> SizeError:
+    """Returns the error with the fields that the extension module returned."""
+    code, character, expected, also_expect_no_character, number = fields
+    written = None if number is None else decimal_of(number)
+    return SizeError(message, _native.CODES[code], character, expected, also_expect_no_character, written)

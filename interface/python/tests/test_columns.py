@@ -1,0 +1,221 @@
+"""Many texts in one call: lists, buffers, numpy and pandas."""
+
+import copy
+import importlib.util
+import mmap
+import pickle
+import random
+import tempfile
+import unittest
+from array import array
+from collections.abc import Iterator
+from itertools import accumulate
+
+import byte_unit
+from byte_unit import ByteUnitError, Column
+
+TEXTS = ["1 KB", "", "1.5 KiB", "1 x", "999 RB", "é", "1" * 40, "1000 RB", "9 b", "\ud800", "18446744073709551615"]
+CODES = [0, 1, 0, 5, 0, 2, 3, 4, 0, 6, 0]
+SIZES = [1000, None, 1536, None, 999 * 10**27, None, None, None, 2, None, 2**64 - 1]
+HAS_NUMPY = importlib.util.find_spec("numpy") is not None
+HAS_PANDAS = importlib.util.find_spec("pandas") is not None
+
+
+def layout(texts: list[bytes], code: str, start: int = 0) -> tuple[bytes, "array[int]"]:
+    """Returns texts in Arrow's layout, the first at `start`."""
+    offsets = array(code, accumulate(map(len, texts), initial=start))
+    return b"\xff" * start + b"".join(texts), offsets
+
+
+def encoded(texts: list[str]) -> list[bytes]:
+    return [text.encode("utf-8", "surrogatepass") for text in texts]
+
+
+class Lists(unittest.TestCase):
+    def test_codes_and_sizes(self) -> None:
+        for texts in (TEXTS, tuple(TEXTS), iter(TEXTS), dict.fromkeys(TEXTS), encoded(TEXTS)):
+            column = byte_unit.parse_many(texts)
+            self.assertEqual(list(column.codes), CODES)
+            self.assertEqual(column.ints(), SIZES)
+            self.assertEqual(len(column), len(TEXTS))
+            self.assertEqual(column.sizes, b"".join((size or 0).to_bytes(16, "little") for size in SIZES))
+
+    def test_flags(self) -> None:
+        self.assertEqual(byte_unit.parse_many(["9 b", "1 kb"], ignore_case=True).ints(), [9, 1000])
+        self.assertEqual(byte_unit.parse_many(["9 b", "1 KB"], bits=True).ints(), [9, 8000])
+        for flag in ("bits", "ignore_case"):
+            with self.assertRaises(TypeError):
+                byte_unit.parse_many([], **{flag: 1})
+            with self.assertRaises(TypeError):
+                byte_unit.parse_buffers(b"", array("q"), **{flag: 1})
+
+    def test_types(self) -> None:
+        for wrong in ("1 KB", b"1 KB", 3, None, bytearray(b"1"), object()):
+            with self.subTest(wrong=wrong), self.assertRaises(TypeError):
+                byte_unit.parse_many(wrong)
+        for wrong in (None, 1, float("nan"), ["1"]):
+            with self.subTest(wrong=wrong), self.assertRaisesRegex(TypeError, r"texts\[1\] must be str or bytes"):
+                byte_unit.parse_many(["1", wrong])
+
+    def test_an_error_of_the_iterable(self) -> None:
+        def texts() -> "Iterator[str]":
+            yield "1 KB"
+            raise KeyError("no more")
+
+        with self.assertRaises(KeyError):
+            byte_unit.parse_many(texts())
+
+
+class Buffers(unittest.TestCase):
+    def test_offsets(self) -> None:
+        texts = encoded(TEXTS)
+        for code in "iq":
+            for start in (0, 7):
+                data, offsets = layout(texts, code, start)
+                for given in (data, bytearray(data), memoryview(data), array("B", data)):
+                    self.assertEqual(byte_unit.parse_buffers(given, offsets), byte_unit.parse_many(TEXTS))
+
+    def test_views_without_copying(self) -> None:
+        data, offsets = layout(encoded(TEXTS), "q")
+        raw = memoryview(offsets.tobytes())
+        self.assertEqual(byte_unit.parse_buffers(data, raw.cast("q")), byte_unit.parse_many(TEXTS))
+        part = memoryview(offsets)[2:6]
+        self.assertEqual(byte_unit.parse_buffers(data, part).ints(), SIZES[2:5])
+
+    def test_a_mapped_file(self) -> None:
+        data, offsets = layout(encoded(TEXTS), "i")
+        with tempfile.TemporaryFile() as file:
+            file.write(data)
+            file.flush()
+            with mmap.mmap(file.fileno(), 0, access=mmap.ACCESS_READ) as mapped:
+                self.assertEqual(byte_unit.parse_buffers(mapped, offsets).ints(), SIZES)
+
+    def test_nothing(self) -> None:
+        for code in "iq":
+            for entries in ([], [0], [3]):
+                column = byte_unit.parse_buffers(b"abc", array(code, entries))
+                self.assertEqual((len(column), column.sizes, column.codes), (0, b"", b""))
+        self.assertEqual(byte_unit.parse_buffers(b"", array("i", [0, 0])).codes, b"\1")
+
+    def test_offsets_out_of_range(self) -> None:
+        rows = [[-1, 0], [0, -1], [0, 4], [2, 1], [0, 3, 2], [0, 1, 4], [4], [-1], [0, 2**31 - 1], [-(2**31), 3]]
+        for code in "iq":
+            for entries in rows:
+                with self.subTest(code, entries=entries), self.assertRaises(ByteUnitError):
+                    byte_unit.parse_buffers(b"123", array(code, entries))
+        for entries in ([0, 2**63 - 1], [0, 2**32], [0, 2**32 + 3], [-(2**63), 3]):
+            with self.assertRaises(ByteUnitError):
+                byte_unit.parse_buffers(b"123", array("q", entries))
+
+    def test_types(self) -> None:
+        good = array("q", [0, 1])
+        for wrong in (None, "1", 1, [0, 1], object()):
+            with self.subTest(wrong=wrong), self.assertRaises(TypeError):
+                byte_unit.parse_buffers(wrong, good)
+            with self.subTest(wrong=wrong), self.assertRaises(TypeError):
+                byte_unit.parse_buffers(b"1", wrong)
+        for code in "bBhHILQfd":
+            with self.subTest(code), self.assertRaises(TypeError):
+                byte_unit.parse_buffers(b"1", array(code, [0, 1]))
+        with self.assertRaises(TypeError):
+            byte_unit.parse_buffers(b"1", memoryview(bytes(17))[1:])
+        with self.assertRaises(TypeError):
+            byte_unit.parse_buffers(b"1", memoryview(bytes(17))[1:].cast("q"))
+        with self.assertRaises(ByteUnitError):
+            byte_unit.parse_buffers(memoryview(b"1234")[::2], good)
+        with self.assertRaises(ByteUnitError):
+            byte_unit.parse_buffers(b"1", memoryview(array("q", [0, 0, 1]))[::2])
+        released = memoryview(b"1")
+        released.release()
+        with self.assertRaises(ByteUnitError):
+            byte_unit.parse_buffers(released, good)
+
+
+class Results(unittest.TestCase):
+    def test_helpers(self) -> None:
+        column = byte_unit.parse_many(TEXTS)
+        self.assertEqual([place for place, _ in column.errors()], [i for i, code in enumerate(CODES) if code])
+        bits = sum(1 << i for i, code in enumerate(CODES) if not code)
+        self.assertEqual(column.validity(), bits.to_bytes(2, "little"))
+        self.assertEqual(byte_unit.parse_many([]).validity(), b"")
+        self.assertEqual(byte_unit.parse_many(["1"] * 8).validity(), b"\xff")
+
+    def test_int64(self) -> None:
+        view = byte_unit.parse_many(["1", "x", str(2**63 - 1)]).int64()
+        self.assertEqual(view.tolist(), [1, 0, 2**63 - 1])
+        self.assertEqual((view.format, view.strides, view.readonly), ("q", (16,), True))
+        self.assertEqual(byte_unit.parse_many([]).int64().tolist(), [])
+        for size in (2**63, 2**64 - 1, 2**64, 2**72, 2**96, 10**30 - 1):
+            with self.subTest(size), self.assertRaises(ByteUnitError):
+                byte_unit.parse_many(["1", str(size), "1"]).int64()
+
+    def test_copies(self) -> None:
+        column = byte_unit.parse_many(TEXTS)
+        self.assertEqual(pickle.loads(pickle.dumps(column)), column)
+        self.assertEqual(copy.deepcopy(column), column)
+        with self.assertRaises(ByteUnitError):
+            Column(bytes(15), bytes(1))
+
+    def test_random_texts(self) -> None:
+        rng = random.Random(1)
+        texts = ["".join(rng.choices("0123456789.KMibB é", k=rng.randrange(9))) for _ in range(3000)]
+        data, offsets = layout(encoded(texts), "q")
+        column = byte_unit.parse_buffers(data, offsets)
+        self.assertEqual(column, byte_unit.parse_many(texts))
+        for text, size in zip(texts, column.ints(), strict=True):
+            try:
+                self.assertEqual(byte_unit.parse(text), size)
+            except byte_unit.SizeError:
+                self.assertIsNone(size)
+
+
+@unittest.skipUnless(HAS_NUMPY, "numpy is not installed")
+class Numpy(unittest.TestCase):
+    def test_results_are_views(self) -> None:
+        import numpy
+
+        column = byte_unit.parse_many(["1 KB", "x", "2 KiB"])
+        sizes = numpy.asarray(column.int64())
+        codes = numpy.frombuffer(column.codes, numpy.uint8)
+        self.assertEqual((sizes.tolist(), codes.tolist()), ([1000, 0, 2048], [0, 2, 0]))
+        self.assertFalse(sizes.flags.owndata or codes.flags.owndata)
+        address = numpy.frombuffer(column.sizes, numpy.uint8).__array_interface__["data"][0]
+        self.assertEqual(sizes.__array_interface__["data"][0], address)
+
+    def test_arguments(self) -> None:
+        import numpy
+
+        data, offsets = layout(encoded(TEXTS), "q")
+        raw = numpy.frombuffer(data, numpy.uint8)
+        for dtype in (numpy.int32, numpy.int64):
+            self.assertEqual(byte_unit.parse_buffers(raw, numpy.array(offsets, dtype)).ints(), SIZES)
+        for dtype in (numpy.uint32, numpy.uint64, numpy.int16, numpy.float64, ">i8"):
+            with self.subTest(dtype), self.assertRaises(TypeError):
+                byte_unit.parse_buffers(raw, numpy.array(offsets, dtype))
+        with self.assertRaises(ByteUnitError):
+            byte_unit.parse_buffers(raw, numpy.zeros(10, numpy.int64)[::2])
+        with self.assertRaises(TypeError):
+            byte_unit.parse_buffers(raw, numpy.zeros((2, 2), numpy.int64))
+        self.assertEqual(byte_unit.parse_many(numpy.array(["1 KB", "2 KB"])).ints(), [1000, 2000])
+        self.assertEqual(byte_unit.parse_many(numpy.array([b"1 KB", b"2 KB"])).ints(), [1000, 2000])
+        self.assertEqual(byte_unit.text(numpy.int64(1536)), "1.5 KiB")
+
+
+@unittest.skipUnless(HAS_PANDAS, "pandas is not installed")
+class Pandas(unittest.TestCase):
+    def test_series(self) -> None:
+        import numpy
+        import pandas
+
+        quota = pandas.Series(["1 KB", "", "2 KiB"])
+        column = byte_unit.parse_many(quota)
+        codes = numpy.frombuffer(column.codes, numpy.uint8)
+        sizes = pandas.Series(column.int64(), quota.index, "Int64").mask(codes != 0)
+        self.assertEqual(sizes.sum(), 3048)
+        self.assertEqual(sizes.isna().tolist(), [False, True, False])
+        with self.assertRaises(TypeError):
+            byte_unit.parse_many(pandas.Series(["1 KB", None]))
+
+
+if __name__ == "__main__":
+    unittest.main()

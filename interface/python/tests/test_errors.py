@@ -1,0 +1,78 @@
+"""Errors: their classes, copies, pickles and pools of processes."""
+
+import concurrent.futures
+import copy
+import multiprocessing
+import pickle
+import unittest
+from decimal import Decimal
+
+import byte_unit
+from byte_unit import ByteUnitError, SizeError
+
+TEXTS = ["", "x", "1" * 40, "1000.5 RB", "1 Kx", b"\xff", "\ud800"]
+
+
+def caught(text: str | bytes) -> SizeError:
+    try:
+        byte_unit.parse(text)
+    except SizeError as error:
+        return error
+    raise AssertionError(text)
+
+
+def fields(error: SizeError) -> tuple[object, ...]:
+    return (error.name, error.character, error.expected, error.also_expect_no_character, error.number, str(error))
+
+
+class Errors(unittest.TestCase):
+    def test_classes(self) -> None:
+        self.assertTrue(issubclass(SizeError, ByteUnitError))
+        self.assertTrue(issubclass(ByteUnitError, ValueError))
+        self.assertEqual([cls.__module__ for cls in (SizeError, ByteUnitError)], ["byte_unit"] * 2)
+
+    def test_copies(self) -> None:
+        for text in TEXTS:
+            error = caught(text)
+            error.add_note("in a test")
+            copies = [copy.copy(error), copy.deepcopy(error)]
+            copies += [pickle.loads(pickle.dumps(error, version)) for version in range(pickle.HIGHEST_PROTOCOL + 1)]
+            for other in copies:
+                self.assertIs(type(other), SizeError)
+                self.assertEqual(fields(other), fields(error))
+                self.assertEqual(other.__notes__, ["in a test"])
+        for error in (ByteUnitError("a message"),):
+            self.assertEqual(pickle.loads(pickle.dumps(error)).args, error.args)
+
+    def test_subclass(self) -> None:
+        error = copy.copy(Renamed("a message", "unit", "x"))
+        self.assertEqual((type(error), error.character), (Renamed, "x"))
+
+
+class Renamed(SizeError):
+    """A subclass, as a caller may write one."""
+
+
+class Pools(unittest.TestCase):
+    def test_executor(self) -> None:
+        for method in multiprocessing.get_all_start_methods():
+            context = multiprocessing.get_context(method)
+            with self.subTest(method), concurrent.futures.ProcessPoolExecutor(2, mp_context=context) as pool:
+                results = [pool.submit(byte_unit.parse, text) for text in ("1 KB", "1000.5 RB", "2 KB")]
+                with self.assertRaises(SizeError) as error:
+                    results[1].result(timeout=60)
+                self.assertEqual(error.exception.number, Decimal("1000.5"))
+                self.assertEqual([results[0].result(timeout=60), results[2].result(timeout=60)], [1000, 2000])
+
+    def test_pool(self) -> None:
+        with multiprocessing.Pool(2) as pool:
+            with self.assertRaises(SizeError) as error:
+                pool.map_async(byte_unit.parse, ["1 KB", "1 x"]).get(timeout=60)
+            self.assertEqual(error.exception.character, "x")
+            with self.assertRaises(ByteUnitError):
+                pool.map_async(byte_unit.text, [1, 10**30]).get(timeout=60)
+            self.assertEqual(pool.map_async(byte_unit.parse, ["1 KB", "2 KB"]).get(timeout=60), [1000, 2000])
+
+
+if __name__ == "__main__":
+    unittest.main()

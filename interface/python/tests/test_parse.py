@@ -1,0 +1,139 @@
+"""Parsing of one text: sizes, errors, types and flags."""
+
+import unittest
+from decimal import Decimal
+
+import byte_unit
+from byte_unit import SizeError
+
+TEN = "'B', 'K', 'M', 'G', 'T', 'P', 'E', 'Z', 'Y' or 'R' or no character"
+
+# text, bits, ignore_case, size
+SIZES = [
+    ("0", False, False, 0),
+    ("12", False, False, 12),
+    ("12", True, False, 12),
+    ("1.5 KiB", False, False, 1536),
+    ("100 MB", False, False, 10**8),
+    ("  100 MB\t\n", False, False, 10**8),
+    ("\u3000100 MB\u00a0", False, False, 10**8),
+    ("9 b", False, False, 2),
+    ("9 b", False, True, 9),
+    ("9 b", True, True, 9),
+    ("1 KB", True, False, 8000),
+    ("1 kib", False, True, 1024),
+    ("50.84 MB", False, False, 50_840_000),
+    ("18446744073709551615", False, False, 2**64 - 1),
+    ("18446744073709551616", False, False, 2**64),
+    ("9223372036854775808", False, False, 2**63),
+    ("999 RB", False, False, 999 * 10**27),
+    ("999999999999999999999999999999", False, False, 10**30 - 1),
+    ("0.0000000000000000000000000001 RB", False, False, 1),
+    ("0" * 100_000 + "1", False, False, 1),
+]
+
+# text, flags, name, character, expected, also_expect_no_character, number, message
+ERRORS = [
+    ("", {}, "no_value", None, "", False, None, "no value can be found"),
+    (" \u2003\n", {}, "no_value", None, "", False, None, "no value can be found"),
+    ("-1", {}, "not_number", "-", "", False, None, "the character '-' is not a number"),
+    ("1.", {}, "not_number", ".", "", False, None, "the character '.' is not a number"),
+    ("1.é", {"bits": True}, "not_number", "é", "", False, None, "the character 'é' is not a number"),
+    ("\0", {}, "not_number", "\0", "", False, None, "the character '\\0' is not a number"),
+    ("1" * 40, {}, "number_too_long", None, "", False, None, "value number is too long"),
+    ("1." + "0" * 29, {}, "number_too_long", None, "", False, None, "value number is too long"),
+    ("1x", {}, "unit", "x", "BKMGTPEZYR", True, None, f"the character 'x' is incorrect ({TEN} is expected)"),
+    ("1 byte", {}, "unit", "y", "i", True, None, "the character 'y' is incorrect ('i' or no character is expected)"),
+    ("1 KÖB", {}, "unit", "Ö", "Bb", True, None,
+     "the character 'Ö' is incorrect ('B' or 'b' or no character is expected)"),
+    ("1K😀", {"ignore_case": True}, "unit", "😀", "B", True, None,
+     "the character '😀' is incorrect ('B' or no character is expected)"),
+    ("1000.5 RB", {}, "exceeded_bounds", None, "", False, Decimal("1000.5"),
+     "the value 1000.5 exceeds the valid range"),
+    (str(10**30), {}, "exceeded_bounds", None, "", False, Decimal(10**30),
+     f"the value {10**30} exceeds the valid range"),
+    (b"\xff", {}, "not_utf8", None, "", False, None, "the text is not UTF-8"),
+    (b"1\xed\xa0\x80", {}, "not_utf8", None, "", False, None, "the text is not UTF-8"),
+    ("1\ud800", {}, "not_utf8", None, "", False, None, "the text is not UTF-8"),
+    ("\udcc3\udca9", {}, "not_utf8", None, "", False, None, "the text is not UTF-8"),
+]
+
+# text, bits, ignore_case, unit
+UNITS = [
+    ("", False, False, "B"),
+    ("", True, False, "b"),
+    ("m", False, False, "MB"),
+    ("m", True, False, "Mb"),
+    ("kb", False, False, "Kb"),
+    ("kb", False, True, "KB"),
+    ("KIBITS", False, True, "Kib"),
+    ("bit", False, True, "b"),
+    ("rib", False, False, "Rib"),
+    ("RiB", True, False, "RiB"),
+    (" MBits\t", False, False, "Mb"),
+    ("\u3000", False, False, "B"),
+]
+
+
+class Parse(unittest.TestCase):
+    def test_sizes(self) -> None:
+        for text, bits, ignore_case, size in SIZES:
+            with self.subTest(text[:40], bits=bits, ignore_case=ignore_case):
+                self.assertEqual(byte_unit.parse(text, bits=bits, ignore_case=ignore_case), size)
+                self.assertEqual(byte_unit.parse(text.encode(), bits=bits, ignore_case=ignore_case), size)
+                self.assertIsNone(byte_unit.explain(text, bits=bits, ignore_case=ignore_case))
+
+    def test_errors(self) -> None:
+        for text, flags, *fields, message in ERRORS:
+            with self.subTest(text[:40], **flags):
+                with self.assertRaises(SizeError) as caught:
+                    byte_unit.parse(text, **flags)
+                error = caught.exception
+                seen = [error.name, error.character, error.expected, error.also_expect_no_character, error.number]
+                self.assertEqual(seen, fields)
+                self.assertEqual(str(error), message)
+                self.assertEqual(byte_unit.explain(text, **flags), message)
+                self.assertIn(error.name, byte_unit.ERROR_NAMES)
+
+    def test_types(self) -> None:
+        for call in (byte_unit.parse, byte_unit.explain, byte_unit.parse_unit):
+            for wrong in (None, 1, 1.5, ["1"], bytearray(b"1"), memoryview(b"1"), object()):
+                with self.subTest(call.__name__, wrong=wrong), self.assertRaises(TypeError):
+                    call(wrong)
+            for flag in ("bits", "ignore_case"):
+                for value in (None, 0, 1, "no", 1.0):
+                    with self.subTest(call.__name__, flag=flag, value=value), self.assertRaises(TypeError):
+                        call("1", **{flag: value})
+
+    def test_subclasses_of_str(self) -> None:
+        class Word(str):
+            pass
+
+        self.assertEqual(byte_unit.parse(Word("1.5 KiB")), 1536)
+        self.assertEqual(byte_unit.parse_many([Word("1.5 KiB")]).ints(), [1536])
+
+    def test_units(self) -> None:
+        for text, bits, ignore_case, unit in UNITS:
+            with self.subTest(text, bits=bits, ignore_case=ignore_case):
+                self.assertEqual(byte_unit.parse_unit(text, bits=bits, ignore_case=ignore_case), unit)
+        for unit in byte_unit.UNITS:
+            self.assertEqual(byte_unit.parse_unit(unit), unit)
+
+    def test_errors_of_units(self) -> None:
+        """The message is that of a size with the unit."""
+        for text in ("x", "Kx", "Kix", "bi", "bx", "bitx", "bitsx", "biz", "K x", " x ", "1", "é", "KiBB", "bI"):
+            for ignore_case in (False, True):
+                with self.subTest(text, ignore_case=ignore_case), self.assertRaises(SizeError) as caught:
+                    byte_unit.parse_unit(text, ignore_case=ignore_case)
+                self.assertEqual(caught.exception.name, "unit")
+                with self.assertRaises(SizeError) as of_size:
+                    byte_unit.parse(f"1 {text}", ignore_case=ignore_case)
+                self.assertEqual(caught.exception.args, of_size.exception.args)
+        for text in (b"\xff", "\ud800"):
+            with self.assertRaises(SizeError) as caught:
+                byte_unit.parse_unit(text)
+            self.assertEqual((caught.exception.name, str(caught.exception)), ("not_utf8", "the text is not UTF-8"))
+
+
+if __name__ == "__main__":
+    unittest.main()

@@ -1,0 +1,134 @@
+//! Answers test vectors: reads records that end with a zero byte, each a call of `vectors/byte-unit.txt` with its text
+//! unescaped, and writes a line with the answer for each, or `-` for a call that the package does not have.
+
+use std::io::{self, BufRead, BufWriter, Write};
+
+use byte_unit::{Align, Bit, Byte, FormatSpec, ParseError, Sign, Unit, UnitParseError, UnitType, ValueParseError};
+
+fn unit_error(error: &UnitParseError) -> String {
+    let expected: String = error.expected_characters.iter().collect();
+    let end = if error.also_expect_no_character { " end" } else { "" };
+    format!("Unit \"{}\" [{expected}]{end}", error.character)
+}
+
+fn error_of(error: ParseError) -> String {
+    match error {
+        ParseError::Value(ValueParseError::NoValue) => "NoValue".to_owned(),
+        ParseError::Value(ValueParseError::NotNumber(c)) => format!("NotNumber \"{c}\""),
+        ParseError::Value(ValueParseError::NumberTooLong) => "NumberTooLong".to_owned(),
+        ParseError::Value(ValueParseError::ExceededBounds(number)) => format!("ExceededBounds {number}"),
+        ParseError::Unit(error) => unit_error(&error),
+    }
+}
+
+fn parsed(text: &str, in_bits: bool, ignore_case: bool) -> Result<u128, ParseError> {
+    if in_bits {
+        Bit::parse_str(text).map(Bit::as_u128)
+    } else {
+        Byte::parse_str(text, ignore_case).map(Byte::as_u128)
+    }
+}
+
+/// Returns the spec of a format string.
+fn spec_of(word: &str) -> FormatSpec {
+    let mut rest = word.trim_start_matches('{').trim_start_matches(':').trim_end_matches('}');
+    let mut spec = FormatSpec::PLAIN;
+    for (sign, align) in [("<", Align::Left), ("^", Align::Center), (">", Align::Right)] {
+        if let Some(more) = rest.strip_prefix(sign) {
+            (rest, spec.align) = (more, Some(align));
+        }
+    }
+    for (sign, value) in [("+", Sign::Plus), ("-", Sign::Minus)] {
+        if let Some(more) = rest.strip_prefix(sign) {
+            (rest, spec.sign) = (more, value);
+        }
+    }
+    if let Some(more) = rest.strip_prefix('#') {
+        (rest, spec.alternate) = (more, true);
+    }
+    let (width, precision) = rest.split_once('.').unwrap_or((rest, ""));
+    FormatSpec { width: width.parse().ok(), precision: precision.parse().ok(), ..spec }
+}
+
+fn unit_of(name: &str) -> Unit {
+    Unit::parse_str(name, false, true).unwrap()
+}
+
+fn type_of(name: &str) -> UnitType {
+    match name {
+        "binary" => UnitType::Binary,
+        "decimal" => UnitType::Decimal,
+        _ => UnitType::Both,
+    }
+}
+
+/// Answers a call on a size of either type.
+macro_rules! answer_of_size {
+    ($size:expr, $words:expr) => {{
+        let (size, words) = ($size, $words);
+        let mut out = vec![0; 1 << 18];
+        let either = words[2] == "any";
+        match (words[0], words[3]) {
+            ("text", "in") => format!(
+                "\"{}\"",
+                size.get_adjusted_unit(unit_of(words[4])).write_text(spec_of(words[5]), &mut out).unwrap()
+            ),
+            ("text", "by") => format!(
+                "\"{}\"",
+                size.get_appropriate_unit(type_of(words[4])).write_text(spec_of(words[5]), &mut out).unwrap()
+            ),
+            ("text", spec) => format!("\"{}\"", size.write_text(spec_of(spec), &mut out).unwrap()),
+            ("exact", _) => {
+                let (count, unit) = size.get_exact_unit(either);
+                format!("{count} {unit}")
+            }
+            (_, precision) => {
+                let (count, unit) = size.get_recoverable_unit(either, precision.parse().unwrap());
+                format!("{count} {unit}")
+            }
+        }
+    }};
+}
+
+fn made(number: u128, unit: Unit, in_bits: bool) -> Option<u128> {
+    if in_bits {
+        Bit::from_u128_with_unit(number, unit).map(Bit::as_u128)
+    } else {
+        Byte::from_u128_with_unit(number, unit).map(Byte::as_u128)
+    }
+}
+
+/// Returns the answer to a call, or `-` if the package does not have it.
+fn answer(words: &[&str], text: &str) -> String {
+    let in_bits = words.get(1) == Some(&"bit");
+    let uncased = words.contains(&"uncased");
+    match words[0] {
+        "parse" => parsed(text, in_bits, uncased).map_or_else(error_of, |size| size.to_string()),
+        "unit" => Unit::parse_str(text, uncased, words[2] == "bytes")
+            .map_or_else(|error| unit_error(&error), |unit| unit.to_string()),
+        "says" => format!("\"{}\"", parsed(text, in_bits, uncased).unwrap_err()),
+        "make_in" => made(words[2].parse().unwrap(), unit_of(words[3]), in_bits)
+            .map_or_else(|| "none".to_owned(), |size| size.to_string()),
+        "text" | "exact" | "recoverable" => {
+            let place = if words[0] == "text" { 2 } else { words.len() - 1 };
+            let size = words[place].parse().unwrap();
+            if in_bits {
+                answer_of_size!(Bit::from_u128(size).unwrap(), words)
+            } else {
+                answer_of_size!(Byte::from_u128(size).unwrap(), words)
+            }
+        }
+        _ => "-".to_owned(),
+    }
+}
+
+fn main() -> io::Result<()> {
+    let mut out = BufWriter::new(io::stdout());
+    for record in io::stdin().lock().split(0) {
+        let record = String::from_utf8(record?).map_err(|error| io::Error::new(io::ErrorKind::InvalidData, error))?;
+        let (call, text) = record.split_once('"').unwrap_or((&record, ""));
+        let words: Vec<&str> = call.split_whitespace().collect();
+        writeln!(out, "{}", answer(&words, text))?;
+    }
+    out.flush()
+}

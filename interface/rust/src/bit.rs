@@ -1,0 +1,32 @@
+//! Sizes in bits.
+
+use crate::errors::ParseError;
+use crate::library::{self, Kind};
+
+size_type! { Bit, Kind::Bit, "bits", "bit" }
+size_methods! { Bit, AdjustedBit, Kind::Bit, allow_in_bytes }
+adjusted_type! { Bit, AdjustedBit, Kind::Bit, get_bit }
+conversions! { Bit }
+constants! { Bit, Kind::Bit, BIT }
+
+impl Bit {
+    /// Parses a size from a string, such as `10`, `10 Kb`, `1.5 MiB` or `80 Mbit`, rounded up to a whole bit.
+    ///
+    /// White space at both ends is trimmed. `b` means bits and `B` bytes. Without a suffix the unit is of bits.
+    ///
+    /// # Errors
+    ///
+    /// Returns a `ParseError` for the first error from the left.
+    ///
+    /// # Examples
+    ///
+    /// ```
+    /// use byte_unit::Bit;
+    ///
+    /// assert_eq!(Bit::parse_str("123Kib").unwrap().as_u64(), 123 * 1024);
+    /// assert_eq!(Bit::parse_str("1.5 KB").unwrap().as_u64(), 12_000);
+    /// ```
+    pub fn parse_str<S: AsRef<str>>(s: S) -> Result<Self, ParseError> {
+        library::parse(s.as_ref(), Kind::Bit, false).map(Bit)
+    }
+}

@@ -1,0 +1,77 @@
+//! Exact sizes in bytes and in bits.
+//!
+//! The names and signatures are those of the crate byte-unit 5.2.6 by magiclen. Sizes are parsed and formatted, and
+//! units are chosen, by the library `libbyte_unit.a`, which is written in Rattle and proved: no digit is lost.
+//!
+//! # Examples
+//!
+//! ```
+//! use byte_unit::{Byte, Unit, UnitType};
+//!
+//! let quota = Byte::parse_str("1.5 GiB", false)?;
+//! let free = quota.subtract(Byte::from_u64_with_unit(900, Unit::MB).unwrap()).unwrap();
+//! assert_eq!(free.as_u64(), 710_612_736);
+//! assert_eq!(format!("{free:#}"), "693957.75 KiB");
+//! assert_eq!(format!("{:.2}", free.get_appropriate_unit(UnitType::Binary)), "677.69 MiB");
+//! # Ok::<(), byte_unit::ParseError>(())
+//! ```
+//!
+//! # Formatting
+//!
+//! | Format | Text of 10240 bytes |
+//! |---|---|
+//! | `{}` | `10240`; width, fill, alignment, sign and leading zeros as for an integer |
+//! | `{:#}` | `10 KiB`: the largest unit that represents the size exactly with at most 3 digits after the point |
+//! | `{:#.6}` | at most 6 digits, and never more than 28 |
+//! | `{:#12}`, `{:>#12}` | `10       KiB`, `      10 KiB`: spaces after or before the number |
+//! | `{:-#}`, `{:+#}` | `10KiB`, `10 KiB`: no spaces, or unit and spaces take four columns |
+//!
+//! An adjusted size always has its unit: `{}` is all its digits, `{:.2}` is rounded to two places, ties to even, and
+//! `{:#.2}` to at most two, ties up, without trailing zeros. With a unit, the padding is always spaces.
+//!
+//! # Without std
+//!
+//! No call allocates. Without the feature `std`, the package needs `core` alone; the errors then implement
+//! `core::error::Error` from rustc 1.81 on.
+#![no_std]
+#![warn(missing_docs)]
+
+#[cfg(any(feature = "std", test))]
+extern crate std;
+
+#[macro_use]
+mod size;
+#[macro_use]
+mod methods;
+#[macro_use]
+mod adjusted;
+#[macro_use]
+mod convert;
+#[macro_use]
+mod constants;
+
+mod bit;
+mod byte;
+mod decimal;
+mod errors;
+mod library;
+#[cfg(feature = "serde")]
+mod serde_traits;
+mod spec;
+mod sys;
+mod text;
+mod unit;
+
+#[cfg(test)]
+mod tests;
+
+pub use bit::{AdjustedBit, Bit};
+pub use byte::{AdjustedByte, Byte};
+pub use core::num::TryFromIntError;
+pub use decimal::Decimal;
+pub use errors::{ExceededBoundsError, InexactFloatError, Needed, ParseError, UnitParseError, ValueParseError};
+pub use spec::{Align, FormatSpec, Sign};
+pub use unit::{Unit, UnitType};
+
+/// Sizes are below this: 10^30.
+const SIZE_LIMIT: u128 = 10u128.pow(30);

@@ -1,0 +1,99 @@
+//! Texts of sizes: into a formatter with its flags, and into a caller's buffer.
+
+use core::fmt::{self, Alignment, Formatter, Write};
+use core::str;
+
+use crate::errors::Needed;
+use crate::library::{self, Kind};
+use crate::spec::{FormatSpec, Sign};
+use crate::unit::Unit;
+
+/// The most digits after the point of a size in a unit, which are those of one bit in `RiB`.
+const MOST_PLACES: usize = 93;
+
+/// More than the length of each text without a width, with at most `MOST_PLACES` digits after the point.
+const TEXT_LEN: usize = 160;
+
+/// Formats a size with the unit that represents it exactly within the precision.
+pub(crate) fn format_with_unit(size: u128, kind: Kind, f: &mut Formatter<'_>) -> fmt::Result {
+    // Above 28, each precision is as 28.
+    let (spec, _) = spec_of(f, 28);
+    let mut out = [0; TEXT_LEN];
+    let len = library::text(size, kind, spec, &mut out);
+    lay_out(text_in(&out, len)?, 0, f)
+}
+
+/// Formats a size in a unit.
+pub(crate) fn format_adjusted(size: u128, kind: Kind, unit: Unit, f: &mut Formatter<'_>) -> fmt::Result {
+    let (spec, left_out) = spec_of(f, MOST_PLACES);
+    let mut out = [0; TEXT_LEN];
+    let len = library::adjusted_text(size, kind, unit, spec, &mut out);
+    let text = text_in(&out, len)?;
+    let all_shown = left_out > 0 && places_of(text) == MOST_PLACES;
+    lay_out(text, if all_shown { left_out } else { 0 }, f)
+}
+
+/// Returns the 64-bit float that is nearest to a size in a unit.
+pub(crate) fn nearest_float(size: u128, kind: Kind, unit: Unit) -> f64 {
+    let mut out = [0; TEXT_LEN];
+    let len = library::adjusted_text(size, kind, unit, FormatSpec::PLAIN, &mut out);
+    let text = text_in(&out, len).unwrap_or_default();
+    number_of(text).parse().unwrap_or_default()
+}
+
+/// Returns the text that a call wrote to the beginning of `out`, or the length that it needs.
+pub(crate) fn written(out: &[u8], len: usize) -> Result<&str, Needed> {
+    match out.get(..len) {
+        Some(text) => Ok(str::from_utf8(text).unwrap_or_default()),
+        None => Err(Needed { len }),
+    }
+}
+
+fn text_in(out: &[u8], len: usize) -> Result<&str, fmt::Error> {
+    written(out, len).map_err(|_| fmt::Error)
+}
+
+/// Returns the digits and the point at the beginning of a text.
+fn number_of(text: &str) -> &str {
+    let end = text.bytes().position(|byte| !byte.is_ascii_digit() && byte != b'.');
+    &text[..end.unwrap_or(text.len())]
+}
+
+/// Returns the number of digits after the point.
+fn places_of(text: &str) -> usize {
+    number_of(text).split_once('.').map_or(0, |(_, fraction)| fraction.len())
+}
+
+/// Returns the formatter's options without the width and with a precision of at most `most` places, and the number of
+/// places that this leaves out.
+fn spec_of(f: &Formatter<'_>, most: usize) -> (FormatSpec, usize) {
+    let sign = match (f.sign_plus(), f.sign_minus()) {
+        (true, _) => Sign::Plus,
+        (_, true) => Sign::Minus,
+        _ => Sign::Unset,
+    };
+    let precision = f.precision().map(|places| places.min(most) as u16);
+    let spec = FormatSpec { alternate: f.alternate(), sign, precision, ..FormatSpec::PLAIN };
+    (spec, f.precision().unwrap_or(0).saturating_sub(most))
+}
+
+/// Writes a number with its unit, with zeros after the number, padded with spaces to the formatter's width: before the
+/// number if it is aligned right, else after it.
+fn lay_out(text: &str, zeros: usize, f: &mut Formatter<'_>) -> fmt::Result {
+    let columns = text.len().saturating_add(zeros);
+    let pad = f.width().unwrap_or(0).saturating_sub(columns);
+    if pad == 0 && zeros == 0 {
+        return f.write_str(text);
+    }
+    let number = number_of(text);
+    let right = f.align() == Some(Alignment::Right);
+    repeat(' ', if right { pad } else { 0 }, f)?;
+    f.write_str(number)?;
+    repeat('0', zeros, f)?;
+    repeat(' ', if right { 0 } else { pad }, f)?;
+    f.write_str(&text[number.len()..])
+}
+
+fn repeat(c: char, count: usize, f: &mut Formatter<'_>) -> fmt::Result {
+    (0..count).try_for_each(|_| f.write_char(c))
+}

@@ -1,0 +1,161 @@
+//! The traits of serde, by JSON strings and by a format that is not human-readable.
+
+use byte_unit::{AdjustedBit, AdjustedByte, Bit, Byte, Unit};
+use serde::de::value::Error;
+use serde::de::{Deserialize, Deserializer, Error as _, Visitor};
+use serde::ser::{Impossible, Serialize, Serializer};
+use serde_json::{from_str, to_string};
+
+#[test]
+fn sizes_are_strings() {
+    for (number, text) in [(0, "\"0 B\""), (1536, "\"1.5 KiB\""), (15500, "\"15.5 KB\""), (123456, "\"123.456 KB\"")] {
+        let size = Byte::from_u64(number);
+        assert_eq!(to_string(&size).unwrap(), text);
+        assert_eq!(from_str::<Byte>(text).unwrap(), size);
+    }
+    assert_eq!(to_string(&Bit::from_u64(1536)).unwrap(), "\"1.5 Kib\"");
+    assert_eq!(from_str::<Bit>("\"1 KB\"").unwrap().as_u64(), 8000);
+    assert_eq!(from_str::<Byte>("\"1 Kb\"").unwrap().as_u64(), 125);
+    assert_eq!(from_str::<Vec<Byte>>("[\"1 KB\", \"12\"]").unwrap(), [Byte::KILOBYTE, Byte::from_u64(12)]);
+}
+
+#[test]
+fn errors_name_the_reason() {
+    let error = from_str::<Byte>("\"1 byte\"").unwrap_err().to_string();
+    assert!(error.contains("the character 'y' is incorrect ('i' or no character is expected)"), "{error}");
+    let error = from_str::<Byte>("12").unwrap_err().to_string();
+    assert!(error.contains("expected a string such as \"123\", \"123KiB\", \"50.84 MB\""), "{error}");
+    assert!(from_str::<Unit>("\"KX\"").is_err() && from_str::<AdjustedByte>("null").is_err());
+}
+
+#[test]
+fn units_and_adjusted_sizes_are_strings() {
+    assert_eq!(to_string(&Unit::Kibit).unwrap(), "\"Kib\"");
+    assert_eq!(from_str::<Unit>("\"MiB\"").unwrap(), Unit::MiB);
+    let adjusted = Byte::from_u64(1536).get_adjusted_unit(Unit::KB);
+    assert_eq!(to_string(&adjusted).unwrap(), "\"1.536 KB\"");
+    assert_eq!(from_str::<AdjustedByte>("\"1.536 KB\"").unwrap(), adjusted);
+    let greatest = Byte::MAX.get_adjusted_unit(Unit::RiB);
+    assert_eq!(to_string(&greatest).unwrap(), format!("\"{:#}\"", Byte::MAX));
+    assert_eq!(from_str::<AdjustedByte>(&to_string(&greatest).unwrap()).unwrap(), greatest);
+    let bit = Bit::from_u64(12).get_adjusted_unit(Unit::B);
+    assert_eq!(from_str::<AdjustedBit>(&to_string(&bit).unwrap()).unwrap(), bit);
+}
+
+/// A format that is not human-readable, and shows what it is given.
+struct Binary;
+
+macro_rules! rejected {
+    ($($method:ident($($value:ty),*) $(-> $result:ty)?;)*) => { $(
+        fn $method(self, $(_: $value),*) -> rejected!(@ $($result)?) {
+            Err(Error::custom(stringify!($method)))
+        }
+    )* };
+    (@ $result:ty) => { Result<$result, Error> };
+    (@) => { Result<String, Error> };
+}
+
+type Never = Impossible<String, Error>;
+
+impl Serializer for Binary {
+    type Ok = String;
+    type Error = Error;
+    type SerializeSeq = Never;
+    type SerializeTuple = Never;
+    type SerializeTupleStruct = Never;
+    type SerializeTupleVariant = Never;
+    type SerializeMap = Never;
+    type SerializeStruct = Never;
+    type SerializeStructVariant = Never;
+
+    fn is_human_readable(&self) -> bool {
+        false
+    }
+
+    fn serialize_u128(self, number: u128) -> Result<String, Error> {
+        Ok(format!("number {number}"))
+    }
+
+    fn serialize_str(self, text: &str) -> Result<String, Error> {
+        Ok(format!("text {text}"))
+    }
+
+    fn serialize_some<T: Serialize + ?Sized>(self, _: &T) -> Result<String, Error> {
+        Err(Error::custom("serialize_some"))
+    }
+
+    fn serialize_newtype_struct<T: Serialize + ?Sized>(self, _: &'static str, _: &T) -> Result<String, Error> {
+        Err(Error::custom("serialize_newtype_struct"))
+    }
+
+    fn serialize_newtype_variant<T: Serialize + ?Sized>(
+        self,
+        _: &'static str,
+        _: u32,
+        _: &'static str,
+        _: &T,
+    ) -> Result<String, Error> {
+        Err(Error::custom("serialize_newtype_variant"))
+    }
+
+    rejected! {
+        serialize_bool(bool);
+        serialize_i8(i8);
+        serialize_i16(i16);
+        serialize_i32(i32);
+        serialize_i64(i64);
+        serialize_u8(u8);
+        serialize_u16(u16);
+        serialize_u32(u32);
+        serialize_u64(u64);
+        serialize_f32(f32);
+        serialize_f64(f64);
+        serialize_char(char);
+        serialize_bytes(&[u8]);
+        serialize_none();
+        serialize_unit();
+        serialize_unit_struct(&'static str);
+        serialize_unit_variant(&'static str, u32, &'static str);
+        serialize_seq(Option<usize>) -> Never;
+        serialize_tuple(usize) -> Never;
+        serialize_tuple_struct(&'static str, usize) -> Never;
+        serialize_tuple_variant(&'static str, u32, &'static str, usize) -> Never;
+        serialize_map(Option<usize>) -> Never;
+        serialize_struct(&'static str, usize) -> Never;
+        serialize_struct_variant(&'static str, u32, &'static str, usize) -> Never;
+    }
+}
+
+/// A number in a format that is not human-readable.
+struct Number(u128);
+
+impl<'de> Deserializer<'de> for Number {
+    type Error = Error;
+
+    fn is_human_readable(&self) -> bool {
+        false
+    }
+
+    fn deserialize_any<V: Visitor<'de>>(self, visitor: V) -> Result<V::Value, Error> {
+        visitor.visit_u128(self.0)
+    }
+
+    serde::forward_to_deserialize_any! {
+        bool i8 i16 i32 i64 i128 u8 u16 u32 u64 u128 f32 f64 char str string bytes byte_buf option unit unit_struct
+        newtype_struct seq tuple tuple_struct map struct enum identifier ignored_any
+    }
+}
+
+#[test]
+fn in_a_binary_format_sizes_are_numbers() {
+    assert_eq!(Byte::MAX.serialize(Binary).unwrap(), format!("number {}", Byte::MAX));
+    assert_eq!(Bit::from_u64(7).serialize(Binary).unwrap(), "number 7");
+    assert_eq!(Unit::KiB.serialize(Binary).unwrap(), "text KiB");
+    let adjusted = Byte::from_u64(1536).get_adjusted_unit(Unit::KB);
+    assert_eq!(adjusted.serialize(Binary).unwrap(), "text 1.536KB");
+    assert_eq!(Byte::deserialize(Number(7)).unwrap().as_u64(), 7);
+    assert_eq!(Bit::deserialize(Number(10u128.pow(30) - 1)).unwrap(), Bit::MAX);
+    let error = Byte::deserialize(Number(10u128.pow(30))).unwrap_err().to_string();
+    assert!(error.starts_with("invalid value: `1000000000000000000000000000000`, expected"), "{error}");
+    assert!(AdjustedByte::deserialize(Number(7)).is_err() && Unit::deserialize(Number(1)).is_err());
+}

@@ -1,0 +1,5 @@
+mod adjusted;
+mod choices;
+mod readme;
+mod sizes;
+mod unit;
