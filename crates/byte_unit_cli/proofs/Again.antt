@@ -1,5 +1,5 @@
 -- Lemmas: what is shown can be read again.
-use Rattle.std.proofs.Common.{◌≡◌, ◌≢◌, ℕ, ◌-◌, ◌<◌, Bool, true, false, List, [], ◌++◌, length, replicate, Option, refl, sym, ap, subst, ◌∙◌}
+use Rattle.std.proofs.Common.{◌≡◌, ◌≢◌, ℕ, ◌-◌, ◌<◌, Bool, true, false, List, ◌++◌, length, replicate, Option, refl, sym, ap, subst, ◌∙◌}
 use Rattle.std.proofs.Common.{arith, append-nil}
 use Rattle.byte_unit.specs.Accepted.{IsAccepted}
 use Rattle.byte_unit.specs.Bounds.{size_limit}
@@ -8,14 +8,12 @@ use Rattle.byte_unit.specs.FormLaws.{SizeFormReadsBack, PlainFormReadsBack, Size
 use Rattle.byte_unit.specs.NamedSpecs.{plain_spec}
 use Rattle.byte_unit.specs.SizeLaws.{TextsAreAcceptedOrRejected}
 use Rattle.byte_unit.specs.declared.Kind.{Kind}
-use Rattle.byte_unit.specs.declared.Sign.{Sign}
 use Rattle.byte_unit.specs.declared.Sign.TheVariants.{Unset, Plus}
 use Rattle.byte_unit_cli.specs.Field.{ignores_case}
-use Rattle.byte_unit_cli.specs.Laws.{IsLossless, IsReadAs, ShownSizesAreRead, ExactTwiceIsOnce}
-use Rattle.byte_unit_cli.specs.Shown.{IsFormText, IsShown, exact_spec, padded}
+use Rattle.byte_unit_cli.specs.Laws.{IsLossless, ShownSizesAreRead, ExactTwiceIsOnce}
+use Rattle.byte_unit_cli.specs.Shown.{IsFormText, exact_spec, padded}
 use Rattle.byte_unit_cli.specs.declared.options.Form.{Form}
 use Rattle.byte_unit_cli.specs.declared.options.Form.TheVariants.{Exact, Plain, InUnit, Largest}
-use Rattle.byte_unit_cli.specs.declared.options.Options.{Options}
 
 unset_is_not_plus : Unset ≢ Plus
 unset_is_not_plus same = cc

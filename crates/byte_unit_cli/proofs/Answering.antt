@@ -1,5 +1,5 @@
 -- Lemmas: a call that converts records, and then writes them.
-use Rattle.std.proofs.Common.{◌≡◌, ◌≢◌, ℕ, List, [], ◌∷◌, ◌++◌, Result, Ok, Err, OnOk, IfErr, refl, sym, subst, append-nil}
+use Rattle.std.proofs.Common.{◌≡◌, ◌≢◌, ℕ, List, [], ◌∷◌, Result, Ok, Err, OnOk, IfErr, sym, subst, append-nil}
 use Rattle.std.specs.Prelude.{⊤, IsErrAnd}
 use Rattle.byte_unit_cli.specs.Outcome.{IsPrefix}
 use Rattle.byte_unit_cli.specs.Progress.{AddsRecords, State, Stops, IsAnswered, state_of}

@@ -1,9 +1,9 @@
 -- Lemmas: what is appended for a field, a record, and records one after another.
-use Rattle.std.proofs.Common.{◌≡◌, ℕ, zero, suc, ◌+◌, ◌-◌, List, [], ◌∷◌, ◌++◌, length, Option, Some, None, Result, Ok, Err, OnOk}
+use Rattle.std.proofs.Common.{◌≡◌, ℕ, suc, ◌-◌, List, [], ◌∷◌, ◌++◌, length, Some, None, Result, Ok, Err, OnOk}
 use Rattle.std.proofs.Common.{refl, sym, ap, subst, ◌∙◌, arith, append_assoc, append-nil, inl}
 use Rattle.std.specs.Prelude.{⊤}
 use Rattle.std.proofs.lemmas.List.{length-append}
-use Rattle.byte_unit_cli.specs.Field.{Found, IsField, IsSize, IsNoSize, size, rejected}
+use Rattle.byte_unit_cli.specs.Field.{Found, IsSize, IsNoSize, size, rejected}
 use Rattle.byte_unit_cli.specs.Fields.{IsChosen, fields_of}
 use Rattle.byte_unit_cli.specs.Outcome.{Passes}
 use Rattle.byte_unit_cli.specs.Output.{AreFields, IsRecord, AreRecords, HasRejectedField}

@@ -1,7 +1,7 @@
 -- Lemmas: where the first record of some bytes ends, found byte by byte or in blocks. Fields end in the same way, at a
 -- delimiter.
 use Rattle.std.proofs.Common.{◌≡◌, ◌≢◌, ◌+◌, ◌<◌, ◌≤◌, ℕ, zero, suc, List, [], ◌∷◌, ◌++◌, take, drop, get_or, length}
-use Rattle.std.proofs.Common.{arith, false, eqb, sym, ap, subst, ◌∙◌, append_assoc, false-eqb, refl}
+use Rattle.std.proofs.Common.{arith, false, eqb, sym, ap, subst, ◌∙◌, append_assoc, false-eqb}
 use Rattle.std.proofs.lemmas.List.{take_more}
 use Rattle.byte_unit_cli.specs.Progress.{ended_records, begun_record, IsUnbroken}
 use Rattle.byte_unit_cli.specs.Records.{parts}

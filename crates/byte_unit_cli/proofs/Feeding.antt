@@ -1,11 +1,9 @@
 -- Lemmas: the loop over the records that end in a chunk.
-use Rattle.std.proofs.Common.{◌≡◌, ℕ, ◌+◌, List, [], ◌∷◌, ◌++◌, take, drop, refl, sym, ap, subst, ◌∙◌, append_assoc, append-nil, ◌⊎◌, inl, inr, Err, Result, ◌==◌, true, false, length}
-use Rattle.byte_unit_cli.specs.Outcome.{IsPrefix}
+use Rattle.std.proofs.Common.{◌≡◌, ℕ, ◌+◌, List, [], ◌∷◌, ◌++◌, take, drop, refl, sym, ap, subst, ◌∙◌, append_assoc, append-nil, ◌⊎◌, inl, inr, ◌==◌, true, length}
 use Rattle.byte_unit_cli.specs.Progress.{ended_records, begun_record, IsUnbroken, AddsRecords, Aborts, State, Stops}
 use Rattle.byte_unit_cli.specs.declared.options.Options.{Options}
 use Rattle.std.proofs.lemmas.Bool.{eqb-true}
 use Rattle.std.proofs.lemmas.List.{nil_from_length}
-use Rattle.std.specs.Prelude.{⊤}
 use Rattle.byte_unit_cli.specs.Progress.{state_of}
 use Rattle.byte_unit_cli.specs.declared.stop.Stop.{Stop}
 use Rattle.byte_unit_cli.specs.declared.records.Progress.{Progress}

@@ -1,6 +1,6 @@
 -- Lemmas: results of calls.
-use Rattle.std.proofs.Common.{◌≡◌, Result, Ok, Err, OnOk, OnErr, IfErr, refl, sym, subst, ap}
-use Rattle.std.specs.Prelude.{⊤, IsErrAnd}
+use Rattle.std.proofs.Common.{◌≡◌, Result, Ok, Err, OnOk, IfErr, sym, subst}
+use Rattle.std.specs.Prelude.{IsErrAnd}
 
 -- a fact at `Ok` that follows from another one
 pub OnOk-map : {T E : Type 0} {P Q : Type 0} (result : Result T E) → (P → Q) → OnOk result P → OnOk result Q

@@ -1,15 +1,14 @@
 -- Lemmas: the loop of a run, read by read.
-use Rattle.std.proofs.Common.{◌≡◌, ℕ, ◌+◌, ◌-◌, ◌<◌, ◌≤◌, min, List, [], ◌∷◌, ◌++◌, length, true, false, Option, Some, None, Result, Ok, Err}
-use Rattle.std.proofs.Common.{refl, sym, ap, subst, ◌∙◌, append_assoc, append-nil, arith, inl, inr, MatchBool, ◌⊎◌}
-use Rattle.std.specs.Prelude.{⊤, IsErrAnd}
+use Rattle.std.proofs.Common.{◌≡◌, ℕ, ◌<◌, ◌≤◌, min, List, [], ◌∷◌, ◌++◌, true, false, Option, Result, Ok, Err}
+use Rattle.std.proofs.Common.{refl, sym, ap, subst, ◌∙◌, append_assoc, append-nil, arith, inl, inr, MatchBool}
+use Rattle.std.specs.Prelude.{IsErrAnd}
 use Rattle.std.specs.Io.KnownBytes.{Appends, Consumes}
 use Rattle.std.proofs.KnownBytes.{Appends-trans, Consumes-trans}
 use Rattle.byte_unit.specs.Bounds.{size_limit}
-use Rattle.byte_unit_cli.specs.Field.{Found}
-use Rattle.byte_unit_cli.specs.Outcome.{IsPrefix, AreConverted, IsTotalLine, IsOutput, AreFirst, IsBegun, IsAborted, IsTooLarge, IsWritten}
+use Rattle.byte_unit_cli.specs.Outcome.{IsPrefix, AreConverted, IsTotalLine, IsOutput, IsBegun, IsTooLarge, IsWritten}
 use Rattle.byte_unit_cli.specs.Output.{AreRecords}
-use Rattle.byte_unit_cli.specs.Progress.{ended_records, begun_record, nonempty_record, AddsRecords, Aborts, State, Stops, IsAnswered}
-use Rattle.byte_unit_cli.specs.Progress.{IsFinished, IsTotalFor, start_of, state_of, no_tally, tally_after}
+use Rattle.byte_unit_cli.specs.Progress.{ended_records, begun_record, nonempty_record, AddsRecords, State, IsAnswered}
+use Rattle.byte_unit_cli.specs.Progress.{IsFinished, IsTotalFor, start_of, state_of, no_tally}
 use Rattle.byte_unit_cli.specs.Records.{finished_records, records_of}
 use Rattle.byte_unit_cli.specs.Shown.{IsShown}
 use Rattle.byte_unit_cli.specs.Sums.{sum_of, tally_of}

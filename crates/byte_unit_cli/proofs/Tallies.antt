@@ -1,6 +1,6 @@
 -- Lemmas: tallies, and the mode `abort`, over lists of what is found.
-use Rattle.std.proofs.Common.{◌≡◌, ◌≤◌, ℕ, ◌+◌, min, sum, Bool, true, false, ◌||◌, List, [], ◌∷◌, ◌++◌, Option, Some, None}
-use Rattle.std.proofs.Common.{refl, sym, ap, subst, ◌∙◌, arith, append_assoc, append-nil, zero-add}
+use Rattle.std.proofs.Common.{◌≡◌, ◌≤◌, ℕ, ◌+◌, min, sum, Bool, true, false, ◌||◌, List, [], ◌∷◌, ◌++◌, Some, None}
+use Rattle.std.proofs.Common.{refl, sym, ap, ◌∙◌, arith, zero-add}
 use Rattle.std.proofs.lemmas.List.Sums.{sum_by-cons}
 use Rattle.byte_unit.specs.Bounds.{size_limit}
 use Rattle.byte_unit_cli.specs.Field.{Found}
@@ -8,7 +8,6 @@ use Rattle.byte_unit_cli.specs.Outcome.{Passes}
 use Rattle.byte_unit_cli.specs.Progress.{no_tally, tally_with, tally_after}
 use Rattle.byte_unit_cli.specs.Sums.{has_rejected, is_beyond, any_beyond, sizes_of, sum_of, tally_of}
 use Rattle.byte_unit_cli.specs.declared.options.Options.{Options}
-use Rattle.byte_unit_cli.specs.declared.options.Invalid.TheVariants.{Abort}
 use Rattle.byte_unit_cli.specs.declared.tally.Tally.{Tally}
 
 -- the tally after two lists is that after the second, from that after the first

@@ -1,5 +1,5 @@
 -- What is written for records, and what is found in them.
-use Rattle.std.specs.Prelude.{◌≡◌, ℕ, zero, suc, ◌+◌, ◌-◌, ◌⊎◌, List, [], ◌∷◌, ◌++◌, Option}
+use Rattle.std.specs.Prelude.{◌≡◌, ℕ, zero, suc, ◌+◌, ◌-◌, ◌⊎◌, List, [], ◌∷◌, ◌++◌}
 use Rattle.byte_unit_cli.specs.Field.{Found, IsField, IsNoSize}
 use Rattle.byte_unit_cli.specs.Fields.{IsChosen, fields_of, delimiter_bytes}
 use Rattle.byte_unit_cli.specs.declared.options.Options.{Options}

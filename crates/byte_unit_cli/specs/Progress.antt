@@ -1,11 +1,11 @@
 -- Private: how far a run has come, step by step. No public contract cites this file.
-use Rattle.std.specs.Prelude.{◌≡◌, ℕ, ◌+◌, ◌-◌, ◌≤◌, min, Bool, true, false, ◌||◌, if◌then◌else◌, ◌==◌, List, [], ◌∷◌, ◌++◌, Some, None}
+use Rattle.std.specs.Prelude.{◌≡◌, ℕ, ◌+◌, ◌-◌, ◌≤◌, min, true, false, ◌||◌, if◌then◌else◌, ◌==◌, List, [], ◌∷◌, ◌++◌, Some, None}
 use Rattle.std.specs.Prelude.{length, ◌<◌, ◌⊎◌, MatchBool, Result, Ok, Err, ⊤}
 use Rattle.byte_unit.specs.Bounds.{size_limit}
 use Rattle.byte_unit_cli.specs.Field.{Found, IsField}
 use Rattle.byte_unit_cli.specs.Fields.{fields_of}
 use Rattle.byte_unit_cli.specs.Outcome.{Passes, IsPrefix}
-use Rattle.byte_unit_cli.specs.Output.{AreFields, IsRecord, AreRecords, HasRejectedField}
+use Rattle.byte_unit_cli.specs.Output.{AreFields, AreRecords, HasRejectedField}
 use Rattle.byte_unit_cli.specs.Shown.{IsShown}
 use Rattle.byte_unit_cli.specs.Sums.{is_beyond}
 use Rattle.byte_unit_cli.specs.declared.options.Invalid.TheVariants.{Abort}

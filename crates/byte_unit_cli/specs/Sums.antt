@@ -1,5 +1,5 @@
 -- What a run counts: the total of the sizes, whether one is beyond a limit, and whether a field was rejected.
-use Rattle.std.specs.Prelude.{◌≡◌, ℕ, min, sum, Bool, true, false, ◌||◌, nat_lt, List, [], ◌∷◌, Option, None, Some}
+use Rattle.std.specs.Prelude.{ℕ, min, sum, Bool, true, false, ◌||◌, nat_lt, List, [], ◌∷◌, Option, None, Some}
 use Rattle.byte_unit.specs.Bounds.{size_limit}
 use Rattle.byte_unit_cli.specs.Field.{Found}
 use Rattle.byte_unit_cli.specs.declared.options.Options.{Options}

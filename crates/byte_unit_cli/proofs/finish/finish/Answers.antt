@@ -1,4 +1,4 @@
-use Rattle.std.proofs.Common.{◌≡◌, true, false, rules, ap, sym, subst, ◌∙◌, [], ◌++◌}
+use Rattle.std.proofs.Common.{◌≡◌, true, false, rules, subst, []}
 use Rattle.byte_unit_cli.specs.Progress.{AddsRecords, State, state_of, nonempty_record}
 use Rattle.byte_unit_cli.proofs.Finishing.{IsFinished-total_ok, IsFinished-total_error, IsFinished-plain_ok}
 use Rattle.byte_unit_cli.proofs.Finishing.{IsFinished-plain_error, IsFinished-error}

@@ -1,5 +1,5 @@
-use Rattle.std.proofs.Common.{◌≡◌, ◌-◌, ◌++◌, ◌∷◌, [], suc, ap, sym, subst, ◌∙◌, arith}
-use Rattle.byte_unit_cli.specs.Progress.{State, state_of, AddsRecords}
+use Rattle.std.proofs.Common.{◌≡◌, ◌-◌, ◌++◌, ◌∷◌, [], suc, ap, ◌∙◌, arith}
+use Rattle.byte_unit_cli.specs.Progress.{State, state_of}
 use Rattle.byte_unit_cli.proofs.Converting.{AddsRecords-header, AddsRecords-fields, AddsFields-same}
 use Rattle.byte_unit_cli.proofs.records.add_record.Goals.{then-progress-gt0+in_ok-extend_from_slice}
 use Rattle.byte_unit_cli.proofs.records.add_record.Goals.{else-progress-gt0+in_ok-add_fields}

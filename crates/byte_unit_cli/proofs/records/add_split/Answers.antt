@@ -1,4 +1,4 @@
-use Rattle.std.proofs.Common.{rules, ◌+◌, ap, sym, subst, take, Err}
+use Rattle.std.proofs.Common.{◌+◌, ap, sym, subst, Err}
 use Rattle.std.proofs.lemmas.List.{take_rest}
 use Rattle.byte_unit_cli.specs.declared.stop.Stop.TheVariants.{Rejected}
 use Rattle.byte_unit_cli.proofs.Results.{OnOk-map, error-passed}

@@ -1,4 +1,4 @@
-use Rattle.std.proofs.Common.{◌≡◌, sym, ap, subst, ◌∙◌, []}
+use Rattle.std.proofs.Common.{sym, subst, ◌∙◌, []}
 use Rattle.std.specs.Io.KnownBytes.{Appends}
 use Rattle.byte_unit_cli.specs.Outcome.{IsPrefix}
 use Rattle.byte_unit_cli.specs.Progress.{ended_records, state_of}

@@ -1,4 +1,4 @@
-use Rattle.std.proofs.Common.{◌≡◌, ◌+◌, ◌-◌, ◌++◌, ◌∷◌, [], length, take, drop, sym, ap, ◌∙◌, vec_len, Err}
+use Rattle.std.proofs.Common.{◌+◌, ◌-◌, ◌++◌, ◌∷◌, [], length, take, drop, sym, ap, ◌∙◌, vec_len, Err}
 use Rattle.std.proofs.lemmas.List.{take_rest}
 use Rattle.byte_unit_cli.specs.Progress.{state_of}
 use Rattle.byte_unit_cli.proofs.Feeding.{Feed, IsNext, IsFed-step, Stops-record, empty_from_length, AddsRecords-same}

@@ -1,6 +1,6 @@
-use Rattle.std.proofs.Common.{◌≡◌, [], ◌++◌, sym, ap, subst, ◌∙◌, take, Err, Result}
+use Rattle.std.proofs.Common.{[], ◌++◌, sym, ap, subst, ◌∙◌, take, Err, Result}
 use Rattle.std.proofs.KnownBytes.{Consumes-kept, Consumes-nil, Appends-nil}
-use Rattle.byte_unit_cli.specs.Progress.{begun_record, state_of}
+use Rattle.byte_unit_cli.specs.Progress.{state_of}
 use Rattle.byte_unit_cli.specs.Streams.{reader_of, writer_of}
 use Rattle.byte_unit_cli.specs.Records.{finished_records, records_of}
 use Rattle.byte_unit_cli.proofs.Runs.{IsServed, IsServed-start, IsServed-piece, IsWritten-read, IsWritten-piece, IsWritten-finished}
