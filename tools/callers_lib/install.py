@@ -261,6 +261,23 @@ def staged(folder, work):
     check("the list has each file", sorted(f"usr/{line}" for line in listed if line) == files, f"{listed}\n{files}")
 
 
+def command(folder, work):
+    """Installs the command that the gate has built, if it is there, and runs it."""
+    built, prefix = os.path.join(ROOT, "crates/byte_unit_cli/out/byte_unit_cli"), os.path.join(work, "command")
+    if not os.path.exists(built):
+        print("skipped: bin/byte-unit: crates/byte_unit_cli/out/byte_unit_cli is not built")
+        return
+    source = shutil.copytree(folder, os.path.join(work, "with-command"))
+    shutil.copy(built, os.path.join(source, "byte-unit"))
+    succeeds("an installation with the command", INSTALL, "--from", source, prefix)
+    got = call(os.path.join(prefix, "bin/byte-unit"), "--to=plain", "1.5KiB")
+    check("bin/byte-unit runs", (got.stdout, got.returncode) == ("1536\n", 0), got.stdout)
+    others = ["share/man/man1/byte-unit.1", "share/bash-completion/completions/byte-unit"]
+    check("its manual page and its completions", all(os.path.exists(os.path.join(prefix, path)) for path in others))
+    succeeds("an installation without the command", INSTALL, "--from", source, "--without-command", prefix)
+    check("bin/byte-unit is removed", not os.path.exists(os.path.join(prefix, "bin/byte-unit")))
+
+
 def sizes(prefix, work):
     """Prints the sizes of the files, and of the program of the manual page with the archive inside."""
     program, archive = os.path.join(work, "small"), os.path.join(prefix, "lib/libbyte_unit.a")
@@ -292,6 +309,7 @@ def run(folder, options):
         failures(folder, work)
         removal(folder, work)
         staged(folder, work)
+        command(folder, work)
 
 
 def main():
