@@ -1,6 +1,8 @@
 //! The default limits, as a TOML text in the program whose sizes are proved.
 
 ghost use Rattle.std.specs.Prelude.{◌≡◌, ◌*◌, ◌^◌, Some, IfOk, IfErr};
+ghost use Rattle.example_limits.specs.Rules.{IsBroken};
+ghost use Rattle.example_limits.specs.declared.Rule.{Rule};
 ghost use Rattle.toml.specs.Errors.{IsMemory};
 
 use crate::Limits;
@@ -8,7 +10,7 @@ use byte_unit_serde::{bit_from_toml, byte_from_toml};
 use std::alloc::Global;
 use toml::de::Error;
 
-/// Returns the default limits, from their TOML text.
+/// Returns the default limits, from their TOML text. They break no rule.
 ///
 /// # Errors
 ///
@@ -19,6 +21,7 @@ pub fn default_limits(alloc: Global) -> Result<Limits, Error>
     ensures cache { IfOk result (λ limits. limits.cache ≡ Some (256 * 2 ^ 20)) }
     ensures disk { IfOk result (λ limits. limits.disk ≡ 2 * 2 ^ 30) }
     ensures rate { IfOk result (λ limits. limits.rate ≡ 10 ^ 6) }
+    ensures valid { IfOk result (λ limits. (rule : Rule) → ¬ IsBroken limits rule) }
     ensures memory { IfErr result IsMemory }
 {
     let text =

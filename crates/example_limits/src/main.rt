@@ -1,4 +1,5 @@
-//! Reads the limits of a service from TOML into a struct, and prints them and the rules that they break.
+//! Reads the limits of a service from TOML into a struct, and prints them and the rules that they break. If the input is
+//! empty, prints the default limits.
 #![tactic(auto)]
 
 ghost use Rattle.std.specs.Prelude.{◌↔◌, IsTrue};

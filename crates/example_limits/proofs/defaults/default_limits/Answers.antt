@@ -1,4 +1,4 @@
-use Rattle.std.proofs.Common.{◌≡◌, ℕ, Option, Some, None, Result, Ok, Err, List, Bor, IsSome, codes, string_bytes, nat_cmp, refl, sym, ap, subst, ◌∙◌}
+use Rattle.std.proofs.Common.{◌≡◌, ℕ, Option, Some, None, Result, Ok, List, Bor, IsSome, codes, string_bytes, nat_cmp, refl, sym, ap, subst, ◌∙◌, arith}
 use Rattle.std.specs.Prelude.{false, option_map}
 use Rattle.std.specs.BTreeMap.{is_at}
 use Rattle.std.specs.Cmp.Lexicographic.{slice_cmp}
@@ -19,6 +19,7 @@ use Rattle.byte_unit.specs.declared.Kind.TheVariants.{Bit, Byte}
 use Rattle.byte_unit.proofs.OnLiterals.{byte_unit_on_literals, accepted_literal}
 use Rattle.byte_unit_serde.specs.TomlErrors.{size_errors}
 use Rattle.byte_unit_serde.specs.declared.toml_values.TomlSizeError.{TomlSizeError}
+use Rattle.example_limits.specs.declared.Rule.TheVariants.{FileInTotal, AllOnDisk, WithinHour}
 use Rattle.example_limits.proofs.defaults.default_limits.Goals as goal
 
 -- the TOML text
@@ -187,3 +188,9 @@ returns-clause-rate c =
     c.get-5.ensures.value c.unwrap-rate.ensures c.bit_from_toml.ensures in
     let same : Ok c.unwrap-5.result ≡ Ok 1000000 = sym c.unwrap-5.ensures ∙ read in
     cc
+
+pub returns-clause-valid : goal.returns-clause-valid
+returns-clause-valid c FileInTotal = λ broken. omega (arith, broken, returns-clause-file c, returns-clause-total c)
+returns-clause-valid c AllOnDisk = λ broken.
+    omega (arith, broken, returns-clause-total c, same_Some _ _ (returns-clause-cache c), returns-clause-disk c)
+returns-clause-valid c WithinHour = λ broken. omega (arith, broken, returns-clause-file c, returns-clause-rate c)
