@@ -1,8 +1,11 @@
-//! Reads the limits of a service from TOML into a struct, and prints them and the rules that they break.
+//! Reads the limits of a service from TOML into a struct, and prints them and the rules that they break. Takes the
+//! default limits if the input is empty or only white space.
 #![tactic(auto)]
 
 ghost use Rattle.std.specs.Prelude.{◌↔◌, IsTrue};
 ghost use Rattle.example_limits.specs.Rules.{IsBroken};
+
+mod defaults;
 
 use anyhow::{Result, anyhow};
 use byte_unit::{Bit, Byte, FormatSpec};
@@ -82,7 +85,12 @@ fn in_one_line(alloc: Global, error: &toml::de::Error) -> Result<String, AllocEr
 fn main(rt: HostRuntime) -> Result<()> {
     let alloc = rt.alloc();
     let text = io::read_to_string(alloc, rt.reader())?;
-    let limits: Limits = match toml::from_str(alloc, text.as_str()) {
+    let read = if text.trim().is_empty() {
+        defaults::default_limits(alloc)
+    } else {
+        toml::from_str(alloc, text.as_str())
+    };
+    let limits: Limits = match read {
         Ok(limits) => limits,
         Err(error) => {
             let reason = in_one_line(alloc, &error)?;
