@@ -158,7 +158,7 @@ module _ {M : Type 1} (𝓤 : Ura M) (𝓛 : Logic 𝓤) (𝓜 : Model 𝓤 𝓛
         alloc_all ! (λ l. pass_all ! refl ((tt, tt), ((tt, record { fits = are.1.0.1 }), ((tt, record { fits = are.1.1.0.1 }), tt))) $
         sets ! (addr ! (through ! refl (fld ! refl (stop !)))) refl (tt, tt) $
         use2 𝓛 (raw (Grants.pre (asking κ q at_requests h.requests))) (asked κ q at_requests h.requests) $
-        calls_at ! (framed 𝓤 H 𝓜 𝓣) Grants (grants_met 𝓤 𝓛 𝓜 𝓡 (code.calls-byte_unit_lines::refusing::Requests::grants 𝓡.env wired))
+        calls_at ! (framed 𝓤 H 𝓜 𝓣) Grants (grants_met 𝓤 𝓛 𝓜 𝓡 (code.calls-byte_unit_lines::tests::refusing::Requests::grants 𝓡.env wired))
         (asking κ q at_requests h.requests)
         (and_then ! (get ! refl) (no_more !)) (λ v.
         use1 𝓛 (later (some (λ (b : Bool). given (v ≡ vbool b) (‵ (flft κ q))))) (told κ q at_requests h.requests v) $ await ! tt $
