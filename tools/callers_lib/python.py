@@ -106,7 +106,7 @@ def install(python, folder, work):
     made = call(python, "-m", "venv", "--system-site-packages", inside, env=environment())
     check("a virtual environment", made.returncode == 0, made.stdout)
     inner = os.path.join(inside, "bin/python")
-    words = ["-m", "pip", "install", "-v", "--no-index", "--no-build-isolation", package]
+    words = ["-m", "pip", "install", "-v", "--no-index", package]
     made = call(inner, *words, env=environment(BYTE_UNIT_LIBRARY_DIR=folder))
     check("pip installs the package offline", made.returncode == 0, made.stdout)
     check("its C compiles without a warning", not re.search(r"\.[ch]:\d+.*warning: ", made.stdout), made.stdout)
