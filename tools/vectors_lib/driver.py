@@ -15,7 +15,7 @@ class Row:
 
 
 def unescaped(text):
-    """Returns the text that an escaped one stands for."""
+    """Returns the text without its escapes."""
     text = re.sub(r"\\\{(\d+)\*(\\u\{[0-9A-Fa-f]+\}|.)\}", lambda m: m[2] * int(m[1]), text, flags=re.S)
     return re.sub(r"\\u\{([0-9A-Fa-f]+)\}", lambda m: chr(int(m[1], 16)), text)
 

@@ -14,7 +14,7 @@ use Rattle.byte_unit_base.proofs.OnLiterals.{byte_unit_base_on_literals}
 use Rattle.byte_unit_base.proofs.ParsedTexts.{parsed_sizes_are_accepted}
 pub use Rattle.byte_unit_base.proofs.AdjustedLiterals.{adjusted_computed}
 
--- what an answer unfolds to compute what the parsers return for a literal
+-- what a proof unfolds to compute what the parsers return for a literal
 unfoldable pub byte_unit_on_literals : ⊤
 unfolding byte_unit_base_on_literals
 byte_unit_on_literals = tt

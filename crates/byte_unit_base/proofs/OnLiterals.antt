@@ -1,4 +1,4 @@
--- What an answer unfolds to compute the parsers of this crate on a literal.
+-- What a proof unfolds to compute the parsers of this crate on a literal.
 use Rattle.std.specs.Prelude.{⊤}
 use Rattle.std.specs.Str.{chars}
 use Rattle.byte_unit_base.specs.UnitScan.{unit_step}

@@ -17,11 +17,11 @@ abbrev pub counts_bits : Kind → Bool
 counts_bits Byte = false
 counts_bits Bit = true
 
--- the own unit of the kind: a byte or a bit, without a prefix
+-- the base unit of the kind: a byte or a bit, without a prefix
 abbrev pub own_unit : Kind → Shape
 own_unit kind = shape 0 (not (counts_bits kind)) (counts_bits kind)
 
--- the unit set of the multiples of the own unit
+-- the unit set of the multiples of the base unit
 abbrev pub own_family : Kind → Family
 own_family Byte = Bytes
 own_family Bit = Bits

@@ -24,18 +24,18 @@ units_with true false = B ∷ KiB ∷ MiB ∷ GiB ∷ TiB ∷ PiB ∷ EiB ∷ Zi
 abbrev pub unit_of_shape : Shape → UnitName
 unit_of_shape s = get_or (units_with s.binary s.bit) s.power B
 
--- the number of prefix letters
+-- the number of prefixes, one for each prefix letter
 abbrev pub prefix_count : ℕ
 prefix_count = length current.letters
 
--- the units of a unit set that have this one prefix letter, from the largest to the smallest
+-- the units of a unit set whose prefix has this index, from the largest to the smallest
 abbrev pub units_of_prefix : Family → ℕ → List Shape
 units_of_prefix All power =
     shape power true false ∷ shape power false false ∷ shape power true true ∷ shape power false true ∷ []
 units_of_prefix Bytes power = shape power true false ∷ shape power false false ∷ []
 units_of_prefix Bits power = shape power true true ∷ shape power false true ∷ []
 
--- the units of a unit set that have one of the first n prefix letters, from the largest to the smallest
+-- the units of a unit set whose prefix has an index of at most n, from the largest to the smallest
 abbrev pub units_of_prefixes : Family → ℕ → List Shape
 units_of_prefixes family zero = []
 units_of_prefixes family (suc power) = units_of_prefix family (suc power) ++ units_of_prefixes family power

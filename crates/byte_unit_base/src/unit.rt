@@ -218,7 +218,7 @@ impl Unit {
     }
 
     /// Returns `true` if the prefix is binary (IEC). Of the units without a prefix, `B` counts as binary and `Bit` does
-    /// not.
+    /// not, as in the Rust crate.
     ///
     /// # Examples
     /// ```rust

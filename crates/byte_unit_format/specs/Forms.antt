@@ -11,11 +11,11 @@ use Rattle.byte_unit_base.specs.Kinds.{bits_in}
 use Rattle.byte_unit_format.specs.Layout.{layout}
 use Rattle.byte_unit_format.specs.Plain.{plain}
 
--- The digits after the point that are allowed if no precision is set.
+-- The number of digits after the point that is allowed if no precision is set.
 abbrev pub default_precision : ℕ
 default_precision = 3
 
--- The digits after the point that are allowed: the precision, or 3 if none is set.
+-- The number of digits after the point that is allowed: the precision, or 3 if none is set.
 abbrev pub places_of : Option ℕ → ℕ
 places_of None = default_precision
 places_of (Some precision) = precision

@@ -48,11 +48,11 @@ fn answer(rt: &HostRuntime) -> Ending {
     }
 }
 
-/// Runs the program, and exits with the status of its ending.
+/// Runs the program, prints the line of its ending on standard error if it has one, and exits with its status.
 fn main(rt: HostRuntime) -> ExitCode {
     let ending = answer(&rt);
     if let Some(line) = ending.line() {
-        // Ignored on failure: the exit status reports the ending too.
+        // If standard error is closed, the exit status still reports the ending.
         let _ = eprintln!(rt; "{line}");
     }
     ExitCode::from(ending.status())

@@ -80,7 +80,7 @@ impl DecimalDigits {
         BUFFER_LEN - self.start
     }
 
-    /// Returns the digits as a slice.
+    /// Returns the digits as a slice of ASCII characters.
     ///
     /// # Examples
     /// ```rust

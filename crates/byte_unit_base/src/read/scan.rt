@@ -79,7 +79,7 @@ impl SizeScan {
         }
     }
 
-    /// Returns the number read so far. Returns `None` if the last character is not one of its digits.
+    /// Returns the number read so far. Returns `None` unless the last character read is one of its digits.
     #[inline(always)]
     pub fn number(&self) -> Option<Decimal>
         requires { IsScan self.now }

@@ -92,7 +92,10 @@ impl From<usize> for Bit {
     }
 }
 
-/// Creates a `Bit` from a number of bits. Returns `ExceededBoundsError` if it is 10^30 or more.
+/// Creates a `Bit` from a number of bits.
+///
+/// # Errors
+/// Returns `ExceededBoundsError` if it is 10^30 or more.
 impl TryFrom<u128> for Bit {
     type Error = ExceededBoundsError;
 
@@ -103,7 +106,10 @@ impl TryFrom<u128> for Bit {
     }
 }
 
-/// Creates a `Bit` from a number of bits. Returns `ExceededBoundsError` if it is negative, or 10^30 or more.
+/// Creates a `Bit` from a number of bits.
+///
+/// # Errors
+/// Returns `ExceededBoundsError` if it is negative, or 10^30 or more.
 impl TryFrom<i128> for Bit {
     type Error = ExceededBoundsError;
 
@@ -114,7 +120,10 @@ impl TryFrom<i128> for Bit {
     }
 }
 
-/// Creates a `Bit` from a number of bits. Returns `ExceededBoundsError` if it is negative.
+/// Creates a `Bit` from a number of bits.
+///
+/// # Errors
+/// Returns `ExceededBoundsError` if it is negative.
 impl TryFrom<i64> for Bit {
     type Error = ExceededBoundsError;
 
@@ -125,7 +134,10 @@ impl TryFrom<i64> for Bit {
     }
 }
 
-/// Creates a `Bit` from a number of bits. Returns `ExceededBoundsError` if it is negative.
+/// Creates a `Bit` from a number of bits.
+///
+/// # Errors
+/// Returns `ExceededBoundsError` if it is negative.
 impl TryFrom<i32> for Bit {
     type Error = ExceededBoundsError;
 
@@ -136,7 +148,10 @@ impl TryFrom<i32> for Bit {
     }
 }
 
-/// Creates a `Bit` from a number of bits. Returns `ExceededBoundsError` if it is negative.
+/// Creates a `Bit` from a number of bits.
+///
+/// # Errors
+/// Returns `ExceededBoundsError` if it is negative.
 impl TryFrom<i16> for Bit {
     type Error = ExceededBoundsError;
 
@@ -147,7 +162,10 @@ impl TryFrom<i16> for Bit {
     }
 }
 
-/// Creates a `Bit` from a number of bits. Returns `ExceededBoundsError` if it is negative.
+/// Creates a `Bit` from a number of bits.
+///
+/// # Errors
+/// Returns `ExceededBoundsError` if it is negative.
 impl TryFrom<i8> for Bit {
     type Error = ExceededBoundsError;
 
@@ -158,7 +176,10 @@ impl TryFrom<i8> for Bit {
     }
 }
 
-/// Creates a `Bit` from a number of bits. Returns `ExceededBoundsError` if it is negative.
+/// Creates a `Bit` from a number of bits.
+///
+/// # Errors
+/// Returns `ExceededBoundsError` if it is negative.
 impl TryFrom<isize> for Bit {
     type Error = ExceededBoundsError;
 
@@ -187,7 +208,10 @@ impl From<Bit> for u64 {
     }
 }
 
-/// Returns the number of bits. Returns `TryFromIntError` if it is 2^32 or more.
+/// Returns the number of bits.
+///
+/// # Errors
+/// Returns `TryFromIntError` if it is 2^32 or more.
 impl TryFrom<Bit> for u32 {
     type Error = TryFromIntError;
 
@@ -198,7 +222,10 @@ impl TryFrom<Bit> for u32 {
     }
 }
 
-/// Returns the number of bits. Returns `TryFromIntError` if it is 2^16 or more.
+/// Returns the number of bits.
+///
+/// # Errors
+/// Returns `TryFromIntError` if it is 2^16 or more.
 impl TryFrom<Bit> for u16 {
     type Error = TryFromIntError;
 
@@ -209,7 +236,10 @@ impl TryFrom<Bit> for u16 {
     }
 }
 
-/// Returns the number of bits. Returns `TryFromIntError` if it is 2^8 or more.
+/// Returns the number of bits.
+///
+/// # Errors
+/// Returns `TryFromIntError` if it is 2^8 or more.
 impl TryFrom<Bit> for u8 {
     type Error = TryFromIntError;
 
@@ -220,7 +250,10 @@ impl TryFrom<Bit> for u8 {
     }
 }
 
-/// Returns the number of bits. Returns `TryFromIntError` if it is 2^64 or more.
+/// Returns the number of bits.
+///
+/// # Errors
+/// Returns `TryFromIntError` if it is 2^64 or more.
 impl TryFrom<Bit> for usize {
     type Error = TryFromIntError;
 

@@ -91,7 +91,10 @@ impl From<usize> for Byte {
     }
 }
 
-/// Creates a `Byte` from a number of bytes. Returns `ExceededBoundsError` if it is 10^30 or more.
+/// Creates a `Byte` from a number of bytes.
+///
+/// # Errors
+/// Returns `ExceededBoundsError` if it is 10^30 or more.
 impl TryFrom<u128> for Byte {
     type Error = ExceededBoundsError;
 
@@ -102,7 +105,10 @@ impl TryFrom<u128> for Byte {
     }
 }
 
-/// Creates a `Byte` from a number of bytes. Returns `ExceededBoundsError` if it is negative, or 10^30 or more.
+/// Creates a `Byte` from a number of bytes.
+///
+/// # Errors
+/// Returns `ExceededBoundsError` if it is negative, or 10^30 or more.
 impl TryFrom<i128> for Byte {
     type Error = ExceededBoundsError;
 
@@ -113,7 +119,10 @@ impl TryFrom<i128> for Byte {
     }
 }
 
-/// Creates a `Byte` from a number of bytes. Returns `ExceededBoundsError` if it is negative.
+/// Creates a `Byte` from a number of bytes.
+///
+/// # Errors
+/// Returns `ExceededBoundsError` if it is negative.
 impl TryFrom<i64> for Byte {
     type Error = ExceededBoundsError;
 
@@ -124,7 +133,10 @@ impl TryFrom<i64> for Byte {
     }
 }
 
-/// Creates a `Byte` from a number of bytes. Returns `ExceededBoundsError` if it is negative.
+/// Creates a `Byte` from a number of bytes.
+///
+/// # Errors
+/// Returns `ExceededBoundsError` if it is negative.
 impl TryFrom<i32> for Byte {
     type Error = ExceededBoundsError;
 
@@ -135,7 +147,10 @@ impl TryFrom<i32> for Byte {
     }
 }
 
-/// Creates a `Byte` from a number of bytes. Returns `ExceededBoundsError` if it is negative.
+/// Creates a `Byte` from a number of bytes.
+///
+/// # Errors
+/// Returns `ExceededBoundsError` if it is negative.
 impl TryFrom<i16> for Byte {
     type Error = ExceededBoundsError;
 
@@ -146,7 +161,10 @@ impl TryFrom<i16> for Byte {
     }
 }
 
-/// Creates a `Byte` from a number of bytes. Returns `ExceededBoundsError` if it is negative.
+/// Creates a `Byte` from a number of bytes.
+///
+/// # Errors
+/// Returns `ExceededBoundsError` if it is negative.
 impl TryFrom<i8> for Byte {
     type Error = ExceededBoundsError;
 
@@ -157,7 +175,10 @@ impl TryFrom<i8> for Byte {
     }
 }
 
-/// Creates a `Byte` from a number of bytes. Returns `ExceededBoundsError` if it is negative.
+/// Creates a `Byte` from a number of bytes.
+///
+/// # Errors
+/// Returns `ExceededBoundsError` if it is negative.
 impl TryFrom<isize> for Byte {
     type Error = ExceededBoundsError;
 
@@ -186,7 +207,10 @@ impl From<Byte> for u64 {
     }
 }
 
-/// Returns the number of bytes. Returns `TryFromIntError` if it is 2^32 or more.
+/// Returns the number of bytes.
+///
+/// # Errors
+/// Returns `TryFromIntError` if it is 2^32 or more.
 impl TryFrom<Byte> for u32 {
     type Error = TryFromIntError;
 
@@ -197,7 +221,10 @@ impl TryFrom<Byte> for u32 {
     }
 }
 
-/// Returns the number of bytes. Returns `TryFromIntError` if it is 2^16 or more.
+/// Returns the number of bytes.
+///
+/// # Errors
+/// Returns `TryFromIntError` if it is 2^16 or more.
 impl TryFrom<Byte> for u16 {
     type Error = TryFromIntError;
 
@@ -208,7 +235,10 @@ impl TryFrom<Byte> for u16 {
     }
 }
 
-/// Returns the number of bytes. Returns `TryFromIntError` if it is 2^8 or more.
+/// Returns the number of bytes.
+///
+/// # Errors
+/// Returns `TryFromIntError` if it is 2^8 or more.
 impl TryFrom<Byte> for u8 {
     type Error = TryFromIntError;
 
@@ -219,7 +249,10 @@ impl TryFrom<Byte> for u8 {
     }
 }
 
-/// Returns the number of bytes. Returns `TryFromIntError` if it is 2^64 or more.
+/// Returns the number of bytes.
+///
+/// # Errors
+/// Returns `TryFromIntError` if it is 2^64 or more.
 impl TryFrom<Byte> for usize {
     type Error = TryFromIntError;
 
