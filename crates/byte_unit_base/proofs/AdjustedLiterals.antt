@@ -1,20 +1,17 @@
 -- The parser of an adjusted size as a function: the unit that it computes is the appropriate one.
-use Rattle.std.proofs.Common.{◌≡◌, ℕ, ◌*◌, ◌≤◌, Bool, true, false, List, [], ◌∷◌, Result, Ok, Err, refl, sym, ap, subst, ◌∙◌}
+use Rattle.std.proofs.Common.{◌≡◌, ℕ, ◌*◌, ◌≤◌, Bool, true, false, List, [], ◌∷◌, Result, Ok, Err, refl, sym, ap, ◌∙◌}
 use Rattle.std.proofs.Common.{◌+◌, arith, cond, ◌⊎◌, ⊎_elim, inl, inr, IfOk}
 use Rattle.std.specs.Prelude.{nat_le}
 use Rattle.std.specs.Result.{result_map_both}
-use Rattle.std.proofs.lemmas.Bool.{and_parts, leb-true}
+use Rattle.std.proofs.lemmas.Bool.{and_parts}
 use Rattle.byte_unit_math.specs.Bounds.{unit_limit}
 use Rattle.byte_unit_base.specs.Shape.{Shape, bits}
 use Rattle.byte_unit_base.specs.Units.{shape_of}
 use Rattle.byte_unit_base.specs.UnitLists.{unit_of_shape}
-use Rattle.byte_unit_base.specs.Version.{current}
 use Rattle.byte_unit_base.specs.Errors.{size_fault}
-use Rattle.byte_unit_base.specs.Fault.{Fault}
 use Rattle.byte_unit_base.specs.Kinds.{bits_in, own_unit, own_family}
-use Rattle.byte_unit_base.specs.Family.{HasKind}
 use Rattle.byte_unit_base.specs.UnitLists.{units_of_prefixes, prefix_count}
-use Rattle.byte_unit_base.specs.Choice.{IsLargest, NoneHas, IsLargestOrOwn, IsEligibleUnit, IsAppropriate}
+use Rattle.byte_unit_base.specs.Choice.{IsLargestOrOwn, IsEligibleUnit, IsAppropriate}
 use Rattle.byte_unit_base.specs.AdjustedSize.{AdjustedSize, IsAdjustedReading, size_answer}
 use Rattle.byte_unit_base.specs.Parsed.{parsed_size}
 use Rattle.byte_unit_base.specs.ParsedAdjusted.{first_not_above, largest_unit_of, in_largest_unit_of, parsed_adjusted}

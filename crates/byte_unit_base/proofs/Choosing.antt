@@ -1,4 +1,4 @@
--- The number of bits of a unit, and a size in its own unit.
+-- The number of bits of a unit, and a size in its base unit.
 use Rattle.std.proofs.Common.{◌≡◌, ℕ, ◌*◌, ◌≤◌, Bool, Option, Some, None, IfNone, arith, ap, inl}
 use Rattle.std.proofs.Common.{inr, refl}
 use Rattle.std.proofs.Common.{subst, sym, ◌∙◌}
@@ -28,7 +28,7 @@ small_bits family unit h =
     let is_in = in_falling family prefix_count unit h.kind h.prefix.some h.prefix.known in
     le_of_falls units unit_limit unit (current_falls family prefix_count (omega arith)) is_in
 
--- the own unit of a kind has as many bits as a size of 1 of that kind
+-- the base unit of a kind has as many bits as a size of 1 of that kind
 pub own_bits : (kind : Kind) → bits (own_unit kind) ≡ bits_in kind
 own_bits Byte = refl
 own_bits Bit = refl
@@ -48,7 +48,7 @@ pub some_if_holds : {A : Type 0} {Fact : Type 0} (answer : Option A) → IfNone 
 some_if_holds None none h = absurd (none h)
 some_if_holds (Some x) none h = refl
 
--- a size, scaled by 10^28, is the number of its own unit in it
+-- a size, scaled by 10^28, is the number of its base unit in it
 pub own_number : (kind : Kind) (size number : ℕ) (unit : Shape) → number ≡ size * scale → unit ≡ own_unit kind
     → number * bits unit ≡ size * bits_in kind * scale
 own_number kind size number unit value own =

@@ -8,22 +8,20 @@ use Rattle.byte_unit_base.specs.Units.{shape_of}
 use Rattle.byte_unit_base.specs.UnitLists.{unit_of_shape}
 use Rattle.byte_unit_base.specs.Errors.{unit_fault, size_fault}
 use Rattle.byte_unit_base.specs.Spelling.{Flags}
-use Rattle.byte_unit_base.specs.SizeText.{trim_of, IsSizeText}
-use Rattle.byte_unit_base.specs.Version.{current}
-use Rattle.byte_unit_base.specs.Fault.{Fault, exceeded, IsSizeFault}
-use Rattle.byte_unit_base.specs.Kinds.{flags_for}
+use Rattle.byte_unit_base.specs.SizeText.{trim_of}
+use Rattle.byte_unit_base.specs.Fault.{exceeded}
 use Rattle.byte_unit_base.specs.LeastOfKind.{IsLeastOf}
 use Rattle.byte_unit_base.specs.UnitScan.{unit_scan, unit_result, start}
-use Rattle.byte_unit_base.specs.SizeScan.{size_scan, size_result, with_shape}
+use Rattle.byte_unit_base.specs.SizeScan.{size_scan, size_result}
 use Rattle.byte_unit_base.specs.Scan.{read}
-use Rattle.byte_unit_base.specs.Parsed.{parsed_unit, parsed_number, parsed_size, parts_of_crate, rounded_up, size_of_parsed}
+use Rattle.byte_unit_base.specs.Parsed.{parsed_unit, parsed_number, parts_of_crate, rounded_up}
 use Rattle.byte_unit_base.specs.Parsed.{size_within_limit}
 use Rattle.byte_unit_base.specs.declared.unit.Unit.{Unit as UnitName}
 use Rattle.byte_unit_base.specs.declared.errors.UnitParseError.{UnitParseError}
 use Rattle.byte_unit_base.specs.declared.errors.ParseError.{ParseError}
 use Rattle.byte_unit_base.specs.declared.kind.Kind.{Kind}
 use Rattle.byte_unit_base.specs.declared.kind.Kind.TheVariants.{Byte, Bit}
-use Rattle.byte_unit_base.specs.declared.read.scan.SizeScan.TheVariants.{Beginning}
+use Rattle.byte_unit_base.specs.SizeScan.{Beginning}
 use Rattle.byte_unit_base.specs.declared.unit.Unit.TheVariants as UnitNames
 
 -- the unit of the crate that has the shape of a unit is that unit

@@ -2,7 +2,6 @@
 pub mod Lists
 pub mod Options
 pub mod Trim
-pub mod Scales
 pub mod Scans
 pub mod UnitReached
 pub mod UnitRuns
@@ -31,6 +30,7 @@ pub mod OnLiterals
 pub mod ErrorTexts
 pub mod NumberTexts
 pub mod LongFractions
-pub mod FastReads
 pub mod SizeAscii
-pub mod SizeDigits
+pub mod NumberBytes
+pub mod NumberEnds
+pub mod SizeRest

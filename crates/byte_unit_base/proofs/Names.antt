@@ -22,7 +22,7 @@ use Rattle.byte_unit_base.specs.declared.unit.Unit.{Unit as UnitName}
 use Rattle.byte_unit_base.specs.declared.unit.Unit.TheVariants.{Bit, B}
 use Rattle.byte_unit_base.proofs.Trim.{EndsWithoutSpace}
 
--- the current version knows the prefix of the unit; without a prefix, the unit is a byte (binary) or a bit (decimal)
+-- the unit has a prefix of the current version, or none; without one, it is a byte (binary) or a bit (decimal)
 pub record IsKnown (s : Shape) : Type 0 where
   pub known : s.power ≤ length current.letters
   pub alone : s.power ≡ 0 → s.binary ≡ not s.bit
@@ -36,7 +36,7 @@ unit_power : (unit : UnitName) → (shape_of unit).power ≤ length current.lett
 unit_power Bit = omega arith
 unit_power _ = omega arith
 
--- the prefix of each unit of the crate is known
+-- the prefix of each unit of the crate is one of the current version
 pub unit_known : (unit : UnitName) → IsKnown (shape_of unit)
 unit_known unit = record { known = unit_power unit; alone = unit_alone unit }
 

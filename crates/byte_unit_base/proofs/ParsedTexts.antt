@@ -1,5 +1,5 @@
 -- The laws of the parsers as functions: for each input they give its meaning or its error.
-use Rattle.std.proofs.Common.{◌≡◌, ℕ, ◌<◌, Bool, true, false, List, Result, Ok, Err, refl, sym, ap, subst, arith, cond, inl, inr}
+use Rattle.std.proofs.Common.{◌≡◌, ℕ, Bool, true, false, List, Result, Ok, Err, refl, ap, subst, arith, cond, inl, inr}
 use Rattle.std.specs.Prelude.{nat_lt}
 use Rattle.byte_unit_math.specs.Bounds.{size_limit}
 use Rattle.byte_unit_base.specs.Shape.{Shape}
@@ -9,7 +9,7 @@ use Rattle.byte_unit_base.specs.Fault.{Fault, exceeded, IsSizeFault}
 use Rattle.byte_unit_base.specs.Kinds.{flags_for}
 use Rattle.byte_unit_base.specs.Accepted.{IsRead, IsAccepted, IsRejected}
 use Rattle.byte_unit_base.specs.ReaderLaws.{IsOneAnswer, Represents}
-use Rattle.byte_unit_base.specs.Parsed.{parsed_unit, parsed_number, parsed_size, rounded_up, size_of_parsed, size_within_limit}
+use Rattle.byte_unit_base.specs.Parsed.{parsed_unit, parsed_number, parsed_size, rounded_up, size_of_parsed}
 use Rattle.byte_unit_base.specs.ParsedLaws.{GivesAnswer, ParsedUnitsAreSpelled, ParsedNumbersAreRepresented}
 use Rattle.byte_unit_base.specs.ParsedLaws.{ParsedSizesAreAccepted}
 use Rattle.byte_unit_base.specs.declared.kind.Kind.{Kind}

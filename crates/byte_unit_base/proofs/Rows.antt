@@ -69,7 +69,7 @@ reaches_its_prefix unit prefix =
     listed_reaches_prefix (units_of_prefixes All prefix_count) unit known_units_reach_prefix
     (in_falling All prefix_count unit tt prefix.some prefix.known)
 
--- if a unit is not above a size of this many binary digits, ten times the place of its prefix is at most their number
+-- if a unit is not above a size of this many binary digits, ten times the index of its prefix is at most their number
 pub prefix_within : (in_bits digits : ℕ) (unit : Shape) → in_bits < 2 ^ 128 → digits ≡ 128 - leading_zeros w128 in_bits
     → HasPrefix current unit → bits unit ≤ in_bits → 10 * unit.power ≤ digits
 prefix_within in_bits digits unit small count prefix not_above =
@@ -84,7 +84,7 @@ prefix_within in_bits digits unit small count prefix not_above =
     (λ k. k)
     (cases_lt digits (10 * unit.power))
 
--- the number of all units of a set is a multiple of the number of prefix letters
+-- a unit set has the same number of units for each prefix letter
 length_of_all : (family : Family) → length (units_of_prefixes family prefix_count) / prefix_count
     ≡ units_per_prefix family
 length_of_all All = omega arith
@@ -182,7 +182,7 @@ few_prefixes : (power a b : ℕ) (binary bit : Bool) → twos (shape power binar
 few_prefixes power a b true bit few_twos few_fives = omega (arith, few_twos)
 few_prefixes power a b false bit few_twos few_fives = omega (arith, few_fives)
 
--- the place of the prefix of a unit is at most a / 10 or b / 3, if its exponents of 2 and 5 are at most a and b
+-- the index of the prefix of a unit is at most a / 10 or b / 3, if its exponents of 2 and 5 are at most a and b
 pub power_of_powers : (unit : Shape) (a b : ℕ) → twos unit ≤ a → fives unit ≤ b → unit.power ≤ max (a / 10) (b / 3)
 power_of_powers unit a b = few_prefixes unit.power a b unit.binary unit.bit
 

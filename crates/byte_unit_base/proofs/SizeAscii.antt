@@ -1,24 +1,24 @@
 -- The inputs of the grammar of sizes are ASCII. So with visible characters at their ends there is nothing to trim.
-use Rattle.std.proofs.Common.{◌≡◌, ℕ, ◌+◌, ◌-◌, ◌<◌, Bool, true, false, inl, inr, List, [], ◌∷◌, ◌++◌, length, take}
-use Rattle.std.proofs.Common.{get_or, replicate}
-use Rattle.std.proofs.Common.{refl, sym, subst, ◌∙◌, arith}
+use Rattle.std.proofs.Common.{◌≡◌, ℕ, ◌-◌, ◌<◌, Bool, true, inl, inr, List, [], ◌∷◌, ◌++◌, refl, ap}
+use Rattle.std.proofs.Common.{replicate}
+use Rattle.std.proofs.Common.{sym, subst, ◌∙◌, arith}
 use Rattle.std.specs.Prelude.{codes}
-use Rattle.std.specs.List.{All}
-use Rattle.std.specs.Char.{to_ascii_lowercase, to_ascii_uppercase, is_ascii_graphic, is_whitespace}
-use Rattle.std.specs.Str.{IsAscii, IsUtf8, str_to_ascii_lowercase}
+use Rattle.std.specs.Char.{to_ascii_lowercase, to_ascii_uppercase}
+use Rattle.std.specs.Str.{IsAscii, IsUtf8, chars, str_to_ascii_lowercase}
+use Rattle.std.specs.Prelude.{nat_lt, ◌&&◌}
+use Rattle.std.proofs.lemmas.Bool.{and_parts, ltb-true}
 use Rattle.std.proofs.lemmas.Bool.Decides.{nat_tests}
 use Rattle.std.proofs.lemmas.Fmt.{IsAscii-from_digits}
-use Rattle.std.proofs.lemmas.List.{take_more, take_all}
-use Rattle.std.proofs.lemmas.List.Elements.{All-nil, All-cons, All-head, All-tail, All-replicate}
-use Rattle.std.proofs.lemmas.Str.{IsAscii-append, IsUtf8-from_ascii}
+use Rattle.std.proofs.lemmas.List.Elements.{All-replicate}
+use Rattle.std.proofs.lemmas.Str.{IsAscii-append, IsUtf8-from_ascii, chars-IsAscii}
 use Rattle.std.proofs.lemmas.Str.Ascii.{IsAscii-nil, IsAscii-cons, IsAscii-from_all}
 use Rattle.byte_unit_base.specs.Shape.{Shape}
 use Rattle.byte_unit_base.specs.Version.{current}
 use Rattle.byte_unit_base.specs.Spelling.{Flags, SpellsBinary, SpellsPrefix, SpellsCount, Spells}
 use Rattle.byte_unit_base.specs.Number.{IsNumberText}
 use Rattle.byte_unit_base.specs.SizeText.{space, trim_of, IsSizeText}
-use Rattle.byte_unit_base.specs.FastReading.{HasVisibleEnds}
-use Rattle.byte_unit_base.proofs.Trim.{StartsWithoutSpace, EndsWithoutSpace, trimmed_same}
+use Rattle.byte_unit_base.specs.PartsReading.{HasVisibleEnds}
+use Rattle.byte_unit_base.proofs.Trim.{trim_visible}
 
 -- letters, whose lower case is ASCII
 
@@ -28,57 +28,35 @@ lower_small c small = grind (arith, nat_tests)
 upper_small : (c : ℕ) → to_ascii_uppercase c < 128 → c < 128
 upper_small c small = grind (arith, nat_tests)
 
-lower_all : (text : List ℕ) → All (λ c. c < 128) (str_to_ascii_lowercase text) → All (λ c. c < 128) text
-lower_all [] small = All-nil (λ c. c < 128)
-lower_all (c ∷ cs) small =
-    All-cons (λ c. c < 128) c cs (lower_small c
-    (All-head (λ c. c < 128) (to_ascii_lowercase c) (str_to_ascii_lowercase cs) small))
-    (lower_all cs (All-tail (λ c. c < 128) (to_ascii_lowercase c) (str_to_ascii_lowercase cs) small))
+-- a test that a proof computes for a literal
+abbrev small_text : List ℕ → Bool
+small_text [] = true
+small_text (c ∷ cs) = nat_lt c 128 && small_text cs
 
-lower_ascii : (text word : List ℕ) → All (λ c. c < 128) word → str_to_ascii_lowercase text ≡ word → IsAscii text
-lower_ascii text word small e = IsAscii-from_all text (lower_all text (subst (All (λ c. c < 128)) (sym e) small))
+text_ascii : (text : List ℕ) → small_text text ≡ true → IsAscii text
+text_ascii [] e = IsAscii-nil
+text_ascii (c ∷ cs) e = let h = and_parts _ _ e in IsAscii-cons c cs (ltb-true _ _ h.0) (text_ascii cs h.1)
 
-letter_small : (c : ℕ) → c < 128 → All (λ c. c < 128) (c ∷ [])
-letter_small c small = All-cons (λ c. c < 128) c [] small (All-nil (λ c. c < 128))
-
-it_small : All (λ c. c < 128) (codes "it")
-it_small = All-cons (λ c. c < 128) 105 (codes "t") (omega arith) (letter_small 116 (omega arith))
-
-its_small : All (λ c. c < 128) (codes "its")
-its_small =
-    All-cons (λ c. c < 128) 105 (codes "ts") (omega arith)
-    (All-cons (λ c. c < 128) 116 (codes "s") (omega arith) (letter_small 115 (omega arith)))
-
-bit_small : All (λ c. c < 128) (codes "bit")
-bit_small = All-cons (λ c. c < 128) 98 (codes "it") (omega arith) it_small
-
-bits_small : All (λ c. c < 128) (codes "bits")
-bits_small = All-cons (λ c. c < 128) 98 (codes "its") (omega arith) its_small
+lower_ascii : (text : List ℕ) → small_text (str_to_ascii_lowercase text) ≡ true → IsAscii text
+lower_ascii [] e = IsAscii-nil
+lower_ascii (c ∷ cs) e =
+    let h = and_parts _ _ e in IsAscii-cons c cs (lower_small c (ltb-true _ _ h.0)) (lower_ascii cs h.1)
 
 -- spellings
 
 count_ascii : (flags : Flags) (text : List ℕ) (bit : Bool) → SpellsCount flags text bit → IsAscii text
 count_ascii flags text bit (inl h) = subst IsAscii (sym h.0) IsAscii-nil
-count_ascii flags text bit (inr (inl h)) = subst IsAscii (sym h.0) (IsAscii-cons 66 [] (omega arith) IsAscii-nil)
-count_ascii flags text bit (inr (inr (inl h))) = subst IsAscii (sym h.0) (IsAscii-cons 98 [] (omega arith) IsAscii-nil)
-count_ascii flags text bit (inr (inr (inr (inl h)))) = lower_ascii text (codes "bit") bit_small h.0
-count_ascii flags text bit (inr (inr (inr (inr h)))) = lower_ascii text (codes "bits") bits_small h.0
+count_ascii flags text bit (inr (inl h)) = subst IsAscii (sym h.0) (text_ascii (codes "B") refl)
+count_ascii flags text bit (inr (inr (inl h))) = subst IsAscii (sym h.0) (text_ascii (codes "b") refl)
+count_ascii flags text bit (inr (inr (inr (inl h)))) = lower_ascii text (ap small_text h.0)
+count_ascii flags text bit (inr (inr (inr (inr h)))) = lower_ascii text (ap small_text h.0)
 
 binary_ascii : (text : List ℕ) (binary : Bool) → SpellsBinary text binary → IsAscii text
 binary_ascii text binary (inl h) = subst IsAscii (sym h.0) IsAscii-nil
-binary_ascii text binary (inr h) = lower_ascii text (codes "i") (letter_small 105 (omega arith)) h.0
+binary_ascii text binary (inr h) = lower_ascii text (ap small_text h.0)
 
 letters_ascii : IsAscii current.letters
-letters_ascii =
-    IsAscii-cons 75 (codes "MGTPEZYR") (omega arith)
-    (IsAscii-cons 77 (codes "GTPEZYR") (omega arith)
-    (IsAscii-cons 71 (codes "TPEZYR") (omega arith)
-    (IsAscii-cons 84 (codes "PEZYR") (omega arith)
-    (IsAscii-cons 80 (codes "EZYR") (omega arith)
-    (IsAscii-cons 69 (codes "ZYR") (omega arith)
-    (IsAscii-cons 90 (codes "YR") (omega arith)
-    (IsAscii-cons 89 (codes "R") (omega arith)
-    (IsAscii-cons 82 [] (omega arith) IsAscii-nil))))))))
+letters_ascii = text_ascii current.letters refl
 
 prefix_ascii : (text : List ℕ) (power : ℕ) (binary : Bool) → SpellsPrefix current text power binary → IsAscii text
 prefix_ascii text power binary h =
@@ -114,35 +92,22 @@ size_ascii flags text number unit h =
     (number_ascii h.number_part number h.number_is)
     (IsAscii-append (replicate h.spaces space) h.unit_part gap (spelling_ascii flags h.unit_part unit h.unit_is)))
 
--- visible ends
-
-visible_not_white : (c : ℕ) → is_ascii_graphic c ≡ true → is_whitespace c ≡ false
-visible_not_white c e = grind (arith, nat_tests)
-
-visible_start : (bytes : List ℕ) → HasVisibleEnds bytes → StartsWithoutSpace bytes
-visible_start [] ends = absurd (omega (arith, ends.some))
-visible_start (c ∷ cs) ends = record { head = c; tail = cs; text_is = refl; head_is = visible_not_white c ends.start }
-
-visible_end : (bytes : List ℕ) → HasVisibleEnds bytes → EndsWithoutSpace bytes
-visible_end bytes ends =
-    let last = length bytes - 1 in
-    let inside : last < length bytes = omega (arith, ends.some) in
-    record {
-      front = take last bytes;
-      last = get_or bytes last 0;
-      text_is = sym (take_all (last + 1) bytes (omega (arith, ends.some))) ∙ take_more bytes last 0 inside;
-      last_is = visible_not_white (get_or bytes last 0) ends.end;
-    }
-
 -- if bytes with visible characters at their ends are a number and a unit, they are so when trimmed
 pub trimmed_size : (flags : Flags) (bytes : List ℕ) (number : ℕ) (unit : Shape) → HasVisibleEnds bytes
     → IsSizeText current flags bytes number unit → IsSizeText current flags (trim_of bytes) number unit
 trimmed_size flags bytes number unit ends h =
-    subst (λ text. IsSizeText current flags text number unit)
-    (sym (trimmed_same bytes (visible_start bytes ends) (visible_end bytes ends)
-    (size_ascii flags bytes number unit h))) h
+    let ascii = size_ascii flags bytes number unit h in
+    let same = trim_visible bytes (IsUtf8-from_ascii bytes ascii) ends ∙ chars-IsAscii bytes ascii in
+    subst (λ text. IsSizeText current flags text number unit) (sym same) h
 
 -- bytes that are a number and a unit are UTF-8
 pub size_utf8 : (flags : Flags) (bytes : List ℕ) (number : ℕ) (unit : Shape)
     → IsSizeText current flags bytes number unit → IsUtf8 bytes
 size_utf8 flags bytes number unit h = IsUtf8-from_ascii bytes (size_ascii flags bytes number unit h)
+
+-- bytes that are a number and a unit are their characters
+pub size_of_chars : (flags : Flags) (bytes : List ℕ) (number : ℕ) (unit : Shape)
+    → IsSizeText current flags bytes number unit → IsSizeText current flags (chars bytes) number unit
+size_of_chars flags bytes number unit h =
+    subst (λ text. IsSizeText current flags text number unit)
+    (sym (chars-IsAscii bytes (size_ascii flags bytes number unit h))) h

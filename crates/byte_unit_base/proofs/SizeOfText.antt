@@ -1,6 +1,5 @@
 -- What the parser of a size returns, by the result of parsing its number and unit.
-use Rattle.std.proofs.Common.{◌≡◌, ℕ, Bool, List, Option, Some, None, Ok, Err, sym, ap, subst, arith, inl, inr, refl, ◌∙◌}
-use Rattle.std.specs.Option.{ok_or}
+use Rattle.std.proofs.Common.{◌≡◌, ℕ, Bool, List, Some, None, Ok, Err, sym, ap, subst, arith, inl, inr, refl, ◌∙◌}
 use Rattle.byte_unit_base.specs.Shape.{Shape}
 use Rattle.byte_unit_base.specs.Version.{current}
 use Rattle.byte_unit_base.specs.Units.{shape_of}
@@ -25,7 +24,7 @@ use Rattle.byte_unit_base.specs.Version.{current}
 use Rattle.byte_unit_base.proofs.Computed.{rounded_up_is_least, size_within, size_above}
 use Rattle.byte_unit_base.proofs.Scans.{reads_meaning, reads_fault}
 use Rattle.byte_unit_base.proofs.SizeReads.{size_scan_is}
-use Rattle.byte_unit_base.proofs.Rounding.{least_is_unique, least_exists}
+use Rattle.byte_unit_base.proofs.Rounding.{least_is_unique}
 
 -- an input has only the number and unit that the parser found, so each of its sizes is that number rounded up
 found_as_read :
@@ -113,17 +112,6 @@ reading_of_excess kind ignore_case bytes found least reading none = record {
       sym (parsed_found kind ignore_case bytes found reading.found
       ∙ size_above found.0 rounded (none rounded (rounded_up_is_least kind found.0 unit)));
 }
-
--- the result by the size of the number and unit, or `None` if it reaches the limit
-pub reading_of_number :
-    (kind : Kind) (ignore_case : Bool) (bytes : List ℕ) (found : ℕ × UnitName) (size : Option ℕ)
-    → IsNumberReading (flags_for kind ignore_case) bytes (Ok found)
-    → IsSizeOrNone (IsLeastOf kind found.0 (shape_of found.1)) size
-    → IsSizeReading kind ignore_case bytes (ok_or size (Value (ExceededBounds found.0)))
-reading_of_number kind ignore_case bytes found (Some n) reading size =
-    reading_of_size kind ignore_case bytes found n reading size
-reading_of_number kind ignore_case bytes found None reading none =
-    reading_of_excess kind ignore_case bytes found (least_exists kind found.0 (shape_of found.1)) reading none
 
 -- the result if the input is not a number and a unit: its error
 pub reading_of_fault :

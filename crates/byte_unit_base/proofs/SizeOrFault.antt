@@ -36,7 +36,7 @@ module _ (kind : Kind) (ignore_case : Bool) (text : List ℕ) where
         sizes = least_is_unique kind other b.unit n m (subst HasLeastSize same a.is_least) b.is_least;
       }
 
-  -- an input in the grammar has no error of its characters
+  -- an input in the grammar has no error of an input that is not
   no_fault : (number n : ℕ) (fault : Fault) → IsRead current kind ignore_case text number n
       → ¬ (HasFault kind ignore_case text fault)
   no_fault number n fault a f = one_answer.not_both (number, a.unit) fault a.is_size f
@@ -61,7 +61,7 @@ module _ (kind : Kind) (ignore_case : Bool) (text : List ℕ) where
       (λ fault. inr (inr fault))
       one_answer.some
 
-  -- an input is accepted as one size, or its size is too large, or it has one error of its characters
+  -- an input is accepted as one size, or its size is too large, or it is not in the grammar and has one error
   pub is_one_of_three : IsOneOfThree
       (IsAccepted kind ignore_case text) (Exceeds kind ignore_case text)
       (HasFault kind ignore_case text)
@@ -75,7 +75,7 @@ module _ (kind : Kind) (ignore_case : Bool) (text : List ℕ) where
     no_fault_of_excess = λ number fault e f. no_fault number e.size fault e.is_read f;
   }
 
-  -- an input whose size is too large, or that has an error of its characters, is rejected
+  -- an input whose size is too large, or that is not in the grammar and has an error, is rejected
   refusal : ((number : ℕ) × Exceeds kind ignore_case text number)
       ⊎ ((fault : Fault) × HasFault kind ignore_case text fault)
       → (fault : Fault) × IsRejected kind ignore_case text fault
@@ -105,7 +105,7 @@ module _ (kind : Kind) (ignore_case : Bool) (text : List ℕ) where
     not_both = no_refusal;
   }
 
--- each input is accepted as one size, or its size is too large, or it has one error of its characters
+-- each input is accepted as one size, or its size is too large, or it is not in the grammar and has one error
 pub one_of_three : EachTextIsOneOfThree
 one_of_three kind ignore_case text = is_one_of_three kind ignore_case text
 

@@ -162,7 +162,7 @@ counted_choice {size} {number} {a} {b} {places} old mid new powers least trials 
     } in
     inr (a + b + 2 + places, steps, omega (arith, trials, division))
 
--- a size in its own unit has the step count of a size for which no unit is chosen
+-- a size in its base unit has the step count of a size for which no unit is chosen
 pub counted_whole : (size number old new : ℕ) → number ≡ size * scale → CountsChoice size 0 old new
     → CountsChoice size number old new
 counted_whole size number old new value (inl h) = inl h

@@ -12,9 +12,9 @@ use Rattle.byte_unit_base.specs.Number.{IsWholePart, IsPointed, IsPrecise, IsNum
 use Rattle.byte_unit_base.specs.UnitScan.{start as unit_start}
 use Rattle.byte_unit_base.specs.SizeScan.{fixed_point}
 use Rattle.byte_unit_base.specs.declared.unit.scan.UnitScan.{UnitScan}
-use Rattle.byte_unit_base.specs.declared.read.scan.SizeScan.{SizeScan}
-use Rattle.byte_unit_base.specs.declared.read.scan.SizeScan.TheVariants.{Beginning, Whole, Point, Fraction, Gap}
-use Rattle.byte_unit_base.specs.declared.read.scan.SizeScan.TheVariants.{Unit as UnitAt}
+use Rattle.byte_unit_base.specs.SizeScan.{SizeScan}
+use Rattle.byte_unit_base.specs.SizeScan.{Beginning, Whole, Point, Fraction, Gap}
+use Rattle.byte_unit_base.specs.SizeScan.{UnitAt}
 use Rattle.byte_unit_base.proofs.UnitReached.{Reached, Reached-step, Reached-start}
 use Rattle.byte_unit_base.proofs.SizeSteps.{UnitStep, AfterNumber, StepOf}
 use Rattle.byte_unit_base.proofs.Lists.{push_last}

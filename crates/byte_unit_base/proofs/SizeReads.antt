@@ -29,9 +29,9 @@ use Rattle.byte_unit_base.specs.declared.unit.scan.Multiple.{Multiple}
 use Rattle.byte_unit_base.specs.declared.unit.scan.Multiple.TheVariants.{One, Decimal, Binary}
 use Rattle.byte_unit_base.specs.declared.unit.scan.Word.{Word}
 use Rattle.byte_unit_base.specs.declared.unit.scan.Word.TheVariants.{Empty, Bi}
-use Rattle.byte_unit_base.specs.declared.read.scan.SizeScan.{SizeScan}
-use Rattle.byte_unit_base.specs.declared.read.scan.SizeScan.TheVariants.{Beginning, Whole, Point, Fraction, Gap}
-use Rattle.byte_unit_base.specs.declared.read.scan.SizeScan.TheVariants.{Unit as UnitAt}
+use Rattle.byte_unit_base.specs.SizeScan.{SizeScan}
+use Rattle.byte_unit_base.specs.SizeScan.{Beginning, Whole, Point, Fraction, Gap}
+use Rattle.byte_unit_base.specs.SizeScan.{UnitAt}
 use Rattle.byte_unit_base.proofs.Computed.{number_computed}
 use Rattle.byte_unit_base.proofs.Scans.{EndsIn, IsScanOf, read_found, read_meant, read_refused, reads_meaning}
 use Rattle.byte_unit_base.proofs.Scans.{one_answer, fronts_are_beginnings}

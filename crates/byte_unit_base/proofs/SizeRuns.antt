@@ -1,4 +1,4 @@
--- The state machine of sizes reads each number and unit, and each of their viable prefixes, to its end.
+-- The state machine of sizes reads each number with its unit, and each viable prefix of one, to its end.
 use Rattle.std.proofs.Common.{◌≡◌, ◌≢◌, ℕ, zero, suc, ◌+◌, ◌-◌, ◌*◌, ◌^◌, ◌<◌, ◌≤◌, inl, inr, List, [], ◌∷◌, ◌++◌}
 use Rattle.std.proofs.Common.{Option, Some, None, Ok}
 use Rattle.std.proofs.Common.{length, replicate, sym, refl, ap, ◌∙◌, arith, true, false, cond, eqb, ltb, append-nil}
@@ -26,9 +26,9 @@ use Rattle.byte_unit_base.specs.declared.unit.scan.UnitScan.{UnitScan}
 use Rattle.byte_unit_base.specs.declared.unit.scan.Multiple.TheVariants.{One, Decimal}
 use Rattle.byte_unit_base.specs.declared.unit.scan.Word.{Word}
 use Rattle.byte_unit_base.specs.declared.unit.scan.Word.TheVariants.{Empty, UpperB, LowerB}
-use Rattle.byte_unit_base.specs.declared.read.scan.SizeScan.{SizeScan}
-use Rattle.byte_unit_base.specs.declared.read.scan.SizeScan.TheVariants.{Beginning, Whole, Point, Fraction, Gap}
-use Rattle.byte_unit_base.specs.declared.read.scan.SizeScan.TheVariants.{Unit as UnitAt}
+use Rattle.byte_unit_base.specs.SizeScan.{SizeScan}
+use Rattle.byte_unit_base.specs.SizeScan.{Beginning, Whole, Point, Fraction, Gap}
+use Rattle.byte_unit_base.specs.SizeScan.{UnitAt}
 use Rattle.byte_unit_base.proofs.Options.{some_passed}
 use Rattle.byte_unit_base.proofs.UnitReached.{prefix_found}
 use Rattle.byte_unit_base.proofs.Scans.{run_through, run_step, run_keeps, IsScanned}
@@ -36,34 +36,39 @@ use Rattle.byte_unit_base.proofs.UnitRuns.{spelling_runs, unit_front_runs}
 
 -- digits
 
-step_first : (c : ℕ) → digit_value c < 10 → size_step Beginning c ≡ Some (Whole (digit_value c))
+-- the first digit
+pub step_first : (c : ℕ) → digit_value c < 10 → size_step Beginning c ≡ Some (Whole (digit_value c))
 unfolding size_step
 step_first c h = let e : ltb (digit_value c) 10 ≡ true = grind (arith, nat_tests) in rw e refl
 
-step_whole : (w c : ℕ) → digit_value c < 10 → w * 10 + digit_value c < whole_limit
+-- one more digit
+pub step_whole : (w c : ℕ) → digit_value c < 10 → w * 10 + digit_value c < whole_limit
     → size_step (Whole w) c ≡ Some (Whole (w * 10 + digit_value c))
 unfolding size_step
 step_whole w c h k =
     let e : ltb (digit_value c) 10 ≡ true = grind (arith, nat_tests) in
     let f : ltb (w * 10 + digit_value c) whole_limit ≡ true = grind (arith, nat_tests) in rw (e, f) refl
 
--- the point follows a whole part
+-- a point can follow a whole part
 pub step_point : (w : ℕ) → size_step (Whole w) 46 ≡ Some (Point w)
 unfolding size_step
 step_point w = refl
 
-step_pointed : (w c : ℕ) → digit_value c < 10 → size_step (Point w) c ≡ Some (Fraction w (digit_value c) 1)
+-- one more digit
+pub step_pointed : (w c : ℕ) → digit_value c < 10 → size_step (Point w) c ≡ Some (Fraction w (digit_value c) 1)
 unfolding size_step
 step_pointed w c h = let e : ltb (digit_value c) 10 ≡ true = grind (arith, nat_tests) in rw e refl
 
-step_fraction : (w f j c : ℕ) → digit_value c < 10 → j < places_of_decimal
+-- one more digit
+pub step_fraction : (w f j c : ℕ) → digit_value c < 10 → j < places_of_decimal
     → size_step (Fraction w f j) c ≡ Some (Fraction w (f * 10 + digit_value c) (j + 1))
 unfolding size_step
 step_fraction w f j c h k =
     let e : ltb (digit_value c) 10 ≡ true = grind (arith, nat_tests) in
     let g : ltb j places_of_decimal ≡ true = grind (arith, nat_tests) in rw (e, g) refl
 
-value_rises : (ds : List ℕ) (v : ℕ) → v ≤ digits_value_after 10 v ds
+-- more digits make no smaller number
+pub value_rises : (ds : List ℕ) (v : ℕ) → v ≤ digits_value_after 10 v ds
 value_rises [] v = omega arith
 value_rises (c ∷ cs) v = omega (arith, value_rises cs (v * 10 + digit_value c))
 
@@ -129,7 +134,8 @@ pub record RunsTo (Holds : SizeScan → Type 0) (s : SizeScan) (text : List ℕ)
   pub run : run size_step s text ≡ Some state
   pub holds : Holds state
 
-run_precise : (text : List ℕ) (n : ℕ) → IsPrecise current text n
+-- after a whole part, a point and a fraction, the state is that of their number
+pub run_precise : (text : List ℕ) (n : ℕ) → IsPrecise current text n
     → RunsTo (λ s. AtNumber n s × (size_parser_state s ≡ in_fraction)) Beginning text
 run_precise text n h =
     let p = run_places h.fraction h.value h.fraction_is.0 h.fraction_is.1 in
@@ -150,7 +156,7 @@ run_number : (text : List ℕ) (n : ℕ) → IsNumberText current text n → Run
 run_number text n (inl h) = record { state = Whole h.0; run = run_whole text h.0 h.1; holds = sym h.2 }
 run_number text n (inr h) = let r = run_precise text n h in record { state = r.state; run = r.run; holds = r.holds.0 }
 
--- a letter that begins a unit is no digit, no point and no space
+-- a letter that begins a prefix is an ASCII letter
 letter_bounds : (c : ℕ) (p : Prefix) → prefix_at c ≡ Some p → (65 ≤ to_ascii_uppercase c) × (to_ascii_uppercase c ≤ 90)
 letter_bounds c Kilo e = let h = (prefix_found c Kilo e).2 in (omega (arith, h), omega (arith, h))
 letter_bounds c Mega e = let h = (prefix_found c Mega e).2 in (omega (arith, h), omega (arith, h))
@@ -224,7 +230,8 @@ step_unit n c Beginning u h e = absurd h
 step_unit n c (Point w) u h e = absurd h
 step_unit n c (UnitAt m s) u h e = absurd h
 
-number_end : (flags : Flags) (n : ℕ) (s : SizeScan) → AtNumber n s
+-- the result for an input that ends after a number
+pub number_end : (flags : Flags) (n : ℕ) (s : SizeScan) → AtNumber n s
     → size_at_end flags s ≡ size_or_fault n (unit_of flags unit_start)
 number_end flags n (Whole w) h = ap (λ x. size_or_fault x (unit_of flags unit_start)) h
 number_end flags n (Fraction w f j) h = ap (λ x. size_or_fault x (unit_of flags unit_start)) h
@@ -300,7 +307,7 @@ run_unit n u s (c ∷ cs) h k =
       holds = record { ends = λ flags. refl; place = λ moved. refl };
     }
 
--- the text is the number `n`, any number of spaces, and what a unit begins with
+-- the text is the number `n`, any number of spaces, and `unit_part`
 pub record IsNumbered (n : ℕ) (unit_part text : List ℕ) : Type 0 where
   pub number_part : List ℕ
   pub spaces : ℕ
@@ -323,7 +330,7 @@ run_numbered n u unit text h r =
       holds = c.holds;
     }
 
--- the state machine reads a number and a unit to its end, and gives them as the result
+-- the state machine reads a number and its unit to the end, and gives them as the result
 pub size_text_runs : (flags : Flags) (text : List ℕ) (n : ℕ) (s : Shape) → IsSizeText current flags text n s
     → RunsTo (λ t. size_at_end flags t ≡ Ok (n, s)) Beginning text
 size_text_runs flags text n s h =

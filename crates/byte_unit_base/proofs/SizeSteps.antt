@@ -1,19 +1,17 @@
--- The steps of the state machine of sizes by cases, and that each keeps the invariant of states.
-use Rattle.std.proofs.Common.{◌≡◌, ℕ, ◌+◌, ◌*◌, ◌^◌, ◌<◌, ◌⊎◌, inl, inr, ⊎_elim, Some, None, refl, subst, arith, Bool}
+-- The steps of the state machine of sizes by cases.
+use Rattle.std.proofs.Common.{◌≡◌, ℕ, ◌+◌, ◌*◌, ◌<◌, ◌⊎◌, inl, inr, ⊎_elim, Some, None, refl, Bool}
 use Rattle.std.proofs.Common.{true, false, cond}
 use Rattle.std.proofs.Common.{eqb, ltb}
 use Rattle.std.specs.Option.{option_map}
 use Rattle.std.specs.Char.{digit_value}
-use Rattle.std.proofs.Math.Nat.{pow-succ'}
-use Rattle.std.proofs.Math.Numerals.{add-one}
 use Rattle.std.proofs.lemmas.Bool.{ltb-true}
 use Rattle.byte_unit_math.specs.Bounds.{scale, places_of_decimal, whole_limit}
 use Rattle.byte_unit_base.specs.UnitScan.{unit_step, start as unit_start}
-use Rattle.byte_unit_base.specs.SizeScan.{IsScan, size_step, after_number, fixed_point, is_digit}
+use Rattle.byte_unit_base.specs.SizeScan.{size_step, after_number, fixed_point, is_digit}
 use Rattle.byte_unit_base.specs.declared.unit.scan.UnitScan.{UnitScan}
-use Rattle.byte_unit_base.specs.declared.read.scan.SizeScan.{SizeScan}
-use Rattle.byte_unit_base.specs.declared.read.scan.SizeScan.TheVariants.{Beginning, Whole, Point, Fraction, Gap}
-use Rattle.byte_unit_base.specs.declared.read.scan.SizeScan.TheVariants.{Unit as UnitAt}
+use Rattle.byte_unit_base.specs.SizeScan.{SizeScan}
+use Rattle.byte_unit_base.specs.SizeScan.{Beginning, Whole, Point, Fraction, Gap}
+use Rattle.byte_unit_base.specs.SizeScan.{UnitAt}
 use Rattle.byte_unit_base.proofs.Options.{some_mapped}
 use Rattle.byte_unit_base.proofs.UnitReached.{guard_some, eq_if_test_true}
 
@@ -70,23 +68,3 @@ step_cases (Fraction w f j) t c e =
     (after_number (fixed_point w f j) c) (Some t) e)
 step_cases (Gap n) t c e = after_number_cases n c t e
 step_cases (UnitAt n s) t c e = some_mapped (UnitAt n) t (unit_step s c) e
-
-number_keeps : (n c : ℕ) (t : SizeScan) → AfterNumber n c t → IsScan t
-number_keeps n c t (inl h) = subst IsScan h.1 tt
-number_keeps n c t (inr h) = subst IsScan h.2 tt
-
-digits_more : (f d j : ℕ) → f < 10 ^ j → d < 10 → f * 10 + d < 10 ^ (j + 1)
-digits_more f d j h k = let e : 10 ^ (j + 1) ≡ 10 * 10 ^ j = rw add-one (pow-succ' 10 j) in omega (arith, e)
-
--- a step keeps the invariant of states
-pub step_keeps : (s t : SizeScan) (c : ℕ) → IsScan s → StepOf s c t → IsScan t
-step_keeps Beginning t c h k = subst IsScan k.1 (omega (arith, k.0))
-step_keeps (Whole w) t c h (inl k) = subst IsScan k.2 k.1
-step_keeps (Whole w) t c h (inr (inl k)) = subst IsScan k.1 h
-step_keeps (Whole w) t c h (inr (inr k)) = number_keeps (w * scale) c t k
-step_keeps (Point w) t c h k = subst IsScan k.1 (h, omega (arith, k.0), omega arith)
-step_keeps (Fraction w f j) t c h (inl k) =
-    subst IsScan k.2 (h.0, digits_more f (digit_value c) j h.1 k.0, omega (arith, k.1))
-step_keeps (Fraction w f j) t c h (inr k) = number_keeps (fixed_point w f j) c t k
-step_keeps (Gap n) t c h k = number_keeps n c t k
-step_keeps (UnitAt n s) t c h k = subst IsScan k.2 tt

@@ -1,14 +1,18 @@
 -- Trimming: the characters of a trimmed string, and texts that it does not change.
-use Rattle.std.proofs.Common.{◌≡◌, ℕ, suc, List, [], ◌∷◌, ◌++◌, length, refl, sym, ap, ◌∙◌, arith, Bool, true, false}
+use Rattle.std.proofs.Common.{◌≡◌, ℕ, suc, ◌+◌, ◌-◌, ◌<◌, List, [], ◌∷◌, ◌++◌, length, take, get_or, refl, sym, ap, ◌∙◌, arith, Bool, true, false}
 use Rattle.std.proofs.Common.{cond, ◌&&◌, nat_eq}
 use Rattle.std.specs.Str.{chars, trim, trim_start, trim_end, skip_leading_whitespace, drop_trailing_whitespace, IsUtf8}
 use Rattle.std.specs.Str.{IsAscii, all_scalars}
 use Rattle.std.specs.Str.{encode_utf8_all}
-use Rattle.std.specs.Char.{is_whitespace}
+use Rattle.std.specs.Char.{is_whitespace, is_ascii_graphic}
 use Rattle.std.proofs.lemmas.Bool.{and_from, and_parts}
 use Rattle.std.proofs.lemmas.Bool.Decides.{nat_tests}
-use Rattle.std.proofs.lemmas.Str.{chars-encodes, scalars-chars, chars-IsAscii}
+use Rattle.std.proofs.lemmas.List.{take_more, take_all}
+use Rattle.std.proofs.lemmas.Str.{chars-encodes, scalars-chars, chars-IsAscii, chars-append, IsUtf8-from_ascii, IsUtf8-take}
+use Rattle.std.proofs.lemmas.Str.{IsCharBoundary-before_ascii}
+use Rattle.std.proofs.lemmas.Str.Ascii.{IsAscii-nil, IsAscii-cons}
 use Rattle.byte_unit_base.specs.SizeText.{trim_of}
+use Rattle.byte_unit_base.specs.PartsReading.{HasVisibleEnds}
 
 scalars_cond : (t : Bool) (xs ys : List ℕ) → all_scalars xs ≡ true → all_scalars ys ≡ true
     → all_scalars (cond t xs ys) ≡ true
@@ -71,15 +75,58 @@ keep_last (next ∷ front) last is_none =
     ap (λ rest. cond (is_whitespace next && nat_eq (length rest) 0) [] (next ∷ rest)) (keep_last front last is_none)
     ∙ not_empty (is_whitespace next) front last (next ∷ (front ++ last ∷ []))
 
--- trimming does not change ASCII that has a character other than white space at each end
-pub trimmed_same : (text : List ℕ) → StartsWithoutSpace text → EndsWithoutSpace text → IsAscii text
-    → trim_of text ≡ text
-trimmed_same text start end ascii =
+-- a text with a character other than white space at each end has no white space to drop
+pub nothing_to_drop : (text : List ℕ) → StartsWithoutSpace text → EndsWithoutSpace text
+    → drop_trailing_whitespace (skip_leading_whitespace text) ≡ text
+nothing_to_drop text start end =
     let skipped : skip_leading_whitespace text ≡ text =
     ap skip_leading_whitespace start.text_is
     ∙ (ap (λ white. cond white (skip_leading_whitespace start.tail) (start.head ∷ start.tail)) start.head_is
     ∙ sym start.text_is) in
     let kept : drop_trailing_whitespace text ≡ text =
     ap drop_trailing_whitespace end.text_is ∙ (keep_last end.front end.last end.last_is ∙ sym end.text_is) in
-    ap (λ text. drop_trailing_whitespace (skip_leading_whitespace text)) (chars-IsAscii text ascii)
-    ∙ (ap drop_trailing_whitespace skipped ∙ kept)
+    ap drop_trailing_whitespace skipped ∙ kept
+
+-- visible ends
+
+visible_not_white : (c : ℕ) → is_ascii_graphic c ≡ true → is_whitespace c ≡ false
+visible_not_white c e = grind (arith, nat_tests)
+
+visible_ascii : (c : ℕ) → is_ascii_graphic c ≡ true → IsAscii (c ∷ [])
+visible_ascii c e = IsAscii-cons c [] (grind (arith, nat_tests)) IsAscii-nil
+
+visible_start : (bytes : List ℕ) → HasVisibleEnds bytes → StartsWithoutSpace (chars bytes)
+visible_start [] ends = absurd (omega (arith, ends.some))
+visible_start (c ∷ cs) ends =
+    let first = visible_ascii c ends.start in
+    record {
+      head = c;
+      tail = chars cs;
+      text_is = chars-append (c ∷ []) cs (IsUtf8-from_ascii (c ∷ []) first)
+          ∙ ap (λ front. front ++ chars cs) (chars-IsAscii (c ∷ []) first);
+      head_is = visible_not_white c ends.start;
+    }
+
+visible_end : (bytes : List ℕ) → IsUtf8 bytes → HasVisibleEnds bytes → EndsWithoutSpace (chars bytes)
+visible_end bytes utf8 ends =
+    let place = length bytes - 1 in
+    let inside : place < length bytes = omega (arith, ends.some) in
+    let last = get_or bytes place 0 in
+    let ascii = visible_ascii last ends.end in
+    let small : last < 128 = grind (arith, nat_tests, ends.end) in
+    let front = take place bytes in
+    let utf8_front = IsUtf8-take bytes place utf8 (IsCharBoundary-before_ascii bytes place inside small) in
+    let whole : bytes ≡ front ++ last ∷ [] =
+    sym (take_all (place + 1) bytes (omega (arith, ends.some))) ∙ take_more bytes place 0 inside in
+    record {
+      front = chars front;
+      last = last;
+      text_is = ap chars whole
+          ∙ (chars-append front (last ∷ []) utf8_front ∙ ap (λ end. chars front ++ end) (chars-IsAscii (last ∷ []) ascii));
+      last_is = visible_not_white last ends.end;
+    }
+
+-- a string with visible characters of ASCII at both ends has nothing to trim
+pub trim_visible : (bytes : List ℕ) → IsUtf8 bytes → HasVisibleEnds bytes → trim_of bytes ≡ chars bytes
+trim_visible bytes utf8 ends =
+    nothing_to_drop (chars bytes) (visible_start bytes ends) (visible_end bytes utf8 ends)

@@ -152,7 +152,7 @@ step_infix : (p : Prefix) (c : ℕ) → to_ascii_lowercase c ≡ 105
 unfolding unit_step
 step_infix p c e = rw e refl
 
--- each letter at a place of the version is that of a prefix of the code, with this place
+-- each prefix letter of the version is that of a prefix of the code, with the same index
 letter_prefix : (c power : ℕ) → IsPrefixLetter current power c
     → (p : Prefix) × (prefix_at c ≡ Some p) × (power_of p ≡ power)
 letter_prefix c zero h = absurd (omega (arith, h.0))

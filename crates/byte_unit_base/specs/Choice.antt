@@ -25,7 +25,7 @@ pub record IsLargest (Has : Shape → Type 0) (unit : Shape) : Type 0 where
 abbrev pub NoneHas : (Shape → Type 0) → Type 0
 NoneHas Has = (unit : Shape) → ¬ (Has unit)
 
--- the largest unit that has the property, or, if none has it, the own unit of the kind: a byte or a bit
+-- the largest unit that has the property, or, if none has it, the base unit of the kind: a byte or a bit
 abbrev pub IsLargestOrOwn : Kind → (Shape → Type 0) → Shape → Type 0
 IsLargestOrOwn kind Has unit = IsLargest Has unit ⊎ NoneHas Has × (unit ≡ own_unit kind)
 
@@ -66,14 +66,14 @@ pub record IsEligibleUnitIn (version : Version) (family : Family) (unit_type : U
 abbrev pub IsEligibleUnit : Family → UnitType → ℕ → Shape → Type 0
 IsEligibleUnit = IsEligibleUnitIn current
 
--- the unit set for a size of this kind: the multiples of its own unit, or, if the flag is set, those of bytes and of
+-- the unit set for a size of this kind: the multiples of its base unit, or, if the flag is set, those of bytes and of
 -- bits
 abbrev pub family_for : Kind → Bool → Family
 family_for kind false = own_family kind
 family_for kind true = All
 
--- the recovered unit of a size: the largest unit in which it is exact within the precision, or the own unit of its kind
--- if there is none. `both` says whether the units of the other kind are allowed
+-- the recovered unit of a size: the largest unit in which it is exact within the precision, or the base unit of its
+-- kind if there is none. `both` says whether the units of the other kind are allowed
 abbrev pub IsRecoveredIn : Version → Kind → Bool → ℕ → ℕ → Shape → Type 0
 IsRecoveredIn version kind both size precision =
     IsLargestOrOwn kind (IsExactUnitIn version (family_for kind both) (size * bits_in kind) precision)
@@ -82,8 +82,8 @@ IsRecoveredIn version kind both size precision =
 abbrev pub IsRecovered : Kind → Bool → ℕ → ℕ → UnitName → Type 0
 IsRecovered kind both size precision unit = IsRecoveredIn current kind both size precision (shape_of unit)
 
--- the step count of choosing a unit for a size that is not zero, counted in its kind. `number` is the chosen number,
--- scaled by 10^28, or 0 if no unit is chosen
+-- the step count of choosing a unit for a size that is not zero, as a number of bytes or of bits by its kind. `number`
+-- is the chosen number, scaled by 10^28, or 0 if no unit is chosen
 pub record TakesSteps (size number steps : ℕ) : Type 0 where
   pub twos : ℕ
   pub fives : ℕ
@@ -106,11 +106,12 @@ most_steps Byte = 116
 most_steps Bit = 119
 
 -- the unit in which an adjusted size is shown: the largest of its kind and of this type that is not above the size, or
--- the own unit of the kind if there is none
+-- the base unit of the kind if there is none
 abbrev pub IsAppropriateIn : Version → Kind → UnitType → ℕ → Shape → Type 0
 IsAppropriateIn version kind unit_type size =
     IsLargestOrOwn kind (IsEligibleUnitIn version (own_family kind) unit_type (size * bits_in kind))
 
--- The largest unit of the type that is not above the size, among the units of the current version.
+-- The largest unit of the kind and of the type that is not above the size, among the units of the current version, or
+-- the base unit of the kind if there is none.
 abbrev pub IsAppropriate : Kind → UnitType → ℕ → UnitName → Type 0
 IsAppropriate kind unit_type size unit = IsAppropriateIn current kind unit_type size (shape_of unit)

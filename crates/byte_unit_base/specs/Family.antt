@@ -13,19 +13,19 @@ HasKind All bit = ⊤
 HasKind Bytes bit = bit ≡ false
 HasKind Bits bit = bit ≡ true
 
--- the type has the units with a binary (IEC) prefix, or those with a decimal (SI) prefix
+-- the type has the units that count as binary (`binary` is true), or those that count as decimal
 abbrev pub IsOfType : UnitType → Bool → Type 0
 IsOfType Binary binary = binary ≡ true
 IsOfType Decimal binary = binary ≡ false
 IsOfType Both binary = ⊤
 
--- the unit has a prefix, and the version knows this prefix
+-- the unit has a prefix, and it is a prefix of the version
 pub record HasPrefix (version : Version) (unit : Shape) : Type 0 where
   pub some : 1 ≤ unit.power
   pub known : unit.power ≤ length version.letters
 
--- the unit is in the unit set: it has a prefix that the version knows, and is of the kind of the set.
--- So a unit without a prefix is in no unit set
+-- the unit is in the unit set: it has a prefix of the version, and counts what the units of the set count. So a unit
+-- without a prefix is in no unit set
 pub record InFamily (version : Version) (family : Family) (unit : Shape) : Type 0 where
   pub prefix : HasPrefix version unit
   pub kind : HasKind family unit.bit

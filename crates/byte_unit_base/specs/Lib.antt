@@ -32,5 +32,5 @@ pub mod SizeLaws
 pub mod ParsedLaws
 pub mod Versions
 -- private: no public contract cites these
-pub mod FastReading
+pub mod PartsReading
 pub mod Multiples

@@ -1,5 +1,6 @@
--- What the parsers return for an input, as functions. A proof can compute them for a literal, an input that is written in
--- a program. An input is given by its UTF-8 bytes. It is proved that they are what the other files say (`ParsedLaws`).
+-- What the parsers return for an input, as functions. A proof can compute them for a literal, an input that is written
+-- in a program. An input is given by its UTF-8 bytes. It is proved that they are what the other files say
+-- (`ParsedLaws`).
 use Rattle.std.specs.Prelude.{ℕ, ◌+◌, ◌-◌, ◌*◌, ◌/◌, Bool, List, Result, Ok, Err, if◌then◌else◌, nat_lt}
 use Rattle.byte_unit_math.specs.Bounds.{scale, size_limit}
 use Rattle.byte_unit_base.specs.Shape.{Shape, bits}
@@ -13,7 +14,7 @@ use Rattle.byte_unit_base.specs.UnitScan.{unit_scan, start}
 use Rattle.byte_unit_base.specs.SizeScan.{size_scan}
 use Rattle.byte_unit_base.specs.declared.kind.Kind.{Kind}
 use Rattle.byte_unit_base.specs.declared.unit.Unit.{Unit as UnitName}
-use Rattle.byte_unit_base.specs.declared.read.scan.SizeScan.TheVariants.{Beginning}
+use Rattle.byte_unit_base.specs.SizeScan.{Beginning}
 
 -- the unit that the input spells, or its error
 unfoldable pub parsed_unit : Flags → List ℕ → Result Shape Fault

@@ -15,7 +15,7 @@ abbrev pub first_not_above : ℕ → Shape → List Shape → Shape
 first_not_above in_bits own [] = own
 first_not_above in_bits own (unit ∷ units) = if nat_le (bits unit) in_bits then unit else first_not_above in_bits own units
 
--- the largest unit of the kind that is not above the size, or the own unit of the kind if there is none
+-- the largest unit of the kind that is not above the size, or the base unit of the kind if there is none
 abbrev pub largest_unit_of : Kind → ℕ → Shape
 largest_unit_of kind size =
     first_not_above (size * bits_in kind) (own_unit kind) (units_of_prefixes (own_family kind) prefix_count)

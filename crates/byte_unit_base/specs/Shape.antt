@@ -14,8 +14,8 @@ pub record Shape : Type 0 where
 abbrev pub shape : ℕ → Bool → Bool → Shape
 shape power binary bit = record { power = power; binary = binary; bit = bit }
 
--- the exponent of 2 in the number of bits: 10 times the index of a binary prefix, 3 times that of a decimal one
--- (10^3 = 2^3 * 5^3), and 3 for a byte
+-- the exponent of 2 in the number of bits: 10 times the index of a binary prefix, or 3 times that of a decimal one
+-- (10^3 = 2^3 * 5^3), plus 3 for bytes (8 = 2^3)
 abbrev pub twos : Shape → ℕ
 twos s = (if s.binary then 10 * s.power else 3 * s.power) + (if s.bit then 0 else 3)
 

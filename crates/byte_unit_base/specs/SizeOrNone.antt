@@ -1,5 +1,5 @@
 -- Results that are `None` or an error if a number is not a size: a size is not negative, and is below the limit of the
--- version.
+-- current version.
 use Rattle.std.specs.Prelude.{◌≡◌, ℕ, ◌<◌, ◌≤◌, ℤ, pos, negsuc, Option, Some, None, Result, OkIff, IsErr, ◌*◌}
 use Rattle.byte_unit_math.specs.Bounds.{scale, size_limit}
 use Rattle.byte_unit_base.specs.LeastOfKind.{IsLeastOf}
@@ -17,7 +17,7 @@ IsSizeOrNone Has (Some n) = Has n × (n < size_limit)
 abbrev pub IsSizeOfDecimal : Kind → ℕ → UnitName → Option ℕ → Type 0
 IsSizeOfDecimal kind number unit = IsSizeOrNone (IsLeastOf kind number (shape_of unit))
 
--- The size of n of the unit: rounded up to a whole byte or bit, and `None` if it is 10^30 or more.
+-- The size of `n` units: rounded up to a whole byte or bit, and `None` if it is 10^30 or more.
 abbrev pub IsSizeOfUnit : Kind → ℕ → UnitName → Option ℕ → Type 0
 IsSizeOfUnit kind n unit = IsSizeOfDecimal kind (n * scale) unit
 

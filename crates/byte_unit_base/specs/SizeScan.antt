@@ -1,6 +1,6 @@
 -- The state machine that reads a number and a unit, character by character. It is proved that it accepts the inputs,
 -- and gives the errors, of the other files (`ParsedLaws`).
-use Rattle.std.specs.Prelude.{ℕ, ◌+◌, ◌-◌, ◌*◌, ◌^◌, ◌<◌, ◌≤◌, ⊤, Bool, if◌then◌else◌, ◌==◌, nat_lt, Option, Some, None}
+use Rattle.std.specs.Prelude.{ℕ, ◌+◌, ◌-◌, ◌*◌, ◌^◌, Bool, if◌then◌else◌, ◌==◌, nat_lt, Option, Some, None}
 use Rattle.std.specs.Prelude.{Result, Ok, Err}
 use Rattle.std.specs.Option.{option_map}
 use Rattle.std.specs.Char.{digit_value}
@@ -17,16 +17,22 @@ use Rattle.byte_unit_base.specs.ViablePrefix.{ParserState, beginning, in_whole, 
 use Rattle.byte_unit_base.specs.Fault.{Fault, not_number, no_value, stops_at_bi}
 use Rattle.byte_unit_base.specs.Scan.{Scan, map_result}
 use Rattle.byte_unit_base.specs.UnitScan.{unit_step, unit_of, unit_parser_state, start as unit_start}
-use Rattle.byte_unit_base.specs.declared.read.scan.SizeScan.{SizeScan}
-use Rattle.byte_unit_base.specs.declared.read.scan.SizeScan.TheVariants.{Beginning, Whole, Point, Fraction, Gap}
-use Rattle.byte_unit_base.specs.declared.read.scan.SizeScan.TheVariants.{Unit as UnitAt}
+use Rattle.byte_unit_base.specs.declared.unit.scan.UnitScan.{UnitScan}
 
--- the invariant of a state: its whole part is below the limit, and its fraction is below 10^j and has at most 28 digits
-abbrev pub IsScan : SizeScan → Type 0
-IsScan (Whole w) = w < whole_limit
-IsScan (Point w) = w < whole_limit
-IsScan (Fraction w f j) = (w < whole_limit) × (f < 10 ^ j) × (j ≤ places_of_decimal)
-IsScan _ = ⊤
+-- a state of the machine
+pub data SizeScan : Type 0 where
+  -- nothing is read
+  Beginning : SizeScan
+  -- the whole part so far
+  Whole : ℕ → SizeScan
+  -- the whole part, and the point after it
+  Point : ℕ → SizeScan
+  -- the whole part, the value of the digits after the point, and their number
+  Fraction : ℕ → ℕ → ℕ → SizeScan
+  -- the number, scaled by 10^28, and spaces after it
+  Gap : ℕ → SizeScan
+  -- the number, scaled by 10^28, and the state of the unit, of which at least one character is read
+  UnitAt : ℕ → UnitScan → SizeScan
 
 -- whether the character is a decimal digit
 abbrev pub is_digit : ℕ → Bool
@@ -62,12 +68,6 @@ size_parser_state (Point w) = after_point
 size_parser_state (Fraction w f j) = in_fraction
 size_parser_state (Gap n) = before_unit
 size_parser_state (UnitAt n s) = unit_parser_state s
-
--- the number, scaled by 10^28, if the last character was one of its digits, and otherwise `None`
-abbrev pub number_at : SizeScan → Option ℕ
-number_at (Whole w) = Some (w * scale)
-number_at (Fraction w f j) = Some (fixed_point w f j)
-number_at _ = None
 
 -- the result for an input that ends after this number and this unit, or (`None`) within a unit, in `bi`
 abbrev pub size_or_fault : ℕ → Option Shape → Result (ℕ × Shape) Fault

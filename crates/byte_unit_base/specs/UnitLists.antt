@@ -11,7 +11,8 @@ use Rattle.byte_unit_base.specs.declared.unit.Unit.TheVariants.{Pbit, Pibit, PB,
 use Rattle.byte_unit_base.specs.declared.unit.Unit.TheVariants.{Zbit, Zibit, ZB, ZiB, Ybit, Yibit, YB, YiB}
 use Rattle.byte_unit_base.specs.declared.unit.Unit.TheVariants.{Rbit, Ribit, RB, RiB}
 
--- the units of the crate with this kind of prefix that count bits, or bytes if `bit` is false, by the index of the prefix
+-- the units of the crate with a binary or a decimal prefix that count bits, or bytes if `bit` is false, by the index of
+-- their prefix; at index 0 is the unit without a prefix
 abbrev pub units_with : Bool → Bool → List UnitName
 units_with false true =
     Bit ∷ Kbit ∷ Mbit ∷ Gbit ∷ Tbit ∷ Pbit ∷ Ebit ∷ Zbit ∷ Ybit ∷ Rbit ∷ []

@@ -24,7 +24,7 @@ use Rattle.byte_unit_base.specs.declared.unit.scan.Multiple.{Multiple}
 use Rattle.byte_unit_base.specs.declared.unit.scan.Multiple.TheVariants.{One, Decimal, Binary}
 use Rattle.byte_unit_base.specs.declared.unit.scan.UnitScan.{UnitScan}
 
--- the place of a prefix among the prefix letters, counted from 1
+-- the index of a prefix among the prefix letters, from 1
 abbrev pub power_of : Prefix → ℕ
 power_of Kilo = 1
 power_of Mega = 2

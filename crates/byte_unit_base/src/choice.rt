@@ -28,8 +28,8 @@ const FEW_PLACES: u32 = 5;
 /// Preconditions (proved at every call): `size < 10^30`; the divisor is 8 or 1.
 ///
 /// `steps` is raised as by `two_five` for the size as it is given, and by one for each place of the number: by at most
-/// 116 for a size in bytes, as for `7 << 87` at 27 places, and by at most 119 for a size in bits, as for `7 << 90`
-/// there in `RB`. A size of zero takes no step.
+/// 116 for a size in bytes, as for `7 << 87` at 27 places, and by at most 119 for a size in bits, as for `7 << 90` at
+/// 27 places with `Family::All`. A size of zero takes no step.
 ///
 /// # Examples
 /// ```rust
@@ -72,7 +72,7 @@ pub fn choose_unit(
     // few prefixes.
     let first = (most_twos / 10).max(most_fives / 3);
     for row in family.multiples_within(in_bits, first) {
-        // Non-short-circuiting `&` avoids three unpredictable branches.
+        // Non-short-circuiting `&`: one branch instead of three that are hard to predict.
         if (row.bits <= in_bits) & (row.twos <= most_twos) & (row.fives <= most_fives) {
             let lacking = row.twos.saturating_sub(twos);
             let places = lacking.max(row.fives.saturating_sub(fives));

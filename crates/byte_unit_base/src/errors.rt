@@ -77,7 +77,7 @@ impl Model for UnitParseError {
     } };
 }
 
-/// The error of a string that is no size: the first error from the left.
+/// The error of a string that is not a size: the first error from the left.
 ///
 /// # Examples
 /// ```rust
@@ -92,7 +92,7 @@ pub enum ParseError {
     Unit(UnitParseError),
 }
 
-/// The error of a JSON value that is no size.
+/// The error of a JSON value that is not a size.
 ///
 /// # Examples
 /// ```rust
@@ -104,7 +104,7 @@ pub enum ParseError {
 pub enum JsonSizeError {
     /// The value is not a string.
     NotString,
-    /// The string is no size.
+    /// The string is not a size.
     Parse(ParseError),
 }
 

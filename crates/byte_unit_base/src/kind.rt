@@ -34,7 +34,7 @@ impl Kind {
         }
     }
 
-    /// Returns the unit without a prefix of the kind: `B` or `Bit`.
+    /// Returns the base unit of the kind, which has no prefix: `B` or `Bit`.
     ///
     /// # Examples
     /// ```rust

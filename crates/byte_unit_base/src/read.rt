@@ -1,22 +1,19 @@
-//! The parser of a number and a unit: a fast path for common ASCII input, and a slow path.
+//! The parser of a number and a unit.
 
 ghost use Rattle.std.specs.Prelude.{◌≡◌};
 ghost use Rattle.std.specs.Str.{chars};
 ghost use Rattle.byte_unit_base.specs.Spelling.{flags_of};
+ghost use Rattle.byte_unit_base.specs.SizeText.{trim_of};
 ghost use Rattle.byte_unit_base.specs.Readings.{IsNumberReading};
-ghost use Rattle.byte_unit_base.specs.Scan.{read};
-ghost use Rattle.byte_unit_base.specs.SizeScan.{IsScan, size_result, size_scan};
 
-use crate::read::digits::scan_digits;
-pub(crate) use crate::read::fast::read_fast;
-use crate::read::scan::SizeScan;
+use crate::read::parts::{has_visible_ends, read_parts};
 use crate::unit::scan::Flags;
 use crate::{ParseError, Unit};
 use byte_unit_math::Decimal;
 
-mod digits;
-mod fast;
-mod scan;
+mod number;
+pub(crate) mod parts;
+pub(crate) mod stop;
 
 /// Parses a number and a unit from a string. White space at its ends is ignored.
 ///
@@ -41,6 +38,7 @@ mod scan;
 /// let error = read_size("1.", false, true);
 /// assert!(rt; matches!(error, Err(ParseError::Value(ValueParseError::NotNumber('.')))));
 /// ```
+#[inline(always)]
 pub fn read_size(
     s: &str,
     ignore_case: bool,
@@ -52,35 +50,21 @@ pub fn read_size(
         ignore_case,
         prefer_byte,
     };
-    match read_fast(s.as_bytes(), flags) {
-        Some(parsed) => Ok(parsed),
-        None => read_slow(s, flags),
+    let text = trimmed(s);
+    match read_parts(text.as_bytes(), flags) {
+        Ok(found) => Ok(found),
+        Err(stop) => stop.finish(text, flags),
     }
 }
 
-/// Parses as `read_size` does, on the slow path: the digits by the loops of the fast path, the rest character by
-/// character.
-#[cold]
-#[inline(never)]
-pub(crate) fn read_slow(s: &str, flags: Flags) -> Result<(Decimal, Unit), ParseError>
-    ensures { IsNumberReading flags s.now result }
+/// Returns the string without the white space at its ends.
+#[inline(always)]
+fn trimmed(s: &str) -> &str
+    ensures { chars result.now ≡ trim_of s.now }
 {
-    let text = s.trim();
-    let (scan, end) = scan_digits(text.as_bytes());
-    read_rest(scan, &text[end..], flags)
-}
-
-/// Parses the rest of a string, from the state that the characters before it lead to.
-fn read_rest(start: SizeScan, rest: &str, flags: Flags) -> Result<(Decimal, Unit), ParseError>
-    requires { IsScan start }
-    ensures { size_result result ≡ read (size_scan flags) start (chars rest.now) }
-{
-    let mut scan = start;
-    for c in rest.chars() {
-        match scan.step(c) {
-            Some(next) => scan = next,
-            None => return Err(scan.error_at(flags, c)),
-        }
+    if has_visible_ends(s.as_bytes()) {
+        s
+    } else {
+        s.trim()
     }
-    scan.finish(flags)
 }

@@ -10,13 +10,13 @@ ghost use Rattle.byte_unit_base.specs.SizeText.{trim_of, IsSizeText};
 ghost use Rattle.byte_unit_base.specs.SizeReading.{IsSizeReading, IsBytesReading};
 ghost use Rattle.byte_unit_base.specs.SizeOrNone.{IsSizeOfUnit, IsSizeOfDecimal};
 
-use crate::read::{read_fast, read_slow};
+use crate::read::parts::{has_visible_ends, read_parts};
 use crate::unit::scan::Flags;
-use crate::{Kind, ParseError, Unit, ValueParseError};
+use crate::{Kind, ParseError, Unit, ValueParseError, read_size};
 use byte_unit_math::{Decimal, least_size};
 use std::str;
 
-/// The limit of sizes: 10^30 is the least number that is no size.
+/// The limit of sizes, 10^30: the least number that is not a size.
 const SIZE_LIMIT: u128 = 1_000_000_000_000_000_000_000_000_000_000;
 
 /// Returns the number if it is a size, that is below 10^30. Returns `None` if it is 10^30 or more.
@@ -85,8 +85,8 @@ pub fn from_decimal(number: Decimal, unit: Unit, kind: Kind) -> Option<u128>
 /// Parses a size from a string: the exact product of its number and its unit, rounded up to a whole number of the kind.
 ///
 /// The grammar is that of [`read_size`](crate::read_size). If the string names no unit, its number is in bytes for
-/// `Kind::Byte`, and in bits for `Kind::Bit`. A suffix `b` means bits and `B` bytes; with `ignore_case` both mean bytes.
-/// For `Kind::Bit` `ignore_case` has no effect.
+/// `Kind::Byte`, and in bits for `Kind::Bit`. A suffix `b` means bits and `B` bytes; with `ignore_case` both mean
+/// bytes. For `Kind::Bit` `ignore_case` has no effect.
 ///
 /// # Errors
 /// Returns the error of `read_size` if the string is not in the grammar: `NoValue`, `NotNumber` or `NumberTooLong` for
@@ -100,13 +100,15 @@ pub fn from_decimal(number: Decimal, unit: Unit, kind: Kind) -> Option<u128>
 /// let error = size::parse("1.", false, Kind::Byte);
 /// assert!(rt; matches!(error, Err(ParseError::Value(ValueParseError::NotNumber('.')))));
 /// ```
+#[inline(never)]
 pub fn parse(s: &str, ignore_case: bool, kind: Kind) -> Result<u128, ParseError>
     ensures reading { IsSizeReading kind ignore_case s.now result }
     ensures small { IfOk result (λ n. n < size_limit) }
 {
-    match read_fast(s.as_bytes(), flags_for(kind, ignore_case)) {
-        Some((number, unit)) => size_of(number, unit, kind),
-        None => parse_slow(s, ignore_case, kind),
+    let flags = flags_for(kind, ignore_case);
+    match read_size(s, flags.ignore_case, flags.prefer_byte) {
+        Ok(found) => size_of(found, kind),
+        Err(error) => Err(error),
     }
 }
 
@@ -125,37 +127,41 @@ pub fn parse_bytes(bytes: &[u8], ignore_case: bool, kind: Kind) -> Option<Result
     ensures reading { IsBytesReading kind ignore_case bytes.now result }
     ensures small { IfSome result (λ answer. IfOk answer (λ n. n < size_limit)) }
 {
-    // What the fast path accepts is ASCII, so the test for UTF-8 is skipped.
-    if let Some((number, unit)) = read_fast(bytes, flags_for(kind, ignore_case)) {
-        return Some(size_of(number, unit, kind));
+    // Only ASCII is accepted here, so the test for UTF-8 is skipped.
+    if has_visible_ends(bytes) {
+        if let Ok(found) = read_parts(bytes, flags_for(kind, ignore_case)) {
+            return Some(size_of(found, kind));
+        }
     }
-    Some(parse_slow(str::from_utf8(bytes).ok()?, ignore_case, kind))
+    parse_string(bytes, ignore_case, kind)
 }
 
-/// Parses as `parse` does, on the slow path.
+/// Parses as `parse_bytes` does, from a string.
+///
+/// `parse` is called, not inlined: LLVM then sees that the result is written whole, and does not clear its memory on the
+/// way of bytes that are accepted.
 #[cold]
 #[inline(never)]
-fn parse_slow(s: &str, ignore_case: bool, kind: Kind) -> Result<u128, ParseError>
-    ensures reading { IsSizeReading kind ignore_case s.now result }
-    ensures small { IfOk result (λ n. n < size_limit) }
+fn parse_string(bytes: &[u8], ignore_case: bool, kind: Kind) -> Option<Result<u128, ParseError>>
+    ensures reading { IsBytesReading kind ignore_case bytes.now result }
+    ensures small { IfSome result (λ answer. IfOk answer (λ n. n < size_limit)) }
 {
-    let (number, unit) = read_slow(s, flags_for(kind, ignore_case))?;
-    size_of(number, unit, kind)
+    Some(parse(str::from_utf8(bytes).ok()?, ignore_case, kind))
 }
 
 /// Returns the result of `parse` for a string with this number and this unit.
 ///
 /// `#[inline(always)]`: a call would return the result through memory.
 #[inline(always)]
-fn size_of(number: Decimal, unit: Unit, kind: Kind) -> Result<u128, ParseError>
+fn size_of(found: (Decimal, Unit), kind: Kind) -> Result<u128, ParseError>
     ensures reading { (ignore_case : Bool) (bytes : List ℕ)
-        → IsSizeText current (flags_for kind ignore_case) (trim_of bytes) number (shape_of unit)
+        → IsSizeText current (flags_for kind ignore_case) (trim_of bytes) found.0 (shape_of found.1)
         → IsSizeReading kind ignore_case bytes result }
     ensures small { IfOk result (λ n. n < size_limit) }
 {
-    match from_decimal(number, unit, kind) {
+    match from_decimal(found.0, found.1, kind) {
         Some(size) => Ok(size),
-        None => Err(ParseError::Value(ValueParseError::ExceededBounds(number))),
+        None => Err(ParseError::Value(ValueParseError::ExceededBounds(found.0))),
     }
 }
 

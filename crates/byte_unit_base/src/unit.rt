@@ -8,7 +8,7 @@ ghost use Rattle.byte_unit_base.specs.Version.{unit_name};
 use std::fmt;
 
 pub(crate) mod family;
-mod parse;
+pub(crate) mod parse;
 pub(crate) mod scan;
 pub(crate) mod unit_type;
 

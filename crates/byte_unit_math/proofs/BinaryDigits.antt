@@ -1,6 +1,6 @@
 -- The number of decimal digits of a number, computed from its number of bits.
 use Rattle.std.specs.Fmt.{decimal}
-use Rattle.std.specs.Int.{w128, leading_zeros}
+use Rattle.std.specs.Int.{w64, w128, leading_zeros}
 use Rattle.std.proofs.Common.{◌≡◌, ℕ, zero, suc, Bool, true, ◌&&◌, leb, ◌+◌, ◌-◌, ◌*◌, ◌/◌, ◌^◌, ◌<◌, ◌≤◌, ⊎_elim}
 use Rattle.std.proofs.Common.{length}
 use Rattle.std.proofs.Common.{arith, ap, sym, subst, refl, ◌∙◌}
@@ -56,27 +56,39 @@ pub record LengthBy (n few : ℕ) : Type 0 where
   pub more : 10 ^ few ≤ n → length (decimal n) ≡ few + 1
 
 -- The number of bits of a number times 1233 / 4096 is its number of digits, or one less.
-pub LengthBy-leading_zeros : (n few : ℕ) → 10 ≤ n → n < 2 ^ 128 → few ≡ (128 - leading_zeros w128 n) * 1233 / 4096
+LengthBy-bits : (n few j : ℕ) → 10 ≤ n → j < 128 → 2 ^ j ≤ n → n < 2 ^ suc j → n < 2 ^ 128 → few ≡ digits_estimate (suc j)
     → LengthBy n few
 unfolding IsBetween
-LengthBy-leading_zeros n few wide small count =
-    let top = leading_top 128 n (omega (arith, wide)) small in
-    let j = top.0 in
-    let binary : 128 - leading_zeros w128 n ≡ suc j = omega (arith, top.1) in
-    let same : few ≡ digits_estimate (suc j) = count ∙ ap digits_estimate binary in
-    let between = is_between 128 j estimate_holds_below_128 (omega (arith, top.1)) in
+LengthBy-bits n few j wide bits low high small same =
+    let between = is_between 128 j estimate_holds_below_128 bits in
     let Between : ℕ → Type 0 = λ m. (10 ^ (m - 1) ≤ 2 ^ j) × (2 ^ suc j ≤ 10 ^ suc m) in
     let bounds : Between few = subst Between (sym same) between in
     record {
       fewer = λ below.
           ⊎_elim (λ some.
           let back : few ≡ suc (few - 1) = omega (arith, some) in
-          let high : n < 10 ^ suc (few - 1) = subst (λ m. n < 10 ^ m) back below in
-          decimal_length_between (few - 1) n (omega (arith, bounds.0, top.2)) high small ∙ sym back)
+          let above : n < 10 ^ suc (few - 1) = subst (λ m. n < 10 ^ m) back below in
+          decimal_length_between (few - 1) n (omega (arith, bounds.0, low)) above small ∙ sym back)
           (λ none.
           let nothing : few ≡ 0 = omega (arith, none) in
           let one : n < 10 ^ 0 = subst (λ m. n < 10 ^ m) nothing below in
           absurd (omega (arith, one, wide)))
           (cases_lt 0 few);
-      more = λ reached. decimal_length_between few n reached (omega (arith, bounds.1, top.3)) small ∙ omega arith;
+      more = λ reached. decimal_length_between few n reached (omega (arith, bounds.1, high)) small ∙ omega arith;
     }
+
+-- The bits are counted from the leading zeros, in 128 bits or in 64.
+pub LengthBy-leading_zeros : (n few : ℕ) → 10 ≤ n → n < 2 ^ 128 → few ≡ (128 - leading_zeros w128 n) * 1233 / 4096
+    → LengthBy n few
+LengthBy-leading_zeros n few wide small count =
+    let top = leading_top 128 n (omega (arith, wide)) small in
+    let binary : 128 - leading_zeros w128 n ≡ suc top.0 = omega (arith, top.1) in
+    LengthBy-bits n few top.0 wide (omega (arith, top.1)) top.2 top.3 small (count ∙ ap digits_estimate binary)
+
+pub LengthBy-leading_zeros_64 : (n few : ℕ) → 10 ≤ n → n < 2 ^ 64 → few ≡ (64 - leading_zeros w64 n) * 1233 / 4096
+    → LengthBy n few
+LengthBy-leading_zeros_64 n few wide small count =
+    let top = leading_top 64 n (omega (arith, wide)) small in
+    let binary : 64 - leading_zeros w64 n ≡ suc top.0 = omega (arith, top.1) in
+    LengthBy-bits n few top.0 wide (omega (arith, top.1)) top.2 top.3 (omega (arith, small))
+    (count ∙ ap digits_estimate binary)

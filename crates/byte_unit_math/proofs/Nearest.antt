@@ -1,5 +1,6 @@
 -- Which of two neighboring multiples of a number is nearest to another number.
-use Rattle.std.proofs.Common.{◌≢◌, ◌≡◌, ◌+◌, ◌*◌, ◌^◌, ◌<◌, ◌≤◌, ◌%◌, ⊎_elim, ℕ, arith, subst, refl}
+use Rattle.std.proofs.Common.{◌≢◌, ◌≡◌, ◌+◌, ◌*◌, ◌^◌, ◌<◌, ◌≤◌, ◌/◌, ◌%◌, ⊎_elim, ℕ, arith, subst, refl, sym, ap, ◌∙◌}
+use Rattle.std.proofs.lemmas.Nat.{div-add-mod', mod_below}
 use Rattle.std.proofs.lemmas.Bool.{cases_lt}
 use Rattle.std.proofs.Math.Nat.{mul-le-mul_right}
 use Rattle.std.specs.Int.{abs_diff}
@@ -24,6 +25,15 @@ cases_around count Holds lower at next upper other =
 pub record LiesAbove (num den p count low : ℕ) : Type 0 where
   pub split : num * 10 ^ p ≡ count * den + low
   pub below : low < den
+
+-- num * 10^p is the rest of its division by den more than its quotient times den.
+pub lies_above_quotient :
+    (num den p whole quotient rest : ℕ) → whole ≡ num * 10 ^ p → 0 < den → quotient ≡ whole / den → rest ≡ whole % den
+    → LiesAbove num den p quotient rest
+lies_above_quotient num den p whole quotient rest same some quotient_is rest_is = record {
+  split = sym same ∙ (sym (div-add-mod' whole den) ∙ omega (arith, ap (λ n. n * den) quotient_is, rest_is));
+  below = omega (arith, rest_is, mod_below whole den some);
+}
 
 module _ (num den p count low : ℕ) (lies : LiesAbove num den p count low) where
   lower_multiple : (other : ℕ) → other < count → other * den + den + low ≤ num * 10 ^ p
@@ -105,3 +115,14 @@ module _ (num den p count low : ℕ) (lies : LiesAbove num den p count low) wher
   -- If the rest is half of den, ties go to even and the multiple below is even, it is nearest.
   pub tie_even_this : 2 * low ≡ den → count % 2 ≡ 0 → IsNearest num den p Even count
   tie_even_this h even = record { nearest = this_is_nearest (omega (arith, h)); tie = λ other n e. even }
+
+  -- If ties go to even, twice the rest is compared with den, and counts as more if the multiple below is odd.
+  pub nearest_even_next : den < 2 * low + count % 2 → IsNearest num den p Even (count + 1)
+  nearest_even_next h =
+      ⊎_elim (λ more. nearest_up Even more)
+      (λ most. tie_even_next (omega (arith, h, most)) (omega (arith, h, most))) (cases_lt den (2 * low))
+
+  pub nearest_even_this : 2 * low + count % 2 ≤ den → IsNearest num den p Even count
+  nearest_even_this h =
+      ⊎_elim (λ less. nearest_down Even less)
+      (λ least. tie_even_this (omega (arith, h, least)) (omega (arith, h, least))) (cases_lt (2 * low) den)

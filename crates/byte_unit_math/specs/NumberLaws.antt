@@ -21,7 +21,7 @@ NumbersHaveTwosAndFives = (n : ℕ) → n ≢ 0 → HasTwoFive n
 abbrev pub PlacesByPowers : Type 0
 PlacesByPowers = (num a b : ℕ) → TakesLackingPlaces num a b
 
--- Zero takes no digits after the point, whatever the unit.
+-- Zero takes no digits after the point, whatever the divisor.
 abbrev pub ZeroTakesNoPlaces : Type 0
 ZeroTakesNoPlaces = (den : ℕ) → IsLeastPlaces 0 den 0
 

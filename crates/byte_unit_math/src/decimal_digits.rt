@@ -80,7 +80,7 @@ impl DecimalDigits {
         BUFFER_LEN - self.start
     }
 
-    /// Returns the digits as a slice of ASCII characters.
+    /// Returns the digits as ASCII bytes, the most significant first.
     ///
     /// # Examples
     /// ```rust
@@ -126,6 +126,7 @@ pub fn fmt_u128<W: fmt::Write>(n: u128, f: &mut fmt::Formatter<W>) -> fmt::Resul
 /// assert_eq!(rt; decimal_len(1536), 4);
 /// assert_eq!(rt; decimal_len(0), 1);
 /// ```
+#[inline(always)]
 pub fn decimal_len(n: u128) -> usize
     ensures exact { result ≡ length (decimal n) }
     ensures few { result ≤ NUMBER_DIGITS }
@@ -133,9 +134,26 @@ pub fn decimal_len(n: u128) -> usize
     if n < 10 {
         return 1;
     }
+    if n < 1 << 64 {
+        return decimal_len_u64(n as u64);
+    }
     // 1,233 / 4,096 is about log10(2): the binary digits leave a choice between two lengths.
     let few = (u128::BITS - n.leading_zeros()) * 1_233 / 4_096;
     if n < power_of_ten(few) {
+        return few as usize;
+    }
+    few as usize + 1
+}
+
+/// Returns the number of decimal digits as `decimal_len`, in 64 bits.
+#[inline(always)]
+fn decimal_len_u64(n: u64) -> usize
+    requires { 10 ≤ n }
+    ensures exact { result ≡ length (decimal n) }
+    ensures few { result ≤ NUMBER_DIGITS }
+{
+    let few = (u64::BITS - n.leading_zeros()) * 1_233 / 4_096;
+    if n < power_of_ten(few) as u64 {
         return few as usize;
     }
     few as usize + 1

@@ -12,7 +12,15 @@ const TEN_POW_18_INVERSE: u64 = 10_633_823_966_279_326_983;
 const BASE: u64 = 1 << 40;
 
 /// Returns the quotient and the remainder. If both numbers fit 64 bits, the division is the faster one of 64 bits.
-pub(crate) fn div_rem(dividend: u128, divisor: u128) -> (u128, u128)
+///
+/// Precondition (proved at every call): the divisor is not 0.
+///
+/// # Examples
+/// ```rust
+/// assert_eq!(rt; div_rem(1536, 1000), (1, 536));
+/// ```
+#[inline]
+pub fn div_rem(dividend: u128, divisor: u128) -> (u128, u128)
     requires { 1 ≤ divisor }
     ensures quotient { result.0 ≡ dividend / divisor }
     ensures rest { result.1 ≡ dividend % divisor }
@@ -71,6 +79,27 @@ pub(crate) fn div_rem_u24(dividend: u128, divisor: u64) -> (u128, u64)
         leading * u128::from(BASE) + u128::from(low / divisor),
         low % divisor,
     )
+}
+
+/// Returns the quotient and the remainder by 1000.
+///
+/// Precondition (proved at every call): the number is below 2^120.
+///
+/// # Examples
+/// ```rust
+/// assert_eq!(rt; div_rem_thousand(1_234_567), (1_234, 567));
+/// ```
+#[inline(always)]
+pub fn div_rem_thousand(n: u128) -> (u128, u64)
+    requires { n < 2 ^ 120 }
+    ensures quotient { result.0 ≡ n / 1000 }
+    ensures rest { result.1 ≡ n % 1000 }
+{
+    if n < 1 << 64 {
+        let n = n as u64;
+        return (u128::from(n / 1000), n % 1000);
+    }
+    div_rem_u24(n, 1000)
 }
 
 /// Splits a number into its last 18 digits and those before them. Numbers below 2^122 take no division.

@@ -4,6 +4,8 @@ ghost use Rattle.byte_unit_math.specs.Bounds.{scale, places_of_decimal, unit_lim
 ghost use Rattle.byte_unit_math.specs.Steps.{saturating_add};
 ghost use Rattle.byte_unit_math.specs.Exact.{IsExactAt, IsLeastPlaces, IsQuotient, IsFirstExact};
 ghost use Rattle.byte_unit_math.specs.Factored.{product_of};
+ghost use Rattle.byte_unit_math.specs.Nearest.{IsNearest};
+ghost use Rattle.byte_unit_math.specs.declared.expansion.Ties.TheVariants.{Even};
 
 use crate::dividing::{div_rem, div_rem_digit, div_rem_u24};
 use crate::tens::{POWERS_OF_FIVE, power_of_ten};
@@ -12,7 +14,8 @@ use crate::{DECIMAL_PLACES, Decimal, Factors, Steps};
 /// The limit of numbers of 64 bits.
 const TWO_POW_64: u128 = 1 << 64;
 
-/// Returns `size / unit` if it is exact within `places` digits after the point, else `None`. At most 28 count.
+/// Returns `size / unit` if it is exact within `places` digits after the point, and `None` otherwise. More than 28
+/// places count as 28.
 ///
 /// Precondition (proved at every call): `1 <= unit <= 2^93` and `size < 2^112`.
 ///
@@ -56,8 +59,9 @@ pub fn exact_quotient(size: u128, unit: u128, places: u32, steps: &mut Steps) ->
 
 /// Returns `number / (2^twos * 5^fives)`, from the factors, without long division.
 ///
-/// Precondition (proved at every call): the number is at least 1, `places <= 28`, and the quotient is exact within
-/// `places` digits after the point and below 2^112 if scaled by `10^places`.
+/// Precondition (proved at every call): `1 <= number.left`, `number.twos` and `number.fives` are below 2^16,
+/// `places <= 28`, `twos <= number.twos + places`, `fives <= number.fives + places`, and the quotient scaled by
+/// `10^places` is below 2^112.
 ///
 /// Counts one step for each digit after the point of the result.
 ///
@@ -115,4 +119,30 @@ fn div_rem_small(count: u128, divisor: u64) -> (u128, u128)
     }
     let (whole, digits) = div_rem_u24(count, divisor);
     (whole, u128::from(digits))
+}
+
+/// Returns `numerator / divisor` rounded to the nearest whole number, a tie to the even one.
+///
+/// Precondition (proved at every call): `numerator < 2^127` and `1 <= divisor <= 2^93`.
+///
+/// # Examples
+/// ```rust
+/// assert_eq!(rt; (rounded_quotient(5, 2), rounded_quotient(7, 2)), (2, 4));
+/// assert_eq!(rt; rounded_quotient(8, 3), 3);
+/// ```
+#[inline]
+pub fn rounded_quotient(numerator: u128, divisor: u128) -> u128
+    requires small { numerator < 2 ^ 127 }
+    requires some_divisor { 1 ≤ divisor }
+    requires small_divisor { divisor ≤ unit_limit }
+    ensures { (number places : ℕ) → numerator ≡ number * 10 ^ places
+        → IsNearest number divisor places Even result }
+{
+    let (quotient, rest) = div_rem(numerator, divisor);
+    let odd = quotient % 2;
+    if 2 * rest + odd > divisor {
+        quotient + 1
+    } else {
+        quotient
+    }
 }

@@ -16,12 +16,13 @@ pub fn size_texts_have_one_answer()
     ensures { SizeTextsHaveOneAnswer }
 {}
 
-/// States that the viable prefixes of the error of a unit are exactly the beginnings of units.
+/// States that the viable prefixes of a unit, by which its error is defined, are exactly the beginnings of spellings.
 pub fn unit_fronts_are_beginnings()
     ensures { ViableUnitPrefixesAreBeginnings }
 {}
 
-/// States that the viable prefixes of an error are exactly the beginnings of strings with a number and a unit.
+/// States that the viable prefixes of a number and a unit, by which their error is defined, are exactly the beginnings
+/// of strings with a number and a unit.
 pub fn size_fronts_are_beginnings()
     ensures { ViableSizePrefixesAreBeginnings }
 {}
@@ -41,7 +42,8 @@ pub fn parsed_numbers_are_represented()
     ensures { ParsedNumbersAreRepresented }
 {}
 
-/// States that `parsed_size` gives exactly the size that a string is accepted as, or the error that it is rejected with.
+/// States that `parsed_size` gives exactly the size that a string is accepted as, or the error that it is rejected
+/// with.
 pub fn parsed_sizes_are_accepted()
     ensures { ParsedSizesAreAccepted }
 {}

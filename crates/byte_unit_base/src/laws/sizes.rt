@@ -3,7 +3,7 @@
 ghost use Rattle.byte_unit_base.specs.SizeLaws.{GreaterNumbersGiveNoSmallerSizes, EachNumberHasOneLeastSize};
 ghost use Rattle.byte_unit_base.specs.SizeLaws.{EachTextIsOneOfThree, TextsAreAcceptedOrRejected};
 
-/// States that sizes grow with their numbers: for one unit, a greater number never has a smaller size.
+/// States that for one unit a greater number never has a smaller size.
 pub fn greater_numbers_give_no_smaller_sizes()
     ensures { GreaterNumbersGiveNoSmallerSizes }
 {}
@@ -13,8 +13,8 @@ pub fn each_number_has_one_least_size()
     ensures { EachNumberHasOneLeastSize }
 {}
 
-/// States that each string is accepted as one size of the kind, or is in the grammar with one number whose size is too
-/// large, or has one error of its characters, and no two of these.
+/// States that for each string exactly one of three holds: it is accepted, as one size of the kind; it is in the
+/// grammar, but its size is too large, and it has one number; or it is not in the grammar, and has one error.
 pub fn each_text_is_one_of_three()
     ensures { EachTextIsOneOfThree }
 {}

@@ -60,7 +60,8 @@ impl FromStr for Unit {
 ///
 /// # Errors
 /// As `Unit::parse_str`.
-fn read_unit(text: &str, flags: Flags) -> Result<Unit, UnitParseError>
+#[inline(always)]
+pub(crate) fn read_unit(text: &str, flags: Flags) -> Result<Unit, UnitParseError>
     ensures { unit_result result ≡ read (unit_scan flags) start (chars text.now) }
 {
     let mut scan = UnitScan::START;

@@ -4,7 +4,8 @@ use Rattle.byte_unit_base.proofs.Falling.{Remain}
 use Rattle.byte_unit_base.proofs.Rows.{unit_in}
 use Rattle.byte_unit_base.proofs.choice.choose_unit.Given as goal
 
--- each unit whose exponents of 2 and 5 are small enough is in this row or in a later one, and no step has been counted
+-- each unit whose exponents of 2 and 5 are small enough is in this row or in a later one, and the loop has counted no
+-- step
 abbrev pub invariant-loop-row : goal.invariant-loop-row
 invariant-loop-row l = record {
   remain : Remain (HasPowers l.fn.family l.in_bits l.most_twos l.most_fives)

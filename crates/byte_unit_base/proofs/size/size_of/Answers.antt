@@ -11,13 +11,13 @@ use Rattle.byte_unit_base.proofs.size.size_of.Goals as goal
 
 pub returns-in-Some-clause-reading : goal.returns-in-Some-clause-reading
 returns-in-Some-clause-reading c = λ ignore_case bytes stated.
-    let found : ℕ × UnitName = (c.args.number, c.args.unit) in
+    let found : ℕ × UnitName = c.args.found in
     reading_of_size c.args.kind ignore_case bytes found c.in-Some.size
     (stated_reading (flags_for c.args.kind ignore_case) bytes found stated) c.in-Some.ensures.size
 
 pub returns-in-None-clause-reading : goal.returns-in-None-clause-reading
 returns-in-None-clause-reading c = λ ignore_case bytes stated.
-    let found : ℕ × UnitName = (c.args.number, c.args.unit) in
+    let found : ℕ × UnitName = c.args.found in
     reading_of_excess c.args.kind ignore_case bytes found
-    (least_exists c.args.kind c.args.number (shape_of c.args.unit))
+    (least_exists c.args.kind c.args.found.0 (shape_of c.args.found.1))
     (stated_reading (flags_for c.args.kind ignore_case) bytes found stated) c.in-None.ensures.size

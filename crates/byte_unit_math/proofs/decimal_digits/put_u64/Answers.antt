@@ -19,7 +19,7 @@ pub put_2_digits-start-requires-clause-room : goal.put_2_digits-start-requires-c
 put_2_digits-start-requires-clause-room c =
     omega (arith, decimal_length_split 2 c.loop-rest.rest (omega arith) (omega arith))
 
--- After the loop, one or two digits are left to be written.
+-- After the loop, and after a pair of digits if there is one more, one or two digits are left to be written.
 first_digits : (c : Joined-few-ge100) → let tail = c.if-few-ge100 in
     (tail.few < 100) × IsWritten c.args.n c.args.end c.args.bytes.now tail.few tail.start tail.bytes
 first_digits c =

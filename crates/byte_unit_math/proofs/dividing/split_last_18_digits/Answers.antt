@@ -1,4 +1,4 @@
--- The inverse of 10^18 is close enough for every 128-bit number.
+-- The inverse of 10^18 is close enough for every number below 2^122, the only ones that are divided by it.
 use Rattle.std.proofs.Common.{arith, refl}
 use Rattle.byte_unit_math.proofs.dividing.split_last_18_digits.Goals as goal
 

@@ -1,5 +1,5 @@
--- Long division: the remainder is zero after at most 93 digits, since the divisor divides 10^93, so the array is long
--- enough.
+-- Long division: the remainder is zero after at most 93 digits, since the fraction is exact with 93 digits after the
+-- point, so the array is long enough.
 use Rattle.std.proofs.Common.{arith}
 use Rattle.byte_unit_math.proofs.Expanding.{IsDividing-start, IsDividing-more, IsDividing-ended, IsUnfinished-room}
 use Rattle.byte_unit_math.proofs.expansion.divide.Goals as goal

@@ -1,0 +1,293 @@
+-- The parser reads the digits of a number at once. It gets to the state that the state machine has after them, or stops
+-- where the machine has an error.
+use Rattle.std.proofs.Common.{◌≡◌, ◌≢◌, ℕ, zero, suc, ◌+◌, ◌-◌, ◌*◌, ◌^◌, ◌<◌, ◌≤◌, false, nat_eq, eqb, inl, inr, List, [], ◌∷◌}
+use Rattle.std.proofs.Common.{◌++◌, Err, length, take, drop, slice_range, get_or, replicate, refl, sym, ap, subst, ◌∙◌, arith}
+use Rattle.std.proofs.Common.{take-append-drop}
+use Rattle.std.proofs.Math.Seq.{take-add}
+use Rattle.std.specs.Char.{digit_value}
+use Rattle.std.specs.Float.Numeral.{digits_len}
+use Rattle.std.specs.Str.{chars, IsUtf8, IsAscii, IsCharBoundary}
+use Rattle.std.specs.Str.Parse.{AllDigits, digits_value, digits_value_after}
+use Rattle.core.proofs.dec2flt.DigitsLemmas.{ends_digits}
+use Rattle.std.proofs.lemmas.Bool.Decides.{nat_tests}
+use Rattle.std.proofs.lemmas.Fmt.{IsAscii-from_digits}
+use Rattle.std.proofs.lemmas.Int.Digits.{digits_value-lt}
+use Rattle.std.proofs.lemmas.List.{length-take-le, length-drop, take_more, take_rest, drop-drop}
+use Rattle.std.proofs.lemmas.Str.{chars-append, chars-IsAscii, IsUtf8-from_ascii, IsUtf8-drop, IsAscii-append}
+use Rattle.std.proofs.lemmas.Str.{IsCharBoundary-start, IsCharBoundary-from_take}
+use Rattle.std.proofs.lemmas.Str.Ascii.{IsAscii-nil, IsAscii-cons, IsAscii-from_all}
+use Rattle.std.proofs.lemmas.List.Elements.{All-replicate}
+use Rattle.byte_unit_math.specs.Bounds.{scale, places_of_decimal, whole_limit}
+use Rattle.byte_unit_base.specs.Version.{current}
+use Rattle.byte_unit_base.specs.Spelling.{Flags}
+use Rattle.byte_unit_base.specs.Number.{point, IsWholePart, IsPrecise}
+use Rattle.byte_unit_base.specs.SizeText.{space}
+use Rattle.byte_unit_base.specs.Fault.{too_long}
+use Rattle.byte_unit_base.specs.Scan.{read}
+use Rattle.byte_unit_base.specs.UnitScan.{unit_scan, start}
+use Rattle.byte_unit_base.specs.SizeScan.{Beginning, Whole, Point, size_scan, fixed_point}
+use Rattle.byte_unit_base.specs.PartsReading.{IsFirst, IsNoSpace, IsStop, EndsNumber, IsLeadingNumber, with_number}
+use Rattle.byte_unit_base.specs.PartsReading.{missing_digit}
+use Rattle.byte_unit_base.specs.declared.read.stop.Stop.TheVariants.{NoDigit, TooLong, Unit as UnitFrom}
+use Rattle.byte_unit_base.proofs.Lists.{push_append}
+use Rattle.byte_unit_base.proofs.Scans.{read_through, read_some}
+use Rattle.byte_unit_base.proofs.SizeRuns.{step_first, run_whole, run_precise, number_end}
+use Rattle.byte_unit_base.proofs.SizeAscii.{number_ascii}
+use Rattle.byte_unit_base.proofs.SizeRest.{first_char, IsNoDigit, wide_no_digit, no_digit_first, missing_at_start}
+use Rattle.byte_unit_base.proofs.SizeRest.{missing_after_point, too_large, too_many_places, read_point, ends_whole}
+use Rattle.byte_unit_base.proofs.SizeRest.{ends_fraction, read_after_number}
+use Rattle.byte_unit_base.proofs.NumberBytes.{digits_of_run}
+
+-- the first bytes of a text, and the rest of it
+
+text_from : (bytes : List ℕ) (end : ℕ) → IsAscii (take end bytes) → chars bytes ≡ take end bytes ++ chars (drop end bytes)
+text_from bytes end ascii =
+    ap chars (sym (take-append-drop end bytes))
+    ∙ (chars-append (take end bytes) (drop end bytes) (IsUtf8-from_ascii (take end bytes) ascii)
+    ∙ ap (λ front. front ++ chars (drop end bytes)) (chars-IsAscii (take end bytes) ascii))
+
+boundary_at : (bytes : List ℕ) (end : ℕ) → IsUtf8 bytes → end ≤ length bytes → IsAscii (take end bytes)
+    → IsCharBoundary bytes end
+boundary_at bytes end utf8 within ascii =
+    IsCharBoundary-from_take bytes end utf8 within (IsUtf8-from_ascii (take end bytes) ascii)
+
+utf8_from : (bytes : List ℕ) (end : ℕ) → IsUtf8 bytes → end ≤ length bytes → IsAscii (take end bytes)
+    → IsUtf8 (drop end bytes)
+utf8_from bytes end utf8 within ascii = IsUtf8-drop bytes end utf8 (boundary_at bytes end utf8 within ascii)
+
+-- what follows a number
+
+first_map : (Has Both : ℕ → Type 0) → ((c : ℕ) → Has c → Both c) → (text : List ℕ) → IsFirst Has text → IsFirst Both text
+first_map Has Both both [] has = tt
+first_map Has Both both (c ∷ cs) has = both c has
+
+-- the character is no digit and no point
+abbrev EndsWhole : ℕ → Type 0
+EndsWhole c = IsNoDigit c × (eqb c 46 ≡ false)
+
+no_point_first : (bytes : List ℕ) (end : ℕ) → (end < length bytes → get_or bytes end 0 ≢ point)
+    → IsFirst IsNoDigit (drop end bytes) → IsFirst EndsWhole (drop end bytes)
+no_point_first [] zero other none = tt
+no_point_first [] (suc end) other none = tt
+no_point_first (b ∷ bs) zero other none =
+    let differs : b ≢ point = other (omega arith) in (none, grind (arith, nat_tests))
+no_point_first (b ∷ bs) (suc end) other none = no_point_first bs end (λ inside. other (omega (arith, inside))) none
+
+wide_no_point : (c : ℕ) → 128 ≤ c → eqb c 46 ≡ false
+wide_no_point c wide = grind (arith, nat_tests)
+
+-- no digit follows a run of digits that std finds
+none_after : (bytes : List ℕ) (end : ℕ) → end ≡ 0 + digits_len (drop 0 bytes) → IsFirst IsNoDigit (drop end bytes)
+none_after bytes end is =
+    let all : end ≡ digits_len bytes = omega (arith, is) in
+    no_digit_first (drop end bytes) (ap (λ n. digits_len (drop n bytes)) all ∙ ends_digits bytes)
+
+after_start : (end : ℕ) → nat_eq (end + 1) 0 ≡ false
+after_start end = grind (arith, nat_tests)
+
+-- a digit is missing at the start
+pub stops_at_start : (bytes : List ℕ) → digits_len bytes ≡ 0 → (flags : Flags) → IsUtf8 bytes
+    → IsStop flags bytes (NoDigit 0)
+stops_at_start bytes none flags utf8 = record {
+  boundary = IsCharBoundary-start bytes utf8;
+  result_is = missing_at_start flags (chars bytes)
+      (first_char IsNoDigit wide_no_digit bytes utf8 (no_digit_first bytes none));
+}
+
+-- the bytes begin with the digits of a whole part, as std finds and reads them
+module _ (bytes : List ℕ) (end whole : ℕ) (run_is : end ≡ 0 + digits_len (drop 0 bytes)) (within : end ≤ length bytes)
+    (some : end ≡ 0 → ⊥)
+    (value_is : (whole < whole_limit) × (whole ≡ digits_value 10 (take end bytes))) where
+  whole_is : IsWholePart current (take end bytes) whole
+  whole_is = (
+    (omega (arith, length-take-le end bytes within, some), digits_of_run bytes end run_is),
+    value_is.1,
+    value_is.0,
+  )
+
+  -- a whole part that no point follows is the leading number
+  pub leading_whole : (n : ℕ) → (end < length bytes → get_or bytes end 0 ≢ point) → whole * scale ≡ n
+      → IsLeadingNumber bytes n end
+  leading_whole n other value =
+      let ends = EndsNumber (Whole whole) n in
+      let ascii = IsAscii-from_digits (take end bytes) whole_is.0.1 in
+      let next = no_point_first bytes end other (none_after bytes end run_is) in
+      record {
+        within = within;
+        number_is = inl (whole, whole_is, sym value);
+        state = Whole whole;
+        run_is = run_whole (take end bytes) whole whole_is;
+        at_end = λ flags. number_end flags n (Whole whole) value;
+        next = λ utf8.
+            first_char ends (λ c wide. ends_whole whole n c value (wide_no_digit c wide) (wide_no_point c wide))
+            (drop end bytes) (utf8_from bytes end utf8 within ascii)
+            (first_map EndsWhole ends (λ c has. ends_whole whole n c value has.0 has.1) (drop end bytes) next);
+      }
+
+  -- a point follows
+  module _ (inside : end ≡ length bytes → ⊥) (point_is : get_or bytes end 0 ≡ point) where
+    abbrev rest : List ℕ
+    rest = slice_range bytes (end + 1) (length bytes)
+
+    pointed_within : end + 1 ≤ length bytes
+    pointed_within = omega (arith, inside, within)
+
+    pointed_text : take (end + 1) bytes ≡ take end bytes ++ point ∷ []
+    pointed_text = take_more bytes end 0 (omega (arith, inside, within)) ∙ ap (λ c. take end bytes ++ c ∷ []) point_is
+
+    pointed_ascii : IsAscii (take (end + 1) bytes)
+    pointed_ascii =
+        subst IsAscii (sym pointed_text)
+        (IsAscii-append (take end bytes) (point ∷ []) (IsAscii-from_digits (take end bytes) whole_is.0.1)
+        (IsAscii-cons point [] (omega arith) IsAscii-nil))
+
+    read_rest : (flags : Flags)
+        → read (size_scan flags) Beginning (chars bytes) ≡ read (size_scan flags) (Point whole) (chars rest)
+    read_rest flags =
+        let after = ap chars (sym (take_rest bytes (end + 1))) in
+        ap (read (size_scan flags) Beginning) (text_from bytes (end + 1) pointed_ascii
+        ∙ (ap (λ front. front ++ chars (drop (end + 1) bytes)) pointed_text
+        ∙ (push_append (take end bytes) (chars (drop (end + 1) bytes)) point
+        ∙ ap (λ after. take end bytes ++ point ∷ after) after)))
+        ∙ read_point flags (take end bytes) (chars rest) whole whole_is
+
+    -- a digit is missing after the point
+    pub stops_after_point : digits_len rest ≡ 0 → (flags : Flags) → IsUtf8 bytes → IsStop flags bytes (NoDigit (end + 1))
+    stops_after_point none flags utf8 =
+        let rest_is = take_rest bytes (end + 1) in
+        let utf8_rest = subst IsUtf8 (sym rest_is) (utf8_from bytes (end + 1) utf8 pointed_within pointed_ascii) in
+        record {
+          boundary = boundary_at bytes (end + 1) utf8 pointed_within pointed_ascii;
+          result_is = read_rest flags
+              ∙ (missing_after_point flags whole (chars rest)
+              (first_char IsNoDigit wide_no_digit rest utf8_rest (no_digit_first rest none))
+              ∙ (ap (λ rest. Err (missing_digit false (chars rest))) rest_is
+              ∙ ap (λ at_start. Err (missing_digit at_start (chars (drop (end + 1) bytes)))) (sym (after_start end))));
+        }
+
+    -- digits of a fraction follow the point, as std finds and reads them
+    module _ (places : ℕ) (places_are : places ≡ 0 + digits_len (drop 0 rest)) (all : places ≤ length rest) where
+      abbrev digits : List ℕ
+      digits = take places rest
+
+      digits_are : AllDigits 10 digits
+      digits_are = digits_of_run rest places places_are
+
+      count_is : length digits ≡ places
+      count_is = length-take-le places rest all
+
+      -- the value of the digits has no more digits
+      pub fraction_below : (fraction : ℕ) → fraction ≡ digits_value 10 digits → fraction < 10 ^ places
+      fraction_below fraction is =
+          subst (λ value. value < 10 ^ places) (sym is)
+          (subst (λ n. digits_value 10 digits < 10 ^ n) count_is (digits_value-lt 10 digits digits_are))
+
+      -- the fraction has more than 28 digits
+      pub stops_in_fraction : places_of_decimal < places → (flags : Flags) → IsUtf8 bytes
+          → IsStop flags bytes TooLong
+      stops_in_fraction many flags utf8 = record {
+        boundary = IsCharBoundary-start bytes utf8;
+        result_is = read_rest flags
+            ∙ (ap (read (size_scan flags) (Point whole)) (text_from rest places (IsAscii-from_digits digits digits_are))
+            ∙ too_many_places flags digits (chars (drop places rest)) whole digits_are (omega (arith, many, count_is)));
+      }
+
+      fraction_text : take (end + 1 + places) bytes ≡ take end bytes ++ point ∷ digits
+      fraction_text =
+          take-add (end + 1) places bytes
+          ∙ (ap (λ front. front ++ take places (drop (end + 1) bytes)) pointed_text
+          ∙ (push_append (take end bytes) (take places (drop (end + 1) bytes)) point
+          ∙ ap (λ rest. take end bytes ++ point ∷ take places rest) (sym (take_rest bytes (end + 1)))))
+
+      -- a whole part, a point and a fraction are the leading number
+      pub leading_precise : (fraction n : ℕ) → (places ≡ 0 → ⊥)
+          → places ≤ places_of_decimal → fraction ≡ digits_value 10 digits
+          → n ≡ fixed_point whole fraction places → IsLeadingNumber bytes n (end + 1 + places)
+      leading_precise fraction n some_places few value value_of_n =
+          let last = end + 1 + places in
+          let number : IsPrecise current (take last bytes) n = record {
+            whole = take end bytes;
+            fraction = digits;
+            value = whole;
+            part = digits_value 10 digits * 10 ^ (places_of_decimal - length digits);
+            text_is = fraction_text;
+            whole_is = whole_is;
+            fraction_is = ((omega (arith, count_is, some_places), digits_are), omega (arith, few, count_is), refl);
+            number_is = value_of_n
+                ∙ (ap (λ f. whole * scale + f * 10 ^ (places_of_decimal - places)) value
+                ∙ ap (λ k. whole * scale + digits_value 10 digits * 10 ^ (places_of_decimal - k)) (sym count_is));
+          } in
+          let run = run_precise (take last bytes) n number in
+          let end_within : last ≤ length bytes =
+          omega (arith, all, pointed_within, ap length (take_rest bytes (end + 1)), length-drop (end + 1) bytes) in
+          let ends = EndsNumber run.state n in
+          let ends_number : (c : ℕ) → IsNoDigit c → ends c = λ c none.
+          ends_fraction run.state n c run.holds.0 run.holds.1 none in
+          let rest_is : drop places rest ≡ drop last bytes =
+          ap (drop places) (take_rest bytes (end + 1)) ∙ drop-drop places (end + 1) bytes in
+          record {
+            within = end_within;
+            number_is = inr number;
+            state = run.state;
+            run_is = run.run;
+            at_end = λ flags. number_end flags n run.state run.holds.0;
+            next = λ utf8.
+                first_char ends (λ c wide. ends_number c (wide_no_digit c wide)) (drop last bytes)
+                (utf8_from bytes last utf8 end_within (number_ascii (take last bytes) n (inr number)))
+                (first_map IsNoDigit ends ends_number (drop last bytes)
+                (subst (IsFirst IsNoDigit) rest_is (none_after rest places places_are)));
+          }
+
+too_large_read : (flags : Flags) (ds rest : List ℕ) → AllDigits 10 ds → whole_limit ≤ digits_value 10 ds
+    → read (size_scan flags) Beginning (ds ++ rest) ≡ Err too_long
+too_large_read flags [] rest digits above = absurd (omega (arith, above))
+too_large_read flags (c ∷ cs) rest digits above =
+    let first : 0 * 10 + digit_value c ≡ digit_value c = omega arith in
+    let value = ap (λ v. digits_value_after 10 v cs) first in
+    read_some (size_scan flags) Beginning (Whole (digit_value c)) c (cs ++ rest) (step_first c digits.0)
+    ∙ too_large flags cs rest (digit_value c) digits.1 (omega (arith, digits.0)) (omega (arith, above, value))
+
+-- the whole part reaches the limit
+pub stops_in_whole : (bytes : List ℕ) (end : ℕ) → end ≡ 0 + digits_len (drop 0 bytes)
+    → whole_limit ≤ digits_value 10 (take end bytes) → (flags : Flags) → IsUtf8 bytes → IsStop flags bytes TooLong
+stops_in_whole bytes end run_is above flags utf8 =
+    let digits = digits_of_run bytes end run_is in
+    record {
+      boundary = IsCharBoundary-start bytes utf8;
+      result_is = ap (read (size_scan flags) Beginning)
+          (text_from bytes end (IsAscii-from_digits (take end bytes) digits))
+          ∙ too_large_read flags (take end bytes) (chars (drop end bytes)) digits above;
+    }
+
+-- the number is read, and what follows is no unit in one of the common spellings
+pub stops_at_unit : (flags : Flags) (bytes rest : List ℕ) (n end spaces : ℕ) → IsLeadingNumber bytes n end
+    → drop end bytes ≡ rest → spaces ≤ length rest → take spaces rest ≡ replicate spaces space
+    → IsFirst IsNoSpace (drop spaces rest) → IsUtf8 bytes → IsStop flags bytes (UnitFrom n (end + spaces))
+stops_at_unit flags bytes rest n end spaces number rest_is within gap other utf8 =
+    let number_small = number_ascii (take end bytes) n number.number_is in
+    let gap_small = All-replicate (λ c. c < 128) spaces space (omega arith) in
+    let gap_ascii : IsAscii (take spaces rest) = subst IsAscii (sym gap) (IsAscii-from_all (replicate spaces space) gap_small) in
+    let place : drop spaces rest ≡ drop (end + spaces) bytes =
+    ap (drop spaces) (sym rest_is) ∙ drop-drop spaces end bytes in
+    let front : take (end + spaces) bytes ≡ take end bytes ++ take spaces rest =
+    take-add end spaces bytes ∙ ap (λ r. take end bytes ++ take spaces r) rest_is in
+    let ascii : IsAscii (take (end + spaces) bytes) =
+    subst IsAscii (sym front) (IsAscii-append (take end bytes) (take spaces rest) number_small gap_ascii) in
+    let inside : end + spaces ≤ length bytes = omega (arith, within, number.within, ap length rest_is, length-drop end bytes) in
+    let text : chars (drop end bytes) ≡ replicate spaces space ++ chars (drop spaces rest) =
+    ap chars rest_is ∙ (text_from rest spaces gap_ascii ∙ ap (λ g. g ++ chars (drop spaces rest)) gap) in
+    let utf8_rest : IsUtf8 (drop spaces rest) = subst IsUtf8 (sym place) (utf8_from bytes (end + spaces) utf8 inside ascii) in
+    let unit = chars (drop spaces rest) in
+    record {
+      boundary = boundary_at bytes (end + spaces) utf8 inside ascii;
+      result_is = ap (read (size_scan flags) Beginning) (text_from bytes end number_small)
+          ∙ (read_through (size_scan flags) Beginning number.state (take end bytes) (chars (drop end bytes)) number.run_is
+          ∙ (ap (read (size_scan flags) number.state) text
+          ∙ (read_after_number flags n spaces number.state unit
+          record {
+            at_end = number.at_end flags;
+            next = subst (IsFirst (EndsNumber number.state n)) text (number.next utf8);
+          }
+          (first_char IsNoSpace (λ c wide. λ e. omega (arith, wide, e)) (drop spaces rest) utf8_rest other)
+          ∙ ap (λ r. with_number n (read (unit_scan flags) start (chars r))) place)));
+    }

@@ -1,0 +1,230 @@
+-- What the state machine of sizes returns where the parser stops: the rest of an input is a unit, or starts with an
+-- error.
+use Rattle.std.proofs.Common.{◌≡◌, ℕ, zero, suc, ◌+◌, ◌*◌, ◌<◌, ◌≤◌, Bool, true, false, cond, eqb, ltb, ⊎_elim}
+use Rattle.std.proofs.Common.{List, [], ◌∷◌, ◌++◌, Option, Some, None, Err, length, replicate, refl, sym, ap, subst, ◌∙◌}
+use Rattle.std.proofs.Common.{arith}
+use Rattle.std.specs.Option.{option_map}
+use Rattle.std.specs.Char.{digit_value, is_ascii_digit}
+use Rattle.std.specs.Str.{chars, encode_utf8_all, IsUtf8}
+use Rattle.std.specs.Str.Parse.{AllDigits, digits_value_after}
+use Rattle.std.specs.Float.Numeral.{digits_len}
+use Rattle.std.proofs.lemmas.Bool.{cases_lt}
+use Rattle.std.proofs.lemmas.Bool.Decides.{nat_tests}
+use Rattle.std.proofs.lemmas.Str.{encodes-chars, byte_from_char, length-le-encodes}
+use Rattle.byte_unit_math.specs.Bounds.{scale, places_of_decimal, whole_limit}
+use Rattle.byte_unit_base.specs.Shape.{Shape}
+use Rattle.byte_unit_base.specs.Version.{current}
+use Rattle.byte_unit_base.specs.Number.{IsWholePart}
+use Rattle.byte_unit_base.specs.ViablePrefix.{in_fraction}
+use Rattle.byte_unit_base.specs.Spelling.{Flags}
+use Rattle.byte_unit_base.specs.SizeText.{space}
+use Rattle.byte_unit_base.specs.Fault.{too_long}
+use Rattle.byte_unit_base.specs.Scan.{read}
+use Rattle.byte_unit_base.specs.UnitScan.{unit_step, unit_scan, unit_of, unit_at_end, start}
+use Rattle.byte_unit_base.specs.SizeScan.{SizeScan, Beginning, Whole, Point, Fraction, Gap, UnitAt}
+use Rattle.byte_unit_base.specs.SizeScan.{is_digit, size_step, size_scan, size_at_end, size_or_fault, size_parser_state}
+use Rattle.byte_unit_base.specs.SizeScan.{after_number}
+use Rattle.byte_unit_base.specs.PartsReading.{IsFirst, IsNoSpace, EndsNumber, missing_digit, with_number}
+use Rattle.byte_unit_base.specs.declared.unit.scan.UnitScan.{UnitScan}
+use Rattle.byte_unit_base.proofs.Scans.{read_some, read_none, read_through}
+use Rattle.byte_unit_base.proofs.SizeRuns.{step_point, step_whole, step_pointed, step_fraction, run_whole, AtNumber}
+
+-- the first character of bytes that are UTF-8
+
+first_of : (Has : ℕ → Type 0) → ((c : ℕ) → 128 ≤ c → Has c) → (bytes text : List ℕ) → bytes ≡ encode_utf8_all text
+    → IsFirst Has bytes → IsFirst Has text
+first_of Has wide bytes [] e first = tt
+first_of Has wide [] (c ∷ cs) e first =
+    absurd (omega (arith, ap length e, length-le-encodes (c ∷ cs)))
+first_of Has wide (b ∷ bs) (c ∷ cs) e first =
+    ⊎_elim (λ small. subst Has (byte_from_char (b ∷ bs) (encode_utf8_all cs) c e small) first) (λ large. wide c large)
+    (cases_lt c 128)
+
+-- what holds of the first byte, and of each character past ASCII, holds of the first character
+pub first_char : (Has : ℕ → Type 0) → ((c : ℕ) → 128 ≤ c → Has c) → (bytes : List ℕ) → IsUtf8 bytes
+    → IsFirst Has bytes → IsFirst Has (chars bytes)
+first_char Has wide bytes utf8 first = first_of Has wide bytes (chars bytes) (sym (encodes-chars bytes utf8)) first
+
+-- digits
+
+-- the character is no decimal digit
+abbrev pub IsNoDigit : ℕ → Type 0
+IsNoDigit c = is_digit c ≡ false
+
+-- no character past ASCII is a decimal digit
+pub wide_no_digit : (c : ℕ) → 128 ≤ c → IsNoDigit c
+wide_no_digit c wide = grind (arith, nat_tests)
+
+other_is_no_digit : (b : ℕ) → is_ascii_digit b ≡ false → IsNoDigit b
+other_is_no_digit b other = grind (arith, nat_tests)
+
+none_counted : (t : Bool) (n : ℕ) → cond t (1 + n) 0 ≡ 0 → t ≡ false
+none_counted true n e = absurd (omega (arith, e))
+none_counted false n e = refl
+
+-- the bytes after a run of digits start with none
+pub no_digit_first : (bytes : List ℕ) → digits_len bytes ≡ 0 → IsFirst IsNoDigit bytes
+no_digit_first [] e = tt
+no_digit_first (b ∷ bs) e = other_is_no_digit b (none_counted (is_ascii_digit b) (digits_len bs) e)
+
+-- a missing digit
+
+-- the error of an input that does not start with a digit
+pub missing_at_start : (flags : Flags) (text : List ℕ) → IsFirst IsNoDigit text
+    → read (size_scan flags) Beginning text ≡ Err (missing_digit true text)
+unfolding size_step
+missing_at_start flags [] none = refl
+missing_at_start flags (c ∷ cs) none = read_none (size_scan flags) Beginning c cs (rw none refl)
+
+-- the error of an input in which no digit follows the point
+pub missing_after_point : (flags : Flags) (w : ℕ) (text : List ℕ) → IsFirst IsNoDigit text
+    → read (size_scan flags) (Point w) text ≡ Err (missing_digit false text)
+unfolding size_step
+missing_after_point flags w [] none = refl
+missing_after_point flags w (c ∷ cs) none = read_none (size_scan flags) (Point w) c cs (rw none refl)
+
+-- a digit too many
+
+digit_is : (c : ℕ) → digit_value c < 10 → is_digit c ≡ true
+digit_is c small = grind (arith, nat_tests)
+
+no_more_whole : (w c : ℕ) → digit_value c < 10 → whole_limit ≤ w * 10 + digit_value c → size_step (Whole w) c ≡ None
+unfolding size_step
+no_more_whole w c small large =
+    let too_large : ltb (w * 10 + digit_value c) whole_limit ≡ false = grind (arith, nat_tests) in
+    rw (digit_is c small, too_large) refl
+
+no_more_places : (w f j c : ℕ) → digit_value c < 10 → places_of_decimal ≤ j → size_step (Fraction w f j) c ≡ None
+unfolding size_step
+no_more_places w f j c small many =
+    let full : ltb j places_of_decimal ≡ false = grind (arith, nat_tests) in rw (digit_is c small, full) refl
+
+-- the error of a whole part that reaches the limit
+pub too_large : (flags : Flags) (ds rest : List ℕ) (w : ℕ) → AllDigits 10 ds → w < whole_limit
+    → whole_limit ≤ digits_value_after 10 w ds
+    → read (size_scan flags) (Whole w) (ds ++ rest) ≡ Err too_long
+too_large flags [] rest w digits below above = absurd (omega (arith, below, above))
+too_large flags (c ∷ cs) rest w digits below above =
+    let next = w * 10 + digit_value c in
+    ⊎_elim
+    (λ small. read_some (size_scan flags) (Whole w) (Whole next) c (cs ++ rest) (step_whole w c digits.0 small)
+    ∙ too_large flags cs rest next digits.1 small above)
+    (λ large. read_none (size_scan flags) (Whole w) c (cs ++ rest) (no_more_whole w c digits.0 large)
+    ∙ rw (digit_is c digits.0) refl)
+    (cases_lt next whole_limit)
+
+too_many_more : (flags : Flags) (ds rest : List ℕ) (w f j : ℕ) → AllDigits 10 ds → j ≤ places_of_decimal
+    → places_of_decimal < j + length ds
+    → read (size_scan flags) (Fraction w f j) (ds ++ rest) ≡ Err too_long
+too_many_more flags [] rest w f j digits few many = absurd (omega (arith, few, many))
+too_many_more flags (c ∷ cs) rest w f j digits few many =
+    ⊎_elim
+    (λ more. read_some (size_scan flags) (Fraction w f j) (Fraction w (f * 10 + digit_value c) (j + 1)) c (cs ++ rest)
+    (step_fraction w f j c digits.0 more)
+    ∙ too_many_more flags cs rest w (f * 10 + digit_value c) (j + 1) digits.1 (omega arith) (omega arith))
+    (λ full. read_none (size_scan flags) (Fraction w f j) c (cs ++ rest) (no_more_places w f j c digits.0 full)
+    ∙ rw (digit_is c digits.0) refl)
+    (cases_lt j places_of_decimal)
+
+-- the error of a fraction of more than 28 digits
+pub too_many_places : (flags : Flags) (ds rest : List ℕ) (w : ℕ) → AllDigits 10 ds → places_of_decimal < length ds
+    → read (size_scan flags) (Point w) (ds ++ rest) ≡ Err too_long
+too_many_places flags [] rest w digits many = absurd (omega (arith, many))
+too_many_places flags (c ∷ cs) rest w digits many =
+    read_some (size_scan flags) (Point w) (Fraction w (digit_value c) 1) c (cs ++ rest) (step_pointed w c digits.0)
+    ∙ too_many_more flags cs rest w (digit_value c) 1 digits.1 (omega arith) (omega arith)
+
+-- a whole part and a point are read, and then the fraction
+pub read_point : (flags : Flags) (text rest : List ℕ) (w : ℕ) → IsWholePart current text w
+    → read (size_scan flags) Beginning (text ++ 46 ∷ rest) ≡ read (size_scan flags) (Point w) rest
+read_point flags text rest w whole =
+    read_through (size_scan flags) Beginning (Whole w) text (46 ∷ rest) (run_whole text w whole)
+    ∙ read_some (size_scan flags) (Whole w) (Point w) 46 rest (step_point w)
+
+-- a number that ends
+
+-- a character that is no digit and no point ends a whole part
+pub ends_whole : (w n c : ℕ) → w * scale ≡ n → IsNoDigit c → eqb c 46 ≡ false → EndsNumber (Whole w) n c
+unfolding size_step
+ends_whole w n c at none other =
+    record { step_is = rw (none, other) (ap (λ n. after_number n c) at); fault_is = λ flags. rw none refl }
+
+-- a character that is no digit ends a fraction
+pub ends_fraction : (s : SizeScan) (n c : ℕ) → AtNumber n s → size_parser_state s ≡ in_fraction → IsNoDigit c
+    → EndsNumber s n c
+unfolding size_step
+ends_fraction (Fraction w f j) n c at place none =
+    record { step_is = rw none (ap (λ n. after_number n c) at); fault_is = λ flags. rw none refl }
+ends_fraction (Whole w) n c at place none = absurd (let no : ⊥ = cc in no)
+ends_fraction (Gap m) n c at place none = absurd (let no : ⊥ = cc in no)
+ends_fraction Beginning n c at place none = absurd at
+ends_fraction (Point w) n c at place none = absurd at
+ends_fraction (UnitAt m s) n c at place none = absurd at
+
+-- the unit after a number
+
+end_with_number : (n : ℕ) (unit : Option Shape) → size_or_fault n unit ≡ with_number n (unit_at_end unit)
+end_with_number n None = refl
+end_with_number n (Some unit) = refl
+
+in_unit_at : (flags : Flags) (n c : ℕ) (u : UnitScan) (cs : List ℕ)
+    → ((t : UnitScan) → read (size_scan flags) (UnitAt n t) cs ≡ with_number n (read (unit_scan flags) t cs))
+    → (o : Option UnitScan) → unit_step u c ≡ o
+    → read (size_scan flags) (UnitAt n u) (c ∷ cs) ≡ with_number n (read (unit_scan flags) u (c ∷ cs))
+unfolding size_step
+in_unit_at flags n c u cs more None e =
+    read_none (size_scan flags) (UnitAt n u) c cs (ap (option_map (UnitAt n)) e)
+    ∙ sym (ap (with_number n) (read_none (unit_scan flags) u c cs e))
+in_unit_at flags n c u cs more (Some t) e =
+    read_some (size_scan flags) (UnitAt n u) (UnitAt n t) c cs (ap (option_map (UnitAt n)) e)
+    ∙ (more t ∙ sym (ap (with_number n) (read_some (unit_scan flags) u t c cs e)))
+
+read_in_unit : (flags : Flags) (n : ℕ) (u : UnitScan) (text : List ℕ)
+    → read (size_scan flags) (UnitAt n u) text ≡ with_number n (read (unit_scan flags) u text)
+read_in_unit flags n u [] = end_with_number n (unit_of flags u)
+read_in_unit flags n u (c ∷ cs) = in_unit_at flags n c u cs (λ t. read_in_unit flags n t cs) (unit_step u c) refl
+
+first_of_unit : (flags : Flags) (n c : ℕ) (s : SizeScan) (cs : List ℕ) → EndsNumber s n c → eqb c 32 ≡ false
+    → (o : Option UnitScan) → unit_step start c ≡ o
+    → read (size_scan flags) s (c ∷ cs) ≡ with_number n (read (unit_scan flags) start (c ∷ cs))
+first_of_unit flags n c s cs ends other None e =
+    read_none (size_scan flags) s c cs (ends.step_is ∙ rw (other, e) refl)
+    ∙ (ap Err (ends.fault_is flags) ∙ sym (ap (with_number n) (read_none (unit_scan flags) start c cs e)))
+first_of_unit flags n c s cs ends other (Some t) e =
+    read_some (size_scan flags) s (UnitAt n t) c cs (ends.step_is ∙ rw (other, e) refl)
+    ∙ (read_in_unit flags n t cs ∙ sym (ap (with_number n) (read_some (unit_scan flags) start t c cs e)))
+
+-- the state is after the number `n`, which ends there
+pub record IsAfterNumber (flags : Flags) (s : SizeScan) (n : ℕ) (rest : List ℕ) : Type 0 where
+  pub at_end : size_at_end flags s ≡ size_or_fault n (unit_of flags start)
+  pub next : IsFirst (EndsNumber s n) rest
+
+read_first_of_unit : (flags : Flags) (n : ℕ) (s : SizeScan) (unit : List ℕ) → IsAfterNumber flags s n unit
+    → IsFirst IsNoSpace unit
+    → read (size_scan flags) s unit ≡ with_number n (read (unit_scan flags) start unit)
+read_first_of_unit flags n s [] after other = after.at_end ∙ end_with_number n (unit_of flags start)
+read_first_of_unit flags n s (c ∷ cs) after other =
+    let no_space : eqb c 32 ≡ false = grind (arith, nat_tests) in
+    first_of_unit flags n c s cs after.next no_space (unit_step start c) refl
+
+ends_gap : (n : ℕ) (text : List ℕ) → IsFirst (EndsNumber (Gap n) n) text
+unfolding size_step
+ends_gap n [] = tt
+ends_gap n (c ∷ cs) = record { step_is = refl; fault_is = λ flags. refl }
+
+read_gap : (flags : Flags) (n k : ℕ) (unit : List ℕ) → IsFirst IsNoSpace unit
+    → read (size_scan flags) (Gap n) (replicate k space ++ unit) ≡ with_number n (read (unit_scan flags) start unit)
+unfolding size_step
+read_gap flags n zero unit other =
+    read_first_of_unit flags n (Gap n) unit record { at_end = refl; next = ends_gap n unit } other
+read_gap flags n (suc k) unit other =
+    read_some (size_scan flags) (Gap n) (Gap n) space (replicate k space ++ unit) refl ∙ read_gap flags n k unit other
+
+-- after a number, spaces are passed over, and the rest is read as a unit
+pub read_after_number : (flags : Flags) (n k : ℕ) (s : SizeScan) (unit : List ℕ)
+    → IsAfterNumber flags s n (replicate k space ++ unit) → IsFirst IsNoSpace unit
+    → read (size_scan flags) s (replicate k space ++ unit) ≡ with_number n (read (unit_scan flags) start unit)
+read_after_number flags n zero s unit after other = read_first_of_unit flags n s unit after other
+read_after_number flags n (suc k) s unit after other =
+    read_some (size_scan flags) s (Gap n) space (replicate k space ++ unit) after.next.step_is
+    ∙ read_gap flags n k unit other
