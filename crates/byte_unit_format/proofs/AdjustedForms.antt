@@ -1,30 +1,32 @@
 -- A size has exactly one text in a given unit by each spec.
-use Rattle.std.proofs.Common.{◌≡◌, ℕ, ◌+◌, ◌*◌, ◌/◌, ◌%◌, ◌^◌, ◌<◌, ⊎_elim, min, Bool, true, false, List, length, arith}
+use Rattle.std.proofs.Common.{◌≡◌, ℕ, ◌+◌, ◌*◌, ◌/◌, ◌%◌, ◌^◌, ◌<◌, ◌≤◌, ◌++◌, ⊎_elim, min, Bool, true, false, List, arith}
 use Rattle.std.proofs.Common.{ap, sym, refl}
 use Rattle.std.proofs.Common.{subst, ◌∙◌, Some, None}
 use Rattle.std.specs.Prelude.{if◌then◌else◌}
-use Rattle.std.proofs.Math.Nat.{div-add-mod'}
-use Rattle.std.proofs.lemmas.Nat.{pow-add, mul-pow, mod_below}
+use Rattle.std.specs.Fmt.{decimal}
+use Rattle.std.proofs.Math.Nat.{div-add-mod', mod-eq_of_lt, pow-le-pow_right}
+use Rattle.std.proofs.lemmas.Nat.{pow-add, mul-pow, mod_below, mul-le}
 use Rattle.std.proofs.lemmas.Bool.{cases_lt}
-use Rattle.byte_unit_math.specs.Finite.{Finite, IsExpansion}
+use Rattle.byte_unit_math.specs.Bounds.{size_limit}
+use Rattle.byte_unit_math.specs.Finite.{Finite, IsExpansion, ulps_of}
 use Rattle.byte_unit_math.specs.Nearest.{IsNearest}
-use Rattle.byte_unit_math.specs.Digits.{at_places, trim_expansion}
-use Rattle.byte_unit_math.specs.Numeral.{text_of, numeral, short_numeral}
-use Rattle.byte_unit_math.specs.Padded.{pad_of}
+use Rattle.byte_unit_math.specs.Digits.{at_places, trim_expansion, last_digits}
+use Rattle.byte_unit_math.specs.Numeral.{text_of, numeral, short_numeral, fraction_text}
 use Rattle.byte_unit_math.specs.declared.expansion.Ties.{Ties}
 use Rattle.byte_unit_math.specs.declared.expansion.Ties.TheVariants.{Even, Up}
-use Rattle.byte_unit_math.proofs.Digits.{one_le_pow10}
-use Rattle.byte_unit_math.proofs.Nearest.{LiesAbove, nearest_down, nearest_up, tie_up_next, tie_even_next}
-use Rattle.byte_unit_math.proofs.Nearest.{tie_even_this}
-use Rattle.byte_unit_math.proofs.Texts.{expansion_unique, nearest_unique, short_numeral_is_expansion}
+use Rattle.byte_unit_math.proofs.Digits.{one_le_pow10, length_last_digits, last_digits_below_ten, value_of_last_digits}
+use Rattle.byte_unit_math.proofs.Digits.{scaled_at_places}
+use Rattle.byte_unit_math.proofs.Nearest.{lies_above_quotient, nearest_down, nearest_up, tie_up_next}
+use Rattle.byte_unit_math.proofs.Nearest.{nearest_even_next, nearest_even_this}
+use Rattle.byte_unit_math.proofs.Texts.{same_finite, expansion_unique, nearest_unique, short_numeral_is_expansion}
 use Rattle.byte_unit_math.proofs.Texts.{expansion_of_same_fraction}
 use Rattle.byte_unit_base.specs.Shape.{Shape, bits, twos, fives}
-use Rattle.byte_unit_base.specs.Version.{Version, current, unit_name_in}
+use Rattle.byte_unit_base.specs.Version.{Version, unit_name_in}
 use Rattle.byte_unit_base.proofs.Choosing.{some_bits}
 use Rattle.byte_unit_base.specs.declared.kind.Kind.{Kind}
 use Rattle.byte_unit_format.specs.declared.spec.FormatSpec.{FormatSpec}
 use Rattle.byte_unit_base.specs.Kinds.{bits_in}
-use Rattle.byte_unit_format.specs.Layout.{layout, layout_of_in}
+use Rattle.byte_unit_format.specs.Layout.{layout}
 use Rattle.byte_unit_format.specs.Adjusted.{Rule, full, round_to, short_to, IsNumeralBy, rule_of}
 use Rattle.byte_unit_format.specs.Adjusted.{alternate_places, IsAdjustedFormIn, has_no_prefix}
 use Rattle.byte_unit_format.specs.FormLaws.{SizeHasOneAdjustedForm}
@@ -101,37 +103,28 @@ record HasNearest (num den places : ℕ) (ties : Ties) : Type 0 where
   number : ℕ
   is_nearest : IsNearest num den places ties number
 
-even_below_one : (number : ℕ) → number % 2 < 1 → number % 2 ≡ 0
-even_below_one number even = omega (arith, even)
-
-nearest_at_tie : (num den places below rest : ℕ) (ties : Ties) → LiesAbove num den places below rest → 2 * rest ≡ den
-    → HasNearest num den places ties
-nearest_at_tie num den places below rest Up lies tie =
-    record { number = below + 1; is_nearest = tie_up_next num den places below rest lies tie }
-nearest_at_tie num den places below rest Even lies tie =
-    ⊎_elim (λ even. record {
-      number = below;
-      is_nearest = tie_even_this num den places below rest lies tie (even_below_one below even);
-    })
-    (λ odd.
-    let is_odd : below % 2 ≡ 1 = omega (arith, odd) in
-    record { number = below + 1; is_nearest = tie_even_next num den places below rest lies tie is_odd })
-    (cases_lt (below % 2) 1)
-
 nearest_exists : (num den places : ℕ) (ties : Ties) → 0 < den → HasNearest num den places ties
-nearest_exists num den places ties some =
-    let scaled_num = num * 10 ^ places in
-    let below = scaled_num / den in
-    let rest = scaled_num % den in
-    let lies : LiesAbove num den places below rest =
-    record { split = sym (div-add-mod' scaled_num den); below = mod_below scaled_num den some } in
+nearest_exists num den places Even some =
+    let below = num * 10 ^ places / den in
+    let rest = num * 10 ^ places % den in
+    let lies = lies_above_quotient num den places (num * 10 ^ places) below rest refl some refl refl in
     ⊎_elim
-    (λ less. record { number = below; is_nearest = nearest_down num den places below rest lies ties less })
+    (λ more. record { number = below + 1; is_nearest = nearest_even_next num den places below rest lies more })
+    (λ most. record { number = below; is_nearest = nearest_even_this num den places below rest lies most })
+    (cases_lt den (2 * rest + below % 2))
+nearest_exists num den places Up some =
+    let below = num * 10 ^ places / den in
+    let rest = num * 10 ^ places % den in
+    let lies = lies_above_quotient num den places (num * 10 ^ places) below rest refl some refl refl in
+    ⊎_elim
+    (λ less. record { number = below; is_nearest = nearest_down num den places below rest lies Up less })
     (λ at_least.
     ⊎_elim
-    (λ more. record { number = below + 1; is_nearest = nearest_up num den places below rest lies ties more })
-    (λ at_most. nearest_at_tie num den places below rest ties lies
-    (let tie : 2 * rest ≡ den = omega (arith, at_least, at_most) in tie))
+    (λ more. record { number = below + 1; is_nearest = nearest_up num den places below rest lies Up more })
+    (λ most. record {
+      number = below + 1;
+      is_nearest = tie_up_next num den places below rest lies (omega (arith, at_least, most));
+    })
     (cases_lt den (2 * rest)))
     (cases_lt (2 * rest) den)
 
@@ -189,24 +182,30 @@ has_one_adjusted_form version kind size unit spec =
     record { number = found.number; number_is = found.is_numeral; text_is = refl } in
     record { form = form; is_form = is_form; one = λ other is_other. adjusted_form_unique is_other is_form }
 
--- The decimal, padded to `places` digits after the point, is the number that the spec requests.
-pub record IsShown (kind : Kind) (size : ℕ) (unit : Shape) (spec : FormatSpec) (e : Finite) (places : ℕ) : Type 0 where
-  pub is_numeral :
-      IsNumeralBy (rule_of spec.precision spec.alternate unit) (size * bits_in kind) (bits unit)
-      (text_of (pad_of places e))
+-- A number that is split by a power of ten into whole part and digits after the point has their text.
+pub scaled_text : (number places whole digits : ℕ) → whole ≡ number / 10 ^ places → digits ≡ number % 10 ^ places
+    → decimal whole ++ fraction_text (last_digits places digits) ≡ numeral number places
+scaled_text number places whole digits whole_is digits_is =
+    let e : Finite = record { whole = whole; digits = last_digits places digits } in
+    let below = mod_below number (10 ^ places) (omega (arith, one_le_pow10 places)) in
+    let value = value_of_last_digits places digits ∙ mod-eq_of_lt (omega (arith, digits_is, below)) in
+    let scale = ap (λ n. whole * 10 ^ n) (length_last_digits places digits) in
+    let product = ap (λ n. n * 10 ^ places) whole_is in
+    let sum : ulps_of e ≡ number =
+    omega (arith, scale, value, product, digits_is, div-add-mod' number (10 ^ places)) in
+    ap text_of (same_finite e (at_places places number) (last_digits_below_ten places digits)
+    (last_digits_below_ten places number)
+    (length_last_digits places digits ∙ sym (length_last_digits places number))
+    (sum ∙ sym (scaled_at_places places number)))
 
--- Such a decimal, formatted with its unit, is the text of the size in the unit.
-pub shown_is_adjusted_form :
-    {kind : Kind} {size : ℕ} {unit : Shape} {spec : FormatSpec} {e : Finite} {places : ℕ}
-    → IsShown kind size unit spec e places
-    → IsAdjustedFormIn current kind size unit spec (layout_of_in current e places unit spec)
-shown_is_adjusted_form {kind} {size} {unit} {spec} {e} {places} shown =
-    record { number = text_of (pad_of places e); number_is = shown.is_numeral; text_is = refl }
-
--- Each text of the size in the unit is as long as that of such a decimal.
-pub adjusted_form_length :
-    {kind : Kind} {size : ℕ} {unit : Shape} {spec : FormatSpec} {e : Finite} {places : ℕ}
-    → IsShown kind size unit spec e places
-    → (form : List ℕ) → IsAdjustedFormIn current kind size unit spec form
-    → length form ≡ length (layout_of_in current e places unit spec)
-adjusted_form_length shown form is_form = ap length (adjusted_form_unique is_form (shown_is_adjusted_form shown))
+-- A size in bits, scaled by a power of ten with at most seven zeros, is below 2^127.
+pub scaled_size_small : (size bits power places : ℕ) → size < size_limit → bits ≤ 8 → power ≡ 10 ^ places → places ≤ 7
+    → size * bits * power < 2 ^ 127
+scaled_size_small size bits power places small few power_is at_most =
+    let most = pow-le-pow_right {n = 10} (omega arith) {i = places} {j = 7} at_most in
+    let in_bits = mul-le size bits size_limit 8 (omega (arith, small)) few in
+    omega (
+      arith,
+      mul-le (size * bits) power (8 * size_limit) (10 ^ 7) (omega (arith, in_bits))
+          (omega (arith, power_is, most)),
+    )

@@ -39,7 +39,7 @@ whole_not_above num den e some expansion =
     le_of_mul-le-mul_right scaled_whole
     (let positive : 0 < scale = omega (arith, one_le_pow10 (length e.digits)) in positive)
 
--- The expansion of a size is within the bounds of the grammar.
+-- The digits of the expansion of a size are below ten, and its whole part is within the bound of the grammar.
 expansion_bounded : (kind : Kind) (size : ℕ) (unit : Shape) (e : Finite) → size < current.size_limit
     → IsExpansion (size * bits_in kind) (bits unit) e → IsBounded e
 expansion_bounded kind size unit e below expansion =

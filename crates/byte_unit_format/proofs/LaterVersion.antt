@@ -115,7 +115,7 @@ accepted_stays kind ignore_case text size h = record {
   below = omega (arith, h.below);
 }
 
--- A unit of the new prefix is larger than each size of the first version.
+-- A unit of the kind with the new prefix is larger than each size of the first version.
 last_prefix_above_old : (kind : Kind) (binary bit : Bool) → HasKind (own_family kind) bit
     → first_version.size_limit * bits_in kind ≤ bits (shape (length current.letters) binary bit)
 last_prefix_above_old Byte true true h = absurd (let k : ⊥ = cc in k)
@@ -159,7 +159,7 @@ member_is_old kind size unit small h not_above =
       kind = h.kind;
     }
 
--- If the same units have two properties, the largest of them, or the kind's own unit, is the same.
+-- If the same units have two properties, the largest of them, or the base unit of the kind, is the same.
 same_largest : (kind : Kind) (Has Had : Shape → Type 0) (unit : Shape) → ((other : Shape) → Has other → Had other)
     → ((other : Shape) → Had other → Has other) → IsLargestOrOwn kind Has unit → IsLargestOrOwn kind Had unit
 same_largest kind Has Had unit there back (inl h) =

@@ -13,4 +13,5 @@ pub mod Appending
 pub mod ShortExpansions
 pub mod Widths
 pub mod NarrowTexts
+pub mod ThreePlaces
 pub mod LaterVersion

@@ -36,7 +36,7 @@ use Rattle.byte_unit_format.proofs.Widths.{plain_form_fills_width, layout_fills_
 use Rattle.byte_unit_format.proofs.WrittenForms.{length_of_fraction_text}
 
 -- The next decimal prefix is a thousand times larger.
-pow10_next : (power : ℕ) → 10 ^ (3 * (power + 1)) ≡ 10 ^ (3 * power) * 1000
+pub pow10_next : (power : ℕ) → 10 ^ (3 * (power + 1)) ≡ 10 ^ (3 * power) * 1000
 pow10_next power =
     ap (λ n. 10 ^ n) (let sum : 3 * (power + 1) ≡ 3 * power + 3 = omega arith in sum) ∙ pow-add 10 (3 * power) 3
 
@@ -45,8 +45,8 @@ pow2_next : (power : ℕ) → 2 ^ (10 * (power + 1)) ≡ 2 ^ (10 * power) * 1024
 pow2_next power =
     ap (λ n. 2 ^ n) (let sum : 10 * (power + 1) ≡ 10 * power + 10 = omega arith in sum) ∙ pow-add 2 (10 * power) 10
 
--- A unit with a decimal prefix is a power of ten times the kind's own unit.
-decimal_bits :
+-- A unit with a decimal prefix is a power of ten times the base unit of the kind.
+pub decimal_bits :
     (kind : Kind) (power : ℕ) (bit : Bool) → HasKind (own_family kind) bit
     → bits (shape power false bit) ≡ 10 ^ (3 * power) * bits_in kind
 decimal_bits Byte power true other = absurd (let none : ⊥ = cc in none)
@@ -58,8 +58,8 @@ decimal_bits Bit power true same =
     ap (λ n. n * 5 ^ (3 * power)) (pow-add 2 (3 * power) 0) ∙ omega (arith, product)
 decimal_bits Bit power false other = absurd (let none : ⊥ = cc in none)
 
--- A unit with a binary prefix is a power of two times the kind's own unit.
-binary_bits :
+-- A unit with a binary prefix is a power of two times the base unit of the kind.
+pub binary_bits :
     (kind : Kind) (power : ℕ) (bit : Bool) → HasKind (own_family kind) bit
     → bits (shape power true bit) ≡ 2 ^ (10 * power) * bits_in kind
 binary_bits Byte power true other = absurd (let none : ⊥ = cc in none)
@@ -68,7 +68,7 @@ binary_bits Bit power true same = ap (λ n. n * 5 ^ 0) (pow-add 2 (10 * power) 0
 binary_bits Bit power false other = absurd (let none : ⊥ = cc in none)
 
 -- A binary prefix is at least the decimal prefix of the same power.
-pow10_le_pow2 : (power : ℕ) → 10 ^ (3 * power) ≤ 2 ^ (10 * power)
+pub pow10_le_pow2 : (power : ℕ) → 10 ^ (3 * power) ≤ 2 ^ (10 * power)
 pow10_le_pow2 zero = omega arith
 pow10_le_pow2 (suc power) =
     let decimal_step = ap (λ n. 10 ^ (3 * n)) (sym (add-one power)) ∙ pow10_next power in
@@ -76,7 +76,7 @@ pow10_le_pow2 (suc power) =
     omega (arith, pow10_le_pow2 power, decimal_step, binary_step)
 
 -- Up to the eighth, a binary prefix is less than the next decimal prefix.
-pow2_lt_pow10_next : (power : ℕ) → power ≤ 8 → 2 ^ (10 * power) < 10 ^ (3 * (power + 1))
+pub pow2_lt_pow10_next : (power : ℕ) → power ≤ 8 → 2 ^ (10 * power) < 10 ^ (3 * (power + 1))
 pow2_lt_pow10_next power few =
     let rest = 8 - power in
     let decimal_product : 10 ^ (3 * (power + 1)) * 10 ^ (3 * rest) ≡ 10 ^ 27 =
@@ -93,8 +93,8 @@ pow2_lt_pow10_next power few =
     absurd (omega (arith, first, second, decimal_product, binary_product)))
     (cases_lt (2 ^ (10 * power)) (10 ^ (3 * (power + 1))))
 
--- A kind's own unit has at least one bit.
-bits_in_positive : (kind : Kind) → 1 ≤ bits_in kind
+-- The base unit of a kind has at least one bit.
+pub bits_in_positive : (kind : Kind) → 1 ≤ bits_in kind
 bits_in_positive Byte = omega arith
 bits_in_positive Bit = omega arith
 
@@ -242,7 +242,7 @@ prefixed_length {kind} {size} {precision} {unit} {number} is_number =
     omega (arith, few, sum, decimal_length whole 3 (omega arith) (omega arith) small))
     (cases_lt places (3 * (power + 1)))
 
--- In the kind's own unit the number is the size, without digits after the point: at most 33 characters.
+-- In the base unit of the kind the number is the size, without digits after the point: at most 33 characters.
 own_length :
     (kind : Kind) (size number : ℕ) (unit : Shape) → size < current.size_limit → unit ≡ own_unit kind
     → number * bits unit ≡ size * bits_in kind * scale → length (short_numeral number places_of_decimal) ≤ 33
@@ -256,7 +256,7 @@ own_length kind size number unit below own number_is =
     let digits = decimal_length (number / scale) 30 (omega arith) (omega arith) small in
     omega (arith, no_places, short_length number, digits)
 
--- The number of units of a size in its exact unit, or in its kind's own unit, has at most 33 characters.
+-- The number of units of a size in its exact unit, or in the base unit of its kind, has at most 33 characters.
 recovered_length :
     (kind : Kind) (size precision number : ℕ) (unit : Shape) → size < current.size_limit
     → IsRecoveredIn current kind false size precision unit

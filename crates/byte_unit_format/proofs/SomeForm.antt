@@ -1,4 +1,4 @@
--- A size has a text with a unit by each spec: it has an exact unit, or its kind's own unit is taken.
+-- A size has a text with a unit by each spec: it has an exact unit, or the base unit of its kind is taken.
 use Rattle.std.proofs.Common.{◌≡◌, ℕ, ◌*◌, ⊎_elim, inl, inr, false, arith, refl}
 use Rattle.byte_unit_math.specs.Bounds.{scale, places_of_decimal}
 use Rattle.byte_unit_math.specs.Numeral.{short_numeral}

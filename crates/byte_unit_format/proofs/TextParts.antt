@@ -1,9 +1,9 @@
 -- The parts of a text, written one after the other, are the text.
-use Rattle.std.proofs.Common.{◌≡◌, ◌+◌, ◌-◌, ◌<◌, ℕ, List, ◌++◌, length, take, drop, replicate, append_assoc}
+use Rattle.std.proofs.Common.{◌≡◌, ◌+◌, ◌-◌, ◌/◌, ◌<◌, ◌≤◌, ℕ, List, [], ◌∷◌, ◌++◌, length, take, drop, set, get_or, refl, replicate, append_assoc}
 use Rattle.std.proofs.Common.{arith, ap, sym, ◌∙◌, subst, min}
 use Rattle.std.specs.Fmt.{decimal}
 use Rattle.std.specs.Str.{IsAscii}
-use Rattle.std.proofs.lemmas.List.{replicate-append-replicate, take_at}
+use Rattle.std.proofs.lemmas.List.{replicate-append-replicate, take_at, drop-set-add, length-drop, drop-drop}
 use Rattle.std.proofs.lemmas.List.Elements.{All-replicate}
 use Rattle.std.proofs.lemmas.Str.{IsAscii-append}
 use Rattle.std.proofs.lemmas.Str.Ascii.{IsAscii-from_all}
@@ -88,3 +88,43 @@ pub piece_ascii :
     → IsAscii (take (room - start) (drop start bytes))
 piece_ascii room start text bytes behind begins put ascii =
     subst IsAscii (sym (piece_of_array room start text bytes behind begins put)) ascii
+
+-- The last, the middle and the first element of a list of at most three, set in this order, are all of it.
+set_name : (name xs : List ℕ) → 0 < length name → length name ≤ 3 → length name ≤ length xs
+    → set (set (set xs (length name - 1) (get_or name (length name - 1) 0)) (length name / 2) (get_or name (length name / 2) 0))
+    0 (get_or name 0 0)
+    ≡ name ++ drop (length name) xs
+set_name [] xs some few fits = absurd (omega (arith, some))
+set_name (a ∷ []) [] some few fits = absurd (omega (arith, fits))
+set_name (a ∷ []) (x ∷ xs) some few fits = refl
+set_name (a ∷ b ∷ []) [] some few fits = absurd (omega (arith, fits))
+set_name (a ∷ b ∷ []) (x ∷ []) some few fits = absurd (omega (arith, fits))
+set_name (a ∷ b ∷ []) (x ∷ y ∷ xs) some few fits = refl
+set_name (a ∷ b ∷ c ∷ []) [] some few fits = absurd (omega (arith, fits))
+set_name (a ∷ b ∷ c ∷ []) (x ∷ []) some few fits = absurd (omega (arith, fits))
+set_name (a ∷ b ∷ c ∷ []) (x ∷ y ∷ []) some few fits = absurd (omega (arith, fits))
+set_name (a ∷ b ∷ c ∷ []) (x ∷ y ∷ z ∷ xs) some few fits = refl
+set_name (a ∷ b ∷ c ∷ d ∷ more) xs some few fits = absurd (omega (arith, few))
+
+-- A name written in this way is there, and what follows stays.
+pub name_put : (name out : List ℕ) (start end : ℕ) → 0 < length name → length name ≤ 3 → start + length name ≡ end
+    → end ≤ length out
+    → drop start (set (set (set out (start + (length name - 1)) (get_or name (length name - 1) 0))
+    (start + length name / 2) (get_or name (length name / 2) 0)) start (get_or name 0 0))
+    ≡ name ++ drop end out
+name_put name out start end some few ends within =
+    let back = get_or name (length name - 1) 0 in
+    let middle = get_or name (length name / 2) 0 in
+    let front = get_or name 0 0 in
+    let one = set out (start + (length name - 1)) back in
+    let two = set one (start + length name / 2) middle in
+    let last : drop start one ≡ set (drop start out) (length name - 1) back =
+    drop-set-add start out (length name - 1) back in
+    let both : drop start two ≡ set (set (drop start out) (length name - 1) back) (length name / 2) middle =
+    drop-set-add start one (length name / 2) middle ∙ ap (λ xs. set xs (length name / 2) middle) last in
+    let here : start ≡ start + 0 = omega arith in
+    ap (λ i. drop start (set two i front)) here
+    ∙ (drop-set-add start two 0 front
+    ∙ (ap (λ xs. set xs 0 front) both
+    ∙ (set_name name (drop start out) some few (omega (arith, length-drop {A = ℕ} start out, ends, within))
+    ∙ ap (λ xs. name ++ xs) (drop-drop (length name) start out ∙ ap (λ i. drop i out) ends))))

@@ -40,11 +40,11 @@ IsNumeralBy full num den text = IsFullNumeral num den text
 IsNumeralBy (round_to places) num den text = IsRoundNumeral num den places text
 IsNumeralBy (short_to places) num den text = IsShortNumeral num den places text
 
--- The most digits after the point in the alternate form.
+-- The most digits after the point in the alternate form if a precision is set.
 abbrev pub alternate_places : ℕ
 alternate_places = 16
 
--- Whether the unit has no prefix, as the bit and the byte.
+-- Whether the unit has no prefix, as `Bit` and `B`.
 abbrev pub has_no_prefix : Shape → Bool
 has_no_prefix unit = unit.power == 0
 

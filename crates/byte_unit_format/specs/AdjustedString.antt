@@ -13,8 +13,9 @@ use Rattle.byte_unit_base.specs.declared.unit.Unit.{Unit as UnitName}
 abbrev pub IsGreatest : Version → ℕ → Type 0
 IsGreatest version size = size + 1 ≡ version.size_limit
 
--- The text is the size with all its digits in the unit. Only the greatest size is stored with its recovered unit, as in
--- the Rust crate: in units such as `GiB` it has more than 28 digits after the point, and would be rejected.
+-- The text is the size with all its digits in the unit. Only the greatest size is stored with its recovered unit. The
+-- Rust crate stores its greatest size so too; here it would be rejected in units such as `GiB`, in which it has more
+-- than 28 digits after the point.
 abbrev pub IsAdjustedStringIn : Version → Kind → ℕ → Shape → List ℕ → Type 0
 IsAdjustedStringIn version kind size unit text =
     IsGreatest version size × IsSizeFormIn version kind size ALTERNATE text

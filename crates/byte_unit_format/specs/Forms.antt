@@ -15,7 +15,8 @@ use Rattle.byte_unit_format.specs.Plain.{plain}
 abbrev pub default_precision : ℕ
 default_precision = 3
 
--- The number of digits after the point that is allowed: the precision, or 3 if none is set.
+-- The number of digits after the point that is allowed: the precision, or 3 if none is set. For the choice of the unit
+-- more than 28 count as 28.
 abbrev pub places_of : Option ℕ → ℕ
 places_of None = default_precision
 places_of (Some precision) = precision

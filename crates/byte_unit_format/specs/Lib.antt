@@ -4,8 +4,10 @@ pub mod Forms
 pub mod NamedSpecs
 pub mod Adjusted
 pub mod AdjustedString
+pub mod Shown
 pub mod Room
 pub mod Written
 pub mod TextParts
+pub mod ThreePlaces
 pub mod FormLaws
 pub mod VersionLaws

@@ -2,10 +2,10 @@
 use Rattle.byte_unit_format.specs.declared.spec.FormatSpec.{FormatSpec}
 use Rattle.byte_unit_format.specs.declared.spec.TheConstants.FormatSpec.{PLAIN, ALTERNATE}
 
--- Formats a size as digits.
+-- The spec that formats a size as digits.
 abbrev pub plain_spec : FormatSpec
 plain_spec = PLAIN
 
--- Formats a size with a unit.
+-- The spec that formats a size with a unit.
 abbrev pub alternate_spec : FormatSpec
 alternate_spec = ALTERNATE

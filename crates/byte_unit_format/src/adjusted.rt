@@ -4,31 +4,63 @@ ghost use Rattle.std.specs.Prelude.{◌≡◌, ℕ, ◌*◌, ◌<◌, ◌≤◌,
 ghost use Rattle.std.specs.Fmt.{DisplaysOnOk, DisplaysStyledOnOk};
 ghost use Rattle.byte_unit_math.specs.Finite.{IsExpansion};
 ghost use Rattle.byte_unit_math.specs.Numeral.{text_of};
-ghost use Rattle.byte_unit_math.specs.Padded.{pad_of};
 ghost use Rattle.byte_unit_base.specs.Shape.{bits};
 ghost use Rattle.byte_unit_math.specs.Bounds.{size_limit};
 ghost use Rattle.byte_unit_base.specs.Units.{shape_of};
 ghost use Rattle.byte_unit_base.specs.Kinds.{bits_in};
+ghost use Rattle.byte_unit_base.specs.Version.{unit_name};
+ghost use Rattle.byte_unit_format.specs.Layout.{layout};
+ghost use Rattle.byte_unit_format.specs.Shown.{shown_text, FitsShown};
+ghost use Rattle.byte_unit_format.specs.TextParts.{IsReady, parts_text};
 ghost use Rattle.byte_unit_format.specs.Room.{AppendsForm};
 ghost use Rattle.byte_unit_format.specs.Written.{WritesForm};
 ghost use Rattle.byte_unit_format.specs.Forms.{text_limit};
-ghost use Rattle.byte_unit_format.specs.Adjusted.{IsNumeralBy, rule_of, IsAdjustedForm, adjusted_text, has_no_prefix};
+ghost use Rattle.byte_unit_format.specs.Adjusted.{IsNumeralBy, IsRoundNumeral, rule_of, IsAdjustedForm, adjusted_text, has_no_prefix};
 
-use crate::{FormatSpec, append_layout, layout_len, write_layout};
+use crate::FormatSpec;
+use crate::layout::layout_parts;
+use crate::parts::{Fraction, TextParts};
 use byte_unit_base::{Kind, Unit};
-use byte_unit_math::{Expansion, Ties};
+use byte_unit_math::{Expansion, Ties, div_rem, power_of_ten, rounded_quotient};
 use std::alloc::{AllocError, Allocator};
 use std::fmt;
 use std::fmt::Display;
 
-/// The most digits after the point in the alternate form.
+/// The most digits after the point in the alternate form if a precision is set.
 const ALTERNATE_PLACES: u16 = 16;
 
-/// A decimal, and the number of digits after the point that are shown.
+/// Up to this many digits after the point, a number is rounded by one division: any size in bits times 10^7 fits 127 bits.
+const FEW_PLACES: u32 = 7;
+
+/// A number, and how many digits after the point are shown.
 #[derive(Clone, Copy)]
-struct Shown {
-    decimal: Expansion,
-    places: u32,
+enum Shown {
+    /// The number times 10^places, which is a whole number.
+    Scaled(u128, u32),
+    /// A decimal, cut off or padded with zeros.
+    Expanded(Expansion, u32),
+}
+
+impl Shown {
+    /// Returns the parts of the number with its unit.
+    #[inline(always)]
+    fn parts<'a>(&'a self, unit: Unit, spec: FormatSpec) -> TextParts<'a>
+        requires { FitsShown self.now }
+        ensures text { parts_text result ≡ layout (shown_text self.now) (unit_name unit) spec }
+        ensures len { result.len ≡ length (parts_text result) }
+        ensures small { result.len < text_limit }
+        ensures ready { IsReady result }
+    {
+        match self {
+            Shown::Scaled(number, places) => {
+                let (whole, digits) = div_rem(*number, power_of_ten(*places));
+                layout_parts(whole, Fraction::Last(digits, *places), unit, spec)
+            }
+            Shown::Expanded(e, places) => {
+                layout_parts(e.whole(), Fraction::First(e, *places), unit, spec)
+            }
+        }
+    }
 }
 
 /// Returns the length in bytes of a size formatted in a unit. Does not allocate.
@@ -47,14 +79,14 @@ pub fn adjusted_len(size: u128, kind: Kind, unit: Unit, spec: FormatSpec) -> usi
     ensures small { result < text_limit }
 {
     let shown = rounded_in_unit(size, kind, unit, spec);
-    layout_len(&shown.decimal, shown.places, unit, spec)
+    shown.parts(unit, spec).len
 }
 
 /// Appends a size formatted in a unit.
 ///
-/// Without a precision, or if the unit has no prefix, all digits are shown. Else the number is rounded to exactly
-/// `precision` places, ties to even. In the alternate form a precision counts for each unit, is at most 16, ties go up,
-/// and trailing zeros are left out.
+/// Without a precision, or if the unit has no prefix, all digits are shown. Otherwise the number is rounded to exactly
+/// `precision` places, ties to even. In the alternate form a precision applies to units without a prefix too, counts as
+/// 16 if it is more, ties go up, and trailing zeros are left out.
 ///
 /// Precondition (proved at every call): the size is below 10^30.
 ///
@@ -80,7 +112,7 @@ pub fn append_adjusted<A: Allocator>(
     ensures { AppendsForm (IsAdjustedForm kind size unit spec) text.old text.new result }
 {
     let shown = rounded_in_unit(size, kind, unit, spec);
-    append_layout(&shown.decimal, shown.places, unit, spec, text)
+    shown.parts(unit, spec).append(text)
 }
 
 /// Writes what `append_adjusted` appends to the beginning of `out`, and returns its length. Writes nothing if it does
@@ -100,7 +132,7 @@ pub fn write_adjusted(size: u128, kind: Kind, unit: Unit, spec: FormatSpec, out:
     ensures small { result < text_limit }
 {
     let shown = rounded_in_unit(size, kind, unit, spec);
-    write_layout(&shown.decimal, shown.places, unit, spec, out)
+    shown.parts(unit, spec).write(out)
 }
 
 /// Writes a size in a unit to a formatter, as `FormatSpec::PLAIN` formats it, and ignores the formatter's flags.
@@ -130,39 +162,50 @@ pub fn display_adjusted<W: fmt::Write>(
 fn rounded_in_unit(size: u128, kind: Kind, unit: Unit, spec: FormatSpec) -> Shown
     requires { size < size_limit }
     ensures number { let unit = shape_of unit in
-        let text = text_of (pad_of result.places result.decimal) in
         IsNumeralBy (rule_of spec.precision spec.alternate unit) (size * bits_in kind)
-        (bits unit) text }
-    ensures few { result.places ≤ u16.MAX }
+        (bits unit) (shown_text result) }
+    ensures fits { FitsShown result }
 {
-    let exact = number_in_unit(size, kind, unit);
     match spec.precision {
-        None => all_places(exact),
+        None => all_places(number_in_unit(size, kind, unit)),
         Some(precision) => {
             if spec.alternate {
+                let exact = number_in_unit(size, kind, unit);
                 let places = u32::from(precision.min(ALTERNATE_PLACES));
                 all_places(exact.rounded(places, Ties::Up))
             } else if is_single(unit) {
-                all_places(exact)
+                all_places(number_in_unit(size, kind, unit))
             } else {
-                let places = u32::from(precision);
-                Shown {
-                    decimal: exact.rounded(places, Ties::Even),
-                    places,
-                }
+                rounded_to(size, kind, unit, u32::from(precision))
             }
         }
     }
 }
 
+/// Returns the size in the unit, rounded to exactly `places` digits after the point.
+fn rounded_to(size: u128, kind: Kind, unit: Unit, places: u32) -> Shown
+    requires size { size < size_limit }
+    requires places { places ≤ u16.MAX }
+    ensures number { let unit = shape_of unit in
+        IsRoundNumeral (size * bits_in kind) (bits unit) places (shown_text result) }
+    ensures fits { FitsShown result }
+{
+    if places > FEW_PLACES {
+        let exact = number_in_unit(size, kind, unit);
+        return Shown::Expanded(exact.rounded(places, Ties::Even), places);
+    }
+    let scaled = size * kind.bits() * power_of_ten(places);
+    Shown::Scaled(rounded_quotient(scaled, unit.as_bits_u128()), places)
+}
+
 /// Shows all digits of a decimal.
 #[tactic(auto, using(crate::proofs::WrittenForms::all_places))]
 fn all_places(decimal: Expansion) -> Shown
-    ensures text { text_of (pad_of result.places result.decimal) ≡ text_of decimal }
-    ensures few { result.places ≤ u16.MAX }
+    ensures text { shown_text result ≡ text_of decimal }
+    ensures fits { FitsShown result }
 {
     let places = decimal.places();
-    Shown { decimal, places }
+    Shown::Expanded(decimal, places)
 }
 
 /// Returns the size in the unit, exactly: with at most 93 digits after the point.

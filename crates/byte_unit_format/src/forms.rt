@@ -1,7 +1,11 @@
 //! Formatting of a size: digits only, or with a unit.
 
-ghost use Rattle.std.specs.Prelude.{◌≡◌, ℕ, ◌<◌, ◌≤◌, List, length};
-ghost use Rattle.byte_unit_math.specs.Bounds.{size_limit};
+ghost use Rattle.std.specs.Prelude.{false, ◌≡◌, ℕ, ◌*◌, ◌<◌, ◌≤◌, List, length};
+ghost use Rattle.byte_unit_math.specs.Bounds.{scale, size_limit};
+ghost use Rattle.byte_unit_base.specs.Choice.{IsRecovered};
+ghost use Rattle.byte_unit_base.specs.Kinds.{bits_in};
+ghost use Rattle.byte_unit_base.specs.Shape.{bits};
+ghost use Rattle.byte_unit_base.specs.Units.{shape_of};
 ghost use Rattle.byte_unit_format.specs.Room.{AppendsForm};
 ghost use Rattle.byte_unit_format.specs.TextParts.{IsReady, parts_text};
 ghost use Rattle.byte_unit_format.specs.Written.{WritesForm};
@@ -11,8 +15,9 @@ use crate::layout::layout_parts;
 use crate::parts::{Fraction, TextParts};
 use crate::plain::plain_parts;
 use crate::spec::FormatSpec;
-use byte_unit_base::{Kind, recoverable_unit};
-use byte_unit_math::Steps;
+use crate::thousandths::unit_at_three_places;
+use byte_unit_base::{Kind, Unit, recoverable_unit};
+use byte_unit_math::{Decimal, Steps};
 use std::alloc::{AllocError, Allocator};
 
 /// The precision if none is set.
@@ -96,7 +101,20 @@ fn text_parts(size: u128, kind: Kind, spec: FormatSpec) -> TextParts<'static>
         Some(precision) => usize::from(precision),
         None => DEFAULT_PRECISION,
     };
-    let (number, unit) = recoverable_unit(size, kind, false, places, &mut Steps::new());
+    let (number, unit) = number_in_unit(size, kind, places);
     let fraction = Fraction::Last(number.digits(), number.places());
     layout_parts(number.whole(), fraction, unit, spec)
+}
+
+/// Returns a size in its unit at a precision: the number and the unit.
+#[inline(always)]
+fn number_in_unit(size: u128, kind: Kind, places: usize) -> (Decimal, Unit)
+    requires { size < size_limit }
+    ensures recovered { IsRecovered kind false size places result.1 }
+    ensures exact { result.0 * bits (shape_of result.1) ≡ size * bits_in kind * scale }
+{
+    if places == DEFAULT_PRECISION {
+        return unit_at_three_places(size, kind);
+    }
+    recoverable_unit(size, kind, false, places, &mut Steps::new())
 }

@@ -1,4 +1,7 @@
 //! Laws of formatted sizes. Each function does nothing: its contract is the law.
+//!
+//! In the laws about parsing a formatted size, a size is below 10^30. The others hold for any number as the size,
+//! unless they say otherwise.
 
 ghost use Rattle.byte_unit_format.specs.FormLaws.{SizeFormReadsBack, PlainFormReadsBack, SizeStringReadsBack};
 ghost use Rattle.byte_unit_format.specs.FormLaws.{SizeHasOneForm, SizeHasOneAdjustedForm, AdjustedStringReadsBack};
@@ -8,7 +11,7 @@ ghost use Rattle.byte_unit_format.specs.FormLaws.{PlacesOfSize, ZeroTakesNoPlace
 ghost use Rattle.byte_unit_format.specs.VersionLaws.{AcceptedTextsStay, AdjustedFormsStay, AppropriateUnitsStay};
 ghost use Rattle.byte_unit_format.specs.VersionLaws.{SizeFormsStay};
 
-/// States that the form of a size with a unit is parsed as the size that it shows. Sizes are below 10^30 in all laws.
+/// States that the form of a size with a unit is parsed as the size that it shows.
 pub fn size_form_reads_back()
     ensures { SizeFormReadsBack }
 {}

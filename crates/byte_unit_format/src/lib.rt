@@ -12,6 +12,7 @@ mod parts;
 mod plain;
 mod put;
 mod spec;
+mod thousandths;
 
 pub use adjusted::{
     adjusted_len, append_adjusted, display_adjusted, number_in_unit, write_adjusted,

@@ -27,3 +27,23 @@ pub(crate) fn put_run(byte: u8, count: usize, out: &mut [u8], end: usize) -> usi
     out[start..end].fill(byte);
     start
 }
+
+/// Writes a name of at most three bytes as `put`, without a loop: its last, its middle and its first byte are all.
+#[inline(always)]
+pub(crate) fn put_name(name: &[u8], out: &mut [u8], end: usize) -> usize
+    requires short { length name.now ≤ 3 }
+    requires room { length name.now ≤ end }
+    requires within { end ≤ length out.old }
+    ensures begins { result + length name.now ≡ end }
+    ensures bytes { drop result out.new ≡ name.now ++ drop end out.old }
+{
+    let len = name.len();
+    if len == 0 {
+        return end;
+    }
+    let start = end - len;
+    out[start + (len - 1)] = name[len - 1];
+    out[start + len / 2] = name[len / 2];
+    out[start] = name[0];
+    start
+}

@@ -24,8 +24,8 @@ pub enum Align {
     Right,
 }
 
-/// The options of a format such as `{:>+#10.2}`: here right alignment, a plus sign, the alternate form, a width of 10 and
-/// a precision of 2.
+/// The options of a format such as `{:>+#10.2}`: here right alignment, a plus sign, the alternate form, a width of 10
+/// and a precision of 2.
 ///
 /// # Examples
 /// ```rust

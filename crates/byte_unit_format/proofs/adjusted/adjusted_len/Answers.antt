@@ -1,13 +1,19 @@
--- The layout of the rounded number is the adjusted text, so it has its length.
-use Rattle.std.proofs.Common.{sym, ◌∙◌}
+-- The parts of the rounded number with its unit are the adjusted text, so they have its length.
+use Rattle.std.proofs.Common.{ap, sym, length, ◌∙◌}
+use Rattle.byte_unit_base.specs.Version.{current}
 use Rattle.byte_unit_base.specs.Units.{shape_of}
-use Rattle.byte_unit_format.proofs.AdjustedForms.{IsShown, adjusted_form_length}
+use Rattle.byte_unit_format.specs.Adjusted.{IsAdjustedFormIn}
+use Rattle.byte_unit_format.specs.Shown.{shown_text}
+use Rattle.byte_unit_format.specs.TextParts.{parts_text}
+use Rattle.byte_unit_format.proofs.AdjustedForms.{adjusted_form_unique}
 use Rattle.byte_unit_format.proofs.adjusted.adjusted_len.Goals as goal
 
 pub returns-clause-exact : goal.returns-clause-exact
-returns-clause-exact c = λ form is_form.
-    let number = c.rounded_in_unit-shown.result in
-    let unit = shape_of c.args.unit in
-    let shown : IsShown c.args.kind c.args.size unit c.args.spec number.decimal number.places =
-    record { is_numeral = c.rounded_in_unit-shown.ensures.number } in
-    c.layout_len.ensures.exact ∙ sym (adjusted_form_length shown form is_form)
+returns-clause-exact c = λ other is_other.
+    let form : IsAdjustedFormIn current c.args.kind c.args.size (shape_of c.args.unit) c.args.spec
+    (parts_text c.parts.result) = record {
+      number = shown_text c.rounded_in_unit-shown.result;
+      number_is = c.rounded_in_unit-shown.ensures.number;
+      text_is = c.parts.ensures.text;
+    } in
+    c.parts.ensures.len ∙ sym (ap length (adjusted_form_unique is_other form))

@@ -1,22 +1,22 @@
--- The layout of the rounded number is the adjusted text.
+-- The parts of the rounded number with its unit are the adjusted text.
+use Rattle.std.proofs.Common.{ap, length}
 use Rattle.byte_unit_base.specs.Version.{current}
 use Rattle.byte_unit_base.specs.Units.{shape_of}
-use Rattle.byte_unit_format.specs.Layout.{layout_of_in}
 use Rattle.byte_unit_format.specs.Adjusted.{IsAdjustedFormIn}
+use Rattle.byte_unit_format.specs.Shown.{shown_text}
+use Rattle.byte_unit_format.specs.TextParts.{parts_text}
 use Rattle.byte_unit_format.proofs.Appending.{appends_form}
-use Rattle.byte_unit_format.proofs.AdjustedForms.{IsShown, shown_is_adjusted_form, adjusted_form_length}
+use Rattle.byte_unit_format.proofs.AdjustedForms.{adjusted_form_unique}
 use Rattle.byte_unit_format.proofs.adjusted.append_adjusted.Goals as goal
 
 pub returns : goal.returns
 returns g c =
-    let kind = c.args.kind in
-    let size = c.args.size in
-    let spec = c.args.spec in
-    let unit = shape_of c.args.unit in
-    let number = c.rounded_in_unit-shown.result in
-    let shown : IsShown kind size unit spec number.decimal number.places =
-    record { is_numeral = c.rounded_in_unit-shown.ensures.number } in
-    appends_form (IsAdjustedFormIn current kind size unit spec) c.args.text.now c.append_layout.new.text
-    c.append_layout.result
-    (layout_of_in current number.decimal number.places unit spec)
-    (shown_is_adjusted_form shown) (adjusted_form_length shown) c.append_layout.ensures
+    let form : IsAdjustedFormIn current c.args.kind c.args.size (shape_of c.args.unit) c.args.spec
+    (parts_text c.parts.result) = record {
+      number = shown_text c.rounded_in_unit-shown.result;
+      number_is = c.rounded_in_unit-shown.ensures.number;
+      text_is = c.parts.ensures.text;
+    } in
+    appends_form (IsAdjustedFormIn current c.args.kind c.args.size (shape_of c.args.unit) c.args.spec) c.args.text.now
+    c.append.new.text c.append.result (parts_text c.parts.result) form
+    (λ other is_other. ap length (adjusted_form_unique is_other form)) c.append.ensures
