@@ -198,8 +198,8 @@ static inline uint32_t byte_unit_parse_many_32(const char *data, size_t data_len
 /* The calls that write a text return its length, also if it is greater than `out_len`; then they write nothing. They
  * write no terminating zero, and leave the bytes after the text as they are. */
 
-/* Writes the error message for a string that byte_unit_parse rejects, at most 256 bytes of UTF-8. Returns 0 if the
- * string represents a size. An unknown flag has a message too.
+/* Writes the error message for a string that byte_unit_parse rejects, at most 256 bytes of UTF-8. Returns 0 if and
+ * only if the string represents a size: an unknown flag has a message too.
  * Flags: BITS, IGNORE_CASE. */
 size_t byte_unit_explain(const char *text, size_t len, uint32_t flags, char *out, size_t out_len);
 

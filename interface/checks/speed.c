@@ -33,7 +33,7 @@ static double now(void)
 int main(void)
 {
     static const char *const texts[] = { "12", "1.5 KiB", "100 MB", "1.123456789012 KiB",
-                                         "1.1234567890123456789012345678 KiB", "1 byte" };
+                                         "1.1234567890123456789012345678 KiB", "1 byte", "1.5 XB" };
     static const uint64_t sizes[] = { 12, 1536, 123456789 };
     const byte_unit_spec plain = { 0 }, alternate = { .alternate = 1 }, two = { .has_precision = 1, .precision = 2 };
     char out[BYTE_UNIT_BUFFER_SIZE], what[100];

@@ -4,8 +4,10 @@ The minimum of some runs, in processor time, in one process. The columns have 20
 argument says.
 """
 
-import os
+import importlib
 import random
+import resource
+import shutil
 import subprocess
 import sys
 import time
@@ -13,14 +15,21 @@ import timeit
 from array import array
 from collections.abc import Callable
 from itertools import accumulate
+from typing import Any
 
 import byte_unit
 
-try:
-    from humanfriendly import InvalidSize, format_size, parse_size
-    from humanize import naturalsize
-except ImportError:
-    sys.exit("skipped: speed from Python: humanfriendly and humanize are not installed")
+
+def optional(name: str) -> Any:
+    """Returns the module, or None if it is not installed."""
+    try:
+        return importlib.import_module(name)
+    except ImportError:
+        print(f"left out: {name} is not installed")
+        return None
+
+
+humanfriendly, humanize, pandas = optional("humanfriendly"), optional("humanize"), optional("pandas")
 
 NAMES = ["B", "KB", "KiB", "MB", "MiB", "GB", "GiB", "TB", "TiB"]
 UNITS = {name: byte_unit.from_unit(1, name) for name in NAMES}
@@ -32,11 +41,11 @@ def naive(text: str) -> int:
     return int(float(number) * UNITS[unit])
 
 
-def rejected(call: Callable[[str], object], text: str) -> None:
+def rejected(call: Callable[[str], object], error: type[Exception], text: str) -> None:
     """Makes a call that raises an error."""
     try:
         call(text)
-    except (ValueError, InvalidSize):
+    except error:
         return
     raise AssertionError(text)
 
@@ -59,13 +68,16 @@ def single() -> None:
     text = "1.5 KiB"
     one("byte_unit.parse('1.5 KiB')", byte_unit.parse, text)
     one("split, float and dictionary", naive, text)
-    one("humanfriendly.parse_size", parse_size, text)
-    one("byte_unit.parse('1.5 XB'), an error", rejected, byte_unit.parse, "1.5 XB")
-    one("humanfriendly.parse_size('1.5 XB'), an error", rejected, parse_size, "1.5 XB")
+    one("byte_unit.parse('1.5 XB'), an error", rejected, byte_unit.parse, byte_unit.SizeError, "1.5 XB")
     one("byte_unit.text(1536)", byte_unit.text, 1536)
-    one("humanfriendly.format_size(1536)", format_size, 1536)
-    one("humanize.naturalsize(1536)", naturalsize, 1536)
     one("byte_unit.adjusted_text(1536, 'KB')", byte_unit.adjusted_text, 1536, "KB")
+    if humanfriendly:
+        parse_size, invalid = humanfriendly.parse_size, humanfriendly.InvalidSize
+        one("humanfriendly.parse_size", parse_size, text)
+        one("humanfriendly.parse_size('1.5 XB'), an error", rejected, parse_size, invalid, "1.5 XB")
+        one("humanfriendly.format_size(1536)", humanfriendly.format_size, 1536)
+    if humanize:
+        one("humanize.naturalsize(1536)", humanize.naturalsize, 1536)
 
 
 def some_text(rng: random.Random) -> str:
@@ -79,10 +91,10 @@ def with_numfmt(texts: list[str]) -> float:
     lines = "".join(text.replace(" ", "").removesuffix("B") + "\n" for text in texts).encode()
     times = []
     for _ in range(5):
-        before = os.times()
+        before = resource.getrusage(resource.RUSAGE_CHILDREN)
         subprocess.run(["numfmt", "--from=auto"], input=lines, stdout=subprocess.DEVNULL, check=True)
-        after = os.times()
-        times.append(after.children_user + after.children_system - before.children_user - before.children_system)
+        after = resource.getrusage(resource.RUSAGE_CHILDREN)
+        times.append(after.ru_utime + after.ru_stime - before.ru_utime - before.ru_stime)
     return min(times) / len(texts) * 1e9
 
 
@@ -101,21 +113,19 @@ def columns(count: int) -> None:
         ("[byte_unit.parse(text) for text in texts]", lambda: [byte_unit.parse(text) for text in texts]),
         ("the same with a split, a float and a dictionary", lambda: [naive(text) for text in texts]),
     ]
-    try:
-        import pandas
-    except ImportError:
-        print("skipped: pandas is not installed")
-    else:
+    if pandas:
         series = pandas.Series(texts)
         ways += [("pandas: series.map(byte_unit.parse)", lambda: series.map(byte_unit.parse)),
                  ("pandas: byte_unit.parse_many(series)", lambda: byte_unit.parse_many(series))]
     print(f"nanoseconds per text of {count}")
     for name, call in ways:
         print(f"{name:64} {nanoseconds(call) / count:8.0f}")
-    print(f"{'numfmt --from=auto, as a program':64} {with_numfmt(texts):8.0f}")
-    few = texts[: count // 10]
-    time = nanoseconds(lambda: [parse_size(text) for text in few]) / len(few)
-    print(f"{'[humanfriendly.parse_size(text) for text in texts], of a tenth':64} {time:8.0f}")
+    if shutil.which("numfmt"):
+        print(f"{'numfmt --from=auto, as a program':64} {with_numfmt(texts):8.0f}")
+    if humanfriendly:
+        few, parse_size = texts[: count // 10], humanfriendly.parse_size
+        time = nanoseconds(lambda: [parse_size(text) for text in few]) / len(few)
+        print(f"{'[humanfriendly.parse_size(text) for text in texts], of a tenth':64} {time:8.0f}")
 
 
 single()

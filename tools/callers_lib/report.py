@@ -1,5 +1,6 @@
 """What the tests of the C library share: checks that print a line each, and calls of other programs."""
 
+import argparse
 import subprocess
 import sys
 
@@ -22,3 +23,10 @@ def succeeds(what, *words, **more):
     seen = f"{' '.join(words)}\nstatus {got.returncode}\n{got.stdout}{got.stderr or ''}"
     check(what, got.returncode == 0, seen)
     return got.stdout
+
+
+def positive(text):
+    """Returns the number of an option, which is at least 1."""
+    if not text.isdecimal() or int(text) < 1:
+        raise argparse.ArgumentTypeError(f"{text} is not a number above 0")
+    return int(text)

@@ -334,8 +334,8 @@ SORTED = {
 
 
 def million(extension, speed):
-    """Checks sums over a million rows, `0.000 MB` to `999.999 MB` in another order, and prints the processor
-    time that they take; with `speed` also of the order of the rows, and of an index."""
+    """Checks sums over a million rows, `0.000 MB` to `999.999 MB` in another order, and returns the processor
+    seconds that they take; with `speed` also of the order of the rows, and of an index."""
     statements = {**MILLION, **(SORTED if speed else {})}
     make = ["CREATE TABLE big(t TEXT, n INTEGER);",
             "INSERT INTO big WITH RECURSIVE i(k) AS (SELECT 0 UNION ALL SELECT k + 1 FROM i WHERE k < 999999) SELECT "
@@ -350,8 +350,7 @@ def million(extension, speed):
     seconds = dict(zip(statements, times))
     check(f"a million rows: size_parse {seconds['size_parse(t)']:.2f} s, length {seconds['length(t)']:.2f} s",
           results == expected and not errors, f"{results}\n{errors}\n{expected}")
-    for what, taken in seconds.items() if speed else ():
-        print(f"    {what:<40} {taken:6.2f} s")
+    return seconds
 
 
 def is_missing(program):
@@ -379,7 +378,9 @@ def run(folder, options):
         tables(extension)
         page(extension)
         from_python(extension)
-        million(extension, options.speed)
+        seconds = million(extension, options.speed)
+        for what, taken in seconds.items() if options.speed else ():
+            print(f"    {what:<40} {taken:6.2f} s")
 
 
 def main():

@@ -21,8 +21,8 @@ abbrev pub Ascends : ℤ → ℤ → List ℤ → Type 0
 Ascends low high [] = low ≤ℤ high
 Ascends low high (offset ∷ rest) = (low ≤ℤ offset) × Ascends offset high rest
 
--- the offsets ascend from 0 to the number of bytes at most, and there is a size and a code for each text. There is a
--- text less than offsets, or no text and no offset
+-- the offsets ascend from 0 to the number of bytes at most, and there is a size and a code for each text. There is one
+-- text fewer than offsets, or no text and no offset
 pub record IsLayout (bytes_len : ℕ) (offsets : List ℤ) (sizes_len codes_len : ℕ) : Type 0 where
   pub ascends : Ascends (pos 0) (pos bytes_len) offsets
   pub sizes_fit : sizes_len ≡ length offsets - 1

@@ -1,5 +1,5 @@
 -- What the parsing calls of the C API return and write.
-use Rattle.std.specs.Prelude.{◌≡◌, ℕ, Bool, List, Option, Some, None, MatchOption, Result, Ok, Err, IfSome, codes}
+use Rattle.std.specs.Prelude.{◌≡◌, ℕ, ◌<◌, Bool, List, Option, Some, None, MatchOption, Result, Ok, Err, IfSome, codes}
 use Rattle.std.specs.Fmt.Cut.{IsTextOrCut}
 use Rattle.std.specs.Str.{IsUtf8}
 use Rattle.byte_unit_base.specs.Errors.{size_fault, unit_fault}
@@ -43,8 +43,10 @@ IsUnitReturned (Some (Err e)) code unit unit' errors errors' =
 abbrev pub IsErrorText : ParseError → List ℕ → Type 0
 IsErrorText e kept = IfSome (parse_text e) (λ words. IsTextOrCut 256 words kept)
 
--- the message of the error, or that the bytes are not UTF-8; nothing is written if the string represents a size
+-- the message of the error, or that the bytes are not UTF-8, of at least one byte; 0, and nothing is written, if the
+-- string represents a size
 abbrev pub IsExplanation : Option (Result ℕ ParseError) → List ℕ → List ℕ → ℕ → Type 0
-IsExplanation None old new needed = WritesForm (λ words. words ≡ codes "the text is not UTF-8") old new needed
+IsExplanation None old new needed =
+    (0 < needed) × WritesForm (λ words. words ≡ codes "the text is not UTF-8") old new needed
 IsExplanation (Some (Ok n)) old new needed = (needed ≡ 0) × (new ≡ old)
-IsExplanation (Some (Err e)) old new needed = WritesForm (IsErrorText e) old new needed
+IsExplanation (Some (Err e)) old new needed = (0 < needed) × WritesForm (IsErrorText e) old new needed

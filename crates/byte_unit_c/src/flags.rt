@@ -66,8 +66,8 @@ pub fn kind_at(flags: u32) -> Option<Kind>
     }
 }
 
-/// Returns what a word with the flags `BITS` and `IGNORE_CASE`, one of them or none says. Returns `None` if the word
-/// has another flag.
+/// Returns how to parse, by a word with the flags `BITS` and `IGNORE_CASE`, one of them, or none. Returns `None` if the
+/// word has another flag.
 pub fn reading_at(flags: u32) -> Option<Reading>
     ensures { result ≡ reading_at flags }
 {
@@ -80,8 +80,8 @@ pub fn reading_at(flags: u32) -> Option<Reading>
     }
 }
 
-/// Returns what a word with the flags `BITS` and `EITHER_KIND`, one of them or none says. Returns `None` if the word has
-/// another flag.
+/// Returns how to choose a unit, by a word with the flags `BITS` and `EITHER_KIND`, one of them, or none. Returns
+/// `None` if the word has another flag.
 #[tactic(auto, unfolding(crate::specs::Flags::choice_at))]
 pub fn choice_at(flags: u32) -> Option<Choice>
     ensures { result ≡ choice_at flags }

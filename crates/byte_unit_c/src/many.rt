@@ -13,8 +13,8 @@ use crate::values::Number;
 use byte_unit_base::{ParseError, size};
 
 /// Parses many texts, each as `byte_unit_parse_to` does. Text `i` is the bytes of `data` from `offsets[i]` up to
-/// `offsets[i + 1]`, so there is one offset more than texts; no text may have no offset too. Returns `OK`, and writes the
-/// code of each text to `codes`, and its size to `sizes`, or 0 there if it has none.
+/// `offsets[i + 1]`, so there is one offset more than texts; if there are no texts, there may be no offset either.
+/// Returns `OK`, and writes the code of each text to `codes`, and its size to `sizes`, or 0 there if it has none.
 ///
 /// Returns `INVALID_ARGUMENT` and writes nothing if a flag is unknown, the first offset is negative, an offset is less
 /// than the one before it, the last is past the end of `data`, or `sizes` or `codes` has not one place for each text.

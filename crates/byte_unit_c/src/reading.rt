@@ -1,6 +1,6 @@
 //! Parsing of sizes and of units, and messages for strings that are rejected.
 
-ghost use Rattle.std.specs.Prelude.{◌≡◌, ℕ, ◌≤◌, Option, Result, IfSome, IfNone, codes};
+ghost use Rattle.std.specs.Prelude.{◌≡◌, ℕ, ◌<◌, ◌≤◌, length, Option, Result, IfSome, IfNone, codes};
 ghost use Rattle.std.specs.Fmt.Cut.{IsTextOrCut};
 ghost use Rattle.std.specs.Fmt.InlineText.{inline_text};
 ghost use Rattle.byte_unit_base.specs.FaultText.{parse_text};
@@ -159,8 +159,8 @@ fn prefers_byte(kind: Kind) -> bool
 }
 
 /// Writes the error message for a string that is rejected to the start of `out`, and returns its length, at most 256
-/// bytes. Returns the length and writes nothing if `out` is shorter. Returns 0 and writes nothing if the string
-/// represents a size. The flags are those of `byte_unit_parse_to`; the message for another is `a flag is unknown`.
+/// bytes. Returns the length and writes nothing if `out` is shorter. Returns 0 if and only if the string represents a size,
+/// and then writes nothing. The flags are those of `byte_unit_parse_to`; the message for another is `a flag is unknown`.
 ///
 /// For example, `-1` gives 33, the length of `the character '-' is not a number`.
 #[unsafe(no_mangle)]
@@ -187,7 +187,7 @@ fn explain_as(text: &[u8], kind: Kind, ignore_case: bool, out: &mut [u8]) -> usi
 {
     match size::parse_bytes(text, ignore_case, kind) {
         Some(Ok(_)) => 0,
-        Some(Err(error)) => write(message_of(&error).as_str().as_bytes(), out),
+        Some(Err(error)) => write(some_message(message_of(&error).as_str().as_bytes()), out),
         None => write(b"the text is not UTF-8", out),
     }
 }
@@ -197,4 +197,17 @@ fn message_of(error: &ParseError) -> InlineText<256>
     ensures { IfSome (parse_text error.now) (λ words. IsTextOrCut 256 words (inline_text result)) }
 {
     InlineText::of(error)
+}
+
+/// Returns the message, or `the text is not a size` if it is empty. No message is empty, but std specifies no message that
+/// quotes a character past ASCII.
+fn some_message(message: &[u8]) -> &[u8]
+    ensures kept { 0 < length message.now → result.now ≡ message.now }
+    ensures missing { length message.now ≡ 0 → result.now ≡ codes "the text is not a size" }
+{
+    if message.is_empty() {
+        b"the text is not a size"
+    } else {
+        message
+    }
 }
