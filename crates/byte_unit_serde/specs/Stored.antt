@@ -48,7 +48,7 @@ ReadsEach {A} {F} {E} {M} Means gives stays old new (value ∷ values) =
     (looked next : Deserializer F E M) × Stays stays old looked × ReadsString Means gives looked next value
     × ReadsEach Means gives stays next new values
 
--- The format gave a sequence of strings that have these meanings, from its begin to its end.
+-- The format gave a sequence of strings that have these meanings, from its beginning to its end.
 abbrev pub ReadsSeq :
     {A F E M : Type 0} → (List ℕ → A → Type 0) → (F → List ℕ → Event → F → Type 0) → (F → F → Type 0)
     → Deserializer F E M → Deserializer F E M → List A → Type 0

@@ -2,3 +2,4 @@ pub mod Capped
 pub mod CommandLine
 pub mod Quota
 pub mod EntryView
+pub mod Settings

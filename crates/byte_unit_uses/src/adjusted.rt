@@ -1,10 +1,11 @@
 //! Sizes in a unit for display.
 
-ghost use Rattle.std.specs.Prelude.{◌≡◌, ℕ, IfOk, IfErr, true, false};
+ghost use Rattle.std.specs.Prelude.{◌≡◌, ℕ, IfOk, IfErr, IsOkAnd, true, false};
 ghost use Rattle.byte_unit.specs.AdjustedSize.{IsAdjustedReading};
 ghost use Rattle.byte_unit.specs.Version.{current};
-ghost use Rattle.byte_unit.specs.Errors.{unit_fault};
-ghost use Rattle.byte_unit.specs.Fault.{IsUnitFault};
+ghost use Rattle.byte_unit.specs.Errors.{size_fault, unit_fault};
+ghost use Rattle.byte_unit.specs.Fault.{IsSizeFault, IsUnitFault};
+ghost use Rattle.byte_unit.specs.Shape.{Shape};
 ghost use Rattle.byte_unit.specs.Spelling.{flags_of, Spells};
 ghost use Rattle.byte_unit.specs.SizeText.{trim_of, IsSizeText};
 ghost use Rattle.byte_unit.specs.Units.{shape_of};
@@ -32,9 +33,14 @@ pub fn in_unit(size: Byte, text: &str) -> Result<AdjustedByte, UnitParseError>
 /// # Errors
 /// Returns the parse error if the string is not a number with a unit.
 pub fn parse_unit(text: &str) -> Result<Unit, ParseError>
-    ensures { IfOk result
+    ensures sound { IfOk result
         (λ unit. (number : ℕ)
         × IsSizeText current (flags_of false true) (trim_of text.now) number (shape_of unit)) }
+    ensures complete { (number : ℕ) (unit : Shape)
+        → IsSizeText current (flags_of false true) (trim_of text.now) number unit
+        → IsOkAnd result (λ name. shape_of name ≡ unit) }
+    ensures fault { IfErr result
+        (λ error. IsSizeFault current (flags_of false true) (trim_of text.now) (size_fault error)) }
 {
     let (_, unit) = read_size(text, false, true)?;
     Ok(unit)

@@ -14,6 +14,9 @@ pub struct Limits {
     pub upload: Byte,
 }
 
+/// The default limits, as a JSON text.
+const DEFAULTS: &str = "{\"cache\": \"64 MiB\", \"upload\": \"20 MB\"}";
+
 /// Returns the default limits, from their JSON text.
 ///
 /// # Errors
@@ -24,7 +27,7 @@ pub fn default_limits(alloc: Global) -> Result<Limits, Error>
     ensures upload { IfOk result (λ limits. limits.upload ≡ 20 * 10 ^ 6) }
     ensures memory { IfErr result IsMemory }
 {
-    let settings = Value::from_str(alloc, "{\"cache\": \"64 MiB\", \"upload\": \"20 MB\"}")?;
+    let settings = Value::from_str(alloc, DEFAULTS)?;
     let cache = settings.get("cache").unwrap();
     let upload = settings.get("upload").unwrap();
     Ok(Limits {

@@ -1,7 +1,9 @@
 //! Entries of a report: a name, borrowed from the input, and a size.
 
-ghost use Rattle.std.specs.Prelude.{◌≡◌, ◌++◌, ◌∷◌, [], ◌<◌, IfOk, SomeIff, OnOk, false};
-ghost use Rattle.byte_unit.specs.Accepted.{IsAccepted};
+ghost use Rattle.std.specs.Prelude.{◌≡◌, ◌++◌, ◌∷◌, [], ◌<◌, ◌≤◌, IfOk, IfErr, SomeIff, OnOk, OnErr, false};
+ghost use Rattle.std.specs.Prelude.{vec_len, vec_capacity};
+ghost use Rattle.byte_unit.specs.Accepted.{IsAccepted, IsRejected};
+ghost use Rattle.byte_unit.specs.Errors.{size_fault};
 ghost use Rattle.byte_unit.specs.declared.Kind.TheVariants.{Byte as InBytes};
 
 use byte_unit::{Byte, ParseError};
@@ -35,6 +37,7 @@ impl<'a> Entry<'a> {
     pub fn read(name: &'a str, text: &str) -> Result<Entry<'a>, ParseError>
         ensures name { IfOk result (λ entry. entry.name.now ≡ name.now) }
         ensures size { IfOk result (λ entry. IsAccepted InBytes false text.now entry.size) }
+        ensures reason { IfErr result (λ error. IsRejected InBytes false text.now (size_fault error)) }
     {
         let size = text.parse()?;
         Ok(Entry { name, size })
@@ -69,9 +72,11 @@ pub fn filter_below<'a>(candidate: Entry<'a>, limit: Byte) -> Option<Entry<'a>>
 /// Appends an entry to a report.
 ///
 /// # Errors
-/// Returns `AllocError` if allocation fails.
+/// Returns `AllocError` if allocation fails, and then the report is unchanged. Never if the report has spare capacity.
 pub fn add<'a>(report: &mut Vec<Entry<'a>>, entry: Entry<'a>) -> Result<(), AllocError>
-    ensures { OnOk result (report.new.items ≡ report.old.items ++ entry.entry ∷ []) }
+    ensures added { OnOk result (report.new.items ≡ report.old.items ++ entry.entry ∷ []) }
+    ensures unchanged { OnErr result (report.new.items ≡ report.old.items) }
+    ensures full { OnErr result (vec_capacity report.old ≤ vec_len report.old) }
 {
     report.push(entry)?;
     Ok(())

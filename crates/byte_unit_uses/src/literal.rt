@@ -104,7 +104,7 @@ pub fn long_fraction() -> Byte
     Byte::parse_str("1.0000000000000000000000000001 YiB", false).unwrap()
 }
 
-/// Is rejected at the `X`.
+/// Returns the error of an unknown unit: no unit begins with the `X`.
 pub fn unknown_unit() -> Result<Byte, ParseError>
     ensures { IsErrAnd result (λ error.
         size_fault error ≡ bad_unit 88 (codes "BKMGTPEZYR") true) }
@@ -112,7 +112,7 @@ pub fn unknown_unit() -> Result<Byte, ParseError>
     Byte::parse_str("20 XB", false)
 }
 
-/// Is rejected at the `µ`, a character beyond ASCII.
+/// Returns the error of a unit that begins with `µ`, a character beyond ASCII.
 pub fn micro() -> Result<Byte, ParseError>
     ensures { IsErrAnd result (λ error.
         size_fault error ≡ bad_unit 181 (codes "BKMGTPEZYR") true) }
@@ -120,28 +120,28 @@ pub fn micro() -> Result<Byte, ParseError>
     Byte::parse_str("20 µB", false)
 }
 
-/// Is rejected for its size of 10^30 bytes.
+/// Returns the error of a size of 10^30 bytes, the least that is too large.
 pub fn too_large() -> Result<Byte, ParseError>
     ensures { IsErrAnd result (λ error. size_fault error ≡ exceeded (1000 * scale)) }
 {
     Byte::parse_str("1000 RB", false)
 }
 
-/// Is rejected for its 29th digit after the point.
+/// Returns the error of a 29th digit after the point.
 pub fn digit_too_many() -> Result<Bit, ParseError>
     ensures { IsErrAnd result (λ error. size_fault error ≡ too_long) }
 {
     "0.00000000000000000000000000001 RB".parse()
 }
 
-/// Is rejected, since it has no number.
+/// Returns the error of a string without a number.
 pub fn blank() -> Result<Byte, ParseError>
     ensures { IsErrAnd result (λ error. size_fault error ≡ no_value) }
 {
     Byte::parse_str(" ", false)
 }
 
-/// Is rejected at the second letter.
+/// Returns the error of an unknown suffix: no `x` can follow the prefix.
 pub fn unknown_suffix() -> Result<Unit, UnitParseError>
     ensures { IsErrAnd result (λ error. unit_fault error ≡ bad_unit 120 (codes "Bb") true) }
 {

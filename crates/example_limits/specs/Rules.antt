@@ -1,5 +1,5 @@
 -- When limits break a rule.
-use Rattle.std.specs.Prelude.{ℕ, ◌+◌, ◌*◌, ◌<◌}
+use Rattle.std.specs.Prelude.{◌+◌, ◌*◌, ◌<◌}
 use Rattle.std.specs.Option.{unwrap_or}
 use Rattle.example_limits.specs.declared.Rule.{Rule}
 use Rattle.example_limits.specs.declared.Rule.TheVariants.{FileInTotal, AllOnDisk, WithinHour}

@@ -10,6 +10,10 @@ use byte_unit_serde::{bit_from_toml, byte_from_toml};
 use std::alloc::Global;
 use toml::de::Error;
 
+/// The default limits, as a TOML text.
+const DEFAULTS: &str =
+    "file = \"20 MB\"\ntotal = \"1.5 GiB\"\ncache = \"256 MiB\"\ndisk = \"2 GiB\"\nrate = \"1 Mbit\"\n";
+
 /// Returns the default limits, from their TOML text. They break no rule.
 ///
 /// # Errors
@@ -24,9 +28,7 @@ pub fn default_limits(alloc: Global) -> Result<Limits, Error>
     ensures valid { IfOk result (λ limits. (rule : Rule) → ¬ IsBroken limits rule) }
     ensures memory { IfErr result IsMemory }
 {
-    let text =
-        "file = \"20 MB\"\ntotal = \"1.5 GiB\"\ncache = \"256 MiB\"\ndisk = \"2 GiB\"\nrate = \"1 Mbit\"\n";
-    let table = match toml::table_from_str(alloc, text) {
+    let table = match toml::table_from_str(alloc, DEFAULTS) {
         Ok(table) => table,
         Err(error) if error.is_memory() => return Err(error),
         Err(_) => unreachable!(),

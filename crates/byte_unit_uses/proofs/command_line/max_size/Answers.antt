@@ -1,4 +1,4 @@
-use Rattle.std.proofs.Common.{◌≡◌, ◌∙◌, rules, ap, ap₂, codes, inl, inr, subst, sym}
+use Rattle.std.proofs.Common.{◌≡◌, ◌∙◌, rules, ap, ap₂, inl, inr, subst, sym}
 use Rattle.clap.specs.Walk.{texts}
 use Rattle.clap.specs.Words.{app_of, takes, with_rule}
 use Rattle.byte_unit.specs.Errors.{size_fault}

@@ -1,0 +1,7 @@
+use Rattle.byte_unit_uses.proofs.adjusted.parse_unit.Goals as goal
+
+pub returns-in_err-unit-clause-complete : goal.returns-in_err-unit-clause-complete
+returns-in_err-unit-clause-complete c = λ number unit is. absurd (c.in_err-unit.ensures.reads number unit is)
+
+pub returns-clause-complete : goal.returns-clause-complete
+returns-clause-complete c = λ number unit is. (c.in_ok-unit.ensures.reads number unit is).1

@@ -1,0 +1,92 @@
+//! Tests of the limits that are read, of the reasons for rejected ones, and of a document that is rejected.
+use crate::{Limits, Rule, in_one_line};
+use anyhow::Result;
+use byte_unit::{Bit, Byte};
+use std::alloc::Global;
+
+/// Limits that break no rule: `total` and `cache` together are as large as `disk`.
+const VALID: &str =
+    "file = \"20 MB\"\ntotal = \"1.5 GiB\"\ncache = \"256 MiB\"\ndisk = \"1.75 GiB\"\nrate = \"1 Mbit\"\n";
+
+#[test]
+fn limits_are_read(rt: HostRuntime) -> Result<()> {
+    let limits: Limits = toml::from_str(rt.alloc(), VALID)?;
+    assert!(rt; limits.file == Byte::from_u64(20_000_000));
+    assert!(rt; limits.total == Byte::from_u64(1_610_612_736));
+    assert!(rt; limits.cache == Some(Byte::from_u64(268_435_456)));
+    assert!(rt; limits.disk == Byte::from_u64(1_879_048_192));
+    assert!(rt; limits.rate == Bit::from_u64(1_000_000));
+    Ok(())
+}
+
+/// Returns the reasons for which limits are rejected, each in a line, and no line if they break no rule.
+fn reasons(alloc: Global, text: &str) -> Result<String> {
+    let limits: Limits = toml::from_str(alloc, text)?;
+    let mut lines = String::new(alloc);
+    for rule in Rule::ALL {
+        if limits.breaks(rule) {
+            lines.push_str(rule.message())?;
+            lines.push_str("\n")?;
+        }
+    }
+    Ok(lines)
+}
+
+/// Documents, and the reasons for which their limits are rejected. At `disk = "2 GiB"` and at `450 B` with one bit a
+/// second, limits are at the bound of a rule.
+const REASONS: &[(&str, &str)] = &[
+    (VALID, ""),
+    (
+        "file = \"2 GiB\"\ntotal = \"2 GiB\"\ndisk = \"2 GiB\"\nrate = \"1 Gbit\"\n",
+        "",
+    ),
+    (
+        "file = \"2.1 GiB\"\ntotal = \"2 GiB\"\ndisk = \"2 GiB\"\nrate = \"1 Gbit\"\n",
+        "`file` exceeds `total`\n",
+    ),
+    (
+        "file = \"1 KB\"\ntotal = \"2 GiB\"\ncache = \"1 B\"\ndisk = \"2 GiB\"\nrate = \"1 Gbit\"\n",
+        "`total` and `cache` exceed `disk`\n",
+    ),
+    (
+        "file = \"450 B\"\ntotal = \"1 KB\"\ndisk = \"1 KB\"\nrate = \"1 b\"\n",
+        "",
+    ),
+    (
+        "file = \"451 B\"\ntotal = \"1 KB\"\ndisk = \"1 KB\"\nrate = \"1 b\"\n",
+        "a file of the size `file` takes more than an hour at `rate`\n",
+    ),
+    (
+        "file = \"1 KB\"\ntotal = \"999 B\"\ndisk = \"998 B\"\nrate = \"2 b\"\n",
+        "`file` exceeds `total`\n`total` and `cache` exceed `disk`\na file of the size `file` takes more than an hour at `rate`\n",
+    ),
+];
+
+#[test]
+fn contradicting_limits_are_rejected(rt: HostRuntime) -> Result<()> {
+    for (text, wanted) in REASONS {
+        let found = reasons(rt.alloc(), text)?;
+        assert!(rt; found.as_str() == *wanted, "{text}");
+    }
+    Ok(())
+}
+
+/// Documents that are rejected, and the reason in one line.
+const ERRORS: &[(&str, &str)] = &[
+    ("file = \"20 XB\"\n", "bad unit in `file`"),
+    ("file = \"B\"\n", "not a number in `file`"),
+];
+
+#[test]
+fn documents_are_rejected(rt: HostRuntime) -> Result<()> {
+    for (text, wanted) in ERRORS {
+        match toml::from_str::<Limits>(rt.alloc(), text) {
+            Ok(_) => panic!(rt; "{text}"),
+            Err(error) => {
+                let reason = in_one_line(rt.alloc(), &error)?;
+                assert!(rt; reason.as_str() == *wanted, "{text}");
+            }
+        }
+    }
+    Ok(())
+}
