@@ -79,22 +79,20 @@ module _ (options : Options) (bytes : List ℕ) (old new : State) where
   }
 
   -- a header record is copied
-  pub AddsRecords-header : (left : ℕ) → old.header ≡ suc left → new.header ≡ left
-      → new.out ≡ old.out ++ (bytes ++ options.record_end ∷ []) → new.tally ≡ old.tally → AddsRecords options (bytes ∷ []) old new
-  AddsRecords-header left some left_is out_is tally_is =
+  pub AddsRecords-header : (text : List ℕ) (left : ℕ) → old.header ≡ suc left → new.header ≡ left → text ≡ old.out ++ bytes
+      → new.out ≡ text ++ options.record_end ∷ [] → new.tally ≡ old.tally → AddsRecords options (bytes ∷ []) old new
+  AddsRecords-header text left some left_is copied out_is tally_is =
       AddsRecords-one bytes [] (subst (λ header. IsRecord options header bytes bytes []) (sym some) (refl, refl)) (λ mode. refl)
-      (omega (arith, some, left_is)) (out_is ∙ sym (append_assoc old.out bytes (options.record_end ∷ []))) tally_is
+      (omega (arith, some, left_is)) (out_is ∙ ap (λ text. text ++ options.record_end ∷ []) copied) tally_is
 
   -- of any other record the fields are replaced
-  pub AddsRecords-fields : (text : List ℕ) → old.header ≡ 0 → new.header ≡ old.header → AddsFields options bytes old.tally [] new.tally text
-      → new.out ≡ old.out ++ (text ++ options.record_end ∷ []) → AddsRecords options (bytes ∷ []) old new
+  pub AddsRecords-fields : (text : List ℕ) → old.header ≡ 0 → new.header ≡ old.header → AddsFields options bytes old.tally old.out new.tally text
+      → new.out ≡ text ++ options.record_end ∷ [] → AddsRecords options (bytes ∷ []) old new
   AddsRecords-fields text none same adds out_is =
       AddsRecords-one adds.text adds.found
       (subst (λ header. IsRecord options header bytes adds.text adds.found) (sym none) adds.are_fields) adds.passes
       (omega (arith, none, same))
-      (out_is
-      ∙ ap (λ own. old.out ++ (own ++ options.record_end ∷ [])) adds.text_is
-      ∙ sym (append_assoc old.out adds.text (options.record_end ∷ [])))
+      (out_is ∙ ap (λ text. text ++ options.record_end ∷ []) adds.text_is)
       adds.tally_is
 
 -- two lists of records, one after the other
@@ -166,13 +164,13 @@ AddsRecords-after options records front old new adds = record {
 
 -- the same fields, with bytes and tally replaced by equal ones
 pub AddsFields-same : (options : Options) (bytes : List ℕ) (old : Tally) {between new : Tally} {old_text text new_text : List ℕ}
-    → AddsFields options bytes old old_text between text → old_text ≡ [] → new ≡ between → new_text ≡ text
-    → AddsFields options bytes old [] new new_text
-AddsFields-same options bytes old adds begins tally_is text_is = record {
+    → AddsFields options bytes old old_text between text → new ≡ between → new_text ≡ text
+    → AddsFields options bytes old old_text new new_text
+AddsFields-same options bytes old adds tally_is text_is = record {
   text = adds.text;
   found = adds.found;
   are_fields = adds.are_fields;
   passes = adds.passes;
-  text_is = text_is ∙ adds.text_is ∙ ap (λ front. front ++ adds.text) begins;
+  text_is = text_is ∙ adds.text_is;
   tally_is = tally_is ∙ adds.tally_is;
 }

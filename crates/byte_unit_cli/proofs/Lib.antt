@@ -6,7 +6,9 @@ pub mod Ends
 pub mod Feeding
 pub mod Finishing
 pub mod Parts
+pub mod Prefixes
 pub mod Results
 pub mod Runs
 pub mod Splitting
 pub mod Tallies
+pub mod Texts

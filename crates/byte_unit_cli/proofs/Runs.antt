@@ -19,17 +19,8 @@ use Rattle.byte_unit_cli.specs.declared.stop.Stop.TheVariants.{Memory, Read, Wri
 use Rattle.byte_unit_cli.specs.declared.tally.Tally.{Tally}
 use Rattle.byte_unit_cli.proofs.Converting.{AddsRecords-append, AddsRecords-after, AddsRecords-none}
 use Rattle.byte_unit_cli.proofs.Parts.{ended_records-append, begun_record-append, finished_records-ended_records, records_of-ended_records}
+use Rattle.byte_unit_cli.proofs.Prefixes.{IsPrefix-longer, IsPrefix-after, IsPrefix-self}
 use Rattle.byte_unit_cli.proofs.Tallies.{tally_after-tally_of}
-
--- a longer list of records begins with the same ones
-IsPrefix-longer : {X : Type 0} (front whole more : List X) → IsPrefix front whole → IsPrefix front (whole ++ more)
-IsPrefix-longer front whole more (rest, is) = (rest ++ more, ap (λ xs. xs ++ more) is ∙ append_assoc front rest more)
-
-IsPrefix-after : {X : Type 0} (before front whole : List X) → IsPrefix front whole → IsPrefix (before ++ front) (before ++ whole)
-IsPrefix-after before front whole (rest, is) = (rest, ap (λ xs. before ++ xs) is ∙ sym (append_assoc before front rest))
-
-IsPrefix-self : {X : Type 0} (whole : List X) → IsPrefix whole whole
-IsPrefix-self whole = ([], sym (append-nil whole))
 
 -- what was appended from the start on, for some records
 module _ (options : Options) (records : List (List ℕ)) (new : State) (adds : AddsRecords options records (start_of options) new) where

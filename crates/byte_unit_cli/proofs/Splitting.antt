@@ -1,8 +1,8 @@
 -- Lemmas: the loop over the fields of a record.
 use Rattle.std.proofs.Common.{◌≡◌, ◌≤◌, ◌<◌, ℕ, ◌+◌, List, [], ◌∷◌, ◌++◌, take, drop, length, Some}
 use Rattle.std.proofs.Common.{refl, sym, ap, subst, ◌∙◌, arith, append_assoc, append-nil, inl, inr}
-use Rattle.std.proofs.lemmas.List.{length-drop}
-use Rattle.byte_unit_cli.specs.Field.{Found, IsField, IsNoSize}
+use Rattle.std.proofs.lemmas.List.{length-drop, take_more}
+use Rattle.byte_unit_cli.specs.Field.{Found, IsField, IsNoSize, other}
 use Rattle.byte_unit_cli.specs.Fields.{IsChosen, fields_of, delimiter_bytes}
 use Rattle.byte_unit_cli.specs.Outcome.{Passes}
 use Rattle.byte_unit_cli.specs.Output.{AreFields, HasRejectedField}
@@ -93,6 +93,34 @@ module _ (options : Options) (delimiter : ℕ) (bytes : List ℕ) (old : Tally) 
             let long : place < length rest = ends.0 in
             omega (arith, so_far.few, long, length-drop {A = ℕ} (place + 1) rest);
       }
+
+  -- one more field that is converted, and its delimiter
+  pub IsSplitting-chosen : options.delimiter ≡ Some delimiter → (place : ℕ) → EndsAt delimiter rest place
+      → {between : Tally} {text : List ℕ} → AddsField options number (take place rest) new new_text between text
+      → (next : Tally) → next ≡ between → (next_text : List ℕ) → next_text ≡ text ++ delimiter ∷ []
+      → IsSplitting options delimiter bytes old old_text (number + 1) (drop (place + 1) rest) next next_text
+  IsSplitting-chosen is_delimiter place ends {between} {text} adds next next_is next_text text_is =
+      subst (λ next. IsSplitting options delimiter bytes old old_text (number + 1) (drop (place + 1) rest) next next_text) (sym next_is)
+      (IsSplitting-step is_delimiter place ends between text adds next_text text_is)
+
+  -- one more field that is copied with its delimiter
+  pub IsSplitting-copied : options.delimiter ≡ Some delimiter → (place : ℕ) → EndsAt delimiter rest place
+      → ¬ IsChosen options.fields.now number → (next : Tally) → next ≡ new → (next_text : List ℕ) → next_text ≡ new_text ++ take (place + 1) rest
+      → IsSplitting options delimiter bytes old old_text (number + 1) (drop (place + 1) rest) next next_text
+  IsSplitting-copied is_delimiter place ends not_chosen next next_is next_text text_is =
+      let field = take place rest in
+      let adds : AddsField options number field new new_text new (new_text ++ field) = record {
+        text = field;
+        found = [];
+        is_field = other not_chosen refl refl;
+        passes = λ mode. refl;
+        text_is = refl;
+        tally_is = refl;
+      } in
+      let copied : take (place + 1) rest ≡ field ++ delimiter ∷ [] =
+      take_more rest place 0 ends.0 ∙ ap (λ byte. field ++ byte ∷ []) ends.1 in
+      IsSplitting-chosen is_delimiter place ends adds next next_is next_text
+      (text_is ∙ ap (λ more. new_text ++ more) copied ∙ sym (append_assoc new_text field (delimiter ∷ [])))
 
   -- a field that is rejected, and ends at a delimiter
   pub Aborts-step : options.delimiter ≡ Some delimiter → (place : ℕ) → EndsAt delimiter rest place → options.invalid ≡ Abort

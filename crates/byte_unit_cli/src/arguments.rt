@@ -202,9 +202,10 @@ fn form_of<'a>(matches: &ArgMatches<'a>, kind: Kind) -> Result<Form, Wrong<'a>> 
         "si" => Ok(Form::Largest(UnitType::Decimal)),
         "iec" => Ok(Form::Largest(UnitType::Binary)),
         "auto" => Ok(Form::Largest(UnitType::Both)),
+        // The library takes a name of white space alone for the unit without a prefix.
         _ => match Unit::parse_str(value, false, kind == Kind::Byte) {
-            Ok(unit) => Ok(Form::InUnit(unit)),
-            Err(_) => Err(Wrong {
+            Ok(unit) if !value.trim().is_empty() => Ok(Form::InUnit(unit)),
+            _ => Err(Wrong {
                 option: "--to",
                 value,
                 reason: "not a form or a unit",
@@ -223,7 +224,7 @@ fn padding_of<'a>(matches: &ArgMatches<'a>) -> Result<(u16, bool), Wrong<'a>> {
         None => (value, false),
     };
     match digits.parse::<u16>() {
-        Ok(width) if width > 0 => Ok((width, align_left)),
+        Ok(width) if width > 0 && !digits.starts_with('+') => Ok((width, align_left)),
         _ => Err(Wrong {
             option: "--padding",
             value,
@@ -342,7 +343,7 @@ fn range_of(item: &str) -> Option<FieldRange> {
 /// Returns the number of a field, which is 1 or more.
 fn field_of(text: &str) -> Option<u64> {
     match text.parse::<u64>() {
-        Ok(field) if field > 0 => Some(field),
+        Ok(field) if field > 0 && !text.starts_with('+') => Some(field),
         _ => None,
     }
 }

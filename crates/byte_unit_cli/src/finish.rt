@@ -6,9 +6,9 @@ ghost use Rattle.byte_unit_cli.specs.Outcome.{IsPrefix};
 ghost use Rattle.byte_unit_cli.specs.Progress.{IsFinished, IsTotalWritten, AddsRecords, Aborts, nonempty_record, state_of};
 ghost use Rattle.byte_unit_cli.specs.Streams.{HasWritten, writing_failed};
 
+use crate::notice::Notices;
 use crate::options::Options;
 use crate::records::{Progress, add_record};
-use crate::run::tell;
 use crate::stop::Stop;
 use crate::tally::{TOTAL_LIMIT, Tally};
 use crate::text::add_size;
@@ -30,9 +30,8 @@ pub(crate) fn finish<A: Allocator, W: Write, E: Write>(
     part: &[u8],
     digits: &mut [u8],
     progress: &mut Progress,
-    text: &mut Vec<u8, A>,
     waiting: &mut Vec<u8, A>,
-    notices: &mut String<A>,
+    notices: &mut Notices<A>,
     writer: &mut Writing<W>,
     errors: &mut E,
 ) -> Result<Tally, Stop>
@@ -43,12 +42,12 @@ pub(crate) fn finish<A: Allocator, W: Write, E: Write>(
         × IsFinished options.now part.now (state_of progress.old []) result written }
     ensures failed { IsErrOf result Stop.Write → IsTrue (writing_failed writer.new) }
 {
-    let added = add_last(options, part, digits, progress, text, waiting, notices);
-    tell(notices, errors);
+    let added = add_last(options, part, digits, progress, waiting, notices);
+    notices.tell(errors);
     added?;
     let tally = progress.tally;
     if options.total {
-        write_with_total(options, tally.total, digits, text, waiting, writer)?;
+        write_with_total(options, tally.total, digits, waiting, writer)?;
     } else {
         write_whole(writer, waiting)?;
     }
@@ -68,9 +67,8 @@ fn add_last<A: Allocator>(
     part: &[u8],
     digits: &mut [u8],
     progress: &mut Progress,
-    text: &mut Vec<u8, A>,
     waiting: &mut Vec<u8, A>,
-    notices: &mut String<A>,
+    notices: &mut Notices<A>,
 ) -> Result<(), Stop>
     requires { text_limit ≤ length digits.old }
     ensures ok { OnOk result (AddsRecords options.now (nonempty_record part.now)
@@ -81,7 +79,7 @@ fn add_last<A: Allocator>(
 {
     match part {
         [] => Ok(()),
-        [_, ..] => add_record(options, part, digits, progress, text, waiting, notices),
+        [_, ..] => add_record(options, part, digits, progress, waiting, notices),
     }
 }
 
@@ -98,7 +96,6 @@ fn write_with_total<A: Allocator, W: Write>(
     options: &Options,
     total: u128,
     digits: &mut [u8],
-    text: &mut Vec<u8, A>,
     waiting: &mut Vec<u8, A>,
     writer: &mut Writing<W>,
 ) -> Result<(), Stop>
@@ -112,10 +109,8 @@ fn write_with_total<A: Allocator, W: Write>(
         write_whole(writer, waiting)?;
         return Err(Stop::Total);
     }
-    text.clear();
-    add_size(options, total, digits, text)?;
-    text.extend_from_slice(&[options.record_end])?;
-    waiting.extend_from_slice(text)?;
+    add_size(options, total, digits, waiting)?;
+    waiting.extend_from_slice(&[options.record_end])?;
     write_whole(writer, waiting)
 }
 

@@ -23,6 +23,7 @@ mod writing;
 
 use arguments::{Wrong, command, fields_of, options_of};
 use clap::ArgMatches;
+use clap::error::ErrorKind;
 use ending::{message, status};
 use options::Options;
 use reading::Reading;
@@ -33,6 +34,9 @@ use std::process::ExitCode;
 use std::{env, io};
 use stop::Stop;
 use writing::Writing;
+
+/// The exit status if a write failed, or if the call was out of memory.
+const FAILED: u8 = 1;
 
 /// The exit status of a call that is wrong.
 const WRONG: u8 = 2;
@@ -121,6 +125,28 @@ fn report(rt: &HostRuntime, wrong: &Wrong) -> u8 {
     WRONG
 }
 
+/// Writes the help, the version, or what clap finds wrong with the call, and returns the exit status.
+///
+/// # Errors
+///
+/// Returns an error if allocation fails.
+fn print(rt: &HostRuntime, error: &clap::Error) -> io::Result<u8> {
+    if error.kind() == ErrorKind::OutOfMemory {
+        return Err(io::Error::from(AllocError));
+    }
+    match error.print(rt) {
+        Ok(()) => Ok(error.exit_code() as u8),
+        Err(failure) if failure.kind() == io::ErrorKind::OutOfMemory => Err(failure),
+        // Ignored: the exit status reports what is wrong too.
+        Err(_) if error.use_stderr() => Ok(WRONG),
+        Err(failure) if failure.kind() == io::ErrorKind::BrokenPipe => Ok(CLOSED),
+        Err(_) => {
+            let _ = eprintln!(rt; "byte-unit: write failed");
+            Ok(FAILED)
+        }
+    }
+}
+
 /// Parses the command line, does what it asks for, and returns the exit status.
 ///
 /// # Errors
@@ -133,10 +159,7 @@ fn answer(rt: &HostRuntime) -> io::Result<u8> {
     }
     let matches = match command(rt.alloc())?.try_get_matches_from(words.as_slice()) {
         Ok(matches) => matches,
-        Err(error) => {
-            let _ = error.print(rt);
-            return Ok(error.exit_code() as u8);
-        }
+        Err(error) => return print(rt, &error),
     };
     let list = matches.get_str("field");
     let Some(fields) = fields_of(rt.alloc(), list)? else {
@@ -160,7 +183,7 @@ fn main(rt: HostRuntime) -> ExitCode {
         Ok(status) => ExitCode::from(status),
         Err(error) if error.kind() == io::ErrorKind::OutOfMemory => {
             let _ = eprintln!(rt; "byte-unit: out of memory");
-            ExitCode::from(1)
+            ExitCode::from(FAILED)
         }
         Err(_) => {
             let _ = eprintln!(rt; "byte-unit: an argument is not UTF-8");

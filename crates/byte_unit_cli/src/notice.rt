@@ -6,14 +6,43 @@ use crate::options::{Invalid, Options};
 use crate::place::Place;
 use byte_unit::ParseError;
 use std::alloc::{AllocError, Allocator};
-use std::fmt::Write;
+use std::fmt::Write as WriteText;
+use std::io::Write;
 
 /// The most bytes of a field that a message quotes.
 const QUOTED: usize = 80;
 
+/// Messages that are not written yet.
+#[derive(Drop)]
+pub(crate) struct Notices<A: Allocator> {
+    text: String<A>,
+    /// The number of bytes of `text` that are whole messages; an allocation failed in the one after them.
+    whole: usize,
+}
+
+impl<A: Allocator> Notices<A> {
+    /// Creates an empty list of messages.
+    pub(crate) fn new(alloc: A) -> Notices<A> {
+        Notices {
+            text: String::new(alloc),
+            whole: 0,
+        }
+    }
+
+    /// Writes the messages to `errors`, each whole, and forgets them. A failure to write them is ignored.
+    pub(crate) fn tell<E: Write>(&mut self, errors: &mut E) {
+        if !self.text.is_empty() {
+            let bytes = self.text.as_bytes();
+            let _ = errors.write_all(&bytes[..self.whole.min(bytes.len())]);
+            self.text.clear();
+            self.whole = 0;
+        }
+    }
+}
+
 /// Why a field is named in a message.
 #[derive(Debug, Drop)]
-pub(crate) enum Reason {
+enum Reason {
     /// It is not UTF-8.
     NotText,
     /// It is rejected by the parser.
@@ -24,22 +53,65 @@ pub(crate) enum Reason {
     Below,
 }
 
+/// Appends a message that the parser rejects a field, unless rejected fields are ignored.
+///
+/// # Errors
+///
+/// Returns `AllocError` if allocation fails.
+#[cold]
+#[inline(never)]
+pub(crate) fn add_error_notice<A: Allocator>(
+    options: &Options,
+    place: &Place,
+    number: u64,
+    field: &[u8],
+    error: ParseError,
+    notices: &mut Notices<A>,
+) -> Result<(), AllocError> {
+    add_notice(
+        options,
+        place,
+        number,
+        field,
+        &Reason::Rejected(error),
+        notices,
+    )
+}
+
+/// Appends a message that a field is not UTF-8, unless rejected fields are ignored.
+///
+/// # Errors
+///
+/// Returns `AllocError` if allocation fails.
+#[cold]
+#[inline(never)]
+pub(crate) fn add_encoding_notice<A: Allocator>(
+    options: &Options,
+    place: &Place,
+    number: u64,
+    field: &[u8],
+    notices: &mut Notices<A>,
+) -> Result<(), AllocError> {
+    add_notice(options, place, number, field, &Reason::NotText, notices)
+}
+
 /// Appends a message that a field is rejected, unless rejected fields are ignored.
 ///
 /// # Errors
 ///
 /// Returns `AllocError` if allocation fails.
-pub(crate) fn add_notice<A: Allocator>(
+fn add_notice<A: Allocator>(
     options: &Options,
-    place: Place,
+    place: &Place,
+    number: u64,
     field: &[u8],
-    reason: Reason,
-    notices: &mut String<A>,
+    reason: &Reason,
+    notices: &mut Notices<A>,
 ) -> Result<(), AllocError> {
     if options.invalid == Invalid::Ignore {
         return Ok(());
     }
-    add_line(options, place, field, &reason, notices)
+    add_line(options, place, number, field, reason, notices)
 }
 
 /// Appends a message if a size is beyond a limit.
@@ -47,51 +119,72 @@ pub(crate) fn add_notice<A: Allocator>(
 /// # Errors
 ///
 /// Returns `AllocError` if allocation fails.
+#[cold]
+#[inline(never)]
 pub(crate) fn add_limit_notice<A: Allocator>(
     options: &Options,
-    place: Place,
+    place: &Place,
+    number: u64,
     field: &[u8],
     size: u128,
-    notices: &mut String<A>,
+    notices: &mut Notices<A>,
 ) -> Result<(), AllocError> {
     if let Some(most) = options.max {
         if most < size {
-            add_line(options, place, field, &Reason::Above, notices)?;
+            add_line(options, place, number, field, &Reason::Above, notices)?;
         }
     }
     if let Some(least) = options.min {
         if size < least {
-            add_line(options, place, field, &Reason::Below, notices)?;
+            add_line(options, place, number, field, &Reason::Below, notices)?;
         }
     }
     Ok(())
 }
 
-/// Appends a message: the place, the field, and the reason.
+/// Appends a message, if all of it can be appended.
+///
+/// # Errors
+///
+/// Returns `AllocError` if allocation fails. The message is then never written.
+fn add_line<A: Allocator>(
+    options: &Options,
+    place: &Place,
+    number: u64,
+    field: &[u8],
+    reason: &Reason,
+    notices: &mut Notices<A>,
+) -> Result<(), AllocError> {
+    add_text(options, place, number, field, reason, &mut notices.text)?;
+    notices.whole = notices.text.len();
+    Ok(())
+}
+
+/// Appends the text of a message: the place, the field, and the reason.
 ///
 /// # Errors
 ///
 /// Returns `AllocError` if allocation fails.
-fn add_line<A: Allocator>(
+fn add_text<A: Allocator>(
     options: &Options,
-    place: Place,
+    place: &Place,
+    number: u64,
     field: &[u8],
     reason: &Reason,
-    notices: &mut String<A>,
+    text: &mut String<A>,
 ) -> Result<(), AllocError> {
     let word = place.word;
     let record = place.record;
-    write!(notices, "byte-unit: {word} {record}: ")?;
+    write!(text, "byte-unit: {word} {record}: ")?;
     if options.delimiter.is_some() {
-        let number = place.field;
-        write!(notices, "field {number}: ")?;
+        write!(text, "field {number}: ")?;
     }
-    add_quoted(field, notices)?;
+    add_quoted(field, text)?;
     match reason {
-        Reason::NotText => write!(notices, ": not UTF-8\n"),
-        Reason::Rejected(error) => write!(notices, ": {error}\n"),
-        Reason::Above => write!(notices, ": above the maximum\n"),
-        Reason::Below => write!(notices, ": below the minimum\n"),
+        Reason::NotText => write!(text, ": not UTF-8\n"),
+        Reason::Rejected(error) => write!(text, ": {error}\n"),
+        Reason::Above => write!(text, ": above the maximum\n"),
+        Reason::Below => write!(text, ": below the minimum\n"),
     }
 }
 
@@ -101,17 +194,17 @@ fn add_line<A: Allocator>(
 /// # Errors
 ///
 /// Returns `AllocError` if allocation fails.
-fn add_quoted<A: Allocator>(field: &[u8], notices: &mut String<A>) -> Result<(), AllocError> {
+fn add_quoted<A: Allocator>(field: &[u8], message: &mut String<A>) -> Result<(), AllocError> {
     let shown = &field[..quoted_len(field)];
-    notices.push('\'')?;
+    message.push('\'')?;
     match str::from_utf8(shown) {
-        Ok(text) => add_escaped(text, notices)?,
-        Err(_) => add_escaped_bytes(shown, notices)?,
+        Ok(text) => add_escaped(text, message)?,
+        Err(_) => add_escaped_bytes(shown, message)?,
     }
     if shown.len() < field.len() {
-        notices.push_str("..")?;
+        message.push_str("..")?;
     }
-    notices.push('\'')
+    message.push('\'')
 }
 
 /// Returns the number of bytes of a field that are quoted. A character of a text is not cut.
@@ -140,13 +233,13 @@ fn is_boundary(byte: u8) -> bool {
 /// # Errors
 ///
 /// Returns `AllocError` if allocation fails.
-fn add_escaped<A: Allocator>(text: &str, notices: &mut String<A>) -> Result<(), AllocError> {
+fn add_escaped<A: Allocator>(text: &str, message: &mut String<A>) -> Result<(), AllocError> {
     for c in text.chars() {
         if c.is_control() {
             let code = c as u32;
-            write!(notices, "\\u{{{code:x}}}")?;
+            write!(message, "\\u{{{code:x}}}")?;
         } else {
-            notices.push(c)?;
+            message.push(c)?;
         }
     }
     Ok(())
@@ -159,14 +252,14 @@ fn add_escaped<A: Allocator>(text: &str, notices: &mut String<A>) -> Result<(), 
 /// Returns `AllocError` if allocation fails.
 fn add_escaped_bytes<A: Allocator>(
     bytes: &[u8],
-    notices: &mut String<A>,
+    message: &mut String<A>,
 ) -> Result<(), AllocError> {
     for byte in bytes {
         if byte.is_ascii_graphic() || *byte == b' ' {
-            notices.push(*byte as char)?;
+            message.push(*byte as char)?;
         } else {
             let code = *byte;
-            write!(notices, "\\x{code:02x}")?;
+            write!(message, "\\x{code:02x}")?;
         }
     }
     Ok(())

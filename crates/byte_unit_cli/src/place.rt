@@ -1,12 +1,10 @@
-//! Where a field is, for messages.
+//! Where a record is, for messages.
 
-/// The place of a field in the input.
+/// The place of a record in the input.
 #[derive(Debug, Clone, Copy)]
 pub(crate) struct Place {
     /// What a record is called: `line`, `record` or `operand`.
     pub word: &'static str,
     /// The number of the record, counted from 1.
     pub record: u64,
-    /// The number of the field in the record, counted from 1.
-    pub field: u64,
 }

@@ -2,9 +2,11 @@
 
 ghost use Rattle.std.specs.Prelude.{◌≡◌, ◌≤◌, ◌-◌, ◌⊎◌, length, OnOk, OnErr, IfErr, IsErrOf, ◌∷◌, [], Some};
 ghost use Rattle.byte_unit.specs.Forms.{text_limit};
+ghost use Rattle.byte_unit_cli.specs.Outcome.{IsPrefix};
 ghost use Rattle.byte_unit_cli.specs.Progress.{AddsFields, AddsRecords, Aborts, no_tally, state_of};
 
-use crate::field::add_field;
+use crate::field::{add_chosen, add_field, is_chosen};
+use crate::notice::Notices;
 use crate::options::Options;
 use crate::place::Place;
 use crate::search::end_of;
@@ -32,11 +34,7 @@ impl Progress {
         Progress {
             header: options.header,
             tally: Tally::new(),
-            place: Place {
-                word,
-                record: 0,
-                field: 0,
-            },
+            place: Place { word, record: 0 },
         }
     }
 }
@@ -50,24 +48,22 @@ impl Progress {
 /// - `Memory` if allocation fails.
 fn add_fields<A: Allocator>(
     options: &Options,
-    place: Place,
+    place: &Place,
     bytes: &[u8],
     digits: &mut [u8],
     tally: &mut Tally,
     text: &mut Vec<u8, A>,
-    notices: &mut String<A>,
+    notices: &mut Notices<A>,
 ) -> Result<(), Stop>
     requires { text_limit ≤ length digits.old }
     ensures ok { OnOk result (AddsFields options.now bytes.now
         tally.old text.old.items tally.new text.new.items) }
+    ensures kept { IsPrefix text.old.items text.new.items }
     ensures rejected { IsErrOf result Stop.Rejected → Aborts options.now bytes.now }
     ensures stop { IfErr result (λ stop. (stop ≡ Stop.Memory) ⊎ (stop ≡ Stop.Rejected)) }
 {
     match options.delimiter {
-        None => {
-            let whole = Place { field: 1, ..place };
-            add_field(options, whole, bytes, digits, tally, text, notices)
-        }
+        None => { add_field(options, place, 1, bytes, digits, tally, text, notices) }
         Some(delimiter) => {
             add_split(
                 options, delimiter, place, bytes, digits, tally, text, notices,
@@ -80,17 +76,18 @@ fn add_fields<A: Allocator>(
 fn add_split<A: Allocator>(
     options: &Options,
     delimiter: u8,
-    place: Place,
+    place: &Place,
     bytes: &[u8],
     digits: &mut [u8],
     tally: &mut Tally,
     text: &mut Vec<u8, A>,
-    notices: &mut String<A>,
+    notices: &mut Notices<A>,
 ) -> Result<(), Stop>
     requires delimiter { options.now.delimiter ≡ Some delimiter }
     requires capacity { text_limit ≤ length digits.old }
     ensures ok { OnOk result (AddsFields options.now bytes.now
         tally.old text.old.items tally.new text.new.items) }
+    ensures kept { IsPrefix text.old.items text.new.items }
     ensures rejected { IsErrOf result Stop.Rejected → Aborts options.now bytes.now }
     ensures stop { IfErr result (λ stop. (stop ≡ Stop.Memory) ⊎ (stop ≡ Stop.Rejected)) }
 {
@@ -99,24 +96,20 @@ fn add_split<A: Allocator>(
     let mut rest = bytes;
     let mut number = 1u64;
     while let Some(n) = end_of(rest, delimiter) {
-        let here = Place {
-            field: number,
-            ..place
-        };
-        add_field(options, here, &rest[..n], digits, tally, text, notices)?;
-        text.extend_from_slice(&[delimiter])?;
+        if is_chosen(options.fields, number) {
+            let field = &rest[..n];
+            add_chosen(options, place, number, field, digits, tally, text, notices)?;
+            text.extend_from_slice(&[delimiter])?;
+        } else {
+            text.extend_from_slice(&rest[..n + 1])?;
+        }
         rest = &rest[n + 1..];
         number += 1;
     }
-    let last = Place {
-        field: number,
-        ..place
-    };
-    add_field(options, last, rest, digits, tally, text, notices)
+    add_field(options, place, number, rest, digits, tally, text, notices)
 }
 
-/// Appends what is written for a record to `waiting`, with its end byte, and counts what is found in it. `text` is a
-/// buffer for it.
+/// Appends what is written for a record to `waiting`, with its end byte, and counts what is found in it.
 ///
 /// # Errors
 ///
@@ -129,9 +122,8 @@ pub(crate) fn add_record<A: Allocator>(
     bytes: &[u8],
     digits: &mut [u8],
     progress: &mut Progress,
-    text: &mut Vec<u8, A>,
     waiting: &mut Vec<u8, A>,
-    notices: &mut String<A>,
+    notices: &mut Notices<A>,
 ) -> Result<(), Stop>
     requires { text_limit ≤ length digits.old }
     ensures ok { OnOk result (AddsRecords options.now (bytes.now ∷ [])
@@ -141,7 +133,33 @@ pub(crate) fn add_record<A: Allocator>(
         → (progress.old.header ≡ 0) × Aborts options.now bytes.now }
     ensures stop { IfErr result (λ stop. (stop ≡ Stop.Memory) ⊎ (stop ≡ Stop.Rejected)) }
 {
-    text.clear();
+    let len = waiting.len();
+    match append_record(options, bytes, digits, progress, waiting, notices) {
+        Ok(()) => Ok(()),
+        Err(stop) => {
+            waiting.truncate(len);
+            Err(stop)
+        }
+    }
+}
+
+/// Does what [`add_record`] does, but leaves what was appended before an error.
+fn append_record<A: Allocator>(
+    options: &Options,
+    bytes: &[u8],
+    digits: &mut [u8],
+    progress: &mut Progress,
+    text: &mut Vec<u8, A>,
+    notices: &mut Notices<A>,
+) -> Result<(), Stop>
+    requires { text_limit ≤ length digits.old }
+    ensures ok { OnOk result (AddsRecords options.now (bytes.now ∷ [])
+        (state_of progress.old text.old.items) (state_of progress.new text.new.items)) }
+    ensures kept { IsPrefix text.old.items text.new.items }
+    ensures rejected { IsErrOf result Stop.Rejected
+        → (progress.old.header ≡ 0) × Aborts options.now bytes.now }
+    ensures stop { IfErr result (λ stop. (stop ≡ Stop.Memory) ⊎ (stop ≡ Stop.Rejected)) }
+{
     progress.place.record = progress.place.record.saturating_add(1);
     if progress.header > 0 {
         progress.header -= 1;
@@ -150,7 +168,7 @@ pub(crate) fn add_record<A: Allocator>(
         let place = progress.place;
         add_fields(
             options,
-            place,
+            &place,
             bytes,
             digits,
             &mut progress.tally,
@@ -159,6 +177,5 @@ pub(crate) fn add_record<A: Allocator>(
         )?;
     }
     text.extend_from_slice(&[options.record_end])?;
-    waiting.extend_from_slice(text)?;
     Ok(())
 }

@@ -1,7 +1,7 @@
 //! The run: reads a chunk, converts the records that end in it, and writes them.
 //!
-//! Three buffers keep their memory from one read to the next: `part` has the beginning of a record whose end was not
-//! read yet, `text` the text of one record, and `waiting` whole texts that are not written yet.
+//! Two buffers keep their memory from one read to the next: `part` has the beginning of a record whose end was not read
+//! yet, and `waiting` whole texts that are not written yet.
 
 ghost use Rattle.std.specs.Prelude.{◌≡◌, ◌+◌, ◌^◌, ◌<◌, ◌≤◌, ℕ, List, [], length};
 ghost use Rattle.std.specs.Prelude.{IsTrue, IsErrOf, IfErr, OnOk, OnErr, IfOk, Err};
@@ -14,6 +14,7 @@ ghost use Rattle.byte_unit_cli.specs.Streams.{HasRead, HasReadAll, reading_faile
 ghost use Rattle.byte_unit_cli.specs.Streams.{HasWritten, writing_failed};
 
 use crate::finish::{finish, write_whole};
+use crate::notice::Notices;
 use crate::options::Options;
 use crate::reading::Reading;
 use crate::records::{Progress, add_record};
@@ -102,9 +103,8 @@ pub fn run_in<A: Allocator, R: Read, W: Write, E: Write>(
     ensures write_failed { IsErrOf result Stop.Write → IsTrue (writing_failed writer.new) }
 {
     let mut part = Vec::new(alloc);
-    let mut text = Vec::new(alloc);
     let mut waiting = Vec::new(alloc);
-    let mut notices = String::new(alloc);
+    let mut notices = Notices::new(alloc);
     let mut progress = Progress::new(options, word);
     'reads: loop {
         match reader.read(buffer) {
@@ -116,7 +116,6 @@ pub fn run_in<A: Allocator, R: Read, W: Write, E: Write>(
                 &buffer[..n],
                 digits,
                 &mut progress,
-                &mut text,
                 &mut waiting,
                 &mut notices,
                 writer,
@@ -129,7 +128,6 @@ pub fn run_in<A: Allocator, R: Read, W: Write, E: Write>(
         &part,
         digits,
         &mut progress,
-        &mut text,
         &mut waiting,
         &mut notices,
         writer,
@@ -154,9 +152,8 @@ fn answer_piece<A: Allocator, W: Write, E: Write>(
     bytes: &[u8],
     digits: &mut [u8],
     progress: &mut Progress,
-    text: &mut Vec<u8, A>,
     waiting: &mut Vec<u8, A>,
-    notices: &mut String<A>,
+    notices: &mut Notices<A>,
     writer: &mut Writing<W>,
     errors: &mut E,
 ) -> Result<(), Stop>
@@ -173,22 +170,12 @@ fn answer_piece<A: Allocator, W: Write, E: Write>(
     ensures no_total { ¬ (result ≡ Err Stop.Total) }
     ensures no_read { ¬ (result ≡ Err Stop.Read) }
 {
-    let fed = feed(
-        options, part, bytes, digits, progress, text, waiting, notices,
-    );
+    let fed = feed(options, part, bytes, digits, progress, waiting, notices);
     // Even if the call stopped, the records before are written.
     write_whole(writer, waiting)?;
     waiting.clear();
-    tell(notices, errors);
+    notices.tell(errors);
     fed
-}
-
-/// Writes the messages to `errors`, and forgets them. A failure to write them is ignored.
-pub(crate) fn tell<A: Allocator, E: Write>(notices: &mut String<A>, errors: &mut E) {
-    if !notices.is_empty() {
-        let _ = errors.write_all(notices.as_bytes());
-        notices.clear();
-    }
 }
 
 /// Appends the texts of the records that end in `bytes` to `waiting`.
@@ -205,9 +192,8 @@ fn feed<A: Allocator>(
     bytes: &[u8],
     digits: &mut [u8],
     progress: &mut Progress,
-    text: &mut Vec<u8, A>,
     waiting: &mut Vec<u8, A>,
-    notices: &mut String<A>,
+    notices: &mut Notices<A>,
 ) -> Result<(), Stop>
     requires { text_limit ≤ length digits.old }
     ensures ok { OnOk result
@@ -222,18 +208,10 @@ fn feed<A: Allocator>(
     let mut rest = bytes;
     while let Some(n) = end_of(rest, options.record_end) {
         if part.is_empty() {
-            add_record(
-                options,
-                &rest[..n],
-                digits,
-                progress,
-                text,
-                waiting,
-                notices,
-            )?;
+            add_record(options, &rest[..n], digits, progress, waiting, notices)?;
         } else {
             part.extend_from_slice(&rest[..n])?;
-            add_record(options, part, digits, progress, text, waiting, notices)?;
+            add_record(options, part, digits, progress, waiting, notices)?;
             part.clear();
         }
         rest = &rest[n + 1..];

@@ -1,4 +1,4 @@
-use Rattle.std.proofs.Common.{◌≡◌, ◌++◌, ◌∷◌, [], ◌<◌, ap, ◌∙◌, arith, refl}
+use Rattle.std.proofs.Common.{◌≡◌, ◌++◌, ◌∷◌, [], ◌<◌, ap, ◌∙◌, append_assoc, arith, refl}
 use Rattle.std.proofs.KnownBytes.{Appends-nil}
 use Rattle.byte_unit.specs.Bounds.{size_limit}
 use Rattle.byte_unit_cli.specs.Streams.{writer_of}
@@ -13,14 +13,6 @@ returns-in_err-extend_from_slice-clause-written g c = (
       c.from_residual-in_err-extend_from_slice.ensures.1,
 )
 
-pub returns-in_err-extend_from_slice-2-clause-written : goal.returns-in_err-extend_from_slice-2-clause-written
-returns-in_err-extend_from_slice-2-clause-written g c = (
-  [],
-  Appends-nil (g.W.Write.contents (writer_of c.args.writer.now)),
-  IsTotalWritten-memory c.args.options.now c.args.total c.args.waiting.now.items c.from_residual-in_err-extend_from_slice-2.result
-      c.from_residual-in_err-extend_from_slice-2.ensures.1,
-)
-
 pub returns-clause-written : goal.returns-clause-written
 returns-clause-written g c =
     let options = c.args.options.now in
@@ -28,15 +20,15 @@ returns-clause-written g c =
     let mark = options.record_end ∷ [] in
     let held = g.W.Write.contents (writer_of c.args.writer.now) in
     let holds = g.W.Write.contents (writer_of c.write_whole-2.new.writer) in
-    let bytes = c.deref-3.result.now in
-    let shown = c.in_ok-add_size.ensures in
+    let bytes = c.deref-2.result.now in
+    let shown = c.in_ok-add_size.ensures.ok in
     let line = shown.0 ++ mark in
     let small : c.args.total < size_limit = omega (arith, c.if-total-ge-TOTAL_LIMIT.false) in
-    let added : c.add_size.new.text.items ≡ shown.0 = shown.2 ∙ ap (λ front. front ++ shown.0) c.clear.ensures.items in
     let are : bytes ≡ waiting ++ line =
-    c.deref-3.ensures.value
-    ∙ c.in_ok-extend_from_slice-2.ensures.items
-    ∙ ap (λ more. waiting ++ more) (c.deref-2.ensures.value ∙ c.in_ok-extend_from_slice.ensures.items ∙ ap (λ text. text ++ mark) added) in
+    c.deref-2.ensures.value
+    ∙ c.in_ok-extend_from_slice.ensures.items
+    ∙ ap (λ text. text ++ mark) shown.2
+    ∙ append_assoc waiting shown.0 mark in
     let write = c.write_whole-2.ensures in
     let by : IsWrittenBy held holds bytes c.write_whole-2.result = record { whole = write.ok; part = write.err; error = write.write } in
     IsTotalWritten-line options c.args.total waiting line bytes (shown.0, small, shown.1, refl) are c.write_whole-2.result by

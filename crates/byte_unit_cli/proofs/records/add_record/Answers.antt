@@ -1,34 +1,11 @@
-use Rattle.std.proofs.Common.{◌≡◌, ◌-◌, ◌++◌, ◌∷◌, [], suc, ap, ◌∙◌, arith}
-use Rattle.byte_unit_cli.specs.Progress.{State, state_of}
-use Rattle.byte_unit_cli.proofs.Converting.{AddsRecords-header, AddsRecords-fields, AddsFields-same}
-use Rattle.byte_unit_cli.proofs.records.add_record.Goals.{then-progress-gt0+in_ok-extend_from_slice}
-use Rattle.byte_unit_cli.proofs.records.add_record.Goals.{else-progress-gt0+in_ok-add_fields}
+use Rattle.std.proofs.Common.{take, ap, ◌∙◌, arith}
+use Rattle.byte_unit_cli.proofs.Prefixes.{take-IsPrefix}
 use Rattle.byte_unit_cli.proofs.records.add_record.Goals as goal
 
-pub returns-clause-ok : goal.returns-clause-ok
-returns-clause-ok g c =
-    let options = c.args.options.now in
-    let bytes = c.args.bytes.now in
-    let mark = options.record_end ∷ [] in
-    let waiting = c.args.waiting.now.items in
-    let text = c.if-progress-gt0.text.items in
-    let old : State = state_of c.args.progress.now waiting in
-    let new : State = state_of c.if-progress-gt0.progress c.extend_from_slice-3.new.self.items in
-    let out : new.out ≡ waiting ++ (text ++ mark) =
-    c.in_ok-extend_from_slice-3.ensures.items
-    ∙ ap (λ more. waiting ++ more) (c.deref.ensures.value ∙ c.in_ok-extend_from_slice-2.ensures.items) in
-    elim c.if-progress-gt0.branch [
-      | then-progress-gt0+in_ok-extend_from_slice w ↦
-          let header = c.args.progress.now.header in
-          let some : header ≡ suc (header - 1) = omega (arith, w.if-progress-gt0.true) in
-          let copied : text ≡ bytes =
-          ap (λ text. text.items) w.text-is ∙ w.in_ok-extend_from_slice.ensures.items ∙ ap (λ front. front ++ bytes) c.clear.ensures.items in
-          AddsRecords-header options bytes old new (header - 1) some (ap (λ progress. progress.header) w.progress-is)
-          (out ∙ ap (λ own. waiting ++ (own ++ mark)) copied) (ap (λ progress. progress.tally) w.progress-is)
-      | else-progress-gt0+in_ok-add_fields w ↦
-          let header = c.args.progress.now.header in
-          let none : header ≡ 0 = omega (arith, w.if-progress-gt0.false) in
-          let adds = AddsFields-same options bytes old.tally w.in_ok-add_fields.ensures.ok c.clear.ensures.items
-          (ap (λ progress. progress.tally) w.progress-is) (ap (λ text. text.items) w.text-is) in
-          AddsRecords-fields options bytes old new text none (ap (λ progress. progress.header) w.progress-is) adds out
-    ]
+pub returns-in-Err-clause-err : goal.returns-in-Err-clause-err
+returns-in-Err-clause-err g c =
+    let before = c.args.waiting.now.items in
+    let after = c.append_record.new.text.items in
+    c.truncate.ensures.items
+    ∙ ap (λ count. take count after) (omega (arith, c.len-len.ensures, c.args.waiting.now.ok.0))
+    ∙ take-IsPrefix before after c.in-Err.ensures.kept
