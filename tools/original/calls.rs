@@ -24,7 +24,15 @@ fn timed(what: &str, mut call: impl FnMut()) {
 
 fn main() {
     let mut out = String::with_capacity(256);
-    for text in ["12", "1.5 KiB", "100 MB", "1.123456789012 KiB", "1.1234567890123456789012345678 KiB", "1 byte"] {
+    for text in [
+        "12",
+        "1.5 KiB",
+        "100 MB",
+        "1.123456789012 KiB",
+        "1.1234567890123456789012345678 KiB",
+        "1 byte",
+        "1.5 XB",
+    ] {
         timed(&format!("parse {text}"), || {
             let _ = black_box(Byte::parse_str(black_box(text), false));
         });

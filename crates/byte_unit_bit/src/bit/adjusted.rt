@@ -108,8 +108,8 @@ impl AdjustedBit {
     ///
     /// If no precision is set, or the unit is `Unit::B` or `Unit::Bit` and `alternate` is not set, the number has
     /// all its digits. With a precision it is rounded to exactly that number of digits after the point, ties to the
-    /// even digit; with `alternate` to at most 16 of them, ties to the greater number, and without zeros at its
-    /// end.
+    /// even digit; with `alternate` to at most that number, and at most 16, ties to the greater number, and without
+    /// trailing zeros.
     ///
     /// Sign, width and alignment apply as in [`Bit::append_text`] to a number with its unit.
     ///

@@ -1,5 +1,5 @@
 // Rendered from crates/byte_unit_byte/src/byte/constants.rt by tools/mirror. Do not edit.
-//! The constants of `Bit`, as literals. `laws::bit_constant` proves that each is as large as the unit in its name.
+//! The constants of `Bit`, as literals. `laws::bit_constant` proves that each named after a unit is as large as it.
 //!
 //! `Ki` to `Ri` are the binary prefixes of the IEC, powers of 1024. `K` to `R` are the decimal prefixes of the SI,
 //! powers of 1000.
@@ -93,7 +93,7 @@ impl Bit {
     /// 1 RiB is 2^93 bits.
     pub const ROBIBYTE: Bit = size!(9_903_520_314_283_042_199_192_993_792);
 
-    /// The smallest size: no bit.
+    /// The smallest size: 0 bits.
     pub const MIN: Bit = size!(0);
 
     /// The largest size: 10^30 - 1 bits.

@@ -14,7 +14,7 @@ impl Bit {
     /// The string, without white space at its ends, is a number, any number of spaces, and the spelling of a unit.
     /// With no unit it is a number of bits, and with a prefix alone a number of that multiple of bits.
     ///
-    /// The case of letters counts: a `b` that does not begin `bit` or `bits` means bits, a `B` bytes.
+    /// The suffix `b` means bits and `B` bytes; the case of all other letters is ignored.
     ///
     /// # Errors
     /// The error is the first one from the left:

@@ -1,4 +1,4 @@
-//! The constants of `Byte`, as literals. `laws::byte_constant` proves that each is as large as the unit in its name.
+//! The constants of `Byte`, as literals. `laws::byte_constant` proves that each named after a unit is as large as it.
 //!
 //! `Ki` to `Ri` are the binary prefixes of the IEC, powers of 1024. `K` to `R` are the decimal prefixes of the SI,
 //! powers of 1000.
@@ -92,7 +92,7 @@ impl Byte {
     /// 1 Ribit is 2^87 bytes.
     pub const ROBIBIT: Byte = size!(154_742_504_910_672_534_362_390_528);
 
-    /// The smallest size: no byte.
+    /// The smallest size: 0 bytes.
     pub const MIN: Byte = size!(0);
 
     /// The largest size: 10^30 - 1 bytes.
