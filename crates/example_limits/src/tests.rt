@@ -2,7 +2,7 @@
 use crate::{Limits, Rule, in_one_line};
 use anyhow::Result;
 use byte_unit::{Bit, Byte};
-use std::alloc::Global;
+use std::alloc::{AllocError, Global};
 
 /// Limits that break no rule: `total` and `cache` together are as large as `disk`.
 const VALID: &str =
@@ -20,8 +20,7 @@ fn limits_are_read(rt: HostRuntime) -> Result<()> {
 }
 
 /// Returns the reasons for which limits are rejected, each in a line, and no line if they break no rule.
-fn reasons(alloc: Global, text: &str) -> Result<String> {
-    let limits: Limits = toml::from_str(alloc, text)?;
+fn reasons(alloc: Global, limits: &Limits) -> Result<String, AllocError> {
     let mut lines = String::new(alloc);
     for rule in Rule::ALL {
         if limits.breaks(rule) {
@@ -65,7 +64,8 @@ const REASONS: &[(&str, &str)] = &[
 #[test]
 fn contradicting_limits_are_rejected(rt: HostRuntime) -> Result<()> {
     for (text, wanted) in REASONS {
-        let found = reasons(rt.alloc(), text)?;
+        let limits: Limits = toml::from_str(rt.alloc(), text)?;
+        let found = reasons(rt.alloc(), &limits)?;
         assert!(rt; found.as_str() == *wanted, "{text}");
     }
     Ok(())
