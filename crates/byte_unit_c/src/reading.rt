@@ -81,9 +81,9 @@ fn parse_as(
     }
 }
 
-/// Parses a unit by one of its spellings, as `Unit::parse_str` does, and writes its code to `unit`. A spelling without a
-/// suffix is of bytes, or of bits with the flag `BITS` (1). With the flag `IGNORE_CASE` (2) the suffix `b` means bytes
-/// too.
+/// Parses a unit by one of its spellings, as `Unit::parse_str` does, and writes its code to `unit`. A spelling without
+/// a suffix is of bytes, or of bits with the flag `BITS` (1). With the flag `IGNORE_CASE` (2) the suffix `b` means
+/// bytes too.
 ///
 /// Returns `OK` and writes `unit` if the string spells a unit. Otherwise returns `UNIT` and writes the details of the
 /// error to the first of `error`, if it is not empty. Returns `NOT_UTF8` and writes nothing if the bytes are not UTF-8,
@@ -159,8 +159,9 @@ fn prefers_byte(kind: Kind) -> bool
 }
 
 /// Writes the error message for a string that is rejected to the start of `out`, and returns its length, at most 256
-/// bytes. Returns the length and writes nothing if `out` is shorter. Returns 0 if and only if the string represents a size,
-/// and then writes nothing. The flags are those of `byte_unit_parse_to`; the message for another is `a flag is unknown`.
+/// bytes. Returns the length and writes nothing if `out` is shorter. Returns 0 if and only if the string represents a
+/// size, and then writes nothing. The flags are those of `byte_unit_parse_to`; for another, the message is
+/// `a flag is unknown`.
 ///
 /// For example, `-1` gives 33, the length of `the character '-' is not a number`.
 #[unsafe(no_mangle)]
@@ -199,8 +200,8 @@ fn message_of(error: &ParseError) -> InlineText<256>
     InlineText::of(error)
 }
 
-/// Returns the message, or `the text is not a size` if it is empty. No message is empty, but std specifies no message that
-/// quotes a character past ASCII.
+/// Returns the message, or `the text is not a size` if it is empty. No message is empty, but std specifies no message
+/// that quotes a character past ASCII.
 fn some_message(message: &[u8]) -> &[u8]
     ensures kept { 0 < length message.now → result.now ≡ message.now }
     ensures missing { length message.now ≡ 0 → result.now ≡ codes "the text is not a size" }

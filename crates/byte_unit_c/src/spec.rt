@@ -24,8 +24,8 @@ pub struct Spec {
 }
 
 impl Spec {
-    /// Converts to a `FormatSpec`. Returns `None` if a field is invalid: `alternate` or `has_precision` is neither 0 nor
-    /// 1, the code of the sign or of the alignment is unknown, the precision or the width exceeds 65,535, or the
+    /// Converts to a `FormatSpec`. Returns `None` if a field is invalid: `alternate` or `has_precision` is neither 0
+    /// nor 1, the code of the sign or of the alignment is unknown, the precision or the width exceeds 65,535, or the
     /// precision is not 0 and `has_precision` is 0.
     pub fn get(self) -> Option<FormatSpec>
         ensures { result ≡ spec_at self }
@@ -76,8 +76,8 @@ fn align_at(code: u8) -> Option<Option<Align>>
     }
 }
 
-/// Returns the precision `n` if `has_precision` is 1, and unset if both are 0. Returns `None` if `n` is above 65,535, or
-/// above 0 with `has_precision` 0, or if `has_precision` is 2 or more.
+/// Returns the precision `n` if `has_precision` is 1, and unset if both are 0. Returns `None` if `n` is above 65,535,
+/// or above 0 with `has_precision` 0, or if `has_precision` is 2 or more.
 fn precision_at(has_precision: u8, n: u32) -> Option<Option<u16>>
     ensures { result ≡ precision_at has_precision n }
 {

@@ -23,9 +23,9 @@ use byte_unit_math::Steps;
 pub const NO_UNIT: u32 = u32::MAX;
 
 /// Returns the code of the largest unit, not above the size, that divides it, or of the base unit (`B` or `b`) if none
-/// does, and writes the size in that unit to `count`. The size is in bytes, or in bits with the flag `BITS` (1). The unit
-/// is of the size's kind, or of either kind with the flag `EITHER_KIND` (4). Returns `NO_UNIT` and writes nothing if the
-/// size is out of range or another flag is set.
+/// does, and writes the size in that unit to `count`. The size is in bytes, or in bits with the flag `BITS` (1). The
+/// unit is of the size's kind, or of either kind with the flag `EITHER_KIND` (4). Returns `NO_UNIT` and writes nothing
+/// if the size is out of range or another flag is set.
 ///
 /// For example, 50,840,000 bytes gives 4, the code of `KB`, with the count 50,840.
 #[unsafe(no_mangle)]
@@ -116,9 +116,9 @@ fn recoverable_unit_as(
 }
 
 /// Returns the code of the largest unit of the size's kind and of the unit type that is not above the size, or of the
-/// base unit (`B` or `b`) if there is none. The size is in bytes, or in bits with the flag `BITS` (1). The unit type is 0
-/// for binary, 1 for decimal and 2 for both. Returns `NO_UNIT` if the unit type is unknown or another flag is set. The
-/// number may be 10^30 or more.
+/// base unit (`B` or `b`) if there is none. The size is in bytes, or in bits with the flag `BITS` (1). The unit type is
+/// 0 for binary, 1 for decimal and 2 for both. Returns `NO_UNIT` if the unit type is unknown or another flag is set.
+/// The number may be 10^30 or more.
 ///
 /// For example, 10,000 bytes with the unit type 2 gives 5, the code of `KiB`.
 #[unsafe(no_mangle)]

@@ -17,7 +17,8 @@ pub record Feed : Type 0 where
   pub rest : List ℕ
   pub state : State
 
--- from `start` to `now` some records were converted, and the rest gives the other records and the same unfinished record
+-- from `start` to `now` some records were converted, and the rest gives the other records and the same unfinished
+-- record
 pub record IsFed (options : Options) (start now : Feed) : Type 0 where
   pub converted : List (List ℕ)
   pub added : AddsRecords options converted start.state now.state

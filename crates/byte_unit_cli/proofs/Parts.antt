@@ -100,6 +100,7 @@ module _ (end : ℕ) where
   pub finished_records-ended_records : (bytes : List ℕ) → finished_records end bytes ≡ ended_records end [] bytes
   finished_records-ended_records bytes = sym (ended_records-but_last [] bytes ∙ ap but_last (onto-nil (parts end bytes) (parts_IsSplit bytes)))
 
+  -- without an empty last part: all parts but the last, then the last if it is not empty
   but_empty_last-but_last : (split : List (List ℕ)) → but_empty_last split ≡ but_last split ++ nonempty_record (last_of split)
   but_empty_last-but_last [] = refl
   but_empty_last-but_last ([] ∷ []) = refl
@@ -113,7 +114,7 @@ module _ (end : ℕ) where
       ∙ ap (λ ended. ended ++ nonempty_record (last_of (parts end bytes))) (finished_records-ended_records bytes)
       ∙ ap (λ part. ended_records end [] bytes ++ nonempty_record part) (sym (begun_record-last_of [] bytes ∙ ap last_of (onto-nil (parts end bytes) (parts_IsSplit bytes))))
 
-  -- one more byte: an end byte finishes the record, and another byte extends it
+  -- `byte` is one more byte after `seen`: an end byte finishes the record that was begun, and any other byte extends it
   ended_records-end_byte : (part seen : List ℕ) (byte : ℕ) → byte ≡ end
       → ended_records end part (seen ++ byte ∷ []) ≡ ended_records end part seen ++ begun_record end part seen ∷ []
   ended_records-end_byte part seen byte is_end =
@@ -136,7 +137,7 @@ module _ (end : ℕ) where
       begun_record-append part seen (byte ∷ [])
       ∙ ap (λ ends. cond ends [] (begun_record end part seen ++ byte ∷ [])) (ne_eqb byte end is_other)
 
-  -- the same for the byte at a place: what it makes of the records before it
+  -- the same for the byte at `place` of `bytes`, after the bytes before it
   module _ (part bytes : List ℕ) (place : ℕ) (fits : place < length bytes) where
     pub ended_records-take-end_byte : get_or bytes place 0 ≡ end
         → ended_records end part (take (place + 1) bytes) ≡ ended_records end part (take place bytes) ++ begun_record end part (take place bytes) ∷ []

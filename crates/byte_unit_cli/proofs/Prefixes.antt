@@ -4,7 +4,7 @@ use Rattle.std.proofs.Math.Seq.{take-append_seam}
 use Rattle.byte_unit_cli.specs.Outcome.{IsPrefix}
 
 module _ {X : Type 0} where
-  -- a longer list begins with the same ones
+  -- a prefix of a list is a prefix of any list that continues it
   pub IsPrefix-longer : (front whole more : List X) → IsPrefix front whole → IsPrefix front (whole ++ more)
   IsPrefix-longer front whole more (rest, is) = (rest ++ more, ap (λ xs. xs ++ more) is ∙ append_assoc front rest more)
 
@@ -14,6 +14,6 @@ module _ {X : Type 0} where
   pub IsPrefix-self : (whole : List X) → IsPrefix whole whole
   IsPrefix-self whole = ([], sym (append-nil whole))
 
-  -- so many of the first elements as a list has that it begins with are that list
+  -- if a list begins with `front`, its first elements, as many as `front` has, are `front`
   pub take-IsPrefix : (front whole : List X) → IsPrefix front whole → take (length front) whole ≡ front
   take-IsPrefix front whole (rest, is) = ap (take (length front)) is ∙ take-append_seam front rest

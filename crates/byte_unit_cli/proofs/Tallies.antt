@@ -34,7 +34,7 @@ pub Passes-append : (options : Options) (front back : List Found) → Passes opt
     → Passes options (front ++ back)
 Passes-append options front back first second = λ mode. has_rejected-append front back (first mode) (second mode)
 
--- the parts of a tally after more fields
+-- facts of `||` for the tallies below
 or_assoc : (a b c : Bool) → ((a || b) || c) ≡ (a || (b || c))
 or_assoc true b c = refl
 or_assoc false b c = refl
@@ -47,9 +47,11 @@ or_true : (a : Bool) → true ≡ (a || true)
 or_true true = refl
 or_true false = refl
 
+-- saturating after each addition gives the same as saturating once, after all of them
 saturating-sum : (total size sum limit : ℕ) → min (min (total + size) limit + sum) limit ≡ min (total + (size + sum)) limit
 saturating-sum total size sum limit = omega arith
 
+-- the total after more fields is the sum of the earlier total and their sizes, at most the limit
 total-after : (options : Options) (tally : Tally) (found : List Found) → tally.total ≤ size_limit
     → (tally_after options tally found).total ≡ min (tally.total + sum_of found) size_limit
 total-after options tally [] small = omega (arith, small)
@@ -61,6 +63,7 @@ total-after options tally (Some size ∷ found) small =
     ∙ saturating-sum tally.total size (sum_of found) size_limit
     ∙ ap (λ sum. min (tally.total + sum) size_limit) (sym (sum_by-cons (λ n. n) size (sizes_of found)))
 
+-- after more fields, a size is beyond a limit if one was before, or one of theirs is
 beyond-after : (options : Options) (tally : Tally) (found : List Found)
     → (tally_after options tally found).beyond ≡ (tally.beyond || any_beyond options (sizes_of found))
 beyond-after options tally [] = or_false tally.beyond
@@ -69,6 +72,7 @@ beyond-after options tally (Some size ∷ found) =
     beyond-after options (tally_with options tally (Some size)) found
     ∙ or_assoc tally.beyond (is_beyond options size) (any_beyond options (sizes_of found))
 
+-- after more fields, one is rejected if one was before, or one of them is
 rejected-after : (options : Options) (tally : Tally) (found : List Found)
     → (tally_after options tally found).rejected ≡ (tally.rejected || has_rejected found)
 rejected-after options tally [] = or_false tally.rejected

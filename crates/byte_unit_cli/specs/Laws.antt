@@ -19,15 +19,15 @@ IsLossless (Largest unit_type) = ⊥
 abbrev pub IsReadAs : Options → List ℕ → ℕ → Type 0
 IsReadAs options text size = IsAccepted options.kind (ignores_case options.kind options.ignore_case) text size
 
--- law: what is shown for a size in the exact form or as digits, without padding, is parsed as that size by a run with any
--- options of the same kind. So nothing is lost by `--to=plain` and then `--to=exact`
+-- law: what is shown for a size in the exact form or as digits, without padding, is parsed as that size by a run with
+-- any options of the same kind. So nothing is lost by `--to=plain` and then `--to=exact`
 abbrev pub ShownSizesAreRead : Type 0
 ShownSizesAreRead =
     (options others : Options) (size : ℕ) (text : List ℕ) → size < size_limit → IsLossless options.form
     → options.width ≡ 0 → others.kind ≡ options.kind → IsShown options size text → IsReadAs others text size
 
--- law: what is shown in the exact form for the size that a text of the exact form is parsed as is that text. So a second
--- run of `--to=exact` changes nothing
+-- law: what is shown in the exact form for the size that a text of the exact form is parsed as is that text. So a
+-- second run of `--to=exact` changes nothing
 abbrev pub ExactTwiceIsOnce : Type 0
 ExactTwiceIsOnce =
     (options : Options) (size : ℕ) (text : List ℕ) → size < size_limit → options.form ≡ Exact → options.width ≡ 0

@@ -79,11 +79,11 @@ pub record IsTooLarge (options : Options) (records : List (List ℕ)) (written :
   pub large : size_limit ≤ sum_of found
   pub converted : AreConverted options records written found
 
--- what a run has written that ends with this result: the whole output with the tally of what was found; the texts of all
--- finished records if a read failed; those of some first ones of them if it was out of memory; a prefix of the output if
--- a write failed; the texts of the records before the first one with a rejected field; or those of all records, if their
--- total is too large. `finished` are the records that were read with their end bytes, `records` also the last one
--- without
+-- what a run has written that ends with this result: the whole output with the tally of what was found; the texts of
+-- all finished records if a read failed; those of some first ones of them if it was out of memory; a prefix of the
+-- output if a write failed; the texts of the records before the first one with a rejected field; or those of all
+-- records, if their total is too large. `finished` are the records that were read with their end bytes, `records` also
+-- the last one without
 abbrev pub IsWritten : Options → List (List ℕ) → List (List ℕ) → Result Tally Stop → List ℕ → Type 0
 IsWritten options finished records (Ok tally) written =
     (found : List Found) × IsOutput options records written found × (tally ≡ tally_of options found)

@@ -20,8 +20,8 @@ abbrev pub IsRecord : Options → ℕ → List ℕ → List ℕ → List Found �
 IsRecord options zero bytes text found = AreFields options 1 (fields_of options.delimiter bytes) text found
 IsRecord options (suc _) bytes text found = (text ≡ bytes) × (found ≡ [])
 
--- what is written for these records, if the first ones, as many as `header`, are header records: one text for each, with
--- the end byte after it
+-- what is written for these records, if the first ones, as many as `header`, are header records: one text for each,
+-- with the end byte after it
 abbrev pub AreRecords : Options → ℕ → List (List ℕ) → List ℕ → List Found → Type 0
 AreRecords options header [] text found = (text ≡ []) × (found ≡ [])
 AreRecords options header (bytes ∷ others) text found =

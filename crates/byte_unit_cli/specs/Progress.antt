@@ -100,8 +100,8 @@ pub record AddsRecords (options : Options) (records : List (List ℕ)) (old new 
   pub out_is : new.out ≡ old.out ++ text
   pub tally_is : new.tally ≡ tally_after options old.tally found
 
--- what a call that converts these records leaves appended if it stops: the texts of some first ones of them if it is out
--- of memory; or those of the records before the one that has a rejected field, in the mode `abort`
+-- what a call that converts these records leaves appended if it stops: the texts of some first ones of them if it is
+-- out of memory; or those of the records before the one that has a rejected field, in the mode `abort`
 abbrev pub Stops : Options → List (List ℕ) → State → Stop → List ℕ → Type 0
 Stops options records old Memory out =
     (first : List (List ℕ)) × (new : State) × IsPrefix first records × AddsRecords options first old new × (new.out ≡ out)
@@ -134,8 +134,8 @@ IsTotalWritten options total before (Err Write) written =
     (line : List ℕ) × ((line ≡ []) ⊎ IsTotalFor options total line) × IsPrefix written (before ++ line)
 IsTotalWritten options total before (Err _) written = ⊥
 
--- what a call has written that converts the last record, if there is one, and then writes the total, if it is asked for.
--- Nothing was to be written before
+-- what a call has written that converts the last record, if there is one, and then writes the total, if it is asked
+-- for. Nothing was to be written before
 abbrev pub IsFinished : Options → List ℕ → State → Result Tally Stop → List ℕ → Type 0
 IsFinished options part old (Ok tally) written =
     (new : State) × (line : List ℕ) × AddsRecords options (nonempty_record part) old new × (tally ≡ new.tally)

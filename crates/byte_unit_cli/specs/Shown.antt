@@ -19,8 +19,8 @@ exact_spec precision = record alternate_spec { precision = precision }
 abbrev pub adjusted_spec : Option ℕ → FormatSpec
 adjusted_spec precision = record plain_spec { precision = precision }
 
--- the text of a size in a form: in the largest unit that represents it exactly within the precision; as digits; in the
--- given unit; in the largest unit of the type that is not above it
+-- the text of a size in a form: in the largest unit, not above the size, that represents it exactly within the
+-- precision; as digits; in the given unit; in the largest unit of the type that is not above the size
 abbrev pub IsFormText : Kind → Form → Option ℕ → ℕ → List ℕ → Type 0
 IsFormText kind Exact precision size text = IsText kind size (exact_spec precision) text
 IsFormText kind Plain precision size text = IsText kind size plain_spec text

@@ -98,7 +98,7 @@ pub(crate) fn command<'a>(alloc: Global) -> Result<Command<'a>, AllocError> {
     )
 }
 
-/// Returns an option without a value.
+/// Creates an option that takes no value.
 fn flag<'a>(alloc: Global, name: &'a str, help: &'a str) -> Arg<'a> {
     Arg::new(alloc, name)
         .long(name)
@@ -117,7 +117,7 @@ fn ignore_case<'a>(alloc: Global) -> Result<Arg<'a>, AllocError> {
         .conflicts_with("bits")
 }
 
-/// Returns an option with a value.
+/// Creates an option that takes a value.
 fn value<'a>(alloc: Global, name: &'a str, value: &'a str, help: &'a str) -> Arg<'a> {
     Arg::new(alloc, name)
         .long(name)
@@ -125,7 +125,7 @@ fn value<'a>(alloc: Global, name: &'a str, value: &'a str, help: &'a str) -> Arg
         .help(help)
 }
 
-/// Returns an option with a number of 16 bits.
+/// Creates an option that takes a 16-bit number.
 fn number<'a>(
     alloc: Global,
     name: &'static str,

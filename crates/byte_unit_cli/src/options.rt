@@ -5,26 +5,26 @@ pub use byte_unit::{Kind, Unit, UnitType};
 /// How a size is shown.
 #[derive(Debug, Clone, Copy, PartialEq, Eq)]
 pub enum Form {
-    /// In the largest unit that represents it exactly within the precision.
+    /// In the largest unit, not above the size, that represents it exactly within the precision.
     Exact,
     /// As digits.
     Plain,
     /// In this unit.
     InUnit(Unit),
-    /// In the largest unit of the type that is not above it.
+    /// In the largest unit of the type that is not above the size.
     Largest(UnitType),
 }
 
-/// What a field that is not a size does.
+/// What happens at a field that is not a size.
 #[derive(Debug, Clone, Copy, PartialEq, Eq)]
 pub enum Invalid {
-    /// It ends the run before its record, with a message.
+    /// The run ends before the field's record, with a message.
     Abort,
-    /// It is copied, with a message and the exit status 2.
+    /// The field is copied, with a message and exit status 2.
     Fail,
-    /// It is copied, with a message.
+    /// The field is copied, with a message.
     Warn,
-    /// It is copied.
+    /// The field is copied, without a message.
     Ignore,
 }
 
@@ -60,7 +60,7 @@ pub struct Options<'a> {
     pub record_end: u8,
     /// The number of records at the beginning that are copied.
     pub header: u64,
-    /// What a field that is not a size does.
+    /// What happens at a field that is not a size.
     pub invalid: Invalid,
     /// Whether the total of the sizes follows the last record.
     pub total: bool,

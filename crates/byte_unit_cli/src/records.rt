@@ -39,8 +39,8 @@ impl Progress {
     }
 }
 
-/// Appends what is written for the fields of a record, which is no header record, to `text`, and counts what is found in
-/// them.
+/// Appends what is written for the fields of a record, which is no header record, to `text`, and counts what is found
+/// in them.
 ///
 /// # Errors
 ///

@@ -62,8 +62,8 @@ fn add_first<A: Allocator>(
     add_short(bytes, len, text)
 }
 
-/// Appends the first `len` of `bytes`, by a copy of a constant length. It takes a few instructions, and no branch depends
-/// on `len`.
+/// Appends the first `len` of `bytes`, by a copy of a constant length. It takes a few instructions, and no branch
+/// depends on `len`.
 ///
 /// Preconditions (proved at every call): `len` is at most [`AT_ONCE`], and `bytes` has that many bytes or more.
 ///

@@ -122,8 +122,8 @@ pub fn run_in<A: Allocator, R: Read, W: Write>(
 ///
 /// Returns `Err(AllocError)` if an allocation at the start fails; nothing has been read or written then. The inner
 /// result is that of the run, with the errors of [`run`]. There `Memory` means that more than `longest` bytes of a line
-/// have been read without its line end, and so that the line is longer than `longest`. A longer line is answered only if
-/// the read in which it exceeds `longest` returns its line end too, and so never if it has at least as many bytes as
+/// have been read without its line end, and so that the line is longer than `longest`. A longer line is answered only
+/// if the read in which it exceeds `longest` returns its line end too, and so never if it has at least as many bytes as
 /// `longest` and the length of `buffer` together.
 pub fn run_with_capacity<A: Allocator, R: Read, W: Write>(
     alloc: &A,

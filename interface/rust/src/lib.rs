@@ -21,7 +21,7 @@
 //! | Format | Text of 10240 bytes |
 //! |---|---|
 //! | `{}` | `10240`; width, fill, alignment, sign and leading zeros as for an integer |
-//! | `{:#}` | `10 KiB`: the largest unit that represents the size exactly with at most 3 digits after the point |
+//! | `{:#}` | `10 KiB`: the largest unit, not above the size, that represents it exactly with at most 3 decimals |
 //! | `{:#.6}` | at most 6 digits, and never more than 28 |
 //! | `{:#12}`, `{:>#12}` | `10       KiB`, `      10 KiB`: spaces after or before the number |
 //! | `{:-#}`, `{:+#}` | `10KiB`, `10 KiB`: no spaces, or unit and spaces take four columns |

@@ -121,7 +121,7 @@ pub(crate) fn appropriate_unit(size: u128, kind: Kind, unit_type: UnitType) -> U
     Unit::at(code).unwrap_or(kind.unit())
 }
 
-/// Returns the size in the largest unit that divides it, or in the kind's own.
+/// Returns the size in the largest unit, not above it, that divides it, or in the base unit of the kind.
 pub(crate) fn exact_unit(size: u128, kind: Kind, either: bool) -> (u128, Unit) {
     let mut count = sys::Number::default();
     let code = unsafe { sys::byte_unit_exact_unit(size.into(), kind.flag_with_either(either), &mut count) };
@@ -131,7 +131,8 @@ pub(crate) fn exact_unit(size: u128, kind: Kind, either: bool) -> (u128, Unit) {
     }
 }
 
-/// Returns the size in the largest unit that represents it exactly within the precision, or in the kind's own.
+/// Returns the size in the largest unit, not above it, that represents it exactly within the precision, or in the base
+/// unit of the kind.
 pub(crate) fn recoverable_unit(size: u128, kind: Kind, either: bool, precision: usize) -> (Decimal, Unit) {
     let mut count = sys::Decimal::default();
     let flags = kind.flag_with_either(either);

@@ -8,15 +8,15 @@ pub const FAILING: &[Then] = &[Then::Fail, Then::TakeNothing];
 /// What a stream does after a number of calls.
 #[derive(Clone, Copy)]
 pub enum Then {
-    /// It fails.
+    /// Each call fails.
     Fail,
-    /// It accepts nothing, or as a reader is at its end.
+    /// Each call transfers nothing: a write accepts no byte, and a read is at the end of the input.
     TakeNothing,
-    /// It transfers one byte per call.
+    /// Each call transfers one byte.
     ByteByByte,
-    /// It transfers all bytes but one, and at least one.
+    /// Each call transfers all bytes but one, and at least one.
     AllButOne,
-    /// It transfers all bytes.
+    /// Each call transfers all bytes.
     All,
 }
 

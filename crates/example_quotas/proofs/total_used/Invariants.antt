@@ -1,3 +1,4 @@
+-- The loop that adds up the used sizes.
 use Rattle.std.proofs.Common.{◌≡◌, ◌<◌, sum_by, take}
 use Rattle.byte_unit.specs.Version.{current}
 use Rattle.example_quotas.proofs.total_used.Given as goal

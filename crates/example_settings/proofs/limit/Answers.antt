@@ -1,3 +1,4 @@
+-- A setting that has a size is a string that is parsed as it.
 use Rattle.std.proofs.Common.{◌≡◌, Some}
 use Rattle.std.proofs.lemmas.Option.{same_Some}
 use Rattle.serde_json.specs.Data.{string}

@@ -1,3 +1,4 @@
+-- The recursion ends: each call has one range less.
 use Rattle.std.proofs.Common.{length}
 use Rattle.byte_unit_cli.proofs.field.+is_chosen.Given as goal
 

@@ -1,3 +1,4 @@
+-- A size adds its text. A string that is rejected, and bytes that are not UTF-8, add a copy of themselves.
 use Rattle.std.proofs.Common.{inl, inr}
 use Rattle.byte_unit_cli.proofs.Converting.{AddsField-size, AddsField-rejected}
 use Rattle.byte_unit.specs.Errors.{size_fault}

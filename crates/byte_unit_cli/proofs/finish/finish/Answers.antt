@@ -1,3 +1,4 @@
+-- What is written at the end is right for each result: with and without a total, and if a write fails.
 use Rattle.std.proofs.Common.{◌≡◌, true, false, rules, subst, []}
 use Rattle.byte_unit_cli.specs.Progress.{AddsRecords, State, state_of, nonempty_record}
 use Rattle.byte_unit_cli.proofs.Finishing.{IsFinished-total_ok, IsFinished-total_error, IsFinished-plain_ok}

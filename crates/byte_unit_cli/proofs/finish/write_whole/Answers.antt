@@ -1,3 +1,4 @@
+-- After each write, the bytes that were taken are written, and the rest is left.
 use Rattle.byte_unit_cli.specs.Streams.{writer_of}
 use Rattle.byte_unit_cli.proofs.Bytes.{IsWrittenTo-step}
 use Rattle.byte_unit_cli.proofs.finish.write_whole.Goals as goal

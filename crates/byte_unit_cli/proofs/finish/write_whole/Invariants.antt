@@ -1,3 +1,4 @@
+-- What was written so far and the rest are all bytes; the rest gets shorter.
 use Rattle.std.proofs.Common.{length}
 use Rattle.byte_unit_cli.specs.Streams.{writer_of}
 use Rattle.byte_unit_cli.proofs.Bytes.{IsWrittenTo}

@@ -1,3 +1,4 @@
+-- What waits is written with the line of the total after it; nothing is written if that line cannot be appended.
 use Rattle.std.proofs.Common.{◌≡◌, ◌++◌, ◌∷◌, [], ◌<◌, ap, ◌∙◌, append_assoc, arith, refl}
 use Rattle.std.proofs.KnownBytes.{Appends-nil}
 use Rattle.byte_unit.specs.Bounds.{size_limit}

@@ -1,3 +1,4 @@
+-- The text shown is parsed as the size, a text is parsed as at most one size, and a size has one exact form.
 use Rattle.byte_unit_cli.proofs.Again.{exact_again}
 use Rattle.byte_unit_cli.proofs.laws.exact_twice_is_once.Goals as goal
 

@@ -1,3 +1,4 @@
+-- From the library's laws: the form with a unit and the digits are parsed as the size.
 use Rattle.byte_unit_cli.proofs.Again.{shown_is_read}
 use Rattle.byte_unit_cli.proofs.laws.shown_sizes_are_read.Goals as goal
 

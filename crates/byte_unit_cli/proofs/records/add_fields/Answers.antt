@@ -1,3 +1,4 @@
+-- Without a delimiter, the record is one field.
 use Rattle.byte_unit_cli.proofs.Converting.{AddsFields-whole}
 use Rattle.byte_unit_cli.proofs.Results.{OnOk-map}
 use Rattle.byte_unit_cli.proofs.records.add_fields.Goals as goal

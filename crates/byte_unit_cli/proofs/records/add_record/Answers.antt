@@ -1,3 +1,4 @@
+-- After an error, truncating leaves what was there before, since it is a prefix of what is there then.
 use Rattle.std.proofs.Common.{take, ap, ◌∙◌, arith}
 use Rattle.byte_unit_cli.proofs.Prefixes.{take-IsPrefix}
 use Rattle.byte_unit_cli.proofs.records.add_record.Goals as goal

@@ -1,3 +1,5 @@
+-- Each iteration adds one field, converted or copied, with its delimiter; the last field follows the loop. A field that
+-- is rejected in the mode `abort` is one of the record.
 use Rattle.std.proofs.Common.{◌+◌, ◌∙◌, drop, ap, sym, subst, Err}
 use Rattle.std.proofs.lemmas.List.{take_rest}
 use Rattle.byte_unit_cli.specs.declared.stop.Stop.TheVariants.{Rejected}

@@ -1,3 +1,4 @@
+-- The fields before the rest were added; the rest gets shorter.
 use Rattle.std.proofs.Common.{length}
 use Rattle.byte_unit_cli.proofs.Splitting.{IsSplitting}
 use Rattle.byte_unit_cli.proofs.records.add_split.Given as goal

@@ -1,3 +1,4 @@
+-- A header record is copied, and the fields of any other are added; the end byte follows.
 use Rattle.std.proofs.Common.{◌≡◌, ◌-◌, ◌++◌, ◌∷◌, [], suc, ap, ◌∙◌, arith}
 use Rattle.byte_unit_cli.specs.Progress.{State, state_of}
 use Rattle.byte_unit_cli.proofs.Converting.{AddsRecords-header, AddsRecords-fields, AddsFields-same}

@@ -1,3 +1,4 @@
+-- What `feed` appended is written, or a prefix of it if a write fails. No error is that of a read or of the total.
 use Rattle.std.proofs.Common.{sym, subst, ◌∙◌, []}
 use Rattle.std.specs.Io.KnownBytes.{Appends}
 use Rattle.byte_unit_cli.specs.Outcome.{IsPrefix}

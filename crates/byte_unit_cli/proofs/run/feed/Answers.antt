@@ -1,3 +1,5 @@
+-- Each iteration adds one record, the first of the rest: with the part that was read before, or alone. If it stops,
+-- what was appended is that of the records before.
 use Rattle.std.proofs.Common.{◌+◌, ◌-◌, ◌++◌, ◌∷◌, [], length, take, drop, sym, ap, ◌∙◌, vec_len, Err}
 use Rattle.std.proofs.lemmas.List.{take_rest}
 use Rattle.byte_unit_cli.specs.Progress.{state_of}

@@ -1,3 +1,4 @@
+-- The records before the rest were added; the rest gets shorter.
 use Rattle.std.proofs.Common.{length}
 use Rattle.byte_unit_cli.specs.Progress.{state_of}
 use Rattle.byte_unit_cli.proofs.Feeding.{IsFed}

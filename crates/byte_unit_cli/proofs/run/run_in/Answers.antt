@@ -1,3 +1,4 @@
+-- Each read is served: the records that end in it are written, and the record that it has begun is kept.
 use Rattle.std.proofs.Common.{[], ◌++◌, sym, ap, subst, ◌∙◌, take, Err, Result}
 use Rattle.std.proofs.KnownBytes.{Consumes-kept, Consumes-nil, Appends-nil}
 use Rattle.byte_unit_cli.specs.Progress.{state_of}

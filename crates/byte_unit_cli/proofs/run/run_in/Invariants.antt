@@ -1,3 +1,4 @@
+-- What was read so far is served, and nothing waits; each read leaves fewer reads.
 use Rattle.byte_unit_cli.specs.Streams.{reader_of, writer_of, reads_left}
 use Rattle.byte_unit_cli.proofs.Runs.{HasServed}
 use Rattle.byte_unit_cli.proofs.run.run_in.Given as goal

@@ -1,3 +1,5 @@
+-- The lowest bit of a chunk's mask is its first end byte; without a bit the chunk has none. The last bytes are compared
+-- one by one.
 use Rattle.std.proofs.Common.{◌+◌, ◌^◌, ◌<◌, ◌≤◌, eqb, not, ℕ, Bool, get_or, length, map, w8, w16}
 use Rattle.std.proofs.Common.{refl, ap, sym, subst, eqb-true, ◌∙◌, arith}
 use Rattle.std.proofs.lemmas.List.{length-map}

@@ -1,3 +1,4 @@
+-- The two loops: over chunks of 16 bytes, and over the bytes after them.
 use Rattle.std.proofs.Common.{length, take, ◌-◌, ◌≤◌}
 use Rattle.byte_unit_cli.specs.Progress.{IsUnbroken}
 use Rattle.byte_unit_cli.proofs.search.end_of.Given as goal

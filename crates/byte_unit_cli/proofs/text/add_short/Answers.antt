@@ -1,3 +1,4 @@
+-- Of the bytes that are appended, truncating leaves the first `len`.
 use Rattle.std.proofs.Common.{take, ap, ◌∙◌, arith}
 use Rattle.std.proofs.lemmas.List.{length-take-le}
 use Rattle.byte_unit_cli.proofs.Texts.{first_bytes}

@@ -1,3 +1,4 @@
+-- What is appended is the text that `write_size` wrote, padded to the width; without a width it is not padded.
 use Rattle.std.proofs.Common.{◌≤◌, ◌++◌, length, ap, sym, ◌∙◌, arith, refl}
 use Rattle.byte_unit_cli.specs.Shown.{padded}
 use Rattle.byte_unit_cli.proofs.Results.{OnOk-map}

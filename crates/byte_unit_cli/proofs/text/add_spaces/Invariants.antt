@@ -1,3 +1,4 @@
+-- The loop that appends the spaces.
 use Rattle.std.proofs.Common.{◌≡◌, ◌++◌, replicate}
 use Rattle.byte_unit_cli.proofs.text.add_spaces.Given as goal
 

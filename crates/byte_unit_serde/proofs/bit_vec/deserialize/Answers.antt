@@ -1,4 +1,5 @@
 -- Rendered from crates/byte_unit_serde/proofs/byte_vec/deserialize/Answers.antt by tools/mirror. Do not edit.
+-- Each iteration reads one more item as a size; the sequence ends after the last.
 use Rattle.std.proofs.Common.{rules, false, ◌≡◌, [], ◌∷◌, ◌++◌, subst, sym}
 use Rattle.serde.specs.Steps.{Stays}
 use Rattle.byte_unit.specs.Accepted.{IsAccepted}

@@ -1,4 +1,5 @@
 -- Rendered from crates/byte_unit_serde/proofs/byte_vec/deserialize/Invariants.antt by tools/mirror. Do not edit.
+-- The items so far are the sizes that were read since the sequence began.
 use Rattle.std.proofs.Common.{false}
 use Rattle.byte_unit.specs.Accepted.{IsAccepted}
 use Rattle.byte_unit.specs.declared.Kind.TheVariants.{Bit as InBits}

@@ -1,4 +1,5 @@
 -- Rendered from crates/byte_unit_serde/proofs/byte_vec/serialize/Answers.antt by tools/mirror. Do not edit.
+-- Each iteration writes one more size; then the sequence is ended.
 use Rattle.std.proofs.Common.{rules}
 use Rattle.std.proofs.lemmas.Result.{on_ok_weaker}
 use Rattle.serde.proofs.Events.{WritesEach-more, WritesSeq-ends}

@@ -1,4 +1,5 @@
 -- Rendered from crates/byte_unit_serde/proofs/byte_vec/serialize/Invariants.antt by tools/mirror. Do not edit.
+-- The sizes before the index were written.
 use Rattle.std.proofs.Common.{take}
 use Rattle.serde.specs.Event.{WritesEach}
 use Rattle.byte_unit.specs.declared.Kind.TheVariants.{Bit as InBits}

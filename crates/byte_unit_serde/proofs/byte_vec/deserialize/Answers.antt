@@ -1,3 +1,4 @@
+-- Each iteration reads one more item as a size; the sequence ends after the last.
 use Rattle.std.proofs.Common.{rules, false, ◌≡◌, [], ◌∷◌, ◌++◌, subst, sym}
 use Rattle.serde.specs.Steps.{Stays}
 use Rattle.byte_unit.specs.Accepted.{IsAccepted}

@@ -1,3 +1,4 @@
+-- The items so far are the sizes that were read since the sequence began.
 use Rattle.std.proofs.Common.{false}
 use Rattle.byte_unit.specs.Accepted.{IsAccepted}
 use Rattle.byte_unit.specs.declared.Kind.TheVariants.{Byte as InBytes}

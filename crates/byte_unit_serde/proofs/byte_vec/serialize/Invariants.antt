@@ -1,3 +1,4 @@
+-- The sizes before the index were written.
 use Rattle.std.proofs.Common.{take}
 use Rattle.serde.specs.Event.{WritesEach}
 use Rattle.byte_unit.specs.declared.Kind.TheVariants.{Byte as InBytes}

@@ -1,3 +1,4 @@
+-- A string that is a number and a unit is not rejected, and gives that unit.
 use Rattle.byte_unit_uses.proofs.adjusted.parse_unit.Goals as goal
 
 pub returns-in_err-unit-clause-complete : goal.returns-in_err-unit-clause-complete

@@ -1,3 +1,4 @@
+-- The matches are those of `copy_app`, so the size and the error are those of the value that the command line gives.
 use Rattle.std.proofs.Common.{◌≡◌, ◌∙◌, rules, ap, ap₂, inl, inr, subst, sym}
 use Rattle.clap.specs.Walk.{texts}
 use Rattle.clap.specs.Words.{app_of, takes, with_rule}

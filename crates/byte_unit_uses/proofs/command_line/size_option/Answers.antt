@@ -1,3 +1,4 @@
+-- A value that is accepted as a size gives that size.
 use Rattle.byte_unit_uses.proofs.CommandLine.{accepted-option}
 use Rattle.byte_unit_uses.proofs.command_line.size_option.Goals as goal
 

@@ -1,3 +1,4 @@
+-- What the text is parsed as is computed: a JSON object, in which the string at each key is parsed as its size.
 use Rattle.std.proofs.Common.{◌≡◌, ◌∙◌, ◌*◌, ◌^◌, ℕ, List, Option, Some, None, Result, Ok, Err, Bor, IsOk, IsSome, codes, false, refl, sym, ap}
 use Rattle.std.specs.Prelude.{⊤, option_and_then, option_map}
 use Rattle.std.proofs.lemmas.Option.{same_Some}

@@ -1,3 +1,4 @@
+-- A string that is accepted as a size is parsed as it, and `unwrap_or` returns it.
 use Rattle.byte_unit_uses.proofs.limit.limit_or.Goals as goal
 
 pub returns-clause-complete : goal.returns-clause-complete

@@ -1,3 +1,4 @@
+-- A string that is accepted as a size is parsed without an error.
 use Rattle.std.proofs.lemmas.Bool.{false≢true}
 use Rattle.byte_unit_uses.proofs.message.parse_argument.Goals as goal
 

@@ -1,3 +1,4 @@
+-- What the text is parsed as is computed: a TOML document, in which the string at each key is parsed as its size.
 use Rattle.std.proofs.Common.{◌≡◌, ◌∙◌, ◌*◌, ◌^◌, ℕ, List, Option, Some, None, Result, Ok, Err, Bor, IsOk, IsSome, codes, string_bytes, nat_cmp, false, refl, sym, ap, arith}
 use Rattle.std.specs.Prelude.{option_and_then, option_map}
 use Rattle.std.specs.BTreeMap.{is_at}
