@@ -19,8 +19,8 @@ fn limits_are_read(rt: HostRuntime) -> Result<()> {
     Ok(())
 }
 
-/// Returns the reasons for which limits are rejected, each in a line, and no line if they break no rule.
-fn reasons(alloc: Global, limits: &Limits) -> Result<String, AllocError> {
+/// Returns the messages of the rules that limits break, each in a line.
+fn messages(alloc: Global, limits: &Limits) -> Result<String, AllocError> {
     let mut lines = String::new(alloc);
     for rule in Rule::ALL {
         if limits.breaks(rule) {
@@ -29,6 +29,12 @@ fn reasons(alloc: Global, limits: &Limits) -> Result<String, AllocError> {
         }
     }
     Ok(lines)
+}
+
+/// Returns the reasons for which the limits of a document are rejected, each in a line.
+fn reasons(alloc: Global, text: &str) -> Result<String> {
+    let limits: Limits = toml::from_str(alloc, text)?;
+    Ok(messages(alloc, &limits)?)
 }
 
 /// Documents, and the reasons for which their limits are rejected. At `disk = "2 GiB"` and at `450 B` with one bit a
@@ -64,8 +70,7 @@ const REASONS: &[(&str, &str)] = &[
 #[test]
 fn contradicting_limits_are_rejected(rt: HostRuntime) -> Result<()> {
     for (text, wanted) in REASONS {
-        let limits: Limits = toml::from_str(rt.alloc(), text)?;
-        let found = reasons(rt.alloc(), &limits)?;
+        let found = reasons(rt.alloc(), text)?;
         assert!(rt; found.as_str() == *wanted, "{text}");
     }
     Ok(())
