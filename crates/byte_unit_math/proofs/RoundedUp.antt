@@ -8,7 +8,7 @@ use Rattle.std.proofs.lemmas.Bool.{cases_lt}
 use Rattle.std.proofs.lemmas.Bool.Decides.{nat_tests}
 use Rattle.byte_unit_math.specs.Bounds.{scale, places_of_decimal}
 use Rattle.byte_unit_math.specs.Least.{IsLeastSize}
-use Rattle.byte_unit_math.specs.RoundedUp.{group_limit, half_places, half_limit, IsRoundedUp}
+use Rattle.byte_unit_math.specs.RoundedUp.{group_limit, group_places, half_limit, IsRoundedUp}
 use Rattle.byte_unit_math.proofs.Scales.{pow10_split}
 
 -- Rounding up the low seven digits and then the high ones rounds up all fourteen.
@@ -24,30 +24,42 @@ IsRoundedUp-groups digits unit behind part size low high =
       close = omega (arith, product, low.enough, low.close, high.enough, high.close);
     }
 
--- Digits that are all in the first half of 28 digits: as a number of 14 digits they fit, and the second half is zero.
-pub record InFirstHalf (digits places : ℕ) : Type 0 where
-  pub digits_fit : digits < half_limit
-  pub power_fits : 10 ^ (half_places - places) ≤ half_limit
-  pub first : digits * 10 ^ (half_places - places) < half_limit
-  pub all : digits * 10 ^ (places_of_decimal - places) ≡ digits * 10 ^ (half_places - places) * half_limit
+-- Digits that are all in the first group of seven: as a number of seven digits they fit, and the other groups are zero.
+pub record InFirstGroup (digits places : ℕ) : Type 0 where
+  pub digits_fit : digits < group_limit
+  pub power_fits : 10 ^ (group_places - places) ≤ group_limit
+  pub first : digits * 10 ^ (group_places - places) < group_limit
+  pub all : digits * 10 ^ (places_of_decimal - places)
+      ≡ digits * 10 ^ (group_places - places) * (group_limit * half_limit)
 
--- At most 14 digits after the point are all in the first half.
-pub InFirstHalf-places : (digits places : ℕ) → places ≤ half_places → digits < 10 ^ places → InFirstHalf digits places
-InFirstHalf-places digits places few small =
-    let parts : 10 ^ half_places ≡ 10 ^ places * 10 ^ (half_places - places) = pow10_split places half_places few in
-    let left : places_of_decimal - places - (half_places - places) ≡ half_places = omega (arith, few) in
-    let scale : 10 ^ (places_of_decimal - places) ≡ 10 ^ (half_places - places) * half_limit =
-    pow10_split (half_places - places) (places_of_decimal - places) (omega (arith, few))
-    ∙ ap (λ n. 10 ^ (half_places - places) * 10 ^ n) left in
+-- At most seven digits after the point are all in the first group.
+pub InFirstGroup-places : (digits places : ℕ) → places ≤ group_places → digits < 10 ^ places
+    → InFirstGroup digits places
+InFirstGroup-places digits places few small =
+    let parts : 10 ^ group_places ≡ 10 ^ places * 10 ^ (group_places - places) = pow10_split places group_places few in
+    let left : places_of_decimal - places - (group_places - places) ≡ 21 = omega (arith, few) in
+    let scale : 10 ^ (places_of_decimal - places) ≡ 10 ^ (group_places - places) * (group_limit * half_limit) =
+    pow10_split (group_places - places) (places_of_decimal - places) (omega (arith, few))
+    ∙ ap (λ n. 10 ^ (group_places - places) * 10 ^ n) left in
     let product = ap (λ n. digits * n) scale in
-    let below = mul-le-mul_right {m = digits + 1} {n = 10 ^ places} (10 ^ (half_places - places))
+    let below = mul-le-mul_right {m = digits + 1} {n = 10 ^ places} (10 ^ (group_places - places))
     (omega (arith, small)) in
-    let some = one-le-pow (half_places - places) 10 (omega arith) in
+    let some = one-le-pow (group_places - places) 10 (omega arith) in
     record {
-      digits_fit = omega (arith, small, pow-le-pow_right {n = 10} (omega arith) {i = places} {j = half_places} few);
-      power_fits = pow-le-pow_right {n = 10} (omega arith) {i = half_places - places} {j = half_places} (omega arith);
+      digits_fit = omega (arith, small, pow-le-pow_right {n = 10} (omega arith) {i = places} {j = group_places} few);
+      power_fits = pow-le-pow_right {n = 10} (omega arith) {i = group_places - places} {j = group_places} (omega arith);
       first = omega (arith, below, parts, some);
       all = omega (arith, product);
+    }
+
+-- Rounding up the first group gives the least size of a fraction whose other groups are zero.
+pub IsLeastSize-group : (fraction group unit size : ℕ) → fraction ≡ group * (group_limit * half_limit)
+    → IsRoundedUp (group * unit + 0) group_limit size → IsLeastSize fraction unit size
+IsLeastSize-group fraction group unit size fraction_is up =
+    let product = ap (λ n. n * unit) fraction_is in
+    record {
+      has = omega (arith, product, up.enough, up.close);
+      least = λ m r. omega (arith, product, up.enough, up.close, r);
     }
 
 -- Rounding up the low half of a fraction and then the high half gives its least size.
@@ -60,13 +72,6 @@ IsLeastSize-halves fraction unit part size low high =
       has = omega (arith, product, low.enough, low.close, high.enough, high.close);
       least = λ m r. omega (arith, product, low.enough, low.close, high.enough, high.close, r);
     }
-
--- A fraction of zero has the least size 0.
-pub IsLeastSize-none : (digits power unit : ℕ) → digits ≡ 0 → IsLeastSize (digits * power) unit 0
-IsLeastSize-none digits power unit none =
-    let zero_is : 0 ≡ digits * power = sym (ap (λ n. n * power) none ∙ omega arith) in
-    let least : IsLeastSize 0 unit 0 = record { has = omega arith; least = λ m r. omega arith } in
-    subst (λ n. IsLeastSize n unit 0) zero_is least
 
 -- The least size of a decimal is the size of its whole part plus the least size of its fraction.
 pub IsLeastSize-whole :

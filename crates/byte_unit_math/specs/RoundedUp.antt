@@ -2,17 +2,17 @@
 use Rattle.std.specs.Prelude.{ℕ, ◌+◌, ◌*◌, ◌/◌, ◌^◌, ◌<◌, ◌≤◌}
 use Rattle.byte_unit_math.specs.Bounds.{places_of_decimal}
 
--- 10^7, the limit of a group of digits: a quarter of the 28 digits of a fraction.
-abbrev pub group_limit : ℕ
-group_limit = 10 ^ (places_of_decimal / 4)
+-- 7, a quarter of the digits of a fraction.
+abbrev pub group_places : ℕ
+group_places = places_of_decimal / 4
 
--- 14, half of the digits of a fraction.
-abbrev pub half_places : ℕ
-half_places = places_of_decimal / 2
+-- 10^7, the limit of a group of digits.
+abbrev pub group_limit : ℕ
+group_limit = 10 ^ group_places
 
 -- 10^14, the limit of half the digits of a fraction as a number.
 abbrev pub half_limit : ℕ
-half_limit = 10 ^ half_places
+half_limit = group_limit * group_limit
 
 -- n is product / scale, rounded up to a whole number.
 pub record IsRoundedUp (product scale n : ℕ) : Type 0 where

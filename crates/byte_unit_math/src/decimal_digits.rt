@@ -236,6 +236,7 @@ fn put_u128_wide(n: u128, bytes: &mut [u8], end: usize) -> usize
 }
 
 /// Writes the digits of a number of 64 bits as `put_u128`.
+#[inline(always)]
 fn put_u64(n: u64, bytes: &mut [u8], end: usize) -> usize
     requires room { length (decimal n) ≤ end }
     requires within { end ≤ length bytes.old }

@@ -1,5 +1,5 @@
 //! Products of a decimal and a unit's size, rounded up to a whole number.
-ghost use Rattle.std.specs.Prelude.{◌≡◌, ℕ, ◌+◌, ◌-◌, ◌*◌, ◌/◌, ◌%◌, ◌^◌, ◌<◌, ◌≤◌, IfSome, IfNone};
+ghost use Rattle.std.specs.Prelude.{◌≡◌, ℕ, ◌+◌, ◌-◌, ◌*◌, ◌/◌, ◌%◌, ◌^◌, ◌<◌, ◌≤◌, IfSome, IfNone, SomeIff};
 ghost use Rattle.byte_unit_math.specs.Bounds.{bits_limit, places_of_decimal, unit_limit};
 ghost use Rattle.byte_unit_math.specs.Least.{IsLeastSize};
 ghost use Rattle.byte_unit_math.specs.RoundedUp.{group_limit, half_limit, IsRoundedUp};
@@ -17,8 +17,8 @@ const TEN_POW_14: u64 = 100_000_000_000_000;
 /// The reciprocal of `TEN_POW_14`: 2^110 / 10^14, rounded down.
 const TEN_POW_14_INVERSE: u64 = 12_980_742_146_337_069_071;
 
-/// The number of digits of half a fraction.
-const HALF_PLACES: u32 = 14;
+/// The number of digits of a group.
+const GROUP_PLACES: u32 = 7;
 
 /// Returns `d * unit_size` rounded up to a whole number. Returns `None` if that is `limit` or more.
 ///
@@ -68,9 +68,11 @@ pub fn least_size_counted(
     ensures steps { steps.new ≡ saturating_add steps.old 4 }
 {
     let (digits, places) = (d.digits(), d.places());
-    let part = if digits == 0 {
-        steps.advance_by(4);
-        0
+    let part = if places <= GROUP_PLACES {
+        // All digits are in the most significant group.
+        steps.advance_by(3);
+        let group = digits as u64 * power_of_ten(GROUP_PLACES - places) as u64;
+        carry_of_group(group, unit_size, 0, steps)
     } else {
         let (high, low) = split_fraction(digits, places);
         let part = carry_of_group(low % GROUP, unit_size, 0, steps);
@@ -79,8 +81,19 @@ pub fn least_size_counted(
         carry_of_group(high / GROUP, unit_size, part, steps)
     };
     // A number of more than 128 bits exceeds each limit.
-    let size = d.whole().checked_mul(unit_size)?.checked_add(part)?;
+    let size = checked_mul(d.whole(), unit_size)?.checked_add(part)?;
     (size < limit).then_some(size)
+}
+
+/// Returns the product, or `None` if it needs more than 128 bits. Numbers of 64 bits take one multiplication.
+#[inline(always)]
+fn checked_mul(number: u128, unit_size: u128) -> Option<u128>
+    ensures { SomeIff result (number * unit_size < 2 ^ 128) (number * unit_size) }
+{
+    if number < 1 << 64 && unit_size < 1 << 64 {
+        return Some(u128::from(number as u64) * u128::from(unit_size as u64));
+    }
+    number.checked_mul(unit_size)
 }
 
 /// Splits the fraction `digits / 10^places`, as 28 digits, into its first and its last 14.
@@ -91,10 +104,6 @@ fn split_fraction(digits: u128, places: u32) -> (u64, u64)
     ensures high { result.0 ≡ digits * 10 ^ (places_of_decimal - places) / half_limit }
     ensures low { result.1 ≡ digits * 10 ^ (places_of_decimal - places) % half_limit }
 {
-    if places <= HALF_PLACES {
-        // All digits are in the first half, and fit 64 bits.
-        return (digits as u64 * power_of_ten(HALF_PLACES - places) as u64, 0);
-    }
     let fraction = digits * power_of_ten(DECIMAL_PLACES - places);
     div_rem_by_inverse(fraction, TEN_POW_14, TEN_POW_14_INVERSE, 30, 80)
 }

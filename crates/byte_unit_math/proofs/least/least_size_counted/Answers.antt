@@ -1,28 +1,41 @@
 -- The result is the least size of the number of units, or `None` if that reaches the limit.
-use Rattle.std.proofs.Common.{ℕ, ◌+◌, ◌-◌, ◌*◌, ◌^◌, arith, subst}
+use Rattle.std.proofs.Common.{ℕ, ◌+◌, ◌-◌, ◌*◌, ◌^◌, ◌<◌, arith, subst}
 use Rattle.byte_unit_math.specs.Bounds.{places_of_decimal}
 use Rattle.byte_unit_math.specs.Least.{IsLeastSize}
-use Rattle.byte_unit_math.specs.RoundedUp.{half_limit, IsRoundedUp}
-use Rattle.byte_unit_math.proofs.RoundedUp.{IsRoundedUp-groups, IsLeastSize-halves, IsLeastSize-none, IsLeastSize-parts}
+use Rattle.byte_unit_math.specs.RoundedUp.{group_limit, half_limit, IsRoundedUp}
+use Rattle.byte_unit_math.proofs.RoundedUp.{IsRoundedUp-groups, IsLeastSize-halves, IsLeastSize-parts}
+use Rattle.byte_unit_math.proofs.RoundedUp.{InFirstGroup-places, IsLeastSize-group}
 use Rattle.byte_unit_math.proofs.RoundedUp.{least_size_not_below, IfNone-always, IfSome-then_some, IfNone-below}
-use Rattle.byte_unit_math.proofs.least.least_size_counted.Goals.{After-whole, then-digits-eq0, else-digits-eq0}
+use Rattle.byte_unit_math.proofs.least.least_size_counted.Goals.{After-whole, then-places-le-GROUP_PLACES}
+use Rattle.byte_unit_math.proofs.least.least_size_counted.Goals.{else-places-le-GROUP_PLACES}
 use Rattle.byte_unit_math.proofs.least.least_size_counted.Goals as goal
+
+-- The digits are a number of at most their places.
+digits_below : (c : After-whole) → c.digits-digits.result < 10 ^ c.places-places.result
+digits_below c = c.digits-digits.ensures.bound c.places-places.result c.places-places.ensures.least
 
 -- The part that the code computes is the least size of the fraction.
 fraction_least : (c : After-whole)
     → IsLeastSize (c.digits-digits.result * 10 ^ (places_of_decimal - c.places-places.result)) c.args.unit_size
-    c.if-digits-eq0.part
+    c.if-places-le-GROUP_PLACES.part
 fraction_least c =
     let unit = c.args.unit_size in
     let fraction = c.digits-digits.result * 10 ^ (places_of_decimal - c.places-places.result) in
-    elim c.if-digits-eq0.branch [
-      | then-digits-eq0 w ↦ rw w.part-is (IsLeastSize-none _ _ unit w.if-digits-eq0.true)
-      | else-digits-eq0 w ↦
-          let part = w.carry_of_group-part-else-digits-eq0 in
-          let size = w.carry_of_group-part-else-digits-eq0-3 in
-          let low = IsRoundedUp-groups _ unit _ _ _ w.carry_of_group-part.ensures.rounded part.ensures.rounded in
-          let high = IsRoundedUp-groups _ unit _ _ _ w.carry_of_group-part-else-digits-eq0-2.ensures.rounded
-          size.ensures.rounded in
+    elim c.if-places-le-GROUP_PLACES.branch [
+      | then-places-le-GROUP_PLACES w ↦
+          let first = InFirstGroup-places c.digits-digits.result c.places-places.result
+          w.if-places-le-GROUP_PLACES.true (digits_below c) in
+          let part = w.carry_of_group-part in
+          let Group : ℕ → Type 0 = λ n. IsRoundedUp (c.digits-digits.result * n * unit + 0) group_limit part.result in
+          rw w.part-is (IsLeastSize-group fraction _ unit part.result first.all
+          (subst Group w.power_of_ten.ensures part.ensures.rounded))
+      | else-places-le-GROUP_PLACES w ↦
+          let first = w.carry_of_group-part-else-places-le-GROUP_PLACES in
+          let part = w.carry_of_group-part-else-places-le-GROUP_PLACES-2 in
+          let third = w.carry_of_group-part-else-places-le-GROUP_PLACES-3 in
+          let size = w.carry_of_group-part-else-places-le-GROUP_PLACES-4 in
+          let low = IsRoundedUp-groups _ unit _ _ _ first.ensures.rounded part.ensures.rounded in
+          let high = IsRoundedUp-groups _ unit _ _ _ third.ensures.rounded size.ensures.rounded in
           let Low : ℕ → Type 0 = λ n. IsRoundedUp (n * unit + 0) half_limit part.result in
           let High : ℕ → Type 0 = λ n. IsRoundedUp (n * unit + part.result) half_limit size.result in
           rw w.part-is (IsLeastSize-halves fraction unit part.result size.result
@@ -30,11 +43,18 @@ fraction_least c =
           (subst High w.split_fraction-high.ensures.high high))
     ]
 
+pub carry_of_group-part-requires-clause-digits : goal.carry_of_group-part-requires-clause-digits
+carry_of_group-part-requires-clause-digits c =
+    let below = c.digits-digits.ensures.bound c.places-places.result c.places-places.ensures.least in
+    let few = c.if-places-le-GROUP_PLACES.true in
+    let group = InFirstGroup-places c.digits-digits.result c.places-places.result few below in
+    rw c.power_of_ten.ensures (omega (arith, group.first))
+
 -- With the whole part it is the least size of the decimal.
 size_least : (c : After-whole)
-    → IsLeastSize c.args.d c.args.unit_size (c.whole.result * c.args.unit_size + c.if-digits-eq0.part)
+    → IsLeastSize c.args.d c.args.unit_size (c.whole.result * c.args.unit_size + c.if-places-le-GROUP_PLACES.part)
 size_least c =
-    IsLeastSize-parts c.args.d c.args.unit_size c.whole.result _ c.if-digits-eq0.part
+    IsLeastSize-parts c.args.d c.args.unit_size c.whole.result _ c.if-places-le-GROUP_PLACES.part
     (record {
       whole_is = c.whole.ensures.value;
       fraction_is = c.digits-digits.ensures.value c.places-places.result c.places-places.ensures.least;
@@ -45,14 +65,14 @@ pub returns-in_err-checked_mul-clause-none : goal.returns-in_err-checked_mul-cla
 returns-in_err-checked_mul-clause-none c =
     let least = size_least (goal.at.returns-in_err-checked_mul-clause-none c).After-whole in
     IfNone-always _ _ (least_size_not_below c.args.d c.args.unit_size
-    (c.whole.result * c.args.unit_size + c.if-digits-eq0.part)
+    (c.whole.result * c.args.unit_size + c.if-places-le-GROUP_PLACES.part)
     c.args.limit least (omega (arith, c.in_err-checked_mul.ensures)))
 
 pub returns-in_err-size-clause-none : goal.returns-in_err-size-clause-none
 returns-in_err-size-clause-none c =
     let least = size_least (goal.at.returns-in_err-size-clause-none c).After-whole in
     IfNone-always _ _ (least_size_not_below c.args.d c.args.unit_size
-    (c.whole.result * c.args.unit_size + c.if-digits-eq0.part)
+    (c.whole.result * c.args.unit_size + c.if-places-le-GROUP_PLACES.part)
     c.args.limit least (omega (arith, c.in_err-size.ensures, c.in_ok-checked_mul.ensures)))
 
 pub returns-clause-least : goal.returns-clause-least
@@ -66,5 +86,6 @@ pub returns-clause-none : goal.returns-clause-none
 returns-clause-none c =
     let least = size_least (goal.at.returns-clause-none c).After-whole in
     rw c.then_some.ensures (IfNone-below c.in_ok-size.size c.args.limit _ (λ reached.
-    least_size_not_below c.args.d c.args.unit_size (c.whole.result * c.args.unit_size + c.if-digits-eq0.part)
+    least_size_not_below c.args.d c.args.unit_size
+    (c.whole.result * c.args.unit_size + c.if-places-le-GROUP_PLACES.part)
     c.args.limit least (omega (arith, reached, c.in_ok-size.ensures, c.in_ok-checked_mul.ensures))))
