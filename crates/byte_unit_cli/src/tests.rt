@@ -1,15 +1,15 @@
 //! Tests of the run with input and output in memory.
 
 ghost use Rattle.std.specs.Prelude.{IfOk, List, ℕ, ◌≡◌};
-ghost use Rattle.byte_unit_cli.specs.Outcome.{IsWritten};
-ghost use Rattle.byte_unit_cli.specs.Records.{finished_records, records_of};
+ghost use Rattle.byte_unit_command.specs.Outcome.{IsWritten};
+ghost use Rattle.byte_unit_command.specs.Records.{finished_records, records_of};
 
-use crate::options::{FieldRange, Form, Invalid, Kind, Options, Unit, UnitType};
-use crate::reading::Reading;
-use crate::run::run;
-use crate::stop::Stop;
-use crate::tally::Tally;
-use crate::writing::Writing;
+use byte_unit_command::options::{FieldRange, Form, Invalid, Kind, Options, Unit, UnitType};
+use byte_unit_command::reading::Reading;
+use byte_unit_command::run::run;
+use byte_unit_command::stop::Stop;
+use byte_unit_command::tally::Tally;
+use byte_unit_command::writing::Writing;
 use std::alloc::Global;
 
 mod failing;

@@ -1,0 +1,5 @@
+use Rattle.byte_unit_command.proofs.Again.{shown_is_read}
+use Rattle.byte_unit_command.proofs.laws.shown_sizes_are_read.Goals as goal
+
+pub returns : goal.returns
+returns c = shown_is_read c.size_form_reads_back.ensures c.plain_form_reads_back.ensures
