@@ -1,39 +1,22 @@
 //! Converts sizes: the operands, or the lines of standard input, each to the form that the options ask for.
 #![tactic(auto)]
 
-mod arguments;
-mod ending;
-mod field;
-mod finish;
-mod laws;
-mod notice;
-mod options;
-mod place;
-mod reading;
-mod records;
-mod run;
-mod search;
-mod size;
-mod stop;
-mod tally;
 #[cfg(test)]
 mod tests;
-mod text;
-mod writing;
 
-use arguments::{Wrong, command, fields_of, options_of};
+use byte_unit_command::arguments::{Wrong, command, fields_of, options_of};
+use byte_unit_command::ending::{message, status};
+use byte_unit_command::options::Options;
+use byte_unit_command::reading::Reading;
+use byte_unit_command::run::run;
+use byte_unit_command::stop::Stop;
+use byte_unit_command::writing::Writing;
 use clap::ArgMatches;
 use clap::error::ErrorKind;
-use ending::{message, status};
-use options::Options;
-use reading::Reading;
-use run::run;
 use std::alloc::AllocError;
 use std::io::{IsTerminal, Read};
 use std::process::ExitCode;
 use std::{env, io};
-use stop::Stop;
-use writing::Writing;
 
 /// The exit status if a write failed, or if the call was out of memory.
 const FAILED: u8 = 1;

@@ -1,16 +1,17 @@
 //! Tests of the run with input and output in memory.
 
 ghost use Rattle.std.specs.Prelude.{IfOk, List, ℕ, ◌≡◌};
-ghost use Rattle.byte_unit_cli.specs.Outcome.{IsWritten};
-ghost use Rattle.byte_unit_cli.specs.Records.{finished_records, records_of};
+ghost use Rattle.byte_unit_command.specs.Outcome.{IsWritten};
+ghost use Rattle.byte_unit_command.specs.Records.{finished_records, records_of};
 
-use crate::options::{FieldRange, Form, Invalid, Kind, Options, Unit, UnitType};
-use crate::reading::Reading;
-use crate::run::run;
-use crate::stop::Stop;
-use crate::tally::Tally;
-use crate::writing::Writing;
+use byte_unit_command::options::{FieldRange, Form, Invalid, Kind, Options, Unit, UnitType};
+use byte_unit_command::reading::Reading;
+use byte_unit_command::run::run;
+use byte_unit_command::stop::Stop;
+use byte_unit_command::tally::Tally;
+use byte_unit_command::writing::Writing;
 use std::alloc::Global;
+use std::process::Abort;
 
 mod failing;
 mod fields;
@@ -23,25 +24,23 @@ const FIRST: &[FieldRange] = &[FieldRange {
     last: Some(1),
 }];
 
-/// Returns the options of a call without options.
-fn plain() -> Options<'static> {
-    Options {
-        kind: Kind::Byte,
-        ignore_case: false,
-        form: Form::Exact,
-        precision: None,
-        width: 0,
-        align_left: false,
-        delimiter: None,
-        fields: FIRST,
-        record_end: b'\n',
-        header: 0,
-        invalid: Invalid::Abort,
-        total: false,
-        max: None,
-        min: None,
-    }
-}
+/// The options of a call without options.
+const PLAIN: Options<'static> = Options {
+    kind: Kind::Byte,
+    ignore_case: false,
+    form: Form::Exact,
+    precision: None,
+    width: 0,
+    align_left: false,
+    delimiter: None,
+    fields: FIRST,
+    record_end: b'\n',
+    header: 0,
+    invalid: Invalid::Abort,
+    total: false,
+    max: None,
+    min: None,
+};
 
 /// What a run has returned, and the bytes that it has written to both streams.
 #[derive(Drop)]
@@ -49,6 +48,21 @@ struct Written {
     result: Result<Tally, Stop>,
     written: Vec<u8>,
     errors: Vec<u8>,
+}
+
+impl Written {
+    /// Asserts why the run ended early, or `None` if it did not, and the bytes that it has written. The name and the number
+    /// tell which of a test's runs it was.
+    fn expect(
+        &self,
+        rt: &impl Abort,
+        stop: Option<Stop>,
+        written: &[u8],
+        (name, number): (&str, usize),
+    ) {
+        let found = (self.result.err(), self.written.as_slice());
+        assert_eq!(rt; found, (stop, written), "{name} {number}");
+    }
 }
 
 /// Runs over an input in memory.

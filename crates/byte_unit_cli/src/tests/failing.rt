@@ -14,14 +14,7 @@ fn ended_over(alloc: Global, reader: MemoryReader, writer: MemoryWriter) -> Writ
     let mut reader = Reading::new(reader);
     let mut writer = Writing::new(writer);
     let mut errors = Vec::new(alloc);
-    let result = run(
-        alloc,
-        &plain(),
-        "line",
-        &mut reader,
-        &mut writer,
-        &mut errors,
-    );
+    let result = run(alloc, &PLAIN, "line", &mut reader, &mut writer, &mut errors);
     Written {
         result,
         written: writer.into_inner().into_taken(),
@@ -34,27 +27,25 @@ fn small_steps(rt: HostRuntime) {
     for step in 1..8usize {
         let reader = MemoryReader::new(INPUT, step, 1000, Then::All);
         let writer = MemoryWriter::new(rt.alloc(), step, 1000, Then::All);
-        let ended = ended_over(rt.alloc(), reader, writer);
-        assert!(rt; ended.result.is_ok(), "{step}");
-        assert_eq!(rt; ended.written.as_slice(), OUTPUT, "{step}");
+        ended_over(rt.alloc(), reader, writer).expect(&rt, None, OUTPUT, ("steps of", step));
     }
 }
 
+/// What is written, by the number of reads of five bytes before the failure.
+const READ: &[&[u8]] = &[
+    b"",
+    b"1 KiB\n",
+    b"1 KiB\n",
+    b"1 KiB\n1.5 KiB\n",
+    b"1 KiB\n1.5 KiB\n100 MB\n",
+];
+
 #[test]
 fn failed_reads(rt: HostRuntime) {
-    // By the number of reads of five bytes before the failure.
-    let wanted: &[&[u8]] = &[
-        b"",
-        b"1 KiB\n",
-        b"1 KiB\n",
-        b"1 KiB\n1.5 KiB\n",
-        b"1 KiB\n1.5 KiB\n100 MB\n",
-    ];
-    for (calls, output) in wanted.iter().enumerate() {
+    for (calls, output) in READ.iter().enumerate() {
         let reader = MemoryReader::new(INPUT, 5, calls, Then::Fail);
         let ended = ended_over(rt.alloc(), reader, MemoryWriter::open(rt.alloc()));
-        assert_eq!(rt; ended.result, Err(Stop::Read), "{calls}");
-        assert_eq!(rt; ended.written.as_slice(), *output, "{calls}");
+        ended.expect(&rt, Some(Stop::Read), output, ("reads before", calls));
     }
 }
 
@@ -65,8 +56,12 @@ fn failed_writes(rt: HostRuntime) {
             let reader = MemoryReader::new(INPUT, 1000, 1000, Then::All);
             let writer = MemoryWriter::new(rt.alloc(), 3, calls, *then);
             let ended = ended_over(rt.alloc(), reader, writer);
-            assert_eq!(rt; ended.result, Err(Stop::Write), "{calls}");
-            assert_eq!(rt; ended.written.as_slice(), &OUTPUT[..3 * calls], "{calls}");
+            ended.expect(
+                &rt,
+                Some(Stop::Write),
+                &OUTPUT[..3 * calls],
+                ("writes before", calls),
+            );
         }
     }
 }

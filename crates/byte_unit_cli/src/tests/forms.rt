@@ -1,5 +1,6 @@
-//! The text of a size in each form, and the total.
+//! The text of a size in each form, the total, and what is written by each option.
 
+use super::fields::SOME;
 use super::*;
 
 /// An input, and what is written for it.
@@ -42,113 +43,142 @@ const ROWS: &[Row] = &[
 
 #[test]
 fn forms(rt: HostRuntime) {
-    for (form, precision, size, text) in ROWS {
+    for (number, (form, precision, size, text)) in ROWS.iter().enumerate() {
         let options = Options {
             form: *form,
             precision: *precision,
-            ..plain()
+            ..PLAIN
         };
         let ended = ended(rt.alloc(), &options, size.as_bytes());
-        assert_eq!(rt; ended.written.as_slice(), text.as_bytes(), "{size}");
-        assert!(rt; ended.result.is_ok() && ended.errors.is_empty(), "{size}");
+        ended.expect(&rt, None, text.as_bytes(), (size, number));
+        assert!(rt; ended.errors.is_empty(), "{size}");
+    }
+}
+
+/// The options of a call that writes the total.
+const TOTAL: Options<'static> = Options {
+    total: true,
+    ..PLAIN
+};
+
+/// The options of a call that pads to eight columns.
+const PADDED: Options<'static> = Options { width: 8, ..PLAIN };
+
+/// A name, options, an input, and what is written.
+const BY_OPTIONS: &[(&str, Options<'static>, &[u8], &[u8])] = &[
+    ("no input", PLAIN, b"", b""),
+    (
+        "fields",
+        Options {
+            delimiter: Some(b','),
+            fields: SOME,
+            form: Form::Plain,
+            ..PLAIN
+        },
+        b"1K,1K,1K,1K,1K,1K\n1K\n2K,,3K,\n",
+        b"1000,1K,1000,1K,1000,1000\n1000\n2000,,3000,\n",
+    ),
+    (
+        "header",
+        Options { header: 2, ..PLAIN },
+        b"1024\nname\n1024\n",
+        b"1024\nname\n1 KiB\n",
+    ),
+    (
+        "zero bytes",
+        Options {
+            record_end: 0,
+            ..PLAIN
+        },
+        b"1024\01 KB\n\0",
+        b"1 KiB\01 KB\0",
+    ),
+    (
+        "bits",
+        Options {
+            kind: Kind::Bit,
+            ..PLAIN
+        },
+        b"1536\n1KB\n1 K\n",
+        b"1.5 Kib\n8 Kb\n1 Kb\n",
+    ),
+    (
+        "case ignored",
+        Options {
+            ignore_case: true,
+            ..PLAIN
+        },
+        b"1kb\n",
+        b"1 KB\n",
+    ),
+    ("case", PLAIN, b"1kb\n", b"125 B\n"),
+    (
+        "total",
+        TOTAL,
+        b"1.5 KiB\n2 KB",
+        b"1.5 KiB\n2 KB\n3.536 KB\n",
+    ),
+    ("total of nothing", TOTAL, b"", b"0 B\n"),
+    (
+        "greatest total",
+        TOTAL,
+        b"999999999999999999999999999999\n",
+        b"999999999999999999999999999.999 KB\n999999999999999999999999999.999 KB\n",
+    ),
+    (
+        "padding on the left",
+        PADDED,
+        b"1KB\n1.5 KiB\n123456789\n",
+        b"    1 KB\n 1.5 KiB\n123456.789 KB\n",
+    ),
+    (
+        "padding on the right",
+        Options {
+            align_left: true,
+            ..PADDED
+        },
+        b"1KB\n",
+        b"1 KB    \n",
+    ),
+];
+
+#[test]
+fn outputs_by_options(rt: HostRuntime) {
+    for (number, (name, options, input, written)) in BY_OPTIONS.iter().enumerate() {
+        let ended = ended(rt.alloc(), options, input);
+        ended.expect(&rt, None, written, (name, number));
     }
 }
 
 #[test]
-fn bits(rt: HostRuntime) {
-    let options = Options {
-        kind: Kind::Bit,
-        ..plain()
-    };
-    let ended = ended(rt.alloc(), &options, b"1536\n1KB\n1 K\n");
-    assert_eq!(rt;
-        ended.written.as_slice(),
-        b"1.5 Kib\n8 Kb\n1 Kb\n".as_slice()
-    );
+fn total_out_of_range(rt: HostRuntime) {
+    let ended = ended(rt.alloc(), &TOTAL, b"999999999999999999999999999999\n1 B");
+    let written = b"999999999999999999999999999.999 KB\n1 B\n";
+    ended.expect(&rt, Some(Stop::Total), written, ("total", 0));
 }
 
-#[test]
-fn case(rt: HostRuntime) {
-    let options = Options {
-        ignore_case: true,
-        ..plain()
-    };
-    assert_eq!(rt;
-        ended(rt.alloc(), &options, b"1kb\n").written.as_slice(),
-        b"1 KB\n".as_slice()
-    );
-    assert_eq!(rt;
-        ended(rt.alloc(), &plain(), b"1kb\n").written.as_slice(),
-        b"125 B\n".as_slice()
-    );
-}
-
-#[test]
-fn total(rt: HostRuntime) {
-    let options = Options {
-        total: true,
-        ..plain()
-    };
-    let both = ended(rt.alloc(), &options, b"1.5 KiB\n2 KB");
-    assert_eq!(rt;
-        both.written.as_slice(),
-        b"1.5 KiB\n2 KB\n3.536 KB\n".as_slice()
-    );
-    assert_eq!(rt;
-        ended(rt.alloc(), &options, b"").written.as_slice(),
-        b"0 B\n".as_slice()
-    );
-    let most = ended(rt.alloc(), &options, b"999999999999999999999999999999\n");
-    assert!(rt; most.result.is_ok());
-    let large = ended(rt.alloc(), &options, b"999999999999999999999999999999\n1 B");
-    assert_eq!(rt; large.result, Err(Stop::Total));
-    assert_eq!(rt;
-        large.written.as_slice(),
-        b"999999999999999999999999999.999 KB\n1 B\n".as_slice()
-    );
-}
+/// An input, the total, and whether a size is beyond the limits, which are 10 and 1000; then there is a message.
+const BY_LIMITS: &[(&[u8], u128, bool)] = &[
+    (b"1000\n10\n", 1010, false),
+    (b"1001", 1001, true),
+    (b"9", 9, true),
+];
 
 #[test]
 fn limits(rt: HostRuntime) {
     let options = Options {
         max: Some(1000),
         min: Some(10),
-        ..plain()
+        ..PLAIN
     };
-    let within = Ok(Tally {
-        total: 1010,
-        beyond: false,
-        rejected: false,
-    });
-    assert_eq!(rt; ended(rt.alloc(), &options, b"1000\n10\n").result, within);
-    for size in ["1001", "9"] {
-        let ended = ended(rt.alloc(), &options, size.as_bytes());
-        match ended.result {
-            Ok(tally) => assert!(rt; tally.beyond, "{size}"),
-            Err(_) => assert!(rt; false, "{size}"),
-        }
-        assert!(rt; !ended.errors.is_empty(), "{size}");
+    for (input, total, beyond) in BY_LIMITS {
+        let ended = ended(rt.alloc(), &options, input);
+        let wanted = Ok(Tally {
+            total: *total,
+            beyond: *beyond,
+            rejected: false,
+        });
+        let found = (ended.result == wanted, ended.errors.is_empty());
+        assert_eq!(rt; found, (true, !*beyond), "{total}");
     }
-}
-
-#[test]
-fn padding(rt: HostRuntime) {
-    let right = Options {
-        width: 8,
-        ..plain()
-    };
-    assert_eq!(rt;
-        ended(rt.alloc(), &right, b"1KB\n1.5 KiB\n123456789\n")
-            .written
-            .as_slice(),
-        b"    1 KB\n 1.5 KiB\n123456.789 KB\n".as_slice()
-    );
-    let left = Options {
-        align_left: true,
-        ..right
-    };
-    assert_eq!(rt;
-        ended(rt.alloc(), &left, b"1KB\n").written.as_slice(),
-        b"1 KB    \n".as_slice()
-    );
 }

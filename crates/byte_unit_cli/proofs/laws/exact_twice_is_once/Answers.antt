@@ -1,6 +1,0 @@
--- The text shown is parsed as the size, a text is parsed as at most one size, and a size has one exact form.
-use Rattle.byte_unit_cli.proofs.Again.{exact_again}
-use Rattle.byte_unit_cli.proofs.laws.exact_twice_is_once.Goals as goal
-
-pub returns : goal.returns
-returns c = exact_again c.shown_sizes_are_read.ensures c.texts_are_accepted_or_refused.ensures c.size_has_one_form.ensures

@@ -1,6 +1,0 @@
--- From the library's laws: the form with a unit and the digits are parsed as the size.
-use Rattle.byte_unit_cli.proofs.Again.{shown_is_read}
-use Rattle.byte_unit_cli.proofs.laws.shown_sizes_are_read.Goals as goal
-
-pub returns : goal.returns
-returns c = shown_is_read c.size_form_reads_back.ensures c.plain_form_reads_back.ensures

@@ -1,0 +1,70 @@
+-- Lemmas: what is shown can be read again.
+use Rattle.std.proofs.Common.{◌≡◌, ◌≢◌, ℕ, ◌-◌, ◌<◌, Bool, true, false, List, ◌++◌, length, replicate, Option, refl, sym, ap, subst, ◌∙◌}
+use Rattle.std.proofs.Common.{arith, append-nil}
+use Rattle.byte_unit.specs.Accepted.{IsAccepted}
+use Rattle.byte_unit.specs.Bounds.{size_limit}
+use Rattle.byte_unit.specs.Version.{current}
+use Rattle.byte_unit.specs.FormLaws.{SizeFormReadsBack, PlainFormReadsBack, SizeHasOneForm}
+use Rattle.byte_unit.specs.NamedSpecs.{plain_spec}
+use Rattle.byte_unit.specs.SizeLaws.{TextsAreAcceptedOrRejected}
+use Rattle.byte_unit.specs.declared.Kind.{Kind}
+use Rattle.byte_unit.specs.declared.Sign.TheVariants.{Unset, Plus}
+use Rattle.byte_unit_command.specs.Field.{ignores_case}
+use Rattle.byte_unit_command.specs.Laws.{IsLossless, ShownSizesAreRead, ExactTwiceIsOnce}
+use Rattle.byte_unit_command.specs.Shown.{IsFormText, exact_spec, padded}
+use Rattle.byte_unit_command.specs.declared.options.Form.{Form}
+use Rattle.byte_unit_command.specs.declared.options.Form.TheVariants.{Exact, Plain, InUnit, Largest}
+
+unset_is_not_plus : Unset ≢ Plus
+unset_is_not_plus same = cc
+
+-- without a width there are no spaces
+padded-no_width : (align_left : Bool) (width : ℕ) (text : List ℕ) → width ≡ 0 → padded width align_left text ≡ text
+padded-no_width true width text none =
+    let spaces : width - length text ≡ 0 = omega (arith, none) in
+    ap (λ count. text ++ replicate count 32) spaces ∙ append-nil text
+padded-no_width false width text none =
+    let spaces : width - length text ≡ 0 = omega (arith, none) in
+    ap (λ count. replicate count 32 ++ text) spaces
+
+-- a text in a lossless form is parsed as its size
+form_is_read : SizeFormReadsBack → PlainFormReadsBack → (kind : Kind) (form : Form) (precision : Option ℕ) (size : ℕ) (ignore_case : Bool)
+    (text : List ℕ) → size < size_limit → IsLossless form → IsFormText kind form precision size text
+    → IsAccepted kind ignore_case text size
+form_is_read exact digits kind Exact precision size ignore_case text below lossless is_text =
+    exact kind size (exact_spec precision) ignore_case text below is_text
+form_is_read exact digits kind Plain precision size ignore_case text below lossless is_text =
+    let Accepts : List ℕ → Type 0 = λ text. IsAccepted kind ignore_case text size in
+    subst Accepts (sym is_text) (digits kind size plain_spec ignore_case below unset_is_not_plus)
+form_is_read exact digits kind (InUnit unit) precision size ignore_case text below lossless is_text = absurd lossless
+form_is_read exact digits kind (Largest unit_type) precision size ignore_case text below lossless is_text = absurd lossless
+
+pub shown_is_read : SizeFormReadsBack → PlainFormReadsBack → ShownSizesAreRead
+shown_is_read exact digits = λ options others size text below lossless no_width same_kind (form, is_form, shown_is).
+    let is = shown_is ∙ padded-no_width options.align_left options.width form no_width in
+    let ignore_case = ignores_case others.kind others.ignore_case in
+    let at = form_is_read exact digits options.kind options.form options.precision size ignore_case form below lossless is_form in
+    let Accepts : List ℕ → Type 0 = λ text. IsAccepted options.kind ignore_case text size in
+    subst (λ kind. IsAccepted kind ignore_case text size) (sym same_kind) (subst Accepts (sym is) at)
+
+pub exact_again : ShownSizesAreRead → TextsAreAcceptedOrRejected → SizeHasOneForm → ExactTwiceIsOnce
+exact_again shown_read texts one_form =
+    λ options size text below exact no_width shown again text_again read (form_again, is_again, again_is).
+    let kind = options.kind in
+    let ignore_case = ignores_case kind options.ignore_case in
+    let spec = exact_spec options.precision in
+    let lossless : IsLossless options.form = subst IsLossless (sym exact) tt in
+    let accepted = shown_read options options size text below lossless no_width refl shown in
+    let same : again ≡ size = (texts kind ignore_case text).one_meaning again size read accepted in
+    let form = shown.0 in
+    let is_form : IsFormText kind Exact options.precision size form =
+    subst (λ way. IsFormText kind way options.precision size form) exact shown.1 in
+    let is_form_again : IsFormText kind Exact options.precision size form_again =
+    subst (λ size. IsFormText kind Exact options.precision size form_again) same
+    (subst (λ way. IsFormText kind way options.precision again form_again) exact is_again) in
+    let only = one_form current kind size spec in
+    let forms : form_again ≡ form = only.one form_again is_form_again ∙ sym (only.one form is_form) in
+    again_is
+    ∙ padded-no_width options.align_left options.width form_again no_width
+    ∙ forms
+    ∙ sym (shown.2 ∙ padded-no_width options.align_left options.width form no_width)

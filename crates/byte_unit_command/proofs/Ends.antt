@@ -1,0 +1,69 @@
+-- Lemmas: where the first record of some bytes ends, found byte by byte or in blocks. Fields end in the same way, at a
+-- delimiter.
+use Rattle.std.proofs.Common.{◌≡◌, ◌≢◌, ◌+◌, ◌<◌, ◌≤◌, ℕ, zero, suc, List, [], ◌∷◌, ◌++◌, take, drop, get_or, length}
+use Rattle.std.proofs.Common.{arith, false, eqb, sym, ap, subst, ◌∙◌, append_assoc, false-eqb}
+use Rattle.std.proofs.lemmas.List.{take_more}
+use Rattle.byte_unit_command.specs.Progress.{ended_records, begun_record, IsUnbroken}
+use Rattle.byte_unit_command.specs.Records.{parts}
+use Rattle.byte_unit_command.proofs.Parts.{ended_records-take-end_byte, begun_record-take-end_byte}
+use Rattle.byte_unit_command.proofs.Parts.{ended_records-take-other_byte, begun_record-take-other_byte, ended_records-take-drop}
+use Rattle.byte_unit_command.proofs.Parts.{begun_record-take-drop, parts-ended_records}
+
+-- if no record ends before a place, and the byte there is no end byte, no record ends before the next place
+pub IsUnbroken-other_byte : (end : ℕ) (bytes : List ℕ) (place : ℕ) → place < length bytes → IsUnbroken end (take place bytes)
+    → get_or bytes place 0 ≢ end → IsUnbroken end (take (place + 1) bytes)
+IsUnbroken-other_byte end bytes place fits unbroken is_other part = (
+  ended_records-take-other_byte end part bytes place fits is_other ∙ (unbroken part).0,
+  begun_record-take-other_byte end part bytes place fits is_other
+      ∙ ap (λ begun. begun ++ get_or bytes place 0 ∷ []) (unbroken part).1
+      ∙ append_assoc part (take place bytes) (get_or bytes place 0 ∷ [])
+      ∙ ap (λ begun. part ++ begun) (sym (take_more bytes place 0 fits)),
+)
+
+-- the same for several bytes, none of which is an end byte
+pub IsUnbroken-other_bytes : (end : ℕ) (bytes : List ℕ) (place count : ℕ) → place + count ≤ length bytes → IsUnbroken end (take place bytes)
+    → ((k : ℕ) → place ≤ k → k < place + count → eqb (get_or bytes k 0) end ≡ false) → IsUnbroken end (take (place + count) bytes)
+IsUnbroken-other_bytes end bytes place zero fits unbroken none = subst (λ to. IsUnbroken end (take to bytes)) (omega arith) unbroken
+IsUnbroken-other_bytes end bytes place (suc count) fits unbroken none =
+    let front = IsUnbroken-other_bytes end bytes place count (omega arith) unbroken (λ k low high. none k low (omega arith)) in
+    let is_other = false-eqb (get_or bytes (place + count) 0) end (sym (none (place + count) (omega arith) (omega arith))) in
+    let next : place + count + 1 ≡ place + suc count = omega arith in
+    subst (λ to. IsUnbroken end (take to bytes)) next (IsUnbroken-other_byte end bytes (place + count) (omega arith) front is_other)
+
+-- the first record that ends in these bytes ends at this place
+abbrev pub EndsAt : ℕ → List ℕ → ℕ → Type 0
+EndsAt end bytes place = (place < length bytes) × (get_or bytes place 0 ≡ end) × IsUnbroken end (take place bytes)
+
+-- the record that ends there is the first one, and the records and the unfinished record of the rest follow
+module _ (end : ℕ) (part bytes : List ℕ) (place : ℕ) (ends : EndsAt end bytes place) where
+  pub ended_records-EndsAt : ended_records end part bytes ≡ (part ++ take place bytes) ∷ ended_records end [] (drop (place + 1) bytes)
+  ended_records-EndsAt =
+      let rest = drop (place + 1) bytes in
+      ended_records-take-drop end part bytes (place + 1)
+      ∙ ap (λ begun. ended_records end part (take (place + 1) bytes) ++ ended_records end begun rest) (begun_record-take-end_byte end part bytes place ends.0 ends.1)
+      ∙ ap (λ records. records ++ ended_records end [] rest) (
+      ended_records-take-end_byte end part bytes place ends.0 ends.1
+      ∙ ap (λ records. records ++ begun_record end part (take place bytes) ∷ []) (ends.2 part).0
+      ∙ ap (λ begun. begun ∷ []) (ends.2 part).1)
+
+  pub begun_record-EndsAt : begun_record end part bytes ≡ begun_record end [] (drop (place + 1) bytes)
+  begun_record-EndsAt =
+      begun_record-take-drop end part bytes (place + 1)
+      ∙ ap (λ begun. begun_record end begun (drop (place + 1) bytes)) (begun_record-take-end_byte end part bytes place ends.0 ends.1)
+
+-- the parts of bytes in which none ends: the bytes themselves
+pub parts-IsUnbroken : (end : ℕ) (bytes : List ℕ) → IsUnbroken end bytes → parts end bytes ≡ bytes ∷ []
+parts-IsUnbroken end bytes unbroken =
+    parts-ended_records end bytes
+    ∙ ap (λ ended. ended ++ begun_record end [] bytes ∷ []) (unbroken []).0
+    ∙ ap (λ begun. begun ∷ []) (unbroken []).1
+
+-- the parts of bytes in which the first one ends at this place: that one, then the parts of the rest
+pub parts-EndsAt : (end : ℕ) (bytes : List ℕ) (place : ℕ) → EndsAt end bytes place
+    → parts end bytes ≡ take place bytes ∷ parts end (drop (place + 1) bytes)
+parts-EndsAt end bytes place ends =
+    let rest = drop (place + 1) bytes in
+    parts-ended_records end bytes
+    ∙ ap (λ ended. ended ++ begun_record end [] bytes ∷ []) (ended_records-EndsAt end [] bytes place ends)
+    ∙ ap (λ begun. take place bytes ∷ (ended_records end [] rest ++ begun ∷ [])) (begun_record-EndsAt end [] bytes place ends)
+    ∙ ap (λ parts. take place bytes ∷ parts) (sym (parts-ended_records end rest))

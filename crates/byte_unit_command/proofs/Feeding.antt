@@ -1,0 +1,123 @@
+-- Lemmas: the loop over the records that end in a chunk.
+use Rattle.std.proofs.Common.{◌≡◌, ℕ, ◌+◌, List, [], ◌∷◌, ◌++◌, take, drop, refl, sym, ap, subst, ◌∙◌, append_assoc, append-nil, ◌⊎◌, inl, inr, ◌==◌, true, length}
+use Rattle.byte_unit_command.specs.Progress.{ended_records, begun_record, IsUnbroken, AddsRecords, Aborts, State, Stops}
+use Rattle.byte_unit_command.specs.declared.options.Options.{Options}
+use Rattle.std.proofs.lemmas.Bool.{eqb-true}
+use Rattle.std.proofs.lemmas.List.{nil_from_length}
+use Rattle.byte_unit_command.specs.Progress.{state_of}
+use Rattle.byte_unit_command.specs.declared.stop.Stop.{Stop}
+use Rattle.byte_unit_command.specs.declared.records.Progress.{Progress}
+use Rattle.byte_unit_command.specs.declared.stop.Stop.TheVariants.{Memory, Rejected}
+use Rattle.byte_unit_command.proofs.Ends.{EndsAt, ended_records-EndsAt, begun_record-EndsAt}
+use Rattle.byte_unit_command.proofs.Converting.{AddsRecords-append, AddsRecords-none}
+
+-- the state between two records of a chunk: the part of a record so far, the bytes that are left, and what was appended
+pub record Feed : Type 0 where
+  pub part : List ℕ
+  pub rest : List ℕ
+  pub state : State
+
+-- from `start` to `now` some records were converted, and the rest gives the other records and the same unfinished
+-- record
+pub record IsFed (options : Options) (start now : Feed) : Type 0 where
+  pub converted : List (List ℕ)
+  pub added : AddsRecords options converted start.state now.state
+  pub ended : ended_records options.record_end start.part start.rest
+      ≡ converted ++ ended_records options.record_end now.part now.rest
+  pub begun : begun_record options.record_end start.part start.rest ≡ begun_record options.record_end now.part now.rest
+
+-- before the first record
+pub IsFed-start : (options : Options) (start : Feed) → IsFed options start start
+IsFed-start options start = record { converted = []; added = AddsRecords-none options start.state; ended = refl; begun = refl }
+
+-- the record that ends at this place is the first one of the rest
+pub record IsNext (options : Options) (now : Feed) (place : ℕ) (bytes : List ℕ) : Type 0 where
+  pub ends : EndsAt options.record_end now.rest place
+  pub bytes_are : bytes ≡ now.part ++ take place now.rest
+
+-- it is followed by the records of the bytes after it
+pub ended_records-next : (options : Options) (now : Feed) (place : ℕ) (bytes : List ℕ) → IsNext options now place bytes
+    → ended_records options.record_end now.part now.rest
+    ≡ bytes ∷ ended_records options.record_end [] (drop (place + 1) now.rest)
+ended_records-next options now place bytes next =
+    ended_records-EndsAt options.record_end now.part now.rest place next.ends
+    ∙ ap (λ first. first ∷ ended_records options.record_end [] (drop (place + 1) now.rest)) (sym next.bytes_are)
+
+-- one more record keeps the invariant
+pub IsFed-step : (options : Options) (start now : Feed) (place : ℕ) (bytes : List ℕ) → IsFed options start now
+    → IsNext options now place bytes → (next : Feed) → AddsRecords options (bytes ∷ []) now.state next.state → next.part ≡ []
+    → next.rest ≡ drop (place + 1) now.rest → IsFed options start next
+IsFed-step options start now place bytes fed is_next next adds part_is rest_is =
+    let end = options.record_end in
+    let rest = drop (place + 1) now.rest in
+    let records : ended_records end [] rest ≡ ended_records end next.part next.rest =
+    ap (λ part. ended_records end part rest) (sym part_is) ∙ ap (ended_records end next.part) (sym rest_is) in
+    let begun : begun_record end [] rest ≡ begun_record end next.part next.rest =
+    ap (λ part. begun_record end part rest) (sym part_is) ∙ ap (begun_record end next.part) (sym rest_is) in record {
+      converted = fed.converted ++ bytes ∷ [];
+      added = AddsRecords-append options fed.converted (bytes ∷ []) start.state now.state next.state fed.added adds;
+      ended = fed.ended
+          ∙ ap (λ records. fed.converted ++ records) (ended_records-next options now place bytes is_next)
+          ∙ ap (λ records. fed.converted ++ bytes ∷ records) records
+          ∙ sym (append_assoc fed.converted (bytes ∷ []) (ended_records end next.part next.rest));
+      begun = fed.begun ∙ begun_record-EndsAt end now.part now.rest place is_next.ends ∙ begun;
+    }
+
+-- after the last record that ends in the chunk: all of them are converted
+pub AddsRecords-all : (options : Options) (start now : Feed) → IsFed options start now → IsUnbroken options.record_end now.rest
+    → AddsRecords options (ended_records options.record_end start.part start.rest) start.state now.state
+AddsRecords-all options start now fed unbroken =
+    let all : fed.converted ≡ ended_records options.record_end start.part start.rest =
+    sym (append-nil fed.converted) ∙ ap (λ records. fed.converted ++ records) (sym (unbroken now.part).0) ∙ sym fed.ended in
+    subst (λ records. AddsRecords options records start.state now.state) all fed.added
+
+pub begun_record-all : (options : Options) (start now : Feed) → IsFed options start now → IsUnbroken options.record_end now.rest
+    → now.part ++ now.rest ≡ begun_record options.record_end start.part start.rest
+begun_record-all options start now fed unbroken = sym (unbroken now.part).1 ∙ sym fed.begun
+
+-- out of memory, with nothing more appended
+pub Stops-memory : (options : Options) (start now : Feed) → IsFed options start now → (out : List ℕ) → now.state.out ≡ out
+    → Stops options (ended_records options.record_end start.part start.rest) start.state Memory out
+Stops-memory options start now fed out same =
+    (fed.converted, now.state, (ended_records options.record_end now.part now.rest, fed.ended), fed.added, same)
+
+-- a rejected field in the next record
+pub Stops-rejected : (options : Options) (start now : Feed) (place : ℕ) (bytes : List ℕ) → IsFed options start now
+    → IsNext options now place bytes → (out : List ℕ) → now.state.out ≡ out → now.state.header ≡ 0 → Aborts options bytes
+    → Stops options (ended_records options.record_end start.part start.rest) start.state Rejected out
+Stops-rejected options start now place bytes fed next out same header aborts = (
+  fed.converted,
+  ended_records options.record_end [] (drop (place + 1) now.rest),
+  bytes,
+  now.state,
+  fed.ended ∙ ap (λ records. fed.converted ++ records) (ended_records-next options now place bytes next),
+  fed.added,
+  same,
+  header,
+  aborts,
+)
+
+-- a call that converts the next record stopped
+pub Stops-record : (options : Options) (start now : Feed) (place : ℕ) (bytes : List ℕ) → IsFed options start now
+    → IsNext options now place bytes → (out : List ℕ) → now.state.out ≡ out → (error : Stop)
+    → (error ≡ Memory) ⊎ (error ≡ Rejected) → (error ≡ Rejected → (now.state.header ≡ 0) × Aborts options bytes)
+    → Stops options (ended_records options.record_end start.part start.rest) start.state error out
+Stops-record options start now place bytes fed next out same error (inl memory) aborts =
+    subst (λ error. Stops options (ended_records options.record_end start.part start.rest) start.state error out) (sym memory)
+    (Stops-memory options start now fed out same)
+Stops-record options start now place bytes fed next out same error (inr rejected) aborts =
+    let at = aborts rejected in
+    subst (λ error. Stops options (ended_records options.record_end start.part start.rest) start.state error out) (sym rejected)
+    (Stops-rejected options start now place bytes fed next out same at.0 at.1)
+
+-- a part whose length is tested to be 0 is empty
+pub empty_from_length : (part : List ℕ) (count : ℕ) → count ≡ length part → true ≡ (count == 0) → part ≡ []
+empty_from_length part count count_is none = nil_from_length part (sym count_is ∙ eqb-true count 0 (sym none))
+
+-- appended records, with the state replaced by an equal one
+pub AddsRecords-same : (options : Options) (records : List (List ℕ)) (old : State) {progress same : Progress} {out now : List ℕ}
+    → AddsRecords options records old (state_of progress out) → same ≡ progress → now ≡ out
+    → AddsRecords options records old (state_of same now)
+AddsRecords-same options records old {progress} {same} {out} {now} adds progress_is out_is =
+    subst (λ now. AddsRecords options records old (state_of same now)) (sym out_is)
+    (subst (λ progress. AddsRecords options records old (state_of progress out)) (sym progress_is) adds)

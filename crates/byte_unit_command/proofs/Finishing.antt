@@ -1,0 +1,92 @@
+-- Lemmas: the end of a run.
+use Rattle.std.proofs.Common.{◌≡◌, ◌≢◌, ℕ, List, [], ◌++◌, true, false, Option, Result, Ok, Err, OnOk, OnErr, IfErr}
+use Rattle.std.proofs.Common.{refl, sym, subst, append-nil, inl, inr, MatchBool, ◌⊎◌}
+use Rattle.std.specs.Prelude.{⊤, IsErrAnd}
+use Rattle.std.specs.Io.KnownBytes.{Appends}
+use Rattle.byte_unit_command.specs.Outcome.{IsPrefix}
+use Rattle.byte_unit_command.specs.Progress.{AddsRecords, State, IsTotalFor, IsTotalWritten, IsFinished, nonempty_record}
+use Rattle.byte_unit_command.specs.declared.options.Options.{Options}
+use Rattle.byte_unit_command.specs.declared.stop.Stop.{Stop}
+use Rattle.byte_unit_command.specs.declared.stop.Stop.TheVariants.{Memory, Read, Write, Rejected, Total}
+use Rattle.byte_unit_command.specs.declared.tally.Tally.{Tally}
+
+memory_is_not_write : Memory ≢ Write
+memory_is_not_write same = cc
+
+read_is_not_write : Read ≢ Write
+read_is_not_write same = cc
+
+rejected_is_not_write : Rejected ≢ Write
+rejected_is_not_write same = cc
+
+total_is_not_write : Total ≢ Write
+total_is_not_write same = cc
+
+-- the effect of a call that writes these bytes: it appends them, or it fails with `Write` and appends a prefix of them
+pub record IsWrittenBy (held holds : Option (List ℕ)) (bytes : List ℕ) (result : Result ⊤ Stop) : Type 0 where
+  pub whole : OnOk result (Appends held holds bytes)
+  pub part : OnErr result ((written : List ℕ) × Appends held holds written × IsPrefix written bytes)
+  pub error : IfErr result (λ error. error ≡ Write)
+
+module _ (options : Options) (total : ℕ) (before : List ℕ) where
+  -- out of memory, nothing was written
+  pub IsTotalWritten-memory : (result : Result ⊤ Stop) → IsErrAnd result (λ error. error ≡ Memory)
+      → IsTotalWritten options total before result []
+  IsTotalWritten-memory (Ok _) is = absurd is
+  IsTotalWritten-memory (Err error) is = subst (λ error. IsTotalWritten options total before (Err error) []) (sym is) refl
+
+  -- a call that writes the line of the total too
+  pub IsTotalWritten-line : {held holds : Option (List ℕ)} (line bytes : List ℕ) → IsTotalFor options total line → bytes ≡ before ++ line
+      → (result : Result ⊤ Stop) → IsWrittenBy held holds bytes result
+      → (written : List ℕ) × Appends held holds written × IsTotalWritten options total before result written
+  IsTotalWritten-line line bytes is_for are (Ok _) by = (bytes, by.whole, (line, is_for, are))
+  IsTotalWritten-line line bytes is_for are (Err Write) by =
+      (by.part.0, by.part.1, (line, inr is_for, subst (IsPrefix by.part.0) are by.part.2))
+  IsTotalWritten-line line bytes is_for are (Err Memory) by = absurd (memory_is_not_write by.error)
+  IsTotalWritten-line line bytes is_for are (Err Read) by = absurd (read_is_not_write by.error)
+  IsTotalWritten-line line bytes is_for are (Err Rejected) by = absurd (rejected_is_not_write by.error)
+  IsTotalWritten-line line bytes is_for are (Err Total) by = absurd (total_is_not_write by.error)
+
+module _ (options : Options) (part : List ℕ) (old new : State) (adds : AddsRecords options (nonempty_record part) old new) where
+  -- the total is asked for
+  pub IsFinished-total_ok : options.total ≡ true → (written : List ℕ) → IsTotalWritten options new.tally.total new.out (Ok tt) written
+      → IsFinished options part old (Ok new.tally) written
+  IsFinished-total_ok asked written (line, is_for, is) =
+      let For : Type 0 = IsTotalFor options new.tally.total line in
+      (new, line, adds, refl, subst (λ total. MatchBool total For (line ≡ [])) (sym asked) is_for, is)
+
+  pub IsFinished-total_error : options.total ≡ true → (error : Stop) (written : List ℕ)
+      → IsTotalWritten options new.tally.total new.out (Err error) written → IsFinished options part old (Err error) written
+  IsFinished-total_error asked Memory written at = at
+  IsFinished-total_error asked Total written at = (new, adds, asked, at.0, at.1)
+  IsFinished-total_error asked Write written (line, is_for, begins) =
+      let For : Type 0 = IsTotalFor options new.tally.total line in
+      let matches : (line ≡ []) ⊎ MatchBool options.total For (line ≡ []) = elim is_for [
+        | inl none ↦ inl none
+        | inr holds ↦ inr (subst (λ total. MatchBool total For (line ≡ [])) (sym asked) holds)
+      ] in
+      (new, line, adds, matches, begins)
+  IsFinished-total_error asked Read written at = absurd at
+  IsFinished-total_error asked Rejected written at = absurd at
+
+  -- the total is not asked for
+  pub IsFinished-plain_ok : options.total ≡ false → IsFinished options part old (Ok new.tally) new.out
+  IsFinished-plain_ok not_asked =
+      let For : Type 0 = IsTotalFor options new.tally.total [] in
+      let Nothing : Type 0 = ◌≡◌ {A = List ℕ} [] [] in
+      let nothing : Nothing = refl in
+      (new, [], adds, refl, subst (λ total. MatchBool total For Nothing) (sym not_asked) nothing, sym (append-nil new.out))
+
+  pub IsFinished-plain_error : (error : Stop) (written : List ℕ) → error ≡ Write → IsPrefix written new.out
+      → IsFinished options part old (Err error) written
+  IsFinished-plain_error error written is begins =
+      let whole : IsPrefix written (new.out ++ []) = subst (IsPrefix written) (sym (append-nil new.out)) begins in
+      subst (λ error. IsFinished options part old (Err error) written) (sym is) (new, [], adds, inl refl, whole)
+
+-- what is right for an error is right for the result with it
+pub IsFinished-error : (options : Options) (part : List ℕ) (old : State) (written : List ℕ) (result : Result Tally Stop) (error : Stop)
+    → IsErrAnd result (λ other. other ≡ error) → IsFinished options part old (Err error) written
+    → IsFinished options part old result written
+IsFinished-error options part old written (Ok _) error is at = absurd is
+IsFinished-error options part old written (Err _) error is at =
+    subst (λ other. IsFinished options part old (Err other) written) (sym is) at

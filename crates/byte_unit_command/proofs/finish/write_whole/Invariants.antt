@@ -1,0 +1,13 @@
+-- What was written so far and the rest are all bytes; the rest gets shorter.
+use Rattle.std.proofs.Common.{length}
+use Rattle.byte_unit_command.specs.Streams.{writer_of}
+use Rattle.byte_unit_command.proofs.Bytes.{IsWrittenTo}
+use Rattle.byte_unit_command.proofs.finish.write_whole.Given as goal
+
+abbrev pub invariant-loop-rest : goal.invariant-loop-rest
+invariant-loop-rest g l =
+    let contents = g.W.Write.contents in
+    IsWrittenTo (contents (writer_of l.initial.writer)) (contents (writer_of l.writer)) l.bytes l.rest
+
+abbrev pub decreases-loop-rest : goal.decreases-loop-rest
+decreases-loop-rest g l = length l.rest

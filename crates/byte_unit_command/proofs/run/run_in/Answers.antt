@@ -1,0 +1,117 @@
+-- Each read is served: the records that end in it are written, and the record that it has begun is kept.
+use Rattle.std.proofs.Common.{[], ◌++◌, sym, ap, subst, ◌∙◌, take, Err, Result}
+use Rattle.std.proofs.KnownBytes.{Consumes-kept, Consumes-nil, Appends-nil}
+use Rattle.byte_unit_command.specs.Progress.{state_of}
+use Rattle.byte_unit_command.specs.Streams.{reader_of, writer_of}
+use Rattle.byte_unit_command.specs.Records.{finished_records, records_of}
+use Rattle.byte_unit_command.proofs.Runs.{IsServed, IsServed-start, IsServed-piece, IsWritten-read, IsWritten-piece, IsWritten-finished}
+use Rattle.byte_unit_command.proofs.Runs.{IsWritten-error, Consumes-piece, Consumes-at_end, Appends-more}
+use Rattle.byte_unit_command.specs.Progress.{IsFinished}
+use Rattle.byte_unit_command.specs.declared.stop.Stop.{Stop}
+use Rattle.byte_unit_command.specs.declared.stop.Stop.TheVariants.{Read, Total}
+use Rattle.byte_unit_command.specs.declared.tally.Tally.{Tally}
+use Rattle.byte_unit_command.proofs.Results.{error-passed}
+use Rattle.byte_unit_command.proofs.run.run_in.Goals as goal
+
+pub reads-init : goal.reads-init
+reads-init g c = record {
+  read = [];
+  written = [];
+  gave = Consumes-nil (g.R.Read.remaining (reader_of c.args.reader.now));
+  took = Appends-nil (g.W.Write.contents (writer_of c.args.writer.now));
+  served = subst (λ part. IsServed c.args.options.now [] [] part c.new-progress.result) (sym c.new-part.ensures.items)
+      (IsServed-start c.args.options.now c.new-progress.result c.new-progress.ensures.header c.new-progress.ensures.tally);
+  none_waits = c.new-waiting.ensures.items;
+}
+
+pub returns-in-None-clause-run : goal.returns-in-None-clause-run
+returns-in-None-clause-run g c =
+    let options = c.args.options.now in
+    let left = g.R.Read.remaining (reader_of c.args.reader.now) in
+    let between = g.R.Read.remaining (reader_of c.reads.reader) in
+    let rest = g.R.Read.remaining (reader_of c.read.new.self) in
+    let so_far = c.reads.invariant in (
+      so_far.read,
+      so_far.written,
+      Consumes-kept left between rest so_far.read so_far.gave c.in-None.ensures.none,
+      so_far.took,
+      IsWritten-read options so_far.read so_far.written c.reads.part.items c.reads.progress so_far.served,
+    )
+
+pub reads-preserved : goal.reads-preserved
+reads-preserved g c =
+    let options = c.args.options.now in
+    let rest = g.R.Read.remaining (reader_of c.read.new.self) in
+    let holds = g.W.Write.contents (writer_of c.answer_piece.new.writer) in
+    let so_far = c.reads.invariant in
+    let piece = take c.in-Some.n c.read.new.buf in
+    let answered = c.in_ok-answer_piece-in-Some.ensures in
+    let more = answered.written in record {
+      read = so_far.read ++ piece;
+      written = so_far.written ++ more.0;
+      gave = Consumes-piece so_far rest piece c.in-Some.ensures.came;
+      took = Appends-more so_far holds more.0 more.1;
+      served = IsServed-piece options so_far.read so_far.written c.reads.part.items c.reads.progress so_far.served piece more.0
+          c.answer_piece.new.part.items c.answer_piece.new.progress more.2 answered.part;
+      none_waits = answered.waiting;
+    }
+
+pub returns-in_err-answer_piece-in-Some-clause-run : goal.returns-in_err-answer_piece-in-Some-clause-run
+returns-in_err-answer_piece-in-Some-clause-run g c =
+    let options = c.args.options.now in
+    let rest = g.R.Read.remaining (reader_of c.read.new.self) in
+    let holds = g.W.Write.contents (writer_of c.answer_piece.new.writer) in
+    let so_far = c.reads.invariant in
+    let piece = take c.in-Some.n c.read.new.buf in
+    let failed = c.in_err-answer_piece-in-Some in
+    let error = failed.field-0.0 in
+    let more = failed.ensures.written in
+    let read = so_far.read ++ piece in
+    let written = so_far.written ++ more.0 in
+    let at = IsWritten-piece options so_far.read so_far.written c.reads.part.items c.reads.progress so_far.served piece more.0
+    (state_of c.answer_piece.new.progress []) error more.2 in (
+      read,
+      written,
+      Consumes-piece so_far rest piece c.in-Some.ensures.came,
+      Appends-more so_far holds more.0 more.1,
+      IsWritten-error options (finished_records options.record_end read) (records_of options.record_end read) written
+          c.from_residual.result error c.from_residual.ensures.1 at,
+    )
+
+pub returns-clause-run : goal.returns-clause-run
+returns-clause-run g c =
+    let options = c.args.options.now in
+    let rest = g.R.Read.remaining (reader_of c.read.new.self) in
+    let holds = g.W.Write.contents (writer_of c.finish.new.writer) in
+    let so_far = c.reads.invariant in
+    let end = c.in-Some-eq0 in
+    let none = ap (λ count. take count c.read.new.buf) end.field-0-test in
+    let part = c.deref.result.now in
+    let served : IsServed options so_far.read so_far.written part c.reads.progress =
+    record { added = so_far.served.added; begun = c.deref.ensures.value ∙ so_far.served.begun } in
+    let more = c.finish.ensures.written in (
+      so_far.read,
+      so_far.written ++ more.0,
+      Consumes-at_end so_far rest (take end.field-0 c.read.new.buf) end.ensures.came none,
+      Appends-more so_far holds more.0 more.1,
+      IsWritten-finished options so_far.read so_far.written part c.reads.progress served more.0 c.finish.result more.2,
+    )
+
+pub returns-in_err-answer_piece-in-Some-clause-total : goal.returns-in_err-answer_piece-in-Some-clause-total
+returns-in_err-answer_piece-in-Some-clause-total g c = λ is.
+    let failed = c.in_err-answer_piece-in-Some in
+    let same = error-passed c.from_residual.result failed.field-0.0 Total c.from_residual.ensures.1 is in
+    absurd (failed.ensures.no_total (ap Err same))
+
+pub returns-in_err-answer_piece-in-Some-clause-read_failed : goal.returns-in_err-answer_piece-in-Some-clause-read_failed
+returns-in_err-answer_piece-in-Some-clause-read_failed g c = λ is.
+    let failed = c.in_err-answer_piece-in-Some in
+    let same = error-passed c.from_residual.result failed.field-0.0 Read c.from_residual.ensures.1 is in
+    absurd (failed.ensures.no_read (ap Err same))
+
+pub returns-clause-read_failed : goal.returns-clause-read_failed
+returns-clause-read_failed g c = λ is.
+    let more = c.finish.ensures.written in
+    let Ends : Result Tally Stop → Type 0 =
+    λ result. IsFinished c.args.options.now c.deref.result.now (state_of c.reads.progress []) result more.0 in
+    absurd (subst Ends is more.2)

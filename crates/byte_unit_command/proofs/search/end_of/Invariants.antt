@@ -1,0 +1,17 @@
+-- The two loops: over chunks of 16 bytes, and over the bytes after them.
+use Rattle.std.proofs.Common.{length, take, ◌-◌, ◌≤◌}
+use Rattle.byte_unit_command.specs.Progress.{IsUnbroken}
+use Rattle.byte_unit_command.proofs.search.end_of.Given as goal
+
+-- no record ends before the index
+abbrev pub invariant-loop-i : goal.invariant-loop-i
+invariant-loop-i l = IsUnbroken l.end (take l.i l.bytes) × (l.i ≤ length l.bytes)
+
+abbrev pub decreases-loop-i : goal.decreases-loop-i
+decreases-loop-i l = length l.bytes - l.i
+
+abbrev pub invariant-loop-i-2 : goal.invariant-loop-i-2
+invariant-loop-i-2 l = IsUnbroken l.end (take l.i l.bytes) × (l.i ≤ length l.bytes)
+
+abbrev pub decreases-loop-i-2 : goal.decreases-loop-i-2
+decreases-loop-i-2 l = length l.bytes - l.i

@@ -1,0 +1,36 @@
+-- The exit status of a run, and its message.
+use Rattle.std.specs.Prelude.{ℕ, List, Bool, ◌&&◌, true, false, if◌then◌else◌, Option, Some, None, Result, Ok, Err, codes}
+use Rattle.byte_unit_command.specs.declared.options.Invalid.{Invalid}
+use Rattle.byte_unit_command.specs.declared.options.Invalid.TheVariants.{Abort, Fail, Warn, Ignore}
+use Rattle.byte_unit_command.specs.declared.stop.Stop.{Stop}
+use Rattle.byte_unit_command.specs.declared.stop.Stop.TheVariants.{Memory, Read, Write, Rejected, Total}
+use Rattle.byte_unit_command.specs.declared.tally.Tally.{Tally}
+
+-- whether a rejected field, in a run that goes on, makes the exit status 2
+abbrev pub fails : Invalid → Bool
+fails Abort = false
+fails Fail = true
+fails Warn = false
+fails Ignore = false
+
+-- the exit status of a run that went to the end: 2 for a rejected field in the mode `fail`, 3 for a size beyond a limit
+abbrev pub status_of_tally : Invalid → Tally → ℕ
+status_of_tally invalid tally =
+    if tally.rejected && fails invalid then 2 else (if tally.beyond then 3 else 0)
+
+-- the exit status of a run
+abbrev pub status_of : Invalid → Result Tally Stop → ℕ
+status_of invalid (Ok tally) = status_of_tally invalid tally
+status_of invalid (Err Rejected) = 2
+status_of invalid (Err Total) = 2
+status_of invalid (Err Memory) = 1
+status_of invalid (Err Read) = 1
+status_of invalid (Err Write) = 1
+
+-- the message of a run that ended early, without its line end; in the mode `abort` it is the one about the field
+abbrev pub message_of : Stop → Option (List ℕ)
+message_of Memory = Some (codes "out of memory")
+message_of Read = Some (codes "read failed")
+message_of Write = Some (codes "write failed")
+message_of Rejected = None
+message_of Total = Some (codes "the total is 10^30 or more")

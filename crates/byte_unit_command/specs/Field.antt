@@ -1,0 +1,40 @@
+-- What is written for one field, and what is found in it.
+use Rattle.std.specs.Prelude.{◌≡◌, ℕ, ◌⊎◌, Bool, false, List, [], ◌∷◌, Option, None, Some}
+use Rattle.std.specs.Str.{IsUtf8}
+use Rattle.byte_unit.specs.Accepted.{IsAccepted, IsRejected}
+use Rattle.byte_unit.specs.Fault.{Fault}
+use Rattle.byte_unit.specs.declared.Kind.{Kind}
+use Rattle.byte_unit.specs.declared.Kind.TheVariants.{Byte, Bit}
+use Rattle.byte_unit_command.specs.Fields.{IsChosen}
+use Rattle.byte_unit_command.specs.Shown.{IsShown}
+use Rattle.byte_unit_command.specs.declared.options.Options.{Options}
+
+-- whether case is ignored; it is always significant in sizes in bits, where it tells bits from bytes
+abbrev pub ignores_case : Kind → Bool → Bool
+ignores_case Byte ignore_case = ignore_case
+ignores_case Bit ignore_case = false
+
+-- the field is a size
+abbrev pub IsSize : Options → List ℕ → ℕ → Type 0
+IsSize options field size =
+    IsUtf8 field × IsAccepted options.kind (ignores_case options.kind options.ignore_case) field size
+
+-- the field is not a size: it is not UTF-8, or it is rejected
+abbrev pub IsNoSize : Options → List ℕ → Type 0
+IsNoSize options field =
+    ¬ IsUtf8 field
+    ⊎ IsUtf8 field
+    × ((fault : Fault) × IsRejected options.kind (ignores_case options.kind options.ignore_case) field fault)
+
+-- what is found in a field that is to be converted: its size, or `None` if it is not a size
+abbrev pub Found : Type 0
+Found = Option ℕ
+
+-- what is written for the field with this number, and what is found in it: a field that is not chosen is copied; a size
+-- is replaced by its text; a field that is not a size is copied too
+pub data IsField (options : Options) (number : ℕ) (field text : List ℕ) (found : List Found) : Type 0 where
+  other : ¬ IsChosen options.fields.now number → text ≡ field → found ≡ [] → IsField options number field text found
+  size : (n : ℕ) → IsChosen options.fields.now number → IsSize options field n → IsShown options n text
+      → found ≡ Some n ∷ [] → IsField options number field text found
+  rejected : IsChosen options.fields.now number → IsNoSize options field → text ≡ field → found ≡ None ∷ []
+      → IsField options number field text found

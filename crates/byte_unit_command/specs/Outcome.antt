@@ -1,0 +1,95 @@
+-- What a run has written, by the records that it has read and how it ended.
+use Rattle.std.specs.Prelude.{◌≡◌, ◌≤◌, ◌<◌, ◌-◌, ◌⊎◌, ℕ, true, false, MatchBool, List, [], ◌∷◌, ◌++◌, length, Result, Ok, Err}
+use Rattle.byte_unit.specs.Bounds.{size_limit}
+use Rattle.byte_unit_command.specs.Field.{Found}
+use Rattle.byte_unit_command.specs.Fields.{fields_of}
+use Rattle.byte_unit_command.specs.Output.{AreRecords, HasRejectedField}
+use Rattle.byte_unit_command.specs.Shown.{IsShown}
+use Rattle.byte_unit_command.specs.Sums.{sum_of, has_rejected, tally_of}
+use Rattle.byte_unit_command.specs.declared.options.Options.{Options}
+use Rattle.byte_unit_command.specs.declared.options.Invalid.TheVariants.{Abort}
+use Rattle.byte_unit_command.specs.declared.stop.Stop.{Stop}
+use Rattle.byte_unit_command.specs.declared.stop.Stop.TheVariants.{Memory, Read, Write, Rejected, Total}
+use Rattle.byte_unit_command.specs.declared.tally.Tally.{Tally}
+
+-- the second list begins with the first
+abbrev pub IsPrefix : {X : Type 0} → List X → List X → Type 0
+IsPrefix {X} prefix whole = (rest : List X) × (whole ≡ prefix ++ rest)
+
+-- in the mode `abort`, nothing that was found is rejected
+abbrev pub Passes : Options → List Found → Type 0
+Passes options found = options.invalid ≡ Abort → has_rejected found ≡ false
+
+-- what is written for these records from the first one on, in a run that goes on after them
+pub record AreConverted (options : Options) (records : List (List ℕ)) (text : List ℕ) (found : List Found)
+    : Type 0 where
+  pub are_records : AreRecords options options.header records text found
+  pub passes : Passes options found
+
+-- the line of the total, if it is asked for: the text of the exact sum, which is below 10^30, and the end byte
+abbrev pub IsTotalLine : Options → List Found → List ℕ → Type 0
+IsTotalLine options found line =
+    MatchBool options.total
+    ((shown : List ℕ) × (sum_of found < size_limit) × IsShown options (sum_of found) shown
+    × (line ≡ shown ++ options.record_end ∷ []))
+    (line ≡ [])
+
+-- the whole output for these records, and what was found in them
+pub record IsOutput (options : Options) (records : List (List ℕ)) (written : List ℕ) (found : List Found) : Type 0 where
+  pub text : List ℕ
+  pub line : List ℕ
+  pub converted : AreConverted options records text found
+  pub total_line : IsTotalLine options found line
+  pub written_is : written ≡ text ++ line
+
+-- the texts of the first of these records, for some number of them, each whole
+pub record AreFirst (options : Options) (records : List (List ℕ)) (written : List ℕ) : Type 0 where
+  pub first : List (List ℕ)
+  pub found : List Found
+  pub is_prefix : IsPrefix first records
+  pub converted : AreConverted options first written found
+
+-- a prefix of the texts of the first of these records, or of the whole output for them
+pub record IsBegun (options : Options) (records : List (List ℕ)) (written : List ℕ) : Type 0 where
+  pub first : List (List ℕ)
+  pub found : List Found
+  pub text : List ℕ
+  pub line : List ℕ
+  pub is_prefix : IsPrefix first records
+  pub converted : AreConverted options first text found
+  pub total_line : (line ≡ []) ⊎ IsTotalLine options found line × (first ≡ records)
+  pub begins : IsPrefix written (text ++ line)
+
+-- in the mode `abort`, the texts of the records before the first one that has a rejected field
+pub record IsAborted (options : Options) (records : List (List ℕ)) (written : List ℕ) : Type 0 where
+  pub before : List (List ℕ)
+  pub bytes : List ℕ
+  pub after : List (List ℕ)
+  pub found : List Found
+  pub mode : options.invalid ≡ Abort
+  pub records_are : records ≡ before ++ bytes ∷ after
+  pub no_header : options.header - length before ≡ 0
+  pub has_rejected : HasRejectedField options 1 (fields_of options.delimiter bytes)
+  pub converted : AreConverted options before written found
+
+-- the texts of all these records, the total of which is asked for and reaches 10^30
+pub record IsTooLarge (options : Options) (records : List (List ℕ)) (written : List ℕ) : Type 0 where
+  pub found : List Found
+  pub asked : options.total ≡ true
+  pub large : size_limit ≤ sum_of found
+  pub converted : AreConverted options records written found
+
+-- what a run has written that ends with this result: the whole output with the tally of what was found; the texts of
+-- all finished records if a read failed; those of some first ones of them if it was out of memory; a prefix of the
+-- output if a write failed; the texts of the records before the first one with a rejected field; or those of all
+-- records, if their total is too large. `finished` are the records that were read with their end bytes, `records` also
+-- the last one without
+abbrev pub IsWritten : Options → List (List ℕ) → List (List ℕ) → Result Tally Stop → List ℕ → Type 0
+IsWritten options finished records (Ok tally) written =
+    (found : List Found) × IsOutput options records written found × (tally ≡ tally_of options found)
+IsWritten options finished records (Err Read) written =
+    (found : List Found) × AreConverted options finished written found
+IsWritten options finished records (Err Memory) written = AreFirst options finished written
+IsWritten options finished records (Err Write) written = IsBegun options records written
+IsWritten options finished records (Err Rejected) written = IsAborted options records written
+IsWritten options finished records (Err Total) written = IsTooLarge options records written

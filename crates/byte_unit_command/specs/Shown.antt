@@ -1,0 +1,42 @@
+-- The text of a size: the form that the options ask for, padded to their width.
+use Rattle.std.specs.Prelude.{◌≡◌, ℕ, ◌-◌, Bool, if◌then◌else◌, List, ◌++◌, length, replicate, Option}
+use Rattle.byte_unit.specs.Adjusted.{IsAdjustedForm}
+use Rattle.byte_unit.specs.Choice.{IsAppropriate}
+use Rattle.byte_unit.specs.Forms.{IsText}
+use Rattle.byte_unit.specs.NamedSpecs.{plain_spec, alternate_spec}
+use Rattle.byte_unit.specs.declared.FormatSpec.{FormatSpec}
+use Rattle.byte_unit.specs.declared.Kind.{Kind}
+use Rattle.byte_unit.specs.declared.Unit.{Unit as UnitName}
+use Rattle.byte_unit_command.specs.declared.options.Form.{Form}
+use Rattle.byte_unit_command.specs.declared.options.Form.TheVariants.{Exact, Plain, InUnit, Largest}
+use Rattle.byte_unit_command.specs.declared.options.Options.{Options}
+
+-- a size with a unit, within this precision
+abbrev pub exact_spec : Option ℕ → FormatSpec
+exact_spec precision = record alternate_spec { precision = precision }
+
+-- a size in a given unit, rounded to this precision
+abbrev pub adjusted_spec : Option ℕ → FormatSpec
+adjusted_spec precision = record plain_spec { precision = precision }
+
+-- the text of a size in a form: in the largest unit, not above the size, that represents it exactly within the
+-- precision; as digits; in the given unit; in the largest unit of the type that is not above the size
+abbrev pub IsFormText : Kind → Form → Option ℕ → ℕ → List ℕ → Type 0
+IsFormText kind Exact precision size text = IsText kind size (exact_spec precision) text
+IsFormText kind Plain precision size text = IsText kind size plain_spec text
+IsFormText kind (InUnit unit) precision size text = IsAdjustedForm kind size unit (adjusted_spec precision) text
+IsFormText kind (Largest unit_type) precision size text =
+    (unit : UnitName) × IsAppropriate kind unit_type size unit
+    × IsAdjustedForm kind size unit (adjusted_spec precision) text
+
+-- a text with the spaces that it lacks of the width: after it if it is aligned to the left, and else before it
+abbrev pub padded : ℕ → Bool → List ℕ → List ℕ
+padded width align_left text =
+    let spaces = replicate (width - length text) 32 in
+    if align_left then text ++ spaces else spaces ++ text
+
+-- the text that is shown for a size
+abbrev pub IsShown : Options → ℕ → List ℕ → Type 0
+IsShown options size shown =
+    (text : List ℕ) × IsFormText options.kind options.form options.precision size text
+    × (shown ≡ padded options.width options.align_left text)

@@ -1,0 +1,139 @@
+//! Converts one field.
+
+ghost use Rattle.std.specs.Prelude.{◌≡◌, ◌≤◌, ◌++◌, ◌⊎◌, length, OnOk, IfErr, IsErrOf, IsTrue, IsFalse, List};
+ghost use Rattle.byte_unit.specs.Forms.{text_limit};
+ghost use Rattle.byte_unit_command.specs.Field.{IsNoSize};
+ghost use Rattle.byte_unit_command.specs.Fields.{IsChosen, InRange};
+ghost use Rattle.byte_unit_command.specs.Outcome.{IsPrefix};
+ghost use Rattle.byte_unit_command.specs.Progress.{AddsField, tally_with};
+
+use crate::notice::{Notices, add_encoding_notice, add_error_notice, add_limit_notice};
+use crate::options::{FieldRange, Invalid, Options};
+use crate::place::Place;
+use crate::size::parse;
+use crate::stop::Stop;
+use crate::tally::{Tally, is_beyond};
+use crate::text::add_size;
+use std::alloc::Allocator;
+
+/// Returns `true` if the field with this number is in one of the ranges.
+pub(crate) fn is_chosen(ranges: &[FieldRange], number: u64) -> bool
+    ensures yes { IsTrue result → IsChosen ranges.now number }
+    ensures no { IsFalse result → ¬ IsChosen ranges.now number }
+{
+    match ranges {
+        [] => false,
+        [range, others @ ..] => in_range(*range, number) || is_chosen(others, number),
+    }
+}
+
+/// Returns `true` if the field with this number is in the range.
+fn in_range(range: FieldRange, number: u64) -> bool
+    ensures yes { IsTrue result → InRange range number }
+    ensures no { IsFalse result → ¬ InRange range number }
+{
+    match range.last {
+        None => range.first <= number,
+        Some(last) => range.first <= number && number <= last,
+    }
+}
+
+/// Appends what is written for the field with this number to `text`, and counts what is found in it.
+///
+/// # Errors
+///
+/// - `Rejected` if the field is not a size, in the mode `abort`.
+/// - `Memory` if allocation fails.
+pub(crate) fn add_field<A: Allocator>(
+    options: &Options,
+    place: &Place,
+    number: u64,
+    field: &[u8],
+    digits: &mut [u8],
+    tally: &mut Tally,
+    text: &mut Vec<u8, A>,
+    notices: &mut Notices<A>,
+) -> Result<(), Stop>
+    requires { text_limit ≤ length digits.old }
+    ensures ok { OnOk result (AddsField options.now number field.now
+        tally.old text.old.items tally.new text.new.items) }
+    ensures kept { IsPrefix text.old.items text.new.items }
+    ensures rejected { IsErrOf result Stop.Rejected → (options.now.invalid ≡ Invalid.Abort)
+        × IsChosen options.now.fields.now number × IsNoSize options.now field.now }
+    ensures stop { IfErr result (λ stop. (stop ≡ Stop.Memory) ⊎ (stop ≡ Stop.Rejected)) }
+{
+    if !is_chosen(options.fields, number) {
+        text.extend_from_slice(field)?;
+        return Ok(());
+    }
+    add_chosen(options, place, number, field, digits, tally, text, notices)
+}
+
+/// Does what [`add_field`] does, for a field that is converted.
+///
+/// Preconditions (proved at every call): the field with this number is chosen, and `digits` has capacity for any text.
+pub(crate) fn add_chosen<A: Allocator>(
+    options: &Options,
+    place: &Place,
+    number: u64,
+    field: &[u8],
+    digits: &mut [u8],
+    tally: &mut Tally,
+    text: &mut Vec<u8, A>,
+    notices: &mut Notices<A>,
+) -> Result<(), Stop>
+    requires capacity { text_limit ≤ length digits.old }
+    requires chosen { IsChosen options.now.fields.now number }
+    ensures ok { OnOk result (AddsField options.now number field.now
+        tally.old text.old.items tally.new text.new.items) }
+    ensures kept { IsPrefix text.old.items text.new.items }
+    ensures rejected { IsErrOf result Stop.Rejected
+        → (options.now.invalid ≡ Invalid.Abort) × IsNoSize options.now field.now }
+    ensures stop { IfErr result (λ stop. (stop ≡ Stop.Memory) ⊎ (stop ≡ Stop.Rejected)) }
+{
+    match parse(options, field) {
+        Some(Ok(size)) => {
+            if is_beyond(options, size) {
+                add_limit_notice(options, place, number, field, size, notices)?;
+            }
+            tally.add(options, size);
+            add_size(options, size, digits, text)?;
+            Ok(())
+        }
+        Some(Err(error)) => {
+            add_error_notice(options, place, number, field, error, notices)?;
+            copy_rejected(options, field, tally, text)
+        }
+        None => {
+            add_encoding_notice(options, place, number, field, notices)?;
+            copy_rejected(options, field, tally, text)
+        }
+    }
+}
+
+/// Copies a rejected field to `text`, and counts it.
+///
+/// # Errors
+///
+/// - `Rejected` in the mode `abort`.
+/// - `Memory` if allocation fails.
+fn copy_rejected<A: Allocator>(
+    options: &Options,
+    field: &[u8],
+    tally: &mut Tally,
+    text: &mut Vec<u8, A>,
+) -> Result<(), Stop>
+    ensures mode { OnOk result (¬ (options.now.invalid ≡ Invalid.Abort)) }
+    ensures text { OnOk result (text.new.items ≡ text.old.items ++ field.now) }
+    ensures kept { IsPrefix text.old.items text.new.items }
+    ensures tally { OnOk result (tally.new ≡ tally_with options.now tally.old None) }
+    ensures rejected { IsErrOf result Stop.Rejected → options.now.invalid ≡ Invalid.Abort }
+    ensures stop { IfErr result (λ stop. (stop ≡ Stop.Memory) ⊎ (stop ≡ Stop.Rejected)) }
+{
+    if options.invalid == Invalid::Abort {
+        return Err(Stop::Rejected);
+    }
+    tally.reject(options);
+    text.extend_from_slice(field)?;
+    Ok(())
+}

@@ -1,0 +1,138 @@
+//! The end of a run: the last record, and the total.
+
+ghost use Rattle.std.specs.Prelude.{◌≡◌, ◌≤◌, ◌⊎◌, ◌∷◌, ℕ, List, [], length, true, OnOk, OnErr, IfErr, IsErrOf, IsTrue};
+ghost use Rattle.byte_unit.specs.Forms.{text_limit};
+ghost use Rattle.byte_unit_command.specs.Outcome.{IsPrefix};
+ghost use Rattle.byte_unit_command.specs.Progress.{IsFinished, IsTotalWritten, AddsRecords, Aborts};
+ghost use Rattle.byte_unit_command.specs.Progress.{nonempty_record, state_of};
+ghost use Rattle.byte_unit_command.specs.Streams.{HasWritten, writing_failed};
+
+use crate::notice::Notices;
+use crate::options::Options;
+use crate::records::{Progress, add_record};
+use crate::stop::Stop;
+use crate::tally::{TOTAL_LIMIT, Tally};
+use crate::text::add_size;
+use crate::writing::Writing;
+use std::alloc::Allocator;
+use std::io::Write;
+
+/// Converts the last record, if there is one, and writes it and the total.
+///
+/// Preconditions (proved at every call): `waiting` is empty, and `digits` has capacity for the text of any size.
+///
+/// # Errors
+///
+/// - `Memory` if allocation fails, and `Rejected` if a field is rejected in the mode `abort`. Nothing has been written.
+/// - `Total` if the total is asked for and is 10^30 or more. The last record has been written.
+/// - `Write` if a write fails. A prefix has been written.
+pub(crate) fn finish<A: Allocator, W: Write, E: Write>(
+    options: &Options,
+    part: &[u8],
+    digits: &mut [u8],
+    progress: &mut Progress,
+    waiting: &mut Vec<u8, A>,
+    notices: &mut Notices<A>,
+    writer: &mut Writing<W>,
+    errors: &mut E,
+) -> Result<Tally, Stop>
+    requires empty { waiting.old.items ≡ [] }
+    requires capacity { text_limit ≤ length digits.old }
+    ensures written { (written : List ℕ)
+        × HasWritten W.contents writer.old writer.new written
+        × IsFinished options.now part.now (state_of progress.old []) result written }
+    ensures failed { IsErrOf result Stop.Write → IsTrue (writing_failed writer.new) }
+{
+    let added = add_last(options, part, digits, progress, waiting, notices);
+    notices.tell(errors);
+    added?;
+    let tally = progress.tally;
+    if options.total {
+        write_with_total(options, tally.total, digits, waiting, writer)?;
+    } else {
+        write_whole(writer, waiting)?;
+    }
+    Ok(tally)
+}
+
+/// Appends what is written for the last record to `waiting`, if there is one.
+///
+/// Precondition (proved at every call): `digits` has capacity for the text of any size.
+///
+/// # Errors
+///
+/// - `Memory` if allocation fails.
+/// - `Rejected` if a field is rejected in the mode `abort`.
+fn add_last<A: Allocator>(
+    options: &Options,
+    part: &[u8],
+    digits: &mut [u8],
+    progress: &mut Progress,
+    waiting: &mut Vec<u8, A>,
+    notices: &mut Notices<A>,
+) -> Result<(), Stop>
+    requires { text_limit ≤ length digits.old }
+    ensures ok { OnOk result (AddsRecords options.now (nonempty_record part.now)
+        (state_of progress.old waiting.old.items) (state_of progress.new waiting.new.items)) }
+    ensures rejected { IsErrOf result Stop.Rejected → (progress.old.header ≡ 0)
+        × Aborts options.now part.now × (nonempty_record part.now ≡ part.now ∷ []) }
+    ensures stop { IfErr result (λ stop. (stop ≡ Stop.Memory) ⊎ (stop ≡ Stop.Rejected)) }
+{
+    match part {
+        [] => Ok(()),
+        [_, ..] => add_record(options, part, digits, progress, waiting, notices),
+    }
+}
+
+/// Writes what waits, and then the total.
+///
+/// Precondition (proved at every call): `digits` has capacity for the text of any size.
+///
+/// # Errors
+///
+/// - `Memory` if allocation fails. Nothing has been written.
+/// - `Total` if the total is 10^30 or more. What waits has been written.
+/// - `Write` if a write fails. A prefix has been written.
+fn write_with_total<A: Allocator, W: Write>(
+    options: &Options,
+    total: u128,
+    digits: &mut [u8],
+    waiting: &mut Vec<u8, A>,
+    writer: &mut Writing<W>,
+) -> Result<(), Stop>
+    requires { text_limit ≤ length digits.old }
+    ensures written { (written : List ℕ)
+        × HasWritten W.contents writer.old writer.new written
+        × IsTotalWritten options.now total waiting.old.items result written }
+    ensures failed { IsErrOf result Stop.Write → IsTrue (writing_failed writer.new) }
+{
+    if total >= TOTAL_LIMIT {
+        write_whole(writer, waiting)?;
+        return Err(Stop::Total);
+    }
+    add_size(options, total, digits, waiting)?;
+    waiting.extend_from_slice(&[options.record_end])?;
+    write_whole(writer, waiting)
+}
+
+/// Writes all of `bytes`, in as many calls of the writer as it takes.
+///
+/// # Errors
+///
+/// Returns `Write` if a write fails. A prefix of `bytes` has been written.
+pub(crate) fn write_whole<W: Write>(writer: &mut Writing<W>, bytes: &[u8]) -> Result<(), Stop>
+    ensures ok { OnOk result (HasWritten W.contents writer.old writer.new bytes.now) }
+    ensures err { OnErr result ((written : List ℕ)
+        × HasWritten W.contents writer.old writer.new written × IsPrefix written bytes.now) }
+    ensures write { IfErr result (λ e. e ≡ Stop.Write) }
+    ensures failed { OnErr result (IsTrue (writing_failed writer.new)) }
+{
+    let mut rest = bytes;
+    while !rest.is_empty() {
+        match writer.write(rest) {
+            None => return Err(Stop::Write),
+            Some(n) => rest = &rest[n..],
+        }
+    }
+    Ok(())
+}

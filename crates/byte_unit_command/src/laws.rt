@@ -1,0 +1,22 @@
+//! Laws of the texts of sizes. The contract of each function is the law; its body calls the laws that it follows from.
+
+ghost use Rattle.byte_unit_command.specs.Laws.{ShownSizesAreRead, ExactTwiceIsOnce};
+
+use byte_unit::laws;
+
+/// States that what is shown in the exact form or as digits is parsed as the same size.
+pub fn shown_sizes_are_read()
+    ensures { ShownSizesAreRead }
+{
+    laws::size_form_reads_back();
+    laws::plain_form_reads_back();
+}
+
+/// States that a second run in the exact form changes nothing.
+pub fn exact_twice_is_once()
+    ensures { ExactTwiceIsOnce }
+{
+    shown_sizes_are_read();
+    laws::texts_are_accepted_or_refused();
+    laws::size_has_one_form();
+}

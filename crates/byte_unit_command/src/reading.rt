@@ -1,0 +1,84 @@
+//! A reader that records a failure.
+
+ghost use Rattle.std.specs.Prelude.{◌≡◌, ◌+◌, ◌-◌, ◌^◌, ◌≤◌, ◌<◌, ◌↔◌, false, take, length};
+ghost use Rattle.std.specs.Prelude.{IsTrue, IsNone, IfNone, IfSome, OnSome};
+ghost use Rattle.byte_unit_command.specs.Streams.{HasRead, HasReadAll, HasReadNothing};
+ghost use Rattle.byte_unit_command.specs.Streams.{reader_of, reading_failed, reads_left};
+
+use std::io::Read;
+
+/// A reader that records whether a read has failed. After a failure it does not call the reader again.
+///
+/// It also counts its reads. The bound of 2^64 - 1 on that count is what proves that a loop of reads ends.
+#[derive(Drop)]
+pub struct Reading<R> {
+    inner: R,
+    failed: bool,
+    count: u64,
+}
+
+impl<R: Read> Reading<R> {
+    /// Creates a `Reading` over a reader, with no read made and no failure recorded.
+    pub fn new(inner: R) -> Reading<R>
+        ensures inner { reader_of result ≡ inner }
+        ensures failed { reading_failed result ≡ false }
+        ensures left { reads_left result ≡ 2 ^ 64 - 1 }
+    {
+        Reading {
+            inner,
+            failed: false,
+            count: 0,
+        }
+    }
+
+    /// Returns `true` if a read has returned `None`.
+    pub fn failed(&self) -> bool
+        ensures { result ≡ reading_failed self.now }
+    {
+        self.failed
+    }
+
+    /// Returns the reader inside, with the bytes that it has left.
+    pub fn into_inner(self) -> R
+        ensures { result ≡ reader_of self }
+    {
+        let Reading {
+            inner,
+            failed: _,
+            count: _,
+        } = self;
+        inner
+    }
+
+    /// Reads once into the beginning of `buf`, and returns the number of bytes read. If `buf` is not empty, 0 means
+    /// the end of the input.
+    ///
+    /// Returns `None` if the reader returns an error of any kind. After that, and after 2^64 - 1 reads, returns `None`
+    /// without calling the reader.
+    pub fn read(&mut self, buf: &mut [u8]) -> Option<usize>
+        ensures bound { IfSome result (λ n. n ≤ length buf.new) }
+        ensures came { IfSome result (λ n. HasRead R.remaining self.old self.new (take n buf.new)) }
+        ensures end { IfSome result
+            (λ n. n ≡ 0 → 0 < length buf.new → HasReadAll R.remaining self.new) }
+        ensures none { IfNone result (HasReadNothing R.remaining self.old self.new) }
+        ensures failed { IsTrue (reading_failed self.new) ↔ IsNone result }
+        ensures stays { IsTrue (reading_failed self.old)
+            → IsNone result × (reader_of self.new ≡ reader_of self.old) }
+        ensures spent { reads_left self.old ≡ 0
+            → IsNone result × (reader_of self.new ≡ reader_of self.old) }
+        ensures counted { OnSome result (reads_left self.new + 1 ≡ reads_left self.old) }
+    {
+        if self.failed || self.count == u64::MAX {
+            self.failed = true;
+            return None;
+        }
+        self.count += 1;
+        match self.inner.read(buf) {
+            Ok(n) => Some(n),
+            Err(_) => {
+                self.failed = true;
+                None
+            }
+        }
+    }
+}

@@ -1,0 +1,181 @@
+//! Converts one record.
+
+ghost use Rattle.std.specs.Prelude.{◌≡◌, ◌≤◌, ◌-◌, ◌⊎◌, length, OnOk, OnErr, IfErr, IsErrOf, ◌∷◌, [], Some};
+ghost use Rattle.byte_unit.specs.Forms.{text_limit};
+ghost use Rattle.byte_unit_command.specs.Outcome.{IsPrefix};
+ghost use Rattle.byte_unit_command.specs.Progress.{AddsFields, AddsRecords, Aborts, no_tally, state_of};
+
+use crate::field::{add_chosen, add_field, is_chosen};
+use crate::notice::Notices;
+use crate::options::Options;
+use crate::place::Place;
+use crate::search::end_of;
+use crate::stop::Stop;
+use crate::tally::Tally;
+use std::alloc::Allocator;
+
+/// What a run keeps from one record to the next.
+#[derive(Debug, Clone, Copy)]
+pub(crate) struct Progress {
+    /// The number of header records that are still to come.
+    pub header: u64,
+    /// What was counted so far.
+    pub tally: Tally,
+    /// The number of the record, and what a record is called.
+    pub place: Place,
+}
+
+impl Progress {
+    /// Creates the progress of a run that has not begun.
+    pub(crate) fn new(options: &Options, word: &'static str) -> Progress
+        ensures header { result.header ≡ options.now.header }
+        ensures tally { result.tally ≡ no_tally }
+    {
+        Progress {
+            header: options.header,
+            tally: Tally::new(),
+            place: Place { word, record: 0 },
+        }
+    }
+}
+
+/// Appends what is written for the fields of a record, which is no header record, to `text`, and counts what is found
+/// in them.
+///
+/// # Errors
+///
+/// - `Rejected` if a field is not a size, in the mode `abort`.
+/// - `Memory` if allocation fails.
+fn add_fields<A: Allocator>(
+    options: &Options,
+    place: &Place,
+    bytes: &[u8],
+    digits: &mut [u8],
+    tally: &mut Tally,
+    text: &mut Vec<u8, A>,
+    notices: &mut Notices<A>,
+) -> Result<(), Stop>
+    requires { text_limit ≤ length digits.old }
+    ensures ok { OnOk result (AddsFields options.now bytes.now
+        tally.old text.old.items tally.new text.new.items) }
+    ensures kept { IsPrefix text.old.items text.new.items }
+    ensures rejected { IsErrOf result Stop.Rejected → Aborts options.now bytes.now }
+    ensures stop { IfErr result (λ stop. (stop ≡ Stop.Memory) ⊎ (stop ≡ Stop.Rejected)) }
+{
+    match options.delimiter {
+        None => { add_field(options, place, 1, bytes, digits, tally, text, notices) }
+        Some(delimiter) => {
+            add_split(
+                options, delimiter, place, bytes, digits, tally, text, notices,
+            )
+        }
+    }
+}
+
+/// Does what [`add_fields`] does, with the fields between delimiters.
+fn add_split<A: Allocator>(
+    options: &Options,
+    delimiter: u8,
+    place: &Place,
+    bytes: &[u8],
+    digits: &mut [u8],
+    tally: &mut Tally,
+    text: &mut Vec<u8, A>,
+    notices: &mut Notices<A>,
+) -> Result<(), Stop>
+    requires delimiter { options.now.delimiter ≡ Some delimiter }
+    requires capacity { text_limit ≤ length digits.old }
+    ensures ok { OnOk result (AddsFields options.now bytes.now
+        tally.old text.old.items tally.new text.new.items) }
+    ensures kept { IsPrefix text.old.items text.new.items }
+    ensures rejected { IsErrOf result Stop.Rejected → Aborts options.now bytes.now }
+    ensures stop { IfErr result (λ stop. (stop ≡ Stop.Memory) ⊎ (stop ≡ Stop.Rejected)) }
+{
+    // For the proof: there are fewer fields than a `u64` counts.
+    let _len = bytes.len();
+    let mut rest = bytes;
+    let mut number = 1u64;
+    while let Some(n) = end_of(rest, delimiter) {
+        if is_chosen(options.fields, number) {
+            let field = &rest[..n];
+            add_chosen(options, place, number, field, digits, tally, text, notices)?;
+            text.extend_from_slice(&[delimiter])?;
+        } else {
+            text.extend_from_slice(&rest[..n + 1])?;
+        }
+        rest = &rest[n + 1..];
+        number += 1;
+    }
+    add_field(options, place, number, rest, digits, tally, text, notices)
+}
+
+/// Appends what is written for a record to `waiting`, with its end byte, and counts what is found in it.
+///
+/// # Errors
+///
+/// - `Rejected` if a field is not a size, in the mode `abort`.
+/// - `Memory` if allocation fails.
+///
+/// Then nothing is appended.
+pub(crate) fn add_record<A: Allocator>(
+    options: &Options,
+    bytes: &[u8],
+    digits: &mut [u8],
+    progress: &mut Progress,
+    waiting: &mut Vec<u8, A>,
+    notices: &mut Notices<A>,
+) -> Result<(), Stop>
+    requires { text_limit ≤ length digits.old }
+    ensures ok { OnOk result (AddsRecords options.now (bytes.now ∷ [])
+        (state_of progress.old waiting.old.items) (state_of progress.new waiting.new.items)) }
+    ensures err { OnErr result (waiting.new.items ≡ waiting.old.items) }
+    ensures rejected { IsErrOf result Stop.Rejected
+        → (progress.old.header ≡ 0) × Aborts options.now bytes.now }
+    ensures stop { IfErr result (λ stop. (stop ≡ Stop.Memory) ⊎ (stop ≡ Stop.Rejected)) }
+{
+    let len = waiting.len();
+    match append_record(options, bytes, digits, progress, waiting, notices) {
+        Ok(()) => Ok(()),
+        Err(stop) => {
+            waiting.truncate(len);
+            Err(stop)
+        }
+    }
+}
+
+/// Does what [`add_record`] does, but leaves what was appended before an error.
+fn append_record<A: Allocator>(
+    options: &Options,
+    bytes: &[u8],
+    digits: &mut [u8],
+    progress: &mut Progress,
+    text: &mut Vec<u8, A>,
+    notices: &mut Notices<A>,
+) -> Result<(), Stop>
+    requires { text_limit ≤ length digits.old }
+    ensures ok { OnOk result (AddsRecords options.now (bytes.now ∷ [])
+        (state_of progress.old text.old.items) (state_of progress.new text.new.items)) }
+    ensures kept { IsPrefix text.old.items text.new.items }
+    ensures rejected { IsErrOf result Stop.Rejected
+        → (progress.old.header ≡ 0) × Aborts options.now bytes.now }
+    ensures stop { IfErr result (λ stop. (stop ≡ Stop.Memory) ⊎ (stop ≡ Stop.Rejected)) }
+{
+    progress.place.record = progress.place.record.saturating_add(1);
+    if progress.header > 0 {
+        progress.header -= 1;
+        text.extend_from_slice(bytes)?;
+    } else {
+        let place = progress.place;
+        add_fields(
+            options,
+            &place,
+            bytes,
+            digits,
+            &mut progress.tally,
+            text,
+            notices,
+        )?;
+    }
+    text.extend_from_slice(&[options.record_end])?;
+    Ok(())
+}

@@ -1,0 +1,36 @@
+//! Finds where a record or a field ends.
+
+ghost use Rattle.std.specs.Prelude.{◌≡◌, ◌+◌, ◌^◌, ◌<◌, slice_index, take, length, IfSome, IfNone};
+ghost use Rattle.byte_unit_command.specs.Progress.{IsUnbroken};
+
+use std::simd::prelude::*;
+
+/// The number of bytes that are compared at once.
+const LANES: usize = 16;
+
+/// Returns the index of the first end byte, or `None` if there is none.
+pub(crate) fn end_of(bytes: &[u8], end: u8) -> Option<usize>
+    ensures some { IfSome result (λ n. (n < length bytes.now)
+        × (slice_index bytes.now n ≡ end) × IsUnbroken end (take n bytes.now)) }
+    ensures none { IfNone result (IsUnbroken end bytes.now) }
+    ensures small { IfSome result (λ n. n + 1 < 2 ^ 64) }
+{
+    let mut i = 0;
+    // Where a part ends cannot be predicted: a mask finds it with one branch per 16 bytes, not one per byte.
+    while bytes.len() - i >= LANES {
+        let ends = u8x16::from_slice(&bytes[i..])
+            .simd_eq(u8x16::splat(end))
+            .to_bitmask();
+        if ends != 0 {
+            return Some(i + ends.trailing_zeros() as usize);
+        }
+        i += LANES;
+    }
+    while i < bytes.len() {
+        if bytes[i] == end {
+            return Some(i);
+        }
+        i += 1;
+    }
+    None
+}

@@ -1,0 +1,102 @@
+//! Reads and writes one size of either kind.
+
+ghost use Rattle.std.specs.Prelude.{◌≡◌, ◌<◌, ◌≤◌};
+ghost use Rattle.byte_unit.specs.Bounds.{size_limit};
+ghost use Rattle.byte_unit.specs.Forms.{text_limit};
+ghost use Rattle.byte_unit.specs.SizeReading.{IsBytesReading};
+ghost use Rattle.byte_unit.specs.Written.{WritesForm};
+ghost use Rattle.byte_unit.specs.declared.Kind.TheVariants.{Byte as InBytes, Bit as InBits};
+ghost use Rattle.byte_unit_command.specs.Field.{ignores_case};
+ghost use Rattle.byte_unit_command.specs.Shown.{IsFormText};
+
+use crate::options::{Form, Kind, Options};
+use byte_unit::{Bit, Byte, FormatSpec, ParseError};
+
+/// Parses a field as a size of the kind of the options. Returns `None` if it is not UTF-8.
+pub(crate) fn parse(options: &Options, field: &[u8]) -> Option<Result<u128, ParseError>>
+    ensures { IsBytesReading options.now.kind
+        (ignores_case options.now.kind options.now.ignore_case) field.now result }
+{
+    match options.kind {
+        Kind::Byte => match Byte::parse_bytes(field, options.ignore_case) {
+            Some(Ok(size)) => Some(Ok(size.as_u128())),
+            Some(Err(error)) => Some(Err(error)),
+            None => None,
+        },
+        Kind::Bit => match Bit::parse_bytes(field) {
+            Some(Ok(size)) => Some(Ok(size.as_u128())),
+            Some(Err(error)) => Some(Err(error)),
+            None => None,
+        },
+    }
+}
+
+/// Writes a size in the form of the options to the beginning of `out`, if it fits, and returns its length.
+///
+/// Precondition (proved at every call): `size` is less than 10^30.
+pub(crate) fn write_size(options: &Options, size: u128, out: &mut [u8]) -> usize
+    requires { size < size_limit }
+    ensures written { WritesForm
+        (IsFormText options.now.kind options.now.form options.now.precision size)
+        out.old out.new result }
+    ensures small { result < text_limit }
+{
+    match options.kind {
+        Kind::Byte => write_byte(options, Byte::from_u128_unsafe(size), out),
+        Kind::Bit => write_bit(options, Bit::from_u128_unsafe(size), out),
+    }
+}
+
+/// Writes a size in bytes, as [`write_size`] does.
+fn write_byte(options: &Options, size: Byte, out: &mut [u8]) -> usize
+    ensures written { WritesForm (IsFormText InBytes options.now.form options.now.precision size)
+        out.old out.new result }
+    ensures small { result < text_limit }
+{
+    let precision = options.precision;
+    let rounded = FormatSpec {
+        precision,
+        ..FormatSpec::PLAIN
+    };
+    match options.form {
+        Form::Exact => {
+            let exact = FormatSpec {
+                precision,
+                ..FormatSpec::ALTERNATE
+            };
+            size.write_text(exact, out)
+        }
+        Form::Plain => size.write_text(FormatSpec::PLAIN, out),
+        Form::InUnit(unit) => size.get_adjusted_unit(unit).write_text(rounded, out),
+        Form::Largest(unit_type) => size
+            .get_appropriate_unit(unit_type)
+            .write_text(rounded, out),
+    }
+}
+
+/// Writes a size in bits, as [`write_size`] does.
+fn write_bit(options: &Options, size: Bit, out: &mut [u8]) -> usize
+    ensures written { WritesForm (IsFormText InBits options.now.form options.now.precision size)
+        out.old out.new result }
+    ensures small { result < text_limit }
+{
+    let precision = options.precision;
+    let rounded = FormatSpec {
+        precision,
+        ..FormatSpec::PLAIN
+    };
+    match options.form {
+        Form::Exact => {
+            let exact = FormatSpec {
+                precision,
+                ..FormatSpec::ALTERNATE
+            };
+            size.write_text(exact, out)
+        }
+        Form::Plain => size.write_text(FormatSpec::PLAIN, out),
+        Form::InUnit(unit) => size.get_adjusted_unit(unit).write_text(rounded, out),
+        Form::Largest(unit_type) => size
+            .get_appropriate_unit(unit_type)
+            .write_text(rounded, out),
+    }
+}

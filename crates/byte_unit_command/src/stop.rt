@@ -1,0 +1,31 @@
+//! Why a run ended early.
+
+ghost use Rattle.std.specs.Prelude.{◌≡◌};
+
+use std::alloc::AllocError;
+
+/// The reason why a run ended before the end of its input, or without its total.
+#[derive(Debug, Clone, Copy, PartialEq, Eq)]
+pub enum Stop {
+    /// Allocation failed.
+    Memory,
+    /// A read failed.
+    Read,
+    /// A write failed.
+    Write,
+    /// A field was rejected in the mode `abort`.
+    Rejected,
+    /// The total of the sizes is 10^30 or more.
+    Total,
+}
+
+/// Converts a failed allocation to `Memory`.
+impl From<AllocError> for Stop {
+    ghost use Rattle.byte_unit_command.specs.declared.stop.Stop.TheVariants.{Memory};
+
+    ghost from_gives = { λ _ error. error ≡ Memory };
+
+    fn from(_: AllocError) -> Stop {
+        Stop::Memory
+    }
+}

@@ -1,0 +1,66 @@
+//! What a run counts.
+
+ghost use Rattle.std.specs.Prelude.{◌≡◌};
+ghost use Rattle.byte_unit_command.specs.Progress.{tally_with, no_tally};
+ghost use Rattle.byte_unit_command.specs.Sums.{is_beyond as has_beyond};
+
+use crate::options::Options;
+
+/// The total from which on no sum is a size, 10^30.
+pub(crate) const TOTAL_LIMIT: u128 = 1_000_000_000_000_000_000_000_000_000_000;
+
+/// What was counted in the fields that were converted.
+#[derive(Debug, Clone, Copy, PartialEq, Eq)]
+pub struct Tally {
+    /// The sum of the sizes, or 10^30 if it reaches that.
+    pub total: u128,
+    /// Whether a size is above the maximum or below the minimum.
+    pub beyond: bool,
+    /// Whether a field was rejected.
+    pub rejected: bool,
+}
+
+impl Tally {
+    /// Creates a tally of no field.
+    pub fn new() -> Tally
+        ensures { result ≡ no_tally }
+    {
+        Tally {
+            total: 0,
+            beyond: false,
+            rejected: false,
+        }
+    }
+
+    /// Counts a size.
+    pub(crate) fn add(&mut self, options: &Options, size: u128)
+        ensures { self.new ≡ tally_with options.now self.old (Some size) }
+    {
+        self.total = self.total.saturating_add(size).min(TOTAL_LIMIT);
+        if is_beyond(options, size) {
+            self.beyond = true;
+        }
+    }
+
+    /// Counts a rejected field.
+    pub(crate) fn reject(&mut self, options: &Options)
+        ensures { self.new ≡ tally_with options.now self.old None }
+    {
+        self.rejected = true;
+    }
+}
+
+/// Returns `true` if the size is above the maximum or below the minimum.
+pub fn is_beyond(options: &Options, size: u128) -> bool
+    ensures { result ≡ has_beyond options.now size }
+{
+    let above = match options.max {
+        Some(most) => most < size,
+        None => false,
+    };
+    let below = match options.min {
+        Some(least) => size < least,
+        None => false,
+    };
+    above || below
+}

@@ -1,0 +1,126 @@
+//! Appends the text of a size.
+
+ghost use Rattle.std.specs.Prelude.{◌≡◌, ◌<◌, ◌≤◌, ◌++◌, ℕ, List, length, take, replicate, OnOk};
+ghost use Rattle.byte_unit.specs.Bounds.{size_limit};
+ghost use Rattle.byte_unit.specs.Forms.{text_limit};
+ghost use Rattle.byte_unit_command.specs.Outcome.{IsPrefix};
+ghost use Rattle.byte_unit_command.specs.Shown.{IsShown, padded};
+
+use crate::options::Options;
+use crate::size::write_size;
+use std::alloc::{AllocError, Allocator};
+
+/// The most bytes of a text that are copied in one piece of a constant length.
+const AT_ONCE: usize = 64;
+
+/// Appends the text of a size to `text`. `digits` is a buffer for it.
+///
+/// Preconditions (proved at every call): `size` is less than 10^30, and `digits` has capacity for any text.
+///
+/// # Errors
+///
+/// Returns `AllocError` if allocation fails.
+pub(crate) fn add_size<A: Allocator>(
+    options: &Options,
+    size: u128,
+    digits: &mut [u8],
+    text: &mut Vec<u8, A>,
+) -> Result<(), AllocError>
+    requires size { size < size_limit }
+    requires capacity { text_limit ≤ length digits.old }
+    ensures ok { OnOk result ((shown : List ℕ) × IsShown options.now size shown
+        × (text.new.items ≡ text.old.items ++ shown)) }
+    ensures kept { IsPrefix text.old.items text.new.items }
+{
+    let len = write_size(options, size, digits);
+    if options.width == 0 {
+        return add_first(digits, len, text);
+    }
+    add_padded(options.width, options.align_left, &digits[..len], text)
+}
+
+/// Appends the first `len` of `bytes`.
+///
+/// Preconditions (proved at every call): `bytes` has at least `len` bytes, and at least [`AT_ONCE`].
+///
+/// # Errors
+///
+/// Returns `AllocError` if allocation fails.
+fn add_first<A: Allocator>(
+    bytes: &[u8],
+    len: usize,
+    text: &mut Vec<u8, A>,
+) -> Result<(), AllocError>
+    requires len { len ≤ length bytes.now }
+    requires at_once { 64 ≤ length bytes.now }
+    ensures ok { OnOk result (text.new.items ≡ text.old.items ++ take len bytes.now) }
+    ensures kept { IsPrefix text.old.items text.new.items }
+{
+    if len > AT_ONCE {
+        return text.extend_from_slice(&bytes[..len]);
+    }
+    add_short(bytes, len, text)
+}
+
+/// Appends the first `len` of `bytes`, by a copy of a constant length. It takes a few instructions, and no branch
+/// depends on `len`.
+///
+/// Preconditions (proved at every call): `len` is at most [`AT_ONCE`], and `bytes` has that many bytes or more.
+///
+/// # Errors
+///
+/// Returns `AllocError` if allocation fails.
+fn add_short<A: Allocator>(
+    bytes: &[u8],
+    len: usize,
+    text: &mut Vec<u8, A>,
+) -> Result<(), AllocError>
+    requires short { len ≤ 64 }
+    requires long { 64 ≤ length bytes.now }
+    ensures ok { OnOk result (text.new.items ≡ text.old.items ++ take len bytes.now) }
+    ensures kept { IsPrefix text.old.items text.new.items }
+{
+    text.extend_from_slice(&bytes[..AT_ONCE])?;
+    text.truncate(text.len() - (AT_ONCE - len));
+    Ok(())
+}
+
+/// Appends `bytes`, with the spaces that it lacks of the width.
+///
+/// # Errors
+///
+/// Returns `AllocError` if allocation fails.
+fn add_padded<A: Allocator>(
+    width: u16,
+    align_left: bool,
+    bytes: &[u8],
+    text: &mut Vec<u8, A>,
+) -> Result<(), AllocError>
+    ensures ok { OnOk result
+        (text.new.items ≡ text.old.items ++ padded width align_left bytes.now) }
+    ensures kept { IsPrefix text.old.items text.new.items }
+{
+    let missing = (width as usize).saturating_sub(bytes.len());
+    if align_left {
+        text.extend_from_slice(bytes)?;
+        add_spaces(missing, text)
+    } else {
+        add_spaces(missing, text)?;
+        text.extend_from_slice(bytes)
+    }
+}
+
+/// Appends spaces.
+///
+/// # Errors
+///
+/// Returns `AllocError` if allocation fails.
+fn add_spaces<A: Allocator>(count: usize, text: &mut Vec<u8, A>) -> Result<(), AllocError>
+    ensures ok { OnOk result (text.new.items ≡ text.old.items ++ replicate count 32) }
+    ensures kept { IsPrefix text.old.items text.new.items }
+{
+    for _i in 0..count {
+        text.push(b' ')?;
+    }
+    Ok(())
+}

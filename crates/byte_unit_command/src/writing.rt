@@ -1,0 +1,85 @@
+//! A writer that records a failure.
+
+ghost use Rattle.std.specs.Prelude.{false, ◌≡◌, ◌≤◌, ◌<◌, ◌↔◌, take, length, IsTrue, IsNone, IfNone, IfSome};
+ghost use Rattle.byte_unit_command.specs.Streams.{HasWritten, HasWrittenNothing, writer_of, writing_failed};
+
+use std::io::{ErrorKind, Write};
+
+/// A writer that records whether a write has failed. After a failure it does not call the writer again.
+#[derive(Drop)]
+pub struct Writing<W> {
+    inner: W,
+    failed: bool,
+    closed: bool,
+}
+
+impl<W: Write> Writing<W> {
+    /// Creates a `Writing` over a writer, with no failure recorded.
+    pub fn new(inner: W) -> Writing<W>
+        ensures inner { writer_of result ≡ inner }
+        ensures failed { writing_failed result ≡ false }
+    {
+        Writing {
+            inner,
+            failed: false,
+            closed: false,
+        }
+    }
+
+    /// Returns `true` if a write has returned `None`.
+    pub fn failed(&self) -> bool
+        ensures { result ≡ writing_failed self.now }
+    {
+        self.failed
+    }
+
+    /// Returns `true` if a write has failed because the reader of the output has gone.
+    pub fn closed(&self) -> bool {
+        self.closed
+    }
+
+    /// Returns the writer inside, with the bytes that it holds.
+    pub fn into_inner(self) -> W
+        ensures { result ≡ writer_of self }
+    {
+        let Writing {
+            inner,
+            failed: _,
+            closed: _,
+        } = self;
+        inner
+    }
+
+    /// Writes a non-empty prefix of `bytes` by one call of the writer, and returns its length.
+    ///
+    /// Precondition (proved at every call): `bytes` is not empty.
+    ///
+    /// Returns `None` if the writer returns an error of any kind, or accepts no byte. After a failure, returns `None`
+    /// without calling the writer.
+    pub fn write(&mut self, bytes: &[u8]) -> Option<usize>
+        requires { 0 < length bytes.now }
+        ensures bound { IfSome result (λ n. (0 < n) × (n ≤ length bytes.now)) }
+        ensures took { IfSome result
+            (λ n. HasWritten W.contents self.old self.new (take n bytes.now)) }
+        ensures none { IfNone result (HasWrittenNothing W.contents self.old self.new) }
+        ensures failed { IsTrue (writing_failed self.new) ↔ IsNone result }
+        ensures stays { IsTrue (writing_failed self.old)
+            → IsNone result × (writer_of self.new ≡ writer_of self.old) }
+    {
+        if self.failed {
+            return None;
+        }
+        match self.inner.write(bytes) {
+            Ok(n) if n > 0 => Some(n),
+            Ok(_) => {
+                self.failed = true;
+                None
+            }
+            Err(error) => {
+                self.failed = true;
+                self.closed = error.kind() == ErrorKind::BrokenPipe;
+                None
+            }
+        }
+    }
+}
