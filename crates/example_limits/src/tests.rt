@@ -33,8 +33,10 @@ fn messages(alloc: Global, limits: &Limits) -> Result<String, AllocError> {
 
 /// Returns the reasons for which the limits of a document are rejected, each in a line.
 fn reasons(alloc: Global, text: &str) -> Result<String> {
-    let limits: Limits = toml::from_str(alloc, text)?;
-    Ok(messages(alloc, &limits)?)
+    match toml::from_str::<Limits>(alloc, text) {
+        Ok(limits) => Ok(messages(alloc, &limits)?),
+        Err(error) => Err(error.into()),
+    }
 }
 
 /// Documents, and the reasons for which their limits are rejected. At `disk = "2 GiB"` and at `450 B` with one bit a
