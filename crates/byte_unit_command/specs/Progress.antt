@@ -69,7 +69,8 @@ begun_record end part (byte ∷ bytes) =
 
 -- no record ends in these bytes
 abbrev pub IsUnbroken : ℕ → List ℕ → Type 0
-IsUnbroken end bytes = (part : List ℕ) → (ended_records end part bytes ≡ []) × (begun_record end part bytes ≡ part ++ bytes)
+IsUnbroken end bytes = (part : List ℕ)
+    → (ended_records end part bytes ≡ []) × (begun_record end part bytes ≡ part ++ bytes)
 
 -- the list of this record, or no record if it is empty
 abbrev pub nonempty_record : List ℕ → List (List ℕ)
@@ -104,7 +105,8 @@ pub record AddsRecords (options : Options) (records : List (List ℕ)) (old new 
 -- out of memory; or those of the records before the one that has a rejected field, in the mode `abort`
 abbrev pub Stops : Options → List (List ℕ) → State → Stop → List ℕ → Type 0
 Stops options records old Memory out =
-    (first : List (List ℕ)) × (new : State) × IsPrefix first records × AddsRecords options first old new × (new.out ≡ out)
+    (first : List (List ℕ)) × (new : State) × IsPrefix first records
+    × AddsRecords options first old new × (new.out ≡ out)
 Stops options records old Rejected out =
     (before after : List (List ℕ)) × (bytes : List ℕ) × (new : State) × (records ≡ before ++ bytes ∷ after)
     × AddsRecords options before old new × (new.out ≡ out) × (new.header ≡ 0) × Aborts options bytes

@@ -7,8 +7,8 @@ use std::alloc::{AllocError, Global};
 
 /// The examples and statuses at the end of the help.
 const AFTER_HELP: &str = "\
-UNIT is 'exact' (the largest unit that states the size exactly; the default), 'plain' (digits), 'si', 'iec' or
-'auto' (the largest decimal unit, binary unit, or either, not above the size), or a unit such as GiB.
+UNIT is 'exact' (the largest unit, not above the size, that represents it exactly; the default), 'plain' (digits),
+'si', 'iec' or 'auto' (the largest decimal unit, binary unit, or either, not above the size), or a unit such as GiB.
 
 FIELDS is a list such as 2, 1,3 or 2-, as of cut.
 

@@ -61,7 +61,7 @@ def text(
     sign: Sign | None = None,
     alternate: bool = True,
 ) -> str:
-    """Formats a size in the largest unit that represents it exactly, or with `alternate=False` in digits alone.
+    """Formats a size in a unit that represents it exactly, or with `alternate=False` in digits alone.
 
     The unit is the largest of its kind (bytes or bits), not above the size, in which the size is exact with at most
     `precision` digits after the decimal point: 3 if it is `None`, and never more than 28. If there is no such unit, it
