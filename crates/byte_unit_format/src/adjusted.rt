@@ -1,11 +1,13 @@
 //! Formatting of a size in a given unit.
 
-ghost use Rattle.std.specs.Prelude.{◌≡◌, ℕ, ◌*◌, ◌<◌, ◌≤◌, List, length, Some};
+ghost use Rattle.std.specs.Prelude.{◌≡◌, ℕ, ◌*◌, ◌<◌, ◌≤◌, List, length, IfSome, Some};
 ghost use Rattle.std.specs.Fmt.{DisplaysOnOk, DisplaysStyledOnOk};
 ghost use Rattle.byte_unit_math.specs.Finite.{IsExpansion};
-ghost use Rattle.byte_unit_math.specs.Numeral.{text_of};
+ghost use Rattle.byte_unit_math.specs.Nearest.{IsNearest};
+ghost use Rattle.byte_unit_math.specs.Numeral.{numeral, text_of};
+ghost use Rattle.byte_unit_math.specs.declared.expansion.Ties.TheVariants.{Even};
 ghost use Rattle.byte_unit_base.specs.Shape.{bits};
-ghost use Rattle.byte_unit_math.specs.Bounds.{size_limit};
+ghost use Rattle.byte_unit_math.specs.Bounds.{places_of_decimal, size_limit};
 ghost use Rattle.byte_unit_base.specs.Units.{shape_of};
 ghost use Rattle.byte_unit_base.specs.Kinds.{bits_in};
 ghost use Rattle.byte_unit_base.specs.Version.{unit_name};
@@ -15,7 +17,7 @@ ghost use Rattle.byte_unit_format.specs.TextParts.{IsReady, parts_text};
 ghost use Rattle.byte_unit_format.specs.Room.{AppendsForm};
 ghost use Rattle.byte_unit_format.specs.Written.{WritesForm};
 ghost use Rattle.byte_unit_format.specs.Forms.{text_limit};
-ghost use Rattle.byte_unit_format.specs.Adjusted.{IsNumeralBy, IsRoundNumeral, rule_of, IsAdjustedForm, adjusted_text, has_no_prefix};
+ghost use Rattle.byte_unit_format.specs.Adjusted.{IsNumeralBy, IsRoundNumeral, round_to, rule_of, IsAdjustedForm, adjusted_text, has_no_prefix};
 
 use crate::FormatSpec;
 use crate::layout::layout_parts;
@@ -52,10 +54,7 @@ impl Shown {
         ensures ready { IsReady result }
     {
         match self {
-            Shown::Scaled(number, places) => {
-                let (whole, digits) = div_rem(*number, power_of_ten(*places));
-                layout_parts(whole, Fraction::Last(digits, *places), unit, spec)
-            }
+            Shown::Scaled(number, places) => scaled_parts(*number, *places, unit, spec),
             Shown::Expanded(e, places) => {
                 layout_parts(e.whole(), Fraction::First(e, *places), unit, spec)
             }
@@ -131,8 +130,13 @@ pub fn write_adjusted(size: u128, kind: Kind, unit: Unit, spec: FormatSpec, out:
     ensures written { WritesForm (IsAdjustedForm kind size unit spec) out.old out.new result }
     ensures small { result < text_limit }
 {
-    let shown = rounded_in_unit(size, kind, unit, spec);
-    shown.parts(unit, spec).write(out)
+    match few_places(unit, spec) {
+        Some(places) => {
+            let number = rounded_to_few(size, kind, unit, places);
+            scaled_parts(number, places, unit, spec).write(out)
+        }
+        None => write_shown(size, kind, unit, spec, out),
+    }
 }
 
 /// Writes a size in a unit to a formatter, as `FormatSpec::PLAIN` formats it, and ignores the formatter's flags.
@@ -156,6 +160,40 @@ pub fn display_adjusted<W: fmt::Write>(
     number_in_unit(size, kind, unit).fmt(f)?;
     f.write_str(" ")?;
     f.write_str(unit.as_str())
+}
+
+/// Writes as `write_adjusted`: the slow path, whose numbers are large values.
+#[inline(never)]
+fn write_shown(size: u128, kind: Kind, unit: Unit, spec: FormatSpec, out: &mut [u8]) -> usize
+    requires { size < size_limit }
+    ensures written { WritesForm (IsAdjustedForm kind size unit spec) out.old out.new result }
+    ensures small { result < text_limit }
+{
+    let shown = rounded_in_unit(size, kind, unit, spec);
+    shown.parts(unit, spec).write(out)
+}
+
+/// Returns the number of digits after the point if the spec asks for exactly so many, and for few.
+#[inline(always)]
+fn few_places(unit: Unit, spec: FormatSpec) -> Option<u32>
+    ensures { IfSome result (λ places. (places ≤ FEW_PLACES)
+        × (rule_of spec.precision spec.alternate (shape_of unit) ≡ round_to places)) }
+{
+    match spec.precision {
+        None => None,
+        Some(precision) => {
+            let places = u32::from(precision);
+            if spec.alternate {
+                None
+            } else if is_single(unit) {
+                None
+            } else if places > FEW_PLACES {
+                None
+            } else {
+                Some(places)
+            }
+        }
+    }
 }
 
 /// Returns the size in the unit, rounded as the spec says.
@@ -194,8 +232,32 @@ fn rounded_to(size: u128, kind: Kind, unit: Unit, places: u32) -> Shown
         let exact = number_in_unit(size, kind, unit);
         return Shown::Expanded(exact.rounded(places, Ties::Even), places);
     }
+    Shown::Scaled(rounded_to_few(size, kind, unit, places), places)
+}
+
+/// Returns the size in the unit times 10^places, rounded to a whole number, ties to even.
+#[inline(always)]
+fn rounded_to_few(size: u128, kind: Kind, unit: Unit, places: u32) -> u128
+    requires size { size < size_limit }
+    requires places { places ≤ FEW_PLACES }
+    ensures { let unit = shape_of unit in
+        IsNearest (size * bits_in kind) (bits unit) places Even result }
+{
     let scaled = size * kind.bits() * power_of_ten(places);
-    Shown::Scaled(rounded_quotient(scaled, unit.as_bits_u128()), places)
+    rounded_quotient(scaled, unit.as_bits_u128())
+}
+
+/// Returns the parts of a number, which is scaled by 10^places, with its unit.
+#[inline(always)]
+fn scaled_parts<'a>(number: u128, places: u32, unit: Unit, spec: FormatSpec) -> TextParts<'a>
+    requires { places ≤ places_of_decimal }
+    ensures text { parts_text result ≡ layout (numeral number places) (unit_name unit) spec }
+    ensures len { result.len ≡ length (parts_text result) }
+    ensures small { result.len < text_limit }
+    ensures ready { IsReady result }
+{
+    let (whole, digits) = div_rem(number, power_of_ten(places));
+    layout_parts(whole, Fraction::Last(digits, places), unit, spec)
 }
 
 /// Shows all digits of a decimal.

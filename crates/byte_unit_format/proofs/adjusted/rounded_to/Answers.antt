@@ -1,13 +1,11 @@
 -- The number is the nearest one with so many places, from one division or from the digits of the exact number.
-use Rattle.std.proofs.Common.{◌≡◌, ◌*◌, ◌^◌, refl, ap, subst, ◌∙◌, arith}
-use Rattle.byte_unit_math.specs.Nearest.{IsNearest}
+use Rattle.std.proofs.Common.{◌*◌, refl, arith}
 use Rattle.byte_unit_math.specs.declared.expansion.Ties.TheVariants.{Even}
 use Rattle.byte_unit_math.proofs.Texts.{nearest_of_expansion, text_of_padded}
 use Rattle.byte_unit_base.specs.Shape.{bits}
 use Rattle.byte_unit_base.specs.Units.{shape_of}
 use Rattle.byte_unit_base.specs.Kinds.{bits_in}
 use Rattle.byte_unit_base.proofs.Choosing.{some_bits}
-use Rattle.byte_unit_format.proofs.AdjustedForms.{scaled_size_small}
 use Rattle.byte_unit_format.proofs.adjusted.rounded_to.Goals as goal
 
 pub returns-then-places-gt-FEW_PLACES-clause-number : goal.returns-then-places-gt-FEW_PLACES-clause-number
@@ -22,28 +20,5 @@ returns-then-places-gt-FEW_PLACES-clause-number c =
       text_of_padded near.0 c.args.places c.rounded.result near.2,
     )
 
-pub overflow_mul-scaled-2 : goal.overflow_mul-scaled-2
-overflow_mul-scaled-2 c =
-    omega (
-      arith,
-      scaled_size_small c.args.size c.bits.result c.power_of_ten.result c.args.places c.requires.size c.bits.ensures.few
-          c.power_of_ten.ensures (omega (arith, c.if-places-gt-FEW_PLACES.false)),
-    )
-
-pub rounded_quotient-requires-clause-small : goal.rounded_quotient-requires-clause-small
-rounded_quotient-requires-clause-small c =
-    scaled_size_small c.args.size c.bits.result c.power_of_ten.result c.args.places c.requires.size c.bits.ensures.few
-    c.power_of_ten.ensures (omega (arith, c.if-places-gt-FEW_PLACES.false))
-
 pub returns-clause-number : goal.returns-clause-number
-returns-clause-number c =
-    let num = c.args.size * bits_in c.args.kind in
-    let q = c.rounded_quotient.result in
-    let scaled : c.args.size * c.bits.result * c.power_of_ten.result ≡ num * 10 ^ c.args.places =
-    ap (λ bits. c.args.size * bits * c.power_of_ten.result) c.bits.ensures.bits
-    ∙ ap (λ power. num * power) c.power_of_ten.ensures in (
-      q,
-      subst (λ den. IsNearest num den c.args.places Even q) c.as_bits_u128.ensures.bits
-          (c.rounded_quotient.ensures num c.args.places scaled),
-      refl,
-    )
+returns-clause-number c = (c.rounded_to_few.result, c.rounded_to_few.ensures, refl)

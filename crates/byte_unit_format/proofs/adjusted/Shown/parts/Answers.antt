@@ -1,46 +1,18 @@
--- A number that is scaled by a power of ten is split into whole part and digits by that power.
-use Rattle.std.proofs.Common.{◌/◌, ◌%◌, ap, sym, subst, arith, ◌∙◌}
-use Rattle.std.proofs.Math.Nat.{one-le-pow}
-use Rattle.std.proofs.lemmas.Nat.{mod_below}
+-- The number is scaled by a power of ten, or a decimal, and its text is that of its parts.
+use Rattle.std.proofs.Common.{ap, sym, subst, arith, ◌∙◌}
 use Rattle.byte_unit_base.specs.Version.{unit_name}
 use Rattle.byte_unit_format.specs.Layout.{layout}
 use Rattle.byte_unit_format.specs.Shown.{shown_text, FitsShown}
-use Rattle.byte_unit_format.proofs.AdjustedForms.{scaled_text}
 use Rattle.byte_unit_format.proofs.adjusted.Shown.parts.Goals as goal
 
-pub power_of_ten-requires : goal.power_of_ten-requires
-power_of_ten-requires c = omega (arith, subst FitsShown c.in-Scaled.is c.requires)
-
-pub div_rem-whole-requires : goal.div_rem-whole-requires
-div_rem-whole-requires c = omega (arith, c.power_of_ten.ensures, one-le-pow c.in-Scaled.places 10 (omega arith))
-
-pub layout_parts-requires : goal.layout_parts-requires
-layout_parts-requires c =
-    let power = c.power_of_ten in
-    let some = one-le-pow c.in-Scaled.places 10 (omega arith) in
-    let below = mod_below c.in-Scaled.number power.result (omega (arith, power.ensures, some)) in
-    record {
-      short = (
-        subst FitsShown c.in-Scaled.is c.requires,
-        omega (arith, c.div_rem-whole.ensures.rest, power.ensures, below),
-      );
-    }
+pub scaled_parts-requires : goal.scaled_parts-requires
+scaled_parts-requires c = subst FitsShown c.in-Scaled.is c.requires
 
 pub returns-in-Scaled-clause-text : goal.returns-in-Scaled-clause-text
 returns-in-Scaled-clause-text c =
-    let number = c.in-Scaled.number in
-    let parts = c.div_rem-whole in
-    c.layout_parts.ensures.text
-    ∙ ap (λ number. layout number (unit_name c.args.unit) c.args.spec)
-    (scaled_text number c.in-Scaled.places parts.result.0 parts.result.1
-    (parts.ensures.quotient ∙ ap (λ n. number / n) c.power_of_ten.ensures)
-    (parts.ensures.rest ∙ ap (λ n. number % n) c.power_of_ten.ensures)
-    ∙ sym (ap shown_text c.in-Scaled.is))
-
-pub returns-in-Scaled-clause-small : goal.returns-in-Scaled-clause-small
-returns-in-Scaled-clause-small c =
-    omega (arith, c.layout_parts.ensures.small, subst FitsShown c.in-Scaled.is c.requires)
+    c.scaled_parts.ensures.text
+    ∙ ap (λ number. layout number (unit_name c.args.unit) c.args.spec) (sym (ap shown_text c.in-Scaled.is))
 
 pub returns-in-Expanded-clause-small : goal.returns-in-Expanded-clause-small
 returns-in-Expanded-clause-small c =
-    omega (arith, c.layout_parts-in-Expanded.ensures.small, subst FitsShown c.in-Expanded.is c.requires)
+    omega (arith, c.layout_parts.ensures.small, subst FitsShown c.in-Expanded.is c.requires)
