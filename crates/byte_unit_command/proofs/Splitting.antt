@@ -1,8 +1,10 @@
 -- Lemmas: the loop over the fields of a record.
-use Rattle.std.proofs.Common.{◌≡◌, ◌≤◌, ◌<◌, ℕ, ◌+◌, List, [], ◌∷◌, ◌++◌, take, drop, length, Some}
-use Rattle.std.proofs.Common.{refl, sym, ap, subst, ◌∙◌, arith, append_assoc, append-nil, inl, inr}
+use Rattle.std.proofs.Common.{◌≡◌, ◌≤◌, ◌<◌, ℕ, ◌+◌, List, [], ◌∷◌, ◌++◌, take, drop, length, Some, Bool}
+use Rattle.std.proofs.Common.{refl, sym, ap, subst, ◌∙◌, arith, append_assoc, append-nil, inl, inr, true, false, cond, eqb}
+use Rattle.std.proofs.lemmas.Bool.{eqb-true}
 use Rattle.std.proofs.lemmas.List.{length-drop, take_more}
-use Rattle.byte_unit_command.specs.Field.{Found, IsField, IsNoSize, other}
+use Rattle.std.specs.List.{onto_first}
+use Rattle.byte_unit_command.specs.Field.{Found, IsField, IsNoSize, other, size, rejected}
 use Rattle.byte_unit_command.specs.Fields.{IsChosen, fields_of, delimiter_bytes}
 use Rattle.byte_unit_command.specs.Outcome.{Passes}
 use Rattle.byte_unit_command.specs.Output.{AreFields, HasRejectedField}
@@ -27,6 +29,54 @@ AreFields-cons options number field others own rest own_found rest_found (next, 
     subst (λ fields. AreFields options (number + 1) fields rest rest_found) others_are are_fields in
     subst (λ fields. AreFields options number (field ∷ fields) whole found) (sym others_are)
     (own, rest, own_found, rest_found, is_field, are, refl, refl)
+
+-- a field that is not chosen, with one more byte before it
+IsField-byte : (options : Options) (number byte : ℕ) (field text : List ℕ) (found : List Found) → ¬ IsChosen options.fields.now number
+    → IsField options number field text found → IsField options number (byte ∷ field) (byte ∷ text) found
+IsField-byte options number byte field text found not_chosen (other _ text_is found_is) =
+    other not_chosen (ap (λ bytes. byte ∷ bytes) text_is) found_is
+IsField-byte options number byte field text found not_chosen (size n chosen is_size is_shown found_is) = absurd (not_chosen chosen)
+IsField-byte options number byte field text found not_chosen (rejected chosen none text_is found_is) = absurd (not_chosen chosen)
+
+-- the same for the first of these fields
+AreFields-byte : (options : Options) (number byte : ℕ) (fields : List (List ℕ)) (text : List ℕ) (found : List Found)
+    → ¬ IsChosen options.fields.now number → AreFields options number fields text found
+    → AreFields options number (onto_first byte fields) (byte ∷ text) found
+AreFields-byte options number byte [] text found not_chosen (text_is, found_is) =
+    other not_chosen (ap (λ bytes. byte ∷ bytes) text_is) found_is
+AreFields-byte options number byte (field ∷ []) text found not_chosen is_field =
+    IsField-byte options number byte field text found not_chosen is_field
+AreFields-byte options number byte (field ∷ next ∷ others) text found not_chosen
+    (own, rest, own_found, rest_found, is_field, are_fields, text_is, found_is) = (
+  byte ∷ own,
+  rest,
+  own_found,
+  rest_found,
+  IsField-byte options number byte field own own_found not_chosen is_field,
+  are_fields,
+  ap (λ bytes. byte ∷ bytes) text_is,
+  found_is,
+)
+
+-- fields none of which is chosen are copied, with the delimiters between them
+AreFields-copied : (options : Options) (delimiter : ℕ) → options.delimiter ≡ Some delimiter → (bytes : List ℕ) (number : ℕ)
+    → ((later : ℕ) → number ≤ later → ¬ IsChosen options.fields.now later)
+    → AreFields options number (parts delimiter bytes) bytes []
+AreFields-copied options delimiter is_delimiter [] number past = other (past number (omega arith)) refl refl
+AreFields-copied options delimiter is_delimiter (byte ∷ bytes) number past =
+    let not_chosen = past number (omega arith) in
+    let next = AreFields-copied options delimiter is_delimiter bytes (number + 1) (λ later high. past later (omega (arith, high))) in
+    let Copies : Bool → Type 0 = λ ends. eqb byte delimiter ≡ ends
+        → AreFields options number (cond ends ([] ∷ parts delimiter bytes) (onto_first byte (parts delimiter bytes))) (byte ∷ bytes) [] in
+    let on_end : Copies true = λ ends.
+        let between : delimiter_bytes options.delimiter ≡ byte ∷ [] =
+        ap delimiter_bytes is_delimiter ∙ ap (λ mark. mark ∷ []) (sym (eqb-true byte delimiter ends)) in
+        subst (λ mark. AreFields options number ([] ∷ parts delimiter bytes) (mark ++ bytes) []) between
+        (AreFields-cons options number [] (parts delimiter bytes) [] bytes [] [] (parts_IsSplit delimiter bytes) (other not_chosen refl refl) next) in
+    let on_other : Copies false = λ ends.
+        AreFields-byte options number byte (parts delimiter bytes) bytes [] not_chosen
+        (AreFields-copied options delimiter is_delimiter bytes number past) in
+    elim (eqb byte delimiter) as Copies [ true ↦ on_end | false ↦ on_other ] refl
 
 -- between two fields of a record: those before are appended and counted, and the rest gives the others
 pub record IsSplitting (options : Options) (delimiter : ℕ) (bytes : List ℕ) (old : Tally) (old_text : List ℕ)
@@ -94,34 +144,6 @@ module _ (options : Options) (delimiter : ℕ) (bytes : List ℕ) (old : Tally) 
             omega (arith, so_far.few, long, length-drop {A = ℕ} (place + 1) rest);
       }
 
-  -- one more field that is converted, and its delimiter
-  pub IsSplitting-chosen : options.delimiter ≡ Some delimiter → (place : ℕ) → EndsAt delimiter rest place
-      → {between : Tally} {text : List ℕ} → AddsField options number (take place rest) new new_text between text
-      → (next : Tally) → next ≡ between → (next_text : List ℕ) → next_text ≡ text ++ delimiter ∷ []
-      → IsSplitting options delimiter bytes old old_text (number + 1) (drop (place + 1) rest) next next_text
-  IsSplitting-chosen is_delimiter place ends {between} {text} adds next next_is next_text text_is =
-      subst (λ next. IsSplitting options delimiter bytes old old_text (number + 1) (drop (place + 1) rest) next next_text) (sym next_is)
-      (IsSplitting-step is_delimiter place ends between text adds next_text text_is)
-
-  -- one more field that is copied with its delimiter
-  pub IsSplitting-copied : options.delimiter ≡ Some delimiter → (place : ℕ) → EndsAt delimiter rest place
-      → ¬ IsChosen options.fields.now number → (next : Tally) → next ≡ new → (next_text : List ℕ) → next_text ≡ new_text ++ take (place + 1) rest
-      → IsSplitting options delimiter bytes old old_text (number + 1) (drop (place + 1) rest) next next_text
-  IsSplitting-copied is_delimiter place ends not_chosen next next_is next_text text_is =
-      let field = take place rest in
-      let adds : AddsField options number field new new_text new (new_text ++ field) = record {
-        text = field;
-        found = [];
-        is_field = other not_chosen refl refl;
-        passes = λ mode. refl;
-        text_is = refl;
-        tally_is = refl;
-      } in
-      let copied : take (place + 1) rest ≡ field ++ delimiter ∷ [] =
-      take_more rest place 0 ends.0 ∙ ap (λ byte. field ++ byte ∷ []) ends.1 in
-      IsSplitting-chosen is_delimiter place ends adds next next_is next_text
-      (text_is ∙ ap (λ more. new_text ++ more) copied ∙ sym (append_assoc new_text field (delimiter ∷ [])))
-
   -- a field that is rejected, and ends at a delimiter
   pub Aborts-step : options.delimiter ≡ Some delimiter → (place : ℕ) → EndsAt delimiter rest place → options.invalid ≡ Abort
       → IsChosen options.fields.now number → IsNoSize options (take place rest) → Aborts options bytes
@@ -146,6 +168,19 @@ module _ (options : Options) (delimiter : ℕ) (bytes : List ℕ) (old : Tally) 
         passes = Passes-append options so_far.found adds.found so_far.passes adds.passes;
         text_is = adds.text_is ∙ ap (λ text. text ++ adds.text) so_far.text_is ∙ append_assoc old_text so_far.text adds.text;
         tally_is = tally_after-then options old new next so_far.found adds.found so_far.tally_is adds.tally_is;
+      }
+
+  -- the other fields are copied with the delimiters between them
+  pub AddsFields-copied : options.delimiter ≡ Some delimiter → ((later : ℕ) → number ≤ later → ¬ IsChosen options.fields.now later)
+      → (next : Tally) → next ≡ new → (next_text : List ℕ) → next_text ≡ new_text ++ rest → AddsFields options bytes old old_text next next_text
+  AddsFields-copied is_delimiter past next next_is next_text text_is =
+      let all = so_far.goes_on rest [] (AreFields-copied options delimiter is_delimiter rest number past) in record {
+        text = so_far.text ++ rest;
+        found = so_far.found ++ [];
+        are_fields = subst (λ mark. AreFields options 1 (fields_of mark bytes) (so_far.text ++ rest) (so_far.found ++ [])) (sym is_delimiter) all;
+        passes = subst (Passes options) (sym (append-nil so_far.found)) so_far.passes;
+        text_is = text_is ∙ ap (λ text. text ++ rest) so_far.text_is ∙ append_assoc old_text so_far.text rest;
+        tally_is = next_is ∙ so_far.tally_is ∙ ap (tally_after options old) (sym (append-nil so_far.found));
       }
 
   -- the last field is rejected

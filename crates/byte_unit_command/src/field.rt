@@ -1,6 +1,6 @@
 //! Converts one field.
 
-ghost use Rattle.std.specs.Prelude.{◌≡◌, ◌≤◌, ◌++◌, ◌⊎◌, length, OnOk, IfErr, IsErrOf, IsTrue, IsFalse, List};
+ghost use Rattle.std.specs.Prelude.{◌≡◌, ◌≤◌, ◌++◌, ◌⊎◌, length, OnOk, IfErr, IsErrOf, IsTrue, IsFalse, List, ℕ};
 ghost use Rattle.byte_unit.specs.Forms.{text_limit};
 ghost use Rattle.byte_unit_command.specs.Field.{IsNoSize};
 ghost use Rattle.byte_unit_command.specs.Fields.{IsChosen, InRange};
@@ -24,6 +24,26 @@ pub(crate) fn is_chosen(ranges: &[FieldRange], number: u64) -> bool
     match ranges {
         [] => false,
         [range, others @ ..] => in_range(*range, number) || is_chosen(others, number),
+    }
+}
+
+/// Returns `true` if neither the field with this number nor one that follows it is in one of the ranges.
+pub(crate) fn is_past(ranges: &[FieldRange], number: u64) -> bool
+    ensures { IsTrue result → (later : ℕ) → number ≤ later → ¬ IsChosen ranges.now later }
+{
+    match ranges {
+        [] => true,
+        [range, others @ ..] => ends_before(*range, number) && is_past(others, number),
+    }
+}
+
+/// Returns `true` if the range ends before the field with this number.
+fn ends_before(range: FieldRange, number: u64) -> bool
+    ensures { IsTrue result → (later : ℕ) → number ≤ later → ¬ InRange range later }
+{
+    match range.last {
+        None => false,
+        Some(last) => last < number,
     }
 }
 

@@ -5,7 +5,7 @@ ghost use Rattle.byte_unit.specs.Forms.{text_limit};
 ghost use Rattle.byte_unit_command.specs.Outcome.{IsPrefix};
 ghost use Rattle.byte_unit_command.specs.Progress.{AddsFields, AddsRecords, Aborts, no_tally, state_of};
 
-use crate::field::{add_chosen, add_field, is_chosen};
+use crate::field::{add_field, is_past};
 use crate::notice::Notices;
 use crate::options::Options;
 use crate::place::Place;
@@ -96,15 +96,15 @@ fn add_split<A: Allocator>(
     let mut rest = bytes;
     let mut number = 1u64;
     while let Some(n) = end_of(rest, delimiter) {
-        if is_chosen(options.fields, number) {
-            let field = &rest[..n];
-            add_chosen(options, place, number, field, digits, tally, text, notices)?;
-            text.extend_from_slice(&[delimiter])?;
-        } else {
-            text.extend_from_slice(&rest[..n + 1])?;
-        }
+        let field = &rest[..n];
+        add_field(options, place, number, field, digits, tally, text, notices)?;
+        text.extend_from_slice(&[delimiter])?;
         rest = &rest[n + 1..];
         number += 1;
+        if is_past(options.fields, number) {
+            text.extend_from_slice(rest)?;
+            return Ok(());
+        }
     }
     add_field(options, place, number, rest, digits, tally, text, notices)
 }
