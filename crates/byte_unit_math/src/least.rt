@@ -20,6 +20,9 @@ const TEN_POW_14_INVERSE: u64 = 12_980_742_146_337_069_071;
 /// The number of digits of a group.
 const GROUP_PLACES: u32 = 7;
 
+/// The number of groups of a fraction.
+const GROUPS: u32 = 4;
+
 /// Returns `d * unit_size` rounded up to a whole number. Returns `None` if that is `limit` or more.
 ///
 /// Precondition (proved at every call): `1 <= unit_size <= 2^93` and `limit <= 8 * 10^30`.
@@ -40,11 +43,25 @@ pub fn least_size(d: Decimal, unit_size: u128, limit: u128) -> Option<u128>
     // No size below the limit is at least the product.
     ensures none { IfNone result ((n : ℕ) → IsLeastSize d unit_size n → limit ≤ n) }
 {
-    least_size_counted(d, unit_size, limit, &mut Steps::new())
+    let (digits, places) = (d.digits(), d.places());
+    let part = if places <= GROUP_PLACES {
+        // All digits are in the most significant group.
+        let group = digits as u64 * power_of_ten(GROUP_PLACES - places) as u64;
+        carry_of_group(group, unit_size, 0)
+    } else {
+        let (high, low) = split_fraction(digits, places);
+        let part = carry_of_group(low % GROUP, unit_size, 0);
+        let part = carry_of_group(low / GROUP, unit_size, part);
+        let part = carry_of_group(high % GROUP, unit_size, part);
+        carry_of_group(high / GROUP, unit_size, part)
+    };
+    // A number of more than 128 bits exceeds each limit.
+    let size = checked_mul(d.whole(), unit_size)?.checked_add(part)?;
+    (size < limit).then_some(size)
 }
 
 /// Returns the same as [`least_size`], with the same precondition, and counts one step for each of the four
-/// seven-digit groups of the fraction, least significant first.
+/// seven-digit groups of the fraction.
 ///
 /// # Examples
 /// ```rust
@@ -52,7 +69,6 @@ pub fn least_size(d: Decimal, unit_size: u128, limit: u128) -> Option<u128>
 /// assert_eq!(rt; least_size_counted(Decimal::from_digits(1, 5, 1), 1024, 2000, &mut steps), Some(1536));
 /// assert_eq!(rt; steps.count(), 4);
 /// ```
-#[inline(always)]
 pub fn least_size_counted(
     d: Decimal,
     unit_size: u128,
@@ -67,22 +83,8 @@ pub fn least_size_counted(
     ensures none { IfNone result ((n : ℕ) → IsLeastSize d unit_size n → limit ≤ n) }
     ensures steps { steps.new ≡ saturating_add steps.old 4 }
 {
-    let (digits, places) = (d.digits(), d.places());
-    let part = if places <= GROUP_PLACES {
-        // All digits are in the most significant group.
-        steps.advance_by(3);
-        let group = digits as u64 * power_of_ten(GROUP_PLACES - places) as u64;
-        carry_of_group(group, unit_size, 0, steps)
-    } else {
-        let (high, low) = split_fraction(digits, places);
-        let part = carry_of_group(low % GROUP, unit_size, 0, steps);
-        let part = carry_of_group(low / GROUP, unit_size, part, steps);
-        let part = carry_of_group(high % GROUP, unit_size, part, steps);
-        carry_of_group(high / GROUP, unit_size, part, steps)
-    };
-    // A number of more than 128 bits exceeds each limit.
-    let size = checked_mul(d.whole(), unit_size)?.checked_add(part)?;
-    (size < limit).then_some(size)
+    steps.advance_by(GROUPS);
+    least_size(d, unit_size, limit)
 }
 
 /// Returns the product, or `None` if it needs more than 128 bits. Numbers of 64 bits take one multiplication.
@@ -111,15 +113,13 @@ fn split_fraction(digits: u128, places: u32) -> (u64, u64)
 /// Returns the carry into the next group: the product of a group and the unit's size, plus the carry of the less
 /// significant groups, divided by the radix and rounded up.
 #[inline(always)]
-fn carry_of_group(digits: u64, unit_size: u128, carry: u128, steps: &mut Steps) -> u128
+fn carry_of_group(digits: u64, unit_size: u128, carry: u128) -> u128
     requires digits { digits < group_limit }
     requires small_unit { unit_size ≤ unit_limit }
     requires carry { carry ≤ unit_size }
     ensures rounded { IsRoundedUp (digits * unit_size + carry) group_limit result }
     ensures bound { result ≤ unit_size }
-    ensures steps { steps.new ≡ saturating_add steps.old 1 }
 {
-    steps.advance_by(1);
     if digits == 0 && carry == 0 {
         // A zero group without a carry needs no division.
         0

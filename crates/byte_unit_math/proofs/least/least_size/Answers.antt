@@ -6,9 +6,9 @@ use Rattle.byte_unit_math.specs.RoundedUp.{group_limit, half_limit, IsRoundedUp}
 use Rattle.byte_unit_math.proofs.RoundedUp.{IsRoundedUp-groups, IsLeastSize-halves, IsLeastSize-parts}
 use Rattle.byte_unit_math.proofs.RoundedUp.{InFirstGroup-places, IsLeastSize-group}
 use Rattle.byte_unit_math.proofs.RoundedUp.{least_size_not_below, IfNone-always, IfSome-then_some, IfNone-below}
-use Rattle.byte_unit_math.proofs.least.least_size_counted.Goals.{After-whole, then-places-le-GROUP_PLACES}
-use Rattle.byte_unit_math.proofs.least.least_size_counted.Goals.{else-places-le-GROUP_PLACES}
-use Rattle.byte_unit_math.proofs.least.least_size_counted.Goals as goal
+use Rattle.byte_unit_math.proofs.least.least_size.Goals.{After-whole, then-places-le-GROUP_PLACES}
+use Rattle.byte_unit_math.proofs.least.least_size.Goals.{else-places-le-GROUP_PLACES}
+use Rattle.byte_unit_math.proofs.least.least_size.Goals as goal
 
 -- The digits are a number of at most their places.
 digits_below : (c : After-whole) → c.digits-digits.result < 10 ^ c.places-places.result
