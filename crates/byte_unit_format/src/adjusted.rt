@@ -173,27 +173,16 @@ fn write_shown(size: u128, kind: Kind, unit: Unit, spec: FormatSpec, out: &mut [
     shown.parts(unit, spec).write(out)
 }
 
-/// Returns the number of digits after the point if the spec asks for exactly so many, and for few.
+/// Returns the number of digits after the point if the spec asks for exactly that number, and it is at most
+/// [`FEW_PLACES`].
 #[inline(always)]
 fn few_places(unit: Unit, spec: FormatSpec) -> Option<u32>
     ensures { IfSome result (λ places. (places ≤ FEW_PLACES)
         × (rule_of spec.precision spec.alternate (shape_of unit) ≡ round_to places)) }
 {
-    match spec.precision {
-        None => None,
-        Some(precision) => {
-            let places = u32::from(precision);
-            if spec.alternate {
-                None
-            } else if is_single(unit) {
-                None
-            } else if places > FEW_PLACES {
-                None
-            } else {
-                Some(places)
-            }
-        }
-    }
+    let places = u32::from(spec.precision?);
+    let few = !spec.alternate && !is_single(unit) && places <= FEW_PLACES;
+    few.then_some(places)
 }
 
 /// Returns the size in the unit, rounded as the spec says.
