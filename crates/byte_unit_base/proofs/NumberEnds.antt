@@ -26,9 +26,9 @@ use Rattle.byte_unit_base.specs.Fault.{too_long}
 use Rattle.byte_unit_base.specs.Scan.{read}
 use Rattle.byte_unit_base.specs.UnitScan.{unit_scan, start}
 use Rattle.byte_unit_base.specs.SizeScan.{Beginning, Whole, Point, size_scan, fixed_point}
-use Rattle.byte_unit_base.specs.PartsReading.{IsFirst, IsNoSpace, IsStop, EndsNumber, IsLeadingNumber, with_number}
-use Rattle.byte_unit_base.specs.PartsReading.{missing_digit}
-use Rattle.byte_unit_base.specs.declared.read.stop.Stop.TheVariants.{NoDigit, TooLong, Unit as UnitFrom}
+use Rattle.byte_unit_base.specs.PartsReading.{IsFirst, IsNoSpace, IsStop, IsStopAt, EndsNumber, IsLeadingNumber, with_number}
+use Rattle.byte_unit_base.specs.PartsReading.{missing_digit, stop_in_number}
+use Rattle.byte_unit_base.specs.declared.read.stop.Reason.TheVariants.{NoDigit, TooLong, NoCommonUnit}
 use Rattle.byte_unit_base.proofs.Lists.{push_append}
 use Rattle.byte_unit_base.proofs.Scans.{read_through, read_some}
 use Rattle.byte_unit_base.proofs.SizeRuns.{step_first, run_whole, run_precise, number_end}
@@ -87,7 +87,7 @@ after_start end = grind (arith, nat_tests)
 
 -- a digit is missing at the start
 pub stops_at_start : (bytes : List ℕ) → digits_len bytes ≡ 0 → (flags : Flags) → IsUtf8 bytes
-    → IsStop flags bytes (NoDigit 0)
+    → IsStop flags bytes (stop_in_number 0 NoDigit)
 stops_at_start bytes none flags utf8 = record {
   boundary = IsCharBoundary-start bytes utf8;
   result_is = missing_at_start flags (chars bytes)
@@ -152,7 +152,8 @@ module _ (bytes : List ℕ) (end whole : ℕ) (run_is : end ≡ 0 + digits_len (
         ∙ read_point flags (take end bytes) (chars rest) whole whole_is
 
     -- a digit is missing after the point
-    pub stops_after_point : digits_len rest ≡ 0 → (flags : Flags) → IsUtf8 bytes → IsStop flags bytes (NoDigit (end + 1))
+    pub stops_after_point : digits_len rest ≡ 0 → (flags : Flags) → IsUtf8 bytes
+        → IsStop flags bytes (stop_in_number (end + 1) NoDigit)
     stops_after_point none flags utf8 =
         let rest_is = take_rest bytes (end + 1) in
         let utf8_rest = subst IsUtf8 (sym rest_is) (utf8_from bytes (end + 1) utf8 pointed_within pointed_ascii) in
@@ -184,7 +185,7 @@ module _ (bytes : List ℕ) (end whole : ℕ) (run_is : end ≡ 0 + digits_len (
 
       -- the fraction has more than 28 digits
       pub stops_in_fraction : places_of_decimal < places → (flags : Flags) → IsUtf8 bytes
-          → IsStop flags bytes TooLong
+          → IsStop flags bytes (stop_in_number 0 TooLong)
       stops_in_fraction many flags utf8 = record {
         boundary = IsCharBoundary-start bytes utf8;
         result_is = read_rest flags
@@ -249,7 +250,8 @@ too_large_read flags (c ∷ cs) rest digits above =
 
 -- the whole part reaches the limit
 pub stops_in_whole : (bytes : List ℕ) (end : ℕ) → end ≡ 0 + digits_len (drop 0 bytes)
-    → whole_limit ≤ digits_value 10 (take end bytes) → (flags : Flags) → IsUtf8 bytes → IsStop flags bytes TooLong
+    → whole_limit ≤ digits_value 10 (take end bytes) → (flags : Flags) → IsUtf8 bytes
+    → IsStop flags bytes (stop_in_number 0 TooLong)
 stops_in_whole bytes end run_is above flags utf8 =
     let digits = digits_of_run bytes end run_is in
     record {
@@ -262,7 +264,7 @@ stops_in_whole bytes end run_is above flags utf8 =
 -- the number is read, and what follows is no unit in one of the common spellings
 pub stops_at_unit : (flags : Flags) (bytes rest : List ℕ) (n end spaces : ℕ) → IsLeadingNumber bytes n end
     → drop end bytes ≡ rest → spaces ≤ length rest → take spaces rest ≡ replicate spaces space
-    → IsFirst IsNoSpace (drop spaces rest) → IsUtf8 bytes → IsStop flags bytes (UnitFrom n (end + spaces))
+    → IsFirst IsNoSpace (drop spaces rest) → IsUtf8 bytes → IsStopAt flags bytes n (end + spaces) NoCommonUnit
 stops_at_unit flags bytes rest n end spaces number rest_is within gap other utf8 =
     let number_small = number_ascii (take end bytes) n number.number_is in
     let gap_small = All-replicate (λ c. c < 128) spaces space (omega arith) in

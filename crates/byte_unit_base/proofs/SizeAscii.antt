@@ -1,15 +1,16 @@
--- The inputs of the grammar of sizes are ASCII. So with visible characters at their ends there is nothing to trim.
-use Rattle.std.proofs.Common.{◌≡◌, ℕ, ◌-◌, ◌<◌, Bool, true, inl, inr, List, [], ◌∷◌, ◌++◌, refl, ap}
-use Rattle.std.proofs.Common.{replicate}
-use Rattle.std.proofs.Common.{sym, subst, ◌∙◌, arith}
-use Rattle.std.specs.Prelude.{codes}
-use Rattle.std.specs.Char.{to_ascii_lowercase, to_ascii_uppercase}
-use Rattle.std.specs.Str.{IsAscii, IsUtf8, chars, str_to_ascii_lowercase}
-use Rattle.std.specs.Prelude.{nat_lt, ◌&&◌}
-use Rattle.std.proofs.lemmas.Bool.{and_parts, ltb-true}
+-- The inputs of the grammar of sizes are visible characters of ASCII, and spaces between a number and a unit. So only
+-- spaces after a number without a unit can be trimmed, and what is left is the same number and unit.
+use Rattle.std.proofs.Common.{◌≡◌, ℕ, zero, suc, ◌-◌, ◌<◌, Bool, true, false, cond, nat_eq, ◌&&◌, inl, inr, List, [], ◌∷◌, ◌++◌}
+use Rattle.std.proofs.Common.{length, get_or, replicate, refl, ap, sym, subst, ◌∙◌, arith, append-nil}
+use Rattle.std.specs.List.{list_all}
+use Rattle.std.specs.Char.{digit_value, is_ascii_graphic, to_ascii_lowercase, to_ascii_uppercase}
+use Rattle.std.specs.Str.{IsAscii, IsUtf8, chars, str_to_ascii_lowercase, skip_leading_whitespace, drop_trailing_whitespace}
+use Rattle.std.specs.Str.Parse.{AllDigits}
+use Rattle.std.proofs.lemmas.Bool.{and_from, and_parts}
 use Rattle.std.proofs.lemmas.Bool.Decides.{nat_tests}
-use Rattle.std.proofs.lemmas.Fmt.{IsAscii-from_digits}
+use Rattle.std.proofs.lemmas.List.{length-append}
 use Rattle.std.proofs.lemmas.List.Elements.{All-replicate}
+use Rattle.std.proofs.lemmas.List.Folds.{list_all-append}
 use Rattle.std.proofs.lemmas.Str.{IsAscii-append, IsUtf8-from_ascii, chars-IsAscii}
 use Rattle.std.proofs.lemmas.Str.Ascii.{IsAscii-nil, IsAscii-cons, IsAscii-from_all}
 use Rattle.byte_unit_base.specs.Shape.{Shape}
@@ -17,88 +18,159 @@ use Rattle.byte_unit_base.specs.Version.{current}
 use Rattle.byte_unit_base.specs.Spelling.{Flags, SpellsBinary, SpellsPrefix, SpellsCount, Spells}
 use Rattle.byte_unit_base.specs.Number.{IsNumberText}
 use Rattle.byte_unit_base.specs.SizeText.{space, trim_of, IsSizeText}
-use Rattle.byte_unit_base.specs.PartsReading.{HasVisibleEnds}
-use Rattle.byte_unit_base.proofs.Trim.{trim_visible}
+use Rattle.byte_unit_base.proofs.Trim.{visible_not_white}
 
--- letters, whose lower case is ASCII
+-- visible characters
 
-lower_small : (c : ℕ) → to_ascii_lowercase c < 128 → c < 128
-lower_small c small = grind (arith, nat_tests)
+-- the characters of the text are visible ones of ASCII
+abbrev IsVisible : List ℕ → Type 0
+IsVisible text = list_all is_ascii_graphic text ≡ true
 
-upper_small : (c : ℕ) → to_ascii_uppercase c < 128 → c < 128
-upper_small c small = grind (arith, nat_tests)
+visible_append : (xs ys : List ℕ) → IsVisible xs → IsVisible ys → IsVisible (xs ++ ys)
+visible_append xs ys h k = list_all-append is_ascii_graphic xs ys ∙ and_from _ _ h k
 
--- a test that a proof computes for a literal
-abbrev small_text : List ℕ → Bool
-small_text [] = true
-small_text (c ∷ cs) = nat_lt c 128 && small_text cs
+visible_at : (text : List ℕ) (i : ℕ) → IsVisible text → i < length text → is_ascii_graphic (get_or text i 0) ≡ true
+visible_at [] i h inside = absurd (omega (arith, inside))
+visible_at (c ∷ cs) zero h inside = (and_parts _ _ h).0
+visible_at (c ∷ cs) (suc i) h inside = visible_at cs i (and_parts _ _ h).1 (omega (arith, inside))
 
-text_ascii : (text : List ℕ) → small_text text ≡ true → IsAscii text
-text_ascii [] e = IsAscii-nil
-text_ascii (c ∷ cs) e = let h = and_parts _ _ e in IsAscii-cons c cs (ltb-true _ _ h.0) (text_ascii cs h.1)
+visible_small : (c : ℕ) → is_ascii_graphic c ≡ true → c < 128
+visible_small c visible = grind (arith, nat_tests)
 
-lower_ascii : (text : List ℕ) → small_text (str_to_ascii_lowercase text) ≡ true → IsAscii text
-lower_ascii [] e = IsAscii-nil
-lower_ascii (c ∷ cs) e =
-    let h = and_parts _ _ e in IsAscii-cons c cs (lower_small c (ltb-true _ _ h.0)) (lower_ascii cs h.1)
+visible_ascii : (text : List ℕ) → IsVisible text → IsAscii text
+visible_ascii [] h = IsAscii-nil
+visible_ascii (c ∷ cs) h = let p = and_parts _ _ h in IsAscii-cons c cs (visible_small c p.0) (visible_ascii cs p.1)
+
+lower_visible : (c : ℕ) → is_ascii_graphic (to_ascii_lowercase c) ≡ true → is_ascii_graphic c ≡ true
+lower_visible c visible = grind (arith, nat_tests)
+
+upper_visible : (c : ℕ) → is_ascii_graphic (to_ascii_uppercase c) ≡ true → is_ascii_graphic c ≡ true
+upper_visible c visible = grind (arith, nat_tests)
+
+text_visible : (text : List ℕ) → IsVisible (str_to_ascii_lowercase text) → IsVisible text
+text_visible [] h = refl
+text_visible (c ∷ cs) h = let p = and_parts _ _ h in and_from _ _ (lower_visible c p.0) (text_visible cs p.1)
+
+digit_visible : (c : ℕ) → digit_value c < 10 → is_ascii_graphic c ≡ true
+digit_visible c small = grind (arith, nat_tests)
+
+digits_visible : (text : List ℕ) → AllDigits 10 text → IsVisible text
+digits_visible [] h = refl
+digits_visible (c ∷ cs) h = and_from _ _ (digit_visible c h.0) (digits_visible cs h.1)
 
 -- spellings
 
-count_ascii : (flags : Flags) (text : List ℕ) (bit : Bool) → SpellsCount flags text bit → IsAscii text
-count_ascii flags text bit (inl h) = subst IsAscii (sym h.0) IsAscii-nil
-count_ascii flags text bit (inr (inl h)) = subst IsAscii (sym h.0) (text_ascii (codes "B") refl)
-count_ascii flags text bit (inr (inr (inl h))) = subst IsAscii (sym h.0) (text_ascii (codes "b") refl)
-count_ascii flags text bit (inr (inr (inr (inl h)))) = lower_ascii text (ap small_text h.0)
-count_ascii flags text bit (inr (inr (inr (inr h)))) = lower_ascii text (ap small_text h.0)
+count_visible : (flags : Flags) (text : List ℕ) (bit : Bool) → SpellsCount flags text bit → IsVisible text
+count_visible flags text bit (inl h) = ap (list_all is_ascii_graphic) h.0
+count_visible flags text bit (inr (inl h)) = ap (list_all is_ascii_graphic) h.0
+count_visible flags text bit (inr (inr (inl h))) = ap (list_all is_ascii_graphic) h.0
+count_visible flags text bit (inr (inr (inr (inl h)))) = text_visible text (ap (list_all is_ascii_graphic) h.0)
+count_visible flags text bit (inr (inr (inr (inr h)))) = text_visible text (ap (list_all is_ascii_graphic) h.0)
 
-binary_ascii : (text : List ℕ) (binary : Bool) → SpellsBinary text binary → IsAscii text
-binary_ascii text binary (inl h) = subst IsAscii (sym h.0) IsAscii-nil
-binary_ascii text binary (inr h) = lower_ascii text (ap small_text h.0)
+binary_visible : (text : List ℕ) (binary : Bool) → SpellsBinary text binary → IsVisible text
+binary_visible text binary (inl h) = ap (list_all is_ascii_graphic) h.0
+binary_visible text binary (inr h) = text_visible text (ap (list_all is_ascii_graphic) h.0)
 
-letters_ascii : IsAscii current.letters
-letters_ascii = text_ascii current.letters refl
+prefix_visible : (text : List ℕ) (power : ℕ) (binary : Bool) → SpellsPrefix current text power binary → IsVisible text
+prefix_visible text power binary h =
+    let is = h.letter_is in
+    let letter = visible_at current.letters (power - 1) refl (omega (arith, is.0, is.1)) in
+    ap (list_all is_ascii_graphic) h.text_is
+    ∙ and_from _ _ (upper_visible h.letter (ap is_ascii_graphic is.2 ∙ letter))
+    (binary_visible h.infix_part binary h.infix_is)
 
-prefix_ascii : (text : List ℕ) (power : ℕ) (binary : Bool) → SpellsPrefix current text power binary → IsAscii text
-prefix_ascii text power binary h =
-    let small : h.letter < 128 = upper_small h.letter
-    (subst (λ c. c < 128) (sym h.letter_is.2) (letters_ascii (power - 1))) in
-    subst IsAscii (sym h.text_is) (IsAscii-cons h.letter h.infix_part small
-    (binary_ascii h.infix_part binary h.infix_is))
-
-spelling_ascii : (flags : Flags) (text : List ℕ) (unit : Shape) → Spells current flags text unit → IsAscii text
-spelling_ascii flags text unit (inl h) = count_ascii flags text unit.bit h.count_is
-spelling_ascii flags text unit (inr h) =
-    subst IsAscii (sym h.text_is)
-    (IsAscii-append h.prefix_part h.count_part (prefix_ascii h.prefix_part unit.power unit.binary h.prefix_is)
-    (count_ascii flags h.count_part unit.bit h.count_is))
+spelling_visible : (flags : Flags) (text : List ℕ) (unit : Shape) → Spells current flags text unit → IsVisible text
+spelling_visible flags text unit (inl h) = count_visible flags text unit.bit h.count_is
+spelling_visible flags text unit (inr h) =
+    ap (list_all is_ascii_graphic) h.text_is
+    ∙ visible_append h.prefix_part h.count_part (prefix_visible h.prefix_part unit.power unit.binary h.prefix_is)
+    (count_visible flags h.count_part unit.bit h.count_is)
 
 -- numbers and sizes
 
+number_visible : (text : List ℕ) (number : ℕ) → IsNumberText current text number → IsVisible text
+number_visible text number (inl h) = digits_visible text h.1.0.1
+number_visible text number (inr h) =
+    ap (list_all is_ascii_graphic) h.text_is
+    ∙ visible_append h.whole (46 ∷ h.fraction) (digits_visible h.whole h.whole_is.0.1)
+    (digits_visible h.fraction h.fraction_is.0.1)
+
+number_some : (text : List ℕ) (number : ℕ) → IsNumberText current text number → 0 < length text
+number_some text number (inl h) = h.1.0.0
+number_some text number (inr h) =
+    omega (arith, ap length h.text_is, length-append h.whole (46 ∷ h.fraction), h.whole_is.0.0)
+
 -- the text of a number is ASCII
 pub number_ascii : (text : List ℕ) (number : ℕ) → IsNumberText current text number → IsAscii text
-number_ascii text number (inl h) = IsAscii-from_digits text h.1.0.1
-number_ascii text number (inr h) =
-    subst IsAscii (sym h.text_is)
-    (IsAscii-append h.whole (46 ∷ h.fraction) (IsAscii-from_digits h.whole h.whole_is.0.1)
-    (IsAscii-cons 46 h.fraction (omega arith) (IsAscii-from_digits h.fraction h.fraction_is.0.1)))
+number_ascii text number h = visible_ascii text (number_visible text number h)
 
 -- the text of a number and a unit is ASCII
 size_ascii : (flags : Flags) (text : List ℕ) (number : ℕ) (unit : Shape) → IsSizeText current flags text number unit
     → IsAscii text
 size_ascii flags text number unit h =
     let gap = IsAscii-from_all (replicate h.spaces space) (All-replicate (λ c. c < 128) h.spaces space (omega arith)) in
+    let spelling = visible_ascii h.unit_part (spelling_visible flags h.unit_part unit h.unit_is) in
     subst IsAscii (sym h.text_is)
     (IsAscii-append h.number_part (replicate h.spaces space ++ h.unit_part)
     (number_ascii h.number_part number h.number_is)
-    (IsAscii-append (replicate h.spaces space) h.unit_part gap (spelling_ascii flags h.unit_part unit h.unit_is)))
+    (IsAscii-append (replicate h.spaces space) h.unit_part gap spelling))
 
--- if bytes with visible characters at their ends are a number and a unit, they are so when trimmed
-pub trimmed_size : (flags : Flags) (bytes : List ℕ) (number : ℕ) (unit : Shape) → HasVisibleEnds bytes
+-- trimming
+
+-- no white space is skipped before visible characters
+skip_kept : (front rest : List ℕ) → IsVisible front → 0 < length front
+    → skip_leading_whitespace (front ++ rest) ≡ front ++ rest
+skip_kept [] rest h some = absurd (omega (arith, some))
+skip_kept (c ∷ cs) rest h some =
+    ap (λ white. cond white (skip_leading_whitespace (cs ++ rest)) (c ∷ cs ++ rest))
+    (visible_not_white c (and_parts _ _ h).0)
+
+-- white space is dropped only after visible characters
+drop_after : (front rest : List ℕ) → IsVisible front
+    → drop_trailing_whitespace (front ++ rest) ≡ front ++ drop_trailing_whitespace rest
+drop_after [] rest h = refl
+drop_after (c ∷ cs) rest h =
+    let p = and_parts _ _ h in
+    let kept = drop_trailing_whitespace (cs ++ rest) in
+    ap (λ white. cond (white && nat_eq (length kept) 0) [] (c ∷ kept)) (visible_not_white c p.0)
+    ∙ ap (λ kept. c ∷ kept) (drop_after cs rest p.1)
+
+-- one space more before what is left is left too, or dropped if nothing is left
+one_more : (kept unit_part : List ℕ) (spaces : ℕ) → kept ≡ replicate spaces space ++ unit_part
+    → (left : ℕ) × (cond (nat_eq (length kept) 0) [] (space ∷ kept) ≡ replicate left space ++ unit_part)
+one_more [] unit_part spaces e = (spaces, e)
+one_more (c ∷ cs) unit_part spaces e =
+    let some : nat_eq (length (c ∷ cs)) 0 ≡ false = grind (arith, nat_tests) in
+    (suc spaces, ap (λ none. cond none [] (space ∷ c ∷ cs)) some ∙ ap (λ kept. space ∷ kept) e)
+
+-- of spaces and a unit the unit is left, and the spaces unless it is empty
+gap_kept : (spaces : ℕ) (unit_part : List ℕ) → IsVisible unit_part
+    → (left : ℕ) × (drop_trailing_whitespace (replicate spaces space ++ unit_part) ≡ replicate left space ++ unit_part)
+gap_kept zero unit_part h =
+    (0, subst (λ text. drop_trailing_whitespace text ≡ text) (append-nil unit_part) (drop_after unit_part [] h))
+gap_kept (suc spaces) unit_part h =
+    let rest = gap_kept spaces unit_part h in
+    one_more (drop_trailing_whitespace (replicate spaces space ++ unit_part)) unit_part rest.0 rest.1
+
+-- bytes that are a number and a unit are these when trimmed
+pub trimmed_size : (flags : Flags) (bytes : List ℕ) (number : ℕ) (unit : Shape)
     → IsSizeText current flags bytes number unit → IsSizeText current flags (trim_of bytes) number unit
-trimmed_size flags bytes number unit ends h =
-    let ascii = size_ascii flags bytes number unit h in
-    let same = trim_visible bytes (IsUtf8-from_ascii bytes ascii) ends ∙ chars-IsAscii bytes ascii in
-    subst (λ text. IsSizeText current flags text number unit) (sym same) h
+trimmed_size flags bytes number unit h =
+    let digits = number_visible h.number_part number h.number_is in
+    let some = number_some h.number_part number h.number_is in
+    let gap = replicate h.spaces space ++ h.unit_part in
+    let kept = gap_kept h.spaces h.unit_part (spelling_visible flags h.unit_part unit h.unit_is) in
+    record {
+      number_part = h.number_part;
+      spaces = kept.0;
+      unit_part = h.unit_part;
+      text_is = ap (λ text. drop_trailing_whitespace (skip_leading_whitespace text))
+          (chars-IsAscii bytes (size_ascii flags bytes number unit h) ∙ h.text_is)
+          ∙ (ap drop_trailing_whitespace (skip_kept h.number_part gap digits some)
+          ∙ (drop_after h.number_part gap digits ∙ ap (λ rest. h.number_part ++ rest) kept.1));
+      number_is = h.number_is;
+      unit_is = h.unit_is;
+    }
 
 -- bytes that are a number and a unit are UTF-8
 pub size_utf8 : (flags : Flags) (bytes : List ℕ) (number : ℕ) (unit : Shape)

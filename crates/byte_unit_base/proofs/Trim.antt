@@ -89,7 +89,7 @@ nothing_to_drop text start end =
 
 -- visible ends
 
-visible_not_white : (c : ℕ) → is_ascii_graphic c ≡ true → is_whitespace c ≡ false
+pub visible_not_white : (c : ℕ) → is_ascii_graphic c ≡ true → is_whitespace c ≡ false
 visible_not_white c e = grind (arith, nat_tests)
 
 visible_ascii : (c : ℕ) → is_ascii_graphic c ≡ true → IsAscii (c ∷ [])

@@ -15,7 +15,8 @@ use Rattle.byte_unit_base.specs.UnitScan.{unit_scan, unit_of, start}
 use Rattle.byte_unit_base.specs.SizeScan.{SizeScan, Beginning, size_step, size_scan, size_at_end, size_or_fault, size_parser_state, after_number}
 use Rattle.byte_unit_base.specs.declared.unit.Unit.{Unit as UnitName}
 use Rattle.byte_unit_base.specs.declared.read.stop.Stop.{Stop}
-use Rattle.byte_unit_base.specs.declared.read.stop.Stop.TheVariants.{NoDigit, TooLong, Unit as UnitFrom}
+use Rattle.byte_unit_base.specs.declared.read.stop.Reason.{Reason}
+use Rattle.byte_unit_base.specs.declared.read.stop.Reason.TheVariants.{NoDigit, TooLong, NoCommonUnit}
 
 -- the first and the last byte are visible characters of ASCII
 pub record HasVisibleEnds (bytes : List ℕ) : Type 0 where
@@ -43,23 +44,24 @@ abbrev pub with_number : ℕ → Result Shape Fault → Result (ℕ × Shape) Fa
 with_number n (Ok unit) = Ok (n, unit)
 with_number n (Err fault) = Err fault
 
--- the result for an input in which the parser stops
-abbrev pub stop_result : Flags → Stop → List ℕ → Result (ℕ × Shape) Fault
-stop_result flags (NoDigit place) bytes = Err (missing_digit (nat_eq place 0) (chars (drop place bytes)))
-stop_result flags TooLong bytes = Err too_long
-stop_result flags (UnitFrom n place) bytes =
-    with_number n (read (unit_scan flags) start (chars (drop place bytes)))
+-- the result for the rest of an input, from the place at which the parser stops for this reason
+abbrev pub rest_result : Flags → ℕ → Reason → List ℕ → Result Shape Fault
+rest_result flags place NoDigit bytes = Err (missing_digit (nat_eq place 0) (chars (drop place bytes)))
+rest_result flags place TooLong bytes = Err too_long
+rest_result flags place NoCommonUnit bytes = read (unit_scan flags) start (chars (drop place bytes))
 
--- the place at which the parser stops
-abbrev pub place_of : Stop → ℕ
-place_of (NoDigit place) = place
-place_of TooLong = 0
-place_of (UnitFrom n place) = place
+-- the parser stops in this input at this place and for this reason; `n` is the number before the unit
+pub record IsStopAt (flags : Flags) (bytes : List ℕ) (n place : ℕ) (reason : Reason) : Type 0 where
+  pub boundary : IsCharBoundary bytes place
+  pub result_is : read (size_scan flags) Beginning (chars bytes) ≡ with_number n (rest_result flags place reason bytes)
 
 -- the parser stops here in this input
-pub record IsStop (flags : Flags) (bytes : List ℕ) (stop : Stop) : Type 0 where
-  pub boundary : IsCharBoundary bytes (place_of stop)
-  pub result_is : read (size_scan flags) Beginning (chars bytes) ≡ stop_result flags stop bytes
+abbrev pub IsStop : Flags → List ℕ → Stop → Type 0
+IsStop flags bytes stop = IsStopAt flags bytes stop.number stop.place stop.reason
+
+-- the stop of a parser that stops in the number
+abbrev pub stop_in_number : ℕ → Reason → Stop
+stop_in_number place reason = record { number = 0; place = place; reason = reason }
 
 -- the character ends the number `n` of this state: it is a space, or begins a unit, or has the error of one that does not
 pub record EndsNumber (state : SizeScan) (n c : ℕ) : Type 0 where

@@ -5,7 +5,7 @@ ghost use Rattle.std.specs.Str.Parse.{AllDigits, digits_value};
 ghost use Rattle.byte_unit_math.specs.Bounds.{whole_limit};
 ghost use Rattle.byte_unit_base.specs.PartsReading.{IsNumberEnd};
 
-use crate::read::stop::Stop;
+use crate::read::stop::{Reason, Stop};
 use byte_unit_math::{DECIMAL_PLACES, Decimal, WHOLE_LIMIT};
 use core::dec2flt::read_digits;
 
@@ -21,18 +21,18 @@ const NINETEEN_DIGITS: u128 = 10_000_000_000_000_000_000;
 /// Parses a leading number: digits, and optionally a point and digits. Returns it and its length in bytes.
 ///
 /// # Errors
-/// Returns where no number can follow: `NoDigit` or `TooLong`.
+/// Returns where the parser stops: `NoDigit` or `TooLong`.
 #[inline(always)]
 pub fn read_number(bytes: &[u8]) -> Result<(Decimal, usize), Stop>
     ensures { IsNumberEnd bytes.now result }
 {
     let (end, value) = read_digits(bytes, 0, 0);
     if end == 0 {
-        return Err(Stop::NoDigit(0));
+        return Err(Stop::in_number(0, Reason::NoDigit));
     }
     let whole = whole_part(&bytes[..end], value);
     if whole >= WHOLE_LIMIT {
-        return Err(Stop::TooLong);
+        return Err(Stop::in_number(0, Reason::TooLong));
     }
     if end == bytes.len() || bytes[end] != b'.' {
         return Ok((Decimal::from_digits(whole, 0, 0), end));
@@ -40,10 +40,10 @@ pub fn read_number(bytes: &[u8]) -> Result<(Decimal, usize), Stop>
     let rest = &bytes[end + 1..];
     let (places, value) = read_digits(rest, 0, 0);
     if places == 0 {
-        return Err(Stop::NoDigit(end + 1));
+        return Err(Stop::in_number(end + 1, Reason::NoDigit));
     }
     if places > DECIMAL_PLACES as usize {
-        return Err(Stop::TooLong);
+        return Err(Stop::in_number(0, Reason::TooLong));
     }
     let digits = value_of(&rest[..places], value);
     let number = Decimal::from_digits(whole, digits, places as u32);

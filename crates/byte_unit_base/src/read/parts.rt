@@ -9,7 +9,7 @@ ghost use Rattle.byte_unit_base.specs.UnitScan.{IsMultipleText, IsWordText};
 ghost use Rattle.byte_unit_base.specs.PartsReading.{HasVisibleEnds, IsFirst, IsNoSpace, IsPartsReading};
 
 use crate::read::number::read_number;
-use crate::read::stop::Stop;
+use crate::read::stop::{Reason, Stop};
 use crate::unit::Unit;
 use crate::unit::scan::{Flags, Multiple, Prefix, UnitScan, Word};
 use byte_unit_math::Decimal;
@@ -37,7 +37,11 @@ pub fn read_parts(bytes: &[u8], flags: Flags) -> Result<(Decimal, Unit), Stop>
             let spaces = leading_spaces(rest);
             match common_unit(&rest[spaces..], flags) {
                 Some(unit) => Ok((number, unit)),
-                None => Err(Stop::Unit(number, end + spaces)),
+                None => Err(Stop {
+                    number,
+                    place: end + spaces,
+                    reason: Reason::NoCommonUnit,
+                }),
             }
         }
         Err(stop) => Err(stop),

@@ -1,4 +1,4 @@
--- Bytes that are a number and a unit are UTF-8, and with visible ends there is nothing to trim.
+-- Bytes that are a number and a unit are UTF-8, and the same number and unit when trimmed.
 use Rattle.std.proofs.Common.{subst}
 use Rattle.byte_unit_base.specs.Version.{current}
 use Rattle.byte_unit_base.specs.Spelling.{Flags}
@@ -15,8 +15,7 @@ returns-in-Ok-clause-reading c =
     let unit = shape_of c.in-Ok.found.1 in
     let flags = flags_for c.args.kind c.args.ignore_case in
     let IsReadWith : Flags → Type 0 = λ flags. IsSizeText current flags bytes number unit in
-    let size = subst IsReadWith c.flags_for.ensures c.in-Ok.ensures in
-    let ends = c.has_visible_ends.ensures c.if-has_visible_ends.true in (
+    let size = subst IsReadWith c.flags_for.ensures c.in-Ok.ensures in (
       size_utf8 flags bytes number unit size,
-      c.size_of.ensures.reading c.args.ignore_case bytes (trimmed_size flags bytes number unit ends size),
+      c.size_of.ensures.reading c.args.ignore_case bytes (trimmed_size flags bytes number unit size),
     )

@@ -12,15 +12,17 @@ use Rattle.byte_unit_base.proofs.read.number.read_number.Goals as goal
 
 pub returns-then-end-eq0 : goal.returns-then-end-eq0
 returns-then-end-eq0 c =
-    stops_at_start c.args.bytes.now (omega (arith, c.if-end-eq0.true, c.read_digits-end.ensures.end))
+    rw c.in_number.ensures
+    (stops_at_start c.args.bytes.now (omega (arith, c.if-end-eq0.true, c.read_digits-end.ensures.end)))
 
 pub whole_part-whole-requires-clause-digits : goal.whole_part-whole-requires-clause-digits
 whole_part-whole-requires-clause-digits c = digits_of_run c.args.bytes.now _ c.read_digits-end.ensures.end
 
 pub returns-then-whole-ge-WHOLE_LIMIT : goal.returns-then-whole-ge-WHOLE_LIMIT
 returns-then-whole-ge-WHOLE_LIMIT c =
-    stops_in_whole c.args.bytes.now _ c.read_digits-end.ensures.end
-    (c.whole_part-whole.ensures.large (omega (arith, c.if-whole-ge-WHOLE_LIMIT.true)))
+    rw c.in_number-then-whole-ge-WHOLE_LIMIT.ensures
+    (stops_in_whole c.args.bytes.now _ c.read_digits-end.ensures.end
+    (c.whole_part-whole.ensures.large (omega (arith, c.if-whole-ge-WHOLE_LIMIT.true))))
 
 pub returns-then-end-bytes : goal.returns-then-end-bytes
 returns-then-end-bytes c =
@@ -39,18 +41,20 @@ pub returns-then-places-eq0 : goal.returns-then-places-eq0
 returns-then-places-eq0 c =
     let run = c.read_digits-end in
     let below : c.whole_part-whole.result < whole_limit = omega (arith, c.if-whole-ge-WHOLE_LIMIT.false) in
-    stops_after_point c.args.bytes.now run.result.0 c.whole_part-whole.result run.ensures.end run.ensures.within
+    rw c.in_number-then-places-eq0.ensures
+    (stops_after_point c.args.bytes.now run.result.0 c.whole_part-whole.result run.ensures.end run.ensures.within
     c.if-end-eq0.false (below, c.whole_part-whole.ensures.exact below) c.if-end-bytes.false c.if-bytes-end-ne46.false
-    (omega (arith, c.if-places-eq0.true, c.read_digits-places.ensures.end))
+    (omega (arith, c.if-places-eq0.true, c.read_digits-places.ensures.end)))
 
 pub returns-then-places : goal.returns-then-places
 returns-then-places c =
     let run = c.read_digits-end in
     let below : c.whole_part-whole.result < whole_limit = omega (arith, c.if-whole-ge-WHOLE_LIMIT.false) in
-    stops_in_fraction c.args.bytes.now run.result.0 c.whole_part-whole.result run.ensures.end run.ensures.within
+    rw c.in_number-then-places.ensures
+    (stops_in_fraction c.args.bytes.now run.result.0 c.whole_part-whole.result run.ensures.end run.ensures.within
     c.if-end-eq0.false (below, c.whole_part-whole.ensures.exact below) c.if-end-bytes.false c.if-bytes-end-ne46.false
     c.read_digits-places.result.0 c.read_digits-places.ensures.end c.read_digits-places.ensures.within
-    (omega (arith, c.if-places.true))
+    (omega (arith, c.if-places.true)))
 
 pub value_of-digits-requires-clause-digits : goal.value_of-digits-requires-clause-digits
 value_of-digits-requires-clause-digits c = digits_of_run _ _ c.read_digits-places.ensures.end
