@@ -48,15 +48,15 @@ AreFields-byte options number byte (field ∷ []) text found not_chosen is_field
     IsField-byte options number byte field text found not_chosen is_field
 AreFields-byte options number byte (field ∷ next ∷ others) text found not_chosen
     (own, rest, own_found, rest_found, is_field, are_fields, text_is, found_is) = (
-  byte ∷ own,
-  rest,
-  own_found,
-  rest_found,
-  IsField-byte options number byte field own own_found not_chosen is_field,
-  are_fields,
-  ap (λ bytes. byte ∷ bytes) text_is,
-  found_is,
-)
+      byte ∷ own,
+      rest,
+      own_found,
+      rest_found,
+      IsField-byte options number byte field own own_found not_chosen is_field,
+      are_fields,
+      ap (λ bytes. byte ∷ bytes) text_is,
+      found_is,
+    )
 
 -- fields none of which is chosen are copied, with the delimiters between them
 AreFields-copied : (options : Options) (delimiter : ℕ) → options.delimiter ≡ Some delimiter → (bytes : List ℕ) (number : ℕ)
@@ -67,15 +67,15 @@ AreFields-copied options delimiter is_delimiter (byte ∷ bytes) number past =
     let not_chosen = past number (omega arith) in
     let next = AreFields-copied options delimiter is_delimiter bytes (number + 1) (λ later high. past later (omega (arith, high))) in
     let Copies : Bool → Type 0 = λ ends. eqb byte delimiter ≡ ends
-        → AreFields options number (cond ends ([] ∷ parts delimiter bytes) (onto_first byte (parts delimiter bytes))) (byte ∷ bytes) [] in
+    → AreFields options number (cond ends ([] ∷ parts delimiter bytes) (onto_first byte (parts delimiter bytes))) (byte ∷ bytes) [] in
     let on_end : Copies true = λ ends.
-        let between : delimiter_bytes options.delimiter ≡ byte ∷ [] =
-        ap delimiter_bytes is_delimiter ∙ ap (λ mark. mark ∷ []) (sym (eqb-true byte delimiter ends)) in
-        subst (λ mark. AreFields options number ([] ∷ parts delimiter bytes) (mark ++ bytes) []) between
-        (AreFields-cons options number [] (parts delimiter bytes) [] bytes [] [] (parts_IsSplit delimiter bytes) (other not_chosen refl refl) next) in
+    let between : delimiter_bytes options.delimiter ≡ byte ∷ [] =
+    ap delimiter_bytes is_delimiter ∙ ap (λ mark. mark ∷ []) (sym (eqb-true byte delimiter ends)) in
+    subst (λ mark. AreFields options number ([] ∷ parts delimiter bytes) (mark ++ bytes) []) between
+    (AreFields-cons options number [] (parts delimiter bytes) [] bytes [] [] (parts_IsSplit delimiter bytes) (other not_chosen refl refl) next) in
     let on_other : Copies false = λ ends.
-        AreFields-byte options number byte (parts delimiter bytes) bytes [] not_chosen
-        (AreFields-copied options delimiter is_delimiter bytes number past) in
+    AreFields-byte options number byte (parts delimiter bytes) bytes [] not_chosen
+    (AreFields-copied options delimiter is_delimiter bytes number past) in
     elim (eqb byte delimiter) as Copies [ true ↦ on_end | false ↦ on_other ] refl
 
 -- between two fields of a record: those before are appended and counted, and the rest gives the others
