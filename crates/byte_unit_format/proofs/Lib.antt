@@ -14,4 +14,5 @@ pub mod ShortExpansions
 pub mod Widths
 pub mod NarrowTexts
 pub mod ThreePlaces
+pub mod Suffix
 pub mod LaterVersion

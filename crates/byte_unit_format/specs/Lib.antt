@@ -8,6 +8,7 @@ pub mod Shown
 pub mod Room
 pub mod Written
 pub mod TextParts
+pub mod Suffix
 pub mod ThreePlaces
 pub mod FormLaws
 pub mod VersionLaws

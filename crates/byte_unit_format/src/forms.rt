@@ -11,13 +11,13 @@ ghost use Rattle.byte_unit_format.specs.TextParts.{IsReady, parts_text};
 ghost use Rattle.byte_unit_format.specs.Written.{WritesForm};
 ghost use Rattle.byte_unit_format.specs.Forms.{IsText, narrow_text, text_limit};
 
+use crate::alternate::{append_alternate, write_alternate};
 use crate::layout::layout_parts;
 use crate::parts::{Fraction, TextParts};
 use crate::plain::plain_parts;
 use crate::spec::FormatSpec;
-use crate::thousandths::unit_at_three_places;
-use byte_unit_base::{Kind, Unit, recoverable_unit};
-use byte_unit_math::{Decimal, Steps};
+use byte_unit_base::{Kind, recoverable_unit};
+use byte_unit_math::Steps;
 use std::alloc::{AllocError, Allocator};
 
 /// The precision if none is set.
@@ -32,7 +32,7 @@ pub fn text_len(size: u128, kind: Kind, spec: FormatSpec) -> usize
     ensures small { result < text_limit }
     ensures narrow { spec.width ≡ None → result ≤ narrow_text }
 {
-    text_parts(size, kind, spec).len
+    write_text(size, kind, spec, &mut [])
 }
 
 /// Appends a formatted size: its digits, or in the alternate form the size in the largest unit of its kind, not above
@@ -61,6 +61,9 @@ pub fn append_text<A: Allocator>(
     requires { size < size_limit }
     ensures { AppendsForm (IsText kind size spec) text.old text.new result }
 {
+    if spec == FormatSpec::ALTERNATE {
+        return append_alternate(size, kind, text);
+    }
     text_parts(size, kind, spec).append(text)
 }
 
@@ -82,11 +85,13 @@ pub fn write_text(size: u128, kind: Kind, spec: FormatSpec, out: &mut [u8]) -> u
     ensures small { result < text_limit }
     ensures narrow { spec.width ≡ None → result ≤ narrow_text }
 {
+    if spec == FormatSpec::ALTERNATE {
+        return write_alternate(size, kind, out);
+    }
     text_parts(size, kind, spec).write(out)
 }
 
 /// Returns the parts of a formatted size. In the alternate form all digits of the number are shown.
-#[inline(always)]
 fn text_parts(size: u128, kind: Kind, spec: FormatSpec) -> TextParts<'static>
     requires { size < size_limit }
     ensures text { IsText kind size spec (parts_text result) }
@@ -101,20 +106,7 @@ fn text_parts(size: u128, kind: Kind, spec: FormatSpec) -> TextParts<'static>
         Some(precision) => usize::from(precision),
         None => DEFAULT_PRECISION,
     };
-    let (number, unit) = number_in_unit(size, kind, places);
+    let (number, unit) = recoverable_unit(size, kind, false, places, &mut Steps::new());
     let fraction = Fraction::Last(number.digits(), number.places());
     layout_parts(number.whole(), fraction, unit, spec)
-}
-
-/// Returns a size in its unit at a precision: the number and the unit.
-#[inline(always)]
-fn number_in_unit(size: u128, kind: Kind, places: usize) -> (Decimal, Unit)
-    requires { size < size_limit }
-    ensures recovered { IsRecovered kind false size places result.1 }
-    ensures exact { result.0 * bits (shape_of result.1) ≡ size * bits_in kind * scale }
-{
-    if places == DEFAULT_PRECISION {
-        return unit_at_three_places(size, kind);
-    }
-    recoverable_unit(size, kind, false, places, &mut Steps::new())
 }

@@ -4,6 +4,7 @@
 #![tactic(auto)]
 
 mod adjusted;
+mod alternate;
 mod capacity;
 mod forms;
 pub mod laws;

@@ -1,0 +1,188 @@
+//! The alternate form with no other option set, written from the beginning to the end.
+
+ghost use Rattle.std.specs.Prelude.{true, false, ◌≡◌, ◌+◌, ◌*◌, ◌<◌, ◌≤◌, ◌∷◌, ◌++◌, length, take, drop, IsAscii};
+ghost use Rattle.byte_unit_math.specs.Bounds.{size_limit};
+ghost use Rattle.byte_unit_base.specs.Kinds.{counts_bits, own_unit};
+ghost use Rattle.byte_unit_base.specs.Shape.{shape};
+ghost use Rattle.byte_unit_base.specs.Version.{unit_name_in, current};
+ghost use Rattle.byte_unit_format.specs.Forms.{IsSizeForm, narrow_text};
+ghost use Rattle.byte_unit_format.specs.NamedSpecs.{alternate_spec};
+ghost use Rattle.byte_unit_format.specs.Room.{AppendsForm};
+ghost use Rattle.byte_unit_format.specs.Suffix.{HasPrefix, suffix_text, thousandths_text};
+ghost use Rattle.byte_unit_format.specs.Written.{WritesForm};
+
+use crate::capacity::{push_ascii, reserve};
+use crate::put::put;
+use crate::thousandths::{Suffix, split};
+use byte_unit_base::Kind;
+use byte_unit_math::{decimal_len, put_u128};
+use std::alloc::{AllocError, Allocator};
+
+/// The most bytes of a text without a width.
+const NARROW_TEXT: usize = 37;
+
+/// The letters of the SI prefixes, from kilo on.
+const LETTERS: [u8; 9] = *b"KMGTPEZYR";
+
+/// Appends the size in its unit. Allocates at most once, before it writes.
+pub(crate) fn append_alternate<A: Allocator>(
+    size: u128,
+    kind: Kind,
+    text: &mut String<A>,
+) -> Result<(), AllocError>
+    requires { size < size_limit }
+    ensures { AppendsForm (IsSizeForm kind size alternate_spec) text.old text.new result }
+{
+    let mut bytes = [0; NARROW_TEXT];
+    let len = put_form(size, kind, &mut bytes);
+    reserve(text, len)?;
+    push_ascii(text, &bytes[..len]);
+    Ok(())
+}
+
+/// Writes the size in its unit to the beginning of `out` if it fits, and returns its length.
+#[inline(always)]
+pub(crate) fn write_alternate(size: u128, kind: Kind, out: &mut [u8]) -> usize
+    requires { size < size_limit }
+    ensures written { WritesForm (IsSizeForm kind size alternate_spec) out.old out.new result }
+    ensures narrow { result ≤ narrow_text }
+{
+    if out.len() < NARROW_TEXT {
+        return write_if_fits(size, kind, out);
+    }
+    if size < 1 << 64 {
+        put_form(u128::from(size as u64), kind, out)
+    } else {
+        put_form_wide(size, kind, out)
+    }
+}
+
+/// Writes as `write_alternate`, by way of an array: the slow path, for a buffer that some texts do not fit.
+#[inline(never)]
+fn write_if_fits(size: u128, kind: Kind, out: &mut [u8]) -> usize
+    requires { size < size_limit }
+    ensures written { WritesForm (IsSizeForm kind size alternate_spec) out.old out.new result }
+    ensures narrow { result ≤ narrow_text }
+{
+    let mut bytes = [0; NARROW_TEXT];
+    let len = put_form(size, kind, &mut bytes);
+    if len <= out.len() {
+        put(&bytes[..len], out, len);
+    }
+    len
+}
+
+/// Writes as `put_form`: the slow path, for a size of more than 64 bits.
+#[inline(never)]
+fn put_form_wide(size: u128, kind: Kind, out: &mut [u8]) -> usize
+    requires small { size < size_limit }
+    requires room { narrow_text ≤ length out.old }
+    ensures written { WritesForm (IsSizeForm kind size alternate_spec) out.old out.new result }
+    ensures narrow { result ≤ narrow_text }
+{
+    put_form(size, kind, out)
+}
+
+/// Writes the size in its unit to the beginning of `out`, and returns its length.
+#[inline(always)]
+fn put_form(size: u128, kind: Kind, out: &mut [u8]) -> usize
+    requires small { size < size_limit }
+    requires room { narrow_text ≤ length out.old }
+    ensures written { WritesForm (IsSizeForm kind size alternate_spec) out.old out.new result }
+    ensures narrow { result ≤ narrow_text }
+    ensures ascii { IsAscii (take result out.new) }
+{
+    let (whole, suffix) = split(size);
+    let point = decimal_len(whole);
+    let end = put_suffix(suffix, kind, out, point);
+    put_u128(whole, out, point);
+    end
+}
+
+/// Writes what follows the whole part from the index `point`, and returns the index behind it.
+#[inline(always)]
+fn put_suffix(suffix: Suffix, kind: Kind, out: &mut [u8], point: usize) -> usize
+    requires prefix { HasPrefix suffix }
+    requires room { point + 8 ≤ length out.old }
+    ensures ends { result ≡ point + length (suffix_text kind suffix) }
+    ensures bytes { drop point out.new ≡ suffix_text kind suffix ++ drop result out.old }
+    ensures narrow { result ≤ point + 8 }
+    ensures ascii { IsAscii (suffix_text kind suffix) }
+{
+    let own = match kind {
+        Kind::Byte => b'B',
+        Kind::Bit => b'b',
+    };
+    match suffix {
+        Suffix::Own => {
+            put(&[b' ', own], out, point + 2);
+            point + 2
+        }
+        Suffix::Eighths(eighths, power) => {
+            let (digits, len) = digits_of_eighths(eighths);
+            put(&digits, out, point + 4);
+            let end = point + len + 4;
+            put(&[b' ', letter(power), b'i', own], out, end);
+            end
+        }
+        Suffix::Thousandths(thousandths, power) => {
+            let (digits, len) = digits_of_thousandths(thousandths);
+            if len > 0 {
+                put(&digits, out, point + 4);
+            }
+            let end = point + len + 3;
+            put(&[b' ', letter(power), own], out, end);
+            end
+        }
+    }
+}
+
+/// Returns the letter of a prefix.
+#[inline(always)]
+fn letter(power: u32) -> u8
+    requires some { 1 ≤ power }
+    requires known { power ≤ 9 }
+{
+    LETTERS[power as usize - 1]
+}
+
+/// Returns a point and the digits of eighths, with spaces for trailing zeros, and the length without these.
+#[inline(always)]
+fn digits_of_eighths(eighths: u64) -> ([u8; 4], usize)
+    requires { eighths < 8 }
+    ensures few { result.1 ≤ 4 }
+    ensures text { take result.1 result.0 ≡ thousandths_text (125 * eighths) }
+{
+    match eighths {
+        0 => (*b"    ", 0),
+        1 => (*b".125", 4),
+        2 => (*b".25 ", 3),
+        3 => (*b".375", 4),
+        4 => (*b".5  ", 2),
+        5 => (*b".625", 4),
+        6 => (*b".75 ", 3),
+        _ => (*b".875", 4),
+    }
+}
+
+/// Returns a point and the digits of thousandths, and the length without trailing zeros.
+#[inline(always)]
+fn digits_of_thousandths(thousandths: u64) -> ([u8; 4], usize)
+    requires { thousandths < 1000 }
+    ensures few { result.1 ≤ 4 }
+    ensures text { take result.1 result.0 ≡ thousandths_text thousandths }
+{
+    let tenths = (thousandths / 100) as u8;
+    let hundredths = (thousandths / 10 % 10) as u8;
+    let last = (thousandths % 10) as u8;
+    let len = if last > 0 {
+        4
+    } else if hundredths > 0 {
+        3
+    } else if tenths > 0 {
+        2
+    } else {
+        0
+    };
+    ([b'.', b'0' + tenths, b'0' + hundredths, b'0' + last], len)
+}
