@@ -89,7 +89,8 @@ count_end : (bit : Bool) → (last : ℕ) × (count_of bit ≡ last ∷ []) × (
 count_end true = (98, refl, refl)
 count_end false = (66, refl, refl)
 
-with_prefix : (s : Shape) → 0 < s.power → unit_name_in current s ≡ letter_at s.power ∷ (infix_of s.binary ++ count_of s.bit)
+-- the name of a unit with a prefix: its letter, an `i` if it is binary, and the letter of the kind
+pub with_prefix : (s : Shape) → 0 < s.power → unit_name_in current s ≡ letter_at s.power ∷ (infix_of s.binary ++ count_of s.bit)
 with_prefix s h =
     let some : nat_lt 0 s.power ≡ true = grind (arith, nat_tests) in
     ap (λ b. (if b then letter_at s.power ∷ [] else []) ++ (if b && s.binary then codes "i" else []) ++ count_of s.bit)

@@ -1,4 +1,5 @@
 pub mod UnitNames
+pub mod NamedSpecs
 pub mod WrittenDigits
 pub mod TrimmedTexts
 pub mod OneForm

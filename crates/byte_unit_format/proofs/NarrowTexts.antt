@@ -190,7 +190,7 @@ size_lt_next {kind} {size} {precision} {unit} {number} is_number few places =
     (cases_lt size (10 ^ zeros))
 
 -- A number below 10^digits has at most that many digits.
-decimal_length : (whole digits : ℕ) → 0 < digits → digits ≤ 30 → whole < 10 ^ digits → length (decimal whole) ≤ digits
+pub decimal_length : (whole digits : ℕ) → 0 < digits → digits ≤ 30 → whole < 10 ^ digits → length (decimal whole) ≤ digits
 decimal_length whole digits some few small =
     let most = pow-le-pow_right {n = 10} (omega arith) few in
     length-decimal-le_wide digits whole some small (omega (arith, small, most))

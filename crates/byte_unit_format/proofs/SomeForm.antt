@@ -21,7 +21,8 @@ record HasRecoveredUnit (version : Version) (kind : Kind) (size precision : ℕ)
   is_recovered : IsRecoveredIn version kind false size precision unit
   number_is : number * bits unit ≡ size * bits_in kind * scale
 
-own_number : (kind : Kind) (size : ℕ) → size * scale * bits (own_unit kind) ≡ size * bits_in kind * scale
+-- The size in the kind's own unit.
+pub own_number : (kind : Kind) (size : ℕ) → size * scale * bits (own_unit kind) ≡ size * bits_in kind * scale
 own_number Byte size = omega arith
 own_number Bit size = omega arith
 

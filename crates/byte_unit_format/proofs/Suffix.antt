@@ -1,24 +1,33 @@
 -- A whole part and what follows it are the text of a size in its unit; how its bytes are written.
-use Rattle.std.proofs.Common.{◌≡◌, ℕ, suc, ◌+◌, ◌-◌, ◌*◌, ◌/◌, ◌%◌, ◌^◌, ◌<◌, ◌≤◌, Bool, true, false, List, [], ◌∷◌, ◌++◌}
+use Rattle.std.proofs.Common.{◌≡◌, ℕ, ◌+◌, ◌-◌, ◌*◌, ◌/◌, ◌%◌, ◌^◌, ◌<◌, ◌≤◌, Bool, true, false, List, [], ◌∷◌, ◌++◌}
 use Rattle.std.proofs.Common.{length, take, drop, arith, ap, sym, refl, subst, ◌∙◌, append-nil, append_assoc}
-use Rattle.std.specs.Prelude.{if◌then◌else◌, slice_index}
+use Rattle.std.specs.Prelude.{if◌then◌else◌, slice_index, codes}
 use Rattle.std.specs.Fmt.{decimal}
 use Rattle.std.proofs.lemmas.List.{take-append-drop, drop-take, take-append-le, drop-drop}
+use Rattle.std.proofs.Math.Nat.{mul-le-mul_left}
 use Rattle.std.proofs.lemmas.Slice.{drop-append-drop}
-use Rattle.byte_unit_math.specs.Bounds.{scale, places_of_decimal}
+use Rattle.byte_unit_math.specs.Bounds.{scale, places_of_decimal, size_limit}
 use Rattle.byte_unit_math.specs.Digits.{last_digits, at_places, trim_zeros, trim_expansion}
 use Rattle.byte_unit_math.specs.Finite.{Finite}
 use Rattle.byte_unit_math.specs.Numeral.{fraction_text, text_of, short_numeral}
 use Rattle.byte_unit_math.proofs.Texts.{short_numeral_is_expansion, expansion_of_same_fraction, text_of_short_numeral}
 use Rattle.byte_unit_base.specs.Choice.{IsRecoveredIn}
-use Rattle.byte_unit_base.specs.Kinds.{bits_in}
+use Rattle.byte_unit_base.specs.Kinds.{bits_in, counts_bits, own_unit}
 use Rattle.byte_unit_base.specs.Shape.{Shape, shape, bits}
 use Rattle.byte_unit_base.specs.Version.{unit_name_in, current}
 use Rattle.byte_unit_base.specs.declared.kind.Kind.{Kind}
 use Rattle.byte_unit_format.specs.Forms.{IsSizeForm}
 use Rattle.byte_unit_format.specs.Layout.{layout}
 use Rattle.byte_unit_format.specs.NamedSpecs.{alternate_spec}
-use Rattle.byte_unit_format.specs.Suffix.{thousandths_text}
+use Rattle.byte_unit_format.specs.Suffix.{thousandths_text, suffix_text, HasPrefix}
+use Rattle.byte_unit_format.specs.declared.thousandths.Suffix.{Suffix}
+use Rattle.byte_unit_format.specs.declared.thousandths.Suffix.TheVariants.{Own, Eighths, Thousandths}
+use Rattle.byte_unit_base.proofs.Names.{name_ascii, with_prefix}
+use Rattle.byte_unit_base.proofs.NumberTexts.{number_ascii}
+use Rattle.byte_unit_math.proofs.Digits.{last_digits_below_ten, small_without_zeros}
+use Rattle.std.specs.Str.{IsAscii}
+use Rattle.std.proofs.lemmas.Str.{IsAscii-append}
+use Rattle.std.proofs.lemmas.Str.Ascii.{IsAscii-cons}
 
 -- Whole units and thousandths as one decimal without trailing zeros.
 text_of_thousandths : (whole thousandths : ℕ) → thousandths < 1000
@@ -66,48 +75,38 @@ form_of_thousandths kind size whole thousandths number unit below recovered numb
           ∙ append_assoc (decimal whole) (thousandths_text thousandths) (32 ∷ name)));
     }
 
--- The text of three digits without the zeros at their end.
-pub third_shown : (a b c : ℕ) → 0 < c → fraction_text (trim_zeros (a ∷ b ∷ c ∷ []))
-    ≡ 46 ∷ 48 + a ∷ 48 + b ∷ 48 + c ∷ []
-third_shown a b 0 some = absurd (omega (arith, some))
-third_shown 0 0 (suc c) some = refl
-third_shown 0 (suc b) (suc c) some = refl
-third_shown (suc a) 0 (suc c) some = refl
-third_shown (suc a) (suc b) (suc c) some = refl
+-- A space, the letter of a prefix, an `i` if it is binary, and the letter of the kind are a space and the unit's name.
+pub named : {first last : ℕ} (kind : Kind) (power : ℕ) (binary : Bool) → 1 ≤ power
+    → first ≡ slice_index current.letters (power - 1) → last ∷ [] ≡ unit_name_in current (own_unit kind)
+    → 32 ∷ first ∷ ((if binary then codes "i" else []) ++ last ∷ [])
+    ≡ 32 ∷ unit_name_in current (shape power binary (counts_bits kind))
+named {first} {last} kind power binary some first_is last_is =
+    let middle : List ℕ = if binary then codes "i" else [] in
+    ap (λ first. 32 ∷ first ∷ (middle ++ last ∷ [])) first_is
+    ∙ (ap (λ behind. 32 ∷ slice_index current.letters (power - 1) ∷ (middle ++ behind)) last_is
+    ∙ ap (λ name. 32 ∷ name) (sym (with_prefix (shape power binary (counts_bits kind)) some)))
 
-pub second_shown : (a b : ℕ) → 0 < b → fraction_text (trim_zeros (a ∷ b ∷ 0 ∷ [])) ≡ 46 ∷ 48 + a ∷ 48 + b ∷ []
-second_shown a 0 some = absurd (omega (arith, some))
-second_shown 0 (suc b) some = refl
-second_shown (suc a) (suc b) some = refl
+-- A list from an index on is known, also by another name of the index.
+pub drop_known : {index other : ℕ} {rest : List ℕ} (list : List ℕ) → index ≡ other → drop index list ≡ rest → drop other list ≡ rest
+drop_known {index} {other} list same known = ap (λ n. drop n list) (sym same) ∙ known
 
-pub first_shown : (a : ℕ) → 0 < a → fraction_text (trim_zeros (a ∷ 0 ∷ 0 ∷ [])) ≡ 46 ∷ 48 + a ∷ []
-first_shown 0 some = absurd (omega (arith, some))
-first_shown (suc a) some = refl
-
--- The name of a unit with a prefix.
-pub prefixed_name : (power : ℕ) (binary bit : Bool) → 1 ≤ power
-    → unit_name_in current (shape power binary bit)
-    ≡ slice_index current.letters (power - 1) ∷ ((if binary then 105 ∷ [] else []) ++ (if bit then 98 else 66) ∷ [])
-prefixed_name 0 binary bit some = absurd (omega (arith, some))
-prefixed_name (suc power) true true some = refl
-prefixed_name (suc power) true false some = refl
-prefixed_name (suc power) false true some = refl
-prefixed_name (suc power) false false some = refl
-
--- A name that is written over what is left of four bytes, of which the first are a text, follows the text.
+-- Four bytes are written of which the first are the text, and a name after the text, over what is left of them.
 pub written_over :
-    {old middle new digits text name : List ℕ} (point len end : ℕ) → length digits ≡ 4 → len ≤ 4 → point + len + 4 ≤ end
-    → take len digits ≡ text → drop point middle ≡ digits ++ drop (point + 4) old
-    → take (point + len) new ≡ take (point + len) middle → drop (point + len) new ≡ name ++ drop end middle
+    {text : List ℕ} {first second : ℕ} (old middle new digits name : List ℕ) (point len end : ℕ) → length digits ≡ 4
+    → len ≤ 4 → point + 4 ≤ end → take len digits ≡ text → first ≡ point → drop first middle ≡ digits ++ drop (point + 4) old
+    → second ≡ point + len → take second new ≡ take second middle → drop second new ≡ name ++ drop end middle
     → drop point new ≡ (text ++ name) ++ drop end old
-written_over {old} {middle} {new} {digits} {text} {name} point len end four few covers text_is digits_are kept name_is =
+written_over {text} {first} {second} old middle new digits name point len end four few covers text_is first_is digits_are
+    second_is kept name_is =
     let here = drop point new in
     let behind : drop 4 (drop point old) ≡ drop (point + 4) old = drop-drop 4 point old in
     let digits_here : drop point middle ≡ digits ++ drop 4 (drop point old) =
-    digits_are ∙ ap (λ rest. digits ++ rest) (sym behind) in
+    drop_known middle first_is digits_are ∙ ap (λ rest. digits ++ rest) (sym behind) in
+    let same_front : take (point + len) new ≡ take (point + len) middle =
+    subst (λ n. take n new ≡ take n middle) second_is kept in
     let front : take len here ≡ text =
     sym (drop-take point len new)
-    ∙ (ap (λ list. drop point list) kept
+    ∙ (ap (λ list. drop point list) same_front
     ∙ (drop-take point len middle
     ∙ (ap (λ list. take len list) digits_here
     ∙ (take-append-le len digits (drop 4 (drop point old)) (omega (arith, four, few)) ∙ text_is)))) in
@@ -119,5 +118,33 @@ written_over {old} {middle} {new} {digits} {text} {name} point len end four few 
     ∙ (drop-drop (end - point) point old ∙ ap (λ at. drop at old) sum)))) in
     sym (take-append-drop len here)
     ∙ (ap (λ list. list ++ drop len here) front
-    ∙ (ap (λ list. text ++ list) (drop-drop len point new ∙ (name_is ∙ ap (λ list. name ++ list) rest))
+    ∙ (ap (λ list. text ++ list)
+    (drop-drop len point new ∙ (drop_known new second_is name_is ∙ ap (λ list. name ++ list) rest))
     ∙ sym (append_assoc text name (drop end old))))
+
+-- In a unit with a prefix the whole part is below 10^27.
+pub whole_below : (size prefix whole thousandths : ℕ) → size < size_limit → 1000 ≤ prefix
+    → (whole * 1000 + thousandths) * prefix ≡ size * 1000 → whole < 10 ^ 27
+whole_below size prefix whole thousandths small large value =
+    omega (arith, small, value, mul-le-mul_left whole large)
+
+-- A number with its unit is ASCII.
+pub form_ascii : (whole thousandths : ℕ) (unit : Shape) → whole < 10 ^ 27 → unit.power ≤ 9
+    → IsAscii (decimal whole ++ (thousandths_text thousandths ++ 32 ∷ unit_name_in current unit))
+form_ascii whole thousandths unit small known =
+    let digits = last_digits 3 thousandths in
+    let name = unit_name_in current unit in
+    let number = number_ascii whole (trim_zeros digits)
+    (small_without_zeros digits (last_digits_below_ten 3 thousandths)) (omega (arith, small)) in
+    subst IsAscii (append_assoc (decimal whole) (thousandths_text thousandths) (32 ∷ name))
+    (IsAscii-append (decimal whole ++ thousandths_text thousandths) (32 ∷ name) number
+    (IsAscii-cons 32 name (omega arith) (name_ascii unit known)))
+
+-- A size with what follows its whole part is ASCII.
+pub split_ascii : (kind : Kind) (whole : ℕ) (suffix : Suffix) → whole < 10 ^ 27 → HasPrefix suffix
+    → IsAscii (decimal whole ++ suffix_text kind suffix)
+split_ascii kind whole Own small known = form_ascii whole 0 (own_unit kind) small (omega arith)
+split_ascii kind whole (Eighths eighths power) small known =
+    form_ascii whole (125 * eighths) (shape power true (counts_bits kind)) small known.2
+split_ascii kind whole (Thousandths thousandths power) small known =
+    form_ascii whole thousandths (shape power false (counts_bits kind)) small known.2

@@ -48,6 +48,13 @@ writes_form {IsForm} text is_form this = record {
   too_long = this.too_long;
 }
 
+-- The text that such a call has written is at the beginning of the buffer.
+pub front_written : {IsForm : List ℕ → Type 0} {old new : List ℕ} {needed : ℕ} (this : WritesForm IsForm old new needed)
+    → needed ≤ length old → take needed new ≡ this.form
+front_written {IsForm} {old} {new} {needed} this room =
+    ap (λ list. take needed list) (this.fits (omega (arith, this.needed_is, room)))
+    ∙ take_at this.form (drop (length this.form) old) needed (sym this.needed_is)
+
 -- Padding, number, one run of spaces and the unit's name are the number formatted with its unit.
 pub layout_of_parts :
     (number name : List ℕ) (spec : FormatSpec) (pad before gap : ℕ) → pad ≡ layout_padding number name spec

@@ -1,17 +1,16 @@
 //! The alternate form with no other option set, written from the beginning to the end.
 
-ghost use Rattle.std.specs.Prelude.{true, false, ◌≡◌, ◌+◌, ◌*◌, ◌<◌, ◌≤◌, ◌∷◌, ◌++◌, length, take, drop, IsAscii};
+ghost use Rattle.std.specs.Prelude.{◌≡◌, ◌+◌, ◌-◌, ◌*◌, ◌<◌, ◌≤◌, [], ◌∷◌, ◌++◌, length, take, drop, slice_index, IsAscii};
 ghost use Rattle.byte_unit_math.specs.Bounds.{size_limit};
-ghost use Rattle.byte_unit_base.specs.Kinds.{counts_bits, own_unit};
-ghost use Rattle.byte_unit_base.specs.Shape.{shape};
-ghost use Rattle.byte_unit_base.specs.Version.{unit_name_in, current};
+ghost use Rattle.byte_unit_base.specs.Kinds.{own_unit};
+ghost use Rattle.byte_unit_base.specs.Version.{current, unit_name_in};
 ghost use Rattle.byte_unit_format.specs.Forms.{IsSizeForm, narrow_text};
 ghost use Rattle.byte_unit_format.specs.NamedSpecs.{alternate_spec};
 ghost use Rattle.byte_unit_format.specs.Room.{AppendsForm};
 ghost use Rattle.byte_unit_format.specs.Suffix.{HasPrefix, suffix_text, thousandths_text};
 ghost use Rattle.byte_unit_format.specs.Written.{WritesForm};
 
-use crate::capacity::{push_ascii, reserve};
+use crate::capacity::append_ascii;
 use crate::put::put;
 use crate::thousandths::{Suffix, split};
 use byte_unit_base::Kind;
@@ -35,9 +34,7 @@ pub(crate) fn append_alternate<A: Allocator>(
 {
     let mut bytes = [0; NARROW_TEXT];
     let len = put_form(size, kind, &mut bytes);
-    reserve(text, len)?;
-    push_ascii(text, &bytes[..len]);
-    Ok(())
+    append_ascii(text, &bytes[..len])
 }
 
 /// Writes the size in its unit to the beginning of `out` if it fits, and returns its length.
@@ -107,12 +104,8 @@ fn put_suffix(suffix: Suffix, kind: Kind, out: &mut [u8], point: usize) -> usize
     ensures ends { result ≡ point + length (suffix_text kind suffix) }
     ensures bytes { drop point out.new ≡ suffix_text kind suffix ++ drop result out.old }
     ensures narrow { result ≤ point + 8 }
-    ensures ascii { IsAscii (suffix_text kind suffix) }
 {
-    let own = match kind {
-        Kind::Byte => b'B',
-        Kind::Bit => b'b',
-    };
+    let own = own_letter(kind);
     match suffix {
         Suffix::Own => {
             put(&[b' ', own], out, point + 2);
@@ -137,11 +130,23 @@ fn put_suffix(suffix: Suffix, kind: Kind, out: &mut [u8], point: usize) -> usize
     }
 }
 
+/// Returns the letter of the kind's own unit.
+#[inline(always)]
+fn own_letter(kind: Kind) -> u8
+    ensures { result ∷ [] ≡ unit_name_in current (own_unit kind) }
+{
+    match kind {
+        Kind::Byte => b'B',
+        Kind::Bit => b'b',
+    }
+}
+
 /// Returns the letter of a prefix.
 #[inline(always)]
 fn letter(power: u32) -> u8
     requires some { 1 ≤ power }
     requires known { power ≤ 9 }
+    ensures { result ≡ slice_index current.letters (power - 1) }
 {
     LETTERS[power as usize - 1]
 }
@@ -150,6 +155,7 @@ fn letter(power: u32) -> u8
 #[inline(always)]
 fn digits_of_eighths(eighths: u64) -> ([u8; 4], usize)
     requires { eighths < 8 }
+    ensures four { length result.0 ≡ 4 }
     ensures few { result.1 ≤ 4 }
     ensures text { take result.1 result.0 ≡ thousandths_text (125 * eighths) }
 {
@@ -169,6 +175,7 @@ fn digits_of_eighths(eighths: u64) -> ([u8; 4], usize)
 #[inline(always)]
 fn digits_of_thousandths(thousandths: u64) -> ([u8; 4], usize)
     requires { thousandths < 1000 }
+    ensures four { length result.0 ≡ 4 }
     ensures few { result.1 ≤ 4 }
     ensures text { take result.1 result.0 ≡ thousandths_text thousandths }
 {

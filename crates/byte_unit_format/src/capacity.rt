@@ -2,7 +2,7 @@
 
 ghost use Rattle.std.specs.Prelude.{◌≡◌, ◌+◌, ◌≤◌, ◌<◌, [], ◌∷◌, ◌++◌, length, replicate, OnOk, OnErr, IsAscii};
 ghost use Rattle.std.specs.String.{string_bytes};
-ghost use Rattle.byte_unit_format.specs.Room.{spare_capacity};
+ghost use Rattle.byte_unit_format.specs.Room.{spare_capacity, AppendsForm};
 
 use std::alloc::{AllocError, Allocator};
 use std::str;
@@ -31,6 +31,19 @@ pub(crate) fn push_ascii<A: Allocator>(text: &mut String<A>, ascii: &[u8])
 {
     text.push_str(unsafe { str::from_utf8_unchecked(ascii) })
         .unwrap();
+}
+
+/// Appends ASCII bytes. Allocates at most once, before it writes.
+pub(crate) fn append_ascii<A: Allocator>(
+    text: &mut String<A>,
+    ascii: &[u8],
+) -> Result<(), AllocError>
+    requires { IsAscii ascii.now }
+    ensures { AppendsForm (λ form. form ≡ ascii.now) text.old text.new result }
+{
+    reserve(text, ascii.len())?;
+    push_ascii(text, ascii);
+    Ok(())
 }
 
 /// Appends an ASCII character.

@@ -1,11 +1,7 @@
 //! Formatting of a size: digits only, or with a unit.
 
-ghost use Rattle.std.specs.Prelude.{false, ◌≡◌, ℕ, ◌*◌, ◌<◌, ◌≤◌, List, length};
-ghost use Rattle.byte_unit_math.specs.Bounds.{scale, size_limit};
-ghost use Rattle.byte_unit_base.specs.Choice.{IsRecovered};
-ghost use Rattle.byte_unit_base.specs.Kinds.{bits_in};
-ghost use Rattle.byte_unit_base.specs.Shape.{bits};
-ghost use Rattle.byte_unit_base.specs.Units.{shape_of};
+ghost use Rattle.std.specs.Prelude.{◌≡◌, ℕ, ◌<◌, ◌≤◌, List, length};
+ghost use Rattle.byte_unit_math.specs.Bounds.{size_limit};
 ghost use Rattle.byte_unit_format.specs.Room.{AppendsForm};
 ghost use Rattle.byte_unit_format.specs.TextParts.{IsReady, parts_text};
 ghost use Rattle.byte_unit_format.specs.Written.{WritesForm};
@@ -92,6 +88,7 @@ pub fn write_text(size: u128, kind: Kind, spec: FormatSpec, out: &mut [u8]) -> u
 }
 
 /// Returns the parts of a formatted size. In the alternate form all digits of the number are shown.
+#[inline(always)]
 fn text_parts(size: u128, kind: Kind, spec: FormatSpec) -> TextParts<'static>
     requires { size < size_limit }
     ensures text { IsText kind size spec (parts_text result) }

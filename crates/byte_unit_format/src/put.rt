@@ -1,6 +1,6 @@
 //! Writing backwards into a buffer.
 
-ghost use Rattle.std.specs.Prelude.{◌≡◌, ◌+◌, ◌≤◌, ◌++◌, length, drop, replicate};
+ghost use Rattle.std.specs.Prelude.{◌≡◌, ◌+◌, ◌≤◌, ◌++◌, length, take, drop, replicate};
 
 /// Writes bytes so that they end before the index `end`, and returns the index where they begin.
 #[inline(always)]
@@ -8,6 +8,7 @@ pub(crate) fn put(bytes: &[u8], out: &mut [u8], end: usize) -> usize
     requires room { length bytes.now ≤ end }
     requires within { end ≤ length out.old }
     ensures begins { result + length bytes.now ≡ end }
+    ensures before { take result out.new ≡ take result out.old }
     ensures bytes { drop result out.new ≡ bytes.now ++ drop end out.old }
 {
     let start = end - bytes.len();
