@@ -1,33 +1,32 @@
 -- A whole part and what follows it are the text of a size in its unit; how its bytes are written.
 use Rattle.std.proofs.Common.{◌≡◌, ℕ, ◌+◌, ◌-◌, ◌*◌, ◌/◌, ◌%◌, ◌^◌, ◌<◌, ◌≤◌, Bool, true, false, List, [], ◌∷◌, ◌++◌}
-use Rattle.std.proofs.Common.{length, take, drop, arith, ap, sym, refl, subst, ◌∙◌, append-nil, append_assoc}
+use Rattle.std.proofs.Common.{length, take, drop, arith, ap, sym, subst, ◌∙◌, append-nil, append_assoc}
 use Rattle.std.specs.Prelude.{if◌then◌else◌, slice_index, codes}
 use Rattle.std.specs.Fmt.{decimal}
+use Rattle.std.specs.Str.{IsAscii}
 use Rattle.std.proofs.lemmas.List.{take-append-drop, drop-take, take-append-le, drop-drop}
 use Rattle.std.proofs.Math.Nat.{mul-le-mul_left}
 use Rattle.std.proofs.lemmas.Slice.{drop-append-drop}
+use Rattle.std.proofs.lemmas.Str.{IsAscii-append}
+use Rattle.std.proofs.lemmas.Str.Ascii.{IsAscii-cons}
 use Rattle.byte_unit_math.specs.Bounds.{scale, places_of_decimal, size_limit}
 use Rattle.byte_unit_math.specs.Digits.{last_digits, at_places, trim_zeros, trim_expansion}
-use Rattle.byte_unit_math.specs.Finite.{Finite}
 use Rattle.byte_unit_math.specs.Numeral.{fraction_text, text_of, short_numeral}
 use Rattle.byte_unit_math.proofs.Texts.{short_numeral_is_expansion, expansion_of_same_fraction, text_of_short_numeral}
+use Rattle.byte_unit_math.proofs.Digits.{last_digits_below_ten, small_without_zeros}
 use Rattle.byte_unit_base.specs.Choice.{IsRecoveredIn}
 use Rattle.byte_unit_base.specs.Kinds.{bits_in, counts_bits, own_unit}
 use Rattle.byte_unit_base.specs.Shape.{Shape, shape, bits}
 use Rattle.byte_unit_base.specs.Version.{unit_name_in, current}
 use Rattle.byte_unit_base.specs.declared.kind.Kind.{Kind}
+use Rattle.byte_unit_base.proofs.Names.{name_ascii, with_prefix}
+use Rattle.byte_unit_base.proofs.NumberTexts.{number_ascii}
 use Rattle.byte_unit_format.specs.Forms.{IsSizeForm}
 use Rattle.byte_unit_format.specs.Layout.{layout}
 use Rattle.byte_unit_format.specs.NamedSpecs.{alternate_spec}
 use Rattle.byte_unit_format.specs.Suffix.{thousandths_text, suffix_text, HasPrefix}
 use Rattle.byte_unit_format.specs.declared.thousandths.Suffix.{Suffix}
 use Rattle.byte_unit_format.specs.declared.thousandths.Suffix.TheVariants.{Own, Eighths, Thousandths}
-use Rattle.byte_unit_base.proofs.Names.{name_ascii, with_prefix}
-use Rattle.byte_unit_base.proofs.NumberTexts.{number_ascii}
-use Rattle.byte_unit_math.proofs.Digits.{last_digits_below_ten, small_without_zeros}
-use Rattle.std.specs.Str.{IsAscii}
-use Rattle.std.proofs.lemmas.Str.{IsAscii-append}
-use Rattle.std.proofs.lemmas.Str.Ascii.{IsAscii-cons}
 
 -- Whole units and thousandths as one decimal without trailing zeros.
 text_of_thousandths : (whole thousandths : ℕ) → thousandths < 1000
@@ -87,17 +86,18 @@ named {first} {last} kind power binary some first_is last_is =
     ∙ ap (λ name. 32 ∷ name) (sym (with_prefix (shape power binary (counts_bits kind)) some)))
 
 -- A list from an index on is known, also by another name of the index.
-pub drop_known : {index other : ℕ} {rest : List ℕ} (list : List ℕ) → index ≡ other → drop index list ≡ rest → drop other list ≡ rest
+pub drop_known : {index other : ℕ} {rest : List ℕ} (list : List ℕ) → index ≡ other → drop index list ≡ rest
+    → drop other list ≡ rest
 drop_known {index} {other} list same known = ap (λ n. drop n list) (sym same) ∙ known
 
 -- Four bytes are written of which the first are the text, and a name after the text, over what is left of them.
 pub written_over :
     {text : List ℕ} {first second : ℕ} (old middle new digits name : List ℕ) (point len end : ℕ) → length digits ≡ 4
-    → len ≤ 4 → point + 4 ≤ end → take len digits ≡ text → first ≡ point → drop first middle ≡ digits ++ drop (point + 4) old
+    → len ≤ 4 → point + 4 ≤ end → take len digits ≡ text
+    → first ≡ point → drop first middle ≡ digits ++ drop (point + 4) old
     → second ≡ point + len → take second new ≡ take second middle → drop second new ≡ name ++ drop end middle
     → drop point new ≡ (text ++ name) ++ drop end old
-written_over {text} {first} {second} old middle new digits name point len end four few covers text_is first_is digits_are
-    second_is kept name_is =
+written_over {text} old middle new digits name point len end four few covers text_is first_is digits_are second_is kept name_is =
     let here = drop point new in
     let behind : drop 4 (drop point old) ≡ drop (point + 4) old = drop-drop 4 point old in
     let digits_here : drop point middle ≡ digits ++ drop 4 (drop point old) =

@@ -1,5 +1,5 @@
 -- Private: what follows the whole part of a size in a unit.
-use Rattle.std.specs.Prelude.{ℕ, ◌*◌, ◌<◌, ◌≤◌, true, false, List, [], ◌∷◌, ◌++◌}
+use Rattle.std.specs.Prelude.{ℕ, ◌*◌, ◌<◌, ◌≤◌, true, false, List, ◌∷◌, ◌++◌}
 use Rattle.byte_unit_math.specs.Digits.{last_digits, trim_zeros}
 use Rattle.byte_unit_math.specs.Numeral.{fraction_text}
 use Rattle.byte_unit_base.specs.Kinds.{counts_bits, own_unit}

@@ -1,6 +1,7 @@
 //! The alternate form with no other option set, written from the beginning to the end.
 
-ghost use Rattle.std.specs.Prelude.{◌≡◌, ◌+◌, ◌-◌, ◌*◌, ◌<◌, ◌≤◌, [], ◌∷◌, ◌++◌, length, take, drop, slice_index, IsAscii};
+ghost use Rattle.std.specs.Prelude.{◌≡◌, ◌+◌, ◌-◌, ◌*◌, ◌<◌, ◌≤◌, [], ◌∷◌, ◌++◌, length, take, drop, slice_index};
+ghost use Rattle.std.specs.Prelude.{IsAscii};
 ghost use Rattle.byte_unit_math.specs.Bounds.{size_limit};
 ghost use Rattle.byte_unit_base.specs.Kinds.{own_unit};
 ghost use Rattle.byte_unit_base.specs.Version.{current, unit_name_in};

@@ -1,5 +1,5 @@
 -- The array begins with the text of the size, and a size has only one, so the length is known.
-use Rattle.std.proofs.Common.{◌≤◌, arith, length}
+use Rattle.std.proofs.Common.{arith}
 use Rattle.byte_unit_format.specs.Forms.{IsSizeForm}
 use Rattle.byte_unit_format.specs.NamedSpecs.{alternate_spec}
 use Rattle.byte_unit_format.proofs.Appending.{appends_form, appends_same}

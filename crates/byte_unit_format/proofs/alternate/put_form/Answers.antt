@@ -1,5 +1,5 @@
 -- What follows the whole part is written at its place, and the digits of the whole part before it.
-use Rattle.std.proofs.Common.{◌≡◌, ◌+◌, ◌≤◌, ◌<◌, ◌++◌, List, ℕ, ap, sym, subst, arith, ◌∙◌, drop, take, length, append_assoc, length-append}
+use Rattle.std.proofs.Common.{◌≡◌, ◌+◌, ◌++◌, ℕ, ap, sym, subst, arith, ◌∙◌, drop, length, append_assoc, length-append}
 use Rattle.std.specs.Fmt.{decimal}
 use Rattle.std.specs.Str.{IsAscii}
 use Rattle.byte_unit_format.specs.Suffix.{suffix_text}
@@ -24,10 +24,12 @@ returns-clause-written c =
     let behind = suffix_text c.args.kind c.split-whole.result.1 in
     let text = whole ++ behind in
     let new = c.put_u128.new.bytes in
+    let begins = c.put_u128.ensures.begins in
+    let point_is = c.decimal_len-point.ensures.exact in
     let long : c.put_suffix-end.result ≡ length text =
-    omega (arith, c.put_suffix-end.ensures.ends, c.decimal_len-point.ensures.exact, length-append {A = ℕ} whole behind) in
+    omega (arith, c.put_suffix-end.ensures.ends, point_is, length-append {A = ℕ} whole behind) in
     let all : new ≡ text ++ drop (length text) c.args.out.now =
-    drop_known {other = 0} new (omega (arith, c.put_u128.ensures.begins, c.decimal_len-point.ensures.exact)) c.put_u128.ensures.digits
+    drop_known {other = 0} new (omega (arith, begins, point_is)) c.put_u128.ensures.digits
     ∙ (ap (λ rest. whole ++ rest) c.put_suffix-end.ensures.bytes
     ∙ (sym (append_assoc whole behind (drop c.put_suffix-end.result c.args.out.now))
     ∙ ap (λ n. text ++ drop n c.args.out.now) long)) in

@@ -1,5 +1,5 @@
--- The form with a unit is appended, or the parts of the text, which are a text of the size; a size has only one, so the
--- length is known.
+-- The alternate form is appended, or the parts of the text, which are a text of the size. A size has only one text, so
+-- its length is known.
 use Rattle.std.proofs.Common.{sym, subst, ◌∙◌}
 use Rattle.byte_unit_format.specs.Forms.{IsText}
 use Rattle.byte_unit_format.specs.Room.{AppendsForm}

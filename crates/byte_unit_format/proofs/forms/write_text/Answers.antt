@@ -1,5 +1,5 @@
--- The form with a unit is written, or the parts of the text, which are a text of the size. Without a width it has at most
--- 37 bytes.
+-- The alternate form is written, or the parts of the text, which are a text of the size. Without a width it has at
+-- most 37 bytes.
 use Rattle.std.proofs.Common.{arith, sym, subst, ◌∙◌}
 use Rattle.byte_unit_format.specs.Forms.{IsText}
 use Rattle.byte_unit_format.specs.TextParts.{parts_text}

@@ -46,10 +46,10 @@ returns-else-binary-power-clause-form c = λ kind.
     let thousandths = c.in_thousands-whole.result.1 in
     let power = c.in_thousands-whole.result.2 in
     let tens = c.in_thousands-whole.ensures in
+    let twos = c.binary_power-binary.ensures in
     let number = whole * scale + thousandths * 10 ^ 25 in
     form_of_thousandths kind size whole thousandths number (shape power false (counts_bits kind)) tens.thousandths
-    (recovered_decimal kind tens.some tens.few tens.greatest c.binary_power-binary.ensures.greatest c.if-binary-power.false)
-    refl
+    (recovered_decimal kind tens.some tens.few tens.greatest twos.greatest c.if-binary-power.false) refl
     (number_of_units kind size power false number
     (number_of_thousandths size _ whole thousandths number refl tens.value))
 
