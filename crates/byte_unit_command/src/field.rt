@@ -2,7 +2,7 @@
 
 ghost use Rattle.std.specs.Prelude.{◌≡◌, ◌≤◌, ◌++◌, ◌⊎◌, length, OnOk, IfErr, IsErrOf, IsTrue, IsFalse, List, ℕ};
 ghost use Rattle.byte_unit.specs.Forms.{text_limit};
-ghost use Rattle.byte_unit_command.specs.Field.{IsNoSize};
+ghost use Rattle.byte_unit_command.specs.Field.{IsSize, IsNoSize};
 ghost use Rattle.byte_unit_command.specs.Fields.{IsChosen, InRange};
 ghost use Rattle.byte_unit_command.specs.Outcome.{IsPrefix};
 ghost use Rattle.byte_unit_command.specs.Progress.{AddsField, tally_with};
@@ -10,7 +10,7 @@ ghost use Rattle.byte_unit_command.specs.Progress.{AddsField, tally_with};
 use crate::notice::{Notices, add_encoding_notice, add_error_notice, add_limit_notice};
 use crate::options::{FieldRange, Invalid, Options};
 use crate::place::Place;
-use crate::size::parse;
+use crate::size::{accepted, parse};
 use crate::stop::Stop;
 use crate::tally::{Tally, is_beyond};
 use crate::text::add_size;
@@ -111,15 +111,74 @@ pub(crate) fn add_chosen<A: Allocator>(
         → (options.now.invalid ≡ Invalid.Abort) × IsNoSize options.now field.now }
     ensures stop { IfErr result (λ stop. (stop ≡ Stop.Memory) ⊎ (stop ≡ Stop.Rejected)) }
 {
+    match accepted(options, field) {
+        Some(size) => add_found(
+            options, place, number, field, size, digits, tally, text, notices,
+        ),
+        None => add_other(options, place, number, field, digits, tally, text, notices),
+    }
+}
+
+/// Appends the text of a size to `text`, and counts it.
+///
+/// # Errors
+///
+/// Returns `Memory` if allocation fails.
+#[inline(always)]
+fn add_found<A: Allocator>(
+    options: &Options,
+    place: &Place,
+    number: u64,
+    field: &[u8],
+    size: u128,
+    digits: &mut [u8],
+    tally: &mut Tally,
+    text: &mut Vec<u8, A>,
+    notices: &mut Notices<A>,
+) -> Result<(), Stop>
+    requires capacity { text_limit ≤ length digits.old }
+    requires chosen { IsChosen options.now.fields.now number }
+    requires size { IsSize options.now field.now size }
+    ensures ok { OnOk result (AddsField options.now number field.now
+        tally.old text.old.items tally.new text.new.items) }
+    ensures kept { IsPrefix text.old.items text.new.items }
+    ensures stop { IfErr result (λ stop. stop ≡ Stop.Memory) }
+{
+    if is_beyond(options, size) {
+        add_limit_notice(options, place, number, field, size, notices)?;
+    }
+    tally.add(options, size);
+    add_size(options, size, digits, text)?;
+    Ok(())
+}
+
+/// Does what [`add_chosen`] does, for any field. It parses the field again: the error of a parser is a large value, and
+/// without it a size that is accepted takes some 100 instructions less.
+#[cold]
+#[inline(never)]
+fn add_other<A: Allocator>(
+    options: &Options,
+    place: &Place,
+    number: u64,
+    field: &[u8],
+    digits: &mut [u8],
+    tally: &mut Tally,
+    text: &mut Vec<u8, A>,
+    notices: &mut Notices<A>,
+) -> Result<(), Stop>
+    requires capacity { text_limit ≤ length digits.old }
+    requires chosen { IsChosen options.now.fields.now number }
+    ensures ok { OnOk result (AddsField options.now number field.now
+        tally.old text.old.items tally.new text.new.items) }
+    ensures kept { IsPrefix text.old.items text.new.items }
+    ensures rejected { IsErrOf result Stop.Rejected
+        → (options.now.invalid ≡ Invalid.Abort) × IsNoSize options.now field.now }
+    ensures stop { IfErr result (λ stop. (stop ≡ Stop.Memory) ⊎ (stop ≡ Stop.Rejected)) }
+{
     match parse(options, field) {
-        Some(Ok(size)) => {
-            if is_beyond(options, size) {
-                add_limit_notice(options, place, number, field, size, notices)?;
-            }
-            tally.add(options, size);
-            add_size(options, size, digits, text)?;
-            Ok(())
-        }
+        Some(Ok(size)) => add_found(
+            options, place, number, field, size, digits, tally, text, notices,
+        ),
         Some(Err(error)) => {
             add_error_notice(options, place, number, field, error, notices)?;
             copy_rejected(options, field, tally, text)

@@ -1,18 +1,19 @@
 //! Reads and writes one size of either kind.
 
-ghost use Rattle.std.specs.Prelude.{◌≡◌, ◌<◌, ◌≤◌};
+ghost use Rattle.std.specs.Prelude.{◌≡◌, ◌<◌, ◌≤◌, IfSome};
 ghost use Rattle.byte_unit.specs.Bounds.{size_limit};
 ghost use Rattle.byte_unit.specs.Forms.{text_limit};
 ghost use Rattle.byte_unit.specs.SizeReading.{IsBytesReading};
 ghost use Rattle.byte_unit.specs.Written.{WritesForm};
 ghost use Rattle.byte_unit.specs.declared.Kind.TheVariants.{Byte as InBytes, Bit as InBits};
-ghost use Rattle.byte_unit_command.specs.Field.{ignores_case};
+ghost use Rattle.byte_unit_command.specs.Field.{IsSize, ignores_case};
 ghost use Rattle.byte_unit_command.specs.Shown.{IsFormText};
 
 use crate::options::{Form, Kind, Options};
 use byte_unit::{Bit, Byte, FormatSpec, ParseError};
 
 /// Parses a field as a size of the kind of the options. Returns `None` if it is not UTF-8.
+#[inline(always)]
 pub(crate) fn parse(options: &Options, field: &[u8]) -> Option<Result<u128, ParseError>>
     ensures { IsBytesReading options.now.kind
         (ignores_case options.now.kind options.now.ignore_case) field.now result }
@@ -28,6 +29,17 @@ pub(crate) fn parse(options: &Options, field: &[u8]) -> Option<Result<u128, Pars
             Some(Err(error)) => Some(Err(error)),
             None => None,
         },
+    }
+}
+
+/// Returns the size if the field is one. Returns `None` if it is not, and never keeps the error.
+#[inline(always)]
+pub(crate) fn accepted(options: &Options, field: &[u8]) -> Option<u128>
+    ensures { IfSome result (IsSize options.now field.now) }
+{
+    match parse(options, field) {
+        Some(Ok(size)) => Some(size),
+        _ => None,
     }
 }
 

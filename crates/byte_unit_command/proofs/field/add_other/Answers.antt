@@ -1,16 +1,8 @@
--- A size adds its text. A string that is rejected, and bytes that are not UTF-8, add a copy of themselves.
+-- A string that is rejected, and bytes that are not UTF-8, add a copy of themselves.
 use Rattle.std.proofs.Common.{inl, inr}
-use Rattle.byte_unit_command.proofs.Converting.{AddsField-size, AddsField-rejected}
+use Rattle.byte_unit_command.proofs.Converting.{AddsField-rejected}
 use Rattle.byte_unit.specs.Errors.{size_fault}
-use Rattle.byte_unit_command.proofs.field.add_chosen.Goals as goal
-
-pub returns-in_ok-add_size-in-Some-Ok-clause-ok : goal.returns-in_ok-add_size-in-Some-Ok-clause-ok
-returns-in_ok-add_size-in-Some-Ok-clause-ok g c =
-    let reading = rw c.in-Some-Ok.field-0-is at c.in-Some-Ok.ensures in
-    let added = c.in_ok-add_size-in-Some-Ok.ensures.ok in
-    AddsField-size c.args.options.now c.args.number c.args.field.now c.args.tally.now c.add.new.self
-    c.args.text.now.items c.add_size.new.text.items c.in-Some-Ok.size added.0 c.requires.chosen
-    (reading.0, reading.1.found) added.1 added.2 c.add.ensures
+use Rattle.byte_unit_command.proofs.field.add_other.Goals as goal
 
 pub returns-in_ok-add_error_notice-in-Some-Err-clause-ok : goal.returns-in_ok-add_error_notice-in-Some-Err-clause-ok
 returns-in_ok-add_error_notice-in-Some-Err-clause-ok g c =
