@@ -12,7 +12,7 @@ use crate::options::{FieldRange, Invalid, Options};
 use crate::place::Place;
 use crate::size::{accepted, parse};
 use crate::stop::Stop;
-use crate::tally::{Tally, is_beyond};
+use crate::tally::Tally;
 use crate::text::add_size;
 use std::alloc::Allocator;
 
@@ -144,10 +144,9 @@ fn add_found<A: Allocator>(
     ensures kept { IsPrefix text.old.items text.new.items }
     ensures stop { IfErr result (λ stop. stop ≡ Stop.Memory) }
 {
-    if is_beyond(options, size) {
+    if tally.add(options, size) {
         add_limit_notice(options, place, number, field, size, notices)?;
     }
-    tally.add(options, size);
     add_size(options, size, digits, text)?;
     Ok(())
 }

@@ -32,14 +32,15 @@ impl Tally {
         }
     }
 
-    /// Counts a size.
-    pub(crate) fn add(&mut self, options: &Options, size: u128)
-        ensures { self.new ≡ tally_with options.now self.old (Some size) }
+    /// Counts a size. Returns `true` if it is above the maximum or below the minimum.
+    pub(crate) fn add(&mut self, options: &Options, size: u128) -> bool
+        ensures tally { self.new ≡ tally_with options.now self.old (Some size) }
+        ensures beyond { result ≡ has_beyond options.now size }
     {
         self.total = self.total.saturating_add(size).min(TOTAL_LIMIT);
-        if is_beyond(options, size) {
-            self.beyond = true;
-        }
+        let beyond = is_beyond(options, size);
+        self.beyond |= beyond;
+        beyond
     }
 
     /// Counts a rejected field.

@@ -7,4 +7,4 @@ returns-clause-ok g c =
     let added = c.in_ok-add_size.ensures.ok in
     AddsField-size c.args.options.now c.args.number c.args.field.now c.args.tally.now c.add.new.self
     c.args.text.now.items c.add_size.new.text.items c.args.size added.0 c.requires.chosen c.requires.size added.1 added.2
-    c.add.ensures
+    c.add.ensures.tally
