@@ -101,6 +101,7 @@ pub fn choose_unit(
 /// assert_eq!(rt; largest_unit(10_000, Family::Bytes, UnitType::Both, 8), Some(Unit::KiB));
 /// assert_eq!(rt; largest_unit(1000, Family::Bytes, UnitType::Binary, 8), None);
 /// ```
+#[inline(always)]
 pub fn largest_unit(size: u128, family: Family, unit_type: UnitType, divisor: u128) -> Option<Unit>
     requires { (divisor ≡ 8) ⊎ (divisor ≡ 1) }
     ensures found { IfSome result (λ unit.

@@ -76,6 +76,7 @@ pub fn exact_unit(size: u128, kind: Kind, allow: bool) -> (u128, Unit)
 /// assert_eq!(rt; appropriate_unit(10_000, Kind::Byte, UnitType::Both), Unit::KiB);
 /// assert_eq!(rt; appropriate_unit(1000, Kind::Byte, UnitType::Binary), Unit::B);
 /// ```
+#[inline(always)]
 pub fn appropriate_unit(size: u128, kind: Kind, unit_type: UnitType) -> Unit
     ensures { IsAppropriate kind unit_type size result }
 {

@@ -64,6 +64,7 @@ fn in_range(range: FieldRange, number: u64) -> bool
 ///
 /// - `Rejected` if the field is not a size, in the mode `abort`.
 /// - `Memory` if allocation fails.
+#[inline(always)]
 pub(crate) fn add_field<A: Allocator>(
     options: &Options,
     place: &Place,
@@ -92,6 +93,7 @@ pub(crate) fn add_field<A: Allocator>(
 /// Does what [`add_field`] does, for a field that is converted.
 ///
 /// Preconditions (proved at every call): the field with this number is chosen, and `digits` has capacity for any text.
+#[inline(always)]
 pub(crate) fn add_chosen<A: Allocator>(
     options: &Options,
     place: &Place,

@@ -46,6 +46,7 @@ impl Progress {
 ///
 /// - `Rejected` if a field is not a size, in the mode `abort`.
 /// - `Memory` if allocation fails.
+#[inline(always)]
 fn add_fields<A: Allocator>(
     options: &Options,
     place: &Place,
@@ -117,6 +118,7 @@ fn add_split<A: Allocator>(
 /// - `Memory` if allocation fails.
 ///
 /// Then nothing is appended.
+#[inline(always)]
 pub(crate) fn add_record<A: Allocator>(
     options: &Options,
     bytes: &[u8],
@@ -144,6 +146,7 @@ pub(crate) fn add_record<A: Allocator>(
 }
 
 /// Does what [`add_record`] does, but leaves what was appended before an error.
+#[inline(always)]
 fn append_record<A: Allocator>(
     options: &Options,
     bytes: &[u8],

@@ -39,7 +39,9 @@ impl Tally {
     {
         self.total = self.total.saturating_add(size).min(TOTAL_LIMIT);
         let beyond = is_beyond(options, size);
-        self.beyond |= beyond;
+        if beyond {
+            self.beyond = true;
+        }
         beyond
     }
 

@@ -125,6 +125,7 @@ pub fn append_adjusted<A: Allocator>(
 /// assert_eq!(rt; write_adjusted(1536, Kind::Byte, Unit::KB, FormatSpec::PLAIN, &mut out), 8);
 /// assert!(rt; out == *b"1.536 KB.");
 /// ```
+#[inline(always)]
 pub fn write_adjusted(size: u128, kind: Kind, unit: Unit, spec: FormatSpec, out: &mut [u8]) -> usize
     requires { size < size_limit }
     ensures written { WritesForm (IsAdjustedForm kind size unit spec) out.old out.new result }

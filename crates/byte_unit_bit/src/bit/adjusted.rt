@@ -150,6 +150,7 @@ impl AdjustedBit {
     /// assert_eq!(rt; &out[..len], b"123.456 Kb".as_slice());
     /// assert_eq!(rt; adjusted.write_text(FormatSpec::PLAIN, &mut []), len);
     /// ```
+    #[inline(always)]
     pub fn write_text(self, spec: FormatSpec, out: &mut [u8]) -> usize
         ensures written { let IsForm = IsAdjustedForm InBits self.size self.unit spec in
             WritesForm IsForm out.old out.new result }
@@ -225,6 +226,7 @@ impl Bit {
     /// assert_eq!(rt; size.get_appropriate_unit(UnitType::Decimal).get_unit(), Unit::Kbit);
     /// assert_eq!(rt; Bit::MIN.get_appropriate_unit(UnitType::Both).get_unit(), Unit::Bit);
     /// ```
+    #[inline(always)]
     pub fn get_appropriate_unit(&self, unit_type: UnitType) -> AdjustedBit
         ensures size { result.size ≡ self.now }
         ensures unit { IsAppropriate InBits unit_type self.now result.unit }

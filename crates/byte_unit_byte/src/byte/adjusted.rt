@@ -149,6 +149,7 @@ impl AdjustedByte {
     /// assert_eq!(rt; &out[..len], b"123.456 KB".as_slice());
     /// assert_eq!(rt; adjusted.write_text(FormatSpec::PLAIN, &mut []), len);
     /// ```
+    #[inline(always)]
     pub fn write_text(self, spec: FormatSpec, out: &mut [u8]) -> usize
         ensures written { let IsForm = IsAdjustedForm InBytes self.size self.unit spec in
             WritesForm IsForm out.old out.new result }
@@ -224,6 +225,7 @@ impl Byte {
     /// assert_eq!(rt; size.get_appropriate_unit(UnitType::Decimal).get_unit(), Unit::KB);
     /// assert_eq!(rt; Byte::MIN.get_appropriate_unit(UnitType::Both).get_unit(), Unit::B);
     /// ```
+    #[inline(always)]
     pub fn get_appropriate_unit(&self, unit_type: UnitType) -> AdjustedByte
         ensures size { result.size ≡ self.now }
         ensures unit { IsAppropriate InBytes unit_type self.now result.unit }
