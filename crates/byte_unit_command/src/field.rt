@@ -7,10 +7,10 @@ ghost use Rattle.byte_unit_command.specs.Fields.{IsChosen, InRange};
 ghost use Rattle.byte_unit_command.specs.Outcome.{IsPrefix};
 ghost use Rattle.byte_unit_command.specs.Progress.{AddsField, tally_with};
 
-use crate::notice::{Notices, add_encoding_notice, add_error_notice, add_limit_notice};
+use crate::notice::{Notices, add_limit_notice, add_reject_notice};
 use crate::options::{FieldRange, Invalid, Options};
 use crate::place::Place;
-use crate::size::{accepted, parse};
+use crate::size::accepted;
 use crate::stop::Stop;
 use crate::tally::Tally;
 use crate::text::add_size;
@@ -117,7 +117,7 @@ pub(crate) fn add_chosen<A: Allocator>(
         Some(size) => add_found(
             options, place, number, field, size, digits, tally, text, notices,
         ),
-        None => add_other(options, place, number, field, digits, tally, text, notices),
+        None => add_rejected(options, place, number, field, tally, text, notices),
     }
 }
 
@@ -153,42 +153,30 @@ fn add_found<A: Allocator>(
     Ok(())
 }
 
-/// Does what [`add_chosen`] does, for any field. It parses the field again: the error of a parser is a large value, and
-/// without it a size that is accepted takes some 100 instructions less.
+/// Does what [`add_chosen`] does, for a field that is not a size.
+///
+/// Preconditions (proved at every call): the field with this number is chosen, and it is not a size.
 #[cold]
 #[inline(never)]
-fn add_other<A: Allocator>(
+fn add_rejected<A: Allocator>(
     options: &Options,
     place: &Place,
     number: u64,
     field: &[u8],
-    digits: &mut [u8],
     tally: &mut Tally,
     text: &mut Vec<u8, A>,
     notices: &mut Notices<A>,
 ) -> Result<(), Stop>
-    requires capacity { text_limit ≤ length digits.old }
     requires chosen { IsChosen options.now.fields.now number }
+    requires none { IsNoSize options.now field.now }
     ensures ok { OnOk result (AddsField options.now number field.now
         tally.old text.old.items tally.new text.new.items) }
     ensures kept { IsPrefix text.old.items text.new.items }
-    ensures rejected { IsErrOf result Stop.Rejected
-        → (options.now.invalid ≡ Invalid.Abort) × IsNoSize options.now field.now }
+    ensures rejected { IsErrOf result Stop.Rejected → options.now.invalid ≡ Invalid.Abort }
     ensures stop { IfErr result (λ stop. (stop ≡ Stop.Memory) ⊎ (stop ≡ Stop.Rejected)) }
 {
-    match parse(options, field) {
-        Some(Ok(size)) => add_found(
-            options, place, number, field, size, digits, tally, text, notices,
-        ),
-        Some(Err(error)) => {
-            add_error_notice(options, place, number, field, error, notices)?;
-            copy_rejected(options, field, tally, text)
-        }
-        None => {
-            add_encoding_notice(options, place, number, field, notices)?;
-            copy_rejected(options, field, tally, text)
-        }
-    }
+    add_reject_notice(options, place, number, field, notices)?;
+    copy_rejected(options, field, tally, text)
 }
 
 /// Copies a rejected field to `text`, and counts it.

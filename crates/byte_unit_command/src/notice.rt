@@ -4,6 +4,7 @@ ghost use Rattle.std.specs.Prelude.{◌≤◌, length};
 
 use crate::options::{Invalid, Options};
 use crate::place::Place;
+use crate::size::parse;
 use byte_unit::ParseError;
 use std::alloc::{AllocError, Allocator};
 use std::fmt::Write as WriteText;
@@ -53,65 +54,29 @@ enum Reason {
     Below,
 }
 
-/// Appends a message that the parser rejects a field, unless rejected fields are ignored.
+/// Appends a message that a field is not a size, unless rejected fields are ignored. Parses the field for the error.
 ///
 /// # Errors
 ///
 /// Returns `AllocError` if allocation fails.
 #[cold]
 #[inline(never)]
-pub(crate) fn add_error_notice<A: Allocator>(
+pub(crate) fn add_reject_notice<A: Allocator>(
     options: &Options,
     place: &Place,
     number: u64,
     field: &[u8],
-    error: ParseError,
-    notices: &mut Notices<A>,
-) -> Result<(), AllocError> {
-    add_notice(
-        options,
-        place,
-        number,
-        field,
-        &Reason::Rejected(error),
-        notices,
-    )
-}
-
-/// Appends a message that a field is not UTF-8, unless rejected fields are ignored.
-///
-/// # Errors
-///
-/// Returns `AllocError` if allocation fails.
-#[cold]
-#[inline(never)]
-pub(crate) fn add_encoding_notice<A: Allocator>(
-    options: &Options,
-    place: &Place,
-    number: u64,
-    field: &[u8],
-    notices: &mut Notices<A>,
-) -> Result<(), AllocError> {
-    add_notice(options, place, number, field, &Reason::NotText, notices)
-}
-
-/// Appends a message that a field is rejected, unless rejected fields are ignored.
-///
-/// # Errors
-///
-/// Returns `AllocError` if allocation fails.
-fn add_notice<A: Allocator>(
-    options: &Options,
-    place: &Place,
-    number: u64,
-    field: &[u8],
-    reason: &Reason,
     notices: &mut Notices<A>,
 ) -> Result<(), AllocError> {
     if options.invalid == Invalid::Ignore {
         return Ok(());
     }
-    add_line(options, place, number, field, reason, notices)
+    let reason = match parse(options, field) {
+        Some(Ok(_)) => return Ok(()),
+        Some(Err(error)) => Reason::Rejected(error),
+        None => Reason::NotText,
+    };
+    add_line(options, place, number, field, &reason, notices)
 }
 
 /// Appends a message if a size is beyond a limit.

