@@ -34,7 +34,7 @@ pub(crate) fn parse(options: &Options, field: &[u8]) -> Option<Result<u128, Pars
 
 /// Returns the size that a field represents, or `None` if it is not a size.
 ///
-/// The error of [`parse`] is a large value: a field that is accepted takes 100 instructions less where no caller has it.
+/// The error of [`parse`] is a large value: an accepted field takes 100 instructions less if no caller has it.
 #[inline(always)]
 pub(crate) fn accepted(options: &Options, field: &[u8]) -> Option<u128>
     ensures some { IfSome result (IsSize options.now field.now) }

@@ -97,7 +97,7 @@ fn put_form(size: u128, kind: Kind, out: &mut [u8]) -> usize
     end
 }
 
-/// Writes what follows the whole part from the index `point`, and returns the index behind it.
+/// Writes what follows the whole part from the index `point`, and returns the index after it.
 #[inline(always)]
 fn put_suffix(suffix: Suffix, kind: Kind, out: &mut [u8], point: usize) -> usize
     requires prefix { HasPrefix suffix }
