@@ -48,6 +48,7 @@ pub(crate) fn write_alternate(size: u128, kind: Kind, out: &mut [u8]) -> usize
     if out.len() < NARROW_TEXT {
         return write_if_fits(size, kind, out);
     }
+    // The cast tells the compiler that it can divide in 64 bits.
     if size < 1 << 64 {
         put_form(u128::from(size as u64), kind, out)
     } else {
@@ -97,7 +98,8 @@ fn put_form(size: u128, kind: Kind, out: &mut [u8]) -> usize
     end
 }
 
-/// Writes what follows the whole part from the index `point`, and returns the index after it.
+/// Writes what follows the whole part from the index `point`, and returns the index after it. The digits after the point
+/// are written as four bytes; the space and the unit then overwrite what is too much of these.
 #[inline(always)]
 fn put_suffix(suffix: Suffix, kind: Kind, out: &mut [u8], point: usize) -> usize
     requires prefix { HasPrefix suffix }
