@@ -13,7 +13,6 @@ use crate::options::{Form, Kind, Options};
 use byte_unit::{Bit, Byte, FormatSpec, ParseError};
 
 /// Parses a field as a size of the kind of the options. Returns `None` if it is not UTF-8.
-#[inline(always)]
 pub(crate) fn parse(options: &Options, field: &[u8]) -> Option<Result<u128, ParseError>>
     ensures { IsBytesReading options.now.kind
         (ignores_case options.now.kind options.now.ignore_case) field.now result }
@@ -34,16 +33,22 @@ pub(crate) fn parse(options: &Options, field: &[u8]) -> Option<Result<u128, Pars
 
 /// Returns the size that a field represents, or `None` if it is not a size.
 ///
-/// The error of [`parse`] is a large value: an accepted field takes 100 instructions less if no caller has it.
-#[inline(always)]
+/// The result of [`parse`] is a large value: an accepted field takes fewer instructions if no function has it.
 pub(crate) fn accepted(options: &Options, field: &[u8]) -> Option<u128>
     ensures some { IfSome result (IsSize options.now field.now) }
     ensures none { IfNone result (IsNoSize options.now field.now) }
 {
-    match parse(options, field) {
-        Some(Ok(size)) => Some(size),
-        Some(Err(_)) => None,
-        None => None,
+    match options.kind {
+        Kind::Byte => match Byte::parse_bytes(field, options.ignore_case) {
+            Some(Ok(size)) => Some(size.as_u128()),
+            Some(Err(_)) => None,
+            None => None,
+        },
+        Kind::Bit => match Bit::parse_bytes(field) {
+            Some(Ok(size)) => Some(size.as_u128()),
+            Some(Err(_)) => None,
+            None => None,
+        },
     }
 }
 
