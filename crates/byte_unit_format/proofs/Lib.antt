@@ -16,4 +16,5 @@ pub mod Widths
 pub mod NarrowTexts
 pub mod ThreePlaces
 pub mod Suffix
+pub mod WithDigits
 pub mod LaterVersion

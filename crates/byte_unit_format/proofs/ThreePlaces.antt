@@ -20,13 +20,13 @@ use Rattle.byte_unit_format.proofs.NarrowTexts.{pow10_next, decimal_bits, binary
 use Rattle.byte_unit_format.proofs.NarrowTexts.{bits_in_positive}
 
 -- A power of a larger exponent is a multiple.
-power_split : (base least exponent : ℕ) → least ≤ exponent → base ^ exponent ≡ base ^ (exponent - least) * base ^ least
+pub power_split : (base least exponent : ℕ) → least ≤ exponent → base ^ exponent ≡ base ^ (exponent - least) * base ^ least
 power_split base least exponent few =
     ap (λ n. base ^ n) (let sum : exponent ≡ (exponent - least) + least = omega (arith, few) in sum)
     ∙ pow-add base (exponent - least) least
 
 -- A power that is at most a number has an exponent below that of a power above it.
-exponent_below : (base low high size : ℕ) → 1 ≤ base → base ^ low ≤ size → size < base ^ high → low < high
+pub exponent_below : (base low high size : ℕ) → 1 ≤ base → base ^ low ≤ size → size < base ^ high → low < high
 exponent_below base low high size some at_most above =
     ⊎_elim (λ less. less)
     (λ more. absurd (omega (arith, at_most, above, pow-le-pow_right {n = base} some more)))
@@ -246,22 +246,22 @@ largest_of_prefixes kind size power binary some known fits largest =
           omega (arith, same, others, mul-le-mul_right (bits_in kind) at_most);
     })
 
--- If the binary prefix is of the same position as the decimal one or of a later one, it is the larger one.
-at_most_binary : {size decimal binary : ℕ} → IsGreatest 10 3 size decimal → IsGreatest 2 10 size binary
-    → decimal ≤ binary → (other : ℕ) (is_binary : Bool) → FitsPrefix size (prefix_of other is_binary)
-    → prefix_of other is_binary ≤ 2 ^ (10 * binary)
-at_most_binary {size} {decimal} {binary} tens twos later other true fits =
+-- If no decimal prefix of a later position fits the size, the binary prefix is the larger one.
+at_most_binary : {size binary : ℕ} → IsGreatest 2 10 size binary
+    → ((other : ℕ) → FitsPrefix size (10 ^ (3 * other)) → other ≤ binary) → (other : ℕ) (is_binary : Bool)
+    → FitsPrefix size (prefix_of other is_binary) → prefix_of other is_binary ≤ 2 ^ (10 * binary)
+at_most_binary {size} {binary} twos later other true fits =
     pow-le-pow_right {n = 2} (omega arith) {i = 10 * other} {j = 10 * binary} (omega (arith, twos.greatest other fits))
-at_most_binary {size} {decimal} {binary} tens twos later other false fits =
-    let few = tens.greatest other fits in
-    let at_most = pow-le-pow_right {n = 2} (omega arith) {i = 10 * other} {j = 10 * binary} (omega (arith, few, later)) in
+at_most_binary {size} {binary} twos later other false fits =
+    let few = later other fits in
+    let at_most = pow-le-pow_right {n = 2} (omega arith) {i = 10 * other} {j = 10 * binary} (omega (arith, few)) in
     omega (arith, pow10_le_pow2 other, at_most)
 
-pub recovered_binary : (kind : Kind) {size decimal binary : ℕ} → 1 ≤ decimal → IsGreatest 10 3 size decimal → binary ≤ 9
-    → IsGreatest 2 10 size binary → decimal ≤ binary
+pub recovered_binary : (kind : Kind) {size binary : ℕ} → 1 ≤ binary → binary ≤ 9 → IsGreatest 2 10 size binary
+    → ((other : ℕ) → FitsPrefix size (10 ^ (3 * other)) → other ≤ binary)
     → IsRecoveredIn current kind false size 3 (shape binary true (counts_bits kind))
-recovered_binary kind {size} {decimal} {binary} some tens known twos later =
-    largest_of_prefixes kind size binary true (omega (arith, some, later)) known twos.fits (at_most_binary tens twos later)
+recovered_binary kind {size} {binary} some known twos later =
+    largest_of_prefixes kind size binary true some known twos.fits (at_most_binary twos later)
 
 -- If not, the decimal prefix is the larger one.
 at_most_decimal : {size decimal binary : ℕ} → IsGreatest 10 3 size decimal → IsGreatest 2 10 size binary

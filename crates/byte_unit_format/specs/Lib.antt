@@ -10,5 +10,6 @@ pub mod Written
 pub mod TextParts
 pub mod Suffix
 pub mod ThreePlaces
+pub mod WithDigits
 pub mod FormLaws
 pub mod VersionLaws

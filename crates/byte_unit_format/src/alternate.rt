@@ -1,7 +1,8 @@
 //! The alternate form with no other option set, written from the beginning to the end.
 
 ghost use Rattle.std.specs.Prelude.{◌≡◌, ◌+◌, ◌-◌, ◌*◌, ◌<◌, ◌≤◌, [], ◌∷◌, ◌++◌, length, take, drop, slice_index};
-ghost use Rattle.std.specs.Prelude.{IsAscii};
+ghost use Rattle.std.specs.Prelude.{◌^◌, IsAscii};
+ghost use Rattle.std.specs.Fmt.{decimal};
 ghost use Rattle.byte_unit_math.specs.Bounds.{size_limit};
 ghost use Rattle.byte_unit_base.specs.Kinds.{own_unit};
 ghost use Rattle.byte_unit_base.specs.Version.{current, unit_name_in};
@@ -92,6 +93,19 @@ fn put_form(size: u128, kind: Kind, out: &mut [u8]) -> usize
     ensures ascii { IsAscii (take result out.new) }
 {
     let (whole, suffix) = split(size);
+    put_split(whole, suffix, kind, out)
+}
+
+/// Writes a whole part and what follows it to the beginning of `out`, and returns their length.
+#[inline(always)]
+pub(crate) fn put_split(whole: u128, suffix: Suffix, kind: Kind, out: &mut [u8]) -> usize
+    requires small { whole < 10 ^ 27 }
+    requires prefix { HasPrefix suffix }
+    requires room { narrow_text ≤ length out.old }
+    ensures ends { result ≡ length (decimal whole ++ suffix_text kind suffix) }
+    ensures bytes { out.new ≡ (decimal whole ++ suffix_text kind suffix) ++ drop result out.old }
+    ensures narrow { result ≤ narrow_text }
+{
     let point = decimal_len(whole);
     let end = put_suffix(suffix, kind, out, point);
     put_u128(whole, out, point);
@@ -135,7 +149,7 @@ fn put_suffix(suffix: Suffix, kind: Kind, out: &mut [u8], point: usize) -> usize
 
 /// Returns the letter of the kind's own unit.
 #[inline(always)]
-fn own_letter(kind: Kind) -> u8
+pub(crate) fn own_letter(kind: Kind) -> u8
     ensures { result ∷ [] ≡ unit_name_in current (own_unit kind) }
 {
     match kind {
@@ -146,7 +160,7 @@ fn own_letter(kind: Kind) -> u8
 
 /// Returns the letter of a prefix.
 #[inline(always)]
-fn letter(power: u32) -> u8
+pub(crate) fn letter(power: u32) -> u8
     requires some { 1 ≤ power }
     requires known { power ≤ 9 }
     ensures { result ≡ slice_index current.letters (power - 1) }

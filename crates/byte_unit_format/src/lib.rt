@@ -14,6 +14,7 @@ mod plain;
 mod put;
 mod spec;
 mod thousandths;
+mod with_digits;
 
 pub use adjusted::{
     adjusted_len, append_adjusted, display_adjusted, number_in_unit, write_adjusted,
@@ -22,3 +23,4 @@ pub use forms::{append_text, text_len, write_text};
 pub use layout::{append_layout, layout_len, write_layout};
 pub use plain::{append_plain, plain_len, write_plain};
 pub use spec::{Align, FormatSpec, Sign};
+pub use with_digits::write_with_digits;

@@ -1,13 +1,13 @@
 //! The unit of a size at a precision of three places, found without a search.
 
-ghost use Rattle.std.specs.Prelude.{◌≡◌, ◌+◌, ◌*◌, ◌-◌, ◌%◌, ◌^◌, ◌<◌, ◌≤◌, ◌++◌};
+ghost use Rattle.std.specs.Prelude.{◌≡◌, ℕ, ◌+◌, ◌*◌, ◌-◌, ◌%◌, ◌^◌, ◌<◌, ◌≤◌, ◌++◌};
 ghost use Rattle.std.specs.Fmt.{decimal};
 ghost use Rattle.byte_unit_math.specs.Bounds.{size_limit};
 ghost use Rattle.byte_unit_base.specs.declared.kind.Kind.{Kind as OfKind};
 ghost use Rattle.byte_unit_format.specs.Forms.{IsSizeForm};
 ghost use Rattle.byte_unit_format.specs.NamedSpecs.{alternate_spec};
 ghost use Rattle.byte_unit_format.specs.Suffix.{HasPrefix, suffix_text};
-ghost use Rattle.byte_unit_format.specs.ThreePlaces.{IsGreatest};
+ghost use Rattle.byte_unit_format.specs.ThreePlaces.{FitsPrefix, IsGreatest};
 
 use byte_unit_math::div_rem_thousand;
 
@@ -39,11 +39,28 @@ pub(crate) fn split(size: u128) -> (u128, Suffix)
     let binary = binary_power(size);
     // A binary prefix is larger than the decimal one of its position, and smaller than the next decimal one.
     if binary >= power {
-        let eighths = size >> (10 * binary - 3);
-        (eighths / 8, Suffix::Eighths((eighths % 8) as u64, binary))
+        in_eighths(size, binary)
     } else {
         (whole, Suffix::Thousandths(thousandths, power))
     }
+}
+
+/// Splits a size that is exact in the unit with a binary prefix within three decimal places.
+#[inline(always)]
+pub(crate) fn in_eighths(size: u128, power: u32) -> (u128, Suffix)
+    requires small { size < size_limit }
+    requires some { 1 ≤ power }
+    requires few { power ≤ 9 }
+    requires greatest { IsGreatest 2 10 size power }
+    requires eighths { size % 2 ^ (10 * power - 3) ≡ 0 }
+    requires not_less { (other : ℕ) → FitsPrefix size (10 ^ (3 * other)) → other ≤ power }
+    ensures form { (kind : OfKind) → IsSizeForm kind size alternate_spec
+        (decimal result.0 ++ suffix_text kind result.1) }
+    ensures whole { result.0 < 10 ^ 27 }
+    ensures prefix { HasPrefix result.1 }
+{
+    let eighths = size >> (10 * power - 3);
+    (eighths / 8, Suffix::Eighths((eighths % 8) as u64, power))
 }
 
 /// Returns the size in the largest decimal prefix, not above it, in which it is exact within three decimal places:
@@ -74,7 +91,7 @@ fn in_thousands(size: u128) -> (u128, u64, u32)
 /// Returns the position of the largest binary prefix, not above the size, in which it is exact within three decimal
 /// places, or 0 if there is none: 2^(10 n) divides 1000 times the size if 2^(10 n - 3) divides the size.
 #[inline(always)]
-fn binary_power(size: u128) -> u32
+pub(crate) fn binary_power(size: u128) -> u32
     requires some { 1 ≤ size }
     requires small { size < size_limit }
     ensures few { result ≤ 9 }

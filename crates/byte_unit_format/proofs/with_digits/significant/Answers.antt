@@ -1,0 +1,107 @@
+-- The mask has a bit for each byte, set where it is not a zero, so its highest bit is that of the last such byte.
+use Rattle.std.proofs.Common.{◌≡◌, ◌≢◌, ℕ, Bool, true, false, ◌+◌, ◌-◌, ◌*◌, ◌/◌, ◌%◌, ◌^◌, ◌<◌, ◌≤◌, eqb, not, get_or, List, length, map, take, w8}
+use Rattle.std.proofs.Common.{⊎_elim, ap, sym, subst, refl, ◌∙◌, arith, eqb-true, cond}
+use Rattle.std.proofs.Math.Nat.{pow-le-pow_right, div-eq_of_lt, div-add-mod', mul-le-mul_right}
+use Rattle.std.proofs.lemmas.Bool.{cases_lt, eq-eqb}
+use Rattle.std.proofs.lemmas.List.{length-map, length-take, take_all, get_or-map}
+use Rattle.std.proofs.lemmas.Nat.{leading_length, mod_below, pow-add}
+use Rattle.std.proofs.lemmas.Simd.{bitmask_splat, mask_l-lt, bit_mask_l}
+use lib.Count.{count_leading_zeros}
+use lib.Lanes.{mask_l}
+use Rattle.byte_unit_format.proofs.with_digits.significant.Goals as goal
+
+abbrev is_used : ℕ → Bool
+is_used byte = not (eqb byte 48)
+
+-- The number of bits of a mask of 32 bits.
+record Bits (vector : List ℕ) (used : ℕ) : Type 0 where
+  below : mask_l (map is_used vector) < 2 ^ used
+  above : 2 ^ used ≤ 2 * mask_l (map is_used vector) + 1
+  few : used ≤ 32
+
+bits_of : (digits : List ℕ) (given used : ℕ) → length digits ≡ 32 → given ≡ mask_l (map is_used (take 32 digits))
+    → used ≡ 64 - count_leading_zeros 64 given → Bits digits used
+bits_of digits given used long given_is used_is =
+    let mask = mask_l (map is_used digits) in
+    let same : given ≡ mask = given_is ∙ ap (λ list. mask_l (map is_used list)) (take_all 32 digits (omega (arith, long))) in
+    let small : mask < 2 ^ 32 =
+    subst (λ lanes. mask < 2 ^ lanes) (length-map digits is_used ∙ long) (mask_l-lt (map is_used digits)) in
+    let found = leading_length 64 mask (omega (arith, small)) in
+    let bits_are : found.0 ≡ used = omega (arith, found.1, used_is, ap (count_leading_zeros 64) same) in
+    let above = subst (λ m. 2 ^ m ≤ 2 * mask + 1) bits_are found.3 in
+    record {
+      below = subst (λ m. mask < 2 ^ m) bits_are found.2;
+      above = above;
+      few =
+          ⊎_elim
+          (λ more.
+          absurd (omega (arith, above, small, pow-le-pow_right {n = 2} (omega arith) {i = 33} {j = used} (omega (arith, more)))))
+          (λ few. few) (cases_lt 32 used);
+    }
+
+-- The bit of a byte.
+bit_of : (vector : List ℕ) (i : ℕ) → i < length vector
+    → mask_l (map is_used vector) / 2 ^ i % 2 ≡ cond (is_used (get_or vector i 0)) 1 0
+bit_of vector i within =
+    bit_mask_l (map is_used vector) i ∙ ap (λ bit. cond bit 1 0) (get_or-map is_used vector i 0 false within)
+
+zero_byte : (byte : ℕ) (is_zero : Bool) → eqb byte 48 ≡ is_zero → ◌≡◌ {A = ℕ} (cond (not is_zero) 1 0) 0 → byte ≡ 48
+zero_byte byte true is clear = eqb-true byte 48 is
+zero_byte byte false is clear = absurd (let never : ⊥ = cc in never)
+
+other_byte : (byte : ℕ) (is_zero : Bool) → eqb byte 48 ≡ is_zero → ◌≡◌ {A = ℕ} (cond (not is_zero) 1 0) 1 → byte ≢ 48
+other_byte byte true is set = absurd (let never : ⊥ = cc in never)
+other_byte byte false is set = λ same. let found = eq-eqb byte 48 same in absurd (let never : ⊥ = cc in never)
+
+zero_behind : {vector : List ℕ} {used : ℕ} → Bits vector used → (i : ℕ) → used ≤ i → i < length vector
+    → get_or vector i 0 ≡ 48
+zero_behind {vector} {used} bits i behind within =
+    let mask = mask_l (map is_used vector) in
+    let small : mask < 2 ^ i = omega (arith, bits.below, pow-le-pow_right {n = 2} (omega arith) behind) in
+    let clear : mask / 2 ^ i % 2 ≡ 0 = ap (λ n. n % 2) (div-eq_of_lt small) in
+    zero_byte (get_or vector i 0) (eqb (get_or vector i 0) 48) refl (sym (bit_of vector i within) ∙ clear)
+
+div_is_one : (n power : ℕ) → power ≤ n → n < power * 2 → n / power ≡ 1
+div_is_one n power at_least below =
+    let split = div-add-mod' n power in
+    let rest = mod_below n power (omega (arith, at_least, below)) in
+    ⊎_elim
+    (λ none.
+    let nothing : n / power ≡ 0 = omega (arith, none) in
+    absurd (omega (arith, split, rest, at_least, ap (λ q. q * power) nothing)))
+    (λ some.
+    ⊎_elim (λ one. omega (arith, some, one))
+    (λ more. absurd (omega (arith, split, below, mul-le-mul_right power more))) (cases_lt (n / power) 2))
+    (cases_lt (n / power) 1)
+
+last_is_used : {vector : List ℕ} {used : ℕ} → Bits vector used → (i : ℕ) → i + 1 ≡ used → length vector ≡ 32
+    → get_or vector i 0 ≢ 48
+last_is_used {vector} {used} bits i last long =
+    let within : i < length vector = omega (arith, last, long, bits.few) in
+    let mask = mask_l (map is_used vector) in
+    let next : 2 ^ used ≡ 2 ^ i * 2 = ap (λ n. 2 ^ n) (sym last) ∙ pow-add 2 i 1 in
+    let one : mask / 2 ^ i ≡ 1 =
+    div_is_one mask (2 ^ i) (omega (arith, bits.above, next)) (omega (arith, bits.below, next)) in
+    let set : mask / 2 ^ i % 2 ≡ 1 = ap (λ n. n % 2) one in
+    other_byte (get_or vector i 0) (eqb (get_or vector i 0) 48) refl (sym (bit_of vector i within) ∙ set)
+
+pub returns-clause-within : goal.returns-clause-within
+returns-clause-within c =
+    let digits = c.args.digits.now in
+    let long : length (take 32 digits) ≡ 32 = omega (arith, length-take {A = ℕ} 32 digits, c.told-digits) in
+    let mask = bitmask_splat w8 (λ a b. not (eqb a b)) (take 32 digits) 32 48 long (omega arith) in
+    (bits_of digits _ _ (omega (arith, c.told-digits)) mask refl).few
+
+pub returns-clause-zeros : goal.returns-clause-zeros
+returns-clause-zeros c = λ i behind within.
+    let digits = c.args.digits.now in
+    let long : length (take 32 digits) ≡ 32 = omega (arith, length-take {A = ℕ} 32 digits, c.told-digits) in
+    let mask = bitmask_splat w8 (λ a b. not (eqb a b)) (take 32 digits) 32 48 long (omega arith) in
+    zero_behind (bits_of digits _ _ (omega (arith, c.told-digits)) mask refl) i behind (omega (arith, within, c.told-digits))
+
+pub returns-clause-last : goal.returns-clause-last
+returns-clause-last c = λ i last.
+    let digits = c.args.digits.now in
+    let long : length (take 32 digits) ≡ 32 = omega (arith, length-take {A = ℕ} 32 digits, c.told-digits) in
+    let mask = bitmask_splat w8 (λ a b. not (eqb a b)) (take 32 digits) 32 48 long (omega arith) in
+    last_is_used (bits_of digits _ _ (omega (arith, c.told-digits)) mask refl) i last (omega (arith, c.told-digits))

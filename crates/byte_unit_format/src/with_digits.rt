@@ -1,0 +1,162 @@
+//! The digits of a size and the size in its unit, as one text.
+
+ghost use Rattle.std.specs.Prelude.{◌≡◌, ◌≢◌, ℕ, false, ◌+◌, ◌-◌, ◌*◌, ◌^◌, ◌<◌, ◌≤◌, ◌∷◌, [], ◌++◌, length, take, drop, replicate, slice_index};
+ghost use Rattle.std.specs.Fmt.{decimal};
+ghost use Rattle.byte_unit_math.specs.Bounds.{size_limit};
+ghost use Rattle.byte_unit_base.specs.Kinds.{counts_bits};
+ghost use Rattle.byte_unit_base.specs.Shape.{shape};
+ghost use Rattle.byte_unit_base.specs.Version.{current, unit_name_in};
+ghost use Rattle.byte_unit_format.specs.Forms.{IsSizeForm, narrow_text};
+ghost use Rattle.byte_unit_format.specs.NamedSpecs.{alternate_spec};
+ghost use Rattle.byte_unit_format.specs.ThreePlaces.{FitsPrefix, IsGreatest};
+ghost use Rattle.byte_unit_format.specs.WithDigits.{IsTextWithDigits, cut_digits, padded_digits, with_digits_text};
+
+use crate::alternate::{letter, own_letter, put_split};
+use crate::put::put;
+use crate::thousandths::{Suffix, binary_power, in_eighths};
+use byte_unit_base::Kind;
+use byte_unit_math::{decimal_len, put_u128};
+use std::simd::prelude::*;
+
+/// The length of an array for the digits of a size, which are at most 30. It is copied whole.
+const DIGITS: usize = 32;
+
+/// Writes the digits of a size, `between`, and the size in its unit (the alternate form with no other option) to the
+/// beginning of `out`, and returns the length of this text, at most 70 bytes. A number in a decimal unit is cut from the
+/// digits. Bytes of `out` behind the text are overwritten too.
+///
+/// Preconditions (proved at every call): the size is below 10^30, and `out` has at least 70 bytes.
+///
+/// # Examples
+/// ```rust
+/// let mut out = [0; 70];
+/// let len = write_with_digits(1536, Kind::Byte, *b" = ", &mut out);
+/// assert!(rt; out[..len] == *b"1536 = 1.5 KiB");
+/// ```
+#[inline(always)]
+pub fn write_with_digits(size: u128, kind: Kind, between: [u8; 3], out: &mut [u8]) -> usize
+    requires small { size < size_limit }
+    requires room { with_digits_text ≤ length out.old }
+    ensures text { IsTextWithDigits kind size between (take result out.new) }
+    ensures narrow { result ≤ with_digits_text }
+{
+    // The cast tells the compiler that it can divide in 64 bits.
+    if size < 1 << 64 {
+        put_with_digits(u128::from(size as u64), kind, between, out)
+    } else {
+        put_with_digits_wide(size, kind, between, out)
+    }
+}
+
+/// Writes as `write_with_digits`: the slow path, for a size of more than 64 bits.
+#[inline(never)]
+fn put_with_digits_wide(size: u128, kind: Kind, between: [u8; 3], out: &mut [u8]) -> usize
+    requires small { size < size_limit }
+    requires room { with_digits_text ≤ length out.old }
+    ensures text { IsTextWithDigits kind size between (take result out.new) }
+    ensures narrow { result ≤ with_digits_text }
+{
+    put_with_digits(size, kind, between, out)
+}
+
+/// Writes as `write_with_digits`.
+#[inline(always)]
+fn put_with_digits(size: u128, kind: Kind, between: [u8; 3], out: &mut [u8]) -> usize
+    requires small { size < size_limit }
+    requires room { with_digits_text ≤ length out.old }
+    ensures text { IsTextWithDigits kind size between (take result out.new) }
+    ensures narrow { result ≤ with_digits_text }
+{
+    let (digits, len) = digits_of(size);
+    put(&digits, out, DIGITS);
+    let form = len + 3;
+    put(&between, out, form);
+    form + put_form_of(&digits, len, size, kind, &mut out[form..])
+}
+
+/// Returns the digits of a size, with zeros behind them, and their number.
+#[inline(always)]
+fn digits_of(size: u128) -> ([u8; DIGITS], usize)
+    requires { size < size_limit }
+    ensures digits { result.0 ≡ padded_digits size }
+    ensures len { result.1 ≡ length (decimal size) }
+    ensures few { result.1 ≤ 30 }
+{
+    let mut digits = [b'0'; DIGITS];
+    let len = decimal_len(size);
+    put_u128(size, &mut digits, len);
+    (digits, len)
+}
+
+/// Writes the size in its unit, by its digits, to the beginning of `out`, and returns the length of this text.
+#[inline(always)]
+fn put_form_of(digits: &[u8; DIGITS], len: usize, size: u128, kind: Kind, out: &mut [u8]) -> usize
+    requires small { size < size_limit }
+    requires digits { digits.now ≡ padded_digits size }
+    requires len { len ≡ length (decimal size) }
+    requires room { narrow_text ≤ length out.old }
+    ensures form { IsSizeForm kind size alternate_spec (take result out.new) }
+    ensures narrow { result ≤ narrow_text }
+{
+    // The position of the largest decimal prefix that is not above the size.
+    let most = ((len - 1) / 3) as u32;
+    if most == 0 {
+        return put_split(size, Suffix::Own, kind, out);
+    }
+    let binary = binary_power(size);
+    if binary < most {
+        let used = significant(digits);
+        // The size is exact in 10^(3 n) within three decimal places if 3 n - 3 zeros are at its end.
+        let power = most.min((len + 3 - used) as u32 / 3);
+        if binary < power {
+            return put_decimal(digits, len - 3 * power as usize, used, power, kind, out);
+        }
+    }
+    let (whole, suffix) = in_eighths(size, binary);
+    put_split(whole, suffix, kind, out)
+}
+
+/// Returns the number of bytes up to the last that is not the digit 0.
+#[inline(always)]
+fn significant(digits: &[u8; DIGITS]) -> usize
+    ensures within { result ≤ DIGITS }
+    ensures zeros { (i : ℕ) → result ≤ i → i < DIGITS → slice_index digits.now i ≡ 48 }
+    ensures last { (i : ℕ) → i + 1 ≡ result → slice_index digits.now i ≢ 48 }
+{
+    let used = u8x32::from_slice(digits)
+        .simd_ne(u8x32::splat(b'0'))
+        .to_bitmask();
+    (u64::BITS - used.leading_zeros()) as usize
+}
+
+/// Writes the first digits up to the index `cut`, a point and the digits from there up to `used`, if there are any, and a
+/// decimal unit to the beginning of `out`, and returns the length of this text.
+#[inline(always)]
+fn put_decimal(
+    digits: &[u8; DIGITS],
+    cut: usize,
+    used: usize,
+    power: u32,
+    kind: Kind,
+    out: &mut [u8],
+) -> usize
+    requires some { 1 ≤ power }
+    requires known { power ≤ 9 }
+    requires cut { cut ≤ 27 }
+    requires used { used ≤ cut + 3 }
+    requires room { narrow_text ≤ length out.old }
+    ensures text { take result out.new ≡ take cut digits.now
+        ++ (cut_digits cut used digits.now ++ 32 ∷ unit_name_in current (shape power false (counts_bits kind))) }
+    ensures narrow { result ≤ narrow_text }
+{
+    put(digits, out, DIGITS);
+    let end = if used > cut {
+        let fraction = [b'.', digits[cut], digits[cut + 1], digits[cut + 2]];
+        put(&fraction, out, cut + 4);
+        used + 4
+    } else {
+        cut + 3
+    };
+    put(&[b' ', letter(power), own_letter(kind)], out, end);
+    end
+}
