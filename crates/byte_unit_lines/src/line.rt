@@ -9,7 +9,7 @@ ghost use Rattle.byte_unit_lines.specs.Lines.{line_end};
 ghost use Rattle.byte_unit_lines.specs.Progress.{AddsAnswer};
 
 use crate::arguments::Kind;
-use byte_unit::{Bit, Byte, FormatSpec, ParseError, ValueParseError};
+use byte_unit::{Bit, Byte, ParseError, ValueParseError};
 use std::alloc::{AllocError, Allocator};
 
 /// The maximum length in bytes of an answer: two strings of at most 37 bytes, ` = ` between them, and the line end.
@@ -48,10 +48,7 @@ fn answer_bytes<A: Allocator>(line: &[u8], out: &mut Vec<u8, A>) -> Result<(), A
     match Byte::parse_bytes(line, false) {
         Some(Ok(size)) => {
             let mut answer = [0; ANSWER_MAX];
-            let digits = size.write_text(FormatSpec::PLAIN, &mut answer);
-            let form = digits + 3;
-            answer[digits..form].copy_from_slice(b" = ");
-            let end = form + size.write_text(FormatSpec::ALTERNATE, &mut answer[form..]);
+            let end = size.write_with_digits(*b" = ", &mut answer);
             answer[end] = b'\n';
             out.extend_from_slice(&answer[..end + 1])
         }
@@ -71,10 +68,7 @@ fn answer_bits<A: Allocator>(line: &[u8], out: &mut Vec<u8, A>) -> Result<(), Al
     match Bit::parse_bytes(line) {
         Some(Ok(size)) => {
             let mut answer = [0; ANSWER_MAX];
-            let digits = size.write_text(FormatSpec::PLAIN, &mut answer);
-            let form = digits + 3;
-            answer[digits..form].copy_from_slice(b" = ");
-            let end = form + size.write_text(FormatSpec::ALTERNATE, &mut answer[form..]);
+            let end = size.write_with_digits(*b" = ", &mut answer);
             answer[end] = b'\n';
             out.extend_from_slice(&answer[..end + 1])
         }

@@ -1,5 +1,5 @@
 -- The answer in each case: the size with its two texts, the words of the error, or that the line is not UTF-8.
-use Rattle.std.proofs.Common.{refl, List, ℕ, [], ◌∷◌, ◌++◌, codes}
+use Rattle.std.proofs.Common.{refl, arith, List, ℕ, [], ◌∷◌, ◌++◌, codes}
 use Rattle.byte_unit.specs.Errors.{size_fault}
 use Rattle.byte_unit.specs.declared.Kind.TheVariants.{Bit}
 use Rattle.byte_unit_lines.proofs.Messages.{HasParts-put, AddsAnswer-if_ok, answer_with_size, answer_with_error}
@@ -9,10 +9,8 @@ use Rattle.byte_unit_lines.proofs.line.answer_bits.Goals as goal
 pub returns-in-Some-Ok-clause-ok : goal.returns-in-Some-Ok-clause-ok
 returns-in-Some-Ok-clause-ok g c =
     let reading = rw c.in-Some-Ok.field-0-is at c.in-Some-Ok.ensures in
-    let digits = c.write_text-digits.ensures in
-    let form = c.write_text.ensures in
-    let sign = c.copy_from_slice.ensures.after in
-    let said = HasParts-put Bit c.in-Some-Ok.size digits.written (digits.narrow refl) sign form.written (form.narrow refl) refl in
+    let written = c.write_with_digits-end.ensures in
+    let said = HasParts-put Bit c.in-Some-Ok.size _ _ written.text (omega (arith, written.narrow, c.write_with_digits-end.auto.out)) in
     AddsAnswer-if_ok Bit c.args.line.now c.extend_from_slice.result c.args.out.now.items _ c.extend_from_slice.new.self.items
     (answer_with_size c.args.line.now reading.0 reading.1.found said) c.extend_from_slice.ensures.items
 
