@@ -71,4 +71,5 @@ mod unit_texts;
 mod units;
 mod uses;
 mod widest;
+mod with_digits;
 mod without_memory;
