@@ -16,5 +16,6 @@ pub mod Widths
 pub mod NarrowTexts
 pub mod ThreePlaces
 pub mod Suffix
+pub mod DecimalDigits
 pub mod WithDigits
 pub mod LaterVersion

@@ -31,7 +31,8 @@ use std::fmt::Display;
 /// The most digits after the point in the alternate form if a precision is set.
 const ALTERNATE_PLACES: u16 = 16;
 
-/// Up to this many digits after the point, a number is rounded by one division: any size in bits times 10^7 fits 127 bits.
+/// Up to this many digits after the point, a number is rounded by one division: any size in bits times 10^7 fits 127
+/// bits.
 const FEW_PLACES: u32 = 7;
 
 /// A number, and how many digits after the point are shown.

@@ -112,8 +112,8 @@ pub(crate) fn put_split(whole: u128, suffix: Suffix, kind: Kind, out: &mut [u8])
     end
 }
 
-/// Writes what follows the whole part from the index `point`, and returns the index after it. The digits after the point
-/// are written as four bytes; the space and the unit then overwrite what is too much of these.
+/// Writes what follows the whole part from the index `point`, and returns the index after it. The digits after the
+/// point are written as four bytes; the space and the unit then overwrite what is too much of these.
 #[inline(always)]
 fn put_suffix(suffix: Suffix, kind: Kind, out: &mut [u8], point: usize) -> usize
     requires prefix { HasPrefix suffix }

@@ -22,8 +22,8 @@ use std::simd::prelude::*;
 const DIGITS: usize = 32;
 
 /// Writes the digits of a size, `between`, and the size in its unit (the alternate form with no other option) to the
-/// beginning of `out`, and returns the length of this text, at most 70 bytes. A number in a decimal unit is cut from the
-/// digits. Bytes of `out` behind the text are overwritten too.
+/// beginning of `out`, and returns the length of this text, at most 70 bytes. A number in a decimal unit is cut from
+/// the digits. Bytes of `out` behind the text are overwritten too.
 ///
 /// Preconditions (proved at every call): the size is below 10^30, and `out` has at least 70 bytes.
 ///
@@ -129,8 +129,8 @@ fn significant(digits: &[u8; DIGITS]) -> usize
     (u64::BITS - used.leading_zeros()) as usize
 }
 
-/// Writes the first digits up to the index `cut`, a point and the digits from there up to `used`, if there are any, and a
-/// decimal unit to the beginning of `out`, and returns the length of this text.
+/// Writes the first digits up to the index `cut`, a point and the digits from there up to `used`, if there are any, and
+/// a decimal unit to the beginning of `out`, and returns the length of this text.
 #[inline(always)]
 fn put_decimal(
     digits: &[u8; DIGITS],

@@ -4,7 +4,7 @@ use Rattle.std.proofs.Common.{length-append}
 use Rattle.std.proofs.lemmas.List.{take-append-le, take-take, length-take, length-drop}
 use Rattle.byte_unit_format.specs.WithDigits.{cut_digits}
 use Rattle.byte_unit_format.proofs.Suffix.{drop_known, named, written_over}
-use Rattle.byte_unit_format.proofs.WithDigits.{text_at, cut_some, cut_none, three_of}
+use Rattle.byte_unit_format.proofs.DecimalDigits.{text_at, cut_some, cut_none, three_of}
 use Rattle.byte_unit_format.proofs.with_digits.put_decimal.Goals as goal
 use Rattle.byte_unit_format.proofs.with_digits.put_decimal.Goals.{then-used-cut, else-used-cut}
 
@@ -45,9 +45,11 @@ returns-clause-text c =
             c.requires.used,
           ) in
           let here : drop cut new ≡ (shown ++ letters) ++ behind =
-          written_over copied c.if-used-cut.out new _ letters cut (used - cut + 1) end refl (omega (arith, c.requires.used))
-          (omega (arith, w.end-is, more)) (three_of digits cut (used - cut) (omega (arith, c.requires.used)) (omega (arith, long, c.requires.cut)))
-          (omega (arith, fraction.begins)) (ap (λ list. drop w.put-then-used-cut.result list) w.out-is ∙ fraction.bytes)
+          written_over copied c.if-used-cut.out new _ letters cut (used - cut + 1) end refl
+          (omega (arith, c.requires.used)) (omega (arith, w.end-is, more))
+          (three_of digits cut (used - cut) (omega (arith, c.requires.used)) (omega (arith, long, c.requires.cut)))
+          (omega (arith, fraction.begins))
+          (ap (λ list. drop w.put-then-used-cut.result list) w.out-is ∙ fraction.bytes)
           (omega (arith, name.begins, w.end-is, more)) name.before name.bytes in
           let kept : take cut new ≡ take cut digits =
           sym (take-take cut c.put-2.result new (omega (arith, name.begins, w.end-is, more)))

@@ -4,7 +4,8 @@ use Rattle.std.specs.Fmt.{decimal}
 use Rattle.std.proofs.lemmas.List.{take_at, drop_at, take-append-drop, length-take, length-drop}
 use Rattle.byte_unit_format.specs.WithDigits.{padded_digits}
 use Rattle.byte_unit_format.proofs.Suffix.{drop_known}
-use Rattle.byte_unit_format.proofs.WithDigits.{first_of_padded, padded_length, text_at}
+use Rattle.byte_unit_format.proofs.DecimalDigits.{text_at}
+use Rattle.byte_unit_format.proofs.WithDigits.{first_of_padded, padded_length}
 use Rattle.byte_unit_format.proofs.with_digits.put_with_digits.Goals as goal
 
 pub returns-clause-text : goal.returns-clause-text
