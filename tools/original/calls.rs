@@ -37,6 +37,12 @@ fn main() {
             let _ = black_box(Byte::parse_str(black_box(text), false));
         });
     }
+    timed("explain 1 byte", || {
+        out.clear();
+        if let Err(error) = Byte::parse_str(black_box("1 byte"), false) {
+            write!(out, "{error}").unwrap();
+        }
+    });
     for n in [12, 1536, 123_456_789] {
         let size = Byte::from_u64(n);
         let in_kib = size.get_adjusted_unit(Unit::KiB);
