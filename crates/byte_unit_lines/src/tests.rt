@@ -8,13 +8,14 @@ use crate::reading::Reading;
 use crate::run::{RunError, run};
 use crate::writing::Writing;
 use std::alloc::Global;
+use std::fmt::Debug;
+use std::process::Abort;
 
 mod capacity;
 mod chunks;
 mod ended;
 mod endings;
 mod ends;
-mod hostile;
 mod large;
 mod memory;
 mod mixed;
@@ -23,6 +24,22 @@ mod refusals;
 mod refusing;
 mod rows;
 mod streams;
+
+/// Asserts that what was found is what is wanted. A name tells which of a test's rows it was.
+fn assert_is<S: PartialEq + Debug + Drop>(rt: &impl Abort, found: S, wanted: S, name: &str) {
+    assert_eq!(rt; found, wanted, "{name}");
+}
+
+/// Asserts the same. The name and the numbers tell which of a test's runs it was.
+fn assert_at<S: PartialEq + Debug + Drop>(
+    rt: &impl Abort,
+    found: S,
+    wanted: S,
+    name: &str,
+    numbers: &[usize],
+) {
+    assert_eq!(rt; found, wanted, "{name} {numbers:?}");
+}
 
 /// Returns what the program writes for an input in memory.
 fn report_of(alloc: Global, input: &[u8], kind: Kind) -> Result<Vec<u8>, RunError>

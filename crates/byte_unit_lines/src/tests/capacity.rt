@@ -1,40 +1,18 @@
 //! Runs in which each allocation after the start fails.
-ghost use Rattle.std.specs.Prelude.{◌<◌, length};
+ghost use Rattle.std.specs.Prelude.{◌<◌};
 
-use super::ended::Ended;
-use super::mixed::{ANSWERS, INPUT, answers_to};
+use super::ended::{Ended, streams};
+use super::mixed::{INPUT, REPORT, first_lines, repeated};
 use super::refusing::Refusing;
-use super::streams::{MemoryReader, MemoryWriter, Then};
+use super::streams::AT_ONCE;
 use super::*;
 use crate::run::{run_with_buffers, run_with_capacity};
-use std::alloc::{AllocError, Allocator};
-use std::process::Abort;
-use std::test::Fail;
 
 /// The number of allocations at the start: one for a line and one for the answers.
 const START: u64 = 2;
 
 /// The length of the longest line of the input.
 const LONGEST: usize = 34;
-
-/// Runs with capacity for lines of at most `longest` bytes.
-fn ran_with_capacity<A: Allocator>(
-    alloc: &A,
-    longest: usize,
-    buffer: &mut [u8],
-    reader: MemoryReader<'_>,
-    writer: MemoryWriter,
-) -> Result<Ended, AllocError>
-    requires { 0 < length buffer.old }
-{
-    let mut reader = Reading::new(reader);
-    let mut writer = Writing::new(writer);
-    let result = run_with_capacity(alloc, longest, buffer, &mut reader, &mut writer, Kind::Byte)?;
-    Ok(Ended {
-        result,
-        taken: writer.into_inner().into_taken(),
-    })
-}
 
 /// Asserts the result and the report of a run over `input` in reads of at most `step` bytes, in which each allocation
 /// after the start fails, and that it makes none.
@@ -45,14 +23,22 @@ fn expect(
     step: usize,
     wanted: Result<(), RunError>,
     report: &[u8],
-) -> Result<(), AllocError>
+)
     requires { 0 < step }
 {
     let heap = Refusing::new(rt.alloc(), START + 1, u64::MAX);
-    let mut buffer = b" ".repeat(rt.alloc(), step)?;
-    let reader = MemoryReader::new(input, step, usize::MAX, Then::Fail);
-    let writer = MemoryWriter::open(rt.alloc());
-    let ended = ran_with_capacity(&heap, longest, &mut buffer, reader, writer)?;
+    let mut buffer = b" ".repeat(rt.alloc(), step).expect(rt, "memory");
+    let (mut reader, mut writer) = streams(rt.alloc(), input, AT_ONCE, AT_ONCE);
+    let started = run_with_capacity(
+        &heap,
+        longest,
+        &mut buffer,
+        &mut reader,
+        &mut writer,
+        Kind::Byte,
+    );
+    let result = started.expect(rt, "memory");
+    let ended = Ended::new(result, reader, writer);
     ended.expect(
         rt,
         wanted,
@@ -60,31 +46,28 @@ fn expect(
         "limit and bytes a read",
         &[longest, step],
     );
-    assert_eq!(rt; heap.asked(), START, "{longest} {step}");
-    Ok(())
+    assert_is(rt, heap.asked(), START, "allocations");
 }
 
 #[test]
-fn lines_within_the_limit(rt: HostRuntime) -> Result<(), Fail> {
-    let report = answers_to(rt.alloc(), ANSWERS.len())?;
-    for step in 1..INPUT.len() + 1 {
-        expect(&rt, LONGEST, INPUT, step, Ok(()), &report)?;
-    }
-    Ok(())
-}
-
-#[test]
-fn a_line_one_byte_longer(rt: HostRuntime) -> Result<(), Fail> {
-    // The answers to the lines before it are written.
-    let report = answers_to(rt.alloc(), 7)?;
+fn lines_and_the_limit(rt: HostRuntime) {
     let failed = Err(RunError::Memory);
-    expect(&rt, LONGEST - 1, INPUT, 1, failed, &report)?;
+    for step in 1..INPUT.len() + 1 {
+        expect(&rt, LONGEST, INPUT, step, Ok(()), REPORT);
+    }
+    // If a line is one byte longer, the answers to the lines before it are written.
+    let before = first_lines(REPORT, 7);
+    expect(&rt, LONGEST - 1, INPUT, 1, failed, before);
     // It is answered if one read gives the whole line, and so is a line whose end comes with its last bytes.
-    let report = answers_to(rt.alloc(), ANSWERS.len())?;
-    expect(&rt, LONGEST - 1, INPUT, INPUT.len(), Ok(()), &report)?;
-    expect(&rt, 3, b"1 KB\n", 3, Ok(()), b"1000 = 1 KB\n")?;
+    expect(&rt, LONGEST - 1, INPUT, INPUT.len(), Ok(()), REPORT);
+    expect(&rt, 3, b"1 KB\n", 3, Ok(()), b"1000 = 1 KB\n");
     // Without a line end it is not.
-    Ok(expect(&rt, 3, b"1 KB", 3, failed, b"")?)
+    expect(&rt, 3, b"1 KB", 3, failed, b"");
+    // With no capacity for a line, each line must end in the read that it begins in.
+    let both = b"1000 = 1 KB\n2000 = 2 KB\n";
+    expect(&rt, 0, b"1KB\n2KB\n", 4, Ok(()), both);
+    expect(&rt, 0, b"1KB\n2KB\n", 5, failed, b"1000 = 1 KB\n");
+    expect(&rt, 0, b"", 1, Ok(()), b"");
 }
 
 /// The number of zeros before the digit 1, and the result and the report with a limit of 100 bytes.
@@ -97,98 +80,81 @@ const ROWS: &[(usize, Result<(), RunError>, &[u8])] = &[
 ];
 
 #[test]
-fn a_last_line_and_the_limit(rt: HostRuntime) -> Result<(), Fail> {
+fn a_last_line_and_the_longest_answers(rt: HostRuntime) {
     for (zeros, wanted, report) in ROWS {
-        let mut input = b"0".repeat(rt.alloc(), *zeros)?;
-        input.push(b'1')?;
+        let input = repeated(&rt, b"0", *zeros, b"1");
         for step in [1usize, 2, 3, 7, 64, 99, 100, 101, 4096] {
-            expect(&rt, 100, &input, step, *wanted, report)?;
+            expect(&rt, 100, &input, step, *wanted, report);
         }
     }
-    Ok(())
-}
-
-#[test]
-fn no_line_is_too_long_to_be_read_at_once(rt: HostRuntime) -> Result<(), Fail> {
-    // With no capacity for a line, each line must end in the read that it begins in.
-    expect(
-        &rt,
-        0,
-        b"1KB\n2KB\n",
-        4,
-        Ok(()),
-        b"1000 = 1 KB\n2000 = 2 KB\n",
-    )?;
-    let failed = Err(RunError::Memory);
-    expect(&rt, 0, b"1KB\n2KB\n", 5, failed, b"1000 = 1 KB\n")?;
-    Ok(expect(&rt, 0, b"", 1, Ok(()), b"")?)
-}
-
-#[test]
-fn the_longest_answers(rt: HostRuntime) -> Result<(), Fail> {
     // Of all lines, these have the longest answers for their length.
-    let input = b"1R\n".repeat(rt.alloc(), 5_000)?;
-    let report = b"1000000000000000000000000000 = 1 RB\n".repeat(rt.alloc(), 5_000)?;
-    expect(&rt, 2, &input, 3, Ok(()), &report)?;
-    Ok(expect(&rt, 2, &input, 4096, Ok(()), &report)?)
+    let input = repeated(&rt, b"1R\n", 5_000, b"");
+    let report = repeated(&rt, b"1000000000000000000000000000 = 1 RB\n", 5_000, b"");
+    expect(&rt, 2, &input, 3, Ok(()), &report);
+    expect(&rt, 2, &input, 4096, Ok(()), &report);
 }
 
-/// The limit, and the result for `1 KB` without a line end in reads of two bytes, with the report.
-const LIMITS: &[(usize, Result<(), RunError>, &[u8])] = &[
-    (usize::MAX, Ok(()), b"1000 = 1 KB\n"),
-    (4, Ok(()), b"1000 = 1 KB\n"),
-    (3, Err(RunError::Memory), b""),
-    (0, Err(RunError::Memory), b""),
-];
-
-#[test]
-fn the_limit_without_capacity(rt: HostRuntime) {
-    for (longest, wanted, report) in LIMITS {
-        let mut line = Vec::new(rt.alloc());
-        let mut waiting = Vec::new(rt.alloc());
-        let mut reader = Reading::new(b"1 KB".as_slice());
-        let mut writer = Writing::new(MemoryWriter::open(rt.alloc()));
-        let result = run_with_buffers(
-            &mut line,
-            &mut waiting,
-            *longest,
-            &mut [0u8; 2],
-            &mut reader,
-            &mut writer,
-            Kind::Byte,
-        );
-        let taken = writer.into_inner().into_taken();
-        let ended = Ended { result, taken };
-        ended.expect(&rt, *wanted, report, "limit", &[*longest]);
-    }
-}
-
-/// Asserts that a run whose allocation of this number fails makes no other after it, and reads and writes nothing.
-fn expect_failed_start(rt: &(impl Abort + AllocGlobal), number: u64, longest: usize, asked: u64) {
-    let heap = Refusing::new(rt.alloc(), number, number);
-    let mut buffer = [0u8; 80];
-    let mut reader = Reading::new(INPUT);
-    let mut writer = Writing::new(Vec::new(rt.alloc()));
-    let ended = run_with_capacity(
-        &heap,
+/// Asserts the result for `1 KB` without a line end in reads of two bytes, with this limit, and the report.
+fn expect_without_capacity(
+    rt: &(impl Abort + AllocGlobal),
+    longest: usize,
+    wanted: Result<(), RunError>,
+    report: &[u8],
+) {
+    let mut line = Vec::new(rt.alloc());
+    let mut waiting = Vec::new(rt.alloc());
+    let (mut reader, mut writer) = streams(rt.alloc(), b"1 KB", AT_ONCE, AT_ONCE);
+    let result = run_with_buffers(
+        &mut line,
+        &mut waiting,
         longest,
-        &mut buffer,
+        &mut [0u8; 2],
         &mut reader,
         &mut writer,
         Kind::Byte,
     );
-    let untouched = reader.into_inner() == INPUT && writer.into_inner().is_empty();
-    assert_eq!(rt;
-        (ended.is_err(), untouched, heap.asked()),
-        (true, true, asked)
-    );
+    let ended = Ended::new(result, reader, writer);
+    ended.expect(rt, wanted, report, "limit", &[longest]);
 }
 
 #[test]
+fn the_limit_without_capacity(rt: HostRuntime) {
+    expect_without_capacity(&rt, usize::MAX, Ok(()), b"1000 = 1 KB\n");
+    expect_without_capacity(&rt, 4, Ok(()), b"1000 = 1 KB\n");
+    expect_without_capacity(&rt, 3, Err(RunError::Memory), b"");
+    expect_without_capacity(&rt, 0, Err(RunError::Memory), b"");
+}
+
+/// The number of the allocation that fails, the limit, and the number of allocations. The last two limits exceed every
+/// memory: nothing is allocated.
+const STARTS: &[(u64, usize, u64)] = &[
+    (1, LONGEST, 1),
+    (2, LONGEST, 2),
+    (u64::MAX, usize::MAX, 0),
+    (u64::MAX, usize::MAX - 80, 0),
+];
+
+#[test]
 fn a_failed_start(rt: HostRuntime) {
-    expect_failed_start(&rt, 1, LONGEST, 1);
-    expect_failed_start(&rt, 2, LONGEST, 2);
-    // Such lengths exceed every memory: nothing is allocated.
-    expect_failed_start(&rt, u64::MAX, usize::MAX, 0);
-    expect_failed_start(&rt, u64::MAX, usize::MAX - 80, 0);
+    for (number, longest, asked) in STARTS {
+        let heap = Refusing::new(rt.alloc(), *number, *number);
+        let (mut reader, mut writer) = streams(rt.alloc(), INPUT, AT_ONCE, AT_ONCE);
+        let started = run_with_capacity(
+            &heap,
+            *longest,
+            &mut [0u8; 80],
+            &mut reader,
+            &mut writer,
+            Kind::Byte,
+        );
+        // Nothing is read or written, and no other allocation is made after it.
+        let Ended { left, taken, .. } = Ended::new(Ok(()), reader, writer);
+        let found = (
+            started.is_err(),
+            left == INPUT,
+            taken.is_empty(),
+            heap.asked(),
+        );
+        assert_is(&rt, found, (true, true, true, *asked), "a start");
+    }
 }

@@ -1,21 +1,34 @@
-//! The results of runs.
+//! Runs in memory, and their results.
 ghost use Rattle.std.specs.Prelude.{◌<◌, length};
 
 use super::refusing::Refusing;
-use super::streams::{MemoryReader, MemoryWriter};
+use super::streams::{AT_ONCE, MemoryReader, MemoryWriter, Pace};
 use super::*;
 use crate::run::run_in;
 use std::alloc::Allocator;
-use std::process::Abort;
 
-/// The result of a run, and the bytes that it has written.
+/// The result of a run, the bytes that it has written, and what is left of its input.
 #[derive(Drop)]
-pub struct Ended {
+pub struct Ended<'a> {
     pub result: Result<(), RunError>,
     pub taken: Vec<u8>,
+    pub left: &'a [u8],
 }
 
-impl Ended {
+impl<'a> Ended<'a> {
+    /// Creates the result of a run over these streams.
+    pub fn new(
+        end: Result<(), RunError>,
+        reader: Reading<MemoryReader<'a>>,
+        writer: Writing<MemoryWriter>,
+    ) -> Ended<'a> {
+        Ended {
+            result: end,
+            taken: writer.into_inner().taken,
+            left: reader.into_inner().rest,
+        }
+    }
+
     /// Asserts the result and the written bytes. A name and numbers tell which of a test's runs it was.
     pub fn expect(
         &self,
@@ -26,7 +39,7 @@ impl Ended {
         numbers: &[usize],
     ) {
         let ended = (self.result, self.taken.as_slice());
-        assert_eq!(rt; ended, (wanted, report), "{name} {numbers:?}");
+        assert_at(rt, ended, (wanted, report), name, numbers);
     }
 
     /// Asserts the same for a report that is too long to be printed.
@@ -39,76 +52,92 @@ impl Ended {
         numbers: &[usize],
     ) {
         let ended = (self.result, self.taken.as_slice() == report);
-        assert_eq!(rt; ended, (wanted, true), "{name} {numbers:?}");
+        assert_at(rt, ended, (wanted, true), name, numbers);
     }
 }
 
-/// Runs over these streams.
-pub fn ran(alloc: Global, reader: MemoryReader<'_>, writer: MemoryWriter) -> Ended {
-    let mut reader = Reading::new(reader);
-    let mut writer = Writing::new(writer);
+/// Runs over this input with reads and writes at these paces, and asserts the result and the written bytes.
+pub fn check(
+    rt: &(impl Abort + AllocGlobal),
+    input: &[u8],
+    paces: (Pace, Pace),
+    wanted: (Result<(), RunError>, &[u8]),
+    name: &str,
+    numbers: &[usize],
+) {
+    let ended = ran(rt.alloc(), input, paces.0, paces.1);
+    ended.expect(rt, wanted.0, wanted.1, name, numbers);
+}
+
+/// Does the same for a report that is too long to be printed.
+pub fn check_long(
+    rt: &(impl Abort + AllocGlobal),
+    input: &[u8],
+    paces: (Pace, Pace),
+    wanted: (Result<(), RunError>, &[u8]),
+    name: &str,
+    numbers: &[usize],
+) {
+    let ended = ran(rt.alloc(), input, paces.0, paces.1);
+    ended.expect_long(rt, wanted.0, wanted.1, name, numbers);
+}
+
+/// Runs over this input, with reads and writes at these paces.
+pub fn ran(alloc: Global, input: &[u8], reads: Pace, writes: Pace) -> Ended<'_> {
+    let (mut reader, mut writer) = streams(alloc, input, reads, writes);
     let result = run(alloc, &mut reader, &mut writer, Kind::Byte);
-    Ended {
-        result,
-        taken: writer.into_inner().into_taken(),
-    }
+    Ended::new(result, reader, writer)
 }
 
-/// Runs over this input, given to one read.
-pub fn reported(alloc: Global, input: &[u8]) -> Ended {
-    match report_of(alloc, input, Kind::Byte) {
-        Ok(taken) => {
-            Ended {
-                result: Ok(()),
-                taken,
-            }
-        }
-        Err(error) => {
-            Ended {
-                result: Err(error),
-                taken: Vec::new(alloc),
-            }
-        }
-    }
+/// Returns a reader of this input and a writer, with these paces.
+pub fn streams(
+    alloc: Global,
+    input: &[u8],
+    reads: Pace,
+    writes: Pace,
+) -> (Reading<MemoryReader<'_>>, Writing<MemoryWriter>) {
+    let reader = MemoryReader {
+        rest: input,
+        pace: reads,
+    };
+    let writer = MemoryWriter {
+        taken: Vec::new(alloc),
+        pace: writes,
+    };
+    (Reading::new(reader), Writing::new(writer))
 }
 
-/// Runs with this allocator, and with reads of at most the length of `buffer`.
-pub fn ran_in<A: Allocator>(
-    alloc: &A,
+/// Runs with this allocator, and with reads of at most the length of `buffer`. The output is allocated by `alloc`.
+pub fn ran_in<'a, A: Allocator>(
+    alloc: Global,
+    heap: &A,
     buffer: &mut [u8],
-    reader: MemoryReader<'_>,
-    writer: MemoryWriter,
-) -> Ended
+    input: &'a [u8],
+    reads: Pace,
+    writes: Pace,
+) -> Ended<'a>
     requires { 0 < length buffer.old }
 {
-    let mut reader = Reading::new(reader);
-    let mut writer = Writing::new(writer);
-    let result = run_in(alloc, buffer, &mut reader, &mut writer, Kind::Byte);
-    Ended {
-        result,
-        taken: writer.into_inner().into_taken(),
-    }
+    let (mut reader, mut writer) = streams(alloc, input, reads, writes);
+    let result = run_in(heap, buffer, &mut reader, &mut writer, Kind::Byte);
+    Ended::new(result, reader, writer)
 }
 
-/// Asserts that a run whose allocations from `first` to `last` fail ends at the first, with this report written.
+/// Asserts that a run ends at the allocation of this number with this report written, if that one fails alone, and if
+/// all after it fail too.
 pub fn expect_failed_allocation(
     rt: &(impl Abort + AllocGlobal),
-    buffer: &mut [u8],
-    reader: MemoryReader<'_>,
-    first: u64,
-    last: u64,
+    input: &[u8],
+    reads: Pace,
+    number: u64,
     report: &[u8],
-)
-    requires { 0 < length buffer.old }
-{
-    let heap = Refusing::new(rt.alloc(), first, last);
-    let ended = ran_in(&heap, buffer, reader, MemoryWriter::open(rt.alloc()));
-    ended.expect(
-        rt,
-        Err(RunError::Memory),
-        report,
-        "at allocation",
-        &[first as usize],
-    );
-    assert_eq!(rt; heap.asked(), first);
+) {
+    let mut buffer = [0u8; 80];
+    for last in [number, u64::MAX] {
+        let heap = Refusing::new(rt.alloc(), number, last);
+        let ended = ran_in(rt.alloc(), &heap, &mut buffer, input, reads, AT_ONCE);
+        let numbers = [number as usize];
+        ended.expect(rt, Err(RunError::Memory), report, "at allocation", &numbers);
+        assert_is(rt, heap.asked(), number, "allocations");
+    }
 }

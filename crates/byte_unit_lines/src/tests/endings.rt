@@ -1,16 +1,15 @@
 //! The endings of calls of the program.
-use super::streams::{MemoryReader, MemoryWriter, Then};
+use super::ended::{Ended, streams};
+use super::streams::{AT_ONCE, Pace, Then};
 use super::*;
 use crate::ending::{Ending, serve};
 use std::alloc::AllocError;
-use std::process::Abort;
-use std::test::Fail;
 
 /// An input of one line.
 const INPUT: &[u8] = b"1 KB\n";
 
 /// Returns the arguments as the program receives them.
-pub fn words(alloc: Global, words: &[&str]) -> Result<Vec<String>, AllocError> {
+fn words(alloc: Global, words: &[&str]) -> Result<Vec<String>, AllocError> {
     let mut texts = Vec::new(alloc);
     for word in words {
         texts.push(String::from_str(alloc, word)?)?;
@@ -18,37 +17,47 @@ pub fn words(alloc: Global, words: &[&str]) -> Result<Vec<String>, AllocError> {
     Ok(texts)
 }
 
-/// The arguments, a name for them, the ending, the output, and what is left of the input.
-const BY_WORDS: &[(&[&str], &str, Ending, &[u8], &[u8])] = &[
-    (&[], "none", Ending::Done, b"1000 = 1 KB\n", b""),
-    (&["byte"], "byte", Ending::Done, b"1000 = 1 KB\n", b""),
-    (&["bit"], "bit", Ending::Done, b"8000 = 8 Kb\n", b""),
-    (&["bits"], "bits", Ending::Usage, b"", INPUT),
-    (&["bit", "bit"], "bit bit", Ending::Usage, b"", INPUT),
-];
-
-/// Asserts the ending, the output, and what is left of the input.
+/// Asserts the kind that arguments ask for, the ending, the output, and what is left of the input.
 fn expect(
-    rt: &impl Abort,
-    found: (Ending, &[u8], &[u8]),
-    wanted: (Ending, &[u8], &[u8]),
+    rt: &(impl Abort + AllocGlobal),
+    asked: &[&str],
+    kind: Option<Kind>,
+    ending: Ending,
+    streams_after: (&[u8], &[u8]),
     name: &str,
 ) {
-    assert_eq!(rt; found, wanted, "for {name}");
+    let words = words(rt.alloc(), asked).expect(rt, "memory");
+    assert_is(rt, kind_of(&words), kind, name);
+    let (mut reader, mut writer) = streams(rt.alloc(), INPUT, AT_ONCE, AT_ONCE);
+    let result = serve(rt.alloc(), &words, &mut reader, &mut writer);
+    assert_is(rt, result, ending, name);
+    let ended = Ended::new(Ok(()), reader, writer);
+    assert_is(
+        rt,
+        (ended.taken.as_slice(), ended.left),
+        streams_after,
+        name,
+    );
 }
 
 #[test]
-fn endings_by_the_arguments(rt: HostRuntime) -> Result<(), Fail> {
-    for (asked, name, ending, output, left) in BY_WORDS {
-        let mut reader = Reading::new(INPUT);
-        let mut writer = Writing::new(Vec::new(rt.alloc()));
-        let words = words(rt.alloc(), asked)?;
-        let result = serve(rt.alloc(), &words, &mut reader, &mut writer);
-        let taken = writer.into_inner();
-        let found = (result, taken.as_slice(), reader.into_inner());
-        expect(&rt, found, (*ending, *output, *left), name);
-    }
-    Ok(())
+fn kinds_and_endings_by_the_arguments(rt: HostRuntime) {
+    let (byte, bit) = (Some(Kind::Byte), Some(Kind::Bit));
+    let bytes = (b"1000 = 1 KB\n".as_slice(), b"".as_slice());
+    expect(&rt, &[], byte, Ending::Done, bytes, "no argument");
+    expect(&rt, &["byte"], byte, Ending::Done, bytes, "byte");
+    let bits = (b"8000 = 8 Kb\n".as_slice(), b"".as_slice());
+    expect(&rt, &["bit"], bit, Ending::Done, bits, "bit");
+    let nothing = (b"".as_slice(), INPUT);
+    expect(&rt, &["bits"], None, Ending::Usage, nothing, "bits");
+    expect(
+        &rt,
+        &["bit", "bit"],
+        None,
+        Ending::Usage,
+        nothing,
+        "bit bit",
+    );
 }
 
 /// The numbers of reads and writes that succeed, and the ending.
@@ -57,18 +66,6 @@ const BY_STREAMS: &[(usize, usize, Ending)] = &[
     (1, 1, Ending::Failed(RunError::Read)),
     (2, 0, Ending::Failed(RunError::Write)),
 ];
-
-#[test]
-fn endings_by_the_streams(rt: HostRuntime) -> Result<(), Fail> {
-    for (reads, writes, ending) in BY_STREAMS {
-        let mut reader = Reading::new(MemoryReader::new(INPUT, 5, *reads, Then::Fail));
-        let mut writer = Writing::new(MemoryWriter::new(rt.alloc(), 20, *writes, Then::Fail));
-        let asked = words(rt.alloc(), &["bit"])?;
-        let result = serve(rt.alloc(), &asked, &mut reader, &mut writer);
-        assert_eq!(rt; result, *ending);
-    }
-    Ok(())
-}
 
 /// Each ending, its exit status, and its line for standard error.
 const STATUSES: &[(Ending, u8, Option<&str>)] = &[
@@ -80,8 +77,17 @@ const STATUSES: &[(Ending, u8, Option<&str>)] = &[
 ];
 
 #[test]
-fn statuses_and_lines(rt: HostRuntime) {
+fn endings_by_the_streams_and_their_statuses(rt: HostRuntime) {
+    let asked = words(rt.alloc(), &["bit"]).expect(&rt, "memory");
+    for (reads, writes, ending) in BY_STREAMS {
+        let reads = Pace(5, *reads, Then::Fail);
+        let writes = Pace(20, *writes, Then::Fail);
+        let (mut reader, mut writer) = streams(rt.alloc(), INPUT, reads, writes);
+        let result = serve(rt.alloc(), &asked, &mut reader, &mut writer);
+        assert_is(&rt, result, *ending, "streams");
+    }
     for (ending, status, line) in STATUSES {
-        assert_eq!(rt; (ending.status(), ending.line()), (*status, *line));
+        let found = (ending.status(), ending.line());
+        assert_is(&rt, found, (*status, *line), "a status and a line");
     }
 }

@@ -1,22 +1,21 @@
 //! Long lines, large reports and many reads. Lines of 10 MB and of 1 GB are left to `tools/at-scale`, since `rt try`
 //! takes a minute for the first.
-use super::ended::{Ended, ran, ran_in, reported};
-use super::streams::{MemoryReader, MemoryWriter, Then};
+use super::ended::{check_long, ran_in};
+use super::mixed::repeated;
+use super::streams::{AT_ONCE, Pace, Then};
 use super::*;
-use std::alloc::AllocError;
-use std::process::Abort;
-use std::test::Fail;
 
-/// Returns a byte, repeated, and then the bytes that follow it.
-fn behind(
-    alloc: Global,
-    character: &str,
-    count: usize,
-    text: &[u8],
-) -> Result<Vec<u8>, AllocError> {
-    let mut line = character.as_bytes().repeat(alloc, count)?;
-    line.extend_from_slice(text)?;
-    Ok(line)
+/// Asserts the report on some bytes, repeated, and then the bytes that follow them.
+fn expect(rt: &(impl Abort + AllocGlobal), bytes: &str, count: usize, end: &[u8], report: &[u8]) {
+    let input = repeated(rt, bytes.as_bytes(), count, end);
+    check_long(
+        rt,
+        &input,
+        (AT_ONCE, AT_ONCE),
+        (Ok(()), report),
+        bytes,
+        &[count],
+    );
 }
 
 /// A byte, the number of its repetitions, what follows it, and the report. The lines are longer than one chunk, than
@@ -45,73 +44,91 @@ const ROWS: &[(&str, usize, &[u8], &[u8])] = &[
 ];
 
 #[test]
-fn long_lines(rt: HostRuntime) -> Result<(), Fail> {
-    for (character, count, end, wanted) in ROWS {
-        let input = behind(rt.alloc(), character, *count, end)?;
-        let ended = reported(rt.alloc(), &input);
-        ended.expect_long(&rt, Ok(()), wanted, character, &[*count]);
+fn long_lines(rt: HostRuntime) {
+    for (character, count, end, report) in ROWS {
+        expect(&rt, character, *count, end, report);
     }
-    Ok(())
+    // Lines that end near the end of a chunk.
+    for digits in 65_532..=65_538 {
+        for end in [b"\n1KB".as_slice(), b"\r\n1KB"] {
+            expect(&rt, "0", digits, end, b"0 = 0 B\n1000 = 1 KB\n");
+        }
+    }
 }
 
-/// Runs over many empty lines, all given to one read, with a writer of this pace.
-fn empty_lines(
-    alloc: Global,
-    count: usize,
-    step: usize,
-    calls: usize,
-    then: Then,
-) -> Result<Ended, AllocError> {
-    let input = b"\n".repeat(alloc, count)?;
-    let mut buffer = b" ".repeat(alloc, count.max(1))?;
-    let reader = MemoryReader::new(&input, count, usize::MAX, Then::Fail);
-    let writer = MemoryWriter::new(alloc, step, calls, then);
-    Ok(ran_in(&alloc, &mut buffer, reader, writer))
+#[test]
+fn many_lines(rt: HostRuntime) {
+    // A line has 9 bytes, so a chunk of 65,536 bytes ends at each place of a line and between them.
+    let lines = repeated(&rt, b"1.5 KiB\r\n", 7400, b"");
+    let report = repeated(&rt, b"1536 = 1.5 KiB\n", 7400, b"");
+    for shift in 0..9 {
+        expect(&rt, " ", shift, &lines, &report);
+    }
+    let last = repeated(&rt, b"0", 10_000, b"1\n");
+    let report = repeated(&rt, b"1000 = 1 KB\n", 1000, b"1 = 1 B\n");
+    expect(&rt, "1KB\n", 1000, &last, &report);
 }
 
-/// Asserts that this many bytes of the report on many empty lines are written.
+/// Asserts the result and the number of bytes that are written of a report on many lines, all given to one read.
 fn expect_bytes(
     rt: &(impl Abort + AllocGlobal),
-    step: usize,
-    calls: usize,
-    then: Then,
+    (input, report): (&[u8], &[u8]),
+    writes: Pace,
     wanted: Result<(), RunError>,
     count: usize,
-) -> Result<(), Fail> {
-    let report = b"no value\n".repeat(rt.alloc(), 300_000)?;
-    let front = report.get(..count).ok_or("a beginning")?;
-    let ended = empty_lines(rt.alloc(), 300_000, step, calls, then)?;
-    ended.expect_long(
-        rt,
-        wanted,
-        front,
-        "bytes a write and writes",
-        &[step, calls],
-    );
-    Ok(())
+) {
+    let buffer = b" ".repeat(rt.alloc(), 300_000);
+    let mut buffer = buffer.expect(rt, "memory");
+    let ended = ran_in(rt.alloc(), &rt.alloc(), &mut buffer, input, AT_ONCE, writes);
+    let front = report.get(..count).unwrap_or(report);
+    ended.expect_long(rt, wanted, front, "bytes", &[count]);
 }
 
 #[test]
-fn answers_of_several_megabytes(rt: HostRuntime) -> Result<(), Fail> {
+fn answers_of_several_megabytes(rt: HostRuntime) {
+    let input = repeated(&rt, b"\n", 300_000, b"");
+    let report = repeated(&rt, b"no value\n", 300_000, b"");
+    let lines = (input.as_slice(), report.as_slice());
     // All in one call, and in several.
-    expect_bytes(&rt, usize::MAX, 1, Then::Fail, Ok(()), 2_700_000)?;
-    expect_bytes(&rt, 1_000_000, 3, Then::Fail, Ok(()), 2_700_000)?;
+    expect_bytes(
+        &rt,
+        lines,
+        Pace(usize::MAX, 1, Then::Fail),
+        Ok(()),
+        2_700_000,
+    );
+    expect_bytes(
+        &rt,
+        lines,
+        Pace(1_000_000, 3, Then::Fail),
+        Ok(()),
+        2_700_000,
+    );
     let failed = Err(RunError::Write);
-    expect_bytes(&rt, 1_000_000, 2, Then::TakeNothing, failed, 2_000_000)
+    expect_bytes(
+        &rt,
+        lines,
+        Pace(1_000_000, 2, Then::TakeNothing),
+        failed,
+        2_000_000,
+    );
 }
 
 #[test]
-fn many_reads(rt: HostRuntime) -> Result<(), Fail> {
-    const ENDS: &[(usize, Result<(), RunError>)] = &[
-        (200_001, Ok(())),
-        (200_000, Err(RunError::Read)),
-    ];
-    let input = b"1KB\nx\n\n12\n".repeat(rt.alloc(), 20_000)?;
-    let report = b"1000 = 1 KB\nnot a number\nno value\n12 = 12 B\n".repeat(rt.alloc(), 20_000)?;
-    for (calls, wanted) in ENDS {
-        let reader = MemoryReader::new(&input, 1, *calls, Then::Fail);
-        let ended = ran(rt.alloc(), reader, MemoryWriter::open(rt.alloc()));
-        ended.expect_long(&rt, *wanted, &report, "reads", &[*calls]);
-    }
-    Ok(())
+fn many_reads(rt: HostRuntime) {
+    let input = repeated(&rt, b"1KB\nx\n\n12\n", 20_000, b"");
+    let report = b"1000 = 1 KB\nnot a number\nno value\n12 = 12 B\n";
+    let report = repeated(&rt, report, 20_000, b"");
+    let reads = Pace(1, 200_001, Then::Fail);
+    check_long(
+        &rt,
+        &input,
+        (reads, AT_ONCE),
+        (Ok(()), &report),
+        "reads",
+        &[200_001],
+    );
+    let reads = Pace(1, 200_000, Then::Fail);
+    let wanted = (Err(RunError::Read), report.as_slice());
+    check_long(&rt, &input, (reads, AT_ONCE), wanted, "reads", &[200_000]);
 }

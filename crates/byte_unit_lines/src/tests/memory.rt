@@ -1,9 +1,8 @@
 //! The number of allocations of the calls that format, and their effect if one fails.
 use super::refusing::Refusing;
+use super::*;
 use byte_unit::{Bit, Byte, Expansion, FormatSpec, Unit, append_layout, append_plain};
 use std::alloc::{AllocError, Allocator};
-use std::process::Abort;
-use std::test::Fail;
 
 /// A call that appends to a string.
 #[derive(Clone, Copy)]
@@ -52,11 +51,6 @@ const CALLS: &[(Call, &str)] = &[
     (Call::Layout, "ab10 KiB"),
 ];
 
-/// Asserts a string, its capacity, and the number of allocations.
-fn expect(rt: &impl Abort, found: (&str, usize, u64), wanted: (&str, usize, u64), whole: &str) {
-    assert_eq!(rt; found, wanted, "for {whole}");
-}
-
 /// Returns the string `ab`, with this capacity.
 fn with_capacity<A: Allocator>(heap: A, reserved: usize) -> Result<String<A>, AllocError> {
     let mut text = String::new(heap);
@@ -65,57 +59,43 @@ fn with_capacity<A: Allocator>(heap: A, reserved: usize) -> Result<String<A>, Al
     Ok(text)
 }
 
-/// Returns `true` if the call succeeds with this allocator, in which one allocation fails. The string has this capacity
-/// for `ab` and for what is appended.
-fn succeeds<A: Allocator>(
-    rt: &impl Abort,
-    heap: &Refusing<A>,
-    number: u64,
-    call: Call,
-    reserved: usize,
-    whole: &str,
-) -> Result<bool, AllocError> {
-    let mut text = with_capacity(heap, reserved)?;
-    let capacity = text.capacity();
-    let succeeded = append(call, &mut text).is_ok();
-    if !succeeded {
-        let left = (text.as_str(), text.capacity(), heap.asked());
-        expect(rt, left, ("ab", capacity, number), whole);
-        // A second call succeeds as if the first had not been made.
-        append(call, &mut text)?;
-    }
-    let end = (text.as_str(), 0, 0);
-    expect(rt, end, (whole, 0, 0), whole);
-    Ok(succeeded)
-}
-
-/// Makes one allocation of the call after another fail, until a call succeeds, and returns the number of failures.
-fn allocations_of(
+/// Asserts that a call succeeds with this capacity if the allocation of this number fails, and not those before it.
+fn expect_success(
     rt: &(impl Abort + AllocGlobal),
     call: Call,
+    number: u64,
     reserved: usize,
     whole: &str,
-) -> Result<u64, Fail> {
-    for allocations in 0..4u64 {
-        // The first allocation is the string's own.
-        let number = allocations.saturating_add(2);
-        let heap = Refusing::new(rt.alloc(), number, number);
-        if succeeds(rt, &heap, number, call, reserved, whole)? {
-            return Ok(allocations);
-        }
-    }
-    Err("each call failed")?
+) {
+    let heap = Refusing::new(rt.alloc(), number, number);
+    let mut text = with_capacity(&heap, reserved).expect(rt, "memory");
+    let succeeded = append(call, &mut text).is_ok();
+    assert_is(rt, (succeeded, text.as_str()), (true, whole), whole);
+}
+
+/// Asserts that a call makes one allocation with this capacity, that it changes nothing if this one fails, and that it
+/// succeeds if only one after it fails.
+fn expect_allocation(rt: &(impl Abort + AllocGlobal), call: Call, reserved: usize, whole: &str) {
+    // The first allocation is the string's own.
+    let heap = Refusing::new(rt.alloc(), 2, 2);
+    let mut text = with_capacity(&heap, reserved).expect(rt, "memory");
+    let capacity = text.capacity();
+    let failed = append(call, &mut text).is_err();
+    let left = (text.as_str(), text.capacity(), heap.asked());
+    assert_is(rt, (failed, left), (true, ("ab", capacity, 2)), whole);
+    // A second call succeeds as if the first had not been made.
+    let succeeded = append(call, &mut text).is_ok();
+    assert_is(rt, (succeeded, text.as_str()), (true, whole), whole);
+    expect_success(rt, call, 3, reserved, whole);
 }
 
 #[test]
-fn appending_allocates_once_or_never(rt: HostRuntime) -> Result<(), Fail> {
+fn appending_allocates_once_or_never(rt: HostRuntime) {
     for (call, whole) in CALLS {
-        let short = allocations_of(&rt, *call, 2, whole)?;
-        let shorter_by_one = allocations_of(&rt, *call, whole.len().saturating_sub(1), whole)?;
-        let none = allocations_of(&rt, *call, whole.len(), whole)?;
-        assert_eq!(rt; (short, shorter_by_one, none), (1, 1, 0), "for {whole}");
+        expect_allocation(&rt, *call, 2, whole);
+        expect_allocation(&rt, *call, whole.len().saturating_sub(1), whole);
+        expect_success(&rt, *call, 2, whole.len(), whole);
     }
-    Ok(())
 }
 
 /// A type that is formatted.
@@ -152,26 +132,19 @@ const TYPES: &[(Type, &str, &str)] = &[
 ];
 
 /// The first allocation fails, then the second succeeds, and there is no third.
-fn allocates_once(
-    rt: &(impl Abort + AllocGlobal),
-    of: Type,
-    spec: FormatSpec,
-    whole: &str,
-) -> Result<(), AllocError> {
+fn expect_one(rt: &(impl Abort + AllocGlobal), of: Type, spec: FormatSpec, whole: &str) {
     let heap = Refusing::new(rt.alloc(), 1, 1);
     let failed = to_new_string(of, &heap, spec).is_err();
-    assert_eq!(rt; (failed, heap.asked()), (true, 1), "for {whole}");
-    let text = to_new_string(of, &heap, spec)?;
+    assert_is(rt, (failed, heap.asked()), (true, 1), whole);
+    let text = to_new_string(of, &heap, spec).expect(rt, "memory");
     let found = (text.as_str(), text.capacity(), heap.asked());
-    expect(rt, found, (whole, whole.len(), 2), whole);
-    Ok(())
+    assert_is(rt, found, (whole, whole.len(), 2), whole);
 }
 
 #[test]
-fn a_text_of_its_own_asks_once(rt: HostRuntime) -> Result<(), Fail> {
+fn a_text_of_its_own_asks_once(rt: HostRuntime) {
     for (of, plain, alternate) in TYPES {
-        allocates_once(&rt, *of, FormatSpec::PLAIN, plain)?;
-        allocates_once(&rt, *of, FormatSpec::ALTERNATE, alternate)?;
+        expect_one(&rt, *of, FormatSpec::PLAIN, plain);
+        expect_one(&rt, *of, FormatSpec::ALTERNATE, alternate);
     }
-    Ok(())
 }

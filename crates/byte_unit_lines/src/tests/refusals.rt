@@ -1,76 +1,39 @@
 //! Runs in which each allocation fails in turn.
 use super::ended::{expect_failed_allocation, ran_in};
-use super::mixed::{ANSWERS, INPUT, answers_to};
+use super::mixed::{INPUT, LINES, REPORT, first_lines};
 use super::refusing::Refusing;
-use super::streams::{MemoryReader, MemoryWriter, Then};
+use super::streams::{AT_ONCE, Pace, Then};
 use super::*;
-use std::test::Fail;
 
-/// The numbers of bytes per read.
-const STEPS: &[usize] = &[1, 2, 3, 8, INPUT.len()];
-
-/// Returns a reader that gives at most `step` of these bytes per call.
-fn in_steps(bytes: &[u8], step: usize) -> MemoryReader<'_> {
-    MemoryReader::new(bytes, step, usize::MAX, Then::Fail)
-}
-
-/// Returns the number of allocations of a run over this prefix of the input.
-fn allocations(alloc: Global, beginning: &[u8], step: usize) -> u64 {
+/// Returns the number of allocations of a run over this input, or 0 if the run fails.
+fn allocations(alloc: Global, input: &[u8], reads: Pace) -> u64 {
     let heap = Refusing::new(alloc, u64::MAX, u64::MAX);
-    let mut buffer = [0u8; 80];
-    let reader = in_steps(beginning, step);
-    match ran_in(&heap, &mut buffer, reader, MemoryWriter::open(alloc)).result {
+    match ran_in(alloc, &heap, &mut [0u8; 80], input, reads, AT_ONCE).result {
         Ok(()) => heap.asked(),
         Err(_) => 0,
     }
 }
 
-/// Returns the number of allocations of a run up to the end of each line. The last line has no line end.
-fn allocations_by_line(alloc: Global, step: usize) -> [u64; ANSWERS.len()] {
-    let mut asked = [0; ANSWERS.len()];
-    let mut line = 0;
-    for (at, byte) in INPUT.iter().enumerate() {
-        if *byte == b'\n' && line < asked.len() {
-            asked[line] = allocations(alloc, &INPUT[..at + 1], step);
-            line += 1;
+/// Asserts that a run ends at each of its allocations if that fails, and at none if only later ones fail.
+fn expect_each_failed(rt: &(impl Abort + AllocGlobal), reads: Pace) {
+    let mut next = 1u64;
+    for lines in 0..LINES {
+        // The lines whose allocations all came before are answered, and no other.
+        let last = allocations(rt.alloc(), first_lines(INPUT, lines + 1), reads);
+        for number in next..=last {
+            expect_failed_allocation(rt, INPUT, reads, number, first_lines(REPORT, lines));
         }
+        next = last.saturating_add(1);
     }
-    if line < asked.len() {
-        asked[line] = allocations(alloc, INPUT, step);
-    }
-    asked
+    assert_is(rt, next > 1, true, "an allocation");
+    let heap = Refusing::new(rt.alloc(), next, u64::MAX);
+    let ended = ran_in(rt.alloc(), &heap, &mut [0u8; 80], INPUT, reads, AT_ONCE);
+    ended.expect(rt, Ok(()), REPORT, "bytes a read", &[reads.0]);
 }
 
 #[test]
-fn each_failed_allocation(rt: HostRuntime) -> Result<(), Fail> {
-    let mut buffer = [0u8; 80];
-    for step in STEPS {
-        let asked = allocations_by_line(rt.alloc(), *step);
-        let most = asked[ANSWERS.len() - 1];
-        assert!(rt; most > 0, "{step} bytes a read");
-        for number in 1..=most {
-            // The lines whose allocations all came before are answered, and no other.
-            let lines = asked.iter().filter(|asked| **asked < number).count();
-            let report = answers_to(rt.alloc(), lines)?;
-            let reader = in_steps(INPUT, *step);
-            expect_failed_allocation(&rt, &mut buffer, reader, number, number, &report);
-            let reader = in_steps(INPUT, *step);
-            expect_failed_allocation(&rt, &mut buffer, reader, number, u64::MAX, &report);
-        }
+fn each_failed_allocation(rt: HostRuntime) {
+    for step in [1, 2, 3, 8, INPUT.len()] {
+        expect_each_failed(&rt, Pace(step, usize::MAX, Then::Fail));
     }
-    Ok(())
-}
-
-#[test]
-fn a_failure_after_the_last_allocation(rt: HostRuntime) -> Result<(), Fail> {
-    let report = answers_to(rt.alloc(), ANSWERS.len())?;
-    let mut buffer = [0u8; 80];
-    for step in STEPS {
-        let most = allocations(rt.alloc(), INPUT, *step);
-        let heap = Refusing::new(rt.alloc(), most.saturating_add(1), u64::MAX);
-        let writer = MemoryWriter::open(rt.alloc());
-        let ended = ran_in(&heap, &mut buffer, in_steps(INPUT, *step), writer);
-        ended.expect(&rt, Ok(()), &report, "bytes a read", &[*step]);
-    }
-    Ok(())
 }
