@@ -179,7 +179,7 @@ TABLES = [
         *((name, parsed(BYTES, BYTES_IGNORING_CASE, BITS)) for name in
           ["NUMBER_ERRORS", "NUMBERS_TOO_LONG", "ERRORS_BEFORE_A_UNIT", "NON_ASCII_CHARACTER_IN_A_NUMBER", "NON_ASCII_CHARACTER_AFTER_A_NUMBER"]),
         *((name, parsed(BYTES, BITS)) for name in ["ERRORS_WITHIN_A_UNIT", "LEFTMOST_ERROR", "NON_ASCII_CHARACTER_IN_A_UNIT"]),
-        ("errors_ignoring_case 0", parsed(BYTES_IGNORING_CASE))]),
+        ("ERRORS_IGNORING_CASE", parsed(BYTES_IGNORING_CASE))]),
     ("Errors of sizes", "any_texts", [("STRANGE", strange_in_a_number), ("IN_A_UNIT STRANGE", strange_in_a_unit)]),
     ("Units that are parsed", "unit_texts", [
         ("SPELLINGS_BY_THEIR_FLAGS", units_by_their_flags), ("SPELLINGS_BY_ANY_FLAGS", units(*ALL_FLAGS)),

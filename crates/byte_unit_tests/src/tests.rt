@@ -36,6 +36,7 @@ macro_rules! precise {
 mod adjusted;
 mod answers;
 mod any_texts;
+mod asserting;
 mod bounds;
 mod choices;
 mod command_line;

@@ -1,9 +1,11 @@
 //! Tests of adjusted sizes: formatting by each spec, and their accessors.
+use super::asserting::assert_is;
 use super::shown::{
-    Shown, assert_bits_in, assert_bytes_in, assert_displays, assert_row, bits_in, bytes_in,
+    Shown, assert_displays, assert_row, assert_texts_in, bits_in, bytes_in, great_size_in,
+    number_of,
 };
-use byte_unit::{Align, Bit, Byte, FormatSpec, Sign, Unit, UnitType};
-use std::alloc::{AllocError, Global};
+use byte_unit::{Align, Bit, Byte, FormatSpec, Kind, Sign, Unit, UnitType};
+use std::alloc::Global;
 use std::process::Abort;
 
 const DECIMALS_CARRIED_THROUGH_NINES: &[(u64, Unit, FormatSpec, &str)] = &[
@@ -12,11 +14,6 @@ const DECIMALS_CARRIED_THROUGH_NINES: &[(u64, Unit, FormatSpec, &str)] = &[
     (999_999, Unit::MB, places!(3), "1.000 MB"),
     (999_999, Unit::MB, precise!(3), "1 MB"),
 ];
-
-#[test]
-fn decimals_carried_through_nines(rt: HostRuntime) -> Result<(), AllocError> {
-    assert_bytes_in(&rt, rt.alloc(), DECIMALS_CARRIED_THROUGH_NINES)
-}
 
 const TIES_TO_EVEN_AND_UP: &[(u64, Unit, FormatSpec, &str)] = &[
     (1005, Unit::KB, places!(2), "1.00 KB"),
@@ -28,11 +25,6 @@ const TIES_TO_EVEN_AND_UP: &[(u64, Unit, FormatSpec, &str)] = &[
     (1500, Unit::KB, places!(0), "2 KB"),
     (1500, Unit::KB, precise!(0), "2 KB"),
 ];
-
-#[test]
-fn ties_to_even_and_up(rt: HostRuntime) -> Result<(), AllocError> {
-    assert_bytes_in(&rt, rt.alloc(), TIES_TO_EVEN_AND_UP)
-}
 
 const SMALL_SIZES: &[(u64, Unit, FormatSpec, &str)] = &[
     (
@@ -54,22 +46,12 @@ const SMALL_SIZES: &[(u64, Unit, FormatSpec, &str)] = &[
     (1, Unit::MiB, precise!(20), "0.0000009536743164 MiB"),
 ];
 
-#[test]
-fn small_sizes(rt: HostRuntime) -> Result<(), AllocError> {
-    assert_bytes_in(&rt, rt.alloc(), SMALL_SIZES)
-}
-
 const SIZES_IN_THEIR_OWN_UNIT: &[(u64, Unit, FormatSpec, &str)] = &[
     (3, Unit::Bit, places!(2), "24 b"),
     (3, Unit::Bit, precise!(2), "24 b"),
     (3, Unit::Bit, FormatSpec::PLAIN, "24 b"),
     (3, Unit::Bit, FormatSpec::ALTERNATE, "24 b"),
 ];
-
-#[test]
-fn sizes_in_their_own_unit(rt: HostRuntime) -> Result<(), AllocError> {
-    assert_bytes_in(&rt, rt.alloc(), SIZES_IN_THEIR_OWN_UNIT)
-}
 
 const WHOLE_EXPANSIONS_OF_BYTES: &[(u64, Unit, FormatSpec, &str)] = &[
     (
@@ -94,12 +76,6 @@ const WHOLE_EXPANSIONS_OF_BITS: &[(u64, Unit, FormatSpec, &str)] = &[
     (1, Unit::YiB, places!(84), ONE_BIT_IN_84_PLACES),
     (1, Unit::RiB, places!(94), ONE_BIT_IN_94_PLACES),
 ];
-
-#[test]
-fn whole_expansions(rt: HostRuntime) -> Result<(), AllocError> {
-    assert_bytes_in(&rt, rt.alloc(), WHOLE_EXPANSIONS_OF_BYTES)?;
-    assert_bits_in(&rt, rt.alloc(), WHOLE_EXPANSIONS_OF_BITS)
-}
 
 /// 24 zeros and the 56 digits of 5^80.
 const ONE_BYTE_IN_YIB: &str =
@@ -156,12 +132,6 @@ const SHORT_EXPANSIONS_OF_BITS: &[(u64, Unit, FormatSpec, &str)] = &[
     (10_000, Unit::Kibit, FormatSpec::PLAIN, "9.765625 Kib"),
 ];
 
-#[test]
-fn short_expansions(rt: HostRuntime) -> Result<(), AllocError> {
-    assert_bytes_in(&rt, rt.alloc(), SHORT_EXPANSIONS_OF_BYTES)?;
-    assert_bits_in(&rt, rt.alloc(), SHORT_EXPANSIONS_OF_BITS)
-}
-
 const EXPANSIONS_BY_PRECISION: &[(u64, Unit, FormatSpec, &str)] = &[
     (10_000, Unit::KiB, places!(2), "9.77 KiB"),
     (10_000, Unit::KB, places!(2), "10.00 KB"),
@@ -170,11 +140,6 @@ const EXPANSIONS_BY_PRECISION: &[(u64, Unit, FormatSpec, &str)] = &[
     (1_500_000, Unit::MiB, places!(2), "1.43 MiB"),
     (1_500_000, Unit::MiB, precise!(2), "1.43 MiB"),
 ];
-
-#[test]
-fn expansions_by_precision(rt: HostRuntime) -> Result<(), AllocError> {
-    assert_bytes_in(&rt, rt.alloc(), EXPANSIONS_BY_PRECISION)
-}
 
 const EXPANSIONS_IN_BITS_BY_PRECISION: &[(u64, Unit, FormatSpec, &str)] = &[
     (13, Unit::B, places!(2), "1.625 B"),
@@ -185,11 +150,6 @@ const EXPANSIONS_IN_BITS_BY_PRECISION: &[(u64, Unit, FormatSpec, &str)] = &[
     (10_000, Unit::Kbit, places!(2), "10.00 Kb"),
     (10_000, Unit::Kbit, precise!(2), "10 Kb"),
 ];
-
-#[test]
-fn expansions_in_bits_by_precision(rt: HostRuntime) -> Result<(), AllocError> {
-    assert_bits_in(&rt, rt.alloc(), EXPANSIONS_IN_BITS_BY_PRECISION)
-}
 
 const WIDE: FormatSpec = spec!(false, Sign::Plus, Some(2), Some(10), Some(Align::Right));
 
@@ -202,43 +162,40 @@ const LAYOUTS: &[(u64, Unit, FormatSpec, &str)] = &[
 ];
 
 #[test]
-fn layouts(rt: HostRuntime) -> Result<(), AllocError> {
-    assert_bytes_in(&rt, rt.alloc(), LAYOUTS)
+fn texts_in_given_units(rt: HostRuntime) {
+    let alloc = rt.alloc();
+    assert_texts_in(&rt, alloc, Kind::Byte, DECIMALS_CARRIED_THROUGH_NINES);
+    assert_texts_in(&rt, alloc, Kind::Byte, TIES_TO_EVEN_AND_UP);
+    assert_texts_in(&rt, alloc, Kind::Byte, SMALL_SIZES);
+    assert_texts_in(&rt, alloc, Kind::Byte, SIZES_IN_THEIR_OWN_UNIT);
+    assert_texts_in(&rt, alloc, Kind::Byte, WHOLE_EXPANSIONS_OF_BYTES);
+    assert_texts_in(&rt, alloc, Kind::Bit, WHOLE_EXPANSIONS_OF_BITS);
+    assert_texts_in(&rt, alloc, Kind::Byte, SHORT_EXPANSIONS_OF_BYTES);
+    assert_texts_in(&rt, alloc, Kind::Bit, SHORT_EXPANSIONS_OF_BITS);
+    assert_texts_in(&rt, alloc, Kind::Byte, EXPANSIONS_BY_PRECISION);
+    assert_texts_in(&rt, alloc, Kind::Bit, EXPANSIONS_IN_BITS_BY_PRECISION);
+    assert_texts_in(&rt, alloc, Kind::Byte, LAYOUTS);
 }
 
-/// Returns a size in bytes in its appropriate unit.
-fn bytes_by(size: u64, unit_type: UnitType) -> Shown {
-    Shown::AdjustedByte(Byte::from_u64(size).get_appropriate_unit(unit_type))
+/// Returns a size in its appropriate unit.
+fn size_by(kind: Kind, size: u64, unit_type: UnitType) -> Shown {
+    match kind {
+        Kind::Byte => Shown::AdjustedByte(Byte::from_u64(size).get_appropriate_unit(unit_type)),
+        Kind::Bit => Shown::AdjustedBit(Bit::from_u64(size).get_appropriate_unit(unit_type)),
+    }
 }
 
-fn bits_by(size: u64, unit_type: UnitType) -> Shown {
-    Shown::AdjustedBit(Bit::from_u64(size).get_appropriate_unit(unit_type))
-}
-
-/// Asserts the text of each size in bytes in its appropriate unit.
-fn assert_bytes_by(
+/// Asserts the text of each size of the kind in its appropriate unit.
+fn assert_texts_by(
     rt: &impl Abort,
     alloc: Global,
+    kind: Kind,
     rows: &[(u64, UnitType, FormatSpec, &str)],
-) -> Result<(), AllocError> {
+) {
     for (size, unit_type, spec, wanted) in rows {
-        let shown = bytes_by(*size, *unit_type);
-        assert_row(rt, alloc, &shown, *spec, wanted)?;
+        let shown = size_by(kind, *size, *unit_type);
+        assert_row(rt, alloc, &shown, *spec, wanted);
     }
-    Ok(())
-}
-
-/// Asserts the text of each size in bits in its appropriate unit.
-fn assert_bits_by(
-    rt: &impl Abort,
-    alloc: Global,
-    rows: &[(u64, UnitType, FormatSpec, &str)],
-) -> Result<(), AllocError> {
-    for (size, unit_type, spec, wanted) in rows {
-        let shown = bits_by(*size, *unit_type);
-        assert_row(rt, alloc, &shown, *spec, wanted)?;
-    }
-    Ok(())
 }
 
 const BYTES_IN_APPROPRIATE_UNITS: &[(u64, UnitType, FormatSpec, &str)] = &[
@@ -263,12 +220,6 @@ const BITS_IN_APPROPRIATE_UNITS: &[(u64, UnitType, FormatSpec, &str)] = &[
     (7, UnitType::Both, FormatSpec::PLAIN, "7 b"),
 ];
 
-#[test]
-fn appropriate_units(rt: HostRuntime) -> Result<(), AllocError> {
-    assert_bytes_by(&rt, rt.alloc(), BYTES_IN_APPROPRIATE_UNITS)?;
-    assert_bits_by(&rt, rt.alloc(), BITS_IN_APPROPRIATE_UNITS)
-}
-
 const LAYOUTS_IN_APPROPRIATE_UNITS: &[(u64, UnitType, FormatSpec, &str)] = &[
     (10_000, UnitType::Binary, WIDE, "  9.77 KiB"),
     (10_000, UnitType::Decimal, WIDE, " 10.00  KB"),
@@ -276,15 +227,18 @@ const LAYOUTS_IN_APPROPRIATE_UNITS: &[(u64, UnitType, FormatSpec, &str)] = &[
 ];
 
 #[test]
-fn layouts_in_appropriate_units(rt: HostRuntime) -> Result<(), AllocError> {
-    assert_bytes_by(&rt, rt.alloc(), LAYOUTS_IN_APPROPRIATE_UNITS)
+fn texts_in_appropriate_units(rt: HostRuntime) {
+    let alloc = rt.alloc();
+    assert_texts_by(&rt, alloc, Kind::Byte, BYTES_IN_APPROPRIATE_UNITS);
+    assert_texts_by(&rt, alloc, Kind::Bit, BITS_IN_APPROPRIATE_UNITS);
+    assert_texts_by(&rt, alloc, Kind::Byte, LAYOUTS_IN_APPROPRIATE_UNITS);
 }
 
-/// Returns the unit of an adjusted size.
-fn unit_of(shown: Shown) -> Option<Unit> {
+/// Returns the unit and the value of an adjusted size.
+fn unit_and_value(shown: &Shown) -> Option<(Unit, (u128, u128))> {
     match shown {
-        Shown::AdjustedByte(size) => Some(size.get_unit()),
-        Shown::AdjustedBit(size) => Some(size.get_unit()),
+        Shown::AdjustedByte(size) => Some((size.get_unit(), size.get_value())),
+        Shown::AdjustedBit(size) => Some((size.get_unit(), size.get_value())),
         Shown::Byte(_) | Shown::Bit(_) => None,
     }
 }
@@ -292,7 +246,8 @@ fn unit_of(shown: Shown) -> Option<Unit> {
 /// Asserts the unit of each adjusted size.
 fn assert_units(rt: &impl Abort, rows: &[(Shown, Unit)]) {
     for (shown, unit) in rows {
-        assert!(rt; unit_of(*shown) == Some(*unit));
+        let found = unit_and_value(shown).map(|pair| pair.0);
+        assert_is(rt, found, Some(*unit));
     }
 }
 
@@ -301,13 +256,13 @@ fn sizes_and_units() -> [(Shown, Unit); 11] {
     let (small, great) = (Byte::from_u64(1024), Byte::from_u64(10_000));
     [
         (bytes_in(1_555_000, Unit::MB), Unit::MB),
-        (bytes_by(1_555_000, UnitType::Binary), Unit::MiB),
-        (bytes_by(1_555_000, UnitType::Decimal), Unit::MB),
-        (bytes_by(7, UnitType::Both), Unit::B),
+        (size_by(Kind::Byte, 1_555_000, UnitType::Binary), Unit::MiB),
+        (size_by(Kind::Byte, 1_555_000, UnitType::Decimal), Unit::MB),
+        (size_by(Kind::Byte, 7, UnitType::Both), Unit::B),
         (bits_in(1_555_000, Unit::Mbit), Unit::Mbit),
-        (bits_by(1_555_000, UnitType::Binary), Unit::Mibit),
-        (bits_by(1_555_000, UnitType::Decimal), Unit::Mbit),
-        (bits_by(7, UnitType::Both), Unit::Bit),
+        (size_by(Kind::Bit, 1_555_000, UnitType::Binary), Unit::Mibit),
+        (size_by(Kind::Bit, 1_555_000, UnitType::Decimal), Unit::Mbit),
+        (size_by(Kind::Bit, 7, UnitType::Both), Unit::Bit),
         (Shown::AdjustedByte(small.into()), Unit::KiB),
         (Shown::AdjustedByte(great.into()), Unit::KiB),
         (
@@ -315,11 +270,6 @@ fn sizes_and_units() -> [(Shown, Unit); 11] {
             Unit::Kibit,
         ),
     ]
-}
-
-#[test]
-fn units_of_adjusted_sizes(rt: HostRuntime) {
-    assert_units(&rt, &sizes_and_units());
 }
 
 /// The size, its unit, and the expected result of `get_value`.
@@ -334,17 +284,13 @@ const VALUES_OF_BITS: &[(u64, Unit, (u128, u128))] = &[
     (24, Unit::B, (24, 8)),
 ];
 
-#[test]
-fn values_of_adjusted_sizes(rt: HostRuntime) {
-    for (size, unit, value) in VALUES_OF_BYTES {
-        let adjusted = Byte::from_u64(*size).get_adjusted_unit(*unit);
-        let is_size = adjusted.get_byte().as_u128() == u128::from(*size);
-        assert!(rt; adjusted.get_value() == *value && is_size, "{size}");
-    }
-    for (size, unit, value) in VALUES_OF_BITS {
-        let adjusted = Bit::from_u64(*size).get_adjusted_unit(*unit);
-        let is_size = adjusted.get_bit().as_u128() == u128::from(*size);
-        assert!(rt; adjusted.get_value() == *value && is_size, "{size}");
+/// Asserts the value of each size of the kind in its unit, and that the size is the same in it.
+fn assert_values(rt: &impl Abort, kind: Kind, rows: &[(u64, Unit, (u128, u128))]) {
+    for (size, unit, value) in rows {
+        let size = u128::from(*size);
+        let adjusted = great_size_in(rt, kind, size, *unit);
+        assert_is(rt, unit_and_value(&adjusted), Some((*unit, *value)));
+        assert_is(rt, number_of(&adjusted), size);
     }
 }
 
@@ -360,6 +306,9 @@ fn adjusted_sizes() -> [(Shown, &'static str); 5] {
 }
 
 #[test]
-fn display_of_adjusted_sizes(rt: HostRuntime) -> Result<(), AllocError> {
-    assert_displays(&rt, rt.alloc(), &adjusted_sizes())
+fn accessors_and_display_of_adjusted_sizes(rt: HostRuntime) {
+    assert_units(&rt, &sizes_and_units());
+    assert_values(&rt, Kind::Byte, VALUES_OF_BYTES);
+    assert_values(&rt, Kind::Bit, VALUES_OF_BITS);
+    assert_displays(&rt, rt.alloc(), &adjusted_sizes());
 }

@@ -70,19 +70,15 @@ fn assert_result(rt: &impl Abort, text: &str, read: Result<u128, ParseError>, wa
 pub fn assert_bytes(rt: &impl Abort, text: &str, ignore_case: bool, wanted: Expected) {
     let read = Byte::parse_str(text, ignore_case).map(Byte::as_u128);
     assert_result(rt, text, read, wanted);
-    match Byte::parse_bytes(text.as_bytes(), ignore_case) {
-        Some(read) => assert_result(rt, text, read.map(Byte::as_u128), wanted),
-        None => panic!(rt; "{text} is a text"),
-    }
+    let read = Byte::parse_bytes(text.as_bytes(), ignore_case).expect(rt, "a text");
+    assert_result(rt, text, read.map(Byte::as_u128), wanted);
 }
 
 /// Asserts the result of parsing a string as bits, by `parse_str` and from its UTF-8 bytes.
 pub fn assert_bits(rt: &impl Abort, text: &str, wanted: Expected) {
     assert_result(rt, text, Bit::parse_str(text).map(Bit::as_u128), wanted);
-    match Bit::parse_bytes(text.as_bytes()) {
-        Some(read) => assert_result(rt, text, read.map(Bit::as_u128), wanted),
-        None => panic!(rt; "{text} is a text"),
-    }
+    let read = Bit::parse_bytes(text.as_bytes()).expect(rt, "a text");
+    assert_result(rt, text, read.map(Bit::as_u128), wanted);
 }
 
 /// Asserts the result of parsing each string as bytes.

@@ -1,8 +1,9 @@
 //! Tests of parsing with unusual strings: long ones, unexpected characters at each position, each prefix of a string,
 //! white space and characters that resemble it.
 use super::answers::{Expected, TEN, assert_all_bytes, assert_bits, assert_bytes, is_unit_error};
+use super::asserting::assert_for;
 use byte_unit::Unit;
-use std::alloc::{AllocError, Global};
+use std::alloc::Global;
 use std::process::Abort;
 
 /// Asserts the results of parsing the concatenation of the parts, as bytes and as bits.
@@ -12,11 +13,10 @@ fn assert_joined(
     (first, second, third): (&str, &str, &str),
     in_bytes: Expected,
     in_bits: Expected,
-) -> Result<(), AllocError> {
-    let text = format!(in alloc; "{first}{second}{third}")?;
+) {
+    let text = format!(in alloc; "{first}{second}{third}").expect(rt, "memory");
     assert_bytes(rt, text.as_str(), false, in_bytes);
     assert_bits(rt, text.as_str(), in_bits);
-    Ok(())
 }
 
 /// The number of repetitions in a long string.
@@ -40,13 +40,12 @@ const LONG_TEXTS: &[(&str, &str, &str, Expected, Expected)] = &[
 ];
 
 #[test]
-fn long_texts(rt: HostRuntime) -> Result<(), AllocError> {
+fn long_texts(rt: HostRuntime) {
     for (before, part, after, in_bytes, in_bits) in LONG_TEXTS {
-        let many = part.repeat(rt.alloc(), MANY)?;
+        let many = part.repeat(rt.alloc(), MANY).expect(&rt, "memory");
         let parts = (*before, many.as_str(), *after);
-        assert_joined(&rt, rt.alloc(), parts, *in_bytes, *in_bits)?;
+        assert_joined(&rt, rt.alloc(), parts, *in_bytes, *in_bits);
     }
-    Ok(())
 }
 
 /// Characters that no size contains, each with its string.
@@ -58,14 +57,13 @@ const STRANGE: &[(char, &str)] = &[
     ('-', "-"),
 ];
 
-#[test]
-fn invalid_characters_in_place_of_a_digit(rt: HostRuntime) -> Result<(), AllocError> {
+/// Asserts that each invalid character is rejected in place of a digit.
+fn assert_all_invalid_digits(rt: &impl Abort, alloc: Global) {
     for (c, shown) in STRANGE {
         let wanted = Expected::NotNumber(*c);
-        assert_joined(&rt, rt.alloc(), ("", "", shown), wanted, wanted)?;
-        assert_joined(&rt, rt.alloc(), ("1.", "", shown), wanted, wanted)?;
+        assert_joined(rt, alloc, ("", "", shown), wanted, wanted);
+        assert_joined(rt, alloc, ("1.", "", shown), wanted, wanted);
     }
-    Ok(())
 }
 
 /// The text before an invalid character in a unit, the expected characters, and whether the string could end there.
@@ -81,49 +79,42 @@ const IN_A_UNIT: &[(&str, &[char], bool)] = &[
 ];
 
 /// Asserts that each invalid character is rejected within and after the unit of this number.
-fn assert_all_invalid(rt: &impl Abort, alloc: Global, number: &str) -> Result<(), AllocError> {
+fn assert_all_invalid(rt: &impl Abort, alloc: Global, number: &str) {
     for (front, expected, or_end) in IN_A_UNIT {
         for (c, shown) in STRANGE {
             let wanted = Expected::Unit(*c, *expected, *or_end);
-            assert_joined(rt, alloc, (number, front, shown), wanted, wanted)?;
+            assert_joined(rt, alloc, (number, front, shown), wanted, wanted);
         }
     }
-    Ok(())
-}
-
-#[test]
-fn invalid_characters_in_a_unit(rt: HostRuntime) -> Result<(), AllocError> {
-    let alloc = rt.alloc();
-    assert_all_invalid(&rt, alloc, "1")?;
-    assert_all_invalid(&rt, alloc, "1.5")?;
-    assert_all_invalid(&rt, alloc, "1.0000000000000000000000000001")?;
-    assert_all_invalid(&rt, alloc, "1 ")
 }
 
 /// Asserts that the concatenation of both parts is rejected as a unit.
-fn assert_no_unit(
-    rt: &impl Abort,
-    alloc: Global,
-    (front, shown): (&str, &str),
-    wanted: Expected,
-) -> Result<(), AllocError> {
-    let text = format!(in alloc; "{front}{shown}")?;
-    match Unit::parse_str(text.as_str(), false, true) {
-        Ok(_) => panic!(rt; "{text} is read"),
-        Err(error) => assert!(rt; is_unit_error(&error, wanted), "{text}"),
-    }
-    Ok(())
+fn assert_no_unit(rt: &impl Abort, alloc: Global, front: &str, shown: &str, wanted: Expected) {
+    let text = format!(in alloc; "{front}{shown}").expect(rt, "memory");
+    let error = Unit::parse_str(text.as_str(), false, true).err();
+    let is_wanted = error.is_some_and(|error| is_unit_error(&error, wanted));
+    assert_for(rt, is_wanted, text.as_str());
 }
 
-#[test]
-fn invalid_characters_in_a_unit_alone(rt: HostRuntime) -> Result<(), AllocError> {
+/// Asserts that each invalid character is rejected within and after a unit without a number.
+fn assert_all_invalid_units(rt: &impl Abort, alloc: Global) {
     for (front, expected, or_end) in IN_A_UNIT {
         for (c, shown) in STRANGE {
             let wanted = Expected::Unit(*c, *expected, *or_end);
-            assert_no_unit(&rt, rt.alloc(), (front, shown), wanted)?;
+            assert_no_unit(rt, alloc, front, shown, wanted);
         }
     }
-    Ok(())
+}
+
+#[test]
+fn invalid_characters(rt: HostRuntime) {
+    let alloc = rt.alloc();
+    assert_all_invalid_digits(&rt, alloc);
+    assert_all_invalid(&rt, alloc, "1");
+    assert_all_invalid(&rt, alloc, "1.5");
+    assert_all_invalid(&rt, alloc, "1.0000000000000000000000000001");
+    assert_all_invalid(&rt, alloc, "1 ");
+    assert_all_invalid_units(&rt, alloc);
 }
 
 /// The result of parsing each prefix of `12.50 Kibits`.
@@ -143,11 +134,6 @@ const EACH_PREFIX_OF_A_STRING: &[(&str, Expected)] = &[
     ("12.50 Kibits", Expected::Size(1600)),
 ];
 
-#[test]
-fn each_prefix_of_a_string(rt: HostRuntime) {
-    assert_all_bytes(&rt, false, EACH_PREFIX_OF_A_STRING);
-}
-
 /// A string with each kind of white space at both ends.
 const WHITE_SPACE_AT_THE_ENDS: &[&str] = &[
     " 1KB ",
@@ -164,7 +150,8 @@ const WHITE_SPACE_AT_THE_ENDS: &[&str] = &[
 ];
 
 #[test]
-fn white_space_at_the_ends(rt: HostRuntime) {
+fn prefixes_and_white_space(rt: HostRuntime) {
+    assert_all_bytes(&rt, false, EACH_PREFIX_OF_A_STRING);
     for text in WHITE_SPACE_AT_THE_ENDS {
         assert_bytes(&rt, text, false, Expected::Size(1000));
         assert_bits(&rt, text, Expected::Size(8000));

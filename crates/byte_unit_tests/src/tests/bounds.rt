@@ -1,6 +1,6 @@
 //! Tests of each call that rejects values out of range, negative numbers or division by zero.
 use super::answers::{Expected, assert_all_bits, assert_all_bytes};
-use super::traits::assert_are;
+use super::asserting::assert_are;
 use byte_unit::{Bit, Byte};
 
 /// The maximum size.
@@ -30,12 +30,6 @@ const BYTES_AT_THE_LIMIT: &[(&str, Expected)] = &[
     ("0001", Expected::Size(1)),
 ];
 
-#[test]
-fn bytes_at_the_limit(rt: HostRuntime) {
-    assert_all_bytes(&rt, false, BYTES_AT_THE_LIMIT);
-    assert_all_bytes(&rt, true, BYTES_AT_THE_LIMIT);
-}
-
 const BITS_AT_THE_LIMIT: &[(&str, Expected)] = &[
     (
         "124.999999999999999999999999999 RB",
@@ -53,11 +47,6 @@ const BITS_AT_THE_LIMIT: &[(&str, Expected)] = &[
         Expected::Exceeded(MAX_SIZE + 1, 0),
     ),
 ];
-
-#[test]
-fn bits_at_the_limit(rt: HostRuntime) {
-    assert_all_bits(&rt, BITS_AT_THE_LIMIT);
-}
 
 /// Strings that v1 rejected at its limit, and v2 accepts.
 const BYTES_BEYOND_THE_LIMIT_OF_V1: &[(&str, Expected)] = &[
@@ -78,12 +67,6 @@ const BYTES_BEYOND_THE_LIMIT_OF_V1: &[(&str, Expected)] = &[
     ("1000 YB", Expected::Size(RONNA)),
 ];
 
-#[test]
-fn bytes_beyond_the_limit_of_v1(rt: HostRuntime) {
-    assert_all_bytes(&rt, false, BYTES_BEYOND_THE_LIMIT_OF_V1);
-    assert_all_bytes(&rt, true, BYTES_BEYOND_THE_LIMIT_OF_V1);
-}
-
 const BITS_BEYOND_THE_LIMIT_OF_V1: &[(&str, Expected)] = &[
     ("124.999999999999999999999999 YB", Expected::Size(RONNA - 8)),
     ("124.9999999999999999999999999 YB", Expected::Size(RONNA)),
@@ -93,12 +76,17 @@ const BITS_BEYOND_THE_LIMIT_OF_V1: &[(&str, Expected)] = &[
 ];
 
 #[test]
-fn bits_beyond_the_limit_of_v1(rt: HostRuntime) {
+fn strings_at_the_limits(rt: HostRuntime) {
+    for ignore_case in [false, true] {
+        assert_all_bytes(&rt, ignore_case, BYTES_AT_THE_LIMIT);
+        assert_all_bytes(&rt, ignore_case, BYTES_BEYOND_THE_LIMIT_OF_V1);
+    }
+    assert_all_bits(&rt, BITS_AT_THE_LIMIT);
     assert_all_bits(&rt, BITS_BEYOND_THE_LIMIT_OF_V1);
 }
 
 #[test]
-fn arithmetic_in_bytes(rt: HostRuntime) {
+fn arithmetic(rt: HostRuntime) {
     let size = Byte::from_u64(15_500);
     let step = Byte::from_u64(500);
     let power = Byte::from_u128(1 << 65).expect(&rt, "a size");
@@ -115,10 +103,6 @@ fn arithmetic_in_bytes(rt: HostRuntime) {
             (power.multiply(1 << 63), None),
         ],
     );
-}
-
-#[test]
-fn arithmetic_in_bits(rt: HostRuntime) {
     let size = Bit::from_u64(15_500);
     let step = Bit::from_u64(500);
     let power = Bit::from_u128(1 << 65).expect(&rt, "a size");

@@ -1,5 +1,5 @@
 //! Tests of the choice of a unit from a unit set, and of its step count.
-use super::traits::assert_is;
+use super::asserting::assert_is;
 use byte_unit::{Decimal, Family, Steps, Unit, UnitType, choose_unit, largest_unit};
 use std::process::Abort;
 
@@ -38,24 +38,8 @@ const SIZES_EXACT_IN_NO_UNIT: &[(u128, Family, u128, usize)] = &[
     (3_211_776, Family::Bytes, 8, 0),
 ];
 
-#[test]
-fn sizes_exact_in_no_unit(rt: HostRuntime) {
-    for (size, family, divisor, places) in SIZES_EXACT_IN_NO_UNIT {
-        let (choice, _) = chosen(&rt, *size, *family, *divisor, *places);
-        assert_is(&rt, (*size, choice), (*size, None));
-    }
-}
-
 /// Sizes, each with its step count. 500 is 2^2 * 5^3.
 const STEP_COUNTS_WITHOUT_AN_EXACT_UNIT: &[(u128, u64)] = &[(0, 0), (1, 2), (500, 7), (999, 2)];
-
-#[test]
-fn step_count_without_an_exact_unit(rt: HostRuntime) {
-    for (size, count) in STEP_COUNTS_WITHOUT_AN_EXACT_UNIT {
-        let (_, steps) = chosen(&rt, *size, Family::Bytes, 8, 28);
-        assert_is(&rt, (*size, steps), (*size, *count));
-    }
-}
 
 const ONE_STEP_PER_TRIAL_AND_DECIMAL: &[(u128, usize, Option<(u128, u128, Unit)>, u64)] = &[
     // 1088 is 2^6 * 17: four decimals in KiB, and three in KB.
@@ -97,21 +81,25 @@ const ONE_STEP_PER_TRIAL_AND_DECIMAL: &[(u128, usize, Option<(u128, u128, Unit)>
 ];
 
 #[test]
-fn one_step_per_trial_and_decimal(rt: HostRuntime) {
+fn chosen_units_and_step_counts(rt: HostRuntime) {
+    for (size, family, divisor, places) in SIZES_EXACT_IN_NO_UNIT {
+        let (choice, _) = chosen(&rt, *size, *family, *divisor, *places);
+        assert_is(&rt, (*size, choice), (*size, None));
+    }
+    for (size, count) in STEP_COUNTS_WITHOUT_AN_EXACT_UNIT {
+        let (_, steps) = chosen(&rt, *size, Family::Bytes, 8, 28);
+        assert_is(&rt, (*size, steps), (*size, *count));
+    }
     for (size, places, choice, count) in ONE_STEP_PER_TRIAL_AND_DECIMAL {
         let found = chosen(&rt, *size, Family::Bytes, 8, *places);
         assert_is(&rt, (*size, found), (*size, (*choice, *count)));
     }
-}
-
-#[test]
-fn step_count_accumulates(rt: HostRuntime) {
     let mut once = Steps::new();
     let _ = choose_unit(1088, Family::Bytes, 8, 3, &mut once);
     let mut twice = once;
     let _ = choose_unit(1088, Family::Bytes, 8, 3, &mut twice);
     assert!(rt; once.count() >= 3 && once.count() < 1000);
-    assert!(rt; twice.count() == 2 * once.count());
+    assert_is(&rt, twice.count(), 2 * once.count());
 }
 
 const LARGEST_UNITS: &[(u128, Family, UnitType, u128, Option<Unit>)] = &[

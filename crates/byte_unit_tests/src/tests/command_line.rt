@@ -1,29 +1,20 @@
 //! Tests of a size as an option of a command line.
-use super::traits::assert_is;
+use super::asserting::assert_is;
 use byte_unit::Byte;
 use byte_unit_uses::command_line::max_size;
 use clap::Error;
-use std::alloc::{AllocError, Global};
+use std::alloc::Global;
+use std::process::Abort;
 
 /// Returns the message and the exit status of an error; an empty message for a size.
-fn failure(
-    alloc: Global,
-    outcome: Result<Option<Byte>, Error>,
-) -> Result<(String, i32), AllocError> {
+fn failure(rt: &impl Abort, alloc: Global, outcome: Result<Option<Byte>, Error>) -> (String, i32) {
     match outcome {
-        Ok(_) => Ok((String::new(alloc), 0)),
-        Err(error) => Ok((format!(in alloc; "{error}")?, error.exit_code())),
+        Ok(_) => (String::new(alloc), 0),
+        Err(error) => {
+            let message = format!(in alloc; "{error}").expect(rt, "memory");
+            (message, error.exit_code())
+        }
     }
-}
-
-#[test]
-fn sizes_of_an_option(rt: HostRuntime) {
-    let alloc = rt.alloc();
-    let size = max_size(alloc, &["copy", "--max-size", "20MB"]).ok();
-    assert_is(&rt, size, Some(Some(Byte::from_u64(20_000_000))));
-    let size = max_size(alloc, &["copy", "--max-size=1.5 GiB"]).ok();
-    assert_is(&rt, size, Some(Some(Byte::from_u64(1_610_612_736))));
-    assert_is(&rt, max_size(alloc, &["copy"]).ok(), Some(None));
 }
 
 const REJECTED: &str =
@@ -35,14 +26,17 @@ For more information, try '--help'.
 ";
 
 #[test]
-fn a_value_that_is_no_size(rt: HostRuntime) -> Result<(), AllocError> {
+fn sizes_of_an_option(rt: HostRuntime) {
     let alloc = rt.alloc();
-    let (message, status) = failure(alloc, max_size(alloc, &["copy", "--max-size", "20XB"]))?;
-    assert_is(&rt, message.as_str(), REJECTED);
+    let size = max_size(alloc, &["copy", "--max-size", "20MB"]).ok();
+    assert_is(&rt, size, Some(Some(Byte::from_u64(20_000_000))));
+    let size = max_size(alloc, &["copy", "--max-size=1.5 GiB"]).ok();
+    assert_is(&rt, size, Some(Some(Byte::from_u64(1_610_612_736))));
+    assert_is(&rt, max_size(alloc, &["copy"]).ok(), Some(None));
+    let (message, status) = failure(&rt, alloc, max_size(alloc, &["copy", "--max-size", "20XB"]));
+    assert_is(&rt, (message.as_str(), status), (REJECTED, 2));
+    let (_, status) = failure(&rt, alloc, max_size(alloc, &["copy", "--max-size"]));
     assert_is(&rt, status, 2);
-    let (_, status) = failure(alloc, max_size(alloc, &["copy", "--max-size"]))?;
-    assert_is(&rt, status, 2);
-    let (_, status) = failure(alloc, max_size(alloc, &["copy", "--help"]))?;
+    let (_, status) = failure(&rt, alloc, max_size(alloc, &["copy", "--help"]));
     assert_is(&rt, status, 0);
-    Ok(())
 }

@@ -1,7 +1,8 @@
 //! Tests of `Decimal`: its parts, order and text.
+use super::asserting::{assert_each, assert_for, assert_is};
 use super::shown::assert_display;
 use byte_unit::Decimal;
-use std::alloc::{AllocError, Global};
+use std::alloc::Global;
 use std::cmp::Ordering;
 use std::hash::{DefaultHasher, Hash, Hasher};
 use std::process::Abort;
@@ -46,31 +47,14 @@ const DECIMALS_BY_MANTISSA_AND_SCALE: &[(u128, u32, Option<(u128, u128)>)] = &[
 /// Asserts the parts of each decimal.
 fn assert_parts(rt: &impl Abort, rows: &[(u128, u32, Option<(u128, u128)>)]) {
     for (mantissa, scale, parts) in rows {
-        let number = Decimal::from_u128_with_scale(*mantissa, *scale);
-        assert!(rt; number.map(parts_of) == *parts, "{mantissa} and {scale}");
+        let number = Decimal::from_u128_with_scale(*mantissa, *scale).map(parts_of);
+        assert_is(rt, (*mantissa, *scale, number), (*mantissa, *scale, *parts));
     }
-}
-
-#[test]
-fn decimals_by_mantissa_and_scale(rt: HostRuntime) {
-    assert_parts(&rt, DECIMALS_BY_MANTISSA_AND_SCALE);
 }
 
 /// Returns the integer part, and the fraction scaled by 10^28.
 pub fn parts_of(number: Decimal) -> (u128, u128) {
     (number.whole(), number.fraction())
-}
-
-#[test]
-fn decimals_at_the_limits(rt: HostRuntime) {
-    let one = 10_000_000_000_000_000_000_000_000_000;
-    let wholes = 5_192_296_858_534_827_628_530_496_329_220_096;
-    let is_none = Decimal::new(0, one).is_none()
-        && Decimal::new(wholes, 0).is_none()
-        && Decimal::from_u128(wholes).is_none();
-    assert!(rt; is_none);
-    let greatest = Decimal::new(wholes - 1, one - 1).expect(&rt, "a decimal");
-    assert!(rt; parts_of(greatest) == (wholes - 1, one - 1) && greatest.places() == 28);
 }
 
 /// The mantissa, the scale, and the text of the decimal.
@@ -84,32 +68,24 @@ const DECIMAL_TEXTS: &[(u128, u32, &str)] = &[
 ];
 
 /// Asserts the `Display` text of each decimal.
-fn assert_decimals(
-    rt: &impl Abort,
-    alloc: Global,
-    rows: &[(u128, u32, &str)],
-) -> Result<(), AllocError> {
+fn assert_decimals(rt: &impl Abort, alloc: Global, rows: &[(u128, u32, &str)]) {
     for (mantissa, scale, text) in rows {
         let number = Decimal::from_u128_with_scale(*mantissa, *scale).expect(rt, "a decimal");
-        assert_display(rt, alloc, &number, text)?;
+        assert_display(rt, alloc, &number, text);
     }
-    Ok(())
-}
-
-#[test]
-fn decimal_texts(rt: HostRuntime) -> Result<(), AllocError> {
-    assert_decimals(&rt, rt.alloc(), DECIMAL_TEXTS)
 }
 
 /// Asserts order, hash and default through the trait bounds, as in a generic caller.
 fn assert_compared<T: Ord + Hash + Default + Copy>(rt: &impl Abort, small: T, great: T) {
-    assert!(rt; small < great && great > small && small != great);
-    assert!(rt; small.max(great) == great && small.cmp(&small) == Ordering::Equal);
-    assert!(rt; T::default() < small);
+    let is_ordered = small < great && great > small && small != great;
+    assert_for(rt, is_ordered, "order");
+    let is_ordered = small.max(great) == great && small.cmp(&small) == Ordering::Equal;
+    assert_for(rt, is_ordered, "greater and equal");
+    assert_for(rt, T::default() < small, "default");
     let (mut first, mut second) = (DefaultHasher::new(), DefaultHasher::new());
     small.hash(&mut first);
     small.hash(&mut second);
-    assert!(rt; first.finish() == second.finish());
+    assert_is(rt, first.finish(), second.finish());
 }
 
 #[test]
@@ -118,20 +94,45 @@ fn decimals_are_ordered_by_value(rt: HostRuntime) {
     let most = Decimal::from_u128_with_scale(99, 2).expect(&rt, "a decimal");
     assert_compared(&rt, half, most);
     assert_compared(&rt, most, Decimal::from(1u8));
-    assert!(rt; Decimal::default() == Decimal::ZERO);
+    assert_for(&rt, Decimal::default() == Decimal::ZERO, "default");
 }
 
 #[test]
-fn whole_numbers(rt: HostRuntime) {
-    let seven = (7, 0);
-    assert!(rt; parts_of(Decimal::from(7u8)) == seven, "u8");
-    let holds = parts_of(Decimal::from(7u16)) == seven
-        && parts_of(Decimal::from(7u32)) == seven
-        && parts_of(Decimal::from(7u64)) == seven
-        && Decimal::from_u128(7).map(parts_of) == Some(seven);
-    assert!(rt; holds);
-    assert!(rt; Decimal::from(7u8).places() == 0);
-    assert!(rt; Decimal::from(u64::MAX).whole() == 18_446_744_073_709_551_615);
+fn decimals_from_integers(rt: HostRuntime) {
+    let one = 10_000_000_000_000_000_000_000_000_000;
+    let wholes = 5_192_296_858_534_827_628_530_496_329_220_096;
+    let greatest = Decimal::new(wholes - 1, one - 1).expect(&rt, "a decimal");
+    let seven = Some((7, 0));
+    assert_each(
+        &rt,
+        &[
+            ("u8", Some(parts_of(Decimal::from(7u8))), seven),
+            ("u16", Some(parts_of(Decimal::from(7u16))), seven),
+            ("u32", Some(parts_of(Decimal::from(7u32))), seven),
+            ("u64", Some(parts_of(Decimal::from(7u64))), seven),
+            ("u128", Decimal::from_u128(7).map(parts_of), seven),
+            (
+                "a fraction of one",
+                Decimal::new(0, one).map(parts_of),
+                None,
+            ),
+            ("2^112", Decimal::new(wholes, 0).map(parts_of), None),
+            (
+                "2^112 from u128",
+                Decimal::from_u128(wholes).map(parts_of),
+                None,
+            ),
+            (
+                "the greatest",
+                Some(parts_of(greatest)),
+                Some((wholes - 1, one - 1)),
+            ),
+        ],
+    );
+    assert_is(&rt, greatest.places(), 28);
+    assert_is(&rt, Decimal::from(7u8).places(), 0);
+    let whole = Decimal::from(u64::MAX).whole();
+    assert_is(&rt, whole, 18_446_744_073_709_551_615);
 }
 
 /// The mantissa, the scale, the digits after the decimal point as a number, and the number of these digits.
@@ -147,16 +148,16 @@ const DIGITS_AFTER_THE_POINT: &[(u128, u32, u128, u32)] = &[
 fn assert_digits(rt: &impl Abort, rows: &[(u128, u32, u128, u32)]) {
     for (mantissa, scale, digits, places) in rows {
         let d = Decimal::from_u128_with_scale(*mantissa, *scale).expect(rt, "a decimal");
-        assert!(rt;
-            d.digits() == *digits && d.places() == *places,
-            "{mantissa}"
-        );
+        let found = (*mantissa, d.digits(), d.places());
+        assert_is(rt, found, (*mantissa, *digits, *places));
         let made = Decimal::from_digits(d.whole(), d.digits(), d.places());
-        assert!(rt; parts_of(made) == parts_of(d), "{mantissa}");
+        assert_is(rt, (*mantissa, parts_of(made)), (*mantissa, parts_of(d)));
     }
 }
 
 #[test]
-fn digits_after_the_point(rt: HostRuntime) {
+fn decimals_by_mantissa_and_scale(rt: HostRuntime) {
+    assert_parts(&rt, DECIMALS_BY_MANTISSA_AND_SCALE);
+    assert_decimals(&rt, rt.alloc(), DECIMAL_TEXTS);
     assert_digits(&rt, DIGITS_AFTER_THE_POINT);
 }

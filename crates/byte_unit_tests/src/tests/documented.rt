@@ -1,8 +1,7 @@
 //! The examples of the Rust crate's documentation, with the corresponding calls of the port.
-use super::shown::{Shown, assert_texts};
-use super::traits::assert_is;
+use super::asserting::assert_is;
+use super::shown::{Shown, assert_row};
 use byte_unit::{Bit, Byte, Decimal, FormatSpec, Unit, UnitType};
-use std::alloc::AllocError;
 
 const UNITS_BY_THEIR_NAMES: &[(&str, bool, bool, Unit)] = &[
     ("K", true, true, Unit::KB),
@@ -31,20 +30,12 @@ fn sizes_from_numbers_and_texts(rt: HostRuntime) {
     assert_is(&rt, made, Some(Byte::from_u64(15_000)));
     let read = Byte::parse_str("50.84 MB", true).ok();
     assert_is(&rt, read, Some(Byte::from_u64(50_840_000)));
-}
-
-#[test]
-fn arithmetic(rt: HostRuntime) {
     let (a, b) = (Byte::from_u64(15_500), Byte::from_u64(500));
     assert_is(&rt, a.add(b), Some(Byte::from_u64(16_000)));
     assert_is(&rt, a.subtract(b), Some(Byte::from_u64(15_000)));
     assert_is(&rt, a.multiply(2), Some(Byte::from_u64(31_000)));
     assert_is(&rt, a.divide(5), Some(Byte::from_u64(3_100)));
     assert_is(&rt, a.divide(0), None);
-}
-
-#[test]
-fn exact_and_recoverable_units(rt: HostRuntime) {
     let size = Byte::from_u64(50_840_000);
     let number = Decimal::from_u128_with_scale(5084, 2).expect(&rt, "a decimal");
     assert_is(&rt, size.get_exact_unit(false), (50_840, Unit::KB));
@@ -54,39 +45,29 @@ fn exact_and_recoverable_units(rt: HostRuntime) {
 }
 
 #[test]
-fn sizes_in_a_unit(rt: HostRuntime) -> Result<(), AllocError> {
+fn sizes_in_a_unit(rt: HostRuntime) {
+    let alloc = rt.alloc();
     let size = Byte::parse_str("123KiB", true).ok().expect(&rt, "a size");
-    let bits = Bit::parse_str("123Kib").ok().expect(&rt, "a size");
-    let adjusted = size.get_adjusted_unit(Unit::KB);
-    let adjusted_bits = bits.get_adjusted_unit(Unit::Kbit);
-    let appropriate = Byte::from_u64(1_500_000).get_appropriate_unit(UnitType::Binary);
-    assert_texts(
-        &rt,
-        rt.alloc(),
-        &[
-            (
-                Shown::AdjustedByte(adjusted),
-                FormatSpec::PLAIN,
-                "125.952 KB",
-            ),
-            (
-                Shown::AdjustedBit(adjusted_bits),
-                FormatSpec::PLAIN,
-                "125.952 Kb",
-            ),
-            (Shown::AdjustedByte(adjusted), places!(2), "125.95 KB"),
-            (Shown::AdjustedBit(adjusted_bits), places!(2), "125.95 Kb"),
-            (Shown::AdjustedByte(appropriate), places!(2), "1.43 MiB"),
-        ],
-    )
+    let adjusted = Shown::AdjustedByte(size.get_adjusted_unit(Unit::KB));
+    assert_row(&rt, alloc, &adjusted, FormatSpec::PLAIN, "125.952 KB");
+    assert_row(&rt, alloc, &adjusted, places!(2), "125.95 KB");
+    let size = Bit::parse_str("123Kib").ok().expect(&rt, "a size");
+    let adjusted = Shown::AdjustedBit(size.get_adjusted_unit(Unit::Kbit));
+    assert_row(&rt, alloc, &adjusted, FormatSpec::PLAIN, "125.952 Kb");
+    assert_row(&rt, alloc, &adjusted, places!(2), "125.95 Kb");
+    let size = Byte::from_u64(1_500_000);
+    let appropriate = Shown::AdjustedByte(size.get_appropriate_unit(UnitType::Binary));
+    assert_row(&rt, alloc, &appropriate, places!(2), "1.43 MiB");
 }
 
 #[test]
-fn append_a_size(rt: HostRuntime) -> Result<(), AllocError> {
-    let mut text = String::from_str(rt.alloc(), "used: ")?;
-    Byte::from_u64(15_500).append_text(FormatSpec::ALTERNATE, &mut text)?;
+fn append_a_size(rt: HostRuntime) {
+    let mut text = String::from_str(rt.alloc(), "used: ").expect(&rt, "memory");
+    let size = Byte::from_u64(15_500);
+    let outcome = size.append_text(FormatSpec::ALTERNATE, &mut text);
+    outcome.expect(&rt, "memory");
     assert_is(&rt, text.as_str(), "used: 15.5 KB");
-    Byte::from_u64(15_500).append_text(precise!(0), &mut text)?;
+    let outcome = size.append_text(precise!(0), &mut text);
+    outcome.expect(&rt, "memory");
     assert_is(&rt, text.as_str(), "used: 15.5 KB15500 B");
-    Ok(())
 }

@@ -1,9 +1,10 @@
 //! Tests of each unit against literals: its bits, its name and its properties.
+use super::asserting::assert_for;
 use super::edges::assert_all_ok;
 use super::long_strings::assert_unit_stored;
-use super::shown::{Shown, assert_display, assert_same};
-use byte_unit::{Bit, Byte, Unit};
-use std::alloc::{AllocError, Global};
+use super::shown::{assert_display, assert_same, great_size_in};
+use byte_unit::{Kind, Unit};
+use std::alloc::Global;
 use std::process::Abort;
 
 /// A unit as literals: its bits, its name, whether it is a unit of bits, whether its prefix is binary, and the
@@ -207,49 +208,33 @@ fn has_properties(unit: Unit, written: &Properties) -> bool {
 
 /// Asserts that a size of one unit in bits is formatted and stored as 1 with the unit's name, and the same number of
 /// bytes as 8.
-fn assert_one_and_eight(
-    rt: &impl Abort,
-    alloc: Global,
-    written: &Properties,
-) -> Result<(), AllocError> {
+fn assert_one_and_eight(rt: &impl Abort, alloc: Global, written: &Properties) {
     let (unit, bits, name) = (written.0, written.1, written.2);
-    let one = Bit::from_u128(bits).expect(rt, "a size");
-    let one = Shown::AdjustedBit(one.get_adjusted_unit(unit));
-    let text = format!(in alloc; "1 {name}")?;
-    assert_all_ok(rt, alloc, one, text.as_str(), text.as_str())?;
-    let eight = Byte::from_u128(bits).expect(rt, "a size");
-    let eight = Shown::AdjustedByte(eight.get_adjusted_unit(unit));
-    let text = format!(in alloc; "8 {name}")?;
-    assert_all_ok(rt, alloc, eight, text.as_str(), text.as_str())
+    for (kind, number) in [(Kind::Bit, 1), (Kind::Byte, 8)] {
+        let shown = great_size_in(rt, kind, bits, unit);
+        let text = format!(in alloc; "{number} {name}").expect(rt, "memory");
+        assert_all_ok(rt, alloc, shown, text.as_str(), text.as_str());
+    }
 }
 
 /// Asserts the properties of each unit, its `Display` text and its JSON string.
-fn assert_written(rt: &impl Abort, alloc: Global, rows: &[Properties]) -> Result<(), AllocError> {
+fn assert_written(rt: &impl Abort, alloc: Global, rows: &[Properties]) {
     for written in rows {
         let (unit, name) = (written.0, written.2);
-        assert!(rt; has_properties(unit, written), "{name}");
-        assert_display(rt, alloc, &unit, name)?;
-        assert_unit_stored(rt, alloc, unit, name)?;
-        assert_one_and_eight(rt, alloc, written)?;
+        assert_for(rt, has_properties(unit, written), name);
+        assert_display(rt, alloc, &unit, name);
+        assert_unit_stored(rt, alloc, unit, name);
+        assert_one_and_eight(rt, alloc, written);
     }
-    Ok(())
 }
 
 #[test]
-fn units_against_literals(rt: HostRuntime) -> Result<(), AllocError> {
-    assert_written(&rt, rt.alloc(), TO_TERA)?;
-    assert_written(&rt, rt.alloc(), FROM_PETA)
-}
-
-#[test]
-fn formatter_flags_are_ignored(rt: HostRuntime) -> Result<(), AllocError> {
+fn units_against_literals(rt: HostRuntime) {
+    let alloc = rt.alloc();
+    assert_written(&rt, alloc, TO_TERA);
+    assert_written(&rt, alloc, FROM_PETA);
+    // The flags of a formatter are ignored.
     let unit = Unit::KiB;
-    assert_same(&rt, format!(in rt.alloc(); "{unit:>8}")?.as_str(), "KiB");
-    assert_same(
-        &rt,
-        format!(in rt.alloc(); "{unit:*^+#9.1}")?.as_str(),
-        "KiB",
-    );
-    assert_same(&rt, format!(in rt.alloc(); "{unit:08}")?.as_str(), "KiB");
-    Ok(())
+    let text = format!(in alloc; "{unit:>8}\n{unit:*^+#9.1}\n{unit:08}").expect(&rt, "memory");
+    assert_same(&rt, text.as_str(), "KiB\nKiB\nKiB");
 }

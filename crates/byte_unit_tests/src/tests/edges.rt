@@ -3,26 +3,28 @@
 //! The contracts of the calls that create a text or a JSON string, and those of `Display`, define the result if the
 //! call returns `Ok`. Here no allocation fails, and each call must return `Ok`.
 use super::shown::{
-    Shown, assert_displays, assert_row, assert_same, assert_string, great_bits, great_bytes, stored,
+    Shown, assert_row, assert_same, assert_shown, assert_string, great_size, great_size_in, stored,
 };
-use byte_unit::{Bit, Byte, Expansion, FormatSpec, Unit, append_layout};
-use std::alloc::{AllocError, Global};
+use byte_unit::{Expansion, FormatSpec, Kind, Unit, append_layout};
+use std::alloc::Global;
 use std::process::Abort;
 
 /// Asserts that each call returns `Ok` with the expected text: the plain one, which is also the `Display` text, and the
 /// one with a unit, which is also the JSON string.
-pub fn assert_all_ok(
-    rt: &impl Abort,
-    alloc: Global,
-    shown: Shown,
-    plain: &str,
-    with_unit: &str,
-) -> Result<(), AllocError> {
-    assert_row(rt, alloc, &shown, FormatSpec::PLAIN, plain)?;
-    assert_row(rt, alloc, &shown, FormatSpec::ALTERNATE, with_unit)?;
-    assert_displays(rt, alloc, &[(shown, plain)])?;
-    assert_string(rt, &stored(&shown, alloc)?, with_unit);
-    Ok(())
+pub fn assert_all_ok(rt: &impl Abort, alloc: Global, shown: Shown, plain: &str, with_unit: &str) {
+    assert_row(rt, alloc, &shown, FormatSpec::PLAIN, plain);
+    assert_row(rt, alloc, &shown, FormatSpec::ALTERNATE, with_unit);
+    assert_shown(rt, alloc, &shown, plain);
+    let value = stored(&shown, alloc).expect(rt, "memory");
+    assert_string(rt, &value, with_unit);
+}
+
+/// Asserts the text of each size of the kind in its unit.
+fn assert_all_ok_in(rt: &impl Abort, alloc: Global, kind: Kind, rows: &[(u128, Unit, &str)]) {
+    for (size, unit, text) in rows {
+        let shown = great_size_in(rt, kind, *size, *unit);
+        assert_all_ok(rt, alloc, shown, text, text);
+    }
 }
 
 /// Sizes, each with its digits and its texts with a unit, as bytes and as bits.
@@ -214,34 +216,16 @@ const BITS_IN_UNITS: &[(u128, Unit, &str)] = &[
 ];
 
 #[test]
-fn sizes(rt: HostRuntime) -> Result<(), AllocError> {
+fn sizes(rt: HostRuntime) {
+    let alloc = rt.alloc();
     for (size, plain, in_bytes, in_bits) in SIZES {
-        let bytes = great_bytes(&rt, *size);
-        let bits = great_bits(&rt, *size);
-        assert_all_ok(&rt, rt.alloc(), bytes, plain, in_bytes)?;
-        assert_all_ok(&rt, rt.alloc(), bits, plain, in_bits)?;
+        let bytes = great_size(&rt, Kind::Byte, *size);
+        let bits = great_size(&rt, Kind::Bit, *size);
+        assert_all_ok(&rt, alloc, bytes, plain, in_bytes);
+        assert_all_ok(&rt, alloc, bits, plain, in_bits);
     }
-    Ok(())
-}
-
-#[test]
-fn bytes_in_units(rt: HostRuntime) -> Result<(), AllocError> {
-    for (size, unit, text) in BYTES_IN_UNITS {
-        let size = Byte::from_u128(*size).expect(&rt, "a size");
-        let adjusted = Shown::AdjustedByte(size.get_adjusted_unit(*unit));
-        assert_all_ok(&rt, rt.alloc(), adjusted, text, text)?;
-    }
-    Ok(())
-}
-
-#[test]
-fn bits_in_units(rt: HostRuntime) -> Result<(), AllocError> {
-    for (size, unit, text) in BITS_IN_UNITS {
-        let size = Bit::from_u128(*size).expect(&rt, "a size");
-        let adjusted = Shown::AdjustedBit(size.get_adjusted_unit(*unit));
-        assert_all_ok(&rt, rt.alloc(), adjusted, text, text)?;
-    }
-    Ok(())
+    assert_all_ok_in(&rt, alloc, Kind::Byte, BYTES_IN_UNITS);
+    assert_all_ok_in(&rt, alloc, Kind::Bit, BITS_IN_UNITS);
 }
 
 /// A numerator, the exponents of 2 and 5 in the denominator, the number of decimals, a unit, and the text.
@@ -315,12 +299,11 @@ const LAYOUTS: &[(u128, u32, u32, u32, Unit, &str)] = &[
 ];
 
 #[test]
-fn layouts(rt: HostRuntime) -> Result<(), AllocError> {
+fn layouts(rt: HostRuntime) {
     for (numerator, twos, fives, places, unit, wanted) in LAYOUTS {
         let number = Expansion::new(*numerator, *twos, *fives);
         let mut text = String::new(rt.alloc());
-        append_layout(&number, *places, *unit, FormatSpec::PLAIN, &mut text)?;
+        append_layout(&number, *places, *unit, FormatSpec::PLAIN, &mut text).expect(&rt, "memory");
         assert_same(&rt, text.as_str(), wanted);
     }
-    Ok(())
 }

@@ -6,19 +6,15 @@ use byte_unit::{
     Decimal, ExceededBoundsError, JsonSizeError, JsonUnitError, ParseError, UnitParseError,
     ValueParseError,
 };
-use std::alloc::{AllocError, Global};
+use std::alloc::Global;
 use std::error::Error;
 use std::fmt::Display;
 use std::process::Abort;
 
-/// Asserts the message of an error through the bound `Error`.
-pub fn assert_text<E: Error>(
-    rt: &impl Abort,
-    alloc: Global,
-    error: &E,
-    wanted: &str,
-) -> Result<(), AllocError> {
-    assert_display(rt, alloc, error, wanted)
+/// Asserts the message of an error through the bound `Error`, and that the flags of a formatter do not change it.
+fn assert_text_and_flags<E: Error>(rt: &impl Abort, alloc: Global, error: &E, wanted: &str) {
+    assert_display(rt, alloc, error, wanted);
+    assert_printed_with_each_flag(rt, alloc, error, wanted);
 }
 
 /// Asserts that a result is an error with the expected message.
@@ -27,79 +23,19 @@ pub fn assert_error<T: Drop, E: Display + Drop>(
     alloc: Global,
     answer: Result<T, E>,
     wanted: &str,
-) -> Result<(), AllocError> {
+) {
     match answer {
         Err(error) => assert_display(rt, alloc, &error, wanted),
         Ok(_) => panic!(rt; "it is read, which was to be rejected: {wanted}"),
     }
 }
 
-/// Asserts that the flags of a formatter do not change the message of an error.
-fn assert_with_flags<E: Error>(
-    rt: &impl Abort,
-    alloc: Global,
-    error: &E,
-    wanted: &str,
-) -> Result<(), AllocError> {
-    assert_printed_with_each_flag(rt, alloc, error, wanted)
-}
-
 /// Asserts the message of a number error by itself, as a parse error and as an error of a JSON string.
-pub fn assert_value_text(
-    rt: &impl Abort,
-    alloc: Global,
-    error: ValueParseError,
-    wanted: &str,
-) -> Result<(), AllocError> {
-    assert_text(rt, alloc, &error, wanted)?;
-    assert_with_flags(rt, alloc, &error, wanted)?;
+pub fn assert_value_text(rt: &impl Abort, alloc: Global, error: ValueParseError, wanted: &str) {
+    assert_text_and_flags(rt, alloc, &error, wanted);
     let read: ParseError = error.into();
-    assert_text(rt, alloc, &read, wanted)?;
-    assert_with_flags(rt, alloc, &read, wanted)?;
-    assert_text(rt, alloc, &JsonSizeError::Parse(read), wanted)
-}
-
-#[test]
-fn number_error_messages(rt: HostRuntime) -> Result<(), AllocError> {
-    let alloc = rt.alloc();
-    let price = Decimal::from_u128_with_scale(5084, 2).expect(&rt, "a decimal");
-    let ronna = Decimal::from_u128(1_000_000_000_000_000_000_000_000_000).expect(&rt, "a decimal");
-    assert_value_text(
-        &rt,
-        alloc,
-        ValueParseError::ExceededBounds(price),
-        "the value 50.84 exceeds the valid range",
-    )?;
-    assert_value_text(
-        &rt,
-        alloc,
-        ValueParseError::ExceededBounds(ronna),
-        "the value 1000000000000000000000000000 exceeds the valid range",
-    )?;
-    assert_value_text(
-        &rt,
-        alloc,
-        ValueParseError::NotNumber('é'),
-        "the character 'é' is not a number",
-    )?;
-    assert_value_text(
-        &rt,
-        alloc,
-        ValueParseError::NotNumber('\t'),
-        "the character '\\t' is not a number",
-    )?;
-    assert_value_text(
-        &rt,
-        alloc,
-        ValueParseError::NoValue,
-        "no value can be found",
-    )?;
-    assert_value_text(
-        &rt,
-        alloc,
-        ValueParseError::NumberTooLong,
-        "value number is too long",
-    )
+    assert_text_and_flags(rt, alloc, &read, wanted);
+    assert_display(rt, alloc, &JsonSizeError::Parse(read), wanted);
 }
 
 /// Creates a unit error from its fields.
@@ -116,22 +52,20 @@ fn unit_error(
 }
 
 /// Asserts the message of a unit error by itself, as a parse error and as an error of a JSON string.
-pub fn assert_unit_text(
+fn assert_unit_text(
     rt: &impl Abort,
     alloc: Global,
     fields: (char, &'static [char], bool),
     wanted: &str,
-) -> Result<(), AllocError> {
+) {
     let (character, expected, or_end) = fields;
     let alone = unit_error(character, expected, or_end);
-    assert_text(rt, alloc, &alone, wanted)?;
-    assert_with_flags(rt, alloc, &alone, wanted)?;
+    assert_text_and_flags(rt, alloc, &alone, wanted);
     let read: ParseError = alone.into();
-    assert_text(rt, alloc, &read, wanted)?;
-    assert_with_flags(rt, alloc, &read, wanted)?;
-    assert_text(rt, alloc, &JsonSizeError::Parse(read), wanted)?;
+    assert_text_and_flags(rt, alloc, &read, wanted);
+    assert_display(rt, alloc, &JsonSizeError::Parse(read), wanted);
     let stored = JsonUnitError::Unit(unit_error(character, expected, or_end));
-    assert_text(rt, alloc, &stored, wanted)
+    assert_display(rt, alloc, &stored, wanted);
 }
 
 /// Asserts the message of each unit error.
@@ -139,11 +73,10 @@ pub fn assert_unit_texts(
     rt: &impl Abort,
     alloc: Global,
     rows: &[(char, &'static [char], bool, &str)],
-) -> Result<(), AllocError> {
+) {
     for (character, expected, or_end, wanted) in rows {
-        assert_unit_text(rt, alloc, (*character, *expected, *or_end), wanted)?;
+        assert_unit_text(rt, alloc, (*character, *expected, *or_end), wanted);
     }
-    Ok(())
 }
 
 /// The message for an `x` where a unit could start.
@@ -185,16 +118,35 @@ const UNIT_ERROR_MESSAGES: &[(char, &[char], bool, &str)] = &[
 ];
 
 #[test]
-fn unit_error_messages(rt: HostRuntime) -> Result<(), AllocError> {
-    assert_unit_texts(&rt, rt.alloc(), UNIT_ERROR_MESSAGES)
-}
-
-#[test]
-fn messages_of_errors_without_fields(rt: HostRuntime) -> Result<(), AllocError> {
+fn messages_of_errors(rt: HostRuntime) {
     let alloc = rt.alloc();
+    let price = Decimal::from_u128_with_scale(5084, 2).expect(&rt, "a decimal");
+    let ronna = Decimal::from_u128(1_000_000_000_000_000_000_000_000_000).expect(&rt, "a decimal");
+    for (error, wanted) in [
+        (
+            ValueParseError::ExceededBounds(price),
+            "the value 50.84 exceeds the valid range",
+        ),
+        (
+            ValueParseError::ExceededBounds(ronna),
+            "the value 1000000000000000000000000000 exceeds the valid range",
+        ),
+        (
+            ValueParseError::NotNumber('é'),
+            "the character 'é' is not a number",
+        ),
+        (
+            ValueParseError::NotNumber('\t'),
+            "the character '\\t' is not a number",
+        ),
+        (ValueParseError::NoValue, "no value can be found"),
+        (ValueParseError::NumberTooLong, "value number is too long"),
+    ] {
+        assert_value_text(&rt, alloc, error, wanted);
+    }
+    assert_unit_texts(&rt, alloc, UNIT_ERROR_MESSAGES);
     let exceeded = "value exceeds the valid range";
-    assert_text(&rt, alloc, &ExceededBoundsError, exceeded)?;
-    assert_with_flags(&rt, alloc, &ExceededBoundsError, exceeded)?;
-    assert_text(&rt, alloc, &JsonSizeError::NotString, "not a JSON string")?;
-    assert_text(&rt, alloc, &JsonUnitError::NotString, "not a JSON string")
+    assert_text_and_flags(&rt, alloc, &ExceededBoundsError, exceeded);
+    assert_display(&rt, alloc, &JsonSizeError::NotString, "not a JSON string");
+    assert_display(&rt, alloc, &JsonUnitError::NotString, "not a JSON string");
 }

@@ -1,7 +1,7 @@
 //! Tests of decimal expansions: their digits, exact and rounded.
+use super::asserting::assert_is;
 use super::shown::assert_display;
 use byte_unit::{Decimal, Expansion, Ties};
-use std::alloc::AllocError;
 use std::process::Abort;
 
 /// The mantissa, the scale, the integer part, the number of decimals, and the last digit.
@@ -18,62 +18,22 @@ fn assert_digits(rt: &impl Abort, rows: &[(u128, u32, u128, u32, u8)]) {
     for (mantissa, scale, whole, places, last) in rows {
         let d = Decimal::from_u128_with_scale(*mantissa, *scale).expect(rt, "a decimal");
         let e = Expansion::from_decimal(d);
-        let is_so = e.whole() == *whole && e.places() == *places;
-        let is_past = e.digit(places.saturating_add(1)) == 0 && e.digit(u32::MAX) == 0;
-        assert!(rt;
-            is_so && e.digit((*places).max(1)) == *last && is_past,
-            "{mantissa}"
+        let found = (*mantissa, e.whole(), e.places(), e.digit((*places).max(1)));
+        assert_is(rt, found, (*mantissa, *whole, *places, *last));
+        let past = (
+            *mantissa,
+            e.digit(places.saturating_add(1)),
+            e.digit(u32::MAX),
         );
+        assert_is(rt, past, (*mantissa, 0, 0));
     }
-}
-
-#[test]
-fn digits_of_decimals(rt: HostRuntime) {
-    assert_digits(&rt, DIGITS_OF_DECIMALS);
 }
 
 /// Asserts the digits that begin at a position.
 fn assert_from(rt: &impl Abort, e: &Expansion, from: u32, digits: &[u8]) {
     for (i, digit) in (from..u32::MAX).zip(digits.iter()) {
         assert!(rt; i >= 1);
-        assert!(rt; e.digit(i) == *digit, "at {i}");
-    }
-}
-
-#[test]
-fn one_in_yobibytes_and_robibytes(rt: HostRuntime) {
-    let e = Expansion::new(1, 83, 0);
-    assert!(rt; e.whole() == 0 && e.places() == 83);
-    assert_from(&rt, &e, 1, &[0; 24]);
-    // 5^83 begins with 10339 and ends with 328125.
-    assert_from(&rt, &e, 25, &[1, 0, 3, 3, 9]);
-    assert_from(&rt, &e, 78, &[3, 2, 8, 1, 2, 5]);
-    let e = Expansion::new(1, 93, 0);
-    assert!(rt; e.places() == 93);
-    // 5^93 begins with 10097 and ends with 703125.
-    assert_from(&rt, &e, 27, &[0, 1, 0, 0, 9]);
-    assert_from(&rt, &e, 88, &[7, 0, 3, 1, 2, 5]);
-}
-
-#[test]
-fn denominators_of_2_and_5(rt: HostRuntime) {
-    for (numerator, twos, fives, whole, places, first) in [
-        (13, 3, 0, 1, 3, 6),
-        (7, 1, 1, 0, 1, 7),
-        (6, 0, 1, 1, 1, 2),
-        (1024, 10, 0, 1, 0, 0),
-        (
-            7_999_999_999_999_999_999_999_999_999_999,
-            0,
-            0,
-            7_999_999_999_999_999_999_999_999_999_999,
-            0,
-            0,
-        ),
-    ] {
-        let e = Expansion::new(numerator, twos, fives);
-        assert!(rt; e.whole() == whole && e.places() == places, "{e}");
-        assert!(rt; e.digit(1) == first, "{e}");
+        assert_is(rt, (i, e.digit(i)), (i, *digit));
     }
 }
 
@@ -104,38 +64,77 @@ fn assert_rounded(rt: &impl Abort, rows: &[(u128, u32, u32, Rounded, Rounded)]) 
         let e = Expansion::from_decimal(d);
         let to_even = parts_of(&e.rounded(*places, Ties::Even));
         let to_up = parts_of(&e.rounded(*places, Ties::Up));
-        assert!(rt; to_even == *even && to_up == *up, "{mantissa}");
+        assert_is(rt, (*mantissa, to_even, to_up), (*mantissa, *even, *up));
     }
 }
 
 #[test]
-fn rounded_to_even_and_up(rt: HostRuntime) {
+fn decimals_and_rounding(rt: HostRuntime) {
+    assert_digits(&rt, DIGITS_OF_DECIMALS);
     assert_rounded(&rt, ROUNDED_TO_EVEN_AND_UP);
 }
 
 #[test]
-fn printed(rt: HostRuntime) -> Result<(), AllocError> {
-    for (numerator, twos, fives, text) in [
-        (13, 3, 0, "1.625"),
-        (8, 3, 0, "1"),
-        (0, 3, 0, "0"),
-        (1, 6, 3, "0.000125"),
-        (1005, 2, 2, "10.05"),
-        (
-            1,
-            83,
-            0,
-            "0.00000000000000000000000010339757656912845935892608650874535669572651386260986328125",
-        ),
-        (
-            1,
-            93,
-            0,
-            "0.000000000000000000000000000100974195868289511092701256356196637398170423693954944610595703125",
-        ),
-    ] {
-        let e = Expansion::new(numerator, twos, fives);
-        assert_display(&rt, rt.alloc(), &e, text)?;
+fn one_in_yobibytes_and_robibytes(rt: HostRuntime) {
+    let e = Expansion::new(1, 83, 0);
+    assert_is(&rt, (e.whole(), e.places()), (0, 83));
+    assert_from(&rt, &e, 1, &[0; 24]);
+    // 5^83 begins with 10339 and ends with 328125.
+    assert_from(&rt, &e, 25, &[1, 0, 3, 3, 9]);
+    assert_from(&rt, &e, 78, &[3, 2, 8, 1, 2, 5]);
+    let e = Expansion::new(1, 93, 0);
+    assert_is(&rt, e.places(), 93);
+    // 5^93 begins with 10097 and ends with 703125.
+    assert_from(&rt, &e, 27, &[0, 1, 0, 0, 9]);
+    assert_from(&rt, &e, 88, &[7, 0, 3, 1, 2, 5]);
+}
+
+/// A numerator, the exponents of 2 and 5 in the denominator, the integer part, the number of decimals, and the first one.
+const DENOMINATORS_OF_2_AND_5: &[(u128, u32, u32, u128, u32, u8)] = &[
+    (13, 3, 0, 1, 3, 6),
+    (7, 1, 1, 0, 1, 7),
+    (6, 0, 1, 1, 1, 2),
+    (1024, 10, 0, 1, 0, 0),
+    (
+        7_999_999_999_999_999_999_999_999_999_999,
+        0,
+        0,
+        7_999_999_999_999_999_999_999_999_999_999,
+        0,
+        0,
+    ),
+];
+
+/// A numerator, the exponents of 2 and 5 in the denominator, and the text.
+const PRINTED: &[(u128, u32, u32, &str)] = &[
+    (13, 3, 0, "1.625"),
+    (8, 3, 0, "1"),
+    (0, 3, 0, "0"),
+    (1, 6, 3, "0.000125"),
+    (1005, 2, 2, "10.05"),
+    (
+        1,
+        83,
+        0,
+        "0.00000000000000000000000010339757656912845935892608650874535669572651386260986328125",
+    ),
+    (
+        1,
+        93,
+        0,
+        "0.000000000000000000000000000100974195868289511092701256356196637398170423693954944610595703125",
+    ),
+];
+
+#[test]
+fn denominators_of_2_and_5(rt: HostRuntime) {
+    for (numerator, twos, fives, whole, places, first) in DENOMINATORS_OF_2_AND_5 {
+        let e = Expansion::new(*numerator, *twos, *fives);
+        let found = (*numerator, e.whole(), e.places(), e.digit(1));
+        assert_is(&rt, found, (*numerator, *whole, *places, *first));
     }
-    Ok(())
+    for (numerator, twos, fives, text) in PRINTED {
+        let e = Expansion::new(*numerator, *twos, *fives);
+        assert_display(&rt, rt.alloc(), &e, text);
+    }
 }

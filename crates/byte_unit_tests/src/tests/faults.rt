@@ -19,11 +19,6 @@ const NUMBER_ERRORS: &[(&str, Expected)] = &[
     ("\u{661}", Expected::NotNumber('\u{661}')),
 ];
 
-#[test]
-fn number_errors(rt: HostRuntime) {
-    assert_always(&rt, NUMBER_ERRORS);
-}
-
 const NUMBERS_TOO_LONG: &[(&str, Expected)] = &[
     ("9.00000000000000000000000000001", Expected::NumberTooLong),
     ("1.00000000000000000000000000000", Expected::NumberTooLong),
@@ -36,11 +31,6 @@ const NUMBERS_TOO_LONG: &[(&str, Expected)] = &[
         Expected::NumberTooLong,
     ),
 ];
-
-#[test]
-fn numbers_too_long(rt: HostRuntime) {
-    assert_always(&rt, NUMBERS_TOO_LONG);
-}
 
 const ERRORS_BEFORE_A_UNIT: &[(&str, Expected)] = &[
     ("1\tKB", Expected::Unit('\t', &TEN, true)),
@@ -58,11 +48,6 @@ const ERRORS_BEFORE_A_UNIT: &[(&str, Expected)] = &[
     ("12.50 Kbi", Expected::Unit('i', &[], true)),
 ];
 
-#[test]
-fn errors_before_a_unit(rt: HostRuntime) {
-    assert_always(&rt, ERRORS_BEFORE_A_UNIT);
-}
-
 const ERRORS_WITHIN_A_UNIT: &[(&str, Expected)] = &[
     ("1Ké", Expected::Unit('é', &['B', 'b'], true)),
     ("1Kié", Expected::Unit('é', &['B', 'b'], true)),
@@ -77,25 +62,12 @@ const ERRORS_WITHIN_A_UNIT: &[(&str, Expected)] = &[
     ("1bit\u{17F}", Expected::Unit('\u{17F}', &['s'], true)),
 ];
 
-#[test]
-fn errors_within_a_unit(rt: HostRuntime) {
-    assert_all_bytes(&rt, false, ERRORS_WITHIN_A_UNIT);
-    assert_all_bits(&rt, ERRORS_WITHIN_A_UNIT);
-}
-
-#[test]
-fn errors_ignoring_case(rt: HostRuntime) {
-    assert_all_bytes(
-        &rt,
-        true,
-        &[
-            ("1Ké", Expected::Unit('é', &['B'], true)),
-            ("1Kié", Expected::Unit('é', &['B'], true)),
-            ("1kIé", Expected::Unit('é', &['B'], true)),
-            ("1bié", Expected::Unit('é', &['t'], false)),
-        ],
-    );
-}
+const ERRORS_IGNORING_CASE: &[(&str, Expected)] = &[
+    ("1Ké", Expected::Unit('é', &['B'], true)),
+    ("1Kié", Expected::Unit('é', &['B'], true)),
+    ("1kIé", Expected::Unit('é', &['B'], true)),
+    ("1bié", Expected::Unit('é', &['t'], false)),
+];
 
 const LEFTMOST_ERROR: &[(&str, Expected)] = &[
     ("x x", Expected::NotNumber('x')),
@@ -111,12 +83,6 @@ const LEFTMOST_ERROR: &[(&str, Expected)] = &[
     ),
 ];
 
-#[test]
-fn leftmost_error(rt: HostRuntime) {
-    assert_all_bytes(&rt, false, LEFTMOST_ERROR);
-    assert_all_bits(&rt, LEFTMOST_ERROR);
-}
-
 /// At each position where the parser switches from bytes to characters.
 const NON_ASCII_CHARACTER_IN_A_NUMBER: &[(&str, Expected)] = &[
     ("1.é", Expected::NotNumber('é')),
@@ -124,11 +90,6 @@ const NON_ASCII_CHARACTER_IN_A_NUMBER: &[(&str, Expected)] = &[
     ("1.\u{80}", Expected::NotNumber('\u{80}')),
     ("\u{1F600}", Expected::NotNumber('\u{1F600}')),
 ];
-
-#[test]
-fn non_ascii_character_in_a_number(rt: HostRuntime) {
-    assert_always(&rt, NON_ASCII_CHARACTER_IN_A_NUMBER);
-}
 
 const NON_ASCII_CHARACTER_AFTER_A_NUMBER: &[(&str, Expected)] = &[
     ("1\u{7F}", Expected::Unit('\u{7F}', &TEN, true)),
@@ -153,11 +114,6 @@ const NON_ASCII_CHARACTER_AFTER_A_NUMBER: &[(&str, Expected)] = &[
     ),
 ];
 
-#[test]
-fn non_ascii_character_after_a_number(rt: HostRuntime) {
-    assert_always(&rt, NON_ASCII_CHARACTER_AFTER_A_NUMBER);
-}
-
 const NON_ASCII_CHARACTER_IN_A_UNIT: &[(&str, Expected)] = &[
     ("1K\u{80}", Expected::Unit('\u{80}', &['B', 'b'], true)),
     ("1Ki\u{80}", Expected::Unit('\u{80}', &['B', 'b'], true)),
@@ -168,7 +124,21 @@ const NON_ASCII_CHARACTER_IN_A_UNIT: &[(&str, Expected)] = &[
 ];
 
 #[test]
-fn non_ascii_character_in_a_unit(rt: HostRuntime) {
+fn errors_with_any_flag(rt: HostRuntime) {
+    assert_always(&rt, NUMBER_ERRORS);
+    assert_always(&rt, NUMBERS_TOO_LONG);
+    assert_always(&rt, ERRORS_BEFORE_A_UNIT);
+    assert_always(&rt, NON_ASCII_CHARACTER_IN_A_NUMBER);
+    assert_always(&rt, NON_ASCII_CHARACTER_AFTER_A_NUMBER);
+}
+
+#[test]
+fn errors_by_case(rt: HostRuntime) {
+    assert_all_bytes(&rt, false, ERRORS_WITHIN_A_UNIT);
+    assert_all_bits(&rt, ERRORS_WITHIN_A_UNIT);
+    assert_all_bytes(&rt, true, ERRORS_IGNORING_CASE);
+    assert_all_bytes(&rt, false, LEFTMOST_ERROR);
+    assert_all_bits(&rt, LEFTMOST_ERROR);
     assert_all_bytes(&rt, false, NON_ASCII_CHARACTER_IN_A_UNIT);
     assert_all_bits(&rt, NON_ASCII_CHARACTER_IN_A_UNIT);
 }

@@ -1,6 +1,8 @@
 //! Tests that the flags of a formatter do not change the text of a number or a size.
+use super::asserting::assert_for;
+use super::shown::assert_same;
 use byte_unit::{Bit, Byte, Decimal, Expansion, FormatSpec, Unit};
-use std::alloc::{AllocError, Global};
+use std::alloc::Global;
 use std::fmt::Display;
 use std::process::Abort;
 
@@ -9,29 +11,15 @@ pub fn assert_printed_with_each_flag<D: Display>(
     rt: &impl Abort,
     alloc: Global,
     value: &D,
-    text: &str,
-) -> Result<(), AllocError> {
+    wanted: &str,
+) {
     let printed = format!(in alloc;
         "{value}\n{value:>200}\n{value:*^040}\n{value:+}\n{value:.1}\n{value:#}"
-    )?;
+    );
+    let printed = printed.expect(rt, "memory");
     for line in printed.as_str().split('\n') {
-        assert!(rt; line == text, "{text}");
+        assert_same(rt, line, wanted);
     }
-    Ok(())
-}
-
-#[test]
-fn formatter_flags_are_ignored(rt: HostRuntime) -> Result<(), AllocError> {
-    let alloc = rt.alloc();
-    let bytes = Byte::from_u64(1_555_000);
-    let bits = Bit::from_u64(1_555_000);
-    let number = Decimal::from_u128_with_scale(1555, 3).expect(&rt, "a decimal");
-    assert_printed_with_each_flag(&rt, alloc, &bytes, "1555000")?;
-    assert_printed_with_each_flag(&rt, alloc, &bits, "1555000")?;
-    assert_printed_with_each_flag(&rt, alloc, &bytes.get_adjusted_unit(Unit::MB), "1.555 MB")?;
-    assert_printed_with_each_flag(&rt, alloc, &bits.get_adjusted_unit(Unit::Mbit), "1.555 Mb")?;
-    assert_printed_with_each_flag(&rt, alloc, &number, "1.555")?;
-    assert_printed_with_each_flag(&rt, alloc, &Expansion::from_decimal(number), "1.555")
 }
 
 /// Returns the default of a type.
@@ -40,6 +28,17 @@ fn default_of<T: Default>() -> T {
 }
 
 #[test]
-fn default_spec_is_plain(rt: HostRuntime) {
-    assert!(rt; default_of::<FormatSpec>() == FormatSpec::PLAIN);
+fn formatter_flags_are_ignored(rt: HostRuntime) {
+    let alloc = rt.alloc();
+    let bytes = Byte::from_u64(1_555_000);
+    let bits = Bit::from_u64(1_555_000);
+    let number = Decimal::from_u128_with_scale(1555, 3).expect(&rt, "a decimal");
+    assert_printed_with_each_flag(&rt, alloc, &bytes, "1555000");
+    assert_printed_with_each_flag(&rt, alloc, &bits, "1555000");
+    assert_printed_with_each_flag(&rt, alloc, &bytes.get_adjusted_unit(Unit::MB), "1.555 MB");
+    assert_printed_with_each_flag(&rt, alloc, &bits.get_adjusted_unit(Unit::Mbit), "1.555 Mb");
+    assert_printed_with_each_flag(&rt, alloc, &number, "1.555");
+    assert_printed_with_each_flag(&rt, alloc, &Expansion::from_decimal(number), "1.555");
+    let is_plain = default_of::<FormatSpec>() == FormatSpec::PLAIN;
+    assert_for(&rt, is_plain, "the default spec is plain");
 }

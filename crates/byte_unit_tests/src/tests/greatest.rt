@@ -1,8 +1,11 @@
 //! Tests of the `Display` text of the minimum and maximum of each type, and of values with the most decimals.
 use super::error_texts::assert_value_text;
-use super::shown::{Shown, assert_display, assert_displays, bits, bytes, great_bytes};
-use byte_unit::{Bit, Byte, Decimal, Expansion, Unit, ValueParseError};
-use std::alloc::AllocError;
+use super::shown::{
+    Shown, assert_display, assert_displays, bits, bytes, great_size, great_size_in,
+};
+use byte_unit::{Bit, Byte, Decimal, Expansion, Kind, Unit, ValueParseError};
+use std::alloc::Global;
+use std::process::Abort;
 
 /// The maximum integer part of a decimal: 2^112 - 1.
 const WHOLES: u128 = 5_192_296_858_534_827_628_530_496_329_220_095;
@@ -45,19 +48,6 @@ const DECIMALS: &[(u128, u128, &str)] = &[
     ),
 ];
 
-#[test]
-fn decimals(rt: HostRuntime) -> Result<(), AllocError> {
-    for (whole, fraction, text) in DECIMALS {
-        let number = Decimal::new(*whole, *fraction).expect(&rt, "a decimal");
-        assert_display(&rt, rt.alloc(), &number, text)?;
-        assert_display(&rt, rt.alloc(), &Expansion::from_decimal(number), text)?;
-        let error = ValueParseError::ExceededBounds(number);
-        let text = format!(in rt.alloc(); "the value {text} exceeds the valid range")?;
-        assert_value_text(&rt, rt.alloc(), error, text.as_str())?;
-    }
-    Ok(())
-}
-
 const EXPANSIONS: &[(u128, u32, u32, &str)] = &[
     (0, 0, 0, "0"),
     (0, 93, 0, "0"),
@@ -97,20 +87,34 @@ const EXPANSIONS: &[(u128, u32, u32, &str)] = &[
     (1, 27, 27, "0.000000000000000000000000001"),
 ];
 
-#[test]
-fn expansions(rt: HostRuntime) -> Result<(), AllocError> {
-    for (numerator, twos, fives, text) in EXPANSIONS {
-        let number = Expansion::new(*numerator, *twos, *fives);
-        assert_display(&rt, rt.alloc(), &number, text)?;
+/// Asserts the text of each decimal, as itself, as an expansion and in the message of an error.
+fn assert_decimals(rt: &impl Abort, alloc: Global, rows: &[(u128, u128, &str)]) {
+    for (whole, fraction, text) in rows {
+        let number = Decimal::new(*whole, *fraction).expect(rt, "a decimal");
+        assert_display(rt, alloc, &number, text);
+        assert_display(rt, alloc, &Expansion::from_decimal(number), text);
+        let error = ValueParseError::ExceededBounds(number);
+        let text = format!(in alloc; "the value {text} exceeds the valid range");
+        assert_value_text(rt, alloc, error, text.expect(rt, "memory").as_str());
     }
-    Ok(())
 }
 
 #[test]
-fn sizes(rt: HostRuntime) -> Result<(), AllocError> {
+fn numbers(rt: HostRuntime) {
+    assert_decimals(&rt, rt.alloc(), DECIMALS);
+    for (numerator, twos, fives, text) in EXPANSIONS {
+        let number = Expansion::new(*numerator, *twos, *fives);
+        assert_display(&rt, rt.alloc(), &number, text);
+    }
+}
+
+/// The maximum size.
+const MAX_SIZE: u128 = 999_999_999_999_999_999_999_999_999_999;
+
+#[test]
+fn sizes(rt: HostRuntime) {
     let great = 100_000_000_000_000_000_000_000_000_000;
-    let in_bits = Shown::Bit(Bit::from_u128(great).expect(&rt, "a size"));
-    let past = Shown::Bit(Bit::from_u128(18_446_744_073_709_551_616).expect(&rt, "a size"));
+    let past = 18_446_744_073_709_551_616;
     assert_displays(
         &rt,
         rt.alloc(),
@@ -119,61 +123,52 @@ fn sizes(rt: HostRuntime) -> Result<(), AllocError> {
             (Shown::Bit(Bit::MAX), "999999999999999999999999999999"),
             (bytes(18_446_744_073_709_551_615), "18446744073709551615"),
             (bits(18_446_744_073_709_551_615), "18446744073709551615"),
+            (great_size(&rt, Kind::Byte, past), "18446744073709551616"),
+            (great_size(&rt, Kind::Bit, past), "18446744073709551616"),
             (
-                great_bytes(&rt, 18_446_744_073_709_551_616),
-                "18446744073709551616",
+                great_size(&rt, Kind::Byte, great),
+                "100000000000000000000000000000",
             ),
-            (past, "18446744073709551616"),
-            (great_bytes(&rt, great), "100000000000000000000000000000"),
-            (in_bits, "100000000000000000000000000000"),
+            (
+                great_size(&rt, Kind::Bit, great),
+                "100000000000000000000000000000",
+            ),
         ],
-    )
+    );
 }
 
-/// Returns the maximum size in bytes, in a unit.
-fn max_bytes(unit: Unit) -> Shown {
-    Shown::AdjustedByte(Byte::MAX.get_adjusted_unit(unit))
-}
+/// The maximum size in units: the kind, the unit, and the text.
+const MAXIMUM_SIZE_IN_UNITS: &[(Kind, Unit, &str)] = &[
+    (Kind::Byte, Unit::Bit, "7999999999999999999999999999992 b"),
+    (Kind::Byte, Unit::B, "999999999999999999999999999999 B"),
+    (
+        Kind::Byte,
+        Unit::Kbit,
+        "7999999999999999999999999999.992 Kb",
+    ),
+    (Kind::Byte, Unit::YB, "999999.999999999999999999999999 YB"),
+    (Kind::Byte, Unit::RB, "999.999999999999999999999999999 RB"),
+    (
+        Kind::Byte,
+        Unit::RiB,
+        "807.793566946316088741610050848765305618417073462897946833916051900814636610448360443115234375 RiB",
+    ),
+    (Kind::Bit, Unit::Bit, "999999999999999999999999999999 b"),
+    (Kind::Bit, Unit::B, "124999999999999999999999999999.875 B"),
+    (Kind::Bit, Unit::Kbit, "999999999999999999999999999.999 Kb"),
+    (Kind::Bit, Unit::YB, "124999.999999999999999999999999875 YB"),
+    (Kind::Bit, Unit::RB, "124.999999999999999999999999999875 RB"),
+    (
+        Kind::Bit,
+        Unit::RiB,
+        "100.974195868289511092701256356095663202302134182862243354239506487601829576306045055389404296875 RiB",
+    ),
+];
 
 #[test]
-fn bytes_in_units(rt: HostRuntime) -> Result<(), AllocError> {
-    assert_displays(
-        &rt,
-        rt.alloc(),
-        &[
-            (max_bytes(Unit::Bit), "7999999999999999999999999999992 b"),
-            (max_bytes(Unit::B), "999999999999999999999999999999 B"),
-            (max_bytes(Unit::Kbit), "7999999999999999999999999999.992 Kb"),
-            (max_bytes(Unit::YB), "999999.999999999999999999999999 YB"),
-            (max_bytes(Unit::RB), "999.999999999999999999999999999 RB"),
-            (
-                max_bytes(Unit::RiB),
-                "807.793566946316088741610050848765305618417073462897946833916051900814636610448360443115234375 RiB",
-            ),
-        ],
-    )
-}
-
-/// Returns the maximum size in bits, in a unit.
-fn max_bits(unit: Unit) -> Shown {
-    Shown::AdjustedBit(Bit::MAX.get_adjusted_unit(unit))
-}
-
-#[test]
-fn bits_in_units(rt: HostRuntime) -> Result<(), AllocError> {
-    assert_displays(
-        &rt,
-        rt.alloc(),
-        &[
-            (max_bits(Unit::Bit), "999999999999999999999999999999 b"),
-            (max_bits(Unit::B), "124999999999999999999999999999.875 B"),
-            (max_bits(Unit::Kbit), "999999999999999999999999999.999 Kb"),
-            (max_bits(Unit::YB), "124999.999999999999999999999999875 YB"),
-            (max_bits(Unit::RB), "124.999999999999999999999999999875 RB"),
-            (
-                max_bits(Unit::RiB),
-                "100.974195868289511092701256356095663202302134182862243354239506487601829576306045055389404296875 RiB",
-            ),
-        ],
-    )
+fn maximum_size_in_units(rt: HostRuntime) {
+    for (kind, unit, text) in MAXIMUM_SIZE_IN_UNITS {
+        let shown = great_size_in(&rt, *kind, MAX_SIZE, *unit);
+        assert_displays(&rt, rt.alloc(), &[(shown, text)]);
+    }
 }

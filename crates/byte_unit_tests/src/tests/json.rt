@@ -1,14 +1,15 @@
 //! Tests of sizes and units as JSON strings, and of JSON objects with them.
 use super::answers::Expected;
+use super::asserting::assert_is;
 use super::long_strings::{assert_rejected_by_each, assert_unit, assert_unit_stored};
 use super::shown::{
-    Shown, assert_stored, assert_string, bits, bits_in, bytes, bytes_in, read_like, stored,
+    Shown, assert_stored, assert_string, bits, bits_in, bytes, bytes_in, great_size_in, read_like,
+    stored,
 };
-use byte_unit::{Bit, Byte, Unit, unit_to_json};
+use byte_unit::{Bit, Byte, Kind, Unit, unit_to_json};
 use serde_json::{Map, Value};
 use std::alloc::{AllocError, Global};
 use std::process::Abort;
-use std::test::Fail;
 
 /// Returns sizes, each with its JSON string.
 fn sizes_and_strings() -> [(Shown, &'static str); 7] {
@@ -24,19 +25,13 @@ fn sizes_and_strings() -> [(Shown, &'static str); 7] {
 }
 
 #[test]
-fn sizes_and_units_as_strings(rt: HostRuntime) -> Result<(), AllocError> {
-    assert_stored(&rt, rt.alloc(), &sizes_and_strings())?;
-    assert_unit_stored(&rt, rt.alloc(), Unit::Kbit, "Kb")
-}
-
-#[test]
-fn adjusted_sizes_round_trip(rt: HostRuntime) -> Result<(), AllocError> {
+fn sizes_and_units_round_trip(rt: HostRuntime) {
+    assert_stored(&rt, rt.alloc(), &sizes_and_strings());
+    assert_unit_stored(&rt, rt.alloc(), Unit::Kbit, "Kb");
     let most = Shown::AdjustedByte(Byte::MAX.get_adjusted_unit(Unit::YiB));
     let max_bits = Shown::AdjustedBit(Bit::MAX.get_adjusted_unit(Unit::YiB));
-    let before_last = Byte::from_u128(999_999_999_999_999_999_999_999_999_998).expect(
-        &rt, "a size",
-    );
-    let before_last = Shown::AdjustedByte(before_last.get_adjusted_unit(Unit::KB));
+    let before_last = 999_999_999_999_999_999_999_999_999_998;
+    let before_last = great_size_in(&rt, Kind::Byte, before_last, Unit::KB);
     assert_stored(
         &rt,
         rt.alloc(),
@@ -54,20 +49,14 @@ fn adjusted_sizes_round_trip(rt: HostRuntime) -> Result<(), AllocError> {
             ),
             (max_bits, "999999999999999999999999999.999 Kb"),
         ],
-    )
+    );
 }
 
 /// Asserts that a size is stored as a string with too many decimals to be parsed, as each type.
-fn assert_too_long(
-    rt: &impl Abort,
-    alloc: Global,
-    shown: &Shown,
-    wanted: &str,
-) -> Result<(), AllocError> {
-    let value = stored(shown, alloc)?;
+fn assert_too_long(rt: &impl Abort, alloc: Global, shown: &Shown, wanted: &str) {
+    let value = stored(shown, alloc).expect(rt, "memory");
     assert_string(rt, &value, wanted);
     assert_rejected_by_each(rt, &value, Expected::NumberTooLong);
-    Ok(())
 }
 
 /// One byte in `RiB`: the 90 decimals of 2^-90.
@@ -79,7 +68,7 @@ const ONE_BIT_IN_RIB: &str =
     "0.000000000000000000000000000100974195868289511092701256356196637398170423693954944610595703125 RiB";
 
 #[test]
-fn adjusted_sizes_with_too_many_decimals(rt: HostRuntime) -> Result<(), AllocError> {
+fn adjusted_sizes_with_too_many_decimals(rt: HostRuntime) {
     for (shown, wanted) in [
         (
             bytes_in(1, Unit::GiB),
@@ -92,48 +81,27 @@ fn adjusted_sizes_with_too_many_decimals(rt: HostRuntime) -> Result<(), AllocErr
         (bytes_in(1, Unit::RiB), ONE_BYTE_IN_RIB),
         (bits_in(1, Unit::RiB), ONE_BIT_IN_RIB),
     ] {
-        assert_too_long(&rt, rt.alloc(), &shown, wanted)?;
+        assert_too_long(&rt, rt.alloc(), &shown, wanted);
     }
-    assert!(rt; ONE_BYTE_IN_RIB.len() == 2 + 90 + 4 && ONE_BIT_IN_RIB.len() == 2 + 93 + 4);
-    Ok(())
-}
-
-/// The maximum size of v1 in `YiB`: three digits, the decimal point, 80 decimals, a space and the unit.
-#[test]
-fn maximum_size_of_v1(rt: HostRuntime) -> Result<(), AllocError> {
-    let old = Byte::from_u128(999_999_999_999_999_999_999_999_999).expect(&rt, "a size");
-    let old = Shown::AdjustedByte(old.get_adjusted_unit(Unit::YiB));
-    let value = stored(&old, rt.alloc())?;
-    let len = value.as_str().map_or(0, str::len);
-    assert!(rt; len == 3 + 1 + 80 + 4);
+    assert_is(&rt, ONE_BYTE_IN_RIB.len(), 2 + 90 + 4);
+    assert_is(&rt, ONE_BIT_IN_RIB.len(), 2 + 93 + 4);
+    // The maximum size of v1: three digits, the decimal point, 80 decimals, a space and the unit.
+    let old = 999_999_999_999_999_999_999_999_999;
+    let old = great_size_in(&rt, Kind::Byte, old, Unit::YiB);
+    let value = stored(&old, rt.alloc()).expect(&rt, "memory");
+    assert_is(&rt, value.as_str().map(str::len), Some(3 + 1 + 80 + 4));
     assert_rejected_by_each(&rt, &value, Expected::NumberTooLong);
-    Ok(())
 }
 
 /// Returns a member of an object, or null if it has none by that name.
 fn member<'a>(settings: &'a Value, name: &str, null: &'a Value) -> &'a Value {
-    match settings.get(name) {
-        Some(value) => value,
-        None => null,
-    }
+    settings.get(name).unwrap_or(null)
 }
 
 /// Asserts the size that a member represents, parsed as the type of `like`.
 fn assert_member(rt: &impl Abort, settings: &Value, name: &str, like: &Shown, wanted: u128) {
-    match read_like(like, member(settings, name, &Value::Null)) {
-        Ok(size) => assert!(rt; size == wanted, "{name}"),
-        Err(_) => panic!(rt; "{name} is rejected"),
-    }
-}
-
-#[test]
-fn parse_settings(rt: HostRuntime) -> Result<(), Fail> {
-    let text = "{ \"cache\": \"1.5 GiB\", \"upload\": \"20 MB\", \"line\": \"100 Mb\" }";
-    let settings = Value::from_str(rt.alloc(), text)?;
-    assert_member(&rt, &settings, "cache", &bytes(0), 1_610_612_736);
-    assert_member(&rt, &settings, "upload", &bytes(0), 20_000_000);
-    assert_member(&rt, &settings, "line", &bits(0), 100_000_000);
-    Ok(())
+    let read = read_like(like, member(settings, name, &Value::Null)).ok();
+    assert_is(rt, (name, read), (name, Some(wanted)));
 }
 
 /// Adds a member to an object.
@@ -182,9 +150,15 @@ fn assert_of_each_type(rt: &impl Abort, settings: &Value) {
 }
 
 #[test]
-fn settings_round_trip(rt: HostRuntime) -> Result<(), Fail> {
-    let text = settings_of_each_type(rt.alloc())?.to_string(rt.alloc())?;
-    let settings = Value::from_str(rt.alloc(), text.as_str())?;
+fn settings_of_sizes(rt: HostRuntime) {
+    let alloc = rt.alloc();
+    let text = "{ \"cache\": \"1.5 GiB\", \"upload\": \"20 MB\", \"line\": \"100 Mb\" }";
+    let settings = Value::from_str(alloc, text).expect(&rt, "settings");
+    assert_member(&rt, &settings, "cache", &bytes(0), 1_610_612_736);
+    assert_member(&rt, &settings, "upload", &bytes(0), 20_000_000);
+    assert_member(&rt, &settings, "line", &bits(0), 100_000_000);
+    let settings = settings_of_each_type(alloc).expect(&rt, "memory");
+    let text = settings.to_string(alloc).expect(&rt, "memory");
+    let settings = Value::from_str(alloc, text.as_str()).expect(&rt, "settings");
     assert_of_each_type(&rt, &settings);
-    Ok(())
 }

@@ -1,4 +1,5 @@
 //! Tests of rounding up to a whole size, of exact quotients, and of the exponents of 2 and 5 in a size.
+use super::asserting::assert_is;
 use super::decimals::parts_of;
 use byte_unit::{Decimal, Steps, exact_quotient, least_size, least_size_counted, two_five};
 use std::process::Abort;
@@ -22,10 +23,8 @@ fn assert_least(rt: &impl Abort, rows: &[Least]) {
         let (unit_size, limit) = (*unit_size, *limit);
         let number = Decimal::new(*whole, *fraction).expect(rt, "a decimal");
         assert!(rt; 1 <= unit_size && unit_size <= ROBIBYTE && limit <= BITS);
-        assert!(rt;
-            least_size(number, unit_size, limit) == *size,
-            "{whole} and {fraction}"
-        );
+        let found = (*whole, *fraction, least_size(number, unit_size, limit));
+        assert_is(rt, found, (*whole, *fraction, *size));
     }
 }
 
@@ -42,11 +41,6 @@ const ROUNDED_UP_BELOW_THE_LIMIT: &[Least] = &[
     (0, TENTH, 1024, 2000, Some(103)),
 ];
 
-#[test]
-fn rounded_up_below_the_limit(rt: HostRuntime) {
-    assert_least(&rt, ROUNDED_UP_BELOW_THE_LIMIT);
-}
-
 /// Asserts the size of each fraction of its unit, rounded up, and a step count of four.
 fn assert_least_in_four_steps(rt: &impl Abort, rows: &[Least]) {
     for (whole, fraction, unit_size, limit, size) in rows {
@@ -55,7 +49,8 @@ fn assert_least_in_four_steps(rt: &impl Abort, rows: &[Least]) {
         assert!(rt; 1 <= unit_size && unit_size <= ROBIBYTE && limit <= BITS);
         let mut steps = Steps::new();
         let counted = least_size_counted(number, unit_size, limit, &mut steps);
-        assert!(rt; counted == *size && steps.count() == 4, "at {fraction}");
+        let found = (*fraction, counted, steps.count());
+        assert_is(rt, found, (*fraction, *size, 4));
     }
 }
 
@@ -80,12 +75,6 @@ const FOUR_STEPS_EACH: &[Least] = &[
     (0, 0, YOBIBYTE, 2, Some(0)),
 ];
 
-#[test]
-fn four_steps_each(rt: HostRuntime) {
-    assert_least_in_four_steps(&rt, FOUR_STEPS_EACH);
-    assert_least(&rt, FOUR_STEPS_EACH);
-}
-
 /// The last two exceed the limit, and 128 bits.
 const IN_THE_LARGEST_UNIT: &[Least] = &[
     (0, NINES, ROBIBYTE, BITS, Some(ROBIBYTE)),
@@ -101,11 +90,6 @@ const IN_THE_LARGEST_UNIT: &[Least] = &[
     ),
 ];
 
-#[test]
-fn in_the_largest_unit(rt: HostRuntime) {
-    assert_least(&rt, IN_THE_LARGEST_UNIT);
-}
-
 const YOBI: u128 = 1_208_925_819_614_629_174_706_176;
 
 const BYTES_OF_THE_FIRST_VERSION: u128 = 1_000_000_000_000_000_000_000_000_000;
@@ -116,7 +100,11 @@ const IN_THE_LARGEST_UNIT_OF_BYTES: &[Least] = &[
 ];
 
 #[test]
-fn in_the_largest_unit_of_bytes(rt: HostRuntime) {
+fn rounded_up(rt: HostRuntime) {
+    assert_least(&rt, ROUNDED_UP_BELOW_THE_LIMIT);
+    assert_least_in_four_steps(&rt, FOUR_STEPS_EACH);
+    assert_least(&rt, FOUR_STEPS_EACH);
+    assert_least(&rt, IN_THE_LARGEST_UNIT);
     assert_least(&rt, IN_THE_LARGEST_UNIT_OF_BYTES);
 }
 
@@ -130,10 +118,8 @@ fn assert_quotients(rt: &impl Abort, rows: &[Quotient]) {
         assert!(rt; size <= 1 && 1 <= unit && unit <= ROBIBYTE);
         let mut steps = Steps::new();
         let made = exact_quotient(size, unit, *places, &mut steps);
-        assert!(rt;
-            made.map(parts_of) == *quotient && steps.count() == *step_count,
-            "at {size} and {unit}"
-        );
+        let found = (size, unit, made.map(parts_of), steps.count());
+        assert_is(rt, found, (size, unit, *quotient, *step_count));
     }
 }
 
@@ -153,20 +139,17 @@ const QUOTIENTS_AND_STEP_COUNTS: &[Quotient] = &[
     (1, 2 * TWO_TO_28, 99, None, 28),
 ];
 
-#[test]
-fn quotients_and_step_counts(rt: HostRuntime) {
-    assert_quotients(&rt, QUOTIENTS_AND_STEP_COUNTS);
-}
-
 /// Asserts the exponents of 2 and 5 in each size, and the step count.
 fn assert_powers(rt: &impl Abort, rows: &[(u128, (u32, u32), u64)]) {
     for (size, powers, step_count) in rows {
         let size = *size;
         assert!(rt; 1 <= size && size <= 999_999_999_999_999_999_999_999_999_999);
         let mut steps = Steps::new();
-        assert!(rt;
-            two_five(size, &mut steps) == *powers && steps.count() == *step_count,
-            "at {size}"
+        let found = two_five(size, &mut steps);
+        assert_is(
+            rt,
+            (size, found, steps.count()),
+            (size, *powers, *step_count),
         );
     }
 }
@@ -178,11 +161,6 @@ const POWERS_AND_STEP_COUNTS: &[(u128, (u32, u32), u64)] = &[
     (15, (0, 1), 3),
     (24, (3, 0), 5),
 ];
-
-#[test]
-fn powers_and_step_counts(rt: HostRuntime) {
-    assert_powers(&rt, POWERS_AND_STEP_COUNTS);
-}
 
 /// 2^89, 2^99, 5^38, 5^42, 10^24, 27 nines and 30 nines.
 const POWERS_OF_LARGE_SIZES_AND_STEP_COUNTS: &[(u128, (u32, u32), u64)] = &[
@@ -196,6 +174,8 @@ const POWERS_OF_LARGE_SIZES_AND_STEP_COUNTS: &[(u128, (u32, u32), u64)] = &[
 ];
 
 #[test]
-fn powers_of_large_sizes_and_step_counts(rt: HostRuntime) {
+fn quotients_and_powers_with_step_counts(rt: HostRuntime) {
+    assert_quotients(&rt, QUOTIENTS_AND_STEP_COUNTS);
+    assert_powers(&rt, POWERS_AND_STEP_COUNTS);
     assert_powers(&rt, POWERS_OF_LARGE_SIZES_AND_STEP_COUNTS);
 }

@@ -1,8 +1,8 @@
 //! Tests of the longest texts without a width: 37 bytes. In each binary unit but the last, the size is the largest
 //! below 10^30 whose number of decimals is two more than the zeros of the decimal unit with the same prefix.
-use super::shown::{assert_texts_of_bits, assert_texts_of_bytes};
-use byte_unit::{Bit, Byte, FormatSpec, Sign};
-use std::alloc::AllocError;
+use super::asserting::assert_is;
+use super::shown::assert_texts;
+use byte_unit::{Bit, Byte, FormatSpec, Kind, Sign};
 use std::process::Abort;
 
 /// The maximum length of a text without a width.
@@ -112,20 +112,8 @@ const LONGEST_OF_BITS: &[(u128, FormatSpec, &str)] = &[
 /// Asserts that each text has the maximum length.
 fn assert_longest(rt: &impl Abort, rows: &[(u128, FormatSpec, &str)]) {
     for (_, _, text) in rows {
-        assert!(rt; text.len() == LONGEST, "{text}");
+        assert_is(rt, (*text, text.len()), (*text, LONGEST));
     }
-}
-
-#[test]
-fn longest_texts_of_bytes(rt: HostRuntime) -> Result<(), AllocError> {
-    assert_longest(&rt, LONGEST_OF_BYTES);
-    assert_texts_of_bytes(&rt, rt.alloc(), LONGEST_OF_BYTES)
-}
-
-#[test]
-fn longest_texts_of_bits(rt: HostRuntime) -> Result<(), AllocError> {
-    assert_longest(&rt, LONGEST_OF_BITS);
-    assert_texts_of_bits(&rt, rt.alloc(), LONGEST_OF_BITS)
 }
 
 /// In the last unit 28 decimals are two fewer, and a plain text has at most 30 digits and a sign.
@@ -143,24 +131,32 @@ const ALMOST_LONGEST: &[(u128, FormatSpec, &str)] = &[
 ];
 
 #[test]
-fn almost_longest_texts(rt: HostRuntime) -> Result<(), AllocError> {
-    assert_texts_of_bytes(&rt, rt.alloc(), ALMOST_LONGEST)
+fn longest_texts(rt: HostRuntime) {
+    assert_longest(&rt, LONGEST_OF_BYTES);
+    assert_longest(&rt, LONGEST_OF_BITS);
+    assert_texts(&rt, rt.alloc(), Kind::Byte, LONGEST_OF_BYTES);
+    assert_texts(&rt, rt.alloc(), Kind::Bit, LONGEST_OF_BITS);
+    assert_texts(&rt, rt.alloc(), Kind::Byte, ALMOST_LONGEST);
 }
 
 #[test]
-fn longest_text_fits_37_bytes(rt: HostRuntime) {
-    let mut out = [0; LONGEST];
+fn longest_text_in_37_and_36_bytes(rt: HostRuntime) {
     let bytes = Byte::from_u128(FIVE_PLACES).expect(&rt, "a size");
-    assert!(rt; bytes.write_text(precise!(5), &mut out) == LONGEST);
-    assert!(rt; out == *b"976562499999999999999999999.96875 KiB");
     let bits = Bit::from_u128(FIVE_PLACES).expect(&rt, "a size");
-    assert!(rt; bits.write_text(precise!(5), &mut out) == LONGEST);
-    assert!(rt; out == *b"976562499999999999999999999.96875 Kib");
-}
-
-#[test]
-fn longest_text_does_not_fit_36_bytes(rt: HostRuntime) {
+    let mut out = [0; LONGEST];
+    let len = bytes.write_text(precise!(5), &mut out);
+    assert_is(
+        &rt,
+        (len, out),
+        (LONGEST, *b"976562499999999999999999999.96875 KiB"),
+    );
+    let len = bits.write_text(precise!(5), &mut out);
+    assert_is(
+        &rt,
+        (len, out),
+        (LONGEST, *b"976562499999999999999999999.96875 Kib"),
+    );
     let mut out = [7; LONGEST - 1];
-    let bytes = Byte::from_u128(FIVE_PLACES).expect(&rt, "a size");
-    assert!(rt; bytes.write_text(precise!(5), &mut out) == LONGEST && out == [7; LONGEST - 1]);
+    let len = bytes.write_text(precise!(5), &mut out);
+    assert_is(&rt, (len, out), (LONGEST, [7; LONGEST - 1]));
 }

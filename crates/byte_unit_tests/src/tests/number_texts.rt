@@ -1,19 +1,16 @@
 //! Tests of `read_size`: the number and the unit of a string.
+use super::asserting::assert_is;
 use byte_unit::{Unit, read_size};
 use std::process::Abort;
 
 /// Asserts the integer part, the fraction (scaled by 10^28) and the unit of a string, parsed with the flags
 /// `ignore_case` and `prefer_byte`.
 fn assert_read(rt: &impl Abort, text: &str, flags: (bool, bool), wanted: (u128, u128, Unit)) {
-    match read_size(text, flags.0, flags.1) {
-        Ok((number, unit)) => {
-            assert!(rt;
-                (number.whole(), number.fraction(), unit) == wanted,
-                "{text}"
-            );
-        }
-        Err(_) => panic!(rt; "rejected {text}"),
-    }
+    let found = match read_size(text, flags.0, flags.1) {
+        Ok((number, unit)) => Some((number.whole(), number.fraction(), unit)),
+        Err(_) => None,
+    };
+    assert_is(rt, (text, found), (text, Some(wanted)));
 }
 
 const NUMBERS_AND_UNITS: &[(&str, bool, bool, u128, u128, Unit)] = &[
@@ -88,18 +85,6 @@ const NUMBERS_AND_UNITS: &[(&str, bool, bool, u128, u128, Unit)] = &[
     ("\u{2029}1KB\u{85}", false, true, 1, 0, Unit::KB),
 ];
 
-#[test]
-fn numbers_and_units(rt: HostRuntime) {
-    for (text, ignore_case, prefer_byte, whole, fraction, want) in NUMBERS_AND_UNITS {
-        assert_read(
-            &rt,
-            text,
-            (*ignore_case, *prefer_byte),
-            (*whole, *fraction, *want),
-        );
-    }
-}
-
 const NUMBERS_AT_THE_LIMITS: &[(&str, u128, u128)] = &[
     ("9999999999999999999", 9_999_999_999_999_999_999u128, 0u128),
     ("10000000000000000000", 10_000_000_000_000_000_000, 0),
@@ -132,13 +117,6 @@ const NUMBERS_AT_THE_LIMITS: &[(&str, u128, u128)] = &[
     (" 1", 1, 0),
 ];
 
-#[test]
-fn numbers_at_the_limits(rt: HostRuntime) {
-    for (text, whole, fraction) in NUMBERS_AT_THE_LIMITS {
-        assert_read(&rt, text, (false, true), (*whole, *fraction, Unit::B));
-    }
-}
-
 const SUFFIXES_IN_EITHER_CASE: &[(&str, Unit)] = &[
     ("1bit", Unit::Bit),
     ("1 bits", Unit::Bit),
@@ -150,7 +128,18 @@ const SUFFIXES_IN_EITHER_CASE: &[(&str, Unit)] = &[
 ];
 
 #[test]
-fn suffixes_in_either_case(rt: HostRuntime) {
+fn numbers_and_units(rt: HostRuntime) {
+    for (text, ignore_case, prefer_byte, whole, fraction, want) in NUMBERS_AND_UNITS {
+        assert_read(
+            &rt,
+            text,
+            (*ignore_case, *prefer_byte),
+            (*whole, *fraction, *want),
+        );
+    }
+    for (text, whole, fraction) in NUMBERS_AT_THE_LIMITS {
+        assert_read(&rt, text, (false, true), (*whole, *fraction, Unit::B));
+    }
     for (text, unit) in SUFFIXES_IN_EITHER_CASE {
         assert_read(&rt, text, (false, true), (1, 0, *unit));
     }

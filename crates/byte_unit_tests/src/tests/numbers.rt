@@ -1,4 +1,5 @@
 //! Tests of conversions between sizes and integers, by method and through trait bounds.
+use super::asserting::{assert_each, assert_for, assert_is};
 use byte_unit::{Bit, Byte, ExceededBoundsError, Kind, TryFromIntError};
 use std::cmp::Ordering;
 use std::process::Abort;
@@ -6,49 +7,36 @@ use std::process::Abort;
 /// The maximum size.
 const MAX_SIZE: u128 = 999_999_999_999_999_999_999_999_999_999;
 
-/// Asserts that the result of each call is the expected one.
-fn assert_each<A: PartialEq>(rt: &impl Abort, rows: &[(&str, A, A)]) {
-    for (call, made, wanted) in rows {
-        assert!(rt; *made == *wanted, "{call}");
-    }
-}
-
 #[test]
-fn bytes_and_integers(rt: HostRuntime) {
-    let five = Some(Byte::from_u64(5));
+fn sizes_and_integers(rt: HostRuntime) {
     assert_each(
         &rt,
         &[
-            ("i64", Byte::from_i64(5), five),
+            ("i64", Byte::from_i64(5), Some(Byte::from_u64(5))),
             ("i64 below 0", Byte::from_i64(-5), None),
-            ("i128", Byte::from_i128(5), five),
+            ("i128", Byte::from_i128(5), Some(Byte::from_u64(5))),
             ("i128 below 0", Byte::from_i128(i128::MIN), None),
-            ("u128", Byte::from_u128(5), five),
+            ("u128", Byte::from_u128(5), Some(Byte::from_u64(5))),
             ("the greatest", Byte::from_u128(MAX_SIZE), Some(Byte::MAX)),
         ],
     );
-    let five = Byte::from_u64(5);
-    assert!(rt; five.as_u64() == 5 && five.as_u64_checked() == Some(5));
-    assert!(rt; Byte::from_u128_unsafe(7).as_u128() == 7);
-}
-
-#[test]
-fn bits_and_integers(rt: HostRuntime) {
-    let five = Some(Bit::from_u64(5));
     assert_each(
         &rt,
         &[
-            ("i64", Bit::from_i64(5), five),
+            ("i64", Bit::from_i64(5), Some(Bit::from_u64(5))),
             ("i64 below 0", Bit::from_i64(-5), None),
-            ("i128", Bit::from_i128(5), five),
+            ("i128", Bit::from_i128(5), Some(Bit::from_u64(5))),
             ("i128 below 0", Bit::from_i128(i128::MIN), None),
-            ("u128", Bit::from_u128(5), five),
+            ("u128", Bit::from_u128(5), Some(Bit::from_u64(5))),
             ("the greatest", Bit::from_u128(MAX_SIZE), Some(Bit::MAX)),
         ],
     );
-    let five = Bit::from_u64(5);
-    assert!(rt; five.as_u64() == 5 && five.as_u64_checked() == Some(5));
-    assert!(rt; Bit::from_u128_unsafe(7).as_u128() == 7);
+    let size = Byte::from_u64(5);
+    assert_is(&rt, (size.as_u64(), size.as_u64_checked()), (5, Some(5)));
+    assert_is(&rt, Byte::from_u128_unsafe(7).as_u128(), 7);
+    let size = Bit::from_u64(5);
+    assert_is(&rt, (size.as_u64(), size.as_u64_checked()), (5, Some(5)));
+    assert_is(&rt, Bit::from_u128_unsafe(7).as_u128(), 7);
 }
 
 /// Returns the size as a saturated `u64`, and as a checked one.
@@ -68,7 +56,7 @@ fn in_64_bits(kind: Kind, size: u128) -> Option<(u64, Option<u64>)> {
 /// Asserts each size as a `u64`.
 fn assert_in_64_bits(rt: &impl Abort, kind: Kind, rows: &[(u128, Option<(u64, Option<u64>)>)]) {
     for (size, number) in rows {
-        assert!(rt; in_64_bits(kind, *size) == *number, "{size}");
+        assert_is(rt, (*size, in_64_bits(kind, *size)), (*size, *number));
     }
 }
 
@@ -268,7 +256,7 @@ fn bytes_into_integers(rt: HostRuntime) {
         ),
         ("no usize", rejects::<Byte, usize>(Byte::MAX)),
     ] {
-        assert!(rt; holds, "{number}");
+        assert_for(&rt, holds, number);
     }
 }
 
@@ -299,6 +287,6 @@ fn bits_into_integers(rt: HostRuntime) {
         ("no u32", rejects::<Bit, u32>(Bit::from_u64(4_294_967_296))),
         ("no usize", rejects::<Bit, usize>(Bit::MAX)),
     ] {
-        assert!(rt; holds, "{number}");
+        assert_for(&rt, holds, number);
     }
 }

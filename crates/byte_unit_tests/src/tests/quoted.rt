@@ -1,7 +1,7 @@
 //! Tests of error messages with a character that is beyond the basic plane or escaped, and of those with a number.
 use super::error_texts::{assert_error, assert_unit_texts, assert_value_text};
 use byte_unit::{Bit, Byte, Kind, Unit, ValueParseError};
-use std::alloc::{AllocError, Global};
+use std::alloc::Global;
 use std::process::Abort;
 
 const CHARACTERS_OF_A_NUMBER: &[(char, &str)] = &[
@@ -23,20 +23,10 @@ const CHARACTERS_OF_A_NUMBER: &[(char, &str)] = &[
 ];
 
 /// Asserts the message for each character.
-fn assert_not_number_messages(
-    rt: &impl Abort,
-    alloc: Global,
-    rows: &[(char, &str)],
-) -> Result<(), AllocError> {
+fn assert_not_number_messages(rt: &impl Abort, alloc: Global, rows: &[(char, &str)]) {
     for (c, text) in rows {
-        assert_value_text(rt, alloc, ValueParseError::NotNumber(*c), text)?;
+        assert_value_text(rt, alloc, ValueParseError::NotNumber(*c), text);
     }
-    Ok(())
-}
-
-#[test]
-fn character_of_a_number(rt: HostRuntime) -> Result<(), AllocError> {
-    assert_not_number_messages(&rt, rt.alloc(), CHARACTERS_OF_A_NUMBER)
 }
 
 const CHARACTERS_OF_A_UNIT: &[(char, &[char], bool, &str)] = &[
@@ -132,11 +122,6 @@ const CHARACTERS_OF_A_UNIT: &[(char, &[char], bool, &str)] = &[
     ),
 ];
 
-#[test]
-fn character_of_a_unit(rt: HostRuntime) -> Result<(), AllocError> {
-    assert_unit_texts(&rt, rt.alloc(), CHARACTERS_OF_A_UNIT)
-}
-
 const EXPECTED_CHARACTERS_IN_MESSAGES: &[(char, &[char], bool, &str)] = &[
     (
         'x',
@@ -170,25 +155,14 @@ const EXPECTED_CHARACTERS_IN_MESSAGES: &[(char, &[char], bool, &str)] = &[
     ),
 ];
 
-#[test]
-fn expected_characters_in_messages(rt: HostRuntime) -> Result<(), AllocError> {
-    assert_unit_texts(&rt, rt.alloc(), EXPECTED_CHARACTERS_IN_MESSAGES)
-}
-
 /// Asserts that each string is rejected, with the expected message.
-fn assert_rejected(
-    rt: &impl Abort,
-    alloc: Global,
-    kind: Kind,
-    rows: &[(&str, &str)],
-) -> Result<(), AllocError> {
+fn assert_rejected(rt: &impl Abort, alloc: Global, kind: Kind, rows: &[(&str, &str)]) {
     for (text, wanted) in rows {
         match kind {
-            Kind::Byte => assert_error(rt, alloc, Byte::parse_str(text, false), wanted)?,
-            Kind::Bit => assert_error(rt, alloc, Bit::parse_str(text), wanted)?,
+            Kind::Byte => assert_error(rt, alloc, Byte::parse_str(text, false), wanted),
+            Kind::Bit => assert_error(rt, alloc, Bit::parse_str(text), wanted),
         }
     }
-    Ok(())
 }
 
 const ERRORS_OF_TEXTS: &[(&str, &str)] = &[
@@ -207,17 +181,6 @@ const ERRORS_OF_TEXTS: &[(&str, &str)] = &[
         "the character '\u{1F600}' is incorrect (no character is expected)",
     ),
 ];
-
-#[test]
-fn errors_of_texts(rt: HostRuntime) -> Result<(), AllocError> {
-    assert_rejected(&rt, rt.alloc(), Kind::Byte, ERRORS_OF_TEXTS)?;
-    assert_error(
-        &rt,
-        rt.alloc(),
-        Unit::parse_str("Ki\u{1F600}", true, true),
-        "the character '\u{1F600}' is incorrect ('B' or no character is expected)",
-    )
-}
 
 /// The message for a size out of range contains its number.
 const ERRORS_OF_BYTES_OUT_OF_RANGE: &[(&str, &str)] = &[
@@ -238,11 +201,6 @@ const ERRORS_OF_BYTES_OUT_OF_RANGE: &[(&str, &str)] = &[
     ("1000000 YB", "the value 1000000 exceeds the valid range"),
 ];
 
-#[test]
-fn errors_of_bytes_out_of_range(rt: HostRuntime) -> Result<(), AllocError> {
-    assert_rejected(&rt, rt.alloc(), Kind::Byte, ERRORS_OF_BYTES_OUT_OF_RANGE)
-}
-
 const ERRORS_OF_BITS_OUT_OF_RANGE: &[(&str, &str)] = &[
     (
         "124.9999999999999999999999999999 RB",
@@ -257,6 +215,23 @@ const ERRORS_OF_BITS_OUT_OF_RANGE: &[(&str, &str)] = &[
 ];
 
 #[test]
-fn errors_of_bits_out_of_range(rt: HostRuntime) -> Result<(), AllocError> {
-    assert_rejected(&rt, rt.alloc(), Kind::Bit, ERRORS_OF_BITS_OUT_OF_RANGE)
+fn messages_with_a_character(rt: HostRuntime) {
+    let alloc = rt.alloc();
+    assert_not_number_messages(&rt, alloc, CHARACTERS_OF_A_NUMBER);
+    assert_unit_texts(&rt, alloc, CHARACTERS_OF_A_UNIT);
+    assert_unit_texts(&rt, alloc, EXPECTED_CHARACTERS_IN_MESSAGES);
+}
+
+#[test]
+fn messages_for_strings(rt: HostRuntime) {
+    let alloc = rt.alloc();
+    assert_rejected(&rt, alloc, Kind::Byte, ERRORS_OF_TEXTS);
+    assert_error(
+        &rt,
+        alloc,
+        Unit::parse_str("Ki\u{1F600}", true, true),
+        "the character '\u{1F600}' is incorrect ('B' or no character is expected)",
+    );
+    assert_rejected(&rt, alloc, Kind::Byte, ERRORS_OF_BYTES_OUT_OF_RANGE);
+    assert_rejected(&rt, alloc, Kind::Bit, ERRORS_OF_BITS_OUT_OF_RANGE);
 }

@@ -1,5 +1,6 @@
 //! Tests of sizes from strings and from numbers of a unit.
 use super::answers::{Expected, assert_all_bits, assert_all_bytes};
+use super::asserting::{assert_are, assert_is};
 use byte_unit::{Bit, Byte, Decimal, Kind, Unit};
 use std::process::Abort;
 
@@ -18,11 +19,6 @@ const BYTES_FROM_STRINGS: &[(&str, Expected)] = &[
     ),
 ];
 
-#[test]
-fn bytes_from_strings(rt: HostRuntime) {
-    assert_all_bytes(&rt, false, BYTES_FROM_STRINGS);
-}
-
 const BYTES_IGNORING_CASE: &[(&str, Expected)] = &[
     ("50.84 MB", Expected::Size(50_840_000)),
     ("9.0000000000000000000000000001", Expected::Size(10)),
@@ -31,11 +27,6 @@ const BYTES_IGNORING_CASE: &[(&str, Expected)] = &[
     ("1.5 KiB", Expected::Size(1536)),
     ("1zb", Expected::Size(1_000_000_000_000_000_000_000)),
 ];
-
-#[test]
-fn bytes_ignoring_case(rt: HostRuntime) {
-    assert_all_bytes(&rt, true, BYTES_IGNORING_CASE);
-}
 
 const WHITE_SPACE_AROUND_SIZES_IN_BYTES: &[(&str, Expected)] = &[
     ("\u{3000}1KB\u{a0}", Expected::Size(1000)),
@@ -48,12 +39,6 @@ const WHITE_SPACE_AROUND_SIZES_IN_BITS: &[(&str, Expected)] = &[
     ("\u{2028}1KB\u{b}", Expected::Size(8000)),
     ("\u{b}\u{c}1Kb\u{85}\u{2028}\u{2029}", Expected::Size(1000)),
 ];
-
-#[test]
-fn white_space_around_sizes(rt: HostRuntime) {
-    assert_all_bytes(&rt, false, WHITE_SPACE_AROUND_SIZES_IN_BYTES);
-    assert_all_bits(&rt, WHITE_SPACE_AROUND_SIZES_IN_BITS);
-}
 
 const BITS_FROM_STRINGS: &[(&str, Expected)] = &[
     ("1KiB", Expected::Size(8192)),
@@ -80,14 +65,15 @@ const BITS_FROM_STRINGS: &[(&str, Expected)] = &[
 ];
 
 #[test]
-fn bits_from_strings(rt: HostRuntime) {
+fn sizes_from_strings(rt: HostRuntime) {
+    assert_all_bytes(&rt, false, BYTES_FROM_STRINGS);
+    assert_all_bytes(&rt, true, BYTES_IGNORING_CASE);
+    assert_all_bytes(&rt, false, WHITE_SPACE_AROUND_SIZES_IN_BYTES);
+    assert_all_bits(&rt, WHITE_SPACE_AROUND_SIZES_IN_BITS);
     assert_all_bits(&rt, BITS_FROM_STRINGS);
-}
-
-#[test]
-fn invalid_utf8(rt: HostRuntime) {
-    assert!(rt; Byte::parse_bytes(b"1 KiB\xFF", false).is_none());
-    assert!(rt; Bit::parse_bytes(b"\xC2").is_none());
+    // Bytes that are not UTF-8.
+    assert_is(&rt, Byte::parse_bytes(b"1 KiB\xFF", false).is_none(), true);
+    assert_is(&rt, Bit::parse_bytes(b"\xC2").is_none(), true);
 }
 
 /// Returns the size of an integer number of a unit.
@@ -140,43 +126,6 @@ const NUMBERS_OF_A_UNIT: &[(Kind, u128, Unit, Option<u128>)] = &[
     (Kind::Bit, 999, Unit::Ybit, Some(999 * YOTTA)),
 ];
 
-#[test]
-fn numbers_of_a_unit(rt: HostRuntime) {
-    for (kind, number, unit, size) in NUMBERS_OF_A_UNIT {
-        let made = with_unit(*kind, *number, *unit);
-        assert!(rt; made == *size, "{number} {unit}");
-    }
-}
-
-/// Asserts that each size is the expected one.
-fn assert_each<S: PartialEq + Drop>(rt: &impl Abort, made: &[S], wanted: S) {
-    for (place, size) in made.iter().enumerate() {
-        assert!(rt; *size == wanted, "the size in place {place}");
-    }
-}
-
-#[test]
-fn numbers_of_other_types_in_a_unit(rt: HostRuntime) {
-    let bytes = [
-        Byte::from_u64_with_unit(15, Unit::KB),
-        Byte::from_i128_with_unit(15, Unit::KB),
-        Byte::from_i64_with_unit(15, Unit::KB),
-    ];
-    assert_each(&rt, &bytes, Some(Byte::from_u64(15_000)));
-    let bits = [
-        Bit::from_u64_with_unit(15, Unit::Kbit),
-        Bit::from_i128_with_unit(15, Unit::Kbit),
-        Bit::from_i64_with_unit(15, Unit::Kbit),
-    ];
-    assert_each(&rt, &bits, Some(Bit::from_u64(15_000)));
-    assert_each(&rt, &[Byte::from_i64_with_unit(-1, Unit::KB)], None);
-    let below = [
-        Bit::from_i64_with_unit(-1, Unit::KB),
-        Bit::from_i64_with_unit(-1, Unit::Kbit),
-    ];
-    assert_each(&rt, &below, None);
-}
-
 /// Returns the size of a decimal number of a unit.
 fn decimal_with_unit(kind: Kind, number: Decimal, unit: Unit) -> Option<u128> {
     match kind {
@@ -208,13 +157,62 @@ const DECIMALS_OF_A_UNIT: &[(Kind, u128, u32, Unit, u128)] = &[
 ];
 
 #[test]
-fn decimals_of_a_unit(rt: HostRuntime) {
+fn numbers_of_a_unit(rt: HostRuntime) {
+    for (kind, number, unit, size) in NUMBERS_OF_A_UNIT {
+        let made = with_unit(*kind, *number, *unit);
+        assert_is(&rt, (*number, *unit, made), (*number, *unit, *size));
+    }
     for (kind, mantissa, scale, unit, size) in DECIMALS_OF_A_UNIT {
         let number = Decimal::from_u128_with_scale(*mantissa, *scale).expect(&rt, "a decimal");
         let made = decimal_with_unit(*kind, number, *unit);
-        assert!(rt; made == Some(*size), "{number} {unit}");
+        assert_is(
+            &rt,
+            (*mantissa, *unit, made),
+            (*mantissa, *unit, Some(*size)),
+        );
     }
+}
+
+#[test]
+fn numbers_of_other_types_in_a_unit(rt: HostRuntime) {
     let price = Decimal::from_u128_with_scale(5084, 2).expect(&rt, "a decimal");
-    assert_each(&rt, &[Byte::from_decimal(price)], Some(Byte::from_u64(51)));
-    assert_each(&rt, &[Bit::from_decimal(price)], Some(Bit::from_u64(51)));
+    assert_are(
+        &rt,
+        &[
+            (
+                Byte::from_u64_with_unit(15, Unit::KB),
+                Some(Byte::from_u64(15_000)),
+            ),
+            (
+                Byte::from_i128_with_unit(15, Unit::KB),
+                Some(Byte::from_u64(15_000)),
+            ),
+            (
+                Byte::from_i64_with_unit(15, Unit::KB),
+                Some(Byte::from_u64(15_000)),
+            ),
+            (Byte::from_i64_with_unit(-1, Unit::KB), None),
+            (Byte::from_decimal(price), Some(Byte::from_u64(51))),
+        ],
+    );
+    assert_are(
+        &rt,
+        &[
+            (
+                Bit::from_u64_with_unit(15, Unit::Kbit),
+                Some(Bit::from_u64(15_000)),
+            ),
+            (
+                Bit::from_i128_with_unit(15, Unit::Kbit),
+                Some(Bit::from_u64(15_000)),
+            ),
+            (
+                Bit::from_i64_with_unit(15, Unit::Kbit),
+                Some(Bit::from_u64(15_000)),
+            ),
+            (Bit::from_i64_with_unit(-1, Unit::KB), None),
+            (Bit::from_i64_with_unit(-1, Unit::Kbit), None),
+            (Bit::from_decimal(price), Some(Bit::from_u64(51))),
+        ],
+    );
 }

@@ -4,8 +4,8 @@
 //!
 //! These calls take no allocator, so a test by itself cannot make an allocation fail. `tools/refused-memory` runs these
 //! tests under `rt try --test --fail-alloc N`, which makes the Nth allocation of each test fail, for N = 1, 2, ..
+use super::asserting::{assert_for, assert_is};
 use super::shown::{Shown, bits, bits_in, bytes, bytes_in, read_like, stored, text_of};
-use super::traits::assert_is;
 use byte_unit::{FormatSpec, Unit, unit_from_json, unit_to_json};
 use serde_json::Value;
 use std::alloc::Global;
@@ -13,7 +13,7 @@ use std::process::Abort;
 
 /// Asserts that no result is wrong, and that at most one of three calls failed.
 fn assert_counts(rt: &impl Abort, right: u32, wrong: u32, wanted: &str) {
-    assert!(rt; wrong == 0 && right >= 2, "{wanted}");
+    assert_for(rt, wrong == 0 && right >= 2, wanted);
 }
 
 /// Asserts the JSON string of a size in three calls, of which at most one fails.

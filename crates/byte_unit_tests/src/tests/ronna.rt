@@ -1,5 +1,6 @@
 //! Tests of what v2 adds to v1: ronna units, and integer parts up to 2^112 - 1.
 use super::answers::{Expected, assert_all_bits, assert_all_bytes};
+use super::asserting::assert_is;
 use byte_unit::Decimal;
 
 #[test]
@@ -19,8 +20,8 @@ fn maximum_integer_part(rt: HostRuntime) {
             ),
         ],
     );
-    assert!(rt; Decimal::from_u128(greatest).is_some());
-    assert!(rt; Decimal::from_u128(greatest + 1).is_none());
+    assert_is(&rt, Decimal::from_u128(greatest).is_some(), true);
+    assert_is(&rt, Decimal::from_u128(greatest + 1).is_none(), true);
 }
 
 #[test]

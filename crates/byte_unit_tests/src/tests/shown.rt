@@ -1,6 +1,8 @@
 //! Assertions on the texts and JSON strings of sizes and adjusted sizes of both kinds. Each assertion is one function,
-//! which is proved once; a test is a table and a call.
-use byte_unit::{AdjustedBit, AdjustedByte, Bit, Byte, FormatSpec, JsonSizeError, Unit};
+//! which is proved once, and a test calls it for each of its tables. If an allocation fails, the test ends with the
+//! message `memory`.
+use super::asserting::{assert_for, assert_is};
+use byte_unit::{AdjustedBit, AdjustedByte, Bit, Byte, FormatSpec, JsonSizeError, Kind, Unit};
 use serde_json::Value;
 use std::alloc::{AllocError, Global};
 use std::fmt::Display;
@@ -20,14 +22,26 @@ pub fn bytes(size: u64) -> Shown {
     Shown::Byte(Byte::from_u64(size))
 }
 
-/// Creates a size in bytes from a `u128`.
-pub fn great_bytes(rt: &impl Abort, size: u128) -> Shown {
-    Shown::Byte(Byte::from_u128(size).expect(rt, "a size"))
+/// Creates a size from a `u128`.
+pub fn great_size(rt: &impl Abort, kind: Kind, size: u128) -> Shown {
+    match kind {
+        Kind::Byte => Shown::Byte(Byte::from_u128(size).expect(rt, "a size")),
+        Kind::Bit => Shown::Bit(Bit::from_u128(size).expect(rt, "a size")),
+    }
 }
 
-/// Creates a size in bits from a `u128`.
-pub fn great_bits(rt: &impl Abort, size: u128) -> Shown {
-    Shown::Bit(Bit::from_u128(size).expect(rt, "a size"))
+/// Creates a size in a unit from a `u128`.
+pub fn great_size_in(rt: &impl Abort, kind: Kind, size: u128, unit: Unit) -> Shown {
+    match kind {
+        Kind::Byte => {
+            let size = Byte::from_u128(size).expect(rt, "a size");
+            Shown::AdjustedByte(size.get_adjusted_unit(unit))
+        }
+        Kind::Bit => {
+            let size = Bit::from_u128(size).expect(rt, "a size");
+            Shown::AdjustedBit(size.get_adjusted_unit(unit))
+        }
+    }
 }
 
 /// Creates a size in bits.
@@ -102,136 +116,71 @@ pub fn assert_same(rt: &impl Abort, text: &str, wanted: &str) {
 fn assert_written(rt: &impl Abort, shown: &Shown, spec: FormatSpec, wanted: &str) {
     let mut out = [0; 128];
     let len = write(shown, spec, &mut out);
-    assert!(rt;
-        len == wanted.len() && (len > 128 || out.starts_with(wanted.as_bytes())),
-        "{wanted}"
-    );
+    let is_written = len > 128 || out.starts_with(wanted.as_bytes());
+    assert_for(rt, len == wanted.len() && is_written, wanted);
 }
 
 /// Asserts the text by `to_text`, `to_text_in` and `append_text`, and its length by `text_len`.
-fn assert_text(
-    rt: &impl Abort,
-    alloc: Global,
-    shown: &Shown,
-    spec: FormatSpec,
-    wanted: &str,
-) -> Result<(), AllocError> {
-    assert!(rt; len_of(shown, spec) == wanted.len(), "{wanted}");
-    assert_same(rt, text_of(shown, alloc, spec)?.as_str(), wanted);
-    assert_same(rt, text_in(shown, alloc, spec)?.as_str(), wanted);
-    let mut text = String::from_str(alloc, "is ")?;
-    append(shown, spec, &mut text)?;
-    match text.as_str().strip_prefix("is ") {
-        Some(appended) => assert_same(rt, appended, wanted),
-        None => panic!(rt; "what was there is gone"),
-    }
-    Ok(())
+fn assert_text(rt: &impl Abort, alloc: Global, shown: &Shown, spec: FormatSpec, wanted: &str) {
+    assert_is(rt, len_of(shown, spec), wanted.len());
+    let text = text_of(shown, alloc, spec).expect(rt, "memory");
+    assert_same(rt, text.as_str(), wanted);
+    let text = text_in(shown, alloc, spec).expect(rt, "memory");
+    assert_same(rt, text.as_str(), wanted);
+    let mut text = String::from_str(alloc, "is ").expect(rt, "memory");
+    append(shown, spec, &mut text).expect(rt, "memory");
+    let appended = text.as_str().strip_prefix("is ");
+    assert_same(rt, appended.expect(rt, "what was there is gone"), wanted);
 }
 
 /// Asserts the text by each call that formats a size.
-pub fn assert_row(
-    rt: &impl Abort,
-    alloc: Global,
-    shown: &Shown,
-    spec: FormatSpec,
-    wanted: &str,
-) -> Result<(), AllocError> {
-    assert_text(rt, alloc, shown, spec, wanted)?;
+pub fn assert_row(rt: &impl Abort, alloc: Global, shown: &Shown, spec: FormatSpec, wanted: &str) {
+    assert_text(rt, alloc, shown, spec, wanted);
     assert_written(rt, shown, spec, wanted);
-    Ok(())
 }
 
-/// Asserts the text of each size by its spec.
-pub fn assert_texts(
-    rt: &impl Abort,
-    alloc: Global,
-    rows: &[(Shown, FormatSpec, &str)],
-) -> Result<(), AllocError> {
-    for (shown, spec, wanted) in rows {
-        assert_row(rt, alloc, shown, *spec, wanted)?;
-    }
-    Ok(())
-}
-
-/// Asserts the text of each size in bytes by its spec.
-pub fn assert_texts_of_bytes(
-    rt: &impl Abort,
-    alloc: Global,
-    rows: &[(u128, FormatSpec, &str)],
-) -> Result<(), AllocError> {
+/// Asserts the text of each size of the kind by its spec.
+pub fn assert_texts(rt: &impl Abort, alloc: Global, kind: Kind, rows: &[(u128, FormatSpec, &str)]) {
     for (size, spec, wanted) in rows {
-        let shown = great_bytes(rt, *size);
-        assert_row(rt, alloc, &shown, *spec, wanted)?;
+        let shown = great_size(rt, kind, *size);
+        assert_row(rt, alloc, &shown, *spec, wanted);
     }
-    Ok(())
 }
 
-/// Asserts the text of each size in bits by its spec.
-pub fn assert_texts_of_bits(
+/// Asserts the text of each size of the kind in its unit by its spec.
+pub fn assert_texts_in(
     rt: &impl Abort,
     alloc: Global,
-    rows: &[(u128, FormatSpec, &str)],
-) -> Result<(), AllocError> {
-    for (size, spec, wanted) in rows {
-        let shown = great_bits(rt, *size);
-        assert_row(rt, alloc, &shown, *spec, wanted)?;
-    }
-    Ok(())
-}
-
-/// Asserts the text of each size in bytes in its unit by its spec.
-pub fn assert_bytes_in(
-    rt: &impl Abort,
-    alloc: Global,
+    kind: Kind,
     rows: &[(u64, Unit, FormatSpec, &str)],
-) -> Result<(), AllocError> {
+) {
     for (size, unit, spec, wanted) in rows {
-        let shown = bytes_in(*size, *unit);
-        assert_row(rt, alloc, &shown, *spec, wanted)?;
+        let shown = great_size_in(rt, kind, u128::from(*size), *unit);
+        assert_row(rt, alloc, &shown, *spec, wanted);
     }
-    Ok(())
-}
-
-/// Asserts the text of each size in bits in its unit by its spec.
-pub fn assert_bits_in(
-    rt: &impl Abort,
-    alloc: Global,
-    rows: &[(u64, Unit, FormatSpec, &str)],
-) -> Result<(), AllocError> {
-    for (size, unit, spec, wanted) in rows {
-        let shown = bits_in(*size, *unit);
-        assert_row(rt, alloc, &shown, *spec, wanted)?;
-    }
-    Ok(())
 }
 
 /// Asserts the text of a value through the bound `Display`.
-pub fn assert_display<D: Display>(
-    rt: &impl Abort,
-    alloc: Global,
-    value: &D,
-    wanted: &str,
-) -> Result<(), AllocError> {
-    let text = format!(in alloc; "{value}")?;
+pub fn assert_display<D: Display>(rt: &impl Abort, alloc: Global, value: &D, wanted: &str) {
+    let text = format!(in alloc; "{value}").expect(rt, "memory");
     assert_same(rt, text.as_str(), wanted);
-    Ok(())
+}
+
+/// Asserts the `Display` text of a size.
+pub fn assert_shown(rt: &impl Abort, alloc: Global, shown: &Shown, wanted: &str) {
+    match shown {
+        Shown::Byte(size) => assert_display(rt, alloc, size, wanted),
+        Shown::Bit(size) => assert_display(rt, alloc, size, wanted),
+        Shown::AdjustedByte(size) => assert_display(rt, alloc, size, wanted),
+        Shown::AdjustedBit(size) => assert_display(rt, alloc, size, wanted),
+    }
 }
 
 /// Asserts the `Display` text of each size.
-pub fn assert_displays(
-    rt: &impl Abort,
-    alloc: Global,
-    rows: &[(Shown, &str)],
-) -> Result<(), AllocError> {
+pub fn assert_displays(rt: &impl Abort, alloc: Global, rows: &[(Shown, &str)]) {
     for (shown, wanted) in rows {
-        match shown {
-            Shown::Byte(size) => assert_display(rt, alloc, size, wanted)?,
-            Shown::Bit(size) => assert_display(rt, alloc, size, wanted)?,
-            Shown::AdjustedByte(size) => assert_display(rt, alloc, size, wanted)?,
-            Shown::AdjustedBit(size) => assert_display(rt, alloc, size, wanted)?,
-        }
+        assert_shown(rt, alloc, shown, wanted);
     }
-    Ok(())
 }
 
 /// Returns the JSON string of a size.
@@ -274,25 +223,15 @@ fn bits_of(adjusted: AdjustedBit) -> u128 {
 
 /// Asserts that a JSON value is the expected string.
 pub fn assert_string(rt: &impl Abort, value: &Value, wanted: &str) {
-    match value.as_str() {
-        Some(text) => assert_same(rt, text, wanted),
-        None => panic!(rt; "no string"),
-    }
+    assert_same(rt, value.as_str().expect(rt, "a string"), wanted);
 }
 
 /// Asserts the JSON string of each size, and that it round-trips.
-pub fn assert_stored(
-    rt: &impl Abort,
-    alloc: Global,
-    rows: &[(Shown, &str)],
-) -> Result<(), AllocError> {
+pub fn assert_stored(rt: &impl Abort, alloc: Global, rows: &[(Shown, &str)]) {
     for (shown, wanted) in rows {
-        let value = stored(shown, alloc)?;
+        let value = stored(shown, alloc).expect(rt, "memory");
         assert_string(rt, &value, wanted);
-        match read_like(shown, &value) {
-            Ok(size) => assert!(rt; size == number_of(shown), "{wanted}"),
-            Err(_) => panic!(rt; "{wanted} is rejected"),
-        }
+        let is_same = read_like(shown, &value).ok() == Some(number_of(shown));
+        assert_for(rt, is_same, wanted);
     }
-    Ok(())
 }

@@ -1,6 +1,7 @@
 //! Tests of every spelling of every unit.
+use super::asserting::assert_is;
 use byte_unit::Unit;
-use std::alloc::{AllocError, Global};
+use std::alloc::Global;
 use std::process::Abort;
 
 /// The four units of each prefix: decimal bits and bytes, binary bits and bytes.
@@ -35,21 +36,14 @@ const B_PARTS: [&str; 27] = [
     "BITS",
 ];
 
-fn assert_read(rt: &impl Abort, text: &str, ignore_case: bool, prefer_byte: bool, want: Unit) {
-    match Unit::parse_str(text, ignore_case, prefer_byte) {
-        Ok(unit) => assert!(rt; unit == want, "{text} is {unit}"),
-        Err(_) => panic!(rt; "rejected {text}"),
-    }
+fn assert_read(rt: &impl Abort, text: &str, flags: (bool, bool), want: Unit) {
+    let read = Unit::parse_str(text, flags.0, flags.1).ok();
+    assert_is(rt, (text, read), (text, Some(want)));
 }
 
 /// Parses every spelling with this suffix, and returns their number.
-fn read_all_before(
-    rt: &impl Abort,
-    alloc: Global,
-    b_part: &str,
-    ignore_case: bool,
-    prefer_byte: bool,
-) -> Result<u32, AllocError> {
+fn read_all_before(rt: &impl Abort, alloc: Global, b_part: &str, flags: (bool, bool)) -> u32 {
+    let (ignore_case, prefer_byte) = flags;
     let is_byte = match b_part {
         "" => prefer_byte,
         "B" => true,
@@ -57,7 +51,7 @@ fn read_all_before(
         _ => false,
     };
     let plain = if is_byte { Unit::B } else { Unit::Bit };
-    assert_read(rt, b_part, ignore_case, prefer_byte, plain);
+    assert_read(rt, b_part, flags, plain);
     let mut texts = 1u32;
     for (letters, [bits, bytes, binary_bits, binary_bytes]) in LETTERS.iter().zip(UNITS) {
         for letter in letters {
@@ -66,25 +60,24 @@ fn read_all_before(
                 ("i", binary_bits, binary_bytes),
                 ("I", binary_bits, binary_bytes),
             ] {
-                let text = format!(in alloc; "{letter}{infix}{b_part}")?;
+                let text = format!(in alloc; "{letter}{infix}{b_part}").expect(rt, "memory");
                 let want = if is_byte { bytes } else { bits };
-                assert_read(rt, text.as_str(), ignore_case, prefer_byte, want);
+                assert_read(rt, text.as_str(), flags, want);
                 texts = texts.saturating_add(1);
             }
         }
     }
-    Ok(texts)
+    texts
 }
 
 #[test]
-fn every_spelling(rt: HostRuntime) -> Result<(), AllocError> {
+fn every_spelling(rt: HostRuntime) {
     let mut texts = 0u32;
-    for (ignore_case, prefer_byte) in [(false, false), (false, true), (true, false), (true, true)] {
+    for flags in [(false, false), (false, true), (true, false), (true, true)] {
         for b_part in B_PARTS {
-            let read = read_all_before(&rt, rt.alloc(), b_part, ignore_case, prefer_byte)?;
+            let read = read_all_before(&rt, rt.alloc(), b_part, flags);
             texts = texts.saturating_add(read);
         }
     }
-    assert!(rt; texts == 5940);
-    Ok(())
+    assert_is(&rt, texts, 5940);
 }

@@ -1,9 +1,10 @@
 //! Tests of formatting sizes by each spec.
 use super::answers::{Expected, assert_bits, assert_bytes};
-use super::shown::{assert_same, assert_texts_of_bits, assert_texts_of_bytes};
+use super::asserting::{assert_for, assert_is};
+use super::shown::{assert_same, assert_texts};
 use byte_unit::{
-    Align, Bit, Byte, Expansion, FormatSpec, Sign, Unit, append_plain, plain_len, write_layout,
-    write_plain,
+    Align, Bit, Byte, Expansion, FormatSpec, Kind, Sign, Unit, append_plain, plain_len,
+    write_layout, write_plain,
 };
 use std::alloc::{AllocError, Global};
 use std::process::Abort;
@@ -30,12 +31,6 @@ const MINIMUM_AND_MAXIMUM_SIZES: &[(u128, FormatSpec, &str)] = &[
     (0, PLUS, "+0"),
 ];
 
-#[test]
-fn minimum_and_maximum_sizes(rt: HostRuntime) -> Result<(), AllocError> {
-    assert_texts_of_bytes(&rt, rt.alloc(), MINIMUM_AND_MAXIMUM_SIZES)?;
-    assert_texts_of_bits(&rt, rt.alloc(), &[(0, FormatSpec::ALTERNATE, "0 b")])
-}
-
 /// Numbers with a few decimals, just below and above 2^64 in units of the last decimal.
 const FORMS_BEYOND_64_BITS: &[(u128, FormatSpec, &str)] = &[
     (
@@ -60,11 +55,6 @@ const FORMS_BEYOND_64_BITS: &[(u128, FormatSpec, &str)] = &[
     ),
 ];
 
-#[test]
-fn forms_beyond_64_bits(rt: HostRuntime) -> Result<(), AllocError> {
-    assert_texts_of_bytes(&rt, rt.alloc(), FORMS_BEYOND_64_BITS)
-}
-
 /// The maximum size of v1.
 const OLD: u128 = 999_999_999_999_999_999_999_999_999;
 
@@ -79,11 +69,6 @@ const MAXIMUM_SIZE_OF_V1: &[(u128, FormatSpec, &str)] = &[
     (OLD, precise!(9), "999999999999999999.999999999 GB"),
     (OLD, precise!(28), "999.999999999999999999999999 YB"),
 ];
-
-#[test]
-fn maximum_size_of_v1(rt: HostRuntime) -> Result<(), AllocError> {
-    assert_texts_of_bytes(&rt, rt.alloc(), MAXIMUM_SIZE_OF_V1)
-}
 
 /// 10^24 + 2^24, 2^89, 5^38, and 2^80 + 2^51, with precisions above 28, which count as 28.
 const SIZES_OF_FEW_FACTORS: &[(u128, FormatSpec, &str)] = &[
@@ -119,11 +104,6 @@ const SIZES_OF_FEW_FACTORS: &[(u128, FormatSpec, &str)] = &[
     ),
 ];
 
-#[test]
-fn sizes_of_few_factors(rt: HostRuntime) -> Result<(), AllocError> {
-    assert_texts_of_bytes(&rt, rt.alloc(), SIZES_OF_FEW_FACTORS)
-}
-
 const TEN: FormatSpec = spec!(true, Sign::Unset, None, Some(10), None);
 
 const TEN_CENTER: FormatSpec = spec!(true, Sign::Unset, None, Some(10), Some(Align::Center));
@@ -147,12 +127,6 @@ const PADDED_BITS: &[(u128, FormatSpec, &str)] = &[
     (10_240, TEN_RIGHT, "    10 Kib"),
     (10_000, TEN_RIGHT, "    10  Kb"),
 ];
-
-#[test]
-fn padded_sizes(rt: HostRuntime) -> Result<(), AllocError> {
-    assert_texts_of_bytes(&rt, rt.alloc(), PADDED_BYTES)?;
-    assert_texts_of_bits(&rt, rt.alloc(), PADDED_BITS)
-}
 
 const PLAIN_CENTER: FormatSpec = spec!(false, Sign::Unset, None, Some(8), Some(Align::Center));
 
@@ -180,12 +154,6 @@ const PLAIN_BITS: &[(u128, FormatSpec, &str)] = &[
     (3_211_776, FormatSpec::PLAIN, "3211776"),
 ];
 
-#[test]
-fn plain_sizes(rt: HostRuntime) -> Result<(), AllocError> {
-    assert_texts_of_bytes(&rt, rt.alloc(), PLAIN_BYTES)?;
-    assert_texts_of_bits(&rt, rt.alloc(), PLAIN_BITS)
-}
-
 const MINUS_WITH_UNIT: FormatSpec = spec!(true, Sign::Minus, None, None, None);
 
 const PLUS_WITH_UNIT: FormatSpec = spec!(true, Sign::Plus, None, None, None);
@@ -197,11 +165,6 @@ const SIZES_BY_SIGN: &[(u128, FormatSpec, &str)] = &[
     (500, PLUS_WITH_UNIT, "500   B"),
     (10_000, NO_WIDTH, "10 KB"),
 ];
-
-#[test]
-fn sizes_by_sign(rt: HostRuntime) -> Result<(), AllocError> {
-    assert_texts_of_bytes(&rt, rt.alloc(), SIZES_BY_SIGN)
-}
 
 const BYTES_BY_PRECISION: &[(u128, FormatSpec, &str)] = &[
     (3_211_776, FormatSpec::ALTERNATE, "3136.5 KiB"),
@@ -222,9 +185,25 @@ const BITS_BY_PRECISION: &[(u128, FormatSpec, &str)] = &[
 ];
 
 #[test]
-fn sizes_by_precision(rt: HostRuntime) -> Result<(), AllocError> {
-    assert_texts_of_bytes(&rt, rt.alloc(), BYTES_BY_PRECISION)?;
-    assert_texts_of_bits(&rt, rt.alloc(), BITS_BY_PRECISION)
+fn texts_of_bytes(rt: HostRuntime) {
+    let alloc = rt.alloc();
+    assert_texts(&rt, alloc, Kind::Byte, MINIMUM_AND_MAXIMUM_SIZES);
+    assert_texts(&rt, alloc, Kind::Byte, FORMS_BEYOND_64_BITS);
+    assert_texts(&rt, alloc, Kind::Byte, MAXIMUM_SIZE_OF_V1);
+    assert_texts(&rt, alloc, Kind::Byte, SIZES_OF_FEW_FACTORS);
+    assert_texts(&rt, alloc, Kind::Byte, PADDED_BYTES);
+    assert_texts(&rt, alloc, Kind::Byte, PLAIN_BYTES);
+    assert_texts(&rt, alloc, Kind::Byte, SIZES_BY_SIGN);
+    assert_texts(&rt, alloc, Kind::Byte, BYTES_BY_PRECISION);
+}
+
+#[test]
+fn texts_of_bits(rt: HostRuntime) {
+    let alloc = rt.alloc();
+    assert_texts(&rt, alloc, Kind::Bit, &[(0, FormatSpec::ALTERNATE, "0 b")]);
+    assert_texts(&rt, alloc, Kind::Bit, PADDED_BITS);
+    assert_texts(&rt, alloc, Kind::Bit, PLAIN_BITS);
+    assert_texts(&rt, alloc, Kind::Bit, BITS_BY_PRECISION);
 }
 
 /// Sizes that round-trip through their texts.
@@ -253,55 +232,57 @@ const ALTERNATE_SPECS: &[FormatSpec] = &[
 ];
 
 /// Asserts that a size in bytes and a size in bits round-trip through their texts.
-fn assert_round_trip(
-    rt: &impl Abort,
-    alloc: Global,
-    size: u64,
-    spec: FormatSpec,
-) -> Result<(), AllocError> {
+fn assert_round_trip(rt: &impl Abort, alloc: Global, size: u64, spec: FormatSpec) {
     let wanted = Expected::Size(u128::from(size));
-    let text = Byte::from_u64(size).to_text(alloc, spec)?;
+    let text = Byte::from_u64(size)
+        .to_text(alloc, spec)
+        .expect(rt, "memory");
     assert_bytes(rt, text.as_str(), false, wanted);
     assert_bytes(rt, text.as_str(), true, wanted);
-    let text = Bit::from_u64(size).to_text(alloc, spec)?;
+    let text = Bit::from_u64(size)
+        .to_text(alloc, spec)
+        .expect(rt, "memory");
     assert_bits(rt, text.as_str(), wanted);
-    Ok(())
 }
 
 #[test]
-fn forms_with_a_unit_round_trip(rt: HostRuntime) -> Result<(), AllocError> {
+fn forms_with_a_unit_round_trip(rt: HostRuntime) {
     for size in SIZES {
         for spec in ALTERNATE_SPECS {
-            assert_round_trip(&rt, rt.alloc(), *size, *spec)?;
+            assert_round_trip(&rt, rt.alloc(), *size, *spec);
         }
     }
-    Ok(())
 }
 
-#[test]
-fn appended_texts(rt: HostRuntime) -> Result<(), AllocError> {
-    let mut text = String::from_str(rt.alloc(), "ab")?;
-    Byte::from_u64(10_000).append_text(FormatSpec::ALTERNATE, &mut text)?;
-    Bit::from_u64(10_000).append_text(FormatSpec::ALTERNATE, &mut text)?;
-    append_plain(10, FormatSpec::PLAIN, &mut text)?;
-    assert_same(&rt, text.as_str(), "ab10 KB10 Kb10");
-    Ok(())
+/// Asserts the text of 10,000 bytes, 10,000 bits and the number 10, each appended to the one before.
+fn assert_appended(rt: &impl Abort, alloc: Global) {
+    let mut text = String::from_str(alloc, "ab").expect(rt, "memory");
+    let size = Byte::from_u64(10_000);
+    size.append_text(FormatSpec::ALTERNATE, &mut text)
+        .expect(rt, "memory");
+    let size = Bit::from_u64(10_000);
+    size.append_text(FormatSpec::ALTERNATE, &mut text)
+        .expect(rt, "memory");
+    append_plain(10, FormatSpec::PLAIN, &mut text).expect(rt, "memory");
+    assert_same(rt, text.as_str(), "ab10 KB10 Kb10");
 }
 
-#[test]
-fn append_within_capacity(rt: HostRuntime) -> Result<(), AllocError> {
-    let mut text = String::with_capacity(rt.alloc(), 7)?;
-    text.push_str("ab")?;
-    assert!(rt; text.capacity() == 7);
-    Byte::from_u64(10_000).append_text(FormatSpec::ALTERNATE, &mut text)?;
-    assert_same(&rt, text.as_str(), "ab10 KB");
-    assert!(rt; text.capacity() == 7, "there was room");
-    Ok(())
+/// Asserts that a text that fits the capacity does not change it.
+fn assert_within_capacity(rt: &impl Abort, alloc: Global) {
+    let mut text = String::with_capacity(alloc, 7).expect(rt, "memory");
+    text.push_str("ab").expect(rt, "memory");
+    assert_is(rt, text.capacity(), 7);
+    let size = Byte::from_u64(10_000);
+    size.append_text(FormatSpec::ALTERNATE, &mut text)
+        .expect(rt, "memory");
+    assert_same(rt, text.as_str(), "ab10 KB");
+    assert_is(rt, text.capacity(), 7);
 }
 
 /// Asserts the number of bytes written, and the bytes at the start of the buffer.
 fn assert_written(rt: &impl Abort, written: usize, len: usize, out: &[u8], front: &[u8]) {
-    assert!(rt; written == len && out.starts_with(front), "{written}");
+    assert_is(rt, written, len);
+    assert_for(rt, out.starts_with(front), "the bytes at the start");
 }
 
 const NINE_RIGHT: FormatSpec = spec!(true, Sign::Unset, None, Some(9), Some(Align::Right));
@@ -331,23 +312,14 @@ fn append_both(size: Byte, text: &mut String) -> Result<(), AllocError> {
     Ok(())
 }
 
-#[test]
-fn two_texts_after_one_reservation(rt: HostRuntime) -> Result<(), AllocError> {
-    let mut text = String::new(rt.alloc());
-    append_both(Byte::from_u64(1536), &mut text)?;
-    assert_same(&rt, text.as_str(), "15361.5 KiB");
-    Ok(())
-}
-
 /// Asserts the plain text of each number.
-fn assert_plain(rt: &impl Abort, alloc: Global, rows: &[(u128, &str)]) -> Result<(), AllocError> {
+fn assert_plain(rt: &impl Abort, alloc: Global, rows: &[(u128, &str)]) {
     for (number, wanted) in rows {
         let mut text = String::new(alloc);
-        append_plain(*number, FormatSpec::PLAIN, &mut text)?;
+        append_plain(*number, FormatSpec::PLAIN, &mut text).expect(rt, "memory");
         assert_same(rt, text.as_str(), wanted);
-        assert!(rt; plain_len(*number, FormatSpec::PLAIN) == wanted.len());
+        assert_is(rt, plain_len(*number, FormatSpec::PLAIN), wanted.len());
     }
-    Ok(())
 }
 
 const DIGITS_BEYOND_64_BITS: &[(u128, &str)] = &[
@@ -366,6 +338,12 @@ const DIGITS_BEYOND_64_BITS: &[(u128, &str)] = &[
 ];
 
 #[test]
-fn digits_beyond_64_bits(rt: HostRuntime) -> Result<(), AllocError> {
-    assert_plain(&rt, rt.alloc(), DIGITS_BEYOND_64_BITS)
+fn appended_texts(rt: HostRuntime) {
+    let alloc = rt.alloc();
+    assert_appended(&rt, alloc);
+    assert_within_capacity(&rt, alloc);
+    let mut text = String::new(alloc);
+    append_both(Byte::from_u64(1536), &mut text).expect(&rt, "memory");
+    assert_same(&rt, text.as_str(), "15361.5 KiB");
+    assert_plain(&rt, alloc, DIGITS_BEYOND_64_BITS);
 }

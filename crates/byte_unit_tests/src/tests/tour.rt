@@ -1,22 +1,7 @@
 //! Examples of parsing, calculating and formatting.
-use super::traits::assert_is;
+use super::asserting::{assert_for, assert_is};
 use byte_unit::{Bit, Byte, FormatSpec, ParseError, Unit, UnitType, ValueParseError};
 use std::alloc::AllocError;
-use std::process::Abort;
-
-#[test]
-fn parsing(rt: HostRuntime) {
-    let size = Byte::parse_str("1.5 KiB", false).ok();
-    assert_is(&rt, size, Some(Byte::from_u64(1536)));
-    let size = Bit::parse_str("123Kib").ok();
-    assert_is(&rt, size, Some(Bit::from_u64(125_952)));
-    assert!(rt;
-        matches!(
-            "1.".parse::<Byte>(),
-            Err(ParseError::Value(ValueParseError::NotNumber('.')))
-        )
-    );
-}
 
 /// An error in the settings of an example.
 #[derive(Debug, Drop)]
@@ -31,41 +16,40 @@ fn quota_of(text: &str) -> Result<Byte, SettingsError> {
 }
 
 #[test]
-fn parse_error_in_an_error_of_the_caller(rt: HostRuntime) {
+fn parsing_and_calculating(rt: HostRuntime) {
+    let size = Byte::parse_str("1.5 KiB", false).ok();
+    assert_is(&rt, size, Some(Byte::from_u64(1536)));
+    let size = Bit::parse_str("123Kib").ok();
+    assert_is(&rt, size, Some(Bit::from_u64(125_952)));
+    let is_wanted = matches!(
+        "1.".parse::<Byte>(),
+        Err(ParseError::Value(ValueParseError::NotNumber('.')))
+    );
+    assert_for(&rt, is_wanted, "a decimal point without a digit");
     let quota = quota_of("20 GB").ok();
     assert_is(&rt, quota, Some(Byte::from_u64(20_000_000_000)));
-    assert!(rt;
-        matches!(
-            quota_of("20 GX"),
-            Err(SettingsError::Quota(ParseError::Unit(_)))
-        )
+    let is_wanted = matches!(
+        quota_of("20 GX"),
+        Err(SettingsError::Quota(ParseError::Unit(_)))
     );
-}
-
-#[test]
-fn calculating(rt: HostRuntime) {
+    assert_for(&rt, is_wanted, "an error of the caller");
     let quota = Byte::GIBIBYTE;
     let used = Byte::from_u64(900_000_000);
     assert_is(&rt, quota.subtract(used), Some(Byte::from_u64(173_741_824)));
     assert_is(&rt, used.subtract(quota), None);
-    assert!(rt; used.cmp_u64(1_000_000_000).is_lt());
-}
-
-/// Asserts that a text is the expected one.
-fn assert_printed(rt: &impl Abort, text: String, wanted: &str) {
-    assert_is(rt, text.as_str(), wanted);
+    assert_for(&rt, used.cmp_u64(1_000_000_000).is_lt(), "order");
 }
 
 #[test]
 fn formatting(rt: HostRuntime) -> Result<(), AllocError> {
     let size = Byte::from_u64(123_456);
     let plain = size.to_text(rt.alloc(), FormatSpec::PLAIN)?;
-    assert_printed(&rt, plain, "123456");
+    assert_is(&rt, plain.as_str(), "123456");
     let with_unit = size.to_text(rt.alloc(), FormatSpec::ALTERNATE)?;
-    assert_printed(&rt, with_unit, "123.456 KB");
+    assert_is(&rt, with_unit.as_str(), "123.456 KB");
     let adjusted = size.get_adjusted_unit(Unit::KiB);
     let in_kib = adjusted.to_text(rt.alloc(), FormatSpec::PLAIN)?;
-    assert_printed(&rt, in_kib, "120.5625 KiB");
+    assert_is(&rt, in_kib.as_str(), "120.5625 KiB");
     let appropriate = size.get_appropriate_unit(UnitType::Decimal);
     assert_is(&rt, appropriate.get_unit(), Unit::KB);
     Ok(())

@@ -1,25 +1,15 @@
 //! Tests of std's traits on sizes, each through its bound: order, hash, conversions, `FromStr` and `Display`.
+use super::asserting::{assert_are, assert_for, assert_is};
 use super::numbers::convert;
+use super::shown::assert_same;
 use byte_unit::{AdjustedBit, AdjustedByte, Bit, Byte, Unit};
-use std::alloc::{AllocError, Global};
+use std::alloc::Global;
 use std::cmp::Ordering;
 use std::collections::HashSet;
-use std::fmt::{Debug, Display};
+use std::fmt::Display;
 use std::hash::Hash;
 use std::process::Abort;
 use std::str::FromStr;
-
-/// Asserts that two values are equal.
-pub fn assert_is<S: PartialEq + Debug + Drop>(rt: &impl Abort, made: S, wanted: S) {
-    assert_eq!(rt; made, wanted);
-}
-
-/// Asserts that the two values of each pair are equal.
-pub fn assert_are<S: PartialEq + Debug>(rt: &impl Abort, rows: &[(S, S)]) {
-    for (made, wanted) in rows {
-        assert_eq!(rt; made, wanted);
-    }
-}
 
 fn first<S: Default>() -> S {
     S::default()
@@ -39,13 +29,23 @@ fn parsed<S: FromStr>(text: &str) -> Result<S, S::Err> {
 
 #[test]
 fn sizes_by_their_bounds(rt: HostRuntime) {
-    assert_is(&rt, first::<Byte>(), Byte::MIN);
-    assert_is(&rt, greater(Byte::KILOBYTE, Byte::KIBIBYTE), Byte::KIBIBYTE);
+    assert_are(
+        &rt,
+        &[
+            (first::<Byte>(), Byte::MIN),
+            (greater(Byte::KILOBYTE, Byte::KIBIBYTE), Byte::KIBIBYTE),
+        ],
+    );
     let order = partial_order(&Byte::KILOBYTE, &Byte::KIBIBYTE);
     assert_is(&rt, order, Some(Ordering::Less));
     assert_is(&rt, parsed::<Byte>("10 b").ok(), Some(Byte::from_u64(2)));
-    assert_is(&rt, first::<Bit>(), Bit::MIN);
-    assert_is(&rt, greater(Bit::KILOBIT, Bit::KIBIBIT), Bit::KIBIBIT);
+    assert_are(
+        &rt,
+        &[
+            (first::<Bit>(), Bit::MIN),
+            (greater(Bit::KILOBIT, Bit::KIBIBIT), Bit::KIBIBIT),
+        ],
+    );
     let order = partial_order(&Bit::KILOBIT, &Bit::KIBIBIT);
     assert_is(&rt, order, Some(Ordering::Less));
     assert_is(&rt, parsed::<Bit>("10 B").ok(), Some(Bit::from_u64(80)));
@@ -55,22 +55,22 @@ fn sizes_by_their_bounds(rt: HostRuntime) {
 fn assert_distinct<S: Hash + Eq + Drop>(
     rt: &impl Abort,
     alloc: Global,
-    (left, right): (S, S),
+    sizes: (S, S),
     wanted: bool,
-) -> Result<(), AllocError> {
+) {
     let mut seen = HashSet::new(alloc);
-    seen.insert(left)?;
-    assert!(rt; seen.insert(right)? == wanted);
-    Ok(())
+    seen.insert(sizes.0).expect(rt, "memory");
+    let is_new = seen.insert(sizes.1).expect(rt, "memory");
+    assert_for(rt, is_new == wanted, "elements of a set");
 }
 
 #[test]
-fn sizes_in_sets(rt: HostRuntime) -> Result<(), AllocError> {
+fn sizes_in_sets(rt: HostRuntime) {
     let alloc = rt.alloc();
-    assert_distinct(&rt, alloc, (Byte::KILOBYTE, Byte::KIBIBYTE), true)?;
-    assert_distinct(&rt, alloc, (Byte::KILOBYTE, Byte::from_u64(1000)), false)?;
-    assert_distinct(&rt, alloc, (Bit::KILOBIT, Bit::KIBIBIT), true)?;
-    assert_distinct(&rt, alloc, (Bit::KILOBIT, Bit::from_u64(1000)), false)
+    assert_distinct(&rt, alloc, (Byte::KILOBYTE, Byte::KIBIBYTE), true);
+    assert_distinct(&rt, alloc, (Byte::KILOBYTE, Byte::from_u64(1000)), false);
+    assert_distinct(&rt, alloc, (Bit::KILOBIT, Bit::KIBIBIT), true);
+    assert_distinct(&rt, alloc, (Bit::KILOBIT, Bit::from_u64(1000)), false);
 }
 
 /// Compares through the bound `Eq`.
@@ -84,9 +84,11 @@ fn order<S: Ord>(left: &S, right: &S) -> Ordering {
 
 /// Asserts the order of adjusted sizes, which does not depend on their units.
 fn assert_ordered<S: Ord + PartialOrd + Copy>(rt: &impl Abort, less: S, size: S, same: S) {
-    assert!(rt; are_equal(&size, &same) && !are_equal(&size, &less));
-    assert!(rt; order(&less, &size).is_lt() && order(&size, &same).is_eq());
-    assert!(rt; order(&size, &less).is_gt());
+    assert_for(rt, are_equal(&size, &same), "equal");
+    assert_for(rt, !are_equal(&size, &less), "not equal");
+    assert_is(rt, order(&less, &size), Ordering::Less);
+    assert_is(rt, order(&size, &same), Ordering::Equal);
+    assert_is(rt, order(&size, &less), Ordering::Greater);
     assert_is(rt, partial_order(&less, &size), Some(Ordering::Less));
 }
 
@@ -98,7 +100,7 @@ fn adjusted_sizes_compare_as_their_sizes(rt: HostRuntime) {
     assert_ordered(&rt, less, binary, decimal);
     assert_is(&rt, greater(less, decimal).get_unit(), Unit::GB);
     let more = Byte::from_u64(1025).get_adjusted_unit(Unit::YB);
-    assert!(rt; order(&binary, &more).is_lt());
+    assert_is(&rt, order(&binary, &more), Ordering::Less);
     let binary = Bit::KIBIBIT.get_adjusted_unit(Unit::Kibit);
     let decimal = Bit::KIBIBIT.get_adjusted_unit(Unit::GB);
     let less = Bit::KILOBIT.get_adjusted_unit(Unit::Bit);
@@ -127,10 +129,6 @@ fn adjusted_sizes_from_and_into(rt: HostRuntime) {
         Bit::from_u64(10_000),
     );
     assert_is(&rt, convert::<AdjustedBit, Unit>(bits), Unit::Kibit);
-}
-
-#[test]
-fn adjusted_sizes_from_texts(rt: HostRuntime) {
     let bytes = parsed::<AdjustedByte>("50.84 MB")
         .ok()
         .expect(&rt, "a size");
@@ -142,26 +140,20 @@ fn adjusted_sizes_from_texts(rt: HostRuntime) {
 }
 
 /// Asserts that width, sign and precision in the format string do not change the text.
-fn assert_displayed_with_flags<D: Display>(
-    rt: &impl Abort,
-    alloc: Global,
-    size: &D,
-    wanted: &str,
-) -> Result<(), AllocError> {
-    let text = format!(in alloc; "{size:>+12.1}")?;
-    assert!(rt; text.as_str() == wanted, "{wanted}");
-    Ok(())
+fn assert_displayed_with_flags<D: Display>(rt: &impl Abort, alloc: Global, size: &D, wanted: &str) {
+    let text = format!(in alloc; "{size:>+12.1}").expect(rt, "memory");
+    assert_same(rt, text.as_str(), wanted);
 }
 
 #[test]
-fn sizes_displayed_with_flags(rt: HostRuntime) -> Result<(), AllocError> {
+fn sizes_displayed_with_flags(rt: HostRuntime) {
     let alloc = rt.alloc();
     let bytes = Byte::from_u64(1_555_000);
     let bits = Bit::from_u64(1_555_000);
-    assert_displayed_with_flags(&rt, alloc, &bytes, "1555000")?;
-    assert_displayed_with_flags(&rt, alloc, &bits, "1555000")?;
+    assert_displayed_with_flags(&rt, alloc, &bytes, "1555000");
+    assert_displayed_with_flags(&rt, alloc, &bits, "1555000");
     let bytes = Byte::from_u64(10_000).get_adjusted_unit(Unit::MB);
     let bits = Bit::from_u64(10_000).get_adjusted_unit(Unit::Mbit);
-    assert_displayed_with_flags(&rt, alloc, &bytes, "0.01 MB")?;
-    assert_displayed_with_flags(&rt, alloc, &bits, "0.01 Mb")
+    assert_displayed_with_flags(&rt, alloc, &bytes, "0.01 MB");
+    assert_displayed_with_flags(&rt, alloc, &bits, "0.01 Mb");
 }

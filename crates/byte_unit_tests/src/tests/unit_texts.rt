@@ -1,5 +1,6 @@
 //! Tests of parsing units, and of the errors of strings that spell none.
 use super::answers::{Expected, TEN, is_unit_error};
+use super::asserting::{assert_for, assert_is};
 use byte_unit::{Unit, UnitParseError};
 use std::process::Abort;
 
@@ -8,10 +9,7 @@ const FLAGS: &[(bool, bool)] = &[(false, false), (false, true), (true, false), (
 
 /// Asserts that a string was parsed as the expected unit.
 fn assert_result(rt: &impl Abort, text: &str, read: Result<Unit, UnitParseError>, wanted: Unit) {
-    match read {
-        Ok(unit) => assert!(rt; unit == wanted, "{text} is {unit}"),
-        Err(_) => panic!(rt; "{text} is rejected"),
-    }
+    assert_is(rt, (text, read.ok()), (text, Some(wanted)));
 }
 
 fn assert_unit(rt: &impl Abort, text: &str, flags: (bool, bool), wanted: Unit) {
@@ -22,13 +20,11 @@ fn assert_unit(rt: &impl Abort, text: &str, flags: (bool, bool), wanted: Unit) {
 /// Asserts that each string is rejected with the expected error.
 fn assert_all_rejected(rt: &impl Abort, flags: (bool, bool), rows: &[(&str, Expected)]) {
     for (text, wanted) in rows {
-        match Unit::parse_str(text, flags.0, flags.1) {
-            Ok(_) => panic!(rt; "{text} is read"),
-            Err(error) => assert!(rt;
-                is_unit_error(&error, *wanted),
-                "{text} is rejected otherwise"
-            ),
-        }
+        let is_wanted = match Unit::parse_str(text, flags.0, flags.1) {
+            Ok(_) => false,
+            Err(error) => is_unit_error(&error, *wanted),
+        };
+        assert_for(rt, is_wanted, text);
     }
 }
 
@@ -54,13 +50,6 @@ const SPELLINGS_BY_THEIR_FLAGS: &[(&str, bool, bool, Unit)] = &[
     ("Mib", true, false, Unit::MiB),
 ];
 
-#[test]
-fn spellings_by_their_flags(rt: HostRuntime) {
-    for (text, ignore_case, prefer_byte, unit) in SPELLINGS_BY_THEIR_FLAGS {
-        assert_unit(&rt, text, (*ignore_case, *prefer_byte), *unit);
-    }
-}
-
 const SPELLINGS_BY_ANY_FLAGS: &[(&str, Unit)] = &[
     ("B", Unit::B),
     ("Bit", Unit::Bit),
@@ -75,7 +64,10 @@ const SPELLINGS_BY_ANY_FLAGS: &[(&str, Unit)] = &[
 ];
 
 #[test]
-fn spellings_by_any_flags(rt: HostRuntime) {
+fn spellings(rt: HostRuntime) {
+    for (text, ignore_case, prefer_byte, unit) in SPELLINGS_BY_THEIR_FLAGS {
+        assert_unit(&rt, text, (*ignore_case, *prefer_byte), *unit);
+    }
     for (text, unit) in SPELLINGS_BY_ANY_FLAGS {
         for flags in FLAGS {
             assert_unit(&rt, text, *flags, *unit);
@@ -95,13 +87,6 @@ const UNIT_ERRORS: &[(&str, Expected)] = &[
     ("bi", Expected::Unit('i', &[], true)),
     ("GBI", Expected::Unit('i', &[], true)),
 ];
-
-#[test]
-fn unit_errors(rt: HostRuntime) {
-    for flags in FLAGS {
-        assert_all_rejected(&rt, *flags, UNIT_ERRORS);
-    }
-}
 
 const ERRORS_WITHOUT_FLAGS: &[(&str, Expected)] = &[
     ("Kix", Expected::Unit('x', &['B', 'b'], true)),
@@ -125,7 +110,10 @@ const ERRORS_WITH_BOTH_FLAGS: &[(&str, Expected)] = &[
 ];
 
 #[test]
-fn unit_errors_by_flags(rt: HostRuntime) {
+fn unit_errors(rt: HostRuntime) {
+    for flags in FLAGS {
+        assert_all_rejected(&rt, *flags, UNIT_ERRORS);
+    }
     assert_all_rejected(&rt, (false, false), ERRORS_WITHOUT_FLAGS);
     assert_all_rejected(&rt, (false, true), ERRORS_WITH_PREFER_BYTE);
     assert_all_rejected(&rt, (true, false), ERRORS_WITH_IGNORE_CASE);
@@ -144,8 +132,9 @@ fn units_by_from_str(rt: HostRuntime) {
     for (text, unit) in UNITS_BY_FROM_STR {
         assert_result(&rt, text, text.parse::<Unit>(), *unit);
     }
-    match "Kix".parse::<Unit>() {
-        Ok(_) => panic!(rt; "read"),
-        Err(error) => assert!(rt; is_unit_error(&error, Expected::Unit('x', &['B', 'b'], true))),
-    }
+    let is_wanted = match "Kix".parse::<Unit>() {
+        Ok(_) => false,
+        Err(error) => is_unit_error(&error, Expected::Unit('x', &['B', 'b'], true)),
+    };
+    assert_for(&rt, is_wanted, "Kix");
 }

@@ -1,4 +1,5 @@
 //! Tests of the exact and the recoverable unit of a size, and of the step count of the choice.
+use super::asserting::assert_is;
 use byte_unit::{Bit, Byte, Decimal, Kind, Steps, Unit};
 use std::process::Abort;
 
@@ -44,14 +45,6 @@ const EXACT_UNITS: &[(Kind, u128, bool, u128, Unit)] = &[
     ),
 ];
 
-#[test]
-fn exact_units(rt: HostRuntime) {
-    for (kind, size, allow, number, unit) in EXACT_UNITS {
-        let found = exact(*kind, *size, *allow);
-        assert!(rt; found == Some((*number, *unit)), "{size}");
-    }
-}
-
 /// Returns the recoverable unit of a size.
 fn recoverable(kind: Kind, size: u128, allow: bool, precision: usize) -> Option<(Decimal, Unit)> {
     match kind {
@@ -88,11 +81,16 @@ fn assert_recoverable(rt: &impl Abort, rows: &[RecoverableUnit]) {
     for (kind, size, allow, precision, mantissa, scale, unit) in rows {
         let number = Decimal::from_u128_with_scale(*mantissa, *scale).expect(rt, "a decimal");
         let found = recoverable(*kind, *size, *allow, *precision);
-        assert!(rt; found == Some((number, *unit)), "{size} at {precision}");
-        let found = counted(*kind, *size, *allow, *precision);
-        assert!(rt;
-            found.map(|pair| pair.0) == Some((number, *unit)),
-            "{size} at {precision}"
+        assert_is(
+            rt,
+            (*size, *precision, found),
+            (*size, *precision, Some((number, *unit))),
+        );
+        let found = counted(*kind, *size, *allow, *precision).map(|pair| pair.0);
+        assert_is(
+            rt,
+            (*size, *precision, found),
+            (*size, *precision, Some((number, *unit))),
         );
     }
 }
@@ -113,11 +111,6 @@ const RECOVERABLE_UNITS: &[RecoverableUnit] = &[
     (Kind::Byte, 3_211_776, false, 0, 3_211_776, 0, Unit::B),
 ];
 
-#[test]
-fn recoverable_units(rt: HostRuntime) {
-    assert_recoverable(&rt, RECOVERABLE_UNITS);
-}
-
 const RECOVERABLE_UNITS_OF_BITS: &[RecoverableUnit] = &[
     (Kind::Bit, 0, true, 28, 0, 0, Unit::Bit),
     (Kind::Bit, 3_211_776, false, 3, 31_365, 1, Unit::Kibit),
@@ -125,11 +118,6 @@ const RECOVERABLE_UNITS_OF_BITS: &[RecoverableUnit] = &[
     (Kind::Bit, 3_670_016, false, 3, 35, 1, Unit::Mibit),
     (Kind::Bit, 437_500, false, 3, 4375, 1, Unit::Kbit),
 ];
-
-#[test]
-fn recoverable_units_of_bits(rt: HostRuntime) {
-    assert_recoverable(&rt, RECOVERABLE_UNITS_OF_BITS);
-}
 
 /// 2^80 + 2^51.
 const NEAR: u128 = 1_208_925_821_866_428_988_391_424;
@@ -216,11 +204,6 @@ const RECOVERABLE_UNITS_OF_LARGE_SIZES: &[RecoverableUnit] = &[
     (Kind::Byte, MORE_FIVES, false, 28, MORE_FIVES, 27, Unit::RB),
 ];
 
-#[test]
-fn recoverable_units_of_large_sizes(rt: HostRuntime) {
-    assert_recoverable(&rt, RECOVERABLE_UNITS_OF_LARGE_SIZES);
-}
-
 /// The kind, the size, whether units of the other kind are allowed, and the precision; then the step count.
 const STEPS_OF_THE_CHOICE: &[(Kind, u128, bool, usize, u64)] = &[
     (Kind::Byte, MAX_SIZE, false, 28, 29),
@@ -238,12 +221,20 @@ const STEPS_OF_THE_CHOICE: &[(Kind, u128, bool, usize, u64)] = &[
 ];
 
 #[test]
-fn steps_of_the_choice(rt: HostRuntime) {
+fn units_of_sizes(rt: HostRuntime) {
+    for (kind, size, allow, number, unit) in EXACT_UNITS {
+        let found = exact(*kind, *size, *allow);
+        assert_is(&rt, (*size, found), (*size, Some((*number, *unit))));
+    }
+    assert_recoverable(&rt, RECOVERABLE_UNITS);
+    assert_recoverable(&rt, RECOVERABLE_UNITS_OF_BITS);
+    assert_recoverable(&rt, RECOVERABLE_UNITS_OF_LARGE_SIZES);
     for (kind, size, allow, precision, count) in STEPS_OF_THE_CHOICE {
-        let found = counted(*kind, *size, *allow, *precision);
-        assert!(rt;
-            found.map(|pair| pair.1) == Some(*count),
-            "{size} at {precision}"
+        let found = counted(*kind, *size, *allow, *precision).map(|pair| pair.1);
+        assert_is(
+            &rt,
+            (*size, *precision, found),
+            (*size, *precision, Some(*count)),
         );
     }
 }

@@ -1,6 +1,6 @@
 //! Tests of the functions of `byte_unit_uses`.
+use super::asserting::{assert_for, assert_is};
 use super::error_texts::assert_error;
-use super::traits::assert_is;
 use byte_unit::{
     AdjustedByte, Bit, Byte, FormatSpec, JsonSizeError, ParseError, Unit, ValueParseError,
 };
@@ -14,7 +14,7 @@ use byte_unit_uses::message::parse_argument;
 use byte_unit_uses::quota::{QuotaError, left, share};
 use byte_unit_uses::settings::{Settings, SettingsError, read_settings};
 use serde_json::Value;
-use std::alloc::{AllocError, Global};
+use std::alloc::Global;
 use std::process::Abort;
 
 #[test]
@@ -24,7 +24,8 @@ fn limits_from_strings(rt: HostRuntime) {
         limit("1.5 GiB").ok(),
         Some(Byte::from_u64(1_610_612_736)),
     );
-    assert!(rt; matches!(limit(""), Err(ParseError::Value(ValueParseError::NoValue))));
+    let is_wanted = matches!(limit(""), Err(ParseError::Value(ValueParseError::NoValue)));
+    assert_for(&rt, is_wanted, "no limit");
     assert_is(&rt, rate("100 Mbit").ok(), Some(Bit::from_u64(100_000_000)));
     assert_is(&rt, limit_ok("20 mb"), Some(Byte::from_u64(20_000_000)));
     assert_is(&rt, limit_ok("20 x"), None);
@@ -40,65 +41,56 @@ fn limits_from_strings(rt: HostRuntime) {
         unwrap_limit_or(limit("1 x"), Byte::KIBIBYTE),
         Byte::KIBIBYTE,
     );
-}
-
-#[test]
-fn literals(rt: HostRuntime) -> Result<(), serde_json::Error> {
-    assert_is(&rt, spaces(), Byte::from_u64(1_500_000_000));
-    assert_is(&rt, unit(), Unit::Kibit);
-    assert_is(&rt, adjusted_unit().get_unit(), Unit::Mibit);
-    let limits = default_limits(rt.alloc())?;
-    assert_is(&rt, limits.cache, Byte::from_u64(67_108_864));
-    assert_is(&rt, limits.upload, Byte::from_u64(20_000_000));
-    Ok(())
-}
-
-#[test]
-fn limits_with_a_maximum(rt: HostRuntime) {
     let max = Byte::GIGABYTE;
     let half = Byte::from_u64(500_000_000);
     assert_is(&rt, limit_at_most("500 MB", max).ok(), Some(half));
     assert_is(&rt, limit_at_most("1 GB", max).ok(), Some(max));
     assert_is(&rt, limit_at_most("2 GB", max).ok(), Some(max));
-    assert!(rt;
-        matches!(
-            limit_at_most("", max),
-            Err(ParseError::Value(ValueParseError::NoValue))
-        )
+    let is_wanted = matches!(
+        limit_at_most("", max),
+        Err(ParseError::Value(ValueParseError::NoValue))
     );
+    assert_for(&rt, is_wanted, "no limit at most");
     assert_is(&rt, max_exceeded(&read_limit("2 GB", max)), Some(max));
     assert_is(&rt, max_exceeded(&read_limit("1 GB", max)), None);
     assert_is(&rt, max_exceeded(&read_limit("2 X", max)), None);
-    assert!(rt; matches!(read_limit("", max), Err(LimitError::Parse(_))));
+    let is_wanted = matches!(read_limit("", max), Err(LimitError::Parse(_)));
+    assert_for(&rt, is_wanted, "no limit that is read");
 }
 
 #[test]
-fn quotas(rt: HostRuntime) -> Result<(), AllocError> {
+fn literals_and_quotas(rt: HostRuntime) {
+    assert_is(&rt, spaces(), Byte::from_u64(1_500_000_000));
+    assert_is(&rt, unit(), Unit::Kibit);
+    assert_is(&rt, adjusted_unit().get_unit(), Unit::Mibit);
+    let limits = default_limits(rt.alloc()).expect(&rt, "limits");
+    assert_is(&rt, limits.cache, Byte::from_u64(67_108_864));
+    assert_is(&rt, limits.upload, Byte::from_u64(20_000_000));
     let used = Byte::from_u64(900_000_000);
     assert_is(
         &rt,
         left("1 GiB", used).ok(),
         Some(Byte::from_u64(173_741_824)),
     );
-    assert!(rt; matches!(left("500 MB", used), Err(QuotaError::Exceeded)));
+    let is_wanted = matches!(left("500 MB", used), Err(QuotaError::Exceeded));
+    assert_for(&rt, is_wanted, "quota exceeded");
     assert_error(
         &rt,
         rt.alloc(),
         left("1 GX", used),
         "no quota: the character 'X' is incorrect ('B' or 'b' or no character is expected)",
-    )?;
+    );
     assert_is(
         &rt,
         share("10 KB", 3).ok(),
         Some(Some(Byte::from_u64(3333))),
     );
     assert_is(&rt, share("10 KB", 0).ok(), Some(None));
-    Ok(())
 }
 
 /// Creates a JSON string.
-fn string(alloc: Global, text: &str) -> Result<Value, AllocError> {
-    Ok(Value::String(String::from_str(alloc, text)?))
+fn string(rt: &impl Abort, alloc: Global, text: &str) -> Value {
+    Value::String(String::from_str(alloc, text).expect(rt, "memory"))
 }
 
 /// Returns the cache limit and the unit of settings, and `None` for an error.
@@ -108,24 +100,24 @@ fn parts(outcome: Result<Settings, SettingsError>) -> Option<(Byte, Unit)> {
 }
 
 #[test]
-fn settings_from_json(rt: HostRuntime) -> Result<(), AllocError> {
-    let cache = string(rt.alloc(), "1.5 GiB")?;
-    let unit = string(rt.alloc(), "MiB")?;
+fn settings_from_json(rt: HostRuntime) {
+    let alloc = rt.alloc();
+    let cache = string(&rt, alloc, "1.5 GiB");
+    let unit = string(&rt, alloc, "MiB");
     let read = parts(read_settings(&cache, &unit));
     assert_is(&rt, read, Some((Byte::from_u64(1_610_612_736), Unit::MiB)));
-    assert!(rt;
-        matches!(
-            read_settings(&Value::Null, &unit),
-            Err(SettingsError::Cache(JsonSizeError::NotString))
-        )
+    let is_wanted = matches!(
+        read_settings(&Value::Null, &unit),
+        Err(SettingsError::Cache(JsonSizeError::NotString))
     );
-    let unit = string(rt.alloc(), "MiBs")?;
+    assert_for(&rt, is_wanted, "a cache that is no string");
+    let unit = string(&rt, alloc, "MiBs");
     assert_error(
         &rt,
-        rt.alloc(),
+        alloc,
         read_settings(&cache, &unit),
         "unit: the character 's' is incorrect ('i' or no character is expected)",
-    )
+    );
 }
 
 /// Asserts that a result is a size in a unit that is formatted as `wanted`.
@@ -134,45 +126,35 @@ fn assert_formatted<E: Drop>(
     alloc: Global,
     outcome: Result<AdjustedByte, E>,
     wanted: &str,
-) -> Result<(), AllocError> {
-    match outcome {
-        Ok(size) => assert_is(rt, size.to_text(alloc, FormatSpec::PLAIN)?.as_str(), wanted),
-        Err(_) => panic!(rt; "rejected"),
-    }
-    Ok(())
-}
-
-#[test]
-fn sizes_in_units(rt: HostRuntime) -> Result<(), AllocError> {
-    let size = in_unit(Byte::from_u64(123_456), "KiB");
-    assert_formatted(&rt, rt.alloc(), size, "120.5625 KiB")?;
-    assert_is(&rt, parse_unit("3 Mbit").ok(), Some(Unit::Mbit));
-    assert_formatted(&rt, rt.alloc(), parse_adjusted("10000"), "9.765625 KiB")
+) {
+    let size = outcome.ok().expect(rt, "a size");
+    let text = size.to_text(alloc, FormatSpec::PLAIN).expect(rt, "memory");
+    assert_is(rt, text.as_str(), wanted);
 }
 
 /// The name of each entry, and the string of its size.
 const ENTRIES: &[(&str, &str)] = &[("logs", "1.5 KiB"), ("cache", "2 GB"), ("none", "2 X")];
 
 #[test]
-fn entries_of_a_report(rt: HostRuntime) -> Result<(), AllocError> {
-    let mut report = Vec::new(rt.alloc());
+fn sizes_in_units_and_entries(rt: HostRuntime) {
+    let alloc = rt.alloc();
+    let size = in_unit(Byte::from_u64(123_456), "KiB");
+    assert_formatted(&rt, alloc, size, "120.5625 KiB");
+    assert_is(&rt, parse_unit("3 Mbit").ok(), Some(Unit::Mbit));
+    assert_formatted(&rt, alloc, parse_adjusted("10000"), "9.765625 KiB");
+    let mut report = Vec::new(alloc);
     for (name, text) in ENTRIES {
         if let Ok(entry) = Entry::read(name, text) {
             if let Some(entry) = filter_below(entry, Byte::GIBIBYTE) {
-                add(&mut report, entry)?;
+                add(&mut report, entry).expect(&rt, "memory");
             }
         }
     }
     assert!(rt; report.len() == 1);
     assert_is(&rt, report[0].name(), "logs");
     assert_is(&rt, report[0].size(), Byte::from_u64(1536));
-    Ok(())
-}
-
-#[test]
-fn error_messages_with_context(rt: HostRuntime) -> Result<(), AllocError> {
     let limit = parse_argument("12 GB").ok();
     assert_is(&rt, limit, Some(Byte::from_u64(12_000_000_000)));
     let rejected = parse_argument("12 QB");
-    assert_error(&rt, rt.alloc(), rejected, "reading the limit \"12 QB\"")
+    assert_error(&rt, alloc, rejected, "reading the limit \"12 QB\"");
 }

@@ -1,10 +1,11 @@
 //! Tests of the longest texts: the maximum width and the maximum precision, for each type.
-use super::shown::{Shown, assert_row, assert_same};
+use super::asserting::assert_is;
+use super::shown::{Shown, assert_row, assert_same, great_size, great_size_in};
 use byte_unit::{
-    Align, Bit, Byte, Expansion, FormatSpec, Kind, Sign, Unit, append_layout, append_plain,
-    layout_len, plain_len,
+    Align, Expansion, FormatSpec, Kind, Sign, Unit, append_layout, append_plain, layout_len,
+    plain_len,
 };
-use std::alloc::{AllocError, Global};
+use std::alloc::Global;
 use std::process::Abort;
 
 /// Texts, each with its number of repetitions.
@@ -16,43 +17,31 @@ type Row = (Kind, u128, Option<Unit>, FormatSpec, usize, Repeated);
 /// The maximum size.
 const MAX_SIZE: u128 = 999_999_999_999_999_999_999_999_999_999;
 
-fn repeated(alloc: Global, texts: Repeated) -> Result<String, AllocError> {
+fn repeated(rt: &impl Abort, alloc: Global, texts: Repeated) -> String {
     let mut all = String::new(alloc);
     for (text, count) in texts {
-        all.push_str(text.repeat(alloc, *count)?.as_str())?;
+        let text = text.repeat(alloc, *count).expect(rt, "memory");
+        all.push_str(text.as_str()).expect(rt, "memory");
     }
-    Ok(all)
+    all
 }
 
 /// Creates a size, adjusted to a unit if one is given.
-fn size_in(rt: &impl Abort, kind: Kind, size: u128, unit: Option<Unit>) -> Shown {
-    match kind {
-        Kind::Byte => {
-            let size = Byte::from_u128(size).expect(rt, "a size");
-            match unit {
-                Some(unit) => Shown::AdjustedByte(size.get_adjusted_unit(unit)),
-                None => Shown::Byte(size),
-            }
-        }
-        Kind::Bit => {
-            let size = Bit::from_u128(size).expect(rt, "a size");
-            match unit {
-                Some(unit) => Shown::AdjustedBit(size.get_adjusted_unit(unit)),
-                None => Shown::Bit(size),
-            }
-        }
+fn size_of(rt: &impl Abort, kind: Kind, size: u128, unit: Option<Unit>) -> Shown {
+    match unit {
+        Some(unit) => great_size_in(rt, kind, size, unit),
+        None => great_size(rt, kind, size),
     }
 }
 
 /// Asserts each text and its length.
-fn assert_widest(rt: &impl Abort, alloc: Global, rows: &[Row]) -> Result<(), AllocError> {
+fn assert_widest(rt: &impl Abort, alloc: Global, rows: &[Row]) {
     for (kind, size, unit, spec, len, texts) in rows {
-        let wanted = repeated(alloc, texts)?;
-        assert!(rt; wanted.len() == *len);
-        let shown = size_in(rt, *kind, *size, *unit);
-        assert_row(rt, alloc, &shown, *spec, wanted.as_str())?;
+        let wanted = repeated(rt, alloc, texts);
+        assert_is(rt, wanted.len(), *len);
+        let shown = size_of(rt, *kind, *size, *unit);
+        assert_row(rt, alloc, &shown, *spec, wanted.as_str());
     }
-    Ok(())
 }
 
 const MAXIMUM_DECIMALS: FormatSpec = spec!(false, Sign::Plus, Some(65_535), None, None);
@@ -92,11 +81,6 @@ const MAXIMUM_PRECISION: &[Row] = &[
     ),
 ];
 
-#[test]
-fn maximum_precision(rt: HostRuntime) -> Result<(), AllocError> {
-    assert_widest(&rt, rt.alloc(), MAXIMUM_PRECISION)
-}
-
 const WIDE: FormatSpec = spec!(false, Sign::Unset, None, Some(65_535), None);
 
 const MAXIMUM_WIDTH_OF_A_PLAIN_TEXT: &[Row] = &[
@@ -111,11 +95,6 @@ const MAXIMUM_WIDTH_OF_A_PLAIN_TEXT: &[Row] = &[
     (Kind::Bit, 0, None, WIDE, 65_535, &[(" ", 65_534), ("0", 1)]),
 ];
 
-#[test]
-fn maximum_width_of_a_plain_text(rt: HostRuntime) -> Result<(), AllocError> {
-    assert_widest(&rt, rt.alloc(), MAXIMUM_WIDTH_OF_A_PLAIN_TEXT)
-}
-
 const RIGHT: FormatSpec = spec!(true, Sign::Unset, None, Some(65_535), Some(Align::Right));
 
 /// The number is before its unit.
@@ -129,11 +108,6 @@ const MAXIMUM_WIDTH_WITH_A_UNIT: &[Row] = &[
     (Kind::Byte, 0, Some(Unit::B), RIGHT, 65_535, ZERO_BYTES),
     (Kind::Bit, 0, Some(Unit::Bit), RIGHT, 65_535, ZERO_BITS),
 ];
-
-#[test]
-fn maximum_width_with_a_unit(rt: HostRuntime) -> Result<(), AllocError> {
-    assert_widest(&rt, rt.alloc(), MAXIMUM_WIDTH_WITH_A_UNIT)
-}
 
 /// The maximum width and the maximum precision, aligned right, without a unit and with one.
 const BOTH: FormatSpec = spec!(
@@ -188,11 +162,6 @@ const MAXIMUM_WIDTH_AND_PRECISION_OF_SIZES: &[Row] = &[
     ),
 ];
 
-#[test]
-fn maximum_width_and_precision_of_sizes(rt: HostRuntime) -> Result<(), AllocError> {
-    assert_widest(&rt, rt.alloc(), MAXIMUM_WIDTH_AND_PRECISION_OF_SIZES)
-}
-
 /// The requested decimals exceed the width.
 const MORE_DECIMALS_THAN_WIDTH: &[Row] = &[
     (
@@ -241,12 +210,6 @@ const SIXTEEN_DECIMALS: &[Row] = &[
     ),
 ];
 
-#[test]
-fn maximum_width_and_precision_of_adjusted_sizes(rt: HostRuntime) -> Result<(), AllocError> {
-    assert_widest(&rt, rt.alloc(), MORE_DECIMALS_THAN_WIDTH)?;
-    assert_widest(&rt, rt.alloc(), SIXTEEN_DECIMALS)
-}
-
 /// In the base unit a precision is ignored, unless the spec is alternate.
 const MAXIMUM_WIDTH_AND_PRECISION_OF_SHORT_TEXTS: &[Row] = &[
     (
@@ -267,11 +230,6 @@ const MAXIMUM_WIDTH_AND_PRECISION_OF_SHORT_TEXTS: &[Row] = &[
     ),
 ];
 
-#[test]
-fn maximum_width_and_precision_of_short_texts(rt: HostRuntime) -> Result<(), AllocError> {
-    assert_widest(&rt, rt.alloc(), MAXIMUM_WIDTH_AND_PRECISION_OF_SHORT_TEXTS)
-}
-
 const TO_LEFT: FormatSpec = spec!(false, Sign::Unset, None, Some(65_535), Some(Align::Left));
 
 const TO_CENTER: FormatSpec = spec!(false, Sign::Unset, None, Some(65_535), Some(Align::Center));
@@ -286,11 +244,6 @@ const MAXIMUM_WIDTH_AT_EACH_ALIGNMENT: &[Row] = &[
     (Kind::Byte, 0, None, TO_CENTER, 65_535, AT_CENTER),
     (Kind::Bit, 0, None, TO_CENTER, 65_535, AT_CENTER),
 ];
-
-#[test]
-fn maximum_width_at_each_alignment(rt: HostRuntime) -> Result<(), AllocError> {
-    assert_widest(&rt, rt.alloc(), MAXIMUM_WIDTH_AT_EACH_ALIGNMENT)
-}
 
 const LEFT: FormatSpec = spec!(true, Sign::Unset, None, Some(65_535), Some(Align::Left));
 
@@ -307,8 +260,17 @@ const MAXIMUM_WIDTH_BETWEEN_NUMBER_AND_UNIT: &[Row] = &[
 ];
 
 #[test]
-fn maximum_width_between_number_and_unit(rt: HostRuntime) -> Result<(), AllocError> {
-    assert_widest(&rt, rt.alloc(), MAXIMUM_WIDTH_BETWEEN_NUMBER_AND_UNIT)
+fn maximum_width_and_precision(rt: HostRuntime) {
+    let alloc = rt.alloc();
+    assert_widest(&rt, alloc, MAXIMUM_PRECISION);
+    assert_widest(&rt, alloc, MAXIMUM_WIDTH_OF_A_PLAIN_TEXT);
+    assert_widest(&rt, alloc, MAXIMUM_WIDTH_WITH_A_UNIT);
+    assert_widest(&rt, alloc, MAXIMUM_WIDTH_AND_PRECISION_OF_SIZES);
+    assert_widest(&rt, alloc, MORE_DECIMALS_THAN_WIDTH);
+    assert_widest(&rt, alloc, SIXTEEN_DECIMALS);
+    assert_widest(&rt, alloc, MAXIMUM_WIDTH_AND_PRECISION_OF_SHORT_TEXTS);
+    assert_widest(&rt, alloc, MAXIMUM_WIDTH_AT_EACH_ALIGNMENT);
+    assert_widest(&rt, alloc, MAXIMUM_WIDTH_BETWEEN_NUMBER_AND_UNIT);
 }
 
 const WIDE_PLUS: FormatSpec = spec!(false, Sign::Plus, None, Some(65_535), None);
@@ -317,16 +279,6 @@ const MAXIMUM_NUMBER: Repeated = &[
     (" ", 65_495),
     ("+340282366920938463463374607431768211455", 1),
 ];
-
-#[test]
-fn append_the_maximum_number(rt: HostRuntime) -> Result<(), AllocError> {
-    let wanted = repeated(rt.alloc(), MAXIMUM_NUMBER)?;
-    let mut text = String::new(rt.alloc());
-    append_plain(u128::MAX, WIDE_PLUS, &mut text)?;
-    assert_same(&rt, text.as_str(), wanted.as_str());
-    assert!(rt; plain_len(u128::MAX, WIDE_PLUS) == 65_535);
-    Ok(())
-}
 
 const WIDE_MINUS: FormatSpec = spec!(false, Sign::Minus, None, Some(65_535), None);
 
@@ -337,21 +289,22 @@ const MAXIMUM_EXPANSION: Repeated = &[
 ];
 
 #[test]
-fn append_the_maximum_expansion(rt: HostRuntime) -> Result<(), AllocError> {
-    let greatest = Expansion::new(7_999_999_999_999_999_999_999_999_999_999, 27, 27);
-    let wanted = repeated(rt.alloc(), MAXIMUM_EXPANSION)?;
-    let mut text = String::new(rt.alloc());
-    append_layout(&greatest, 200_000, Unit::KiB, WIDE_MINUS, &mut text)?;
+fn append_a_number(rt: HostRuntime) {
+    let alloc = rt.alloc();
+    let wanted = repeated(&rt, alloc, MAXIMUM_NUMBER);
+    let mut text = String::new(alloc);
+    append_plain(u128::MAX, WIDE_PLUS, &mut text).expect(&rt, "memory");
     assert_same(&rt, text.as_str(), wanted.as_str());
-    assert!(rt; layout_len(&greatest, 200_000, Unit::KiB, WIDE_MINUS) == 200_008);
-    Ok(())
-}
-
-#[test]
-fn a_whole_number_with_its_unit(rt: HostRuntime) -> Result<(), AllocError> {
-    let mut text = String::new(rt.alloc());
+    assert_is(&rt, plain_len(u128::MAX, WIDE_PLUS), 65_535);
+    let greatest = Expansion::new(7_999_999_999_999_999_999_999_999_999_999, 27, 27);
+    let wanted = repeated(&rt, alloc, MAXIMUM_EXPANSION);
+    let mut text = String::new(alloc);
+    append_layout(&greatest, 200_000, Unit::KiB, WIDE_MINUS, &mut text).expect(&rt, "memory");
+    assert_same(&rt, text.as_str(), wanted.as_str());
+    let len = layout_len(&greatest, 200_000, Unit::KiB, WIDE_MINUS);
+    assert_is(&rt, len, 200_008);
+    let mut text = String::new(alloc);
     let ten = Expansion::new(10, 0, 0);
-    append_layout(&ten, 0, Unit::KB, FormatSpec::ALTERNATE, &mut text)?;
+    append_layout(&ten, 0, Unit::KB, FormatSpec::ALTERNATE, &mut text).expect(&rt, "memory");
     assert_same(&rt, text.as_str(), "10 KB");
-    Ok(())
 }

@@ -1,11 +1,12 @@
 //! Tests of calls that do not allocate. The functions here have neither an allocator nor the runtime, so the calls in
 //! them cannot allocate; the tests compare their results.
-use super::traits::assert_is;
+use super::asserting::assert_is;
 use byte_unit::{
     AdjustedBit, AdjustedByte, Bit, Byte, Decimal, FormatSpec, Unit, UnitType, unit_from_json,
 };
 use serde_json::Value;
-use std::alloc::{AllocError, Global};
+use std::alloc::Global;
+use std::process::Abort;
 
 /// Parses a size in bytes and in bits.
 fn sizes_of(text: &str) -> (Option<u128>, Option<u128>) {
@@ -13,14 +14,6 @@ fn sizes_of(text: &str) -> (Option<u128>, Option<u128>) {
         Byte::parse_str(text, false).map(Byte::as_u128).ok(),
         Bit::parse_str(text).map(Bit::as_u128).ok(),
     )
-}
-
-#[test]
-fn parse_sizes(rt: HostRuntime) {
-    assert_is(&rt, sizes_of("1.5 KiB"), (Some(1536), Some(12_288)));
-    assert_is(&rt, sizes_of("1kb"), (Some(125), Some(1000)));
-    assert_is(&rt, sizes_of("1KB x"), (None, None));
-    assert_is(&rt, sizes_of("1."), (None, None));
 }
 
 /// Parses a unit from a string and from a JSON value.
@@ -32,20 +25,8 @@ fn units_of(text: &str, value: &Value) -> (Option<Unit>, Option<Unit>) {
 }
 
 /// Creates a JSON string.
-fn string(alloc: Global, text: &str) -> Result<Value, AllocError> {
-    Ok(Value::String(String::from_str(alloc, text)?))
-}
-
-#[test]
-fn parse_units(rt: HostRuntime) -> Result<(), AllocError> {
-    let value = string(rt.alloc(), "Kb")?;
-    assert_is(
-        &rt,
-        units_of("MiB", &value),
-        (Some(Unit::MiB), Some(Unit::Kbit)),
-    );
-    assert_is(&rt, units_of("x", &Value::Null), (None, None));
-    Ok(())
+fn string(rt: &impl Abort, alloc: Global, text: &str) -> Value {
+    Value::String(String::from_str(alloc, text).expect(rt, "memory"))
 }
 
 /// Parses a size in bytes from a JSON value, directly and as an adjusted size.
@@ -67,17 +48,22 @@ fn stored_bits(value: &Value) -> (Option<Bit>, Option<Bit>) {
 }
 
 #[test]
-fn parse_json_values(rt: HostRuntime) -> Result<(), AllocError> {
-    let value = string(rt.alloc(), "15.5 KB")?;
-    let (size, adjusted) = stored_bytes(&value);
-    assert!(rt; size == Some(Byte::from_u64(15_500)));
-    assert!(rt; adjusted == Some(Byte::from_u64(15_500)));
-    let (size, adjusted) = stored_bits(&value);
-    assert!(rt; size == Some(Bit::from_u64(124_000)));
-    assert!(rt; adjusted == Some(Bit::from_u64(124_000)));
-    assert!(rt; stored_bytes(&Value::Null) == (None, None));
-    assert!(rt; stored_bits(&Value::Null) == (None, None));
-    Ok(())
+fn parsing(rt: HostRuntime) {
+    assert_is(&rt, sizes_of("1.5 KiB"), (Some(1536), Some(12_288)));
+    assert_is(&rt, sizes_of("1kb"), (Some(125), Some(1000)));
+    assert_is(&rt, sizes_of("1KB x"), (None, None));
+    assert_is(&rt, sizes_of("1."), (None, None));
+    let value = string(&rt, rt.alloc(), "Kb");
+    let units = (Some(Unit::MiB), Some(Unit::Kbit));
+    assert_is(&rt, units_of("MiB", &value), units);
+    assert_is(&rt, units_of("x", &Value::Null), (None, None));
+    let value = string(&rt, rt.alloc(), "15.5 KB");
+    let wanted = (Some(Byte::from_u64(15_500)), Some(Byte::from_u64(15_500)));
+    assert_is(&rt, stored_bytes(&value), wanted);
+    let wanted = (Some(Bit::from_u64(124_000)), Some(Bit::from_u64(124_000)));
+    assert_is(&rt, stored_bits(&value), wanted);
+    assert_is(&rt, stored_bytes(&Value::Null), (None, None));
+    assert_is(&rt, stored_bits(&Value::Null), (None, None));
 }
 
 /// Returns the exact unit, the recoverable unit with two decimals, and the appropriate unit of a size in bytes.
@@ -100,18 +86,6 @@ fn units_of_bits(size: Bit) -> ((u128, Unit), (Decimal, Unit), Unit) {
     )
 }
 
-#[test]
-fn choose_units(rt: HostRuntime) {
-    let number = Decimal::from_u128_with_scale(5084, 2).expect(&rt, "a decimal");
-    let bytes = Byte::from_u64(50_840_000);
-    let wanted = ((50_840, Unit::KB), (number, Unit::MB), Unit::MiB);
-    assert_is(&rt, units_of_bytes(bytes), wanted);
-    let three = Decimal::from_u128(3).expect(&rt, "a decimal");
-    let bits = Bit::from_u64(24_000_000);
-    let wanted = ((3, Unit::MB), (three, Unit::MB), Unit::Mibit);
-    assert_is(&rt, units_of_bits(bits), wanted);
-}
-
 /// Returns the lengths of the plain text, of the text with a unit, and of the text in `KB`, with two decimals.
 fn lengths_of_bytes(size: Byte) -> (usize, usize, usize) {
     (
@@ -131,13 +105,18 @@ fn lengths_of_bits(size: Bit) -> (usize, usize, usize) {
 }
 
 #[test]
-fn text_lengths(rt: HostRuntime) {
+fn units_and_lengths(rt: HostRuntime) {
+    let number = Decimal::from_u128_with_scale(5084, 2).expect(&rt, "a decimal");
+    let bytes = Byte::from_u64(50_840_000);
+    let wanted = ((50_840, Unit::KB), (number, Unit::MB), Unit::MiB);
+    assert_is(&rt, units_of_bytes(bytes), wanted);
+    let three = Decimal::from_u128(3).expect(&rt, "a decimal");
+    let bits = Bit::from_u64(24_000_000);
+    let wanted = ((3, Unit::MB), (three, Unit::MB), Unit::Mibit);
+    assert_is(&rt, units_of_bits(bits), wanted);
     let bytes = lengths_of_bytes(Byte::from_u64(1005));
-    assert_is(
-        &rt,
-        bytes,
-        ("1005".len(), "1.005 KB".len(), "1.01 KB".len()),
-    );
+    let wanted = ("1005".len(), "1.005 KB".len(), "1.01 KB".len());
+    assert_is(&rt, bytes, wanted);
     let bits = lengths_of_bits(Bit::from_u64(13));
     assert_is(&rt, bits, ("13".len(), "13 b".len(), "1.63 B".len()));
 }
