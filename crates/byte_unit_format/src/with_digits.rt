@@ -31,7 +31,7 @@ const DIGITS: usize = 32;
 /// ```rust
 /// let mut out = [0; 70];
 /// let len = write_with_digits(1536, Kind::Byte, *b" = ", &mut out);
-/// assert!(rt; out[..len] == *b"1536 = 1.5 KiB");
+/// assert_eq!(rt; &out[..len], b"1536 = 1.5 KiB".as_slice());
 /// ```
 #[inline(always)]
 pub fn write_with_digits(size: u128, kind: Kind, between: [u8; 3], out: &mut [u8]) -> usize
