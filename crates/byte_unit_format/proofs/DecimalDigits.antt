@@ -1,4 +1,4 @@
--- The digits of a number: those before and behind a place, the last one, and zeros at their end.
+-- The digits of a number: those before and after a place, the last one, and zeros at their end.
 use Rattle.std.proofs.Common.{◌≡◌, ◌≢◌, ℕ, zero, suc, ◌+◌, ◌-◌, ◌*◌, ◌/◌, ◌%◌, ◌^◌, ◌<◌, ◌≤◌, ⊎_elim, List, [], ◌∷◌, ◌++◌}
 use Rattle.std.proofs.Common.{length, take, drop, replicate, get_or, min, arith, ap, sym, subst, refl, ◌∙◌, append-nil, append_assoc, length-append}
 use Rattle.std.specs.Prelude.{if◌then◌else◌}
@@ -52,7 +52,7 @@ digits_behind k n wide small =
     ∙ drop_at whole (glyphs (last_digits k (n % 10 ^ k))) (length (decimal n) - k)
     (omega (arith, decimal_length_split k n wide small))
 
--- An element behind the first list is at the beginning of the second.
+-- An element after the first list is at the beginning of the second.
 pub get_or_behind : (front behind : List ℕ) (i d : ℕ) → i ≡ length front → get_or (front ++ behind) i d ≡ get_or behind 0 d
 get_or_behind [] behind i d here = ap (λ i. get_or behind i d) here
 get_or_behind (x ∷ front) behind zero d here = absurd (omega (arith, here))

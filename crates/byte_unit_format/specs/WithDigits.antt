@@ -15,7 +15,7 @@ pub record IsTextWithDigits (kind : Kind) (size : ℕ) (between text : List ℕ)
 abbrev pub with_digits_text : ℕ
 with_digits_text = 70
 
--- Private: the digits of a size, and zeros behind them up to 32 bytes.
+-- Private: the digits of a size, and zeros after them up to 32 bytes.
 abbrev pub padded_digits : ℕ → List ℕ
 padded_digits size = decimal size ++ replicate (32 - length (decimal size)) 48
 

@@ -23,7 +23,7 @@ const DIGITS: usize = 32;
 
 /// Writes the digits of a size, `between`, and the size in its unit (the alternate form with no other option) to the
 /// beginning of `out`, and returns the length of this text, at most 70 bytes. A number in a decimal unit is cut from
-/// the digits. Bytes of `out` behind the text are overwritten too.
+/// the digits. Bytes of `out` after the text are overwritten too.
 ///
 /// Preconditions (proved at every call): the size is below 10^30, and `out` has at least 70 bytes.
 ///
@@ -74,7 +74,7 @@ fn put_with_digits(size: u128, kind: Kind, between: [u8; 3], out: &mut [u8]) -> 
     form + put_form_of(&digits, len, size, kind, &mut out[form..])
 }
 
-/// Returns the digits of a size, with zeros behind them, and their number.
+/// Returns the digits of a size, with zeros after them, and their number.
 #[inline(always)]
 fn digits_of(size: u128) -> ([u8; DIGITS], usize)
     requires { size < size_limit }

@@ -1,4 +1,4 @@
--- A size has at most 30 digits, and what is behind them stays.
+-- A size has at most 30 digits, and what is after them stays.
 use Rattle.std.proofs.Common.{◌-◌, ◌++◌, replicate, arith, ap, ◌∙◌}
 use Rattle.std.specs.Fmt.{decimal}
 use Rattle.std.proofs.lemmas.List.{drop-replicate}

@@ -1,4 +1,4 @@
--- The digits are copied, then what is between, and the size in its unit behind that.
+-- The digits are copied, then what is between, and the size in its unit after that.
 use Rattle.std.proofs.Common.{◌≡◌, subst, ◌≤◌, ◌+◌, ◌-◌, ◌++◌, List, ℕ, ap, sym, arith, ◌∙◌, take, drop, length, append_assoc}
 use Rattle.std.specs.Fmt.{decimal}
 use Rattle.std.proofs.lemmas.List.{take_at, drop_at, take-append-drop, length-take, length-drop}
