@@ -1,7 +1,7 @@
 -- The parser reads the digits of a number at once. It gets to the state that the state machine has after them, or stops
 -- where the machine has an error.
 use Rattle.std.proofs.Common.{◌≡◌, ◌≢◌, ℕ, zero, suc, ◌+◌, ◌-◌, ◌*◌, ◌^◌, ◌<◌, ◌≤◌, false, nat_eq, eqb, inl, inr, List, [], ◌∷◌}
-use Rattle.std.proofs.Common.{◌++◌, Err, length, take, drop, slice_range, get_or, replicate, refl, sym, ap, subst, ◌∙◌, arith}
+use Rattle.std.proofs.Common.{◌++◌, Err, length, take, drop, get_or, replicate, refl, sym, ap, subst, ◌∙◌, arith}
 use Rattle.std.proofs.Common.{take-append-drop}
 use Rattle.std.proofs.Math.Seq.{take-add}
 use Rattle.std.specs.Char.{digit_value}
@@ -12,7 +12,7 @@ use Rattle.core.proofs.dec2flt.DigitsLemmas.{ends_digits}
 use Rattle.std.proofs.lemmas.Bool.Decides.{nat_tests}
 use Rattle.std.proofs.lemmas.Fmt.{IsAscii-from_digits}
 use Rattle.std.proofs.lemmas.Int.Digits.{digits_value-lt}
-use Rattle.std.proofs.lemmas.List.{length-take-le, length-drop, take_more, take_rest, drop-drop}
+use Rattle.std.proofs.lemmas.List.{length-take-le, length-drop, take_more, drop-drop}
 use Rattle.std.proofs.lemmas.Str.{chars-append, chars-IsAscii, IsUtf8-from_ascii, IsUtf8-drop, IsAscii-append}
 use Rattle.std.proofs.lemmas.Str.{IsCharBoundary-start, IsCharBoundary-from_take}
 use Rattle.std.proofs.lemmas.Str.Ascii.{IsAscii-nil, IsAscii-cons, IsAscii-from_all}
@@ -127,7 +127,7 @@ module _ (bytes : List ℕ) (end whole : ℕ) (run_is : end ≡ 0 + digits_len (
   -- a point follows
   module _ (inside : end ≡ length bytes → ⊥) (point_is : get_or bytes end 0 ≡ point) where
     abbrev rest : List ℕ
-    rest = slice_range bytes (end + 1) (length bytes)
+    rest = drop (end + 1) bytes
 
     pointed_within : end + 1 ≤ length bytes
     pointed_within = omega (arith, inside, within)
@@ -144,26 +144,21 @@ module _ (bytes : List ℕ) (end whole : ℕ) (run_is : end ≡ 0 + digits_len (
     read_rest : (flags : Flags)
         → read (size_scan flags) Beginning (chars bytes) ≡ read (size_scan flags) (Point whole) (chars rest)
     read_rest flags =
-        let after = ap chars (sym (take_rest bytes (end + 1))) in
         ap (read (size_scan flags) Beginning) (text_from bytes (end + 1) pointed_ascii
-        ∙ (ap (λ front. front ++ chars (drop (end + 1) bytes)) pointed_text
-        ∙ (push_append (take end bytes) (chars (drop (end + 1) bytes)) point
-        ∙ ap (λ after. take end bytes ++ point ∷ after) after)))
+        ∙ (ap (λ front. front ++ chars rest) pointed_text ∙ push_append (take end bytes) (chars rest) point))
         ∙ read_point flags (take end bytes) (chars rest) whole whole_is
 
     -- a digit is missing after the point
     pub stops_after_point : digits_len rest ≡ 0 → (flags : Flags) → IsUtf8 bytes
         → IsStop flags bytes (stop_in_number (end + 1) NoDigit)
     stops_after_point none flags utf8 =
-        let rest_is = take_rest bytes (end + 1) in
-        let utf8_rest = subst IsUtf8 (sym rest_is) (utf8_from bytes (end + 1) utf8 pointed_within pointed_ascii) in
+        let utf8_rest = utf8_from bytes (end + 1) utf8 pointed_within pointed_ascii in
         record {
           boundary = boundary_at bytes (end + 1) utf8 pointed_within pointed_ascii;
           result_is = read_rest flags
               ∙ (missing_after_point flags whole (chars rest)
               (first_char IsNoDigit wide_no_digit rest utf8_rest (no_digit_first rest none))
-              ∙ (ap (λ rest. Err (missing_digit false (chars rest))) rest_is
-              ∙ ap (λ at_start. Err (missing_digit at_start (chars (drop (end + 1) bytes)))) (sym (after_start end))));
+              ∙ ap (λ at_start. Err (missing_digit at_start (chars rest))) (sym (after_start end)));
         }
 
     -- digits of a fraction follow the point, as std finds and reads them
@@ -196,9 +191,7 @@ module _ (bytes : List ℕ) (end whole : ℕ) (run_is : end ≡ 0 + digits_len (
       fraction_text : take (end + 1 + places) bytes ≡ take end bytes ++ point ∷ digits
       fraction_text =
           take-add (end + 1) places bytes
-          ∙ (ap (λ front. front ++ take places (drop (end + 1) bytes)) pointed_text
-          ∙ (push_append (take end bytes) (take places (drop (end + 1) bytes)) point
-          ∙ ap (λ rest. take end bytes ++ point ∷ take places rest) (sym (take_rest bytes (end + 1)))))
+          ∙ (ap (λ front. front ++ take places rest) pointed_text ∙ push_append (take end bytes) (take places rest) point)
 
       -- a whole part, a point and a fraction are the leading number
       pub leading_precise : (fraction n : ℕ) → (places ≡ 0 → ⊥)
@@ -220,12 +213,12 @@ module _ (bytes : List ℕ) (end whole : ℕ) (run_is : end ≡ 0 + digits_len (
           } in
           let run = run_precise (take last bytes) n number in
           let end_within : last ≤ length bytes =
-          omega (arith, all, pointed_within, ap length (take_rest bytes (end + 1)), length-drop (end + 1) bytes) in
+          omega (arith, all, pointed_within, length-drop (end + 1) bytes) in
           let ends = EndsNumber run.state n in
           let ends_number : (c : ℕ) → IsNoDigit c → ends c = λ c none.
           ends_fraction run.state n c run.holds.0 run.holds.1 none in
           let rest_is : drop places rest ≡ drop last bytes =
-          ap (drop places) (take_rest bytes (end + 1)) ∙ drop-drop places (end + 1) bytes in
+          drop-drop places (end + 1) bytes in
           record {
             within = end_within;
             number_is = inr number;

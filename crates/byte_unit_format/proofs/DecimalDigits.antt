@@ -1,6 +1,6 @@
 -- The digits of a number: those before and after a place, the last one, and zeros at their end.
 use Rattle.std.proofs.Common.{◌≡◌, ◌≢◌, ℕ, zero, suc, ◌+◌, ◌-◌, ◌*◌, ◌/◌, ◌%◌, ◌^◌, ◌<◌, ◌≤◌, ⊎_elim, List, [], ◌∷◌, ◌++◌}
-use Rattle.std.proofs.Common.{length, take, drop, replicate, get_or, min, arith, ap, sym, subst, refl, ◌∙◌, append-nil, append_assoc, length-append}
+use Rattle.std.proofs.Common.{length, take, drop, replicate, get_or, min, arith, ap, sym, subst, refl, ◌∙◌, append_assoc, length-append}
 use Rattle.std.specs.Prelude.{if◌then◌else◌}
 use Rattle.std.specs.Fmt.{decimal}
 use Rattle.std.proofs.Math.Nat.{pow-le-pow_right, one-le-pow, eq_of_mul-eq-mul_right}
@@ -14,7 +14,7 @@ use Rattle.byte_unit_math.specs.Finite.{value_of_digits}
 use Rattle.byte_unit_math.specs.Numeral.{glyphs}
 use Rattle.byte_unit_math.proofs.Digits.{value_cons, value_of_last_digits}
 use Rattle.byte_unit_math.proofs.WrittenDigits.{decimal_one_digit, decimal_next_digit, decimal_length_positive}
-use Rattle.byte_unit_math.proofs.WrittenDigits.{decimal_length_split, IsWritten-more}
+use Rattle.byte_unit_math.proofs.WrittenDigits.{decimal_cut, decimal_length_split}
 use Rattle.byte_unit_format.specs.ThreePlaces.{IsGreatest}
 use Rattle.byte_unit_format.specs.WithDigits.{cut_digits}
 use Rattle.byte_unit_format.proofs.ThreePlaces.{power_split, exponent_below}
@@ -22,17 +22,6 @@ use Rattle.byte_unit_format.proofs.ThreePlaces.{power_split, exponent_below}
 pub drop_none : (k : ℕ) → drop {A = ℕ} k [] ≡ []
 drop_none zero = refl
 drop_none (suc k) = refl
-
--- A number is written as the number without its last k digits, and then these digits.
-pub decimal_cut : (k n : ℕ) → 10 ^ k ≤ n → n < 2 ^ 128
-    → decimal (n / 10 ^ k) ++ glyphs (last_digits k (n % 10 ^ k)) ≡ decimal n
-decimal_cut k n wide small =
-    let last = glyphs (last_digits k (n % 10 ^ k)) in
-    let written =
-    IsWritten-more {n = n} {end = k} {rest = n} {start = k} {place = 0} {old = []} {bytes = []} {new = last} k (wide, small)
-    (omega arith) (sym (append-nil last) ∙ ap (λ list. last ++ list) (sym (drop_none k)))
-    (record { within = omega arith; place = refl; digits = refl }) in
-    written.digits ∙ (ap (λ list. decimal n ++ list) (drop_none k) ∙ append-nil (decimal n))
 
 -- The first digits of a number, without the last k.
 pub first_digits : (k n : ℕ) → 10 ^ k ≤ n → n < 2 ^ 128

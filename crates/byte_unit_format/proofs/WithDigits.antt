@@ -12,16 +12,17 @@ use Rattle.std.proofs.lemmas.Nat.{mod_below, pow-add, same_from_place}
 use Rattle.byte_unit_math.specs.Bounds.{size_limit}
 use Rattle.byte_unit_math.specs.Digits.{last_digits, trim_zeros}
 use Rattle.byte_unit_math.specs.Finite.{value_of_digits}
-use Rattle.byte_unit_math.specs.Numeral.{glyphs, fraction_text}
+use Rattle.byte_unit_math.specs.Numeral.{glyphs, fraction_text, padded_digits}
 use Rattle.byte_unit_math.proofs.Digits.{value_cons, value_of_last_digits, length_last_digits}
 use Rattle.byte_unit_math.proofs.WrittenDigits.{decimal_length_positive}
 use Rattle.byte_unit_math.proofs.WrittenDigits.{decimal_length_split}
 use Rattle.byte_unit_format.specs.ThreePlaces.{FitsPrefix, IsGreatest}
 use Rattle.byte_unit_format.specs.Suffix.{thousandths_text}
-use Rattle.byte_unit_format.specs.WithDigits.{cut_digits, padded_digits}
+use Rattle.byte_unit_format.specs.WithDigits.{cut_digits}
 use Rattle.byte_unit_format.proofs.NarrowTexts.{decimal_length}
 use Rattle.byte_unit_format.proofs.ThreePlaces.{exponent_below, few_thousands}
-use Rattle.byte_unit_format.proofs.DecimalDigits.{decimal_cut, first_digits, digits_behind, le_below, mod_small}
+use Rattle.byte_unit_math.proofs.WrittenDigits.{decimal_cut}
+use Rattle.byte_unit_format.proofs.DecimalDigits.{first_digits, digits_behind, le_below, mod_small}
 use Rattle.byte_unit_format.proofs.DecimalDigits.{last_of_decimal, zeros_are_zero, between_powers, greatest_of_zeros}
 use Rattle.byte_unit_format.proofs.DecimalDigits.{cut_some, cut_none}
 

@@ -1,5 +1,5 @@
 -- The digits of a size and the size in its unit, as one text.
-use Rattle.std.specs.Prelude.{◌≡◌, ℕ, ◌-◌, nat_lt, if◌then◌else◌, List, [], ◌∷◌, ◌++◌, length, take, drop, replicate}
+use Rattle.std.specs.Prelude.{◌≡◌, ℕ, ◌-◌, nat_lt, if◌then◌else◌, List, [], ◌∷◌, ◌++◌, take, drop}
 use Rattle.std.specs.Fmt.{decimal}
 use Rattle.byte_unit_base.specs.declared.kind.Kind.{Kind}
 use Rattle.byte_unit_format.specs.Forms.{IsSizeForm}
@@ -14,10 +14,6 @@ pub record IsTextWithDigits (kind : Kind) (size : ℕ) (between text : List ℕ)
 -- The most bytes of such a text with three bytes between: 30 digits, these three, and 37 of the size in its unit.
 abbrev pub with_digits_text : ℕ
 with_digits_text = 70
-
--- Private: the digits of a size, and zeros after them up to 32 bytes.
-abbrev pub padded_digits : ℕ → List ℕ
-padded_digits size = decimal size ++ replicate (32 - length (decimal size)) 48
 
 -- Private: a point and the digits from the index `cut` up to `used`, or nothing if there are none.
 abbrev pub cut_digits : ℕ → ℕ → List ℕ → List ℕ

@@ -3,23 +3,21 @@
 ghost use Rattle.std.specs.Prelude.{◌≡◌, ◌≢◌, ℕ, false, ◌+◌, ◌-◌, ◌*◌, ◌^◌, ◌<◌, ◌≤◌, ◌∷◌, [], ◌++◌, length, take, drop, replicate, slice_index};
 ghost use Rattle.std.specs.Fmt.{decimal};
 ghost use Rattle.byte_unit_math.specs.Bounds.{size_limit};
+ghost use Rattle.byte_unit_math.specs.Numeral.{padded_digits};
 ghost use Rattle.byte_unit_base.specs.Kinds.{counts_bits};
 ghost use Rattle.byte_unit_base.specs.Shape.{shape};
 ghost use Rattle.byte_unit_base.specs.Version.{current, unit_name_in};
 ghost use Rattle.byte_unit_format.specs.Forms.{IsSizeForm, narrow_text};
 ghost use Rattle.byte_unit_format.specs.NamedSpecs.{alternate_spec};
 ghost use Rattle.byte_unit_format.specs.ThreePlaces.{FitsPrefix, IsGreatest};
-ghost use Rattle.byte_unit_format.specs.WithDigits.{IsTextWithDigits, cut_digits, padded_digits, with_digits_text};
+ghost use Rattle.byte_unit_format.specs.WithDigits.{IsTextWithDigits, cut_digits, with_digits_text};
 
 use crate::alternate::{letter, own_letter, put_split};
 use crate::put::put;
 use crate::thousandths::{Suffix, binary_power, in_eighths};
 use byte_unit_base::Kind;
-use byte_unit_math::{decimal_len, put_u128};
+use byte_unit_math::{PADDED_DIGITS, put_padded_digits};
 use std::simd::prelude::*;
-
-/// The length of an array for the digits of a size, which are at most 30. It is copied whole.
-const DIGITS: usize = 32;
 
 /// Writes the digits of a size, `between`, and the size in its unit (the alternate form with no other option) to the
 /// beginning of `out`, and returns the length of this text, at most 70 bytes. A number in a decimal unit is cut from
@@ -67,30 +65,23 @@ fn put_with_digits(size: u128, kind: Kind, between: [u8; 3], out: &mut [u8]) -> 
     ensures text { IsTextWithDigits kind size between (take result out.new) }
     ensures narrow { result ≤ with_digits_text }
 {
-    let (digits, len) = digits_of(size);
-    put(&digits, out, DIGITS);
+    let mut digits = [b'0'; PADDED_DIGITS];
+    let len = put_padded_digits(size, &mut digits);
+    put(&digits, out, PADDED_DIGITS);
     let form = len + 3;
     put(&between, out, form);
     form + put_form_of(&digits, len, size, kind, &mut out[form..])
 }
 
-/// Returns the digits of a size, with zeros after them, and their number.
-#[inline(always)]
-fn digits_of(size: u128) -> ([u8; DIGITS], usize)
-    requires { size < size_limit }
-    ensures digits { result.0 ≡ padded_digits size }
-    ensures len { result.1 ≡ length (decimal size) }
-    ensures few { result.1 ≤ 30 }
-{
-    let mut digits = [b'0'; DIGITS];
-    let len = decimal_len(size);
-    put_u128(size, &mut digits, len);
-    (digits, len)
-}
-
 /// Writes the size in its unit, by its digits, to the beginning of `out`, and returns the length of this text.
 #[inline(always)]
-fn put_form_of(digits: &[u8; DIGITS], len: usize, size: u128, kind: Kind, out: &mut [u8]) -> usize
+fn put_form_of(
+    digits: &[u8; PADDED_DIGITS],
+    len: usize,
+    size: u128,
+    kind: Kind,
+    out: &mut [u8],
+) -> usize
     requires small { size < size_limit }
     requires digits { digits.now ≡ padded_digits size }
     requires len { len ≡ length (decimal size) }
@@ -118,9 +109,9 @@ fn put_form_of(digits: &[u8; DIGITS], len: usize, size: u128, kind: Kind, out: &
 
 /// Returns the number of bytes up to the last that is not the digit 0.
 #[inline(always)]
-fn significant(digits: &[u8; DIGITS]) -> usize
-    ensures within { result ≤ DIGITS }
-    ensures zeros { (i : ℕ) → result ≤ i → i < DIGITS → slice_index digits.now i ≡ 48 }
+fn significant(digits: &[u8; PADDED_DIGITS]) -> usize
+    ensures within { result ≤ PADDED_DIGITS }
+    ensures zeros { (i : ℕ) → result ≤ i → i < PADDED_DIGITS → slice_index digits.now i ≡ 48 }
     ensures last { (i : ℕ) → i + 1 ≡ result → slice_index digits.now i ≢ 48 }
 {
     let used = u8x32::from_slice(digits)
@@ -133,7 +124,7 @@ fn significant(digits: &[u8; DIGITS]) -> usize
 /// a decimal unit to the beginning of `out`, and returns the length of this text.
 #[inline(always)]
 fn put_decimal(
-    digits: &[u8; DIGITS],
+    digits: &[u8; PADDED_DIGITS],
     cut: usize,
     used: usize,
     power: u32,
@@ -149,7 +140,7 @@ fn put_decimal(
         ++ (cut_digits cut used digits.now ++ 32 ∷ unit_name_in current (shape power false (counts_bits kind))) }
     ensures narrow { result ≤ narrow_text }
 {
-    put(digits, out, DIGITS);
+    put(digits, out, PADDED_DIGITS);
     let end = if used > cut {
         let fraction = [b'.', digits[cut], digits[cut + 1], digits[cut + 2]];
         put(&fraction, out, cut + 4);

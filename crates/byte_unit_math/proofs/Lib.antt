@@ -6,6 +6,7 @@ pub mod Estimates
 pub mod ShortDecimals
 pub mod Digits
 pub mod WrittenDigits
+pub mod PairsInLanes
 pub mod BinaryDigits
 pub mod FactoredNumbers
 pub mod Fractions

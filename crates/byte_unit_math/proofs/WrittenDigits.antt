@@ -3,13 +3,13 @@ use Rattle.std.specs.Prelude.{MatchResult}
 use Rattle.std.specs.Fmt.{decimal}
 use Rattle.std.specs.Str.{IsUtf8, IsAscii}
 use Rattle.std.proofs.Common.{rules, Result, Ok, Err, IsOk, set, ◌≡◌, ℕ, zero, suc, ◌+◌, ◌*◌, ◌^◌, ◌/◌, ◌%◌, ◌<◌}
-use Rattle.std.proofs.Common.{◌≤◌, ⊎_elim, List, []}
+use Rattle.std.proofs.Common.{◌-◌, ◌≤◌, ⊎_elim, List, []}
 use Rattle.std.proofs.Common.{◌∷◌, ◌++◌, length, drop, arith, ap, sym, refl, ◌∙◌, length-append, append_assoc}
 use Rattle.std.proofs.Common.{append-nil, get_or, subst}
 use Rattle.std.proofs.Math.Nat.{pow-succ', one-le-pow, mul-le-mul_right, pow-le-pow_right, div-add-mod'}
 use Rattle.std.proofs.lemmas.Bool.{cases_lt}
 use Rattle.std.proofs.lemmas.Fmt.{decimal_digit, decimal_step_wide, length-decimal-le_wide}
-use Rattle.std.proofs.lemmas.List.{drop-set, drop-drop, length-set, map-append}
+use Rattle.std.proofs.lemmas.List.{drop-set, drop-drop, drop-map, drop-append-le, length-set, length-map, map-append}
 use Rattle.std.proofs.lemmas.Nat.{mod_below, same_from_place}
 use Rattle.std.proofs.lemmas.Str.{IsUtf8-from_ascii, IsAscii-drop}
 use Rattle.std.proofs.lemmas.Str.Ascii.{IsAscii-cons}
@@ -136,6 +136,56 @@ decimal_split k n wide small =
     absurd (omega (arith, product, parts, below, wide)))
     (λ some. some) (cases_lt (n / power) 1) in
     ap decimal parts ∙ decimal_of_parts k (n / power) (n % power) front below (omega (arith, parts, small))
+
+-- The same with the last digits as a list.
+pub decimal_cut : (k n : ℕ) → 10 ^ k ≤ n → n < 2 ^ 128
+    → decimal (n / 10 ^ k) ++ glyphs (last_digits k (n % 10 ^ k)) ≡ decimal n
+decimal_cut k n wide small =
+    ap (λ l. decimal (n / 10 ^ k) ++ l) (sym (tail_glyphs k (n % 10 ^ k))) ∙ sym (decimal_split k n wide small)
+
+digit_is_last : (n : ℕ) → n < 10 → decimal n ≡ glyphs (last_digits (length (decimal n)) n)
+digit_is_last n one =
+    let digit : n ≡ n / 10 ^ 0 % 10 = omega (arith, one) in
+    decimal_one_digit n one
+    ∙ (ap (λ d. (48 + d) ∷ []) digit ∙ ap (λ len. glyphs (last_digits len n)) (sym (decimal_length_one n one)))
+
+-- A number is written as its last digits, as many as it has.
+decimal_is_last : (k n : ℕ) → n < 10 ^ k → n < 2 ^ 128 → decimal n ≡ glyphs (last_digits (length (decimal n)) n)
+decimal_is_last zero n below small = digit_is_last n (omega (arith, below))
+decimal_is_last (suc k) n below small =
+    ⊎_elim (digit_is_last n)
+    (λ more.
+    let less : n / 10 < 10 ^ k = omega (arith, below, pow-succ' 10 k) in
+    let len = length (decimal (n / 10)) in
+    let longer : suc len ≡ length (decimal n) = omega (arith, decimal_length_step n more small) in
+    decimal_next_digit n more small
+    ∙ (ap (λ l. l ++ (48 + n % 10) ∷ []) (decimal_is_last k (n / 10) less (omega (arith, small)))
+    ∙ (sym (map-append (λ d. 48 + d) (last_digits len (n / 10)) ((n % 10) ∷ []))
+    ∙ (ap glyphs (sym (last_of_digits len n))
+    ∙ ap (λ len. glyphs (last_digits len n)) longer))))
+    (cases_lt n 10)
+
+-- The last digits without the first of them are fewer last digits.
+fewer_last_digits : (more k n : ℕ) → drop more (last_digits k n) ≡ last_digits (k - more) n
+fewer_last_digits zero k n = let same : k ≡ k - 0 = omega arith in ap (λ k. last_digits k n) same
+fewer_last_digits (suc more) zero n = let none : 0 ≡ 0 - suc more = omega arith in ap (λ k. last_digits k n) none
+fewer_last_digits (suc more) (suc k) n =
+    let same : k - more ≡ suc k - suc more = omega arith in
+    fewer_last_digits more k n ∙ ap (λ k. last_digits k n) same
+
+-- The last k digits without leading zeros are the digits of a number below 10^k. What is behind them stays.
+pub without_leading_zeros : (k n : ℕ) (behind : List ℕ) → n < 10 ^ k → n < 2 ^ 128 → 1 ≤ k
+    → drop (k - length (decimal n)) (glyphs (last_digits k n) ++ behind) ≡ decimal n ++ behind
+without_leading_zeros k n behind below small some =
+    let len = length (decimal n) in
+    let zeros : ℕ = k - len in
+    let few : len ≤ k = length-decimal-le_wide k n some below (omega (arith, small)) in
+    let rest : k - zeros ≡ len = omega (arith, few) in
+    let many : zeros ≤ length (glyphs (last_digits k n)) =
+    omega (arith, length-map {A = ℕ} (last_digits k n) (λ d. 48 + d), length_last_digits k n) in
+    drop-append-le zeros (glyphs (last_digits k n)) behind many
+    ∙ ap (λ l. l ++ behind) (drop-map (λ d. 48 + d) zeros (last_digits k n)
+    ∙ (ap glyphs (fewer_last_digits zeros k n ∙ ap (λ k. last_digits k n) rest) ∙ sym (decimal_is_last k n below small)))
 
 -- A number of more than k digits has k digits more than the number without its last k digits.
 pub decimal_length_split : (k n : ℕ) → 10 ^ k ≤ n → n < 2 ^ 128 → length (decimal n) ≡ length (decimal (n / 10 ^ k)) + k

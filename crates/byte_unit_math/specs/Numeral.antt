@@ -1,5 +1,5 @@
 -- The text of decimals.
-use Rattle.std.specs.Prelude.{ℕ, ◌+◌, List, [], ◌∷◌, ◌++◌, map}
+use Rattle.std.specs.Prelude.{ℕ, ◌+◌, ◌-◌, List, [], ◌∷◌, ◌++◌, length, map, replicate}
 use Rattle.std.specs.Fmt.{decimal}
 use Rattle.byte_unit_math.specs.Digits.{at_places, trim_expansion}
 use Rattle.byte_unit_math.specs.Finite.{Finite}
@@ -24,3 +24,7 @@ numeral q p = text_of (at_places p q)
 -- The text of q / 10^p without trailing zeros, nor a point if no digit is after it: 1.5 for q = 150 and p = 2.
 abbrev pub short_numeral : ℕ → ℕ → List ℕ
 short_numeral q p = text_of (trim_expansion (at_places p q))
+
+-- Private: the digits of a number, and the digit 0 after them up to 32 bytes.
+abbrev pub padded_digits : ℕ → List ℕ
+padded_digits n = decimal n ++ replicate (32 - length (decimal n)) 48

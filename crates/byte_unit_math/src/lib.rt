@@ -9,6 +9,7 @@ pub use crate::decimal_digits::{
 pub use crate::dividing::{div_rem, div_rem_thousand};
 pub use crate::expansion::{EXPANSION_PLACES, Expansion, Ties, glyphs_of};
 pub use crate::factors::{Factors, factors_of, two_five};
+pub use crate::lanes::{PADDED_DIGITS, put_padded_digits};
 pub use crate::least::{least_size, least_size_counted};
 pub use crate::quotient::{exact_quotient, factored_quotient, rounded_quotient};
 pub use crate::steps::Steps;
@@ -19,6 +20,7 @@ mod decimal_digits;
 mod dividing;
 mod expansion;
 mod factors;
+mod lanes;
 pub mod laws;
 mod least;
 mod quotient;

@@ -37,17 +37,19 @@ pub fn read_number(bytes: &[u8]) -> Result<(Decimal, usize), Stop>
     if end == bytes.len() || bytes[end] != b'.' {
         return Ok((Decimal::from_digits(whole, 0, 0), end));
     }
-    let rest = &bytes[end + 1..];
-    let (places, value) = read_digits(rest, 0, 0);
+    let start = end + 1;
+    // From its index in all bytes, not from a slice: fewer bytes than twelve are read one by one.
+    let (stop, value) = read_digits(bytes, start, 0);
+    let places = stop - start;
     if places == 0 {
-        return Err(Stop::in_number(end + 1, Reason::NoDigit));
+        return Err(Stop::in_number(start, Reason::NoDigit));
     }
     if places > DECIMAL_PLACES as usize {
         return Err(Stop::in_number(0, Reason::TooLong));
     }
-    let digits = value_of(&rest[..places], value);
+    let digits = value_of(&bytes[start..stop], value);
     let number = Decimal::from_digits(whole, digits, places as u32);
-    Ok((number, end + 1 + places))
+    Ok((number, stop))
 }
 
 /// Returns the value of the digits of a whole part, from the last 64 bits of that value. If one of both is 2^112 or

@@ -10,7 +10,8 @@ use Rattle.byte_unit_format.proofs.NarrowTexts.{decimal_length}
 use Rattle.byte_unit_format.specs.Forms.{IsSizeForm}
 use Rattle.byte_unit_format.specs.NamedSpecs.{alternate_spec}
 use Rattle.byte_unit_format.specs.Suffix.{suffix_text}
-use Rattle.byte_unit_format.specs.WithDigits.{cut_digits, padded_digits}
+use Rattle.byte_unit_math.specs.Numeral.{padded_digits}
+use Rattle.byte_unit_format.specs.WithDigits.{cut_digits}
 use Rattle.byte_unit_format.specs.declared.thousandths.Suffix.TheVariants.{Own}
 use Rattle.byte_unit_format.proofs.SomeForm.{own_number}
 use Rattle.byte_unit_format.proofs.Suffix.{form_of_thousandths}

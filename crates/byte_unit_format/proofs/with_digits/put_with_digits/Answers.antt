@@ -2,7 +2,7 @@
 use Rattle.std.proofs.Common.{◌≡◌, subst, ◌≤◌, ◌+◌, ◌-◌, ◌++◌, List, ℕ, ap, sym, arith, ◌∙◌, take, drop, length, append_assoc}
 use Rattle.std.specs.Fmt.{decimal}
 use Rattle.std.proofs.lemmas.List.{take_at, drop_at, take-append-drop, length-take, length-drop}
-use Rattle.byte_unit_format.specs.WithDigits.{padded_digits}
+use Rattle.byte_unit_math.specs.Numeral.{padded_digits}
 use Rattle.byte_unit_format.proofs.Suffix.{drop_known}
 use Rattle.byte_unit_format.proofs.DecimalDigits.{text_at}
 use Rattle.byte_unit_format.proofs.WithDigits.{first_of_padded, padded_length}
@@ -11,17 +11,17 @@ use Rattle.byte_unit_format.proofs.with_digits.put_with_digits.Goals as goal
 pub returns-clause-text : goal.returns-clause-text
 returns-clause-text c =
     let size = c.args.size in
-    let len = c.digits_of-len.result.1 in
+    let len = c.put_padded_digits-len.result in
     let between = c.args.between in
     let old = c.args.out.now in
     let copied = c.put.new.out in
     let middle = c.put-2.new.out in
     let written = c.put_form_of.new.out in
     let count = c.put_form_of.result in
-    let len_is = c.digits_of-len.ensures.len in
-    let few = c.digits_of-len.ensures.few in
-    let array = c.digits_of-len.result.0 in
-    let digits = c.digits_of-len.ensures.digits in
+    let len_is = c.put_padded_digits-len.ensures.len in
+    let few = c.put_padded_digits-len.ensures.few in
+    let array = c.put_padded_digits-len.new.digits in
+    let digits = c.put_padded_digits-len.ensures.digits in
     let long : length array ≡ 32 = padded_length size array digits (omega (arith, len_is, few)) in
     let copy : copied ≡ padded_digits size ++ drop 32 old =
     drop_known {other = 0} copied (omega (arith, c.put.ensures.begins, long)) c.put.ensures.bytes

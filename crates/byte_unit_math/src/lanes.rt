@@ -1,0 +1,96 @@
+//! The decimal digits of a number, sixteen at a time.
+
+ghost use Rattle.std.specs.Prelude.{◌≡◌, ◌+◌, ◌-◌, ◌/◌, ◌%◌, ◌^◌, ◌<◌, ◌≤◌, ◌++◌, length, drop, replicate};
+ghost use Rattle.std.specs.Fmt.{decimal};
+ghost use Rattle.byte_unit_math.specs.Digits.{last_digits};
+ghost use Rattle.byte_unit_math.specs.Numeral.{glyphs, padded_digits};
+
+use crate::decimal_digits::{decimal_len, put_u128};
+use crate::dividing::div_rem_by_inverse;
+use std::simd::prelude::*;
+
+/// The length of the array of [`put_padded_digits`].
+pub const PADDED_DIGITS: usize = 32;
+
+/// 10^16, the radix of groups of 16 digits.
+const TEN_POW_16: u64 = 10_000_000_000_000_000;
+
+/// The reciprocal of `TEN_POW_16`: 2^117 / 10^16, rounded down.
+const TEN_POW_16_INVERSE: u64 = 16_615_349_947_311_448_411;
+
+/// Writes the digits of a number as ASCII to the beginning of an array and the digit 0 to the rest of it, and returns the
+/// number of its digits, 1 to 30.
+///
+/// Precondition (proved at every call): `n < 10^30`.
+///
+/// # Examples
+/// ```rust
+/// let mut digits = [0; PADDED_DIGITS];
+/// assert_eq!(rt; put_padded_digits(1536, &mut digits), 4);
+/// assert_eq!(rt; &digits, b"15360000000000000000000000000000");
+/// ```
+#[inline(always)]
+pub fn put_padded_digits(n: u128, digits: &mut [u8; PADDED_DIGITS]) -> usize
+    requires { n < 10 ^ 30 }
+    ensures digits { digits.new ≡ padded_digits n }
+    ensures len { result ≡ length (decimal n) }
+    ensures few { result ≤ 30 }
+{
+    // Four digits are faster one after another.
+    if n < 10_000 {
+        *digits = [b'0'; PADDED_DIGITS];
+        let len = decimal_len(n);
+        put_u128(n, digits, len);
+        return len;
+    }
+    let (all, count) = digits_with_zeros(n);
+    let len = decimal_len(n);
+    let start = count - len;
+    digits.copy_from_slice(&all[start..start + PADDED_DIGITS]);
+    len
+}
+
+/// Returns the digits of a number with leading zeros, and the number of both, 16 or 32. After them is the digit 0.
+#[inline(always)]
+fn digits_with_zeros(n: u128) -> ([u8; 48], usize)
+    requires { n < 10 ^ 30 }
+    ensures digits { drop (result.1 - length (decimal n)) result.0 ≡ decimal n ++ replicate (48 - result.1) 48 }
+    ensures within { length (decimal n) ≤ result.1 }
+    ensures few { result.1 ≤ length (decimal n) + 16 }
+{
+    let mut digits = [b'0'; 48];
+    if n < u128::from(TEN_POW_16) {
+        last_16_digits(n as u64).copy_to_slice(&mut digits[..16]);
+        return (digits, 16);
+    }
+    let (before, last) = div_rem_by_inverse(n, TEN_POW_16, TEN_POW_16_INVERSE, 36, 81);
+    last_16_digits(before).copy_to_slice(&mut digits[..16]);
+    last_16_digits(last).copy_to_slice(&mut digits[16..32]);
+    (digits, 32)
+}
+
+/// Returns the digits of a number below 10^16, with leading zeros: first four numbers of four digits each, then eight of
+/// two digits, then all.
+#[inline(always)]
+fn last_16_digits(n: u64) -> u8x16
+    requires { n < 10 ^ 16 }
+    ensures { result ≡ glyphs (last_digits 16 n) }
+{
+    let (high, low) = ((n / 100_000_000) as u32, (n % 100_000_000) as u32);
+    let fours = u16x8::from_array([
+        (high / 10_000) as u16,
+        (high % 10_000) as u16,
+        (low / 10_000) as u16,
+        (low % 10_000) as u16,
+        0,
+        0,
+        0,
+        0,
+    ]);
+    let hundred = u16x8::splat(100);
+    let pairs = (fours / hundred).shuffle(fours % hundred, [0, 8, 1, 9, 2, 10, 3, 11]);
+    let ten = u16x8::splat(10);
+    // The first digit of two is in the low byte, the second one in the high byte.
+    let digits = (pairs / ten + pairs % ten * u16x8::splat(256)).to_le_bytes();
+    digits + u8x16::splat(b'0')
+}
