@@ -19,10 +19,6 @@ use Rattle.byte_unit_format.specs.ThreePlaces.{IsGreatest}
 use Rattle.byte_unit_format.specs.WithDigits.{cut_digits}
 use Rattle.byte_unit_format.proofs.ThreePlaces.{power_split, exponent_below}
 
-pub drop_none : (k : ℕ) → drop {A = ℕ} k [] ≡ []
-drop_none zero = refl
-drop_none (suc k) = refl
-
 -- The first digits of a number, without the last k.
 pub first_digits : (k n : ℕ) → 10 ^ k ≤ n → n < 2 ^ 128
     → take (length (decimal n) - k) (decimal n) ≡ decimal (n / 10 ^ k)
