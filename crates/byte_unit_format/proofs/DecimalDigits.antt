@@ -15,9 +15,9 @@ use Rattle.byte_unit_math.specs.Numeral.{glyphs}
 use Rattle.byte_unit_math.proofs.Digits.{value_cons, value_of_last_digits}
 use Rattle.byte_unit_math.proofs.WrittenDigits.{decimal_one_digit, decimal_next_digit, decimal_length_positive}
 use Rattle.byte_unit_math.proofs.WrittenDigits.{decimal_cut, decimal_length_split}
-use Rattle.byte_unit_format.specs.ThreePlaces.{IsGreatest}
+use Rattle.byte_unit_format.specs.FewPlaces.{IsGreatest}
 use Rattle.byte_unit_format.specs.WithDigits.{cut_digits}
-use Rattle.byte_unit_format.proofs.ThreePlaces.{power_split, exponent_below}
+use Rattle.byte_unit_format.proofs.FewPlaces.{power_split, exponent_below}
 
 -- The first digits of a number, without the last k.
 pub first_digits : (k n : ℕ) → 10 ^ k ≤ n → n < 2 ^ 128
@@ -129,7 +129,7 @@ between_powers n some small =
 -- The zeros at the end of a size tell the largest decimal prefix.
 pub greatest_of_zeros :
     (size front zeros len power : ℕ) → size ≡ front * 10 ^ zeros → front % 10 ≢ 0 → 10 ^ (len - 1) ≤ size
-    → size < 10 ^ len → power ≡ min ((len - 1) / 3) ((zeros + 3) / 3) → IsGreatest 10 3 size power
+    → size < 10 ^ len → power ≡ min ((len - 1) / 3) ((zeros + 3) / 3) → IsGreatest 3 10 3 size power
 greatest_of_zeros size front zeros len power product odd at_least below power_is =
     let few : 3 * power ≤ zeros + 3 = omega (arith, power_is) in
     let short : 3 * power ≤ len - 1 = omega (arith, power_is) in

@@ -14,7 +14,7 @@ pub mod Appending
 pub mod ShortExpansions
 pub mod Widths
 pub mod NarrowTexts
-pub mod ThreePlaces
+pub mod FewPlaces
 pub mod Suffix
 pub mod DecimalDigits
 pub mod WithDigits

@@ -1,6 +1,6 @@
 -- A whole part and what follows it are the text of a size in its unit; how its bytes are written.
 use Rattle.std.proofs.Common.{◌≡◌, ℕ, ◌+◌, ◌-◌, ◌*◌, ◌/◌, ◌%◌, ◌^◌, ◌<◌, ◌≤◌, Bool, true, false, List, [], ◌∷◌, ◌++◌}
-use Rattle.std.proofs.Common.{length, take, drop, arith, ap, sym, subst, ◌∙◌, append-nil, append_assoc}
+use Rattle.std.proofs.Common.{length, take, drop, arith, ap, sym, subst, refl, ◌∙◌, append-nil, append_assoc}
 use Rattle.std.specs.Prelude.{if◌then◌else◌, slice_index, codes}
 use Rattle.std.specs.Fmt.{decimal}
 use Rattle.std.specs.Str.{IsAscii}
@@ -24,7 +24,7 @@ use Rattle.byte_unit_base.proofs.NumberTexts.{number_ascii}
 use Rattle.byte_unit_format.specs.Forms.{IsSizeForm}
 use Rattle.byte_unit_format.specs.Layout.{layout}
 use Rattle.byte_unit_format.specs.NamedSpecs.{alternate_spec}
-use Rattle.byte_unit_format.specs.Suffix.{thousandths_text, suffix_text, HasPrefix}
+use Rattle.byte_unit_format.specs.Suffix.{thousandths_text, thousandths_of, unit_of, suffix_text, HasPrefix, IsSplit}
 use Rattle.byte_unit_format.specs.declared.thousandths.Suffix.{Suffix}
 use Rattle.byte_unit_format.specs.declared.thousandths.Suffix.TheVariants.{Own, Eighths, Thousandths}
 
@@ -48,6 +48,11 @@ text_of_thousandths whole thousandths below =
 layout_alternate : (number name : List ℕ) → layout number name alternate_spec ≡ number ++ 32 ∷ name
 layout_alternate number name =
     ap (λ text. (text ++ 32 ∷ []) ++ name) (append-nil number) ∙ append_assoc number (32 ∷ []) name
+
+thousandths_below : (suffix : Suffix) → HasPrefix suffix → thousandths_of suffix < 1000
+thousandths_below Own known = omega arith
+thousandths_below (Eighths eighths power) known = omega (arith, known.0)
+thousandths_below (Thousandths thousandths power) known = known.0
 
 -- Whole units and thousandths of the unit that the size is shown in are the text of the size.
 pub form_of_thousandths : (kind : Kind) (size whole thousandths number : ℕ) (unit : Shape) → thousandths < 1000
@@ -73,6 +78,13 @@ form_of_thousandths kind size whole thousandths number unit below recovered numb
           ∙ (layout_alternate (decimal whole ++ thousandths_text thousandths) name
           ∙ append_assoc (decimal whole) (thousandths_text thousandths) (32 ∷ name)));
     }
+
+-- A split size is the text of its whole part and of what follows.
+pub form_of_split : (kind : Kind) (size whole : ℕ) (suffix : Suffix) → HasPrefix suffix → IsSplit kind size 3 whole suffix
+    → IsSizeForm kind size alternate_spec (decimal whole ++ suffix_text kind suffix)
+form_of_split kind size whole suffix known split =
+    form_of_thousandths kind size whole (thousandths_of suffix) (whole * scale + thousandths_of suffix * 10 ^ 25)
+    (unit_of kind suffix) (thousandths_below suffix known) split.recovered refl split.value
 
 -- A space, the letter of a prefix, an `i` if it is binary, and the letter of the kind are a space and the unit's name.
 pub named : {first last : ℕ} (kind : Kind) (power : ℕ) (binary : Bool) → 1 ≤ power

@@ -16,11 +16,11 @@ use Rattle.byte_unit_math.specs.Numeral.{glyphs, fraction_text, padded_digits}
 use Rattle.byte_unit_math.proofs.Digits.{value_cons, value_of_last_digits, length_last_digits}
 use Rattle.byte_unit_math.proofs.WrittenDigits.{decimal_length_positive}
 use Rattle.byte_unit_math.proofs.WrittenDigits.{decimal_length_split}
-use Rattle.byte_unit_format.specs.ThreePlaces.{FitsPrefix, IsGreatest}
+use Rattle.byte_unit_format.specs.FewPlaces.{FitsPrefix, IsGreatest}
 use Rattle.byte_unit_format.specs.Suffix.{thousandths_text}
 use Rattle.byte_unit_format.specs.WithDigits.{cut_digits}
 use Rattle.byte_unit_format.proofs.NarrowTexts.{decimal_length}
-use Rattle.byte_unit_format.proofs.ThreePlaces.{exponent_below, few_thousands}
+use Rattle.byte_unit_format.proofs.FewPlaces.{exponent_below, few_thousands}
 use Rattle.byte_unit_math.proofs.WrittenDigits.{decimal_cut}
 use Rattle.byte_unit_format.proofs.DecimalDigits.{first_digits, digits_behind, le_below, mod_small}
 use Rattle.byte_unit_format.proofs.DecimalDigits.{last_of_decimal, zeros_are_zero, between_powers, greatest_of_zeros}
@@ -249,7 +249,7 @@ cut_of_size size used power some small wide is_used few =
 
 -- What the digits of a size say of the unit that it is shown in.
 pub record FoundPower (size used len power : ℕ) : Type 0 where
-  pub greatest : IsGreatest 10 3 size power
+  pub greatest : IsGreatest 3 10 3 size power
   pub at_most : 10 ^ (3 * power) ≤ size
   pub few : used + 3 * power ≤ len + 3
   pub known : power ≤ 9
@@ -290,7 +290,7 @@ found_power size used power some small is_used within power_is =
     }
 
 -- A decimal prefix that fits a size is not above it, so it has fewer zeros than the size has digits.
-pub not_above_digits : (size other : ℕ) → 1 ≤ size → size < size_limit → FitsPrefix size (10 ^ (3 * other))
+pub not_above_digits : (size other : ℕ) → 1 ≤ size → size < size_limit → FitsPrefix 3 size (10 ^ (3 * other))
     → other ≤ (length (decimal size) - 1) / 3
 not_above_digits size other some small fits =
     let powers = between_powers size some (omega (arith, small)) in

@@ -9,7 +9,7 @@ pub mod Room
 pub mod Written
 pub mod TextParts
 pub mod Suffix
-pub mod ThreePlaces
+pub mod FewPlaces
 pub mod WithDigits
 pub mod FormLaws
 pub mod VersionLaws

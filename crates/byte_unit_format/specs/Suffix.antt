@@ -1,9 +1,11 @@
 -- Private: what follows the whole part of a size in a unit.
-use Rattle.std.specs.Prelude.{ℕ, ◌*◌, ◌<◌, ◌≤◌, true, false, List, ◌∷◌, ◌++◌}
+use Rattle.std.specs.Prelude.{◌≡◌, ℕ, ◌+◌, ◌*◌, ◌^◌, ◌<◌, ◌≤◌, true, false, List, ◌∷◌, ◌++◌}
+use Rattle.byte_unit_math.specs.Bounds.{scale}
 use Rattle.byte_unit_math.specs.Digits.{last_digits, trim_zeros}
 use Rattle.byte_unit_math.specs.Numeral.{fraction_text}
-use Rattle.byte_unit_base.specs.Kinds.{counts_bits, own_unit}
-use Rattle.byte_unit_base.specs.Shape.{shape}
+use Rattle.byte_unit_base.specs.Choice.{IsRecoveredIn}
+use Rattle.byte_unit_base.specs.Kinds.{bits_in, counts_bits, own_unit}
+use Rattle.byte_unit_base.specs.Shape.{Shape, bits, shape}
 use Rattle.byte_unit_base.specs.Version.{unit_name_in, current}
 use Rattle.byte_unit_base.specs.declared.kind.Kind.{Kind}
 use Rattle.byte_unit_format.specs.declared.thousandths.Suffix.{Suffix}
@@ -13,13 +15,27 @@ use Rattle.byte_unit_format.specs.declared.thousandths.Suffix.TheVariants.{Own, 
 abbrev pub thousandths_text : ℕ → List ℕ
 thousandths_text thousandths = fraction_text (trim_zeros (last_digits 3 thousandths))
 
+-- The unit of the kind that the suffix names.
+abbrev pub unit_of : Kind → Suffix → Shape
+unit_of kind Own = own_unit kind
+unit_of kind (Eighths eighths power) = shape power true (counts_bits kind)
+unit_of kind (Thousandths thousandths power) = shape power false (counts_bits kind)
+
+-- The thousandths of a unit.
+abbrev pub thousandths_of : Suffix → ℕ
+thousandths_of Own = 0
+thousandths_of (Eighths eighths power) = 125 * eighths
+thousandths_of (Thousandths thousandths power) = thousandths
+
 -- The digits after the point, a space, and the unit's name.
 abbrev pub suffix_text : Kind → Suffix → List ℕ
-suffix_text kind Own = 32 ∷ unit_name_in current (own_unit kind)
-suffix_text kind (Eighths eighths power) =
-    thousandths_text (125 * eighths) ++ 32 ∷ unit_name_in current (shape power true (counts_bits kind))
-suffix_text kind (Thousandths thousandths power) =
-    thousandths_text thousandths ++ 32 ∷ unit_name_in current (shape power false (counts_bits kind))
+suffix_text kind suffix =
+    thousandths_text (thousandths_of suffix) ++ 32 ∷ unit_name_in current (unit_of kind suffix)
+
+-- Whole units and thousandths of one are the size, in its largest unit within the precision.
+pub record IsSplit (kind : Kind) (size precision whole : ℕ) (suffix : Suffix) : Type 0 where
+  pub recovered : IsRecoveredIn current kind false size precision (unit_of kind suffix)
+  pub value : (whole * scale + thousandths_of suffix * 10 ^ 25) * bits (unit_of kind suffix) ≡ size * bits_in kind * scale
 
 -- The prefix is one of the nine, and the eighths or thousandths are less than a unit.
 abbrev pub HasPrefix : Suffix → Type 0

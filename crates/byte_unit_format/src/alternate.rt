@@ -92,7 +92,7 @@ fn put_form(size: u128, kind: Kind, out: &mut [u8]) -> usize
     ensures narrow { result ≤ narrow_text }
     ensures ascii { IsAscii (take result out.new) }
 {
-    let (whole, suffix) = split(size);
+    let (whole, suffix) = split(size, 3);
     put_split(whole, suffix, kind, out)
 }
 

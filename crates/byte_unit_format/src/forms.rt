@@ -12,8 +12,8 @@ use crate::layout::layout_parts;
 use crate::parts::{Fraction, TextParts};
 use crate::plain::plain_parts;
 use crate::spec::FormatSpec;
-use byte_unit_base::{Kind, recoverable_unit};
-use byte_unit_math::Steps;
+use crate::thousandths::unit_within;
+use byte_unit_base::Kind;
 use std::alloc::{AllocError, Allocator};
 
 /// The precision if none is set.
@@ -103,7 +103,7 @@ fn text_parts(size: u128, kind: Kind, spec: FormatSpec) -> TextParts<'static>
         Some(precision) => usize::from(precision),
         None => DEFAULT_PRECISION,
     };
-    let (number, unit) = recoverable_unit(size, kind, false, places, &mut Steps::new());
+    let (number, unit) = unit_within(size, kind, places);
     let fraction = Fraction::Last(number.digits(), number.places());
     layout_parts(number.whole(), fraction, unit, spec)
 }

@@ -1,15 +1,21 @@
-//! The unit of a size at a precision of three places, found without a search.
+//! The unit of a size at a precision of at most three places, found without a search.
 
-ghost use Rattle.std.specs.Prelude.{◌≡◌, ℕ, ◌+◌, ◌*◌, ◌-◌, ◌%◌, ◌^◌, ◌<◌, ◌≤◌, ◌++◌};
-ghost use Rattle.std.specs.Fmt.{decimal};
-ghost use Rattle.byte_unit_math.specs.Bounds.{size_limit};
+ghost use Rattle.std.specs.Prelude.{◌≡◌, ℕ, ◌+◌, ◌*◌, ◌-◌, ◌/◌, ◌%◌, ◌^◌, ◌<◌, ◌≤◌, true, false};
+ghost use Rattle.byte_unit_math.specs.Bounds.{scale, size_limit};
 ghost use Rattle.byte_unit_base.specs.declared.kind.Kind.{Kind as OfKind};
-ghost use Rattle.byte_unit_format.specs.Forms.{IsSizeForm};
-ghost use Rattle.byte_unit_format.specs.NamedSpecs.{alternate_spec};
-ghost use Rattle.byte_unit_format.specs.Suffix.{HasPrefix, suffix_text};
-ghost use Rattle.byte_unit_format.specs.ThreePlaces.{FitsPrefix, IsGreatest};
+ghost use Rattle.byte_unit_base.specs.Choice.{IsRecovered, IsRecoveredIn};
+ghost use Rattle.byte_unit_base.specs.Kinds.{bits_in, counts_bits};
+ghost use Rattle.byte_unit_base.specs.Shape.{bits, shape};
+ghost use Rattle.byte_unit_base.specs.Units.{shape_of};
+ghost use Rattle.byte_unit_base.specs.Version.{current};
+ghost use Rattle.byte_unit_format.specs.FewPlaces.{IsGreatest};
+ghost use Rattle.byte_unit_format.specs.Suffix.{HasPrefix, IsSplit};
 
-use byte_unit_math::div_rem_thousand;
+use byte_unit_base::{Kind, Unit, recoverable_unit};
+use byte_unit_math::{Decimal, Steps, div_rem_thousand, power_of_ten};
+
+/// The precision up to which the unit is found without a search.
+const FEW_PLACES: usize = 3;
 
 /// What follows the whole part of a size in a unit: the digits after the point, and the unit.
 #[derive(Clone, Copy)]
@@ -22,40 +28,66 @@ pub(crate) enum Suffix {
     Thousandths(u64, u32),
 }
 
-/// Splits a size in the largest unit of its kind, not above it, in which it is exact within three decimal places, into
-/// its whole part and what follows. If there is no such unit, the whole part is the size.
-#[inline(always)]
-pub(crate) fn split(size: u128) -> (u128, Suffix)
+/// Returns the size in the largest unit of its kind, not above it, in which it is exact within `places` decimal places:
+/// the number and the unit. If there is no such unit, returns the size itself in `B` or `Bit`.
+pub(crate) fn unit_within(size: u128, kind: Kind, places: usize) -> (Decimal, Unit)
     requires { size < size_limit }
-    ensures form { (kind : OfKind) → IsSizeForm kind size alternate_spec
-        (decimal result.0 ++ suffix_text kind result.1) }
-    ensures whole { result.0 < 10 ^ 27 }
+    ensures recovered { IsRecovered kind false size places result.1 }
+    ensures exact { result.0 * bits (shape_of result.1) ≡ size * bits_in kind * scale }
+{
+    if places > FEW_PLACES {
+        return recoverable_unit(size, kind, false, places, &mut Steps::new());
+    }
+    let (whole, suffix) = split(size, places as u32);
+    match suffix {
+        Suffix::Own => (Decimal::from_digits(whole, 0, 0), kind.unit()),
+        Suffix::Eighths(eighths, power) => (
+            Decimal::from_digits(whole, u128::from(125 * eighths), 3),
+            kind.unit_with_prefix(power, true),
+        ),
+        Suffix::Thousandths(thousandths, power) => (
+            Decimal::from_digits(whole, u128::from(thousandths), 3),
+            kind.unit_with_prefix(power, false),
+        ),
+    }
+}
+
+/// Splits a size in the largest unit of its kind, not above it, in which it is exact within `places` decimal places, at
+/// most three, into its whole part and what follows. If there is no such unit, the whole part is the size.
+#[inline(always)]
+pub(crate) fn split(size: u128, places: u32) -> (u128, Suffix)
+    requires small { size < size_limit }
+    requires places { places ≤ 3 }
+    ensures split { (kind : OfKind) → IsSplit kind size places result.0 result.1 }
+    ensures whole { result.0 < size_limit }
+    ensures narrow { places ≡ 3 → result.0 < 10 ^ 27 }
     ensures prefix { HasPrefix result.1 }
 {
     if size < 1000 {
         return (size, Suffix::Own);
     }
-    let (whole, thousandths, power) = in_thousands(size);
-    let binary = binary_power(size);
+    let (whole, thousandths, power) = in_thousands(size, places);
+    let binary = binary_power(size, places);
     // A binary prefix is larger than the decimal one of its position, and smaller than the next decimal one.
-    if binary >= power {
+    if binary < power {
+        (whole, Suffix::Thousandths(thousandths, power))
+    } else if binary > 0 {
         in_eighths(size, binary)
     } else {
-        (whole, Suffix::Thousandths(thousandths, power))
+        (size, Suffix::Own)
     }
 }
 
-/// Splits a size that is exact in the unit with a binary prefix within three decimal places.
+/// Splits a size that is a number of eighths of the unit with a binary prefix.
 #[inline(always)]
 pub(crate) fn in_eighths(size: u128, power: u32) -> (u128, Suffix)
     requires small { size < size_limit }
     requires some { 1 ≤ power }
     requires few { power ≤ 9 }
-    requires greatest { IsGreatest 2 10 size power }
     requires eighths { size % 2 ^ (10 * power - 3) ≡ 0 }
-    requires not_less { (other : ℕ) → FitsPrefix size (10 ^ (3 * other)) → other ≤ power }
-    ensures form { (kind : OfKind) → IsSizeForm kind size alternate_spec
-        (decimal result.0 ++ suffix_text kind result.1) }
+    ensures split { (kind : OfKind) (places : ℕ)
+        → IsRecoveredIn current kind false size places (shape power true (counts_bits kind))
+        → IsSplit kind size places result.0 result.1 }
     ensures whole { result.0 < 10 ^ 27 }
     ensures prefix { HasPrefix result.1 }
 {
@@ -63,15 +95,35 @@ pub(crate) fn in_eighths(size: u128, power: u32) -> (u128, Suffix)
     (eighths / 8, Suffix::Eighths((eighths % 8) as u64, power))
 }
 
-/// Returns the size in the largest decimal prefix, not above it, in which it is exact within three decimal places:
-/// whole units, thousandths of one, and the position of the prefix.
+/// Returns the size in the largest decimal prefix, not above it, in which it is exact within `places` decimal places:
+/// whole units, thousandths of one, and the position of the prefix, or 0 if there is none.
 #[inline(always)]
-fn in_thousands(size: u128) -> (u128, u64, u32)
+fn in_thousands(size: u128, places: u32) -> (u128, u64, u32)
+    requires large { 1000 ≤ size }
+    requires small { size < size_limit }
+    requires places { places ≤ 3 }
+    ensures few { result.2 ≤ 9 }
+    ensures greatest { IsGreatest places 10 3 size result.2 }
+    ensures value { (result.0 * 1000 + result.1) * 10 ^ (3 * result.2) ≡ size * 1000 }
+    ensures thousandths { result.1 < 1000 }
+    ensures some { places ≡ 3 → 1 ≤ result.2 }
+{
+    let (whole, thousandths, power) = in_three_places(size);
+    if thousandths % power_of_ten(3 - places) as u64 == 0 {
+        return (whole, thousandths, power);
+    }
+    // In the prefix before it the size is whole.
+    (whole * 1000 + u128::from(thousandths), 0, power - 1)
+}
+
+/// Returns the same for three places, for which there is a prefix.
+#[inline(always)]
+fn in_three_places(size: u128) -> (u128, u64, u32)
     requires large { 1000 ≤ size }
     requires small { size < size_limit }
     ensures some { 1 ≤ result.2 }
     ensures few { result.2 ≤ 9 }
-    ensures greatest { IsGreatest 10 3 size result.2 }
+    ensures greatest { IsGreatest 3 10 3 size result.2 }
     ensures value { (result.0 * 1000 + result.1) * 10 ^ (3 * result.2) ≡ size * 1000 }
     ensures thousandths { result.1 < 1000 }
 {
@@ -88,17 +140,18 @@ fn in_thousands(size: u128) -> (u128, u64, u32)
     (whole, thousandths, power)
 }
 
-/// Returns the position of the largest binary prefix, not above the size, in which it is exact within three decimal
-/// places, or 0 if there is none: 2^(10 n) divides 1000 times the size if 2^(10 n - 3) divides the size.
+/// Returns the position of the largest binary prefix, not above the size, in which it is exact within `places` decimal
+/// places, at most three, or 0 if there is none: 2^(10 n) divides 10^p times the size if 2^(10 n - p) divides the size.
 #[inline(always)]
-pub(crate) fn binary_power(size: u128) -> u32
+pub(crate) fn binary_power(size: u128, places: u32) -> u32
     requires some { 1 ≤ size }
     requires small { size < size_limit }
+    requires places { places ≤ 3 }
     ensures few { result ≤ 9 }
-    ensures greatest { IsGreatest 2 10 size result }
+    ensures greatest { IsGreatest places 2 10 size result }
     ensures eighths { size % 2 ^ (10 * result - 3) ≡ 0 }
 {
-    let twos = size.trailing_zeros() + 3;
+    let twos = size.trailing_zeros() + places;
     let last_bit = u128::BITS - 1 - size.leading_zeros();
     twos.min(last_bit) / 10
 }

@@ -9,7 +9,6 @@ ghost use Rattle.byte_unit_base.specs.Shape.{shape};
 ghost use Rattle.byte_unit_base.specs.Version.{current, unit_name_in};
 ghost use Rattle.byte_unit_format.specs.Forms.{IsSizeForm, narrow_text};
 ghost use Rattle.byte_unit_format.specs.NamedSpecs.{alternate_spec};
-ghost use Rattle.byte_unit_format.specs.ThreePlaces.{FitsPrefix, IsGreatest};
 ghost use Rattle.byte_unit_format.specs.WithDigits.{IsTextWithDigits, cut_digits, with_digits_text};
 
 use crate::alternate::{letter, own_letter, put_split};
@@ -94,7 +93,7 @@ fn put_form_of(
     if most == 0 {
         return put_split(size, Suffix::Own, kind, out);
     }
-    let binary = binary_power(size);
+    let binary = binary_power(size, 3);
     if binary < most {
         let used = significant(digits);
         // The size is exact in 10^(3 n) within three decimal places if 3 n - 3 zeros are at its end.

@@ -1,6 +1,6 @@
 //! The state machine that parses a unit, character by character.
 
-ghost use Rattle.std.specs.Prelude.{◌≡◌};
+ghost use Rattle.std.specs.Prelude.{◌≡◌, ◌≤◌};
 ghost use Rattle.std.specs.Option.{option_map};
 ghost use Rattle.byte_unit_base.specs.UnitScan.{is_i};
 
@@ -78,8 +78,27 @@ impl Prefix {
         }
     }
 
+    /// Returns the prefix of a position, from 1 for K to 9 for R.
+    pub fn from_power(power: u32) -> Prefix
+        requires some { 1 ≤ power }
+        requires known { power ≤ 9 }
+        ensures { power_of result ≡ power }
+    {
+        match power {
+            1 => Prefix::Kilo,
+            2 => Prefix::Mega,
+            3 => Prefix::Giga,
+            4 => Prefix::Tera,
+            5 => Prefix::Peta,
+            6 => Prefix::Exa,
+            7 => Prefix::Zetta,
+            8 => Prefix::Yotta,
+            _ => Prefix::Ronna,
+        }
+    }
+
     /// Returns the unit with this prefix.
-    fn unit(self, binary: bool, bit: bool) -> Unit
+    pub fn unit(self, binary: bool, bit: bool) -> Unit
         ensures { shape_of result ≡ shape (power_of self) binary bit }
     {
         let [decimal_bit, binary_bit, decimal_byte, binary_byte] = match self {

@@ -9,9 +9,9 @@ returns-clause-text c =
     let spec = c.args.spec in
     let alternate : spec.alternate ≡ true = search rules in
     let places_are : c.match-spec.places ≡ places_of spec.precision = search rules in
-    let found = c.recoverable_unit-number.ensures in
+    let found = c.unit_within-number.ensures in
     let least = c.places.ensures.least in
-    let parts : AreParts c.recoverable_unit-number.result.0 c.whole.result c.digits.result c.places.result =
+    let parts : AreParts c.unit_within-number.result.0 c.whole.result c.digits.result c.places.result =
     record {
       few = c.places.ensures.bound;
       least = least;

@@ -1,29 +1,29 @@
--- Each iteration divides the size by one more thousand, until a part is left over.
-use Rattle.std.proofs.Common.{arith}
-use Rattle.byte_unit_format.proofs.ThreePlaces.{divided_more, divided_few, divided_small, greatest_thousands}
+-- Zeros at the end of the thousandths keep the prefix; else the size is whole in the one before it.
+use Rattle.std.proofs.Common.{◌+◌, ◌*◌, ◌-◌, ◌%◌, ◌^◌, arith, ap, sym, ◌∙◌}
+use Rattle.std.proofs.Math.Nat.{one-le-pow}
+use Rattle.byte_unit_format.proofs.FewPlaces.{greatest_of_zeros_left, greatest_before, value_before}
 use Rattle.byte_unit_format.proofs.thousandths.in_thousands.Goals as goal
 
-pub div_rem_thousand-next-requires : goal.div_rem_thousand-next-requires
-div_rem_thousand-next-requires c = omega (arith, divided_small c.requires.small c.groups.invariant)
+pub nonzero_rem-thousandths : goal.nonzero_rem-thousandths
+nonzero_rem-thousandths c =
+    omega (arith, c.power_of_ten.ensures, one-le-pow (3 - c.args.places) 10 (omega arith))
 
-pub overflow_add-power : goal.overflow_add-power
-overflow_add-power c = omega (arith, divided_few c.requires.small c.groups.invariant)
+pub returns-then-thousandths-power_of_ten-eq0-clause-greatest :
+    goal.returns-then-thousandths-power_of_ten-eq0-clause-greatest
+returns-then-thousandths-power_of_ten-eq0-clause-greatest c =
+    let found = c.in_three_places-whole in
+    greatest_of_zeros_left found.result.0 found.result.1 c.requires.places found.ensures.greatest found.ensures.value
+    (ap (λ n. found.result.1 % n) (sym c.power_of_ten.ensures) ∙ omega (arith, c.if-thousandths-power_of_ten-eq0.true))
 
-pub groups-preserved : goal.groups-preserved
-groups-preserved c =
-    divided_more c.groups.invariant c.groups-test.true c.if-whole-ge1000.true c.div_rem_thousand-next.ensures.quotient
-    c.div_rem_thousand-next.ensures.rest
+pub returns-clause-greatest : goal.returns-clause-greatest
+returns-clause-greatest c =
+    let found = c.in_three_places-whole in
+    greatest_before found.result.0 found.result.1 c.requires.places found.ensures.some found.ensures.greatest
+    found.ensures.value
+    (λ none. omega (arith, ap (λ n. found.result.1 % n) c.power_of_ten.ensures ∙ none, c.if-thousandths-power_of_ten-eq0.false))
 
-pub returns-else-whole-ge1000-clause-greatest : goal.returns-else-whole-ge1000-clause-greatest
-returns-else-whole-ge1000-clause-greatest c =
-    greatest_thousands c.groups.invariant (λ none. omega (arith, c.if-whole-ge1000.false))
-
-pub returns-after-groups-clause-greatest : goal.returns-after-groups-clause-greatest
-returns-after-groups-clause-greatest c =
-    greatest_thousands c.groups.invariant (λ none. absurd (omega (arith, none, c.groups-test.false)))
-
-pub returns-else-whole-ge1000-clause-few : goal.returns-else-whole-ge1000-clause-few
-returns-else-whole-ge1000-clause-few c = divided_few c.requires.small c.groups.invariant
-
-pub returns-after-groups-clause-few : goal.returns-after-groups-clause-few
-returns-after-groups-clause-few c = divided_few c.requires.small c.groups.invariant
+pub returns-clause-value : goal.returns-clause-value
+returns-clause-value c =
+    let found = c.in_three_places-whole in
+    let parts = value_before found.result.0 found.result.1 found.ensures.some found.ensures.value in
+    ap (λ n. ((found.result.0 * 1000 + n) * 1000 + 0) * 10 ^ (3 * (found.result.2 - 1))) c.from.ensures ∙ omega (arith, parts)

@@ -1,46 +1,77 @@
 -- The larger of the two prefixes has the unit, and the size in it is a number of thousandths.
-use Rattle.std.proofs.Common.{◌*◌, ◌+◌, ◌^◌, false, arith, refl}
+use Rattle.std.proofs.Common.{◌≡◌, ℕ, ◌*◌, ◌+◌, ◌^◌, ◌≤◌, false, arith, refl, subst}
 use Rattle.std.proofs.Math.Nat.{pow-le-pow_right}
 use Rattle.byte_unit_math.specs.Bounds.{scale}
-use Rattle.byte_unit_base.specs.Kinds.{counts_bits, own_unit}
-use Rattle.byte_unit_base.specs.Shape.{shape}
+use Rattle.byte_unit_base.specs.Choice.{places_within}
+use Rattle.byte_unit_base.specs.declared.kind.Kind.{Kind}
+use Rattle.byte_unit_format.specs.FewPlaces.{IsGreatest}
+use Rattle.byte_unit_format.specs.Suffix.{IsSplit}
+use Rattle.byte_unit_format.specs.declared.thousandths.Suffix.TheVariants.{Own}
+use Rattle.byte_unit_base.specs.Choice.{IsRecoveredIn}
+use Rattle.byte_unit_base.specs.Kinds.{own_unit}
+use Rattle.byte_unit_base.specs.Version.{current}
 use Rattle.byte_unit_format.proofs.SomeForm.{own_number}
-use Rattle.byte_unit_format.proofs.Suffix.{form_of_thousandths, whole_below}
-use Rattle.byte_unit_format.proofs.ThreePlaces.{recovered_own, recovered_decimal}
-use Rattle.byte_unit_format.proofs.ThreePlaces.{number_of_thousandths, number_of_units}
+use Rattle.byte_unit_format.proofs.Suffix.{whole_below}
+use Rattle.byte_unit_format.proofs.FewPlaces.{recovered_own, recovered_none, recovered_decimal, recovered_binary}
+use Rattle.byte_unit_format.proofs.FewPlaces.{number_of_thousandths, number_of_units}
 use Rattle.byte_unit_format.proofs.thousandths.split.Goals as goal
 
-pub returns-then-size-lt1000-clause-form : goal.returns-then-size-lt1000-clause-form
-returns-then-size-lt1000-clause-form c = λ kind.
-    let size = c.args.size in
-    form_of_thousandths kind size size 0 (size * scale) (own_unit kind) (omega arith)
-    (recovered_own kind size c.if-size-lt1000.true) (omega arith) (own_number kind size)
+-- Few places are not cut off.
+within : {places base step size power : ℕ} → places ≤ 3 → IsGreatest places base step size power
+    → IsGreatest (places_within places) base step size power
+within {places} {base} {step} {size} {power} few greatest =
+    subst (λ p. IsGreatest p base step size power) (let same : places ≡ places_within places = omega (arith, few) in same) greatest
 
-pub in_eighths-requires-clause-not_less : goal.in_eighths-requires-clause-not_less
-in_eighths-requires-clause-not_less c = λ other fits.
-    let few = c.in_thousands-whole.ensures.greatest.greatest other fits in omega (arith, few, c.if-binary-power.true)
+own_split : (kind : Kind) (size places : ℕ) → IsRecoveredIn current kind false size places (own_unit kind)
+    → IsSplit kind size places size Own
+own_split kind size places recovered = record { recovered = recovered; value = omega (arith, own_number kind size) }
 
-pub returns-else-binary-power-clause-form : goal.returns-else-binary-power-clause-form
-returns-else-binary-power-clause-form c = λ kind.
+pub returns-then-size-lt1000-clause-split : goal.returns-then-size-lt1000-clause-split
+returns-then-size-lt1000-clause-split c = λ kind.
+    own_split kind c.args.size c.args.places (recovered_own c.args.places kind c.args.size c.if-size-lt1000.true)
+
+pub returns-then-binary-power-clause-split : goal.returns-then-binary-power-clause-split
+returns-then-binary-power-clause-split c = λ kind.
     let size = c.args.size in
     let whole = c.in_thousands-whole.result.0 in
     let thousandths = c.in_thousands-whole.result.1 in
     let power = c.in_thousands-whole.result.2 in
     let tens = c.in_thousands-whole.ensures in
-    let twos = c.binary_power-binary.ensures in
     let number = whole * scale + thousandths * 10 ^ 25 in
-    form_of_thousandths kind size whole thousandths number (shape power false (counts_bits kind)) tens.thousandths
-    (recovered_decimal kind tens.some tens.few tens.greatest twos.greatest c.if-binary-power.false) refl
-    (number_of_units kind size power false number
-    (number_of_thousandths size _ whole thousandths number refl tens.value))
+    record {
+      recovered = recovered_decimal c.args.places kind (omega (arith, c.if-binary-power.true)) tens.few
+          (within c.requires.places tens.greatest) (within c.requires.places c.binary_power-binary.ensures.greatest)
+          c.if-binary-power.true;
+      value = number_of_units kind size power false number
+          (number_of_thousandths size _ whole thousandths number refl tens.value);
+    }
 
-pub returns-else-binary-power-clause-whole : goal.returns-else-binary-power-clause-whole
-returns-else-binary-power-clause-whole c =
+pub returns-then-binary-power-clause-narrow : goal.returns-then-binary-power-clause-narrow
+returns-then-binary-power-clause-narrow c = λ three.
     let power = c.in_thousands-whole.result.2 in
-    whole_below c.args.size (10 ^ (3 * power)) _ _ c.requires
+    whole_below c.args.size (10 ^ (3 * power)) _ _ c.requires.small
     (omega (
       arith,
       pow-le-pow_right {n = 10} (omega arith) {i = 3} {j = 3 * power}
-          (omega (arith, c.in_thousands-whole.ensures.some)),
+          (omega (arith, c.if-binary-power.true)),
     ))
     c.in_thousands-whole.ensures.value
+
+pub returns-then-binary-gt0-clause-split : goal.returns-then-binary-gt0-clause-split
+returns-then-binary-gt0-clause-split c = λ kind.
+    let twos = c.binary_power-binary.ensures in
+    let tens = within c.requires.places c.in_thousands-whole.ensures.greatest in
+    c.in_eighths.ensures.split kind c.args.places
+    (recovered_binary c.args.places kind (omega (arith, c.if-binary-gt0.true)) twos.few (within c.requires.places twos.greatest)
+    (λ other fits. omega (arith, tens.greatest other fits, c.if-binary-power.false)))
+
+pub returns-else-binary-gt0-clause-split : goal.returns-else-binary-gt0-clause-split
+returns-else-binary-gt0-clause-split c = λ kind.
+    let places = places_within c.args.places in
+    let size = c.args.size in
+    let no_binary : c.binary_power-binary.result ≡ 0 = omega (arith, c.if-binary-gt0.false) in
+    let no_decimal : c.in_thousands-whole.result.2 ≡ 0 = omega (arith, c.if-binary-power.false, no_binary) in
+    own_split kind size c.args.places
+    (recovered_none c.args.places kind
+    (subst (λ power. IsGreatest places 10 3 size power) no_decimal (within c.requires.places c.in_thousands-whole.ensures.greatest))
+    (subst (λ power. IsGreatest places 2 10 size power) no_binary (within c.requires.places c.binary_power-binary.ensures.greatest)))

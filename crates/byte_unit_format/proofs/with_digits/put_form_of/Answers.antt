@@ -9,13 +9,14 @@ use Rattle.byte_unit_base.specs.Version.{current, unit_name_in}
 use Rattle.byte_unit_format.proofs.NarrowTexts.{decimal_length}
 use Rattle.byte_unit_format.specs.Forms.{IsSizeForm}
 use Rattle.byte_unit_format.specs.NamedSpecs.{alternate_spec}
+use Rattle.byte_unit_format.specs.FewPlaces.{FitsPrefix}
 use Rattle.byte_unit_format.specs.Suffix.{suffix_text}
 use Rattle.byte_unit_math.specs.Numeral.{padded_digits}
 use Rattle.byte_unit_format.specs.WithDigits.{cut_digits}
 use Rattle.byte_unit_format.specs.declared.thousandths.Suffix.TheVariants.{Own}
 use Rattle.byte_unit_format.proofs.SomeForm.{own_number}
-use Rattle.byte_unit_format.proofs.Suffix.{form_of_thousandths}
-use Rattle.byte_unit_format.proofs.ThreePlaces.{recovered_own, recovered_decimal, number_of_thousandths, number_of_units}
+use Rattle.byte_unit_format.proofs.Suffix.{form_of_split, form_of_thousandths}
+use Rattle.byte_unit_format.proofs.FewPlaces.{recovered_own, recovered_binary, recovered_decimal, number_of_thousandths, number_of_units}
 use Rattle.byte_unit_format.proofs.WithDigits.{IsUsed, few_digits, size_from_digits, size_above_digits}
 use Rattle.byte_unit_format.proofs.WithDigits.{used_within, found_power, cut_of_size, not_above_digits}
 use Rattle.byte_unit_format.proofs.with_digits.put_form_of.Goals as goal
@@ -36,7 +37,7 @@ returns-then-most-eq0-clause-form c =
     let below = size_from_digits size c.requires.small (omega (arith, c.requires.len, c.if-most-eq0.true)) in
     let text = decimal size ++ suffix_text kind Own in
     let form = form_of_thousandths kind size size 0 (size * scale) (own_unit kind) (omega arith)
-    (recovered_own kind size below) (omega arith) (own_number kind size) in
+    (recovered_own 3 kind size below) (omega arith) (own_number kind size) in
     subst (IsSizeForm kind size alternate_spec)
     (sym (ap (λ list. take c.put_split.result list) c.put_split.ensures.bytes
     ∙ take_at text _ c.put_split.result (sym c.put_split.ensures.ends))) form
@@ -71,21 +72,6 @@ in_eighths-whole-requires-clause-some c =
           (used_digits c.args.size c.requires.digits found.zeros found.last) found.within in
           omega (arith, bounds.1, c.requires.len, c.if-most-eq0.false, w.min-power.ensures, w.if-binary-power))
       | else-binary-most w ↦ omega (arith, c.if-most-eq0.false, w.if-binary-most)
-    ]
-
-pub in_eighths-whole-requires-clause-not_less : goal.in_eighths-whole-requires-clause-not_less
-in_eighths-whole-requires-clause-not_less c = λ other fits.
-    let above = size_above_digits c.args.size c.requires.small (omega (arith, c.requires.len, c.if-most-eq0.false)) in
-    elim c.if-binary-most.branch [
-      | then-binary-most+else-binary-power w ↦
-          (let found = w.significant-used.ensures in
-          let power = found_power c.args.size w.significant-used.result w.min-power.result (omega (arith, above))
-          c.requires.small (used_digits c.args.size c.requires.digits found.zeros found.last) found.within
-          (omega (arith, c.requires.len, w.min-power.ensures)) in
-          omega (arith, power.greatest.greatest other fits, w.if-binary-power))
-      | else-binary-most w ↦
-          (let few = not_above_digits c.args.size other (omega (arith, above)) c.requires.small fits in
-          omega (arith, few, c.requires.len, w.if-binary-most))
     ]
 
 pub put_decimal-requires-clause-known : goal.put_decimal-requires-clause-known
@@ -123,7 +109,7 @@ returns-then-binary-power-clause-form c =
     let name = 32 ∷ unit_name_in current unit in
     let number = whole * scale + thousandths * 10 ^ 25 in
     let form = form_of_thousandths kind size whole thousandths number unit is_cut.below
-    (recovered_decimal kind some decimal_power.known decimal_power.greatest twos.greatest c.if-binary-power.true) (refl {a = number})
+    (recovered_decimal 3 kind some decimal_power.known decimal_power.greatest twos.greatest c.if-binary-power.true) (refl {a = number})
     (number_of_units kind size power false number
     (number_of_thousandths size _ whole thousandths number (refl {a = number}) is_cut.value)) in
     let Text : List ℕ → ℕ → List ℕ = λ digits len. take (len - 3 * power) digits ++ (cut_digits (len - 3 * power) used digits ++ name) in
@@ -133,3 +119,40 @@ returns-then-binary-power-clause-form c =
     ∙ (ap (λ len. Text (padded_digits size) len) c.requires.len
     ∙ (ap (λ list. list ++ (cut_digits (length (decimal size) - 3 * power) used (padded_digits size) ++ name)) is_cut.whole_is
     ∙ ap (λ list. decimal whole ++ (list ++ name)) is_cut.fraction_is))))) form
+
+pub returns-clause-form : goal.returns-clause-form
+returns-clause-form c =
+    let kind = c.args.kind in
+    let size = c.args.size in
+    let above = size_above_digits size c.requires.small (omega (arith, c.requires.len, c.if-most-eq0.false)) in
+    let twos = c.binary_power-binary.ensures in
+    let binary = c.binary_power-binary.result in
+    let not_less : (other : ℕ) → FitsPrefix 3 size (10 ^ (3 * other)) → other ≤ binary = λ other fits.
+    elim c.if-binary-most.branch [
+      | then-binary-most+else-binary-power w ↦
+          (let found = w.significant-used.ensures in
+          let power = found_power size w.significant-used.result w.min-power.result (omega (arith, above))
+          c.requires.small (used_digits size c.requires.digits found.zeros found.last) found.within
+          (omega (arith, c.requires.len, w.min-power.ensures)) in
+          omega (arith, power.greatest.greatest other fits, w.if-binary-power))
+      | else-binary-most w ↦
+          (let few = not_above_digits size other (omega (arith, above)) c.requires.small fits in
+          omega (arith, few, c.requires.len, w.if-binary-most))
+    ] in
+    let some : 1 ≤ binary =
+    elim c.if-binary-most.branch [
+      | then-binary-most+else-binary-power w ↦
+          (let found = w.significant-used.ensures in
+          let bounds = used_within size w.significant-used.result (omega (arith, above)) c.requires.small
+          (used_digits size c.requires.digits found.zeros found.last) found.within in
+          omega (arith, bounds.1, c.requires.len, c.if-most-eq0.false, w.min-power.ensures, w.if-binary-power))
+      | else-binary-most w ↦ omega (arith, c.if-most-eq0.false, w.if-binary-most)
+    ] in
+    let whole = c.in_eighths-whole.result.0 in
+    let suffix = c.in_eighths-whole.result.1 in
+    let text = decimal whole ++ suffix_text kind suffix in
+    let form = form_of_split kind size whole suffix c.in_eighths-whole.ensures.prefix
+    (c.in_eighths-whole.ensures.split kind 3 (recovered_binary 3 kind some twos.few twos.greatest not_less)) in
+    subst (IsSizeForm kind size alternate_spec)
+    (sym (ap (λ list. take c.put_split-2.result list) c.put_split-2.ensures.bytes
+    ∙ take_at text _ c.put_split-2.result (sym c.put_split-2.ensures.ends))) form

@@ -1,0 +1,13 @@
+-- Private: the prefixes in which a size has few digits after the point.
+use Rattle.std.specs.Prelude.{ℕ, ◌*◌, ◌^◌, ◌≤◌}
+use Rattle.byte_unit_math.specs.Exact.{IsExactAt}
+
+-- The prefix is at most the size, and the size has at most `places` digits after the point in it.
+pub record FitsPrefix (places size prefix : ℕ) : Type 0 where
+  pub exact : IsExactAt size prefix places
+  pub not_above : prefix ≤ size
+
+-- The size fits the prefix base^(step * power), and none of a greater power.
+pub record IsGreatest (places base step size power : ℕ) : Type 0 where
+  pub fits : FitsPrefix places size (base ^ (step * power))
+  pub greatest : (other : ℕ) → FitsPrefix places size (base ^ (step * other)) → other ≤ power
