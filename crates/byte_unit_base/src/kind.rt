@@ -4,7 +4,6 @@ ghost use Rattle.std.specs.Prelude.{◌≡◌, ◌≤◌};
 ghost use Rattle.byte_unit_base.specs.Units.{shape_of};
 
 use crate::unit::Unit;
-use crate::unit::scan::Prefix;
 
 /// The kind of a size: what it counts.
 #[derive(Debug, Clone, Copy, PartialEq, Eq)]
@@ -16,8 +15,7 @@ pub enum Kind {
 }
 
 impl Kind {
-    ghost use Rattle.byte_unit_base.specs.Kinds.{bits_in, counts_bits, own_unit};
-    ghost use Rattle.byte_unit_base.specs.Shape.{shape};
+    ghost use Rattle.byte_unit_base.specs.Kinds.{bits_in, own_unit};
 
     /// Returns the number of bits in one of the kind: 8 or 1.
     ///
@@ -49,23 +47,5 @@ impl Kind {
             Kind::Byte => Unit::B,
             Kind::Bit => Unit::Bit,
         }
-    }
-
-    /// Returns the unit of the kind with the binary (IEC) or the decimal (SI) prefix of a position, from 1 for K to 9
-    /// for R.
-    ///
-    /// Precondition (proved at every call): `1 <= power` and `power <= 9`.
-    ///
-    /// # Examples
-    /// ```rust
-    /// assert_eq!(rt; Kind::Byte.unit_with_prefix(1, true), Unit::KiB);
-    /// assert_eq!(rt; Kind::Bit.unit_with_prefix(9, false), Unit::Rbit);
-    /// ```
-    pub fn unit_with_prefix(self, power: u32, binary: bool) -> Unit
-        requires some { 1 ≤ power }
-        requires known { power ≤ 9 }
-        ensures { shape_of result ≡ shape power binary (counts_bits self) }
-    {
-        Prefix::from_power(power).unit(binary, matches!(self, Kind::Bit))
     }
 }

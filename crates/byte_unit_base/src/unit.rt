@@ -2,9 +2,13 @@
 
 ghost use Rattle.std.specs.Prelude.{◌≡◌, ◌≤◌};
 ghost use Rattle.byte_unit_math.specs.Bounds.{unit_limit};
-ghost use Rattle.byte_unit_base.specs.Shape.{bits, twos, fives};
+ghost use Rattle.byte_unit_base.specs.Kinds.{counts_bits};
+ghost use Rattle.byte_unit_base.specs.Shape.{bits, shape, twos, fives};
+ghost use Rattle.byte_unit_base.specs.Units.{shape_of};
 ghost use Rattle.byte_unit_base.specs.Version.{unit_name};
 
+use crate::Kind;
+use crate::unit::scan::Prefix;
 use std::fmt;
 
 pub(crate) mod family;
@@ -283,4 +287,22 @@ impl fmt::Display for Unit {
     fn fmt<W: fmt::Write>(&self, f: &mut fmt::Formatter<W>) -> fmt::Result {
         f.write_str(self.as_str())
     }
+}
+
+/// Returns the unit of the kind with the binary (IEC) or the decimal (SI) prefix of a position, from 1 for K to 9 for
+/// R.
+///
+/// Precondition (proved at every call): `1 <= power` and `power <= 9`.
+///
+/// # Examples
+/// ```rust
+/// assert_eq!(rt; unit_with_prefix(1, true, Kind::Byte), Unit::KiB);
+/// assert_eq!(rt; unit_with_prefix(9, false, Kind::Bit), Unit::Rbit);
+/// ```
+pub fn unit_with_prefix(power: u32, binary: bool, kind: Kind) -> Unit
+    requires some { 1 ≤ power }
+    requires known { power ≤ 9 }
+    ensures { shape_of result ≡ shape power binary (counts_bits kind) }
+{
+    Prefix::from_power(power).unit(binary, matches!(kind, Kind::Bit))
 }

@@ -35,7 +35,8 @@ suffix_text kind suffix =
 -- Whole units and thousandths of one are the size, in its largest unit within the precision.
 pub record IsSplit (kind : Kind) (size precision whole : ℕ) (suffix : Suffix) : Type 0 where
   pub recovered : IsRecoveredIn current kind false size precision (unit_of kind suffix)
-  pub value : (whole * scale + thousandths_of suffix * 10 ^ 25) * bits (unit_of kind suffix) ≡ size * bits_in kind * scale
+  pub value : (whole * scale + thousandths_of suffix * 10 ^ 25) * bits (unit_of kind suffix)
+      ≡ size * bits_in kind * scale
 
 -- The prefix is one of the nine, and the eighths or thousandths are less than a unit.
 abbrev pub HasPrefix : Suffix → Type 0

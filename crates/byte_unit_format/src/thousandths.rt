@@ -11,7 +11,7 @@ ghost use Rattle.byte_unit_base.specs.Version.{current};
 ghost use Rattle.byte_unit_format.specs.FewPlaces.{IsGreatest};
 ghost use Rattle.byte_unit_format.specs.Suffix.{HasPrefix, IsSplit};
 
-use byte_unit_base::{Kind, Unit, recoverable_unit};
+use byte_unit_base::{Kind, Unit, recoverable_unit, unit_with_prefix};
 use byte_unit_math::{Decimal, Steps, div_rem_thousand, power_of_ten};
 
 /// The precision up to which the unit is found without a search.
@@ -43,11 +43,11 @@ pub(crate) fn unit_within(size: u128, kind: Kind, places: usize) -> (Decimal, Un
         Suffix::Own => (Decimal::from_digits(whole, 0, 0), kind.unit()),
         Suffix::Eighths(eighths, power) => (
             Decimal::from_digits(whole, u128::from(125 * eighths), 3),
-            kind.unit_with_prefix(power, true),
+            unit_with_prefix(power, true, kind),
         ),
         Suffix::Thousandths(thousandths, power) => (
             Decimal::from_digits(whole, u128::from(thousandths), 3),
-            kind.unit_with_prefix(power, false),
+            unit_with_prefix(power, false, kind),
         ),
     }
 }

@@ -18,8 +18,8 @@ const TEN_POW_16: u64 = 10_000_000_000_000_000;
 /// The reciprocal of `TEN_POW_16`: 2^117 / 10^16, rounded down.
 const TEN_POW_16_INVERSE: u64 = 16_615_349_947_311_448_411;
 
-/// Writes the digits of a number as ASCII to the beginning of an array and the digit 0 to the rest of it, and returns the
-/// number of its digits, 1 to 30.
+/// Writes the digits of a number as ASCII to the beginning of an array and the digit 0 to the rest of it, and returns
+/// the number of its digits, 1 to 30.
 ///
 /// Precondition (proved at every call): `n < 10^30`.
 ///
@@ -69,8 +69,8 @@ fn digits_with_zeros(n: u128) -> ([u8; 48], usize)
     (digits, 32)
 }
 
-/// Returns the digits of a number below 10^16, with leading zeros: first four numbers of four digits each, then eight of
-/// two digits, then all.
+/// Returns the digits of a number below 10^16, with leading zeros: first four numbers of four digits each, then eight
+/// of two digits, then all.
 #[inline(always)]
 fn last_16_digits(n: u64) -> u8x16
     requires { n < 10 ^ 16 }
