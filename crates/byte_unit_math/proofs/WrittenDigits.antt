@@ -173,7 +173,7 @@ fewer_last_digits (suc more) (suc k) n =
     let same : k - more ≡ suc k - suc more = omega arith in
     fewer_last_digits more k n ∙ ap (λ k. last_digits k n) same
 
--- The last k digits without leading zeros are the digits of a number below 10^k. What is behind them stays.
+-- The last k digits without leading zeros are the digits of a number below 10^k. What comes after them stays.
 pub without_leading_zeros : (k n : ℕ) (behind : List ℕ) → n < 10 ^ k → n < 2 ^ 128 → 1 ≤ k
     → drop (k - length (decimal n)) (glyphs (last_digits k n) ++ behind) ≡ decimal n ++ behind
 without_leading_zeros k n behind below small some =
