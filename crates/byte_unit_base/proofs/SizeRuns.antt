@@ -1,10 +1,11 @@
 -- The state machine of sizes reads each number with its unit, and each viable prefix of one, to its end.
-use Rattle.std.proofs.Common.{◌≡◌, ◌≢◌, ℕ, zero, suc, ◌+◌, ◌-◌, ◌*◌, ◌^◌, ◌<◌, ◌≤◌, inl, inr, List, [], ◌∷◌, ◌++◌}
+use Rattle.std.proofs.Common.{◌≡◌, ◌≢◌, ℕ, zero, suc, ◌+◌, ◌-◌, ◌*◌, ◌^◌, ◌<◌, ◌≤◌, inl, inr, ⊎_elim, List, [], ◌∷◌, ◌++◌}
 use Rattle.std.proofs.Common.{Option, Some, None, Ok}
 use Rattle.std.proofs.Common.{length, replicate, sym, refl, ap, ◌∙◌, arith, true, false, cond, eqb, ltb, append-nil}
 use Rattle.std.specs.Option.{option_map}
 use Rattle.std.specs.Char.{digit_value, to_ascii_uppercase}
 use Rattle.std.specs.Str.Parse.{IsNumeral, AllDigits, digits_value, digits_value_after}
+use Rattle.std.proofs.lemmas.Bool.{cases_lt}
 use Rattle.std.proofs.lemmas.Bool.Decides.{nat_tests}
 use Rattle.byte_unit_math.specs.Bounds.{scale, places_of_decimal, whole_limit}
 use Rattle.byte_unit_base.specs.Shape.{Shape}
@@ -156,43 +157,12 @@ run_number : (text : List ℕ) (n : ℕ) → IsNumberText current text n → Run
 run_number text n (inl h) = record { state = Whole h.0; run = run_whole text h.0 h.1; holds = sym h.2 }
 run_number text n (inr h) = let r = run_precise text n h in record { state = r.state; run = r.run; holds = r.holds.0 }
 
--- a letter that begins a prefix is an ASCII letter
-letter_bounds : (c : ℕ) (p : Prefix) → prefix_at c ≡ Some p → (65 ≤ to_ascii_uppercase c) × (to_ascii_uppercase c ≤ 90)
-letter_bounds c Kilo e = let h = (prefix_found c Kilo e).2 in (omega (arith, h), omega (arith, h))
-letter_bounds c Mega e = let h = (prefix_found c Mega e).2 in (omega (arith, h), omega (arith, h))
-letter_bounds c Giga e = let h = (prefix_found c Giga e).2 in (omega (arith, h), omega (arith, h))
-letter_bounds c Tera e = let h = (prefix_found c Tera e).2 in (omega (arith, h), omega (arith, h))
-letter_bounds c Peta e = let h = (prefix_found c Peta e).2 in (omega (arith, h), omega (arith, h))
-letter_bounds c Exa e = let h = (prefix_found c Exa e).2 in (omega (arith, h), omega (arith, h))
-letter_bounds c Zetta e = let h = (prefix_found c Zetta e).2 in (omega (arith, h), omega (arith, h))
-letter_bounds c Yotta e = let h = (prefix_found c Yotta e).2 in (omega (arith, h), omega (arith, h))
-letter_bounds c Ronna e = let h = (prefix_found c Ronna e).2 in (omega (arith, h), omega (arith, h))
-
-b_bounds : (c : ℕ) (w : Word) → cond (eqb c 66) (Some UpperB) (cond (eqb c 98) (Some LowerB) None) ≡ Some w
-    → (65 ≤ to_ascii_uppercase c) × (to_ascii_uppercase c ≤ 90)
-b_bounds c w e = (grind (arith, nat_tests), grind (arith, nat_tests))
-
-word_bounds : (c : ℕ) (u : UnitScan) (o : Option Word) → word_step Empty c ≡ o → option_map (scan_of One) o ≡ Some u
-    → (65 ≤ to_ascii_uppercase c) × (to_ascii_uppercase c ≤ 90)
-word_bounds c u None e h = absurd (let k : ⊥ = cc in k)
-word_bounds c u (Some w) e h = b_bounds c w e
-
-first_bounds : (c : ℕ) (u : UnitScan) (o : Option Prefix) → prefix_at c ≡ o
-    → or_word One (option_map Decimal o) (word_step Empty c) ≡ Some u
-    → (65 ≤ to_ascii_uppercase c) × (to_ascii_uppercase c ≤ 90)
-first_bounds c u None e h = word_bounds c u (word_step Empty c) refl h
-first_bounds c u (Some p) e h = letter_bounds c p e
-
-unit_bounds : (c : ℕ) (u : UnitScan) → unit_step unit_start c ≡ Some u
-    → (65 ≤ to_ascii_uppercase c) × (to_ascii_uppercase c ≤ 90)
+-- no digit, point or space begins a unit: their codes are below that of `A`
+no_unit_below : (c : ℕ) → c < 65 → unit_step unit_start c ≡ None
 unfolding unit_step
-unit_bounds c u h = first_bounds c u (prefix_at c) refl h
-
-letter_is_no_digit : (c : ℕ) → 65 ≤ to_ascii_uppercase c → to_ascii_uppercase c ≤ 90 → 10 ≤ digit_value c
-letter_is_no_digit c h k = grind (arith, nat_tests)
-
-from_upper : (c : ℕ) → 65 ≤ to_ascii_uppercase c → 65 ≤ c
-from_upper c h = grind (arith, nat_tests)
+no_unit_below c small =
+    let same : to_ascii_uppercase c ≡ c = grind (arith, nat_tests) in
+    rw same (grind (arith, nat_tests))
 
 -- the character is not a digit, a point or a space
 pub record NoNumber (c : ℕ) : Type 0 where
@@ -201,10 +171,9 @@ pub record NoNumber (c : ℕ) : Type 0 where
   pub space : eqb c 32 ≡ false
 
 no_number : (c : ℕ) (u : UnitScan) → unit_step unit_start c ≡ Some u → NoNumber c
-no_number c u h =
-    let k = unit_bounds c u h in
-    let d = letter_is_no_digit c k.0 k.1 in
-    let l = from_upper c k.0 in
+no_number c u e =
+    let letter : 65 ≤ c =
+    ⊎_elim (λ small. let none = no_unit_below c small in absurd (let k : ⊥ = cc in k)) (λ l. l) (cases_lt c 65) in
     record { digit = grind (arith, nat_tests); point = grind (arith, nat_tests); space = grind (arith, nat_tests) }
 
 -- the steps after a number
@@ -214,9 +183,7 @@ unfolding size_step
 step_space n (Whole w) h = ap (λ x. Some (Gap x)) h
 step_space n (Fraction w f j) h = ap (λ x. Some (Gap x)) h
 step_space n (Gap m) h = ap (λ x. Some (Gap x)) h
-step_space n Beginning h = absurd h
-step_space n (Point w) h = absurd h
-step_space n (UnitAt m s) h = absurd h
+step_space n _ h = absurd h
 
 step_unit : (n c : ℕ) (s : SizeScan) (u : UnitScan) → AtNumber n s → unit_step unit_start c ≡ Some u
     → size_step s c ≡ Some (UnitAt n u)
@@ -226,9 +193,7 @@ step_unit n c (Whole w) u h e =
 step_unit n c (Fraction w f j) u h e =
     let k = no_number c u e in rw (k.digit, k.space, e) (ap (λ x. Some (UnitAt x u)) h)
 step_unit n c (Gap m) u h e = let k = no_number c u e in rw (k.space, e) (ap (λ x. Some (UnitAt x u)) h)
-step_unit n c Beginning u h e = absurd h
-step_unit n c (Point w) u h e = absurd h
-step_unit n c (UnitAt m s) u h e = absurd h
+step_unit n c _ u h e = absurd h
 
 -- the result for an input that ends after a number
 pub number_end : (flags : Flags) (n : ℕ) (s : SizeScan) → AtNumber n s
@@ -236,51 +201,29 @@ pub number_end : (flags : Flags) (n : ℕ) (s : SizeScan) → AtNumber n s
 number_end flags n (Whole w) h = ap (λ x. size_or_fault x (unit_of flags unit_start)) h
 number_end flags n (Fraction w f j) h = ap (λ x. size_or_fault x (unit_of flags unit_start)) h
 number_end flags n (Gap m) h = ap (λ x. size_or_fault x (unit_of flags unit_start)) h
-number_end flags n Beginning h = absurd h
-number_end flags n (Point w) h = absurd h
-number_end flags n (UnitAt m s) h = absurd h
+number_end flags n _ h = absurd h
 
--- the state is after the number `n` and at least one space
-abbrev pub AtGap : ℕ → SizeScan → Type 0
-AtGap n s = AtNumber n s × (size_parser_state s ≡ before_unit)
-
-run_gap : (n k : ℕ) → RunsTo (AtGap n) (Gap n) (replicate k space)
-run_gap n zero = record { state = Gap n; run = refl; holds = (refl, refl) }
+run_gap : (n k : ℕ) → run size_step (Gap n) (replicate k space) ≡ Some (Gap n)
+run_gap n zero = refl
 run_gap n (suc k) =
-    let r = run_gap n k in
-    record {
-      state = r.state;
-      run = run_step size_step (Gap n) (Gap n) space (replicate k space) (step_space n (Gap n) refl) ∙ r.run;
-      holds = r.holds;
-    }
+    run_step size_step (Gap n) (Gap n) space (replicate k space) (step_space n (Gap n) refl) ∙ run_gap n k
 
-run_some_spaces : (n k : ℕ) (s : SizeScan) → 0 < k → AtNumber n s → RunsTo (AtGap n) s (replicate k space)
+run_some_spaces : (n k : ℕ) (s : SizeScan) → 0 < k → AtNumber n s → run size_step s (replicate k space) ≡ Some (Gap n)
 run_some_spaces n zero s some h = absurd (omega (arith, some))
 run_some_spaces n (suc k) s some h =
-    let r = run_gap n k in
-    record {
-      state = r.state;
-      run = run_step size_step s (Gap n) space (replicate k space) (step_space n s h) ∙ r.run;
-      holds = r.holds;
-    }
+    run_step size_step s (Gap n) space (replicate k space) (step_space n s h) ∙ run_gap n k
 
 run_spaces : (n k : ℕ) (s : SizeScan) → AtNumber n s → RunsTo (AtNumber n) s (replicate k space)
 run_spaces n zero s h = record { state = s; run = refl; holds = h }
-run_spaces n (suc k) s h =
-    let r = run_some_spaces n (suc k) s (omega arith) h in record { state = r.state; run = r.run; holds = r.holds.0 }
-
-step_in_unit : (n c : ℕ) (s t : UnitScan) → unit_step s c ≡ Some t → size_step (UnitAt n s) c ≡ Some (UnitAt n t)
-unfolding size_step
-step_in_unit n c s t e = ap (option_map (UnitAt n)) e
+run_spaces n (suc k) s h = record { state = Gap n; run = run_some_spaces n (suc k) s (omega arith) h; holds = refl }
 
 run_in_unit : (n : ℕ) (u : UnitScan) (cs : List ℕ) (s : UnitScan) → run unit_step s cs ≡ Some u
     → run size_step (UnitAt n s) cs ≡ Some (UnitAt n u)
-run_in_unit n u cs s h =
-    let RunsInUnit : UnitScan → List ℕ → Type 0 = λ t text. run size_step (UnitAt n s) text ≡ Some (UnitAt n t) in
-    run_keeps unit_step RunsInUnit
-    (λ t v c text e p. run_through size_step (UnitAt n s) (UnitAt n t) text (c ∷ []) p
-    ∙ run_step size_step (UnitAt n t) (UnitAt n v) c [] (step_in_unit n c t v e))
-    cs [] s u h refl
+unfolding size_step
+run_in_unit n u [] s h = ap (option_map (UnitAt n)) h
+run_in_unit n u (c ∷ cs) s h =
+    let t = some_passed (λ v. run unit_step v cs) u (unit_step s c) h in
+    run_step size_step (UnitAt n s) (UnitAt n t.0) c cs (ap (option_map (UnitAt n)) t.1) ∙ run_in_unit n u cs t.0 t.2
 
 -- the state gives the result of the number `n` and the unit of `u`, and has the parser state of `u` if a unit has begun
 pub record EndsAs (n : ℕ) (u : UnitScan) (t : SizeScan) : Type 0 where
@@ -307,26 +250,19 @@ run_unit n u s (c ∷ cs) h k =
       holds = record { ends = λ flags. refl; place = λ moved. refl };
     }
 
--- the text is the number `n`, any number of spaces, and `unit_part`
-pub record IsNumbered (n : ℕ) (unit_part text : List ℕ) : Type 0 where
-  pub number_part : List ℕ
-  pub spaces : ℕ
-  pub text_is : text ≡ number_part ++ (replicate spaces space ++ unit_part)
-  pub number_is : IsNumberText current number_part n
-
-run_numbered : (n : ℕ) (u : UnitScan) (unit text : List ℕ) → IsNumbered n unit text
-    → run unit_step unit_start unit ≡ Some u
-    → RunsTo (EndsAs n u) Beginning text
-run_numbered n u unit text h r =
-    let spaces = replicate h.spaces space in
-    let a = run_number h.number_part n h.number_is in
-    let b = run_spaces n h.spaces a.state a.holds in
-    let c = run_unit n u b.state unit b.holds r in
-    let to_unit = run_through size_step a.state b.state spaces unit b.run in
+-- a number, any number of spaces and a unit are read to the end
+run_numbered : (n k : ℕ) (u : UnitScan) (number unit text : List ℕ) → text ≡ number ++ (replicate k space ++ unit)
+    → IsNumberText current number n → run unit_step unit_start unit ≡ Some u → RunsTo (EndsAs n u) Beginning text
+run_numbered n k u number unit text text_is number_is unit_is =
+    let a = run_number number n number_is in
+    let b = run_spaces n k a.state a.holds in
+    let c = run_unit n u b.state unit b.holds unit_is in
+    let spaces = replicate k space in
     record {
       state = c.state;
-      run = ap (run size_step Beginning) h.text_is
-          ∙ (run_through size_step Beginning a.state h.number_part (spaces ++ unit) a.run ∙ (to_unit ∙ c.run));
+      run = ap (run size_step Beginning) text_is
+          ∙ (run_through size_step Beginning a.state number (spaces ++ unit) a.run
+          ∙ (run_through size_step a.state b.state spaces unit b.run ∙ c.run));
       holds = c.holds;
     }
 
@@ -335,51 +271,36 @@ pub size_text_runs : (flags : Flags) (text : List ℕ) (n : ℕ) (s : Shape) →
     → RunsTo (λ t. size_at_end flags t ≡ Ok (n, s)) Beginning text
 size_text_runs flags text n s h =
     let u = spelling_runs flags h.unit_part s h.unit_is in
-    let numbered : IsNumbered n h.unit_part text =
-    record { number_part = h.number_part; spaces = h.spaces; text_is = h.text_is; number_is = h.number_is } in
-    let r = run_numbered n (scan_of u.multiple u.word) h.unit_part text numbered u.run in
+    let r = run_numbered n h.spaces (scan_of u.multiple u.word) h.number_part h.unit_part text h.text_is h.number_is u.run in
     record { state = r.state; run = r.run; holds = r.holds.ends flags ∙ ap (size_or_fault n) u.unit }
 
 sized_front : (flags : Flags) (place : ParserState) (text : List ℕ) → place ≢ before_unit → IsNumberAndUnitPrefix current place text
     → IsScanned (size_scan flags) place text
 sized_front flags place text moved h =
     let u = unit_front_runs flags place h.unit_part h.unit_is in
-    let numbered : IsNumbered h.number h.unit_part text =
-    record { number_part = h.number_part; spaces = h.spaces; text_is = h.text_is; number_is = h.number_is } in
-    let r = run_numbered h.number u.state h.unit_part text numbered u.run_is in
+    let r = run_numbered h.number h.spaces u.state h.number_part h.unit_part text h.text_is h.number_is u.run_is in
     record { state = r.state; run_is = r.run; place_is = r.holds.place (λ e. moved (sym u.place_is ∙ e)) ∙ u.place_is }
 
 -- the state machine reads each viable prefix to its end, and has its parser state there
 pub size_front_runs : (flags : Flags) (place : ParserState) (text : List ℕ) → IsViableSizePrefix current place text
     → IsScanned (size_scan flags) place text
-size_front_runs flags beginning text h = record {
-  state = Beginning;
-  run_is = ap (run size_step Beginning) h;
-  place_is = refl;
-}
+size_front_runs flags beginning text h =
+    record { state = Beginning; run_is = ap (run size_step Beginning) h; place_is = refl }
 size_front_runs flags in_whole text h = record { state = Whole h.0; run_is = run_whole text h.0 h.1; place_is = refl }
-size_front_runs flags after_point text h = record {
-  state = Point h.0;
-  run_is = run_pointed text h.0 h.1;
-  place_is = refl;
-}
+size_front_runs flags after_point text h = record { state = Point h.0; run_is = run_pointed text h.0 h.1; place_is = refl }
 size_front_runs flags in_fraction text h =
     let r = run_precise text h.0 h.1 in record { state = r.state; run_is = r.run; place_is = r.holds.1 }
 size_front_runs flags before_unit text h =
     let f = h.0 in
     let a = run_number f.number_part f.number f.number_is in
-    let b = run_some_spaces f.number f.spaces a.state h.1 a.holds in
     let spaces = replicate f.spaces space in
     let e : text ≡ f.number_part ++ spaces = f.text_is
     ∙ ap (λ x. f.number_part ++ x) (ap (λ x. spaces ++ x) f.unit_is ∙ append-nil spaces) in
     record {
-      state = b.state;
+      state = Gap f.number;
       run_is = ap (run size_step Beginning) e
-          ∙ (run_through size_step Beginning a.state f.number_part spaces a.run ∙ b.run);
-      place_is = b.holds.1;
+          ∙ (run_through size_step Beginning a.state f.number_part spaces a.run
+          ∙ run_some_spaces f.number f.spaces a.state h.1 a.holds);
+      place_is = refl;
     }
-size_front_runs flags after_prefix text h = sized_front flags after_prefix text (λ e. cc) h
-size_front_runs flags after_b text h = sized_front flags after_b text (λ e. cc) h
-size_front_runs flags after_bi text h = sized_front flags after_bi text (λ e. cc) h
-size_front_runs flags after_bit text h = sized_front flags after_bit text (λ e. cc) h
-size_front_runs flags after_bits text h = sized_front flags after_bits text (λ e. cc) h
+size_front_runs flags place text h = sized_front flags place text (λ e. cc) h

@@ -1,5 +1,5 @@
 -- The state machine of units reads each spelling, and each of their viable prefixes, to its end.
-use Rattle.std.proofs.Common.{◌≡◌, ℕ, zero, suc, ◌⊎◌, inl, inr, ⊎_elim, List, [], ◌∷◌, ◌++◌, Some, sym, refl, ap, subst}
+use Rattle.std.proofs.Common.{◌≡◌, ℕ, zero, suc, ◌⊎◌, inl, inr, ⊎_elim, List, [], ◌∷◌, ◌++◌, Option, Some, sym, refl, ap, subst}
 use Rattle.std.proofs.Common.{◌∙◌, arith, Bool}
 use Rattle.std.proofs.Common.{not}
 use Rattle.std.specs.Prelude.{codes}
@@ -16,7 +16,7 @@ use Rattle.byte_unit_base.specs.ViablePrefix.{IsWord, IsViableWordPrefix}
 use Rattle.byte_unit_base.specs.ViablePrefix.{IsViableUnitPrefix}
 use Rattle.byte_unit_base.specs.Scan.{run}
 use Rattle.byte_unit_base.specs.UnitScan.{unit_step, unit_of, unit_scan, start, scan_of, power_of, prefix_at, count_of}
-use Rattle.byte_unit_base.specs.UnitScan.{multiple_shape}
+use Rattle.byte_unit_base.specs.UnitScan.{multiple_shape, IsWordText}
 use Rattle.byte_unit_base.specs.UnitScan.{word_parser_state, multiple_parser_state}
 use Rattle.byte_unit_base.specs.declared.unit.scan.Prefix.{Prefix}
 use Rattle.byte_unit_base.specs.declared.unit.scan.Prefix.TheVariants.{Kilo, Mega, Giga, Tera, Peta, Exa, Zetta, Yotta}
@@ -25,40 +25,34 @@ use Rattle.byte_unit_base.specs.declared.unit.scan.Word.{Word}
 use Rattle.byte_unit_base.specs.declared.unit.scan.Word.TheVariants.{Empty, UpperB, LowerB, Bi, Bit, Bits}
 use Rattle.byte_unit_base.specs.declared.unit.scan.Multiple.{Multiple}
 use Rattle.byte_unit_base.specs.declared.unit.scan.Multiple.TheVariants.{One, Decimal, Binary}
+use Rattle.byte_unit_base.specs.declared.unit.scan.UnitScan.{UnitScan}
 use Rattle.byte_unit_base.proofs.Lists.{from_lowercase, lower_cons, lower_nil}
 use Rattle.byte_unit_base.proofs.Scans.{run_through, run_step, IsScanned}
 
-step_upper_b : (m : Multiple) → unit_step (scan_of m Empty) 66 ≡ Some (scan_of m UpperB)
+-- `B` and `b` begin a suffix
+step_letter_b : (m : Multiple) → (unit_step (scan_of m Empty) 66 ≡ Some (scan_of m UpperB))
+    × (unit_step (scan_of m Empty) 98 ≡ Some (scan_of m LowerB))
 unfolding unit_step
-step_upper_b One = refl
-step_upper_b (Decimal p) = refl
-step_upper_b (Binary p) = refl
-
-step_lower_b : (m : Multiple) → unit_step (scan_of m Empty) 98 ≡ Some (scan_of m LowerB)
-unfolding unit_step
-step_lower_b One = refl
-step_lower_b (Decimal p) = refl
-step_lower_b (Binary p) = refl
+step_letter_b One = (refl, refl)
+step_letter_b _ = (refl, refl)
 
 abbrev IsB : Word → Type 0
 IsB w = (w ≡ UpperB) ⊎ (w ≡ LowerB)
 
 step_b : (m : Multiple) (c : ℕ) → to_ascii_lowercase c ≡ 98
-    → (w : Word) × (unit_step (scan_of m Empty) c ≡ Some (scan_of m w)) × IsB w
-step_b m c e = ⊎_elim
-    (λ h. let StepsToB : ℕ → Type 0 = λ x. (w : Word) × (unit_step (scan_of m Empty) x ≡ Some (scan_of m w))
-    × IsB w in subst StepsToB (sym h)
-    (LowerB, step_lower_b m, inr refl))
-    (λ h. let k : 66 ≡ c = omega arith in let StepsToB : ℕ
-    → Type 0 = λ x. (w : Word) × (unit_step (scan_of m Empty) x ≡ Some (scan_of m w))
-    × IsB w in subst StepsToB k (UpperB, step_upper_b m, inl refl))
+    → (w : Word) × IsB w × (unit_step (scan_of m Empty) c ≡ Some (scan_of m w))
+step_b m c e =
+    ⊎_elim
+    (λ small. (LowerB, inr refl, ap (unit_step (scan_of m Empty)) small ∙ (step_letter_b m).1))
+    (λ capital. let same : c ≡ 66 = omega arith in
+    (UpperB, inl refl, ap (unit_step (scan_of m Empty)) same ∙ (step_letter_b m).0))
     (from_lowercase c 98 (omega arith) (omega arith) e)
 
-step_i : (m : Multiple) (w : Word) (c : ℕ) → IsB w → to_ascii_lowercase c ≡ 105
+step_i : (m : Multiple) (w : Word) → IsB w → (c : ℕ) → to_ascii_lowercase c ≡ 105
     → unit_step (scan_of m w) c ≡ Some (scan_of m Bi)
 unfolding unit_step
-step_i m w c (inl h) e = rw (h, e) refl
-step_i m w c (inr h) e = rw (h, e) refl
+step_i m w (inl h) c e = rw (h, e) refl
+step_i m w (inr h) c e = rw (h, e) refl
 
 step_t : (m : Multiple) (c : ℕ) → to_ascii_lowercase c ≡ 116 → unit_step (scan_of m Bi) c ≡ Some (scan_of m Bit)
 unfolding unit_step
@@ -68,79 +62,53 @@ step_s : (m : Multiple) (c : ℕ) → to_ascii_lowercase c ≡ 115 → unit_step
 unfolding unit_step
 step_s m c e = rw e refl
 
--- the suffix `b` or `B` is read after any prefix
-run_b : (m : Multiple) (text : List ℕ) → str_to_ascii_lowercase text ≡ codes "b"
-    → (w : Word) × (run unit_step (scan_of m Empty) text ≡ Some (scan_of m w)) × IsB w
-run_b m text e =
-    let l = lower_cons 98 [] text e in
+-- if each letter of this lower case leads to the next state, a text of this lower case is read from there
+run_lower : (s t : UnitScan) (end : Option UnitScan) (x : ℕ) (xs text : List ℕ)
+    → ((c : ℕ) → to_ascii_lowercase c ≡ x → unit_step s c ≡ Some t)
+    → ((tail : List ℕ) → str_to_ascii_lowercase tail ≡ xs → run unit_step t tail ≡ end)
+    → str_to_ascii_lowercase text ≡ x ∷ xs → run unit_step s text ≡ end
+run_lower s t end x xs text step next e =
+    let l = lower_cons x xs text e in
+    ap (run unit_step s) l.text_is ∙ (run_step unit_step s t l.head l.tail (step l.head l.head_is) ∙ next l.tail l.tail_is)
+
+run_nothing : (s : UnitScan) (text : List ℕ) → str_to_ascii_lowercase text ≡ [] → run unit_step s text ≡ Some s
+run_nothing s text e = ap (run unit_step s) (lower_nil text e)
+
+-- the letter `b` or `B` is read after any prefix
+run_b : (end : Option UnitScan) (m : Multiple) (rest text : List ℕ)
+    → ((w : Word) → IsB w → (tail : List ℕ) → str_to_ascii_lowercase tail ≡ rest → run unit_step (scan_of m w) tail ≡ end)
+    → str_to_ascii_lowercase text ≡ 98 ∷ rest → run unit_step (scan_of m Empty) text ≡ end
+run_b end m rest text next e =
+    let l = lower_cons 98 rest text e in
     let s = step_b m l.head l.head_is in
-    let t : text ≡ l.head ∷ [] = l.text_is ∙ ap (λ r. l.head ∷ r) (lower_nil l.tail l.tail_is) in (
-      s.0,
-      ap (run unit_step (scan_of m Empty)) t
-          ∙ run_step unit_step (scan_of m Empty) (scan_of m s.0) l.head [] s.1,
-      s.2,
-    )
+    ap (run unit_step (scan_of m Empty)) l.text_is
+    ∙ (run_step unit_step (scan_of m Empty) (scan_of m s.0) l.head l.tail s.2 ∙ next s.0 s.1 l.tail l.tail_is)
 
-run_bi_then : (m : Multiple) (rest text : List ℕ) → str_to_ascii_lowercase text ≡ 98 ∷ 105 ∷ rest
-    → (tail : List ℕ) × (str_to_ascii_lowercase tail ≡ rest)
-    × (run unit_step (scan_of m Empty) text ≡ run unit_step (scan_of m Bi) tail)
-run_bi_then m rest text e =
-    let l = lower_cons 98 (105 ∷ rest) text e in
-    let s = step_b m l.head l.head_is in
-    let k = lower_cons 105 rest l.tail l.tail_is in (
-      k.tail,
-      k.tail_is,
-      ap (run unit_step (scan_of m Empty)) (l.text_is ∙ ap (λ r. l.head ∷ r) k.text_is)
-          ∙ (run_step unit_step (scan_of m Empty) (scan_of m s.0) l.head (k.head ∷ k.tail) s.1
-          ∙ run_step unit_step (scan_of m s.0) (scan_of m Bi) k.head k.tail (step_i m s.0 k.head s.2 k.head_is)),
-    )
+-- a suffix, and `bi`, is read after any prefix
+run_suffix : (m : Multiple) (w : Word) (text : List ℕ) → IsWordText w text
+    → run unit_step (scan_of m Empty) text ≡ Some (scan_of m w)
+run_suffix m Empty text h = ap (run unit_step (scan_of m Empty)) h
+run_suffix m UpperB text h =
+    ap (run unit_step (scan_of m Empty)) h ∙ run_step unit_step (scan_of m Empty) (scan_of m UpperB) 66 [] (step_letter_b m).0
+run_suffix m LowerB text h =
+    ap (run unit_step (scan_of m Empty)) h ∙ run_step unit_step (scan_of m Empty) (scan_of m LowerB) 98 [] (step_letter_b m).1
+run_suffix m Bi text h =
+    run_b _ m (codes "i") text (λ w b i. run_lower _ _ _ 105 [] i (step_i m w b) (run_nothing (scan_of m Bi))) h
+run_suffix m Bit text h =
+    run_b _ m (codes "it") text (λ w b it. run_lower _ _ _ 105 (codes "t") it (step_i m w b)
+    (λ t. run_lower _ _ _ 116 [] t (step_t m) (run_nothing (scan_of m Bit)))) h
+run_suffix m Bits text h =
+    run_b _ m (codes "its") text (λ w b its. run_lower _ _ _ 105 (codes "ts") its (step_i m w b)
+    (λ ts. run_lower _ _ _ 116 (codes "s") ts (step_t m) (λ s. run_lower _ _ _ 115 [] s (step_s m) (run_nothing (scan_of m Bits))))) h
 
-run_bi : (m : Multiple) (text : List ℕ) → str_to_ascii_lowercase text ≡ codes "bi"
-    → run unit_step (scan_of m Empty) text ≡ Some (scan_of m Bi)
-run_bi m text e = let r = run_bi_then m [] text e in r.2 ∙ ap (run unit_step (scan_of m Bi)) (lower_nil r.0 r.1)
-
-run_bit_then : (m : Multiple) (rest text : List ℕ) → str_to_ascii_lowercase text ≡ 98 ∷ 105 ∷ 116 ∷ rest
-    → (tail : List ℕ) × (str_to_ascii_lowercase tail ≡ rest)
-    × (run unit_step (scan_of m Empty) text ≡ run unit_step (scan_of m Bit) tail)
-run_bit_then m rest text e =
-    let r = run_bi_then m (116 ∷ rest) text e in
-    let k = lower_cons 116 rest r.0 r.1 in (
-      k.tail,
-      k.tail_is,
-      r.2 ∙ (ap (run unit_step (scan_of m Bi)) k.text_is
-          ∙ run_step unit_step (scan_of m Bi) (scan_of m Bit) k.head k.tail (step_t m k.head k.head_is)),
-    )
-
-run_bit : (m : Multiple) (text : List ℕ) → str_to_ascii_lowercase text ≡ codes "bit"
-    → run unit_step (scan_of m Empty) text ≡ Some (scan_of m Bit)
-run_bit m text e = let r = run_bit_then m [] text e in r.2 ∙ ap (run unit_step (scan_of m Bit)) (lower_nil r.0 r.1)
-
-run_bits : (m : Multiple) (text : List ℕ) → str_to_ascii_lowercase text ≡ codes "bits"
-    → run unit_step (scan_of m Empty) text ≡ Some (scan_of m Bits)
-run_bits m text e =
-    let r = run_bit_then m (115 ∷ []) text e in
-    let k = lower_cons 115 [] r.0 r.1 in
-    r.2 ∙ (ap (run unit_step (scan_of m Bit)) (k.text_is ∙ ap (λ t. k.head ∷ t) (lower_nil k.tail k.tail_is))
-    ∙ run_step unit_step (scan_of m Bit) (scan_of m Bits) k.head [] (step_s m k.head k.head_is))
-
--- a suffix is read after any prefix, and means bits or bytes
-run_count : (flags : Flags) (m : Multiple) (text : List ℕ) (bit : Bool) → SpellsCount flags text bit
-    → (w : Word) × (run unit_step (scan_of m Empty) text ≡ Some (scan_of m w)) × (count_of flags w ≡ Some bit)
-run_count flags m text bit (inl h) = (Empty, ap (run unit_step (scan_of m Empty)) h.0, ap Some (sym h.1))
-run_count flags m text bit (inr (inl h)) = (
-  UpperB,
-  ap (run unit_step (scan_of m Empty)) h.0
-      ∙ run_step unit_step (scan_of m Empty) (scan_of m UpperB) 66 [] (step_upper_b m),
-  ap Some (sym h.1),
-)
-run_count flags m text bit (inr (inr (inl h))) = (
-  LowerB,
-  ap (run unit_step (scan_of m Empty)) h.0
-      ∙ run_step unit_step (scan_of m Empty) (scan_of m LowerB) 98 [] (step_lower_b m),
-  ap Some (sym h.1),
-)
-run_count flags m text bit (inr (inr (inr (inl h)))) = (Bit, run_bit m text h.0, ap Some (sym h.1))
-run_count flags m text bit (inr (inr (inr (inr h)))) = (Bits, run_bits m text h.0, ap Some (sym h.1))
+-- each suffix is that of a state, and means bits or bytes there
+count_word : (flags : Flags) (text : List ℕ) (bit : Bool) → SpellsCount flags text bit
+    → (w : Word) × IsWordText w text × (count_of flags w ≡ Some bit)
+count_word flags text bit (inl h) = (Empty, h.0, ap Some (sym h.1))
+count_word flags text bit (inr (inl h)) = (UpperB, h.0, ap Some (sym h.1))
+count_word flags text bit (inr (inr (inl h))) = (LowerB, h.0, ap Some (sym h.1))
+count_word flags text bit (inr (inr (inr (inl h)))) = (Bit, h.0, ap Some (sym h.1))
+count_word flags text bit (inr (inr (inr (inr h)))) = (Bits, h.0, ap Some (sym h.1))
 
 -- a prefix letter is read at the beginning
 step_prefix : (c : ℕ) (p : Prefix) → prefix_at c ≡ Some p → unit_step start c ≡ Some (scan_of (Decimal p) Empty)
@@ -167,49 +135,39 @@ letter_prefix c (suc (suc (suc (suc (suc (suc (suc (suc zero)))))))) h = (Yotta,
 letter_prefix c (suc (suc (suc (suc (suc (suc (suc (suc (suc zero))))))))) h = (Ronna, rw h.2 refl, refl)
 letter_prefix c (suc (suc (suc (suc (suc (suc (suc (suc (suc (suc n)))))))))) h = absurd (omega (arith, h.1))
 
--- the letter of a prefix is followed by an `i` or by nothing
-run_infix : (p : Prefix) (text : List ℕ) (binary : Bool) → SpellsBinary text binary
-    → (m : Multiple) × (run unit_step (scan_of (Decimal p) Empty) text ≡ Some (scan_of m Empty)) ×
-    ((bit : Bool) → multiple_shape m bit ≡ shape (power_of p) binary bit) × (multiple_parser_state m ≡ after_prefix)
-run_infix p text binary (inl h) = (
-  Decimal p,
-  ap (run unit_step (scan_of (Decimal p) Empty)) h.0,
-  λ bit. ap
-      (λ x. shape (power_of p) x bit) (sym h.1),
-  refl,
-)
-run_infix p text binary (inr h) =
-    let l = lower_cons 105 [] text h.0 in
-    let t : text ≡ l.head ∷ [] = l.text_is ∙ ap (λ r. l.head ∷ r) (lower_nil l.tail l.tail_is) in (
-      Binary p,
-      ap (run unit_step (scan_of (Decimal p) Empty)) t
-          ∙ run_step unit_step (scan_of (Decimal p) Empty) (scan_of (Binary p) Empty) l.head []
-          (step_infix p l.head l.head_is),
-      λ bit. ap (λ x. shape (power_of p) x bit) (sym h.1),
-      refl,
-    )
-
 -- the state after the text is that of this prefix, before a suffix
-pub record RunsToPrefix (text : List ℕ) (power : ℕ) (binary : Bool) : Type 0 where
-  pub multiple : Multiple
-  pub run : run unit_step start text ≡ Some (scan_of multiple Empty)
-  pub shape_is : (bit : Bool) → multiple_shape multiple bit ≡ shape power binary bit
-  pub place_is : multiple_parser_state multiple ≡ after_prefix
+record RunsToPrefix (text : List ℕ) (power : ℕ) (binary : Bool) : Type 0 where
+  multiple : Multiple
+  run : run unit_step start text ≡ Some (scan_of multiple Empty)
+  shape_is : (bit : Bool) → multiple_shape multiple bit ≡ shape power binary bit
+  place_is : multiple_parser_state multiple ≡ after_prefix
+
+-- the letter of a prefix is followed by an `i` or by nothing
+run_letter : (p : Prefix) (c : ℕ) (rest : List ℕ) (binary : Bool) → prefix_at c ≡ Some p → SpellsBinary rest binary
+    → RunsToPrefix (c ∷ rest) (power_of p) binary
+run_letter p c rest binary e (inl h) = record {
+  multiple = Decimal p;
+  run = run_step unit_step start (scan_of (Decimal p) Empty) c rest (step_prefix c p e)
+      ∙ ap (run unit_step (scan_of (Decimal p) Empty)) h.0;
+  shape_is = λ bit. ap (λ x. shape (power_of p) x bit) (sym h.1);
+  place_is = refl;
+}
+run_letter p c rest binary e (inr h) = record {
+  multiple = Binary p;
+  run = run_step unit_step start (scan_of (Decimal p) Empty) c rest (step_prefix c p e)
+      ∙ run_lower _ _ _ 105 [] rest (step_infix p) (run_nothing (scan_of (Binary p) Empty)) h.0;
+  shape_is = λ bit. ap (λ x. shape (power_of p) x bit) (sym h.1);
+  place_is = refl;
+}
 
 -- a prefix is read to its end
 run_prefix : (text : List ℕ) (power : ℕ) (binary : Bool) → SpellsPrefix current text power binary
     → RunsToPrefix text power binary
 run_prefix text power binary h =
     let p = letter_prefix h.letter power h.letter_is in
-    let i = run_infix p.0 h.infix_part binary h.infix_is in
-    record {
-      multiple = i.0;
-      run = ap (run unit_step start) h.text_is
-          ∙ (run_step unit_step start (scan_of (Decimal p.0) Empty) h.letter h.infix_part
-          (step_prefix h.letter p.0 p.1) ∙ i.1);
-      shape_is = λ bit. i.2 bit ∙ ap (λ k. shape k binary bit) p.2;
-      place_is = i.3;
-    }
+    subst (λ x. RunsToPrefix x power binary) (sym h.text_is)
+    (subst (λ k. RunsToPrefix (h.letter ∷ h.infix_part) k binary) p.2
+    (run_letter p.0 h.letter h.infix_part binary p.1 h.infix_is))
 
 -- the state after the text is that of this unit
 pub record RunsToUnit (flags : Flags) (text : List ℕ) (s : Shape) : Type 0 where
@@ -218,69 +176,65 @@ pub record RunsToUnit (flags : Flags) (text : List ℕ) (s : Shape) : Type 0 whe
   pub run : run unit_step start text ≡ Some (scan_of multiple word)
   pub unit : unit_of flags (scan_of multiple word) ≡ Some s
 
-run_plain : (flags : Flags) (text : List ℕ) (s : Shape) → SpellsPlain flags text s → RunsToUnit flags text s
-run_plain flags text s h =
-    let r = run_count flags One text s.bit h.count_is in
-    let same : shape 0 (not s.bit) s.bit ≡ s = ap (λ k. shape k (not s.bit) s.bit) (sym h.power_is)
-    ∙ ap (λ x. shape s.power x s.bit) (sym h.binary_is) in
-    record { multiple = One; word = r.0; run = r.1; unit = ap (option_map (multiple_shape One)) r.2 ∙ ap Some same }
-
-run_multiple : (flags : Flags) (text : List ℕ) (s : Shape) → SpellsMultiple current flags text s
-    → RunsToUnit flags text s
-run_multiple flags text s h =
-    let p = run_prefix h.prefix_part s.power s.binary h.prefix_is in
-    let r = run_count flags p.multiple h.count_part s.bit h.count_is in
-    record {
-      multiple = p.multiple;
-      word = r.0;
-      run = ap (run unit_step start) h.text_is
-          ∙ (run_through unit_step start (scan_of p.multiple Empty) h.prefix_part h.count_part p.run ∙ r.1);
-      unit = ap (option_map (multiple_shape p.multiple)) r.2 ∙ ap Some (p.shape_is s.bit);
-    }
-
 -- the state machine reads a spelling to its end, and has its unit there
 pub spelling_runs : (flags : Flags) (text : List ℕ) (s : Shape) → Spells current flags text s → RunsToUnit flags text s
-spelling_runs flags text s (inl h) = run_plain flags text s h
-spelling_runs flags text s (inr h) = run_multiple flags text s h
+spelling_runs flags text s (inl h) =
+    let c = count_word flags text s.bit h.count_is in
+    let same : shape 0 (not s.bit) s.bit ≡ s =
+    ap (λ k. shape k (not s.bit) s.bit) (sym h.power_is) ∙ ap (λ x. shape s.power x s.bit) (sym h.binary_is) in
+    record {
+      multiple = One;
+      word = c.0;
+      run = run_suffix One c.0 text c.1;
+      unit = ap (option_map (multiple_shape One)) c.2 ∙ ap Some same;
+    }
+spelling_runs flags text s (inr h) =
+    let p = run_prefix h.prefix_part s.power s.binary h.prefix_is in
+    let c = count_word flags h.count_part s.bit h.count_is in
+    record {
+      multiple = p.multiple;
+      word = c.0;
+      run = ap (run unit_step start) h.text_is
+          ∙ (run_through unit_step start (scan_of p.multiple Empty) h.prefix_part h.count_part p.run
+          ∙ run_suffix p.multiple c.0 h.count_part c.1);
+      unit = ap (option_map (multiple_shape p.multiple)) c.2 ∙ ap Some (p.shape_is s.bit);
+    }
 
-run_word : (place : ParserState) (m : Multiple) (text : List ℕ) → IsWord place text
+-- each beginning of `bits` is that of a state, which has its parser state
+word_of : (place : ParserState) (m : Multiple) (text : List ℕ) → IsWord place text
     → (w : Word) × (run unit_step (scan_of m Empty) text ≡ Some (scan_of m w)) × (word_parser_state m w ≡ place)
-run_word after_b m text h =
-    let r = run_b m text h in (r.0, r.1, ⊎_elim (λ k. ap (word_parser_state m) k) (λ k. ap (word_parser_state m) k) r.2)
-run_word after_bi m text h = (Bi, run_bi m text h, refl)
-run_word after_bit m text h = (Bit, run_bit m text h, refl)
-run_word after_bits m text h = (Bits, run_bits m text h, refl)
-run_word _ m text h = absurd h
+word_of after_b m text h =
+    let l = lower_cons 98 [] text h in
+    let s = step_b m l.head l.head_is in (
+      s.0,
+      ap (run unit_step (scan_of m Empty)) (l.text_is ∙ ap (λ r. l.head ∷ r) (lower_nil l.tail l.tail_is))
+          ∙ run_step unit_step (scan_of m Empty) (scan_of m s.0) l.head [] s.2,
+      ⊎_elim (ap (word_parser_state m)) (ap (word_parser_state m)) s.1,
+    )
+word_of after_bi m text h = (Bi, run_suffix m Bi text h, refl)
+word_of after_bit m text h = (Bit, run_suffix m Bit text h, refl)
+word_of after_bits m text h = (Bits, run_suffix m Bits text h, refl)
+word_of _ m text h = absurd h
 
 run_word_front : (flags : Flags) (place : ParserState) (text : List ℕ) → IsViableWordPrefix current place text
     → IsScanned (unit_scan flags) place text
 run_word_front flags place text h =
-    ⊎_elim
-    (λ none. let r = run_word place One h.word_part h.word_is in
-    let alone : text ≡ h.word_part = h.text_is ∙ ap (λ x. x ++ h.word_part) none in
-    record { state = scan_of One r.0; run_is = ap (run unit_step start) alone ∙ r.1; place_is = r.2 })
-    (λ is_prefix. let p = run_prefix h.prefix_part is_prefix.0 is_prefix.1 is_prefix.2 in
-    let r = run_word place p.multiple h.word_part h.word_is in
-    let through = run_through unit_step start (scan_of p.multiple Empty) h.prefix_part h.word_part p.run in
+    let front : (m : Multiple) × (run unit_step start h.prefix_part ≡ Some (scan_of m Empty)) =
+    ⊎_elim (λ none. (One, ap (run unit_step start) none))
+    (λ is. let p = run_prefix h.prefix_part is.0 is.1 is.2 in (p.multiple, p.run)) h.prefix_is in
+    let word = word_of place front.0 h.word_part h.word_is in
     record {
-      state = scan_of p.multiple r.0;
-      run_is = ap (run unit_step start) h.text_is ∙ (through ∙ r.1);
-      place_is = r.2;
-    })
-    h.prefix_is
+      state = scan_of front.0 word.0;
+      run_is = ap (run unit_step start) h.text_is
+          ∙ (run_through unit_step start (scan_of front.0 Empty) h.prefix_part h.word_part front.1 ∙ word.1);
+      place_is = word.2;
+    }
 
 -- the state machine reads each viable prefix to its end, and has its parser state there
 pub unit_front_runs : (flags : Flags) (place : ParserState) (text : List ℕ) → IsViableUnitPrefix current place text
     → IsScanned (unit_scan flags) place text
-unit_front_runs flags before_unit text h = record {
-  state = start;
-  run_is = ap (run unit_step start) h;
-  place_is = refl;
-}
+unit_front_runs flags before_unit text h = record { state = start; run_is = ap (run unit_step start) h; place_is = refl }
 unit_front_runs flags after_prefix text h =
-    let p = run_prefix text h.0 h.1 h.2 in record {
-      state = scan_of p.multiple Empty;
-      run_is = p.run;
-      place_is = p.place_is;
-    }
+    let p = run_prefix text h.0 h.1 h.2 in
+    record { state = scan_of p.multiple Empty; run_is = p.run; place_is = p.place_is }
 unit_front_runs flags place text h = run_word_front flags place text h
