@@ -5,6 +5,7 @@ use Rattle.std.proofs.Common.{replicate, sym, refl}
 use Rattle.std.proofs.Common.{ap, subst, ◌∙◌, arith, append_assoc, append-nil, length-append}
 use Rattle.std.specs.Char.{digit_value}
 use Rattle.std.specs.Str.Parse.{IsNumeral, digits_value}
+use Rattle.std.proofs.lemmas.List.{replicate_more}
 use Rattle.std.proofs.lemmas.Int.Digits.{digits_value_push, digits_push}
 use Rattle.byte_unit_math.specs.Bounds.{scale, places_of_decimal}
 use Rattle.byte_unit_base.specs.Version.{current}
@@ -75,15 +76,6 @@ fraction_number w f j text r =
       number_is = refl;
     }
 
-push_last_of_three : (text number gap unit : List ℕ) (c : ℕ) → text ≡ number ++ (gap ++ unit)
-    → text ++ c ∷ [] ≡ number ++ (gap ++ (unit ++ c ∷ []))
-push_last_of_three text number gap unit c e =
-    push_last text number (gap ++ unit) c e ∙ ap (λ t. number ++ t) (append_assoc gap unit (c ∷ []))
-
-replicate_push : (n x : ℕ) → replicate n x ++ x ∷ [] ≡ replicate (suc n) x
-replicate_push zero x = refl
-replicate_push (suc n) x = ap (λ t. x ∷ t) (replicate_push n x)
-
 unit_grows : (n c : ℕ) (s : UnitScan) (t : SizeScan) (text : List ℕ) → UnitReached n s text → UnitStep n s c t
     → SizeReached t (text ++ c ∷ [])
 unit_grows n c s t text r k =
@@ -91,56 +83,35 @@ unit_grows n c s t text r k =
       number_part = r.number_part;
       spaces = r.spaces;
       unit_part = r.unit_part ++ c ∷ [];
-      text_is = push_last_of_three text r.number_part (replicate r.spaces 32) r.unit_part c r.text_is;
+      text_is = push_last text r.number_part (replicate r.spaces 32 ++ r.unit_part) c r.text_is
+          ∙ ap (λ t. r.number_part ++ t) (append_assoc (replicate r.spaces 32) r.unit_part (c ∷ []));
       number_is = r.number_is;
       reached = Reached-step s.multiple s.word k.0 c r.unit_part k.1 r.reached;
     } in
     subst (λ x. SizeReached x (text ++ c ∷ [])) k.2 (grown, omega (arith, length-append r.unit_part (c ∷ [])))
 
-number_grows : (n c : ℕ) (t : SizeScan) (text : List ℕ) → IsNumberText current text n → AfterNumber n c t
-    → SizeReached t (text ++ c ∷ [])
-number_grows n c t text h (inl k) =
+-- after a number and any number of spaces there is one space more, or the first character of a unit
+number_grows : (n spaces c : ℕ) (t : SizeScan) (text number : List ℕ) → text ≡ number ++ replicate spaces 32
+    → IsNumberText current number n → AfterNumber n c t → SizeReached t (text ++ c ∷ [])
+number_grows n spaces c t text number e h (inl k) =
     subst (λ x. SizeReached x (text ++ c ∷ [])) k.1 (record {
-      number_part = text;
-      spaces = 1;
+      number_part = number;
+      spaces = spaces + 1;
       some = omega arith;
-      text_is = ap (λ x. text ++ x ∷ []) k.0;
+      text_is = push_last text number (replicate spaces 32) c e
+          ∙ (ap (λ x. number ++ (replicate spaces 32 ++ x ∷ [])) k.0
+          ∙ ap (λ g. number ++ g) (replicate_more spaces 32));
       number_is = h;
     })
-number_grows n c t text h (inr k) =
+number_grows n spaces c t text number e h (inr k) =
     unit_grows n c unit_start t text (record {
-      number_part = text;
-      spaces = 0;
+      number_part = number;
+      spaces = spaces;
       unit_part = [];
-      text_is = sym (append-nil text);
+      text_is = e ∙ ap (λ g. number ++ g) (sym (append-nil (replicate spaces 32)));
       number_is = h;
       reached = Reached-start;
     }) k
-
-gap_grows : (n c : ℕ) (t : SizeScan) (text : List ℕ) → GapReached n text → AfterNumber n c t
-    → SizeReached t (text ++ c ∷ [])
-gap_grows n c t text r (inl k) =
-    subst (λ x. SizeReached x (text ++ c ∷ [])) k.1 (record {
-      number_part = r.number_part;
-      spaces = suc r.spaces;
-      some = omega arith;
-      text_is = push_last text r.number_part (replicate r.spaces 32) c r.text_is
-          ∙ (ap (λ x. r.number_part ++ (replicate r.spaces 32 ++ x ∷ [])) k.0
-          ∙ ap (λ g. r.number_part ++ g) (replicate_push r.spaces 32));
-      number_is = r.number_is;
-    })
-gap_grows n c t text r (inr k) =
-    unit_grows n c unit_start t text (record {
-      number_part = r.number_part;
-      spaces = r.spaces;
-      unit_part = [];
-      text_is = r.text_is ∙ ap (λ g. r.number_part ++ g) (sym (append-nil (replicate r.spaces 32)));
-      number_is = r.number_is;
-      reached = Reached-start;
-    }) k
-
-one_digit : (c : ℕ) → digits_value 10 (c ∷ []) ≡ digit_value c
-one_digit c = omega arith
 
 digits_push_is : (text : List ℕ) (c : ℕ) → IsNumeral 10 text → digit_value c < 10 → IsNumeral 10 (text ++ c ∷ [])
 digits_push_is text c h k = (omega (arith, length-append text (c ∷ [])), digits_push 10 text c h.1 k)
@@ -151,7 +122,7 @@ pub SizeReached-step : (s t : SizeScan) (c : ℕ) (text : List ℕ) → StepOf s
 SizeReached-step Beginning t c text k r =
     subst (λ x. SizeReached x (text ++ c ∷ [])) k.1
     (subst (λ x. IsWholePart current (x ++ c ∷ []) (digit_value c)) (sym r)
-    ((omega arith, (k.0, tt)), sym (one_digit c), omega (arith, k.0)))
+    ((omega arith, (k.0, tt)), omega arith, omega (arith, k.0)))
 SizeReached-step (Whole w) t c text (inl k) r =
     subst (λ x. SizeReached x (text ++ c ∷ [])) k.2
     (digits_push_is text c r.0 k.0, ap (λ x. x * 10 + digit_value c) r.1 ∙ sym (digits_value_push 10 text c), k.1)
@@ -161,7 +132,8 @@ SizeReached-step (Whole w) t c text (inr (inl k)) r =
       text_is = ap (λ x. text ++ x ∷ []) k.0;
       whole_is = r;
     })
-SizeReached-step (Whole w) t c text (inr (inr k)) r = number_grows (w * scale) c t text (inl (w, r, refl)) k
+SizeReached-step (Whole w) t c text (inr (inr k)) r = 
+    number_grows (w * scale) 0 c t text text (sym (append-nil text)) (inl (w, r, refl)) k
 SizeReached-step (Point w) t c text k r =
     subst (λ x. SizeReached x (text ++ c ∷ [])) k.1 (record {
       whole = r.whole;
@@ -169,7 +141,7 @@ SizeReached-step (Point w) t c text k r =
       text_is = push_last text r.whole (46 ∷ []) c r.text_is;
       whole_is = r.whole_is;
       numeral = (omega arith, (k.0, tt));
-      value_is = sym (one_digit c);
+      value_is = omega arith;
       length_is = refl;
       few = omega arith;
     })
@@ -185,6 +157,6 @@ SizeReached-step (Fraction w f j) t c text (inl k) r =
       few = omega (arith, k.1);
     })
 SizeReached-step (Fraction w f j) t c text (inr k) r =
-    number_grows (fixed_point w f j) c t text (inr (fraction_number w f j text r)) k
-SizeReached-step (Gap n) t c text k r = gap_grows n c t text r k
+    number_grows (fixed_point w f j) 0 c t text text (sym (append-nil text)) (inr (fraction_number w f j text r)) k
+SizeReached-step (Gap n) t c text k r = number_grows n r.spaces c t text r.number_part r.text_is r.number_is k
 SizeReached-step (UnitAt n s) t c text k r = unit_grows n c s t text r.0 k

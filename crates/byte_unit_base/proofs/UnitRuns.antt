@@ -36,31 +36,22 @@ unfolding unit_step
 step_letter_b One = (refl, refl)
 step_letter_b _ = (refl, refl)
 
-abbrev IsB : Word → Type 0
-IsB w = (w ≡ UpperB) ⊎ (w ≡ LowerB)
+-- after `b` or `B` an `i` can follow
+record BStep (m : Multiple) (c : ℕ) : Type 0 where
+  word : Word
+  step : unit_step (scan_of m Empty) c ≡ Some (scan_of m word)
+  then_i : (i : ℕ) → to_ascii_lowercase i ≡ 105 → unit_step (scan_of m word) i ≡ Some (scan_of m Bi)
+  place_is : word_parser_state m word ≡ after_b
 
-step_b : (m : Multiple) (c : ℕ) → to_ascii_lowercase c ≡ 98
-    → (w : Word) × IsB w × (unit_step (scan_of m Empty) c ≡ Some (scan_of m w))
+step_b : (m : Multiple) (c : ℕ) → to_ascii_lowercase c ≡ 98 → BStep m c
+unfolding unit_step
 step_b m c e =
     ⊎_elim
-    (λ small. (LowerB, inr refl, ap (unit_step (scan_of m Empty)) small ∙ (step_letter_b m).1))
-    (λ capital. let same : c ≡ 66 = omega arith in
-    (UpperB, inl refl, ap (unit_step (scan_of m Empty)) same ∙ (step_letter_b m).0))
+    (λ small. subst (BStep m) (sym small)
+    (record { word = LowerB; step = (step_letter_b m).1; then_i = λ i k. rw k refl; place_is = refl }))
+    (λ capital. let same : 66 ≡ c = omega arith in subst (BStep m) same
+    (record { word = UpperB; step = (step_letter_b m).0; then_i = λ i k. rw k refl; place_is = refl }))
     (from_lowercase c 98 (omega arith) (omega arith) e)
-
-step_i : (m : Multiple) (w : Word) → IsB w → (c : ℕ) → to_ascii_lowercase c ≡ 105
-    → unit_step (scan_of m w) c ≡ Some (scan_of m Bi)
-unfolding unit_step
-step_i m w (inl h) c e = rw (h, e) refl
-step_i m w (inr h) c e = rw (h, e) refl
-
-step_t : (m : Multiple) (c : ℕ) → to_ascii_lowercase c ≡ 116 → unit_step (scan_of m Bi) c ≡ Some (scan_of m Bit)
-unfolding unit_step
-step_t m c e = rw e refl
-
-step_s : (m : Multiple) (c : ℕ) → to_ascii_lowercase c ≡ 115 → unit_step (scan_of m Bit) c ≡ Some (scan_of m Bits)
-unfolding unit_step
-step_s m c e = rw e refl
 
 -- if each letter of this lower case leads to the next state, a text of this lower case is read from there
 run_lower : (s t : UnitScan) (end : Option UnitScan) (x : ℕ) (xs text : List ℕ)
@@ -76,30 +67,34 @@ run_nothing s text e = ap (run unit_step s) (lower_nil text e)
 
 -- the letter `b` or `B` is read after any prefix
 run_b : (end : Option UnitScan) (m : Multiple) (rest text : List ℕ)
-    → ((w : Word) → IsB w → (tail : List ℕ) → str_to_ascii_lowercase tail ≡ rest → run unit_step (scan_of m w) tail ≡ end)
+    → ((c : ℕ) (b : BStep m c) (tail : List ℕ) → str_to_ascii_lowercase tail ≡ rest
+    → run unit_step (scan_of m b.word) tail ≡ end)
     → str_to_ascii_lowercase text ≡ 98 ∷ rest → run unit_step (scan_of m Empty) text ≡ end
 run_b end m rest text next e =
     let l = lower_cons 98 rest text e in
-    let s = step_b m l.head l.head_is in
+    let b = step_b m l.head l.head_is in
     ap (run unit_step (scan_of m Empty)) l.text_is
-    ∙ (run_step unit_step (scan_of m Empty) (scan_of m s.0) l.head l.tail s.2 ∙ next s.0 s.1 l.tail l.tail_is)
+    ∙ (run_step unit_step (scan_of m Empty) (scan_of m b.word) l.head l.tail b.step
+    ∙ next l.head b l.tail l.tail_is)
 
 -- a suffix, and `bi`, is read after any prefix
 run_suffix : (m : Multiple) (w : Word) (text : List ℕ) → IsWordText w text
     → run unit_step (scan_of m Empty) text ≡ Some (scan_of m w)
+unfolding unit_step
 run_suffix m Empty text h = ap (run unit_step (scan_of m Empty)) h
 run_suffix m UpperB text h =
     ap (run unit_step (scan_of m Empty)) h ∙ run_step unit_step (scan_of m Empty) (scan_of m UpperB) 66 [] (step_letter_b m).0
 run_suffix m LowerB text h =
     ap (run unit_step (scan_of m Empty)) h ∙ run_step unit_step (scan_of m Empty) (scan_of m LowerB) 98 [] (step_letter_b m).1
 run_suffix m Bi text h =
-    run_b _ m (codes "i") text (λ w b i. run_lower _ _ _ 105 [] i (step_i m w b) (run_nothing (scan_of m Bi))) h
+    run_b _ m (codes "i") text (λ c b i. run_lower _ _ _ 105 [] i b.then_i (run_nothing (scan_of m Bi))) h
 run_suffix m Bit text h =
-    run_b _ m (codes "it") text (λ w b it. run_lower _ _ _ 105 (codes "t") it (step_i m w b)
-    (λ t. run_lower _ _ _ 116 [] t (step_t m) (run_nothing (scan_of m Bit)))) h
+    run_b _ m (codes "it") text (λ c b it. run_lower _ _ _ 105 (codes "t") it b.then_i
+    (λ t. run_lower _ _ _ 116 [] t (λ c e. rw e refl) (run_nothing (scan_of m Bit)))) h
 run_suffix m Bits text h =
-    run_b _ m (codes "its") text (λ w b its. run_lower _ _ _ 105 (codes "ts") its (step_i m w b)
-    (λ ts. run_lower _ _ _ 116 (codes "s") ts (step_t m) (λ s. run_lower _ _ _ 115 [] s (step_s m) (run_nothing (scan_of m Bits))))) h
+    run_b _ m (codes "its") text (λ c b its. run_lower _ _ _ 105 (codes "ts") its b.then_i
+    (λ ts. run_lower _ (scan_of m Bit) _ 116 (codes "s") ts (λ c e. rw e refl)
+    (λ s. run_lower _ _ _ 115 [] s (λ c e. rw e refl) (run_nothing (scan_of m Bits))))) h
 
 -- each suffix is that of a state, and means bits or bytes there
 count_word : (flags : Flags) (text : List ℕ) (bit : Bool) → SpellsCount flags text bit
@@ -114,11 +109,6 @@ count_word flags text bit (inr (inr (inr (inr h)))) = (Bits, h.0, ap Some (sym h
 step_prefix : (c : ℕ) (p : Prefix) → prefix_at c ≡ Some p → unit_step start c ≡ Some (scan_of (Decimal p) Empty)
 unfolding unit_step
 step_prefix c p e = rw (e, prefix_at) refl
-
-step_infix : (p : Prefix) (c : ℕ) → to_ascii_lowercase c ≡ 105
-    → unit_step (scan_of (Decimal p) Empty) c ≡ Some (scan_of (Binary p) Empty)
-unfolding unit_step
-step_infix p c e = rw e refl
 
 -- each prefix letter of the version is that of a prefix of the code, with the same index
 letter_prefix : (c power : ℕ) → IsPrefixLetter current power c
@@ -145,6 +135,7 @@ record RunsToPrefix (text : List ℕ) (power : ℕ) (binary : Bool) : Type 0 whe
 -- the letter of a prefix is followed by an `i` or by nothing
 run_letter : (p : Prefix) (c : ℕ) (rest : List ℕ) (binary : Bool) → prefix_at c ≡ Some p → SpellsBinary rest binary
     → RunsToPrefix (c ∷ rest) (power_of p) binary
+unfolding unit_step
 run_letter p c rest binary e (inl h) = record {
   multiple = Decimal p;
   run = run_step unit_step start (scan_of (Decimal p) Empty) c rest (step_prefix c p e)
@@ -155,7 +146,7 @@ run_letter p c rest binary e (inl h) = record {
 run_letter p c rest binary e (inr h) = record {
   multiple = Binary p;
   run = run_step unit_step start (scan_of (Decimal p) Empty) c rest (step_prefix c p e)
-      ∙ run_lower _ _ _ 105 [] rest (step_infix p) (run_nothing (scan_of (Binary p) Empty)) h.0;
+      ∙ run_lower _ _ _ 105 [] rest (λ i k. rw k refl) (run_nothing (scan_of (Binary p) Empty)) h.0;
   shape_is = λ bit. ap (λ x. shape (power_of p) x bit) (sym h.1);
   place_is = refl;
 }
@@ -205,11 +196,11 @@ word_of : (place : ParserState) (m : Multiple) (text : List ℕ) → IsWord plac
     → (w : Word) × (run unit_step (scan_of m Empty) text ≡ Some (scan_of m w)) × (word_parser_state m w ≡ place)
 word_of after_b m text h =
     let l = lower_cons 98 [] text h in
-    let s = step_b m l.head l.head_is in (
-      s.0,
+    let b = step_b m l.head l.head_is in (
+      b.word,
       ap (run unit_step (scan_of m Empty)) (l.text_is ∙ ap (λ r. l.head ∷ r) (lower_nil l.tail l.tail_is))
-          ∙ run_step unit_step (scan_of m Empty) (scan_of m s.0) l.head [] s.2,
-      ⊎_elim (ap (word_parser_state m)) (ap (word_parser_state m)) s.1,
+          ∙ run_step unit_step (scan_of m Empty) (scan_of m b.word) l.head [] b.step,
+      b.place_is,
     )
 word_of after_bi m text h = (Bi, run_suffix m Bi text h, refl)
 word_of after_bit m text h = (Bit, run_suffix m Bit text h, refl)
