@@ -1,10 +1,10 @@
 -- The steps of the state machine of sizes by cases.
 use Rattle.std.proofs.Common.{◌≡◌, ℕ, ◌+◌, ◌*◌, ◌<◌, ◌⊎◌, inl, inr, ⊎_elim, Some, None, refl, Bool}
-use Rattle.std.proofs.Common.{true, false, cond}
+use Rattle.std.proofs.Common.{arith}
 use Rattle.std.proofs.Common.{eqb, ltb}
 use Rattle.std.specs.Option.{option_map}
 use Rattle.std.specs.Char.{digit_value}
-use Rattle.std.proofs.lemmas.Bool.{ltb-true}
+use Rattle.std.proofs.lemmas.Bool.Decides.{nat_tests}
 use Rattle.byte_unit_math.specs.Bounds.{scale, places_of_decimal, whole_limit}
 use Rattle.byte_unit_base.specs.UnitScan.{unit_step, start as unit_start}
 use Rattle.byte_unit_base.specs.SizeScan.{size_step, after_number, fixed_point, is_digit}
@@ -36,35 +36,15 @@ StepOf (Fraction w f j) c t =
 StepOf (Gap n) c t = AfterNumber n c t
 StepOf (UnitAt n s) c t = UnitStep n s c t
 
-cond_cases : {X : Type 0} (t : Bool) (x y z : X) → cond t x y ≡ z → ((t ≡ true) × (x ≡ z)) ⊎ ((t ≡ false) × (y ≡ z))
-cond_cases true x y z e = inl (refl, e)
-cond_cases false x y z e = inr (refl, e)
-
 after_number_cases : (n c : ℕ) (t : SizeScan) → after_number n c ≡ Some t → AfterNumber n c t
-after_number_cases n c t e =
-    ⊎_elim (λ h. inl (eq_if_test_true _ _ h.0, cc)) (λ h. inr (some_mapped (UnitAt n) t (unit_step unit_start c) h.1))
-    (cond_cases (eqb c 32) (Some (Gap n)) (option_map (UnitAt n) (unit_step unit_start c)) (Some t) e)
+after_number_cases n c t e = grind (arith, nat_tests, some_mapped)
 
 -- if a state has a step for a character, one of its cases holds
 pub step_cases : (s t : SizeScan) (c : ℕ) → size_step s c ≡ Some t → StepOf s c t
 unfolding size_step
-step_cases Beginning t c e = let g = guard_some (is_digit c) (Whole (digit_value c)) t e in (ltb-true _ _ g.0, g.1)
-step_cases (Whole w) t c e =
-    ⊎_elim (λ h. let g = guard_some (ltb (w * 10 + digit_value c) whole_limit)
-    (Whole (w * 10 + digit_value c)) t h.1 in inl
-    (ltb-true _ _ h.0, ltb-true _ _ g.0, g.1))
-    (λ h. inr (⊎_elim (λ k. inl (eq_if_test_true _ _ k.0, cc)) (λ k. inr (after_number_cases (w * scale) c t k.1))
-    (cond_cases (eqb c 46) (Some (Point w)) (after_number (w * scale) c) (Some t) h.1)))
-    (cond_cases (is_digit c) (cond (ltb (w * 10 + digit_value c) whole_limit)
-    (Some (Whole (w * 10 + digit_value c))) None)
-    (cond (eqb c 46) (Some (Point w)) (after_number (w * scale) c)) (Some t) e)
-step_cases (Point w) t c e =
-    let g = guard_some (is_digit c) (Fraction w (digit_value c) 1) t e in (ltb-true _ _ g.0, g.1)
-step_cases (Fraction w f j) t c e =
-    ⊎_elim (λ h. let g = guard_some (ltb j places_of_decimal) (Fraction w (f * 10 + digit_value c) (j + 1)) t h.1 in inl
-    (ltb-true _ _ h.0, ltb-true _ _ g.0, g.1))
-    (λ h. inr (after_number_cases (fixed_point w f j) c t h.1))
-    (cond_cases (is_digit c) (cond (ltb j places_of_decimal) (Some (Fraction w (f * 10 + digit_value c) (j + 1))) None)
-    (after_number (fixed_point w f j) c) (Some t) e)
+step_cases Beginning t c e = grind (arith, nat_tests)
+step_cases (Whole w) t c e = grind (arith, nat_tests, after_number_cases)
+step_cases (Point w) t c e = grind (arith, nat_tests)
+step_cases (Fraction w f j) t c e = grind (arith, nat_tests, after_number_cases)
 step_cases (Gap n) t c e = after_number_cases n c t e
 step_cases (UnitAt n s) t c e = some_mapped (UnitAt n) t (unit_step s c) e
