@@ -16,32 +16,24 @@ use Rattle.byte_unit_base.proofs.Options.{some_passed}
 -- the state after a text
 
 module _ {S : Type 0} (step : S → ℕ → Option S) where
-  run_append_from : (xs ys : List ℕ) → ((t : S)
-      → run step t (xs ++ ys) ≡ option_and_then (λ u. run step u ys) (run step t xs))
-      → (o : Option S) → option_and_then (λ t. run step t (xs ++ ys)) o ≡ option_and_then (λ u. run step u ys)
-      (option_and_then (λ t. run step t xs) o)
-  run_append_from xs ys next None = refl
-  run_append_from xs ys next (Some t) = next t
-
-  -- the state after two texts is that after the second, from the state after the first
-  pub run-append : (s : S) (xs ys : List ℕ)
-      → run step s (xs ++ ys) ≡ option_and_then (λ u. run step u ys) (run step s xs)
-  run-append s [] ys = refl
-  run-append s (c ∷ xs) ys = run_append_from xs ys (λ t. run-append t xs ys) (step s c)
-
-  -- if there is a state after the first of two texts, the second is read from there
-  pub run_through : (s t : S) (xs ys : List ℕ) → run step s xs ≡ Some t → run step s (xs ++ ys) ≡ run step t ys
-  run_through s t xs ys e = run-append s xs ys ∙ ap (option_and_then (λ u. run step u ys)) e
-
   -- if the first character has a step, the rest is read from the next state
   pub run_step : (s t : S) (c : ℕ) (xs : List ℕ) → step s c ≡ Some t → run step s (c ∷ xs) ≡ run step t xs
   run_step s t c xs e = ap (option_and_then (λ u. run step u xs)) e
 
+  -- if there is a state after the first of two texts, the second is read from there
+  pub run_through : (s t : S) (xs ys : List ℕ) → run step s xs ≡ Some t → run step s (xs ++ ys) ≡ run step t ys
+  run_through s t [] ys e = let same : s ≡ t = cc in ap (λ u. run step u ys) same
+  run_through s t (c ∷ xs) ys e =
+      let u = some_passed (λ v. run step v xs) t (step s c) e in
+      run_step s u.0 c (xs ++ ys) u.1 ∙ run_through u.0 t xs ys u.2
+
   -- there is a state after the beginning of a text, if there is one after the text
   pub run_before : (s u : S) (xs ys : List ℕ) → run step s (xs ++ ys) ≡ Some u → (t : S) × (run step s xs ≡ Some t)
-  run_before s u xs ys e =
-      let t = some_passed (λ v. run step v ys) u (run step s xs) (sym (run-append s xs ys) ∙ e) in
-      (t.0, t.1)
+  run_before s u [] ys e = (s, refl)
+  run_before s u (c ∷ xs) ys e =
+      let next = some_passed (λ v. run step v (xs ++ ys)) u (step s c) e in
+      let t = run_before next.0 u xs ys next.2 in
+      (t.0, run_step s next.0 c xs next.1 ∙ t.1)
 
 module _ {S : Type 0} (step : S → ℕ → Option S) (Holds : S → List ℕ → Type 0)
     (keeps : (s t : S) (c : ℕ) (text : List ℕ) → step s c ≡ Some t → Holds s text → Holds t (text ++ c ∷ [])) where
@@ -58,41 +50,6 @@ module _ {S : Type 0} (step : S → ℕ → Option S) where
   abbrev pub CannotStep : S → List ℕ → Type 0
   CannotStep s [] = ⊤
   CannotStep s (c ∷ rest) = step s c ≡ None
-
-  -- where a state machine stops in a text: at its end, or before the first character that has no step. The error of an
-  -- input that is not in the grammar rests on it
-  pub record Stop (s : S) (text : List ℕ) : Type 0 where
-    pub front : List ℕ
-    pub rest : List ℕ
-    pub state : S
-    pub text_is : text ≡ front ++ rest
-    pub run_is : run step s front ≡ Some state
-    pub stops : CannotStep state rest
-
-  stop_after : (s : S) (c : ℕ) (cs : List ℕ) → ((t : S) → Stop t cs) → (o : Option S) → step s c ≡ o → Stop s (c ∷ cs)
-  stop_after s c cs next None e = record {
-    front = [];
-    rest = c ∷ cs;
-    state = s;
-    text_is = refl;
-    run_is = refl;
-    stops = e;
-  }
-  stop_after s c cs next (Some t) e =
-      let n = next t in
-      record {
-        front = c ∷ n.front;
-        rest = n.rest;
-        state = n.state;
-        text_is = ap (λ x. c ∷ x) n.text_is;
-        run_is = run_step step s t c n.front e ∙ n.run_is;
-        stops = n.stops;
-      }
-
-  -- a state machine stops at exactly such a place in each text
-  pub stop_of : (s : S) (text : List ℕ) → Stop s text
-  stop_of s [] = record { front = []; rest = []; state = s; text_is = refl; run_is = refl; stops = tt }
-  stop_of s (c ∷ cs) = stop_after s c cs (λ t. stop_of t cs) (step s c) refl
 
 module _ {S Meaning : Type 0} (scan : Scan S Meaning) where
   -- if the next character has a step, the result is that of the rest from the next state
@@ -173,6 +130,10 @@ module _ {S Meaning : Type 0} {scan : Scan S Meaning} {Reached : S → List ℕ 
   reached : (text : List ℕ) (s : S) → run scan.step scan.start text ≡ Some s → Reached s text
   reached text s e = run_keeps scan.step Reached is.steps text [] scan.start s e is.starts
 
+  -- the result is a meaning of the text, or its error
+  abbrev Answers : List ℕ → Result Meaning Fault → Type 0
+  Answers text = IsAnswer (Means text) (IsFirstFault IsViable current scan.flags text)
+
   -- if the state machine stops after a text, no longer beginning of the input is a viable prefix
   no_longer_front : (s : S) (front rest : List ℕ) → run scan.step scan.start front ≡ Some s
       → CannotStep scan.step s rest
@@ -181,68 +142,56 @@ module _ {S Meaning : Type 0} {scan : Scan S Meaning} {Reached : S → List ℕ 
   no_longer_front s front [] e stops farther (x ∷ xs) others r f = absurd (let k : ⊥ = cc in k)
   no_longer_front s front (c ∷ cs) e stops farther (x ∷ xs) others r f =
       let g = is.front_read farther (front ++ x ∷ xs) f in
-      let same : c ≡ x = cc in
-      let gone : run scan.step s (x ∷ xs) ≡ None =
-      ap (option_and_then (λ u. run scan.step u xs)) (ap (scan.step s) (sym same) ∙ stops) in
-      let both : Some g.state ≡ None = sym g.run_is ∙ (run_through scan.step scan.start s front (x ∷ xs) e ∙ gone) in
-      absurd (let k : ⊥ = cc in k)
+      let through = run_through scan.step scan.start s front (x ∷ xs) e in
+      absurd (let k : ⊥ = cc (g.run_is, through) in k)
 
   -- the error where the state machine stops is the error of the input
-  first_fault : (text : List ℕ) (stop : Stop scan.step scan.start text) (fault : Fault)
-      → IsFaultAfter current scan.flags (scan.place stop.state) stop.rest fault
+  first_fault : (s : S) (text front rest : List ℕ) (fault : Fault) → text ≡ front ++ rest
+      → run scan.step scan.start front ≡ Some s
+      → CannotStep scan.step s rest → IsFaultAfter current scan.flags (scan.place s) rest fault
       → IsFirstFault IsViable current scan.flags text fault
-  first_fault text stop fault h = record {
-    place = scan.place stop.state;
-    front = stop.front;
-    rest = stop.rest;
+  first_fault s text front rest fault t e stops h = record {
+    place = scan.place s;
+    front = front;
+    rest = rest;
     longest = record {
-      text_is = stop.text_is;
-      is_front = is.front stop.state stop.front (reached stop.front stop.state stop.run_is);
-      longest = no_longer_front stop.state stop.front stop.rest stop.run_is stop.stops;
+      text_is = t;
+      is_front = is.front s front (reached front s e);
+      longest = no_longer_front s front rest e stops;
     };
     fault_is = h;
   }
 
-  answer_at_end : (s : S) (text : List ℕ) → run scan.step scan.start text ≡ Some s → (o : Option Fault)
-      → fault_at_end (scan.place s) ≡ o
-      → EndsIn (Means text) o (scan.at_end s)
-      → IsAnswer (Means text) (IsFirstFault IsViable current scan.flags text) (scan.at_end s)
-  answer_at_end s text e None at ends =
-      subst (IsAnswer (Means text) (IsFirstFault IsViable current scan.flags text)) (sym ends.2) ends.1
-  answer_at_end s text e (Some fault) at ends =
-      let stop : Stop scan.step scan.start text =
-      record { front = text; rest = []; state = s; text_is = sym (append-nil text); run_is = e; stops = tt } in
-      subst (IsAnswer (Means text) (IsFirstFault IsViable current scan.flags text)) (sym ends)
-      (first_fault text stop fault at)
+  answer_at_end : (s : S) (text front : List ℕ) → text ≡ front ++ [] → run scan.step scan.start front ≡ Some s
+      → (o : Option Fault) → fault_at_end (scan.place s) ≡ o → EndsIn (Means text) o (scan.at_end s)
+      → Answers text (scan.at_end s)
+  answer_at_end s text front t e None at ends = subst (Answers text) (sym ends.2) ends.1
+  answer_at_end s text front t e (Some fault) at ends =
+      subst (Answers text) (sym ends) (first_fault s text front [] fault t e tt at)
 
-  answer_where_stopped : (s : S) (text front rest : List ℕ) → text ≡ front ++ rest
-      → run scan.step scan.start front ≡ Some s
-      → CannotStep scan.step s rest → IsAnswer (Means text) (IsFirstFault IsViable current scan.flags text)
-      (read scan s rest)
-  answer_where_stopped s text front [] t e stops =
-      let IsAnswerFor : List ℕ → Type 0 =
-      λ x. IsAnswer (Means x) (IsFirstFault IsViable current scan.flags x) (scan.at_end s) in
-      let here = answer_at_end s front e (fault_at_end (scan.place s)) refl (is.ends s front (reached front s e)) in
-      subst IsAnswerFor (sym (t ∙ append-nil front)) here
-  answer_where_stopped s text front (c ∷ cs) t e stops =
-      let IsAnswerFor : Result Meaning Fault → Type 0 =
-      IsAnswer (Means text) (IsFirstFault IsViable current scan.flags text) in
-      let stop : Stop scan.step scan.start text =
-      record { front = front; rest = c ∷ cs; state = s; text_is = t; run_is = e; stops = stops } in
-      subst IsAnswerFor (sym (read_none scan s c cs stops))
-      (first_fault text stop (fault_at current scan.flags (scan.place s) c) refl)
+  answer_by_step : (s : S) (text front : List ℕ) (c : ℕ) (cs : List ℕ) → text ≡ front ++ c ∷ cs
+      → run scan.step scan.start front ≡ Some s → (o : Option S) → scan.step s c ≡ o
+      → ((t : S) → scan.step s c ≡ Some t → Answers text (read scan t cs)) → Answers text (read scan s (c ∷ cs))
+  answer_by_step s text front c cs t e None stops next =
+      subst (Answers text) (sym (read_none scan s c cs stops)) (first_fault s text front (c ∷ cs) _ t e stops refl)
+  answer_by_step s text front c cs t e (Some u) goes next =
+      subst (Answers text) (sym (read_some scan s u c cs goes)) (next u goes)
+
+  answer_from : (s : S) (text front rest : List ℕ) → text ≡ front ++ rest → run scan.step scan.start front ≡ Some s
+      → Answers text (read scan s rest)
+  answer_from s text front [] t e =
+      let whole : front ≡ text = sym (t ∙ append-nil front) in
+      answer_at_end s text front t e (fault_at_end (scan.place s)) refl
+      (is.ends s text (subst (Reached s) whole (reached front s e)))
+  answer_from s text front (c ∷ cs) t e =
+      answer_by_step s text front c cs t e (scan.step s c) refl
+      (λ u goes. answer_from u text (front ++ c ∷ []) cs (t ∙ sym (push_append front cs c))
+      (run_through scan.step scan.start s front (c ∷ []) e ∙ run_step scan.step s u c [] goes))
 
   -- the result for an input is its meaning or its error
   pub reads_meaning_or_fault : (text : List ℕ)
       → IsAnswer (Means text) (IsFirstFault IsViable current scan.flags text) (read scan scan.start text)
-  reads_meaning_or_fault text =
-      let stop = stop_of scan.step scan.start text in
-      let IsItsAnswer : Result Meaning Fault → Type 0 =
-      IsAnswer (Means text) (IsFirstFault IsViable current scan.flags text) in
-      let same = ap (read scan scan.start) stop.text_is
-      ∙ read_through scan scan.start stop.state stop.front stop.rest stop.run_is in
-      subst IsItsAnswer (sym same) (answer_where_stopped stop.state text stop.front stop.rest stop.text_is stop.run_is
-      stop.stops)
+  reads_meaning_or_fault text = answer_from scan.start text [] text refl refl
 
   -- the result for an input that has a meaning is this meaning
   pub reads_meaning : (text : List ℕ) (meaning : Meaning) → Means text meaning → read scan scan.start text ≡ Ok meaning
@@ -250,25 +199,18 @@ module _ {S Meaning : Type 0} {scan : Scan S Meaning} {Reached : S → List ℕ 
       let r = is.meaning_read text meaning h in
       ap (read scan scan.start) (sym (append-nil text)) ∙ (read_through scan scan.start r.0 text [] r.1 ∙ r.2)
 
-  fault_of_end : (Here : Meaning → Type 0) (o : Option Fault) (answer : Result Meaning Fault) (fault : Fault)
-      → EndsIn Here o answer
-      → o ≡ Some fault → answer ≡ Err fault
-  fault_of_end Here None answer fault ends e = absurd (let k : ⊥ = cc in k)
-  fault_of_end Here (Some other) answer fault ends e = let same : other ≡ fault = cc in ends ∙ ap Err same
-
   -- no character has a step after the longest viable prefix
   no_step : (s : S) (front cs : List ℕ) (c : ℕ) → Reached s front → NoLongerFront IsViable front (c ∷ cs)
       → (o : Option S) → scan.step s c ≡ o → scan.step s c ≡ None
   no_step s front cs c r longest None e = e
   no_step s front cs c r longest (Some t) e =
-      let none : c ∷ [] ≡ [] = longest (scan.place t) (c ∷ []) cs refl
-      (is.front t (front ++ c ∷ []) (is.steps s t c front e r)) in
+      let none = longest (scan.place t) (c ∷ []) cs refl (is.front t (front ++ c ∷ []) (is.steps s t c front e r)) in
       absurd (let k : ⊥ = cc in k)
 
   fault_of_rest : (s : S) (front rest : List ℕ) (fault : Fault) → Reached s front → NoLongerFront IsViable front rest
       → IsFaultAfter current scan.flags (scan.place s) rest fault → read scan s rest ≡ Err fault
   fault_of_rest s front [] fault r longest h =
-      fault_of_end (Means front) (fault_at_end (scan.place s)) (scan.at_end s) fault (is.ends s front r) h
+      subst (λ o. EndsIn (Means front) o (scan.at_end s)) h (is.ends s front r)
   fault_of_rest s front (c ∷ cs) fault r longest h =
       read_none scan s c cs (no_step s front cs c r longest (scan.step s c) refl) ∙ ap Err (sym h)
 
@@ -283,8 +225,7 @@ module _ {S Meaning : Type 0} {scan : Scan S Meaning} {Reached : S → List ℕ 
       ap (read scan scan.start) h.longest.text_is
       ∙ (read_through scan scan.start r.state h.front h.rest r.run_is ∙ rest)
 
-  some_answer : (text : List ℕ) (answer : Result Meaning Fault)
-      → IsAnswer (Means text) (IsFirstFault IsViable current scan.flags text) answer
+  some_answer : (text : List ℕ) (answer : Result Meaning Fault) → Answers text answer
       → ((meaning : Meaning) × Means text meaning)
       ⊎ ((fault : Fault) × IsFirstFault IsViable current scan.flags text fault)
   some_answer text (Ok meaning) h = inl (meaning, h)
@@ -303,13 +244,8 @@ module _ {S Meaning : Type 0} {scan : Scan S Meaning} {Reached : S → List ℕ 
   front_begins text place h =
       let r = is.front_read place text h in
       let g = is.goes_on r.state in
-      let whole = text ++ g.0 in
-      let e = read_through scan scan.start r.state text g.0 r.run_is ∙ g.2 in (
-        g.0,
-        g.1,
-        subst (IsAnswer (Means whole) (IsFirstFault IsViable current scan.flags whole)) e
-            (reads_meaning_or_fault whole),
-      )
+      let e = read_through scan scan.start r.state text g.0 r.run_is ∙ g.2 in
+      (g.0, g.1, subst (Answers (text ++ g.0)) e (reads_meaning_or_fault (text ++ g.0)))
 
   beginning_is_front : (text rest : List ℕ) (meaning : Meaning) → Means (text ++ rest) meaning
       → (place : ParserState) × IsViable place text
@@ -327,18 +263,14 @@ module _ {S Meaning : Type 0} {scan : Scan S Meaning} {Reached : S → List ℕ 
     -- what a parser returns, if it returns the result of the state machine, is a meaning of the input
     pub read_found : (r : Result R E) → map_result meaning fault r ≡ read scan scan.start text
         → IfOk r (λ value. Means text (meaning value))
-    read_found (Ok value) e =
-        subst (IsAnswer (Means text) (IsFirstFault IsViable current scan.flags text)) (sym e)
-        (reads_meaning_or_fault text)
+    read_found (Ok value) e = subst (Answers text) (sym e) (reads_meaning_or_fault text)
     read_found (Err error) e = tt
 
     -- the error that a parser returns, if it returns the result of the state machine, is that of the input
     pub read_refused : (r : Result R E) → map_result meaning fault r ≡ read scan scan.start text
         → IfErr r (λ error. IsFirstFault IsViable current scan.flags text (fault error))
     read_refused (Ok value) e = tt
-    read_refused (Err error) e =
-        subst (IsAnswer (Means text) (IsFirstFault IsViable current scan.flags text)) (sym e)
-        (reads_meaning_or_fault text)
+    read_refused (Err error) e = subst (Answers text) (sym e) (reads_meaning_or_fault text)
 
     -- if the input has a meaning, a parser that returns the result of the state machine returns it
     pub read_meant : (r : Result R E) (m : Meaning) → map_result meaning fault r ≡ read scan scan.start text → Means text m
