@@ -1,9 +1,9 @@
 -- The parser of an adjusted size as a function: the unit that it computes is the appropriate one.
 use Rattle.std.proofs.Common.{◌≡◌, ℕ, ◌*◌, ◌≤◌, Bool, true, false, List, [], ◌∷◌, Result, Ok, Err, refl, sym, ap, ◌∙◌}
-use Rattle.std.proofs.Common.{◌+◌, arith, cond, ◌⊎◌, ⊎_elim, inl, inr, IfOk}
-use Rattle.std.specs.Prelude.{nat_le}
+use Rattle.std.proofs.Common.{leb, arith, ⊎_elim, inl, inr, IfOk}
+use Rattle.std.specs.List.{AllByRecursion}
 use Rattle.std.specs.Result.{result_map_both}
-use Rattle.std.proofs.lemmas.Bool.{and_parts}
+use Rattle.std.proofs.lemmas.Bool.{and_parts, cases_lt, cond-true, cond-false, le-leb, lt-leb}
 use Rattle.byte_unit_math.specs.Bounds.{unit_limit}
 use Rattle.byte_unit_base.specs.Shape.{Shape, bits}
 use Rattle.byte_unit_base.specs.Units.{shape_of}
@@ -11,7 +11,10 @@ use Rattle.byte_unit_base.specs.UnitLists.{unit_of_shape}
 use Rattle.byte_unit_base.specs.Errors.{size_fault}
 use Rattle.byte_unit_base.specs.Kinds.{bits_in, own_unit, own_family}
 use Rattle.byte_unit_base.specs.UnitLists.{units_of_prefixes, prefix_count}
-use Rattle.byte_unit_base.specs.Choice.{IsLargestOrOwn, IsEligibleUnit, IsAppropriate}
+use Rattle.byte_unit_base.specs.Choice.{IsLargest, IsLargestOrOwn, NoneHas, IsEligibleUnit, IsAppropriate}
+use Rattle.byte_unit_base.specs.Version.{current}
+use Rattle.byte_unit_base.specs.Family.{InFamily}
+use Rattle.byte_unit_base.specs.declared.unit.family.Family.{Family}
 use Rattle.byte_unit_base.specs.AdjustedSize.{AdjustedSize, IsAdjustedReading, size_answer}
 use Rattle.byte_unit_base.specs.Parsed.{parsed_size}
 use Rattle.byte_unit_base.specs.ParsedAdjusted.{first_not_above, largest_unit_of, in_largest_unit_of, parsed_adjusted}
@@ -21,94 +24,64 @@ use Rattle.byte_unit_base.specs.declared.unit.Unit.{Unit as UnitName}
 use Rattle.byte_unit_base.specs.declared.unit.unit_type.UnitType.TheVariants.{Both}
 use Rattle.byte_unit_base.proofs.Computed.{unit_of_its_shape}
 use Rattle.byte_unit_base.proofs.OneChoice.{same_unit}
-use Rattle.byte_unit_base.proofs.Falling.{IsIn, falls, in_falling, from_falling, le_of_falls, current_falls}
+use Rattle.byte_unit_base.proofs.Falling.{IsIn, falls, in_falling, all_in_family, le_of_falls, current_falls}
 
-module _ (in_bits : ℕ) (own unit : Shape) where
-  -- the unit is not above the size, and none of the list that is not above it is larger; each has a prefix
-  record IsFirst (units : List Shape) : Type 0 where
-    some : 1 ≤ unit.power
-    not_above : bits unit ≤ in_bits
-    prefixes : (other : Shape) → IsIn other units → 1 ≤ other.power
-    largest : (other : Shape) → IsIn other units → bits other ≤ in_bits → bits other ≤ bits unit
-
-  first_or_later : (not_above : Bool) (x : Shape) (xs : List Shape) (bound : ℕ) → nat_le (bits x) in_bits ≡ not_above
-      → falls (bits x) xs ≡ true → IsFirst (x ∷ xs) → (x ≡ unit) ⊎ IsIn unit xs
-      → (IsIn unit xs → first_not_above in_bits own xs ≡ unit)
-      → cond not_above x (first_not_above in_bits own xs) ≡ unit
-  first_or_later true x xs bound e falls first among later =
-      ⊎_elim
-      (λ same. same)
-      (λ after.
-      let low = le_of_falls xs (bits x) unit falls after in
-      let high = first.largest x (inl refl) (grind (arith, e)) in
-      same_unit x unit (first.prefixes x (inl refl)) first.some (omega (arith, low, high)))
-      among
-  first_or_later false x xs bound e falls first among later =
-      ⊎_elim
-      (λ same. let at : bits x ≡ bits unit = ap bits same in
-      let above : in_bits + 1 ≤ bits x = grind (arith, e) in
-      absurd (omega (arith, at, first.not_above, above)))
-      later
-      among
+module _ (family : Family) (in_bits : ℕ) (own : Shape) where
+  eligible : (unit : Shape) → InFamily current family unit → bits unit ≤ in_bits
+      → IsEligibleUnit family Both in_bits unit
+  eligible unit member not_above = record { member = member; of_type = tt; not_above = not_above }
 
   -- in a falling list, the first unit that is not above the size is the largest
-  first_is_largest : (units : List Shape) (bound : ℕ) → falls bound units ≡ true → IsFirst units → IsIn unit units
-      → first_not_above in_bits own units ≡ unit
-  first_is_largest [] bound fall first among = absurd among
-  first_is_largest (x ∷ xs) bound fall first among =
-      let parts = and_parts _ _ fall in
-      let rest : IsFirst xs = record {
-        some = first.some;
-        not_above = first.not_above;
-        prefixes = λ other i. first.prefixes other (inr i);
-        largest = λ other i. first.largest other (inr i);
-      } in
-      first_or_later (nat_le (bits x) in_bits) x xs bound refl parts.1 first among
-      (λ after. first_is_largest xs (bits x) parts.1 rest after)
-
-module _ (in_bits : ℕ) (own : Shape) where
-  own_or_later : (not_above : Bool) (x rest : Shape) → nat_le (bits x) in_bits ≡ not_above
-      → ¬ (bits x ≤ in_bits) → rest ≡ own → cond not_above x rest ≡ own
-  own_or_later true x rest e none later = absurd (none (grind (arith, e)))
-  own_or_later false x rest e none later = later
+  first_is_largest : (unit : Shape) → IsLargest (IsEligibleUnit family Both in_bits) unit
+      → (units : List Shape) (bound : ℕ) → falls bound units ≡ true → AllByRecursion (InFamily current family) units
+      → IsIn unit units → first_not_above in_bits own units ≡ unit
+  first_is_largest unit largest [] bound fall members among = absurd among
+  first_is_largest unit largest (x ∷ xs) bound fall members among =
+      let parts = and_parts (leb (bits x) bound) (falls (bits x) xs) fall in
+      ⊎_elim
+      (λ above. cond-false _ x (first_not_above in_bits own xs) (lt-leb (bits x) in_bits above)
+      ∙ first_is_largest unit largest xs (bits x) parts.1 members.1
+      (⊎_elim (λ same. absurd (omega (arith, ap bits same, largest.has.not_above, above))) (λ later. later) among))
+      (λ below. cond-true _ x (first_not_above in_bits own xs) (le-leb (bits x) in_bits below)
+      ∙ ⊎_elim (λ same. same)
+      (λ later. same_unit x unit members.0.prefix.some largest.has.member.prefix.some (omega (
+        arith,
+        le_of_falls xs (bits x) unit parts.1 later,
+        largest.largest x (eligible x members.0 below),
+      )))
+      among)
+      (cases_lt in_bits (bits x))
 
   -- if all units are above the size, there is none
-  first_is_own : (units : List Shape) → ((other : Shape) → IsIn other units → ¬ (bits other ≤ in_bits))
-      → first_not_above in_bits own units ≡ own
-  first_is_own [] none = refl
-  first_is_own (x ∷ xs) none =
-      own_or_later (nat_le (bits x) in_bits) x _ refl (none x (inl refl)) (first_is_own xs (λ other i. none other (inr i)))
+  first_is_own : NoneHas (IsEligibleUnit family Both in_bits) → (units : List Shape)
+      → AllByRecursion (InFamily current family) units → first_not_above in_bits own units ≡ own
+  first_is_own none [] members = refl
+  first_is_own none (x ∷ xs) members =
+      ⊎_elim
+      (λ above. cond-false _ x (first_not_above in_bits own xs) (lt-leb (bits x) in_bits above)
+      ∙ first_is_own none xs members.1)
+      (λ below. absurd (none x (eligible x members.0 below)))
+      (cases_lt in_bits (bits x))
 
-module _ (kind : Kind) (size : ℕ) where
-  -- the units of the kind that are not above the size are those that are eligible
-  eligible : (other : Shape) → IsIn other (units_of_prefixes (own_family kind) prefix_count)
-      → bits other ≤ size * bits_in kind → IsEligibleUnit (own_family kind) Both (size * bits_in kind) other
-  eligible other among not_above =
-      let has = from_falling (own_family kind) prefix_count other among in
-      record { member = record { prefix = record { some = has.0; known = has.1 }; kind = has.2 }; of_type = tt; not_above = not_above }
+computed_shape : (kind : Kind) (size : ℕ) (unit : Shape)
+    → IsLargestOrOwn kind (IsEligibleUnit (own_family kind) Both (size * bits_in kind)) unit
+    → largest_unit_of kind size ≡ unit
+computed_shape kind size unit (inl largest) =
+    let family = own_family kind in
+    let member = largest.has.member in
+    first_is_largest family (size * bits_in kind) (own_unit kind) unit largest (units_of_prefixes family prefix_count)
+    unit_limit (current_falls family prefix_count (omega arith)) (all_in_family family prefix_count (omega arith))
+    (in_falling family prefix_count unit member.kind member.prefix.some member.prefix.known)
+computed_shape kind size unit (inr own) =
+    let family = own_family kind in
+    first_is_own family (size * bits_in kind) (own_unit kind) own.0 (units_of_prefixes family prefix_count)
+    (all_in_family family prefix_count (omega arith))
+    ∙ sym own.1
 
-  computed_shape : (unit : Shape) → IsLargestOrOwn kind (IsEligibleUnit (own_family kind) Both (size * bits_in kind)) unit
-      → largest_unit_of kind size ≡ unit
-  computed_shape unit (inl largest) =
-      let units = units_of_prefixes (own_family kind) prefix_count in
-      let member = largest.has.member in
-      first_is_largest (size * bits_in kind) (own_unit kind) unit units unit_limit
-      (current_falls (own_family kind) prefix_count (omega arith))
-      record {
-        some = member.prefix.some;
-        not_above = largest.has.not_above;
-        prefixes = λ other among. (from_falling (own_family kind) prefix_count other among).0;
-        largest = λ other among not_above. largest.largest other (eligible other among not_above);
-      }
-      (in_falling (own_family kind) prefix_count unit member.kind member.prefix.some member.prefix.known)
-  computed_shape unit (inr own) =
-      first_is_own (size * bits_in kind) (own_unit kind) (units_of_prefixes (own_family kind) prefix_count)
-      (λ other among not_above. own.0 other (eligible other among not_above))
-      ∙ sym own.1
-
-  -- the appropriate unit of a size is the one that is computed
-  computed_unit : (unit : UnitName) → IsAppropriate kind Both size unit → unit_of_shape (largest_unit_of kind size) ≡ unit
-  computed_unit unit is = ap unit_of_shape (computed_shape (shape_of unit) is) ∙ unit_of_its_shape unit
+-- the appropriate unit of a size is the one that is computed
+computed_unit : (kind : Kind) (size : ℕ) (unit : UnitName) → IsAppropriate kind Both size unit
+    → unit_of_shape (largest_unit_of kind size) ≡ unit
+computed_unit kind size unit is = ap unit_of_shape (computed_shape kind size (shape_of unit) is) ∙ unit_of_its_shape unit
 
 adjusted_by_size : (kind : Kind) (bytes : List ℕ) (r : Result AdjustedSize ParseError)
     → result_map_both (λ n. n) size_fault (size_answer r) ≡ parsed_size kind false bytes

@@ -1,12 +1,14 @@
 -- The units of a unit set from the largest to the smallest, and the search for the largest that has a property.
 use Rattle.std.proofs.Common.{◌≡◌, ℕ, ◌+◌, ◌*◌, ◌<◌, ◌≤◌, ◌⊎◌, ⊎_elim, inl, inr, zero, suc, Bool, true, false, List, []}
 use Rattle.std.proofs.Common.{◌∷◌, ◌++◌}
-use Rattle.std.proofs.Common.{length, drop, get_or, ◌&&◌, leb, add-one, drop-cons, arith, sym, ap, ◌∙◌, subst, refl}
-use Rattle.std.proofs.lemmas.List.{drop_all}
-use Rattle.std.proofs.lemmas.Bool.{and_parts, cases_lt, leb-true}
+use Rattle.std.proofs.Common.{length, drop, get_or, ◌&&◌, leb, add-one, drop-cons, arith, sym, ap, ◌∙◌, subst, refl, rules, ◌/◌}
+use Rattle.std.specs.List.{AllByRecursion}
+use Rattle.std.proofs.lemmas.List.{drop_all, drop_at, drop-drop}
+use Rattle.std.proofs.lemmas.Bool.{and_parts, cases_lt, leb-true, agree_below, agree_below_at}
 use Rattle.byte_unit_math.specs.Bounds.{unit_limit}
 use Rattle.byte_unit_base.specs.Shape.{Shape, shape, bits}
-use Rattle.byte_unit_base.specs.Family.{HasKind}
+use Rattle.byte_unit_base.specs.Version.{current}
+use Rattle.byte_unit_base.specs.Family.{HasKind, InFamily}
 use Rattle.byte_unit_base.specs.UnitLists.{units_of_prefix, units_of_prefixes, prefix_count}
 use Rattle.byte_unit_base.specs.declared.unit.family.Family.{Family}
 use Rattle.byte_unit_base.specs.declared.unit.family.Family.TheVariants.{All, Bytes, Bits}
@@ -42,12 +44,9 @@ in_prefix All power true true k = inr (inr (inl refl))
 in_prefix All power false true k = inr (inr (inr (inl refl)))
 in_prefix Bytes power true false k = inl refl
 in_prefix Bytes power false false k = inr (inl refl)
-in_prefix Bytes power true true k = absurd (let b : ⊥ = cc in b)
-in_prefix Bytes power false true k = absurd (let b : ⊥ = cc in b)
 in_prefix Bits power true true k = inl refl
 in_prefix Bits power false true k = inr (inl refl)
-in_prefix Bits power true false k = absurd (let b : ⊥ = cc in b)
-in_prefix Bits power false false k = absurd (let b : ⊥ = cc in b)
+in_prefix _ power binary bit k = absurd (let b : ⊥ = cc in b)
 
 -- a unit of the set with one of the first n prefix letters is in their list
 pub in_falling : (family : Family) (n : ℕ) (unit : Shape) → HasKind family unit.bit → 1 ≤ unit.power → unit.power ≤ n
@@ -60,46 +59,16 @@ in_falling family (suc n) unit kind some known =
     (λ below. IsIn-right here later unit (in_falling family n unit kind some (omega (arith, below))))
     (λ above.
     let same : unit.power ≡ suc n = omega (arith, above, known) in
-    let IsInPrefix : ℕ → Type 0 = λ k. IsIn unit (units_of_prefix family k) in
-    IsIn-left here later unit (subst IsInPrefix same (in_prefix family unit.power unit.binary unit.bit kind)))
+    IsIn-left here later unit (rw (← same) (in_prefix family unit.power unit.binary unit.bit kind)))
     (cases_lt unit.power (suc n))
 
-IsIn-parts : (xs ys : List Shape) (unit : Shape) → IsIn unit (xs ++ ys) → IsIn unit xs ⊎ IsIn unit ys
-IsIn-parts [] ys unit h = inr h
-IsIn-parts (x ∷ xs) ys unit h =
-    ⊎_elim (λ e. inl (inl e)) (λ k. ⊎_elim (λ a. inl (inr a)) inr (IsIn-parts xs ys unit k)) h
-
-abbrev IsOfPrefix : Family → ℕ → Shape → Type 0
-IsOfPrefix family n unit = (unit.power ≡ n) × HasKind family unit.bit
-
-of_one_prefix : (family : Family) (n : ℕ) (unit : Shape) → IsIn unit (units_of_prefix family n) → IsOfPrefix family n unit
-of_one_prefix All n unit (inl e) = (sym (ap (λ s. s.power) e), tt)
-of_one_prefix All n unit (inr (inl e)) = (sym (ap (λ s. s.power) e), tt)
-of_one_prefix All n unit (inr (inr (inl e))) = (sym (ap (λ s. s.power) e), tt)
-of_one_prefix All n unit (inr (inr (inr (inl e)))) = (sym (ap (λ s. s.power) e), tt)
-of_one_prefix All n unit (inr (inr (inr (inr e)))) = absurd e
-of_one_prefix Bytes n unit (inl e) = (sym (ap (λ s. s.power) e), sym (ap (λ s. s.bit) e))
-of_one_prefix Bytes n unit (inr (inl e)) = (sym (ap (λ s. s.power) e), sym (ap (λ s. s.bit) e))
-of_one_prefix Bytes n unit (inr (inr e)) = absurd e
-of_one_prefix Bits n unit (inl e) = (sym (ap (λ s. s.power) e), sym (ap (λ s. s.bit) e))
-of_one_prefix Bits n unit (inr (inl e)) = (sym (ap (λ s. s.power) e), sym (ap (λ s. s.bit) e))
-of_one_prefix Bits n unit (inr (inr e)) = absurd e
-
--- a unit in the list of the first n prefix letters has one of these letters, and is of the set
-pub from_falling : (family : Family) (n : ℕ) (unit : Shape) → IsIn unit (units_of_prefixes family n)
-    → (1 ≤ unit.power) × (unit.power ≤ n) × HasKind family unit.bit
-from_falling family zero unit h = absurd h
-from_falling family (suc n) unit h =
-    ⊎_elim
-    (λ here. let p = of_one_prefix family (suc n) unit here in (omega (arith, p.0), omega (arith, p.0), p.1))
-    (λ later. let r = from_falling family n unit later in (r.0, omega (arith, r.1), r.2))
-    (IsIn-parts (units_of_prefix family (suc n)) (units_of_prefixes family n) unit h)
-
--- the unit at an index of a list is one of the list
-pub IsIn-at : (xs : List Shape) (i : ℕ) (d : Shape) → i < length xs → IsIn (get_or xs i d) xs
-IsIn-at [] i d h = absurd (omega (arith, h))
-IsIn-at (x ∷ xs) zero d h = inl refl
-IsIn-at (x ∷ xs) (suc i) d h = inr (IsIn-at xs i d (omega (arith, h)))
+-- the units in the list of the first n prefix letters are units of the set
+pub all_in_family : (family : Family) (n : ℕ) → n ≤ prefix_count
+    → AllByRecursion (InFamily current family) (units_of_prefixes family n)
+all_in_family family zero few = tt
+all_in_family All (suc n) few = let rest = all_in_family All n (omega arith) in search rules
+all_in_family Bytes (suc n) few = let rest = all_in_family Bytes n (omega arith) in search rules
+all_in_family Bits (suc n) few = let rest = all_in_family Bits n (omega arith) in search rules
 
 -- no unit of a falling list is larger than the bound
 pub le_of_falls : (xs : List Shape) (bound : ℕ) (unit : Shape) → falls bound xs ≡ true → IsIn unit xs
@@ -111,47 +80,23 @@ le_of_falls (x ∷ xs) bound unit h i =
     ⊎_elim (λ e. omega (arith, ap bits e, first)) (λ k. omega (arith, first, le_of_falls xs (bits x) unit parts.1 k)) i
 
 -- the units after any index of a falling list fall from the unit at the index
-falls_after : (xs : List Shape) (bound i : ℕ) (x : Shape) (rest : List Shape) → falls bound xs ≡ true
-    → drop i xs ≡ x ∷ rest
-    → falls (bits x) rest ≡ true
-falls_after [] bound zero x rest h e = absurd (let k : ⊥ = cc in k)
-falls_after [] bound (suc i) x rest h e = absurd (let k : ⊥ = cc in k)
-falls_after (y ∷ ys) bound zero x rest h e =
-    let a : y ≡ x = cc in
-    let b : ys ≡ rest = cc in
-    let RestFallsFrom : Shape → Type 0 = λ s. falls (bits s) rest ≡ true in
-    let FallAfterFirst : List Shape → Type 0 = λ l. falls (bits y) l ≡ true in
-    subst RestFallsFrom a (subst FallAfterFirst b (and_parts (leb (bits y) bound) (falls (bits y) ys) h).1)
-falls_after (y ∷ ys) bound (suc i) x rest h e =
-    falls_after ys (bits y) i x rest (and_parts (leb (bits y) bound) (falls (bits y) ys) h).1 e
+falls_after : (xs : List Shape) (bound i : ℕ) (d : Shape) → falls bound xs ≡ true → i < length xs
+    → falls (bits (get_or xs i d)) (drop (suc i) xs) ≡ true
+falls_after [] bound i d h within = absurd (omega (arith, within))
+falls_after (x ∷ xs) bound zero d h within = (and_parts _ _ h).1
+falls_after (x ∷ xs) bound (suc i) d h within = falls_after xs (bits x) i d (and_parts _ _ h).1 (omega (arith, within))
 
--- the units of the first n prefix letters fall, and so do those of fewer
-abbrev prefixes_fall : Family → ℕ → Bool
-prefixes_fall family zero = true
-prefixes_fall family (suc n) = falls unit_limit (units_of_prefixes family (suc n)) && prefixes_fall family n
-
-fewer_fall : (family : Family) (m n : ℕ) → prefixes_fall family m ≡ true → n ≤ m
-    → falls unit_limit (units_of_prefixes family n) ≡ true
-fewer_fall family zero n h few =
-    let UnitsFall : ℕ → Type 0 = λ k. falls unit_limit (units_of_prefixes family k) ≡ true in
-    let none : 0 ≡ n = omega (arith, few) in
-    subst UnitsFall none refl
-fewer_fall family (suc m) n h few =
-    let parts = and_parts (falls unit_limit (units_of_prefixes family (suc m))) (prefixes_fall family m) h in
-    let UnitsFall : ℕ → Type 0 = λ k. falls unit_limit (units_of_prefixes family k) ≡ true in
-    ⊎_elim
-    (λ below. fewer_fall family m n parts.1 (omega (arith, below)))
-    (λ above. let same : suc m ≡ n = omega (arith, above, few) in subst UnitsFall same parts.0)
-    (cases_lt n (suc m))
-
-known_prefixes_fall : (family : Family) → prefixes_fall family prefix_count ≡ true
-known_prefixes_fall All = refl
-known_prefixes_fall Bytes = refl
-known_prefixes_fall Bits = refl
+known_lists_fall : (family : Family)
+    → agree_below (λ n. falls unit_limit (units_of_prefixes family n)) (λ n. true) (prefix_count + 1) ≡ true
+known_lists_fall All = refl
+known_lists_fall Bytes = refl
+known_lists_fall Bits = refl
 
 -- the lists of the units of the current version fall
 pub current_falls : (family : Family) (n : ℕ) → n ≤ prefix_count → falls unit_limit (units_of_prefixes family n) ≡ true
-current_falls family n few = fewer_fall family prefix_count n (known_prefixes_fall family) few
+current_falls family n few =
+    agree_below_at (λ k. falls unit_limit (units_of_prefixes family k)) (λ k. true) (prefix_count + 1) n
+    (known_lists_fall family) (omega (arith, few))
 
 -- the first unit of a falling list that has the property is the largest that has it, if each unit that has it is at
 -- this index or later
@@ -160,14 +105,11 @@ pub largest_found : (Has : Shape → Type 0) (units : List Shape) (i : ℕ) (x :
 largest_found Has units i x fall remain at has =
     let rest = drop (suc i) units in
     let e : drop i units ≡ x ∷ rest = drop-cons units i x at.0 ∙ ap (λ y. y ∷ rest) at.1 in
+    let falls_from : falls (bits x) rest ≡ true = rw at.1 at (falls_after units unit_limit i x fall at.0) in
     record {
       has = has;
-      largest = λ unit h.
-          let IsAmong : List Shape → Type 0 = λ l. IsIn unit l in
-          ⊎_elim
-          (λ same. omega (arith, ap bits same))
-          (λ later. le_of_falls rest (bits x) unit (falls_after units unit_limit i x rest fall e) later)
-          (subst IsAmong e (remain unit h));
+      largest = λ unit h. ⊎_elim (λ same. omega (arith, ap bits same)) (le_of_falls rest (bits x) unit falls_from)
+          (subst (IsIn unit) e (remain unit h));
     }
 
 -- if the unit at an index does not have the property, each unit that has it is at a later index
@@ -176,42 +118,36 @@ pub Remain-after : (Has : Shape → Type 0) (units : List Shape) (i : ℕ) (x : 
     → get_or units i x ≡ x → ¬ (Has x) → Remain Has (drop (i + 1) units)
 Remain-after Has units i x remain within at without = λ unit h.
     let e : drop i units ≡ x ∷ drop (suc i) units = drop-cons units i x within ∙ ap (λ y. y ∷ drop (suc i) units) at in
-    let IsAmong : List Shape → Type 0 = λ l. IsIn unit l in
-    rw add-one (⊎_elim (λ same. absurd (without (subst Has (sym same) h)))
-    (λ later. later) (subst IsAmong e (remain unit h)))
+    rw add-one (⊎_elim (λ same. absurd (without (subst Has (sym same) h))) (λ later. later)
+    (subst (IsIn unit) e (remain unit h)))
 
 -- if each unit that has the property is after the end of the list, no unit has it
 pub Remain-at_end : (Has : Shape → Type 0) (units : List Shape) (i : ℕ) → length units ≤ i → Remain Has (drop i units)
     → NoneHas Has
-Remain-at_end Has units i done remain unit h =
-    let IsAmong : List Shape → Type 0 = λ l. IsIn unit l in
-    let e : drop i units ≡ [] = drop_all i units done in
-    subst IsAmong e (remain unit h)
+Remain-at_end Has units i done remain unit h = subst (IsIn unit) (drop_all i units done) (remain unit h)
 
 -- the number of units of a unit set that have the same prefix letter
 abbrev pub units_per_prefix : Family → ℕ
-units_per_prefix All = 4
-units_per_prefix Bytes = 2
-units_per_prefix Bits = 2
+units_per_prefix family = length (units_of_prefixes family prefix_count) / prefix_count
+
+length_of_prefix : (family : Family) (power : ℕ) → length (units_of_prefix family power) ≡ units_per_prefix family
+length_of_prefix All power = omega arith
+length_of_prefix Bytes power = omega arith
+length_of_prefix Bits power = omega arith
 
 -- without the units of its last prefix letters, the list of units is that of the other letters
 pub drop_prefixes : (family : Family) (dropped n : ℕ)
     → drop (units_per_prefix family * dropped) (units_of_prefixes family (dropped + n)) ≡ units_of_prefixes family n
-drop_prefixes All zero n = ap (units_of_prefixes All) (let none : 0 + n ≡ n = omega arith in none)
-drop_prefixes Bytes zero n = ap (units_of_prefixes Bytes) (let none : 0 + n ≡ n = omega arith in none)
-drop_prefixes Bits zero n = ap (units_of_prefixes Bits) (let none : 0 + n ≡ n = omega arith in none)
-drop_prefixes All (suc d) n =
+drop_prefixes family zero n =
+    let none : units_per_prefix family * 0 ≡ 0 = omega arith in
+    let same : 0 + n ≡ n = omega arith in
+    rw (none, same) refl
+drop_prefixes family (suc d) n =
+    let here = units_of_prefix family (suc (d + n)) in
+    let later = units_of_prefixes family (d + n) in
+    let each = units_per_prefix family in
     let sum : suc d + n ≡ suc (d + n) = omega arith in
-    let four : 4 * suc d ≡ suc (suc (suc (suc (4 * d)))) = omega arith in
-    ap (λ m. drop (4 * suc d) (units_of_prefixes All m)) sum
-    ∙ (ap (λ m. drop m (units_of_prefixes All (suc (d + n)))) four ∙ drop_prefixes All d n)
-drop_prefixes Bytes (suc d) n =
-    let sum : suc d + n ≡ suc (d + n) = omega arith in
-    let two : 2 * suc d ≡ suc (suc (2 * d)) = omega arith in
-    ap (λ m. drop (2 * suc d) (units_of_prefixes Bytes m)) sum
-    ∙ (ap (λ m. drop m (units_of_prefixes Bytes (suc (d + n)))) two ∙ drop_prefixes Bytes d n)
-drop_prefixes Bits (suc d) n =
-    let sum : suc d + n ≡ suc (d + n) = omega arith in
-    let two : 2 * suc d ≡ suc (suc (2 * d)) = omega arith in
-    ap (λ m. drop (2 * suc d) (units_of_prefixes Bits m)) sum
-    ∙ (ap (λ m. drop m (units_of_prefixes Bits (suc (d + n)))) two ∙ drop_prefixes Bits d n)
+    let count : each * suc d ≡ each + each * d = omega arith in
+    ap (λ m. drop (each * suc d) (units_of_prefixes family m)) sum
+    ∙ (ap (λ m. drop m (here ++ later)) count ∙ (sym (drop-drop (each * d) each (here ++ later))
+    ∙ (ap (drop (each * d)) (drop_at here later each (length_of_prefix family (suc (d + n)))) ∙ drop_prefixes family d n)))

@@ -5,7 +5,9 @@ use Rattle.std.proofs.Common.{drop, get_or}
 use Rattle.std.proofs.Common.{◌&&◌, leb, arith, sym, ap, ◌∙◌, subst, refl}
 use Rattle.std.proofs.Math.Nat.{pow-le-pow_right}
 use Rattle.std.proofs.lemmas.List.{drop-map, get_or-map, length-map}
-use Rattle.std.proofs.lemmas.Bool.{and_from, and_parts, cases_lt, le-leb, leb-true}
+use Rattle.std.proofs.lemmas.Bool.{cases_lt, leb-true, agree_below, agree_below_at}
+use Rattle.std.proofs.lemmas.Bool.Decides.{nat_tests}
+use Rattle.std.proofs.lemmas.List.Elements.{All-from_recursion, All-map, All-same}
 use Rattle.std.proofs.lemmas.Nat.{leading_top}
 use Rattle.std.specs.Int.{w128, leading_zeros}
 use Rattle.byte_unit_math.specs.Bounds.{unit_limit}
@@ -14,14 +16,14 @@ use Rattle.byte_unit_base.specs.Version.{current}
 use Rattle.byte_unit_base.specs.Units.{shape_of}
 use Rattle.byte_unit_base.specs.Family.{HasPrefix, InFamily}
 use Rattle.byte_unit_base.specs.Choice.{IsLargest, NoneHas}
-use Rattle.byte_unit_base.specs.Multiples.{ListsUnits, row_of, row_shape}
+use Rattle.byte_unit_base.specs.Multiples.{ListsUnits, ShapeRow, row_of, row_shape}
 use Rattle.byte_unit_base.specs.UnitLists.{units_of_prefixes, prefix_count}
 use Rattle.byte_unit_base.specs.declared.unit.Unit.TheVariants.{Bit}
 use Rattle.byte_unit_base.specs.declared.unit.family.UnitRow.{UnitRow}
 use Rattle.byte_unit_base.specs.declared.unit.family.Family.{Family}
 use Rattle.byte_unit_base.specs.declared.unit.family.Family.TheVariants.{All, Bytes, Bits}
 use Rattle.byte_unit_base.proofs.Choosing.{small_bits, some_bits}
-use Rattle.byte_unit_base.proofs.Falling.{IsIn, IsIn-at, Remain, falls, in_falling, from_falling, current_falls}
+use Rattle.byte_unit_base.proofs.Falling.{Remain, falls, in_falling, all_in_family, current_falls}
 use Rattle.byte_unit_base.proofs.Falling.{largest_found}
 use Rattle.byte_unit_base.proofs.Falling.{Remain-after, Remain-at_end, units_per_prefix, drop_prefixes}
 
@@ -34,7 +36,7 @@ abbrev pub no_row : UnitRow
 no_row = record { unit = Bit; bits = 0; twos = 0; fives = 0 }
 
 -- the bits of the row are 2 and 5 to its exponents, and are from 2^9 to the limit of a unit
-pub record IsMultiple (row : UnitRow) : Type 0 where
+pub record IsMultiple (row : ShapeRow) : Type 0 where
   pub powers : row.bits ≡ 2 ^ row.twos * 5 ^ row.fives
   pub large : 2 ^ 9 ≤ row.bits
   pub small : row.bits ≤ unit_limit
@@ -48,26 +50,19 @@ pub record HasPowers (family : Family) (in_bits most_twos most_fives : ℕ) (uni
   pub few_fives : fives unit ≤ most_fives
 
 -- each unit with the n-th prefix letter has at least 10 n binary digits
-abbrev all_reach_prefix : List Shape → Bool
-all_reach_prefix [] = true
-all_reach_prefix (x ∷ xs) = leb (2 ^ (10 * x.power - 1)) (bits x) && all_reach_prefix xs
+abbrev reaches : Bool → Bool → ℕ → Bool
+reaches binary bit power = leb (2 ^ (10 * power - 1)) (bits (shape power binary bit))
 
-listed_reaches_prefix : (units : List Shape) (unit : Shape) → all_reach_prefix units ≡ true → IsIn unit units
-    → 2 ^ (10 * unit.power - 1) ≤ bits unit
-listed_reaches_prefix [] unit h i = absurd i
-listed_reaches_prefix (x ∷ xs) unit h i =
-    let parts = and_parts (leb (2 ^ (10 * x.power - 1)) (bits x)) (all_reach_prefix xs) h in
-    let ReachesPrefix : Shape → Type 0 = λ s. 2 ^ (10 * s.power - 1) ≤ bits s in
-    ⊎_elim (λ e. subst ReachesPrefix e (leb-true (2 ^ (10 * x.power - 1)) (bits x) parts.0))
-    (λ later. listed_reaches_prefix xs unit parts.1 later) i
-
-known_units_reach_prefix : all_reach_prefix (units_of_prefixes All prefix_count) ≡ true
-known_units_reach_prefix = refl
+known_units_reach : (binary bit : Bool) → agree_below (reaches binary bit) (λ n. true) (prefix_count + 1) ≡ true
+known_units_reach true true = refl
+known_units_reach true false = refl
+known_units_reach false true = refl
+known_units_reach false false = refl
 
 reaches_its_prefix : (unit : Shape) → HasPrefix current unit → 2 ^ (10 * unit.power - 1) ≤ bits unit
 reaches_its_prefix unit prefix =
-    listed_reaches_prefix (units_of_prefixes All prefix_count) unit known_units_reach_prefix
-    (in_falling All prefix_count unit tt prefix.some prefix.known)
+    leb-true _ _ (agree_below_at (reaches unit.binary unit.bit) (λ n. true) (prefix_count + 1) unit.power
+    (known_units_reach unit.binary unit.bit) (omega (arith, prefix.known)))
 
 -- if a unit is not above a size of this many binary digits, ten times the index of its prefix is at most their number
 pub prefix_within : (in_bits digits : ℕ) (unit : Shape) → in_bits < 2 ^ 128 → digits ≡ 128 - leading_zeros w128 in_bits
@@ -84,13 +79,6 @@ prefix_within in_bits digits unit small count prefix not_above =
     (λ k. k)
     (cases_lt digits (10 * unit.power))
 
--- a unit set has the same number of units for each prefix letter
-length_of_all : (family : Family) → length (units_of_prefixes family prefix_count) / prefix_count
-    ≡ units_per_prefix family
-length_of_all All = omega arith
-length_of_all Bytes = omega arith
-length_of_all Bits = omega arith
-
 -- without the rows of its last prefix letters, the table has the rows of the other letters
 pub rows_behind : (family : Family) (rows : List UnitRow) (prefixes skipped : ℕ)
     → map row_shape rows ≡ map row_of (units_of_prefixes family prefix_count) → prefixes ≤ prefix_count
@@ -100,30 +88,21 @@ rows_behind family rows prefixes skipped all few count =
     let units = units_of_prefixes family prefix_count in
     let lengths : length rows ≡ length units =
     sym (length-map rows row_shape) ∙ (ap length all ∙ length-map units row_of) in
-    let across : length rows / prefix_count ≡ units_per_prefix family =
-    ap (λ n. n / prefix_count) lengths ∙ length_of_all family in
     let here : skipped ≡ units_per_prefix family * (prefix_count - prefixes) =
-    count ∙ ap (λ n. n * (prefix_count - prefixes)) across in
+    count ∙ ap (λ n. n / prefix_count * (prefix_count - prefixes)) lengths in
     let total : (prefix_count - prefixes) + prefixes ≡ prefix_count = omega (arith, few) in
-    let DropsToUnits : ℕ → Type 0 =
-    λ n. drop (units_per_prefix family * (prefix_count - prefixes))
-    (units_of_prefixes family n) ≡ units_of_prefixes family prefixes in
-    let behind = subst DropsToUnits total (drop_prefixes family (prefix_count - prefixes) prefixes) in
+    let behind = rw total at (drop_prefixes family (prefix_count - prefixes) prefixes) in
     sym (drop-map row_shape skipped rows)
-    ∙ (ap (drop skipped) all
-    ∙ (drop-map row_of skipped units
-    ∙ ap (map row_of) (ap (λ n. drop n units) here ∙ behind)))
+    ∙ (ap (drop skipped) all ∙ (drop-map row_of skipped units ∙ ap (map row_of) (ap (λ n. drop n units) here ∙ behind)))
 
 units_of_rows : (rows : List UnitRow) (units : List Shape) → map row_shape rows ≡ map row_of units
     → map unit_in rows ≡ units
 units_of_rows [] [] e = refl
-units_of_rows [] (x ∷ xs) e = absurd (let k : ⊥ = cc in k)
-units_of_rows (r ∷ rs) [] e = absurd (let k : ⊥ = cc in k)
 units_of_rows (r ∷ rs) (x ∷ xs) e =
     let first : row_shape r ≡ row_of x = cc in
     let rest : map row_shape rs ≡ map row_of xs = cc in
-    let unit : unit_in r ≡ x = ap (λ row. row.unit) first in
-    ap (λ s. s ∷ map unit_in rs) unit ∙ ap (λ l. x ∷ l) (units_of_rows rs xs rest)
+    ap (λ s. s ∷ map unit_in rs) (ap (λ row. row.unit) first) ∙ ap (λ l. x ∷ l) (units_of_rows rs xs rest)
+units_of_rows _ _ e = absurd (let k : ⊥ = cc in k)
 
 -- the units of listed rows are the units of the first prefix letters
 pub listed_units : (family : Family) (in_bits first : ℕ) (rows : List UnitRow) (h : ListsUnits family in_bits first rows)
@@ -137,44 +116,28 @@ pub search_start : (Has : Shape → Type 0) (family : Family) (in_bits first : �
     → Remain Has (drop 0 (map unit_in rows))
 search_start Has family in_bits first rows h within = λ unit has.
     let m = within unit has in
-    let IsAmong : List Shape → Type 0 = λ l. IsIn unit l in
     let known = h.within unit m.0.prefix m.1 m.2 in
-    subst IsAmong (sym (listed_units family in_bits _ rows h))
-    (in_falling family h.prefixes unit m.0.kind m.0.prefix.some known)
+    rw (listed_units family in_bits _ rows h) (in_falling family h.prefixes unit m.0.kind m.0.prefix.some known)
 
 -- the unit of the row is in the unit set, and the row has its bits and exponents
-pub record IsRow (family : Family) (row : UnitRow) : Type 0 where
-  pub member : InFamily current family (unit_in row)
-  pub bits_are : row.bits ≡ bits (unit_in row)
-  pub twos_are : row.twos ≡ twos (unit_in row)
-  pub fives_are : row.fives ≡ fives (unit_in row)
+pub record IsRow (family : Family) (row : ShapeRow) : Type 0 where
+  pub member : InFamily current family row.unit
+  pub bits_are : row.bits ≡ bits row.unit
+  pub twos_are : row.twos ≡ twos row.unit
+  pub fives_are : row.fives ≡ fives row.unit
 
 -- the row at an index of the listed rows is the row of a unit of the set
 pub row_at_is_row : {family : Family} {in_bits first : ℕ} {rows : List UnitRow} (i : ℕ) (d : UnitRow)
     → ListsUnits family in_bits first rows
-    → i < length rows → IsRow family (get_or rows i d)
+    → i < length rows → IsRow family (row_shape (get_or rows i d))
 row_at_is_row {family} {in_bits} {first} {rows} i d h within =
     let units = units_of_prefixes family h.prefixes in
-    let row = get_or rows i d in
-    let lengths : length rows ≡ length units =
-    sym (length-map rows row_shape) ∙ (ap length h.rows_are ∙ length-map units row_of) in
-    let there : i < length units = omega (arith, within, lengths) in
-    let unit = get_or units i (unit_in row) in
-    let same : row_shape row ≡ row_of unit =
-    sym (get_or-map row_shape rows i d (row_shape row) within)
-    ∙ (ap (λ l. get_or l i (row_shape row)) h.rows_are
-    ∙ get_or-map row_of units i (unit_in row) (row_shape row) there) in
-    let is_unit : unit_in row ≡ unit = ap (λ row. row.unit) same in
-    let known = from_falling family h.prefixes unit (IsIn-at units i (unit_in row) there) in
-    let few : h.prefixes ≤ prefix_count = h.few in
-    let member : InFamily current family unit =
-    record { prefix = record { some = known.0; known = omega (arith, known.1, few) }; kind = known.2 } in
-    record {
-      member = subst (InFamily current family) (sym is_unit) member;
-      bits_are = ap (λ row. row.bits) same ∙ ap bits (sym is_unit);
-      twos_are = ap (λ row. row.twos) same ∙ ap twos (sym is_unit);
-      fives_are = ap (λ row. row.fives) same ∙ ap fives (sym is_unit);
-    }
+    let members = All-from_recursion (InFamily current family) units (all_in_family family h.prefixes h.few) in
+    let listed = All-map (IsRow family) row_of units (λ k s inside.
+    record { member = members k s inside; bits_are = refl; twos_are = refl; fives_are = refl }) in
+    subst (IsRow family) (get_or-map row_shape rows i d (row_shape d) within)
+    (All-same (IsRow family) (map row_shape rows) (map row_of units) h.rows_are listed i (row_shape d)
+    (omega (arith, length-map rows row_shape, within)))
 
 few_prefixes : (power a b : ℕ) (binary bit : Bool) → twos (shape power binary bit) ≤ a
     → fives (shape power binary bit) ≤ b
@@ -187,17 +150,17 @@ pub power_of_powers : (unit : Shape) (a b : ℕ) → twos unit ≤ a → fives u
 power_of_powers unit a b = few_prefixes unit.power a b unit.binary unit.bit
 
 -- the bits of a row are 2 and 5 to its exponents, and within the limits
-pub row_multiple : {family : Family} {row : UnitRow} → IsRow family row → IsMultiple row
+pub row_multiple : {family : Family} {row : ShapeRow} → IsRow family row → IsMultiple row
 row_multiple {family} {row} is =
     let member = is.member in
-    let first = pow-le-pow_right {n = 2} (omega arith) {i = 9} {j = 10 * (unit_in row).power - 1}
+    let first = pow-le-pow_right {n = 2} (omega arith) {i = 9} {j = 10 * row.unit.power - 1}
     (omega (arith, member.prefix.some)) in
-    let twos_same = ap (λ n. 2 ^ n * 5 ^ fives (unit_in row)) (sym is.twos_are) in
+    let twos_same = ap (λ n. 2 ^ n * 5 ^ fives row.unit) (sym is.twos_are) in
     let fives_same = ap (λ n. 2 ^ row.twos * 5 ^ n) (sym is.fives_are) in
     record {
       powers = is.bits_are ∙ (twos_same ∙ fives_same);
-      large = omega (arith, first, reaches_its_prefix (unit_in row) member.prefix, is.bits_are);
-      small = omega (arith, small_bits family (unit_in row) member, is.bits_are);
+      large = omega (arith, first, reaches_its_prefix row.unit member.prefix, is.bits_are);
+      small = omega (arith, small_bits family row.unit member, is.bits_are);
     }
 
 -- the unit of the first row that has the property is the largest unit that has it
@@ -207,8 +170,8 @@ pub unit_found : {family : Family} {in_bits first : ℕ} {rows : List UnitRow} (
     → IsLargest Has (unit_in (get_or rows i d))
 unit_found {family} {in_bits} {first} {rows} Has i d h remain within has =
     let unit = unit_in (get_or rows i d) in
-    let UnitsFall : List Shape → Type 0 = λ l. falls unit_limit l ≡ true in
-    let fall = subst UnitsFall (sym (listed_units family in_bits _ rows h)) (current_falls family h.prefixes h.few) in
+    let fall : falls unit_limit (map unit_in rows) ≡ true =
+    rw (listed_units family in_bits _ rows h) (current_falls family h.prefixes h.few) in
     let there : i < length (map unit_in rows) = omega (arith, length-map rows unit_in, within) in
     largest_found Has (map unit_in rows) i unit fall remain (there, get_or-map unit_in rows i d unit within) has
 
@@ -232,24 +195,17 @@ pub not_if_test_fails : (b : Bool) (Fact : Type 0) → b ≡ false → (Fact →
 not_if_test_fails b Fact e h p = let t = h p in let k : ⊥ = cc in k
 
 -- if the tests of a row hold, its unit is not above the size and has no greater exponents
-pub row_powers : {family : Family} {row : UnitRow} (in_bits a b : ℕ) → IsRow family row
-    → ((leb row.bits in_bits && leb row.twos a) && leb row.fives b) ≡ true → HasPowers family in_bits a b (unit_in row)
-row_powers {family} {row} in_bits a b is h =
-    let parts = and_parts (leb row.bits in_bits && leb row.twos a) (leb row.fives b) h in
-    let first = and_parts (leb row.bits in_bits) (leb row.twos a) parts.0 in
-    record {
-      member = is.member;
-      not_above = omega (arith, is.bits_are, leb-true row.bits in_bits first.0);
-      few_twos = omega (arith, is.twos_are, leb-true row.twos a first.1);
-      few_fives = omega (arith, is.fives_are, leb-true row.fives b parts.1);
-    }
+pub row_powers : {family : Family} {row : ShapeRow} (in_bits a b : ℕ) → IsRow family row
+    → ((leb row.bits in_bits && leb row.twos a) && leb row.fives b) ≡ true → HasPowers family in_bits a b row.unit
+row_powers {family} {row} in_bits a b is h = record {
+  member = is.member;
+  not_above = grind (arith, nat_tests, is.bits_are, h);
+  few_twos = grind (arith, nat_tests, is.twos_are, h);
+  few_fives = grind (arith, nat_tests, is.fives_are, h);
+}
 
 -- if the unit of a row is not above the size and has no greater exponents, the tests of the row hold
-pub powers_in_row : {family : Family} {row : UnitRow} (in_bits a b : ℕ) → IsRow family row
-    → HasPowers family in_bits a b (unit_in row) → ((leb row.bits in_bits && leb row.twos a) && leb row.fives b) ≡ true
+pub powers_in_row : {family : Family} {row : ShapeRow} (in_bits a b : ℕ) → IsRow family row
+    → HasPowers family in_bits a b row.unit → ((leb row.bits in_bits && leb row.twos a) && leb row.fives b) ≡ true
 powers_in_row {family} {row} in_bits a b is h =
-    let below = le-leb row.bits in_bits (omega (arith, is.bits_are, h.not_above)) in
-    let twos_few = le-leb row.twos a (omega (arith, is.twos_are, h.few_twos)) in
-    let fives_few = le-leb row.fives b (omega (arith, is.fives_are, h.few_fives)) in
-    and_from (leb row.bits in_bits && leb row.twos a) (leb row.fives b)
-    (and_from (leb row.bits in_bits) (leb row.twos a) below twos_few) fives_few
+    grind (arith, nat_tests, is.bits_are, is.twos_are, is.fives_are, h.not_above, h.few_twos, h.few_fives)

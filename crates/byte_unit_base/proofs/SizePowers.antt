@@ -18,7 +18,7 @@ use Rattle.byte_unit_base.proofs.Rows.{HasPowers, IsMultiple}
 use Rattle.byte_unit_base.specs.declared.kind.Kind.{Kind}
 use Rattle.byte_unit_base.specs.declared.kind.Kind.TheVariants.{Byte, Bit}
 use Rattle.byte_unit_base.specs.declared.unit.family.Family.{Family}
-use Rattle.byte_unit_base.specs.declared.unit.family.UnitRow.{UnitRow}
+use Rattle.byte_unit_base.specs.Multiples.{ShapeRow}
 
 some_bits_in : (kind : Kind) (size : ℕ) → size ≢ 0 → size * bits_in kind ≢ 0
 some_bits_in Byte size some = λ e. some (omega (arith, e))
@@ -137,7 +137,7 @@ exact_by_row {family} {in_bits} {most} {a} {b} {B} unit room same powers h =
     subst exact (sym same) (subst places within there)
 
 -- with at most five digits after the point, a size divided by a unit stays below the limit of a whole part
-pub count_fits : {row : UnitRow} (size divisor places : ℕ) → IsMultiple row → (divisor ≡ 8) ⊎ (divisor ≡ 1)
+pub count_fits : {row : ShapeRow} (size divisor places : ℕ) → IsMultiple row → (divisor ≡ 8) ⊎ (divisor ≡ 1)
     → size < current.size_limit
     → places ≤ 5 → size * divisor * 10 ^ places < whole_limit * row.bits
 count_fits {row} size divisor places multiple kind small few =

@@ -20,9 +20,10 @@ use Rattle.byte_unit_base.proofs.Falling.{IsIn, in_falling}
 abbrev Decided : Type 0 → Type 0
 Decided Fact = Fact ⊎ ¬ Fact
 
-both_decided : (First Second : Type 0) → Decided First → Decided Second → Decided (First × Second)
-both_decided First Second p q =
-    ⊎_elim (λ a. ⊎_elim (λ b. inl (a, b)) (λ no. inr (λ h. no h.1)) q) (λ no. inr (λ h. no h.0)) p
+both_decided : {First Second : Type 0} → Decided First → Decided Second → Decided (First × Second)
+both_decided (inl a) (inl b) = inl (a, b)
+both_decided (inl a) (inr fails) = inr (λ h. fails h.1)
+both_decided (inr fails) _ = inr (λ h. fails h.0)
 
 le_decided : (a b : ℕ) → Decided (a ≤ b)
 le_decided a b = ⊎_elim (λ l. inr (λ h. omega (arith, l, h))) (λ h. inl h) (cases_lt b a)
@@ -38,101 +39,65 @@ kind_decided Bits false = inr (λ e. let b : ⊥ = cc in b)
 exact_decided : (size unit places : ℕ) → Decided (IsExactAt size unit places)
 exact_decided size unit places =
     let scaled = size * 10 ^ places in
-    let parts = div-add-mod' scaled unit in
     ⊎_elim
-    (λ none. inl (scaled / unit, omega (arith, parts, none)))
-    (λ some. inr (λ e. let none : scaled % unit ≡ 0 = ap (λ n. n % unit) e.1
-    ∙ mul-mod_left e.0 unit in omega (arith, none, some)))
+    (λ none. inl (scaled / unit, omega (arith, div-add-mod' scaled unit, none)))
+    (λ some. inr (λ e. omega (arith, ap (λ n. n % unit) e.1, mul-mod_left e.0 unit, some)))
     (cases_lt (scaled % unit) 1)
 
 states_decided : (version : Version) (family : Family) (in_bits precision : ℕ) (unit : Shape)
     → Decided (IsExactUnitIn version family in_bits precision unit)
 states_decided version family in_bits precision unit =
-    let places = places_within precision in
-    let last = length version.letters in
-    let prefix = both_decided (1 ≤ unit.power) (unit.power ≤ last) (le_decided 1 unit.power)
-    (le_decided unit.power last) in
-    let in_family = (1 ≤ unit.power) × (unit.power ≤ last) in
-    let member = both_decided in_family (HasKind family unit.bit) prefix (kind_decided family unit.bit) in
-    let exact = exact_decided in_bits (bits unit) places in
-    let rest = both_decided (bits unit ≤ in_bits) (IsExactAt in_bits (bits unit) places)
-    (le_decided (bits unit) in_bits) exact in
+    let prefix = both_decided (le_decided 1 unit.power) (le_decided unit.power (length version.letters)) in
+    let member = both_decided prefix (kind_decided family unit.bit) in
+    let exact = exact_decided in_bits (bits unit) (places_within precision) in
     ⊎_elim
-    (λ m. ⊎_elim
-    (λ s. inl (record {
-      member = record { prefix = record { some = m.0.0; known = m.0.1 }; kind = m.1 };
-      not_above = s.0;
-      exact = s.1;
+    (λ h. inl (record {
+      member = record { prefix = record { some = h.0.0.0; known = h.0.0.1 }; kind = h.0.1 };
+      not_above = h.1.0;
+      exact = h.1.1;
     }))
-    (λ no. inr (λ s. no (s.not_above, s.exact)))
-    rest)
-    (λ no. inr (λ s. no ((s.member.prefix.some, s.member.prefix.known), s.member.kind)))
-    member
+    (λ fails. inr (λ s. fails (((s.member.prefix.some, s.member.prefix.known), s.member.kind), (s.not_above, s.exact))))
+    (both_decided member (both_decided (le_decided (bits unit) in_bits) exact))
 
 -- the unit has the property, and no larger one of these has it
 record IsLargestOf (Has : Shape → Type 0) (units : List Shape) (unit : Shape) : Type 0 where
   has : Has unit
   largest : (other : Shape) → IsIn other units → Has other → bits other ≤ bits unit
 
--- those among the units that have the property are no larger than the bound
-abbrev AreNoLarger : (Shape → Type 0) → List Shape → ℕ → Type 0
-AreNoLarger Has units bound = (other : Shape) → IsIn other units → Has other → bits other ≤ bound
+abbrev LargestOrNone : (Shape → Type 0) → List Shape → Type 0
+LargestOrNone Has units =
+    ((unit : Shape) × IsLargestOf Has units unit) ⊎ ((unit : Shape) → IsIn unit units → ¬ (Has unit))
 
--- if neither the first unit nor the others that have the property are larger than the bound, none is
-no_larger_with_first : (Has : Shape → Type 0) (x : Shape) (xs : List Shape) (bound : ℕ) → bits x ≤ bound
-    → AreNoLarger Has xs bound
-    → AreNoLarger Has (x ∷ xs) bound
-no_larger_with_first Has x xs bound first rest other i h =
-    ⊎_elim (λ e. omega (arith, ap bits e, first)) (λ later. rest other later h) i
+module _ (Has : Shape → Type 0) (x : Shape) (xs : List Shape) where
+  -- a unit stays the largest beside one more that is no larger, or does not have the property
+  stays : (unit : Shape) → IsLargestOf Has xs unit → (Has x → bits x ≤ bits unit) → IsLargestOf Has (x ∷ xs) unit
+  stays unit l low = record {
+    has = l.has;
+    largest = λ other i h. ⊎_elim (λ e. omega (arith, ap bits e, low (subst Has (sym e) h))) (λ k. l.largest other k h) i;
+  }
+
+  -- one more unit is the largest, if none before it that has the property is larger
+  becomes : Has x → ((other : Shape) → IsIn other xs → Has other → bits other ≤ bits x) → IsLargestOf Has (x ∷ xs) x
+  becomes has low = record {
+    has = has;
+    largest = λ other i h. ⊎_elim (λ e. omega (arith, ap bits e)) (λ k. low other k h) i;
+  }
+
+  one_more : Decided (Has x) → LargestOrNone Has xs → LargestOrNone Has (x ∷ xs)
+  one_more (inr fails) (inl (unit, l)) = inl (unit, stays unit l (λ h. absurd (fails h)))
+  one_more (inr fails) (inr none) = inr (λ other i h. ⊎_elim (λ e. fails (subst Has (sym e) h)) (λ k. none other k h) i)
+  one_more (inl has) (inr none) = inl (x, becomes has (λ other i h. absurd (none other i h)))
+  one_more (inl has) (inl (unit, l)) =
+      ⊎_elim
+      (λ smaller. inl (unit, stays unit l (λ h. omega (arith, smaller))))
+      (λ larger. inl (x, becomes has (λ other i h. omega (arith, l.largest other i h, larger))))
+      (cases_lt (bits x) (bits unit))
 
 -- one of the units that have the property is the largest, or none has it
 largest_or_none : (Has : Shape → Type 0) → ((unit : Shape) → Decided (Has unit)) → (units : List Shape)
-    → ((unit : Shape) × IsLargestOf Has units unit) ⊎ ((unit : Shape) → IsIn unit units → ¬ (Has unit))
+    → LargestOrNone Has units
 largest_or_none Has decided [] = inr (λ unit i h. i)
-largest_or_none Has decided (x ∷ xs) =
-    let rest = largest_or_none Has decided xs in
-    let with_first = λ (h : Has x).
-    ⊎_elim
-    (λ found.
-    ⊎_elim
-    (λ smaller. inl (
-      found.0,
-      record {
-        has = found.1.has;
-        largest = no_larger_with_first Has x xs (bits found.0) (omega (arith, smaller)) found.1.largest;
-      },
-    ))
-    (λ larger. inl (
-      x,
-      record {
-        has = h;
-        largest =
-            no_larger_with_first Has x xs (bits x) (omega arith)
-            (λ other i k. omega (arith, found.1.largest other i k, larger));
-      },
-    ))
-    (cases_lt (bits x) (bits found.0)))
-    (λ none. inl (
-      x,
-      record {
-        has = h;
-        largest = no_larger_with_first Has x xs (bits x) (omega arith) (λ other i k. absurd (none other i k));
-      },
-    ))
-    rest in
-    let without_first = λ (no : ¬ (Has x)).
-    ⊎_elim
-    (λ found. inl (
-      found.0,
-      record {
-        has = found.1.has;
-        largest =
-            λ other i k. ⊎_elim (λ e. absurd (no (subst Has (sym e) k))) (λ later. found.1.largest other later k) i;
-      },
-    ))
-    (λ none. inr (λ other i k. ⊎_elim (λ e. no (subst Has (sym e) k)) (λ later. none other later k) i))
-    rest in
-    ⊎_elim with_first without_first (decided x)
+largest_or_none Has decided (x ∷ xs) = one_more Has x xs (decided x) (largest_or_none Has decided xs)
 
 -- a size has a chosen unit and number, or it is exact in no unit at the precision
 pub choice_or_none : EachSizeHasAChoiceOrNone
