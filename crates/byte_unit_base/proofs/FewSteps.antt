@@ -1,9 +1,9 @@
 -- The greatest step count of choosing a unit.
 use Rattle.std.proofs.Common.{◌≡◌, ◌≢◌, ℕ, zero, suc, ◌+◌, ◌-◌, ◌*◌, ◌%◌, ◌^◌, ◌<◌, ◌≤◌, ⊎_elim, inl, inr}
-use Rattle.std.proofs.Common.{Bool, true, false, max, arith, ap, ◌∙◌, subst}
+use Rattle.std.proofs.Common.{Bool, true, false, ltb, max, refl, arith, ap, ◌∙◌, subst}
 use Rattle.std.proofs.Math.Nat.{mul-le-mul, mul-le-mul_left, mul-le-mul_right}
 use Rattle.std.proofs.Math.Nat.{one-le-pow, pow-le-pow_left, pow-le-pow_right}
-use Rattle.std.proofs.lemmas.Bool.{cases_lt}
+use Rattle.std.proofs.lemmas.Bool.{agree_below, agree_below_at, cases_lt, ltb-true}
 use Rattle.std.proofs.lemmas.Nat.{pow-add, mul-pow}
 use Rattle.byte_unit_math.specs.Bounds.{scale}
 use Rattle.byte_unit_math.specs.Steps.{saturating_add}
@@ -11,6 +11,7 @@ use Rattle.byte_unit_math.specs.Exact.{IsLeastPlaces}
 use Rattle.byte_unit_math.specs.Powers.{IsTwoFive}
 use Rattle.byte_unit_math.proofs.Powers.{exact_by_powers, places_by_powers}
 use Rattle.byte_unit_base.specs.Shape.{Shape, shape, bits, twos, fives}
+use Rattle.byte_unit_base.specs.UnitLists.{prefix_count}
 use Rattle.byte_unit_base.specs.Version.{current}
 use Rattle.byte_unit_base.specs.Kinds.{bits_in}
 use Rattle.byte_unit_base.specs.Choice.{IsLargest, IsExactUnit, IsChosen, TakesSteps, CountsChoice}
@@ -22,15 +23,10 @@ use Rattle.byte_unit_base.proofs.Choosing.{some_bits}
 use Rattle.byte_unit_base.proofs.Quotients.{number_times_unit, stated_where_exact}
 use Rattle.byte_unit_base.proofs.SizePowers.{eight_times}
 
--- an odd number is not zero
-some_of_odd : (left : ℕ) → left % 2 ≢ 0 → 1 ≤ left
-some_of_odd zero odd = absurd (odd (omega arith))
-some_of_odd (suc left) odd = omega arith
-
 -- a number is at least the product of its powers
 powers_below : (n a b : ℕ) → IsTwoFive n a b → 2 ^ a * 5 ^ b ≤ n
 powers_below n a b h =
-    let some = some_of_odd h.left h.odd in
+    let some : 1 ≤ h.left = grind (arith, h.odd) in
     omega (arith, mul-le-mul_right {m = 1} {n = h.left} (2 ^ a * 5 ^ b) some, h.product)
 
 -- a number is at least its power of two
@@ -56,21 +52,16 @@ few_powers n a b h small =
 abbrev greatest : Bool → Shape
 greatest bit = shape 9 true bit
 
--- no decimal unit is larger than that of the last prefix
-decimal_bits : (power : ℕ) (bit : Bool) → power ≤ 9 → bits (shape power false bit) ≤ bits (shape 9 false bit)
-decimal_bits power true known =
-    mul-le-mul
-    (pow-le-pow_right {n = 2} (omega arith) {i = 3 * power + 0} {j = 27} (omega (arith, known)))
-    (pow-le-pow_right {n = 5} (omega arith) {i = 3 * power} {j = 27} (omega (arith, known)))
-decimal_bits power false known =
-    mul-le-mul
-    (pow-le-pow_right {n = 2} (omega arith) {i = 3 * power + 3} {j = 30} (omega (arith, known)))
-    (pow-le-pow_right {n = 5} (omega arith) {i = 3 * power} {j = 27} (omega (arith, known)))
+known_decimal_units : (bit : Bool)
+    → agree_below (λ n. ltb (bits (shape n false bit)) (bits (greatest bit))) (λ n. true) (prefix_count + 1) ≡ true
+known_decimal_units true = refl
+known_decimal_units false = refl
 
 -- each decimal unit is smaller than the greatest binary unit of the same kind
-decimal_below : (power : ℕ) (bit : Bool) → power ≤ 9 → bits (shape power false bit) < bits (greatest bit)
-decimal_below power true known = omega (arith, decimal_bits power true known)
-decimal_below power false known = omega (arith, decimal_bits power false known)
+decimal_below : (power : ℕ) (bit : Bool) → power ≤ prefix_count → bits (shape power false bit) < bits (greatest bit)
+decimal_below power bit known =
+    ltb-true _ _ (agree_below_at (λ n. ltb (bits (shape n false bit)) (bits (greatest bit))) (λ n. true)
+    (prefix_count + 1) power (known_decimal_units bit) (omega (arith, known)))
 
 -- a size in bits with the exponents `a` of 2 and `b` of 5, for which a decimal unit is chosen
 module _ (family : Family) (in_bits precision a b power : ℕ) (bit : Bool) (powers : IsTwoFive in_bits a b)

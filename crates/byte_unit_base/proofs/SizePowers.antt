@@ -14,6 +14,7 @@ use Rattle.byte_unit_base.specs.Version.{current}
 use Rattle.byte_unit_base.specs.Kinds.{bits_in}
 use Rattle.byte_unit_base.specs.Choice.{IsLargest, NoneHas, IsExactUnit, IsChosen, CountsChoice, TakesSteps, places_within}
 use Rattle.byte_unit_base.specs.ChoiceLaws.{SizesAreExactByPowers}
+use Rattle.byte_unit_base.proofs.Quotients.{whole_takes_none}
 use Rattle.byte_unit_base.proofs.Rows.{HasPowers, IsMultiple}
 use Rattle.byte_unit_base.specs.declared.kind.Kind.{Kind}
 use Rattle.byte_unit_base.specs.declared.kind.Kind.TheVariants.{Byte, Bit}
@@ -53,88 +54,64 @@ one_zeros = refl
 -- a size in bits has the exponents of the size in its kind, that of 2 greater by three for bytes
 pub in_bits_powers : (size divisor a b : ℕ) → (divisor ≡ 8) ⊎ (divisor ≡ 1) → IsTwoFive size a b
     → IsTwoFive (size * divisor) (a + trailing_zeros w128 divisor) b
-in_bits_powers size divisor a b kind h =
-    let HasPowersTimes : ℕ → Type 0 = λ d. IsTwoFive (size * d) (a + trailing_zeros w128 d) b in
-    let eight : HasPowersTimes 8 = subst (λ n. IsTwoFive (size * 8) (a + n) b) (sym eight_zeros)
-    (eight_times size a b h) in
-    let once : size ≡ size * 1 = omega arith in
-    let none : a ≡ a + 0 = omega arith in
-    let same = subst (λ n. IsTwoFive (size * 1) n b) none (subst (λ n. IsTwoFive n a b) once h) in
-    let by_one : HasPowersTimes 1 = subst (λ n. IsTwoFive (size * 1) (a + n) b) (sym one_zeros) same in
-    ⊎_elim (λ e. subst HasPowersTimes (sym e) eight) (λ e. subst HasPowersTimes (sym e) by_one) kind
+in_bits_powers size divisor a b (inl e) h = rw (e, eight_zeros) (eight_times size a b h)
+in_bits_powers size divisor a b (inr e) h =
+    let once : size * 1 ≡ size = omega arith in
+    let none : a + 0 ≡ a = omega arith in
+    rw (e, one_zeros, once, none) h
 
 -- a size in bits is 2 and 5 to its exponents times the factor that is left, as the size in its kind is
 pub in_bits_product : (size divisor left a b : ℕ) → (divisor ≡ 8) ⊎ (divisor ≡ 1) → left * (2 ^ a * 5 ^ b) ≡ size
     → left * (2 ^ (a + trailing_zeros w128 divisor) * 5 ^ b) ≡ size * divisor
-in_bits_product size divisor left a b kind h =
-    let IsProductTimes : ℕ → Type 0 = λ d. left * (2 ^ (a + trailing_zeros w128 d) * 5 ^ b) ≡ size * d in
-    let eight : IsProductTimes 8 = ap (λ n. left * (2 ^ (a + n) * 5 ^ b)) eight_zeros
-    ∙ (ap (λ n. left * (n * 5 ^ b)) (pow-add 2 a 3) ∙ omega (arith, ap (λ n. n * 8) h)) in
+in_bits_product size divisor left a b (inl e) h =
+    rw (e, eight_zeros, pow-add 2 a 3) (omega (arith, ap (λ n. n * 8) h))
+in_bits_product size divisor left a b (inr e) h =
     let none : a + 0 ≡ a = omega arith in
-    let by_one : IsProductTimes 1 = ap (λ n. left * (2 ^ (a + n) * 5 ^ b)) one_zeros
-    ∙ (ap (λ n. left * (2 ^ n * 5 ^ b)) none ∙ (h ∙ omega arith)) in
-    ⊎_elim (λ e. subst IsProductTimes (sym e) eight) (λ e. subst IsProductTimes (sym e) by_one) kind
+    rw (e, one_zeros, none) (h ∙ omega arith)
 
 -- the units with no greater exponents than those of the size plus the places are those in which it is exact
-module _ (family : Family) (in_bits precision a b : ℕ) (powers : IsTwoFive in_bits a b) where
-  abbrev HasFewPowers : Shape → Type 0
-  HasFewPowers = HasPowers family in_bits (a + places_within precision) (b + places_within precision)
-
-  pub states_of_powers : (unit : Shape) → HasFewPowers unit → IsExactUnit family in_bits precision unit
-  states_of_powers unit h = record {
+module _ {family : Family} {in_bits most a b : ℕ} (precision : ℕ) (same : most ≡ places_within precision)
+    (powers : IsTwoFive in_bits a b) where
+  exact_of_powers : (unit : Shape) → HasPowers family in_bits (a + most) (b + most) unit
+      → IsExactUnit family in_bits precision unit
+  exact_of_powers unit h = record {
     member = h.member;
     not_above = h.not_above;
-    exact = (exact_by_powers in_bits (twos unit) (fives unit) a b (places_within precision) powers).1
-        (h.few_twos, h.few_fives);
+    exact = rw (← same) ((exact_by_powers in_bits (twos unit) (fives unit) a b most powers).1 (h.few_twos, h.few_fives));
   }
 
-  pub powers_of_states : (unit : Shape) → IsExactUnit family in_bits precision unit → HasFewPowers unit
-  powers_of_states unit s =
-      let h = (exact_by_powers in_bits (twos unit) (fives unit) a b (places_within precision) powers).0 s.exact in
+  powers_of_exact : (unit : Shape) → IsExactUnit family in_bits precision unit
+      → HasPowers family in_bits (a + most) (b + most) unit
+  powers_of_exact unit s =
+      let exact : IsExactAt in_bits (bits unit) most = rw same s.exact in
+      let h = (exact_by_powers in_bits (twos unit) (fives unit) a b most powers).0 exact in
       record { member = s.member; not_above = s.not_above; few_twos = h.0; few_fives = h.1 }
 
-  pub largest_of_powers : (unit : Shape) → IsLargest HasFewPowers unit
-      → IsLargest (IsExactUnit family in_bits precision) unit
-  largest_of_powers unit h = record {
-    has = states_of_powers unit h.has;
-    largest = λ other s. h.largest other (powers_of_states other s);
-  }
+  -- the largest unit with no greater exponents than those of the size plus the places is chosen, with its quotient
+  pub chosen_by_powers : {number : ℕ} (unit : Shape) → IsLargest (HasPowers family in_bits (a + most) (b + most)) unit
+      → IsQuotient in_bits (bits unit) (places_within most) number → IsChosen family in_bits precision unit number
+  chosen_by_powers {number} unit h q =
+      let within : places_within most ≡ places_within precision = omega (arith, same) in
+      record {
+        unit_is = record {
+          has = exact_of_powers unit h.has;
+          largest = λ other s. h.largest other (powers_of_exact other s);
+        };
+        number_is = rw (← within) q;
+      }
 
-  pub none_of_powers : NoneHas HasFewPowers → NoneHas (IsExactUnit family in_bits precision)
-  none_of_powers none = λ unit s. none unit (powers_of_states unit s)
-
--- the largest unit with no greater exponents than those of the size plus the places is chosen, with its quotient
-pub chosen_by_powers : {family : Family} {in_bits most a b number : ℕ} (precision : ℕ) (unit : Shape)
-    → most ≡ places_within precision
-    → IsTwoFive in_bits a b → IsLargest (HasPowers family in_bits (a + most) (b + most)) unit
-    → IsQuotient in_bits (bits unit) (places_within most) number → IsChosen family in_bits precision unit number
-chosen_by_powers {family} {in_bits} {most} {a} {b} {number} precision unit same powers h q =
-    let found : ℕ → Type 0 = λ n. IsLargest (HasPowers family in_bits (a + n) (b + n)) unit in
-    let within : places_within most ≡ places_within precision = omega (arith, same) in
-    let quotient : ℕ → Type 0 = λ n. IsQuotient in_bits (bits unit) n number in
-    record {
-      unit_is = largest_of_powers family in_bits precision a b powers unit (subst found same h);
-      number_is = subst quotient within q;
-    }
-
--- if no unit has exponents that are small enough, the size is exact in no unit
-pub none_by_powers : {family : Family} {in_bits most a b : ℕ} (precision : ℕ) → most ≡ places_within precision
-    → IsTwoFive in_bits a b
-    → NoneHas (HasPowers family in_bits (a + most) (b + most)) → NoneHas (IsExactUnit family in_bits precision)
-none_by_powers {family} {in_bits} {most} {a} {b} precision same powers h =
-    let none : ℕ → Type 0 = λ n. NoneHas (HasPowers family in_bits (a + n) (b + n)) in
-    none_of_powers family in_bits precision a b powers (subst none same h)
+  -- if no unit has exponents that are small enough, the size is exact in no unit
+  pub none_by_powers : NoneHas (HasPowers family in_bits (a + most) (b + most))
+      → NoneHas (IsExactUnit family in_bits precision)
+  none_by_powers none = λ unit s. none unit (powers_of_exact unit s)
 
 -- a size is exact in a unit whose exponents are no greater than its own plus the places
 pub exact_by_row : {family : Family} {in_bits most a b B : ℕ} (unit : Shape) → most ≤ places_of_decimal → B ≡ bits unit
     → IsTwoFive in_bits a b
     → HasPowers family in_bits (a + most) (b + most) unit → IsExactAt in_bits B (places_within most)
 exact_by_row {family} {in_bits} {most} {a} {b} {B} unit room same powers h =
-    let within : most ≡ places_within most = omega (arith, room) in
-    let exact : ℕ → Type 0 = λ n. IsExactAt in_bits n (places_within most) in
-    let places : ℕ → Type 0 = λ n. IsExactAt in_bits (bits unit) n in
-    let there = (exact_by_powers in_bits (twos unit) (fives unit) a b most powers).1 (h.few_twos, h.few_fives) in
-    subst exact (sym same) (subst places within there)
+    let within : places_within most ≡ most = omega (arith, room) in
+    rw (same, within) ((exact_by_powers in_bits (twos unit) (fives unit) a b most powers).1 (h.few_twos, h.few_fives))
 
 -- with at most five digits after the point, a size divided by a unit stays below the limit of a whole part
 pub count_fits : {row : ShapeRow} (size divisor places : ℕ) → IsMultiple row → (divisor ≡ 8) ⊎ (divisor ≡ 1)
@@ -168,13 +145,5 @@ pub counted_whole : (size number old new : ℕ) → number ≡ size * scale → 
 counted_whole size number old new value (inl h) = inl h
 counted_whole size number old new value (inr (steps, t, e)) =
     let none : t.places ≤ 0 = t.is_places.least 0 (0, omega arith) in
-    let scaled = ap (λ n. n * 10 ^ t.places) value in
-    let whole : TakesSteps size number steps = record {
-      twos = t.twos;
-      fives = t.fives;
-      places = t.places;
-      powers = t.powers;
-      is_places = record { has = (size * 10 ^ t.places, omega (arith, scaled)); least = λ p k. omega (arith, none) };
-      steps_are = t.steps_are;
-    } in
-    inr (steps, whole, e)
+    let whole : IsLeastPlaces number scale 0 = rw value (whole_takes_none size) in
+    counted_choice old new new t.powers whole (omega (arith, e, t.steps_are, none)) (omega arith)

@@ -106,7 +106,7 @@ returns-then-row-in_bits-clause-chosen c =
     let exact = exact_by_row _ (omega (arith, c.min-most.ensures)) refl powers has in
     let quotient = quotient_of_product _ _ _ _ (some_bits _) (omega arith)
     (returns-then-row-in_bits-clause-exact c) exact in
-    chosen_by_powers c.args.places _ c.min-most.ensures powers found quotient
+    chosen_by_powers c.args.places c.min-most.ensures powers _ found quotient
 
 pub returns-then-row-in_bits-clause-steps : goal.returns-then-row-in_bits-clause-steps
 returns-then-row-in_bits-clause-steps c =
