@@ -91,16 +91,10 @@ count_end false = (66, refl, refl)
 
 -- the name of a unit with a prefix: its letter, an `i` if it is binary, and the letter of the kind
 pub with_prefix : (s : Shape) → 0 < s.power → unit_name_in current s ≡ letter_at s.power ∷ (infix_of s.binary ++ count_of s.bit)
-with_prefix s h =
-    let some : nat_lt 0 s.power ≡ true = grind (arith, nat_tests) in
-    ap (λ b. (if b then letter_at s.power ∷ [] else []) ++ (if b && s.binary then codes "i" else []) ++ count_of s.bit)
-    some
+with_prefix s h = let some : nat_lt 0 s.power ≡ true = grind (arith, nat_tests) in rw some refl
 
 without_prefix : (s : Shape) → s.power ≤ 0 → unit_name_in current s ≡ count_of s.bit
-without_prefix s h =
-    let none : nat_lt 0 s.power ≡ false = grind (arith, nat_tests) in
-    ap (λ b. (if b then letter_at s.power ∷ [] else []) ++ (if b && s.binary then codes "i" else []) ++ count_of s.bit)
-    none
+without_prefix s h = let none : nat_lt 0 s.power ≡ false = grind (arith, nat_tests) in rw none refl
 
 spells_multiple : (flags : Flags) (s : Shape) → IsKnown s → SaysKind flags s.bit → 0 < s.power
     → Spells current flags (unit_name_in current s) s
@@ -121,10 +115,9 @@ spells_multiple flags s h says some = inr record {
 spells_plain : (flags : Flags) (s : Shape) → IsKnown s → SaysKind flags s.bit → s.power ≤ 0
     → Spells current flags (unit_name_in current s) s
 spells_plain flags s h says none =
-    let SpellsKind : List ℕ → Type 0 = λ text. SpellsCount flags text s.bit in
     let zero : s.power ≡ 0 = omega (arith, none) in
     inl record {
-      count_is = subst SpellsKind (sym (without_prefix s none)) (count_spells flags s.bit says);
+      count_is = rw (without_prefix s none) (count_spells flags s.bit says);
       power_is = zero;
       binary_is = h.alone zero;
     }

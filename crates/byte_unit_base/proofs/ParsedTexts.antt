@@ -17,7 +17,7 @@ use Rattle.byte_unit_base.proofs.Scans.{IsAnswer, reads_meaning_or_fault, one_an
 use Rattle.byte_unit_base.proofs.Computed.{rounded_up_is_least}
 use Rattle.byte_unit_base.proofs.UnitReads.{unit_scan_is}
 use Rattle.byte_unit_base.proofs.SizeReads.{size_scan_is}
-use Rattle.byte_unit_base.proofs.SizeOrFault.{accepted_or_not}
+use Rattle.byte_unit_base.proofs.SizeOrFault.{accepted_or_refused}
 
 -- if each input has one meaning or one error, a result that is a meaning or an error of the input is exactly that
 gives_answer : (Meaning : Type 0) (Means : Meaning → Type 0) (Fails : Fault → Type 0) (r : Result Meaning Fault)
@@ -76,4 +76,4 @@ module _ (kind : Kind) (ignore_case : Bool) (bytes : List ℕ) where
 
 pub parsed_sizes_are_accepted : ParsedSizesAreAccepted
 parsed_sizes_are_accepted kind ignore_case bytes =
-    gives_answer _ _ _ _ (accepted_or_not kind ignore_case bytes) (size_is_answer kind ignore_case bytes)
+    gives_answer _ _ _ _ (accepted_or_refused kind ignore_case bytes) (size_is_answer kind ignore_case bytes)

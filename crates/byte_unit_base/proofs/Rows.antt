@@ -21,7 +21,6 @@ use Rattle.byte_unit_base.specs.UnitLists.{units_of_prefixes, prefix_count}
 use Rattle.byte_unit_base.specs.declared.unit.Unit.TheVariants.{Bit}
 use Rattle.byte_unit_base.specs.declared.unit.family.UnitRow.{UnitRow}
 use Rattle.byte_unit_base.specs.declared.unit.family.Family.{Family}
-use Rattle.byte_unit_base.specs.declared.unit.family.Family.TheVariants.{All, Bytes, Bits}
 use Rattle.byte_unit_base.proofs.Choosing.{small_bits, some_bits}
 use Rattle.byte_unit_base.proofs.Falling.{Remain, falls, in_falling, all_in_family, current_falls}
 use Rattle.byte_unit_base.proofs.Falling.{largest_found}

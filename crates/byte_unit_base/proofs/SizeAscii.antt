@@ -1,15 +1,16 @@
 -- The inputs of the grammar of sizes are visible characters of ASCII, and spaces between a number and a unit. So only
 -- spaces after a number without a unit can be trimmed, and what is left is the same number and unit.
-use Rattle.std.proofs.Common.{◌≡◌, ℕ, zero, suc, ◌-◌, ◌<◌, Bool, true, false, cond, nat_eq, ◌&&◌, inl, inr, List, [], ◌∷◌, ◌++◌}
-use Rattle.std.proofs.Common.{length, get_or, replicate, refl, ap, sym, subst, ◌∙◌, arith, append-nil}
+use Rattle.std.proofs.Common.{◌≡◌, ℕ, zero, suc, ◌-◌, ◌<◌, Bool, true, false, cond, nat_eq, inl, inr, List, [], ◌∷◌, ◌++◌}
+use Rattle.std.proofs.Common.{length, replicate, refl, ap, sym, subst, ◌∙◌, arith, append-nil}
 use Rattle.std.specs.List.{list_all}
-use Rattle.std.specs.Char.{digit_value, is_ascii_graphic, to_ascii_lowercase, to_ascii_uppercase}
+use Rattle.std.specs.Char.{is_ascii_graphic, to_ascii_lowercase}
 use Rattle.std.specs.Str.{IsAscii, IsUtf8, chars, str_to_ascii_lowercase, skip_leading_whitespace, drop_trailing_whitespace}
 use Rattle.std.specs.Str.Parse.{AllDigits}
 use Rattle.std.proofs.lemmas.Bool.{and_from, and_parts}
 use Rattle.std.proofs.lemmas.Bool.Decides.{nat_tests}
 use Rattle.std.proofs.lemmas.List.{length-append}
-use Rattle.std.proofs.lemmas.List.Elements.{All-replicate}
+use Rattle.std.proofs.lemmas.List.Elements.{All-replicate, All-get_or}
+use Rattle.std.proofs.lemmas.List.Sums.{AllPass-from_list_all}
 use Rattle.std.proofs.lemmas.List.Folds.{list_all-append}
 use Rattle.std.proofs.lemmas.Str.{IsAscii-append, IsUtf8-from_ascii, chars-IsAscii}
 use Rattle.std.proofs.lemmas.Str.Ascii.{IsAscii-nil, IsAscii-cons, IsAscii-from_all}
@@ -29,34 +30,21 @@ IsVisible text = list_all is_ascii_graphic text ≡ true
 visible_append : (xs ys : List ℕ) → IsVisible xs → IsVisible ys → IsVisible (xs ++ ys)
 visible_append xs ys h k = list_all-append is_ascii_graphic xs ys ∙ and_from _ _ h k
 
-visible_at : (text : List ℕ) (i : ℕ) → IsVisible text → i < length text → is_ascii_graphic (get_or text i 0) ≡ true
-visible_at [] i h inside = absurd (omega (arith, inside))
-visible_at (c ∷ cs) zero h inside = (and_parts _ _ h).0
-visible_at (c ∷ cs) (suc i) h inside = visible_at cs i (and_parts _ _ h).1 (omega (arith, inside))
-
-visible_small : (c : ℕ) → is_ascii_graphic c ≡ true → c < 128
-visible_small c visible = grind (arith, nat_tests)
-
 visible_ascii : (text : List ℕ) → IsVisible text → IsAscii text
 visible_ascii [] h = IsAscii-nil
-visible_ascii (c ∷ cs) h = let p = and_parts _ _ h in IsAscii-cons c cs (visible_small c p.0) (visible_ascii cs p.1)
-
-lower_visible : (c : ℕ) → is_ascii_graphic (to_ascii_lowercase c) ≡ true → is_ascii_graphic c ≡ true
-lower_visible c visible = grind (arith, nat_tests)
-
-upper_visible : (c : ℕ) → is_ascii_graphic (to_ascii_uppercase c) ≡ true → is_ascii_graphic c ≡ true
-upper_visible c visible = grind (arith, nat_tests)
+visible_ascii (c ∷ cs) h =
+    let p = and_parts (is_ascii_graphic c) (list_all is_ascii_graphic cs) h in
+    IsAscii-cons c cs (grind (arith, nat_tests, p.0)) (visible_ascii cs p.1)
 
 text_visible : (text : List ℕ) → IsVisible (str_to_ascii_lowercase text) → IsVisible text
 text_visible [] h = refl
-text_visible (c ∷ cs) h = let p = and_parts _ _ h in and_from _ _ (lower_visible c p.0) (text_visible cs p.1)
-
-digit_visible : (c : ℕ) → digit_value c < 10 → is_ascii_graphic c ≡ true
-digit_visible c small = grind (arith, nat_tests)
+text_visible (c ∷ cs) h =
+    let p = and_parts (is_ascii_graphic (to_ascii_lowercase c)) (list_all is_ascii_graphic (str_to_ascii_lowercase cs)) h in
+    and_from _ _ (grind (arith, nat_tests, p.0)) (text_visible cs p.1)
 
 digits_visible : (text : List ℕ) → AllDigits 10 text → IsVisible text
 digits_visible [] h = refl
-digits_visible (c ∷ cs) h = and_from _ _ (digit_visible c h.0) (digits_visible cs h.1)
+digits_visible (c ∷ cs) h = and_from _ _ (grind (arith, nat_tests, h.0)) (digits_visible cs h.1)
 
 -- spellings
 
@@ -74,10 +62,10 @@ binary_visible text binary (inr h) = text_visible text (ap (list_all is_ascii_gr
 prefix_visible : (text : List ℕ) (power : ℕ) (binary : Bool) → SpellsPrefix current text power binary → IsVisible text
 prefix_visible text power binary h =
     let is = h.letter_is in
-    let letter = visible_at current.letters (power - 1) refl (omega (arith, is.0, is.1)) in
+    let letter = All-get_or (λ c. is_ascii_graphic c ≡ true) current.letters (power - 1) 0 (omega (arith, is.0, is.1))
+    (AllPass-from_list_all is_ascii_graphic current.letters refl) in
     ap (list_all is_ascii_graphic) h.text_is
-    ∙ and_from _ _ (upper_visible h.letter (ap is_ascii_graphic is.2 ∙ letter))
-    (binary_visible h.infix_part binary h.infix_is)
+    ∙ and_from _ _ (grind (arith, nat_tests, ap is_ascii_graphic is.2 ∙ letter)) (binary_visible h.infix_part binary h.infix_is)
 
 spelling_visible : (flags : Flags) (text : List ℕ) (unit : Shape) → Spells current flags text unit → IsVisible text
 spelling_visible flags text unit (inl h) = count_visible flags text unit.bit h.count_is
@@ -121,19 +109,14 @@ size_ascii flags text number unit h =
 skip_kept : (front rest : List ℕ) → IsVisible front → 0 < length front
     → skip_leading_whitespace (front ++ rest) ≡ front ++ rest
 skip_kept [] rest h some = absurd (omega (arith, some))
-skip_kept (c ∷ cs) rest h some =
-    ap (λ white. cond white (skip_leading_whitespace (cs ++ rest)) (c ∷ cs ++ rest))
-    (visible_not_white c (and_parts _ _ h).0)
+skip_kept (c ∷ cs) rest h some = rw (visible_not_white c (and_parts _ _ h).0) refl
 
 -- white space is dropped only after visible characters
 drop_after : (front rest : List ℕ) → IsVisible front
     → drop_trailing_whitespace (front ++ rest) ≡ front ++ drop_trailing_whitespace rest
 drop_after [] rest h = refl
 drop_after (c ∷ cs) rest h =
-    let p = and_parts _ _ h in
-    let kept = drop_trailing_whitespace (cs ++ rest) in
-    ap (λ white. cond (white && nat_eq (length kept) 0) [] (c ∷ kept)) (visible_not_white c p.0)
-    ∙ ap (λ kept. c ∷ kept) (drop_after cs rest p.1)
+    let p = and_parts _ _ h in rw (visible_not_white c p.0) (ap (λ kept. c ∷ kept) (drop_after cs rest p.1))
 
 -- one space more before what is left is left too, or dropped if nothing is left
 one_more : (kept unit_part : List ℕ) (spaces : ℕ) → kept ≡ replicate spaces space ++ unit_part

@@ -1,6 +1,5 @@
 -- What the parser of a size returns, by the result of parsing its number and unit.
-use Rattle.std.proofs.Common.{◌≡◌, ℕ, Bool, List, Some, None, Ok, Err, sym, ap, subst, arith, inl, inr, refl, ◌∙◌}
-use Rattle.byte_unit_base.specs.Shape.{Shape}
+use Rattle.std.proofs.Common.{◌≡◌, ℕ, Bool, List, Some, None, Ok, Err, sym, ap, arith, inl, inr, refl, ◌∙◌}
 use Rattle.byte_unit_base.specs.Version.{current}
 use Rattle.byte_unit_base.specs.Units.{shape_of}
 use Rattle.byte_unit_base.specs.Fault.{exceeded}
@@ -33,9 +32,7 @@ found_as_read :
     → IsRead current kind ignore_case bytes number n → (found.0 ≡ number) × IsLeastOf kind found.0 (shape_of found.1) n
 found_as_read kind ignore_case bytes found number n reading read =
     let same = reading.reads number read.unit read.is_size in
-    let IsLeastOfNumber : ℕ → Type 0 = λ m. IsLeastOf kind m (shape_of found.1) n in
-    let IsLeastOfUnit : Shape → Type 0 = λ s. IsLeastOf kind number s n in
-    (same.0, subst IsLeastOfNumber (sym same.0) (subst IsLeastOfUnit (sym same.1) read.is_least))
+    (same.0, rw (same.0, same.1) read.is_least)
 
 -- the parser as a function finds the number and unit that the parser found, rounds the number up, and gives the result
 -- by the size

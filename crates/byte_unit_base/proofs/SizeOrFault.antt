@@ -8,33 +8,26 @@ use Rattle.byte_unit_base.specs.Fault.{Fault, exceeded}
 use Rattle.byte_unit_base.specs.Kinds.{flags_for}
 use Rattle.byte_unit_base.specs.LeastOfKind.{IsLeastOf}
 use Rattle.byte_unit_base.specs.Accepted.{IsRead, IsAccepted, Exceeds, HasFault, IsRejected}
-use Rattle.byte_unit_base.specs.SizeLaws.{IsOneOfThree, EachTextIsOneOfThree, TextsAreAcceptedOrRejected}
+use Rattle.byte_unit_base.specs.SizeLaws.{IsOneOfThree}
 use Rattle.byte_unit_base.specs.ReaderLaws.{IsOneAnswer, Represents}
 use Rattle.byte_unit_base.specs.declared.kind.Kind.{Kind}
 use Rattle.byte_unit_base.proofs.Rounding.{least_exists, least_is_unique}
 use Rattle.byte_unit_base.proofs.SizeReads.{size_texts_have_one_answer}
-
--- two readings of an input have the same number and the same size
-record IsSame (number other n m : ℕ) : Type 0 where
-  numbers : number ≡ other
-  sizes : n ≡ m
 
 module _ (kind : Kind) (ignore_case : Bool) (text : List ℕ) where
   one_answer : IsOneAnswer (ℕ × Shape) (Represents (flags_for kind ignore_case) (trim_of text))
       (HasFault kind ignore_case text)
   one_answer = size_texts_have_one_answer (flags_for kind ignore_case) (trim_of text)
 
+  -- two readings of an input have the same number and the same size
   same_read : (number other n m : ℕ) → IsRead current kind ignore_case text number n
       → IsRead current kind ignore_case text other m
-      → IsSame number other n m
+      → (number ≡ other) × (n ≡ m)
   same_read number other n m a b =
       let same : ◌≡◌ {A = ℕ × Shape} (number, a.unit) (other, b.unit) =
       one_answer.one_meaning (number, a.unit) (other, b.unit) a.is_size b.is_size in
-      let HasLeastSize : ℕ × Shape → Type 0 = λ r. IsLeastOf kind r.0 r.1 n in
-      record {
-        numbers = ap (λ r. r.0) same;
-        sizes = least_is_unique kind other b.unit n m (subst HasLeastSize same a.is_least) b.is_least;
-      }
+      let is_least = subst (λ r. IsLeastOf kind r.0 r.1 n) same a.is_least in
+      (ap (λ r. r.0) same, least_is_unique kind other b.unit n m is_least b.is_least)
 
   -- an input in the grammar has no error of an input that is not
   no_fault : (number n : ℕ) (fault : Fault) → IsRead current kind ignore_case text number n
@@ -46,7 +39,7 @@ module _ (kind : Kind) (ignore_case : Bool) (text : List ℕ) where
       → ¬ (Exceeds kind ignore_case text number)
   no_excess n number a e =
       let same = same_read a.number number n e.size a.is_read e.is_read in
-      omega (arith, same.sizes, a.below, e.above)
+      omega (arith, same.1, a.below, e.above)
 
   some_of_three : ((n : ℕ) × IsAccepted kind ignore_case text n)
       ⊎ (((number : ℕ) × Exceeds kind ignore_case text number)
@@ -62,13 +55,12 @@ module _ (kind : Kind) (ignore_case : Bool) (text : List ℕ) where
       one_answer.some
 
   -- an input is accepted as one size, or its size is too large, or it is not in the grammar and has one error
-  pub is_one_of_three : IsOneOfThree
-      (IsAccepted kind ignore_case text) (Exceeds kind ignore_case text)
+  pub one_of_three : IsOneOfThree (IsAccepted kind ignore_case text) (Exceeds kind ignore_case text)
       (HasFault kind ignore_case text)
-  is_one_of_three = record {
+  one_of_three = record {
     some = some_of_three;
-    one_size = λ n other a b. (same_read a.number b.number n other a.is_read b.is_read).sizes;
-    one_number = λ number other a b. (same_read number other a.size b.size a.is_read b.is_read).numbers;
+    one_size = λ n other a b. (same_read a.number b.number n other a.is_read b.is_read).1;
+    one_number = λ number other a b. (same_read number other a.size b.size a.is_read b.is_read).0;
     one_fault = one_answer.one_fault;
     no_excess = no_excess;
     no_fault = λ n fault a f. no_fault a.number n fault a.is_read f;
@@ -85,30 +77,21 @@ module _ (kind : Kind) (ignore_case : Bool) (text : List ℕ) where
   one_refusal : (fault other : Fault) → IsRejected kind ignore_case text fault
       → IsRejected kind ignore_case text other
       → fault ≡ other
-  one_refusal fault other (inl e) (inl x) = e.1 ∙ (ap exceeded (is_one_of_three.one_number e.0 x.0 e.2 x.2) ∙ sym x.1)
-  one_refusal fault other (inl e) (inr f) = absurd (is_one_of_three.no_fault_of_excess e.0 other e.2 f)
-  one_refusal fault other (inr f) (inl e) = absurd (is_one_of_three.no_fault_of_excess e.0 fault e.2 f)
-  one_refusal fault other (inr f) (inr g) = is_one_of_three.one_fault fault other f g
+  one_refusal fault other (inl e) (inl x) = e.1 ∙ (ap exceeded (one_of_three.one_number e.0 x.0 e.2 x.2) ∙ sym x.1)
+  one_refusal fault other (inl e) (inr f) = absurd (one_of_three.no_fault_of_excess e.0 other e.2 f)
+  one_refusal fault other (inr f) (inl e) = absurd (one_of_three.no_fault_of_excess e.0 fault e.2 f)
+  one_refusal fault other (inr f) (inr g) = one_of_three.one_fault fault other f g
 
   no_refusal : (n : ℕ) (fault : Fault) → IsAccepted kind ignore_case text n
       → ¬ (IsRejected kind ignore_case text fault)
-  no_refusal n fault a (inl e) = is_one_of_three.no_excess n e.0 a e.2
-  no_refusal n fault a (inr f) = is_one_of_three.no_fault n fault a f
+  no_refusal n fault a (inl e) = one_of_three.no_excess n e.0 a e.2
+  no_refusal n fault a (inr f) = one_of_three.no_fault n fault a f
 
   -- an input is accepted as one size, or rejected with one error
-  pub accepted_or_not : IsOneAnswer ℕ (IsAccepted kind ignore_case text)
-      (IsRejected kind ignore_case text)
-  accepted_or_not = record {
-    some = ⊎_elim (λ a. inl a) (λ r. inr (refusal r)) is_one_of_three.some;
-    one_meaning = is_one_of_three.one_size;
+  pub accepted_or_refused : IsOneAnswer ℕ (IsAccepted kind ignore_case text) (IsRejected kind ignore_case text)
+  accepted_or_refused = record {
+    some = ⊎_elim (λ a. inl a) (λ r. inr (refusal r)) one_of_three.some;
+    one_meaning = one_of_three.one_size;
     one_fault = one_refusal;
     not_both = no_refusal;
   }
-
--- each input is accepted as one size, or its size is too large, or it is not in the grammar and has one error
-pub one_of_three : EachTextIsOneOfThree
-one_of_three kind ignore_case text = is_one_of_three kind ignore_case text
-
--- each input is accepted as one size, or rejected with one error, and not both
-pub accepted_or_refused : TextsAreAcceptedOrRejected
-accepted_or_refused kind ignore_case text = accepted_or_not kind ignore_case text

@@ -1,6 +1,6 @@
 -- What is known of the text that led to a state of the state machine of sizes, and that each step adds its character to
 -- it.
-use Rattle.std.proofs.Common.{◌≡◌, ℕ, zero, suc, ◌+◌, ◌-◌, ◌*◌, ◌^◌, ◌<◌, ◌≤◌, inl, inr, List, [], ◌∷◌, ◌++◌, length}
+use Rattle.std.proofs.Common.{◌≡◌, ℕ, ◌+◌, ◌-◌, ◌*◌, ◌^◌, ◌<◌, ◌≤◌, inl, inr, List, [], ◌∷◌, ◌++◌, length}
 use Rattle.std.proofs.Common.{replicate, sym, refl}
 use Rattle.std.proofs.Common.{ap, subst, ◌∙◌, arith, append_assoc, append-nil, length-append}
 use Rattle.std.specs.Char.{digit_value}
@@ -132,7 +132,7 @@ SizeReached-step (Whole w) t c text (inr (inl k)) r =
       text_is = ap (λ x. text ++ x ∷ []) k.0;
       whole_is = r;
     })
-SizeReached-step (Whole w) t c text (inr (inr k)) r = 
+SizeReached-step (Whole w) t c text (inr (inr k)) r =
     number_grows (w * scale) 0 c t text text (sym (append-nil text)) (inl (w, r, refl)) k
 SizeReached-step (Point w) t c text k r =
     subst (λ x. SizeReached x (text ++ c ∷ [])) k.1 (record {

@@ -1,7 +1,7 @@
 -- The state machine of sizes reads each number with its unit, and each viable prefix of one, to its end.
 use Rattle.std.proofs.Common.{◌≡◌, ◌≢◌, ℕ, zero, suc, ◌+◌, ◌-◌, ◌*◌, ◌^◌, ◌<◌, ◌≤◌, inl, inr, ⊎_elim, List, [], ◌∷◌, ◌++◌}
-use Rattle.std.proofs.Common.{Option, Some, None, Ok}
-use Rattle.std.proofs.Common.{length, replicate, sym, refl, ap, ◌∙◌, arith, true, false, cond, eqb, ltb, append-nil}
+use Rattle.std.proofs.Common.{Some, None, Ok}
+use Rattle.std.proofs.Common.{length, replicate, sym, refl, ap, ◌∙◌, arith, true, false, eqb, ltb, append-nil}
 use Rattle.std.specs.Option.{option_map}
 use Rattle.std.specs.Char.{digit_value, to_ascii_uppercase}
 use Rattle.std.specs.Str.Parse.{IsNumeral, AllDigits, digits_value, digits_value_after}
@@ -13,26 +13,18 @@ use Rattle.byte_unit_base.specs.Version.{current}
 use Rattle.byte_unit_base.specs.Spelling.{Flags}
 use Rattle.byte_unit_base.specs.Number.{IsWholePart, IsPointed, IsPrecise, IsNumberText}
 use Rattle.byte_unit_base.specs.SizeText.{space, IsSizeText}
-use Rattle.byte_unit_base.specs.ViablePrefix.{ParserState, beginning, in_whole, after_point, in_fraction, before_unit, after_prefix}
-use Rattle.byte_unit_base.specs.ViablePrefix.{after_b, after_bi}
-use Rattle.byte_unit_base.specs.ViablePrefix.{after_bit, after_bits, IsNumberAndUnitPrefix, IsViableSizePrefix}
+use Rattle.byte_unit_base.specs.ViablePrefix.{ParserState, beginning, in_whole, after_point, in_fraction, before_unit}
+use Rattle.byte_unit_base.specs.ViablePrefix.{IsNumberAndUnitPrefix, IsViableSizePrefix}
 use Rattle.byte_unit_base.specs.Scan.{run}
-use Rattle.byte_unit_base.specs.UnitScan.{unit_step, scan_of, unit_parser_state, unit_of, prefix_at, word_step, or_word}
+use Rattle.byte_unit_base.specs.UnitScan.{unit_step, scan_of, unit_parser_state, unit_of}
 use Rattle.byte_unit_base.specs.UnitScan.{start as unit_start}
 use Rattle.byte_unit_base.specs.SizeScan.{size_step, size_scan, size_at_end, size_parser_state, size_or_fault, fixed_point}
-use Rattle.byte_unit_base.specs.declared.unit.scan.Prefix.{Prefix}
-use Rattle.byte_unit_base.specs.declared.unit.scan.Prefix.TheVariants.{Kilo, Mega, Giga, Tera, Peta, Exa, Zetta, Yotta}
-use Rattle.byte_unit_base.specs.declared.unit.scan.Prefix.TheVariants.{Ronna}
 use Rattle.byte_unit_base.specs.declared.unit.scan.UnitScan.{UnitScan}
-use Rattle.byte_unit_base.specs.declared.unit.scan.Multiple.TheVariants.{One, Decimal}
-use Rattle.byte_unit_base.specs.declared.unit.scan.Word.{Word}
-use Rattle.byte_unit_base.specs.declared.unit.scan.Word.TheVariants.{Empty, UpperB, LowerB}
 use Rattle.byte_unit_base.specs.SizeScan.{SizeScan}
 use Rattle.byte_unit_base.specs.SizeScan.{Beginning, Whole, Point, Fraction, Gap}
 use Rattle.byte_unit_base.specs.SizeScan.{UnitAt}
 use Rattle.byte_unit_base.proofs.Options.{some_passed}
-use Rattle.byte_unit_base.proofs.UnitReached.{prefix_found}
-use Rattle.byte_unit_base.proofs.Scans.{run_through, run_step, run_keeps, IsScanned}
+use Rattle.byte_unit_base.proofs.Scans.{run_through, run_step, IsScanned}
 use Rattle.byte_unit_base.proofs.UnitRuns.{spelling_runs, unit_front_runs}
 
 -- digits

@@ -1,19 +1,16 @@
 -- The steps of the state machine of sizes by cases.
-use Rattle.std.proofs.Common.{◌≡◌, ℕ, ◌+◌, ◌*◌, ◌<◌, ◌⊎◌, inl, inr, ⊎_elim, Some, None, refl, Bool}
+use Rattle.std.proofs.Common.{◌≡◌, ℕ, ◌+◌, ◌*◌, ◌<◌, ◌⊎◌, Some}
 use Rattle.std.proofs.Common.{arith}
-use Rattle.std.proofs.Common.{eqb, ltb}
-use Rattle.std.specs.Option.{option_map}
 use Rattle.std.specs.Char.{digit_value}
 use Rattle.std.proofs.lemmas.Bool.Decides.{nat_tests}
 use Rattle.byte_unit_math.specs.Bounds.{scale, places_of_decimal, whole_limit}
 use Rattle.byte_unit_base.specs.UnitScan.{unit_step, start as unit_start}
-use Rattle.byte_unit_base.specs.SizeScan.{size_step, after_number, fixed_point, is_digit}
+use Rattle.byte_unit_base.specs.SizeScan.{size_step, after_number, fixed_point}
 use Rattle.byte_unit_base.specs.declared.unit.scan.UnitScan.{UnitScan}
 use Rattle.byte_unit_base.specs.SizeScan.{SizeScan}
 use Rattle.byte_unit_base.specs.SizeScan.{Beginning, Whole, Point, Fraction, Gap}
 use Rattle.byte_unit_base.specs.SizeScan.{UnitAt}
 use Rattle.byte_unit_base.proofs.Options.{some_mapped}
-use Rattle.byte_unit_base.proofs.UnitReached.{guard_some, eq_if_test_true}
 
 -- after the number `n`, the character continues the unit `s`
 abbrev pub UnitStep : ℕ → UnitScan → ℕ → SizeScan → Type 0

@@ -1,33 +1,29 @@
 -- Trimming: the characters of a trimmed string, and texts that it does not change.
-use Rattle.std.proofs.Common.{◌≡◌, ℕ, suc, ◌+◌, ◌-◌, ◌<◌, List, [], ◌∷◌, ◌++◌, length, take, get_or, refl, sym, ap, ◌∙◌, arith, Bool, true, false}
-use Rattle.std.proofs.Common.{cond, ◌&&◌, nat_eq}
+use Rattle.std.proofs.Common.{◌≡◌, ℕ, ◌+◌, ◌-◌, ◌<◌, List, [], ◌∷◌, ◌++◌, length, take, get_or, refl, sym, ap, ◌∙◌, arith, true, false}
+use Rattle.std.proofs.Common.{◌&&◌, nat_eq}
 use Rattle.std.specs.Str.{chars, trim, trim_start, trim_end, skip_leading_whitespace, drop_trailing_whitespace, IsUtf8}
 use Rattle.std.specs.Str.{IsAscii, all_scalars}
-use Rattle.std.specs.Str.{encode_utf8_all}
 use Rattle.std.specs.Char.{is_whitespace, is_ascii_graphic}
-use Rattle.std.proofs.lemmas.Bool.{and_from, and_parts}
+use Rattle.std.proofs.lemmas.Bool.{and_from, and_parts, and_right, cond_both}
 use Rattle.std.proofs.lemmas.Bool.Decides.{nat_tests}
-use Rattle.std.proofs.lemmas.List.{take_more, take_all}
+use Rattle.std.proofs.lemmas.List.{take_more, take_all, length-append}
 use Rattle.std.proofs.lemmas.Str.{chars-encodes, scalars-chars, chars-IsAscii, chars-append, IsUtf8-from_ascii, IsUtf8-take}
 use Rattle.std.proofs.lemmas.Str.{IsCharBoundary-before_ascii}
 use Rattle.std.proofs.lemmas.Str.Ascii.{IsAscii-nil, IsAscii-cons}
 use Rattle.byte_unit_base.specs.SizeText.{trim_of}
 use Rattle.byte_unit_base.specs.PartsReading.{HasVisibleEnds}
 
-scalars_cond : (t : Bool) (xs ys : List ℕ) → all_scalars xs ≡ true → all_scalars ys ≡ true
-    → all_scalars (cond t xs ys) ≡ true
-scalars_cond true xs ys e f = e
-scalars_cond false xs ys e f = f
-
 scalars_skip : (cs : List ℕ) → all_scalars cs ≡ true → all_scalars (skip_leading_whitespace cs) ≡ true
 scalars_skip [] e = refl
-scalars_skip (c ∷ cs) e = scalars_cond (is_whitespace c) _ _ (scalars_skip cs (and_parts _ _ e).1) e
+scalars_skip (c ∷ cs) e =
+    cond_both (is_whitespace c) _ _ (λ kept. all_scalars kept ≡ true) (λ _. scalars_skip cs (and_parts _ _ e).1) (λ _. e)
 
 scalars_drop : (cs : List ℕ) → all_scalars cs ≡ true → all_scalars (drop_trailing_whitespace cs) ≡ true
 scalars_drop [] e = refl
 scalars_drop (c ∷ cs) e =
-    scalars_cond (is_whitespace c && nat_eq (length (drop_trailing_whitespace cs)) 0) [] _ refl
-    (and_from _ _ (and_parts _ _ e).0 (scalars_drop cs (and_parts _ _ e).1))
+    let parts = and_parts _ _ e in
+    cond_both (is_whitespace c && nat_eq (length (drop_trailing_whitespace cs)) 0) _ _ (λ kept. all_scalars kept ≡ true)
+    (λ _. refl) (λ _. and_from _ _ parts.0 (scalars_drop cs parts.1))
 
 chars-trim_start : (bs : List ℕ) → IsUtf8 bs → chars (trim_start bs) ≡ skip_leading_whitespace (chars bs)
 unfolding trim_start
@@ -38,10 +34,8 @@ chars-trim_start bs u =
 pub chars-trim : (bs : List ℕ) → IsUtf8 bs → chars (trim bs) ≡ trim_of bs
 unfolding trim_end
 chars-trim bs u =
-    let e = chars-trim_start bs u in
-    ap (λ cs. chars (encode_utf8_all (drop_trailing_whitespace cs))) e
-    ∙ chars-encodes (drop_trailing_whitespace (skip_leading_whitespace (chars bs)))
-    (scalars_drop (skip_leading_whitespace (chars bs)) (scalars_skip (chars bs) (scalars-chars bs u)))
+    rw (chars-trim_start bs u) (chars-encodes _ (scalars_drop (skip_leading_whitespace (chars bs))
+    (scalars_skip (chars bs) (scalars-chars bs u))))
 
 -- the text is not empty, and its first character is not white space
 pub record StartsWithoutSpace (text : List ℕ) : Type 0 where
@@ -57,34 +51,20 @@ pub record EndsWithoutSpace (text : List ℕ) : Type 0 where
   pub text_is : text ≡ front ++ last ∷ []
   pub last_is : is_whitespace last ≡ false
 
-suc_is_not_zero : (number : ℕ) → nat_eq (suc number) 0 ≡ false
-suc_is_not_zero number = grind (arith, nat_tests)
-
-not_empty : (white : Bool) (front : List ℕ) (last : ℕ) (kept : List ℕ)
-    → cond (white && nat_eq (length (front ++ last ∷ [])) 0) [] kept ≡ kept
-not_empty false front last kept = refl
-not_empty true [] last kept = refl
-not_empty true (next ∷ front) last kept =
-    ap (λ empty. cond empty [] kept) (suc_is_not_zero (length (front ++ last ∷ [])))
-
 -- a text whose last character is not white space has no white space to drop at its end
 pub keep_last : (front : List ℕ) (last : ℕ) → is_whitespace last ≡ false
     → drop_trailing_whitespace (front ++ last ∷ []) ≡ front ++ last ∷ []
-keep_last [] last is_none = ap (λ white. cond (white && true) [] (last ∷ [])) is_none
+keep_last [] last is_none = rw is_none refl
 keep_last (next ∷ front) last is_none =
-    ap (λ rest. cond (is_whitespace next && nat_eq (length rest) 0) [] (next ∷ rest)) (keep_last front last is_none)
-    ∙ not_empty (is_whitespace next) front last (next ∷ (front ++ last ∷ []))
+    let some : nat_eq (length (front ++ last ∷ [])) 0 ≡ false = grind (arith, nat_tests, length-append front (last ∷ [])) in
+    rw (keep_last front last is_none, and_right (is_whitespace next) _ some) refl
 
 -- a text with a character other than white space at each end has no white space to drop
 pub nothing_to_drop : (text : List ℕ) → StartsWithoutSpace text → EndsWithoutSpace text
     → drop_trailing_whitespace (skip_leading_whitespace text) ≡ text
 nothing_to_drop text start end =
-    let skipped : skip_leading_whitespace text ≡ text =
-    ap skip_leading_whitespace start.text_is
-    ∙ (ap (λ white. cond white (skip_leading_whitespace start.tail) (start.head ∷ start.tail)) start.head_is
-    ∙ sym start.text_is) in
-    let kept : drop_trailing_whitespace text ≡ text =
-    ap drop_trailing_whitespace end.text_is ∙ (keep_last end.front end.last end.last_is ∙ sym end.text_is) in
+    let skipped : skip_leading_whitespace text ≡ text = rw (start.text_is, start.head_is) refl in
+    let kept : drop_trailing_whitespace text ≡ text = rw end.text_is (keep_last end.front end.last end.last_is) in
     ap drop_trailing_whitespace skipped ∙ kept
 
 -- visible ends

@@ -1,5 +1,5 @@
 -- The state machine of units reads each spelling, and each of their viable prefixes, to its end.
-use Rattle.std.proofs.Common.{◌≡◌, ℕ, zero, suc, ◌⊎◌, inl, inr, ⊎_elim, List, [], ◌∷◌, ◌++◌, Option, Some, sym, refl, ap, subst}
+use Rattle.std.proofs.Common.{◌≡◌, ℕ, zero, suc, inl, inr, ⊎_elim, List, [], ◌∷◌, Option, Some, sym, refl, ap, subst}
 use Rattle.std.proofs.Common.{◌∙◌, arith, Bool}
 use Rattle.std.proofs.Common.{not}
 use Rattle.std.specs.Prelude.{codes}
@@ -9,7 +9,6 @@ use Rattle.std.specs.Str.{str_to_ascii_lowercase}
 use Rattle.byte_unit_base.specs.Shape.{Shape, shape}
 use Rattle.byte_unit_base.specs.Version.{current}
 use Rattle.byte_unit_base.specs.Spelling.{Flags, IsPrefixLetter, SpellsCount, SpellsBinary, SpellsPrefix}
-use Rattle.byte_unit_base.specs.Spelling.{SpellsMultiple, SpellsPlain}
 use Rattle.byte_unit_base.specs.Spelling.{Spells}
 use Rattle.byte_unit_base.specs.ViablePrefix.{ParserState, before_unit, after_prefix, after_b, after_bi, after_bit, after_bits}
 use Rattle.byte_unit_base.specs.ViablePrefix.{IsWord, IsViableWordPrefix}
