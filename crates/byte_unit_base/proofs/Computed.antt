@@ -2,6 +2,7 @@
 use Rattle.std.proofs.Common.{◌≡◌, ℕ, ◌<◌, ◌≤◌, Bool, true, false, List, Result, Ok, Err, refl, sym, ap, ◌∙◌, arith, cond}
 use Rattle.std.specs.Prelude.{nat_lt}
 use Rattle.std.specs.Result.{result_map_both}
+use Rattle.std.proofs.lemmas.Bool.{cond-true, cond-false, lt-ltb, le-ltb}
 use Rattle.byte_unit_math.specs.Bounds.{size_limit}
 use Rattle.byte_unit_base.specs.Shape.{Shape}
 use Rattle.byte_unit_base.specs.Units.{shape_of}
@@ -53,20 +54,10 @@ pub rounded_up_is_least : (kind : Kind) (N : ℕ) (unit : Shape) → IsLeastOf k
 rounded_up_is_least Byte N unit = record { has = omega arith; least = λ m r. omega (arith, r) }
 rounded_up_is_least Bit N unit = record { has = omega arith; least = λ m r. omega (arith, r) }
 
-within : (below : Bool) (number n : ℕ) → nat_lt n size_limit ≡ below → n < size_limit
-    → cond below (Ok n) (Err (exceeded number)) ≡ Ok n
-within true number n e h = refl
-within false number n e h = absurd (grind (arith, e, h))
-
-above : (below : Bool) (number n : ℕ) → nat_lt n size_limit ≡ below → size_limit ≤ n
-    → cond below (Ok n) (Err (exceeded number)) ≡ Err (exceeded number)
-above true number n e h = absurd (grind (arith, e, h))
-above false number n e h = refl
-
 -- the size if it is below the limit
 pub size_within : (number n : ℕ) → n < size_limit → size_within_limit number n ≡ Ok n
-size_within number n h = within (nat_lt n size_limit) number n refl h
+size_within number n h = cond-true _ _ _ (lt-ltb n size_limit h)
 
 -- the error if the size reaches the limit
 pub size_above : (number n : ℕ) → size_limit ≤ n → size_within_limit number n ≡ Err (exceeded number)
-size_above number n h = above (nat_lt n size_limit) number n refl h
+size_above number n h = cond-false _ _ _ (le-ltb n size_limit h)

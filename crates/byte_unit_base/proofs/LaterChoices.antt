@@ -19,11 +19,7 @@ no_larger_divides : (version : Version) (family : Family) (in_bits : ℕ) (unit 
     → (other : Shape) → InFamily version family other → bits unit < bits other → ¬ (Divides other in_bits)
 no_larger_divides version family in_bits unit h other member larger = λ d.
     let some : 1 ≤ in_bits = omega (arith, some_bits unit, h.has.not_above) in
-    let times : 1 ≤ d.0 =
-    ⊎_elim
-    (λ l. let z : d.0 ≡ 0 = omega (arith, l) in absurd (omega (arith, some, d.1 ∙ ap (λ x. x * bits other) z)))
-    (λ k. k)
-    (cases_lt d.0 1) in
+    let times : 1 ≤ d.0 = grind (arith, d.1, some) in
     let fits = mul-le-mul_right {m = 1} {n = d.0} (bits other) times in
     let k = h.largest other (record {
       member = member;

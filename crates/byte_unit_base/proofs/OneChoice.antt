@@ -27,41 +27,21 @@ no_greater a b c d e =
     let h = (exact_by_powers (2 ^ a * 5 ^ b) c d a b 0 (pure_powers a b)).0 (1, omega (arith, e)) in
     (omega (arith, h.0), omega (arith, h.1))
 
--- two units have a prefix, and the same exponents of 2 and 5
-record HaveSamePowers (unit other : Shape) : Type 0 where
-  some : 1 ≤ unit.power
-  other_some : 1 ≤ other.power
-  twos : twos unit ≡ twos other
-  fives : fives unit ≡ fives other
-
 -- two units with a prefix and the same exponents are the same
-same_fields : (power : ℕ) (binary bit : Bool) (other : ℕ) (other_binary other_bit : Bool)
-    → HaveSamePowers (shape power binary bit) (shape other other_binary other_bit)
+same_fields : (power : ℕ) (binary bit : Bool) (other : ℕ) (other_binary other_bit : Bool) → 1 ≤ power → 1 ≤ other
+    → twos (shape power binary bit) ≡ twos (shape other other_binary other_bit)
+    → fives (shape power binary bit) ≡ fives (shape other other_binary other_bit)
     → shape power binary bit ≡ shape other other_binary other_bit
-same_fields power true bit other false other_bit h = absurd (omega (arith, h.other_some, h.fives))
-same_fields power false bit other true other_bit h = absurd (omega (arith, h.some, h.fives))
-same_fields power true true other true true h = ap (λ n. shape n true true) (omega (arith, h.twos))
-same_fields power true false other true false h = ap (λ n. shape n true false) (omega (arith, h.twos))
-same_fields power true true other true false h = absurd (omega (arith, h.twos))
-same_fields power true false other true true h = absurd (omega (arith, h.twos))
-same_fields power false true other false true h = ap (λ n. shape n false true) (omega (arith, h.fives))
-same_fields power false false other false false h = ap (λ n. shape n false false) (omega (arith, h.fives))
-same_fields power false true other false false h = absurd (omega (arith, h.twos, h.fives))
-same_fields power false false other false true h = absurd (omega (arith, h.twos, h.fives))
+same_fields power true true other true true some other_some t f = grind arith
+same_fields power binary bit other other_binary other_bit some other_some t f = grind arith
 
 -- two units with a prefix and the same number of bits are the same
 pub same_unit : (unit other : Shape) → 1 ≤ unit.power → 1 ≤ other.power → bits unit ≡ bits other → unit ≡ other
 same_unit unit other prefix other_prefix same =
     let low = no_greater (twos unit) (fives unit) (twos other) (fives other) same in
     let high = no_greater (twos other) (fives other) (twos unit) (fives unit) (sym same) in
-    let powers : HaveSamePowers unit other =
-    record {
-      some = prefix;
-      other_some = other_prefix;
-      twos = omega (arith, low.0, high.0);
-      fives = omega (arith, low.1, high.1);
-    } in
-    same_fields unit.power unit.binary unit.bit other.power other.binary other.bit powers
+    same_fields unit.power unit.binary unit.bit other.power other.binary other.bit prefix other_prefix
+    (omega (arith, low.0, high.0)) (omega (arith, low.1, high.1))
 
 -- there is only one largest unit in which a size is exact
 pub one_largest : (version : Version) (family : Family) (in_bits precision : ℕ) (unit other : Shape)
@@ -77,9 +57,8 @@ same_number : (size places unit number other : ℕ) → 1 ≤ unit → IsQuotien
     → IsQuotient size unit places other
     → number ≡ other
 same_number size places unit number other some quotient other_quotient =
-    let count =
-    eq_of_mul-eq-mul_right unit (omega (arith, some)) quotient.count other_quotient.count (sym quotient.exact
-    ∙ other_quotient.exact) in
+    let same = sym quotient.exact ∙ other_quotient.exact in
+    let count = eq_of_mul-eq-mul_right unit (omega (arith, some)) quotient.count other_quotient.count same in
     quotient.number ∙ (ap (λ count. count * 10 ^ (places_of_decimal - places)) count ∙ sym other_quotient.number)
 
 -- a size has at most one chosen unit and number
@@ -87,8 +66,5 @@ pub one_choice : ChoicesAreOne
 one_choice version family in_bits precision number other_number unit other_unit chosen other =
     let same = one_largest version family in_bits precision unit other_unit chosen.unit_is other.unit_is in
     let places = places_within precision in
-    let quotient : Shape → Type 0 = λ unit. IsQuotient in_bits (bits unit) places other_number in (
-      same,
-      same_number in_bits places (bits unit) number other_number (some_bits unit) chosen.number_is
-          (subst quotient (sym same) other.number_is),
-    )
+    let quotient : IsQuotient in_bits (bits unit) places other_number = rw same other.number_is in
+    (same, same_number in_bits places (bits unit) number other_number (some_bits unit) chosen.number_is quotient)

@@ -32,15 +32,13 @@ use Rattle.byte_unit_base.proofs.UnitRuns.{spelling_runs, unit_front_runs}
 -- the first digit
 pub step_first : (c : ℕ) → digit_value c < 10 → size_step Beginning c ≡ Some (Whole (digit_value c))
 unfolding size_step
-step_first c h = let e : ltb (digit_value c) 10 ≡ true = grind (arith, nat_tests) in rw e refl
+step_first c h = grind (arith, nat_tests)
 
 -- one more digit
 pub step_whole : (w c : ℕ) → digit_value c < 10 → w * 10 + digit_value c < whole_limit
     → size_step (Whole w) c ≡ Some (Whole (w * 10 + digit_value c))
 unfolding size_step
-step_whole w c h k =
-    let e : ltb (digit_value c) 10 ≡ true = grind (arith, nat_tests) in
-    let f : ltb (w * 10 + digit_value c) whole_limit ≡ true = grind (arith, nat_tests) in rw (e, f) refl
+step_whole w c h k = grind (arith, nat_tests)
 
 -- a point can follow a whole part
 pub step_point : (w : ℕ) → size_step (Whole w) 46 ≡ Some (Point w)
@@ -50,15 +48,13 @@ step_point w = refl
 -- one more digit
 pub step_pointed : (w c : ℕ) → digit_value c < 10 → size_step (Point w) c ≡ Some (Fraction w (digit_value c) 1)
 unfolding size_step
-step_pointed w c h = let e : ltb (digit_value c) 10 ≡ true = grind (arith, nat_tests) in rw e refl
+step_pointed w c h = grind (arith, nat_tests)
 
 -- one more digit
 pub step_fraction : (w f j c : ℕ) → digit_value c < 10 → j < places_of_decimal
     → size_step (Fraction w f j) c ≡ Some (Fraction w (f * 10 + digit_value c) (j + 1))
 unfolding size_step
-step_fraction w f j c h k =
-    let e : ltb (digit_value c) 10 ≡ true = grind (arith, nat_tests) in
-    let g : ltb j places_of_decimal ≡ true = grind (arith, nat_tests) in rw (e, g) refl
+step_fraction w f j c h k = grind (arith, nat_tests)
 
 -- more digits make no smaller number
 pub value_rises : (ds : List ℕ) (v : ℕ) → v ≤ digits_value_after 10 v ds
@@ -83,17 +79,14 @@ run_whole (c ∷ cs) w h =
     ∙ (run_digits cs (digit_value c) h.0.1.1 (omega (arith, value, h.2)) ∙ ap (λ v. Some (Whole v)) value)
 
 run_more_places : (ds : List ℕ) (w f j : ℕ) → AllDigits 10 ds → j + length ds ≤ places_of_decimal
-    → (k : ℕ) × (run size_step (Fraction w f j) ds ≡ Some (Fraction w (digits_value_after 10 f ds) k))
-    × (k ≡ j + length ds)
-run_more_places [] w f j h k = (j, refl, omega arith)
+    → run size_step (Fraction w f j) ds ≡ Some (Fraction w (digits_value_after 10 f ds) (j + length ds))
+run_more_places [] w f j h k = ap (λ n. Some (Fraction w f n)) (omega arith)
 run_more_places (c ∷ cs) w f j h k =
-    let r = run_more_places cs w (f * 10 + digit_value c) (j + 1) h.1 (omega arith) in (
-      r.0,
-      run_step size_step (Fraction w f j) (Fraction w (f * 10 + digit_value c) (j + 1)) c cs
-          (step_fraction w f j c h.0 (omega arith))
-          ∙ r.1,
-      omega (arith, r.2),
-    )
+    let value = f * 10 + digit_value c in
+    let count : (j + 1) + length cs ≡ j + length (c ∷ cs) = omega arith in
+    run_step size_step (Fraction w f j) (Fraction w value (j + 1)) c cs (step_fraction w f j c h.0 (omega arith))
+    ∙ (run_more_places cs w value (j + 1) h.1 (omega arith)
+    ∙ ap (λ n. Some (Fraction w (digits_value_after 10 value cs) n)) count)
 
 run_pointed : (text : List ℕ) (w : ℕ) → IsPointed current text w → run size_step Beginning text ≡ Some (Point w)
 run_pointed text w h =
@@ -103,16 +96,14 @@ run_pointed text w h =
 
 -- after a point and at most 28 digits, the state is that of these digits as a fraction
 pub run_places : (text : List ℕ) (w : ℕ) → IsNumeral 10 text → length text ≤ places_of_decimal
-    → (k : ℕ) × (run size_step (Point w) text ≡ Some (Fraction w (digits_value 10 text) k)) × (k ≡ length text)
+    → run size_step (Point w) text ≡ Some (Fraction w (digits_value 10 text) (length text))
 run_places [] w h l = absurd (omega (arith, h.0))
 run_places (c ∷ cs) w h l =
     let first : digit_value c ≡ 0 * 10 + digit_value c = omega arith in
-    let r = run_more_places cs w (digit_value c) 1 h.1.1 (omega arith) in (
-      r.0,
-      run_step size_step (Point w) (Fraction w (digit_value c) 1) c cs (step_pointed w c h.1.0)
-          ∙ (r.1 ∙ ap (λ v. Some (Fraction w (digits_value_after 10 v cs) r.0)) first),
-      omega (arith, r.2),
-    )
+    let count : 1 + length cs ≡ length (c ∷ cs) = omega arith in
+    run_step size_step (Point w) (Fraction w (digit_value c) 1) c cs (step_pointed w c h.1.0)
+    ∙ (run_more_places cs w (digit_value c) 1 h.1.1 (omega arith)
+    ∙ cc (first, count))
 
 -- the state is after the number `n`, scaled by 10^28, or after spaces that follow it
 abbrev pub AtNumber : ℕ → SizeScan → Type 0
@@ -131,18 +122,14 @@ pub record RunsTo (Holds : SizeScan → Type 0) (s : SizeScan) (text : List ℕ)
 pub run_precise : (text : List ℕ) (n : ℕ) → IsPrecise current text n
     → RunsTo (λ s. AtNumber n s × (size_parser_state s ≡ in_fraction)) Beginning text
 run_precise text n h =
-    let p = run_places h.fraction h.value h.fraction_is.0 h.fraction_is.1 in
     let whole = run_whole h.whole h.value h.whole_is in
     record {
-      state = Fraction h.value (digits_value 10 h.fraction) p.0;
+      state = Fraction h.value (digits_value 10 h.fraction) (length h.fraction);
       run = ap (run size_step Beginning) h.text_is
           ∙ (run_through size_step Beginning (Whole h.value) h.whole (46 ∷ h.fraction) whole
-          ∙ (run_step size_step (Whole h.value) (Point h.value) 46 h.fraction (step_point h.value) ∙ p.1));
-      holds = (
-        ap (λ k. h.value * scale + digits_value 10 h.fraction * 10 ^ (places_of_decimal - k)) p.2
-            ∙ (ap (λ x. h.value * scale + x) (sym h.fraction_is.2) ∙ sym h.number_is),
-        refl,
-      );
+          ∙ (run_step size_step (Whole h.value) (Point h.value) 46 h.fraction (step_point h.value)
+          ∙ run_places h.fraction h.value h.fraction_is.0 h.fraction_is.1));
+      holds = (ap (λ x. h.value * scale + x) (sym h.fraction_is.2) ∙ sym h.number_is, refl);
     }
 
 run_number : (text : List ℕ) (n : ℕ) → IsNumberText current text n → RunsTo (AtNumber n) Beginning text
@@ -156,17 +143,9 @@ no_unit_below c small =
     let same : to_ascii_uppercase c ≡ c = grind (arith, nat_tests) in
     rw same (grind (arith, nat_tests))
 
--- the character is not a digit, a point or a space
-pub record NoNumber (c : ℕ) : Type 0 where
-  pub digit : ltb (digit_value c) 10 ≡ false
-  pub point : eqb c 46 ≡ false
-  pub space : eqb c 32 ≡ false
-
-no_number : (c : ℕ) (u : UnitScan) → unit_step unit_start c ≡ Some u → NoNumber c
-no_number c u e =
-    let letter : 65 ≤ c =
-    ⊎_elim (λ small. let none = no_unit_below c small in absurd (let k : ⊥ = cc in k)) (λ l. l) (cases_lt c 65) in
-    record { digit = grind (arith, nat_tests); point = grind (arith, nat_tests); space = grind (arith, nat_tests) }
+first_letter : (c : ℕ) (u : UnitScan) → unit_step unit_start c ≡ Some u → 65 ≤ c
+first_letter c u e =
+    ⊎_elim (λ small. let none = no_unit_below c small in absurd (let k : ⊥ = cc in k)) (λ large. large) (cases_lt c 65)
 
 -- the steps after a number
 
@@ -180,11 +159,9 @@ step_space n _ h = absurd h
 step_unit : (n c : ℕ) (s : SizeScan) (u : UnitScan) → AtNumber n s → unit_step unit_start c ≡ Some u
     → size_step s c ≡ Some (UnitAt n u)
 unfolding size_step
-step_unit n c (Whole w) u h e =
-    let k = no_number c u e in rw (k.digit, k.point, k.space, e) (ap (λ x. Some (UnitAt x u)) h)
-step_unit n c (Fraction w f j) u h e =
-    let k = no_number c u e in rw (k.digit, k.space, e) (ap (λ x. Some (UnitAt x u)) h)
-step_unit n c (Gap m) u h e = let k = no_number c u e in rw (k.space, e) (ap (λ x. Some (UnitAt x u)) h)
+step_unit n c (Whole w) u h e = let large = first_letter c u e in grind (arith, nat_tests, h, e)
+step_unit n c (Fraction w f j) u h e = let large = first_letter c u e in grind (arith, nat_tests, h, e)
+step_unit n c (Gap m) u h e = let large = first_letter c u e in grind (arith, nat_tests, h, e)
 step_unit n c _ u h e = absurd h
 
 -- the result for an input that ends after a number
