@@ -1,9 +1,8 @@
 -- The number of bits of a unit, and a size in its base unit.
-use Rattle.std.proofs.Common.{◌≡◌, ℕ, ◌*◌, ◌≤◌, Bool, Option, Some, None, IfNone, arith, ap, inl}
+use Rattle.std.proofs.Common.{◌≡◌, ℕ, ◌*◌, ◌≤◌, Bool, arith, ap, inl}
 use Rattle.std.proofs.Common.{inr, refl}
 use Rattle.std.proofs.Common.{subst, sym, ◌∙◌}
 use Rattle.std.proofs.Math.Nat.{one-le-pow, one-le-mul}
-use Rattle.std.specs.Option.{IsSome}
 use Rattle.byte_unit_math.specs.Bounds.{scale, unit_limit}
 use Rattle.byte_unit_math.specs.Exact.{IsExactAt}
 use Rattle.byte_unit_base.specs.Shape.{Shape, bits, twos, fives}
@@ -42,11 +41,6 @@ exact_where_recovered kind both size unit (inr h) =
     let exact : Shape → Type 0 = λ s. IsExactAt (size * bits_in kind) (bits s) 0 in
     let same = ap (λ n. size * n) (own_bits kind) in
     subst exact (sym h.1) (size, omega (arith, same))
-
--- a result that is `None` only if a fact fails is not `None` if the fact holds
-pub some_if_holds : {A : Type 0} {Fact : Type 0} (answer : Option A) → IfNone answer (¬ Fact) → Fact → IsSome answer
-some_if_holds None none h = absurd (none h)
-some_if_holds (Some x) none h = refl
 
 -- a size, scaled by 10^28, is the number of its base unit in it
 pub own_number : (kind : Kind) (size number : ℕ) (unit : Shape) → number ≡ size * scale → unit ≡ own_unit kind

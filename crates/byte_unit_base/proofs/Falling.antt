@@ -38,15 +38,8 @@ IsIn-right (x ∷ xs) ys unit h = inr (IsIn-right xs ys unit h)
 
 in_prefix : (family : Family) (power : ℕ) (binary bit : Bool) → HasKind family bit
     → IsIn (shape power binary bit) (units_of_prefix family power)
-in_prefix All power true false k = inl refl
-in_prefix All power false false k = inr (inl refl)
-in_prefix All power true true k = inr (inr (inl refl))
-in_prefix All power false true k = inr (inr (inr (inl refl)))
-in_prefix Bytes power true false k = inl refl
-in_prefix Bytes power false false k = inr (inl refl)
-in_prefix Bits power true true k = inl refl
-in_prefix Bits power false true k = inr (inl refl)
-in_prefix _ power binary bit k = absurd (let b : ⊥ = cc in b)
+in_prefix All power true false k = grind arith
+in_prefix _ power binary bit k = grind arith
 
 -- a unit of the set with one of the first n prefix letters is in their list
 pub in_falling : (family : Family) (n : ℕ) (unit : Shape) → HasKind family unit.bit → 1 ≤ unit.power → unit.power ≤ n

@@ -1,17 +1,13 @@
 -- The name of a unit spells it: its prefix letter, an `i` or nothing, and the letter of its kind.
-use Rattle.std.proofs.Common.{◌≡◌, ℕ, ◌-◌, ◌<◌, ◌≤◌, Bool, true, false, not, ◌&&◌, eqb, ltb, List, [], ◌∷◌, ◌++◌}
+use Rattle.std.proofs.Common.{◌≡◌, ℕ, ◌+◌, ◌-◌, ◌<◌, ◌≤◌, Bool, true, false, not, ◌&&◌, eqb, ltb, List, [], ◌∷◌, ◌++◌}
 use Rattle.std.proofs.Common.{length}
-use Rattle.std.proofs.Common.{⊎_elim, inl, inr, arith, refl, sym, ap, subst}
+use Rattle.std.proofs.Common.{⊎_elim, inl, inr, arith, refl, sym, ap}
 use Rattle.std.specs.Prelude.{codes, slice_index, if◌then◌else◌, nat_lt}
-use Rattle.std.specs.List.{list_all}
 use Rattle.std.specs.Char.{is_whitespace, to_ascii_uppercase}
 use Rattle.std.specs.Str.{IsAscii, chars}
-use Rattle.std.proofs.lemmas.Bool.{cases_lt, and_parts, eqb-true, ltb-true}
+use Rattle.std.proofs.lemmas.Bool.{agree_below, agree_below_at, cases_lt, and_parts, eqb-true, ltb-true}
 use Rattle.std.proofs.lemmas.Bool.Decides.{nat_tests}
-use Rattle.std.proofs.lemmas.List.Elements.{All-get_or}
-use Rattle.std.proofs.lemmas.List.Sums.{AllPass-from_list_all}
-use Rattle.std.proofs.lemmas.Str.{IsAscii-append}
-use Rattle.std.proofs.lemmas.Str.Ascii.{IsAscii-nil, IsAscii-cons}
+use Rattle.std.proofs.lemmas.Str.Ascii.{IsAscii-cons}
 use Rattle.byte_unit_base.specs.Shape.{Shape}
 use Rattle.byte_unit_base.specs.Version.{current, unit_name, unit_name_in}
 use Rattle.byte_unit_base.specs.Units.{shape_of}
@@ -21,24 +17,18 @@ use Rattle.byte_unit_base.specs.ReaderLaws.{NamesSpellTheirUnits}
 use Rattle.byte_unit_base.specs.declared.unit.Unit.{Unit as UnitName}
 use Rattle.byte_unit_base.specs.declared.unit.Unit.TheVariants.{Bit, B}
 use Rattle.byte_unit_base.proofs.Trim.{EndsWithoutSpace}
+use Rattle.byte_unit_base.proofs.SizeAscii.{visible_ascii}
 
 -- the unit has a prefix of the current version, or none; without one, it is a byte (binary) or a bit (decimal)
 pub record IsKnown (s : Shape) : Type 0 where
   pub known : s.power ≤ length current.letters
   pub alone : s.power ≡ 0 → s.binary ≡ not s.bit
 
-unit_alone : (unit : UnitName) → (shape_of unit).power ≡ 0 → (shape_of unit).binary ≡ not (shape_of unit).bit
-unit_alone Bit h = refl
-unit_alone B h = refl
-unit_alone _ h = absurd (omega (arith, h))
-
-unit_power : (unit : UnitName) → (shape_of unit).power ≤ length current.letters
-unit_power Bit = omega arith
-unit_power _ = omega arith
-
 -- the prefix of each unit of the crate is one of the current version
 pub unit_known : (unit : UnitName) → IsKnown (shape_of unit)
-unit_known unit = record { known = unit_power unit; alone = unit_alone unit }
+unit_known Bit = record { known = omega arith; alone = λ h. refl }
+unit_known B = record { known = omega arith; alone = λ h. refl }
+unit_known _ = record { known = omega arith; alone = λ h. absurd (omega (arith, h)) }
 
 abbrev letter_at : ℕ → ℕ
 letter_at power = slice_index current.letters (power - 1)
@@ -53,17 +43,16 @@ count_of bit = if bit then codes "b" else codes "B"
 abbrev is_letter : ℕ → Bool
 is_letter c = eqb (to_ascii_uppercase c) c && ltb c 128
 
-are_letters : list_all is_letter current.letters ≡ true
-are_letters = refl
+known_letters : agree_below (λ n. is_letter (letter_at n)) (λ n. true) (length current.letters + 1) ≡ true
+known_letters = refl
 
-letter_found : (power : ℕ) → 0 < power → power ≤ length current.letters
+letter_found : (power : ℕ) → power ≤ length current.letters
     → (to_ascii_uppercase (letter_at power) ≡ letter_at power) × (letter_at power < 128)
-letter_found power some known =
+letter_found power known =
     let c = letter_at power in
-    let all = AllPass-from_list_all is_letter current.letters are_letters in
-    let IsLetter : ℕ → Type 0 = λ x. is_letter x ≡ true in
-    let here = and_parts _ _ (All-get_or IsLetter current.letters (power - 1) 0 (omega (arith, some, known)) all) in
-    (eqb-true (to_ascii_uppercase c) c here.0, ltb-true c 128 here.1)
+    let here = and_parts (eqb (to_ascii_uppercase c) c) (ltb c 128) (agree_below_at (λ n. is_letter (letter_at n)) (λ n. true)
+    (length current.letters + 1) power known_letters (omega (arith, known))) in
+    (eqb-true _ _ here.0, ltb-true _ _ here.1)
 
 infix_spells : (binary : Bool) → SpellsBinary (infix_of binary) binary
 infix_spells true = inr (refl, refl)
@@ -77,13 +66,12 @@ count_spells : (flags : Flags) (bit : Bool) → SaysKind flags bit → SpellsCou
 count_spells flags false h = inr (inl (refl, refl))
 count_spells flags true h = inr (inr (inl (refl, ap not (sym (h refl)))))
 
-infix_ascii : (binary : Bool) → IsAscii (infix_of binary)
-infix_ascii true = IsAscii-cons 105 [] (omega arith) IsAscii-nil
-infix_ascii false = IsAscii-nil
-
-count_ascii : (bit : Bool) → IsAscii (count_of bit)
-count_ascii true = IsAscii-cons 98 [] (omega arith) IsAscii-nil
-count_ascii false = IsAscii-cons 66 [] (omega arith) IsAscii-nil
+-- what follows the prefix letter is ASCII
+rest_ascii : (binary bit : Bool) → IsAscii (infix_of binary ++ count_of bit)
+rest_ascii true true = visible_ascii (codes "ib") refl
+rest_ascii true false = visible_ascii (codes "iB") refl
+rest_ascii false true = visible_ascii (codes "b") refl
+rest_ascii false false = visible_ascii (codes "B") refl
 
 count_end : (bit : Bool) → (last : ℕ) × (count_of bit ≡ last ∷ []) × (is_whitespace last ≡ false)
 count_end true = (98, refl, refl)
@@ -106,7 +94,7 @@ spells_multiple flags s h says some = inr record {
     letter = letter_at s.power;
     infix_part = infix_of s.binary;
     text_is = refl;
-    letter_is = (some, h.known, (letter_found s.power some h.known).0);
+    letter_is = (some, h.known, (letter_found s.power h.known).0);
     infix_is = infix_spells s.binary;
   };
   count_is = count_spells flags s.bit says;
@@ -130,12 +118,10 @@ name_spells flags s h says = ⊎_elim (spells_multiple flags s h says) (spells_p
 -- the name of a unit is ASCII
 pub name_ascii : (s : Shape) → s.power ≤ length current.letters → IsAscii (unit_name_in current s)
 name_ascii s known =
-    let rest = infix_of s.binary ++ count_of s.bit in
-    let rest_ascii = IsAscii-append (infix_of s.binary) (count_of s.bit) (infix_ascii s.binary) (count_ascii s.bit) in
     ⊎_elim
-    (λ some. subst IsAscii (sym (with_prefix s some))
-    (IsAscii-cons (letter_at s.power) rest (letter_found s.power some known).1 rest_ascii))
-    (λ none. subst IsAscii (sym (without_prefix s none)) (count_ascii s.bit))
+    (λ some. rw (with_prefix s some) (IsAscii-cons (letter_at s.power) (infix_of s.binary ++ count_of s.bit)
+    (letter_found s.power known).1 (rest_ascii s.binary s.bit)))
+    (λ none. rw (without_prefix s none) (rest_ascii false s.bit))
     (cases_lt 0 s.power)
 
 -- the name of a unit does not end in white space

@@ -1,6 +1,6 @@
 -- A decimal, as it is printed, is a number of the grammar with the same value.
 use Rattle.std.proofs.Common.{◌≡◌, ℕ, ◌+◌, ◌-◌, ◌*◌, ◌^◌, ◌<◌, ◌≤◌, inl, inr, List, [], ◌∷◌, ◌++◌, length, refl, sym}
-use Rattle.std.proofs.Common.{ap, subst, ◌∙◌, arith}
+use Rattle.std.proofs.Common.{ap, ◌∙◌, arith}
 use Rattle.std.proofs.Common.{false, append-nil}
 use Rattle.std.proofs.lemmas.List.{length-map}
 use Rattle.std.specs.List.{fold, All}
@@ -29,11 +29,9 @@ glyph_value digit small = grind (arith, nat_tests)
 pub glyph_digits : (digits : List ℕ) → All (λ digit. digit < 10) digits → AllDigits 10 (glyphs digits)
 glyph_digits [] small = tt
 glyph_digits (digit ∷ digits) small =
-    let below : digit < 10 = All-head (λ digit. digit < 10) digit digits small in (
-      omega (arith, below, glyph_value digit below),
-      glyph_digits digits
-          (All-tail (λ digit. digit < 10) digit digits small),
-    )
+    let below : digit < 10 = All-head (λ digit. digit < 10) digit digits small in
+    let rest = All-tail (λ digit. digit < 10) digit digits small in
+    (omega (arith, below, glyph_value digit below), glyph_digits digits rest)
 
 -- the characters of digits have the value of the digits
 pub glyphs_value :
@@ -61,28 +59,24 @@ pub number_text :
     → whole < whole_limit
     → IsNumberText current (decimal whole ++ fraction_text digits) (fixed_point_of whole digits)
 number_text whole [] small few bound =
-    inl (
-      whole,
-      subst (λ text. IsWholePart current text whole) (sym (append-nil (decimal whole)))
-          (whole_text whole bound),
-      omega arith,
-    )
-number_text whole (digit ∷ digits) small few bound = inr record {
-  whole = decimal whole;
-  fraction = glyphs (digit ∷ digits);
-  value = whole;
-  part = value_of_digits (digit ∷ digits) * 10 ^ (places_of_decimal - length (digit ∷ digits));
-  text_is = refl;
-  whole_is = whole_text whole bound;
-  fraction_is = (
-    (let some : 0 < length (glyphs (digit ∷ digits)) = omega arith in some, glyph_digits (digit ∷ digits) small),
-    rw
-        (length-map {A = ℕ} {B = ℕ} digits (λ digit. 48 + digit)) few,
-    rw
-        (length-map {A = ℕ} {B = ℕ} digits (λ digit. 48 + digit), glyphs_value 0 (digit ∷ digits) small) refl,
-  );
-  number_is = refl;
-}
+    inl (whole, rw (append-nil (decimal whole)) (whole_text whole bound), omega arith)
+number_text whole (digit ∷ digits) small few bound =
+    let some : 0 < length (glyphs (digit ∷ digits)) = omega arith in
+    let count : length (glyphs digits) ≡ length digits = length-map {A = ℕ} {B = ℕ} digits (λ digit. 48 + digit) in
+    inr record {
+      whole = decimal whole;
+      fraction = glyphs (digit ∷ digits);
+      value = whole;
+      part = value_of_digits (digit ∷ digits) * 10 ^ (places_of_decimal - length (digit ∷ digits));
+      text_is = refl;
+      whole_is = whole_text whole bound;
+      fraction_is = (
+        (some, glyph_digits (digit ∷ digits) small),
+        omega (arith, count, few),
+        rw (count, glyphs_value 0 (digit ∷ digits) small) refl,
+      );
+      number_is = refl;
+    }
 
 -- a decimal whose digits are below ten, and whose whole part is below the limit
 pub record IsBounded (e : Finite) : Type 0 where

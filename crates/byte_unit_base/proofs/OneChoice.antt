@@ -1,5 +1,5 @@
 -- A size has at most one chosen unit and number.
-use Rattle.std.proofs.Common.{◌≡◌, ℕ, ◌*◌, ◌^◌, ◌-◌, ◌≤◌, Bool, true, false, arith, sym, ap, ◌∙◌, subst}
+use Rattle.std.proofs.Common.{◌≡◌, ℕ, ◌*◌, ◌^◌, ◌-◌, ◌≤◌, Bool, true, arith, sym, ap, ◌∙◌}
 use Rattle.std.proofs.Math.Nat.{eq_of_mul-eq-mul_right}
 use Rattle.byte_unit_math.specs.Exact.{IsQuotient}
 use Rattle.byte_unit_math.specs.Bounds.{places_of_decimal}

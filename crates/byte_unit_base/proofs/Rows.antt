@@ -5,7 +5,7 @@ use Rattle.std.proofs.Common.{drop, get_or}
 use Rattle.std.proofs.Common.{◌&&◌, leb, arith, sym, ap, ◌∙◌, subst, refl}
 use Rattle.std.proofs.Math.Nat.{pow-le-pow_right}
 use Rattle.std.proofs.lemmas.List.{drop-map, get_or-map, length-map}
-use Rattle.std.proofs.lemmas.Bool.{cases_lt, leb-true, agree_below, agree_below_at}
+use Rattle.std.proofs.lemmas.Bool.{cases_Bool, cases_lt, leb-true, agree_below, agree_below_at}
 use Rattle.std.proofs.lemmas.Bool.Decides.{nat_tests}
 use Rattle.std.proofs.lemmas.List.Elements.{All-from_recursion, All-map, All-same}
 use Rattle.std.proofs.lemmas.Nat.{leading_top}
@@ -126,10 +126,10 @@ pub record IsRow (family : Family) (row : ShapeRow) : Type 0 where
   pub fives_are : row.fives ≡ fives row.unit
 
 -- the row at an index of the listed rows is the row of a unit of the set
-pub row_at_is_row : {family : Family} {in_bits first : ℕ} {rows : List UnitRow} (i : ℕ) (d : UnitRow)
+pub row_at_is_row : {family : Family} {in_bits first i : ℕ} {rows : List UnitRow} (d : UnitRow)
     → ListsUnits family in_bits first rows
     → i < length rows → IsRow family (row_shape (get_or rows i d))
-row_at_is_row {family} {in_bits} {first} {rows} i d h within =
+row_at_is_row {family} {in_bits} {first} {i} {rows} d h within =
     let units = units_of_prefixes family h.prefixes in
     let members = All-from_recursion (InFamily current family) units (all_in_family family h.prefixes h.few) in
     let listed = All-map (IsRow family) row_of units (λ k s inside.
@@ -138,15 +138,9 @@ row_at_is_row {family} {in_bits} {first} {rows} i d h within =
     (All-same (IsRow family) (map row_shape rows) (map row_of units) h.rows_are listed i (row_shape d)
     (omega (arith, length-map rows row_shape, within)))
 
-few_prefixes : (power a b : ℕ) (binary bit : Bool) → twos (shape power binary bit) ≤ a
-    → fives (shape power binary bit) ≤ b
-    → power ≤ max (a / 10) (b / 3)
-few_prefixes power a b true bit few_twos few_fives = omega (arith, few_twos)
-few_prefixes power a b false bit few_twos few_fives = omega (arith, few_fives)
-
 -- the index of the prefix of a unit is at most a / 10 or b / 3, if its exponents of 2 and 5 are at most a and b
 pub power_of_powers : (unit : Shape) (a b : ℕ) → twos unit ≤ a → fives unit ≤ b → unit.power ≤ max (a / 10) (b / 3)
-power_of_powers unit a b = few_prefixes unit.power a b unit.binary unit.bit
+power_of_powers unit a b few_twos few_fives = grind (arith, few_twos, few_fives, cases_Bool unit.binary)
 
 -- the bits of a row are 2 and 5 to its exponents, and within the limits
 pub row_multiple : {family : Family} {row : ShapeRow} → IsRow family row → IsMultiple row
@@ -188,10 +182,6 @@ pub none_found : (Has : Shape → Type 0) (rows : List UnitRow) (i : ℕ) → le
     → NoneHas Has
 none_found Has rows i done remain =
     Remain-at_end Has (map unit_in rows) i (omega (arith, length-map rows unit_in, done)) remain
-
--- a fact does not hold if a test that holds with it has failed
-pub not_if_test_fails : (b : Bool) (Fact : Type 0) → b ≡ false → (Fact → b ≡ true) → ¬ Fact
-not_if_test_fails b Fact e h p = let t = h p in let k : ⊥ = cc in k
 
 -- if the tests of a row hold, its unit is not above the size and has no greater exponents
 pub row_powers : {family : Family} {row : ShapeRow} (in_bits a b : ℕ) → IsRow family row

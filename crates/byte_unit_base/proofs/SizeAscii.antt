@@ -24,13 +24,14 @@ use Rattle.byte_unit_base.proofs.Trim.{visible_not_white}
 -- visible characters
 
 -- the characters of the text are visible ones of ASCII
-abbrev IsVisible : List ℕ → Type 0
+abbrev pub IsVisible : List ℕ → Type 0
 IsVisible text = list_all is_ascii_graphic text ≡ true
 
 visible_append : (xs ys : List ℕ) → IsVisible xs → IsVisible ys → IsVisible (xs ++ ys)
 visible_append xs ys h k = list_all-append is_ascii_graphic xs ys ∙ and_from _ _ h k
 
-visible_ascii : (text : List ℕ) → IsVisible text → IsAscii text
+-- a text of visible characters is ASCII
+pub visible_ascii : (text : List ℕ) → IsVisible text → IsAscii text
 visible_ascii [] h = IsAscii-nil
 visible_ascii (c ∷ cs) h =
     let p = and_parts (is_ascii_graphic c) (list_all is_ascii_graphic cs) h in

@@ -26,13 +26,11 @@ use Rattle.byte_unit_base.proofs.SizeReads.{size_scan_is}
 use Rattle.byte_unit_base.proofs.Rounding.{least_is_unique}
 
 -- an input has only the number and unit that the parser found, so each of its sizes is that number rounded up
-found_as_read :
-    (kind : Kind) (ignore_case : Bool) (bytes : List ℕ) (found : ℕ × UnitName) (number n : ℕ)
+found_as_read : {kind : Kind} {ignore_case : Bool} {bytes : List ℕ} {found : ℕ × UnitName} {number n : ℕ}
     → IsNumberReading (flags_for kind ignore_case) bytes (Ok found)
     → IsRead current kind ignore_case bytes number n → (found.0 ≡ number) × IsLeastOf kind found.0 (shape_of found.1) n
-found_as_read kind ignore_case bytes found number n reading read =
-    let same = reading.reads number read.unit read.is_size in
-    (same.0, rw (same.0, same.1) read.is_least)
+found_as_read {number} reading read =
+    let same = reading.reads number read.unit read.is_size in (same.0, rw (same.0, same.1) read.is_least)
 
 -- the parser as a function finds the number and unit that the parser found, rounds the number up, and gives the result
 -- by the size
@@ -66,9 +64,9 @@ reading_of_size kind ignore_case bytes found n reading size = record {
     is_read = record { unit = shape_of found.1; is_size = reading.found; is_least = size.0 };
     below = size.1;
   };
-  reads = λ m a. let other = found_as_read kind ignore_case bytes found a.number m reading a.is_read in
+  reads = λ m a. let other = found_as_read reading a.is_read in
       ap (λ k. Ok k) (least_is_unique kind found.0 (shape_of found.1) n m size.0 other.1);
-  exceeds = λ number e. let other = found_as_read kind ignore_case bytes found number e.size reading e.is_read in
+  exceeds = λ number e. let other = found_as_read reading e.is_read in
       let same = least_is_unique kind found.0 (shape_of found.1) n e.size size.0 other.1 in
       absurd (omega (arith, same, size.1, e.above));
   fault = tt;
@@ -90,10 +88,8 @@ pub reading_of_excess :
     → IsSizeReading kind ignore_case bytes (Err (Value (ExceededBounds found.0)))
 reading_of_excess kind ignore_case bytes found least reading none = record {
   found = tt;
-  reads = λ m a. let other = found_as_read kind ignore_case bytes found a.number m reading a.is_read in
-      absurd (omega (arith, none m other.1, a.below));
-  exceeds = λ number e. let other = found_as_read kind ignore_case bytes found number e.size reading e.is_read in
-      ap exceeded other.0;
+  reads = λ m a. let other = found_as_read reading a.is_read in absurd (omega (arith, none m other.1, a.below));
+  exceeds = λ number e. ap exceeded (found_as_read reading e.is_read).0;
   fault = inl (
     found.0,
     refl,

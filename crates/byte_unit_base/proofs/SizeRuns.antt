@@ -1,7 +1,7 @@
 -- The state machine of sizes reads each number with its unit, and each viable prefix of one, to its end.
-use Rattle.std.proofs.Common.{◌≡◌, ◌≢◌, ℕ, zero, suc, ◌+◌, ◌-◌, ◌*◌, ◌^◌, ◌<◌, ◌≤◌, inl, inr, ⊎_elim, List, [], ◌∷◌, ◌++◌}
+use Rattle.std.proofs.Common.{◌≡◌, ◌≢◌, ℕ, zero, suc, ◌+◌, ◌*◌, ◌<◌, ◌≤◌, inl, inr, ⊎_elim, List, [], ◌∷◌, ◌++◌}
 use Rattle.std.proofs.Common.{Some, None, Ok}
-use Rattle.std.proofs.Common.{length, replicate, sym, refl, ap, ◌∙◌, arith, true, false, eqb, ltb, append-nil}
+use Rattle.std.proofs.Common.{length, replicate, sym, refl, ap, ◌∙◌, arith, append-nil}
 use Rattle.std.specs.Option.{option_map}
 use Rattle.std.specs.Char.{digit_value, to_ascii_uppercase}
 use Rattle.std.specs.Str.Parse.{IsNumeral, AllDigits, digits_value, digits_value_after}
@@ -151,26 +151,20 @@ first_letter c u e =
 
 step_space : (n : ℕ) (s : SizeScan) → AtNumber n s → size_step s 32 ≡ Some (Gap n)
 unfolding size_step
-step_space n (Whole w) h = ap (λ x. Some (Gap x)) h
-step_space n (Fraction w f j) h = ap (λ x. Some (Gap x)) h
-step_space n (Gap m) h = ap (λ x. Some (Gap x)) h
-step_space n _ h = absurd h
+step_space n (Whole w) h = grind (arith, h)
+step_space n _ h = grind (arith, h)
 
 step_unit : (n c : ℕ) (s : SizeScan) (u : UnitScan) → AtNumber n s → unit_step unit_start c ≡ Some u
     → size_step s c ≡ Some (UnitAt n u)
 unfolding size_step
 step_unit n c (Whole w) u h e = let large = first_letter c u e in grind (arith, nat_tests, h, e)
-step_unit n c (Fraction w f j) u h e = let large = first_letter c u e in grind (arith, nat_tests, h, e)
-step_unit n c (Gap m) u h e = let large = first_letter c u e in grind (arith, nat_tests, h, e)
-step_unit n c _ u h e = absurd h
+step_unit n c _ u h e = let large = first_letter c u e in grind (arith, nat_tests, h, e)
 
 -- the result for an input that ends after a number
 pub number_end : (flags : Flags) (n : ℕ) (s : SizeScan) → AtNumber n s
     → size_at_end flags s ≡ size_or_fault n (unit_of flags unit_start)
-number_end flags n (Whole w) h = ap (λ x. size_or_fault x (unit_of flags unit_start)) h
-number_end flags n (Fraction w f j) h = ap (λ x. size_or_fault x (unit_of flags unit_start)) h
-number_end flags n (Gap m) h = ap (λ x. size_or_fault x (unit_of flags unit_start)) h
-number_end flags n _ h = absurd h
+number_end flags n (Whole w) h = grind (arith, h)
+number_end flags n _ h = grind (arith, h)
 
 run_gap : (n k : ℕ) → run size_step (Gap n) (replicate k space) ≡ Some (Gap n)
 run_gap n zero = refl

@@ -1,7 +1,7 @@
 -- A size has a chosen unit and number, or it is exact in no unit at the precision.
-use Rattle.std.proofs.Common.{◌≡◌, ℕ, ◌*◌, ◌/◌, ◌%◌, ◌^◌, ◌-◌, ◌≤◌, ◌⊎◌, ⊎_elim, inl, inr, Bool, true, false, List, []}
+use Rattle.std.proofs.Common.{ℕ, ◌*◌, ◌/◌, ◌%◌, ◌^◌, ◌-◌, ◌≤◌, ◌⊎◌, ⊎_elim, inl, inr, Bool, true, List, []}
 use Rattle.std.proofs.Common.{◌∷◌, length, arith}
-use Rattle.std.proofs.Common.{refl, sym, ap, ◌∙◌, subst}
+use Rattle.std.proofs.Common.{refl, sym, ap, subst}
 use Rattle.std.proofs.Math.Nat.{div-add-mod', mul-mod_left}
 use Rattle.std.proofs.lemmas.Bool.{cases_lt}
 use Rattle.byte_unit_math.specs.Bounds.{places_of_decimal}
@@ -13,7 +13,7 @@ use Rattle.byte_unit_base.specs.UnitLists.{units_of_prefixes}
 use Rattle.byte_unit_base.specs.Choice.{IsExactUnitIn, places_within}
 use Rattle.byte_unit_base.specs.ChoiceLaws.{EachSizeHasAChoiceOrNone}
 use Rattle.byte_unit_base.specs.declared.unit.family.Family.{Family}
-use Rattle.byte_unit_base.specs.declared.unit.family.Family.TheVariants.{All, Bytes, Bits}
+use Rattle.byte_unit_base.specs.declared.unit.family.Family.TheVariants.{All, Bytes}
 use Rattle.byte_unit_base.proofs.Falling.{IsIn, in_falling}
 
 -- the fact holds, or it does not
@@ -30,10 +30,8 @@ le_decided a b = ⊎_elim (λ l. inr (λ h. omega (arith, l, h))) (λ h. inl h) 
 
 kind_decided : (family : Family) (bit : Bool) → Decided (HasKind family bit)
 kind_decided All bit = inl tt
-kind_decided Bytes true = inr (λ e. let b : ⊥ = cc in b)
-kind_decided Bytes false = inl refl
-kind_decided Bits true = inl refl
-kind_decided Bits false = inr (λ e. let b : ⊥ = cc in b)
+kind_decided Bytes true = grind arith
+kind_decided _ bit = grind arith
 
 -- a size is exact in a unit at some places, or it is not: the division leaves no remainder, or one
 exact_decided : (size unit places : ℕ) → Decided (IsExactAt size unit places)

@@ -1,16 +1,17 @@
 -- The first row that passes the test is the largest unit in which the size is exact; the number times the unit is the
 -- size; if no row passes, no unit of the set is such. The steps are those of `factors_of` and one for each place.
 use Rattle.std.proofs.Common.{◌≡◌, ◌*◌, ◌^◌, ℕ, IfSome, get_or, min, arith, refl, ap, subst, sym, ◌∙◌}
+use Rattle.std.proofs.lemmas.Bool.{both_ways, some_since}
 use Rattle.byte_unit_math.specs.Bounds.{scale, places_of_decimal, whole_limit}
 use Rattle.byte_unit_math.specs.Exact.{IsLeastPlaces, IsQuotient}
 use Rattle.byte_unit_math.specs.Steps.{saturating_add}
 use Rattle.byte_unit_base.specs.Choice.{IsChosen}
-use Rattle.byte_unit_base.proofs.Choosing.{some_if_holds, some_bits}
+use Rattle.byte_unit_base.proofs.Choosing.{some_bits}
 use Rattle.byte_unit_base.proofs.FewSteps.{few_of_choice, few_of_none}
 use Rattle.byte_unit_base.proofs.Quotients.{places_of_quotient, quotient_of_product, whole_takes_none}
 use Rattle.byte_unit_base.proofs.Rows.{HasPowers, no_row, unit_in, search_start, power_of_powers, row_multiple}
 use Rattle.byte_unit_base.proofs.Rows.{row_at_is_row, row_powers, powers_in_row}
-use Rattle.byte_unit_base.proofs.Rows.{unit_found, unit_passed, none_found, not_if_test_fails}
+use Rattle.byte_unit_base.proofs.Rows.{unit_found, unit_passed, none_found}
 use Rattle.byte_unit_base.proofs.SizePowers.{in_bits_powers, in_bits_product, chosen_by_powers, none_by_powers}
 use Rattle.byte_unit_base.proofs.SizePowers.{exact_by_row, counted_choice}
 use Rattle.byte_unit_base.proofs.SizePowers.{count_fits}
@@ -40,36 +41,33 @@ loop-row-preserved c =
     let in_bits = c.args.size * c.args.divisor in
     let rows = c.multiples_within-row-items.result.now in
     let i = c.loop-row.row-index in
-    let is_row = row_at_is_row i no_row c.multiples_within-row-items.ensures c.loop-row-test.true in
-    let without = not_if_test_fails _ _ c.if-row-in_bits.false (powers_in_row in_bits _ _ is_row) in
+    let is_row = row_at_is_row no_row c.multiples_within-row-items.ensures c.loop-row-test.true in
     record {
-      remain = unit_passed _ rows i no_row c.loop-row.invariant.remain c.loop-row-test.true without;
+      remain = unit_passed _ rows i no_row c.loop-row.invariant.remain c.loop-row-test.true
+          (λ h. both_ways _ c.if-row-in_bits.false (powers_in_row in_bits _ _ is_row h));
       steps = c.loop-row.invariant.steps;
     }
 
 pub exact_quotient-requires-clause-some_unit : goal.exact_quotient-requires-clause-some_unit
 exact_quotient-requires-clause-some_unit c =
-    let multiple = row_multiple (row_at_is_row c.loop-row.row-index no_row c.multiples_within-row-items.ensures
-    c.loop-row-test.true) in
+    let multiple = row_multiple (row_at_is_row no_row c.multiples_within-row-items.ensures c.loop-row-test.true) in
     omega (arith, multiple.large)
 
 pub exact_quotient-requires-clause-small_unit : goal.exact_quotient-requires-clause-small_unit
 exact_quotient-requires-clause-small_unit c =
-    (row_multiple (row_at_is_row c.loop-row.row-index no_row c.multiples_within-row-items.ensures
-    c.loop-row-test.true)).small
+    (row_multiple (row_at_is_row no_row c.multiples_within-row-items.ensures c.loop-row-test.true)).small
 
 pub unwrap-number-requires : goal.unwrap-number-requires
 unwrap-number-requires c =
-    let is_row = row_at_is_row c.loop-row.row-index no_row c.multiples_within-row-items.ensures c.loop-row-test.true in
+    let is_row = row_at_is_row no_row c.multiples_within-row-items.ensures c.loop-row-test.true in
     let has = row_powers (c.args.size * c.args.divisor) _ _ is_row c.if-row-in_bits.true in
     let powers = in_bits_powers c.args.size c.args.divisor _ _ c.requires.divisor c.factors_of-left.ensures.powers in
-    some_if_holds c.exact_quotient.result c.exact_quotient.ensures.none
-    (exact_by_row _ (omega (arith, c.min-most.ensures)) is_row.bits_are powers has)
+    some_since c.exact_quotient.result _ _ c.exact_quotient.ensures.none (λ not. not
+    (exact_by_row _ (omega (arith, c.min-most.ensures)) is_row.bits_are powers has))
 
 pub factored_quotient-number-requires-clause-small : goal.factored_quotient-number-requires-clause-small
 factored_quotient-number-requires-clause-small c =
-    let multiple = row_multiple (row_at_is_row c.loop-row.row-index no_row c.multiples_within-row-items.ensures
-    c.loop-row-test.true) in
+    let multiple = row_multiple (row_at_is_row no_row c.multiples_within-row-items.ensures c.loop-row-test.true) in
     let product = in_bits_product c.args.size c.args.divisor _ _ _ c.requires.divisor
     c.factors_of-left.ensures.product in
     let few = c.max-places.result in
@@ -79,7 +77,7 @@ factored_quotient-number-requires-clause-small c =
 pub returns-then-row-in_bits-clause-exact : goal.returns-then-row-in_bits-clause-exact
 returns-then-row-in_bits-clause-exact c =
     let in_bits = c.args.size * c.args.divisor in
-    let is_row = row_at_is_row c.loop-row.row-index no_row c.multiples_within-row-items.ensures c.loop-row-test.true in
+    let is_row = row_at_is_row no_row c.multiples_within-row-items.ensures c.loop-row-test.true in
     let multiple = row_multiple is_row in
     let product = in_bits_product c.args.size c.args.divisor _ _ _ c.requires.divisor
     c.factors_of-left.ensures.product in
@@ -100,7 +98,7 @@ returns-then-row-in_bits-clause-chosen c =
     let in_bits = c.args.size * c.args.divisor in
     let listed = c.multiples_within-row-items.ensures in
     let i = c.loop-row.row-index in
-    let has = row_powers in_bits _ _ (row_at_is_row i no_row listed c.loop-row-test.true) c.if-row-in_bits.true in
+    let has = row_powers in_bits _ _ (row_at_is_row no_row listed c.loop-row-test.true) c.if-row-in_bits.true in
     let found = unit_found _ i no_row listed c.loop-row.invariant.remain c.loop-row-test.true has in
     let powers = in_bits_powers c.args.size c.args.divisor _ _ c.requires.divisor c.factors_of-left.ensures.powers in
     let exact = exact_by_row _ (omega (arith, c.min-most.ensures)) refl powers has in
@@ -112,8 +110,7 @@ pub returns-then-row-in_bits-clause-steps : goal.returns-then-row-in_bits-clause
 returns-then-row-in_bits-clause-steps c =
     let in_bits = c.args.size * c.args.divisor in
     let row = get_or c.multiples_within-row-items.result.now c.loop-row.row-index no_row in
-    let multiple = row_multiple (row_at_is_row c.loop-row.row-index no_row c.multiples_within-row-items.ensures
-    c.loop-row-test.true) in
+    let multiple = row_multiple (row_at_is_row no_row c.multiples_within-row-items.ensures c.loop-row-test.true) in
     let most = min c.min-most.result places_of_decimal in
     let mid = c.factors_of-left.new.steps in
     let trials = c.factors_of-left.ensures in
