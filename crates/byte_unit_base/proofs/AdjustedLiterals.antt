@@ -81,7 +81,8 @@ computed_shape kind size unit (inr own) =
 -- the appropriate unit of a size is the one that is computed
 computed_unit : (kind : Kind) (size : ℕ) (unit : UnitName) → IsAppropriate kind Both size unit
     → unit_of_shape (largest_unit_of kind size) ≡ unit
-computed_unit kind size unit is = ap unit_of_shape (computed_shape kind size (shape_of unit) is) ∙ unit_of_its_shape unit
+computed_unit kind size unit is =
+    ap unit_of_shape (computed_shape kind size (shape_of unit) is) ∙ unit_of_its_shape unit
 
 adjusted_by_size : (kind : Kind) (bytes : List ℕ) (r : Result AdjustedSize ParseError)
     → result_map_both (λ n. n) size_fault (size_answer r) ≡ parsed_size kind false bytes

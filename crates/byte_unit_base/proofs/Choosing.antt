@@ -1,7 +1,6 @@
 -- The number of bits of a unit, and a size in its base unit.
-use Rattle.std.proofs.Common.{◌≡◌, ℕ, ◌*◌, ◌≤◌, Bool, arith, ap, inl}
+use Rattle.std.proofs.Common.{◌≡◌, ℕ, ◌*◌, ◌≤◌, Bool, arith, inl}
 use Rattle.std.proofs.Common.{inr, refl}
-use Rattle.std.proofs.Common.{subst, sym, ◌∙◌}
 use Rattle.std.proofs.Math.Nat.{one-le-pow, one-le-mul}
 use Rattle.byte_unit_math.specs.Bounds.{scale, unit_limit}
 use Rattle.byte_unit_math.specs.Exact.{IsExactAt}
@@ -37,13 +36,9 @@ pub exact_where_recovered : (kind : Kind) (both : Bool) (size : ℕ) (unit : Sha
     → IsRecoveredIn current kind both size 0 unit
     → IsExactAt (size * bits_in kind) (bits unit) 0
 exact_where_recovered kind both size unit (inl h) = h.has.exact
-exact_where_recovered kind both size unit (inr h) =
-    let exact : Shape → Type 0 = λ s. IsExactAt (size * bits_in kind) (bits s) 0 in
-    let same = ap (λ n. size * n) (own_bits kind) in
-    subst exact (sym h.1) (size, omega (arith, same))
+exact_where_recovered kind both size unit (inr h) = rw (h.1, own_bits kind) (size, omega arith)
 
 -- a size, scaled by 10^28, is the number of its base unit in it
 pub own_number : (kind : Kind) (size number : ℕ) (unit : Shape) → number ≡ size * scale → unit ≡ own_unit kind
     → number * bits unit ≡ size * bits_in kind * scale
-own_number kind size number unit value own =
-    ap (λ n. n * bits unit) value ∙ (ap (λ n. size * scale * n) (ap bits own ∙ own_bits kind) ∙ omega arith)
+own_number kind size number unit value own = rw (value, own, own_bits kind) (omega arith)

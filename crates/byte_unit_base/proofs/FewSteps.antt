@@ -14,7 +14,7 @@ use Rattle.byte_unit_base.specs.Shape.{Shape, shape, bits, twos, fives}
 use Rattle.byte_unit_base.specs.UnitLists.{prefix_count}
 use Rattle.byte_unit_base.specs.Version.{current}
 use Rattle.byte_unit_base.specs.Kinds.{bits_in}
-use Rattle.byte_unit_base.specs.Choice.{IsLargest, IsExactUnit, IsChosen, TakesSteps, CountsChoice}
+use Rattle.byte_unit_base.specs.Choice.{IsLargest, IsExactUnit, IsChosen, CountsChoice}
 use Rattle.byte_unit_base.specs.Choice.{places_within, most_steps}
 use Rattle.byte_unit_base.specs.declared.kind.Kind.{Kind}
 use Rattle.byte_unit_base.specs.declared.kind.Kind.TheVariants.{Byte, Bit}
@@ -133,8 +133,8 @@ few_together family in_bits precision a b power false false powers small chosen 
     (λ below. omega (arith, few, fewer, below))
     (λ last.
     let same : power ≡ 9 = omega (arith, last, chosen.has.member.prefix.known) in
-    let IsChosenUnit : ℕ → Type 0 = λ n. IsLargest (IsExactUnit family in_bits precision) (shape n false false) in
-    omega (arith, few, few_twos_in_RB family in_bits precision a b powers small (subst IsChosenUnit same chosen), same))
+    let chosen_RB = subst (λ n. IsLargest (IsExactUnit family in_bits precision) (shape n false false)) same chosen in
+    omega (arith, few, few_twos_in_RB family in_bits precision a b powers small chosen_RB, same))
     (cases_lt power 9)
 
 -- the places of the number are no more than those that the powers of the size and of its unit leave
@@ -158,28 +158,21 @@ few_in_all family in_bits precision number places a b unit small powers chosen l
   few_places family in_bits precision number places a b unit powers chosen least,
 )
 
--- no choice takes more steps than the greatest step count of its kind
-few_steps : (kind : Kind) (family : Family) (size precision number steps : ℕ) (unit : Shape) → size < current.size_limit
-    → IsChosen family (size * bits_in kind) precision unit number → TakesSteps size number steps
-    → steps ≤ most_steps kind
-few_steps Byte family size precision number steps unit small chosen t =
-    let powers = eight_times size t.twos t.fives t.powers in
-    let few = few_in_all family (size * 8) precision number t.places (t.twos + 3) t.fives unit in
-    omega (arith, t.steps_are, few (omega (arith, small)) powers chosen t.is_places)
-few_steps Bit family size precision number steps unit small chosen t =
-    let once : size ≡ size * 1 = omega arith in
-    let powers = subst (λ n. IsTwoFive n t.twos t.fives) once t.powers in
-    let few = few_in_all family (size * 1) precision number t.places t.twos t.fives unit in
-    omega (arith, t.steps_are, few (omega (arith, small)) powers chosen t.is_places)
-
 -- if a unit is chosen, the step counter rises by at most the greatest step count of its kind
 pub few_of_choice : (kind : Kind) (family : Family) (size precision number old new : ℕ) (unit : Shape)
     → size < current.size_limit
     → IsChosen family (size * bits_in kind) precision unit number → CountsChoice size number old new
     → new ≤ saturating_add old (most_steps kind)
 few_of_choice kind family size precision number old new unit small chosen (inl h) = omega (arith, h.1)
-few_of_choice kind family size precision number old new unit small chosen (inr (steps, t, e)) =
-    omega (arith, few_steps kind family size precision number steps unit small chosen t, e)
+few_of_choice Byte family size precision number old new unit small chosen (inr (steps, t, e)) =
+    let few = few_in_all family (size * 8) precision number t.places (t.twos + 3) t.fives unit (omega (arith, small))
+    (eight_times size t.twos t.fives t.powers) chosen t.is_places in
+    omega (arith, t.steps_are, few, e)
+few_of_choice Bit family size precision number old new unit small chosen (inr (steps, t, e)) =
+    let once : size * 1 ≡ size = omega arith in
+    let few = few_in_all family (size * 1) precision number t.places t.twos t.fives unit (omega (arith, small))
+    (rw once t.powers) chosen t.is_places in
+    omega (arith, t.steps_are, few, e)
 
 -- the trials alone take fewer steps
 few_trials : (kind : Kind) → 104 ≤ most_steps kind

@@ -50,9 +50,10 @@ letter_found : (power : ℕ) → power ≤ length current.letters
     → (to_ascii_uppercase (letter_at power) ≡ letter_at power) × (letter_at power < 128)
 letter_found power known =
     let c = letter_at power in
-    let here = and_parts (eqb (to_ascii_uppercase c) c) (ltb c 128) (agree_below_at (λ n. is_letter (letter_at n)) (λ n. true)
-    (length current.letters + 1) power known_letters (omega (arith, known))) in
-    (eqb-true _ _ here.0, ltb-true _ _ here.1)
+    let is = agree_below_at (λ n. is_letter (letter_at n)) (λ n. true) (length current.letters + 1) power known_letters
+    (omega (arith, known)) in
+    let parts = and_parts (eqb (to_ascii_uppercase c) c) (ltb c 128) is in
+    (eqb-true _ _ parts.0, ltb-true _ _ parts.1)
 
 infix_spells : (binary : Bool) → SpellsBinary (infix_of binary) binary
 infix_spells true = inr (refl, refl)

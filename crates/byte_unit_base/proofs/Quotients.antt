@@ -1,5 +1,5 @@
 -- A size as an exact quotient: at more places, and times its unit.
-use Rattle.std.proofs.Common.{◌≡◌, ℕ, ◌-◌, ◌*◌, ◌/◌, ◌^◌, ◌≤◌, ⊎_elim, arith, sym, ap, ◌∙◌, subst}
+use Rattle.std.proofs.Common.{◌≡◌, ℕ, ◌-◌, ◌*◌, ◌/◌, ◌^◌, ◌≤◌, ⊎_elim, arith, ap, ◌∙◌}
 use Rattle.std.proofs.Math.Nat.{eq_of_mul-eq-mul_right}
 use Rattle.byte_unit_math.specs.Bounds.{places_of_decimal, scale}
 use Rattle.byte_unit_math.specs.Exact.{IsExactAt, IsLeastPlaces, IsQuotient, IsFirstExact}
@@ -67,9 +67,8 @@ pub places_of_quotient : (size unit places digits number : ℕ) → IsDivided si
 places_of_quotient size unit places digits number divided =
     let quotient = divided.quotient in
     let product = number_times_unit size unit places number divided.room quotient in
-    let IsExactSize : ℕ → Type 0 = λ j. IsExactAt size unit j in
     let exact : IsExactAt size unit digits =
-    ⊎_elim (λ e. e) (λ e. subst IsExactSize (sym e) (quotient.count, quotient.exact)) divided.first.ends in
+    ⊎_elim (λ e. e) (λ e. rw e (quotient.count, quotient.exact)) divided.first.ends in
     record {
       has = stated_where_exact size unit number digits divided.some product exact;
       least = λ fewer e. divided.first.first fewer (exact_where_stated size unit number fewer product e);

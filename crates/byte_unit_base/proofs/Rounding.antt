@@ -1,6 +1,6 @@
 -- Rounding up to whole bytes or bits, by way of the least number of bits.
 use Rattle.std.proofs.Common.{◌≡◌, ℕ, ◌+◌, ◌-◌, ◌*◌, ◌/◌, ◌<◌, ◌≤◌, arith}
-use Rattle.std.proofs.Math.Nat.{mul-le-mul_right}
+use Rattle.std.proofs.Math.Nat.{mul-le-mul_right, lt_of_mul-lt-mul_right}
 use Rattle.byte_unit_math.specs.Bounds.{scale}
 use Rattle.byte_unit_math.specs.Least.{IsLeastSize}
 use Rattle.byte_unit_base.specs.Shape.{Shape, bits}
@@ -8,6 +8,8 @@ use Rattle.byte_unit_base.specs.declared.kind.Kind.{Kind}
 use Rattle.byte_unit_base.specs.declared.kind.Kind.TheVariants.{Byte, Bit}
 use Rattle.byte_unit_base.specs.Kinds.{bits_in}
 use Rattle.byte_unit_base.specs.SizeLaws.{EachNumberHasOneLeastSize, GreaterNumbersGiveNoSmallerSizes}
+use Rattle.byte_unit_base.specs.Parsed.{rounded_up}
+use Rattle.byte_unit_base.proofs.Computed.{rounded_up_is_least}
 use Rattle.byte_unit_base.specs.LeastOfKind.{IsLeastOf, IsAtLeast}
 
 -- a number of a unit, rounded up to whole bits, exists
@@ -19,26 +21,20 @@ least_bits N unit =
 -- the least number of bytes or bits that holds the least bits is the number of the unit, rounded up
 pub least_holding : (kind : Kind) (N : ℕ) (unit : Shape) (b n : ℕ) → IsLeastSize N (bits unit) b → b ≤ n * bits_in kind
     → n * bits_in kind < b + bits_in kind → IsLeastOf kind N unit n
-least_holding Byte N unit b n h holds low = record {
+least_holding kind N unit b n h holds low = record {
   has = omega (arith, h.has, mul-le-mul_right scale holds);
-  least = λ m r. omega (arith, h.least (m * 8) r, low);
-}
-least_holding Bit N unit b n h holds low = record {
-  has = omega (arith, h.has, mul-le-mul_right scale holds);
-  least = λ m r. omega (arith, h.least (m * 1) r, low);
+  least = λ m r. let below : n * bits_in kind < (m + 1) * bits_in kind = omega (arith, h.least (m * bits_in kind) r, low) in
+      omega (arith, lt_of_mul-lt-mul_right (bits_in kind) below);
 }
 
 -- if the least bits reach the limit in bits, the number of the unit, rounded up, reaches the limit
 pub least_above : (kind : Kind) (N : ℕ) (unit : Shape) (limit n : ℕ) → 1 ≤ limit
     → ((b : ℕ) → IsLeastSize N (bits unit) b → (limit - 1) * bits_in kind + 1 ≤ b) → IsLeastOf kind N unit n → limit ≤ n
-least_above Byte N unit limit n some none h =
+least_above kind N unit limit n some none h =
     let least = least_bits N (bits unit) in
-    let enough = least.1.least (n * 8) h.has in
-    omega (arith, enough, none least.0 least.1, some)
-least_above Bit N unit limit n some none h =
-    let least = least_bits N (bits unit) in
-    let enough = least.1.least (n * 1) h.has in
-    omega (arith, enough, none least.0 least.1, some)
+    let below : (limit - 1) * bits_in kind < n * bits_in kind =
+    omega (arith, least.1.least (n * bits_in kind) h.has, none least.0 least.1) in
+    omega (arith, lt_of_mul-lt-mul_right (bits_in kind) below, some)
 
 -- if the least bits are below the limit in bits, the least number of bytes or bits that holds them is below the limit
 pub least_below : (kind : Kind) (limit b n : ℕ) → b < (limit - 1) * bits_in kind + 1
@@ -57,13 +53,7 @@ least_is_unique kind N unit m n a b =
 
 -- a number of a unit, rounded up to whole bytes or bits, exists
 pub least_exists : (kind : Kind) (N : ℕ) (unit : Shape) → (n : ℕ) × IsLeastOf kind N unit n
-least_exists Byte N unit =
-    let b = least_bits N (bits unit) in
-    let n = (b.0 + 7) / 8 in
-    (n, least_holding Byte N unit b.0 n b.1 (omega arith) (omega arith))
-least_exists Bit N unit =
-    let b = least_bits N (bits unit) in
-    (b.0, least_holding Bit N unit b.0 b.0 b.1 (omega arith) (omega arith))
+least_exists kind N unit = (rounded_up kind N unit, rounded_up_is_least kind N unit)
 
 -- each number of each unit, rounded up, is exactly one size
 pub one_least_size : EachNumberHasOneLeastSize

@@ -40,7 +40,8 @@ visible_ascii (c ∷ cs) h =
 text_visible : (text : List ℕ) → IsVisible (str_to_ascii_lowercase text) → IsVisible text
 text_visible [] h = refl
 text_visible (c ∷ cs) h =
-    let p = and_parts (is_ascii_graphic (to_ascii_lowercase c)) (list_all is_ascii_graphic (str_to_ascii_lowercase cs)) h in
+    let lower = str_to_ascii_lowercase cs in
+    let p = and_parts (is_ascii_graphic (to_ascii_lowercase c)) (list_all is_ascii_graphic lower) h in
     and_from _ _ (grind (arith, nat_tests, p.0)) (text_visible cs p.1)
 
 digits_visible : (text : List ℕ) → AllDigits 10 text → IsVisible text
@@ -63,10 +64,10 @@ binary_visible text binary (inr h) = text_visible text (ap (list_all is_ascii_gr
 prefix_visible : (text : List ℕ) (power : ℕ) (binary : Bool) → SpellsPrefix current text power binary → IsVisible text
 prefix_visible text power binary h =
     let is = h.letter_is in
-    let letter = All-get_or (λ c. is_ascii_graphic c ≡ true) current.letters (power - 1) 0 (omega (arith, is.0, is.1))
-    (AllPass-from_list_all is_ascii_graphic current.letters refl) in
-    ap (list_all is_ascii_graphic) h.text_is
-    ∙ and_from _ _ (grind (arith, nat_tests, ap is_ascii_graphic is.2 ∙ letter)) (binary_visible h.infix_part binary h.infix_is)
+    let letters = AllPass-from_list_all is_ascii_graphic current.letters refl in
+    let letter = All-get_or (λ c. is_ascii_graphic c ≡ true) current.letters (power - 1) 0 (omega (arith, is.0, is.1)) letters in
+    let visible : is_ascii_graphic h.letter ≡ true = grind (arith, nat_tests, ap is_ascii_graphic is.2 ∙ letter) in
+    ap (list_all is_ascii_graphic) h.text_is ∙ and_from _ _ visible (binary_visible h.infix_part binary h.infix_is)
 
 spelling_visible : (flags : Flags) (text : List ℕ) (unit : Shape) → Spells current flags text unit → IsVisible text
 spelling_visible flags text unit (inl h) = count_visible flags text unit.bit h.count_is

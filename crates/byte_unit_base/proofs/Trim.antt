@@ -56,7 +56,8 @@ pub keep_last : (front : List ℕ) (last : ℕ) → is_whitespace last ≡ false
     → drop_trailing_whitespace (front ++ last ∷ []) ≡ front ++ last ∷ []
 keep_last [] last is_none = rw is_none refl
 keep_last (next ∷ front) last is_none =
-    let some : nat_eq (length (front ++ last ∷ [])) 0 ≡ false = grind (arith, nat_tests, length-append front (last ∷ [])) in
+    let count = length-append front (last ∷ []) in
+    let some : nat_eq (length (front ++ last ∷ [])) 0 ≡ false = grind (arith, nat_tests, count) in
     rw (keep_last front last is_none, and_right (is_whitespace next) _ some) refl
 
 -- a text with a character other than white space at each end has no white space to drop

@@ -59,7 +59,8 @@ run_lower : (s t : UnitScan) (end : Option UnitScan) (x : ℕ) (xs text : List �
     → str_to_ascii_lowercase text ≡ x ∷ xs → run unit_step s text ≡ end
 run_lower s t end x xs text step next e =
     let l = lower_cons x xs text e in
-    ap (run unit_step s) l.text_is ∙ (run_step unit_step s t l.head l.tail (step l.head l.head_is) ∙ next l.tail l.tail_is)
+    ap (run unit_step s) l.text_is
+    ∙ (run_step unit_step s t l.head l.tail (step l.head l.head_is) ∙ next l.tail l.tail_is)
 
 run_nothing : (s : UnitScan) (text : List ℕ) → str_to_ascii_lowercase text ≡ [] → run unit_step s text ≡ Some s
 run_nothing s text e = ap (run unit_step s) (lower_nil text e)
@@ -82,9 +83,11 @@ run_suffix : (m : Multiple) (w : Word) (text : List ℕ) → IsWordText w text
 unfolding unit_step
 run_suffix m Empty text h = ap (run unit_step (scan_of m Empty)) h
 run_suffix m UpperB text h =
-    ap (run unit_step (scan_of m Empty)) h ∙ run_step unit_step (scan_of m Empty) (scan_of m UpperB) 66 [] (step_letter_b m).0
+    ap (run unit_step (scan_of m Empty)) h
+    ∙ run_step unit_step (scan_of m Empty) (scan_of m UpperB) 66 [] (step_letter_b m).0
 run_suffix m LowerB text h =
-    ap (run unit_step (scan_of m Empty)) h ∙ run_step unit_step (scan_of m Empty) (scan_of m LowerB) 98 [] (step_letter_b m).1
+    ap (run unit_step (scan_of m Empty)) h
+    ∙ run_step unit_step (scan_of m Empty) (scan_of m LowerB) 98 [] (step_letter_b m).1
 run_suffix m Bi text h =
     run_b _ m (codes "i") text (λ c b i. run_lower _ _ _ 105 [] i b.then_i (run_nothing (scan_of m Bi))) h
 run_suffix m Bit text h =
