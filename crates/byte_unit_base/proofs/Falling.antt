@@ -1,9 +1,9 @@
 -- The units of a unit set from the largest to the smallest, and the search for the largest that has a property.
 use Rattle.std.proofs.Common.{◌≡◌, ℕ, ◌+◌, ◌*◌, ◌<◌, ◌≤◌, ◌⊎◌, ⊎_elim, inl, inr, zero, suc, Bool, true, false, List, []}
 use Rattle.std.proofs.Common.{◌∷◌, ◌++◌}
-use Rattle.std.proofs.Common.{length, drop, get_or, ◌&&◌, leb, add-one, drop-cons, arith, sym, ap, ◌∙◌, subst, refl, rules, ◌/◌}
+use Rattle.std.proofs.Common.{length, drop, get_or, ◌&&◌, leb, arith, sym, ap, ◌∙◌, refl, rules, ◌/◌}
 use Rattle.std.specs.List.{AllByRecursion}
-use Rattle.std.proofs.lemmas.List.{drop_all, drop_at, drop-drop}
+use Rattle.std.proofs.lemmas.List.{drop_at, drop-drop}
 use Rattle.std.proofs.lemmas.Bool.{and_parts, cases_lt, leb-true, agree_below, agree_below_at}
 use Rattle.byte_unit_math.specs.Bounds.{unit_limit}
 use Rattle.byte_unit_base.specs.Shape.{Shape, shape, bits}
@@ -12,7 +12,6 @@ use Rattle.byte_unit_base.specs.Family.{HasKind, InFamily}
 use Rattle.byte_unit_base.specs.UnitLists.{units_of_prefix, units_of_prefixes, prefix_count}
 use Rattle.byte_unit_base.specs.declared.unit.family.Family.{Family}
 use Rattle.byte_unit_base.specs.declared.unit.family.Family.TheVariants.{All, Bytes, Bits}
-use Rattle.byte_unit_base.specs.Choice.{IsLargest, NoneHas}
 
 -- the unit is one of these
 abbrev pub IsIn : Shape → List Shape → Type 0
@@ -73,7 +72,7 @@ le_of_falls (x ∷ xs) bound unit h i =
     ⊎_elim (λ e. omega (arith, ap bits e, first)) (λ k. omega (arith, first, le_of_falls xs (bits x) unit parts.1 k)) i
 
 -- the units after any index of a falling list fall from the unit at the index
-falls_after : (xs : List Shape) (bound i : ℕ) (d : Shape) → falls bound xs ≡ true → i < length xs
+pub falls_after : (xs : List Shape) (bound i : ℕ) (d : Shape) → falls bound xs ≡ true → i < length xs
     → falls (bits (get_or xs i d)) (drop (suc i) xs) ≡ true
 falls_after [] bound i d h within = absurd (omega (arith, within))
 falls_after (x ∷ xs) bound zero d h within = (and_parts _ _ h).1
@@ -90,34 +89,6 @@ pub current_falls : (family : Family) (n : ℕ) → n ≤ prefix_count → falls
 current_falls family n few =
     agree_below_at (λ k. falls unit_limit (units_of_prefixes family k)) (λ k. true) (prefix_count + 1) n
     (known_lists_fall family) (omega (arith, few))
-
--- the first unit of a falling list that has the property is the largest that has it, if each unit that has it is at
--- this index or later
-pub largest_found : (Has : Shape → Type 0) (units : List Shape) (i : ℕ) (x : Shape) → falls unit_limit units ≡ true
-    → Remain Has (drop i units) → (i < length units) × (get_or units i x ≡ x) → Has x → IsLargest Has x
-largest_found Has units i x fall remain at has =
-    let rest = drop (suc i) units in
-    let e : drop i units ≡ x ∷ rest = drop-cons units i x at.0 ∙ ap (λ y. y ∷ rest) at.1 in
-    let falls_from : falls (bits x) rest ≡ true = rw at.1 at (falls_after units unit_limit i x fall at.0) in
-    record {
-      has = has;
-      largest = λ unit h. ⊎_elim (λ same. omega (arith, ap bits same)) (le_of_falls rest (bits x) unit falls_from)
-          (subst (IsIn unit) e (remain unit h));
-    }
-
--- if the unit at an index does not have the property, each unit that has it is at a later index
-pub Remain-after : (Has : Shape → Type 0) (units : List Shape) (i : ℕ) (x : Shape) → Remain Has (drop i units)
-    → i < length units
-    → get_or units i x ≡ x → ¬ (Has x) → Remain Has (drop (i + 1) units)
-Remain-after Has units i x remain within at without = λ unit h.
-    let e : drop i units ≡ x ∷ drop (suc i) units = drop-cons units i x within ∙ ap (λ y. y ∷ drop (suc i) units) at in
-    rw add-one (⊎_elim (λ same. absurd (without (subst Has (sym same) h))) (λ later. later)
-    (subst (IsIn unit) e (remain unit h)))
-
--- if each unit that has the property is after the end of the list, no unit has it
-pub Remain-at_end : (Has : Shape → Type 0) (units : List Shape) (i : ℕ) → length units ≤ i → Remain Has (drop i units)
-    → NoneHas Has
-Remain-at_end Has units i done remain unit h = subst (IsIn unit) (drop_all i units done) (remain unit h)
 
 -- the number of units of a unit set that have the same prefix letter
 abbrev pub units_per_prefix : Family → ℕ
@@ -143,4 +114,5 @@ drop_prefixes family (suc d) n =
     let count : each * suc d ≡ each + each * d = omega arith in
     ap (λ m. drop (each * suc d) (units_of_prefixes family m)) sum
     ∙ (ap (λ m. drop m (here ++ later)) count ∙ (sym (drop-drop (each * d) each (here ++ later))
-    ∙ (ap (drop (each * d)) (drop_at here later each (length_of_prefix family (suc (d + n)))) ∙ drop_prefixes family d n)))
+    ∙ (ap (drop (each * d)) (drop_at here later each (length_of_prefix family (suc (d + n))))
+    ∙ drop_prefixes family d n)))

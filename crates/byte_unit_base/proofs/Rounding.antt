@@ -23,7 +23,8 @@ pub least_holding : (kind : Kind) (N : ℕ) (unit : Shape) (b n : ℕ) → IsLea
     → n * bits_in kind < b + bits_in kind → IsLeastOf kind N unit n
 least_holding kind N unit b n h holds low = record {
   has = omega (arith, h.has, mul-le-mul_right scale holds);
-  least = λ m r. let below : n * bits_in kind < (m + 1) * bits_in kind = omega (arith, h.least (m * bits_in kind) r, low) in
+  least = λ m r. let enough = h.least (m * bits_in kind) r in
+      let below : n * bits_in kind < (m + 1) * bits_in kind = omega (arith, enough, low) in
       omega (arith, lt_of_mul-lt-mul_right (bits_in kind) below);
 }
 

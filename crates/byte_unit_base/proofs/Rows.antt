@@ -1,10 +1,10 @@
 -- The rows of the table of units that a size can have, and the search for the largest that has a property.
 use Rattle.std.proofs.Common.{◌≡◌, ℕ, ◌+◌, ◌-◌, ◌*◌, ◌/◌, ◌^◌, ◌<◌, ◌≤◌, ⊎_elim, suc, Bool, true, false, List, [], ◌∷◌}
 use Rattle.std.proofs.Common.{length, map, max}
-use Rattle.std.proofs.Common.{drop, get_or}
+use Rattle.std.proofs.Common.{drop, get_or, add-one, drop-cons}
 use Rattle.std.proofs.Common.{◌&&◌, leb, arith, sym, ap, ◌∙◌, subst, refl}
 use Rattle.std.proofs.Math.Nat.{pow-le-pow_right}
-use Rattle.std.proofs.lemmas.List.{drop-map, get_or-map, length-map}
+use Rattle.std.proofs.lemmas.List.{drop_all, drop-map, get_or-map, length-map}
 use Rattle.std.proofs.lemmas.Bool.{cases_Bool, cases_lt, leb-true, agree_below, agree_below_at}
 use Rattle.std.proofs.lemmas.Bool.Decides.{nat_tests}
 use Rattle.std.proofs.lemmas.List.Elements.{All-from_recursion, All-map, All-same}
@@ -21,10 +21,9 @@ use Rattle.byte_unit_base.specs.UnitLists.{units_of_prefixes, prefix_count}
 use Rattle.byte_unit_base.specs.declared.unit.Unit.TheVariants.{Bit}
 use Rattle.byte_unit_base.specs.declared.unit.family.UnitRow.{UnitRow}
 use Rattle.byte_unit_base.specs.declared.unit.family.Family.{Family}
+use Rattle.byte_unit_base.proofs.Falling.{IsIn, Remain, falls, in_falling, all_in_family, current_falls, falls_after}
+use Rattle.byte_unit_base.proofs.Falling.{le_of_falls, units_per_prefix, drop_prefixes}
 use Rattle.byte_unit_base.proofs.Choosing.{small_bits, some_bits}
-use Rattle.byte_unit_base.proofs.Falling.{Remain, falls, in_falling, all_in_family, current_falls}
-use Rattle.byte_unit_base.proofs.Falling.{largest_found}
-use Rattle.byte_unit_base.proofs.Falling.{Remain-after, Remain-at_end, units_per_prefix, drop_prefixes}
 
 -- the unit of a row of the table, as a `Shape`
 abbrev pub unit_in : UnitRow → Shape
@@ -103,11 +102,6 @@ units_of_rows (r ∷ rs) (x ∷ xs) e =
     ap (λ s. s ∷ map unit_in rs) (ap (λ row. row.unit) first) ∙ ap (λ l. x ∷ l) (units_of_rows rs xs rest)
 units_of_rows _ _ e = absurd (let k : ⊥ = cc in k)
 
--- the units of listed rows are the units of the first prefix letters
-pub listed_units : (family : Family) (in_bits first : ℕ) (rows : List UnitRow) (h : ListsUnits family in_bits first rows)
-    → map unit_in rows ≡ units_of_prefixes family h.prefixes
-listed_units family in_bits first rows h = units_of_rows rows (units_of_prefixes family h.prefixes) h.rows_are
-
 -- at the start of the search, each unit that has the property is among the rows
 pub search_start : (Has : Shape → Type 0) (family : Family) (in_bits first : ℕ) (rows : List UnitRow)
     → ListsUnits family in_bits first rows
@@ -116,7 +110,7 @@ pub search_start : (Has : Shape → Type 0) (family : Family) (in_bits first : �
 search_start Has family in_bits first rows h within = λ unit has.
     let m = within unit has in
     let known = h.within unit m.0.prefix m.1 m.2 in
-    rw (listed_units family in_bits _ rows h) (in_falling family h.prefixes unit m.0.kind m.0.prefix.some known)
+    rw (units_of_rows rows _ h.rows_are) (in_falling family h.prefixes unit m.0.kind m.0.prefix.some known)
 
 -- the unit of the row is in the unit set, and the row has its bits and exponents
 pub record IsRow (family : Family) (row : ShapeRow) : Type 0 where
@@ -156,6 +150,14 @@ row_multiple {family} {row} is =
       small = omega (arith, small_bits family row.unit member, is.bits_are);
     }
 
+-- from an index on, the units of the rows are the unit there and the later ones
+units_from : (rows : List UnitRow) (i : ℕ) (d : UnitRow) → i < length rows
+    → drop i (map unit_in rows) ≡ unit_in (get_or rows i d) ∷ drop (suc i) (map unit_in rows)
+units_from rows i d within =
+    let unit = unit_in (get_or rows i d) in
+    drop-cons (map unit_in rows) i unit (omega (arith, length-map rows unit_in, within))
+    ∙ ap (λ u. u ∷ drop (suc i) (map unit_in rows)) (get_or-map unit_in rows i d unit within)
+
 -- the unit of the first row that has the property is the largest unit that has it
 pub unit_found : {family : Family} {in_bits first : ℕ} {rows : List UnitRow} (Has : Shape → Type 0) (i : ℕ) (d : UnitRow)
     → ListsUnits family in_bits first rows → Remain Has (drop i (map unit_in rows)) → i < length rows
@@ -163,25 +165,30 @@ pub unit_found : {family : Family} {in_bits first : ℕ} {rows : List UnitRow} (
     → IsLargest Has (unit_in (get_or rows i d))
 unit_found {family} {in_bits} {first} {rows} Has i d h remain within has =
     let unit = unit_in (get_or rows i d) in
-    let fall : falls unit_limit (map unit_in rows) ≡ true =
-    rw (listed_units family in_bits _ rows h) (current_falls family h.prefixes h.few) in
-    let there : i < length (map unit_in rows) = omega (arith, length-map rows unit_in, within) in
-    largest_found Has (map unit_in rows) i unit fall remain (there, get_or-map unit_in rows i d unit within) has
+    let units = map unit_in rows in
+    let fall : falls unit_limit units ≡ true = rw (units_of_rows rows _ h.rows_are) (current_falls family h.prefixes h.few) in
+    let later = falls_after units unit_limit i unit fall (omega (arith, length-map rows unit_in, within)) in
+    let fall_from : falls (bits unit) (drop (suc i) units) ≡ true = rw (get_or-map unit_in rows i d unit within) at later in
+    record {
+      has = has;
+      largest = λ other k. ⊎_elim (λ same. omega (arith, ap bits same))
+          (le_of_falls (drop (suc i) units) (bits unit) other fall_from)
+          (subst (IsIn other) (units_from rows i d within) (remain other k));
+    }
 
 -- if the unit of a row does not have the property, each unit that has it is in a later row
 pub unit_passed : (Has : Shape → Type 0) (rows : List UnitRow) (i : ℕ) (d : UnitRow) → Remain Has (drop i (map unit_in rows))
     → i < length rows → ¬ (Has (unit_in (get_or rows i d))) → Remain Has (drop (i + 1) (map unit_in rows))
-unit_passed Has rows i d remain within without =
-    let unit = unit_in (get_or rows i d) in
-    let there : i < length (map unit_in rows) = omega (arith, length-map rows unit_in, within) in
-    Remain-after Has (map unit_in rows) i unit remain there (get_or-map unit_in rows i d unit within) without
+unit_passed Has rows i d remain within without = λ unit h.
+    rw add-one (⊎_elim (λ same. absurd (without (subst Has (sym same) h))) (λ later. later)
+    (subst (IsIn unit) (units_from rows i d within) (remain unit h)))
 
 -- if no row is left, no unit has the property
 pub none_found : (Has : Shape → Type 0) (rows : List UnitRow) (i : ℕ) → length rows ≤ i
     → Remain Has (drop i (map unit_in rows))
     → NoneHas Has
-none_found Has rows i done remain =
-    Remain-at_end Has (map unit_in rows) i (omega (arith, length-map rows unit_in, done)) remain
+none_found Has rows i done remain unit h =
+    subst (IsIn unit) (drop_all i (map unit_in rows) (omega (arith, length-map rows unit_in, done))) (remain unit h)
 
 -- if the tests of a row hold, its unit is not above the size and has no greater exponents
 pub row_powers : {family : Family} {row : ShapeRow} (in_bits a b : ℕ) → IsRow family row

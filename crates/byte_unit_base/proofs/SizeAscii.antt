@@ -1,7 +1,7 @@
 -- The inputs of the grammar of sizes are visible characters of ASCII, and spaces between a number and a unit. So only
 -- spaces after a number without a unit can be trimmed, and what is left is the same number and unit.
-use Rattle.std.proofs.Common.{◌≡◌, ℕ, zero, suc, ◌-◌, ◌<◌, Bool, true, false, cond, nat_eq, inl, inr, List, [], ◌∷◌, ◌++◌}
-use Rattle.std.proofs.Common.{length, replicate, refl, ap, sym, subst, ◌∙◌, arith, append-nil}
+use Rattle.std.proofs.Common.{◌≡◌, ℕ, zero, suc, ◌-◌, ◌<◌, Bool, true, false, cond, nat_eq, inl, inr, List, [], ◌∷◌}
+use Rattle.std.proofs.Common.{◌++◌, length, replicate, refl, ap, sym, subst, ◌∙◌, arith, append-nil}
 use Rattle.std.specs.List.{list_all}
 use Rattle.std.specs.Char.{is_ascii_graphic, to_ascii_lowercase}
 use Rattle.std.specs.Str.{IsAscii, IsUtf8, chars, str_to_ascii_lowercase, skip_leading_whitespace, drop_trailing_whitespace}
@@ -65,7 +65,8 @@ prefix_visible : (text : List ℕ) (power : ℕ) (binary : Bool) → SpellsPrefi
 prefix_visible text power binary h =
     let is = h.letter_is in
     let letters = AllPass-from_list_all is_ascii_graphic current.letters refl in
-    let letter = All-get_or (λ c. is_ascii_graphic c ≡ true) current.letters (power - 1) 0 (omega (arith, is.0, is.1)) letters in
+    let inside : power - 1 < length current.letters = omega (arith, is.0, is.1) in
+    let letter = All-get_or (λ c. is_ascii_graphic c ≡ true) current.letters (power - 1) 0 inside letters in
     let visible : is_ascii_graphic h.letter ≡ true = grind (arith, nat_tests, ap is_ascii_graphic is.2 ∙ letter) in
     ap (list_all is_ascii_graphic) h.text_is ∙ and_from _ _ visible (binary_visible h.infix_part binary h.infix_is)
 

@@ -76,7 +76,8 @@ module _ {family : Family} {in_bits most a b : ℕ} (precision : ℕ) (same : mo
   exact_of_powers unit h = record {
     member = h.member;
     not_above = h.not_above;
-    exact = rw (← same) ((exact_by_powers in_bits (twos unit) (fives unit) a b most powers).1 (h.few_twos, h.few_fives));
+    exact = rw (← same)
+        ((exact_by_powers in_bits (twos unit) (fives unit) a b most powers).1 (h.few_twos, h.few_fives));
   }
 
   powers_of_exact : (unit : Shape) → IsExactUnit family in_bits precision unit

@@ -234,7 +234,8 @@ pub size_text_runs : (flags : Flags) (text : List ℕ) (n : ℕ) (s : Shape) →
     → RunsTo (λ t. size_at_end flags t ≡ Ok (n, s)) Beginning text
 size_text_runs flags text n s h =
     let u = spelling_runs flags h.unit_part s h.unit_is in
-    let r = run_numbered n h.spaces (scan_of u.multiple u.word) h.number_part h.unit_part text h.text_is h.number_is u.run in
+    let s = scan_of u.multiple u.word in
+    let r = run_numbered n h.spaces s h.number_part h.unit_part text h.text_is h.number_is u.run in
     record { state = r.state; run = r.run; holds = r.holds.ends flags ∙ ap (size_or_fault n) u.unit }
 
 sized_front : (flags : Flags) (place : ParserState) (text : List ℕ) → place ≢ before_unit → IsNumberAndUnitPrefix current place text
@@ -250,7 +251,8 @@ pub size_front_runs : (flags : Flags) (place : ParserState) (text : List ℕ) �
 size_front_runs flags beginning text h =
     record { state = Beginning; run_is = ap (run size_step Beginning) h; place_is = refl }
 size_front_runs flags in_whole text h = record { state = Whole h.0; run_is = run_whole text h.0 h.1; place_is = refl }
-size_front_runs flags after_point text h = record { state = Point h.0; run_is = run_pointed text h.0 h.1; place_is = refl }
+size_front_runs flags after_point text h =
+    record { state = Point h.0; run_is = run_pointed text h.0 h.1; place_is = refl }
 size_front_runs flags in_fraction text h =
     let r = run_precise text h.0 h.1 in record { state = r.state; run_is = r.run; place_is = r.holds.1 }
 size_front_runs flags before_unit text h =

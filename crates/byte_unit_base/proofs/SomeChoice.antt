@@ -71,7 +71,8 @@ module _ (Has : Shape → Type 0) (x : Shape) (xs : List Shape) where
   stays : (unit : Shape) → IsLargestOf Has xs unit → (Has x → bits x ≤ bits unit) → IsLargestOf Has (x ∷ xs) unit
   stays unit l low = record {
     has = l.has;
-    largest = λ other i h. ⊎_elim (λ e. omega (arith, ap bits e, low (subst Has (sym e) h))) (λ k. l.largest other k h) i;
+    largest = λ other i h.
+        ⊎_elim (λ e. omega (arith, ap bits e, low (subst Has (sym e) h))) (λ k. l.largest other k h) i;
   }
 
   -- one more unit is the largest, if none before it that has the property is larger

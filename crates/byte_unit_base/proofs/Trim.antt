@@ -1,6 +1,6 @@
 -- Trimming: the characters of a trimmed string, and texts that it does not change.
-use Rattle.std.proofs.Common.{◌≡◌, ℕ, ◌+◌, ◌-◌, ◌<◌, List, [], ◌∷◌, ◌++◌, length, take, get_or, refl, sym, ap, ◌∙◌, arith, true, false}
-use Rattle.std.proofs.Common.{◌&&◌, nat_eq}
+use Rattle.std.proofs.Common.{◌≡◌, ℕ, ◌+◌, ◌-◌, ◌<◌, List, [], ◌∷◌, ◌++◌, length, take, get_or, refl, sym, ap, ◌∙◌}
+use Rattle.std.proofs.Common.{arith, true, false, ◌&&◌, nat_eq}
 use Rattle.std.specs.Str.{chars, trim, trim_start, trim_end, skip_leading_whitespace, drop_trailing_whitespace, IsUtf8}
 use Rattle.std.specs.Str.{IsAscii, all_scalars}
 use Rattle.std.specs.Char.{is_whitespace, is_ascii_graphic}
@@ -16,7 +16,8 @@ use Rattle.byte_unit_base.specs.PartsReading.{HasVisibleEnds}
 scalars_skip : (cs : List ℕ) → all_scalars cs ≡ true → all_scalars (skip_leading_whitespace cs) ≡ true
 scalars_skip [] e = refl
 scalars_skip (c ∷ cs) e =
-    cond_both (is_whitespace c) _ _ (λ kept. all_scalars kept ≡ true) (λ _. scalars_skip cs (and_parts _ _ e).1) (λ _. e)
+    let rest = scalars_skip cs (and_parts _ _ e).1 in
+    cond_both (is_whitespace c) _ _ (λ kept. all_scalars kept ≡ true) (λ _. rest) (λ _. e)
 
 scalars_drop : (cs : List ℕ) → all_scalars cs ≡ true → all_scalars (drop_trailing_whitespace cs) ≡ true
 scalars_drop [] e = refl

@@ -226,7 +226,8 @@ run_word_front flags place text h =
 -- the state machine reads each viable prefix to its end, and has its parser state there
 pub unit_front_runs : (flags : Flags) (place : ParserState) (text : List ℕ) → IsViableUnitPrefix current place text
     → IsScanned (unit_scan flags) place text
-unit_front_runs flags before_unit text h = record { state = start; run_is = ap (run unit_step start) h; place_is = refl }
+unit_front_runs flags before_unit text h =
+    record { state = start; run_is = ap (run unit_step start) h; place_is = refl }
 unit_front_runs flags after_prefix text h =
     let p = run_prefix text h.0 h.1 h.2 in
     record { state = scan_of p.multiple Empty; run_is = p.run; place_is = p.place_is }
