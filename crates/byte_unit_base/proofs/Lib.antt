@@ -32,5 +32,6 @@ pub mod NumberTexts
 pub mod LongFractions
 pub mod SizeAscii
 pub mod NumberBytes
-pub mod NumberEnds
 pub mod SizeRest
+pub mod UnitStops
+pub mod NumberEnds

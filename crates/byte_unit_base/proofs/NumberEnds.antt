@@ -2,19 +2,17 @@
 -- where the machine has an error.
 use Rattle.std.proofs.Common.{◌≡◌, ◌≢◌, ℕ, zero, suc, ◌+◌, ◌-◌, ◌*◌, ◌^◌, ◌<◌, ◌≤◌, false, nat_eq, eqb, inl, inr, List, [], ◌∷◌}
 use Rattle.std.proofs.Common.{◌++◌, Err, length, take, drop, get_or, replicate, refl, sym, ap, subst, ◌∙◌, arith}
-use Rattle.std.proofs.Common.{take-append-drop}
 use Rattle.std.proofs.Math.Seq.{take-add}
 use Rattle.std.specs.Char.{digit_value}
 use Rattle.std.specs.Float.Numeral.{digits_len}
-use Rattle.std.specs.Str.{chars, IsUtf8, IsAscii, IsCharBoundary}
+use Rattle.std.specs.Str.{chars, IsUtf8, IsAscii}
 use Rattle.std.specs.Str.Parse.{AllDigits, digits_value, digits_value_after}
 use Rattle.core.proofs.dec2flt.DigitsLemmas.{ends_digits}
 use Rattle.std.proofs.lemmas.Bool.Decides.{nat_tests}
 use Rattle.std.proofs.lemmas.Fmt.{IsAscii-from_digits}
 use Rattle.std.proofs.lemmas.Int.Digits.{digits_value-lt}
 use Rattle.std.proofs.lemmas.List.{length-take-le, length-drop, take_more, drop-drop}
-use Rattle.std.proofs.lemmas.Str.{chars-append, chars-IsAscii, IsUtf8-from_ascii, IsUtf8-drop, IsAscii-append}
-use Rattle.std.proofs.lemmas.Str.{IsCharBoundary-start, IsCharBoundary-from_take}
+use Rattle.std.proofs.lemmas.Str.{IsAscii-append}
 use Rattle.std.proofs.lemmas.Str.Ascii.{IsAscii-nil, IsAscii-cons, IsAscii-from_all}
 use Rattle.std.proofs.lemmas.List.Elements.{All-replicate}
 use Rattle.byte_unit_math.specs.Bounds.{scale, places_of_decimal, whole_limit}
@@ -24,36 +22,20 @@ use Rattle.byte_unit_base.specs.Number.{point, IsWholePart, IsPrecise}
 use Rattle.byte_unit_base.specs.SizeText.{space}
 use Rattle.byte_unit_base.specs.Fault.{too_long}
 use Rattle.byte_unit_base.specs.Scan.{read}
-use Rattle.byte_unit_base.specs.UnitScan.{unit_scan, start}
 use Rattle.byte_unit_base.specs.SizeScan.{Beginning, Whole, Point, size_scan, fixed_point}
-use Rattle.byte_unit_base.specs.PartsReading.{IsFirst, IsNoSpace, IsStop, IsStopAt, EndsNumber, IsLeadingNumber, with_number}
-use Rattle.byte_unit_base.specs.PartsReading.{missing_digit, stop_in_number}
-use Rattle.byte_unit_base.specs.declared.read.stop.Reason.TheVariants.{NoDigit, TooLong, NoCommonUnit}
+use Rattle.byte_unit_base.specs.PartsReading.{IsFirst, IsNoSpace, IsStopAt, EndsNumber, IsLeadingNumber, IsUnitStop}
+use Rattle.byte_unit_base.specs.PartsReading.{missing_digit, unit_stop_fault}
+use Rattle.byte_unit_base.specs.declared.read.stop.Reason.TheVariants.{NoDigit, TooLong, InUnit}
+use Rattle.byte_unit_base.specs.declared.unit.scan.UnitScan.{UnitScan}
 use Rattle.byte_unit_base.proofs.Lists.{push_append}
 use Rattle.byte_unit_base.proofs.Scans.{read_through, read_some}
 use Rattle.byte_unit_base.proofs.SizeRuns.{step_first, run_whole, run_precise, number_end}
 use Rattle.byte_unit_base.proofs.SizeAscii.{number_ascii}
 use Rattle.byte_unit_base.proofs.SizeRest.{first_char, IsNoDigit, wide_no_digit, no_digit_first, missing_at_start}
 use Rattle.byte_unit_base.proofs.SizeRest.{missing_after_point, too_large, too_many_places, read_point, ends_whole}
-use Rattle.byte_unit_base.proofs.SizeRest.{ends_fraction, read_after_number}
+use Rattle.byte_unit_base.proofs.SizeRest.{ends_fraction, read_after_number, with_number, text_from, utf8_from}
+use Rattle.byte_unit_base.proofs.UnitStops.{beginning_ascii, stop_read}
 use Rattle.byte_unit_base.proofs.NumberBytes.{digits_of_run}
-
--- the first bytes of a text, and the rest of it
-
-text_from : (bytes : List ℕ) (end : ℕ) → IsAscii (take end bytes) → chars bytes ≡ take end bytes ++ chars (drop end bytes)
-text_from bytes end ascii =
-    ap chars (sym (take-append-drop end bytes))
-    ∙ (chars-append (take end bytes) (drop end bytes) (IsUtf8-from_ascii (take end bytes) ascii)
-    ∙ ap (λ front. front ++ chars (drop end bytes)) (chars-IsAscii (take end bytes) ascii))
-
-boundary_at : (bytes : List ℕ) (end : ℕ) → IsUtf8 bytes → end ≤ length bytes → IsAscii (take end bytes)
-    → IsCharBoundary bytes end
-boundary_at bytes end utf8 within ascii =
-    IsCharBoundary-from_take bytes end utf8 within (IsUtf8-from_ascii (take end bytes) ascii)
-
-utf8_from : (bytes : List ℕ) (end : ℕ) → IsUtf8 bytes → end ≤ length bytes → IsAscii (take end bytes)
-    → IsUtf8 (drop end bytes)
-utf8_from bytes end utf8 within ascii = IsUtf8-drop bytes end utf8 (boundary_at bytes end utf8 within ascii)
 
 -- what follows a number
 
@@ -86,11 +68,11 @@ after_start : (end : ℕ) → nat_eq (end + 1) 0 ≡ false
 after_start end = grind (arith, nat_tests)
 
 -- a digit is missing at the start
-pub stops_at_start : (bytes : List ℕ) → digits_len bytes ≡ 0 → (flags : Flags) → IsUtf8 bytes
-    → IsStop flags bytes (stop_in_number 0 NoDigit)
-stops_at_start bytes none flags utf8 = record {
-  boundary = IsCharBoundary-start bytes utf8;
-  result_is = missing_at_start flags (chars bytes)
+pub stops_at_start : (bytes : List ℕ) → digits_len bytes ≡ 0 → (flags : Flags) → IsStopAt flags bytes 0 NoDigit
+stops_at_start bytes none flags = record {
+  within = omega arith;
+  ascii = IsAscii-nil;
+  result_is = λ utf8. missing_at_start flags (chars bytes)
       (first_char IsNoDigit wide_no_digit bytes utf8 (no_digit_first bytes none));
 }
 
@@ -149,17 +131,16 @@ module _ (bytes : List ℕ) (end whole : ℕ) (run_is : end ≡ 0 + digits_len (
         ∙ read_point flags (take end bytes) (chars rest) whole whole_is
 
     -- a digit is missing after the point
-    pub stops_after_point : digits_len rest ≡ 0 → (flags : Flags) → IsUtf8 bytes
-        → IsStop flags bytes (stop_in_number (end + 1) NoDigit)
-    stops_after_point none flags utf8 =
-        let utf8_rest = utf8_from bytes (end + 1) utf8 pointed_within pointed_ascii in
-        record {
-          boundary = boundary_at bytes (end + 1) utf8 pointed_within pointed_ascii;
-          result_is = read_rest flags
-              ∙ (missing_after_point flags whole (chars rest)
-              (first_char IsNoDigit wide_no_digit rest utf8_rest (no_digit_first rest none))
-              ∙ ap (λ at_start. Err (missing_digit at_start (chars rest))) (sym (after_start end)));
-        }
+    pub stops_after_point : digits_len rest ≡ 0 → (flags : Flags) → IsStopAt flags bytes (end + 1) NoDigit
+    stops_after_point none flags = record {
+      within = pointed_within;
+      ascii = pointed_ascii;
+      result_is = λ utf8. read_rest flags
+          ∙ (missing_after_point flags whole (chars rest)
+          (first_char IsNoDigit wide_no_digit rest (utf8_from bytes (end + 1) utf8 pointed_within pointed_ascii)
+          (no_digit_first rest none))
+          ∙ ap (λ at_start. Err (missing_digit at_start (chars rest))) (sym (after_start end)));
+    }
 
     -- digits of a fraction follow the point, as std finds and reads them
     module _ (places : ℕ) (places_are : places ≡ 0 + digits_len (drop 0 rest)) (all : places ≤ length rest) where
@@ -179,11 +160,11 @@ module _ (bytes : List ℕ) (end whole : ℕ) (run_is : end ≡ 0 + digits_len (
           (subst (λ n. digits_value 10 digits < 10 ^ n) count_is (digits_value-lt 10 digits digits_are))
 
       -- the fraction has more than 28 digits
-      pub stops_in_fraction : places_of_decimal < places → (flags : Flags) → IsUtf8 bytes
-          → IsStop flags bytes (stop_in_number 0 TooLong)
-      stops_in_fraction many flags utf8 = record {
-        boundary = IsCharBoundary-start bytes utf8;
-        result_is = read_rest flags
+      pub stops_in_fraction : places_of_decimal < places → (flags : Flags) → IsStopAt flags bytes 0 TooLong
+      stops_in_fraction many flags = record {
+        within = omega arith;
+        ascii = IsAscii-nil;
+        result_is = λ utf8. read_rest flags
             ∙ (ap (read (size_scan flags) (Point whole)) (text_from rest places (IsAscii-from_digits digits digits_are))
             ∙ too_many_places flags digits (chars (drop places rest)) whole digits_are (omega (arith, many, count_is)));
       }
@@ -243,27 +224,30 @@ too_large_read flags (c ∷ cs) rest digits above =
 
 -- the whole part reaches the limit
 pub stops_in_whole : (bytes : List ℕ) (end : ℕ) → end ≡ 0 + digits_len (drop 0 bytes)
-    → whole_limit ≤ digits_value 10 (take end bytes) → (flags : Flags) → IsUtf8 bytes
-    → IsStop flags bytes (stop_in_number 0 TooLong)
-stops_in_whole bytes end run_is above flags utf8 =
+    → whole_limit ≤ digits_value 10 (take end bytes) → (flags : Flags) → IsStopAt flags bytes 0 TooLong
+stops_in_whole bytes end run_is above flags =
     let digits = digits_of_run bytes end run_is in
     record {
-      boundary = IsCharBoundary-start bytes utf8;
-      result_is = ap (read (size_scan flags) Beginning)
+      within = omega arith;
+      ascii = IsAscii-nil;
+      result_is = λ utf8. ap (read (size_scan flags) Beginning)
           (text_from bytes end (IsAscii-from_digits (take end bytes) digits))
           ∙ too_large_read flags (take end bytes) (chars (drop end bytes)) digits above;
     }
 
--- the number is read, and what follows is no unit in one of the common spellings
-pub stops_at_unit : (flags : Flags) (bytes rest : List ℕ) (n end spaces : ℕ) → IsLeadingNumber bytes n end
-    → drop end bytes ≡ rest → spaces ≤ length rest → take spaces rest ≡ replicate spaces space
-    → IsFirst IsNoSpace (drop spaces rest) → IsUtf8 bytes → IsStopAt flags bytes n (end + spaces) NoCommonUnit
-stops_at_unit flags bytes rest n end spaces number rest_is within gap other utf8 =
+-- the number is read, and the parser of the unit stops after it
+pub stops_in_unit : (flags : Flags) (bytes rest : List ℕ) (n end spaces place : ℕ) (scan : UnitScan)
+    → IsLeadingNumber bytes n end → drop end bytes ≡ rest → spaces ≤ length rest → take spaces rest ≡ replicate spaces space
+    → IsFirst IsNoSpace (drop spaces rest) → IsUnitStop flags (drop spaces rest) scan place
+    → IsStopAt flags bytes (end + spaces + place) (InUnit scan)
+stops_in_unit flags bytes rest n end spaces place scan number rest_is within gap other stop =
     let number_small = number_ascii (take end bytes) n number.number_is in
     let gap_small = All-replicate (λ c. c < 128) spaces space (omega arith) in
     let gap_ascii : IsAscii (take spaces rest) = subst IsAscii (sym gap) (IsAscii-from_all (replicate spaces space) gap_small) in
-    let place : drop spaces rest ≡ drop (end + spaces) bytes =
+    let at_unit : drop spaces rest ≡ drop (end + spaces) bytes =
     ap (drop spaces) (sym rest_is) ∙ drop-drop spaces end bytes in
+    let at_stop : drop place (drop spaces rest) ≡ drop (end + spaces + place) bytes =
+    ap (drop place) at_unit ∙ drop-drop place (end + spaces) bytes in
     let front : take (end + spaces) bytes ≡ take end bytes ++ take spaces rest =
     take-add end spaces bytes ∙ ap (λ r. take end bytes ++ take spaces r) rest_is in
     let ascii : IsAscii (take (end + spaces) bytes) =
@@ -271,18 +255,24 @@ stops_at_unit flags bytes rest n end spaces number rest_is within gap other utf8
     let inside : end + spaces ≤ length bytes = omega (arith, within, number.within, ap length rest_is, length-drop end bytes) in
     let text : chars (drop end bytes) ≡ replicate spaces space ++ chars (drop spaces rest) =
     ap chars rest_is ∙ (text_from rest spaces gap_ascii ∙ ap (λ g. g ++ chars (drop spaces rest)) gap) in
-    let utf8_rest : IsUtf8 (drop spaces rest) = subst IsUtf8 (sym place) (utf8_from bytes (end + spaces) utf8 inside ascii) in
-    let unit = chars (drop spaces rest) in
+    let unit = drop spaces rest in
+    let unit_ascii = beginning_ascii unit place scan stop.0.run_is in
     record {
-      boundary = boundary_at bytes (end + spaces) utf8 inside ascii;
-      result_is = ap (read (size_scan flags) Beginning) (text_from bytes end number_small)
+      within = omega (arith, inside, stop.0.within, length-drop spaces rest, ap length rest_is, length-drop end bytes);
+      ascii = subst IsAscii
+          (sym (take-add (end + spaces) place bytes ∙ ap (λ r. take (end + spaces) bytes ++ take place r) (sym at_unit)))
+          (IsAscii-append (take (end + spaces) bytes) (take place unit) ascii unit_ascii);
+      result_is = λ utf8.
+          let utf8_unit : IsUtf8 unit = subst IsUtf8 (sym at_unit) (utf8_from bytes (end + spaces) utf8 inside ascii) in
+          ap (read (size_scan flags) Beginning) (text_from bytes end number_small)
           ∙ (read_through (size_scan flags) Beginning number.state (take end bytes) (chars (drop end bytes)) number.run_is
           ∙ (ap (read (size_scan flags) number.state) text
-          ∙ (read_after_number flags n spaces number.state unit
+          ∙ (read_after_number flags n spaces number.state (chars unit)
           record {
             at_end = number.at_end flags;
             next = subst (IsFirst (EndsNumber number.state n)) text (number.next utf8);
           }
-          (first_char IsNoSpace (λ c wide. λ e. omega (arith, wide, e)) (drop spaces rest) utf8_rest other)
-          ∙ ap (λ r. with_number n (read (unit_scan flags) start (chars r))) place)));
+          (first_char IsNoSpace (λ c wide. λ e. omega (arith, wide, e)) unit utf8_unit other)
+          ∙ (ap (with_number n) (stop_read flags unit place scan stop utf8_unit)
+          ∙ ap (λ r. Err (unit_stop_fault flags scan (chars r))) at_stop))));
     }

@@ -127,7 +127,7 @@ module _ {S Meaning : Type 0} {scan : Scan S Meaning} {Reached : S → List ℕ 
     {IsViable : ParserState → List ℕ → Type 0}
     {Means : List ℕ → Meaning → Type 0} (is : IsScanOf scan Reached IsViable Means) where
   -- what is known at a state holds of the text that led to it
-  reached : (text : List ℕ) (s : S) → run scan.step scan.start text ≡ Some s → Reached s text
+  pub reached : (text : List ℕ) (s : S) → run scan.step scan.start text ≡ Some s → Reached s text
   reached text s e = run_keeps scan.step Reached is.steps text [] scan.start s e is.starts
 
   -- the result is a meaning of the text, or its error

@@ -2,9 +2,9 @@
 -- number and unit of an input, or its error.
 use Rattle.std.proofs.Common.{◌≡◌, ◌≢◌, ℕ, ◌<◌, Bool, true, false, cond, ◌*◌, inl, inr, List, [], ◌∷◌, ◌++◌, Option}
 use Rattle.std.proofs.Common.{Some, None, Result, Ok}
-use Rattle.std.proofs.Common.{Err, IfErr, length, replicate, sym, refl, ap, ◌∙◌, arith, append-nil}
+use Rattle.std.proofs.Common.{Err, IfErr, length, nat_eq, drop, replicate, sym, refl, ap, ◌∙◌, arith, append-nil}
 use Rattle.std.specs.Prelude.{IsOkAnd}
-use Rattle.std.specs.Str.{chars}
+use Rattle.std.specs.Str.{chars, IsUtf8}
 use Rattle.byte_unit_math.specs.Bounds.{scale}
 use Rattle.byte_unit_base.specs.Shape.{Shape}
 use Rattle.byte_unit_base.specs.Version.{current}
@@ -23,7 +23,7 @@ use Rattle.byte_unit_base.specs.Scan.{read}
 use Rattle.byte_unit_base.specs.UnitScan.{unit_step, unit_of, unit_at_end, word_parser_state, scan_of, start as unit_start}
 use Rattle.byte_unit_base.specs.SizeScan.{is_digit, size_step, size_scan, size_result, with_shape, size_at_end, size_parser_state}
 use Rattle.byte_unit_base.specs.SizeScan.{size_or_fault, fixed_point}
-use Rattle.byte_unit_base.specs.PartsReading.{IsStopAt, rest_result, with_number}
+use Rattle.byte_unit_base.specs.PartsReading.{IsStopAt, stop_fault}
 use Rattle.byte_unit_base.specs.declared.read.stop.Reason.{Reason}
 use Rattle.byte_unit_base.specs.declared.unit.Unit.{Unit as UnitName}
 use Rattle.byte_unit_base.specs.declared.errors.ParseError.{ParseError}
@@ -229,14 +229,14 @@ number_reading flags bytes r e = record {
   computed = number_computed flags bytes r e;
 }
 
--- a parser that stops in the trimmed input, and returns what the rest of it is, is right
-pub stop_reading : (flags : Flags) (bytes text : List ℕ) (n place : ℕ) (reason : Reason) (rest : Result Shape Fault)
-    (r : Result (ℕ × UnitName) ParseError) → chars text ≡ trim_of bytes → IsStopAt flags text n place reason
-    → rest ≡ rest_result flags place reason text → size_result r ≡ with_number n rest
-    → IsNumberReading flags bytes r
-stop_reading flags bytes text n place reason rest r trimmed stop rest_is result_is =
-    number_reading flags bytes r
-    (result_is ∙ (ap (with_number n) rest_is ∙ (sym stop.result_is ∙ ap (read (size_scan flags) Beginning) trimmed)))
+-- a parser that stops in the trimmed input, and returns the error there, is right
+pub stop_reading : (flags : Flags) (bytes text : List ℕ) (place : ℕ) (reason : Reason) (error : ParseError)
+    → chars text ≡ trim_of bytes → IsUtf8 text → IsStopAt flags text place reason
+    → size_fault error ≡ stop_fault flags (nat_eq place 0) reason (chars (drop place text))
+    → IsNumberReading flags bytes (Err error)
+stop_reading flags bytes text place reason error trimmed utf8 stop error_is =
+    number_reading flags bytes (Err error)
+    (ap Err error_is ∙ (sym (stop.result_is utf8) ∙ ap (read (size_scan flags) Beginning) trimmed))
 
 -- each input is exactly one number and unit, or has exactly one error, and not both
 pub size_texts_have_one_answer : SizeTextsHaveOneAnswer

@@ -1,16 +1,17 @@
 -- What the state machine of sizes returns where the parser stops: the rest of an input is a unit, or starts with an
 -- error.
-use Rattle.std.proofs.Common.{◌≡◌, ℕ, zero, suc, ◌+◌, ◌*◌, ◌<◌, ◌≤◌, Bool, true, false, cond, eqb, ltb, ⊎_elim}
-use Rattle.std.proofs.Common.{List, [], ◌∷◌, ◌++◌, Option, Some, None, Err, length, replicate, refl, sym, ap, subst, ◌∙◌}
-use Rattle.std.proofs.Common.{arith}
+use Rattle.std.proofs.Common.{◌≡◌, ℕ, zero, suc, ◌+◌, ◌*◌, ◌<◌, Bool, true, false, cond, eqb, ltb, ⊎_elim}
+use Rattle.std.proofs.Common.{List, [], ◌∷◌, ◌++◌, Option, Some, None, Result, Ok, Err, length, replicate, refl, sym, ap, subst, ◌∙◌}
+use Rattle.std.proofs.Common.{arith, take, drop, ◌≤◌, take-append-drop}
 use Rattle.std.specs.Option.{option_map}
 use Rattle.std.specs.Char.{digit_value, is_ascii_digit}
-use Rattle.std.specs.Str.{chars, encode_utf8_all, IsUtf8}
+use Rattle.std.specs.Str.{chars, encode_utf8_all, IsUtf8, IsAscii, IsCharBoundary}
 use Rattle.std.specs.Str.Parse.{AllDigits, digits_value_after}
 use Rattle.std.specs.Float.Numeral.{digits_len}
 use Rattle.std.proofs.lemmas.Bool.{cases_lt}
 use Rattle.std.proofs.lemmas.Bool.Decides.{nat_tests}
-use Rattle.std.proofs.lemmas.Str.{encodes-chars, byte_from_char, length-le-encodes}
+use Rattle.std.proofs.lemmas.Str.{encodes-chars, byte_from_char, length-le-encodes, chars-append, chars-IsAscii}
+use Rattle.std.proofs.lemmas.Str.{IsUtf8-from_ascii, IsUtf8-drop, IsCharBoundary-from_take}
 use Rattle.byte_unit_math.specs.Bounds.{scale, places_of_decimal, whole_limit}
 use Rattle.byte_unit_base.specs.Shape.{Shape}
 use Rattle.byte_unit_base.specs.Version.{current}
@@ -18,13 +19,13 @@ use Rattle.byte_unit_base.specs.Number.{IsWholePart}
 use Rattle.byte_unit_base.specs.ViablePrefix.{in_fraction}
 use Rattle.byte_unit_base.specs.Spelling.{Flags}
 use Rattle.byte_unit_base.specs.SizeText.{space}
-use Rattle.byte_unit_base.specs.Fault.{too_long}
+use Rattle.byte_unit_base.specs.Fault.{Fault, too_long}
 use Rattle.byte_unit_base.specs.Scan.{read}
 use Rattle.byte_unit_base.specs.UnitScan.{unit_step, unit_scan, unit_of, unit_at_end, start}
 use Rattle.byte_unit_base.specs.SizeScan.{SizeScan, Beginning, Whole, Point, Fraction, Gap, UnitAt}
 use Rattle.byte_unit_base.specs.SizeScan.{is_digit, size_step, size_scan, size_at_end, size_or_fault, size_parser_state}
 use Rattle.byte_unit_base.specs.SizeScan.{after_number}
-use Rattle.byte_unit_base.specs.PartsReading.{IsFirst, IsNoSpace, EndsNumber, missing_digit, with_number}
+use Rattle.byte_unit_base.specs.PartsReading.{IsFirst, IsNoSpace, EndsNumber, missing_digit}
 use Rattle.byte_unit_base.specs.declared.unit.scan.UnitScan.{UnitScan}
 use Rattle.byte_unit_base.proofs.Scans.{read_some, read_none, read_through}
 use Rattle.byte_unit_base.proofs.SizeRuns.{step_point, step_whole, step_pointed, step_fraction, run_whole, AtNumber}
@@ -44,6 +45,23 @@ first_of Has wide (b ∷ bs) (c ∷ cs) e first =
 pub first_char : (Has : ℕ → Type 0) → ((c : ℕ) → 128 ≤ c → Has c) → (bytes : List ℕ) → IsUtf8 bytes
     → IsFirst Has bytes → IsFirst Has (chars bytes)
 first_char Has wide bytes utf8 first = first_of Has wide bytes (chars bytes) (sym (encodes-chars bytes utf8)) first
+
+-- the first bytes of a text, and the rest of it
+
+pub text_from : (bytes : List ℕ) (end : ℕ) → IsAscii (take end bytes) → chars bytes ≡ take end bytes ++ chars (drop end bytes)
+text_from bytes end ascii =
+    ap chars (sym (take-append-drop end bytes))
+    ∙ (chars-append (take end bytes) (drop end bytes) (IsUtf8-from_ascii (take end bytes) ascii)
+    ∙ ap (λ front. front ++ chars (drop end bytes)) (chars-IsAscii (take end bytes) ascii))
+
+pub boundary_at : (bytes : List ℕ) (end : ℕ) → IsUtf8 bytes → end ≤ length bytes → IsAscii (take end bytes)
+    → IsCharBoundary bytes end
+boundary_at bytes end utf8 within ascii =
+    IsCharBoundary-from_take bytes end utf8 within (IsUtf8-from_ascii (take end bytes) ascii)
+
+pub utf8_from : (bytes : List ℕ) (end : ℕ) → IsUtf8 bytes → end ≤ length bytes → IsAscii (take end bytes)
+    → IsUtf8 (drop end bytes)
+utf8_from bytes end utf8 within ascii = IsUtf8-drop bytes end utf8 (boundary_at bytes end utf8 within ascii)
 
 -- digits
 
@@ -162,6 +180,11 @@ ends_fraction (Point w) n c at place none = absurd at
 ends_fraction (UnitAt m s) n c at place none = absurd at
 
 -- the unit after a number
+
+-- the result with a number, by that of a unit alone
+abbrev pub with_number : ℕ → Result Shape Fault → Result (ℕ × Shape) Fault
+with_number n (Ok unit) = Ok (n, unit)
+with_number n (Err fault) = Err fault
 
 end_with_number : (n : ℕ) (unit : Option Shape) → size_or_fault n unit ≡ with_number n (unit_at_end unit)
 end_with_number n None = refl

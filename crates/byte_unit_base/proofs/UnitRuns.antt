@@ -78,7 +78,7 @@ run_b end m rest text next e =
     ∙ next l.head b l.tail l.tail_is)
 
 -- a suffix, and `bi`, is read after any prefix
-run_suffix : (m : Multiple) (w : Word) (text : List ℕ) → IsWordText w text
+pub run_suffix : (m : Multiple) (w : Word) (text : List ℕ) → IsWordText w text
     → run unit_step (scan_of m Empty) text ≡ Some (scan_of m w)
 unfolding unit_step
 run_suffix m Empty text h = ap (run unit_step (scan_of m Empty)) h

@@ -1,22 +1,22 @@
 -- Private: what the parts of the parser of a number and a unit return. No public contract cites this file.
 use Rattle.std.specs.Prelude.{◌≡◌, ℕ, ◌-◌, ◌<◌, ◌≤◌, Bool, true, false, nat_eq, ⊤, ◌≢◌, List, [], ◌∷◌, length, take, drop, slice_index}
-use Rattle.std.specs.Prelude.{Some, Result, Ok, Err}
+use Rattle.std.specs.Prelude.{Some, None, Result, Ok, Err}
 use Rattle.std.specs.Char.{is_ascii_graphic}
-use Rattle.std.specs.Str.{IsUtf8, IsCharBoundary, chars}
-use Rattle.byte_unit_base.specs.Shape.{Shape}
+use Rattle.std.specs.Str.{IsUtf8, IsAscii, chars}
 use Rattle.byte_unit_base.specs.Version.{current}
 use Rattle.byte_unit_base.specs.Units.{shape_of}
-use Rattle.byte_unit_base.specs.Spelling.{Flags}
+use Rattle.byte_unit_base.specs.Spelling.{Flags, Spells}
 use Rattle.byte_unit_base.specs.Number.{point, IsNumberText}
 use Rattle.byte_unit_base.specs.SizeText.{space, IsSizeText}
-use Rattle.byte_unit_base.specs.Fault.{Fault, fault_at, no_unit, not_number, no_value, too_long}
+use Rattle.byte_unit_base.specs.Fault.{Fault, fault_at, no_unit, not_number, no_value, too_long, stops_at_bi}
 use Rattle.byte_unit_base.specs.Scan.{run, read}
-use Rattle.byte_unit_base.specs.UnitScan.{unit_scan, unit_of, start}
+use Rattle.byte_unit_base.specs.UnitScan.{unit_of, unit_step, unit_parser_state, start}
 use Rattle.byte_unit_base.specs.SizeScan.{SizeScan, Beginning, size_step, size_scan, size_at_end, size_or_fault, size_parser_state, after_number}
 use Rattle.byte_unit_base.specs.declared.unit.Unit.{Unit as UnitName}
 use Rattle.byte_unit_base.specs.declared.read.stop.Stop.{Stop}
 use Rattle.byte_unit_base.specs.declared.read.stop.Reason.{Reason}
-use Rattle.byte_unit_base.specs.declared.read.stop.Reason.TheVariants.{NoDigit, TooLong, NoCommonUnit}
+use Rattle.byte_unit_base.specs.declared.read.stop.Reason.TheVariants.{NoDigit, TooLong, InUnit}
+use Rattle.byte_unit_base.specs.declared.unit.scan.UnitScan.{UnitScan}
 
 -- the first and the last byte are visible characters of ASCII
 pub record HasVisibleEnds (bytes : List ℕ) : Type 0 where
@@ -39,29 +39,44 @@ missing_digit at_start (c ∷ rest) = not_number c
 missing_digit true [] = no_value
 missing_digit false [] = not_number point
 
--- the result with a number, by that of a unit alone
-abbrev pub with_number : ℕ → Result Shape Fault → Result (ℕ × Shape) Fault
-with_number n (Ok unit) = Ok (n, unit)
-with_number n (Err fault) = Err fault
+-- the bytes begin with a beginning of a unit, of this length, and with no longer one: the state machine has this state
+-- after it, and no step at what follows
+pub record IsLeadingUnit (bytes : List ℕ) (scan : UnitScan) (end : ℕ) : Type 0 where
+  pub within : end ≤ length bytes
+  pub run_is : run unit_step start (take end bytes) ≡ Some scan
+  pub next : IsFirst (λ c. unit_step scan c ≡ None) (drop end bytes)
 
--- the result for the rest of an input, from the place at which the parser stops for this reason
-abbrev pub rest_result : Flags → ℕ → Reason → List ℕ → Result Shape Fault
-rest_result flags place NoDigit bytes = Err (missing_digit (nat_eq place 0) (chars (drop place bytes)))
-rest_result flags place TooLong bytes = Err too_long
-rest_result flags place NoCommonUnit bytes = read (unit_scan flags) start (chars (drop place bytes))
+-- the parser of a unit stops in these bytes in this state and at this place, where no unit ends
+abbrev pub IsUnitStop : Flags → List ℕ → UnitScan → ℕ → Type 0
+IsUnitStop flags bytes scan place = IsLeadingUnit bytes scan place × (place ≡ length bytes → unit_of flags scan ≡ None)
 
--- the parser stops in this input at this place and for this reason; `n` is the number before the unit
-pub record IsStopAt (flags : Flags) (bytes : List ℕ) (n place : ℕ) (reason : Reason) : Type 0 where
-  pub boundary : IsCharBoundary bytes place
-  pub result_is : read (size_scan flags) Beginning (chars bytes) ≡ with_number n (rest_result flags place reason bytes)
+-- the unit that the bytes spell, or where the parser of a unit stops in them
+abbrev pub IsUnitEnd : Flags → List ℕ → Result UnitName (UnitScan × ℕ) → Type 0
+IsUnitEnd flags bytes (Ok unit) = Spells current flags bytes (shape_of unit)
+IsUnitEnd flags bytes (Err stop) = IsUnitStop flags bytes stop.0 stop.1
+
+-- the error of an input in which the parser of a unit stops in this state, by the rest of the input there
+abbrev pub unit_stop_fault : Flags → UnitScan → List ℕ → Fault
+unit_stop_fault flags scan [] = stops_at_bi
+unit_stop_fault flags scan (c ∷ rest) = fault_at current flags (unit_parser_state scan) c
+
+-- the error of an input in which the parser stops for this reason, by the rest of the input there
+abbrev pub stop_fault : Flags → Bool → Reason → List ℕ → Fault
+stop_fault flags at_start NoDigit rest = missing_digit at_start rest
+stop_fault flags at_start TooLong rest = too_long
+stop_fault flags at_start (InUnit scan) rest = unit_stop_fault flags scan rest
+
+-- the parser stops in this input at this place and for this reason
+pub record IsStopAt (flags : Flags) (bytes : List ℕ) (place : ℕ) (reason : Reason) : Type 0 where
+  pub within : place ≤ length bytes
+  pub ascii : IsAscii (take place bytes)
+  pub result_is : IsUtf8 bytes
+      → read (size_scan flags) Beginning (chars bytes)
+      ≡ Err (stop_fault flags (nat_eq place 0) reason (chars (drop place bytes)))
 
 -- the parser stops here in this input
 abbrev pub IsStop : Flags → List ℕ → Stop → Type 0
-IsStop flags bytes stop = IsStopAt flags bytes stop.number stop.place stop.reason
-
--- the stop of a parser that stops in the number
-abbrev pub stop_in_number : ℕ → Reason → Stop
-stop_in_number place reason = record { number = 0; place = place; reason = reason }
+IsStop flags bytes stop = IsStopAt flags bytes stop.place stop.reason
 
 -- the character ends the number `n` of this state: it is a space, or begins a unit, or has the error of one that does not
 pub record EndsNumber (state : SizeScan) (n c : ℕ) : Type 0 where
@@ -80,10 +95,10 @@ pub record IsLeadingNumber (bytes : List ℕ) (n end : ℕ) : Type 0 where
 
 -- the number with which the bytes begin, or where the parser stops in it
 abbrev pub IsNumberEnd : List ℕ → Result (ℕ × ℕ) Stop → Type 0
-IsNumberEnd bytes (Ok found) = IsLeadingNumber bytes found.0 found.1
-IsNumberEnd bytes (Err stop) = (flags : Flags) → IsUtf8 bytes → IsStop flags bytes stop
+IsNumberEnd bytes (Ok found) = IsLeadingNumber bytes found.1 found.0
+IsNumberEnd bytes (Err stop) = (flags : Flags) → IsStop flags bytes stop
 
 -- the number and the unit that the bytes are, or where the parser stops in them
-abbrev pub IsPartsReading : Flags → List ℕ → Result (ℕ × UnitName) Stop → Type 0
-IsPartsReading flags bytes (Ok found) = IsSizeText current flags bytes found.0 (shape_of found.1)
-IsPartsReading flags bytes (Err stop) = IsUtf8 bytes → IsStop flags bytes stop
+abbrev pub IsPartsReading : Flags → List ℕ → Result (UnitName × ℕ) Stop → Type 0
+IsPartsReading flags bytes (Ok found) = IsSizeText current flags bytes found.1 (shape_of found.0)
+IsPartsReading flags bytes (Err stop) = IsStop flags bytes stop

@@ -7,7 +7,7 @@ ghost use Rattle.byte_unit_base.specs.SizeText.{trim_of};
 ghost use Rattle.byte_unit_base.specs.Readings.{IsNumberReading};
 
 use crate::read::parts::{has_visible_ends, read_parts};
-use crate::read::stop::read_rest;
+use crate::read::stop::error_at;
 use crate::unit::scan::Flags;
 use crate::{ParseError, Unit};
 use byte_unit_math::Decimal;
@@ -53,11 +53,11 @@ pub fn read_size(
     };
     let text = trimmed(s);
     match read_parts(text.as_bytes(), flags) {
-        Ok(found) => Ok(found),
-        Err(stop) => match read_rest(text, stop.place, stop.reason, flags) {
-            Ok(unit) => Ok((stop.number, unit)),
-            Err(error) => Err(error),
-        },
+        Ok(found) => Ok((found.1, found.0)),
+        Err(stop) => {
+            let rest = &text[stop.place..];
+            Err(error_at(rest, stop.place == 0, stop.reason, flags))
+        }
     }
 }
 

@@ -1,7 +1,6 @@
 //! Sizes of either kind, as numbers below the limit: what the size types have in common.
 
 ghost use Rattle.std.specs.Prelude.{◌≡◌, ℕ, Bool, List, ◌+◌, ◌*◌, ◌<◌, ◌≤◌, SomeIff, IfSome, IfOk};
-ghost use Rattle.std.specs.Str.{IsUtf8};
 ghost use Rattle.byte_unit_math.specs.Bounds.{size_limit};
 ghost use Rattle.byte_unit_base.specs.Shape.{bits};
 ghost use Rattle.byte_unit_base.specs.Version.{current};
@@ -13,7 +12,7 @@ ghost use Rattle.byte_unit_base.specs.SizeOrNone.{IsSizeOfUnit, IsSizeOfDecimal}
 ghost use Rattle.byte_unit_base.specs.PartsReading.{IsStopAt};
 
 use crate::read::parts::{has_visible_ends, read_parts};
-use crate::read::stop::{Reason, read_rest};
+use crate::read::stop::{Reason, error_at};
 use crate::unit::scan::Flags;
 use crate::{Kind, ParseError, Unit, ValueParseError, read_size};
 use byte_unit_math::{Decimal, least_size};
@@ -133,14 +132,14 @@ pub fn parse_bytes(bytes: &[u8], ignore_case: bool, kind: Kind) -> Option<Result
     // What is accepted here is ASCII, so the test for UTF-8 is skipped. It is not trimmed: it starts with a digit, and
     // ends in spaces only after a number without a unit, where the grammar allows them.
     match read_parts(bytes, flags_for(kind, ignore_case)) {
-        Ok(found) => Some(size_of(found, kind)),
+        Ok(found) => Some(size_of((found.1, found.0), kind)),
         Err(stop) => parse_stopped(bytes, stop.place, stop.reason, ignore_case, kind),
     }
 }
 
 /// Parses as `parse_bytes` does, from bytes in which `read_parts` stops at this place and for this reason.
 ///
-/// The two are passed apart, since a `Stop` would be in memory. `read_rest` and `parse` are called, not inlined: LLVM
+/// The two are passed apart, since a `Stop` would be in memory. `error_at` and `parse` are called, not inlined: LLVM
 /// then sees that the result is written whole, and does not clear its memory on the way of bytes that are accepted.
 #[cold]
 #[inline(never)]
@@ -151,19 +150,20 @@ fn parse_stopped(
     ignore_case: bool,
     kind: Kind,
 ) -> Option<Result<u128, ParseError>>
-    requires { IsUtf8 bytes.now
-        → (number : ℕ) × IsStopAt (flags_for kind ignore_case) bytes.now number place reason }
+    requires { IsStopAt (flags_for kind ignore_case) bytes.now place reason }
     ensures reading { IsBytesReading kind ignore_case bytes.now result }
     ensures small { IfSome result (λ answer. IfOk answer (λ n. n < size_limit)) }
 {
-    let text = str::from_utf8(bytes).ok()?;
     if has_visible_ends(bytes) {
-        if let Err(error) = read_rest(text, place, reason, flags_for(kind, ignore_case)) {
-            return Some(Err(error));
-        }
+        // What comes before the place is ASCII.
+        let rest = str::from_utf8(&bytes[place..]).ok()?;
+        let flags = flags_for(kind, ignore_case);
+        Some(Err(error_at(rest, place == 0, reason, flags)))
+    } else {
+        // There may be white space to trim.
+        let text = str::from_utf8(bytes).ok()?;
+        Some(parse(text, ignore_case, kind))
     }
-    // There may be white space to trim, or the unit is valid, and its number has to be parsed again.
-    Some(parse(text, ignore_case, kind))
 }
 
 /// Returns the result of `parse` for a string with this number and this unit.

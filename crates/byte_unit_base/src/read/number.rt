@@ -18,38 +18,38 @@ const LONG_DIGITS: usize = 38;
 /// 10^19.
 const NINETEEN_DIGITS: u128 = 10_000_000_000_000_000_000;
 
-/// Parses a leading number: digits, and optionally a point and digits. Returns it and its length in bytes.
+/// Parses a leading number: digits, and optionally a point and digits. Returns its length in bytes, and it.
 ///
 /// # Errors
 /// Returns where the parser stops: `NoDigit` or `TooLong`.
 #[inline(always)]
-pub fn read_number(bytes: &[u8]) -> Result<(Decimal, usize), Stop>
+pub fn read_number(bytes: &[u8]) -> Result<(usize, Decimal), Stop>
     ensures { IsNumberEnd bytes.now result }
 {
     let (end, value) = read_digits(bytes, 0, 0);
     if end == 0 {
-        return Err(Stop::in_number(0, Reason::NoDigit));
+        return Err(Stop { place: 0, reason: Reason::NoDigit });
     }
     let whole = whole_part(&bytes[..end], value);
     if whole >= WHOLE_LIMIT {
-        return Err(Stop::in_number(0, Reason::TooLong));
+        return Err(Stop { place: 0, reason: Reason::TooLong });
     }
     if end == bytes.len() || bytes[end] != b'.' {
-        return Ok((Decimal::from_digits(whole, 0, 0), end));
+        return Ok((end, Decimal::from_digits(whole, 0, 0)));
     }
     let start = end + 1;
     // From its index in all bytes, not from a slice: fewer bytes than twelve are read one by one.
     let (stop, value) = read_digits(bytes, start, 0);
     let places = stop - start;
     if places == 0 {
-        return Err(Stop::in_number(start, Reason::NoDigit));
+        return Err(Stop { place: start, reason: Reason::NoDigit });
     }
     if places > DECIMAL_PLACES as usize {
-        return Err(Stop::in_number(0, Reason::TooLong));
+        return Err(Stop { place: 0, reason: Reason::TooLong });
     }
     let digits = value_of(&bytes[start..stop], value);
     let number = Decimal::from_digits(whole, digits, places as u32);
-    Ok((number, stop))
+    Ok((stop, number))
 }
 
 /// Returns the value of the digits of a whole part, from the last 64 bits of that value. If one of both is 2^112 or

@@ -1,17 +1,14 @@
-//! Parses a number and a unit by loops over bytes, as far as the string is in the common spellings.
+//! Parses a number and a unit from bytes.
 
-ghost use Rattle.std.specs.Prelude.{◌≡◌, ◌≤◌, IsTrue, IfSome, length, take, drop, replicate};
-ghost use Rattle.byte_unit_base.specs.Version.{current};
-ghost use Rattle.byte_unit_base.specs.Units.{shape_of};
-ghost use Rattle.byte_unit_base.specs.Spelling.{Spells};
+ghost use Rattle.std.specs.Prelude.{◌≡◌, ◌≤◌, IsTrue, length, take, drop, replicate};
 ghost use Rattle.byte_unit_base.specs.SizeText.{space};
-ghost use Rattle.byte_unit_base.specs.UnitScan.{IsMultipleText, IsWordText};
 ghost use Rattle.byte_unit_base.specs.PartsReading.{HasVisibleEnds, IsFirst, IsNoSpace, IsPartsReading};
 
 use crate::read::number::read_number;
 use crate::read::stop::{Reason, Stop};
 use crate::unit::Unit;
-use crate::unit::scan::{Flags, Multiple, Prefix, UnitScan, Word};
+use crate::unit::parse::read_unit;
+use crate::unit::scan::Flags;
 use byte_unit_math::Decimal;
 
 /// Returns whether the first and the last byte are visible ASCII, so that there is nothing to trim.
@@ -22,25 +19,23 @@ pub fn has_visible_ends(bytes: &[u8]) -> bool
     !bytes.is_empty() && bytes[0].is_ascii_graphic() && bytes[bytes.len() - 1].is_ascii_graphic()
 }
 
-/// Parses a number and a unit from bytes, none of which is trimmed.
+/// Parses a number and a unit from bytes, none of which is trimmed. Returns the unit and the number.
 ///
 /// # Errors
-/// Returns where it stops: for every invalid input, and at the unit if it has `bit` or `bits` not all in lower case.
+/// Returns where it stops.
 #[inline(always)]
-pub fn read_parts(bytes: &[u8], flags: Flags) -> Result<(Decimal, Unit), Stop>
+pub fn read_parts(bytes: &[u8], flags: Flags) -> Result<(Unit, Decimal), Stop>
     ensures { IsPartsReading flags bytes.now result }
 {
     match read_number(bytes) {
         Ok(found) => {
-            let (number, end) = found;
-            let rest = &bytes[end..];
-            let spaces = leading_spaces(rest);
-            match common_unit(&rest[spaces..], flags) {
-                Some(unit) => Ok((number, unit)),
-                None => Err(Stop {
-                    number,
-                    place: end + spaces,
-                    reason: Reason::NoCommonUnit,
+            let (end, number) = found;
+            let start = end + leading_spaces(&bytes[end..]);
+            match read_unit(&bytes[start..], flags) {
+                Ok(unit) => Ok((unit, number)),
+                Err(stop) => Err(Stop {
+                    place: start + stop.1,
+                    reason: Reason::InUnit(stop.0),
                 }),
             }
         }
@@ -59,48 +54,4 @@ fn leading_spaces(bytes: &[u8]) -> usize
         count += 1;
     }
     count
-}
-
-/// Parses a unit. Returns `None` unless it is one with its suffix `B`, in lower case or left out.
-#[inline(always)]
-fn common_unit(bytes: &[u8], flags: Flags) -> Option<Unit>
-    ensures { IfSome result (λ unit. Spells current flags bytes.now (shape_of unit)) }
-{
-    let (multiple, start) = leading_multiple(bytes);
-    let word = parse_word(&bytes[start..])?;
-    UnitScan { multiple, word }.unit(flags)
-}
-
-/// Parses a leading prefix. Returns it and its length in bytes.
-fn leading_multiple(bytes: &[u8]) -> (Multiple, usize)
-    ensures within { result.1 ≤ length bytes.now }
-    ensures read { IsMultipleText result.0 (take result.1 bytes.now) }
-{
-    if bytes.is_empty() {
-        return (Multiple::One, 0);
-    }
-    match Prefix::from_char(char::from(bytes[0])) {
-        None => (Multiple::One, 0),
-        Some(prefix) => {
-            if bytes.len() > 1 && matches!(bytes[1], b'i' | b'I') {
-                (Multiple::Binary(prefix), 2)
-            } else {
-                (Multiple::Decimal(prefix), 1)
-            }
-        }
-    }
-}
-
-/// Parses the suffix after a prefix. Returns `None` if it is none of those in lower case.
-fn parse_word(bytes: &[u8]) -> Option<Word>
-    ensures { IfSome result (λ word. IsWordText word bytes.now) }
-{
-    match bytes {
-        [] => Some(Word::Empty),
-        [b'B'] => Some(Word::UpperB),
-        [b'b'] => Some(Word::LowerB),
-        [b'b', b'i', b't'] => Some(Word::Bit),
-        [b'b', b'i', b't', b's'] => Some(Word::Bits),
-        _ => None,
-    }
 }

@@ -1,17 +1,12 @@
-//! Where the parser of a number and a unit stops, and the rest of the string there: an error, or the unit character by
-//! character.
+//! Where the parser of a number and a unit stops, and the error there.
 
 ghost use Rattle.std.specs.Prelude.{◌≡◌};
-ghost use Rattle.std.specs.Str.{IsCharBoundary, chars};
-ghost use Rattle.byte_unit_base.specs.Units.{shape_of};
-ghost use Rattle.byte_unit_base.specs.Scan.{map_result};
+ghost use Rattle.std.specs.Str.{chars};
 ghost use Rattle.byte_unit_base.specs.Errors.{size_fault, value_fault};
-ghost use Rattle.byte_unit_base.specs.PartsReading.{missing_digit, rest_result, stop_in_number};
+ghost use Rattle.byte_unit_base.specs.PartsReading.{missing_digit, stop_fault};
 
-use crate::unit::parse::read_unit;
-use crate::unit::scan::Flags;
-use crate::{ParseError, Unit, ValueParseError};
-use byte_unit_math::Decimal;
+use crate::unit::scan::{Flags, UnitScan};
+use crate::{ParseError, ValueParseError};
 
 /// Why the parser of a number and a unit stops.
 #[derive(Clone, Copy)]
@@ -20,52 +15,30 @@ pub enum Reason {
     NoDigit,
     /// The whole part reaches its limit, or the fraction has more than 28 digits.
     TooLong,
-    /// What follows the number is no unit in the common spellings.
-    NoCommonUnit,
+    /// A character cannot continue the unit, or the unit is incomplete. Holds the parser state before that character.
+    InUnit(UnitScan),
 }
 
 /// Where the parser of a number and a unit stops in a string, and why.
 ///
-/// The number is the first field, as it is in an `Ok` in place of a `Stop`: LLVM would otherwise split it into bytes.
+/// The place is where the other results of a parser have their length, and the number comes last in these: LLVM would
+/// otherwise split the number into bytes.
 #[derive(Clone, Copy)]
 pub struct Stop {
-    /// The number before the unit, or 0 if the parser stops in the number.
-    pub number: Decimal,
-    /// The index in bytes where a digit is missing or the unit begins, or 0 if the number is too long.
+    /// The index in bytes of the character that is rejected, or 0 if the number is too long. ASCII comes before it.
     pub place: usize,
     pub reason: Reason,
 }
 
-impl Stop {
-    /// Creates the stop of a parser that stops in the number.
-    pub fn in_number(place: usize, reason: Reason) -> Stop
-        ensures { result ≡ stop_in_number place reason }
-    {
-        Stop {
-            number: Decimal::ZERO,
-            place,
-            reason,
-        }
-    }
-}
-
-/// Parses the rest of a string, from the place at which the parser stops for this reason. Returns the unit there.
-/// `size::parse_stopped` says why it is not inlined.
-///
-/// # Errors
-/// Returns the error at the place: `NoValue`, `NotNumber`, `NumberTooLong`, or that of the unit.
+/// Returns the error of a string in which the parser stops for this reason, by the rest of the string there.
 #[inline(never)]
-pub fn read_rest(text: &str, place: usize, reason: Reason, flags: Flags) -> Result<Unit, ParseError>
-    requires { IsCharBoundary text.now place }
-    ensures { map_result shape_of size_fault result ≡ rest_result flags place reason text.now }
+pub fn error_at(rest: &str, at_start: bool, reason: Reason, flags: Flags) -> ParseError
+    ensures { size_fault result ≡ stop_fault flags at_start reason (chars rest.now) }
 {
     match reason {
-        Reason::NoDigit => Err(ParseError::Value(no_digit(&text[place..], place == 0))),
-        Reason::TooLong => Err(ParseError::Value(ValueParseError::NumberTooLong)),
-        Reason::NoCommonUnit => match read_unit(&text[place..], flags) {
-            Ok(unit) => Ok(unit),
-            Err(error) => Err(ParseError::Unit(error)),
-        },
+        Reason::NoDigit => ParseError::Value(no_digit(rest, at_start)),
+        Reason::TooLong => ParseError::Value(ValueParseError::NumberTooLong),
+        Reason::InUnit(scan) => ParseError::Unit(scan.error_before(rest, flags)),
     }
 }
 

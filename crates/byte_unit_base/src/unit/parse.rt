@@ -1,12 +1,13 @@
 //! The parser of a unit.
 
-ghost use Rattle.std.specs.Prelude.{◌≡◌};
-ghost use Rattle.std.specs.Str.{chars};
 ghost use Rattle.byte_unit_base.specs.Spelling.{flags_of};
-ghost use Rattle.byte_unit_base.specs.Scan.{read};
-ghost use Rattle.byte_unit_base.specs.UnitScan.{unit_result, unit_scan, start};
+ghost use Rattle.std.specs.Prelude.{◌≡◌, ◌≤◌, length, take, drop, Some, None};
+ghost use Rattle.byte_unit_base.specs.Scan.{run};
+ghost use Rattle.byte_unit_base.specs.UnitScan.{IsWordText, unit_step, multiple_step, word_step, scan_of, start};
+ghost use Rattle.byte_unit_base.specs.declared.unit.scan.Word.TheVariants.{Empty};
+ghost use Rattle.byte_unit_base.specs.PartsReading.{IsUnitEnd, IsLeadingUnit, IsFirst};
 
-use crate::unit::scan::{Flags, UnitScan};
+use crate::unit::scan::{Flags, Multiple, Prefix, UnitScan, Word};
 use crate::{Unit, UnitParseError};
 use std::str::FromStr;
 
@@ -38,7 +39,11 @@ impl Unit {
             ignore_case,
             prefer_byte,
         };
-        read_unit(s.trim(), flags)
+        let text = s.trim();
+        match read_unit(text.as_bytes(), flags) {
+            Ok(unit) => Ok(unit),
+            Err(stop) => Err(stop.0.error_before(&text[stop.1..], flags)),
+        }
     }
 }
 
@@ -56,20 +61,68 @@ impl FromStr for Unit {
     }
 }
 
-/// Parses a unit from the whole string.
+/// Parses a unit from bytes, none of which is trimmed.
 ///
 /// # Errors
-/// As `Unit::parse_str`.
+/// Returns the parser state and the index where it stops: at a character that cannot continue the unit, or at the end
+/// if the suffix is incomplete.
 #[inline(always)]
-pub(crate) fn read_unit(text: &str, flags: Flags) -> Result<Unit, UnitParseError>
-    ensures { unit_result result ≡ read (unit_scan flags) start (chars text.now) }
+pub(crate) fn read_unit(bytes: &[u8], flags: Flags) -> Result<Unit, (UnitScan, usize)>
+    ensures { IsUnitEnd flags bytes.now result }
 {
-    let mut scan = UnitScan::START;
-    for c in text.chars() {
-        match scan.step(c) {
-            Some(next) => scan = next,
-            None => return Err(scan.error_at(flags, c)),
+    let (scan, end) = leading_unit(bytes);
+    match scan.unit(flags) {
+        Some(unit) if end == bytes.len() => Ok(unit),
+        _ => Err((scan, end)),
+    }
+}
+
+/// Parses the longest beginning of a unit. Returns the parser state after it and its length in bytes.
+#[inline(always)]
+fn leading_unit(bytes: &[u8]) -> (UnitScan, usize)
+    ensures { IsLeadingUnit bytes.now result.0 result.1 }
+{
+    let (multiple, start) = leading_multiple(bytes);
+    let (word, length) = leading_word(&bytes[start..]);
+    (UnitScan { multiple, word }, start + length)
+}
+
+/// Parses a leading prefix. Returns it and its length in bytes.
+#[inline(always)]
+#[tactic(auto, unfolding(crate::specs::UnitScan::unit_step))]
+fn leading_multiple(bytes: &[u8]) -> (Multiple, usize)
+    ensures within { result.1 ≤ length bytes.now }
+    ensures read { run unit_step start (take result.1 bytes.now) ≡ Some (scan_of result.0 Empty) }
+    ensures all { IsFirst (λ c. multiple_step result.0 c ≡ None) (drop result.1 bytes.now) }
+{
+    if bytes.is_empty() {
+        return (Multiple::One, 0);
+    }
+    match Prefix::from_char(char::from(bytes[0])) {
+        None => (Multiple::One, 0),
+        Some(prefix) => {
+            if bytes.len() > 1 && matches!(bytes[1], b'i' | b'I') {
+                (Multiple::Binary(prefix), 2)
+            } else {
+                (Multiple::Decimal(prefix), 1)
+            }
         }
     }
-    scan.unit(flags).ok_or(UnitParseError::STOPS_AT_BI)
+}
+
+/// Parses the longest beginning of a suffix. Returns it and its length in bytes.
+#[inline(always)]
+fn leading_word(bytes: &[u8]) -> (Word, usize)
+    ensures within { result.1 ≤ length bytes.now }
+    ensures read { IsWordText result.0 (take result.1 bytes.now) }
+    ensures all { IsFirst (λ c. word_step result.0 c ≡ None) (drop result.1 bytes.now) }
+{
+    match bytes {
+        [b'B' | b'b', b'i' | b'I', b't' | b'T', b's' | b'S', ..] => (Word::Bits, 4),
+        [b'B' | b'b', b'i' | b'I', b't' | b'T', ..] => (Word::Bit, 3),
+        [b'B' | b'b', b'i' | b'I', ..] => (Word::Bi, 2),
+        [b'B', ..] => (Word::UpperB, 1),
+        [b'b', ..] => (Word::LowerB, 1),
+        _ => (Word::Empty, 0),
+    }
 }

@@ -1,8 +1,7 @@
-//! The state machine that parses a unit, character by character.
+//! The states of the parser of a unit, and the unit or the error of each.
 
 ghost use Rattle.std.specs.Prelude.{◌≡◌, ◌≤◌};
 ghost use Rattle.std.specs.Option.{option_map};
-ghost use Rattle.byte_unit_base.specs.UnitScan.{is_i};
 
 use crate::{Unit, UnitParseError};
 
@@ -121,75 +120,14 @@ impl Prefix {
     }
 }
 
-impl Multiple {
-    ghost use Rattle.byte_unit_base.specs.UnitScan.{multiple_step};
-
-    /// Returns the prefix with one more character. Returns `None` if the character cannot continue a prefix.
-    fn step(self, c: char) -> Option<Multiple>
-        ensures { result ≡ multiple_step self c }
-    {
-        match self {
-            Multiple::One => Prefix::from_char(c).map(Multiple::Decimal),
-            Multiple::Decimal(prefix) => is_i(c).then_some(Multiple::Binary(prefix)),
-            Multiple::Binary(_) => None,
-        }
-    }
-}
-
-impl Word {
-    ghost use Rattle.byte_unit_base.specs.UnitScan.{word_step};
-
-    /// Returns the suffix with one more character. Returns `None` if the character cannot continue a suffix.
-    fn step(self, c: char) -> Option<Word>
-        ensures { result ≡ word_step self c }
-    {
-        match self {
-            Word::Empty => match c {
-                'B' => Some(Word::UpperB),
-                'b' => Some(Word::LowerB),
-                _ => None,
-            },
-            Word::UpperB | Word::LowerB => is_i(c).then_some(Word::Bi),
-            Word::Bi => (c.to_ascii_lowercase() == 't').then_some(Word::Bit),
-            Word::Bit => (c.to_ascii_lowercase() == 's').then_some(Word::Bits),
-            Word::Bits => None,
-        }
-    }
-}
-
-/// Returns `true` if the character is an `i`, in either case.
-fn is_i(c: char) -> bool
-    ensures { result ≡ is_i c }
-{
-    c.to_ascii_lowercase() == 'i'
-}
-
 impl UnitScan {
-    ghost use Rattle.byte_unit_base.specs.UnitScan.{unit_step, unit_of, unit_parser_state};
+    ghost use Rattle.std.specs.Str.{chars};
+    ghost use Rattle.byte_unit_base.specs.UnitScan.{unit_of, unit_parser_state};
+    ghost use Rattle.byte_unit_base.specs.PartsReading.{unit_stop_fault};
     ghost use Rattle.byte_unit_base.specs.Units.{shape_of};
     ghost use Rattle.byte_unit_base.specs.Version.{current};
     ghost use Rattle.byte_unit_base.specs.Fault.{fault_at};
     ghost use Rattle.byte_unit_base.specs.Errors.{unit_fault};
-
-    /// The state in which nothing is read.
-    pub const START: UnitScan = UnitScan {
-        multiple: Multiple::One,
-        word: Word::Empty,
-    };
-
-    /// Returns the state after one more character. Returns `None` if the character cannot continue a unit.
-    #[tactic(auto, unfolding(crate::specs::UnitScan::unit_step))]
-    pub fn step(self, c: char) -> Option<UnitScan>
-        ensures { result ≡ unit_step self c }
-    {
-        if let Word::Empty = self.word {
-            if let Some(multiple) = self.multiple.step(c) {
-                return Some(UnitScan { multiple, ..self });
-            }
-        }
-        let word = self.word.step(c)?;
-        Some(UnitScan { word, ..self })
-    }
 
     /// Returns the unit of a string that ends here. Returns `None` if the suffix is incomplete: `bi`.
     #[inline(always)]
@@ -211,8 +149,18 @@ impl UnitScan {
         })
     }
 
+    /// Returns the error of a string in which the parser of a unit stops in this state, by the rest of the string there.
+    pub fn error_before(self, rest: &str, flags: Flags) -> UnitParseError
+        ensures { unit_fault result ≡ unit_stop_fault flags self (chars rest.now) }
+    {
+        match rest.chars().next() {
+            Some(c) => self.error_at(flags, c),
+            None => UnitParseError::STOPS_AT_BI,
+        }
+    }
+
     /// Returns the error of a character that cannot continue a unit.
-    pub fn error_at(self, flags: Flags, character: char) -> UnitParseError
+    fn error_at(self, flags: Flags, character: char) -> UnitParseError
         ensures { unit_fault result ≡ fault_at current flags (unit_parser_state self) character }
     {
         let expected_characters: &'static [char] = match self.word {

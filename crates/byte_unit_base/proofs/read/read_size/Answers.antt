@@ -1,44 +1,39 @@
--- The number and unit of the trimmed string, or the result of the rest of it, where the parser stops.
-use Rattle.std.proofs.Common.{◌≡◌, List, ℕ, Ok, Err, subst, refl}
+-- The number and unit of the trimmed string, or the error of the rest of it, where the parser stops.
+use Rattle.std.proofs.Common.{List, ℕ, nat_eq, ap, subst, ◌∙◌}
+use Rattle.std.specs.Str.{chars, IsUtf8}
 use Rattle.byte_unit_base.specs.Version.{current}
-use Rattle.byte_unit_base.specs.Spelling.{Flags, flags_of}
+use Rattle.byte_unit_base.specs.Spelling.{flags_of}
 use Rattle.byte_unit_base.specs.SizeText.{IsSizeText}
 use Rattle.byte_unit_base.specs.Units.{shape_of}
-use Rattle.byte_unit_base.specs.Errors.{size_fault}
-use Rattle.byte_unit_base.specs.PartsReading.{IsStop}
-use Rattle.byte_unit_base.specs.declared.read.stop.Stop.{Stop}
+use Rattle.byte_unit_base.specs.PartsReading.{IsStop, stop_fault}
 use Rattle.byte_unit_base.proofs.SizeAscii.{size_of_chars}
 use Rattle.byte_unit_base.proofs.SizeReads.{stop_reading, stated_reading}
+use Rattle.byte_unit_base.proofs.SizeRest.{boundary_at}
 use Rattle.byte_unit_base.proofs.read.read_size.Goals as goal
 
--- where the parser stops in the bytes of a string, it stops in the string
-stops_in : (flags : Flags) (stop : Stop) (bytes text : List ℕ) → bytes ≡ text → IsStop flags bytes stop
-    → IsStop flags text stop
-stops_in flags stop bytes text same = subst (λ text. IsStop flags text stop) same
+pub range_from-rest-requires : goal.range_from-rest-requires
+range_from-rest-requires c =
+    let flags = flags_of c.args.ignore_case c.args.prefer_byte in
+    let stop = subst (λ text. IsStop flags text c.in-Err.stop) c.as_bytes.ensures.value c.in-Err.ensures in
+    let utf8 = subst IsUtf8 c.as_bytes.ensures.value c.as_bytes.ensures.utf8 in
+    λ _. boundary_at c.trimmed-text.result.now c.in-Err.stop.place utf8 stop.within stop.ascii
 
 pub returns-in-Ok : goal.returns-in-Ok
 returns-in-Ok c =
     let flags = flags_of c.args.ignore_case c.args.prefer_byte in
-    let found = c.in-Ok.found in
-    let IsFoundIn : List ℕ → Type 0 = λ text. IsSizeText current flags text found.0 (shape_of found.1) in
+    let number : ℕ = c.in-Ok.found.1 in
+    let unit = c.in-Ok.found.0 in
+    let IsFoundIn : List ℕ → Type 0 = λ text. IsSizeText current flags text number (shape_of unit) in
     let text = subst IsFoundIn c.as_bytes.ensures.value c.in-Ok.ensures in
-    let chars_of_text = size_of_chars flags c.trimmed-text.result.now found.0 (shape_of found.1) text in
-    stated_reading flags c.args.s.now found (subst IsFoundIn c.trimmed-text.ensures chars_of_text)
+    let chars_of_text = size_of_chars flags c.trimmed-text.result.now number (shape_of unit) text in
+    stated_reading flags c.args.s.now (number, unit) (subst IsFoundIn c.trimmed-text.ensures chars_of_text)
 
-pub returns-in-Ok-read_rest : goal.returns-in-Ok-read_rest
-returns-in-Ok-read_rest c =
+pub returns-in-Err : goal.returns-in-Err
+returns-in-Err c =
     let flags = flags_of c.args.ignore_case c.args.prefer_byte in
     let stop = c.in-Err.stop in
-    let unit = c.in-Ok-read_rest.unit in
-    let stops = stops_in flags stop _ _ c.as_bytes.ensures.value (c.in-Err.ensures c.as_bytes.ensures.utf8) in
-    stop_reading flags c.args.s.now _ stop.number stop.place stop.reason (Ok (shape_of unit)) (Ok (stop.number, unit))
-    c.trimmed-text.ensures stops c.in-Ok-read_rest.ensures refl
-
-pub returns-in-Err-read_rest : goal.returns-in-Err-read_rest
-returns-in-Err-read_rest c =
-    let flags = flags_of c.args.ignore_case c.args.prefer_byte in
-    let stop = c.in-Err.stop in
-    let error = c.in-Err-read_rest.error in
-    let stops = stops_in flags stop _ _ c.as_bytes.ensures.value (c.in-Err.ensures c.as_bytes.ensures.utf8) in
-    stop_reading flags c.args.s.now _ stop.number stop.place stop.reason (Err (size_fault error)) (Err error)
-    c.trimmed-text.ensures stops c.in-Err-read_rest.ensures refl
+    let text = c.trimmed-text.result.now in
+    let stops = subst (λ text. IsStop flags text stop) c.as_bytes.ensures.value c.in-Err.ensures in
+    let utf8 = subst IsUtf8 c.as_bytes.ensures.value c.as_bytes.ensures.utf8 in
+    stop_reading flags c.args.s.now text stop.place stop.reason c.error_at.result c.trimmed-text.ensures utf8 stops
+    (c.error_at.ensures ∙ ap (λ rest. stop_fault flags (nat_eq stop.place 0) stop.reason (chars rest)) c.range_from-rest.ensures.value)

@@ -11,8 +11,8 @@ use Rattle.byte_unit_base.proofs.size.parse_bytes.Goals as goal
 pub returns-in-Ok-clause-reading : goal.returns-in-Ok-clause-reading
 returns-in-Ok-clause-reading c =
     let bytes = c.args.bytes.now in
-    let number = c.in-Ok.found.0 in
-    let unit = shape_of c.in-Ok.found.1 in
+    let number = c.in-Ok.found.1 in
+    let unit = shape_of c.in-Ok.found.0 in
     let flags = flags_for c.args.kind c.args.ignore_case in
     let IsReadWith : Flags → Type 0 = λ flags. IsSizeText current flags bytes number unit in
     let size = subst IsReadWith c.flags_for.ensures c.in-Ok.ensures in (

@@ -15,17 +15,15 @@ use Rattle.byte_unit_base.proofs.read.number.read_number.Goals as goal
 
 pub returns-then-end-eq0 : goal.returns-then-end-eq0
 returns-then-end-eq0 c =
-    rw c.in_number.ensures
-    (stops_at_start c.args.bytes.now (omega (arith, c.if-end-eq0.true, c.read_digits-end.ensures.end)))
+    stops_at_start c.args.bytes.now (omega (arith, c.if-end-eq0.true, c.read_digits-end.ensures.end))
 
 pub whole_part-whole-requires-clause-digits : goal.whole_part-whole-requires-clause-digits
 whole_part-whole-requires-clause-digits c = digits_of_run c.args.bytes.now _ c.read_digits-end.ensures.end
 
 pub returns-then-whole-ge-WHOLE_LIMIT : goal.returns-then-whole-ge-WHOLE_LIMIT
 returns-then-whole-ge-WHOLE_LIMIT c =
-    rw c.in_number-then-whole-ge-WHOLE_LIMIT.ensures
-    (stops_in_whole c.args.bytes.now _ c.read_digits-end.ensures.end
-    (c.whole_part-whole.ensures.large (omega (arith, c.if-whole-ge-WHOLE_LIMIT.true))))
+    stops_in_whole c.args.bytes.now _ c.read_digits-end.ensures.end
+    (c.whole_part-whole.ensures.large (omega (arith, c.if-whole-ge-WHOLE_LIMIT.true)))
 
 pub returns-then-end-bytes : goal.returns-then-end-bytes
 returns-then-end-bytes c =
@@ -44,10 +42,9 @@ pub returns-then-places-eq0 : goal.returns-then-places-eq0
 returns-then-places-eq0 c =
     let run = c.read_digits-end in
     let below : c.whole_part-whole.result < whole_limit = omega (arith, c.if-whole-ge-WHOLE_LIMIT.false) in
-    rw c.in_number-then-places-eq0.ensures
-    (stops_after_point c.args.bytes.now run.result.0 c.whole_part-whole.result run.ensures.end run.ensures.within
+    stops_after_point c.args.bytes.now run.result.0 c.whole_part-whole.result run.ensures.end run.ensures.within
     c.if-end-eq0.false (below, c.whole_part-whole.ensures.exact below) c.if-end-bytes.false c.if-bytes-end-ne46.false
-    (omega (arith, c.if-places-eq0.true, c.read_digits-stop.ensures.end)))
+    (omega (arith, c.if-places-eq0.true, c.read_digits-stop.ensures.end))
 
 -- The digits after the point, from the index at which they stop.
 places_of : (bytes : List ℕ) (start stop : ℕ) → stop ≡ start + digits_len (drop start bytes) → stop ≤ length bytes
@@ -60,11 +57,10 @@ returns-then-places c =
     let places = places_of c.args.bytes.now (run.result.0 + 1) c.read_digits-stop.result.0 c.read_digits-stop.ensures.end
     c.read_digits-stop.ensures.within in
     let below : c.whole_part-whole.result < whole_limit = omega (arith, c.if-whole-ge-WHOLE_LIMIT.false) in
-    rw c.in_number-then-places.ensures
-    (stops_in_fraction c.args.bytes.now run.result.0 c.whole_part-whole.result run.ensures.end run.ensures.within
+    stops_in_fraction c.args.bytes.now run.result.0 c.whole_part-whole.result run.ensures.end run.ensures.within
     c.if-end-eq0.false (below, c.whole_part-whole.ensures.exact below) c.if-end-bytes.false c.if-bytes-end-ne46.false
     (c.read_digits-stop.result.0 - (run.result.0 + 1)) places.0 places.1
-    (omega (arith, c.if-places.true)))
+    (omega (arith, c.if-places.true))
 
 pub value_of-digits-requires-clause-digits : goal.value_of-digits-requires-clause-digits
 value_of-digits-requires-clause-digits c =

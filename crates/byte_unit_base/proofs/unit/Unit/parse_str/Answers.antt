@@ -1,15 +1,46 @@
--- What the machine returns for the trimmed string is its reading as a unit.
-use Rattle.std.proofs.Common.{ap, ◌∙◌}
-use Rattle.std.specs.Str.{chars}
-use Rattle.byte_unit_base.specs.Spelling.{flags_of}
+-- The unit that the trimmed string spells, or the error of the rest of it, where the parser stops.
+use Rattle.std.proofs.Common.{Ok, Err, ap, sym, subst, ◌∙◌}
+use Rattle.std.specs.Str.{chars, IsUtf8}
+use Rattle.byte_unit_base.specs.Version.{current}
+use Rattle.byte_unit_base.specs.Spelling.{Spells, flags_of}
+use Rattle.byte_unit_base.specs.Units.{shape_of}
 use Rattle.byte_unit_base.specs.Scan.{read}
 use Rattle.byte_unit_base.specs.UnitScan.{unit_scan, start}
+use Rattle.byte_unit_base.specs.PartsReading.{IsUnitStop, unit_stop_fault}
+use Rattle.byte_unit_base.proofs.Scans.{reads_meaning}
+use Rattle.byte_unit_base.proofs.SizeRest.{boundary_at}
 use Rattle.byte_unit_base.proofs.Trim.{chars-trim}
-use Rattle.byte_unit_base.proofs.UnitReads.{unit_reading}
+use Rattle.byte_unit_base.proofs.UnitReads.{unit_reading, unit_scan_is}
+use Rattle.byte_unit_base.proofs.UnitStops.{beginning_ascii, spelled_chars, stop_read}
 use Rattle.byte_unit_base.proofs.unit.Unit.parse_str.Goals as goal
 
-pub returns : goal.returns
-returns c =
+pub range_from-requires : goal.range_from-requires
+range_from-requires c =
     let flags = flags_of c.args.ignore_case c.args.prefer_byte in
-    unit_reading flags c.args.s.now c.read_unit.result
-    (c.read_unit.ensures ∙ ap (read (unit_scan flags) start) (ap chars c.trim.ensures.trim ∙ chars-trim c.args.s.now c.utf8.s))
+    let text = c.trim-text.result.now in
+    let stop = c.in-Err.stop in
+    let leads = (subst (λ text. IsUnitStop flags text stop.0 stop.1) c.as_bytes.ensures.value c.in-Err.ensures).0 in
+    let utf8 = subst IsUtf8 c.as_bytes.ensures.value c.as_bytes.ensures.utf8 in
+    λ _. boundary_at text stop.1 utf8 leads.within (beginning_ascii text stop.1 stop.0 leads.run_is)
+
+pub returns-in-Ok : goal.returns-in-Ok
+returns-in-Ok c =
+    let flags = flags_of c.args.ignore_case c.args.prefer_byte in
+    let text = c.trim-text.result.now in
+    let unit = shape_of c.in-Ok.unit in
+    let spells = subst (λ text. Spells current flags text unit) c.as_bytes.ensures.value c.in-Ok.ensures in
+    let trimmed = sym (spelled_chars flags text unit spells) ∙ (ap chars c.trim-text.ensures.trim ∙ chars-trim c.args.s.now c.utf8.s) in
+    unit_reading flags c.args.s.now (Ok c.in-Ok.unit)
+    (sym (reads_meaning (unit_scan_is flags) text unit spells) ∙ ap (read (unit_scan flags) start) trimmed)
+
+pub returns-in-Err : goal.returns-in-Err
+returns-in-Err c =
+    let flags = flags_of c.args.ignore_case c.args.prefer_byte in
+    let text = c.trim-text.result.now in
+    let stop = c.in-Err.stop in
+    let stops = subst (λ text. IsUnitStop flags text stop.0 stop.1) c.as_bytes.ensures.value c.in-Err.ensures in
+    let utf8 = subst IsUtf8 c.as_bytes.ensures.value c.as_bytes.ensures.utf8 in
+    let error_is = c.error_before.ensures ∙ ap (λ rest. unit_stop_fault flags stop.0 (chars rest)) c.range_from.ensures.value in
+    let trimmed = ap chars c.trim-text.ensures.trim ∙ chars-trim c.args.s.now c.utf8.s in
+    unit_reading flags c.args.s.now (Err c.error_before.result)
+    (ap Err error_is ∙ (sym (stop_read flags text stop.1 stop.0 stops utf8) ∙ ap (read (unit_scan flags) start) trimmed))
