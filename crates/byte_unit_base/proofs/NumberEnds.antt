@@ -24,7 +24,7 @@ use Rattle.byte_unit_base.specs.Fault.{too_long}
 use Rattle.byte_unit_base.specs.Scan.{read}
 use Rattle.byte_unit_base.specs.SizeScan.{Beginning, Whole, Point, size_scan, fixed_point}
 use Rattle.byte_unit_base.specs.PartsReading.{IsFirst, IsNoSpace, IsStopAt, EndsNumber, IsLeadingNumber, IsUnitStop}
-use Rattle.byte_unit_base.specs.PartsReading.{missing_digit, unit_stop_fault}
+use Rattle.byte_unit_base.specs.PartsReading.{missing_digit, next_char, unit_stop_fault}
 use Rattle.byte_unit_base.specs.declared.read.stop.Reason.TheVariants.{NoDigit, TooLong, InUnit}
 use Rattle.byte_unit_base.specs.declared.unit.scan.UnitScan.{UnitScan}
 use Rattle.byte_unit_base.proofs.Lists.{push_append}
@@ -139,7 +139,7 @@ module _ (bytes : List ℕ) (end whole : ℕ) (run_is : end ≡ 0 + digits_len (
           ∙ (missing_after_point flags whole (chars rest)
           (first_char IsNoDigit wide_no_digit rest (utf8_from bytes (end + 1) utf8 pointed_within pointed_ascii)
           (no_digit_first rest none))
-          ∙ ap (λ at_start. Err (missing_digit at_start (chars rest))) (sym (after_start end)));
+          ∙ ap (λ at_start. Err (missing_digit at_start (next_char (chars rest)))) (sym (after_start end)));
     }
 
     -- digits of a fraction follow the point, as std finds and reads them
@@ -274,5 +274,5 @@ stops_in_unit flags bytes rest n end spaces place scan number rest_is within gap
           }
           (first_char IsNoSpace (λ c wide. λ e. omega (arith, wide, e)) unit utf8_unit other)
           ∙ (ap (with_number n) (stop_read flags unit place scan stop utf8_unit)
-          ∙ ap (λ r. Err (unit_stop_fault flags scan (chars r))) at_stop))));
+          ∙ ap (λ r. Err (unit_stop_fault flags scan (next_char (chars r)))) at_stop))));
     }

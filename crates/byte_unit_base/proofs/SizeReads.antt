@@ -23,7 +23,7 @@ use Rattle.byte_unit_base.specs.Scan.{read}
 use Rattle.byte_unit_base.specs.UnitScan.{unit_step, unit_of, unit_at_end, word_parser_state, scan_of, start as unit_start}
 use Rattle.byte_unit_base.specs.SizeScan.{is_digit, size_step, size_scan, size_result, with_shape, size_at_end, size_parser_state}
 use Rattle.byte_unit_base.specs.SizeScan.{size_or_fault, fixed_point}
-use Rattle.byte_unit_base.specs.PartsReading.{IsStopAt, stop_fault}
+use Rattle.byte_unit_base.specs.PartsReading.{IsStopAt, next_char, stop_fault}
 use Rattle.byte_unit_base.specs.declared.read.stop.Reason.{Reason}
 use Rattle.byte_unit_base.specs.declared.unit.Unit.{Unit as UnitName}
 use Rattle.byte_unit_base.specs.declared.errors.ParseError.{ParseError}
@@ -232,7 +232,7 @@ number_reading flags bytes r e = record {
 -- a parser that stops in the trimmed input, and returns the error there, is right
 pub stop_reading : (flags : Flags) (bytes text : List ℕ) (place : ℕ) (reason : Reason) (error : ParseError)
     → chars text ≡ trim_of bytes → IsUtf8 text → IsStopAt flags text place reason
-    → size_fault error ≡ stop_fault flags (nat_eq place 0) reason (chars (drop place text))
+    → size_fault error ≡ stop_fault flags (nat_eq place 0) reason (next_char (chars (drop place text)))
     → IsNumberReading flags bytes (Err error)
 stop_reading flags bytes text place reason error trimmed utf8 stop error_is =
     number_reading flags bytes (Err error)

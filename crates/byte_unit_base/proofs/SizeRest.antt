@@ -25,7 +25,7 @@ use Rattle.byte_unit_base.specs.UnitScan.{unit_step, unit_scan, unit_of, unit_at
 use Rattle.byte_unit_base.specs.SizeScan.{SizeScan, Beginning, Whole, Point, Fraction, Gap, UnitAt}
 use Rattle.byte_unit_base.specs.SizeScan.{is_digit, size_step, size_scan, size_at_end, size_or_fault, size_parser_state}
 use Rattle.byte_unit_base.specs.SizeScan.{after_number}
-use Rattle.byte_unit_base.specs.PartsReading.{IsFirst, IsNoSpace, EndsNumber, missing_digit}
+use Rattle.byte_unit_base.specs.PartsReading.{IsFirst, IsNoSpace, EndsNumber, missing_digit, next_char}
 use Rattle.byte_unit_base.specs.declared.unit.scan.UnitScan.{UnitScan}
 use Rattle.byte_unit_base.proofs.Scans.{read_some, read_none, read_through}
 use Rattle.byte_unit_base.proofs.SizeRuns.{step_point, step_whole, step_pointed, step_fraction, run_whole, AtNumber}
@@ -89,14 +89,14 @@ no_digit_first (b ∷ bs) e = other_is_no_digit b (none_counted (is_ascii_digit 
 
 -- the error of an input that does not start with a digit
 pub missing_at_start : (flags : Flags) (text : List ℕ) → IsFirst IsNoDigit text
-    → read (size_scan flags) Beginning text ≡ Err (missing_digit true text)
+    → read (size_scan flags) Beginning text ≡ Err (missing_digit true (next_char text))
 unfolding size_step
 missing_at_start flags [] none = refl
 missing_at_start flags (c ∷ cs) none = read_none (size_scan flags) Beginning c cs (rw none refl)
 
 -- the error of an input in which no digit follows the point
 pub missing_after_point : (flags : Flags) (w : ℕ) (text : List ℕ) → IsFirst IsNoDigit text
-    → read (size_scan flags) (Point w) text ≡ Err (missing_digit false text)
+    → read (size_scan flags) (Point w) text ≡ Err (missing_digit false (next_char text))
 unfolding size_step
 missing_after_point flags w [] none = refl
 missing_after_point flags w (c ∷ cs) none = read_none (size_scan flags) (Point w) c cs (rw none refl)

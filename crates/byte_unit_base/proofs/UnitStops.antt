@@ -13,7 +13,7 @@ use Rattle.byte_unit_base.specs.Spelling.{Flags, Spells}
 use Rattle.byte_unit_base.specs.Scan.{run, read}
 use Rattle.byte_unit_base.specs.UnitScan.{unit_step, multiple_step, word_step, prefix_at, unit_of, unit_at_end, unit_scan}
 use Rattle.byte_unit_base.specs.UnitScan.{scan_of, start, IsWordText}
-use Rattle.byte_unit_base.specs.PartsReading.{IsFirst, IsLeadingUnit, IsUnitStop, unit_stop_fault}
+use Rattle.byte_unit_base.specs.PartsReading.{IsFirst, IsLeadingUnit, IsUnitStop, next_char, unit_stop_fault}
 use Rattle.byte_unit_base.specs.declared.unit.scan.UnitScan.{UnitScan}
 use Rattle.byte_unit_base.specs.declared.unit.scan.Multiple.{Multiple}
 use Rattle.byte_unit_base.specs.declared.unit.scan.Multiple.TheVariants.{One, Decimal, Binary}
@@ -104,13 +104,13 @@ spelled flags bytes scan unit place leads all e =
 -- where the parser stops
 
 stopped : (flags : Flags) (scan : UnitScan) (rest : List ℕ) → (rest ≡ [] → unit_of flags scan ≡ None)
-    → IsFirst (λ c. unit_step scan c ≡ None) rest → read (unit_scan flags) scan rest ≡ Err (unit_stop_fault flags scan rest)
+    → IsFirst (λ c. unit_step scan c ≡ None) rest → read (unit_scan flags) scan rest ≡ Err (unit_stop_fault flags scan (next_char rest))
 stopped flags scan [] ends next = ap unit_at_end (ends refl)
 stopped flags scan (c ∷ cs) ends next = read_none (unit_scan flags) scan c cs next
 
 -- the error where the parser of a unit stops is that of the input
 pub stop_read : (flags : Flags) (bytes : List ℕ) (place : ℕ) (scan : UnitScan) → IsUnitStop flags bytes scan place
-    → IsUtf8 bytes → read (unit_scan flags) start (chars bytes) ≡ Err (unit_stop_fault flags scan (chars (drop place bytes)))
+    → IsUtf8 bytes → read (unit_scan flags) start (chars bytes) ≡ Err (unit_stop_fault flags scan (next_char (chars (drop place bytes))))
 stop_read flags bytes place scan stop utf8 =
     let leads = stop.0 in
     let ascii = beginning_ascii bytes place scan leads.run_is in

@@ -1,6 +1,6 @@
 -- Private: what the parts of the parser of a number and a unit return. No public contract cites this file.
 use Rattle.std.specs.Prelude.{◌≡◌, ℕ, ◌-◌, ◌<◌, ◌≤◌, Bool, true, false, nat_eq, ⊤, ◌≢◌, List, [], ◌∷◌, length, take, drop, slice_index}
-use Rattle.std.specs.Prelude.{Some, None, Result, Ok, Err}
+use Rattle.std.specs.Prelude.{Option, Some, None, Result, Ok, Err}
 use Rattle.std.specs.Char.{is_ascii_graphic}
 use Rattle.std.specs.Str.{IsUtf8, IsAscii, chars}
 use Rattle.byte_unit_base.specs.Version.{current}
@@ -33,11 +33,16 @@ IsFirst Has (c ∷ rest) = Has c
 abbrev pub IsNoSpace : ℕ → Type 0
 IsNoSpace c = c ≢ space
 
--- the error of an input in which a digit is missing, at its start or after the point, by the rest of the input there
-abbrev pub missing_digit : Bool → List ℕ → Fault
-missing_digit at_start (c ∷ rest) = not_number c
-missing_digit true [] = no_value
-missing_digit false [] = not_number point
+-- the first character, or `None` if there is none
+abbrev pub next_char : List ℕ → Option ℕ
+next_char [] = None
+next_char (c ∷ rest) = Some c
+
+-- the error of an input in which a digit is missing, at its start or after the point, by the character there
+abbrev pub missing_digit : Bool → Option ℕ → Fault
+missing_digit at_start (Some c) = not_number c
+missing_digit true None = no_value
+missing_digit false None = not_number point
 
 -- the bytes begin with a beginning of a unit, of this length, and with no longer one: the state machine has this state
 -- after it, and no step at what follows
@@ -55,16 +60,16 @@ abbrev pub IsUnitEnd : Flags → List ℕ → Result UnitName (UnitScan × ℕ) 
 IsUnitEnd flags bytes (Ok unit) = Spells current flags bytes (shape_of unit)
 IsUnitEnd flags bytes (Err stop) = IsUnitStop flags bytes stop.0 stop.1
 
--- the error of an input in which the parser of a unit stops in this state, by the rest of the input there
-abbrev pub unit_stop_fault : Flags → UnitScan → List ℕ → Fault
-unit_stop_fault flags scan [] = stops_at_bi
-unit_stop_fault flags scan (c ∷ rest) = fault_at current flags (unit_parser_state scan) c
+-- the error of an input in which the parser of a unit stops in this state, by the character there
+abbrev pub unit_stop_fault : Flags → UnitScan → Option ℕ → Fault
+unit_stop_fault flags scan (Some c) = fault_at current flags (unit_parser_state scan) c
+unit_stop_fault flags scan None = stops_at_bi
 
--- the error of an input in which the parser stops for this reason, by the rest of the input there
-abbrev pub stop_fault : Flags → Bool → Reason → List ℕ → Fault
-stop_fault flags at_start NoDigit rest = missing_digit at_start rest
-stop_fault flags at_start TooLong rest = too_long
-stop_fault flags at_start (InUnit scan) rest = unit_stop_fault flags scan rest
+-- the error of an input in which the parser stops for this reason, by the character there
+abbrev pub stop_fault : Flags → Bool → Reason → Option ℕ → Fault
+stop_fault flags at_start NoDigit next = missing_digit at_start next
+stop_fault flags at_start TooLong next = too_long
+stop_fault flags at_start (InUnit scan) next = unit_stop_fault flags scan next
 
 -- the parser stops in this input at this place and for this reason
 pub record IsStopAt (flags : Flags) (bytes : List ℕ) (place : ℕ) (reason : Reason) : Type 0 where
@@ -72,7 +77,7 @@ pub record IsStopAt (flags : Flags) (bytes : List ℕ) (place : ℕ) (reason : R
   pub ascii : IsAscii (take place bytes)
   pub result_is : IsUtf8 bytes
       → read (size_scan flags) Beginning (chars bytes)
-      ≡ Err (stop_fault flags (nat_eq place 0) reason (chars (drop place bytes)))
+      ≡ Err (stop_fault flags (nat_eq place 0) reason (next_char (chars (drop place bytes))))
 
 -- the parser stops here in this input
 abbrev pub IsStop : Flags → List ℕ → Stop → Type 0

@@ -7,7 +7,7 @@ ghost use Rattle.byte_unit_base.specs.SizeText.{trim_of};
 ghost use Rattle.byte_unit_base.specs.Readings.{IsNumberReading};
 
 use crate::read::parts::{has_visible_ends, read_parts};
-use crate::read::stop::error_at;
+use crate::read::stop::{error_at, first_char};
 use crate::unit::scan::Flags;
 use crate::{ParseError, Unit};
 use byte_unit_math::Decimal;
@@ -55,8 +55,8 @@ pub fn read_size(
     match read_parts(text.as_bytes(), flags) {
         Ok(found) => Ok((found.1, found.0)),
         Err(stop) => {
-            let rest = &text[stop.place..];
-            Err(error_at(rest, stop.place == 0, stop.reason, flags))
+            let next = first_char(&text[stop.place..]);
+            Err(error_at(next, stop.place == 0, stop.reason, flags))
         }
     }
 }

@@ -9,10 +9,9 @@ ghost use Rattle.byte_unit_base.specs.Kinds.{bits_in, flags_for};
 ghost use Rattle.byte_unit_base.specs.SizeText.{trim_of, IsSizeText};
 ghost use Rattle.byte_unit_base.specs.SizeReading.{IsSizeReading, IsBytesReading};
 ghost use Rattle.byte_unit_base.specs.SizeOrNone.{IsSizeOfUnit, IsSizeOfDecimal};
-ghost use Rattle.byte_unit_base.specs.PartsReading.{IsStopAt};
 
 use crate::read::parts::{has_visible_ends, read_parts};
-use crate::read::stop::{Reason, error_at};
+use crate::read::stop::{error_at, first_ascii};
 use crate::unit::scan::Flags;
 use crate::{Kind, ParseError, Unit, ValueParseError, read_size};
 use byte_unit_math::{Decimal, least_size};
@@ -133,37 +132,28 @@ pub fn parse_bytes(bytes: &[u8], ignore_case: bool, kind: Kind) -> Option<Result
     // ends in spaces only after a number without a unit, where the grammar allows them.
     match read_parts(bytes, flags_for(kind, ignore_case)) {
         Ok(found) => Some(size_of((found.1, found.0), kind)),
-        Err(stop) => parse_stopped(bytes, stop.place, stop.reason, ignore_case, kind),
+        Err(stop) => {
+            let rest = &bytes[stop.place..];
+            if has_visible_ends(bytes) && rest.is_ascii() {
+                let flags = flags_for(kind, ignore_case);
+                Some(Err(error_at(first_ascii(rest), stop.place == 0, stop.reason, flags)))
+            } else {
+                // There may be white space to trim, or characters past ASCII.
+                parse_text(bytes, ignore_case, kind)
+            }
+        }
     }
 }
 
-/// Parses as `parse_bytes` does, from bytes in which `read_parts` stops at this place and for this reason.
-///
-/// The two are passed apart, since a `Stop` would be in memory. `error_at` and `parse` are called, not inlined: LLVM
-/// then sees that the result is written whole, and does not clear its memory on the way of bytes that are accepted.
+/// Parses as `parse_bytes` does, by the string.
 #[cold]
 #[inline(never)]
-fn parse_stopped(
-    bytes: &[u8],
-    place: usize,
-    reason: Reason,
-    ignore_case: bool,
-    kind: Kind,
-) -> Option<Result<u128, ParseError>>
-    requires { IsStopAt (flags_for kind ignore_case) bytes.now place reason }
+fn parse_text(bytes: &[u8], ignore_case: bool, kind: Kind) -> Option<Result<u128, ParseError>>
     ensures reading { IsBytesReading kind ignore_case bytes.now result }
     ensures small { IfSome result (λ answer. IfOk answer (λ n. n < size_limit)) }
 {
-    if has_visible_ends(bytes) {
-        // What comes before the place is ASCII.
-        let rest = str::from_utf8(&bytes[place..]).ok()?;
-        let flags = flags_for(kind, ignore_case);
-        Some(Err(error_at(rest, place == 0, reason, flags)))
-    } else {
-        // There may be white space to trim.
-        let text = str::from_utf8(bytes).ok()?;
-        Some(parse(text, ignore_case, kind))
-    }
+    let text = str::from_utf8(bytes).ok()?;
+    Some(parse(text, ignore_case, kind))
 }
 
 /// Returns the result of `parse` for a string with this number and this unit.

@@ -3,7 +3,8 @@
 ghost use Rattle.std.specs.Prelude.{◌≡◌};
 ghost use Rattle.std.specs.Str.{chars};
 ghost use Rattle.byte_unit_base.specs.Errors.{size_fault, value_fault};
-ghost use Rattle.byte_unit_base.specs.PartsReading.{missing_digit, stop_fault};
+ghost use Rattle.std.specs.Str.{IsAscii};
+ghost use Rattle.byte_unit_base.specs.PartsReading.{missing_digit, next_char, stop_fault};
 
 use crate::unit::scan::{Flags, UnitScan};
 use crate::{ParseError, ValueParseError};
@@ -30,25 +31,45 @@ pub struct Stop {
     pub reason: Reason,
 }
 
-/// Returns the error of a string in which the parser stops for this reason, by the rest of the string there.
-#[inline(never)]
-pub fn error_at(rest: &str, at_start: bool, reason: Reason, flags: Flags) -> ParseError
-    ensures { size_fault result ≡ stop_fault flags at_start reason (chars rest.now) }
+/// Returns the error of a string in which the parser stops for this reason, by the character there.
+#[inline(always)]
+pub fn error_at(next: Option<char>, at_start: bool, reason: Reason, flags: Flags) -> ParseError
+    ensures { size_fault result ≡ stop_fault flags at_start reason next }
 {
     match reason {
-        Reason::NoDigit => ParseError::Value(no_digit(rest, at_start)),
+        Reason::NoDigit => ParseError::Value(no_digit(next, at_start)),
         Reason::TooLong => ParseError::Value(ValueParseError::NumberTooLong),
-        Reason::InUnit(scan) => ParseError::Unit(scan.error_before(rest, flags)),
+        Reason::InUnit(scan) => ParseError::Unit(scan.error_before(next, flags)),
     }
 }
 
-/// Returns the error of a string in which a digit is missing, by the rest of the string there.
-fn no_digit(rest: &str, at_start: bool) -> ValueParseError
-    ensures { value_fault result ≡ missing_digit at_start (chars rest.now) }
+/// Returns the error of a string in which a digit is missing, by the character there.
+#[inline(always)]
+fn no_digit(next: Option<char>, at_start: bool) -> ValueParseError
+    ensures { value_fault result ≡ missing_digit at_start next }
 {
-    match rest.chars().next() {
+    match next {
         Some(c) => ValueParseError::NotNumber(c),
         None if at_start => ValueParseError::NoValue,
         None => ValueParseError::NotNumber('.'),
+    }
+}
+
+/// Returns the first character of a string.
+pub fn first_char(s: &str) -> Option<char>
+    ensures { result ≡ next_char (chars s.now) }
+{
+    s.chars().next()
+}
+
+/// Returns the first character of ASCII bytes.
+#[inline(always)]
+pub fn first_ascii(bytes: &[u8]) -> Option<char>
+    requires { IsAscii bytes.now }
+    ensures { result ≡ next_char (chars bytes.now) }
+{
+    match bytes {
+        [first, ..] => Some(char::from(*first)),
+        [] => None,
     }
 }

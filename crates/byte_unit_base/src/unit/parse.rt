@@ -7,6 +7,7 @@ ghost use Rattle.byte_unit_base.specs.UnitScan.{IsWordText, unit_step, multiple_
 ghost use Rattle.byte_unit_base.specs.declared.unit.scan.Word.TheVariants.{Empty};
 ghost use Rattle.byte_unit_base.specs.PartsReading.{IsUnitEnd, IsLeadingUnit, IsFirst};
 
+use crate::read::stop::first_char;
 use crate::unit::scan::{Flags, Multiple, Prefix, UnitScan, Word};
 use crate::{Unit, UnitParseError};
 use std::str::FromStr;
@@ -42,7 +43,7 @@ impl Unit {
         let text = s.trim();
         match read_unit(text.as_bytes(), flags) {
             Ok(unit) => Ok(unit),
-            Err(stop) => Err(stop.0.error_before(&text[stop.1..], flags)),
+            Err(stop) => Err(stop.0.error_before(first_char(&text[stop.1..]), flags)),
         }
     }
 }

@@ -121,7 +121,6 @@ impl Prefix {
 }
 
 impl UnitScan {
-    ghost use Rattle.std.specs.Str.{chars};
     ghost use Rattle.byte_unit_base.specs.UnitScan.{unit_of, unit_parser_state};
     ghost use Rattle.byte_unit_base.specs.PartsReading.{unit_stop_fault};
     ghost use Rattle.byte_unit_base.specs.Units.{shape_of};
@@ -149,17 +148,19 @@ impl UnitScan {
         })
     }
 
-    /// Returns the error of a string in which the parser of a unit stops in this state, by the rest of the string there.
-    pub fn error_before(self, rest: &str, flags: Flags) -> UnitParseError
-        ensures { unit_fault result ≡ unit_stop_fault flags self (chars rest.now) }
+    /// Returns the error of a string in which the parser of a unit stops in this state, by the character there.
+    #[inline(always)]
+    pub fn error_before(self, next: Option<char>, flags: Flags) -> UnitParseError
+        ensures { unit_fault result ≡ unit_stop_fault flags self next }
     {
-        match rest.chars().next() {
+        match next {
             Some(c) => self.error_at(flags, c),
             None => UnitParseError::STOPS_AT_BI,
         }
     }
 
     /// Returns the error of a character that cannot continue a unit.
+    #[inline(always)]
     fn error_at(self, flags: Flags, character: char) -> UnitParseError
         ensures { unit_fault result ≡ fault_at current flags (unit_parser_state self) character }
     {

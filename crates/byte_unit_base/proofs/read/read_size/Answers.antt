@@ -5,14 +5,14 @@ use Rattle.byte_unit_base.specs.Version.{current}
 use Rattle.byte_unit_base.specs.Spelling.{flags_of}
 use Rattle.byte_unit_base.specs.SizeText.{IsSizeText}
 use Rattle.byte_unit_base.specs.Units.{shape_of}
-use Rattle.byte_unit_base.specs.PartsReading.{IsStop, stop_fault}
+use Rattle.byte_unit_base.specs.PartsReading.{IsStop, next_char, stop_fault}
 use Rattle.byte_unit_base.proofs.SizeAscii.{size_of_chars}
 use Rattle.byte_unit_base.proofs.SizeReads.{stop_reading, stated_reading}
 use Rattle.byte_unit_base.proofs.SizeRest.{boundary_at}
 use Rattle.byte_unit_base.proofs.read.read_size.Goals as goal
 
-pub range_from-rest-requires : goal.range_from-rest-requires
-range_from-rest-requires c =
+pub range_from-requires : goal.range_from-requires
+range_from-requires c =
     let flags = flags_of c.args.ignore_case c.args.prefer_byte in
     let stop = subst (λ text. IsStop flags text c.in-Err.stop) c.as_bytes.ensures.value c.in-Err.ensures in
     let utf8 = subst IsUtf8 c.as_bytes.ensures.value c.as_bytes.ensures.utf8 in
@@ -36,4 +36,5 @@ returns-in-Err c =
     let stops = subst (λ text. IsStop flags text stop) c.as_bytes.ensures.value c.in-Err.ensures in
     let utf8 = subst IsUtf8 c.as_bytes.ensures.value c.as_bytes.ensures.utf8 in
     stop_reading flags c.args.s.now text stop.place stop.reason c.error_at.result c.trimmed-text.ensures utf8 stops
-    (c.error_at.ensures ∙ ap (λ rest. stop_fault flags (nat_eq stop.place 0) stop.reason (chars rest)) c.range_from-rest.ensures.value)
+    (c.error_at.ensures ∙ ap (stop_fault flags (nat_eq stop.place 0) stop.reason)
+    (c.first_char-next.ensures ∙ ap (λ rest. next_char (chars rest)) c.range_from.ensures.value))

@@ -6,7 +6,7 @@ use Rattle.byte_unit_base.specs.Spelling.{Spells, flags_of}
 use Rattle.byte_unit_base.specs.Units.{shape_of}
 use Rattle.byte_unit_base.specs.Scan.{read}
 use Rattle.byte_unit_base.specs.UnitScan.{unit_scan, start}
-use Rattle.byte_unit_base.specs.PartsReading.{IsUnitStop, unit_stop_fault}
+use Rattle.byte_unit_base.specs.PartsReading.{IsUnitStop, next_char, unit_stop_fault}
 use Rattle.byte_unit_base.proofs.Scans.{reads_meaning}
 use Rattle.byte_unit_base.proofs.SizeRest.{boundary_at}
 use Rattle.byte_unit_base.proofs.Trim.{chars-trim}
@@ -40,7 +40,8 @@ returns-in-Err c =
     let stop = c.in-Err.stop in
     let stops = subst (λ text. IsUnitStop flags text stop.0 stop.1) c.as_bytes.ensures.value c.in-Err.ensures in
     let utf8 = subst IsUtf8 c.as_bytes.ensures.value c.as_bytes.ensures.utf8 in
-    let error_is = c.error_before.ensures ∙ ap (λ rest. unit_stop_fault flags stop.0 (chars rest)) c.range_from.ensures.value in
+    let error_is = c.error_before.ensures
+    ∙ ap (unit_stop_fault flags stop.0) (c.first_char.ensures ∙ ap (λ rest. next_char (chars rest)) c.range_from.ensures.value) in
     let trimmed = ap chars c.trim-text.ensures.trim ∙ chars-trim c.args.s.now c.utf8.s in
     unit_reading flags c.args.s.now (Err c.error_before.result)
     (ap Err error_is ∙ (sym (stop_read flags text stop.1 stop.0 stops utf8) ∙ ap (read (unit_scan flags) start) trimmed))
