@@ -1,17 +1,20 @@
 //! Sizes of either kind, as numbers below the limit: what the size types have in common.
 
 ghost use Rattle.std.specs.Prelude.{◌≡◌, ℕ, Bool, List, ◌+◌, ◌*◌, ◌<◌, ◌≤◌, SomeIff, IfSome, IfOk};
+ghost use Rattle.std.specs.Prelude.{Ok, Err};
+ghost use Rattle.std.specs.Str.{IsUtf8};
 ghost use Rattle.byte_unit_math.specs.Bounds.{size_limit};
 ghost use Rattle.byte_unit_base.specs.Shape.{bits};
 ghost use Rattle.byte_unit_base.specs.Version.{current};
 ghost use Rattle.byte_unit_base.specs.Units.{shape_of};
 ghost use Rattle.byte_unit_base.specs.Kinds.{bits_in, flags_for};
-ghost use Rattle.byte_unit_base.specs.SizeText.{trim_of, IsSizeText};
+ghost use Rattle.byte_unit_base.specs.Readings.{IsNumberReading};
 ghost use Rattle.byte_unit_base.specs.SizeReading.{IsSizeReading, IsBytesReading};
 ghost use Rattle.byte_unit_base.specs.SizeOrNone.{IsSizeOfUnit, IsSizeOfDecimal};
+ghost use Rattle.byte_unit_base.specs.PartsReading.{IsStopAt, IsBytesNumber};
 
 use crate::read::parts::{has_visible_ends, read_parts};
-use crate::read::stop::{error_at, first_ascii};
+use crate::read::stop::{Reason, Stop, error_at, first_ascii};
 use crate::unit::scan::Flags;
 use crate::{Kind, ParseError, Unit, ValueParseError, read_size};
 use byte_unit_math::{Decimal, least_size};
@@ -128,27 +131,74 @@ pub fn parse_bytes(bytes: &[u8], ignore_case: bool, kind: Kind) -> Option<Result
     ensures reading { IsBytesReading kind ignore_case bytes.now result }
     ensures small { IfSome result (λ answer. IfOk answer (λ n. n < size_limit)) }
 {
-    // What is accepted here is ASCII, so the test for UTF-8 is skipped. It is not trimmed: it starts with a digit, and
-    // ends in spaces only after a number without a unit, where the grammar allows them.
-    match read_parts(bytes, flags_for(kind, ignore_case)) {
+    match read_bytes(bytes, ignore_case, kind) {
         Ok(found) => Some(size_of((found.1, found.0), kind)),
-        Err(stop) => {
-            let rest = &bytes[stop.place..];
-            if has_visible_ends(bytes) && rest.is_ascii() {
-                let flags = flags_for(kind, ignore_case);
-                Some(Err(error_at(first_ascii(rest), stop.place == 0, stop.reason, flags)))
-            } else {
-                // There may be white space to trim, or characters past ASCII.
-                parse_text(bytes, ignore_case, kind)
-            }
-        }
+        Err(stop) => parse_stopped(bytes, stop.place, stop.reason, ignore_case, kind),
     }
 }
 
-/// Parses as `parse_bytes` does, by the string.
+/// Parses the unit and the number of a size from bytes, none of which is trimmed.
+///
+/// What is accepted is ASCII, so there is no test for UTF-8. It starts with a digit, and ends in spaces only after a number
+/// without a unit, where the grammar allows them, so it is the same when trimmed.
+///
+/// # Errors
+/// Returns where the parser stops, also at white space that `parse` would trim.
+#[inline(always)]
+pub fn read_bytes(bytes: &[u8], ignore_case: bool, kind: Kind) -> Result<(Unit, Decimal), Stop>
+    ensures { IsBytesNumber (flags_for kind ignore_case) bytes.now result }
+{
+    read_parts(bytes, flags_for(kind, ignore_case))
+}
+
+/// Returns the error of bytes in which `read_bytes` stops at this place and for this reason. Returns `None` if there may be
+/// white space to trim, or characters past ASCII.
+#[inline(always)]
+pub fn visible_error(
+    bytes: &[u8],
+    place: usize,
+    reason: Reason,
+    ignore_case: bool,
+    kind: Kind,
+) -> Option<ParseError>
+    requires { IsStopAt (flags_for kind ignore_case) bytes.now place reason }
+    ensures { IfSome result (λ error. IsUtf8 bytes.now × IsSizeReading kind ignore_case bytes.now (Err error)) }
+{
+    let rest = &bytes[place..];
+    if has_visible_ends(bytes) && rest.is_ascii() {
+        let flags = flags_for(kind, ignore_case);
+        Some(error_at(first_ascii(rest), place == 0, reason, flags))
+    } else {
+        None
+    }
+}
+
+/// Parses as `parse_bytes` does, from bytes in which `read_bytes` stops at this place and for this reason.
+///
+/// The two are passed apart, since a `Stop` would be in memory.
 #[cold]
 #[inline(never)]
-fn parse_text(bytes: &[u8], ignore_case: bool, kind: Kind) -> Option<Result<u128, ParseError>>
+fn parse_stopped(
+    bytes: &[u8],
+    place: usize,
+    reason: Reason,
+    ignore_case: bool,
+    kind: Kind,
+) -> Option<Result<u128, ParseError>>
+    requires { IsStopAt (flags_for kind ignore_case) bytes.now place reason }
+    ensures reading { IsBytesReading kind ignore_case bytes.now result }
+    ensures small { IfSome result (λ answer. IfOk answer (λ n. n < size_limit)) }
+{
+    match visible_error(bytes, place, reason, ignore_case, kind) {
+        Some(error) => Some(Err(error)),
+        None => parse_text(bytes, ignore_case, kind),
+    }
+}
+
+/// Parses as `parse_bytes` does, from the string that the bytes are, trimmed.
+#[cold]
+#[inline(never)]
+pub fn parse_text(bytes: &[u8], ignore_case: bool, kind: Kind) -> Option<Result<u128, ParseError>>
     ensures reading { IsBytesReading kind ignore_case bytes.now result }
     ensures small { IfSome result (λ answer. IfOk answer (λ n. n < size_limit)) }
 {
@@ -160,10 +210,9 @@ fn parse_text(bytes: &[u8], ignore_case: bool, kind: Kind) -> Option<Result<u128
 ///
 /// `#[inline(always)]`: a call would return the result through memory.
 #[inline(always)]
-fn size_of(found: (Decimal, Unit), kind: Kind) -> Result<u128, ParseError>
+pub fn size_of(found: (Decimal, Unit), kind: Kind) -> Result<u128, ParseError>
     ensures reading { (ignore_case : Bool) (bytes : List ℕ)
-        → IsSizeText current (flags_for kind ignore_case) (trim_of bytes) found.0 (shape_of found.1)
-        → IsSizeReading kind ignore_case bytes result }
+        → IsNumberReading (flags_for kind ignore_case) bytes (Ok found) → IsSizeReading kind ignore_case bytes result }
     ensures small { IfOk result (λ n. n < size_limit) }
 {
     match from_decimal(found.0, found.1, kind) {

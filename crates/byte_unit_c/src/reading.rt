@@ -63,7 +63,46 @@ fn parse_as(
         × IsBytesReading kind ignore_case text.now answer
         × IsReturned answer result size.old size.new errors.old errors.new }
 {
-    match size::parse_bytes(text, ignore_case, kind) {
+    match size::read_bytes(text, ignore_case, kind) {
+        Ok((unit, number)) => write_answer(Some(size::size_of((number, unit), kind)), size, errors),
+        Err(stop) => {
+            match size::visible_error(text, stop.place, stop.reason, ignore_case, kind) {
+                Some(error) => write_answer(Some(Err(error)), size, errors),
+                None => parse_text_as(text, kind, ignore_case, size, errors),
+            }
+        }
+    }
+}
+
+/// Parses as `parse_as` does, from the string that the bytes are, trimmed.
+#[cold]
+#[inline(never)]
+fn parse_text_as(
+    text: &[u8],
+    kind: Kind,
+    ignore_case: bool,
+    size: &mut Number,
+    errors: &mut [Error],
+) -> u32
+    ensures { (answer : Option (Result ℕ ParseError))
+        × IsBytesReading kind ignore_case text.now answer
+        × IsReturned answer result size.old size.new errors.old errors.new }
+{
+    write_answer(size::parse_text(text, ignore_case, kind), size, errors)
+}
+
+/// Writes the answer of a parser, and returns its code.
+///
+/// `#[inline(always)]`: each caller knows which answer it has, which is then never in memory.
+#[inline(always)]
+fn write_answer(
+    answer: Option<Result<u128, ParseError>>,
+    size: &mut Number,
+    errors: &mut [Error],
+) -> u32
+    ensures { IsReturned answer result size.old size.new errors.old errors.new }
+{
+    match answer {
         Some(Ok(found)) => {
             *size = Number::new(found);
             OK

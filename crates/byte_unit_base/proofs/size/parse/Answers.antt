@@ -9,7 +9,7 @@ pub returns-in-Ok-clause-reading : goal.returns-in-Ok-clause-reading
 returns-in-Ok-clause-reading c =
     let found = Ok c.in-Ok.found in
     let IsReadWith : Flags → Type 0 = λ flags. IsNumberReading flags c.args.s.now found in
-    c.size_of.ensures.reading c.args.ignore_case c.args.s.now (subst IsReadWith c.flags_for-flags.ensures c.in-Ok.ensures).found
+    c.size_of.ensures.reading c.args.ignore_case c.args.s.now (subst IsReadWith c.flags_for-flags.ensures c.in-Ok.ensures)
 
 pub returns-in-Err-clause-reading : goal.returns-in-Err-clause-reading
 returns-in-Err-clause-reading c =

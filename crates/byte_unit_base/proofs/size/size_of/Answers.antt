@@ -1,23 +1,15 @@
 -- A number and a unit whose size is below the limit are accepted as it; if the size is too large, the error is
 -- `ExceededBounds`.
-use Rattle.std.proofs.Common.{ℕ}
-use Rattle.byte_unit_base.specs.Kinds.{flags_for}
 use Rattle.byte_unit_base.specs.Units.{shape_of}
-use Rattle.byte_unit_base.specs.declared.unit.Unit.{Unit as UnitName}
 use Rattle.byte_unit_base.proofs.Rounding.{least_exists}
-use Rattle.byte_unit_base.proofs.SizeReads.{stated_reading}
 use Rattle.byte_unit_base.proofs.SizeOfText.{reading_of_size, reading_of_excess}
 use Rattle.byte_unit_base.proofs.size.size_of.Goals as goal
 
 pub returns-in-Some-clause-reading : goal.returns-in-Some-clause-reading
-returns-in-Some-clause-reading c = λ ignore_case bytes stated.
-    let found : ℕ × UnitName = c.args.found in
-    reading_of_size c.args.kind ignore_case bytes found c.in-Some.size
-    (stated_reading (flags_for c.args.kind ignore_case) bytes found stated) c.in-Some.ensures.size
+returns-in-Some-clause-reading c = λ ignore_case bytes reading.
+    reading_of_size c.args.kind ignore_case bytes c.args.found c.in-Some.size reading c.in-Some.ensures.size
 
 pub returns-in-None-clause-reading : goal.returns-in-None-clause-reading
-returns-in-None-clause-reading c = λ ignore_case bytes stated.
-    let found : ℕ × UnitName = c.args.found in
-    reading_of_excess c.args.kind ignore_case bytes found
-    (least_exists c.args.kind c.args.found.0 (shape_of c.args.found.1))
-    (stated_reading (flags_for c.args.kind ignore_case) bytes found stated) c.in-None.ensures.size
+returns-in-None-clause-reading c = λ ignore_case bytes reading.
+    reading_of_excess c.args.kind ignore_case bytes c.args.found
+    (least_exists c.args.kind c.args.found.0 (shape_of c.args.found.1)) reading c.in-None.ensures.size
