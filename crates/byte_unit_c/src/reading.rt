@@ -64,7 +64,7 @@ fn parse_as(
         × IsReturned answer result size.old size.new errors.old errors.new }
 {
     match size::read_bytes(text, ignore_case, kind) {
-        Ok((unit, number)) => write_answer(Some(size::size_of((number, unit), kind)), size, errors),
+        Ok(found) => write_answer(Some(size::size_of((found.1, found.0), kind)), size, errors),
         Err(stop) => {
             match size::visible_error(text, stop.place, stop.reason, ignore_case, kind) {
                 Some(error) => write_answer(Some(Err(error)), size, errors),
