@@ -13,6 +13,7 @@ mod codes;
 mod error;
 mod flags;
 mod many;
+mod message;
 mod offsets;
 mod reading;
 mod spec;

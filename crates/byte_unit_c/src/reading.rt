@@ -1,9 +1,6 @@
 //! Parsing of sizes and of units, and messages for strings that are rejected.
 
 ghost use Rattle.std.specs.Prelude.{◌≡◌, ℕ, ◌<◌, ◌≤◌, length, Option, Result, IfSome, IfNone, codes};
-ghost use Rattle.std.specs.Fmt.Cut.{IsTextOrCut};
-ghost use Rattle.std.specs.Fmt.InlineText.{inline_text};
-ghost use Rattle.byte_unit_base.specs.FaultText.{parse_text};
 ghost use Rattle.byte_unit_base.specs.SizeReading.{IsBytesReading};
 ghost use Rattle.byte_unit_base.specs.declared.errors.ParseError.{ParseError};
 ghost use Rattle.byte_unit_base.specs.declared.errors.UnitParseError.{UnitParseError};
@@ -16,10 +13,10 @@ ghost use Rattle.byte_unit_c.specs.Reading.{IsReturned, IsUnitBytesReading, IsUn
 use crate::codes::code_of;
 use crate::error::{Error, INVALID_ARGUMENT, NOT_UTF8, OK, UNIT};
 use crate::flags::reading_at;
+use crate::message::write_message;
 use crate::texts::write;
 use crate::values::Number;
 use byte_unit_base::{Kind, ParseError, Unit, UnitParseError, size};
-use std::fmt::InlineText;
 use std::str;
 
 /// Parses a size, rounded up to the next whole byte, or to the next whole bit with the flag `BITS` (1). Sizes are below
@@ -225,29 +222,25 @@ fn explain_as(text: &[u8], kind: Kind, ignore_case: bool, out: &mut [u8]) -> usi
         × IsExplanation answer out.old out.new result }
     ensures bound { result ≤ 256 }
 {
-    match size::parse_bytes(text, ignore_case, kind) {
-        Some(Ok(_)) => 0,
-        Some(Err(error)) => write(some_message(message_of(&error).as_str().as_bytes()), out),
-        None => write(b"the text is not UTF-8", out),
+    match size::read_bytes(text, ignore_case, kind) {
+        Ok(found) => explain_answer(&Some(size::size_of((found.1, found.0), kind)), out),
+        Err(stop) => {
+            match size::visible_error(text, stop.place, stop.reason, ignore_case, kind) {
+                Some(error) => write_message(&error, out),
+                None => explain_answer(&size::parse_text(text, ignore_case, kind), out),
+            }
+        }
     }
 }
 
-/// Returns the message of an error. The longest message has some 120 bytes, so none is truncated.
-fn message_of(error: &ParseError) -> InlineText<256>
-    ensures { IfSome (parse_text error.now) (λ words. IsTextOrCut 256 words (inline_text result)) }
+/// Writes the message of the answer of a parser, if it is an error, and returns its length.
+fn explain_answer(answer: &Option<Result<u128, ParseError>>, out: &mut [u8]) -> usize
+    ensures text { IsExplanation answer.now out.old out.new result }
+    ensures bound { result ≤ 256 }
 {
-    InlineText::of(error)
-}
-
-/// Returns the message, or `the text is not a size` if it is empty. No message is empty, but std specifies no message
-/// that quotes a character past ASCII.
-fn some_message(message: &[u8]) -> &[u8]
-    ensures kept { 0 < length message.now → result.now ≡ message.now }
-    ensures missing { length message.now ≡ 0 → result.now ≡ codes "the text is not a size" }
-{
-    if message.is_empty() {
-        b"the text is not a size"
-    } else {
-        message
+    match answer {
+        Some(Ok(_)) => 0,
+        Some(Err(error)) => write_message(error, out),
+        None => write(b"the text is not UTF-8", out),
     }
 }

@@ -1,0 +1,129 @@
+//! The messages of errors.
+
+ghost use Rattle.std.specs.Prelude.{◌≡◌, ◌+◌, ◌<◌, ◌≤◌, ◌∷◌, ◌++◌, length, take, drop, [], Some, IfSome, IsTrue, codes};
+ghost use Rattle.std.specs.Fmt.{debug_char, ◌++?◌};
+ghost use Rattle.std.specs.Fmt.Cut.{IsTextOrCut};
+ghost use Rattle.std.specs.Fmt.InlineText.{inline_text};
+ghost use Rattle.byte_unit_base.specs.FaultText.{parse_text, expected_text};
+ghost use Rattle.byte_unit_format.specs.Written.{WritesForm};
+ghost use Rattle.byte_unit_c.specs.Reading.{IsErrorText};
+
+use crate::texts::write;
+use byte_unit_base::{ParseError, ValueParseError};
+use std::fmt::InlineText;
+
+/// Writes the message of an error to the start of `out` if it fits, and returns its length, at most 256 bytes.
+///
+/// Most messages are known but for one character. They are not put together by a `Formatter`, which takes ten times as
+/// long.
+pub fn write_message(error: &ParseError, out: &mut [u8]) -> usize
+    ensures some { 0 < result }
+    ensures text { WritesForm (IsErrorText error.now) out.old out.new result }
+    ensures bound { result ≤ 256 }
+{
+    match error {
+        ParseError::Value(ValueParseError::NotNumber(c)) if is_plain(*c) => {
+            write_quoted(*c as u8, b"' is not a number", out)
+        }
+        ParseError::Unit(unit) if is_plain(unit.character) => {
+            match rest_of_message(unit.expected_characters, unit.also_expect_no_character) {
+                Some(rest) => write_quoted(unit.character as u8, rest, out),
+                None => write_formatted(error, out),
+            }
+        }
+        _ => write_formatted(error, out),
+    }
+}
+
+/// Returns whether a message has the character between quotes as it is.
+fn is_plain(c: char) -> bool
+    ensures { IsTrue result → (c < 128) × (debug_char c ≡ Some (39 ∷ c ∷ 39 ∷ [])) }
+{
+    (' ' <= c) & (c <= '~') & (c != '\'') & (c != '\\')
+}
+
+/// Returns the rest of the message of an error in the unit, after its character. Returns `None` for a list of characters
+/// that no parser expects.
+fn rest_of_message(expected: &[char], also_expect_no_character: bool) -> Option<&'static [u8]>
+    ensures text { IfSome result (λ rest.
+        Some rest.now ≡ Some (codes "' is incorrect") ++? expected_text expected.now also_expect_no_character) }
+    ensures bound { IfSome result (λ rest. length rest.now ≤ 200) }
+{
+    if expected.is_empty() {
+        Some(b"' is incorrect (no character is expected)")
+    } else if !also_expect_no_character {
+        if expected == ['t'].as_slice() {
+            Some(b"' is incorrect ('t' is expected)")
+        } else {
+            None
+        }
+    } else if expected == ['i'].as_slice() {
+        Some(b"' is incorrect ('i' or no character is expected)")
+    } else if expected == ['s'].as_slice() {
+        Some(b"' is incorrect ('s' or no character is expected)")
+    } else if expected == ['B'].as_slice() {
+        Some(b"' is incorrect ('B' or no character is expected)")
+    } else if expected == ['b'].as_slice() {
+        Some(b"' is incorrect ('b' or no character is expected)")
+    } else if expected == ['B', 'b'].as_slice() {
+        Some(b"' is incorrect ('B' or 'b' or no character is expected)")
+    } else if expected == ['B', 'K', 'M', 'G', 'T', 'P', 'E', 'Z', 'Y', 'R'].as_slice() {
+        Some(b"' is incorrect ('B', 'K', 'M', 'G', 'T', 'P', 'E', 'Z', 'Y' or 'R' or no character is expected)")
+    } else {
+        None
+    }
+}
+
+/// The beginning of a message that names a character.
+const FRONT: &[u8] = b"the character '";
+
+/// Writes `FRONT`, a character of ASCII and the rest of a message to the start of `out` if they fit, and returns their
+/// length.
+fn write_quoted(character: u8, rest: &[u8], out: &mut [u8]) -> usize
+    ensures { WritesForm (λ form. form ≡ codes "the character '" ++ character ∷ rest.now) out.old out.new result }
+{
+    let len = FRONT.len() + 1 + rest.len();
+    if len <= out.len() {
+        put(FRONT, out, 0);
+        put(&[character], out, FRONT.len());
+        put(rest, out, FRONT.len() + 1);
+    }
+    len
+}
+
+/// Copies bytes to an index of `out`.
+fn put(part: &[u8], out: &mut [u8], at: usize)
+    requires { at + length part.now ≤ length out.old }
+    ensures { out.new ≡ take at out.old ++ part.now ++ drop (at + length part.now) out.old }
+{
+    out[at..at + part.len()].copy_from_slice(part);
+}
+
+/// Writes a message as `write_message` does, by its `Display`.
+fn write_formatted(error: &ParseError, out: &mut [u8]) -> usize
+    ensures some { 0 < result }
+    ensures text { WritesForm (IsErrorText error.now) out.old out.new result }
+    ensures bound { result ≤ 256 }
+{
+    write(some_message(message_of(error).as_str().as_bytes()), out)
+}
+
+/// Returns the message of an error. The longest message has some 120 bytes, so none is truncated.
+fn message_of(error: &ParseError) -> InlineText<256>
+    ensures { IfSome (parse_text error.now) (λ words. IsTextOrCut 256 words (inline_text result)) }
+{
+    InlineText::of(error)
+}
+
+/// Returns the message, or `the text is not a size` if it is empty. No message is empty, but std specifies no message
+/// that quotes a character past ASCII.
+fn some_message(message: &[u8]) -> &[u8]
+    ensures kept { 0 < length message.now → result.now ≡ message.now }
+    ensures missing { length message.now ≡ 0 → result.now ≡ codes "the text is not a size" }
+{
+    if message.is_empty() {
+        b"the text is not a size"
+    } else {
+        message
+    }
+}
