@@ -163,13 +163,16 @@ fn unit_error(error: &sys::Error) -> UnitParseError {
     }
 }
 
-/// The lists of characters that errors name, beside the empty one.
-static EXPECTED: [&[char]; 7] =
-    [&['B', 'K', 'M', 'G', 'T', 'P', 'E', 'Z', 'Y', 'R'], &['B', 'b'], &['B'], &['b'], &['i'], &['t'], &['s']];
-
-/// Returns the list that the bytes spell, up to the first zero.
-fn expected_characters(bytes: &[u8]) -> &'static [char] {
-    let spelt = || bytes.iter().take_while(|&&byte| byte != 0).map(|&byte| char::from(byte));
-    let found = EXPECTED.iter().find(|list| spelt().eq(list.iter().copied()));
-    found.copied().unwrap_or(&[])
+/// Returns the list that the bytes spell, up to the first zero, if it is one that errors name.
+fn expected_characters(bytes: &[u8; 16]) -> &'static [char] {
+    match bytes {
+        [b'i', 0, ..] => &['i'],
+        [b't', 0, ..] => &['t'],
+        [b's', 0, ..] => &['s'],
+        [b'B', 0, ..] => &['B'],
+        [b'b', 0, ..] => &['b'],
+        [b'B', b'b', 0, ..] => &['B', 'b'],
+        b"BKMGTPEZYR\0\0\0\0\0\0" => &['B', 'K', 'M', 'G', 'T', 'P', 'E', 'Z', 'Y', 'R'],
+        _ => &[],
+    }
 }
