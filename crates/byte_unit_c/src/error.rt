@@ -107,11 +107,6 @@ pub fn expected_bytes(characters: &[char]) -> [u8; 16]
     ensures { result ≡ expected_bytes characters.now }
 {
     let mut bytes = [0; 16];
-    if let [c] = characters {
-        // The most frequent case. The bytes are then not in memory.
-        bytes[0] = as_byte(*c);
-        return bytes;
-    }
     for i in 0..characters.len().min(15) {
         bytes[i] = as_byte(characters[i]);
     }

@@ -29,7 +29,7 @@ loop-i-preserved c =
     let bytes = c.loop-i.bytes in
     let i = c.loop-i.i in
     let cs = c.args.characters.now in
-    let byte = c.as_byte-in-loop-i.result in
+    let byte = c.as_byte.result in
     let size : length bytes ≡ 16 = c.loop-i.invariant.size in
     let in_bytes : i < length bytes = omega (arith, size, c.min-i-end.ensures) in
     let in_cs : i < length cs = omega (arith, c.min-i-end.ensures) in
@@ -37,6 +37,6 @@ loop-i-preserved c =
     record {
       size = length-set bytes i byte ∙ size;
       front = written_more bytes cs i byte c.index-characters-i.result in_bytes in_cs c.loop-i.invariant.front
-          c.index-characters-i.is c.as_byte-in-loop-i.ensures;
+          c.index-characters-i.is c.as_byte.ensures;
       rest = rest_more bytes i byte (16 - i) c.loop-i.invariant.rest ∙ ap (λ n. replicate n 0) left;
     }
