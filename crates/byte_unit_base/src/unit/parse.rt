@@ -72,12 +72,9 @@ pub(crate) fn read_unit(bytes: &[u8], flags: Flags) -> Result<Unit, (UnitScan, u
     ensures { IsUnitEnd flags bytes.now result }
 {
     let (scan, end) = leading_unit(bytes);
-    if end < bytes.len() {
-        return Err((scan, end));
-    }
     match scan.unit(flags) {
-        Some(unit) => Ok(unit),
-        None => Err((scan, end)),
+        Some(unit) if end == bytes.len() => Ok(unit),
+        _ => Err((scan, end)),
     }
 }
 
