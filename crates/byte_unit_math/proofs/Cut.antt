@@ -304,3 +304,9 @@ IsCutAt-view i e p digit h v is =
       digit_is = is ∙ ap (λ k. get_or e.digits k 0) back;
       length_is = length_of_view i e h v;
     }
+
+-- The number cut off is odd if its last digit is.
+pub ruleset odd = (odd_by_last_digit, is_odd_by_digit)
+
+-- What decides whether a decimal is rounded up.
+pub ruleset rounding = (nearest_by_digit, nearest_after_five, tie_goes_up, tie_goes_even, IsShown-view, length_of_view)

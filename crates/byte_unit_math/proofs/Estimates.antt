@@ -124,3 +124,6 @@ long_division n divisor middle low some middle_is low_is =
     let close : n - quotient * divisor < divisor = omega (arith, parts, left) in
     let rest : low % divisor ≡ n - quotient * divisor = omega (arith, parts) in
     (quotient_from_bounds n divisor quotient enough close, rest ∙ rest_from_bounds n divisor quotient enough close)
+
+-- What the proof of the division by an inverse uses.
+pub ruleset estimates = (leading_bits_fit, product_fits, estimate_fits, IsEstimate-inverse, quotient_from_bounds, rest_from_bounds)

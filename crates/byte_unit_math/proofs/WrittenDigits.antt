@@ -17,6 +17,8 @@ use Rattle.byte_unit_math.specs.Digits.{last_digits}
 use Rattle.byte_unit_math.specs.Numeral.{fraction_text, glyphs}
 use Rattle.byte_unit_math.proofs.Digits.{length_last_digits}
 use Rattle.byte_unit_math.proofs.Fractions.{fraction_text_some}
+use Rattle.std.proofs.lemmas.Fmt.{IsAscii-decimal_wide}
+use Rattle.byte_unit_math.proofs.Scales.{pow10_bounds}
 
 -- A number below ten is written as one digit.
 pub decimal_one_digit : (n : ℕ) → n < 10 → decimal n ≡ (48 + n) ∷ []
@@ -355,3 +357,9 @@ fraction_ascii places digits fits ascii =
     (subst IsAscii (decimal_of_one_and_digits places digits fits.1 fits.2) ascii) in
     subst IsAscii (sym (fraction_text_glyphs places digits fits.0))
     (IsAscii-cons 46 (glyphs (last_digits places digits)) (omega arith) glyphs_ascii)
+
+-- The digits of a number are ASCII.
+pub ruleset decimal_ascii = (IsAscii-decimal_wide)
+
+-- What the proof of a fraction's text uses.
+pub ruleset fractions_written = (pow10_bounds, length_of_one_and_digits, one_becomes_point, fraction_ascii)

@@ -105,6 +105,7 @@ impl Decimal {
     /// assert_eq!(rt; (d.whole(), d.digits(), d.places()), (50, 84, 2));
     /// assert_eq!(rt; Decimal::from_u128_with_scale(1, 29), None);
     /// ```
+    #[tactic(auto, using(crate::proofs::Scales::cut))]
     pub fn from_u128_with_scale(mantissa: u128, places: u32) -> Option<Decimal>
         ensures { SomeIff result
             ((places ≤ places_of_decimal) × (mantissa / 10 ^ places < whole_limit))

@@ -127,6 +127,7 @@ pub fn fmt_u128<W: fmt::Write>(n: u128, f: &mut fmt::Formatter<W>) -> fmt::Resul
 /// assert_eq!(rt; decimal_len(0), 1);
 /// ```
 #[inline(always)]
+#[tactic(auto, using(crate::proofs::BinaryDigits::digits_by_bits))]
 pub fn decimal_len(n: u128) -> usize
     ensures exact { result ≡ length (decimal n) }
     ensures few { result ≤ NUMBER_DIGITS }
@@ -147,6 +148,7 @@ pub fn decimal_len(n: u128) -> usize
 
 /// Returns the number of decimal digits as `decimal_len`, in 64 bits.
 #[inline(always)]
+#[tactic(auto, using(crate::proofs::BinaryDigits::digits_by_bits))]
 fn decimal_len_u64(n: u64) -> usize
     requires { 10 ≤ n }
     ensures exact { result ≡ length (decimal n) }
@@ -170,6 +172,7 @@ fn decimal_len_u64(n: u64) -> usize
 /// assert_eq!(rt; &bytes, b".1536.");
 /// ```
 #[inline(always)]
+#[tactic(auto, using(crate::proofs::WrittenDigits::decimal_ascii))]
 pub fn put_u128(n: u128, bytes: &mut [u8], end: usize) -> usize
     requires room { length (decimal n) ≤ end }
     requires within { end ≤ length bytes.old }
@@ -197,6 +200,7 @@ pub fn put_u128(n: u128, bytes: &mut [u8], end: usize) -> usize
 /// assert_eq!(rt; put_fraction(0, 0, &mut bytes, 4), 4);
 /// ```
 #[inline(always)]
+#[tactic(auto, using(crate::proofs::WrittenDigits::fractions_written))]
 pub fn put_fraction(digits: u128, places: u32, bytes: &mut [u8], end: usize) -> usize
     requires few { places ≤ places_of_decimal }
     requires below { digits < 10 ^ places }

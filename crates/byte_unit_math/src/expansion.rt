@@ -163,6 +163,7 @@ impl Expansion {
     }
 
     /// Returns whether rounding to `places` digits goes up.
+    #[tactic(auto, using(crate::proofs::Cut::rounding))]
     fn rounds_up(&self, places: u32, ties: Ties) -> bool
         requires { places < length self.now.digits }
         ensures { let nearest = IsNearest (ulps_of self.now)
@@ -186,6 +187,7 @@ impl Expansion {
     }
 
     /// Returns whether the last digit is odd if the number is rounded down to `places` digits.
+    #[tactic(auto, using(crate::proofs::Cut::odd))]
     fn is_odd_at(&self, places: u32) -> bool
         requires { places < length self.now.digits }
         ensures { let cut = ulps_of (cut_after places self.now) in

@@ -4,52 +4,6 @@ use Rattle.byte_unit_math.proofs.Estimates.{leading_bits_fit, product_fits, esti
 use Rattle.byte_unit_math.proofs.Estimates.{quotient_from_bounds, rest_from_bounds}
 use Rattle.byte_unit_math.proofs.dividing.div_rem_by_inverse.Goals as goal
 
-pub overflow_cast-leading-2 : goal.overflow_cast-leading-2
-overflow_cast-leading-2 c = omega (arith, leading_bits_fit c.requires)
-
-pub overflow_mul-estimate : goal.overflow_mul-estimate
-overflow_mul-estimate c = rw c.from.ensures (rw c.from-2.ensures (omega (arith, product_fits c.requires)))
-
-pub overflow_cast-estimate-2 : goal.overflow_cast-estimate-2
-overflow_cast-estimate-2 c = rw c.from.ensures (rw c.from-2.ensures (omega (arith, estimate_fits c.requires)))
-
-pub overflow_add-result : goal.overflow_add-result
-overflow_add-result c = rw c.from.ensures (rw c.from-2.ensures (omega (arith, estimate_fits c.requires)))
-
-pub overflow_mul-rest : goal.overflow_mul-rest
-overflow_mul-rest c =
-    let estimate = IsEstimate-steps c.requires c.from.ensures c.from-2.ensures c.from-3.ensures in
-    let product = ap (λ n. c.from-3.result * n) c.from-4.ensures in
-    omega (arith, product, estimate.enough, c.ranges.dividend.fits)
-
-pub overflow_sub-rest : goal.overflow_sub-rest
-overflow_sub-rest c =
-    let estimate = IsEstimate-steps c.requires c.from.ensures c.from-2.ensures c.from-3.ensures in
-    let product = ap (λ n. c.from-3.result * n) c.from-4.ensures in
-    omega (arith, product, estimate.enough)
-
-pub overflow_cast-rest : goal.overflow_cast-rest
-overflow_cast-rest c =
-    let estimate = IsEstimate-steps c.requires c.from.ensures c.from-2.ensures c.from-3.ensures in
-    let product = ap (λ n. c.from-3.result * n) c.from-4.ensures in
-    omega (arith, product, estimate.enough, estimate.close, c.requires.small)
-
-pub returns-then-rest-divisor-clause-quotient : goal.returns-then-rest-divisor-clause-quotient
-returns-then-rest-divisor-clause-quotient c =
-    let estimate = IsEstimate-steps c.requires c.from.ensures c.from-2.ensures c.from-3.ensures in
-    let product = ap (λ n. c.from-3.result * n) c.from-4.ensures in
-    sym c.from-3.ensures
-    ∙ quotient_from_bounds c.args.dividend c.args.divisor c.from-3.result estimate.enough
-    (omega (arith, product, c.if-rest-divisor.true))
-
-pub returns-then-rest-divisor-clause-rest : goal.returns-then-rest-divisor-clause-rest
-returns-then-rest-divisor-clause-rest c =
-    let estimate = IsEstimate-steps c.requires c.from.ensures c.from-2.ensures c.from-3.ensures in
-    let product = ap (λ n. c.from-3.result * n) c.from-4.ensures in
-    ap (λ n. c.args.dividend - n) product
-    ∙ rest_from_bounds c.args.dividend c.args.divisor c.from-3.result estimate.enough
-    (omega (arith, product, c.if-rest-divisor.true))
-
 pub returns-else-rest-divisor-clause-quotient : goal.returns-else-rest-divisor-clause-quotient
 returns-else-rest-divisor-clause-quotient c =
     let estimate = IsEstimate-steps c.requires c.from.ensures c.from-2.ensures c.from-3.ensures in

@@ -45,11 +45,6 @@ returns-then-rest-gt0-clause-none c = λ exact.
       | else-loop-rest-test w ↦ absurd (omega arith)
     ]
 
-pub from_digits-requires-clause-whole : goal.from_digits-requires-clause-whole
-from_digits-requires-clause-whole c =
-    rw c.div_rem-whole.ensures.quotient
-    (quotient_below_whole_limit c.args.size c.args.unit c.requires.small_size)
-
 pub returns-clause-quotient : goal.returns-clause-quotient
 returns-clause-quotient c =
     let loop = c.loop-rest in

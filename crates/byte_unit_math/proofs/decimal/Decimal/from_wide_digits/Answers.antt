@@ -4,9 +4,6 @@ use Rattle.byte_unit_math.proofs.Places.{FewerZeros-all, FewerZeros-less}
 use Rattle.byte_unit_math.proofs.ShortDecimals.{IsShort-parts, number_of_shortened}
 use Rattle.byte_unit_math.proofs.decimal.Decimal.from_wide_digits.Goals as goal
 
-pub loop-left-init : goal.loop-left-init
-loop-left-init c = FewerZeros-all _ _ c.requires.digits
-
 pub loop-left-preserved : goal.loop-left-preserved
 loop-left-preserved c =
     FewerZeros-less _ _ c.loop-left.short c.loop-left.left _ c.loop-left.invariant (omega arith) (omega arith)

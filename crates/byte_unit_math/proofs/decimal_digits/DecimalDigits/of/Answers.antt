@@ -9,14 +9,6 @@ use Rattle.byte_unit_math.proofs.decimal_digits.DecimalDigits.of.Goals as goal
 pub put_u128-start-requires-clause-room : goal.put_u128-start-requires-clause-room
 put_u128-start-requires-clause-room c = omega (arith, decimal_length_le_39 c.args.n (omega arith))
 
-pub returns-clause-digits : goal.returns-clause-digits
-returns-clause-digits c = c.put_u128-start.ensures.digits ∙ append-nil (decimal c.args.n)
-
-pub returns-clause-ascii : goal.returns-clause-ascii
-returns-clause-ascii c =
-    let same = c.put_u128-start.ensures.digits ∙ append-nil (decimal c.args.n) in
-    subst IsAscii (sym same) (IsAscii-decimal_wide c.args.n (omega arith))
-
 pub returns-clause-few : goal.returns-clause-few
 returns-clause-few c =
     let same = c.put_u128-start.ensures.digits ∙ append-nil (decimal c.args.n) in
