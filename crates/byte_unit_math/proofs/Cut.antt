@@ -17,7 +17,7 @@ use Rattle.byte_unit_math.specs.declared.expansion.Ties.{Ties}
 use Rattle.byte_unit_math.specs.declared.expansion.Ties.TheVariants.{Even, Up}
 use Rattle.byte_unit_math.specs.declared.expansion.Expansion.TheInside.{Inside}
 use Rattle.byte_unit_math.specs.Stored.{expansion_view, IsStored}
-use Rattle.byte_unit_math.proofs.Digits.{one_le_pow10, fold_digits_from, value_cons}
+use Rattle.byte_unit_math.proofs.Digits.{one_le_pow10, fold_digits_from, value_cons, value_below_power}
 use Rattle.std.specs.Bool.{MatchBool}
 use Rattle.std.proofs.Common.{Bool, true, false, ltb, nat_eq}
 use Rattle.std.proofs.lemmas.Bool.Decides.{nat_tests}
@@ -25,16 +25,6 @@ use Rattle.byte_unit_math.proofs.Nearest.{LiesAbove, nearest_down, nearest_up, t
 use Rattle.byte_unit_math.proofs.Nearest.{tie_even_this}
 use Rattle.byte_unit_math.proofs.Expanding.{expansion_of_digits, value_by_last_digit}
 use Rattle.byte_unit_math.proofs.Scales.{pow10_split}
-
--- Digits represent less than the power of ten of their number.
-pub value_below_power : (ds : List ℕ) → All (λ d. d < 10) ds → value_of_digits ds < 10 ^ length ds
-value_below_power [] h = omega arith
-value_below_power (d ∷ ds) h =
-    let m =
-    mul-le-mul_right {m = d + 1} {n = 10} (10 ^ length ds)
-    (let k : d < 10 = All-get_or (λ d. d < 10) (d ∷ ds) 0 0 (omega arith) h in omega (arith, k)) in
-    rw (pow-succ' 10 (length ds))
-    (omega (arith, m, value_cons d ds, value_below_power ds (All-drop (λ d. d < 10) 1 (d ∷ ds) h)))
 
 -- Digits cut in two represent the first part times a power of ten, and the second part.
 value_parts : (p : ℕ) (ds : List ℕ)

@@ -1,11 +1,11 @@
 -- The number that decimal digits represent, the last digits of a number, and digits without trailing zeros.
 use Rattle.std.proofs.Common.{◌≡◌, ℕ, zero, suc, ◌+◌, ◌-◌, ◌*◌, ◌/◌, ◌%◌, ◌^◌, ◌<◌, ◌≤◌, List, [], ◌∷◌, ◌++◌, length}
-use Rattle.std.proofs.Common.{replicate, refl, sym}
+use Rattle.std.proofs.Common.{replicate, take, set, get_or, refl, sym}
 use Rattle.std.proofs.Common.{ap, ◌∙◌, arith, length-append}
 use Rattle.std.specs.List.{fold, All}
-use Rattle.std.proofs.Math.Nat.{pow-succ', one-le-pow}
-use Rattle.std.proofs.lemmas.Nat.{pow-add, mod-mul-add, mod_below}
-use Rattle.std.proofs.lemmas.List.{length-replicate}
+use Rattle.std.proofs.Math.Nat.{pow-succ', one-le-pow, mul-le-mul_right}
+use Rattle.std.proofs.lemmas.Nat.{pow-add, mod-mul-add, mod_below, same_from_place}
+use Rattle.std.proofs.lemmas.List.{length-replicate, take_more, take_more_set}
 use Rattle.std.proofs.lemmas.List.Elements.{All-nil, All-cons, All-head, All-tail}
 use Rattle.std.proofs.lemmas.List.Sums.{fold-append}
 use Rattle.byte_unit_math.specs.Finite.{Finite, value_of_digits, ulps_of}
@@ -25,15 +25,51 @@ fold_digits_from n (d ∷ ds) = rw (pow-succ' 10 (length ds))
 pub value_cons : (d : ℕ) (ds : List ℕ) → value_of_digits (d ∷ ds) ≡ d * 10 ^ length ds + value_of_digits ds
 value_cons d ds = omega (arith, fold_digits_from (0 * 10 + d) ds)
 
+-- Digits represent less than the power of ten of their number.
+pub value_below_power : (ds : List ℕ) → All (λ d. d < 10) ds → value_of_digits ds < 10 ^ length ds
+value_below_power [] h = omega arith
+value_below_power (d ∷ ds) h =
+    let small : d < 10 = All-head (λ d. d < 10) d ds h in
+    let first = mul-le-mul_right {m = d + 1} {n = 10} (10 ^ length ds) (omega (arith, small)) in
+    let rest = value_below_power ds (All-tail (λ d. d < 10) d ds h) in
+    rw (pow-succ' 10 (length ds)) (omega (arith, first, value_cons d ds, rest))
+
+-- Digits are determined by their number and the number that they represent.
+pub same_digits :
+    (ds es : List ℕ) → All (λ d. d < 10) ds → All (λ d. d < 10) es → length ds ≡ length es
+    → value_of_digits ds ≡ value_of_digits es → ds ≡ es
+same_digits [] [] h k len e = refl
+same_digits [] (x ∷ es) h k len e = absurd (omega (arith, len))
+same_digits (d ∷ ds) [] h k len e = absurd (omega (arith, len))
+same_digits (d ∷ ds) (x ∷ es) h k len e =
+    let l : length ds ≡ length es = omega (arith, len) in
+    let hs = All-tail (λ d. d < 10) d ds h in
+    let ks = All-tail (λ d. d < 10) x es k in
+    let product = ap (λ n. x * 10 ^ n) l in
+    let parts =
+    same_from_place d (value_of_digits ds) x (value_of_digits es) (10 ^ length ds) (value_below_power ds hs)
+    (rw l (value_below_power es ks)) (omega (arith, product, value_cons d ds, value_cons x es, e)) in
+    let rest = same_digits ds es hs ks l parts.1 in
+    λ i. parts.0 i ∷ rest i
+
 pub value_zeros : (k : ℕ) → value_of_digits (replicate k 0) ≡ 0
 value_zeros zero = refl
 value_zeros (suc k) = value_zeros k
 
 -- k trailing zeros multiply the value of digits by 10^k.
 pub value_append_zeros : (ds : List ℕ) (k : ℕ) → value_of_digits (ds ++ replicate k 0) ≡ value_of_digits ds * 10 ^ k
-value_append_zeros ds k =
-    fold-append (λ n d. n * 10 + d) 0 ds (replicate k 0)
-    ∙ (fold_digits_from (value_of_digits ds) (replicate k 0) ∙ rw (length-replicate {A = ℕ} k 0, value_zeros k) (omega arith))
+value_append_zeros ds k = grind (arith, fold-append, fold_digits_from, length-replicate, value_zeros)
+
+-- One digit more counts ten times the digits before it, and the digit.
+pub value_more : (ds : List ℕ) (i : ℕ) → i < length ds
+    → value_of_digits (take (i + 1) ds) ≡ value_of_digits (take i ds) * 10 + get_or ds i 0
+value_more ds i within =
+    ap value_of_digits (take_more ds i 0 within) ∙ fold-append (λ n d. n * 10 + d) 0 (take i ds) (get_or ds i 0 ∷ [])
+
+pub value_more_set : (ds : List ℕ) (i d : ℕ) → i < length ds
+    → value_of_digits (take (i + 1) (set ds i d)) ≡ value_of_digits (take i ds) * 10 + d
+value_more_set ds i d within =
+    ap value_of_digits (take_more_set ds i d within) ∙ fold-append (λ n d. n * 10 + d) 0 (take i ds) (d ∷ [])
 
 -- The last p digits of a number are p digits.
 pub length_last_digits : (p q : ℕ) → length (last_digits p q) ≡ p

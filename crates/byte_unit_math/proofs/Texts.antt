@@ -5,9 +5,9 @@ use Rattle.std.proofs.Common.{replicate, arith, ap, sym, refl, subst, ◌∙◌,
 use Rattle.std.specs.Prelude.{⊤}
 use Rattle.std.specs.List.{All}
 use Rattle.std.proofs.lemmas.List.{length-replicate, take_all}
-use Rattle.std.proofs.lemmas.List.Elements.{All-tail, All-append, All-replicate}
+use Rattle.std.proofs.lemmas.List.Elements.{All-append, All-replicate}
 use Rattle.std.proofs.lemmas.Nat.{same_from_place}
-use Rattle.std.proofs.Math.Nat.{eq_of_mul-eq-mul_right, mul-div_cancel, mul-le-mul_right, le_of_mul-le-mul_right}
+use Rattle.std.proofs.Math.Nat.{eq_of_mul-eq-mul_right, mul-div_cancel, mul-le-mul_right, le_of_mul-le-mul_right, mul-sub}
 use Rattle.std.proofs.lemmas.Bool.{cases_lt}
 use Rattle.byte_unit_math.specs.Bounds.{expansion_places}
 use Rattle.byte_unit_math.specs.Exact.{IsExactAt}
@@ -20,32 +20,14 @@ use Rattle.byte_unit_math.specs.Digits.{last_digits, at_places, prepend_digit, t
 use Rattle.byte_unit_math.specs.NumberLaws.{ExpansionsAreFoundByDivision, ShortNumeralsAreExpansions}
 use Rattle.byte_unit_math.specs.Numeral.{text_of, numeral, short_numeral}
 use Rattle.byte_unit_math.specs.Padded.{pad_of}
-use Rattle.byte_unit_math.proofs.Digits.{one_le_pow10, value_cons, value_append_zeros, length_last_digits}
+use Rattle.byte_unit_math.proofs.Digits.{one_le_pow10, value_append_zeros, length_last_digits, value_below_power, same_digits}
 use Rattle.byte_unit_math.proofs.Digits.{last_digits_below_ten, scaled_at_places, ShortOf-shortened}
 use Rattle.byte_unit_math.proofs.Expanding.{expansion_of_digits}
 use Rattle.byte_unit_math.proofs.Scales.{pow10_split}
-use Rattle.byte_unit_math.proofs.Cut.{value_below_power}
 
 -- Each of the numbers is a decimal digit.
 abbrev AllBelowTen : List ℕ → Type 0
 AllBelowTen ds = All (λ d. d < 10) ds
-
-same_digits : (ds es : List ℕ) → AllBelowTen ds → AllBelowTen es → length ds ≡ length es → value_of_digits ds ≡ value_of_digits es
-    → ds ≡ es
-same_digits [] [] h k len e = refl
-same_digits [] (x ∷ es) h k len e = absurd (omega (arith, len))
-same_digits (d ∷ ds) [] h k len e = absurd (omega (arith, len))
-same_digits (d ∷ ds) (x ∷ es) h k len e =
-    let l : length ds ≡ length es = omega (arith, len) in
-    let hs = All-tail (λ d. d < 10) d ds h in
-    let ks = All-tail (λ d. d < 10) x es k in
-    let scale : 10 ^ length es ≡ 10 ^ length ds = ap (λ n. 10 ^ n) (sym l) in
-    let small : value_of_digits es < 10 ^ length ds = omega (arith, value_below_power es ks, scale) in
-    let product = ap (λ n. x * n) scale in
-    let parts =
-    same_from_place d (value_of_digits ds) x (value_of_digits es) (10 ^ length ds) (value_below_power ds hs) small
-    (omega (arith, product, value_cons d ds, value_cons x es, e)) in
-    ap (λ n. n ∷ ds) parts.0 ∙ ap (λ l. x ∷ l) (same_digits ds es hs ks l parts.1)
 
 -- Two decimals with as many digits after the point and the same scaled value are equal.
 pub same_finite : (e f : Finite) → AllBelowTen e.digits → AllBelowTen f.digits → length e.digits ≡ length f.digits
@@ -157,20 +139,8 @@ padded_to_own_places e =
     ap of_count none ∙ ap of_digits
     (append-nil (take (length e.digits) e.digits) ∙ take_all (length e.digits) e.digits (omega arith))
 
-difference_apart : (a d k : ℕ) → abs_diff a (a + d) * k ≡ abs_diff (a * k) ((a + d) * k)
-difference_apart a d k = let e : abs_diff a (a + d) ≡ d = omega arith in ap (λ n. n * k) e ∙ omega arith
-
-difference_swapped : (a b : ℕ) → abs_diff a b ≡ abs_diff b a
-difference_swapped a b = omega arith
-
 difference_times : (a b k : ℕ) → abs_diff a b * k ≡ abs_diff (a * k) (b * k)
-difference_times a b k =
-    let TimesFromA : ℕ → Type 0 = λ n. abs_diff a n * k ≡ abs_diff (a * k) (n * k) in
-    let TimesFromB : ℕ → Type 0 = λ n. abs_diff b n * k ≡ abs_diff (b * k) (n * k) in
-    ⊎_elim (λ l. subst TimesFromA (let e : a + (b - a) ≡ b = omega (arith, l) in e) (difference_apart a (b - a) k))
-    (λ l. let times = subst TimesFromB (let e : b + (a - b) ≡ a = omega (arith, l) in e)
-    (difference_apart b (a - b) k) in
-    ap (λ n. n * k) (difference_swapped a b) ∙ (times ∙ difference_swapped (b * k) (a * k))) (cases_lt a b)
+difference_times a b k = omega (arith, mul-sub k a b, mul-sub k b a)
 
 -- What is nearest to the expansion of a fraction is nearest to the fraction.
 pub nearest_of_expansion :

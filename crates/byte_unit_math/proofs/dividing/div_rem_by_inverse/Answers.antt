@@ -1,6 +1,6 @@
 -- No operation overflows, and the multiplication by the inverse gives the quotient and the remainder.
 use Rattle.std.proofs.Common.{◌≡◌, ◌+◌, ◌-◌, ◌*◌, arith, ap, sym, ◌∙◌}
-use Rattle.byte_unit_math.proofs.Estimates.{leading_bits_fit, product_fits, estimate_fits, IsEstimate-steps}
+use Rattle.byte_unit_math.proofs.Estimates.{IsEstimate-steps}
 use Rattle.byte_unit_math.proofs.Estimates.{quotient_from_bounds, rest_from_bounds}
 use Rattle.byte_unit_math.proofs.dividing.div_rem_by_inverse.Goals as goal
 

@@ -1,5 +1,5 @@
 -- Each iteration divides by five; what is left times the powers found is the number.
-use Rattle.std.proofs.Common.{arith, ◌∙◌}
+use Rattle.std.proofs.Common.{arith}
 use Rattle.byte_unit_math.proofs.TwosFives.{FivesOff-more, FivesOff-few}
 use Rattle.byte_unit_math.proofs.factors.divide_out_fives.Goals as goal
 

@@ -5,7 +5,6 @@ use Rattle.byte_unit_math.specs.Exact.{IsExactAt}
 use Rattle.byte_unit_math.proofs.quotient.exact_quotient.Goals.{then-loop-rest-test+else-digits-most}
 use Rattle.byte_unit_math.proofs.quotient.exact_quotient.Goals.{else-loop-rest-test}
 use Rattle.byte_unit_math.proofs.Division.{Dividing-more, Dividing-ended, digits_below_one, not_exact}
-use Rattle.byte_unit_math.proofs.Division.{quotient_below_whole_limit}
 use Rattle.byte_unit_math.proofs.Division.{IsQuotient-digits, IsQuotient-times}
 use Rattle.byte_unit_math.proofs.quotient.exact_quotient.Goals as goal
 

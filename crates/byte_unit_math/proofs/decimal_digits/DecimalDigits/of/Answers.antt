@@ -1,8 +1,6 @@
 -- A number of 128 bits has at most 39 digits, all ASCII.
-use Rattle.std.proofs.Common.{append-nil, arith, sym, subst, ap, length, ◌∙◌}
+use Rattle.std.proofs.Common.{append-nil, arith, ap, length, ◌∙◌}
 use Rattle.std.specs.Fmt.{decimal}
-use Rattle.std.specs.Str.{IsAscii}
-use Rattle.std.proofs.lemmas.Fmt.{IsAscii-decimal_wide}
 use Rattle.byte_unit_math.proofs.WrittenDigits.{decimal_length_le_39}
 use Rattle.byte_unit_math.proofs.decimal_digits.DecimalDigits.of.Goals as goal
 
