@@ -56,9 +56,13 @@ pub value_zeros : (k : ℕ) → value_of_digits (replicate k 0) ≡ 0
 value_zeros zero = refl
 value_zeros (suc k) = value_zeros k
 
+-- Digits put together count the first ones times the power of ten of the others, and these.
+pub value_append : (ds es : List ℕ) → value_of_digits (ds ++ es) ≡ value_of_digits ds * 10 ^ length es + value_of_digits es
+value_append ds es = fold-append (λ n d. n * 10 + d) 0 ds es ∙ fold_digits_from (value_of_digits ds) es
+
 -- k trailing zeros multiply the value of digits by 10^k.
 pub value_append_zeros : (ds : List ℕ) (k : ℕ) → value_of_digits (ds ++ replicate k 0) ≡ value_of_digits ds * 10 ^ k
-value_append_zeros ds k = grind (arith, fold-append, fold_digits_from, length-replicate, value_zeros)
+value_append_zeros ds k = grind (arith, value_append, length-replicate, value_zeros)
 
 -- One digit more counts ten times the digits before it, and the digit.
 pub value_more : (ds : List ℕ) (i : ℕ) → i < length ds
@@ -116,8 +120,7 @@ pub record HasTrailingZeros (ds front : List ℕ) : Type 0 where
 HasTrailingZeros-prepend : (d : ℕ) (es ds : List ℕ) → HasTrailingZeros ds es → HasTrailingZeros (d ∷ ds) (prepend_digit d es)
 HasTrailingZeros-prepend zero [] ds h = record { zeros = suc h.zeros; list_is = ap (λ l. zero ∷ l) h.list_is }
 HasTrailingZeros-prepend (suc d) [] ds h = record { zeros = h.zeros; list_is = ap (λ l. suc d ∷ l) h.list_is }
-HasTrailingZeros-prepend zero (e ∷ es) ds h = record { zeros = h.zeros; list_is = ap (λ l. zero ∷ l) h.list_is }
-HasTrailingZeros-prepend (suc d) (e ∷ es) ds h = record { zeros = h.zeros; list_is = ap (λ l. suc d ∷ l) h.list_is }
+HasTrailingZeros-prepend d (e ∷ es) ds h = record { zeros = h.zeros; list_is = ap (λ l. d ∷ l) h.list_is }
 
 pub HasTrailingZeros-trim : (ds : List ℕ) → HasTrailingZeros ds (trim_zeros ds)
 HasTrailingZeros-trim [] = record { zeros = 0; list_is = refl }
@@ -126,8 +129,7 @@ HasTrailingZeros-trim (d ∷ ds) = HasTrailingZeros-prepend d (trim_zeros ds) ds
 small_before_digit : (d : ℕ) (es : List ℕ) → d < 10 → All (λ d. d < 10) es → All (λ d. d < 10) (prepend_digit d es)
 small_before_digit zero [] h k = k
 small_before_digit (suc d) [] h k = All-cons (λ d. d < 10) (suc d) [] h k
-small_before_digit zero (e ∷ es) h k = All-cons (λ d. d < 10) zero (e ∷ es) h k
-small_before_digit (suc d) (e ∷ es) h k = All-cons (λ d. d < 10) (suc d) (e ∷ es) h k
+small_before_digit d (e ∷ es) h k = All-cons (λ d. d < 10) d (e ∷ es) h k
 
 pub small_without_zeros : (ds : List ℕ) → All (λ d. d < 10) ds → All (λ d. d < 10) (trim_zeros ds)
 small_without_zeros [] h = h

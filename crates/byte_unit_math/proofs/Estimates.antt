@@ -17,9 +17,7 @@ estimate_of n inverse cut shift = n / 2 ^ cut * inverse / 2 ^ shift
 
 -- The leading bits of n are less than 2^64.
 pub leading_bits_fit : {n divisor inverse cut shift : ℕ} → HasInverse n divisor inverse cut shift → n / 2 ^ cut < 2 ^ 64
-leading_bits_fit {n} {divisor} {inverse} {cut} {shift} h =
-    let some : 0 < 2 ^ cut = one-le-pow cut 2 (omega arith) in
-    (div-lt_iff_lt-mul {k = 2 ^ cut} {x = n} {y = 2 ^ 64} some).1 (subst (λ m. n < m) (pow-add 2 64 cut) h.leading)
+leading_bits_fit {n} {divisor} {inverse} {cut} {shift} h = grind (arith, div-lt_iff_lt-mul, one-le-pow, pow-add)
 
 -- The product of the leading bits and the inverse is less than 2^128.
 pub product_fits :
@@ -85,9 +83,7 @@ quotient_from_bounds n divisor quotient enough close =
 pub rest_from_bounds :
     (n divisor quotient : ℕ) → quotient * divisor ≤ n → n - quotient * divisor < divisor
     → n - quotient * divisor ≡ n % divisor
-rest_from_bounds n divisor quotient enough close =
-    ap (λ q. n - q * divisor) (quotient_from_bounds n divisor quotient enough close)
-    ∙ sym (mod-eq-sub-div-mul n divisor)
+rest_from_bounds n divisor quotient enough close = grind (arith, mod-eq-sub-div-mul, quotient_from_bounds)
 
 -- The estimate computed from leading bits, inverse and shift in turn is the quotient or one less.
 pub IsEstimate-steps :

@@ -3,16 +3,7 @@ use Rattle.std.proofs.Common.{◌≡◌, ℕ, get_or, ◌∙◌, ◌+◌, ◌-�
 use Rattle.std.proofs.Math.Nat.{one-le-pow, pow-le-pow_right, mul-le-mul_left, mul-le-mul_right, lt_of_mul-lt-mul_right}
 use Rattle.std.proofs.lemmas.Bool.{cases_lt}
 use Rattle.byte_unit_math.specs.Bounds.{scale, places_of_decimal, whole_limit}
-use Rattle.byte_unit_math.proofs.Scales.{pow10_times_rest, powers_from, powers_from_at}
-
--- A power below 2^112 has a bounded exponent.
-few_in_power : (base most exponent : ℕ) → 1 ≤ base → base ^ exponent < whole_limit → whole_limit ≤ base ^ (most + 1)
-    → exponent ≤ most
-few_in_power base most exponent some small large = ⊎_elim
-    (λ more.
-    let high = pow-le-pow_right {n = base} some {i = most + 1} {j = exponent} (omega (arith, more)) in
-    absurd (omega (arith, high, small, large)))
-    (λ few. few) (cases_lt most exponent)
+use Rattle.byte_unit_math.proofs.Scales.{pow10_times_rest, powers_from, powers_from_at, exponent_at_most}
 
 -- A number below 2^112 has at most 111 factors of 2 and 48 factors of 5, and shifting it left loses no bits.
 pub record FewFactors (left twos fives : ℕ) : Type 0 where
@@ -31,8 +22,10 @@ FewFactors-below_limit left twos fives some small =
     let without_twos = mul-le-mul_right {m = 1} {n = 2 ^ twos} (5 ^ fives) some_twos in
     let left_twos = mul-le-mul_left {m = 2 ^ twos} {n = 2 ^ twos * 5 ^ fives} left (omega (arith, without_fives)) in
     record {
-      few_twos = few_in_power 2 111 twos (omega arith) (omega (arith, powers, without_fives, small)) (omega arith);
-      few_fives = few_in_power 5 48 fives (omega arith) (omega (arith, powers, without_twos, small)) (omega arith);
+      few_twos = exponent_at_most 2 111 twos whole_limit (omega arith) (omega (arith, powers, without_fives, small))
+          (omega arith);
+      few_fives = exponent_at_most 5 48 fives whole_limit (omega arith) (omega (arith, powers, without_twos, small))
+          (omega arith);
       unshifted = omega (arith, left_twos, small);
     }
 
@@ -58,10 +51,3 @@ module _ (number unit count places : ℕ) (same : number * 10 ^ places ≡ count
       let scaled = ap (λ n. n * 10 ^ (places_of_decimal - places)) same in
       let parts = ap (λ n. number * n) (pow10_times_rest places few) in
       omega (arith, scaled, parts)
-
--- Equal numbers have equal quotients and remainders.
-pub quotient_and_rest_of_equal :
-    {product count power scale : ℕ} {parts quotient : ℕ × ℕ} → product ≡ count → power ≡ scale → parts ≡ quotient
-    → (quotient.0 ≡ product / power) × (quotient.1 ≡ product % power)
-    → (parts.0 ≡ count / scale) × (parts.1 ≡ count % scale)
-quotient_and_rest_of_equal is_count is_scale is_quotient divides = rw (sym is_count, sym is_scale, is_quotient) divides

@@ -120,7 +120,4 @@ IfSome-then_some false size Holds holds = tt
 -- If `then_some` of a test against the limit returns `None`, the size reaches the limit.
 pub IfNone-below : (size limit : ℕ) (Fact : Type 0) → (limit ≤ size → Fact)
     → IfNone (then_some (ltb size limit) size) Fact
-IfNone-below size limit Fact reached =
-    ⊎_elim (λ below. let yes : ltb size limit ≡ true = grind (arith, nat_tests) in
-    subst (λ is. IfNone (then_some is size) Fact) (sym yes) tt)
-    (λ above. IfNone-always (then_some (ltb size limit) size) Fact (reached above)) (cases_lt size limit)
+IfNone-below size limit Fact reached = grind (arith, IfNone-always, nat_tests)

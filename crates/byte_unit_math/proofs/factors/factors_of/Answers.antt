@@ -26,19 +26,13 @@ overflow_add-fives-then-left c =
 -- What is left in the end and the factors found represent the size, in both branches.
 all_off : (c : Joined-left) → FivesOff c.args.size c.if-left.left (trailing_zeros w128 c.args.size) c.if-left.fives
 all_off c =
-    let number = c.args.size in
-    let twos = trailing_zeros w128 number in
     elim c.if-left.branch [
       | then-left w ↦
           let short = w.divide_out_fives-short in
-          let off = FivesOff-joined _ _ _ _ short.result.0 short.result.1 c.loop-left.invariant
-          (omega (arith, short.ensures.product, w.if-left.true)) short.ensures.odd in
-          let e : short.result.0 ≡ c.if-left.left = omega (arith, w.left-is, w.from-left.ensures) in
-          subst (λ left. FivesOff number left twos c.if-left.fives) e
-          (subst (λ fives. FivesOff number short.result.0 twos fives) (sym w.fives-is) off)
-      | else-left w ↦
-          subst (λ left. FivesOff number left twos c.if-left.fives) (sym w.left-is)
-          (subst (λ fives. FivesOff number c.loop-left.left twos fives) (sym w.fives-is) c.loop-left.invariant)
+          rw (w.left-is, w.fives-is, w.from-left.ensures)
+          (FivesOff-joined _ _ _ _ short.result.0 short.result.1 c.loop-left.invariant
+          (omega (arith, short.ensures.product, w.if-left.true)) short.ensures.odd)
+      | else-left w ↦ rw (w.left-is, w.fives-is) c.loop-left.invariant
     ]
 
 no_five : (c : Joined-left) → c.if-left.left % 5 ≢ 0

@@ -5,7 +5,7 @@ use Rattle.byte_unit_math.specs.Bounds.{places_of_decimal, whole_limit}
 use Rattle.byte_unit_math.specs.Factored.{product_of}
 use Rattle.byte_unit_math.proofs.Powers.{count_of_units}
 use Rattle.byte_unit_math.proofs.FactoredNumbers.{FewFactors-below_limit, product_by_table, count_below_limit}
-use Rattle.byte_unit_math.proofs.FactoredNumbers.{count_is_exact, FewFactors, quotient_and_rest_of_equal}
+use Rattle.byte_unit_math.proofs.FactoredNumbers.{count_is_exact, FewFactors}
 use Rattle.byte_unit_math.proofs.Scales.{pow10_bounds, cut_at_point, powers_from}
 use Rattle.byte_unit_math.proofs.quotient.factored_quotient.Goals.{Start, Joined-places, in-0, in-1, in-2, in-3}
 use Rattle.byte_unit_math.proofs.quotient.factored_quotient.Goals.{in_default}
@@ -46,26 +46,22 @@ bounds-number c = omega (arith, (count_has_few_factors (goal.at.bounds-number c)
 pub overflow_shl-count : goal.overflow_shl-count
 overflow_shl-count c = omega (arith, (count_has_few_factors (goal.at.overflow_shl-count c).Start).few_twos)
 
+-- The multiple that the code computes is below 2^112.
+count_small : (c : Start)
+    → c.args.number.left * 2 ^ twos_of c % 2 ^ 128 * get_or (powers_from 5 49 1) (fives_of c) 0 < whole_limit
+count_small c = rw (count_by_table c) (count_fits c)
+
 pub overflow_mul-count : goal.overflow_mul-count
-overflow_mul-count c =
-    let s = (goal.at.overflow_mul-count c).Start in
-    let fits : Fits w128 (count_of s) = omega (arith, count_fits s) in
-    subst (λ n. Fits w128 n) (sym (count_by_table s)) fits
+overflow_mul-count c = omega (arith, count_small (goal.at.overflow_mul-count c).Start)
 
 pub div_rem_small-requires-clause-small : goal.div_rem_small-requires-clause-small
-div_rem_small-requires-clause-small c =
-    let s = (goal.at.div_rem_small-requires-clause-small c).Start in
-    subst (λ n. n < whole_limit) (sym (count_by_table s)) (count_fits s)
+div_rem_small-requires-clause-small c = count_small (goal.at.div_rem_small-requires-clause-small c).Start
 
 pub div_rem_small-requires-in-2-clause-small : goal.div_rem_small-requires-in-2-clause-small
-div_rem_small-requires-in-2-clause-small c =
-    let s = (goal.at.div_rem_small-requires-in-2-clause-small c).Start in
-    subst (λ n. n < whole_limit) (sym (count_by_table s)) (count_fits s)
+div_rem_small-requires-in-2-clause-small c = count_small (goal.at.div_rem_small-requires-in-2-clause-small c).Start
 
 pub div_rem_small-requires-in-3-clause-small : goal.div_rem_small-requires-in-3-clause-small
-div_rem_small-requires-in-3-clause-small c =
-    let s = (goal.at.div_rem_small-requires-in-3-clause-small c).Start in
-    subst (λ n. n < whole_limit) (sym (count_by_table s)) (count_fits s)
+div_rem_small-requires-in-3-clause-small c = count_small (goal.at.div_rem_small-requires-in-3-clause-small c).Start
 
 pub div_rem-requires : goal.div_rem-requires
 div_rem-requires c = omega (arith, c.power_of_ten.ensures, pow10_bounds c.args.places c.requires.places)
@@ -78,21 +74,16 @@ start_of c = (goal.at.from_digits-quotient-requires-clause-digits c).Start
 count_at_point : (c : Joined-places) → (c.match-places.whole.0 ≡ count_of (start_of c) / 10 ^ c.args.places)
     × (c.match-places.whole.1 ≡ count_of (start_of c) % 10 ^ c.args.places)
 count_at_point c =
-    let is_count = count_by_table (start_of c) in
+    let is_count = sym (count_by_table (start_of c)) in
     let Power : ℕ → ℕ = λ n. 10 ^ n in
     elim c.match-places.branch [
-      | in-0 w ↦ quotient_and_rest_of_equal is_count (sym (ap Power w.in-0.is)) w.whole-is (omega arith, omega arith)
-      | in-1 w ↦ quotient_and_rest_of_equal is_count (sym (ap Power w.in-1.is)) w.whole-is
-          (w.div_rem_small.ensures.whole, w.div_rem_small.ensures.digits)
-      | in-2 w ↦
-          quotient_and_rest_of_equal is_count (sym (ap Power w.in-2.is)) w.whole-is
+      | in-0 w ↦ rw (w.whole-is, is_count, ap Power w.in-0.is) (omega arith, omega arith)
+      | in-1 w ↦ rw (w.whole-is, is_count, ap Power w.in-1.is) (w.div_rem_small.ensures.whole, w.div_rem_small.ensures.digits)
+      | in-2 w ↦ rw (w.whole-is, is_count, ap Power w.in-2.is)
           (w.div_rem_small-in-2.ensures.whole, w.div_rem_small-in-2.ensures.digits)
-      | in-3 w ↦
-          quotient_and_rest_of_equal is_count (sym (ap Power w.in-3.is)) w.whole-is
+      | in-3 w ↦ rw (w.whole-is, is_count, ap Power w.in-3.is)
           (w.div_rem_small-in-3.ensures.whole, w.div_rem_small-in-3.ensures.digits)
-      | in_default w ↦
-          quotient_and_rest_of_equal is_count w.power_of_ten.ensures w.whole-is
-          (w.div_rem.ensures.quotient, w.div_rem.ensures.rest)
+      | in_default w ↦ rw (w.whole-is, is_count, sym w.power_of_ten.ensures) (w.div_rem.ensures.quotient, w.div_rem.ensures.rest)
     ]
 
 pub from_digits-quotient-requires-clause-whole : goal.from_digits-quotient-requires-clause-whole
