@@ -1,8 +1,8 @@
 -- The number of decimal digits of a number, computed from its number of bits.
 use Rattle.std.specs.Fmt.{decimal}
 use Rattle.std.specs.Int.Count.{count_leading_zeros}
-use Rattle.std.proofs.Common.{◌≡◌, ℕ, zero, suc, Bool, true, ◌&&◌, leb, ◌-◌, ◌*◌, ◌/◌, ◌^◌, ◌<◌, ◌≤◌, ⊎_elim}
-use Rattle.std.proofs.Common.{length, arith, subst, refl}
+use Rattle.std.proofs.Common.{◌≡◌, ℕ, zero, suc, Bool, true, ◌&&◌, leb, ◌-◌, ◌*◌, ◌/◌, ◌^◌, ◌<◌, ◌≤◌, ⊎_elim, length}
+use Rattle.std.proofs.Common.{arith, subst, refl}
 use Rattle.std.proofs.Math.Nat.{pow-succ', pow-le-pow_right}
 use Rattle.std.proofs.lemmas.Bool.{and_parts, cases_lt, leb-true}
 use Rattle.std.proofs.lemmas.Nat.{leading_top, div_below}
@@ -18,9 +18,6 @@ estimate_holds_below zero = true
 estimate_holds_below (suc j) =
     leb (10 ^ digits_estimate (suc j)) (10 * 2 ^ j) &&
     (leb (2 ^ suc j) (10 ^ suc (digits_estimate (suc j))) && estimate_holds_below j)
-
-estimate_holds_below_128 : estimate_holds_below 128 ≡ true
-estimate_holds_below_128 = refl
 
 IsBetween : ℕ → Type 0
 IsBetween j = (10 ^ digits_estimate (suc j) ≤ 10 * 2 ^ j) × (2 ^ suc j ≤ 10 ^ suc (digits_estimate (suc j)))
@@ -43,8 +40,7 @@ decimal_length_between k n low high small =
 
 digits_below_power : (few n : ℕ) → 10 ^ few ≤ 10 * n → 10 ≤ n → n < 2 ^ 128 → n < 10 ^ few → length (decimal n) ≡ few
 digits_below_power zero n low wide small below = absurd (omega (arith, wide, below))
-digits_below_power (suc few) n low wide small below =
-    decimal_length_between few n (omega (arith, low, pow-succ' 10 few)) below small
+digits_below_power (suc few) n low wide small below = grind (arith, decimal_length_between, pow-succ')
 
 -- A number of at most 128 bits has as many digits as estimated if it is below that power of ten, or else one more.
 module _ (k n : ℕ) (few : k ≤ 128) (wide : 10 ≤ n) (small : n < 2 ^ k) where
@@ -56,7 +52,7 @@ module _ (k n : ℕ) (few : k ≤ 128) (wide : 10 ≤ n) (small : n < 2 ^ k) whe
   unfolding IsBetween
   bounds =
       let top = leading_top k n (omega (arith, wide)) small in
-      let between = is_between 128 top.0 estimate_holds_below_128 (omega (arith, top.1, few)) in
+      let between = is_between 128 top.0 refl (omega (arith, top.1, few)) in
       let binary : suc top.0 ≡ k - count_leading_zeros k n = omega (arith, top.1) in
       subst (λ b. (10 ^ digits_estimate b ≤ 10 * n) × (n < 10 ^ suc (digits_estimate b))) binary
       (omega (arith, between.0, top.2), omega (arith, between.1, top.3))

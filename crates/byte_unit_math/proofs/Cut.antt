@@ -1,13 +1,10 @@
 -- A decimal cut off after some digits, and whether it or the next one is nearest.
-use Rattle.std.proofs.Common.{◌≢◌, ◌≡◌, ◌+◌, ◌-◌, ◌*◌, ◌^◌, ◌%◌, ◌<◌, ◌≤◌, ⊎_elim, ℕ, suc, List, [], ◌∷◌, ◌++◌, length}
-use Rattle.std.proofs.Common.{take, drop}
-use Rattle.std.proofs.Common.{get_or, arith, ap, sym, subst, ◌∙◌, add-one, length-take-le, take-append-drop}
-use Rattle.std.proofs.Common.{length-drop, drop-cons}
+use Rattle.std.proofs.Common.{◌≢◌, ◌≡◌, ◌+◌, ◌-◌, ◌*◌, ◌^◌, ◌%◌, ◌<◌, ◌≤◌, ℕ, List, length, take, drop, get_or, arith}
+use Rattle.std.proofs.Common.{ap, sym, ◌∙◌, add-one, length-take-le, take-append-drop, length-drop, drop-cons, Bool}
+use Rattle.std.proofs.Common.{true, false, ltb, nat_eq}
 use Rattle.std.specs.List.{All}
-use Rattle.std.proofs.lemmas.Bool.{cases_lt}
-use Rattle.std.proofs.lemmas.List.{take_more, get_or-take, get_or-drop}
+use Rattle.std.proofs.lemmas.List.{get_or-take, get_or-drop}
 use Rattle.std.proofs.lemmas.List.Elements.{All-take, All-get_or, All-drop}
-use Rattle.std.proofs.lemmas.List.Sums.{fold-append}
 use Rattle.std.proofs.lemmas.Nat.{pow-add}
 use Rattle.std.proofs.Math.Nat.{pow-succ', mul-le-mul_right, mul-lt-mul_of_pos_right}
 use Rattle.byte_unit_math.specs.Bounds.{expansion_places}
@@ -19,7 +16,6 @@ use Rattle.byte_unit_math.specs.declared.expansion.Expansion.TheInside.{Inside}
 use Rattle.byte_unit_math.specs.Stored.{expansion_view, IsStored}
 use Rattle.byte_unit_math.proofs.Digits.{one_le_pow10, value_append, value_more, value_cons, value_below_power}
 use Rattle.std.specs.Bool.{MatchBool}
-use Rattle.std.proofs.Common.{Bool, true, false, ltb, nat_eq}
 use Rattle.std.proofs.lemmas.Bool.Decides.{nat_tests}
 use Rattle.byte_unit_math.proofs.Nearest.{LiesAbove, nearest_down, nearest_up, tie_up_next, tie_even_next}
 use Rattle.byte_unit_math.proofs.Nearest.{tie_even_this}
@@ -182,8 +178,7 @@ IsShown-view i e h v = grind (arith, All-take, get_or-take, length-take-le)
 
 -- The decimal of the fields has as many digits after the point as its field `places`.
 pub length_of_view : (i : Inside) (e : Finite) → IsStored i → expansion_view i ≡ e → length e.digits ≡ i.places
-length_of_view i e h v = ap (λ x. length x.digits) (sym v)
-    ∙ length-take-le i.places i.digits (omega (arith, h.few, h.size))
+length_of_view i e h v = grind (arith, length-take-le)
 
 -- The number cut off is odd if its last digit is.
 pub ruleset odd = (odd_by_last_digit, is_odd_by_digit)

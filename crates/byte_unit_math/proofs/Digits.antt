@@ -1,15 +1,16 @@
 -- The number that decimal digits represent, the last digits of a number, and digits without trailing zeros.
 use Rattle.std.proofs.Common.{◌≡◌, ℕ, zero, suc, ◌+◌, ◌-◌, ◌*◌, ◌/◌, ◌%◌, ◌^◌, ◌<◌, ◌≤◌, List, [], ◌∷◌, ◌++◌, length}
-use Rattle.std.proofs.Common.{replicate, take, set, get_or, refl, sym}
-use Rattle.std.proofs.Common.{ap, ◌∙◌, arith, length-append}
+use Rattle.std.proofs.Common.{replicate, take, set, get_or, refl, sym, ap, ◌∙◌, arith, length-append}
 use Rattle.std.specs.List.{fold, All}
 use Rattle.std.proofs.Math.Nat.{pow-succ', one-le-pow, mul-le-mul_right}
-use Rattle.std.proofs.lemmas.Nat.{pow-add, mod-mul-add, mod_below, same_from_place}
+use Rattle.std.proofs.Math.Arith.{mod-mul}
+use Rattle.std.proofs.lemmas.Nat.{pow-add, same_from_place}
 use Rattle.std.proofs.lemmas.List.{length-replicate, take_more, take_more_set}
 use Rattle.std.proofs.lemmas.List.Elements.{All-nil, All-cons, All-head, All-tail}
 use Rattle.std.proofs.lemmas.List.Sums.{fold-append}
 use Rattle.byte_unit_math.specs.Finite.{Finite, value_of_digits, ulps_of}
 use Rattle.byte_unit_math.specs.Digits.{last_digits, at_places, prepend_digit, trim_zeros, trim_expansion}
+use Rattle.std.proofs.lemmas.Grind.{common_steps}
 
 -- A power of ten is at least 1.
 pub one_le_pow10 : (p : ℕ) → 1 ≤ 10 ^ p
@@ -67,13 +68,11 @@ value_append_zeros ds k = grind (arith, value_append, length-replicate, value_ze
 -- One digit more counts ten times the digits before it, and the digit.
 pub value_more : (ds : List ℕ) (i : ℕ) → i < length ds
     → value_of_digits (take (i + 1) ds) ≡ value_of_digits (take i ds) * 10 + get_or ds i 0
-value_more ds i within =
-    ap value_of_digits (take_more ds i 0 within) ∙ fold-append (λ n d. n * 10 + d) 0 (take i ds) (get_or ds i 0 ∷ [])
+value_more ds i within = grind (arith, common_steps, fold-append, take_more)
 
 pub value_more_set : (ds : List ℕ) (i d : ℕ) → i < length ds
     → value_of_digits (take (i + 1) (set ds i d)) ≡ value_of_digits (take i ds) * 10 + d
-value_more_set ds i d within =
-    ap value_of_digits (take_more_set ds i d within) ∙ fold-append (λ n d. n * 10 + d) 0 (take i ds) (d ∷ [])
+value_more_set ds i d within = grind (arith, fold-append, take_more_set)
 
 -- The last p digits of a number are p digits.
 pub length_last_digits : (p q : ℕ) → length (last_digits p q) ≡ p
@@ -88,17 +87,7 @@ last_digits_below_ten (suc p) q =
 
 -- `q mod 10m` is the next digit, `(q / m) mod 10`, times m, plus `q mod m`.
 pub mod_next_power : (q power : ℕ) → 1 ≤ power → q % (10 * power) ≡ q / power % 10 * power + q % power
-mod_next_power q power one =
-    let low : q % power < power = omega (arith, one, mod_below q power (omega arith)) in
-    let parts : q ≡ q / power * power + q % power = omega (arith, one) in
-    let tens : q / power ≡ q / power / 10 * 10 + q / power % 10 = omega arith in
-    let product = ap (λ n. n * power) tens in
-    let digit : q / power % 10 ≤ 9 = omega arith in
-    let few : q / power % 10 * power + q % power < 10 * power = grind (arith, digit, low) in
-    let whole : q ≡ q / power / 10 * (10 * power) + (q / power % 10 * power + q % power) =
-    omega (arith, parts, product) in
-    ap (λ n. n % (10 * power)) whole
-    ∙ mod-mul-add (q / power / 10) (10 * power) (q / power % 10 * power + q % power) few
+mod_next_power q power one = mod-mul q (omega arith) one
 
 -- The last p digits of q represent the remainder of q by 10^p.
 pub value_of_last_digits : (p q : ℕ) → value_of_digits (last_digits p q) ≡ q % 10 ^ p

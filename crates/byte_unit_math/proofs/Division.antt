@@ -106,6 +106,11 @@ fraction_below_one fraction digits room small =
     let product = mul-lt-mul_of_pos_right {k = 10 ^ (places_of_decimal - digits)} small (omega (arith, rest)) in
     omega (arith, product, pow10_times_rest digits room)
 
--- At most 28 digits after the point, held as one number, are below 10^28.
-pub digits_below_one : (fraction digits : ℕ) → digits ≤ places_of_decimal → fraction < 10 ^ digits → fraction < scale
-digits_below_one fraction digits room small = omega (arith, small, pow10_bounds digits room)
+-- With one digit more, fewer than 28 digits after the point are below 10^28.
+pub next_digit_below :
+    (size unit rest fraction digits : ℕ) → Dividing size unit rest fraction digits → digits < places_of_decimal
+    → fraction * 10 + rest * 10 / unit < scale
+next_digit_below size unit rest fraction digits h room =
+    let digit = div_below (rest * 10) unit 10 (omega (arith, h.small)) (omega (arith, h.small)) in
+    let power = power_of_sum 10 (digits + 1) 1 digits (omega arith) in
+    omega (arith, digit, h.below, power, pow10_bounds (digits + 1) (omega (arith, room)))

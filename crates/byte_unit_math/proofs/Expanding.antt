@@ -1,20 +1,20 @@
 -- The expansion of a fraction by long division, and where it ends.
-use Rattle.std.proofs.Common.{◌≢◌, ◌≡◌, ◌+◌, ◌-◌, ◌*◌, ◌^◌, ◌/◌, ◌%◌, ◌<◌, ◌≤◌, ⊎_elim, ℕ, zero, suc, List}
-use Rattle.std.proofs.Common.{length, take, drop}
+use Rattle.std.proofs.Common.{◌≢◌, ◌≡◌, ◌+◌, ◌-◌, ◌*◌, ◌^◌, ◌/◌, ◌%◌, ◌<◌, ◌≤◌, ⊎_elim, ℕ, List, length, take, drop}
 use Rattle.std.proofs.Common.{set, get_or, replicate, arith, ap, sym, refl, subst, ◌∙◌, length-take-le}
 use Rattle.std.specs.List.{All}
 use Rattle.std.proofs.lemmas.Bool.{cases_lt}
 use Rattle.std.proofs.lemmas.List.{drop-set-lt, drop-drop, drop-replicate, length-set, length-replicate}
 use Rattle.std.proofs.lemmas.List.{get_or-set_same, get_or-take, take_all}
 use Rattle.std.proofs.lemmas.List.Elements.{All-set, All-replicate, All-take, All-get_or}
-use Rattle.std.proofs.lemmas.Nat.{pow_below, mul-le, div-add-mod', div_below}
-use Rattle.std.proofs.Math.Nat.{pow-succ', one-le-pow}
+use Rattle.std.proofs.lemmas.Nat.{mul-le, div-add-mod', div_below}
+use Rattle.std.proofs.Math.Nat.{one-le-pow}
 use Rattle.byte_unit_math.specs.Bounds.{expansion_places, scale, places_of_decimal, unit_limit}
 use Rattle.byte_unit_math.specs.Exact.{IsExactAt}
 use Rattle.byte_unit_math.specs.Finite.{value_of_digits, IsExpansion}
 use Rattle.byte_unit_math.proofs.Digits.{value_more, value_more_set}
 use Rattle.byte_unit_math.proofs.Division.{rest_is_zero, IsLeastPlaces-last_digit}
-use Rattle.byte_unit_math.proofs.Scales.{pow10_split, power_of_sum}
+use Rattle.byte_unit_math.proofs.Scales.{pow10_split, power_of_sum, exponent_at_most}
+use Rattle.std.proofs.lemmas.Grind.{common_steps}
 
 -- Setting a digit of an array leaves the zeros after it.
 pub zeros_after_set : (n i d : ℕ) (ds : List ℕ) → drop i ds ≡ replicate (n - i) 0
@@ -88,9 +88,7 @@ IsDividing-start whole rest den below = record {
 -- Digits represent ten times the number of all but the last, plus the last.
 pub value_by_last_digit : (ds : List ℕ) → 0 < length ds
     → value_of_digits ds ≡ value_of_digits (take (length ds - 1) ds) * 10 + get_or ds (length ds - 1) 0
-value_by_last_digit ds some =
-    let all : length ds ≤ length ds - 1 + 1 = omega arith in
-    ap value_of_digits (sym (take_all (length ds - 1 + 1) ds all)) ∙ value_more ds (length ds - 1) (omega (arith, some))
+value_by_last_digit ds some = grind (arith, common_steps, take_all, value_more)
 
 -- The fraction is exactly the whole part and these digits, and the last digit is not zero.
 pub record IsExactByDigits (num den whole : ℕ) (digits : List ℕ) : Type 0 where
@@ -145,23 +143,15 @@ IsDividing-ended num den whole rest places digits h none =
       last = h.last none;
     })
 
-two_below_five : (b : ℕ) → 2 ^ b ≤ 5 ^ b
-two_below_five zero = omega arith
-two_below_five (suc b) = rw (pow-succ' 2 b, pow-succ' 5 b) (omega (arith, two_below_five b))
-
 -- If 2^a * 5^b is at most 2^93, so are 2^a and 5^b.
 pub factors_within_limit : (a b : ℕ) → 2 ^ a * 5 ^ b ≤ unit_limit → (2 ^ a ≤ unit_limit) × (5 ^ b ≤ unit_limit)
 factors_within_limit a b h = grind (arith, mul-le, one-le-pow)
 
 exponents_within_places : (a b : ℕ) → 2 ^ a * 5 ^ b ≤ unit_limit → (a ≤ expansion_places) × (b ≤ expansion_places)
 exponents_within_places a b h =
-    let small = factors_within_limit a b h in
-    let z = two_below_five b in (
-      ⊎_elim (λ l. absurd (omega (arith, small.0, pow_below expansion_places a l))) (λ k. k)
-          (cases_lt expansion_places a),
-      ⊎_elim
-          (λ l. absurd (omega (arith, small.1, z, pow_below expansion_places b l))) (λ k. k)
-          (cases_lt expansion_places b),
+    let small = factors_within_limit a b h in (
+      exponent_at_most 2 expansion_places a (unit_limit + 1) (omega arith) (omega (arith, small.0)) (omega arith),
+      exponent_at_most 5 expansion_places b (unit_limit + 1) (omega arith) (omega (arith, small.1)) (omega arith),
     )
 
 -- If 2^a * 5^b is at most 2^93, each fraction over it is exact with 93 digits after the point.
@@ -190,3 +180,10 @@ pub new_is_exact :
     (num x y a b : ℕ) → x ≡ 2 ^ a → y ≡ 5 ^ b → 2 ^ a * 5 ^ b ≤ unit_limit
     → IsExactAt (num / (x * y) * (x * y) + num % (x * y)) (x * y) expansion_places
 new_is_exact num x y a b hx hy h = rw (hx, hy, div-add-mod' num (2 ^ a * 5 ^ b)) (powers_are_exact num a b h)
+
+-- A number is its whole part and its fraction.
+pub decimal_parts : (n : ℕ) → n / scale * scale + n % scale ≡ n
+decimal_parts n = omega arith
+
+-- What the proof of the expansion of a decimal uses.
+pub ruleset decimals = (decimal_is_exact, decimal_parts)

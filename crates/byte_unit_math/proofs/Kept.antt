@@ -1,9 +1,9 @@
 -- A decimal that is cut off or rounded up, without the trailing zeros or nines that this leaves, is an expansion.
-use Rattle.std.proofs.Common.{◌≢◌, ◌≡◌, ◌+◌, ◌-◌, ◌*◌, ◌^◌, ◌<◌, ◌≤◌, ℕ, zero, suc, List, [], ◌∷◌, ◌++◌, length, take}
-use Rattle.std.proofs.Common.{drop}
-use Rattle.std.proofs.Common.{set, get_or, replicate, arith, ap, sym, refl, subst, ◌∙◌, length-take-le}
+use Rattle.std.proofs.Common.{◌≢◌, ◌≡◌, ◌+◌, ◌-◌, ◌*◌, ◌^◌, ◌<◌, ◌≤◌, ℕ, zero, suc, List, [], ◌++◌, length, take, drop}
+use Rattle.std.proofs.Common.{set, get_or, replicate, arith, ap, refl, ◌∙◌, length-take-le}
 use Rattle.std.specs.List.{All, fold}
-use Rattle.std.proofs.lemmas.List.{take_more, take_more_set, length-set, length-replicate, get_or-take, get_or-set_same}
+use Rattle.std.proofs.lemmas.List.{length-take, take_more, take_more_set, length-set, length-replicate, get_or-take}
+use Rattle.std.proofs.lemmas.List.{get_or-set_same}
 use Rattle.std.proofs.lemmas.List.Elements.{All-nil, All-replicate, All-set, All-get_or}
 use Rattle.std.proofs.lemmas.List.Sums.{fold-append}
 use Rattle.std.proofs.Math.Nat.{pow-succ'}
@@ -12,7 +12,6 @@ use Rattle.byte_unit_math.specs.Finite.{Finite, value_of_digits, ulps_of, cut_af
 use Rattle.byte_unit_math.proofs.Digits.{one_le_pow10, value_append_zeros}
 use Rattle.byte_unit_math.proofs.Expanding.{expansion_of_digits, expansion_of_first_digits, zeros_after_set}
 use Rattle.byte_unit_math.proofs.Scales.{pow10_split}
-use Rattle.byte_unit_math.proofs.Cut.{IsShown}
 use Rattle.std.proofs.lemmas.Grind.{common_steps}
 
 -- The first p digits of `e` are its first `kept` digits and then only `digit`; the last of those kept is another digit.
@@ -62,17 +61,24 @@ same_last_digit :
     → get_or ds (kept - 1) 0 ≡ get_or e.digits (kept - 1) 0
 same_last_digit e kept ds h some = grind (arith, get_or-take)
 
+-- The array has the digits that are kept.
+kept_fits : (e : Finite) (p kept digit : ℕ) (ds : List ℕ) → EndsInRunOf e p kept digit → BeginsWith e kept ds
+    → kept ≤ length ds
+kept_fits e p kept digit ds h array =
+    let few = length-take-le kept e.digits (omega (arith, h.few, h.within)) in
+    omega (arith, few, ap length array.front, length-take kept ds)
+
 -- A decimal cut off after p digits, without the zeros at their end, is the expansion of the cut number.
 pub cut_is_expansion :
-    (e : Finite) (p kept : ℕ) (ds : List ℕ) → IsShown e → EndsInRunOf e p kept 0 → BeginsWith e kept ds
+    (e : Finite) (p kept : ℕ) (ds : List ℕ) → EndsInRunOf e p kept 0 → BeginsWith e kept ds
     → IsExpansion (ulps_of (cut_after p e)) (10 ^ p) (record { whole = e.whole; digits = take kept ds })
-cut_is_expansion e p kept ds shown h array =
+cut_is_expansion e p kept ds h array =
     let count = e.whole * 10 ^ kept + value_of_digits (take kept e.digits) in
     let scaled = ap (λ n. n * 10 ^ kept) (scaled_zeros e p kept h) in
     let power = ap (λ n. count * n) (pow10_split kept p h.few) in
     expansion_of_first_digits (ulps_of (cut_after p e)) (10 ^ p) e.whole kept ds (one_le_pow10 p)
     (record {
-      few = omega (arith, array.size, h.few, h.within, shown.few);
+      few = kept_fits e p kept 0 ds h array;
       small = array.small;
       exact = rw array.front (omega (arith, scaled, power));
       last = λ some. let other = h.stops some in omega (arith, same_last_digit e kept ds array some, other);
@@ -97,13 +103,13 @@ value_one_more e kept ds array some room = grind (arith, common_steps, fold-appe
 -- If nines follow the digits that are kept, the cut number plus one in its last digit has these digits, the last of
 -- them one more.
 pub next_digit_is_expansion :
-    (e : Finite) (p kept : ℕ) (ds : List ℕ) → IsShown e → EndsInRunOf e p kept 9 → BeginsWith e kept ds → 0 < kept
+    (e : Finite) (p kept : ℕ) (ds : List ℕ) → EndsInRunOf e p kept 9 → BeginsWith e kept ds → 0 < kept
     → IsExpansion (ulps_of (cut_after p e) + 1) (10 ^ p)
     (record { whole = e.whole; digits = take kept (set ds (kept - 1) (get_or ds (kept - 1) 0 + 1)) })
-next_digit_is_expansion e p kept ds shown h array some =
+next_digit_is_expansion e p kept ds h array some =
     let last : ℕ = kept - 1 in
     let digit = get_or ds last 0 in
-    let fits : last < length ds = omega (arith, array.size, h.few, h.within, shown.few, some) in
+    let fits : last < length ds = omega (arith, some, kept_fits e p kept 9 ds h array) in
     let count = e.whole * 10 ^ kept + (value_of_digits (take kept e.digits) + 1) in
     let scaled = ap (λ n. n * 10 ^ kept) (scaled_nines e p kept h) in
     let power = ap (λ n. count * n) (pow10_split kept p h.few) in
@@ -147,3 +153,6 @@ pub one_more_digit_copied :
     → IsCopied (set ds i d) es (i + 1)
 one_more_digit_copied ds es i d h room digit =
     grind (arith, common_steps, All-set, length-set, take_more, take_more_set, zeros_after_set)
+
+-- What the proof of copying digits uses.
+pub ruleset copied = (common_steps, one_more_digit_copied)

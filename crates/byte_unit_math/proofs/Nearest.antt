@@ -1,10 +1,9 @@
 -- Which of two neighboring multiples of a number is nearest to another number.
-use Rattle.std.proofs.Common.{◌≢◌, ◌≡◌, ◌+◌, ◌*◌, ◌^◌, ◌<◌, ◌≤◌, ◌/◌, ◌%◌, ⊎_elim, ℕ, arith, subst, refl, sym, ap, ◌∙◌}
+use Rattle.std.proofs.Common.{◌≡◌, ◌+◌, ◌*◌, ◌^◌, ◌<◌, ◌≤◌, ◌/◌, ◌%◌, ⊎_elim, ℕ, refl, arith}
 use Rattle.std.proofs.lemmas.Nat.{div-add-mod', mod_below}
 use Rattle.std.proofs.lemmas.Bool.{cases_lt}
 use Rattle.std.proofs.Math.Nat.{mul-le-mul_right}
-use Rattle.std.specs.Int.{abs_diff}
-use Rattle.byte_unit_math.specs.Nearest.{BreaksTie, IsNearest}
+use Rattle.byte_unit_math.specs.Nearest.{IsNearest}
 use Rattle.byte_unit_math.specs.declared.expansion.Ties.{Ties}
 use Rattle.byte_unit_math.specs.declared.expansion.Ties.TheVariants.{Even, Up}
 
@@ -24,9 +23,7 @@ module _ (num den p count low : ℕ) (lies : LiesAbove num den p count low) wher
   lower_multiple other l = grind (arith, mul-le-mul_right)
 
   next_multiple : (other : ℕ) → count < other → num * 10 ^ p + den ≤ other * den + low
-  next_multiple other l =
-      let product = mul-le-mul_right {m = count + 1} {n = other} den (omega (arith, l)) in
-      omega (arith, product, lies.split)
+  next_multiple other l = grind (arith, mul-le-mul_right)
 
   upper_multiple : (other : ℕ) → count + 1 < other → num * 10 ^ p + den + den ≤ other * den + low
   upper_multiple other l =
@@ -61,3 +58,16 @@ module _ (num den p count low : ℕ) (lies : LiesAbove num den p count low) wher
 
   pub nearest_even_this : 2 * low + count % 2 ≤ den → IsNearest num den p Even count
   nearest_even_this h = grind (arith, nearest_down, tie_even_this)
+
+-- A quotient is rounded by twice its rest, which counts as more if the quotient is odd.
+pub rounds_up_even : (num den p : ℕ) → 0 < den → den < 2 * (num * 10 ^ p % den) + num * 10 ^ p / den % 2
+    → IsNearest num den p Even (num * 10 ^ p / den + 1)
+rounds_up_even num den p some h =
+    nearest_even_next num den p _ _ (lies_above_quotient num den p _ _ _ refl some refl refl) h
+
+pub rounds_down_even : (num den p : ℕ) → 0 < den → 2 * (num * 10 ^ p % den) + num * 10 ^ p / den % 2 ≤ den
+    → IsNearest num den p Even (num * 10 ^ p / den)
+rounds_down_even num den p some h =
+    nearest_even_this num den p _ _ (lies_above_quotient num den p _ _ _ refl some refl refl) h
+
+pub ruleset rounding_even = (rounds_up_even, rounds_down_even)

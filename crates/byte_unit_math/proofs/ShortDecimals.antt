@@ -1,6 +1,5 @@
 -- The fields of a `Decimal` are determined by its value, since its digits have no trailing zeros.
-use Rattle.std.proofs.Common.{◌≡◌, ℕ, zero, suc, ◌+◌, ◌-◌, ◌*◌, ◌/◌, ◌%◌, ◌^◌, ◌<◌}
-use Rattle.std.proofs.Common.{arith, ap, refl, sym, ◌∙◌}
+use Rattle.std.proofs.Common.{◌≡◌, ℕ, zero, suc, ◌+◌, ◌-◌, ◌*◌, ◌/◌, ◌%◌, ◌^◌, ◌<◌, arith, ap, refl, sym, ◌∙◌}
 use Rattle.std.proofs.Math.Nat.{pow-succ'}
 use Rattle.std.proofs.lemmas.Bool.Decides.{nat_tests}
 use Rattle.byte_unit_math.specs.Bounds.{scale, places_of_decimal, whole_limit}
@@ -12,8 +11,7 @@ use Rattle.byte_unit_math.proofs.Places.{HasDigits, HasDigits-least, HasDigits-a
 
 -- The fields hold the fraction of the value.
 fields_have_digits : (N : ℕ) (d : Inside) → IsNormalized d → decimal_value d ≡ N → HasDigits (N % scale) d.digits d.places
-fields_have_digits N d h view =
-    record { few = h.few; same = omega (arith, view, ap (λ f. f.whole) h.only); below = h.below }
+fields_have_digits N d h view = grind (arith)
 
 -- The field `places` is the least number of digits after the point.
 pub places_of_fields : (N : ℕ) (d : Inside) → IsNormalized d → decimal_value d ≡ N → IsLeastPlaces N scale d.places
@@ -66,19 +64,7 @@ pub IsNormalized-digits :
     (whole fraction digits places : ℕ) → whole < whole_limit → HasDigits fraction digits places
     → (0 < places → 0 < digits % 10)
     → IsNormalized (record { whole = whole; digits = digits; places = places })
-IsNormalized-digits whole fraction digits places bound h last =
-    let part = fraction_below_one digits places h.few h.below in
-    let front : (whole * scale + digits * 10 ^ (places_of_decimal - places)) / scale ≡ whole = omega (arith, part) in
-    let behind : (whole * scale + digits * 10 ^ (places_of_decimal - places)) % scale ≡ fraction =
-    omega (arith, part, h.same) in
-    let short = short_fraction_is fraction digits places h last in
-    record {
-      bound = bound;
-      few = h.few;
-      below = h.below;
-      last = last;
-      only = rw (front, behind, short) refl;
-    }
+IsNormalized-digits whole fraction digits places bound h last = grind (arith, fraction_below_one, short_fraction_is)
 
 -- What the proofs of the functions that make and read a `Decimal` use.
 pub ruleset decimals = (IsNormalized-digits, digits_of_fields)

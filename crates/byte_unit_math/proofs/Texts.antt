@@ -1,13 +1,13 @@
 -- Expansions, their texts and nearest decimals are unique, and an expansion is found by division.
-use Rattle.std.proofs.Common.{◌≡◌, ◌+◌, ◌-◌, ◌*◌, ◌^◌, ◌/◌, ◌%◌, ◌<◌, ◌≤◌, ⊎_elim, ℕ, zero, suc, List, [], ◌∷◌, ◌++◌}
-use Rattle.std.proofs.Common.{length, take, get_or}
-use Rattle.std.proofs.Common.{replicate, arith, ap, sym, refl, subst, ◌∙◌, length-append, append-nil}
+use Rattle.std.proofs.Common.{◌≡◌, ◌+◌, ◌-◌, ◌*◌, ◌^◌, ◌/◌, ◌<◌, ◌≤◌, ⊎_elim, ℕ, zero, suc, List, [], ◌∷◌, ◌++◌, length}
+use Rattle.std.proofs.Common.{get_or, replicate, arith, ap, sym, refl, subst, ◌∙◌, length-append, append-nil}
 use Rattle.std.specs.Prelude.{⊤}
 use Rattle.std.specs.List.{All}
 use Rattle.std.proofs.lemmas.List.{length-replicate, take_all}
 use Rattle.std.proofs.lemmas.List.Elements.{All-append, All-replicate}
 use Rattle.std.proofs.lemmas.Nat.{same_from_place}
-use Rattle.std.proofs.Math.Nat.{eq_of_mul-eq-mul_right, mul-div_cancel, mul-le-mul_right, le_of_mul-le-mul_right, mul-sub}
+use Rattle.std.proofs.Math.Nat.{eq_of_mul-eq-mul_right, mul-div_cancel, mul-le-mul_right, le_of_mul-le-mul_right}
+use Rattle.std.proofs.Math.Nat.{mul-sub}
 use Rattle.std.proofs.lemmas.Bool.{cases_lt}
 use Rattle.byte_unit_math.specs.Bounds.{expansion_places}
 use Rattle.byte_unit_math.specs.Exact.{IsExactAt}
@@ -20,8 +20,8 @@ use Rattle.byte_unit_math.specs.Digits.{last_digits, at_places, prepend_digit, t
 use Rattle.byte_unit_math.specs.NumberLaws.{ExpansionsAreFoundByDivision, ShortNumeralsAreExpansions}
 use Rattle.byte_unit_math.specs.Numeral.{text_of, numeral, short_numeral}
 use Rattle.byte_unit_math.specs.Padded.{pad_of}
-use Rattle.byte_unit_math.proofs.Digits.{one_le_pow10, value_append_zeros, length_last_digits, value_below_power, same_digits}
-use Rattle.byte_unit_math.proofs.Digits.{last_digits_below_ten, scaled_at_places, ShortOf-shortened}
+use Rattle.byte_unit_math.proofs.Digits.{one_le_pow10, value_append_zeros, length_last_digits, value_below_power}
+use Rattle.byte_unit_math.proofs.Digits.{same_digits, last_digits_below_ten, scaled_at_places, ShortOf-shortened}
 use Rattle.byte_unit_math.proofs.Expanding.{expansion_of_digits}
 use Rattle.byte_unit_math.proofs.Scales.{pow10_split}
 
@@ -203,8 +203,7 @@ pub record BothNearest (num den p : ℕ) (ties : Ties) (q r : ℕ) : Type 0 wher
 equally_far :
     (num den p : ℕ) (ties : Ties) (q r : ℕ) → BothNearest num den p ties q r
     → abs_diff (r * den) (num * 10 ^ p) ≡ abs_diff (q * den) (num * 10 ^ p)
-equally_far num den p ties q r h = let other = h.this.nearest r in let this = h.other.nearest q in
-    omega (arith, this, other)
+equally_far num den p ties q r h = grind (arith)
 
 not_between : (num den p : ℕ) (ties : Ties) (q r : ℕ) → BothNearest num den p ties q r → q + 1 < r → ⊥
 not_between num den p ties q r h apart =

@@ -1,11 +1,9 @@
 -- Factors of 2 and 5 divided out of a number.
-use Rattle.std.proofs.Common.{◌≡◌, ◌≢◌, ℕ, zero, suc, ◌+◌, ◌*◌, ◌/◌, ◌%◌, ◌^◌, ◌<◌, ◌≤◌, ⊎_elim, arith, sym, ap, ◌∙◌}
-use Rattle.std.proofs.Common.{add-one}
+use Rattle.std.proofs.Common.{◌≡◌, ◌≢◌, ℕ, zero, suc, ◌+◌, ◌*◌, ◌/◌, ◌%◌, ◌^◌, ◌<◌, ◌≤◌, arith, sym, ap, ◌∙◌, add-one}
 use Rattle.std.specs.Int.{bit_at, trailing_zeros, w128}
-use Rattle.std.proofs.Math.Nat.{pow-suc, pow-le-pow_left, pow-le-pow_right, mul-le-mul_left, mul-le-mul_right, div-one}
+use Rattle.std.proofs.Math.Nat.{pow-suc, pow-le-pow_left, mul-le-mul_left, mul-le-mul_right, div-one}
 use Rattle.std.proofs.lemmas.Nat.{pow-add, shr-shr}
 use Rattle.std.proofs.lemmas.Nat.Bits.{bit_at-trailing_zeros}
-use Rattle.std.proofs.lemmas.Bool.{cases_lt}
 use Rattle.byte_unit_math.specs.Bounds.{size_limit}
 use Rattle.byte_unit_math.proofs.Scales.{exponent_at_most}
 
@@ -68,5 +66,4 @@ FivesOff-joined number left twos fives rest others h parts odd =
 -- A number below 10^30 has at most 99 factors of 2 and 5 together.
 pub FivesOff-few : (number left twos fives : ℕ) → number < size_limit → FivesOff number left twos fives
     → twos + fives ≤ 99
-FivesOff-few number left twos fives small h =
-    few_factors_of_size number left twos fives (omega (arith, h.odd)) h.product small
+FivesOff-few number left twos fives small h = grind (arith, few_factors_of_size)

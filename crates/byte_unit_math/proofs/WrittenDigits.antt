@@ -1,17 +1,17 @@
 -- The decimal digits of a number, written from the last to the first.
-use Rattle.std.specs.Prelude.{MatchResult}
 use Rattle.std.specs.Fmt.{decimal}
-use Rattle.std.specs.Str.{IsUtf8, IsAscii}
-use Rattle.std.proofs.Common.{rules, Result, Ok, Err, IsOk, set, ◌≡◌, ℕ, zero, suc, ◌+◌, ◌*◌, ◌^◌, ◌/◌, ◌%◌, ◌<◌}
-use Rattle.std.proofs.Common.{◌-◌, ◌≤◌, ⊎_elim, List, []}
-use Rattle.std.proofs.Common.{◌∷◌, ◌++◌, length, drop, arith, ap, sym, refl, ◌∙◌, length-append, append_assoc}
-use Rattle.std.proofs.Common.{append-nil, get_or, subst}
+use Rattle.std.specs.Str.{IsAscii}
+use Rattle.std.proofs.Common.{set, ◌≡◌, ℕ, zero, suc, ◌+◌, ◌*◌, ◌^◌, ◌/◌, ◌%◌, ◌<◌, ◌-◌, ◌≤◌, ⊎_elim, List, [], ◌∷◌}
+use Rattle.std.proofs.Common.{◌++◌, length, drop, arith, ap, sym, refl, ◌∙◌, length-append, append_assoc, append-nil}
+use Rattle.std.proofs.Common.{get_or, subst}
 use Rattle.std.proofs.Math.Nat.{pow-succ', mod-mod, div-le_self, div-div-eq-div-mul, le-div_iff_mul-le}
 use Rattle.std.proofs.lemmas.Bool.{cases_lt}
 use Rattle.std.proofs.lemmas.Fmt.{decimal_digit, decimal_step_wide, length-decimal-le_wide, IsAscii-decimal_wide}
-use Rattle.std.proofs.lemmas.List.{drop-set, drop-drop, length-set, length-map}
-use Rattle.std.proofs.lemmas.Nat.{mod_below, div_below, div-mul-add, mod-mul-add}
-use Rattle.std.proofs.lemmas.Str.{IsUtf8-from_ascii, IsAscii-drop}
+use Rattle.std.proofs.lemmas.List.{drop-set, drop-drop, length-set, length-map, drop-replicate, take-replicate}
+use Rattle.std.proofs.Math.Seq.{take-append-add}
+use Rattle.std.proofs.lemmas.Simd.{put_chunk_whole}
+use Rattle.std.proofs.lemmas.Nat.{div_below, div-mul-add, mod-mul-add}
+use Rattle.std.proofs.lemmas.Str.{IsUtf8-from_ascii, IsAscii-drop, IsAscii-take}
 use Rattle.std.proofs.lemmas.Str.Ascii.{IsAscii-cons}
 use Rattle.byte_unit_math.specs.Digits.{last_digits}
 use Rattle.byte_unit_math.specs.Numeral.{fraction_text, glyphs}
@@ -43,14 +43,11 @@ decimal_length_le_39 n small = length-decimal-le_wide 39 n (omega arith) (omega 
 -- The last k digits of the remainder by 10^k are those of the number.
 last_digits_of_rest : (k n : ℕ) → last_digits k (n % 10 ^ k) ≡ last_digits k n
 last_digits_of_rest k n =
-    same_digits (last_digits k (n % 10 ^ k)) (last_digits k n) (last_digits_below_ten k (n % 10 ^ k))
-    (last_digits_below_ten k n) (length_last_digits k (n % 10 ^ k) ∙ sym (length_last_digits k n))
-    (value_of_last_digits k (n % 10 ^ k) ∙ (mod-mod n (10 ^ k) ∙ sym (value_of_last_digits k n)))
+    grind (arith, last_digits_below_ten, length_last_digits, mod-mod, same_digits, value_of_last_digits)
 
 -- A number is written as the number without its last k digits, and then these digits.
 decimal_split : (k n : ℕ) → 10 ^ k ≤ n → n < 2 ^ 128 → decimal n ≡ decimal (n / 10 ^ k) ++ glyphs (last_digits k n)
-decimal_split zero n wide small =
-    let same : n ≡ n / 10 ^ 0 = omega arith in ap decimal same ∙ sym (append-nil (decimal (n / 10 ^ 0)))
+decimal_split zero n wide small = grind (arith, append-nil)
 decimal_split (suc k) n wide small =
     let front = n / 10 ^ k in
     let power : 10 ^ k * 10 ≡ 10 ^ suc k = omega (arith, pow-succ' 10 k) in
@@ -89,9 +86,7 @@ decimal_length_positive n small =
 pub without_leading_zeros : (k n : ℕ) (behind : List ℕ) → n < 10 ^ k → n < 2 ^ 128 → 1 ≤ k
     → drop (k - length (decimal n)) (glyphs (last_digits k n) ++ behind) ≡ decimal n ++ behind
 without_leading_zeros zero n behind below small some = absurd (omega (arith, some))
-without_leading_zeros (suc zero) n behind below small some =
-    let digit : n / 10 ^ 0 % 10 ≡ n = omega (arith, below) in
-    rw (decimal_one_digit n (omega (arith, below))) (ap (λ d. (48 + d) ∷ behind) digit)
+without_leading_zeros (suc zero) n behind below small some = grind (arith, decimal_one_digit)
 without_leading_zeros (suc (suc k)) n behind below small some =
     ⊎_elim
     (λ less.
@@ -156,73 +151,23 @@ pub two_digits_put :
     → drop start (set (set bytes (start + 1) last) start first) ≡ glyphs (last_digits 2 n) ++ drop (start + 2) bytes
 two_digits_put n start first last bytes fits digits = grind (arith, drop-set, length-set)
 
--- Writing what is left, one digit, before the digits that are written completes the number.
-pub first_digit_put :
-    (rest start : ℕ) (bytes whole : List ℕ) → rest < 10 → start < length bytes
-    → decimal rest ++ drop (start + 1) bytes ≡ whole → drop start (set bytes start (48 + rest)) ≡ whole
-first_digit_put rest start bytes whole one within h = grind (arith, decimal_one_digit, drop-set)
-
--- Writing the last k digits of what is left before the digits that are written leaves a number of k digits less to be
--- written.
-digits_put :
-    (k rest start place : ℕ) (bytes new whole : List ℕ) → (10 ^ k ≤ rest) × (rest < 2 ^ 128)
-    → drop place new ≡ glyphs (last_digits k (rest % 10 ^ k)) ++ drop start bytes
-    → decimal rest ++ drop start bytes ≡ whole
-    → decimal (rest / 10 ^ k) ++ drop place new ≡ whole
-digits_put k rest start place bytes new whole wide put so_far =
-    ap (λ l. decimal (rest / 10 ^ k) ++ l) put
-    ∙ (sym (append_assoc (decimal (rest / 10 ^ k)) (glyphs (last_digits k (rest % 10 ^ k))) (drop start bytes))
-    ∙ (ap (λ l. l ++ drop start bytes) (decimal_cut k rest wide.0 wide.1) ∙ so_far))
-
 -- The last digits of n are written from `start` up to `end`, and `rest` is the number of the digits before them.
 pub record IsWritten (n end : ℕ) (old : List ℕ) (rest start : ℕ) (bytes : List ℕ) : Type 0 where
   pub within : start ≤ end
   pub place : start + length (decimal n) ≡ end + length (decimal rest)
   pub digits : decimal rest ++ drop start bytes ≡ decimal n ++ drop end old
 
--- After the last k digits of what is left are written, k digits more of n are.
-pub IsWritten-more :
-    {n end rest start place : ℕ} {old bytes new : List ℕ} (k : ℕ) → (10 ^ k ≤ rest) × (rest < 2 ^ 128)
-    → place + k ≡ start
-    → drop place new ≡ glyphs (last_digits k (rest % 10 ^ k)) ++ drop start bytes → IsWritten n end old rest start bytes
-    → IsWritten n end old (rest / 10 ^ k) place new
-IsWritten-more {n} {end} {rest} {start} {place} {old} {bytes} {new} k wide back put h =
-    record {
-      within = omega (arith, h.within, back);
-      place = omega (arith, h.place, back, decimal_length_split k rest wide.0 wide.1);
-      digits = digits_put k rest start place bytes new (decimal n ++ drop end old) wide put h.digits;
-    }
-
--- Writing 10^18 plus the last 18 digits of what is left puts these digits after a one, which is then ignored.
-pub group_of_18_put :
-    (rest start place : ℕ) (bytes new whole : List ℕ) → (10 ^ 18 ≤ rest) × (rest < 2 ^ 128)
-    → drop place new ≡ decimal (10 ^ 18 + rest % 10 ^ 18) ++ drop start bytes → decimal rest ++ drop start bytes ≡ whole
-    → decimal (rest / 10 ^ 18) ++ drop (place + 1) new ≡ whole
-group_of_18_put rest start place bytes new whole wide put so_far =
-    let one = decimal_of_one_and_digits 18 (rest % 10 ^ 18) (mod_below rest (10 ^ 18) (omega arith)) (omega arith) in
-    let all = put ∙ ap (λ l. l ++ drop start bytes) one in
-    digits_put 18 rest start (place + 1) bytes new whole wide (sym (drop-drop 1 place new) ∙ ap (λ l. drop 1 l) all) so_far
-
--- If a call fails only for bytes that are not UTF-8, it returns `Ok` for ASCII bytes.
-pub ascii_is_ok :
-    {S E : Type 0} (r : Result S E) (bytes : List ℕ) (IfDecoded : S → Type 0) (IfNot : E → Type 0)
-    → MatchResult r IfDecoded (λ e. ¬ (IsUtf8 bytes) × IfNot e) → IsAscii bytes → IsOk r
-ascii_is_ok (Ok s) bytes IfDecoded IfNot h ascii = search rules
-ascii_is_ok (Err e) bytes IfDecoded IfNot h ascii = absurd (h.0 (IsUtf8-from_ascii bytes ascii))
-
 -- If there are digits after the point, their text is a point and the digits.
 pub fraction_text_glyphs : (places digits : ℕ) → 0 < places
     → fraction_text (last_digits places digits) ≡ 46 ∷ glyphs (last_digits places digits)
-fraction_text_glyphs places digits some =
-    fraction_text_some (last_digits places digits) (omega (arith, some, length_last_digits places digits))
+fraction_text_glyphs places digits some = grind (arith, fraction_text_some, length_last_digits)
 
 -- A one and the digits are as long as a point and the digits.
 pub length_of_one_and_digits :
     (places digits : ℕ) → 0 < places → digits < 10 ^ places → places ≤ 28
     → (length (decimal (10 ^ places + digits)) ≡ length (fraction_text (last_digits places digits)))
     × (0 < length (decimal (10 ^ places + digits)))
-length_of_one_and_digits places digits some below few =
-    grind (arith, decimal_of_one_and_digits, fraction_text_glyphs)
+length_of_one_and_digits places digits some below few = grind (arith, decimal_of_one_and_digits, fraction_text_glyphs)
 
 -- Replacing the one before digits by a point gives the text of the fraction.
 pub one_becomes_point :
@@ -251,5 +196,65 @@ fraction_ascii places digits fits ascii =
 -- The digits of a number are ASCII.
 pub ruleset decimal_ascii = (IsAscii-decimal_wide)
 
+-- ASCII is UTF-8, and so is what it begins with.
+pub ruleset ascii_texts = (IsUtf8-from_ascii, IsAscii-take)
+
 -- What the proof of a fraction's text uses.
 pub ruleset fractions_written = (pow10_bounds, length_of_one_and_digits, one_becomes_point, fraction_ascii)
+
+-- A number of more than two or four digits is written as the number without them, and these digits.
+digits_before :
+    (k n : ℕ) (behind : List ℕ) → 10 ^ k ≤ n → n < 2 ^ 128
+    → decimal n ++ behind ≡ decimal (n / 10 ^ k) ++ (glyphs (last_digits k (n % 10 ^ k)) ++ behind)
+digits_before k n behind wide small =
+    ap (λ l. l ++ behind) (sym (decimal_cut k n wide small))
+    ∙ append_assoc (decimal (n / 10 ^ k)) (glyphs (last_digits k (n % 10 ^ k))) behind
+
+pub last_two : (n : ℕ) (behind : List ℕ) → 100 ≤ n → n < 2 ^ 128
+    → decimal n ++ behind ≡ decimal (n / 100) ++ (glyphs (last_digits 2 (n % 100)) ++ behind)
+last_two = digits_before 2
+
+pub last_four : (n : ℕ) (behind : List ℕ) → 10000 ≤ n → n < 2 ^ 128
+    → decimal n ++ behind ≡ decimal (n / 10000) ++ (glyphs (last_digits 4 (n % 10000)) ++ behind)
+last_four = digits_before 4
+
+pub two_more : (n : ℕ) → 100 ≤ n → n < 2 ^ 128 → length (decimal n) ≡ length (decimal (n / 100)) + 2
+two_more = decimal_length_split 2
+
+pub four_more : (n : ℕ) → 10000 ≤ n → n < 2 ^ 128 → length (decimal n) ≡ length (decimal (n / 10000)) + 4
+four_more = decimal_length_split 4
+
+pub last_eighteen : (n : ℕ) (behind : List ℕ) → 10 ^ 18 ≤ n → n < 2 ^ 128
+    → decimal n ++ behind ≡ decimal (n / 10 ^ 18) ++ (glyphs (last_digits 18 (n % 10 ^ 18)) ++ behind)
+last_eighteen = digits_before 18
+
+pub eighteen_more : (n : ℕ) → 10 ^ 18 ≤ n → n < 2 ^ 128 → length (decimal n) ≡ length (decimal (n / 10 ^ 18)) + 18
+eighteen_more = decimal_length_split 18
+
+pub one_and_eighteen : (r : ℕ) → r < 10 ^ 18 → decimal (10 ^ 18 + r) ≡ 49 ∷ glyphs (last_digits 18 r)
+one_and_eighteen r small = decimal_of_one_and_digits 18 r small (omega arith)
+
+pub drop_one_more : (place : ℕ) (bytes : List ℕ) → drop (place + 1) bytes ≡ drop 1 (drop place bytes)
+drop_one_more place bytes = sym (drop-drop 1 place bytes)
+
+pub ruleset eighteen_written =
+    (one_and_eighteen, last_eighteen, eighteen_more, drop_one_more, length_of_one_and_18_digits, decimal_length_positive)
+
+-- What the proof of writing digits in groups uses.
+pub ruleset groups_written =
+    (decimal_one_digit, decimal_length_one, decimal_two_digits, last_two, last_four, two_more, four_more, drop-set)
+
+pub ruleset decimal_few = (decimal_length_le_39, append-nil)
+
+pub few_30 : (n : ℕ) → n < 10 ^ 30 → length (decimal n) ≤ 30
+few_30 n small = length-decimal-le_wide 30 n (omega arith) small (omega (arith, small))
+
+pub few_16 : (n : ℕ) → n < 10 ^ 16 → length (decimal n) ≤ 16
+few_16 n small = length-decimal-le_wide 16 n (omega arith) small (omega (arith, small))
+
+pub more_16 : (n : ℕ) → 10 ^ 16 ≤ n → n < 10 ^ 30 → length (decimal n) ≡ length (decimal (n / 10 ^ 16)) + 16
+more_16 n wide small = decimal_length_split 16 n wide (omega (arith, small))
+
+pub ruleset padded = (few_30, drop-replicate, take-append-add, take-replicate)
+
+pub ruleset zeros_first = (few_30, few_16, more_16, without_leading_zeros, put_chunk_whole)

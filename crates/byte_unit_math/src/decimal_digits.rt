@@ -56,6 +56,7 @@ impl DecimalDigits {
     /// ```rust
     /// assert_eq!(rt; DecimalDigits::of(1536).as_slice(), b"1536".as_slice());
     /// ```
+    #[tactic(auto, using(crate::proofs::WrittenDigits::decimal_few))]
     pub fn of(n: u128) -> DecimalDigits
         ensures digits { result ≡ decimal n }
         ensures ascii { IsAscii result }
@@ -111,6 +112,7 @@ impl DecimalDigits {
 /// }
 /// assert_eq!(rt; format!(in alloc; "{}", Number(1536))?.as_str(), "1536");
 /// ```
+#[tactic(auto, using(crate::proofs::WrittenDigits::ascii_texts))]
 pub fn fmt_u128<W: fmt::Write>(n: u128, f: &mut fmt::Formatter<W>) -> fmt::Result
     ensures plain { DisplaysOnOk W.write_str_gives f.old result (Some (decimal n)) f.new }
     ensures styled { DisplaysStyledOnOk W.write_str_gives f.old result (Some (decimal n)) f.new }
@@ -222,6 +224,7 @@ pub fn put_fraction(digits: u128, places: u32, bytes: &mut [u8], end: usize) -> 
 
 /// Writes digits as `put_u128`, 18 at a time: the slow path, for numbers of more than 64 bits.
 #[inline(never)]
+#[tactic(auto, using(crate::proofs::WrittenDigits::eighteen_written))]
 fn put_u128_wide(n: u128, bytes: &mut [u8], end: usize) -> usize
     requires room { length (decimal n) ≤ end }
     requires within { end ≤ length bytes.old }
@@ -241,6 +244,7 @@ fn put_u128_wide(n: u128, bytes: &mut [u8], end: usize) -> usize
 
 /// Writes the digits of a number of 64 bits as `put_u128`.
 #[inline(always)]
+#[tactic(auto, using(crate::proofs::WrittenDigits::groups_written))]
 fn put_u64(n: u64, bytes: &mut [u8], end: usize) -> usize
     requires room { length (decimal n) ≤ end }
     requires within { end ≤ length bytes.old }

@@ -1,7 +1,7 @@
 -- The digits of a number are those of its quotient by 10^16 and then those of the remainder, with leading zeros.
-use Rattle.std.proofs.Common.{◌≡◌, ◌-◌, ◌/◌, ◌^◌, ◌<◌, ◌≤◌, ◌++◌, ℕ, List, length, drop, replicate, arith, ap, sym, refl, ◌∙◌, append_assoc}
+use Rattle.std.proofs.Common.{◌≡◌, ◌-◌, ◌/◌, ◌^◌, ◌<◌, ◌≤◌, ◌++◌, ℕ, List, length, drop, replicate, arith, ap, sym}
+use Rattle.std.proofs.Common.{refl, ◌∙◌, append_assoc}
 use Rattle.std.specs.Fmt.{decimal}
-use Rattle.std.proofs.lemmas.Fmt.{length-decimal-le_wide}
 use Rattle.std.proofs.lemmas.Simd.{put_chunk_whole}
 use lib.Lanes.{put_chunk}
 use borrow.Rule.Slice.PartMut.{put_mid, mid_of}
@@ -21,10 +21,6 @@ returns-then-n-from-clause-digits c =
     ap (λ digits. drop (16 - length (decimal n)) (digits ++ replicate 32 48))
     (stored (replicate 16 48) c.last_16_digits.result n refl c.last_16_digits.ensures)
     ∙ without_leading_zeros 16 n (replicate 32 48) (omega (arith, c.if-n-from.true)) (omega (arith, c.requires)) (omega arith)
-
-pub returns-then-n-from-clause-within : goal.returns-then-n-from-clause-within
-returns-then-n-from-clause-within c =
-    length-decimal-le_wide 16 c.args.n (omega arith) (omega (arith, c.if-n-from.true)) (omega (arith, c.requires))
 
 pub returns-clause-digits : goal.returns-clause-digits
 returns-clause-digits c =
@@ -56,13 +52,3 @@ returns-clause-digits c =
     ∙ ap (λ digits. digits ++ replicate 16 48)
     ((λ i. decimal (high_is i) ++ glyphs (last_digits 16 (c.div_rem_by_inverse-before.ensures.rest i)))
     ∙ decimal_cut 16 n wide small))))
-
-pub returns-clause-within : goal.returns-clause-within
-returns-clause-within c =
-    let few = length-decimal-le_wide 30 c.args.n (omega arith) c.requires (omega (arith, c.requires)) in
-    omega (arith, few)
-
-pub returns-clause-few : goal.returns-clause-few
-returns-clause-few c =
-    let len = decimal_length_split 16 c.args.n (omega (arith, c.if-n-from.false)) (omega (arith, c.requires)) in
-    omega (arith, len)

@@ -1,22 +1,10 @@
 -- At most 30 digits, and the digit 0 after them.
-use Rattle.std.proofs.Common.{◌≡◌, ◌+◌, ◌-◌, ◌^◌, ◌<◌, ◌≤◌, ◌++◌, ℕ, length, drop, take, replicate, arith, ap, sym, ◌∙◌}
+use Rattle.std.proofs.Common.{◌≡◌, ◌+◌, ◌-◌, ◌++◌, length, drop, take, replicate, arith, ap, sym, ◌∙◌}
 use Rattle.std.specs.Fmt.{decimal}
 use Rattle.std.proofs.Math.Seq.{take-append-add}
-use Rattle.std.proofs.lemmas.Fmt.{length-decimal-le_wide}
 use Rattle.std.proofs.lemmas.List.{drop-replicate, take-replicate}
+use Rattle.byte_unit_math.proofs.WrittenDigits.{few_30}
 use Rattle.byte_unit_math.proofs.lanes.put_padded_digits.Goals as goal
-
-few : (n : ℕ) → n < 10 ^ 30 → length (decimal n) ≤ 30
-few n small = length-decimal-le_wide 30 n (omega arith) small (omega (arith, small))
-
-pub put_u128-requires-clause-within : goal.put_u128-requires-clause-within
-put_u128-requires-clause-within c = omega (arith, few c.args.n c.requires, c.decimal_len-len.ensures.exact)
-
-pub returns-then-n-lt10000-clause-few : goal.returns-then-n-lt10000-clause-few
-returns-then-n-lt10000-clause-few c = omega (arith, few c.args.n c.requires, c.decimal_len-len.ensures.exact)
-
-pub returns-clause-few : goal.returns-clause-few
-returns-clause-few c = omega (arith, few c.args.n c.requires, c.decimal_len-len-2.ensures.exact)
 
 pub returns-then-n-lt10000-clause-digits : goal.returns-then-n-lt10000-clause-digits
 returns-then-n-lt10000-clause-digits c =
@@ -34,7 +22,7 @@ returns-clause-digits c =
     let count = c.digits_with_zeros-count.result.1 in
     let len : c.decimal_len-len-2.result ≡ length (decimal n) = c.decimal_len-len-2.ensures.exact in
     let all = c.digits_with_zeros-count.ensures in
-    let short = few n c.requires in
+    let short = few_30 n c.requires in
     let both : 32 ≡ length (decimal n) + (32 - length (decimal n)) = omega (arith, short) in
     let length_is : count - c.decimal_len-len-2.result + 32 - (count - c.decimal_len-len-2.result) ≡ 32 = omega arith in
     c.copy_from_slice.ensures.after
