@@ -58,7 +58,8 @@ value_zeros zero = refl
 value_zeros (suc k) = value_zeros k
 
 -- Digits put together count the first ones times the power of ten of the others, and these.
-pub value_append : (ds es : List ℕ) → value_of_digits (ds ++ es) ≡ value_of_digits ds * 10 ^ length es + value_of_digits es
+pub value_append : (ds es : List ℕ)
+    → value_of_digits (ds ++ es) ≡ value_of_digits ds * 10 ^ length es + value_of_digits es
 value_append ds es = fold-append (λ n d. n * 10 + d) 0 ds es ∙ fold_digits_from (value_of_digits ds) es
 
 -- k trailing zeros multiply the value of digits by 10^k.
@@ -106,7 +107,8 @@ pub record HasTrailingZeros (ds front : List ℕ) : Type 0 where
   pub zeros : ℕ
   pub list_is : ds ≡ front ++ replicate zeros 0
 
-HasTrailingZeros-prepend : (d : ℕ) (es ds : List ℕ) → HasTrailingZeros ds es → HasTrailingZeros (d ∷ ds) (prepend_digit d es)
+HasTrailingZeros-prepend : (d : ℕ) (es ds : List ℕ) → HasTrailingZeros ds es
+    → HasTrailingZeros (d ∷ ds) (prepend_digit d es)
 HasTrailingZeros-prepend zero [] ds h = record { zeros = suc h.zeros; list_is = ap (λ l. zero ∷ l) h.list_is }
 HasTrailingZeros-prepend (suc d) [] ds h = record { zeros = h.zeros; list_is = ap (λ l. suc d ∷ l) h.list_is }
 HasTrailingZeros-prepend d (e ∷ es) ds h = record { zeros = h.zeros; list_is = ap (λ l. d ∷ l) h.list_is }

@@ -82,7 +82,8 @@ IsQuotient-digits size unit fraction digits places few room product =
     let raised = ap (λ n. n * 10 ^ (places - digits)) product in
     let parts = ap (λ n. size / unit * n) (pow10_times_rest digits (omega (arith, few))) in
     let split =
-    ap (λ n. count * n) (power_of_sum 10 (places_of_decimal - digits) (places - digits) (places_of_decimal - places) (omega arith)) in
+    ap (λ n. count * n)
+    (power_of_sum 10 (places_of_decimal - digits) (places - digits) (places_of_decimal - places) (omega arith)) in
     record {
       count = count * 10 ^ (places - digits);
       exact = power ∙ omega (arith, raised);

@@ -1,9 +1,8 @@
 -- A quotient by a constant: by a multiplication with its inverse, and by long division.
 use Rattle.std.proofs.Common.{◌≡◌, ℕ, ◌+◌, ◌-◌, ◌*◌, ◌/◌, ◌%◌, ◌^◌, ◌<◌, ◌≤◌, arith, ap, sym, ◌∙◌}
 use Rattle.std.proofs.Math.Nat.{mul-le-mul_right, le_of_mul-le-mul_right, div-mul-le_self, lt_of_mul-lt-mul_right}
-use Rattle.std.proofs.Math.Nat.{lt-div-mul-add, div-lt_iff_lt-mul, div-add-mod, div-eq_of_lt-le, mod-eq-sub-div-mul}
-use Rattle.std.proofs.Math.Nat.{mod-lt, one-le-pow, pow-le-pow_right}
-use Rattle.std.proofs.lemmas.Nat.{pow-add}
+use Rattle.std.proofs.Math.Nat.{lt-div-mul-add, div-lt_iff_lt-mul, div-add-mod, mod-lt, one-le-pow, pow-le-pow_right}
+use Rattle.std.proofs.lemmas.Nat.{pow-add, same_from_place, div-add-mod'}
 use Rattle.byte_unit_math.specs.Inverse.{HasInverse}
 
 -- The estimate is the quotient n / divisor, or one less.
@@ -23,9 +22,7 @@ leading_bits_fit {n} {divisor} {inverse} {cut} {shift} h = grind (arith, div-lt_
 pub product_fits :
     {n divisor inverse cut shift : ℕ} → HasInverse n divisor inverse cut shift → n / 2 ^ cut * inverse < 2 ^ 128
 product_fits {n} {divisor} {inverse} {cut} {shift} h =
-    let leading = leading_bits_fit h in
-    let product = mul-le-mul_right {m = n / 2 ^ cut} {n = 2 ^ 64} inverse (omega (arith, leading)) in
-    omega (arith, product, h.fits)
+    omega (arith, mul-le-mul_right inverse (leading_bits_fit h), h.fits)
 
 -- The estimate is less than 2^63.
 pub estimate_fits :
@@ -65,29 +62,42 @@ IsEstimate-inverse n divisor inverse cut shift h =
           (omega (arith, leading_high, product_high, estimate_high, few_leading, powers, power, h.close, some_shift));
     }
 
--- A number whose product with the divisor is at most n, and by less than the divisor, is the quotient.
+-- A product with the divisor, plus less than the divisor, gives the quotient and the remainder.
+pub division_is :
+    (n divisor quotient rest : ℕ) → quotient * divisor + rest ≡ n → rest < divisor
+    → (quotient ≡ n / divisor) × (rest ≡ n % divisor)
+division_is n divisor quotient rest parts below =
+    same_from_place quotient rest (n / divisor) (n % divisor) divisor below (mod-lt n (omega (arith, below)))
+    (parts ∙ sym (div-add-mod' n divisor))
+
+-- An estimate whose product with the divisor is at most n, and by less than the divisor, is the quotient.
 pub quotient_from_bounds : (n divisor quotient : ℕ) → quotient * divisor ≤ n → n - quotient * divisor < divisor
     → quotient ≡ n / divisor
 quotient_from_bounds n divisor quotient enough close =
-    sym (div-eq_of_lt-le {k = quotient} divisor {m = n} enough (omega (arith, enough, close)))
+    (division_is n divisor quotient _ (omega (arith, enough)) close).0
 
 -- What such a product leaves of n is the remainder.
 pub rest_from_bounds :
     (n divisor quotient : ℕ) → quotient * divisor ≤ n → n - quotient * divisor < divisor
     → n - quotient * divisor ≡ n % divisor
-rest_from_bounds n divisor quotient enough close = grind (arith, mod-eq-sub-div-mul, quotient_from_bounds)
+rest_from_bounds n divisor quotient enough close =
+    (division_is n divisor quotient _ (omega (arith, enough)) close).1
 
 -- The same where the estimate is one less.
+quotient_and_rest_after :
+    (n divisor estimate : ℕ) → estimate * divisor + divisor ≤ n → n < estimate * divisor + 2 * divisor
+    → (estimate + 1 ≡ n / divisor) × (n - estimate * divisor - divisor ≡ n % divisor)
+quotient_and_rest_after n divisor estimate enough close =
+    division_is n divisor (estimate + 1) (n - estimate * divisor - divisor) (omega (arith, enough))
+    (omega (arith, enough, close))
+
 pub quotient_after : (n divisor estimate : ℕ) → estimate * divisor + divisor ≤ n → n < estimate * divisor + 2 * divisor
     → estimate + 1 ≡ n / divisor
-quotient_after n divisor estimate enough close =
-    sym (div-eq_of_lt-le {k = estimate + 1} divisor {m = n} (omega (arith, enough)) (omega (arith, close)))
+quotient_after n divisor estimate enough close = (quotient_and_rest_after n divisor estimate enough close).0
 
 pub rest_after : (n divisor estimate : ℕ) → estimate * divisor + divisor ≤ n → n < estimate * divisor + 2 * divisor
     → n - estimate * divisor - divisor ≡ n % divisor
-rest_after n divisor estimate enough close =
-    let product = ap (λ q. q * divisor) (quotient_after n divisor estimate enough close) in
-    omega (arith, mod-eq-sub-div-mul n divisor, product)
+rest_after n divisor estimate enough close = (quotient_and_rest_after n divisor estimate enough close).1
 
 -- Long division in base 2^40, of a number of three digits: the digits of the quotient and the last remainder are those
 -- of the whole division.
@@ -97,21 +107,9 @@ pub long_division :
     → ((n / 2 ^ 80 / divisor * 2 ^ 40 + middle / divisor) * 2 ^ 40 + low / divisor ≡ n / divisor)
     × (low % divisor ≡ n % divisor)
 long_division n divisor middle low some middle_is low_is =
-    let quotient = (n / 2 ^ 80 / divisor * 2 ^ 40 + middle / divisor) * 2 ^ 40 + low / divisor in
-    let left : low % divisor < divisor = mod-lt low some in
-    let parts : quotient * divisor + low % divisor ≡ n =
-    omega (
-      arith,
-      div-add-mod (n / 2 ^ 80) divisor,
-      div-add-mod middle divisor,
-      div-add-mod low divisor,
-      middle_is,
-      low_is,
-    ) in
-    let enough : quotient * divisor ≤ n = omega (arith, parts) in
-    let close : n - quotient * divisor < divisor = omega (arith, parts, left) in
-    let rest : low % divisor ≡ n - quotient * divisor = omega (arith, parts) in
-    (quotient_from_bounds n divisor quotient enough close, rest ∙ rest_from_bounds n divisor quotient enough close)
+    let high = div-add-mod (n / 2 ^ 80) divisor in
+    division_is n divisor ((n / 2 ^ 80 / divisor * 2 ^ 40 + middle / divisor) * 2 ^ 40 + low / divisor) (low % divisor)
+    (omega (arith, high, div-add-mod middle divisor, div-add-mod low divisor, middle_is, low_is)) (mod-lt low some)
 
 -- What the proof of the division by an inverse uses.
 pub ruleset estimates = (leading_bits_fit, product_fits, estimate_fits, IsEstimate-inverse, quotient_from_bounds,

@@ -1,13 +1,12 @@
 -- The expansion of a fraction by long division, and where it ends.
-use Rattle.std.proofs.Common.{◌≢◌, ◌≡◌, ◌+◌, ◌-◌, ◌*◌, ◌^◌, ◌/◌, ◌%◌, ◌<◌, ◌≤◌, ⊎_elim, ℕ, List, length, take, drop}
-use Rattle.std.proofs.Common.{set, get_or, replicate, arith, ap, sym, refl, subst, ◌∙◌, length-take-le}
+use Rattle.std.proofs.Common.{◌≢◌, ◌≡◌, ◌+◌, ◌-◌, ◌*◌, ◌^◌, ◌/◌, ◌%◌, ◌<◌, ◌≤◌, ℕ, List, length, take, drop, set}
+use Rattle.std.proofs.Common.{get_or, replicate, arith, ap, sym, refl, ◌∙◌, length-take-le}
 use Rattle.std.specs.List.{All}
-use Rattle.std.proofs.lemmas.Bool.{cases_lt}
 use Rattle.std.proofs.lemmas.List.{drop-set-lt, drop-drop, drop-replicate, length-set, length-replicate}
 use Rattle.std.proofs.lemmas.List.{get_or-set_same, get_or-take, take_all}
 use Rattle.std.proofs.lemmas.List.Elements.{All-set, All-replicate, All-take, All-get_or}
 use Rattle.std.proofs.lemmas.Nat.{mul-le, div-add-mod', div_below}
-use Rattle.std.proofs.Math.Nat.{one-le-pow}
+use Rattle.std.proofs.Math.Nat.{pow-succ', one-le-pow, mul-le-mul_right, mul-lt-mul_of_pos_right}
 use Rattle.byte_unit_math.specs.Bounds.{expansion_places, scale, places_of_decimal, unit_limit}
 use Rattle.byte_unit_math.specs.Exact.{IsExactAt}
 use Rattle.byte_unit_math.specs.Finite.{value_of_digits, IsExpansion}
@@ -45,10 +44,7 @@ module _ (numerator den whole rest places : ℕ) (digits : List ℕ)
     (some : rest ≢ 0) where
   -- It has written fewer than 93 digits.
   pub IsDividing-room : places < expansion_places
-  IsDividing-room = ⊎_elim (λ room. room)
-      (λ k. let full : expansion_places ≡ places = omega (arith, k, h.few) in
-      absurd (some (rest_is_zero numerator den places _ rest h.exact h.below (subst (IsExactAt numerator den) full ends))))
-      (cases_lt places expansion_places)
+  IsDividing-room = grind (arith, mul-le-mul_right, mul-lt-mul_of_pos_right, one-le-pow, pow-succ', rest_is_zero)
 
   -- A step of the division: the next digit is written, and the next remainder is left.
   pub IsDividing-more : IsDividing numerator den whole (rest * 10 % den) (places + 1)
@@ -63,8 +59,8 @@ module _ (numerator den whole rest places : ℕ) (digits : List ℕ)
       record {
         few = omega (arith, IsDividing-room);
         size = length-set digits places digit ∙ h.size;
-        small = All-set (λ d. d < 10) digits places digit (div_below (rest * 10) den 10 positive (omega (arith, h.below)))
-            h.small;
+        small = All-set (λ d. d < 10) digits places digit
+            (div_below (rest * 10) den 10 positive (omega (arith, h.below))) h.small;
         zeros = zeros_after_set expansion_places places digit digits h.zeros;
         below = omega arith;
         exact = rw (power, value_more_set digits places digit fits) (omega (arith, h.exact, parts));
@@ -135,13 +131,8 @@ pub IsDividing-ended :
     (num den whole rest places : ℕ) (digits : List ℕ) → IsDividing num den whole rest places digits → rest ≡ 0
     → IsExpansion num den (record { whole = whole; digits = take places digits })
 IsDividing-ended num den whole rest places digits h none =
-    expansion_of_first_digits num den whole places digits (omega (arith, h.below))
-    (record {
-      few = omega (arith, h.few, h.size);
-      small = h.small;
-      exact = omega (arith, h.exact, none);
-      last = h.last none;
-    })
+    grind (arith, All-get_or, All-take, expansion_of_digits, expansion_of_first_digits, get_or-take, length-take-le,
+    value_by_last_digit)
 
 -- If 2^a * 5^b is at most 2^93, so are 2^a and 5^b.
 pub factors_within_limit : (a b : ℕ) → 2 ^ a * 5 ^ b ≤ unit_limit → (2 ^ a ≤ unit_limit) × (5 ^ b ≤ unit_limit)

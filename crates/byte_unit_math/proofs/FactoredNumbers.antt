@@ -4,8 +4,8 @@ use Rattle.std.proofs.Math.Nat.{one-le-pow, mul-le-mul_left, mul-le-mul_right, l
 use Rattle.byte_unit_math.specs.Bounds.{scale, places_of_decimal, whole_limit}
 use Rattle.byte_unit_math.proofs.Scales.{pow10_times_rest, powers_from, powers_from_at, exponent_at_most}
 
--- A number below 2^112 has at most 111 factors of 2 and 48 factors of 5; a shift and an entry of the table of powers of 5
--- compute it.
+-- A number below 2^112 has at most 111 factors of 2 and 48 factors of 5; a shift and an entry of the table of powers
+-- of 5 compute it.
 pub record FewFactors (left twos fives : ℕ) : Type 0 where
   pub few_twos : twos ≤ 111
   pub few_fives : fives ≤ 48

@@ -29,7 +29,8 @@ pub record BeginsWith (e : Finite) (kept : ℕ) (ds : List ℕ) : Type 0 where
 
 scaled_cut : (e : Finite) (p : ℕ) → p ≤ length e.digits
     → ulps_of (cut_after p e) ≡ e.whole * 10 ^ p + value_of_digits (take p e.digits)
-scaled_cut e p within = ap (λ n. e.whole * 10 ^ n + value_of_digits (take p e.digits)) (length-take-le p e.digits within)
+scaled_cut e p within =
+    ap (λ n. e.whole * 10 ^ n + value_of_digits (take p e.digits)) (length-take-le p e.digits within)
 
 -- If the last of them are zeros, the decimal cut off after p digits is that of the digits kept, times a power of ten.
 scaled_zeros :
@@ -51,7 +52,8 @@ scaled_nines :
     → ulps_of (cut_after p e) + 1 ≡ (e.whole * 10 ^ kept + (value_of_digits (take kept e.digits) + 1)) * 10 ^ (p - kept)
 scaled_nines e p kept h =
     let product = ap (λ n. e.whole * n) (pow10_split kept p h.few) in
-    let value = ap value_of_digits h.same ∙ fold-append (λ n d. n * 10 + d) 0 (take kept e.digits) (replicate (p - kept) 9) in
+    let value = ap value_of_digits h.same
+    ∙ fold-append (λ n d. n * 10 + d) 0 (take kept e.digits) (replicate (p - kept) 9) in
     let nines = fold_nines (value_of_digits (take kept e.digits)) (p - kept) in
     ap (λ n. n + 1) (scaled_cut e p h.within) ∙ omega (arith, product, value, nines)
 
@@ -89,15 +91,14 @@ pub next_whole_is_expansion :
     (e : Finite) (p kept : ℕ) → EndsInRunOf e p kept 9 → kept ≡ 0
     → IsExpansion (ulps_of (cut_after p e) + 1) (10 ^ p) (record { whole = e.whole + 1; digits = [] })
 next_whole_is_expansion e p kept h none =
-    let same : p - 0 ≡ p = omega arith in
-    let all = rw (none, same) at (scaled_nines e p kept h) in
-    expansion_of_digits (ulps_of (cut_after p e) + 1) (10 ^ p) (e.whole + 1) [] (one_le_pow10 p)
-    (record { small = All-nil (λ d. d < 10); exact = omega (arith, all); last = λ some. absurd (omega (arith, some)) })
+    grind (arith, All-nil, expansion_of_digits, fold-append, fold_nines, one_le_pow10, pow10_split, scaled_cut,
+    scaled_nines)
 
 -- An array in which the last digit kept is one more represents one more.
 value_one_more :
     (e : Finite) (kept : ℕ) (ds : List ℕ) → BeginsWith e kept ds → 0 < kept → kept ≤ length ds
-    → value_of_digits (take kept (set ds (kept - 1) (get_or ds (kept - 1) 0 + 1))) ≡ value_of_digits (take kept e.digits) + 1
+    → value_of_digits (take kept (set ds (kept - 1) (get_or ds (kept - 1) 0 + 1)))
+    ≡ value_of_digits (take kept e.digits) + 1
 value_one_more e kept ds array some room = grind (arith, common_steps, fold-append, take_more, take_more_set)
 
 -- If nines follow the digits that are kept, the cut number plus one in its last digit has these digits, the last of
@@ -116,7 +117,8 @@ next_digit_is_expansion e p kept ds h array some =
     let small : digit < 10 = All-get_or (λ d. d < 10) ds last 0 fits array.small in
     let other = h.stops some in
     let nine : digit + 1 < 10 = omega (arith, small, same_last_digit e kept ds array some, other) in
-    expansion_of_first_digits (ulps_of (cut_after p e) + 1) (10 ^ p) e.whole kept (set ds last (digit + 1)) (one_le_pow10 p)
+    expansion_of_first_digits (ulps_of (cut_after p e) + 1) (10 ^ p) e.whole kept (set ds last (digit + 1))
+    (one_le_pow10 p)
     (record {
       few = omega (arith, length-set ds last (digit + 1), fits);
       small = All-set (λ d. d < 10) ds last (digit + 1) nine array.small;

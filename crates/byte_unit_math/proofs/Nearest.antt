@@ -1,8 +1,7 @@
 -- Which of two neighboring multiples of a number is nearest to another number.
-use Rattle.std.proofs.Common.{◌≡◌, ◌+◌, ◌*◌, ◌^◌, ◌<◌, ◌≤◌, ◌/◌, ◌%◌, ⊎_elim, ℕ, refl, arith}
+use Rattle.std.proofs.Common.{◌≡◌, ◌+◌, ◌*◌, ◌^◌, ◌<◌, ◌≤◌, ◌/◌, ◌%◌, ℕ, refl, arith}
 use Rattle.std.proofs.lemmas.Nat.{div-add-mod', mod_below}
-use Rattle.std.proofs.lemmas.Bool.{cases_lt}
-use Rattle.std.proofs.Math.Nat.{mul-le-mul_right}
+use Rattle.std.proofs.Math.Nat.{mul-le-mul_right, mul-lt-mul_of_pos_right}
 use Rattle.byte_unit_math.specs.Nearest.{IsNearest}
 use Rattle.byte_unit_math.specs.declared.expansion.Ties.{Ties}
 use Rattle.byte_unit_math.specs.declared.expansion.Ties.TheVariants.{Even, Up}
@@ -26,9 +25,7 @@ module _ (num den p count low : ℕ) (lies : LiesAbove num den p count low) wher
   next_multiple other l = grind (arith, mul-le-mul_right)
 
   upper_multiple : (other : ℕ) → count + 1 < other → num * 10 ^ p + den + den ≤ other * den + low
-  upper_multiple other l =
-      let product = mul-le-mul_right {m = count + 2} {n = other} den (omega (arith, l)) in
-      omega (arith, product, lies.split)
+  upper_multiple other l = grind (arith, mul-le-mul_right, mul-lt-mul_of_pos_right)
 
   -- If the rest is less than half of den, the multiple below is nearest, however ties are broken.
   pub nearest_down : (ties : Ties) → 2 * low < den → IsNearest num den p ties count
@@ -52,9 +49,7 @@ module _ (num den p count low : ℕ) (lies : LiesAbove num den p count low) wher
 
   -- If ties go to even, twice the rest is compared with den, and counts as more if the multiple below is odd.
   pub nearest_even_next : den < 2 * low + count % 2 → IsNearest num den p Even (count + 1)
-  nearest_even_next h =
-      ⊎_elim (λ more. nearest_up Even more)
-      (λ most. tie_even_next (omega (arith, h, most)) (omega (arith, h, most))) (cases_lt den (2 * low))
+  nearest_even_next h = grind (arith, lower_multiple, mul-le-mul_right, nearest_up, tie_even_next, upper_multiple)
 
   pub nearest_even_this : 2 * low + count % 2 ≤ den → IsNearest num den p Even count
   nearest_even_this h = grind (arith, nearest_down, tie_even_this)

@@ -32,7 +32,8 @@ pair_in_lane :
 pair_in_lane p rest few = (omega (arith, few), (omega (arith, few), omega (arith, few)))
 
 -- The bytes of lanes of pairs are the digits of the pairs.
-pub digits_of_lanes : (ps : List ℕ) → Each1 (λ p. p < 100) ps → bytes_as_digits (twice ps) (packed ps) ≡ glyphs_of_pairs ps
+pub digits_of_lanes : (ps : List ℕ) → Each1 (λ p. p < 100) ps
+    → bytes_as_digits (twice ps) (packed ps) ≡ glyphs_of_pairs ps
 digits_of_lanes [] few = refl
 digits_of_lanes (p ∷ ps) few =
     let lane = pair_in_lane p (packed ps) few.0 in

@@ -55,7 +55,8 @@ enough_factors :
     → left * (base ^ m * others) ≡ count * (base ^ a * rest) → a ≤ m
 enough_factors base m a left others count rest some none e =
     ⊎_elim (λ more.
-    let power = power_of_sum base a m (suc (a - m - 1)) (omega (arith, more)) ∙ ap (λ n. base ^ m * n) (pow-succ' base (a - m - 1)) in
+    let power = power_of_sum base a m (suc (a - m - 1)) (omega (arith, more))
+    ∙ ap (λ n. base ^ m * n) (pow-succ' base (a - m - 1)) in
     let multiple = count * (base ^ (a - m - 1) * rest) in
     let same : left * others ≡ multiple * base =
     eq_of_mul-eq-mul_right (base ^ m) (one-le-pow m base some) (left * others) (multiple * base)
@@ -105,12 +106,12 @@ exponents_exist (suc turns) n left twos fives few some e =
       record { left = left; product = e; odd = λ k. omega (arith, odd, k); no_five = λ k. omega (arith, no_five, k) },
     ))
     (λ five.
-    let parts = ap (λ m. m * (2 ^ twos * 5 ^ fives)) (let parts : left ≡ 5 * (left / 5) = omega (arith, five) in parts) in
+    let parts = ap (λ m. m * (2 ^ twos * 5 ^ fives)) (let e : left ≡ 5 * (left / 5) = omega (arith, five) in e) in
     exponents_exist turns n (left / 5) twos (suc fives) (omega (arith, few, some, five)) (omega (arith, some, five))
     (rw (pow-succ' 5 fives) (omega (arith, e, parts))))
     (cases_lt 0 (left % 5)))
     (λ two.
-    let parts = ap (λ m. m * (2 ^ twos * 5 ^ fives)) (let parts : left ≡ 2 * (left / 2) = omega (arith, two) in parts) in
+    let parts = ap (λ m. m * (2 ^ twos * 5 ^ fives)) (let e : left ≡ 2 * (left / 2) = omega (arith, two) in e) in
     exponents_exist turns n (left / 2) (suc twos) fives (omega (arith, few, some, two)) (omega (arith, some, two))
     (rw (pow-succ' 2 twos) (omega (arith, e, parts))))
     (cases_lt 0 (left % 2))

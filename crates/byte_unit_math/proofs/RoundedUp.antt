@@ -35,7 +35,8 @@ pub record InFirstGroup (digits places : ℕ) : Type 0 where
 pub InFirstGroup-places : (digits places : ℕ) → places ≤ group_places → digits < 10 ^ places
     → InFirstGroup digits places
 InFirstGroup-places digits places few small =
-    let below = mul-lt-mul_of_pos_right {k = 10 ^ (group_places - places)} small (one_le_pow10 (group_places - places)) in
+    let some = one_le_pow10 (group_places - places) in
+    let below = mul-lt-mul_of_pos_right {k = 10 ^ (group_places - places)} small some in
     let behind = power_of_sum 10 (places_of_decimal - places) (group_places - places) 21 (omega (arith, few)) in
     record {
       digits_fit = omega (arith, small, pow-le-pow_right {n = 10} (omega arith) {i = places} {j = group_places} few);
@@ -75,12 +76,6 @@ IsLeastSize-parts N unit whole fraction part whole_is fraction_is h =
       has = omega (arith, h.has);
       least = λ m r. omega (arith, r, h.least (m - whole * unit) (omega (arith, r)));
     })
-
--- If the least size reaches the limit, each size that is large enough does.
-pub least_size_not_below :
-    (N unit size limit : ℕ) → IsLeastSize N unit size → limit ≤ size → (enough : ℕ) → IsLeastSize N unit enough
-    → limit ≤ enough
-least_size_not_below N unit size limit h reached enough k = omega (arith, reached, h.least enough k.has)
 
 -- A fact that holds also holds if an option is `None`.
 pub IfNone-always : {T : Type 0} (o : Option T) (Fact : Type 0) → Fact → IfNone o Fact

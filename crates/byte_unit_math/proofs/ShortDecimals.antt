@@ -10,7 +10,8 @@ use Rattle.byte_unit_math.proofs.Division.{fraction_below_one}
 use Rattle.byte_unit_math.proofs.Places.{HasDigits, HasDigits-least, HasDigits-at_least}
 
 -- The fields hold the fraction of the value.
-fields_have_digits : (N : ℕ) (d : Inside) → IsNormalized d → decimal_value d ≡ N → HasDigits (N % scale) d.digits d.places
+fields_have_digits : (N : ℕ) (d : Inside) → IsNormalized d → decimal_value d ≡ N
+    → HasDigits (N % scale) d.digits d.places
 fields_have_digits N d h view = grind (arith)
 
 -- The field `places` is the least number of digits after the point.

@@ -122,18 +122,21 @@ difference_times a b k = omega (arith, mul-sub k a b, mul-sub k b a)
 
 -- What is nearest to the expansion of a fraction is nearest to the fraction.
 pub nearest_of_expansion :
-    (num den : ℕ) (e : Finite) (p : ℕ) (ties : Ties) (q : ℕ) → (0 < den) × (num * 10 ^ length e.digits ≡ ulps_of e * den)
+    (num den : ℕ) (e : Finite) (p : ℕ) (ties : Ties) (q : ℕ)
+    → (0 < den) × (num * 10 ^ length e.digits ≡ ulps_of e * den)
     → IsNearest (ulps_of e) (10 ^ length e.digits) p ties q → IsNearest num den p ties q
 nearest_of_expansion num den e p ties q is_exact h =
     let power = 10 ^ length e.digits in
     let number = ulps_of e in
     let exact = ap (λ n. n * 10 ^ p) is_exact.1 in
     let same : (o : ℕ) → abs_diff (o * power) (number * 10 ^ p) * den ≡ abs_diff (o * den) (num * 10 ^ p) * power =
-    λ o. omega (arith, exact, difference_times (o * power) (number * 10 ^ p) den, difference_times (o * den) (num * 10 ^ p) power) in
+    λ o. let this = difference_times (o * power) (number * 10 ^ p) den in
+    omega (arith, exact, this, difference_times (o * den) (num * 10 ^ p) power) in
     record {
       nearest = λ o. le_of_mul-le-mul_right {k = power}
           (omega (arith, mul-le-mul_right den (h.nearest o), same q, same o)) (one_le_pow10 (length e.digits));
-      tie = λ o n k. h.tie o n (eq_of_mul-eq-mul_right den is_exact.0 _ _ (same o ∙ (ap (λ x. x * power) k ∙ sym (same q))));
+      tie = λ o n k. h.tie o n (eq_of_mul-eq-mul_right den is_exact.0 _ _
+          (same o ∙ (ap (λ x. x * power) k ∙ sym (same q))));
     }
 
 -- Two fractions with positive denominators are equal.

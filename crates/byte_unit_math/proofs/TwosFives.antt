@@ -13,7 +13,8 @@ few_factors_of_size size left twos fives some h small =
     let powers = mul-le-mul_left {m = 2 ^ fives} {n = 5 ^ fives} (2 ^ twos)
     (pow-le-pow_left {n = 2} {m = 5} (omega arith) fives) in
     let product = mul-le-mul_right {m = 1} {n = left} (2 ^ twos * 5 ^ fives) some in
-    exponent_at_most 2 99 (twos + fives) size_limit (omega arith) (omega (arith, pow-add 2 twos fives, powers, product, h, small))
+    exponent_at_most 2 99 (twos + fives) size_limit (omega arith)
+    (omega (arith, pow-add 2 twos fives, powers, product, h, small))
     (omega arith)
 
 -- A number whose lowest `twos` bits are 0 is a multiple of 2^twos.

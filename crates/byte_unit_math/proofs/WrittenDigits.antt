@@ -55,7 +55,8 @@ decimal_split (suc k) n wide small =
     (le-div_iff_mul-le {k = 10 ^ k} {x = 10} {y = n} (one_le_pow10 k)).1 (omega (arith, wide, power)) in
     let tenth : front / 10 ≡ n / 10 ^ suc k = div-div-eq-div-mul n (10 ^ k) 10 ∙ ap (λ p. n / p) power in
     decimal_split k n (omega (arith, wide, power)) small
-    ∙ (ap (λ l. l ++ glyphs (last_digits k n)) (decimal_next_digit front many (omega (arith, small, div-le_self n (10 ^ k))))
+    ∙ (ap (λ l. l ++ glyphs (last_digits k n)) (decimal_next_digit front many
+    (omega (arith, small, div-le_self n (10 ^ k))))
     ∙ (append_assoc (decimal (front / 10)) ((48 + front % 10) ∷ []) (glyphs (last_digits k n))
     ∙ ap (λ q. decimal q ++ glyphs (last_digits (suc k) n)) tenth))
 
@@ -95,7 +96,8 @@ without_leading_zeros (suc (suc k)) n behind below small some =
     rw zeros (without_leading_zeros (suc k) n behind less small (omega arith)))
     (λ more.
     let front = n / 10 ^ suc k in
-    let one : front < 10 = div_below n (10 ^ suc k) 10 (one_le_pow10 (suc k)) (omega (arith, below, pow-succ' 10 (suc k))) in
+    let one : front < 10 =
+    div_below n (10 ^ suc k) 10 (one_le_pow10 (suc k)) (omega (arith, below, pow-succ' 10 (suc k))) in
     let none : suc (suc k) - length (decimal n) ≡ 0 =
     omega (arith, decimal_length_split (suc k) n more small, decimal_length_one front one) in
     let digit : front % 10 ≡ front = omega (arith, one) in
@@ -203,7 +205,7 @@ pub ruleset ascii_texts = (IsUtf8-from_ascii, IsAscii-take)
 pub ruleset fractions_written = (pow10_bounds, length_of_one_and_digits, one_becomes_point, fraction_ascii)
 
 -- A number of more than two or four digits is written as the number without them, and these digits.
-digits_before :
+pub digits_before :
     (k n : ℕ) (behind : List ℕ) → 10 ^ k ≤ n → n < 2 ^ 128
     → decimal n ++ behind ≡ decimal (n / 10 ^ k) ++ (glyphs (last_digits k (n % 10 ^ k)) ++ behind)
 digits_before k n behind wide small =
@@ -238,7 +240,7 @@ pub drop_one_more : (place : ℕ) (bytes : List ℕ) → drop (place + 1) bytes 
 drop_one_more place bytes = sym (drop-drop 1 place bytes)
 
 pub ruleset eighteen_written =
-    (one_and_eighteen, last_eighteen, eighteen_more, drop_one_more, length_of_one_and_18_digits, decimal_length_positive)
+    (eighteen_more, decimal_length_positive, length_of_one_and_18_digits)
 
 -- What the proof of writing digits in groups uses.
 pub ruleset groups_written =

@@ -17,6 +17,7 @@ loop-rest-preserved c =
       within = omega (arith, long);
       place = omega (arith, long, more, ap (λ n. length (decimal n)) parts.ensures.quotient);
       digits =
-          rw (parts.ensures.quotient, drop_one_more put.result put.new.bytes, put.ensures.digits, one, parts.ensures.rest)
+          rw (parts.ensures.quotient, drop_one_more put.result put.new.bytes, put.ensures.digits, one,
+              parts.ensures.rest)
           (sym (last_eighteen l.rest (drop l.start l.bytes) (omega arith) (omega arith)) ∙ l.invariant.digits);
     }

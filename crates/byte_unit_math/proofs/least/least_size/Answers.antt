@@ -1,11 +1,10 @@
 -- The result is the least size of the number of units, or `None` if that reaches the limit.
-use Rattle.std.proofs.Common.{◌+◌, ◌-◌, ◌*◌, ◌^◌, ◌<◌, arith}
+use Rattle.std.proofs.Common.{ℕ, ◌+◌, ◌-◌, ◌*◌, ◌^◌, ◌<◌, ◌≤◌, arith}
 use Rattle.std.proofs.lemmas.Bool.Decides.{nat_tests}
 use Rattle.byte_unit_math.specs.Bounds.{places_of_decimal}
 use Rattle.byte_unit_math.specs.Least.{IsLeastSize}
 use Rattle.byte_unit_math.proofs.RoundedUp.{IsRoundedUp-groups, IsLeastSize-halves, IsLeastSize-parts}
-use Rattle.byte_unit_math.proofs.RoundedUp.{InFirstGroup-places, IsLeastSize-group, least_size_not_below, IfNone-always}
-use Rattle.byte_unit_math.proofs.RoundedUp.{IfNone-below}
+use Rattle.byte_unit_math.proofs.RoundedUp.{InFirstGroup-places, IsLeastSize-group, IfNone-always, IfNone-below}
 use Rattle.byte_unit_math.proofs.least.least_size.Goals.{After-whole, then-places-le-GROUP_PLACES}
 use Rattle.byte_unit_math.proofs.least.least_size.Goals.{else-places-le-GROUP_PLACES}
 use Rattle.byte_unit_math.proofs.least.least_size.Goals as goal
@@ -45,28 +44,26 @@ size_least c =
     IsLeastSize-parts c.args.d c.args.unit_size c.whole.result _ c.if-places-le-GROUP_PLACES.part c.whole.ensures.value
     (c.digits-digits.ensures.value c.places-places.result c.places-places.ensures.least) (fraction_least c)
 
+-- If it reaches the limit, each size that is large enough does.
+not_below : (c : After-whole) → c.args.limit ≤ c.whole.result * c.args.unit_size + c.if-places-le-GROUP_PLACES.part
+    → (n : ℕ) → IsLeastSize c.args.d c.args.unit_size n → c.args.limit ≤ n
+not_below c reached n h = omega (arith, reached, (size_least c).least n h.has)
+
 pub returns-in_err-checked_mul-clause-none : goal.returns-in_err-checked_mul-clause-none
-returns-in_err-checked_mul-clause-none c =
-    let least = size_least (goal.at.returns-in_err-checked_mul-clause-none c).After-whole in
-    IfNone-always _ _ (least_size_not_below c.args.d c.args.unit_size
-    (c.whole.result * c.args.unit_size + c.if-places-le-GROUP_PLACES.part)
-    c.args.limit least (omega (arith, c.in_err-checked_mul.ensures)))
+returns-in_err-checked_mul-clause-none c = IfNone-always _ _
+    (not_below (goal.at.returns-in_err-checked_mul-clause-none c).After-whole
+    (omega (arith, c.in_err-checked_mul.ensures)))
 
 pub returns-in_err-size-clause-none : goal.returns-in_err-size-clause-none
-returns-in_err-size-clause-none c =
-    let least = size_least (goal.at.returns-in_err-size-clause-none c).After-whole in
-    IfNone-always _ _ (least_size_not_below c.args.d c.args.unit_size
-    (c.whole.result * c.args.unit_size + c.if-places-le-GROUP_PLACES.part)
-    c.args.limit least (omega (arith, c.in_err-size.ensures, c.in_ok-checked_mul.ensures)))
+returns-in_err-size-clause-none c = IfNone-always _ _
+    (not_below (goal.at.returns-in_err-size-clause-none c).After-whole
+    (omega (arith, c.in_err-size.ensures, c.in_ok-checked_mul.ensures)))
 
 pub returns-clause-least : goal.returns-clause-least
 returns-clause-least c =
     let least = size_least (goal.at.returns-clause-least c).After-whole in grind (arith, nat_tests, least)
 
 pub returns-clause-none : goal.returns-clause-none
-returns-clause-none c =
-    let least = size_least (goal.at.returns-clause-none c).After-whole in
-    rw c.then_some.ensures (IfNone-below c.in_ok-size.size c.args.limit _ (λ reached.
-    least_size_not_below c.args.d c.args.unit_size
-    (c.whole.result * c.args.unit_size + c.if-places-le-GROUP_PLACES.part)
-    c.args.limit least (omega (arith, reached, c.in_ok-size.ensures, c.in_ok-checked_mul.ensures))))
+returns-clause-none c = rw c.then_some.ensures (IfNone-below c.in_ok-size.size c.args.limit _ (λ reached.
+    not_below (goal.at.returns-clause-none c).After-whole
+    (omega (arith, reached, c.in_ok-size.ensures, c.in_ok-checked_mul.ensures))))

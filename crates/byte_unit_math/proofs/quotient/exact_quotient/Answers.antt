@@ -26,7 +26,8 @@ loop-rest-preserved c =
 pub returns-then-rest-gt0-clause-none : goal.returns-then-rest-gt0-clause-none
 returns-then-rest-gt0-clause-none c = λ exact.
     let all : min c.args.places places_of_decimal ≡ c.loop-rest.digits = grind arith in
-    not_exact _ _ _ _ _ c.loop-rest.invariant.divides c.if-rest-gt0.true (subst (IsExactAt c.args.size c.args.unit) all exact)
+    not_exact _ _ _ _ _ c.loop-rest.invariant.divides c.if-rest-gt0.true
+    (subst (IsExactAt c.args.size c.args.unit) all exact)
 
 pub returns-clause-quotient : goal.returns-clause-quotient
 returns-clause-quotient c = grind (arith, Dividing-ended, IsQuotient-digits)
