@@ -1,15 +1,16 @@
 -- The number that decimal digits represent, the last digits of a number, and digits without trailing zeros.
 use Rattle.std.proofs.Common.{◌≡◌, ℕ, zero, suc, ◌+◌, ◌-◌, ◌*◌, ◌/◌, ◌%◌, ◌^◌, ◌<◌, ◌≤◌, List, [], ◌∷◌, ◌++◌, length}
-use Rattle.std.proofs.Common.{replicate, refl, sym}
-use Rattle.std.proofs.Common.{ap, ◌∙◌, arith, length-append}
+use Rattle.std.proofs.Common.{replicate, take, set, get_or, refl, sym, ap, ◌∙◌, arith, length-append}
 use Rattle.std.specs.List.{fold, All}
-use Rattle.std.proofs.Math.Nat.{pow-succ', one-le-pow}
-use Rattle.std.proofs.lemmas.Nat.{pow-add, mod-mul-add, mod_below}
-use Rattle.std.proofs.lemmas.List.{length-replicate}
+use Rattle.std.proofs.Math.Nat.{pow-succ', one-le-pow, mul-le-mul_right}
+use Rattle.std.proofs.Math.Arith.{mod-mul}
+use Rattle.std.proofs.lemmas.Nat.{pow-add, same_from_place}
+use Rattle.std.proofs.lemmas.List.{length-replicate, take_more, take_more_set}
 use Rattle.std.proofs.lemmas.List.Elements.{All-nil, All-cons, All-head, All-tail}
 use Rattle.std.proofs.lemmas.List.Sums.{fold-append}
 use Rattle.byte_unit_math.specs.Finite.{Finite, value_of_digits, ulps_of}
 use Rattle.byte_unit_math.specs.Digits.{last_digits, at_places, prepend_digit, trim_zeros, trim_expansion}
+use Rattle.std.proofs.lemmas.Grind.{common_steps}
 
 -- A power of ten is at least 1.
 pub one_le_pow10 : (p : ℕ) → 1 ≤ 10 ^ p
@@ -25,15 +26,54 @@ fold_digits_from n (d ∷ ds) = rw (pow-succ' 10 (length ds))
 pub value_cons : (d : ℕ) (ds : List ℕ) → value_of_digits (d ∷ ds) ≡ d * 10 ^ length ds + value_of_digits ds
 value_cons d ds = omega (arith, fold_digits_from (0 * 10 + d) ds)
 
+-- Digits represent less than the power of ten of their number.
+pub value_below_power : (ds : List ℕ) → All (λ d. d < 10) ds → value_of_digits ds < 10 ^ length ds
+value_below_power [] h = omega arith
+value_below_power (d ∷ ds) h =
+    let small : d < 10 = All-head (λ d. d < 10) d ds h in
+    let first = mul-le-mul_right {m = d + 1} {n = 10} (10 ^ length ds) (omega (arith, small)) in
+    let rest = value_below_power ds (All-tail (λ d. d < 10) d ds h) in
+    rw (pow-succ' 10 (length ds)) (omega (arith, first, value_cons d ds, rest))
+
+-- Digits are determined by their number and the number that they represent.
+pub same_digits :
+    (ds es : List ℕ) → All (λ d. d < 10) ds → All (λ d. d < 10) es → length ds ≡ length es
+    → value_of_digits ds ≡ value_of_digits es → ds ≡ es
+same_digits [] [] h k len e = refl
+same_digits [] (x ∷ es) h k len e = absurd (omega (arith, len))
+same_digits (d ∷ ds) [] h k len e = absurd (omega (arith, len))
+same_digits (d ∷ ds) (x ∷ es) h k len e =
+    let l : length ds ≡ length es = omega (arith, len) in
+    let hs = All-tail (λ d. d < 10) d ds h in
+    let ks = All-tail (λ d. d < 10) x es k in
+    let product = ap (λ n. x * 10 ^ n) l in
+    let parts =
+    same_from_place d (value_of_digits ds) x (value_of_digits es) (10 ^ length ds) (value_below_power ds hs)
+    (rw l (value_below_power es ks)) (omega (arith, product, value_cons d ds, value_cons x es, e)) in
+    let rest = same_digits ds es hs ks l parts.1 in
+    λ i. parts.0 i ∷ rest i
+
 pub value_zeros : (k : ℕ) → value_of_digits (replicate k 0) ≡ 0
 value_zeros zero = refl
 value_zeros (suc k) = value_zeros k
 
+-- Digits put together count the first ones times the power of ten of the others, and these.
+pub value_append : (ds es : List ℕ)
+    → value_of_digits (ds ++ es) ≡ value_of_digits ds * 10 ^ length es + value_of_digits es
+value_append ds es = fold-append (λ n d. n * 10 + d) 0 ds es ∙ fold_digits_from (value_of_digits ds) es
+
 -- k trailing zeros multiply the value of digits by 10^k.
 pub value_append_zeros : (ds : List ℕ) (k : ℕ) → value_of_digits (ds ++ replicate k 0) ≡ value_of_digits ds * 10 ^ k
-value_append_zeros ds k =
-    fold-append (λ n d. n * 10 + d) 0 ds (replicate k 0)
-    ∙ (fold_digits_from (value_of_digits ds) (replicate k 0) ∙ rw (length-replicate {A = ℕ} k 0, value_zeros k) (omega arith))
+value_append_zeros ds k = grind (arith, value_append, length-replicate, value_zeros)
+
+-- One digit more counts ten times the digits before it, and the digit.
+pub value_more : (ds : List ℕ) (i : ℕ) → i < length ds
+    → value_of_digits (take (i + 1) ds) ≡ value_of_digits (take i ds) * 10 + get_or ds i 0
+value_more ds i within = grind (arith, common_steps, fold-append, take_more)
+
+pub value_more_set : (ds : List ℕ) (i d : ℕ) → i < length ds
+    → value_of_digits (take (i + 1) (set ds i d)) ≡ value_of_digits (take i ds) * 10 + d
+value_more_set ds i d within = grind (arith, fold-append, take_more_set)
 
 -- The last p digits of a number are p digits.
 pub length_last_digits : (p q : ℕ) → length (last_digits p q) ≡ p
@@ -48,17 +88,7 @@ last_digits_below_ten (suc p) q =
 
 -- `q mod 10m` is the next digit, `(q / m) mod 10`, times m, plus `q mod m`.
 pub mod_next_power : (q power : ℕ) → 1 ≤ power → q % (10 * power) ≡ q / power % 10 * power + q % power
-mod_next_power q power one =
-    let low : q % power < power = omega (arith, one, mod_below q power (omega arith)) in
-    let parts : q ≡ q / power * power + q % power = omega (arith, one) in
-    let tens : q / power ≡ q / power / 10 * 10 + q / power % 10 = omega arith in
-    let product = ap (λ n. n * power) tens in
-    let digit : q / power % 10 ≤ 9 = omega arith in
-    let few : q / power % 10 * power + q % power < 10 * power = grind (arith, digit, low) in
-    let whole : q ≡ q / power / 10 * (10 * power) + (q / power % 10 * power + q % power) =
-    omega (arith, parts, product) in
-    ap (λ n. n % (10 * power)) whole
-    ∙ mod-mul-add (q / power / 10) (10 * power) (q / power % 10 * power + q % power) few
+mod_next_power q power one = mod-mul q (omega arith) one
 
 -- The last p digits of q represent the remainder of q by 10^p.
 pub value_of_last_digits : (p q : ℕ) → value_of_digits (last_digits p q) ≡ q % 10 ^ p
@@ -77,11 +107,11 @@ pub record HasTrailingZeros (ds front : List ℕ) : Type 0 where
   pub zeros : ℕ
   pub list_is : ds ≡ front ++ replicate zeros 0
 
-HasTrailingZeros-prepend : (d : ℕ) (es ds : List ℕ) → HasTrailingZeros ds es → HasTrailingZeros (d ∷ ds) (prepend_digit d es)
+HasTrailingZeros-prepend : (d : ℕ) (es ds : List ℕ) → HasTrailingZeros ds es
+    → HasTrailingZeros (d ∷ ds) (prepend_digit d es)
 HasTrailingZeros-prepend zero [] ds h = record { zeros = suc h.zeros; list_is = ap (λ l. zero ∷ l) h.list_is }
 HasTrailingZeros-prepend (suc d) [] ds h = record { zeros = h.zeros; list_is = ap (λ l. suc d ∷ l) h.list_is }
-HasTrailingZeros-prepend zero (e ∷ es) ds h = record { zeros = h.zeros; list_is = ap (λ l. zero ∷ l) h.list_is }
-HasTrailingZeros-prepend (suc d) (e ∷ es) ds h = record { zeros = h.zeros; list_is = ap (λ l. suc d ∷ l) h.list_is }
+HasTrailingZeros-prepend d (e ∷ es) ds h = record { zeros = h.zeros; list_is = ap (λ l. d ∷ l) h.list_is }
 
 pub HasTrailingZeros-trim : (ds : List ℕ) → HasTrailingZeros ds (trim_zeros ds)
 HasTrailingZeros-trim [] = record { zeros = 0; list_is = refl }
@@ -90,8 +120,7 @@ HasTrailingZeros-trim (d ∷ ds) = HasTrailingZeros-prepend d (trim_zeros ds) ds
 small_before_digit : (d : ℕ) (es : List ℕ) → d < 10 → All (λ d. d < 10) es → All (λ d. d < 10) (prepend_digit d es)
 small_before_digit zero [] h k = k
 small_before_digit (suc d) [] h k = All-cons (λ d. d < 10) (suc d) [] h k
-small_before_digit zero (e ∷ es) h k = All-cons (λ d. d < 10) zero (e ∷ es) h k
-small_before_digit (suc d) (e ∷ es) h k = All-cons (λ d. d < 10) (suc d) (e ∷ es) h k
+small_before_digit d (e ∷ es) h k = All-cons (λ d. d < 10) d (e ∷ es) h k
 
 pub small_without_zeros : (ds : List ℕ) → All (λ d. d < 10) ds → All (λ d. d < 10) (trim_zeros ds)
 small_without_zeros [] h = h

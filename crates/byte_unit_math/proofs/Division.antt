@@ -1,14 +1,11 @@
 -- Long division with one digit per step.
-use Rattle.std.proofs.Common.{◌≡◌, ℕ, suc, ◌+◌, ◌-◌, ◌*◌, ◌/◌, ◌%◌, ◌^◌, ◌<◌, ◌≤◌, ⊎_elim, arith, sym, ap, ◌∙◌, subst}
-use Rattle.std.proofs.Math.Nat.{pow-succ', mul-add-mod_self_right, mod-eq_of_lt, mul-mod_left, div-le_self}
-use Rattle.std.proofs.Math.Nat.{div-add-mod', mul-le-mul_right}
-use Rattle.std.proofs.Math.Nat.{eq_of_mul-eq-mul_right}
-use Rattle.std.proofs.lemmas.Nat.{pow-add, div_below, mod_below}
+use Rattle.std.proofs.Common.{◌≡◌, ℕ, ◌+◌, ◌-◌, ◌*◌, ◌/◌, ◌%◌, ◌^◌, ◌<◌, ◌≤◌, ⊎_elim, arith, ap, ◌∙◌, subst}
+use Rattle.std.proofs.Math.Nat.{div-add-mod', mul-lt-mul_of_pos_right, eq_of_mul-eq-mul_right}
+use Rattle.std.proofs.lemmas.Nat.{div_below, mod_below, same_from_place}
 use Rattle.std.proofs.lemmas.Bool.{cases_lt}
-use Rattle.std.proofs.Math.Numerals.{add-one}
-use Rattle.byte_unit_math.specs.Bounds.{scale, places_of_decimal, whole_limit}
+use Rattle.byte_unit_math.specs.Bounds.{scale, places_of_decimal}
 use Rattle.byte_unit_math.specs.Exact.{IsExactAt, IsLeastPlaces, IsQuotient}
-use Rattle.byte_unit_math.proofs.Scales.{pow10_bounds, pow10_times_rest, pow10_split}
+use Rattle.byte_unit_math.proofs.Scales.{pow10_bounds, pow10_times_rest, pow10_split, power_of_sum}
 
 -- If the quotient is exact with this many digits after the point, the division leaves no remainder there.
 pub rest_is_zero :
@@ -16,44 +13,7 @@ pub rest_is_zero :
     → IsExactAt size unit places
     → rest ≡ 0
 rest_is_zero size unit places count rest product small exact =
-    sym (mod-eq_of_lt small)
-    ∙ (sym (mul-add-mod_self_right count unit rest)
-    ∙ (ap (λ n. n % unit) (sym product ∙ exact.1) ∙ mul-mod_left exact.0 unit))
-
--- A division so far with its quotient and remainder, and the next digit with the remainder after it.
-pub record NextDigit (size unit power count rest digit left : ℕ) : Type 0 where
-  pub so_far : size * power ≡ count * unit + rest
-  pub next : digit * unit + left ≡ rest * 10
-
--- One digit more multiplies the quotient by ten and adds the digit.
-pub divide_one_more_digit :
-    (size unit power count rest digit left : ℕ) → NextDigit size unit power count rest digit left
-    → size * (10 * power) ≡ (count * 10 + digit) * unit + left
-divide_one_more_digit size unit power count rest digit left h = omega (arith, ap (λ n. n * 10) h.so_far, h.next)
-
--- Appending a digit to whole part and fraction is the same as appending it to the fraction.
-pub append_digit : (whole power value digit : ℕ)
-    → (whole * power + value) * 10 + digit ≡ whole * (10 * power) + (value * 10 + digit)
-append_digit whole power value digit = omega arith
-
-last_digit_of_tens : (count power : ℕ) → (count * (10 * power)) % 10 ≡ 0
-last_digit_of_tens count power = omega arith
-
-last_digit_zero :
-    (size unit count places fewer : ℕ) → 0 < unit → size * 10 ^ places ≡ count * unit
-    → (fewer < places) × IsExactAt size unit fewer
-    → count % 10 ≡ 0
-last_digit_zero size unit count places fewer positive product h =
-    let last : ℕ = places - fewer - 1 in
-    let total : fewer + suc last ≡ places = omega (arith, h.0) in
-    let power : 10 ^ places ≡ 10 ^ fewer * (10 * 10 ^ last) =
-    ap (λ n. 10 ^ n) (sym total) ∙ (pow-add 10 fewer (suc last) ∙ ap (λ n. 10 ^ fewer * n) (pow-succ' 10 last)) in
-    let times_size = ap (λ n. size * n) power in
-    let raised = ap (λ n. n * (10 * 10 ^ last)) h.1.1 in
-    let tens : count ≡ h.1.0 * (10 * 10 ^ last) =
-    eq_of_mul-eq-mul_right unit positive count (h.1.0 * (10 * 10 ^ last))
-    (omega (arith, times_size, raised, product)) in
-    ap (λ n. n % 10) tens ∙ last_digit_of_tens h.1.0 (10 ^ last)
+    (same_from_place count rest exact.0 0 unit small (omega (arith, small)) (omega (arith, product, exact.1))).1
 
 -- A quotient that is exact with a last digit other than zero is exact with no fewer digits after the point.
 pub IsLeastPlaces-last_digit :
@@ -63,9 +23,14 @@ IsLeastPlaces-last_digit size unit count places positive product last =
     record {
       has = (count, product);
       least = λ fewer exact.
-          ⊎_elim (λ below. let some = last (omega (arith, below)) in
-          let none = last_digit_zero size unit count places fewer positive product (below, exact) in
-          absurd (omega (arith, some, none)))
+          ⊎_elim (λ below.
+          let behind = 10 ^ (places - fewer) in
+          let power = ap (λ n. size * n) (pow10_split fewer places (omega (arith, below))) in
+          let tens : count ≡ exact.0 * behind =
+          eq_of_mul-eq-mul_right unit positive count (exact.0 * behind)
+          (omega (arith, product, power, ap (λ n. n * behind) exact.1)) in
+          let ten = ap (λ n. exact.0 * n) (pow10_split 1 (places - fewer) (omega (arith, below))) in
+          absurd (omega (arith, tens, ten, last (omega (arith, below)))))
           (λ enough. enough) (cases_lt fewer places);
     }
 
@@ -88,18 +53,11 @@ pub Dividing-more :
     (size unit rest fraction digits : ℕ) → 1 ≤ unit → 0 < rest → Dividing size unit rest fraction digits
     → Dividing size unit (rest * 10 % unit) (fraction * 10 + rest * 10 / unit) (digits + 1)
 Dividing-more size unit rest fraction digits some left h =
-    let power : 10 ^ (digits + 1) ≡ 10 * 10 ^ digits = rw add-one (pow-succ' 10 digits) in
-    let digit : rest * 10 / unit < 10 = div_below (rest * 10) unit 10 (omega arith) (omega (arith, h.small)) in
-    let below = h.below in
-    let count = size / unit * 10 ^ digits + fraction in
-    let product =
-    divide_one_more_digit size unit (10 ^ digits) count rest (rest * 10 / unit) (rest * 10 % unit)
-    (record { so_far = h.product; next = div-add-mod' (rest * 10) unit }) in
-    let parts = append_digit (size / unit) (10 ^ digits) fraction (rest * 10 / unit) in
+    let power : 10 ^ (digits + 1) ≡ 10 * 10 ^ digits = power_of_sum 10 (digits + 1) 1 digits (omega arith) in
     record {
-      product = rw power (product ∙ ap (λ n. n * unit + rest * 10 % unit) parts);
+      product = rw power (omega (arith, h.product, div-add-mod' (rest * 10) unit));
       small = mod_below (rest * 10) unit (omega arith);
-      below = rw power (omega arith);
+      below = rw power (omega (arith, h.below, div_below (rest * 10) unit 10 (omega arith) (omega (arith, h.small))));
       least = λ fewer exact.
           ⊎_elim (λ more. omega (arith, more)) (λ few.
           let same : fewer ≡ digits = omega (arith, few, h.least fewer exact) in
@@ -113,12 +71,6 @@ pub Dividing-ended :
     → size * 10 ^ digits ≡ (size / unit * 10 ^ digits + fraction) * unit
 Dividing-ended size unit rest fraction digits h none = omega (arith, h.product, none)
 
-split_power : (few more most : ℕ) → few ≤ more → more ≤ most
-    → 10 ^ (most - few) ≡ 10 ^ (more - few) * 10 ^ (most - more)
-split_power few more most h k =
-    let total : most - few ≡ (more - few) + (most - more) = omega arith in
-    ap (λ n. 10 ^ n) total ∙ pow-add 10 (more - few) (most - more)
-
 -- The whole part and an exact fraction, scaled by 10^28, are the quotient.
 pub IsQuotient-digits :
     (size unit fraction digits places : ℕ) → digits ≤ places → places ≤ places_of_decimal
@@ -129,7 +81,9 @@ IsQuotient-digits size unit fraction digits places few room product =
     let power = ap (λ n. size * n) (pow10_split digits places few) in
     let raised = ap (λ n. n * 10 ^ (places - digits)) product in
     let parts = ap (λ n. size / unit * n) (pow10_times_rest digits (omega (arith, few))) in
-    let split = ap (λ n. count * n) (split_power digits places places_of_decimal few room) in
+    let split =
+    ap (λ n. count * n)
+    (power_of_sum 10 (places_of_decimal - digits) (places - digits) (places_of_decimal - places) (omega arith)) in
     record {
       count = count * 10 ^ (places - digits);
       exact = power ∙ omega (arith, raised);
@@ -149,15 +103,15 @@ pub fraction_below_one :
     (fraction digits : ℕ) → digits ≤ places_of_decimal → fraction < 10 ^ digits
     → fraction * 10 ^ (places_of_decimal - digits) < scale
 fraction_below_one fraction digits room small =
-    let bound = pow10_bounds (places_of_decimal - digits) (omega arith) in
-    let product = mul-le-mul_right {m = fraction + 1} {n = 10 ^ digits} (10 ^ (places_of_decimal - digits))
-    (omega arith) in
-    omega (arith, product, pow10_times_rest digits room, bound.0)
+    let rest = pow10_bounds (places_of_decimal - digits) (omega arith) in
+    let product = mul-lt-mul_of_pos_right {k = 10 ^ (places_of_decimal - digits)} small (omega (arith, rest)) in
+    omega (arith, product, pow10_times_rest digits room)
 
--- At most 28 digits after the point, held as one number, are below 10^28.
-pub digits_below_one : (fraction digits : ℕ) → digits ≤ places_of_decimal → fraction < 10 ^ digits → fraction < scale
-digits_below_one fraction digits room small = omega (arith, small, pow10_bounds digits room)
-
--- The quotient of a number below 2^112 is below 2^112.
-pub quotient_below_whole_limit : (size unit : ℕ) → size < whole_limit → size / unit < whole_limit
-quotient_below_whole_limit size unit h = let few = div-le_self size unit in omega (arith, few)
+-- With one digit more, fewer than 28 digits after the point are below 10^28.
+pub next_digit_below :
+    (size unit rest fraction digits : ℕ) → Dividing size unit rest fraction digits → digits < places_of_decimal
+    → fraction * 10 + rest * 10 / unit < scale
+next_digit_below size unit rest fraction digits h room =
+    let digit = div_below (rest * 10) unit 10 (omega (arith, h.small)) (omega (arith, h.small)) in
+    let power = power_of_sum 10 (digits + 1) 1 digits (omega arith) in
+    omega (arith, digit, h.below, power, pow10_bounds (digits + 1) (omega (arith, room)))

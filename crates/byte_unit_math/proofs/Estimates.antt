@@ -1,9 +1,8 @@
 -- A quotient by a constant: by a multiplication with its inverse, and by long division.
-use Rattle.std.proofs.Common.{◌≡◌, ℕ, ◌+◌, ◌-◌, ◌*◌, ◌/◌, ◌%◌, ◌^◌, ◌<◌, ◌≤◌, arith, ap, sym, ◌∙◌, subst}
+use Rattle.std.proofs.Common.{◌≡◌, ℕ, ◌+◌, ◌-◌, ◌*◌, ◌/◌, ◌%◌, ◌^◌, ◌<◌, ◌≤◌, arith, ap, sym, ◌∙◌}
 use Rattle.std.proofs.Math.Nat.{mul-le-mul_right, le_of_mul-le-mul_right, div-mul-le_self, lt_of_mul-lt-mul_right}
-use Rattle.std.proofs.Math.Nat.{lt-div-mul-add, div-lt_iff_lt-mul}
-use Rattle.std.proofs.Math.Nat.{div-add-mod, div-eq_of_lt-le, mod-eq-sub-div-mul, mod-lt, one-le-pow, pow-le-pow_right}
-use Rattle.std.proofs.lemmas.Nat.{pow-add}
+use Rattle.std.proofs.Math.Nat.{lt-div-mul-add, div-lt_iff_lt-mul, div-add-mod, mod-lt, one-le-pow, pow-le-pow_right}
+use Rattle.std.proofs.lemmas.Nat.{pow-add, same_from_place, div-add-mod'}
 use Rattle.byte_unit_math.specs.Inverse.{HasInverse}
 
 -- The estimate is the quotient n / divisor, or one less.
@@ -17,17 +16,13 @@ estimate_of n inverse cut shift = n / 2 ^ cut * inverse / 2 ^ shift
 
 -- The leading bits of n are less than 2^64.
 pub leading_bits_fit : {n divisor inverse cut shift : ℕ} → HasInverse n divisor inverse cut shift → n / 2 ^ cut < 2 ^ 64
-leading_bits_fit {n} {divisor} {inverse} {cut} {shift} h =
-    let some : 0 < 2 ^ cut = one-le-pow cut 2 (omega arith) in
-    (div-lt_iff_lt-mul {k = 2 ^ cut} {x = n} {y = 2 ^ 64} some).1 (subst (λ m. n < m) (pow-add 2 64 cut) h.leading)
+leading_bits_fit {n} {divisor} {inverse} {cut} {shift} h = grind (arith, div-lt_iff_lt-mul, one-le-pow, pow-add)
 
 -- The product of the leading bits and the inverse is less than 2^128.
 pub product_fits :
     {n divisor inverse cut shift : ℕ} → HasInverse n divisor inverse cut shift → n / 2 ^ cut * inverse < 2 ^ 128
 product_fits {n} {divisor} {inverse} {cut} {shift} h =
-    let leading = leading_bits_fit h in
-    let product = mul-le-mul_right {m = n / 2 ^ cut} {n = 2 ^ 64} inverse (omega (arith, leading)) in
-    omega (arith, product, h.fits)
+    omega (arith, mul-le-mul_right inverse (leading_bits_fit h), h.fits)
 
 -- The estimate is less than 2^63.
 pub estimate_fits :
@@ -47,59 +42,62 @@ IsEstimate-inverse n divisor inverse cut shift h =
     let some_cut : 0 < 2 ^ cut = one-le-pow cut 2 (omega arith) in
     let some_shift : 0 < 2 ^ shift = one-le-pow shift 2 (omega arith) in
     let leading = n / 2 ^ cut in
-    let estimate = estimate_of n inverse cut shift in
     let power : 2 ^ (cut + shift) ≡ 2 ^ cut * 2 ^ shift = pow-add 2 cut shift in
     let inverse_low : inverse * divisor ≤ 2 ^ (cut + shift) =
     rw h.inverse_is (div-mul-le_self (2 ^ (cut + shift)) divisor) in
     let inverse_high : 2 ^ (cut + shift) < inverse * divisor + divisor =
     rw h.inverse_is (lt-div-mul-add {a = 2 ^ (cut + shift)} {b = divisor} h.some) in
-    let leading_high = lt-div-mul-add {a = n} {b = 2 ^ cut} some_cut in
-    let estimate_high = lt-div-mul-add {a = leading * inverse} {b = 2 ^ shift} some_shift in
-    let estimate_parts = mul-le-mul_right divisor (div-mul-le_self (leading * inverse) (2 ^ shift)) in
-    let inverse_parts = mul-le-mul_right leading inverse_low in
-    let leading_parts = mul-le-mul_right (2 ^ shift) (div-mul-le_self n (2 ^ cut)) in
-    let past_leading = mul-le-mul_right {m = n + 1} {n = leading * 2 ^ cut + 2 ^ cut} (2 ^ shift)
-    (omega (arith, leading_high)) in
-    let past_inverse =
-    mul-le-mul_right {m = 2 ^ (cut + shift) + 1} {n = inverse * divisor + divisor} leading
-    (omega (arith, inverse_high)) in
-    let past_estimate =
-    mul-le-mul_right {m = leading * inverse + 1} {n = estimate * 2 ^ shift + 2 ^ shift} divisor
-    (omega (arith, estimate_high)) in
-    let few_leading = mul-le-mul_right {m = leading + 1} {n = 2 ^ 64} divisor (omega (arith, leading_bits_fit h)) in
+    let leading_low = mul-le-mul_right (2 ^ shift) (div-mul-le_self n (2 ^ cut)) in
+    let leading_high = mul-le-mul_right (2 ^ shift) (lt-div-mul-add {a = n} {b = 2 ^ cut} some_cut) in
+    let product_low = mul-le-mul_right leading inverse_low in
+    let product_high = mul-le-mul_right leading inverse_high in
+    let estimate_low = mul-le-mul_right divisor (div-mul-le_self (leading * inverse) (2 ^ shift)) in
+    let estimate_high = mul-le-mul_right divisor (lt-div-mul-add {a = leading * inverse} {b = 2 ^ shift} some_shift) in
+    let few_leading = mul-le-mul_right divisor (leading_bits_fit h) in
     let powers = ap (λ m. m * leading) power in
     record {
-      enough = le_of_mul-le-mul_right (omega (arith, estimate_parts, inverse_parts, leading_parts, powers)) some_shift;
+      enough = le_of_mul-le-mul_right (omega (arith, estimate_low, product_low, leading_low, powers)) some_shift;
       close =
           lt_of_mul-lt-mul_right (2 ^ shift)
-          (omega (arith, past_leading, past_inverse, past_estimate, few_leading, powers, power, h.close, some_shift));
+          (omega (arith, leading_high, product_high, estimate_high, few_leading, powers, power, h.close, some_shift));
     }
 
--- A number whose product with the divisor is at most n, and by less than the divisor, is the quotient.
+-- A product with the divisor, plus less than the divisor, gives the quotient and the remainder.
+pub division_is :
+    (n divisor quotient rest : ℕ) → quotient * divisor + rest ≡ n → rest < divisor
+    → (quotient ≡ n / divisor) × (rest ≡ n % divisor)
+division_is n divisor quotient rest parts below =
+    same_from_place quotient rest (n / divisor) (n % divisor) divisor below (mod-lt n (omega (arith, below)))
+    (parts ∙ sym (div-add-mod' n divisor))
+
+-- An estimate whose product with the divisor is at most n, and by less than the divisor, is the quotient.
 pub quotient_from_bounds : (n divisor quotient : ℕ) → quotient * divisor ≤ n → n - quotient * divisor < divisor
     → quotient ≡ n / divisor
 quotient_from_bounds n divisor quotient enough close =
-    sym (div-eq_of_lt-le {k = quotient} divisor {m = n} enough (omega (arith, enough, close)))
+    (division_is n divisor quotient _ (omega (arith, enough)) close).0
 
 -- What such a product leaves of n is the remainder.
 pub rest_from_bounds :
     (n divisor quotient : ℕ) → quotient * divisor ≤ n → n - quotient * divisor < divisor
     → n - quotient * divisor ≡ n % divisor
 rest_from_bounds n divisor quotient enough close =
-    ap (λ q. n - q * divisor) (quotient_from_bounds n divisor quotient enough close)
-    ∙ sym (mod-eq-sub-div-mul n divisor)
+    (division_is n divisor quotient _ (omega (arith, enough)) close).1
 
--- The estimate computed from leading bits, inverse and shift in turn is the quotient or one less.
-pub IsEstimate-steps :
-    {n divisor inverse cut shift leading factor estimate : ℕ} → HasInverse n divisor inverse cut shift
-    → leading ≡ n / 2 ^ cut
-    → factor ≡ inverse → estimate ≡ leading * factor / 2 ^ shift → IsEstimate n divisor estimate
-IsEstimate-steps {n} {divisor} {inverse} {cut} {shift} {leading} {factor} {estimate} h leading_is factor_is estimate_is
-    =
-    let product : leading * factor ≡ n / 2 ^ cut * inverse =
-    ap (λ m. m * factor) leading_is ∙ ap (λ m. n / 2 ^ cut * m) factor_is in
-    subst (IsEstimate n divisor) (sym (estimate_is ∙ ap (λ m. m / 2 ^ shift) product))
-    (IsEstimate-inverse n divisor inverse cut shift h)
+-- The same where the estimate is one less.
+quotient_and_rest_after :
+    (n divisor estimate : ℕ) → estimate * divisor + divisor ≤ n → n < estimate * divisor + 2 * divisor
+    → (estimate + 1 ≡ n / divisor) × (n - estimate * divisor - divisor ≡ n % divisor)
+quotient_and_rest_after n divisor estimate enough close =
+    division_is n divisor (estimate + 1) (n - estimate * divisor - divisor) (omega (arith, enough))
+    (omega (arith, enough, close))
+
+pub quotient_after : (n divisor estimate : ℕ) → estimate * divisor + divisor ≤ n → n < estimate * divisor + 2 * divisor
+    → estimate + 1 ≡ n / divisor
+quotient_after n divisor estimate enough close = (quotient_and_rest_after n divisor estimate enough close).0
+
+pub rest_after : (n divisor estimate : ℕ) → estimate * divisor + divisor ≤ n → n < estimate * divisor + 2 * divisor
+    → n - estimate * divisor - divisor ≡ n % divisor
+rest_after n divisor estimate enough close = (quotient_and_rest_after n divisor estimate enough close).1
 
 -- Long division in base 2^40, of a number of three digits: the digits of the quotient and the last remainder are those
 -- of the whole division.
@@ -109,18 +107,10 @@ pub long_division :
     → ((n / 2 ^ 80 / divisor * 2 ^ 40 + middle / divisor) * 2 ^ 40 + low / divisor ≡ n / divisor)
     × (low % divisor ≡ n % divisor)
 long_division n divisor middle low some middle_is low_is =
-    let quotient = (n / 2 ^ 80 / divisor * 2 ^ 40 + middle / divisor) * 2 ^ 40 + low / divisor in
-    let left : low % divisor < divisor = mod-lt low some in
-    let parts : quotient * divisor + low % divisor ≡ n =
-    omega (
-      arith,
-      div-add-mod (n / 2 ^ 80) divisor,
-      div-add-mod middle divisor,
-      div-add-mod low divisor,
-      middle_is,
-      low_is,
-    ) in
-    let enough : quotient * divisor ≤ n = omega (arith, parts) in
-    let close : n - quotient * divisor < divisor = omega (arith, parts, left) in
-    let rest : low % divisor ≡ n - quotient * divisor = omega (arith, parts) in
-    (quotient_from_bounds n divisor quotient enough close, rest ∙ rest_from_bounds n divisor quotient enough close)
+    let high = div-add-mod (n / 2 ^ 80) divisor in
+    division_is n divisor ((n / 2 ^ 80 / divisor * 2 ^ 40 + middle / divisor) * 2 ^ 40 + low / divisor) (low % divisor)
+    (omega (arith, high, div-add-mod middle divisor, div-add-mod low divisor, middle_is, low_is)) (mod-lt low some)
+
+-- What the proof of the division by an inverse uses.
+pub ruleset estimates = (leading_bits_fit, product_fits, estimate_fits, IsEstimate-inverse, quotient_from_bounds,
+  rest_from_bounds, quotient_after, rest_after)

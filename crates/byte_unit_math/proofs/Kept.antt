@@ -1,9 +1,9 @@
 -- A decimal that is cut off or rounded up, without the trailing zeros or nines that this leaves, is an expansion.
-use Rattle.std.proofs.Common.{◌≢◌, ◌≡◌, ◌+◌, ◌-◌, ◌*◌, ◌^◌, ◌<◌, ◌≤◌, ℕ, zero, suc, List, [], ◌∷◌, ◌++◌, length, take}
-use Rattle.std.proofs.Common.{drop}
-use Rattle.std.proofs.Common.{set, get_or, replicate, arith, ap, sym, refl, subst, ◌∙◌, length-take-le}
+use Rattle.std.proofs.Common.{◌≢◌, ◌≡◌, ◌+◌, ◌-◌, ◌*◌, ◌^◌, ◌<◌, ◌≤◌, ℕ, zero, suc, List, [], ◌++◌, length, take, drop}
+use Rattle.std.proofs.Common.{set, get_or, replicate, arith, ap, refl, ◌∙◌, length-take-le}
 use Rattle.std.specs.List.{All, fold}
-use Rattle.std.proofs.lemmas.List.{take_more, take_more_set, length-set, length-replicate, get_or-take, get_or-set_same}
+use Rattle.std.proofs.lemmas.List.{length-take, take_more, take_more_set, length-set, length-replicate, get_or-take}
+use Rattle.std.proofs.lemmas.List.{get_or-set_same}
 use Rattle.std.proofs.lemmas.List.Elements.{All-nil, All-replicate, All-set, All-get_or}
 use Rattle.std.proofs.lemmas.List.Sums.{fold-append}
 use Rattle.std.proofs.Math.Nat.{pow-succ'}
@@ -12,7 +12,7 @@ use Rattle.byte_unit_math.specs.Finite.{Finite, value_of_digits, ulps_of, cut_af
 use Rattle.byte_unit_math.proofs.Digits.{one_le_pow10, value_append_zeros}
 use Rattle.byte_unit_math.proofs.Expanding.{expansion_of_digits, expansion_of_first_digits, zeros_after_set}
 use Rattle.byte_unit_math.proofs.Scales.{pow10_split}
-use Rattle.byte_unit_math.proofs.Cut.{IsShown}
+use Rattle.std.proofs.lemmas.Grind.{common_steps}
 
 -- The first p digits of `e` are its first `kept` digits and then only `digit`; the last of those kept is another digit.
 pub record EndsInRunOf (e : Finite) (p kept digit : ℕ) : Type 0 where
@@ -29,7 +29,8 @@ pub record BeginsWith (e : Finite) (kept : ℕ) (ds : List ℕ) : Type 0 where
 
 scaled_cut : (e : Finite) (p : ℕ) → p ≤ length e.digits
     → ulps_of (cut_after p e) ≡ e.whole * 10 ^ p + value_of_digits (take p e.digits)
-scaled_cut e p within = ap (λ n. e.whole * 10 ^ n + value_of_digits (take p e.digits)) (length-take-le p e.digits within)
+scaled_cut e p within =
+    ap (λ n. e.whole * 10 ^ n + value_of_digits (take p e.digits)) (length-take-le p e.digits within)
 
 -- If the last of them are zeros, the decimal cut off after p digits is that of the digits kept, times a power of ten.
 scaled_zeros :
@@ -51,7 +52,8 @@ scaled_nines :
     → ulps_of (cut_after p e) + 1 ≡ (e.whole * 10 ^ kept + (value_of_digits (take kept e.digits) + 1)) * 10 ^ (p - kept)
 scaled_nines e p kept h =
     let product = ap (λ n. e.whole * n) (pow10_split kept p h.few) in
-    let value = ap value_of_digits h.same ∙ fold-append (λ n d. n * 10 + d) 0 (take kept e.digits) (replicate (p - kept) 9) in
+    let value = ap value_of_digits h.same
+    ∙ fold-append (λ n d. n * 10 + d) 0 (take kept e.digits) (replicate (p - kept) 9) in
     let nines = fold_nines (value_of_digits (take kept e.digits)) (p - kept) in
     ap (λ n. n + 1) (scaled_cut e p h.within) ∙ omega (arith, product, value, nines)
 
@@ -59,31 +61,29 @@ scaled_nines e p kept h =
 same_last_digit :
     (e : Finite) (kept : ℕ) (ds : List ℕ) → BeginsWith e kept ds → 0 < kept
     → get_or ds (kept - 1) 0 ≡ get_or e.digits (kept - 1) 0
-same_last_digit e kept ds h some =
-    sym (get_or-take kept ds (kept - 1) 0 (omega (arith, some)))
-    ∙ (ap (λ l. get_or l (kept - 1) 0) h.front ∙ get_or-take kept e.digits (kept - 1) 0 (omega (arith, some)))
+same_last_digit e kept ds h some = grind (arith, get_or-take)
 
-pow10_on_both_sides : (count kept p : ℕ) → kept ≤ p → count * 10 ^ (p - kept) * 10 ^ kept ≡ count * 10 ^ p
-pow10_on_both_sides count kept p few = let product = ap (λ n. count * n) (pow10_split kept p few) in
-    omega (arith, product)
+-- The array has the digits that are kept.
+kept_fits : (e : Finite) (p kept digit : ℕ) (ds : List ℕ) → EndsInRunOf e p kept digit → BeginsWith e kept ds
+    → kept ≤ length ds
+kept_fits e p kept digit ds h array =
+    let few = length-take-le kept e.digits (omega (arith, h.few, h.within)) in
+    omega (arith, few, ap length array.front, length-take kept ds)
 
 -- A decimal cut off after p digits, without the zeros at their end, is the expansion of the cut number.
 pub cut_is_expansion :
-    (e : Finite) (p kept : ℕ) (ds : List ℕ) → IsShown e → EndsInRunOf e p kept 0 → BeginsWith e kept ds
+    (e : Finite) (p kept : ℕ) (ds : List ℕ) → EndsInRunOf e p kept 0 → BeginsWith e kept ds
     → IsExpansion (ulps_of (cut_after p e)) (10 ^ p) (record { whole = e.whole; digits = take kept ds })
-cut_is_expansion e p kept ds shown h array =
+cut_is_expansion e p kept ds h array =
     let count = e.whole * 10 ^ kept + value_of_digits (take kept e.digits) in
-    let exact : ulps_of (cut_after p e) * 10 ^ kept ≡ count * 10 ^ p =
-    ap (λ n. n * 10 ^ kept) (scaled_zeros e p kept h) ∙ pow10_on_both_sides count kept p h.few in
-    let Exact : List ℕ → Type 0 =
-    λ l. ulps_of (cut_after p e) * 10 ^ kept ≡ (e.whole * 10 ^ kept + value_of_digits l) * 10 ^ p in
-    expansion_of_first_digits (ulps_of (cut_after p e)) (10 ^ p) e.whole kept ds (omega (arith, one_le_pow10 p))
+    let scaled = ap (λ n. n * 10 ^ kept) (scaled_zeros e p kept h) in
+    let power = ap (λ n. count * n) (pow10_split kept p h.few) in
+    expansion_of_first_digits (ulps_of (cut_after p e)) (10 ^ p) e.whole kept ds (one_le_pow10 p)
     (record {
-      few = omega (arith, array.size, h.few, h.within, shown.few);
+      few = kept_fits e p kept 0 ds h array;
       small = array.small;
-      exact = subst Exact (sym array.front) exact;
-      last = λ some. let digit = same_last_digit e kept ds array some in let other = h.stops some in
-          omega (arith, digit, other);
+      exact = rw array.front (omega (arith, scaled, power));
+      last = λ some. let other = h.stops some in omega (arith, same_last_digit e kept ds array some, other);
     })
 
 -- If the first p digits are all nines, the cut number plus one in its last digit is the whole part plus one.
@@ -91,54 +91,38 @@ pub next_whole_is_expansion :
     (e : Finite) (p kept : ℕ) → EndsInRunOf e p kept 9 → kept ≡ 0
     → IsExpansion (ulps_of (cut_after p e) + 1) (10 ^ p) (record { whole = e.whole + 1; digits = [] })
 next_whole_is_expansion e p kept h none =
-    let nines = scaled_nines e p 0 (subst (λ k. EndsInRunOf e p k 9) none h) in
-    let inner : e.whole * 10 ^ 0 + (value_of_digits (take 0 e.digits) + 1) ≡ e.whole + 1 = omega arith in
-    let all : ulps_of (cut_after p e) + 1 ≡ (e.whole + 1) * 10 ^ p =
-    nines ∙ (ap (λ n. n * 10 ^ (p - 0)) inner
-    ∙ ap (λ n. (e.whole + 1) * 10 ^ n) (let same : p - 0 ≡ p = omega arith in same)) in
-    expansion_of_digits (ulps_of (cut_after p e) + 1) (10 ^ p) (e.whole + 1) [] (omega (arith, one_le_pow10 p))
-    (record { small = All-nil (λ d. d < 10); exact = omega (arith, all); last = λ some. absurd (omega (arith, some)) })
+    grind (arith, All-nil, expansion_of_digits, fold-append, fold_nines, one_le_pow10, pow10_split, scaled_cut,
+    scaled_nines)
 
 -- An array in which the last digit kept is one more represents one more.
 value_one_more :
     (e : Finite) (kept : ℕ) (ds : List ℕ) → BeginsWith e kept ds → 0 < kept → kept ≤ length ds
-    → value_of_digits (take kept (set ds (kept - 1) (get_or ds (kept - 1) 0 + 1))) ≡ value_of_digits (take kept e.digits) + 1
-value_one_more e kept ds array some room =
-    let last : ℕ = kept - 1 in
-    let digit = get_or ds last 0 in
-    let fits : last < length ds = omega (arith, room, some) in
-    let one : kept ≡ last + 1 = omega (arith, some) in
-    let old = ap (λ i. take i ds) one ∙ take_more ds last 0 fits in
-    let new = ap (λ i. take i (set ds last (digit + 1))) one ∙ take_more_set ds last (digit + 1) fits in
-    let old_value = ap value_of_digits old ∙ fold-append (λ n d. n * 10 + d) 0 (take last ds) (digit ∷ []) in
-    let new_value = ap value_of_digits new ∙ fold-append (λ n d. n * 10 + d) 0 (take last ds) ((digit + 1) ∷ []) in
-    omega (arith, old_value, new_value, ap value_of_digits array.front)
+    → value_of_digits (take kept (set ds (kept - 1) (get_or ds (kept - 1) 0 + 1)))
+    ≡ value_of_digits (take kept e.digits) + 1
+value_one_more e kept ds array some room = grind (arith, common_steps, fold-append, take_more, take_more_set)
 
 -- If nines follow the digits that are kept, the cut number plus one in its last digit has these digits, the last of
 -- them one more.
 pub next_digit_is_expansion :
-    (e : Finite) (p kept : ℕ) (ds : List ℕ) → IsShown e → EndsInRunOf e p kept 9 → BeginsWith e kept ds → 0 < kept
+    (e : Finite) (p kept : ℕ) (ds : List ℕ) → EndsInRunOf e p kept 9 → BeginsWith e kept ds → 0 < kept
     → IsExpansion (ulps_of (cut_after p e) + 1) (10 ^ p)
     (record { whole = e.whole; digits = take kept (set ds (kept - 1) (get_or ds (kept - 1) 0 + 1)) })
-next_digit_is_expansion e p kept ds shown h array some =
+next_digit_is_expansion e p kept ds h array some =
     let last : ℕ = kept - 1 in
     let digit = get_or ds last 0 in
-    let fits : last < length ds = omega (arith, array.size, h.few, h.within, shown.few, some) in
-    let room : kept ≤ length ds = omega (arith, fits) in
-    let new = set ds last (digit + 1) in
+    let fits : last < length ds = omega (arith, some, kept_fits e p kept 9 ds h array) in
     let count = e.whole * 10 ^ kept + (value_of_digits (take kept e.digits) + 1) in
-    let exact : (ulps_of (cut_after p e) + 1) * 10 ^ kept ≡ count * 10 ^ p =
-    ap (λ n. n * 10 ^ kept) (scaled_nines e p kept h) ∙ pow10_on_both_sides count kept p h.few in
-    let Exact : ℕ → Type 0 = λ value. (ulps_of (cut_after p e) + 1) * 10 ^ kept
-    ≡ (e.whole * 10 ^ kept + value) * 10 ^ p in
+    let scaled = ap (λ n. n * 10 ^ kept) (scaled_nines e p kept h) in
+    let power = ap (λ n. count * n) (pow10_split kept p h.few) in
     let small : digit < 10 = All-get_or (λ d. d < 10) ds last 0 fits array.small in
     let other = h.stops some in
     let nine : digit + 1 < 10 = omega (arith, small, same_last_digit e kept ds array some, other) in
-    expansion_of_first_digits (ulps_of (cut_after p e) + 1) (10 ^ p) e.whole kept new (omega (arith, one_le_pow10 p))
+    expansion_of_first_digits (ulps_of (cut_after p e) + 1) (10 ^ p) e.whole kept (set ds last (digit + 1))
+    (one_le_pow10 p)
     (record {
-      few = omega (arith, length-set ds last (digit + 1), room);
+      few = omega (arith, length-set ds last (digit + 1), fits);
       small = All-set (λ d. d < 10) ds last (digit + 1) nine array.small;
-      exact = subst Exact (sym (value_one_more e kept ds array some room)) exact;
+      exact = rw (value_one_more e kept ds array some (omega (arith, fits))) (omega (arith, scaled, power));
       last = λ _. let at = get_or-set_same ds last (digit + 1) 0 fits in omega (arith, at);
     })
 
@@ -170,13 +154,7 @@ pub one_more_digit_copied :
     (ds es : List ℕ) (i d : ℕ) → IsCopied ds es i → i < expansion_places → IsDigitAt es i d
     → IsCopied (set ds i d) es (i + 1)
 one_more_digit_copied ds es i d h room digit =
-    let fits : i < length ds = omega (arith, h.size, room) in
-    let same : d ≡ get_or es i 0 = digit.is ∙ ap (λ k. get_or es k 0) (let k : i + 1 - 1 ≡ i = omega arith in k) in
-    let behind = ap (λ l. l ++ d ∷ []) h.front
-    ∙ (ap (λ x. take i es ++ x ∷ []) same ∙ sym (take_more es i 0 digit.within)) in
-    record {
-      size = length-set ds i d ∙ h.size;
-      front = take_more_set ds i d fits ∙ behind;
-      rest = zeros_after_set expansion_places i d ds h.rest;
-      small = All-set (λ d. d < 10) ds i d digit.small h.small;
-    }
+    grind (arith, common_steps, All-set, length-set, take_more, take_more_set, zeros_after_set)
+
+-- What the proof of copying digits uses.
+pub ruleset copied = (common_steps, one_more_digit_copied)

@@ -32,7 +32,8 @@ pair_in_lane :
 pair_in_lane p rest few = (omega (arith, few), (omega (arith, few), omega (arith, few)))
 
 -- The bytes of lanes of pairs are the digits of the pairs.
-pub digits_of_lanes : (ps : List ℕ) → Each1 (λ p. p < 100) ps → bytes_as_digits (twice ps) (packed ps) ≡ glyphs_of_pairs ps
+pub digits_of_lanes : (ps : List ℕ) → Each1 (λ p. p < 100) ps
+    → bytes_as_digits (twice ps) (packed ps) ≡ glyphs_of_pairs ps
 digits_of_lanes [] few = refl
 digits_of_lanes (p ∷ ps) few =
     let lane = pair_in_lane p (packed ps) few.0 in
@@ -50,34 +51,7 @@ pairs_of n =
     ∷ (n % 100000000 % 10000 / 100) ∷ (n % 100000000 % 10000 % 100) ∷ []
 
 pub pairs_below : (n : ℕ) → n < 10 ^ 16 → Each1 (λ p. p < 100) (pairs_of n)
-pairs_below n small =
-    let p0 : n / 100000000 / 10000 / 100 < 100 = omega (arith, small) in
-    let p1 : n / 100000000 / 10000 % 100 < 100 = omega arith in
-    let p2 : n / 100000000 % 10000 / 100 < 100 = omega arith in
-    let p3 : n / 100000000 % 10000 % 100 < 100 = omega arith in
-    let p4 : n % 100000000 / 10000 / 100 < 100 = omega arith in
-    let p5 : n % 100000000 / 10000 % 100 < 100 = omega arith in
-    let p6 : n % 100000000 % 10000 / 100 < 100 = omega arith in
-    let p7 : n % 100000000 % 10000 % 100 < 100 = omega arith in
-    (p0, (p1, (p2, (p3, (p4, (p5, (p6, (p7, tt))))))))
+pairs_below n small = grind arith
 
 pub digits_of_pairs : (n : ℕ) → n < 10 ^ 16 → glyphs_of_pairs (pairs_of n) ≡ glyphs (last_digits 16 n)
-digits_of_pairs n small =
-    let d0 : n / 100000000 / 10000 / 100 / 10 ≡ n / 10 ^ 15 % 10 = omega (arith, small) in
-    let d1 : n / 100000000 / 10000 / 100 % 10 ≡ n / 10 ^ 14 % 10 = omega arith in
-    let d2 : n / 100000000 / 10000 % 100 / 10 ≡ n / 10 ^ 13 % 10 = omega arith in
-    let d3 : n / 100000000 / 10000 % 100 % 10 ≡ n / 10 ^ 12 % 10 = omega arith in
-    let d4 : n / 100000000 % 10000 / 100 / 10 ≡ n / 10 ^ 11 % 10 = omega arith in
-    let d5 : n / 100000000 % 10000 / 100 % 10 ≡ n / 10 ^ 10 % 10 = omega arith in
-    let d6 : n / 100000000 % 10000 % 100 / 10 ≡ n / 10 ^ 9 % 10 = omega arith in
-    let d7 : n / 100000000 % 10000 % 100 % 10 ≡ n / 10 ^ 8 % 10 = omega arith in
-    let d8 : n % 100000000 / 10000 / 100 / 10 ≡ n / 10 ^ 7 % 10 = omega arith in
-    let d9 : n % 100000000 / 10000 / 100 % 10 ≡ n / 10 ^ 6 % 10 = omega arith in
-    let d10 : n % 100000000 / 10000 % 100 / 10 ≡ n / 10 ^ 5 % 10 = omega arith in
-    let d11 : n % 100000000 / 10000 % 100 % 10 ≡ n / 10 ^ 4 % 10 = omega arith in
-    let d12 : n % 100000000 % 10000 / 100 / 10 ≡ n / 10 ^ 3 % 10 = omega arith in
-    let d13 : n % 100000000 % 10000 / 100 % 10 ≡ n / 10 ^ 2 % 10 = omega arith in
-    let d14 : n % 100000000 % 10000 % 100 / 10 ≡ n / 10 ^ 1 % 10 = omega arith in
-    let d15 : n % 100000000 % 10000 % 100 % 10 ≡ n / 10 ^ 0 % 10 = omega arith in
-    λ i. (48 + d0 i) ∷ (48 + d1 i) ∷ (48 + d2 i) ∷ (48 + d3 i) ∷ (48 + d4 i) ∷ (48 + d5 i) ∷ (48 + d6 i) ∷ (48 + d7 i)
-    ∷ (48 + d8 i) ∷ (48 + d9 i) ∷ (48 + d10 i) ∷ (48 + d11 i) ∷ (48 + d12 i) ∷ (48 + d13 i) ∷ (48 + d14 i) ∷ (48 + d15 i) ∷ []
+digits_of_pairs n small = grind arith

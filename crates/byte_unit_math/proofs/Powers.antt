@@ -3,9 +3,10 @@ use Rattle.std.proofs.Common.{◌≡◌, ◌≢◌, ◌+◌, ◌-◌, ◌*◌, �
 use Rattle.std.proofs.Common.{sym, ◌∙◌}
 use Rattle.std.proofs.lemmas.Bool.{cases_lt}
 use Rattle.std.proofs.lemmas.Nat.{pow-add, mul-pow}
-use Rattle.std.proofs.Math.Nat.{pow-succ', eq_of_mul-eq-mul_right, one-le-pow}
+use Rattle.std.proofs.Math.Nat.{pow-succ', eq_of_mul-eq-mul_right, one-le-pow, mul-mod_left}
 use Rattle.byte_unit_math.specs.Exact.{IsExactAt}
 use Rattle.byte_unit_math.specs.Powers.{IsTwoFive, HasTwoFive}
+use Rattle.byte_unit_math.proofs.Scales.{power_of_sum}
 use Rattle.byte_unit_math.specs.NumberLaws.{ExactByPowers, NumbersHaveTwosAndFives, PlacesByPowers, ZeroTakesNoPlaces}
 
 odd_times_fives : (left n : ℕ) → left % 2 ≢ 0 → (left * 5 ^ n) % 2 ≢ 0
@@ -20,18 +21,10 @@ no_five_times_twos left (suc n) h =
     λ k. no_five_times_twos left n h
     (let e : left * 2 ^ suc n ≡ 2 * (left * 2 ^ n) = rw (pow-succ' 2 n) (omega arith) in omega (arith, k, e))
 
-next_power : (base m a : ℕ) → m < a → base ^ a ≡ base ^ m * (base * base ^ (a - m - 1))
-next_power base m a l =
-    let total : a ≡ m + suc (a - m - 1) = omega (arith, l) in
-    ap (λ n. base ^ n) total ∙ (pow-add base m (suc (a - m - 1)) ∙ ap (λ n. base ^ m * n) (pow-succ' base (a - m - 1)))
-
 -- A number times 10^p has p more factors of 2 and p more of 5.
 tens_of_factors : (left twos fives p : ℕ)
     → left * (2 ^ twos * 5 ^ fives) * 10 ^ p ≡ left * (2 ^ (twos + p) * 5 ^ (fives + p))
-tens_of_factors left twos fives p =
-    let ten : 10 ^ p ≡ 2 ^ p * 5 ^ p = mul-pow 2 5 p in
-    let powers = ap (λ n. left * (2 ^ twos * 5 ^ fives) * n) ten in
-    rw (pow-add 2 twos p, pow-add 5 fives p) (omega (arith, powers))
+tens_of_factors left twos fives p = rw (pow-add 2 twos p, pow-add 5 fives p, mul-pow 2 5 p) (omega arith)
 
 -- A number given by its factors, times 10^p, is a multiple of 2^a * 5^b if it has then at least a factors of 2 and b of
 -- 5.
@@ -39,14 +32,9 @@ pub count_of_units :
     (left twos fives a b p : ℕ) → (a ≤ twos + p) × (b ≤ fives + p)
     → left * (2 ^ twos * 5 ^ fives) * 10 ^ p ≡ left * (2 ^ (twos + p - a) * 5 ^ (fives + p - b)) * (2 ^ a * 5 ^ b)
 count_of_units left twos fives a b p few =
-    let two_parts : 2 ^ (twos + p) ≡ 2 ^ (twos + p - a) * 2 ^ a =
-    ap (λ n. 2 ^ n) (let e : twos + p ≡ (twos + p - a) + a = omega (arith, few.0) in e) ∙ pow-add 2 (twos + p - a) a in
-    let five_parts : 5 ^ (fives + p) ≡ 5 ^ (fives + p - b) * 5 ^ b =
-    ap (λ n. 5 ^ n) (let e : fives + p ≡ (fives + p - b) + b = omega (arith, few.1) in e)
-    ∙ pow-add 5 (fives + p - b) b in
-    let twos_apart = ap (λ n. left * (n * 5 ^ (fives + p))) two_parts in
-    let fives_apart = ap (λ n. left * (2 ^ (twos + p - a) * 2 ^ a * n)) five_parts in
-    tens_of_factors left twos fives p ∙ (twos_apart ∙ (fives_apart ∙ omega arith))
+    let two_parts = power_of_sum 2 (twos + p) (twos + p - a) a (omega (arith, few.0)) in
+    let five_parts = power_of_sum 5 (fives + p) (fives + p - b) b (omega (arith, few.1)) in
+    tens_of_factors left twos fives p ∙ rw (two_parts, five_parts) (omega arith)
 
 times_tens : (num twos fives p : ℕ) (h : IsTwoFive num twos fives)
     → num * 10 ^ p ≡ h.left * (2 ^ (twos + p) * 5 ^ (fives + p))
@@ -60,42 +48,31 @@ exact_with_powers num a b twos fives p h few = (
   ap (λ n. n * 10 ^ p) h.product ∙ count_of_units h.left twos fives a b p few,
 )
 
--- If twice a power of 2 divides a number with that power apart, what is left is even.
-cancel_twos :
-    (left twos others count more rest : ℕ) → 0 < twos → left * (twos * others) ≡ count * (twos * (2 * more) * rest)
-    → (left * others) % 2 ≡ 0
-cancel_twos left twos others count more rest some e =
-    let same : left * others ≡ 2 * (count * more * rest) =
-    eq_of_mul-eq-mul_right twos some (left * others) (2 * (count * more * rest)) (omega (arith, e)) in
-    omega (arith, same)
-
--- If five times a power of 5 divides a number with that power apart, five divides what is left.
-cancel_fives :
-    (left others fives count more rest : ℕ) → 0 < fives
-    → left * (others * fives) ≡ count * (rest * (fives * (5 * more)))
-    → (left * others) % 5 ≡ 0
-cancel_fives left others fives count more rest some e =
-    let same : left * others ≡ 5 * (count * more * rest) =
-    eq_of_mul-eq-mul_right fives some (left * others) (5 * (count * more * rest)) (omega (arith, e)) in
-    omega (arith, same)
+-- If a power of a base divides a number in which another power of it is apart, and the base does not divide the rest,
+-- it has no greater exponent.
+enough_factors :
+    (base m a left others count rest : ℕ) → 0 < base → (left * others) % base ≢ 0
+    → left * (base ^ m * others) ≡ count * (base ^ a * rest) → a ≤ m
+enough_factors base m a left others count rest some none e =
+    ⊎_elim (λ more.
+    let power = power_of_sum base a m (suc (a - m - 1)) (omega (arith, more))
+    ∙ ap (λ n. base ^ m * n) (pow-succ' base (a - m - 1)) in
+    let multiple = count * (base ^ (a - m - 1) * rest) in
+    let same : left * others ≡ multiple * base =
+    eq_of_mul-eq-mul_right (base ^ m) (one-le-pow m base some) (left * others) (multiple * base)
+    (omega (arith, e, ap (λ n. count * (n * rest)) power)) in
+    absurd (none (ap (λ n. n % base) same ∙ mul-mod_left multiple base)))
+    (λ few. few) (cases_lt m a)
 
 enough_twos : (num a b twos fives p : ℕ) → IsTwoFive num twos fives → IsExactAt num (2 ^ a * 5 ^ b) p → a ≤ twos + p
-enough_twos num a b twos fives p h e = ⊎_elim
-    (λ l. let T = 2 ^ (twos + p) in
-    let K = 2 ^ (a - (twos + p) - 1) in
-    let f = sym (times_tens num twos fives p h) ∙ (e.1 ∙ ap (λ n. e.0 * (n * 5 ^ b)) (next_power 2 (twos + p) a l)) in
-    absurd (odd_times_fives h.left (fives + p) h.odd
-    (cancel_twos h.left T (5 ^ (fives + p)) e.0 K (5 ^ b) (omega (arith, one-le-pow (twos + p) 2 (omega arith))) f)))
-    (λ k. k) (cases_lt (twos + p) a)
+enough_twos num a b twos fives p h e =
+    enough_factors 2 (twos + p) a h.left (5 ^ (fives + p)) e.0 (5 ^ b) (omega arith)
+    (odd_times_fives h.left (fives + p) h.odd) (sym (times_tens num twos fives p h) ∙ e.1)
 
 enough_fives : (num a b twos fives p : ℕ) → IsTwoFive num twos fives → IsExactAt num (2 ^ a * 5 ^ b) p → b ≤ fives + p
-enough_fives num a b twos fives p h e = ⊎_elim
-    (λ l. let F = 5 ^ (fives + p) in
-    let K = 5 ^ (b - (fives + p) - 1) in
-    let f = sym (times_tens num twos fives p h) ∙ (e.1 ∙ ap (λ n. e.0 * (2 ^ a * n)) (next_power 5 (fives + p) b l)) in
-    absurd (no_five_times_twos h.left (twos + p) h.no_five
-    (cancel_fives h.left (2 ^ (twos + p)) F e.0 K (2 ^ a) (omega (arith, one-le-pow (fives + p) 5 (omega arith))) f)))
-    (λ k. k) (cases_lt (fives + p) b)
+enough_fives num a b twos fives p h e =
+    enough_factors 5 (fives + p) b h.left (2 ^ (twos + p)) e.0 (2 ^ a) (omega arith)
+    (no_five_times_twos h.left (twos + p) h.no_five) (omega (arith, times_tens num twos fives p h, e.1))
 
 -- A fraction num / (2^a * 5^b) is exact with p digits after the point if and only if num * 10^p has at least a factors
 -- of 2 and b of 5.
@@ -117,40 +94,29 @@ places_by_powers num a b twos fives h = record {
 pub zero_takes_no_places : ZeroTakesNoPlaces
 zero_takes_no_places den = record { has = (0, omega arith); least = λ p e. omega arith }
 
-nothing_left : (n left twos fives : ℕ) → n ≡ left * (2 ^ twos * 5 ^ fives) → 0 < left % 2 → 0 < left % 5 → HasTwoFive n
-nothing_left n left twos fives e odd no_five = (
-  twos,
-  fives,
-  record {
-    left = left;
-    product = e;
-    odd = λ k. omega (arith, odd, k);
-    no_five = λ k. omega (arith, no_five, k);
-  },
-)
-
 -- A number that is a product of powers of 2 and 5 and a rest has exponents of 2 and 5.
 exponents_exist : (turns n left twos fives : ℕ) → left ≤ turns → 0 < left → n ≡ left * (2 ^ twos * 5 ^ fives)
     → HasTwoFive n
 exponents_exist zero n left twos fives few some e = absurd (omega (arith, few, some))
 exponents_exist (suc turns) n left twos fives few some e =
     ⊎_elim (λ odd.
-    ⊎_elim (λ no_five. nothing_left n left twos fives e odd no_five)
+    ⊎_elim (λ no_five. (
+      twos,
+      fives,
+      record { left = left; product = e; odd = λ k. omega (arith, odd, k); no_five = λ k. omega (arith, no_five, k) },
+    ))
     (λ five.
+    let parts = ap (λ m. m * (2 ^ twos * 5 ^ fives)) (let e : left ≡ 5 * (left / 5) = omega (arith, five) in e) in
     exponents_exist turns n (left / 5) twos (suc fives) (omega (arith, few, some, five)) (omega (arith, some, five))
-    (rw (pow-succ' 5 fives)
-    (let parts : left ≡ 5 * (left / 5) = omega (arith, five) in let p = ap (λ m. m * (2 ^ twos * 5 ^ fives)) parts in
-    omega (arith, e, p))))
+    (rw (pow-succ' 5 fives) (omega (arith, e, parts))))
     (cases_lt 0 (left % 5)))
     (λ two.
+    let parts = ap (λ m. m * (2 ^ twos * 5 ^ fives)) (let e : left ≡ 2 * (left / 2) = omega (arith, two) in e) in
     exponents_exist turns n (left / 2) (suc twos) fives (omega (arith, few, some, two)) (omega (arith, some, two))
-    (rw (pow-succ' 2 twos)
-    (let parts : left ≡ 2 * (left / 2) = omega (arith, two) in let p = ap (λ m. m * (2 ^ twos * 5 ^ fives)) parts in
-    omega (arith, e, p))))
+    (rw (pow-succ' 2 twos) (omega (arith, e, parts))))
     (cases_lt 0 (left % 2))
 
 -- Every number but zero has an exponent of 2 and an exponent of 5.
 pub numbers_have_exponents : NumbersHaveTwosAndFives
 numbers_have_exponents n some =
-    exponents_exist n n n 0 0 (omega arith) (⊎_elim (λ l. l) (λ k. absurd (some (omega (arith, k)))) (cases_lt 0 n))
-    (omega arith)
+    exponents_exist n n n 0 0 (omega arith) (omega (arith, some)) (omega arith)

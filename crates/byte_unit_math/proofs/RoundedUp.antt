@@ -1,15 +1,14 @@
 -- A size that is rounded up from a decimal number of units, seven digits at a time.
-use Rattle.std.proofs.Common.{◌≡◌, ℕ, ◌+◌, ◌-◌, ◌*◌, ◌^◌, ◌/◌, ◌%◌, ◌<◌, ◌≤◌, arith, subst, sym, ap, ◌∙◌, ⊎_elim}
-use Rattle.std.proofs.Common.{Option, Some, None, IfSome, IfNone}
-use Rattle.std.proofs.Common.{Bool, true, false, ltb}
+use Rattle.std.proofs.Common.{◌≡◌, ℕ, ◌+◌, ◌-◌, ◌*◌, ◌^◌, ◌/◌, ◌%◌, ◌<◌, ◌≤◌, arith, ap, Option, Some, None, IfNone}
+use Rattle.std.proofs.Common.{ltb}
 use Rattle.std.specs.Bool.{then_some}
-use Rattle.std.proofs.Math.Nat.{one-le-pow, pow-le-pow_right, mul-le-mul_right}
-use Rattle.std.proofs.lemmas.Bool.{cases_lt}
+use Rattle.std.proofs.Math.Nat.{pow-le-pow_right, mul-lt-mul_of_pos_right}
 use Rattle.std.proofs.lemmas.Bool.Decides.{nat_tests}
 use Rattle.byte_unit_math.specs.Bounds.{scale, places_of_decimal}
 use Rattle.byte_unit_math.specs.Least.{IsLeastSize}
 use Rattle.byte_unit_math.specs.RoundedUp.{group_limit, group_places, half_limit, IsRoundedUp}
-use Rattle.byte_unit_math.proofs.Scales.{pow10_split}
+use Rattle.byte_unit_math.proofs.Scales.{pow10_split, power_of_sum}
+use Rattle.byte_unit_math.proofs.Digits.{one_le_pow10}
 
 -- Rounding up the low seven digits and then the high ones rounds up all fourteen.
 pub IsRoundedUp-groups : (digits unit behind part size : ℕ)
@@ -36,20 +35,14 @@ pub record InFirstGroup (digits places : ℕ) : Type 0 where
 pub InFirstGroup-places : (digits places : ℕ) → places ≤ group_places → digits < 10 ^ places
     → InFirstGroup digits places
 InFirstGroup-places digits places few small =
-    let parts : 10 ^ group_places ≡ 10 ^ places * 10 ^ (group_places - places) = pow10_split places group_places few in
-    let left : places_of_decimal - places - (group_places - places) ≡ 21 = omega (arith, few) in
-    let scale : 10 ^ (places_of_decimal - places) ≡ 10 ^ (group_places - places) * (group_limit * half_limit) =
-    pow10_split (group_places - places) (places_of_decimal - places) (omega (arith, few))
-    ∙ ap (λ n. 10 ^ (group_places - places) * 10 ^ n) left in
-    let product = ap (λ n. digits * n) scale in
-    let below = mul-le-mul_right {m = digits + 1} {n = 10 ^ places} (10 ^ (group_places - places))
-    (omega (arith, small)) in
-    let some = one-le-pow (group_places - places) 10 (omega arith) in
+    let some = one_le_pow10 (group_places - places) in
+    let below = mul-lt-mul_of_pos_right {k = 10 ^ (group_places - places)} small some in
+    let behind = power_of_sum 10 (places_of_decimal - places) (group_places - places) 21 (omega (arith, few)) in
     record {
       digits_fit = omega (arith, small, pow-le-pow_right {n = 10} (omega arith) {i = places} {j = group_places} few);
       power_fits = pow-le-pow_right {n = 10} (omega arith) {i = group_places - places} {j = group_places} (omega arith);
-      first = omega (arith, below, parts, some);
-      all = omega (arith, product);
+      first = omega (arith, below, pow10_split places group_places few);
+      all = omega (arith, ap (λ n. digits * n) behind);
     }
 
 -- Rounding up the first group gives the least size of a fraction whose other groups are zero.
@@ -73,54 +66,26 @@ IsLeastSize-halves fraction unit part size low high =
       least = λ m r. omega (arith, product, low.enough, low.close, high.enough, high.close, r);
     }
 
--- The least size of a decimal is the size of its whole part plus the least size of its fraction.
-pub IsLeastSize-whole :
-    (whole fraction unit part : ℕ) → IsLeastSize fraction unit part
-    → IsLeastSize (whole * scale + fraction) unit (whole * unit + part)
-IsLeastSize-whole whole fraction unit part h =
-    record {
-      has = omega (arith, h.has);
-      least =
-          λ m r.
-          ⊎_elim (λ below. absurd (omega (arith, below, r)))
-          (λ above. let least = h.least (m - whole * unit) (omega (arith, above, r)) in omega (arith, above, least))
-          (cases_lt m (whole * unit));
-    }
-
--- The whole part and the fraction of N / 10^28, and the least size of the fraction.
-pub record InParts (N unit whole fraction part : ℕ) : Type 0 where
-  pub whole_is : whole ≡ N / scale
-  pub fraction_is : fraction ≡ N % scale
-  pub least : IsLeastSize fraction unit part
-
 -- The size of the whole part plus the least size of the fraction is the least size of the decimal.
-pub IsLeastSize-parts : (N unit whole fraction part : ℕ) → InParts N unit whole fraction part
+pub IsLeastSize-parts :
+    (N unit whole fraction part : ℕ) → whole ≡ N / scale → fraction ≡ N % scale → IsLeastSize fraction unit part
     → IsLeastSize N unit (whole * unit + part)
-IsLeastSize-parts N unit whole fraction part h =
-    let parts : whole * scale + fraction ≡ N = omega (arith, h.whole_is, h.fraction_is) in
-    subst (λ number. IsLeastSize number unit (whole * unit + part)) parts
-    (IsLeastSize-whole whole fraction unit part h.least)
-
--- If the least size reaches the limit, each size that is large enough does.
-pub least_size_not_below :
-    (N unit size limit : ℕ) → IsLeastSize N unit size → limit ≤ size → (enough : ℕ) → IsLeastSize N unit enough
-    → limit ≤ enough
-least_size_not_below N unit size limit h reached enough k = omega (arith, reached, h.least enough k.has)
+IsLeastSize-parts N unit whole fraction part whole_is fraction_is h =
+    let parts : N ≡ whole * scale + fraction = omega (arith, whole_is, fraction_is) in
+    rw parts (record {
+      has = omega (arith, h.has);
+      least = λ m r. omega (arith, r, h.least (m - whole * unit) (omega (arith, r)));
+    })
 
 -- A fact that holds also holds if an option is `None`.
 pub IfNone-always : {T : Type 0} (o : Option T) (Fact : Type 0) → Fact → IfNone o Fact
 IfNone-always None Fact fact = fact
 IfNone-always (Some x) Fact fact = tt
 
--- `then_some` returns only the given size.
-pub IfSome-then_some : (is : Bool) (size : ℕ) (Holds : ℕ → Type 0) → Holds size → IfSome (then_some is size) Holds
-IfSome-then_some true size Holds holds = holds
-IfSome-then_some false size Holds holds = tt
-
 -- If `then_some` of a test against the limit returns `None`, the size reaches the limit.
 pub IfNone-below : (size limit : ℕ) (Fact : Type 0) → (limit ≤ size → Fact)
     → IfNone (then_some (ltb size limit) size) Fact
-IfNone-below size limit Fact reached =
-    ⊎_elim (λ below. let yes : ltb size limit ≡ true = grind (arith, nat_tests) in
-    subst (λ is. IfNone (then_some is size) Fact) (sym yes) tt)
-    (λ above. IfNone-always (then_some (ltb size limit) size) Fact (reached above)) (cases_lt size limit)
+IfNone-below size limit Fact reached = grind (arith, IfNone-always, nat_tests)
+
+-- What the proof of the groups of digits uses.
+pub ruleset groups = (InFirstGroup-places, IfNone-always)

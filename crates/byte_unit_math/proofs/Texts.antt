@@ -1,13 +1,13 @@
 -- Expansions, their texts and nearest decimals are unique, and an expansion is found by division.
-use Rattle.std.proofs.Common.{◌≡◌, ◌+◌, ◌-◌, ◌*◌, ◌^◌, ◌/◌, ◌%◌, ◌<◌, ◌≤◌, ⊎_elim, ℕ, zero, suc, List, [], ◌∷◌, ◌++◌}
-use Rattle.std.proofs.Common.{length, take, get_or}
-use Rattle.std.proofs.Common.{replicate, arith, ap, sym, refl, subst, ◌∙◌, length-append, append-nil}
+use Rattle.std.proofs.Common.{◌≡◌, ◌+◌, ◌-◌, ◌*◌, ◌^◌, ◌/◌, ◌<◌, ◌≤◌, ⊎_elim, ℕ, zero, suc, List, [], ◌∷◌, ◌++◌, length}
+use Rattle.std.proofs.Common.{get_or, replicate, arith, ap, sym, refl, subst, ◌∙◌, length-append, append-nil}
 use Rattle.std.specs.Prelude.{⊤}
 use Rattle.std.specs.List.{All}
 use Rattle.std.proofs.lemmas.List.{length-replicate, take_all}
-use Rattle.std.proofs.lemmas.List.Elements.{All-tail, All-append, All-replicate}
+use Rattle.std.proofs.lemmas.List.Elements.{All-append, All-replicate}
 use Rattle.std.proofs.lemmas.Nat.{same_from_place}
 use Rattle.std.proofs.Math.Nat.{eq_of_mul-eq-mul_right, mul-div_cancel, mul-le-mul_right, le_of_mul-le-mul_right}
+use Rattle.std.proofs.Math.Nat.{mul-sub}
 use Rattle.std.proofs.lemmas.Bool.{cases_lt}
 use Rattle.byte_unit_math.specs.Bounds.{expansion_places}
 use Rattle.byte_unit_math.specs.Exact.{IsExactAt}
@@ -20,47 +20,25 @@ use Rattle.byte_unit_math.specs.Digits.{last_digits, at_places, prepend_digit, t
 use Rattle.byte_unit_math.specs.NumberLaws.{ExpansionsAreFoundByDivision, ShortNumeralsAreExpansions}
 use Rattle.byte_unit_math.specs.Numeral.{text_of, numeral, short_numeral}
 use Rattle.byte_unit_math.specs.Padded.{pad_of}
-use Rattle.byte_unit_math.proofs.Digits.{one_le_pow10, value_cons, value_append_zeros, length_last_digits}
-use Rattle.byte_unit_math.proofs.Digits.{last_digits_below_ten, scaled_at_places, ShortOf-shortened}
+use Rattle.byte_unit_math.proofs.Digits.{one_le_pow10, value_append_zeros, length_last_digits, value_below_power}
+use Rattle.byte_unit_math.proofs.Digits.{same_digits, last_digits_below_ten, scaled_at_places, ShortOf-shortened}
 use Rattle.byte_unit_math.proofs.Expanding.{expansion_of_digits}
 use Rattle.byte_unit_math.proofs.Scales.{pow10_split}
-use Rattle.byte_unit_math.proofs.Cut.{value_below_power}
 
 -- Each of the numbers is a decimal digit.
 abbrev AllBelowTen : List ℕ → Type 0
 AllBelowTen ds = All (λ d. d < 10) ds
 
-same_digits : (ds es : List ℕ) → AllBelowTen ds → AllBelowTen es → length ds ≡ length es → value_of_digits ds ≡ value_of_digits es
-    → ds ≡ es
-same_digits [] [] h k len e = refl
-same_digits [] (x ∷ es) h k len e = absurd (omega (arith, len))
-same_digits (d ∷ ds) [] h k len e = absurd (omega (arith, len))
-same_digits (d ∷ ds) (x ∷ es) h k len e =
-    let l : length ds ≡ length es = omega (arith, len) in
-    let hs = All-tail (λ d. d < 10) d ds h in
-    let ks = All-tail (λ d. d < 10) x es k in
-    let scale : 10 ^ length es ≡ 10 ^ length ds = ap (λ n. 10 ^ n) (sym l) in
-    let small : value_of_digits es < 10 ^ length ds = omega (arith, value_below_power es ks, scale) in
-    let product = ap (λ n. x * n) scale in
-    let parts =
-    same_from_place d (value_of_digits ds) x (value_of_digits es) (10 ^ length ds) (value_below_power ds hs) small
-    (omega (arith, product, value_cons d ds, value_cons x es, e)) in
-    ap (λ n. n ∷ ds) parts.0 ∙ ap (λ l. x ∷ l) (same_digits ds es hs ks l parts.1)
-
 -- Two decimals with as many digits after the point and the same scaled value are equal.
 pub same_finite : (e f : Finite) → AllBelowTen e.digits → AllBelowTen f.digits → length e.digits ≡ length f.digits
     → ulps_of e ≡ ulps_of f → e ≡ f
 same_finite e f h k len same =
-    let scale : 10 ^ length f.digits ≡ 10 ^ length e.digits = ap (λ n. 10 ^ n) (sym len) in
-    let product = ap (λ n. f.whole * n) scale in
+    let product = ap (λ n. f.whole * 10 ^ n) len in
     let parts =
     same_from_place e.whole (value_of_digits e.digits) f.whole (value_of_digits f.digits) (10 ^ length e.digits)
-    (value_below_power e.digits h)
-    (omega (arith, value_below_power f.digits k, scale)) (omega (arith, same, product)) in
+    (value_below_power e.digits h) (rw len (value_below_power f.digits k)) (omega (arith, same, product)) in
     let digits = same_digits e.digits f.digits h k len parts.1 in
-    let of_whole : ℕ → Finite = λ w. record { whole = w; digits = e.digits } in
-    let of_digits : List ℕ → Finite = λ ds. record { whole = f.whole; digits = ds } in
-    ap of_whole parts.0 ∙ ap of_digits digits
+    λ i. record { whole = parts.0 i; digits = digits i }
 
 -- A fraction has only one expansion.
 pub expansion_unique : (num den : ℕ) (e f : Finite) → 0 < den → IsExpansion num den e → IsExpansion num den f → e ≡ f
@@ -80,8 +58,7 @@ EndsSome (d ∷ e ∷ es) = EndsSome (e ∷ es)
 ends_before_digit : (d : ℕ) (es : List ℕ) → EndsSome es → EndsSome (prepend_digit d es)
 ends_before_digit zero [] h = h
 ends_before_digit (suc d) [] h = omega arith
-ends_before_digit zero (e ∷ es) h = h
-ends_before_digit (suc d) (e ∷ es) h = h
+ends_before_digit d (e ∷ es) h = h
 
 ends_without_zeros : (ds : List ℕ) → EndsSome (trim_zeros ds)
 ends_without_zeros [] = tt
@@ -91,12 +68,8 @@ ends_last : (ds : List ℕ) → EndsSome ds → 0 < length ds → 0 < get_or ds 
 ends_last [] h k = absurd (omega (arith, k))
 ends_last (d ∷ []) h k = h
 ends_last (d ∷ e ∷ es) h k =
-    let last = ends_last (e ∷ es) h (omega arith) in
-    let fewer : suc (length es) - 1 ≡ length es = omega arith in
-    let all : suc (suc (length es)) - 1 ≡ suc (length es) = omega arith in
-    let PositiveInTail : ℕ → Type 0 = λ i. 0 < get_or (e ∷ es) i 0 in
-    let PositiveInAll : ℕ → Type 0 = λ i. 0 < get_or (d ∷ e ∷ es) i 0 in
-    subst PositiveInAll (sym all) (subst PositiveInTail fewer last)
+    let back : suc (suc (length es)) - 1 ≡ suc (suc (length es) - 1) = omega arith in
+    rw back (ends_last (e ∷ es) h (omega arith))
 
 -- q / 10^p without trailing zeros is its expansion.
 pub short_numeral_is_expansion : ShortNumeralsAreExpansions
@@ -123,25 +96,18 @@ pub padded_is_at_places : (q p : ℕ) (e : Finite) → IsExpansion q (10 ^ p) e 
 padded_is_at_places q p e h =
     let len = length e.digits in
     let few : len ≤ p = h.least p (q, refl) in
-    let zeros : List ℕ = replicate (p - len) 0 in
-    let all : take p e.digits ≡ e.digits = take_all p e.digits few in
+    let zeros = replicate {A = ℕ} (p - len) 0 in
     let f : Finite = record { whole = e.whole; digits = e.digits ++ zeros } in
-    let of_front : List ℕ → Finite = λ l. record { whole = e.whole; digits = l ++ zeros } in
     let count : length f.digits ≡ p =
     omega (arith, length-append e.digits zeros, length-replicate {A = ℕ} (p - len) 0, few) in
-    let power = pow10_split len p few in
-    let whole = ap (λ n. e.whole * n) power in
-    let number = ap (λ n. ulps_of e * n) power in
-    let value = ap (λ n. n * 10 ^ len) (value_append_zeros e.digits (p - len)) in
-    let scaled_f : ulps_of f ≡ e.whole * 10 ^ p + value_of_digits f.digits =
-    ap (λ n. e.whole * 10 ^ n + value_of_digits f.digits) count in
+    let power = ap (λ n. value_of_digits e.digits * n) (pow10_split len p few) in
     let same : ulps_of f ≡ q =
-    eq_of_mul-eq-mul_right (10 ^ len) (omega (arith, one_le_pow10 len)) (ulps_of f) q
-    (omega (arith, ap (λ n. n * 10 ^ len) scaled_f, whole, number, value, h.exact, ap (λ n. n * 10 ^ len) whole)) in
+    eq_of_mul-eq-mul_right (10 ^ len) (one_le_pow10 len) (ulps_of f) q
+    (rw (count, value_append_zeros e.digits (p - len)) (omega (arith, h.exact, power))) in
     let small = All-append (λ d. d < 10) e.digits zeros h.small
     (All-replicate (λ d. d < 10) (p - len) 0 (omega arith)) in
-    ap of_front all ∙ same_finite f (at_places p q) small (last_digits_below_ten p q)
-    (count ∙ sym (length_last_digits p q)) (same ∙ sym (scaled_at_places p q))
+    rw (take_all p e.digits few) (same_finite f (at_places p q) small (last_digits_below_ten p q)
+    (count ∙ sym (length_last_digits p q)) (same ∙ sym (scaled_at_places p q)))
 
 -- The text of the expansion of q / 10^p, padded to p digits after the point, is the numeral with all p digits.
 pub text_of_padded : (q p : ℕ) (e : Finite) → IsExpansion q (10 ^ p) e → text_of (pad_of p e) ≡ numeral q p
@@ -149,56 +115,28 @@ text_of_padded q p e h = ap text_of (padded_is_at_places q p e h)
 
 -- Padded to its own number of digits after the point, a decimal is unchanged.
 pub padded_to_own_places : (e : Finite) → pad_of (length e.digits) e ≡ e
-padded_to_own_places e =
-    let none : length e.digits - length e.digits ≡ 0 = omega arith in
-    let of_count : ℕ → Finite =
-    λ n. record { whole = e.whole; digits = take (length e.digits) e.digits ++ replicate n 0 } in
-    let of_digits : List ℕ → Finite = λ l. record { whole = e.whole; digits = l } in
-    ap of_count none ∙ ap of_digits
-    (append-nil (take (length e.digits) e.digits) ∙ take_all (length e.digits) e.digits (omega arith))
-
-difference_apart : (a d k : ℕ) → abs_diff a (a + d) * k ≡ abs_diff (a * k) ((a + d) * k)
-difference_apart a d k = let e : abs_diff a (a + d) ≡ d = omega arith in ap (λ n. n * k) e ∙ omega arith
-
-difference_swapped : (a b : ℕ) → abs_diff a b ≡ abs_diff b a
-difference_swapped a b = omega arith
+padded_to_own_places e = grind (arith, append-nil, take_all)
 
 difference_times : (a b k : ℕ) → abs_diff a b * k ≡ abs_diff (a * k) (b * k)
-difference_times a b k =
-    let TimesFromA : ℕ → Type 0 = λ n. abs_diff a n * k ≡ abs_diff (a * k) (n * k) in
-    let TimesFromB : ℕ → Type 0 = λ n. abs_diff b n * k ≡ abs_diff (b * k) (n * k) in
-    ⊎_elim (λ l. subst TimesFromA (let e : a + (b - a) ≡ b = omega (arith, l) in e) (difference_apart a (b - a) k))
-    (λ l. let times = subst TimesFromB (let e : b + (a - b) ≡ a = omega (arith, l) in e)
-    (difference_apart b (a - b) k) in
-    ap (λ n. n * k) (difference_swapped a b) ∙ (times ∙ difference_swapped (b * k) (a * k))) (cases_lt a b)
+difference_times a b k = omega (arith, mul-sub k a b, mul-sub k b a)
 
 -- What is nearest to the expansion of a fraction is nearest to the fraction.
 pub nearest_of_expansion :
-    (num den : ℕ) (e : Finite) (p : ℕ) (ties : Ties) (q : ℕ) → (0 < den) × (num * 10 ^ length e.digits ≡ ulps_of e * den)
+    (num den : ℕ) (e : Finite) (p : ℕ) (ties : Ties) (q : ℕ)
+    → (0 < den) × (num * 10 ^ length e.digits ≡ ulps_of e * den)
     → IsNearest (ulps_of e) (10 ^ length e.digits) p ties q → IsNearest num den p ties q
 nearest_of_expansion num den e p ties q is_exact h =
     let power = 10 ^ length e.digits in
     let number = ulps_of e in
-    let some : 0 < power = omega (arith, one_le_pow10 (length e.digits)) in
-    let goal_is : number * 10 ^ p * den ≡ num * 10 ^ p * power = let exact = ap (λ n. n * 10 ^ p) is_exact.1 in
-    omega (arith, exact) in
+    let exact = ap (λ n. n * 10 ^ p) is_exact.1 in
     let same : (o : ℕ) → abs_diff (o * power) (number * 10 ^ p) * den ≡ abs_diff (o * den) (num * 10 ^ p) * power =
-    λ o. let sides : o * power * den ≡ o * den * power = omega arith in
-    difference_times (o * power) (number * 10 ^ p) den
-    ∙ (ap (λ n. abs_diff n (number * 10 ^ p * den)) sides
-    ∙ (ap (λ n. abs_diff (o * den * power) n) goal_is ∙ sym (difference_times (o * den) (num * 10 ^ p) power))) in
+    λ o. let this = difference_times (o * power) (number * 10 ^ p) den in
+    omega (arith, exact, this, difference_times (o * den) (num * 10 ^ p) power) in
     record {
-      nearest = λ o. let least =
-          mul-le-mul_right {m = abs_diff (q * power) (number * 10 ^ p)} {n = abs_diff (o * power) (number * 10 ^ p)} den
-          (h.nearest o) in
-          let this = same q in let other = same o in
-          le_of_mul-le-mul_right {m = abs_diff (q * den) (num * 10 ^ p)} {n = abs_diff (o * den) (num * 10 ^ p)}
-          {k = power}
-          (omega (arith, least, this, other)) some;
-      tie = λ o n k. h.tie o n (let tied = ap (λ x. x * power) k in
-          eq_of_mul-eq-mul_right den is_exact.0 (abs_diff (o * power) (number * 10 ^ p))
-          (abs_diff (q * power) (number * 10 ^ p))
-          (same o ∙ (tied ∙ sym (same q))));
+      nearest = λ o. le_of_mul-le-mul_right {k = power}
+          (omega (arith, mul-le-mul_right den (h.nearest o), same q, same o)) (one_le_pow10 (length e.digits));
+      tie = λ o n k. h.tie o n (eq_of_mul-eq-mul_right den is_exact.0 _ _
+          (same o ∙ (ap (λ x. x * power) k ∙ sym (same q))));
     }
 
 -- Two fractions with positive denominators are equal.
@@ -268,32 +206,22 @@ pub record BothNearest (num den p : ℕ) (ties : Ties) (q r : ℕ) : Type 0 wher
 equally_far :
     (num den p : ℕ) (ties : Ties) (q r : ℕ) → BothNearest num den p ties q r
     → abs_diff (r * den) (num * 10 ^ p) ≡ abs_diff (q * den) (num * 10 ^ p)
-equally_far num den p ties q r h = let other = h.this.nearest r in let this = h.other.nearest q in
-    omega (arith, this, other)
+equally_far num den p ties q r h = grind (arith)
 
 not_between : (num den p : ℕ) (ties : Ties) (q r : ℕ) → BothNearest num den p ties q r → q + 1 < r → ⊥
 not_between num den p ties q r h apart =
     let product = mul-le-mul_right {m = q + 2} {n = r} den (omega (arith, apart)) in
     absurd (omega (arith, product, equally_far num den p ties q r h, h.this.nearest (q + 1), h.positive))
 
-not_both_even : (num den p q r : ℕ) → BothNearest num den p Even q r → q < r → (q % 2 ≡ 0) × (r % 2 ≡ 0) → ⊥
-not_both_even num den p q r h less even = not_between num den p Even q r h (omega (arith, less, even.0, even.1))
-
 not_below : (num den p : ℕ) (ties : Ties) (q r : ℕ) → BothNearest num den p ties q r → q < r → ⊥
 not_below num den p Up q r h less =
-    let wins = h.this.tie r (λ e. omega (arith, e, less)) (equally_far num den p Up q r h) in
-    absurd (omega (arith, wins, less))
+    absurd (omega (arith, less, h.this.tie r (λ e. omega (arith, e, less)) (equally_far num den p Up q r h)))
 not_below num den p Even q r h less =
     let far = equally_far num den p Even q r h in
     let even = h.this.tie r (λ e. omega (arith, e, less)) far in
     let even' = h.other.tie q (λ e. omega (arith, e, less)) (sym far) in
-    not_both_even num den p q r h less (even, even')
+    not_between num den p Even q r h (omega (arith, less, even, even'))
 
 -- Only one decimal with p digits after the point is nearest, since ties are broken.
 pub nearest_unique : (num den p : ℕ) (ties : Ties) (q r : ℕ) → BothNearest num den p ties q r → q ≡ r
-nearest_unique num den p ties q r h =
-    let swapped : BothNearest num den p ties r q =
-    record { positive = h.positive; this = h.other; other = h.this } in
-    ⊎_elim (λ less. absurd (not_below num den p ties q r h less))
-    (λ l. ⊎_elim (λ less. absurd (not_below num den p ties r q swapped less)) (λ m. omega (arith, l, m))
-    (cases_lt r q)) (cases_lt q r)
+nearest_unique num den p ties q r h = grind (arith, not_below)

@@ -1,24 +1,11 @@
 -- Factors of 2 and 5 divided out of a number.
-use Rattle.std.proofs.Common.{◌≡◌, ◌≢◌, ℕ, zero, suc, ◌+◌, ◌*◌, ◌/◌, ◌%◌, ◌^◌, ◌<◌, ◌≤◌, ⊎_elim, arith, sym, ap, ◌∙◌}
-use Rattle.std.proofs.Common.{add-one}
+use Rattle.std.proofs.Common.{◌≡◌, ◌≢◌, ℕ, zero, suc, ◌+◌, ◌*◌, ◌/◌, ◌%◌, ◌^◌, ◌<◌, ◌≤◌, arith, sym, ap, ◌∙◌, add-one}
 use Rattle.std.specs.Int.{bit_at, trailing_zeros, w128}
-use Rattle.std.proofs.Math.Nat.{pow-suc, pow-le-pow_left, pow-le-pow_right, mul-le-mul_left, mul-le-mul_right, div-one}
+use Rattle.std.proofs.Math.Nat.{pow-suc, pow-le-pow_left, mul-le-mul_left, mul-le-mul_right, div-one}
 use Rattle.std.proofs.lemmas.Nat.{pow-add, shr-shr}
 use Rattle.std.proofs.lemmas.Nat.Bits.{bit_at-trailing_zeros}
-use Rattle.std.proofs.lemmas.Bool.{cases_lt}
 use Rattle.byte_unit_math.specs.Bounds.{size_limit}
-
--- A power of 2 that is at most a size has an exponent of at most 99.
-few_twos : (twos size : ℕ) → 2 ^ twos ≤ size → size < size_limit → twos ≤ 99
-few_twos twos size h small =
-    ⊎_elim
-    (λ l. let most = pow-le-pow_right {n = 2} (omega arith) {i = 100} {j = twos} (omega arith) in
-    absurd (omega (arith, most, h, small)))
-    (λ k. k) (cases_lt 99 twos)
-
-odd_positive : (left : ℕ) → left % 2 ≢ 0 → 0 < left
-odd_positive zero h = absurd (h (omega arith))
-odd_positive (suc left) h = omega arith
+use Rattle.byte_unit_math.proofs.Scales.{exponent_at_most}
 
 few_factors_of_size : (size left twos fives : ℕ) → 0 < left → size ≡ left * (2 ^ twos * 5 ^ fives) → size < size_limit
     → twos + fives ≤ 99
@@ -26,7 +13,9 @@ few_factors_of_size size left twos fives some h small =
     let powers = mul-le-mul_left {m = 2 ^ fives} {n = 5 ^ fives} (2 ^ twos)
     (pow-le-pow_left {n = 2} {m = 5} (omega arith) fives) in
     let product = mul-le-mul_right {m = 1} {n = left} (2 ^ twos * 5 ^ fives) some in
-    few_twos (twos + fives) size (omega (arith, pow-add 2 twos fives, powers, product, h)) small
+    exponent_at_most 2 99 (twos + fives) size_limit (omega arith)
+    (omega (arith, pow-add 2 twos fives, powers, product, h, small))
+    (omega arith)
 
 -- A number whose lowest `twos` bits are 0 is a multiple of 2^twos.
 trailing_zeros_divide : (number twos : ℕ) → ((i : ℕ) → i < twos → bit_at number i ≡ 0)
@@ -78,5 +67,4 @@ FivesOff-joined number left twos fives rest others h parts odd =
 -- A number below 10^30 has at most 99 factors of 2 and 5 together.
 pub FivesOff-few : (number left twos fives : ℕ) → number < size_limit → FivesOff number left twos fives
     → twos + fives ≤ 99
-FivesOff-few number left twos fives small h =
-    few_factors_of_size number left twos fives (odd_positive left h.odd) h.product small
+FivesOff-few number left twos fives small h = grind (arith, few_factors_of_size)

@@ -56,6 +56,7 @@ impl DecimalDigits {
     /// ```rust
     /// assert_eq!(rt; DecimalDigits::of(1536).as_slice(), b"1536".as_slice());
     /// ```
+    #[tactic(auto, using(crate::proofs::WrittenDigits::decimal_few))]
     pub fn of(n: u128) -> DecimalDigits
         ensures digits { result ≡ decimal n }
         ensures ascii { IsAscii result }
@@ -111,6 +112,7 @@ impl DecimalDigits {
 /// }
 /// assert_eq!(rt; format!(in alloc; "{}", Number(1536))?.as_str(), "1536");
 /// ```
+#[tactic(auto, using(crate::proofs::WrittenDigits::ascii_texts))]
 pub fn fmt_u128<W: fmt::Write>(n: u128, f: &mut fmt::Formatter<W>) -> fmt::Result
     ensures plain { DisplaysOnOk W.write_str_gives f.old result (Some (decimal n)) f.new }
     ensures styled { DisplaysStyledOnOk W.write_str_gives f.old result (Some (decimal n)) f.new }
@@ -127,6 +129,7 @@ pub fn fmt_u128<W: fmt::Write>(n: u128, f: &mut fmt::Formatter<W>) -> fmt::Resul
 /// assert_eq!(rt; decimal_len(0), 1);
 /// ```
 #[inline(always)]
+#[tactic(auto, using(crate::proofs::BinaryDigits::digits_by_bits))]
 pub fn decimal_len(n: u128) -> usize
     ensures exact { result ≡ length (decimal n) }
     ensures few { result ≤ NUMBER_DIGITS }
@@ -147,6 +150,7 @@ pub fn decimal_len(n: u128) -> usize
 
 /// Returns the number of decimal digits as `decimal_len`, in 64 bits.
 #[inline(always)]
+#[tactic(auto, using(crate::proofs::BinaryDigits::digits_by_bits))]
 fn decimal_len_u64(n: u64) -> usize
     requires { 10 ≤ n }
     ensures exact { result ≡ length (decimal n) }
@@ -170,6 +174,7 @@ fn decimal_len_u64(n: u64) -> usize
 /// assert_eq!(rt; &bytes, b".1536.");
 /// ```
 #[inline(always)]
+#[tactic(auto, using(crate::proofs::WrittenDigits::decimal_ascii))]
 pub fn put_u128(n: u128, bytes: &mut [u8], end: usize) -> usize
     requires room { length (decimal n) ≤ end }
     requires within { end ≤ length bytes.old }
@@ -197,6 +202,7 @@ pub fn put_u128(n: u128, bytes: &mut [u8], end: usize) -> usize
 /// assert_eq!(rt; put_fraction(0, 0, &mut bytes, 4), 4);
 /// ```
 #[inline(always)]
+#[tactic(auto, using(crate::proofs::WrittenDigits::fractions_written))]
 pub fn put_fraction(digits: u128, places: u32, bytes: &mut [u8], end: usize) -> usize
     requires few { places ≤ places_of_decimal }
     requires below { digits < 10 ^ places }
@@ -218,6 +224,7 @@ pub fn put_fraction(digits: u128, places: u32, bytes: &mut [u8], end: usize) -> 
 
 /// Writes digits as `put_u128`, 18 at a time: the slow path, for numbers of more than 64 bits.
 #[inline(never)]
+#[tactic(auto, using(crate::proofs::WrittenDigits::eighteen_written))]
 fn put_u128_wide(n: u128, bytes: &mut [u8], end: usize) -> usize
     requires room { length (decimal n) ≤ end }
     requires within { end ≤ length bytes.old }
@@ -237,6 +244,7 @@ fn put_u128_wide(n: u128, bytes: &mut [u8], end: usize) -> usize
 
 /// Writes the digits of a number of 64 bits as `put_u128`.
 #[inline(always)]
+#[tactic(auto, using(crate::proofs::WrittenDigits::groups_written))]
 fn put_u64(n: u64, bytes: &mut [u8], end: usize) -> usize
     requires room { length (decimal n) ≤ end }
     requires within { end ≤ length bytes.old }

@@ -40,6 +40,7 @@ pub fn div_rem(dividend: u128, divisor: u128) -> (u128, u128)
 /// Returns the quotient and the remainder by a constant, without division: the leading 64 bits of the dividend times
 /// `inverse`, 2^(cut + shift) / divisor rounded down, give an estimate, which is the quotient or one less.
 #[inline(always)]
+#[tactic(auto, using(crate::proofs::Estimates::estimates))]
 pub(crate) fn div_rem_by_inverse(
     dividend: u128,
     divisor: u64,
@@ -64,6 +65,7 @@ pub(crate) fn div_rem_by_inverse(
 /// Returns the quotient and the remainder by a constant of at most 2^24: a long division in base 2^40, each step of
 /// which LLVM compiles to multiplications.
 #[inline(always)]
+#[tactic(auto, using(crate::proofs::Estimates::long_division))]
 pub(crate) fn div_rem_u24(dividend: u128, divisor: u64) -> (u128, u64)
     requires some { 1 ≤ divisor }
     requires short { divisor ≤ 2 ^ 24 }

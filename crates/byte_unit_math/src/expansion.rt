@@ -86,6 +86,7 @@ impl Expansion {
     /// let e = Expansion::from_decimal(Decimal::from_digits(50, 84, 3));
     /// assert_eq!(rt; (e.whole(), e.places(), e.digit(3)), (50, 3, 4));
     /// ```
+    #[tactic(auto, using(crate::proofs::Expanding::decimals))]
     pub fn from_decimal(d: Decimal) -> Expansion
         ensures { IsExpansion d scale result }
     {
@@ -163,6 +164,7 @@ impl Expansion {
     }
 
     /// Returns whether rounding to `places` digits goes up.
+    #[tactic(auto, using(crate::proofs::Cut::rounding))]
     fn rounds_up(&self, places: u32, ties: Ties) -> bool
         requires { places < length self.now.digits }
         ensures { let nearest = IsNearest (ulps_of self.now)
@@ -186,6 +188,7 @@ impl Expansion {
     }
 
     /// Returns whether the last digit is odd if the number is rounded down to `places` digits.
+    #[tactic(auto, using(crate::proofs::Cut::odd))]
     fn is_odd_at(&self, places: u32) -> bool
         requires { places < length self.now.digits }
         ensures { let cut = ulps_of (cut_after places self.now) in
@@ -214,6 +217,7 @@ impl Expansion {
     }
 
     /// Returns the first `places` digits, and then zeros.
+    #[tactic(auto, using(crate::proofs::Kept::copied))]
     fn leading_digits(&self, places: u32) -> [u8; EXPANSION_PLACES]
         requires { places ≤ length self.now.digits }
         ensures size { length result ≡ expansion_places }
@@ -244,6 +248,7 @@ impl Expansion {
     }
 
     /// Rounds up to `places` digits after the point, of which the number has more.
+    #[tactic(auto, using(crate::proofs::Kept::next_whole_is_expansion))]
     fn ceil_to(&self, places: u32) -> Expansion
         requires { places < length self.now.digits }
         ensures { IsExpansion (ulps_of (cut_after places self.now) + 1) (10 ^ places) result }
@@ -281,6 +286,7 @@ impl fmt::Display for Expansion {
 }
 
 /// Writes the point and the digits after it, or nothing if there are none.
+#[tactic(auto, using(crate::proofs::WrittenDigits::ascii_texts))]
 fn fmt_fraction<W: fmt::Write>(e: &Expansion, f: &mut fmt::Formatter<W>) -> fmt::Result
     ensures plain { DisplaysOnOk W.write_str_gives f.old result
         (Some (fraction_text e.now.digits)) f.new }

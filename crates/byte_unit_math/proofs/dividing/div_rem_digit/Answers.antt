@@ -1,27 +1,18 @@
 -- The digit is the sum of the multiples 8, 4, 2 and 1 of the divisor that were subtracted, and what is left is below
 -- the divisor.
-use Rattle.std.proofs.Common.{◌≡◌, ◌+◌, ◌*◌, ◌/◌, ◌%◌, arith, ap, sym, ◌∙◌}
-use Rattle.std.proofs.lemmas.Nat.{div-mul-add, mod-mul-add}
+use Rattle.std.proofs.Common.{◌+◌, arith}
+use Rattle.byte_unit_math.proofs.Estimates.{division_is}
 use Rattle.byte_unit_math.proofs.dividing.div_rem_digit.Goals as goal
 
 pub returns : goal.returns
 returns c =
-    let digit =
-    c.subtract_multiple-eights.result.0 + c.subtract_multiple-fours.result.0 + c.subtract_multiple-twos.result.0
-    + c.subtract_multiple-ones.result.0 in
-    let parts : digit * c.args.divisor + c.subtract_multiple-ones.result.1 ≡ c.args.dividend =
-    omega (
-      arith,
-      c.subtract_multiple-eights.ensures.parts,
-      c.subtract_multiple-fours.ensures.parts,
-      c.subtract_multiple-twos.ensures.parts,
-      c.subtract_multiple-ones.ensures.parts,
-    ) in
-    let below = c.subtract_multiple-ones.ensures.below in
-    record {
-      digit =
-          sym (ap (λ n. n / c.args.divisor) (sym parts)
-          ∙ div-mul-add digit c.args.divisor c.subtract_multiple-ones.result.1 (omega (arith, below)));
-      rest = sym (ap (λ n. n % c.args.divisor) (sym parts)
-          ∙ mod-mul-add digit c.args.divisor c.subtract_multiple-ones.result.1 (omega (arith, below)));
-    }
+    let eights = c.subtract_multiple-eights in
+    let fours = c.subtract_multiple-fours in
+    let twos = c.subtract_multiple-twos in
+    let ones = c.subtract_multiple-ones in
+    let digit = eights.result.0 + fours.result.0 + twos.result.0 + ones.result.0 in
+    let parts =
+    division_is c.args.dividend c.args.divisor digit ones.result.1
+    (omega (arith, eights.ensures.parts, fours.ensures.parts, twos.ensures.parts, ones.ensures.parts))
+    (omega (arith, ones.ensures.below)) in
+    record { digit = parts.0; rest = parts.1 }

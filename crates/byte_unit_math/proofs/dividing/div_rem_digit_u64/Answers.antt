@@ -1,7 +1,7 @@
 -- The digit is the sum of the multiples 8, 4, 2 and 1 of the divisor that were subtracted, and what is left is below
 -- the divisor.
-use Rattle.std.proofs.Common.{◌≡◌, ◌+◌, ◌*◌, ◌/◌, ◌%◌, arith, ap, sym, ◌∙◌}
-use Rattle.std.proofs.lemmas.Nat.{div-mul-add, mod-mul-add}
+use Rattle.std.proofs.Common.{◌+◌, arith}
+use Rattle.byte_unit_math.proofs.Estimates.{division_is}
 use Rattle.byte_unit_math.proofs.dividing.div_rem_digit_u64.Goals as goal
 
 pub returns : goal.returns
@@ -11,13 +11,8 @@ returns c =
     let twos = c.subtract_multiple_u64-twos in
     let ones = c.subtract_multiple_u64-ones in
     let digit = eights.result.0 + fours.result.0 + twos.result.0 + ones.result.0 in
-    let parts : digit * c.args.divisor + ones.result.1 ≡ c.args.dividend =
-    omega (arith, eights.ensures.parts, fours.ensures.parts, twos.ensures.parts, ones.ensures.parts) in
-    let below = ones.ensures.below in
-    record {
-      digit =
-          sym (ap (λ n. n / c.args.divisor) (sym parts)
-          ∙ div-mul-add digit c.args.divisor ones.result.1 (omega (arith, below)));
-      rest = sym (ap (λ n. n % c.args.divisor) (sym parts)
-          ∙ mod-mul-add digit c.args.divisor ones.result.1 (omega (arith, below)));
-    }
+    let parts =
+    division_is c.args.dividend c.args.divisor digit ones.result.1
+    (omega (arith, eights.ensures.parts, fours.ensures.parts, twos.ensures.parts, ones.ensures.parts))
+    (omega (arith, ones.ensures.below)) in
+    record { digit = parts.0; rest = parts.1 }

@@ -1,29 +1,23 @@
 -- Long division: the remainder is zero after at most 93 digits, since the fraction is exact with 93 digits after the
 -- point, so the array is long enough.
 use Rattle.std.proofs.Common.{arith}
-use Rattle.byte_unit_math.proofs.Expanding.{IsDividing-start, IsDividing-more, IsDividing-ended, IsUnfinished-room}
+use Rattle.byte_unit_math.proofs.Expanding.{IsDividing-start, IsDividing-more, IsDividing-ended, IsDividing-room}
 use Rattle.byte_unit_math.proofs.expansion.divide.Goals as goal
 
 pub loop-rest-init : goal.loop-rest-init
 loop-rest-init c = IsDividing-start c.args.whole c.args.remainder c.args.den c.requires.below
 
 pub bounds-digits-places : goal.bounds-digits-places
-bounds-digits-places c =
-    IsUnfinished-room _ _ _ c.loop-rest.rest c.loop-rest.places c.loop-rest.digits
-    (record { so_far = c.loop-rest.invariant; ends = c.requires.ends; some = c.loop-rest-test.true })
+bounds-digits-places c = IsDividing-room _ _ _ _ _ _ c.loop-rest.invariant c.requires.ends c.loop-rest-test.true
 
 pub loop-rest-smaller : goal.loop-rest-smaller
 loop-rest-smaller c =
-    let room =
-    IsUnfinished-room _ _ _ c.loop-rest.rest c.loop-rest.places c.loop-rest.digits
-    (record { so_far = c.loop-rest.invariant; ends = c.requires.ends; some = c.loop-rest-test.true }) in
-    omega (arith, room)
+    omega (arith, IsDividing-room _ _ _ _ _ _ c.loop-rest.invariant c.requires.ends c.loop-rest-test.true)
 
 pub loop-rest-preserved : goal.loop-rest-preserved
 loop-rest-preserved c =
     rw (c.div_rem_digit-digit.ensures.digit, c.div_rem_digit-digit.ensures.rest)
-    (IsDividing-more _ _ _ c.loop-rest.rest c.loop-rest.places c.loop-rest.digits
-    (record { so_far = c.loop-rest.invariant; ends = c.requires.ends; some = c.loop-rest-test.true }))
+    (IsDividing-more _ _ _ _ _ _ c.loop-rest.invariant c.requires.ends c.loop-rest-test.true)
 
 pub returns : goal.returns
 returns c = IsDividing-ended _ _ _ _ _ _ c.loop-rest.invariant c.loop-rest-test.false

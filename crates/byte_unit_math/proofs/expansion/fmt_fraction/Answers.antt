@@ -2,18 +2,9 @@
 use Rattle.std.proofs.Common.{rules, ◌≡◌, ◌<◌, ◌∷◌, length, take, arith, refl, ap, sym, ◌∙◌}
 use Rattle.std.proofs.Output.{has_written_styled_append, has_written_styled_of_eq}
 use Rattle.std.proofs.lemmas.Grind.{common_steps}
-use Rattle.std.proofs.lemmas.Str.{IsAscii-take}
 use Rattle.byte_unit_math.specs.Numeral.{glyphs}
 use Rattle.byte_unit_math.proofs.Fractions.{fraction_text_some}
-use Rattle.byte_unit_math.proofs.WrittenDigits.{ascii_is_ok}
 use Rattle.byte_unit_math.proofs.expansion.fmt_fraction.Goals as goal
-
-pub unwrap-requires : goal.unwrap-requires
-unwrap-requires g c =
-    let places = c.places-2.result in
-    let characters = c.glyphs_of.result in
-    ascii_is_ok c.from_utf8.result (take places characters) _ _ c.from_utf8.ensures.cases
-    (IsAscii-take characters places c.glyphs_of.ensures.ascii)
 
 pub returns-clause-styled : goal.returns-clause-styled
 returns-clause-styled g c = λ flush ok.

@@ -1,19 +1,10 @@
 -- Each iteration divides by five; what is left times the powers found is the number.
-use Rattle.std.proofs.Common.{arith, ◌∙◌}
+use Rattle.std.proofs.Common.{arith}
 use Rattle.byte_unit_math.proofs.TwosFives.{FivesOff-more, FivesOff-few}
 use Rattle.byte_unit_math.proofs.factors.divide_out_fives.Goals as goal
-
-pub loop-left-init : goal.loop-left-init
-loop-left-init c = record { odd = c.requires; product = omega arith }
 
 pub overflow_add-fives : goal.overflow_add-fives
 overflow_add-fives c = omega (arith, FivesOff-few _ _ _ _ (omega arith) c.loop-left.invariant)
 
 pub loop-left-preserved : goal.loop-left-preserved
 loop-left-preserved c = FivesOff-more _ _ _ _ _ c.loop-left.invariant (omega arith)
-
-pub returns-clause-product : goal.returns-clause-product
-returns-clause-product c = c.loop-left.invariant.product ∙ omega arith
-
-pub returns-clause-odd : goal.returns-clause-odd
-returns-clause-odd c = c.loop-left.invariant.odd

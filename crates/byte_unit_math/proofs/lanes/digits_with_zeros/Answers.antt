@@ -1,13 +1,13 @@
 -- The digits of a number are those of its quotient by 10^16 and then those of the remainder, with leading zeros.
-use Rattle.std.proofs.Common.{◌≡◌, ◌-◌, ◌/◌, ◌^◌, ◌<◌, ◌≤◌, ◌++◌, ℕ, List, length, drop, replicate, arith, ap, sym, refl, ◌∙◌, append_assoc}
+use Rattle.std.proofs.Common.{◌≡◌, ◌-◌, ◌/◌, ◌^◌, ◌≤◌, ◌++◌, ℕ, List, length, drop, replicate, arith, ap, sym, refl}
+use Rattle.std.proofs.Common.{◌∙◌}
 use Rattle.std.specs.Fmt.{decimal}
-use Rattle.std.proofs.lemmas.Fmt.{length-decimal-le_wide}
 use Rattle.std.proofs.lemmas.Simd.{put_chunk_whole}
 use lib.Lanes.{put_chunk}
 use borrow.Rule.Slice.PartMut.{put_mid, mid_of}
 use Rattle.byte_unit_math.specs.Digits.{last_digits}
 use Rattle.byte_unit_math.specs.Numeral.{glyphs}
-use Rattle.byte_unit_math.proofs.WrittenDigits.{decimal_cut, decimal_length_split, without_leading_zeros}
+use Rattle.byte_unit_math.proofs.WrittenDigits.{digits_before, more_16, without_leading_zeros}
 use Rattle.byte_unit_math.proofs.lanes.digits_with_zeros.Goals as goal
 
 -- Sixteen digits that are stored in place of other bytes.
@@ -20,11 +20,8 @@ returns-then-n-from-clause-digits c =
     let n = c.args.n in
     ap (λ digits. drop (16 - length (decimal n)) (digits ++ replicate 32 48))
     (stored (replicate 16 48) c.last_16_digits.result n refl c.last_16_digits.ensures)
-    ∙ without_leading_zeros 16 n (replicate 32 48) (omega (arith, c.if-n-from.true)) (omega (arith, c.requires)) (omega arith)
-
-pub returns-then-n-from-clause-within : goal.returns-then-n-from-clause-within
-returns-then-n-from-clause-within c =
-    length-decimal-le_wide 16 c.args.n (omega arith) (omega (arith, c.if-n-from.true)) (omega (arith, c.requires))
+    ∙ without_leading_zeros 16 n (replicate 32 48) (omega (arith, c.if-n-from.true))
+    (omega (arith, c.requires)) (omega arith)
 
 pub returns-clause-digits : goal.returns-clause-digits
 returns-clause-digits c =
@@ -43,26 +40,12 @@ returns-clause-digits c =
     let array : put_mid 16 16 (first ++ zeros) (put_chunk 0 middle c.last_16_digits-3.result)
     ≡ glyphs (last_digits 16 high) ++ (glyphs (last_digits 16 rest) ++ replicate 16 48) =
     λ i. put_mid 16 16 (first_is i ++ zeros) (last_is i) in
-    let small : n < 2 ^ 128 = omega (arith, c.requires) in
     let wide : 10 ^ 16 ≤ n = omega (arith, c.if-n-from.false) in
     let high_is : high ≡ n / 10 ^ 16 = c.div_rem_by_inverse-before.ensures.quotient in
     let start_is : start ≡ 16 - length (decimal high) =
-    omega (arith, decimal_length_split 16 n wide small, ap (λ q. length (decimal q)) high_is) in
+    omega (arith, more_16 n wide c.requires, ap (λ q. length (decimal q)) high_is) in
     ap (λ digits. drop start digits) array
-    ∙ (ap (λ k. drop k (glyphs (last_digits 16 high) ++ (glyphs (last_digits 16 rest) ++ replicate 16 48))) start_is
-    ∙ (without_leading_zeros 16 high (glyphs (last_digits 16 rest) ++ replicate 16 48) (omega (arith, high_is, c.requires))
-    (omega (arith, high_is, c.requires)) (omega arith)
-    ∙ (sym (append_assoc (decimal high) (glyphs (last_digits 16 rest)) (replicate 16 48))
-    ∙ ap (λ digits. digits ++ replicate 16 48)
-    ((λ i. decimal (high_is i) ++ glyphs (last_digits 16 (c.div_rem_by_inverse-before.ensures.rest i)))
-    ∙ decimal_cut 16 n wide small))))
-
-pub returns-clause-within : goal.returns-clause-within
-returns-clause-within c =
-    let few = length-decimal-le_wide 30 c.args.n (omega arith) c.requires (omega (arith, c.requires)) in
-    omega (arith, few)
-
-pub returns-clause-few : goal.returns-clause-few
-returns-clause-few c =
-    let len = decimal_length_split 16 c.args.n (omega (arith, c.if-n-from.false)) (omega (arith, c.requires)) in
-    omega (arith, len)
+    ∙ rw start_is (without_leading_zeros 16 high (glyphs (last_digits 16 rest) ++ replicate 16 48)
+    (omega (arith, high_is, c.requires)) (omega (arith, high_is, c.requires)) (omega arith)
+    ∙ rw (high_is, c.div_rem_by_inverse-before.ensures.rest)
+    (sym (digits_before 16 n (replicate 16 48) wide (omega (arith, c.requires)))))

@@ -2,26 +2,15 @@
 use Rattle.std.proofs.Common.{◌≡◌, min, arith, subst}
 use Rattle.byte_unit_math.specs.Bounds.{places_of_decimal}
 use Rattle.byte_unit_math.specs.Exact.{IsExactAt}
-use Rattle.byte_unit_math.proofs.quotient.exact_quotient.Goals.{then-loop-rest-test+else-digits-most}
-use Rattle.byte_unit_math.proofs.quotient.exact_quotient.Goals.{else-loop-rest-test}
-use Rattle.byte_unit_math.proofs.Division.{Dividing-more, Dividing-ended, digits_below_one, not_exact}
-use Rattle.byte_unit_math.proofs.Division.{quotient_below_whole_limit}
+use Rattle.byte_unit_math.proofs.Division.{Dividing-more, Dividing-ended, next_digit_below, not_exact}
 use Rattle.byte_unit_math.proofs.Division.{IsQuotient-digits, IsQuotient-times}
 use Rattle.byte_unit_math.proofs.quotient.exact_quotient.Goals as goal
 
 pub overflow_mul-fraction : goal.overflow_mul-fraction
-overflow_mul-fraction c =
-    let loop = c.loop-rest in
-    let next = Dividing-more _ _ loop.rest loop.fraction loop.digits (omega arith) (omega arith)
-    loop.invariant.divides in
-    omega (arith, digits_below_one _ _ (omega arith) next.below)
+overflow_mul-fraction c = omega (arith, next_digit_below _ _ _ _ _ c.loop-rest.invariant.divides (omega arith))
 
 pub overflow_add-fraction : goal.overflow_add-fraction
-overflow_add-fraction c =
-    let loop = c.loop-rest in
-    let next = Dividing-more _ _ loop.rest loop.fraction loop.digits (omega arith) (omega arith)
-    loop.invariant.divides in
-    omega (arith, digits_below_one _ _ (omega arith) next.below)
+overflow_add-fraction c = omega (arith, next_digit_below _ _ _ _ _ c.loop-rest.invariant.divides (omega arith))
 
 pub loop-rest-preserved : goal.loop-rest-preserved
 loop-rest-preserved c =
@@ -36,29 +25,12 @@ loop-rest-preserved c =
 
 pub returns-then-rest-gt0-clause-none : goal.returns-then-rest-gt0-clause-none
 returns-then-rest-gt0-clause-none c = λ exact.
-    elim c.loop-rest-test.branch [
-      | then-loop-rest-test+else-digits-most w ↦
-          let all : min c.args.places places_of_decimal ≡ c.loop-rest.digits =
-          omega (arith, c.min-most.ensures, c.loop-rest.invariant.few) in
-          not_exact _ _ _ _ _ c.loop-rest.invariant.divides c.if-rest-gt0.true
-          (subst (IsExactAt c.args.size c.args.unit) all exact)
-      | else-loop-rest-test w ↦ absurd (omega arith)
-    ]
-
-pub from_digits-requires-clause-whole : goal.from_digits-requires-clause-whole
-from_digits-requires-clause-whole c =
-    rw c.div_rem-whole.ensures.quotient
-    (quotient_below_whole_limit c.args.size c.args.unit c.requires.small_size)
+    let all : min c.args.places places_of_decimal ≡ c.loop-rest.digits = grind arith in
+    not_exact _ _ _ _ _ c.loop-rest.invariant.divides c.if-rest-gt0.true
+    (subst (IsExactAt c.args.size c.args.unit) all exact)
 
 pub returns-clause-quotient : goal.returns-clause-quotient
-returns-clause-quotient c =
-    let loop = c.loop-rest in
-    let places = min c.args.places places_of_decimal in
-    let number =
-    IsQuotient-digits c.args.size c.args.unit loop.fraction loop.digits places
-    (omega (arith, c.min-most.ensures, loop.invariant.few))
-    (omega arith) (Dividing-ended _ _ _ _ _ loop.invariant.divides (omega arith)) in
-    rw (c.from_digits.ensures, c.div_rem-whole.ensures.quotient) number
+returns-clause-quotient c = grind (arith, Dividing-ended, IsQuotient-digits)
 
 pub returns-clause-exact : goal.returns-clause-exact
 returns-clause-exact c =

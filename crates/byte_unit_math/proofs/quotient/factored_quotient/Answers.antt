@@ -1,14 +1,11 @@
 -- The quotient, scaled by 10^28, times the unit 2^twos * 5^fives is the number scaled by 10^28.
-use Rattle.std.proofs.Common.{ℕ, get_or, Fits, ◌≡◌, ◌+◌, ◌-◌, ◌*◌, ◌/◌, ◌%◌, ◌^◌, ◌<◌, arith, ap, sym, subst, ◌∙◌}
-use Rattle.std.specs.Int.{w128}
+use Rattle.std.proofs.Common.{ℕ, ◌≡◌, ◌+◌, ◌-◌, ◌*◌, ◌/◌, ◌%◌, ◌^◌, ◌<◌, arith, ap, ◌∙◌}
 use Rattle.byte_unit_math.specs.Bounds.{places_of_decimal, whole_limit}
 use Rattle.byte_unit_math.specs.Factored.{product_of}
 use Rattle.byte_unit_math.proofs.Powers.{count_of_units}
-use Rattle.byte_unit_math.proofs.FactoredNumbers.{FewFactors-below_limit, product_by_table, count_below_limit}
-use Rattle.byte_unit_math.proofs.FactoredNumbers.{count_is_exact, FewFactors, quotient_and_rest_of_equal}
-use Rattle.byte_unit_math.proofs.Scales.{pow10_bounds, cut_at_point, powers_from}
-use Rattle.byte_unit_math.proofs.quotient.factored_quotient.Goals.{Start, Joined-places, in-0, in-1, in-2, in-3}
-use Rattle.byte_unit_math.proofs.quotient.factored_quotient.Goals.{in_default}
+use Rattle.byte_unit_math.proofs.FactoredNumbers.{FewFactors-below_limit, count_below_limit, count_is_exact, FewFactors}
+use Rattle.byte_unit_math.proofs.Scales.{pow10_bounds, cut_at_point}
+use Rattle.byte_unit_math.proofs.quotient.factored_quotient.Goals.{Start, Joined-places}
 use Rattle.byte_unit_math.proofs.quotient.factored_quotient.Goals as goal
 
 -- The number times 10^places as a multiple of the unit, and the factors of 2 and 5 of the multiple.
@@ -24,48 +21,31 @@ count_of c = c.args.number.left * (2 ^ twos_of c * 5 ^ fives_of c)
 
 count_is_exact_quotient : (c : Start)
     → product_of c.args.number * 10 ^ c.args.places ≡ count_of c * (2 ^ c.args.twos * 5 ^ c.args.fives)
-count_is_exact_quotient c =
-    count_of_units c.args.number.left c.args.number.twos c.args.number.fives c.args.twos c.args.fives c.args.places
-    c.requires.exact
+count_is_exact_quotient c = grind (arith, count_of_units)
 
 count_fits : (c : Start) → count_of c < whole_limit
-count_fits c = count_below_limit (product_of c.args.number) (2 ^ c.args.twos * 5 ^ c.args.fives) (count_of c)
-    c.args.places (count_is_exact_quotient c) c.requires.small
+count_fits c = grind (arith, count_below_limit, count_is_exact_quotient)
 
-count_has_few_factors : (c : Start) → FewFactors c.args.number.left (twos_of c) (fives_of c)
-count_has_few_factors c = FewFactors-below_limit c.args.number.left (twos_of c) (fives_of c) c.requires.some
-    (count_fits c)
-
-count_by_table : (c : Start) → c.args.number.left * 2 ^ twos_of c % 2 ^ 128 * get_or (powers_from 5 49 1) (fives_of c) 0
-    ≡ count_of c
-count_by_table c = product_by_table c.args.number.left (twos_of c) (fives_of c) c.requires.some (count_fits c)
+few : (c : Start) → FewFactors c.args.number.left (twos_of c) (fives_of c)
+few c = FewFactors-below_limit c.args.number.left (twos_of c) (fives_of c) c.requires.some (count_fits c)
 
 pub bounds-number : goal.bounds-number
-bounds-number c = omega (arith, (count_has_few_factors (goal.at.bounds-number c).Start).few_fives)
+bounds-number c = omega (arith, (few (goal.at.bounds-number c).Start).few_fives)
 
 pub overflow_shl-count : goal.overflow_shl-count
-overflow_shl-count c = omega (arith, (count_has_few_factors (goal.at.overflow_shl-count c).Start).few_twos)
+overflow_shl-count c = omega (arith, (few (goal.at.overflow_shl-count c).Start).few_twos)
 
 pub overflow_mul-count : goal.overflow_mul-count
-overflow_mul-count c =
-    let s = (goal.at.overflow_mul-count c).Start in
-    let fits : Fits w128 (count_of s) = omega (arith, count_fits s) in
-    subst (λ n. Fits w128 n) (sym (count_by_table s)) fits
+overflow_mul-count c = omega (arith, (few (goal.at.overflow_mul-count c).Start).small)
 
 pub div_rem_small-requires-clause-small : goal.div_rem_small-requires-clause-small
-div_rem_small-requires-clause-small c =
-    let s = (goal.at.div_rem_small-requires-clause-small c).Start in
-    subst (λ n. n < whole_limit) (sym (count_by_table s)) (count_fits s)
+div_rem_small-requires-clause-small c = (few (goal.at.div_rem_small-requires-clause-small c).Start).small
 
 pub div_rem_small-requires-in-2-clause-small : goal.div_rem_small-requires-in-2-clause-small
-div_rem_small-requires-in-2-clause-small c =
-    let s = (goal.at.div_rem_small-requires-in-2-clause-small c).Start in
-    subst (λ n. n < whole_limit) (sym (count_by_table s)) (count_fits s)
+div_rem_small-requires-in-2-clause-small c = (few (goal.at.div_rem_small-requires-in-2-clause-small c).Start).small
 
 pub div_rem_small-requires-in-3-clause-small : goal.div_rem_small-requires-in-3-clause-small
-div_rem_small-requires-in-3-clause-small c =
-    let s = (goal.at.div_rem_small-requires-in-3-clause-small c).Start in
-    subst (λ n. n < whole_limit) (sym (count_by_table s)) (count_fits s)
+div_rem_small-requires-in-3-clause-small c = (few (goal.at.div_rem_small-requires-in-3-clause-small c).Start).small
 
 pub div_rem-requires : goal.div_rem-requires
 div_rem-requires c = omega (arith, c.power_of_ten.ensures, pow10_bounds c.args.places c.requires.places)
@@ -77,30 +57,13 @@ start_of c = (goal.at.from_digits-quotient-requires-clause-digits c).Start
 
 count_at_point : (c : Joined-places) → (c.match-places.whole.0 ≡ count_of (start_of c) / 10 ^ c.args.places)
     × (c.match-places.whole.1 ≡ count_of (start_of c) % 10 ^ c.args.places)
-count_at_point c =
-    let is_count = count_by_table (start_of c) in
-    let Power : ℕ → ℕ = λ n. 10 ^ n in
-    elim c.match-places.branch [
-      | in-0 w ↦ quotient_and_rest_of_equal is_count (sym (ap Power w.in-0.is)) w.whole-is (omega arith, omega arith)
-      | in-1 w ↦ quotient_and_rest_of_equal is_count (sym (ap Power w.in-1.is)) w.whole-is
-          (w.div_rem_small.ensures.whole, w.div_rem_small.ensures.digits)
-      | in-2 w ↦
-          quotient_and_rest_of_equal is_count (sym (ap Power w.in-2.is)) w.whole-is
-          (w.div_rem_small-in-2.ensures.whole, w.div_rem_small-in-2.ensures.digits)
-      | in-3 w ↦
-          quotient_and_rest_of_equal is_count (sym (ap Power w.in-3.is)) w.whole-is
-          (w.div_rem_small-in-3.ensures.whole, w.div_rem_small-in-3.ensures.digits)
-      | in_default w ↦
-          quotient_and_rest_of_equal is_count w.power_of_ten.ensures w.whole-is
-          (w.div_rem.ensures.quotient, w.div_rem.ensures.rest)
-    ]
+count_at_point c = grind (arith, (few (start_of c)).by_table)
 
 pub from_digits-quotient-requires-clause-whole : goal.from_digits-quotient-requires-clause-whole
 from_digits-quotient-requires-clause-whole c = rw (count_at_point c).0 (omega (arith, count_fits (start_of c)))
 
 pub from_digits-quotient-requires-clause-digits : goal.from_digits-quotient-requires-clause-digits
-from_digits-quotient-requires-clause-digits c =
-    rw (count_at_point c).1 (omega (arith, pow10_bounds c.args.places c.requires.places))
+from_digits-quotient-requires-clause-digits c = grind (arith, count_at_point, pow10_bounds)
 
 pub returns-clause-exact : goal.returns-clause-exact
 returns-clause-exact c =

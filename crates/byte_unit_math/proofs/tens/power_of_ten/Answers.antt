@@ -1,7 +1,7 @@
 -- Each row of the table is ten times the row before it.
 use Rattle.std.proofs.Common.{◌∙◌, arith}
-use Rattle.byte_unit_math.proofs.Scales.{powers_of_ten_at}
+use Rattle.byte_unit_math.proofs.Scales.{powers_from_at}
 use Rattle.byte_unit_math.proofs.tens.power_of_ten.Goals as goal
 
 pub returns : goal.returns
-returns c = powers_of_ten_at 39 1 c.args.exponent (omega (arith, c.requires)) ∙ omega arith
+returns c = powers_from_at 10 39 1 c.args.exponent (omega (arith, c.requires)) ∙ omega arith
