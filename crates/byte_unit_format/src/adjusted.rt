@@ -72,6 +72,7 @@ impl Shown {
 /// let unset = FormatSpec::PLAIN;
 /// assert_eq!(rt; adjusted_len(1536, Kind::Byte, Unit::KB, unset), "1.536 KB".len());
 /// ```
+#[tactic(auto, using(crate::proofs::AdjustedForms::adjusted_form_unique))]
 pub fn adjusted_len(size: u128, kind: Kind, unit: Unit, spec: FormatSpec) -> usize
     requires { size < size_limit }
     ensures exact { (form : List ℕ) → IsAdjustedForm kind size unit spec form
@@ -166,6 +167,7 @@ pub fn display_adjusted<W: fmt::Write>(
 
 /// Writes as `write_adjusted`: the slow path, whose numbers are large values.
 #[inline(never)]
+#[tactic(auto, using(crate::proofs::TextParts::writes_form))]
 fn write_shown(size: u128, kind: Kind, unit: Unit, spec: FormatSpec, out: &mut [u8]) -> usize
     requires { size < size_limit }
     ensures written { WritesForm (IsAdjustedForm kind size unit spec) out.old out.new result }
@@ -228,6 +230,7 @@ fn rounded_to(size: u128, kind: Kind, unit: Unit, places: u32) -> Shown
 
 /// Returns the size in the unit times 10^places, rounded to a whole number, ties to even.
 #[inline(always)]
+#[tactic(auto, using(crate::proofs::AdjustedForms::scaled_size_small))]
 fn rounded_to_few(size: u128, kind: Kind, unit: Unit, places: u32) -> u128
     requires size { size < size_limit }
     requires places { places ≤ FEW_PLACES }
@@ -240,6 +243,7 @@ fn rounded_to_few(size: u128, kind: Kind, unit: Unit, places: u32) -> u128
 
 /// Returns the parts of a number, which is scaled by 10^places, with its unit.
 #[inline(always)]
+#[tactic(auto, using(crate::proofs::AdjustedForms::scaled_text))]
 fn scaled_parts<'a>(number: u128, places: u32, unit: Unit, spec: FormatSpec) -> TextParts<'a>
     requires { places ≤ places_of_decimal }
     ensures text { parts_text result ≡ layout (numeral number places) (unit_name unit) spec }

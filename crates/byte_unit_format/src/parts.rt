@@ -74,6 +74,7 @@ impl TextParts<'_> {
     }
 
     /// Appends the parts by one copy from a buffer on the stack.
+    #[tactic(auto, using(crate::proofs::TextParts::piece_ascii))]
     fn push_whole<A: Allocator>(&self, text: &mut String<A>)
         requires few { length (parts_text self.now) ≤ BUFFER_LEN }
         requires ready { IsReady self.now }
@@ -187,6 +188,7 @@ fn put_first(e: &Expansion, places: u32, out: &mut [u8], end: usize) -> usize
 }
 
 /// Appends the point and the last `places` digits of a number.
+#[tactic(auto, using(crate::proofs::TextParts::piece_ascii, crate::proofs::TextParts::fraction_long))]
 fn push_last<A: Allocator>(text: &mut String<A>, digits: u128, places: u32)
     requires short { (places ≤ places_of_decimal) × (digits < 10 ^ places) }
     requires room { length (fraction_text (last_digits places digits)) ≤ spare_capacity text.old }
@@ -201,7 +203,7 @@ fn push_last<A: Allocator>(text: &mut String<A>, digits: u128, places: u32)
 }
 
 /// Appends the point and `places` digits of an expansion, or nothing if `places` is 0.
-#[tactic(auto, using(crate::proofs::WrittenForms::fraction_length))]
+#[tactic(auto, using(crate::proofs::WrittenForms::fraction_length, crate::proofs::WrittenDigits::shown_digits_ascii, crate::proofs::WrittenDigits::fraction_added))]
 fn push_first<A: Allocator>(text: &mut String<A>, e: &Expansion, places: u32)
     requires room { length (fraction_text (pad_of places e.now).digits) ≤ spare_capacity text.old }
     ensures bytes { string_bytes text.new
