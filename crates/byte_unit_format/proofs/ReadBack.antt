@@ -5,7 +5,7 @@ use Rattle.std.proofs.Common.{◌∙◌, arith, Bool, false, append-nil, append_
 use Rattle.std.specs.Fmt.{decimal}
 use Rattle.std.specs.Str.{IsAscii}
 use Rattle.std.specs.Str.Parse.{AllDigits}
-use Rattle.std.proofs.lemmas.Nat.{pow-add, mul-le}
+use Rattle.std.proofs.lemmas.Nat.{mul-le}
 use Rattle.std.proofs.lemmas.List.{replicate-append-replicate}
 use Rattle.std.proofs.lemmas.Str.{IsAscii-append}
 use Rattle.byte_unit_math.specs.Bounds.{scale, places_of_decimal, whole_limit, bits_limit}
@@ -18,13 +18,14 @@ use Rattle.byte_unit_math.specs.Finite.{Finite, value_of_digits}
 use Rattle.byte_unit_math.specs.Digits.{at_places, trim_expansion}
 use Rattle.byte_unit_math.specs.Numeral.{fraction_text, text_of}
 use Rattle.byte_unit_math.proofs.Digits.{ShortOf-shortened}
+use Rattle.byte_unit_math.proofs.Scales.{pow10_times_rest}
 use Rattle.byte_unit_base.specs.declared.kind.Kind.{Kind}
 use Rattle.byte_unit_base.specs.declared.kind.Kind.TheVariants.{Byte, Bit}
 use Rattle.byte_unit_format.specs.declared.spec.FormatSpec.{FormatSpec}
 use Rattle.byte_unit_format.specs.declared.spec.Sign.{Sign}
 use Rattle.byte_unit_format.specs.declared.spec.Sign.TheVariants.{Unset, Plus, Minus}
 use Rattle.byte_unit_base.specs.declared.unit.Unit.{Unit as UnitName}
-use Rattle.byte_unit_base.specs.Family.{InFamily, HasKind}
+use Rattle.byte_unit_base.specs.Family.{HasKind}
 use Rattle.byte_unit_base.specs.Choice.{IsRecoveredIn}
 use Rattle.byte_unit_base.proofs.Choosing.{some_bits, own_bits}
 use Rattle.byte_unit_base.proofs.Names.{IsKnown, SaysKind, unit_known, name_spells, name_ascii, name_end}
@@ -39,22 +40,13 @@ use Rattle.byte_unit_base.proofs.NumberTexts.{fixed_point_of, number_text, numbe
 use Rattle.byte_unit_base.proofs.NumberTexts.{whole_text}
 use Rattle.byte_unit_base.proofs.NumberTexts.{IsBounded, not_white, starts_with_digit}
 use Rattle.byte_unit_base.proofs.Trim.{StartsWithoutSpace, EndsWithoutSpace}
+use Rattle.byte_unit_format.proofs.NarrowTexts.{own_kind}
 use Rattle.byte_unit_format.proofs.TrimmedTexts.{trim_between, spaces_ascii}
 
--- The unit's name is ASCII, is read as the unit, and does not end in white space.
+-- The unit is in the current version, and is read in its kind.
 pub record IsGoodName (kind : Kind) (ignore_case : Bool) (unit : Shape) : Type 0 where
-  end : EndsWithoutSpace (unit_name_in current unit)
-  ascii : IsAscii (unit_name_in current unit)
-  spells : Spells current (flags_for kind ignore_case) (unit_name_in current unit) unit
-
-IsGoodName-known : (kind : Kind) (ignore_case : Bool) (unit : Shape) → IsKnown unit
-    → SaysKind (flags_for kind ignore_case) unit.bit
-    → IsGoodName kind ignore_case unit
-IsGoodName-known kind ignore_case unit known says = record {
-  end = name_end unit;
-  ascii = name_ascii unit known.known;
-  spells = name_spells (flags_for kind ignore_case) unit known says;
-}
+  known : IsKnown unit
+  says : SaysKind (flags_for kind ignore_case) unit.bit
 
 -- Units of the kind's own unit set are read in their kind: where bits are read, case is significant.
 own_says : (kind : Kind) (ignore_case bit : Bool) → HasKind (own_family kind) bit
@@ -62,30 +54,13 @@ own_says : (kind : Kind) (ignore_case bit : Bool) → HasKind (own_family kind) 
 own_says Byte ignore_case bit has is_bit = absurd (let never : ⊥ = cc in never)
 own_says Bit ignore_case bit has is_bit = refl
 
-own_kind : (kind : Kind) → HasKind (own_family kind) (counts_bits kind)
-own_kind Byte = refl
-own_kind Bit = refl
-
-multiple_name : (kind : Kind) (ignore_case : Bool) (unit : Shape) → InFamily current (own_family kind) unit
-    → IsGoodName kind ignore_case unit
-multiple_name kind ignore_case unit member =
-    let known : IsKnown unit =
-    record { known = member.prefix.known; alone = λ none. absurd (omega (arith, none, member.prefix.some)) } in
-    IsGoodName-known kind ignore_case unit known (own_says kind ignore_case unit.bit member.kind)
-
-own_name : (kind : Kind) (ignore_case : Bool) → IsGoodName kind ignore_case (own_unit kind)
-own_name kind ignore_case =
-    let known : IsKnown (own_unit kind) = record { known = omega arith; alone = λ none. refl } in
-    IsGoodName-known kind ignore_case (own_unit kind) known
-    (own_says kind ignore_case (counts_bits kind) (own_kind kind))
-
 case_counts : (kind : Kind) → (flags_for kind false).ignore_case ≡ false
 case_counts Byte = refl
 case_counts Bit = refl
 
 -- If case is significant, the name of each unit is read as the unit.
 pub IsGoodName-unit : (kind : Kind) (unit : UnitName) → IsGoodName kind false (shape_of unit)
-IsGoodName-unit kind unit = IsGoodName-known kind false (shape_of unit) (unit_known unit) (λ bit. case_counts kind)
+IsGoodName-unit kind unit = record { known = unit_known unit; says = λ bit. case_counts kind }
 
 IsLeastOf-exact : (kind : Kind) (number size : ℕ) (unit : Shape) → number * bits unit ≡ size * bits_in kind * scale
     → IsLeastOf kind number unit size
@@ -97,42 +72,37 @@ IsLeastOf-exact Bit number size unit exact =
 layout_regrouped :
     (before behind gap : ℕ) (number unit : List ℕ)
     → (((spaces before ++ number) ++ spaces behind) ++ spaces gap) ++ unit
-    ≡ spaces before ++ ((number ++ (spaces (behind + gap) ++ unit)) ++ spaces 0)
+    ≡ spaces before ++ (number ++ (spaces (behind + gap) ++ unit))
 layout_regrouped before behind gap number unit =
-    rw (← replicate-append-replicate {A = ℕ} behind gap 32) (simp (append_assoc {A = ℕ}, append-nil {A = ℕ}))
+    rw (← replicate-append-replicate {A = ℕ} behind gap 32) (simp (append_assoc {A = ℕ}))
 
 trim_layout :
     (before between : ℕ) (number unit : List ℕ) → StartsWithoutSpace number → EndsWithoutSpace unit → IsAscii number
-    → IsAscii unit
-    → trim_of (spaces before ++ ((number ++ (spaces between ++ unit)) ++ spaces 0)) ≡ number ++ (spaces between ++ unit)
+    → IsAscii unit → trim_of (spaces before ++ (number ++ (spaces between ++ unit))) ≡ number ++ (spaces between ++ unit)
 trim_layout before between number unit start end number_ascii unit_ascii =
     let behind = spaces between ++ unit in
-    let ascii : IsAscii (number ++ behind) =
-    IsAscii-append number behind number_ascii
-    (IsAscii-append (spaces between) unit (spaces_ascii between) unit_ascii) in
-    let starts : StartsWithoutSpace (number ++ behind) =
+    let text = number ++ behind in
+    let ascii : IsAscii text =
+    IsAscii-append number behind number_ascii (IsAscii-append (spaces between) unit (spaces_ascii between) unit_ascii) in
+    let starts : StartsWithoutSpace text =
     record {
       head = start.head;
       tail = start.tail ++ behind;
       text_is = ap (λ text. text ++ behind) start.text_is;
       head_is = start.head_is;
     } in
-    let parts =
-    ap (λ text. number ++ (spaces between ++ text)) end.text_is
-    ∙ simp (append_assoc {A = ℕ} number (spaces between ++ end.front) (end.last ∷ []), append_assoc {A = ℕ}) in
-    let ends : EndsWithoutSpace (number ++ behind) =
+    let ends : EndsWithoutSpace text =
     record {
       front = number ++ (spaces between ++ end.front);
       last = end.last;
-      text_is = parts;
+      text_is = ap (λ text. number ++ (spaces between ++ text)) end.text_is ∙ simp (append_assoc {A = ℕ});
       last_is = end.last_is;
     } in
-    trim_between before 0 (number ++ behind) starts ends ascii
+    ap (λ text. trim_of (spaces before ++ text)) (sym (append-nil text)) ∙ trim_between before 0 text starts ends ascii
 
 -- The text without the spaces at both ends is the number, some spaces and the unit.
-pub record TrimmedLayout (text number unit : List ℕ) : Type 0 where
-  pub spaces_between : ℕ
-  pub trims : trim_of text ≡ number ++ (spaces spaces_between ++ unit)
+abbrev pub TrimmedLayout : List ℕ → List ℕ → List ℕ → Type 0
+TrimmedLayout text number unit = (between : ℕ) × (trim_of text ≡ number ++ (spaces between ++ unit))
 
 -- A number formatted with its unit is, without the spaces at both ends, the number, some spaces and the unit.
 pub trimmed_layout :
@@ -146,12 +116,11 @@ trimmed_layout kind ignore_case spec e unit bounded good =
     let between = (pad - before) + gap in
     let start = number_start e.whole (fraction_text e.digits) bounded.bound in
     let ascii = number_ascii e.whole e.digits bounded.small bounded.bound in
-    record {
-      spaces_between = between;
-      trims =
-          ap trim_of (layout_regrouped before (pad - before) gap (text_of e) (unit_name_in current unit))
-          ∙ trim_layout before between (text_of e) (unit_name_in current unit) start good.end ascii good.ascii;
-    }
+    let name = unit_name_in current unit in (
+      between,
+      ap trim_of (layout_regrouped before (pad - before) gap (text_of e) name)
+          ∙ trim_layout before between (text_of e) name start (name_end unit) ascii (name_ascii unit good.known.known),
+    )
 
 -- A decimal of at most 28 digits after the point, of a unit whose name is read, is exactly the size.
 pub record RepresentsSize (kind : Kind) (ignore_case : Bool) (size : ℕ) (e : Finite) (unit : Shape) : Type 0 where
@@ -174,12 +143,12 @@ layout_accepted kind ignore_case size spec e unit represents =
         unit = unit;
         is_size = record {
           number_part = text_of e;
-          spaces = layout.spaces_between;
+          spaces = layout.0;
           unit_part = unit_name_in current unit;
-          text_is = layout.trims;
+          text_is = layout.1;
           number_is = number_text e.whole e.digits represents.bounded.small represents.few
               represents.bounded.bound;
-          unit_is = represents.good.spells;
+          unit_is = name_spells (flags_for kind ignore_case) unit represents.good.known represents.good.says;
         };
         is_least = IsLeastOf-exact kind (fixed_point_of e.whole e.digits) size unit represents.exact;
       };
@@ -193,11 +162,7 @@ pub fixed_point_of_digits :
     → number ≡ (whole * 10 ^ places + part) * 10 ^ (places_of_decimal - places)
     → whole * scale + part * 10 ^ (places_of_decimal - places) ≡ number
 fixed_point_of_digits whole part number places few scaled_is =
-    let split : places_of_decimal ≡ places + (places_of_decimal - places) = omega arith in
-    let power : scale ≡ 10 ^ places * 10 ^ (places_of_decimal - places) =
-    ap (λ places. 10 ^ places) split ∙ pow-add 10 places (places_of_decimal - places) in
-    let of_whole = ap (λ power. whole * power) power in
-    omega (arith, of_whole, scaled_is)
+    omega (arith, scaled_is, ap (λ n. whole * n) (pow10_times_rest places few))
 
 -- A size has fewer than 8 * 10^30 bits.
 pub bits_of_size_bound : (kind : Kind) (size : ℕ) → size < current.size_limit → size * bits_in kind < bits_limit
@@ -210,18 +175,23 @@ recovered_name :
     → IsRecoveredIn current kind false size precision unit
     → IsGoodName kind ignore_case unit
 recovered_name kind ignore_case size precision unit (inl largest) =
-    multiple_name kind ignore_case unit largest.has.member
+    let prefix = largest.has.member.prefix in
+    record {
+      known = record { known = prefix.known; alone = λ none. absurd (omega (arith, none, prefix.some)) };
+      says = own_says kind ignore_case unit.bit largest.has.member.kind;
+    }
 recovered_name kind ignore_case size precision unit (inr own) =
-    subst (IsGoodName kind ignore_case) (sym own.1) (own_name kind ignore_case)
+    rw own.1 (record {
+      known = record { known = omega arith; alone = λ none. refl };
+      says = own_says kind ignore_case (counts_bits kind) (own_kind kind);
+    })
 
 whole_bound :
     (kind : Kind) (size number unit : ℕ) → size < current.size_limit → 1 ≤ unit
     → number * unit ≡ size * bits_in kind * scale
     → number / scale < whole_limit
 whole_bound kind size number unit below some exact =
-    let few : size * bits_in kind < bits_limit = bits_of_size_bound kind size below in
-    let not_above : number ≤ number * unit = omega (arith, mul-le number 1 number unit (omega arith) some) in
-    omega (arith, few, not_above, exact)
+    omega (arith, bits_of_size_bound kind size below, mul-le number 1 number unit (omega arith) some, exact)
 
 -- A size formatted with a unit is read as the size.
 pub size_form_reads_back : SizeFormReadsBack
@@ -239,8 +209,7 @@ size_form_reads_back kind size spec ignore_case text below form =
       exact = ap (λ number. number * bits form.unit) number ∙ form.number_is;
       below = below;
     } in
-    let Accepted : List ℕ → Type 0 = λ text. IsAccepted kind ignore_case text size in
-    subst Accepted (sym form.text_is) (layout_accepted kind ignore_case size spec e form.unit represents)
+    rw form.text_is (layout_accepted kind ignore_case size spec e form.unit represents)
 
 no_plus : (sign : Sign) → sign ≢ Plus → plus_of sign ≡ []
 no_plus Unset other = refl

@@ -5,19 +5,17 @@ use Rattle.byte_unit_format.specs.Plain.{spaces, padding_for, plain_left_padding
 use Rattle.byte_unit_format.specs.Layout.{layout_left_padding, layout_padding, gap_of}
 use Rattle.byte_unit_format.specs.FormLaws.{least_columns, PlainFormFillsWidth, LayoutFillsWidth}
 use Rattle.byte_unit_format.specs.declared.spec.Align.{Align}
-use Rattle.byte_unit_format.specs.declared.spec.Align.TheVariants.{Left, Center, Right}
+use Rattle.byte_unit_format.specs.declared.spec.Align.TheVariants.{Left}
 
 before_plain_le : (align : Option Align) (pad : ℕ) → plain_left_padding align pad ≤ pad
 before_plain_le None pad = omega arith
 before_plain_le (Some Left) pad = omega arith
-before_plain_le (Some Center) pad = omega arith
-before_plain_le (Some Right) pad = omega arith
+before_plain_le (Some _) pad = omega arith
 
 before_layout_le : (align : Option Align) (pad : ℕ) → layout_left_padding align pad ≤ pad
 before_layout_le None pad = omega arith
 before_layout_le (Some Left) pad = omega arith
-before_layout_le (Some Center) pad = omega arith
-before_layout_le (Some Right) pad = omega arith
+before_layout_le (Some _) pad = omega arith
 
 padding_fills_width : (width : Option ℕ) (columns : ℕ)
     → padding_for width columns + columns ≡ max (least_columns width) columns

@@ -72,7 +72,6 @@ impl Shown {
 /// let unset = FormatSpec::PLAIN;
 /// assert_eq!(rt; adjusted_len(1536, Kind::Byte, Unit::KB, unset), "1.536 KB".len());
 /// ```
-#[tactic(auto, using(crate::proofs::AdjustedForms::adjusted_form_unique))]
 pub fn adjusted_len(size: u128, kind: Kind, unit: Unit, spec: FormatSpec) -> usize
     requires { size < size_limit }
     ensures exact { (form : List ℕ) → IsAdjustedForm kind size unit spec form

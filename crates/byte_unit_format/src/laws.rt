@@ -12,7 +12,6 @@ ghost use Rattle.byte_unit_format.specs.VersionLaws.{AcceptedTextsStay, Adjusted
 ghost use Rattle.byte_unit_format.specs.VersionLaws.{SizeFormsStay};
 
 /// States that the form of a size with a unit is parsed as the size that it shows.
-#[tactic(auto, using(crate::proofs::ReadBack::size_form_reads_back))]
 pub fn size_form_reads_back()
     ensures { SizeFormReadsBack }
 {}
@@ -24,7 +23,6 @@ pub fn plain_form_reads_back()
 {}
 
 /// States that the string that a size is stored as, its alternate form, round-trips.
-#[tactic(auto, using(crate::proofs::ReadBack::size_form_reads_back))]
 pub fn size_string_reads_back()
     ensures { SizeStringReadsBack }
 {}
@@ -48,7 +46,6 @@ pub fn shown_size_is_plain_form()
 {}
 
 /// States that `Display` writes a size in a unit as `FormatSpec::PLAIN` formats it.
-#[tactic(auto, using(crate::proofs::ShownForms::shown_adjusted_size_is_plain))]
 pub fn shown_adjusted_size_is_plain_form()
     ensures { ShownAdjustedSizeIsPlainForm }
 {}
@@ -74,7 +71,7 @@ pub fn adjusted_string_reads_back()
 
 /// States that a nonzero size in a unit needs `max(a - s, b - t, 0)` places, where `a` and `b` are the exponents of 2
 /// and 5 in the bits of the unit, and `s` and `t` those in the bits of the size. Zero needs none.
-#[tactic(auto, using(byte_unit_math::proofs::Powers::places_by_powers, byte_unit_math::proofs::Powers::zero_takes_no_places))]
+#[tactic(auto, using(byte_unit_math::proofs::Powers::zero_takes_no_places))]
 pub fn places_of_size()
     ensures places { PlacesOfSize }
     ensures zero { ZeroTakesNoPlaces }

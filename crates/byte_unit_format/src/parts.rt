@@ -203,7 +203,7 @@ fn push_last<A: Allocator>(text: &mut String<A>, digits: u128, places: u32)
 }
 
 /// Appends the point and `places` digits of an expansion, or nothing if `places` is 0.
-#[tactic(auto, using(crate::proofs::WrittenForms::fraction_length, crate::proofs::WrittenDigits::shown_digits_ascii, crate::proofs::WrittenDigits::fraction_added))]
+#[tactic(auto, using(crate::proofs::WrittenForms::fraction_length))]
 fn push_first<A: Allocator>(text: &mut String<A>, e: &Expansion, places: u32)
     requires room { length (fraction_text (pad_of places e.now).digits) ≤ spare_capacity text.old }
     ensures bytes { string_bytes text.new

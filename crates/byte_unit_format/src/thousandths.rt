@@ -118,7 +118,6 @@ fn in_thousands(size: u128, places: u32) -> (u128, u64, u32)
 
 /// Returns the same for three places, for which there is a prefix.
 #[inline(always)]
-#[tactic(auto, using(crate::proofs::FewPlaces::divided_more, crate::proofs::FewPlaces::divided_few, crate::proofs::FewPlaces::divided_small, crate::proofs::FewPlaces::greatest_thousands))]
 fn in_three_places(size: u128) -> (u128, u64, u32)
     requires large { 1000 ≤ size }
     requires small { size < size_limit }
@@ -144,7 +143,6 @@ fn in_three_places(size: u128) -> (u128, u64, u32)
 /// Returns the position of the largest binary prefix, not above the size, in which it is exact within `places` decimal
 /// places, at most three, or 0 if there is none: 2^(10 n) divides 10^p times the size if 2^(10 n - p) divides the size.
 #[inline(always)]
-#[tactic(auto, using(crate::proofs::FewPlaces::binary_greatest, crate::proofs::FewPlaces::few_binary))]
 pub(crate) fn binary_power(size: u128, places: u32) -> u32
     requires some { 1 ≤ size }
     requires small { size < size_limit }

@@ -1,5 +1,5 @@
 -- The larger of the two prefixes has the unit, and the size in it is a number of thousandths.
-use Rattle.std.proofs.Common.{◌≡◌, ℕ, ◌*◌, ◌+◌, ◌^◌, ◌≤◌, false, arith, refl, subst}
+use Rattle.std.proofs.Common.{◌≡◌, ℕ, ◌*◌, ◌^◌, ◌≤◌, false, arith, refl, subst}
 use Rattle.std.proofs.Math.Nat.{pow-le-pow_right}
 use Rattle.byte_unit_math.specs.Bounds.{scale}
 use Rattle.byte_unit_base.specs.Choice.{places_within}
@@ -10,10 +10,10 @@ use Rattle.byte_unit_format.specs.declared.thousandths.Suffix.TheVariants.{Own}
 use Rattle.byte_unit_base.specs.Choice.{IsRecoveredIn}
 use Rattle.byte_unit_base.specs.Kinds.{own_unit}
 use Rattle.byte_unit_base.specs.Version.{current}
-use Rattle.byte_unit_format.proofs.SomeForm.{own_number}
+use Rattle.byte_unit_base.proofs.Choosing.{own_number}
 use Rattle.byte_unit_format.proofs.Suffix.{whole_below}
 use Rattle.byte_unit_format.proofs.FewPlaces.{recovered_own, recovered_none, recovered_decimal, recovered_binary}
-use Rattle.byte_unit_format.proofs.FewPlaces.{number_of_thousandths, number_of_units}
+use Rattle.byte_unit_format.proofs.FewPlaces.{number_of_units}
 use Rattle.byte_unit_format.proofs.thousandths.split.Goals as goal
 
 -- Few places are not cut off.
@@ -24,7 +24,9 @@ within {places} {base} {step} {size} {power} few greatest =
 
 own_split : (kind : Kind) (size places : ℕ) → IsRecoveredIn current kind false size places (own_unit kind)
     → IsSplit kind size places size Own
-own_split kind size places recovered = record { recovered = recovered; value = omega (arith, own_number kind size) }
+own_split kind size places recovered =
+    let number = own_number kind size (size * scale) (own_unit kind) refl refl in
+    record { recovered = recovered; value = omega (arith, number) }
 
 pub returns-then-size-lt1000-clause-split : goal.returns-then-size-lt1000-clause-split
 returns-then-size-lt1000-clause-split c = λ kind.
@@ -32,18 +34,12 @@ returns-then-size-lt1000-clause-split c = λ kind.
 
 pub returns-then-binary-power-clause-split : goal.returns-then-binary-power-clause-split
 returns-then-binary-power-clause-split c = λ kind.
-    let size = c.args.size in
-    let whole = c.in_thousands-whole.result.0 in
-    let thousandths = c.in_thousands-whole.result.1 in
-    let power = c.in_thousands-whole.result.2 in
-    let tens = c.in_thousands-whole.ensures in
-    let number = whole * scale + thousandths * 10 ^ 25 in
+    let found = c.in_thousands-whole in
     record {
-      recovered = recovered_decimal c.args.places kind (omega (arith, c.if-binary-power.true)) tens.few
-          (within c.requires.places tens.greatest) (within c.requires.places c.binary_power-binary.ensures.greatest)
+      recovered = recovered_decimal c.args.places kind (omega (arith, c.if-binary-power.true)) found.ensures.few
+          (within c.requires.places found.ensures.greatest) (within c.requires.places c.binary_power-binary.ensures.greatest)
           c.if-binary-power.true;
-      value = number_of_units kind size power false number
-          (number_of_thousandths size _ whole thousandths number refl tens.value);
+      value = number_of_units kind c.args.size found.result.2 false found.result.0 found.result.1 found.ensures.value;
     }
 
 pub returns-then-binary-power-clause-narrow : goal.returns-then-binary-power-clause-narrow
