@@ -27,8 +27,8 @@ use Rattle.byte_unit_base.proofs.Choosing.{some_bits}
 use Rattle.byte_unit_base.proofs.NumberTexts.{IsBounded, fixed_point_of}
 use Rattle.byte_unit_base.proofs.LongFractions.{long_fault}
 use Rattle.byte_unit_base.proofs.Quotients.{exact_more}
-use Rattle.byte_unit_format.proofs.ReadBack.{RepresentsSize, IsGoodName-unit, bits_of_size_bound}
-use Rattle.byte_unit_format.proofs.ReadBack.{trimmed_layout, layout_accepted}
+use Rattle.byte_unit_base.proofs.Names.{unit_known}
+use Rattle.byte_unit_format.proofs.ReadBack.{case_counts, bits_of_size_bound, trimmed_layout, layout_accepted}
 use Rattle.byte_unit_format.proofs.ReadBack.{size_form_reads_back}
 
 whole_not_above : (num den : ℕ) (e : Finite) → 1 ≤ den → IsExpansion num den e → e.whole ≤ num
@@ -63,15 +63,9 @@ form_accepted kind size unit text below form exact =
     let e = form.number_is.0 in
     let expansion = form.number_is.1 in
     let few = expansion.least places_of_decimal exact in
-    let represents : RepresentsSize kind false size e shape =
-    record {
-      bounded = expansion_bounded kind size shape e below expansion;
-      few = few;
-      good = IsGoodName-unit kind unit;
-      exact = expansion_product (size * bits_in kind) (bits shape) e expansion few;
-      below = below;
-    } in
-    rw (form.text_is, form.number_is.2) (layout_accepted kind false size ALTERNATE e shape represents)
+    rw (form.text_is, form.number_is.2) (layout_accepted kind false size ALTERNATE e shape
+    (expansion_bounded kind size shape e below expansion) few (unit_known unit) (λ bit. case_counts kind)
+    (expansion_product (size * bits_in kind) (bits shape) e expansion few) below)
 
 form_rejected : (kind : Kind) (size : ℕ) (unit : UnitName) (text : List ℕ) → size < current.size_limit
     → IsAdjustedForm kind size unit ALTERNATE text
@@ -86,7 +80,7 @@ form_rejected kind size unit text below form long =
     (λ few. absurd (long (exact_more (size * bits_in kind) (bits shape) _ places_of_decimal few (ulps_of e, expansion.exact))))
     (cases_lt places_of_decimal (length e.digits)) in
     let bounded = expansion_bounded kind size shape e below expansion in
-    let layout_is = trimmed_layout kind false ALTERNATE e shape bounded (IsGoodName-unit kind unit) in
+    let layout_is = trimmed_layout ALTERNATE e shape bounded (unit_known unit).known in
     let text_is =
     ap trim_of (form.text_is ∙ ap (λ number. layout number (unit_name_in current shape) ALTERNATE) form.number_is.2)
     ∙ layout_is.1 in

@@ -1,16 +1,13 @@
 -- The digits of a number: those before a place, the one at a place, and how a point is put between them.
-use Rattle.std.proofs.Common.{◌≡◌, ◌≢◌, ℕ, ◌+◌, ◌-◌, ◌*◌, ◌/◌, ◌%◌, ◌^◌, ◌<◌, ◌≤◌, ⊎_elim, List, [], ◌∷◌, ◌++◌}
-use Rattle.std.proofs.Common.{length, take, drop, get_or, min, suc, arith, ap, sym, refl, ◌∙◌, append_assoc, length-append}
-use Rattle.std.specs.Prelude.{if◌then◌else◌}
+use Rattle.std.proofs.Common.{◌≡◌, ◌≢◌, ℕ, ◌+◌, ◌-◌, ◌*◌, ◌/◌, ◌%◌, ◌^◌, ◌<◌, ◌≤◌, List, [], ◌∷◌, ◌++◌}
+use Rattle.std.proofs.Common.{length, take, drop, get_or, min, suc, arith, ap, sym, refl, ◌∙◌}
 use Rattle.std.specs.Fmt.{decimal}
 use Rattle.std.proofs.Math.Nat.{pow-le-pow_right, div-le_self}
-use Rattle.std.proofs.lemmas.Bool.{cases_lt, lt-ltb, le-ltb}
+use Rattle.std.proofs.lemmas.Bool.Decides.{nat_tests}
 use Rattle.std.proofs.lemmas.Fmt.{length-decimal-le_wide}
 use Rattle.std.proofs.lemmas.Grind.{common_steps}
-use Rattle.std.proofs.lemmas.List.{take_at, take-append-drop, take-append-le, take-take, get_or_append_left, drop_more}
+use Rattle.std.proofs.lemmas.List.{take-append-drop, take-append-le, take-take, drop_more}
 use Rattle.std.proofs.lemmas.Nat.{pow-add}
-use Rattle.byte_unit_math.specs.Digits.{last_digits}
-use Rattle.byte_unit_math.specs.Numeral.{glyphs}
 use Rattle.byte_unit_math.proofs.WrittenDigits.{decimal_one_digit, decimal_next_digit, decimal_length_positive}
 use Rattle.byte_unit_math.proofs.WrittenDigits.{decimal_cut, decimal_length_split}
 use Rattle.byte_unit_format.specs.FewPlaces.{IsGreatest}
@@ -21,30 +18,25 @@ use Rattle.byte_unit_format.proofs.FewPlaces.{power_split, exponent_below, power
 pub first_digits : (k n : ℕ) → 10 ^ k ≤ n → n < 2 ^ 128
     → take (length (decimal n) - k) (decimal n) ≡ decimal (n / 10 ^ k)
 first_digits k n wide small =
-    ap (λ list. take (length (decimal n) - k) list) (sym (decimal_cut k n wide small))
-    ∙ take_at (decimal (n / 10 ^ k)) (glyphs (last_digits k (n % 10 ^ k))) (length (decimal n) - k)
-    (omega (arith, decimal_length_split k n wide small))
+    grind (arith, common_steps, decimal_cut k n wide small, decimal_length_split k n wide small)
 
 -- The last character of a number is its last digit.
 last_of_decimal : (n : ℕ) → n < 2 ^ 128 → get_or (decimal n) (length (decimal n) - 1) 0 ≡ 48 + n % 10
-last_of_decimal n small =
-    ⊎_elim
-    (λ one. rw (decimal_one_digit n one) (omega (arith, one)))
-    (λ more. rw (decimal_next_digit n more small) (grind (arith, common_steps)))
-    (cases_lt n 10)
+last_of_decimal n small = grind (arith, common_steps, decimal_one_digit n, decimal_next_digit n)
 
 -- The character of the power of ten with k zeros is the digit there.
 pub digit_of_decimal : (k n : ℕ) → 10 ^ k ≤ n → n < 2 ^ 128
     → get_or (decimal n) (length (decimal n) - 1 - k) 0 ≡ 48 + n / 10 ^ k % 10
 digit_of_decimal k n wide small =
-    let front = n / 10 ^ k in
-    let small_front : front < 2 ^ 128 = omega (arith, small, div-le_self n (10 ^ k)) in
-    let len = decimal_length_split k n wide small in
-    let positive = decimal_length_positive front small_front in
-    let place : length (decimal n) - 1 - k ≡ length (decimal front) - 1 = omega (arith, len) in
-    ap (λ list. get_or list (length (decimal n) - 1 - k) 0) (sym (decimal_cut k n wide small))
-    ∙ rw (place, get_or_append_left (decimal front) (glyphs (last_digits k (n % 10 ^ k))) 0 (length (decimal front) - 1)
-    (omega (arith, positive))) (last_of_decimal front small_front)
+    let small_front : n / 10 ^ k < 2 ^ 128 = omega (arith, small, div-le_self n (10 ^ k)) in
+    grind (
+      arith,
+      common_steps,
+      decimal_cut k n wide small,
+      decimal_length_split k n wide small,
+      last_of_decimal (n / 10 ^ k) small_front,
+      decimal_length_positive (n / 10 ^ k) small_front,
+    )
 
 -- A number of a number of digits is at least the power of ten with one digit more than zeros, and below the next one.
 pub between_powers : (n : ℕ) → 1 ≤ n → n < 2 ^ 128
@@ -80,10 +72,7 @@ greatest_of_zeros size front zeros len power product odd at_least below power_is
 pub text_at : {front : List ℕ} (text list behind : List ℕ) (cut end : ℕ) → take cut list ≡ front
     → drop cut list ≡ text ++ behind → length front + length text ≡ end → take end list ≡ front ++ text
 text_at {front} text list behind cut end front_is text_is end_is =
-    let all : list ≡ (front ++ text) ++ behind =
-    sym (take-append-drop cut list) ∙ rw (front_is, text_is) (sym (append_assoc front text behind)) in
-    ap (λ l. take end l) all
-    ∙ take_at (front ++ text) behind end (omega (arith, end_is, length-append {A = ℕ} front text))
+    grind (arith, common_steps, take-append-drop cut list)
 
 -- What is kept before an index is kept before each smaller one.
 pub take_kept : (new old : List ℕ) {few more : ℕ} → few ≤ more → take more new ≡ take more old → take few new ≡ take few old
@@ -92,12 +81,10 @@ take_kept new old {few} {more} less kept = rw (← take-take few more new less, 
 -- The digits after the point, if there are any, and if there are none.
 pub cut_some : (cut used : ℕ) (digits : List ℕ) → cut < used
     → cut_digits cut used digits ≡ 46 ∷ take (used - cut) (drop cut digits)
-cut_some cut used digits more =
-    ap (λ some. if some then 46 ∷ take (used - cut) (drop cut digits) else []) (lt-ltb cut used more)
+cut_some cut used digits more = grind (arith, nat_tests)
 
 pub cut_none : (cut used : ℕ) (digits : List ℕ) → used ≤ cut → cut_digits cut used digits ≡ []
-cut_none cut used digits few =
-    ap (λ some. if some then 46 ∷ take (used - cut) (drop cut digits) else []) (le-ltb cut used few)
+cut_none cut used digits few = grind (arith, nat_tests)
 
 -- The first of three elements from an index on are the first from there on.
 pub three_elements : (list : List ℕ) (at : ℕ) → at + 3 ≤ length list

@@ -1,7 +1,7 @@
 -- The text of a size has at most 37 bytes if no width is set.
 use Rattle.std.specs.Prelude.{MatchBool}
 use Rattle.std.proofs.Common.{◌≡◌, ℕ, ◌+◌, ◌-◌, ◌*◌, ◌/◌, ◌^◌, ◌<◌, ◌≤◌, ⊎_elim, inl, inr, zero, suc, Bool, true, false}
-use Rattle.std.proofs.Common.{Option, None, List, length, arith, sym, ap, refl, ◌∙◌}
+use Rattle.std.proofs.Common.{None, List, length, arith, sym, ap, refl, ◌∙◌}
 use Rattle.std.specs.Fmt.{decimal}
 use Rattle.std.proofs.Math.Nat.{eq_of_mul-eq-mul_right, mul-le-mul_right, mul-le-mul_left, le_of_mul-le-mul_right}
 use Rattle.std.proofs.Math.Nat.{lt_of_mul-lt-mul_right}
@@ -27,11 +27,7 @@ use Rattle.byte_unit_base.proofs.Choosing.{some_bits, own_bits}
 use Rattle.byte_unit_base.proofs.Quotients.{stated_where_exact}
 use Rattle.byte_unit_format.specs.FewPlaces.{FitsPrefix}
 use Rattle.byte_unit_format.specs.declared.spec.FormatSpec.{FormatSpec}
-use Rattle.byte_unit_format.specs.declared.spec.Sign.{Sign}
-use Rattle.byte_unit_format.specs.declared.spec.Sign.TheVariants.{Unset}
-use Rattle.byte_unit_format.specs.Layout.{gap_of}
-use Rattle.byte_unit_format.specs.Plain.{plain, plus_of}
-use Rattle.byte_unit_format.specs.FormLaws.{least_columns}
+use Rattle.byte_unit_format.specs.Plain.{plain}
 use Rattle.byte_unit_format.specs.Forms.{IsSizeForm, places_of, narrow_text}
 use Rattle.byte_unit_format.proofs.UnitNames.{name_short}
 use Rattle.byte_unit_format.proofs.Widths.{plain_form_fills_width, layout_fills_width}
@@ -78,18 +74,16 @@ pow2_lt_pow10_next power few =
 
 -- The base unit of a kind has at least one bit.
 pub bits_in_positive : (kind : Kind) → 1 ≤ bits_in kind
-bits_in_positive Byte = omega arith
-bits_in_positive Bit = omega arith
+bits_in_positive kind = grind arith
 
 -- A prefix is at least the decimal prefix of the same power.
 pub prefix_at_least : (power : ℕ) (binary : Bool) → 10 ^ (3 * power) ≤ prefix_of power binary
-prefix_at_least power true = pow10_le_pow2 power
-prefix_at_least power false = omega arith
+prefix_at_least power binary = grind (arith, pow10_le_pow2 power)
 
 -- Up to the eighth, a prefix is less than the next decimal prefix.
 pub prefix_lt_next : (power : ℕ) (binary : Bool) → power ≤ 8 → prefix_of power binary < 10 ^ (3 * (power + 1))
-prefix_lt_next power true few = pow2_lt_pow10_next power few
-prefix_lt_next power false few = omega (arith, pow10_next power, one-le-pow (3 * power) 10 (omega arith))
+prefix_lt_next power binary few =
+    grind (arith, pow2_lt_pow10_next power few, pow10_next power, one-le-pow (3 * power) 10 (omega arith))
 
 -- A size whose prefix fits it is exact in the unit with this prefix.
 pub exact_of_fits : {precision : ℕ} (kind : Kind) (size power : ℕ) (binary : Bool) → 1 ≤ power → power ≤ 9
@@ -185,40 +179,23 @@ recovered_length kind size precision number unit below (inr none) number_is =
     let digits = decimal_length (number / scale) 30 (omega arith) (omega arith) (omega (arith, same, below)) in
     omega (arith, no_places, short_length number, digits)
 
--- The spaces before the name of a unit and the name are at most four characters.
-gap_length : (sign : Sign) (name : List ℕ) → length name ≤ 3 → gap_of sign name + length name ≤ 4
-gap_length Unset name few = omega (arith, few)
-gap_length _ name few = omega (arith, few)
-
--- Without a width there are no columns to fill.
-no_columns : (width : Option ℕ) → width ≡ None → least_columns width ≡ 0
-no_columns width none = ap least_columns none
-
 -- A size formatted with a unit has at most 37 bytes if no width is set.
 form_narrow :
     (kind : Kind) (size : ℕ) (spec : FormatSpec) (text : List ℕ) → size < current.size_limit → spec.width ≡ None
     → IsSizeForm kind size spec text → length text ≤ narrow_text
 form_narrow kind size spec text below none form =
-    let unit = unit_name_in current form.unit in
+    let name = unit_name_in current form.unit in
     let number = short_numeral form.number places_of_decimal in
-    let places = places_of spec.precision in
-    let numeral = recovered_length kind size places form.number form.unit below form.is_recovered form.number_is in
-    let gap = gap_length spec.sign unit (name_short form.unit) in
-    omega (arith, ap length form.text_is, layout_fills_width number unit spec, no_columns spec.width none, numeral, gap)
-
--- A sign is at most one character.
-sign_length : (sign : Sign) → length (plus_of sign) ≤ 1
-sign_length Unset = omega arith
-sign_length _ = omega arith
+    let numeral = recovered_length kind size (places_of spec.precision) form.number form.unit below form.is_recovered
+    form.number_is in
+    grind (arith, ap length form.text_is, layout_fills_width number name spec, name_short form.unit)
 
 -- A size formatted as digits has at most 37 bytes if no width is set.
-plain_narrow :
-    (size : ℕ) (spec : FormatSpec) → size < current.size_limit → spec.width ≡ None
+plain_narrow : (size : ℕ) (spec : FormatSpec) → size < current.size_limit → spec.width ≡ None
     → length (plain size spec) ≤ narrow_text
 plain_narrow size spec below none =
-    let columns = length-append {A = ℕ} (plus_of spec.sign) (decimal size) in
     let digits = decimal_length size 30 (omega arith) (omega arith) below in
-    omega (arith, plain_form_fills_width size spec, no_columns spec.width none, columns, digits, sign_length spec.sign)
+    grind (arith, plain_form_fills_width size spec, length-append {A = ℕ})
 
 -- The text of a size has at most 37 bytes if no width is set, whether the alternate form is or not.
 pub text_without_width_narrow :

@@ -4,7 +4,8 @@ use Rattle.std.proofs.Common.{length, take, drop, arith, ap, sym, subst, refl, �
 use Rattle.std.specs.Prelude.{if◌then◌else◌, slice_index, codes}
 use Rattle.std.specs.Fmt.{decimal}
 use Rattle.std.specs.Str.{IsAscii}
-use Rattle.std.proofs.lemmas.List.{take-append-drop, drop-take, take-append-le, drop-drop}
+use Rattle.std.proofs.lemmas.Grind.{common_steps}
+use Rattle.std.proofs.lemmas.List.{take-append-drop, drop-take, drop-drop}
 use Rattle.std.proofs.Math.Nat.{mul-le-mul_left}
 use Rattle.std.proofs.lemmas.Slice.{drop-append-drop}
 use Rattle.std.proofs.lemmas.Str.{IsAscii-append}
@@ -41,8 +42,7 @@ text_of_thousandths whole thousandths below =
 
 -- Without a width a number and its unit are separated by a space.
 layout_alternate : (number name : List ℕ) → layout number name alternate_spec ≡ number ++ 32 ∷ name
-layout_alternate number name =
-    ap (λ text. (text ++ 32 ∷ []) ++ name) (append-nil number) ∙ append_assoc number (32 ∷ []) name
+layout_alternate number name = simp (append_assoc {A = ℕ}, append-nil {A = ℕ})
 
 -- The thousandths are less than one, and the prefix is one of the nine.
 suffix_bounds : (kind : Kind) (suffix : Suffix) → HasPrefix suffix
@@ -106,11 +106,8 @@ pub written_over :
 written_over {text} old middle new digits name point len end four few covers text_is first_is digits_are second_is kept name_is =
     let here : drop point middle ≡ digits ++ drop 4 (drop point old) =
     drop_known middle first_is digits_are ∙ ap (λ rest. digits ++ rest) (sym (drop-drop 4 point old)) in
-    let same_front : take (point + len) new ≡ take (point + len) middle =
-    subst (λ n. take n new ≡ take n middle) second_is kept in
     let front : take len (drop point new) ≡ text =
-    rw (← drop-take point len new, same_front, drop-take point len middle, here,
-    take-append-le len digits (drop 4 (drop point old)) (omega (arith, four, few))) text_is in
+    grind (arith, common_steps, drop-take point len new, drop-take point len middle, second_is, kept, text_is, four, few) in
     let sum : point + (end - point) ≡ end = omega (arith, covers) in
     let rest : drop end middle ≡ drop end old =
     rw (← sum, ← drop-drop (end - point) point middle, ← drop-drop (end - point) point old, here)

@@ -3,6 +3,7 @@ use Rattle.std.proofs.Common.{◌≡◌, ◌+◌, ◌-◌, ◌/◌, ◌<◌, ◌
 use Rattle.std.proofs.Common.{arith, rules, ap, sym, ◌∙◌, subst, min}
 use Rattle.std.specs.Fmt.{decimal}
 use Rattle.std.specs.Str.{IsAscii}
+use Rattle.std.proofs.lemmas.Grind.{common_steps}
 use Rattle.std.proofs.lemmas.List.{replicate-append-replicate, take_at, drop-set-add, length-drop, drop-drop}
 use Rattle.std.proofs.lemmas.List.Elements.{All-replicate}
 use Rattle.std.proofs.lemmas.Str.{IsAscii-append}
@@ -32,9 +33,7 @@ pub gap_after_padding :
     → spaces before ++ number ++ spaces (behind + gap) ++ name
     ≡ spaces before ++ number ++ spaces behind ++ spaces gap ++ name
 gap_after_padding before behind gap number name =
-    ap (λ both. both ++ name)
-    (ap (λ run. spaces before ++ number ++ run) (sym (replicate-append-replicate behind gap 32))
-    ∙ sym (append_assoc (spaces before ++ number) (spaces behind) (spaces gap)))
+    rw (← replicate-append-replicate {A = ℕ} behind gap 32) (simp (append_assoc {A = ℕ}))
 
 -- A call that has written one text of a form has written a text of that form.
 pub writes_form :
@@ -90,15 +89,9 @@ set_name : (name xs : List ℕ) → 0 < length name → length name ≤ 3 → le
     0 (get_or name 0 0)
     ≡ name ++ drop (length name) xs
 set_name [] xs some few fits = absurd (omega (arith, some))
-set_name (a ∷ []) [] some few fits = absurd (omega (arith, fits))
-set_name (a ∷ []) (x ∷ xs) some few fits = refl
-set_name (a ∷ b ∷ []) [] some few fits = absurd (omega (arith, fits))
-set_name (a ∷ b ∷ []) (x ∷ []) some few fits = absurd (omega (arith, fits))
-set_name (a ∷ b ∷ []) (x ∷ y ∷ xs) some few fits = refl
-set_name (a ∷ b ∷ c ∷ []) [] some few fits = absurd (omega (arith, fits))
-set_name (a ∷ b ∷ c ∷ []) (x ∷ []) some few fits = absurd (omega (arith, fits))
-set_name (a ∷ b ∷ c ∷ []) (x ∷ y ∷ []) some few fits = absurd (omega (arith, fits))
-set_name (a ∷ b ∷ c ∷ []) (x ∷ y ∷ z ∷ xs) some few fits = refl
+set_name (a ∷ []) xs some few fits = grind (arith, common_steps)
+set_name (a ∷ b ∷ []) xs some few fits = grind (arith, common_steps)
+set_name (a ∷ b ∷ c ∷ []) xs some few fits = grind (arith, common_steps)
 set_name (a ∷ b ∷ c ∷ d ∷ more) xs some few fits = absurd (omega (arith, few))
 
 -- A name written in this way is there, and what follows stays.

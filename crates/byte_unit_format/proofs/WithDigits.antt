@@ -1,12 +1,12 @@
 -- The digits of a size: how many of them are zeros at their end, and where a decimal prefix cuts them.
-use Rattle.std.proofs.Common.{◌≡◌, ◌≢◌, ℕ, zero, suc, ◌+◌, ◌-◌, ◌*◌, ◌/◌, ◌%◌, ◌^◌, ◌<◌, ◌≤◌, ⊎_elim, List, [], ◌∷◌, ◌++◌}
-use Rattle.std.proofs.Common.{length, take, drop, replicate, get_or, min, arith, ap, sym, refl, ◌∙◌, append_assoc, length-append}
+use Rattle.std.proofs.Common.{◌≡◌, ◌≢◌, ℕ, zero, suc, ◌+◌, ◌-◌, ◌*◌, ◌/◌, ◌%◌, ◌^◌, ◌<◌, ◌≤◌, List, [], ◌∷◌, ◌++◌}
+use Rattle.std.proofs.Common.{length, take, drop, replicate, get_or, min, arith, ap, sym, refl, ◌∙◌}
 use Rattle.std.specs.Fmt.{decimal}
 use Rattle.std.proofs.Math.Nat.{pow-le-pow_right, div-add-mod', div-div-eq-div-mul, mod-eq_of_lt, pow-succ'}
-use Rattle.std.proofs.lemmas.Bool.{cases_lt}
 use Rattle.std.proofs.lemmas.Fmt.{length-decimal-le_wide}
-use Rattle.std.proofs.lemmas.List.{take_at, take-append-le}
-use Rattle.std.proofs.lemmas.List.{get_or_append_left, get_or-append_right, get_or-replicate, length-replicate}
+use Rattle.std.proofs.lemmas.Grind.{common_steps}
+use Rattle.std.proofs.lemmas.List.{take-append-le}
+use Rattle.std.proofs.lemmas.List.{get_or_append_left, get_or-append_right, get_or-replicate}
 use Rattle.std.proofs.lemmas.Nat.{pow-add}
 use Rattle.byte_unit_math.specs.Bounds.{size_limit}
 use Rattle.byte_unit_math.specs.Digits.{trim_zeros}
@@ -49,11 +49,7 @@ digit_of_size size k wide small =
 -- A size has as many digits as powers of ten are at most as large.
 power_within : (size k : ℕ) → 1 ≤ size → size < size_limit → k < length (decimal size) → 10 ^ k ≤ size
 power_within size k some small within =
-    omega (
-      arith,
-      (between_powers size some (omega (arith, small))).0,
-      pow-le-pow_right {n = 10} (omega arith) {i = k} {j = length (decimal size) - 1} (omega (arith, within)),
-    )
+    grind (arith, between_powers size some, pow-le-pow_right {n = 10} (omega arith) {i = k} {j = length (decimal size) - 1})
 
 -- If the digits are zeros from an index on, what is written there is worth nothing.
 rest_is_zero : (size used k : ℕ) → 1 ≤ size → size < size_limit → IsUsed (padded_digits size) used
@@ -73,23 +69,15 @@ pub used_within : (size used : ℕ) → 1 ≤ size → size < size_limit → IsU
     → (1 ≤ used) × (used ≤ length (decimal size))
 used_within size used some small is_used within =
     let len = length (decimal size) in
-    let few = decimal_length size 30 (omega arith) (omega arith) small in
+    let few = few_digits size small in
     let below = (between_powers size some (omega (arith, small))).1 in (
-      ⊎_elim
-          (λ none.
-          absurd (omega (
-            arith,
-            rest_is_zero size used len some small is_used (omega (arith, none)),
-            mod-eq_of_lt below,
-            some,
-          )))
-          (λ at_least. at_least) (cases_lt used 1),
-      ⊎_elim
-          (λ more.
-          absurd (is_used.last (used - 1) (omega (arith, more))
-          (get_or-append_right (decimal size) (replicate (32 - len) 48) len (used - 1) 0 refl (omega (arith, more))
-          ∙ get_or-replicate (32 - len) (used - 1 - len) 48 0 (omega (arith, more, within, few)))))
-          (λ few. few) (cases_lt len used),
+      grind (arith, rest_is_zero size used len some small is_used, mod-eq_of_lt below),
+      grind (
+        arith,
+        is_used.last (used - 1),
+        get_or-append_right (decimal size) (replicate (32 - len) 48) len (used - 1) 0,
+        get_or-replicate {A = ℕ} (32 - len) (used - 1 - len) 48 0,
+      ),
     )
 
 -- Three digits from an index on, and the number of digits up to the last that is not a zero.
@@ -137,9 +125,7 @@ shown_digits (suc a) (suc b) (suc c) are = some_shown 3 are ((last_of_three are)
 
 -- The array of the digits has 32 bytes, of which the first are the digits.
 pub padded_length : (size : ℕ) → length (decimal size) ≤ 32 → length (padded_digits size) ≡ 32
-padded_length size few =
-    let pad : List ℕ = replicate (32 - length (decimal size)) 48 in
-    omega (arith, length-append {A = ℕ} (decimal size) pad, length-replicate {A = ℕ} (32 - length (decimal size)) 48, few)
+padded_length size few = grind (arith, common_steps)
 
 -- The digits of a size, cut at a decimal prefix: whole units, and thousandths of one.
 pub record IsCut (size : ℕ) (digits : List ℕ) (cut used power : ℕ) : Type 0 where
@@ -233,6 +219,4 @@ not_above_digits size other some small fits =
 
 pub first_of_padded : (size len : ℕ) (behind : List ℕ) → len ≡ length (decimal size)
     → take len (padded_digits size ++ behind) ≡ decimal size
-first_of_padded size len behind len_is =
-    let pad : List ℕ = replicate (32 - length (decimal size)) 48 in
-    ap (λ list. take len list) (append_assoc (decimal size) pad behind) ∙ take_at (decimal size) (pad ++ behind) len (sym len_is)
+first_of_padded size len behind len_is = grind (arith, common_steps)

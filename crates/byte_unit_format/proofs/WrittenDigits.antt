@@ -3,8 +3,9 @@ use Rattle.std.proofs.Common.{◌≡◌, ℕ, ◌+◌, ◌-◌, ◌<◌, ◌≤�
 use Rattle.std.proofs.Common.{List, ◌∷◌, ◌++◌, length, take, replicate, arith, ap, sym, ◌∙◌}
 use Rattle.std.proofs.Common.{append_assoc}
 use Rattle.std.proofs.lemmas.Bool.{cases_lt}
+use Rattle.std.proofs.lemmas.Grind.{common_steps}
 use Rattle.std.proofs.lemmas.List.{take-replicate, replicate-append-replicate, take_all, take-take}
-use Rattle.std.proofs.lemmas.List.{take-map, length-map, length-take}
+use Rattle.std.proofs.lemmas.List.{take-map, length-map}
 use Rattle.byte_unit_math.specs.Numeral.{fraction_text, glyphs}
 use Rattle.byte_unit_format.proofs.WrittenForms.{fraction_some}
 
@@ -39,11 +40,4 @@ pub length_shown :
     (shown : ℕ) (digits characters : List ℕ) → shown ≤ length digits → take (length digits) characters ≡ glyphs digits
     → length (take shown characters) ≡ shown
 length_shown shown digits characters few are =
-    omega (
-      arith,
-      few,
-      ap length are,
-      length-map digits (λ digit. 48 + digit),
-      length-take {A = ℕ} (length digits) characters,
-      length-take {A = ℕ} shown characters,
-    )
+    grind (arith, common_steps, ap length are, length-map digits (λ digit. 48 + digit))

@@ -1,11 +1,12 @@
 -- What the code writes of a size is its text, and all texts of a size are equally long.
 use Rattle.std.specs.Prelude.{MatchBool}
 use Rattle.std.proofs.Common.{◌≡◌, ◌+◌, ◌-◌, ◌*◌, ◌/◌, ◌%◌, ◌^◌, ◌<◌, ◌≤◌, min, ℕ, zero, suc}
-use Rattle.std.proofs.Common.{Bool, true, false, List, [], ◌∷◌, ◌++◌, length, take}
+use Rattle.std.proofs.Common.{Bool, true, false, List, ◌∷◌, ◌++◌, length, take}
 use Rattle.std.proofs.Common.{replicate, arith, ap, sym, refl, subst, ◌∙◌}
 use Rattle.std.specs.Fmt.{decimal}
 use Rattle.std.proofs.Math.Nat.{mod-eq_of_lt}
-use Rattle.std.proofs.lemmas.List.{length-take, length-map, map-append, length-append, length-replicate}
+use Rattle.std.proofs.lemmas.List.{length-map, map-append}
+use Rattle.std.proofs.lemmas.Grind.{common_steps}
 use Rattle.byte_unit_math.specs.Bounds.{scale, places_of_decimal}
 use Rattle.byte_unit_math.specs.Digits.{last_digits}
 use Rattle.byte_unit_math.specs.Exact.{IsLeastPlaces}
@@ -13,7 +14,7 @@ use Rattle.byte_unit_math.specs.Finite.{Finite, IsExpansion}
 use Rattle.byte_unit_math.specs.Numeral.{glyphs, fraction_text, text_of}
 use Rattle.byte_unit_math.specs.Padded.{pad_of}
 use Rattle.byte_unit_math.proofs.Digits.{length_last_digits, last_digits_below_ten, value_of_last_digits}
-use Rattle.byte_unit_math.proofs.Fractions.{fraction_text_none, fraction_text_some}
+use Rattle.byte_unit_math.proofs.Fractions.{fraction_text_some}
 use Rattle.byte_unit_math.proofs.Scales.{pow10_split}
 use Rattle.byte_unit_math.proofs.Texts.{text_of_short_numeral, padded_to_own_places}
 use Rattle.byte_unit_base.specs.Shape.{Shape, bits}
@@ -31,57 +32,28 @@ glyphs_of_zeros : (count : ℕ) → glyphs (replicate count 0) ≡ replicate cou
 glyphs_of_zeros zero = refl
 glyphs_of_zeros (suc count) = ap (λ list. 48 ∷ list) (glyphs_of_zeros count)
 
--- Padded to no digits after the point, a decimal has no point.
-pub fraction_none :
-    (places : ℕ) (digits : List ℕ) → places ≡ 0
-    → fraction_text (take places digits ++ replicate (places - length digits) 0) ≡ []
-fraction_none zero digits none =
-    fraction_text_none (take 0 digits ++ replicate (0 - length digits) 0)
-    (omega (
-      arith,
-      length-append {A = ℕ} (take 0 digits) (replicate (0 - length digits) 0),
-      length-replicate {A = ℕ} (0 - length digits) 0,
-    ))
-fraction_none (suc places) digits none = absurd (omega (arith, none))
-
 -- Padded to some digits after the point, the fraction is a point, the digits, and zeros for the missing ones.
 pub fraction_some :
     (places : ℕ) (digits : List ℕ) → 0 < places
     → fraction_text (take places digits ++ replicate (places - length digits) 0)
     ≡ 46 ∷ (glyphs (take places digits) ++ replicate (places - length digits) 48)
 fraction_some places digits positive =
-    let front = take places digits in
-    let back = replicate (places - length digits) 0 in
-    let some : 0 < length (front ++ back) =
-    omega (
-      arith,
-      positive,
-      length-append {A = ℕ} front back,
-      length-replicate {A = ℕ} (places - length digits) 0,
-      length-take {A = ℕ} places digits,
-    ) in
-    fraction_text_some (front ++ back) some
-    ∙ ap (λ text. 46 ∷ text)
-    (map-append (λ digit. 48 + digit) front back
-    ∙ ap (λ text. glyphs front ++ text) (glyphs_of_zeros (places - length digits)))
+    let all = take places digits ++ replicate (places - length digits) 0 in
+    let some : 0 < length all = grind (arith, common_steps) in
+    rw (fraction_text_some all some, map-append (λ digit. 48 + digit) (take places digits) (replicate (places - length digits) 0),
+    glyphs_of_zeros (places - length digits)) refl
 
 -- The text of digits after the point is as long as the digits, and one more for the point if there are any.
 pub length_of_fraction_text : (digits : List ℕ) → length (fraction_text digits) ≡ length digits + min 1 (length digits)
-length_of_fraction_text [] = omega arith
-length_of_fraction_text (d ∷ ds) = omega (arith, length-map (d ∷ ds) (λ digit. 48 + digit))
+length_of_fraction_text digits = grind (arith, common_steps, length-map {A = ℕ} {B = ℕ})
 
 -- The text of a fraction padded to `places` digits is as long as these, and one more for the point if there are any.
 pub fraction_length :
     (places : ℕ) (digits : List ℕ)
     → length (fraction_text (take places digits ++ replicate (places - length digits) 0)) ≡ places + min 1 places
 fraction_length places digits =
-    omega (
-      arith,
-      length_of_fraction_text (take places digits ++ replicate (places - length digits) 0),
-      length-append {A = ℕ} (take places digits) (replicate (places - length digits) 0),
-      length-replicate {A = ℕ} (places - length digits) 0,
-      length-take {A = ℕ} places digits,
-    )
+    let all = take places digits ++ replicate (places - length digits) 0 in
+    grind (arith, common_steps, length_of_fraction_text all)
 
 -- Padded to its own number of digits after the point, a decimal has the same text.
 pub all_places : (e : Finite) (places : ℕ) → places ≡ length e.digits → text_of (pad_of places e) ≡ text_of e

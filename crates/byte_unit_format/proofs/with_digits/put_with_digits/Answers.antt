@@ -36,20 +36,8 @@ returns-clause-text c =
     (omega (arith, len_is)) in
     let start = len + 3 in
     let behind : List ℕ = drop (length middle - start) (drop start middle) in
-    let room : count ≤ length written =
-    omega (
-      arith,
-      c.put_form_of.auto.out,
-      length-take {A = ℕ} (length middle - start) (drop start middle),
-      length-drop {A = ℕ} start middle,
-      c.put-2.auto.out,
-      c.put.auto.out,
-      c.requires.room,
-      few,
-      c.put_form_of.ensures.narrow,
-    ) in
-    let start_len : length (take start middle) ≡ start =
-    omega (arith, length-take {A = ℕ} start middle, c.put-2.auto.out, c.put.auto.out, c.requires.room, few) in
+    let room : count ≤ length written = omega (arith, length-take {A = ℕ}, length-drop {A = ℕ}, few) in
+    let start_len : length (take start middle) ≡ start = omega (arith, length-take {A = ℕ}, few) in
     record {
       form = take count written;
       is_form = c.put_form_of.ensures.form;
