@@ -4,7 +4,7 @@ use Rattle.std.proofs.Common.{ap, sym, refl}
 use Rattle.std.proofs.Common.{◌∙◌}
 use Rattle.std.specs.Fmt.{decimal}
 use Rattle.std.proofs.Math.Nat.{div-add-mod', mod-eq_of_lt, pow-le-pow_right}
-use Rattle.std.proofs.lemmas.Nat.{pow-add, mul-pow, mod_below, mul-le}
+use Rattle.std.proofs.lemmas.Nat.{pow-add, mul-pow, mod_below}
 use Rattle.std.proofs.lemmas.Bool.{cases_lt}
 use Rattle.byte_unit_math.specs.Bounds.{size_limit}
 use Rattle.byte_unit_math.specs.Finite.{Finite, ulps_of}
@@ -124,10 +124,4 @@ scaled_text number places whole digits whole_is digits_is =
 pub scaled_size_small : (size bits power places : ℕ) → size < size_limit → bits ≤ 8 → power ≡ 10 ^ places → places ≤ 7
     → size * bits * power < 2 ^ 127
 scaled_size_small size bits power places small few power_is at_most =
-    let most = pow-le-pow_right {n = 10} (omega arith) {i = places} {j = 7} at_most in
-    let in_bits = mul-le size bits size_limit 8 (omega (arith, small)) few in
-    omega (
-      arith,
-      mul-le (size * bits) power (8 * size_limit) (10 ^ 7) (omega (arith, in_bits))
-          (omega (arith, power_is, most)),
-    )
+    grind (arith, pow-le-pow_right {n = 10} (omega arith) {i = places} {j = 7} at_most)

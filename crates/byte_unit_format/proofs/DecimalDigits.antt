@@ -74,6 +74,11 @@ pub text_at : {front : List ℕ} (text list behind : List ℕ) (cut end : ℕ) �
 text_at {front} text list behind cut end front_is text_is end_is =
     grind (arith, common_steps, take-append-drop cut list)
 
+-- The beginning of a list that begins with a text is that of the text.
+pub front_at : {start : ℕ} (list text behind : List ℕ) (cut : ℕ) → start ≡ 0 → drop start list ≡ text ++ behind
+    → cut ≤ length text → take cut list ≡ take cut text
+front_at list text behind cut first list_is few = grind (arith, common_steps)
+
 -- What is kept before an index is kept before each smaller one.
 pub take_kept : (new old : List ℕ) {few more : ℕ} → few ≤ more → take more new ≡ take more old → take few new ≡ take few old
 take_kept new old {few} {more} less kept = rw (← take-take few more new less, kept, take-take few more old less) refl

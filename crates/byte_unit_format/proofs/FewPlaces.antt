@@ -2,8 +2,8 @@
 use Rattle.std.proofs.Common.{◌≡◌, ◌≢◌, ℕ, ◌+◌, ◌-◌, ◌*◌, ◌/◌, ◌%◌, ◌^◌, ◌<◌, ◌≤◌, ⊎_elim, inl, inr, Bool, true, false}
 use Rattle.std.proofs.Common.{min, zero, suc, arith, ap, sym, refl, ◌∙◌}
 use Rattle.std.specs.Int.{w128, leading_zeros, trailing_zeros}
-use Rattle.std.proofs.Math.Nat.{eq_of_mul-eq-mul_right, mul-le-mul_right, mul-le-mul_left, le_of_mul-le-mul_right}
-use Rattle.std.proofs.Math.Nat.{pow-le-pow_right, pow-succ', one-le-pow, mul-mod_left}
+use Rattle.std.proofs.Math.Nat.{eq_of_mul-eq-mul_right, mul-le-mul_right, le_of_mul-le-mul_right}
+use Rattle.std.proofs.Math.Nat.{pow-le-pow_right, one-le-pow, mul-mod_left}
 use Rattle.std.proofs.lemmas.Bool.{cases_lt}
 use Rattle.std.proofs.lemmas.Nat.{pow-add, mul-pow, div-add-mod', leading_top}
 use Rattle.byte_unit_math.specs.Bounds.{size_limit, scale}
@@ -112,8 +112,7 @@ divided_more {size} {whole} {thousandths} {power} {next} {rest} small divided no
 
 -- What is left is at most the size.
 pub divided_small : {size whole thousandths power : ℕ} → IsDivided size whole thousandths power → whole ≤ size
-divided_small {size} {whole} {thousandths} {power} divided =
-    omega (arith, divided.value, mul-le-mul_left whole (one-le-pow (3 * power) 10 (omega arith)))
+divided_small {size} {whole} {thousandths} {power} divided = grind (arith, one-le-pow (3 * power) 10 (omega arith))
 
 -- Three digits after the point are as many as `places`, and the rest.
 places_and_rest : (places : ℕ) → places ≤ 3 → 10 ^ places * 10 ^ (3 - places) ≡ 1000
@@ -162,49 +161,38 @@ value_before {size} {power} whole thousandths some value =
     let prefix_is : 10 ^ (3 * power) ≡ before * 1000 = grind (arith, pow10_next (power - 1)) in
     omega (arith, value, ap (λ n. (whole * 1000 + thousandths) * n) prefix_is)
 
--- Thousandths leave no rest if all of a number does not.
-no_rest : (whole thousandths count places : ℕ) → places ≤ 3
-    → whole * 1000 + thousandths ≡ count * 10 ^ (3 - places) → thousandths % 10 ^ (3 - places) ≡ 0
-no_rest whole thousandths count zero few all_is = omega (arith, all_is)
-no_rest whole thousandths count (suc zero) few all_is = omega (arith, all_is)
-no_rest whole thousandths count (suc (suc zero)) few all_is = omega (arith, all_is)
-no_rest whole thousandths count (suc (suc (suc zero))) few all_is = omega arith
-no_rest whole thousandths count (suc (suc (suc (suc more)))) few all_is = absurd (omega (arith, few))
+-- With the digits after the point that are allowed, thousandths that do not end in enough zeros are no thousands.
+left_over : (whole thousandths places : ℕ) → places ≤ 3 → thousandths % 10 ^ (3 - places) ≢ 0
+    → (whole * 1000 + thousandths) * 10 ^ places % 1000 ≢ 0
+left_over whole thousandths zero few left = omega (arith, left)
+left_over whole thousandths (suc zero) few left = omega (arith, left)
+left_over whole thousandths (suc (suc zero)) few left = omega (arith, left)
+left_over whole thousandths (suc (suc (suc zero))) few left = absurd (left (omega arith))
+left_over whole thousandths (suc (suc (suc (suc more)))) few left = absurd (omega (arith, few))
 
 -- Else the prefix before it is the largest one, and the size is whole in it.
-pub greatest_before : {places size power : ℕ} (whole thousandths : ℕ) → places ≤ 3 → 1 ≤ power → IsGreatest 3 10 3 size power
-    → (whole * 1000 + thousandths) * 10 ^ (3 * power) ≡ size * 1000 → thousandths % 10 ^ (3 - places) ≢ 0
-    → IsGreatest places 10 3 size (power - 1)
-unfolding fits_three
-greatest_before {places} {size} {power} whole thousandths few some greatest value left =
-    let before = 10 ^ (3 * (power - 1)) in
-    let q : ℕ = whole * 1000 + thousandths in
-    let size_is = value_before whole thousandths some value in
+pub greatest_before : {places size power : ℕ} (whole thousandths : ℕ) → places ≤ 3 → 1 ≤ power
+    → 10 ^ (3 * power) ≤ size → (whole * 1000 + thousandths) * 10 ^ (3 * power) ≡ size * 1000
+    → thousandths % 10 ^ (3 - places) ≢ 0 → IsGreatest places 10 3 size (power - 1)
+greatest_before {places} {size} {power} whole thousandths few some not_above value left =
+    let count : ℕ = (whole * 1000 + thousandths) * 10 ^ places in
+    let counted : count * 10 ^ (3 * (power - 1)) ≡ size * 10 ^ places =
+    omega (arith, ap (λ n. n * 10 ^ places) (value_before whole thousandths some value)) in
+    let less = pow-le-pow_right {n = 10} (omega arith) {i = 3 * (power - 1)} {j = 3 * power} (omega arith) in
     record {
-      fits = record {
-        exact = (q * 10 ^ places, omega (arith, ap (λ n. n * 10 ^ places) size_is));
-        not_above = omega (arith, size_is, mul-le-mul_right before (let one : 1 ≤ q = grind (arith, value, greatest.fits.not_above, one-le-pow (3 * power) 10 (omega arith)) in one));
-      };
+      fits = record { exact = (count, sym counted); not_above = omega (arith, not_above, less) };
       greatest = λ other fits.
-          let three = fits_three few fits in
-          ⊎_elim (λ less. omega (arith, less))
-          (λ more.
-          let same : other ≡ power = omega (arith, more, greatest.greatest other three) in
-          absurd (left (no_rest whole thousandths fits.exact.0 places few
-          (eq_of_mul-eq-mul_right (10 ^ (3 * power)) (one-le-pow (3 * power) 10 (omega arith)) q three.exact.0
-          (value ∙ rw (← same) three.exact.1)))))
-          (cases_lt other power);
+          power_divides 10 3 count fits.exact.0 (power - 1) other (omega arith) (left_over whole thousandths places few left)
+          (counted ∙ fits.exact.1);
     }
 
--- A power of five is odd.
-odd_power : (k : ℕ) → 5 ^ k % 2 ≡ 1
-odd_power zero = refl
-odd_power (suc k) = let odd = odd_power k in omega (arith, pow-succ' 5 k, odd)
-
-odd_product : (left five : ℕ) → left % 2 ≢ 0 → five % 2 ≡ 1 → left * five % 2 ≢ 0
-odd_product left five odd one even =
-    let left_is : left ≡ 2 * (left / 2) + 1 = omega (arith, odd) in
-    omega (arith, even, ap (λ n. n * five) left_is, one)
+-- An odd number times a power of five is odd.
+odd_product : (left places : ℕ) → places ≤ 3 → left % 2 ≢ 0 → left * 5 ^ places % 2 ≢ 0
+odd_product left zero few odd = omega (arith, odd)
+odd_product left (suc zero) few odd = omega (arith, odd)
+odd_product left (suc (suc zero)) few odd = omega (arith, odd)
+odd_product left (suc (suc (suc zero))) few odd = omega (arith, odd)
+odd_product left (suc (suc (suc (suc more)))) few odd = absurd (omega (arith, few))
 
 -- The lowest and the highest bit of a size tell the largest binary prefix that fits it, of which it is eighths.
 pub binary_greatest : (places size power : ℕ) → places ≤ 3 → 0 < size → size < size_limit
@@ -236,7 +224,7 @@ binary_greatest places size power at_most some small count =
         };
         greatest = λ other fits.
             let lowest = power_divides 2 1 (left * five) fits.exact.0 (twos + places) (10 * other) (omega arith)
-            (odd_product left five off.odd (odd_power places)) (grind (arith, thousand, fits.exact.1)) in
+            (odd_product left places at_most off.odd) (grind (arith, thousand, fits.exact.1)) in
             let highest = exponent_below 2 (10 * other) (suc top.0) size (omega arith) fits.not_above top.3 in
             omega (arith, lowest, highest, count, top.1);
       },
@@ -341,12 +329,14 @@ recovered_own precision kind size below =
     )
 
 -- Nor is one that fits none.
-pub recovered_none : (precision : ℕ) (kind : Kind) {size : ℕ} → IsGreatest (places_within precision) 10 3 size 0
-    → IsGreatest (places_within precision) 2 10 size 0 → IsRecoveredIn current kind false size precision (own_unit kind)
-recovered_none precision kind {size} tens twos =
+pub recovered_none : (precision : ℕ) (kind : Kind) {size decimal binary : ℕ} → decimal ≡ 0 → binary ≡ 0
+    → IsGreatest (places_within precision) 10 3 size decimal → IsGreatest (places_within precision) 2 10 size binary
+    → IsRecoveredIn current kind false size precision (own_unit kind)
+recovered_none precision kind {size} no_decimal no_binary tens twos =
     inr (
       λ unit exact_unit.
-          let none = by_prefix (λ other binary. other ≤ 0) twos.greatest tens.greatest unit.power unit.binary
+          let none = by_prefix (λ other binary. other ≤ 0) (λ other fits. omega (arith, no_binary, twos.greatest other fits))
+          (λ other fits. omega (arith, no_decimal, tens.greatest other fits)) unit.power unit.binary
           (fits_of_exact {precision = precision} kind size unit exact_unit) in
           omega (arith, none, exact_unit.member.prefix.some),
       refl,

@@ -12,8 +12,7 @@ use Rattle.std.proofs.lemmas.List.{length-append}
 use Rattle.std.proofs.lemmas.Nat.{mul-pow, pow-add, mul-le}
 use Rattle.byte_unit_math.specs.Bounds.{scale, places_of_decimal}
 use Rattle.byte_unit_math.specs.Digits.{at_places, trim_expansion}
-use Rattle.byte_unit_math.specs.Finite.{Finite}
-use Rattle.byte_unit_math.specs.Numeral.{fraction_text, text_of, short_numeral}
+use Rattle.byte_unit_math.specs.Numeral.{fraction_text, short_numeral}
 use Rattle.byte_unit_math.proofs.Scales.{pow10_split}
 use Rattle.byte_unit_math.proofs.Texts.{short_numeral_is_expansion}
 use Rattle.byte_unit_base.specs.Shape.{Shape, shape, bits}
@@ -126,16 +125,17 @@ decimal_length whole digits some few small =
     let most = pow-le-pow_right {n = 10} (omega arith) few in
     length-decimal-le_wide digits whole some small (omega (arith, small, most))
 
--- A numeral is as long as its whole part, at most a point, and the digits after it.
-numeral_length : (e : Finite) → length (text_of e) ≤ length (decimal e.whole) + length e.digits + 1
-numeral_length e =
-    omega (arith, length-append {A = ℕ} (decimal e.whole) (fraction_text e.digits), length_of_fraction_text e.digits)
-
--- The same for a numeral without trailing zeros.
+-- A numeral without trailing zeros is as long as its whole part, at most a point, and the digits after it.
 short_length :
     (number : ℕ) → let places = length (trim_expansion (at_places places_of_decimal number)).digits in
     length (short_numeral number places_of_decimal) ≤ length (decimal (number / scale)) + places + 1
-short_length number = numeral_length (trim_expansion (at_places places_of_decimal number))
+short_length number =
+    let e = trim_expansion (at_places places_of_decimal number) in
+    omega (arith, length-append {A = ℕ} (decimal e.whole) (fraction_text e.digits), length_of_fraction_text e.digits)
+
+-- A whole part below 10^27 has at most 27 digits.
+pub whole_length : (whole : ℕ) → whole < 10 ^ 27 → length (decimal whole) ≤ 27
+whole_length whole small = decimal_length whole 27 (omega arith) (omega arith) small
 
 -- A number of units with a prefix has at most 33 characters: its whole part has three digits fewer for each power of
 -- the prefix, and if it has more digits after the point than that allows, it is below a thousand. In the base unit of

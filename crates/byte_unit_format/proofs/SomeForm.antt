@@ -22,20 +22,26 @@ form_exists version kind size spec =
     λ unit number. layout (short_numeral number places_of_decimal) (unit_name_in version unit) spec in
     let precision = places_of spec.precision in
     ⊎_elim
-    (λ found. (of found.0 found.1, record {
-      unit = found.0;
-      number = found.1;
-      is_recovered = inl found.2.unit_is;
-      number_is = number_times_chosen version (own_family kind) (size * bits_in kind) precision found.1 found.0 found.2;
-      text_is = refl;
-    }))
-    (λ none. (of (own_unit kind) (size * scale), record {
-      unit = own_unit kind;
-      number = size * scale;
-      is_recovered = inr (none, refl);
-      number_is = own_number kind size (size * scale) (own_unit kind) refl refl;
-      text_is = refl;
-    }))
+    (λ found. (
+      of found.0 found.1,
+      record {
+        unit = found.0;
+        number = found.1;
+        is_recovered = inl found.2.unit_is;
+        number_is = number_times_chosen version (own_family kind) (size * bits_in kind) precision found.1 found.0 found.2;
+        text_is = refl;
+      },
+    ))
+    (λ none. (
+      of (own_unit kind) (size * scale),
+      record {
+        unit = own_unit kind;
+        number = size * scale;
+        is_recovered = inr (none, refl);
+        number_is = own_number kind size (size * scale) (own_unit kind) refl refl;
+        text_is = refl;
+      },
+    ))
     (choice_or_none version (own_family kind) (size * bits_in kind) precision)
 
 -- A size has exactly one text with a unit by a spec.

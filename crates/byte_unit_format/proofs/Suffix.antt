@@ -1,12 +1,13 @@
 -- A whole part and what follows it are the text of a size in its unit; how its bytes are written.
-use Rattle.std.proofs.Common.{◌≡◌, ℕ, ◌+◌, ◌-◌, ◌*◌, ◌/◌, ◌%◌, ◌^◌, ◌<◌, ◌≤◌, Bool, false, List, [], ◌∷◌, ◌++◌}
-use Rattle.std.proofs.Common.{length, take, drop, arith, ap, sym, subst, refl, ◌∙◌, append-nil, append_assoc}
+use Rattle.std.proofs.Common.{◌≡◌, ℕ, ◌+◌, ◌-◌, ◌*◌, ◌^◌, ◌<◌, ◌≤◌, Bool, false, List, [], ◌∷◌, ◌++◌}
+use Rattle.std.proofs.Common.{length, take, drop, arith, ap, sym, subst, ◌∙◌, append-nil, append_assoc}
 use Rattle.std.specs.Prelude.{if◌then◌else◌, slice_index, codes}
 use Rattle.std.specs.Fmt.{decimal}
 use Rattle.std.specs.Str.{IsAscii}
 use Rattle.std.proofs.lemmas.Grind.{common_steps}
 use Rattle.std.proofs.lemmas.List.{take-append-drop, drop-take, drop-drop}
-use Rattle.std.proofs.Math.Nat.{mul-le-mul_left}
+use Rattle.std.proofs.Math.Nat.{mul-le-mul_left, pow-le-pow_right}
+use Rattle.byte_unit_format.proofs.NarrowTexts.{prefix_of, prefix_at_least}
 use Rattle.std.proofs.lemmas.Slice.{drop-append-drop}
 use Rattle.std.proofs.lemmas.Str.{IsAscii-append}
 use Rattle.std.proofs.lemmas.Str.Ascii.{IsAscii-cons}
@@ -23,7 +24,6 @@ use Rattle.byte_unit_base.specs.declared.kind.Kind.{Kind}
 use Rattle.byte_unit_base.proofs.Names.{name_ascii, with_prefix}
 use Rattle.byte_unit_base.proofs.NumberTexts.{number_ascii}
 use Rattle.byte_unit_format.specs.Forms.{IsSizeForm}
-use Rattle.byte_unit_format.specs.Layout.{layout}
 use Rattle.byte_unit_format.specs.NamedSpecs.{alternate_spec}
 use Rattle.byte_unit_format.specs.Suffix.{thousandths_text, thousandths_of, unit_of, suffix_text, HasPrefix, IsSplit}
 use Rattle.byte_unit_format.specs.declared.thousandths.Suffix.{Suffix}
@@ -32,17 +32,7 @@ use Rattle.byte_unit_format.specs.declared.thousandths.Suffix.TheVariants.{Own, 
 -- Whole units and thousandths as one decimal without trailing zeros.
 text_of_thousandths : (whole thousandths : ℕ) → thousandths < 1000
     → text_of (trim_expansion (at_places 3 (whole * 1000 + thousandths))) ≡ decimal whole ++ thousandths_text thousandths
-text_of_thousandths whole thousandths below =
-    let q = whole * 1000 + thousandths in
-    let quotient : q / 1000 ≡ whole = omega (arith, below) in
-    let first : q / 100 % 10 ≡ thousandths / 100 % 10 = omega arith in
-    let second : q / 10 % 10 ≡ thousandths / 10 % 10 = omega arith in
-    let third : q / 1 % 10 ≡ thousandths / 1 % 10 = omega arith in
-    rw (first, second, third, quotient) refl
-
--- Without a width a number and its unit are separated by a space.
-layout_alternate : (number name : List ℕ) → layout number name alternate_spec ≡ number ++ 32 ∷ name
-layout_alternate number name = simp (append_assoc {A = ℕ}, append-nil {A = ℕ})
+text_of_thousandths whole thousandths below = grind arith
 
 -- The thousandths are less than one, and the prefix is one of the nine.
 suffix_bounds : (kind : Kind) (suffix : Suffix) → HasPrefix suffix
@@ -71,9 +61,7 @@ form_of_thousandths kind size whole thousandths unit below recovered product =
       number = number;
       is_recovered = recovered;
       number_is = product;
-      text_is = sym (ap (λ number. layout number name alternate_spec) numeral
-          ∙ (layout_alternate (decimal whole ++ thousandths_text thousandths) name
-          ∙ append_assoc (decimal whole) (thousandths_text thousandths) (32 ∷ name)));
+      text_is = rw numeral (simp (append_assoc {A = ℕ}, append-nil {A = ℕ}));
     }
 
 -- A split size is the text of its whole part and of what follows.
@@ -108,18 +96,25 @@ written_over {text} old middle new digits name point len end four few covers tex
     drop_known middle first_is digits_are ∙ ap (λ rest. digits ++ rest) (sym (drop-drop 4 point old)) in
     let front : take len (drop point new) ≡ text =
     grind (arith, common_steps, drop-take point len new, drop-take point len middle, second_is, kept, text_is, four, few) in
-    let sum : point + (end - point) ≡ end = omega (arith, covers) in
     let rest : drop end middle ≡ drop end old =
-    rw (← sum, ← drop-drop (end - point) point middle, ← drop-drop (end - point) point old, here)
-    (drop-append-drop 4 (drop point old) digits (end - point) (omega (arith, covers)) four) in
-    sym (take-append-drop len (drop point new))
-    ∙ rw (front, drop-drop len point new, drop_known new second_is name_is, rest) (sym (append_assoc text name (drop end old)))
+    grind (
+      arith,
+      here,
+      drop-drop (end - point) point middle,
+      drop-drop (end - point) point old,
+      drop-append-drop 4 (drop point old) digits (end - point),
+      four,
+      covers,
+    ) in
+    let behind = drop_known new second_is name_is in
+    grind (arith, common_steps, front, behind, rest, take-append-drop len (drop point new), drop-drop len point new)
 
 -- In a unit with a prefix the whole part is below 10^27.
-pub whole_below : (size prefix whole thousandths : ℕ) → size < size_limit → 1000 ≤ prefix
-    → (whole * 1000 + thousandths) * prefix ≡ size * 1000 → whole < 10 ^ 27
-whole_below size prefix whole thousandths small large value =
-    omega (arith, small, value, mul-le-mul_left whole large)
+pub whole_below : (size power : ℕ) (binary : Bool) (whole thousandths : ℕ) → size < size_limit → 1 ≤ power
+    → (whole * 1000 + thousandths) * prefix_of power binary ≡ size * 1000 → whole < 10 ^ 27
+whole_below size power binary whole thousandths small some value =
+    let large = pow-le-pow_right {n = 10} (omega arith) {i = 3} {j = 3 * power} (omega (arith, some)) in
+    omega (arith, small, value, mul-le-mul_left whole (prefix_at_least power binary), mul-le-mul_left whole large)
 
 -- A number with its unit is ASCII.
 pub form_ascii : (whole thousandths : ℕ) (unit : Shape) → whole < 10 ^ 27 → unit.power ≤ 9

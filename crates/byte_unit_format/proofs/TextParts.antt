@@ -1,5 +1,5 @@
 -- The parts of a text, written one after the other, are the text.
-use Rattle.std.proofs.Common.{◌≡◌, ◌+◌, ◌-◌, ◌/◌, ◌<◌, ◌≤◌, ℕ, List, [], ◌∷◌, ◌++◌, length, take, drop, set, get_or, refl, replicate, append_assoc}
+use Rattle.std.proofs.Common.{◌≡◌, ◌+◌, ◌-◌, ◌/◌, ◌<◌, ◌≤◌, ℕ, List, [], ◌∷◌, ◌++◌, length, take, drop, set, get_or, replicate, append_assoc}
 use Rattle.std.proofs.Common.{arith, rules, ap, sym, ◌∙◌, subst, min}
 use Rattle.std.specs.Fmt.{decimal}
 use Rattle.std.specs.Str.{IsAscii}
@@ -27,14 +27,6 @@ fraction_long (Last digits places) =
     length_of_fraction_text (last_digits places digits) ∙ omega (arith, length_last_digits places digits)
 fraction_long (First e places) = fraction_length places e.now.digits
 
--- A run of the padding spaces and the spaces of the gap is both runs.
-pub gap_after_padding :
-    (before behind gap : ℕ) (number name : List ℕ)
-    → spaces before ++ number ++ spaces (behind + gap) ++ name
-    ≡ spaces before ++ number ++ spaces behind ++ spaces gap ++ name
-gap_after_padding before behind gap number name =
-    rw (← replicate-append-replicate {A = ℕ} behind gap 32) (simp (append_assoc {A = ℕ}))
-
 -- A call that has written one text of a form has written a text of that form.
 pub writes_form :
     {IsForm : List ℕ → Type 0} {old new : List ℕ} {needed : ℕ} (text : List ℕ) → IsForm text
@@ -61,7 +53,8 @@ pub layout_of_parts :
 layout_of_parts number name spec pad before gap pad_is before_is gap_is =
     let all = layout_padding number name spec in
     let front = layout_left_padding spec.align all in
-    rw (before_is, pad_is, gap_is) (gap_after_padding front (all - front) (gap_of spec.sign name) number name)
+    rw (before_is, pad_is, gap_is, ← replicate-append-replicate {A = ℕ} (all - front) (gap_of spec.sign name) 32)
+    (simp (append_assoc {A = ℕ}))
 
 -- A run of an ASCII byte is ASCII.
 pub run_ascii : (count byte : ℕ) → byte < 128 → IsAscii (replicate count byte)
@@ -95,16 +88,22 @@ set_name (a ∷ b ∷ c ∷ []) xs some few fits = grind (arith, common_steps)
 set_name (a ∷ b ∷ c ∷ d ∷ more) xs some few fits = absurd (omega (arith, few))
 
 -- A name written in this way is there, and what follows stays.
-pub name_put : (name out : List ℕ) (start end : ℕ) → 0 < length name → length name ≤ 3 → start + length name ≡ end
-    → end ≤ length out
+pub name_put : (name out : List ℕ) (start : ℕ) → 0 < length name → length name ≤ 3 → start + length name ≤ length out
     → drop start (set (set (set out (start + (length name - 1)) (get_or name (length name - 1) 0))
     (start + length name / 2) (get_or name (length name / 2) 0)) start (get_or name 0 0))
-    ≡ name ++ drop end out
-name_put name out start end some few ends within =
+    ≡ name ++ drop (start + length name) out
+name_put name out start some few within =
     let back = get_or name (length name - 1) 0 in
     let middle = get_or name (length name / 2) 0 in
     let front = get_or name 0 0 in
-    let fits = set_name name (drop start out) some few (omega (arith, length-drop {A = ℕ} start out, ends, within)) in
-    let place = ap (λ i. drop start (set (set (set out (start + (length name - 1)) back) (start + length name / 2) middle) i front))
-    (let here : start ≡ start + 0 = omega arith in here) in
-    place ∙ rw (drop-set-add, drop-set-add, drop-set-add, fits, drop-drop (length name) start out, ends) refl
+    let fits = set_name name (drop start out) some few (omega (arith, length-drop {A = ℕ} start out, within)) in
+    let one = set out (start + (length name - 1)) back in
+    let two = set one (start + length name / 2) middle in
+    grind (
+      arith,
+      fits,
+      drop-drop (length name) start out,
+      drop-set-add start out (length name - 1) back,
+      drop-set-add start one (length name / 2) middle,
+      drop-set-add start two 0 front,
+    )

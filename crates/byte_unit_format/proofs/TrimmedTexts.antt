@@ -35,5 +35,9 @@ trim_between before behind text start end ascii =
     let skipped : skip_leading_whitespace (text ++ spaces behind) ≡ text ++ spaces behind =
     rw (start.text_is, start.head_is) refl in
     let kept : drop_trailing_whitespace text ≡ text = rw end.text_is (keep_last end.front end.last end.last_is) in
-    rw (chars-IsAscii (spaces before ++ (text ++ spaces behind)) all, skip_spaces before (text ++ spaces behind), skipped,
-    drop_end text behind) kept
+    rw (
+      chars-IsAscii (spaces before ++ (text ++ spaces behind)) all,
+      skip_spaces before (text ++ spaces behind),
+      skipped,
+      drop_end text behind,
+    ) kept

@@ -1,5 +1,5 @@
 -- The digits of a size: how many of them are zeros at their end, and where a decimal prefix cuts them.
-use Rattle.std.proofs.Common.{◌≡◌, ◌≢◌, ℕ, zero, suc, ◌+◌, ◌-◌, ◌*◌, ◌/◌, ◌%◌, ◌^◌, ◌<◌, ◌≤◌, List, [], ◌∷◌, ◌++◌}
+use Rattle.std.proofs.Common.{◌≡◌, ◌≢◌, ℕ, zero, suc, ◌+◌, ◌-◌, ◌*◌, ◌/◌, ◌%◌, ◌^◌, ◌<◌, ◌≤◌, List, [], ◌∷◌}
 use Rattle.std.proofs.Common.{length, take, drop, replicate, get_or, min, arith, ap, sym, refl, ◌∙◌}
 use Rattle.std.specs.Fmt.{decimal}
 use Rattle.std.proofs.Math.Nat.{pow-le-pow_right, div-add-mod', div-div-eq-div-mul, mod-eq_of_lt, pow-succ'}
@@ -217,6 +217,5 @@ not_above_digits size other some small fits =
     let less = exponent_below 10 (3 * other) (length (decimal size)) size (omega arith) fits.not_above powers.1 in
     omega (arith, less)
 
-pub first_of_padded : (size len : ℕ) (behind : List ℕ) → len ≡ length (decimal size)
-    → take len (padded_digits size ++ behind) ≡ decimal size
-first_of_padded size len behind len_is = grind (arith, common_steps)
+pub first_of_padded : (size len : ℕ) → len ≡ length (decimal size) → take len (padded_digits size) ≡ decimal size
+first_of_padded size len len_is = grind (arith, common_steps)

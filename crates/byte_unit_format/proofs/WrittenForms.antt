@@ -40,8 +40,11 @@ pub fraction_some :
 fraction_some places digits positive =
     let all = take places digits ++ replicate (places - length digits) 0 in
     let some : 0 < length all = grind (arith, common_steps) in
-    rw (fraction_text_some all some, map-append (λ digit. 48 + digit) (take places digits) (replicate (places - length digits) 0),
-    glyphs_of_zeros (places - length digits)) refl
+    rw (
+      fraction_text_some all some,
+      map-append (λ digit. 48 + digit) (take places digits) (replicate (places - length digits) 0),
+      glyphs_of_zeros (places - length digits),
+    ) refl
 
 -- The text of digits after the point is as long as the digits, and one more for the point if there are any.
 pub length_of_fraction_text : (digits : List ℕ) → length (fraction_text digits) ≡ length digits + min 1 (length digits)

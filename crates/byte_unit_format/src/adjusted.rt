@@ -242,7 +242,7 @@ fn rounded_to_few(size: u128, kind: Kind, unit: Unit, places: u32) -> u128
 
 /// Returns the parts of a number, which is scaled by 10^places, with its unit.
 #[inline(always)]
-#[tactic(auto, using(crate::proofs::AdjustedForms::scaled_text))]
+#[tactic(auto, using(crate::proofs::AdjustedForms::scaled_text, byte_unit_math::proofs::Digits::one_le_pow10))]
 fn scaled_parts<'a>(number: u128, places: u32, unit: Unit, spec: FormatSpec) -> TextParts<'a>
     requires { places ≤ places_of_decimal }
     ensures text { parts_text result ≡ layout (numeral number places) (unit_name unit) spec }

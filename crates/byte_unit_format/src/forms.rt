@@ -76,6 +76,7 @@ pub fn append_text<A: Allocator>(
 /// assert!(rt; out == *b"1.5 KiB.");
 /// ```
 #[inline(always)]
+#[tactic(auto, using(crate::proofs::TextParts::writes_form))]
 pub fn write_text(size: u128, kind: Kind, spec: FormatSpec, out: &mut [u8]) -> usize
     requires { size < size_limit }
     ensures written { WritesForm (IsText kind size spec) out.old out.new result }

@@ -1,5 +1,5 @@
 -- The number is the nearest one with so many places, from one division or from the digits of the exact number.
-use Rattle.std.proofs.Common.{◌*◌, refl}
+use Rattle.std.proofs.Common.{◌*◌}
 use Rattle.byte_unit_math.specs.declared.expansion.Ties.TheVariants.{Even}
 use Rattle.byte_unit_math.proofs.Texts.{nearest_of_expansion, text_of_padded}
 use Rattle.byte_unit_base.specs.Shape.{bits}
@@ -17,6 +17,3 @@ returns-then-places-gt-FEW_PLACES-clause-number c =
           near.0 (some_bits (shape_of c.args.unit), exact.ensures.exact) near.1,
       text_of_padded near.0 c.args.places c.rounded.result near.2,
     )
-
-pub returns-clause-number : goal.returns-clause-number
-returns-clause-number c = (c.rounded_to_few.result, c.rounded_to_few.ensures, refl)

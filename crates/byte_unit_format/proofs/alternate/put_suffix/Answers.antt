@@ -42,5 +42,7 @@ returns-after-len-gt0-clause-bytes c =
           drop_known {other = point} new (omega (arith, name.begins, none)) name.bytes
           ∙ rw (← written.ensures.text, none, w.out-is) refl)
     ] in
-    rw (c.in-Thousandths.is,
-    ← named c.args.kind c.in-Thousandths.power false known.1 c.letter-in-Thousandths.ensures c.own_letter-own.ensures) put
+    rw (
+      c.in-Thousandths.is,
+      ← named c.args.kind c.in-Thousandths.power false known.1 c.letter-in-Thousandths.ensures c.own_letter-own.ensures,
+    ) put

@@ -3,16 +3,12 @@
 use Rattle.std.proofs.Common.{arith, sym, ◌∙◌}
 use Rattle.byte_unit_format.specs.TextParts.{parts_text}
 use Rattle.byte_unit_format.proofs.NamedSpecs.{is_alternate}
-use Rattle.byte_unit_format.proofs.TextParts.{writes_form}
 use Rattle.byte_unit_format.proofs.NarrowTexts.{text_without_width_narrow}
 use Rattle.byte_unit_format.proofs.forms.write_text.Goals as goal
 
 pub returns-then-eq-clause-written : goal.returns-then-eq-clause-written
 returns-then-eq-clause-written c =
     rw (is_alternate c.args.spec (sym c.eq.ensures ∙ c.if-eq.true)) c.write_alternate.ensures.written
-
-pub returns-clause-written : goal.returns-clause-written
-returns-clause-written c = writes_form (parts_text c.text_parts.result) c.text_parts.ensures.text c.write.ensures.written
 
 pub returns-clause-narrow : goal.returns-clause-narrow
 returns-clause-narrow c = λ none.

@@ -1,27 +1,12 @@
 -- The point, the first digits of a decimal, and zeros for the missing ones are written into the array, up to `end`.
-use Rattle.std.proofs.Common.{◌≤◌, ◌-◌, ℕ, arith, length}
+use Rattle.std.proofs.Common.{◌-◌, ℕ, arith}
 use Rattle.std.proofs.Common.{append_assoc, subst}
 use Rattle.std.specs.Str.{IsAscii}
-use Rattle.std.proofs.lemmas.List.{length-take}
 use Rattle.std.proofs.lemmas.Str.{IsAscii-take, IsAscii-append}
 use Rattle.std.proofs.lemmas.Str.Ascii.{IsAscii-cons}
-use Rattle.byte_unit_format.proofs.WrittenForms.{fraction_length}
-use Rattle.byte_unit_format.proofs.WrittenDigits.{fraction_text_of_shown, length_shown}
+use Rattle.byte_unit_format.proofs.WrittenDigits.{fraction_text_of_shown}
 use Rattle.byte_unit_format.proofs.TextParts.{run_ascii}
 use Rattle.byte_unit_format.proofs.parts.put_first.Goals as goal
-
-pub put-digits-requires-clause-room : goal.put-digits-requires-clause-room
-put-digits-requires-clause-room c = omega (arith, fraction_length c.args.places c.args.e.now.digits, length-take {A = ℕ})
-
-pub put_run-requires-clause-room : goal.put_run-requires-clause-room
-put_run-requires-clause-room c = omega (arith, fraction_length c.args.places c.args.e.now.digits, length-take {A = ℕ})
-
-pub returns-clause-begins : goal.returns-clause-begins
-returns-clause-begins c =
-    let digits = c.args.e.now.digits in
-    let few : c.min-shown.result ≤ length digits = omega (arith, c.min-shown.ensures, c.places.ensures.exact) in
-    let shown = length_shown c.min-shown.result digits c.glyphs_of.result few c.glyphs_of.ensures.front in
-    omega (arith, shown, fraction_length c.args.places digits, c.min-shown.ensures)
 
 pub returns-clause-bytes : goal.returns-clause-bytes
 returns-clause-bytes c =

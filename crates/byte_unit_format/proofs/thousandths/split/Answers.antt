@@ -1,6 +1,5 @@
 -- The larger of the two prefixes has the unit, and the size in it is a number of thousandths.
-use Rattle.std.proofs.Common.{◌≡◌, ℕ, ◌*◌, ◌^◌, ◌≤◌, false, arith, refl, subst}
-use Rattle.std.proofs.Math.Nat.{pow-le-pow_right}
+use Rattle.std.proofs.Common.{◌≡◌, ℕ, ◌*◌, ◌≤◌, false, arith, refl, subst}
 use Rattle.byte_unit_math.specs.Bounds.{scale}
 use Rattle.byte_unit_base.specs.Choice.{places_within}
 use Rattle.byte_unit_base.specs.declared.kind.Kind.{Kind}
@@ -45,12 +44,7 @@ returns-then-binary-power-clause-split c = λ kind.
 pub returns-then-binary-power-clause-narrow : goal.returns-then-binary-power-clause-narrow
 returns-then-binary-power-clause-narrow c = λ three.
     let power = c.in_thousands-whole.result.2 in
-    whole_below c.args.size (10 ^ (3 * power)) _ _ c.requires.small
-    (omega (
-      arith,
-      pow-le-pow_right {n = 10} (omega arith) {i = 3} {j = 3 * power}
-          (omega (arith, c.if-binary-power.true)),
-    ))
+    whole_below c.args.size power false _ _ c.requires.small (omega (arith, c.if-binary-power.true))
     c.in_thousands-whole.ensures.value
 
 pub returns-then-binary-gt0-clause-split : goal.returns-then-binary-gt0-clause-split
@@ -63,11 +57,8 @@ returns-then-binary-gt0-clause-split c = λ kind.
 
 pub returns-else-binary-gt0-clause-split : goal.returns-else-binary-gt0-clause-split
 returns-else-binary-gt0-clause-split c = λ kind.
-    let places = places_within c.args.places in
-    let size = c.args.size in
     let no_binary : c.binary_power-binary.result ≡ 0 = omega (arith, c.if-binary-gt0.false) in
-    let no_decimal : c.in_thousands-whole.result.2 ≡ 0 = omega (arith, c.if-binary-power.false, no_binary) in
-    own_split kind size c.args.places
-    (recovered_none c.args.places kind
-    (subst (λ power. IsGreatest places 10 3 size power) no_decimal (within c.requires.places c.in_thousands-whole.ensures.greatest))
-    (subst (λ power. IsGreatest places 2 10 size power) no_binary (within c.requires.places c.binary_power-binary.ensures.greatest)))
+    own_split kind c.args.size c.args.places
+    (recovered_none c.args.places kind (omega (arith, c.if-binary-power.false, no_binary)) no_binary
+    (within c.requires.places c.in_thousands-whole.ensures.greatest)
+    (within c.requires.places c.binary_power-binary.ensures.greatest))

@@ -3,9 +3,8 @@ use Rattle.std.proofs.Common.{◌≡◌, ◌≤◌, ◌+◌, ◌-◌, ◌++◌, 
 use Rattle.std.specs.Fmt.{decimal}
 use Rattle.std.proofs.Math.Seq.{take-append-add}
 use Rattle.std.proofs.lemmas.List.{take-append-le, length-take, length-drop}
-use Rattle.byte_unit_math.specs.Numeral.{padded_digits}
 use Rattle.byte_unit_format.proofs.Suffix.{drop_known}
-use Rattle.byte_unit_format.proofs.DecimalDigits.{text_at, take_kept}
+use Rattle.byte_unit_format.proofs.DecimalDigits.{text_at, front_at, take_kept}
 use Rattle.byte_unit_format.proofs.WithDigits.{first_of_padded, padded_length}
 use Rattle.byte_unit_format.proofs.with_digits.put_with_digits.Goals as goal
 
@@ -24,13 +23,11 @@ returns-clause-text c =
     let array = c.put_padded_digits-len.new.digits in
     let digits = c.put_padded_digits-len.ensures.digits in
     let long : length array ≡ 32 = rw digits (padded_length size (omega (arith, len_is, few))) in
-    let copy : copied ≡ padded_digits size ++ drop 32 old =
-    drop_known {other = 0} copied (omega (arith, c.put.ensures.begins, long)) c.put.ensures.bytes
-    ∙ ap (λ list. list ++ drop 32 old) digits in
     let at : c.put-2.result ≡ len = omega (arith, c.put-2.ensures.begins) in
     let front : take len middle ≡ decimal size =
     take_kept _ _ (omega (arith, at)) c.put-2.ensures.before
-    ∙ (ap (λ list. take len list) copy ∙ first_of_padded size len (drop 32 old) len_is) in
+    ∙ (front_at copied array (drop 32 old) len (omega (arith, c.put.ensures.begins, long)) c.put.ensures.bytes
+    (omega (arith, long, few)) ∙ rw digits (first_of_padded size len len_is)) in
     let before : take (len + 3) middle ≡ decimal size ++ between =
     text_at between middle (drop (len + 3) copied) len (len + 3) front (drop_known middle at c.put-2.ensures.bytes)
     (omega (arith, len_is)) in
