@@ -1,13 +1,13 @@
 -- What the string of an adjusted size is read as: the size, or an error if it has too many digits.
-use Rattle.std.proofs.Common.{◌≡◌, ℕ, ◌+◌, ◌-◌, ◌*◌, ◌^◌, ◌<◌, ◌≤◌, inl, inr, ⊎_elim, false, List, ◌++◌}
-use Rattle.std.proofs.Common.{length, refl, sym, ap, subst, ◌∙◌, arith}
-use Rattle.std.proofs.Math.Nat.{le_of_mul-le-mul_right}
-use Rattle.std.proofs.lemmas.Nat.{pow-add, mul-le}
+use Rattle.std.proofs.Common.{◌≡◌, ℕ, ◌-◌, ◌*◌, ◌^◌, ◌<◌, ◌≤◌, inl, inr, ⊎_elim, false, List, ◌++◌}
+use Rattle.std.proofs.Common.{length, ap, ◌∙◌, arith}
+use Rattle.std.proofs.Math.Nat.{le_of_mul-le-mul_right, mul-le-mul_left}
 use Rattle.std.proofs.lemmas.Bool.{cases_lt}
 use Rattle.byte_unit_math.specs.Bounds.{scale, places_of_decimal}
 use Rattle.byte_unit_math.specs.Exact.{IsExactAt}
-use Rattle.byte_unit_math.specs.Finite.{Finite, IsExpansion, value_of_digits, ulps_of}
+use Rattle.byte_unit_math.specs.Finite.{Finite, IsExpansion, ulps_of}
 use Rattle.byte_unit_math.proofs.Digits.{one_le_pow10}
+use Rattle.byte_unit_math.proofs.Scales.{pow10_times_rest}
 use Rattle.byte_unit_base.specs.Shape.{Shape, bits}
 use Rattle.byte_unit_base.specs.Version.{current, unit_name_in}
 use Rattle.byte_unit_base.specs.Units.{shape_of}
@@ -27,17 +27,14 @@ use Rattle.byte_unit_base.proofs.Choosing.{some_bits}
 use Rattle.byte_unit_base.proofs.NumberTexts.{IsBounded, fixed_point_of}
 use Rattle.byte_unit_base.proofs.LongFractions.{long_fault}
 use Rattle.byte_unit_base.proofs.Quotients.{exact_more}
-use Rattle.byte_unit_format.proofs.ReadBack.{RepresentsSize, IsGoodName-unit, bits_of_size_bound, fixed_point_of_digits}
-use Rattle.byte_unit_format.proofs.ReadBack.{trimmed_layout, layout_accepted}
+use Rattle.byte_unit_base.proofs.Names.{unit_known}
+use Rattle.byte_unit_format.proofs.ReadBack.{case_counts, bits_of_size_bound, trimmed_layout, layout_accepted}
 use Rattle.byte_unit_format.proofs.ReadBack.{size_form_reads_back}
 
 whole_not_above : (num den : ℕ) (e : Finite) → 1 ≤ den → IsExpansion num den e → e.whole ≤ num
 whole_not_above num den e some expansion =
-    let scale = 10 ^ length e.digits in
-    let not_above = mul-le (ulps_of e) 1 (ulps_of e) den (omega arith) some in
-    let scaled_whole : e.whole * scale ≤ num * scale = omega (arith, not_above, expansion.exact) in
-    le_of_mul-le-mul_right scaled_whole
-    (let positive : 0 < scale = omega (arith, one_le_pow10 (length e.digits)) in positive)
+    le_of_mul-le-mul_right {k = 10 ^ length e.digits}
+    (omega (arith, expansion.exact, mul-le-mul_left (ulps_of e) some)) (one_le_pow10 (length e.digits))
 
 -- The digits of the expansion of a size are below ten, and its whole part is within the bound of the grammar.
 expansion_bounded : (kind : Kind) (size : ℕ) (unit : Shape) (e : Finite) → size < current.size_limit
@@ -50,16 +47,13 @@ expansion_bounded kind size unit e below expansion =
 expansion_product : (num den : ℕ) (e : Finite) → IsExpansion num den e → length e.digits ≤ places_of_decimal
     → fixed_point_of e.whole e.digits * den ≡ num * scale
 expansion_product num den e expansion few =
-    let places = length e.digits in
-    let rest = 10 ^ (places_of_decimal - places) in
-    let split : places_of_decimal ≡ places + (places_of_decimal - places) = omega arith in
-    let power : scale ≡ 10 ^ places * rest =
-    ap (λ places. 10 ^ places) split ∙ pow-add 10 places (places_of_decimal - places) in
-    let number : fixed_point_of e.whole e.digits ≡ ulps_of e * rest =
-    fixed_point_of_digits e.whole (value_of_digits e.digits) (ulps_of e * rest) places few refl in
-    let of_rest = ap (λ number. number * rest) expansion.exact in
-    let of_power = ap (λ power. num * power) power in
-    ap (λ number. number * den) number ∙ omega (arith, of_rest, of_power)
+    let power = pow10_times_rest (length e.digits) few in
+    omega (
+      arith,
+      ap (λ n. n * 10 ^ (places_of_decimal - length e.digits)) expansion.exact,
+      ap (λ n. num * n) power,
+      ap (λ n. e.whole * den * n) power,
+    )
 
 form_accepted : (kind : Kind) (size : ℕ) (unit : UnitName) (text : List ℕ) → size < current.size_limit
     → IsAdjustedForm kind size unit ALTERNATE text
@@ -69,17 +63,9 @@ form_accepted kind size unit text below form exact =
     let e = form.number_is.0 in
     let expansion = form.number_is.1 in
     let few = expansion.least places_of_decimal exact in
-    let represents : RepresentsSize kind false size e shape =
-    record {
-      bounded = expansion_bounded kind size shape e below expansion;
-      few = few;
-      good = IsGoodName-unit kind unit;
-      exact = expansion_product (size * bits_in kind) (bits shape) e expansion few;
-      below = below;
-    } in
-    let text_is = form.text_is ∙ ap (λ number. layout number (unit_name_in current shape) ALTERNATE) form.number_is.2 in
-    let Accepted : List ℕ → Type 0 = λ text. IsAccepted kind false text size in
-    subst Accepted (sym text_is) (layout_accepted kind false size ALTERNATE e shape represents)
+    rw (form.text_is, form.number_is.2) (layout_accepted kind false size ALTERNATE e shape
+    (expansion_bounded kind size shape e below expansion) few (unit_known unit) (λ bit. case_counts kind)
+    (expansion_product (size * bits_in kind) (bits shape) e expansion few) below)
 
 form_rejected : (kind : Kind) (size : ℕ) (unit : UnitName) (text : List ℕ) → size < current.size_limit
     → IsAdjustedForm kind size unit ALTERNATE text
@@ -91,16 +77,14 @@ form_rejected kind size unit text below form long =
     let expansion = form.number_is.1 in
     let many : places_of_decimal < length e.digits =
     ⊎_elim (λ many. many)
-    (λ few.
-    absurd (long (exact_more (size * bits_in kind) (bits shape) (length e.digits) places_of_decimal few
-    (ulps_of e, expansion.exact))))
+    (λ few. absurd (long (exact_more (size * bits_in kind) (bits shape) _ places_of_decimal few (ulps_of e, expansion.exact))))
     (cases_lt places_of_decimal (length e.digits)) in
     let bounded = expansion_bounded kind size shape e below expansion in
-    let layout_is = trimmed_layout kind false ALTERNATE e shape bounded (IsGoodName-unit kind unit) in
+    let layout_is = trimmed_layout ALTERNATE e shape bounded (unit_known unit).known in
     let text_is =
     ap trim_of (form.text_is ∙ ap (λ number. layout number (unit_name_in current shape) ALTERNATE) form.number_is.2)
-    ∙ layout_is.trims in
-    long_fault (flags_for kind false) e (spaces layout_is.spaces_between ++ unit_name_in current shape) (trim_of text) bounded
+    ∙ layout_is.1 in
+    long_fault (flags_for kind false) e (spaces layout_is.0 ++ unit_name_in current shape) (trim_of text) bounded
     many text_is
 
 string_accepted : (kind : Kind) (size : ℕ) (unit : UnitName) (text : List ℕ) → size < current.size_limit

@@ -6,11 +6,10 @@ use Rattle.std.proofs.lemmas.Result.{on_ok_weaker, on_err_weaker}
 use Rattle.byte_unit_format.specs.Room.{AppendsForm}
 
 -- A call that appends one text of a form appends a text of that form, if all are equally long.
-pub appends_form : {Z E R : Type 0} (IsForm : List ℕ → Type 0) (old new : String Z) (result : Result R E)
-    (form : List ℕ) → IsForm form
-    → ((other : List ℕ) → IsForm other → length other ≡ length form) → AppendsForm (λ other. other ≡ form) old new result
-    → AppendsForm IsForm old new result
-appends_form IsForm old new result form is_form as_long this = record {
+pub appends_form : {Z E R : Type 0} {IsForm : List ℕ → Type 0} {old new : String Z} {result : Result R E}
+    (form : List ℕ) → IsForm form → ((other : List ℕ) → IsForm other → length other ≡ length form)
+    → AppendsForm (λ other. other ≡ form) old new result → AppendsForm IsForm old new result
+appends_form {old = old} {result = result} form is_form as_long this = record {
   added = on_ok_weaker result (λ added. (form, is_form, added.2 ∙ ap (λ other. string_bytes old ++ other) added.1))
       this.added;
   used = on_ok_weaker result (λ used other is_other. let room = used form refl in

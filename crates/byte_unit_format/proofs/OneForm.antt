@@ -1,17 +1,14 @@
 -- A size has at most one text with a unit by each spec.
-use Rattle.std.proofs.Common.{◌≡◌, ℕ, ◌*◌, inl, inr, false, List, sym, ap, ◌∙◌, subst}
+use Rattle.std.proofs.Common.{◌≡◌, ℕ, ◌*◌, inl, inr, false, List, refl, sym, ◌∙◌}
 use Rattle.std.proofs.Math.Nat.{eq_of_mul-eq-mul_right}
-use Rattle.byte_unit_math.specs.Bounds.{scale, places_of_decimal}
 use Rattle.byte_unit_base.specs.Shape.{Shape, bits}
-use Rattle.byte_unit_base.specs.Version.{Version, unit_name_in}
+use Rattle.byte_unit_base.specs.Version.{Version}
 use Rattle.byte_unit_base.specs.Choice.{IsRecoveredIn, family_for}
 use Rattle.byte_unit_base.proofs.Choosing.{some_bits}
 use Rattle.byte_unit_base.proofs.OneChoice.{one_largest}
-use Rattle.byte_unit_math.specs.Numeral.{short_numeral}
 use Rattle.byte_unit_base.specs.declared.kind.Kind.{Kind}
 use Rattle.byte_unit_format.specs.declared.spec.FormatSpec.{FormatSpec}
 use Rattle.byte_unit_base.specs.Kinds.{bits_in}
-use Rattle.byte_unit_format.specs.Layout.{layout}
 use Rattle.byte_unit_format.specs.Forms.{places_of, IsSizeFormIn}
 
 -- A size has at most one exact unit within a precision.
@@ -34,11 +31,7 @@ size_form_unique version kind size spec text other form other_form =
     let unit =
     recovered_unit_unique version kind size (places_of spec.precision) form.unit other_form.unit form.is_recovered
     other_form.is_recovered in
-    let product : Shape → Type 0 = λ unit. other_form.number * bits unit ≡ size * bits_in kind * scale in
-    let number =
-    let same = form.number_is ∙ sym (subst product (sym unit) other_form.number_is) in
-    eq_of_mul-eq-mul_right (bits form.unit) (some_bits form.unit) form.number other_form.number same in
-    form.text_is
-    ∙ ap (λ unit. layout (short_numeral form.number places_of_decimal) (unit_name_in version unit) spec) unit
-    ∙ ap (λ number. layout (short_numeral number places_of_decimal) (unit_name_in version other_form.unit) spec) number
-    ∙ sym other_form.text_is
+    let same : form.number * bits form.unit ≡ other_form.number * bits form.unit =
+    form.number_is ∙ rw unit (sym other_form.number_is) in
+    let number = eq_of_mul-eq-mul_right (bits form.unit) (some_bits form.unit) form.number other_form.number same in
+    rw (form.text_is, other_form.text_is, unit, number) refl

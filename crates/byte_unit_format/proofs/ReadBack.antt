@@ -1,33 +1,32 @@
 -- A formatted size is read as the size.
-use Rattle.std.proofs.Common.{◌≡◌, ◌≢◌, ℕ, ◌+◌, ◌-◌, ◌*◌, ◌/◌, ◌^◌, ◌<◌, ◌≤◌, inl, inr, List, [], ◌∷◌, ◌++◌, length}
+use Rattle.std.proofs.Common.{◌≡◌, ◌≢◌, ℕ, ◌+◌, ◌-◌, ◌*◌, ◌<◌, ◌≤◌, inl, inr, List, [], ◌∷◌, ◌++◌, length}
 use Rattle.std.proofs.Common.{refl, sym, ap, subst}
 use Rattle.std.proofs.Common.{◌∙◌, arith, Bool, false, append-nil, append_assoc}
 use Rattle.std.specs.Fmt.{decimal}
 use Rattle.std.specs.Str.{IsAscii}
 use Rattle.std.specs.Str.Parse.{AllDigits}
-use Rattle.std.proofs.lemmas.Nat.{pow-add, mul-le}
+use Rattle.std.proofs.lemmas.Nat.{mul-le}
 use Rattle.std.proofs.lemmas.List.{replicate-append-replicate}
 use Rattle.std.proofs.lemmas.Str.{IsAscii-append}
 use Rattle.byte_unit_math.specs.Bounds.{scale, places_of_decimal, whole_limit, bits_limit}
 use Rattle.byte_unit_base.specs.Shape.{Shape, bits}
 use Rattle.byte_unit_base.specs.Version.{current, unit_name_in}
-use Rattle.byte_unit_base.specs.Units.{shape_of}
 use Rattle.byte_unit_base.specs.Spelling.{Spells}
 use Rattle.byte_unit_base.specs.SizeText.{trim_of}
-use Rattle.byte_unit_math.specs.Finite.{Finite, value_of_digits}
+use Rattle.byte_unit_math.specs.Finite.{Finite}
 use Rattle.byte_unit_math.specs.Digits.{at_places, trim_expansion}
 use Rattle.byte_unit_math.specs.Numeral.{fraction_text, text_of}
 use Rattle.byte_unit_math.proofs.Digits.{ShortOf-shortened}
+use Rattle.byte_unit_math.proofs.Scales.{pow10_times_rest}
 use Rattle.byte_unit_base.specs.declared.kind.Kind.{Kind}
 use Rattle.byte_unit_base.specs.declared.kind.Kind.TheVariants.{Byte, Bit}
 use Rattle.byte_unit_format.specs.declared.spec.FormatSpec.{FormatSpec}
 use Rattle.byte_unit_format.specs.declared.spec.Sign.{Sign}
-use Rattle.byte_unit_format.specs.declared.spec.Sign.TheVariants.{Unset, Plus, Minus}
-use Rattle.byte_unit_base.specs.declared.unit.Unit.{Unit as UnitName}
-use Rattle.byte_unit_base.specs.Family.{InFamily, HasKind}
+use Rattle.byte_unit_format.specs.declared.spec.Sign.TheVariants.{Plus}
+use Rattle.byte_unit_base.specs.Family.{HasKind}
 use Rattle.byte_unit_base.specs.Choice.{IsRecoveredIn}
 use Rattle.byte_unit_base.proofs.Choosing.{some_bits, own_bits}
-use Rattle.byte_unit_base.proofs.Names.{IsKnown, SaysKind, unit_known, name_spells, name_ascii, name_end}
+use Rattle.byte_unit_base.proofs.Names.{IsKnown, SaysKind, name_spells, name_ascii, name_end}
 use Rattle.byte_unit_base.specs.Kinds.{bits_in, counts_bits, own_unit, own_family, flags_for}
 use Rattle.byte_unit_base.specs.LeastOfKind.{IsLeastOf}
 use Rattle.byte_unit_base.specs.Accepted.{IsAccepted}
@@ -39,22 +38,8 @@ use Rattle.byte_unit_base.proofs.NumberTexts.{fixed_point_of, number_text, numbe
 use Rattle.byte_unit_base.proofs.NumberTexts.{whole_text}
 use Rattle.byte_unit_base.proofs.NumberTexts.{IsBounded, not_white, starts_with_digit}
 use Rattle.byte_unit_base.proofs.Trim.{StartsWithoutSpace, EndsWithoutSpace}
+use Rattle.byte_unit_format.proofs.NarrowTexts.{own_kind}
 use Rattle.byte_unit_format.proofs.TrimmedTexts.{trim_between, spaces_ascii}
-
--- The unit's name is ASCII, is read as the unit, and does not end in white space.
-pub record IsGoodName (kind : Kind) (ignore_case : Bool) (unit : Shape) : Type 0 where
-  end : EndsWithoutSpace (unit_name_in current unit)
-  ascii : IsAscii (unit_name_in current unit)
-  spells : Spells current (flags_for kind ignore_case) (unit_name_in current unit) unit
-
-IsGoodName-known : (kind : Kind) (ignore_case : Bool) (unit : Shape) → IsKnown unit
-    → SaysKind (flags_for kind ignore_case) unit.bit
-    → IsGoodName kind ignore_case unit
-IsGoodName-known kind ignore_case unit known says = record {
-  end = name_end unit;
-  ascii = name_ascii unit known.known;
-  spells = name_spells (flags_for kind ignore_case) unit known says;
-}
 
 -- Units of the kind's own unit set are read in their kind: where bits are read, case is significant.
 own_says : (kind : Kind) (ignore_case bit : Bool) → HasKind (own_family kind) bit
@@ -62,37 +47,14 @@ own_says : (kind : Kind) (ignore_case bit : Bool) → HasKind (own_family kind) 
 own_says Byte ignore_case bit has is_bit = absurd (let never : ⊥ = cc in never)
 own_says Bit ignore_case bit has is_bit = refl
 
-own_kind : (kind : Kind) → HasKind (own_family kind) (counts_bits kind)
-own_kind Byte = refl
-own_kind Bit = refl
-
-multiple_name : (kind : Kind) (ignore_case : Bool) (unit : Shape) → InFamily current (own_family kind) unit
-    → IsGoodName kind ignore_case unit
-multiple_name kind ignore_case unit member =
-    let known : IsKnown unit =
-    record { known = member.prefix.known; alone = λ none. absurd (omega (arith, none, member.prefix.some)) } in
-    IsGoodName-known kind ignore_case unit known (own_says kind ignore_case unit.bit member.kind)
-
-own_name : (kind : Kind) (ignore_case : Bool) → IsGoodName kind ignore_case (own_unit kind)
-own_name kind ignore_case =
-    let known : IsKnown (own_unit kind) = record { known = omega arith; alone = λ none. refl } in
-    IsGoodName-known kind ignore_case (own_unit kind) known
-    (own_says kind ignore_case (counts_bits kind) (own_kind kind))
-
-case_counts : (kind : Kind) → (flags_for kind false).ignore_case ≡ false
-case_counts Byte = refl
-case_counts Bit = refl
-
--- If case is significant, the name of each unit is read as the unit.
-pub IsGoodName-unit : (kind : Kind) (unit : UnitName) → IsGoodName kind false (shape_of unit)
-IsGoodName-unit kind unit = IsGoodName-known kind false (shape_of unit) (unit_known unit) (λ bit. case_counts kind)
+-- If case is significant, units are read in their kind.
+pub case_counts : (kind : Kind) → (flags_for kind false).ignore_case ≡ false
+case_counts kind = grind arith
 
 IsLeastOf-exact : (kind : Kind) (number size : ℕ) (unit : Shape) → number * bits unit ≡ size * bits_in kind * scale
     → IsLeastOf kind number unit size
-IsLeastOf-exact Byte number size unit exact =
-    record { has = omega (arith, exact); least = λ other covers. omega (arith, exact, covers) }
-IsLeastOf-exact Bit number size unit exact =
-    record { has = omega (arith, exact); least = λ other covers. omega (arith, exact, covers) }
+IsLeastOf-exact kind number size unit exact =
+    record { has = grind (arith, exact); least = λ other covers. grind (arith, exact, covers) }
 
 layout_regrouped :
     (before behind gap : ℕ) (number unit : List ℕ)
@@ -101,151 +63,102 @@ layout_regrouped :
 layout_regrouped before behind gap number unit =
     rw (← replicate-append-replicate {A = ℕ} behind gap 32) (simp (append_assoc {A = ℕ}, append-nil {A = ℕ}))
 
-trim_layout :
-    (before between : ℕ) (number unit : List ℕ) → StartsWithoutSpace number → EndsWithoutSpace unit → IsAscii number
-    → IsAscii unit
-    → trim_of (spaces before ++ ((number ++ (spaces between ++ unit)) ++ spaces 0)) ≡ number ++ (spaces between ++ unit)
-trim_layout before between number unit start end number_ascii unit_ascii =
-    let behind = spaces between ++ unit in
+-- A number formatted with its unit is, without the spaces at both ends, the number, some spaces and the unit.
+pub trimmed_layout : (spec : FormatSpec) (e : Finite) (unit : Shape) → IsBounded e → unit.power ≤ length current.letters
+    → (between : ℕ) × (trim_of (layout (text_of e) (unit_name_in current unit) spec)
+    ≡ text_of e ++ (spaces between ++ unit_name_in current unit))
+trimmed_layout spec e unit bounded known =
+    let name = unit_name_in current unit in
+    let number = text_of e in
+    let fraction = fraction_text e.digits in
+    let pad = layout_padding number name spec in
+    let before = layout_left_padding spec.align pad in
+    let gap = gap_of spec.sign name in
+    let between = (pad - before) + gap in
+    let behind = spaces between ++ name in
+    let end = name_end unit in
     let ascii : IsAscii (number ++ behind) =
-    IsAscii-append number behind number_ascii
-    (IsAscii-append (spaces between) unit (spaces_ascii between) unit_ascii) in
+    IsAscii-append number behind (number_ascii e.whole e.digits bounded.small bounded.bound)
+    (IsAscii-append (spaces between) name (spaces_ascii between) (name_ascii unit known)) in
     let starts : StartsWithoutSpace (number ++ behind) =
-    record {
-      head = start.head;
-      tail = start.tail ++ behind;
-      text_is = ap (λ text. text ++ behind) start.text_is;
-      head_is = start.head_is;
-    } in
-    let parts =
-    ap (λ text. number ++ (spaces between ++ text)) end.text_is
-    ∙ simp (append_assoc {A = ℕ} number (spaces between ++ end.front) (end.last ∷ []), append_assoc {A = ℕ}) in
+    rw (append_assoc (decimal e.whole) fraction behind) (number_start e.whole (fraction ++ behind) bounded.bound) in
     let ends : EndsWithoutSpace (number ++ behind) =
     record {
       front = number ++ (spaces between ++ end.front);
       last = end.last;
-      text_is = parts;
+      text_is = ap (λ name. number ++ (spaces between ++ name)) end.text_is ∙ simp (append_assoc {A = ℕ});
       last_is = end.last_is;
-    } in
-    trim_between before 0 (number ++ behind) starts ends ascii
+    } in (
+      between,
+      ap trim_of (layout_regrouped before (pad - before) gap number name)
+          ∙ trim_between before 0 (number ++ behind) starts ends ascii,
+    )
 
--- The text without the spaces at both ends is the number, some spaces and the unit.
-pub record TrimmedLayout (text number unit : List ℕ) : Type 0 where
-  pub spaces_between : ℕ
-  pub trims : trim_of text ≡ number ++ (spaces spaces_between ++ unit)
-
--- A number formatted with its unit is, without the spaces at both ends, the number, some spaces and the unit.
-pub trimmed_layout :
-    (kind : Kind) (ignore_case : Bool) (spec : FormatSpec) (e : Finite) (unit : Shape) → IsBounded e
-    → IsGoodName kind ignore_case unit
-    → TrimmedLayout (layout (text_of e) (unit_name_in current unit) spec) (text_of e) (unit_name_in current unit)
-trimmed_layout kind ignore_case spec e unit bounded good =
-    let pad = layout_padding (text_of e) (unit_name_in current unit) spec in
-    let before = layout_left_padding spec.align pad in
-    let gap = gap_of spec.sign (unit_name_in current unit) in
-    let between = (pad - before) + gap in
-    let start = number_start e.whole (fraction_text e.digits) bounded.bound in
-    let ascii = number_ascii e.whole e.digits bounded.small bounded.bound in
-    record {
-      spaces_between = between;
-      trims =
-          ap trim_of (layout_regrouped before (pad - before) gap (text_of e) (unit_name_in current unit))
-          ∙ trim_layout before between (text_of e) (unit_name_in current unit) start good.end ascii good.ascii;
-    }
-
--- A decimal of at most 28 digits after the point, of a unit whose name is read, is exactly the size.
-pub record RepresentsSize (kind : Kind) (ignore_case : Bool) (size : ℕ) (e : Finite) (unit : Shape) : Type 0 where
-  pub bounded : IsBounded e
-  pub few : length e.digits ≤ places_of_decimal
-  pub good : IsGoodName kind ignore_case unit
-  pub exact : fixed_point_of e.whole e.digits * bits unit ≡ size * bits_in kind * scale
-  pub below : size < current.size_limit
-
--- Such a decimal, formatted with its unit, is accepted as the size.
+-- A decimal of at most 28 digits after the point that is the size in a unit of its kind, formatted with the unit, is
+-- accepted as the size.
 pub layout_accepted :
-    (kind : Kind) (ignore_case : Bool) (size : ℕ) (spec : FormatSpec) (e : Finite) (unit : Shape)
-    → RepresentsSize kind ignore_case size e unit
+    (kind : Kind) (ignore_case : Bool) (size : ℕ) (spec : FormatSpec) (e : Finite) (unit : Shape) → IsBounded e
+    → length e.digits ≤ places_of_decimal → IsKnown unit → SaysKind (flags_for kind ignore_case) unit.bit
+    → fixed_point_of e.whole e.digits * bits unit ≡ size * bits_in kind * scale → size < current.size_limit
     → IsAccepted kind ignore_case (layout (text_of e) (unit_name_in current unit) spec) size
-layout_accepted kind ignore_case size spec e unit represents =
-    let layout = trimmed_layout kind ignore_case spec e unit represents.bounded represents.good in
+layout_accepted kind ignore_case size spec e unit bounded few known says exact below =
+    let trimmed = trimmed_layout spec e unit bounded known.known in
     record {
       number = fixed_point_of e.whole e.digits;
       is_read = record {
         unit = unit;
         is_size = record {
           number_part = text_of e;
-          spaces = layout.spaces_between;
+          spaces = trimmed.0;
           unit_part = unit_name_in current unit;
-          text_is = layout.trims;
-          number_is = number_text e.whole e.digits represents.bounded.small represents.few
-              represents.bounded.bound;
-          unit_is = represents.good.spells;
+          text_is = trimmed.1;
+          number_is = number_text e.whole e.digits bounded.small few bounded.bound;
+          unit_is = name_spells (flags_for kind ignore_case) unit known says;
         };
-        is_least = IsLeastOf-exact kind (fixed_point_of e.whole e.digits) size unit represents.exact;
+        is_least = IsLeastOf-exact kind (fixed_point_of e.whole e.digits) size unit exact;
       };
-      below = represents.below;
+      below = below;
     }
-
--- A number split into whole part and digits after the point without trailing zeros, both scaled by 10^28, is the number
--- again.
-pub fixed_point_of_digits :
-    (whole part number places : ℕ) → places ≤ places_of_decimal
-    → number ≡ (whole * 10 ^ places + part) * 10 ^ (places_of_decimal - places)
-    → whole * scale + part * 10 ^ (places_of_decimal - places) ≡ number
-fixed_point_of_digits whole part number places few scaled_is =
-    let split : places_of_decimal ≡ places + (places_of_decimal - places) = omega arith in
-    let power : scale ≡ 10 ^ places * 10 ^ (places_of_decimal - places) =
-    ap (λ places. 10 ^ places) split ∙ pow-add 10 places (places_of_decimal - places) in
-    let of_whole = ap (λ power. whole * power) power in
-    omega (arith, of_whole, scaled_is)
 
 -- A size has fewer than 8 * 10^30 bits.
 pub bits_of_size_bound : (kind : Kind) (size : ℕ) → size < current.size_limit → size * bits_in kind < bits_limit
-bits_of_size_bound Byte size below = omega (arith, below)
-bits_of_size_bound Bit size below = omega (arith, below)
+bits_of_size_bound kind size below = grind arith
 
--- The name of the exact unit of a size is read as the unit.
-recovered_name :
-    (kind : Kind) (ignore_case : Bool) (size precision : ℕ) (unit : Shape)
+-- The exact unit of a size is in the current version, and is read in its kind.
+recovered_name : (kind : Kind) (ignore_case : Bool) (size precision : ℕ) (unit : Shape)
     → IsRecoveredIn current kind false size precision unit
-    → IsGoodName kind ignore_case unit
+    → IsKnown unit × SaysKind (flags_for kind ignore_case) unit.bit
 recovered_name kind ignore_case size precision unit (inl largest) =
-    multiple_name kind ignore_case unit largest.has.member
+    let member = largest.has.member in (
+      record { known = member.prefix.known; alone = λ none. absurd (omega (arith, none, member.prefix.some)) },
+      own_says kind ignore_case unit.bit member.kind,
+    )
 recovered_name kind ignore_case size precision unit (inr own) =
-    subst (IsGoodName kind ignore_case) (sym own.1) (own_name kind ignore_case)
-
-whole_bound :
-    (kind : Kind) (size number unit : ℕ) → size < current.size_limit → 1 ≤ unit
-    → number * unit ≡ size * bits_in kind * scale
-    → number / scale < whole_limit
-whole_bound kind size number unit below some exact =
-    let few : size * bits_in kind < bits_limit = bits_of_size_bound kind size below in
-    let not_above : number ≤ number * unit = omega (arith, mul-le number 1 number unit (omega arith) some) in
-    omega (arith, few, not_above, exact)
+    rw own.1 (
+      record { known = omega arith; alone = λ none. refl },
+      own_says kind ignore_case (counts_bits kind) (own_kind kind),
+    )
 
 -- A size formatted with a unit is read as the size.
 pub size_form_reads_back : SizeFormReadsBack
 size_form_reads_back kind size spec ignore_case text below form =
     let e = trim_expansion (at_places places_of_decimal form.number) in
     let short = ShortOf-shortened form.number places_of_decimal in
-    let bound = whole_bound kind size form.number (bits form.unit) below (some_bits form.unit) form.number_is in
-    let number = fixed_point_of_digits e.whole (value_of_digits e.digits) form.number (length e.digits) short.few
-    short.scaled_is in
-    let represents : RepresentsSize kind ignore_case size e form.unit =
-    record {
-      bounded = record { small = short.small; bound = bound };
-      few = short.few;
-      good = recovered_name kind ignore_case size (places_of spec.precision) form.unit form.is_recovered;
-      exact = ap (λ number. number * bits form.unit) number ∙ form.number_is;
-      below = below;
-    } in
-    let Accepted : List ℕ → Type 0 = λ text. IsAccepted kind ignore_case text size in
-    subst Accepted (sym form.text_is) (layout_accepted kind ignore_case size spec e form.unit represents)
+    let bound : e.whole < whole_limit =
+    omega (
+      arith,
+      bits_of_size_bound kind size below,
+      mul-le form.number 1 form.number (bits form.unit) (omega arith) (some_bits form.unit),
+      form.number_is,
+    ) in
+    let number : fixed_point_of e.whole e.digits ≡ form.number =
+    omega (arith, short.scaled_is, ap (λ n. e.whole * n) (pow10_times_rest (length e.digits) short.few)) in
+    let named = recovered_name kind ignore_case size (places_of spec.precision) form.unit form.is_recovered in
+    rw form.text_is (layout_accepted kind ignore_case size spec e form.unit (record { small = short.small; bound = bound })
+    short.few named.0 named.1 (ap (λ number. number * bits form.unit) number ∙ form.number_is) below)
 
 no_plus : (sign : Sign) → sign ≢ Plus → plus_of sign ≡ []
-no_plus Unset other = refl
-no_plus Minus other = refl
-no_plus Plus other = absurd (other refl)
+no_plus sign other = grind arith
 
 last_digit : (digit : ℕ) (digits : List ℕ) → AllDigits 10 (digit ∷ digits) → EndsWithoutSpace (digit ∷ digits)
 last_digit digit [] all = record { front = []; last = digit; text_is = refl; last_is = not_white digit all.0 }

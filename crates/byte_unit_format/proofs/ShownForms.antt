@@ -11,7 +11,9 @@ use Rattle.byte_unit_math.specs.Numeral.{text_of}
 use Rattle.byte_unit_math.proofs.Expanding.{powers_are_exact}
 use Rattle.byte_unit_math.proofs.Texts.{expansion_is_by_division, expansion_of_is_expansion}
 use Rattle.byte_unit_base.specs.Shape.{bits, twos, fives}
-use Rattle.byte_unit_base.specs.Version.{unit_name_in}
+use Rattle.byte_unit_base.specs.Version.{unit_name, unit_name_in}
+use Rattle.byte_unit_base.specs.declared.kind.Kind.{Kind}
+use Rattle.byte_unit_format.specs.Adjusted.{adjusted_text}
 use Rattle.byte_unit_base.specs.Units.{shape_of}
 use Rattle.byte_unit_base.specs.Kinds.{bits_in}
 use Rattle.byte_unit_format.specs.Layout.{layout}
@@ -31,11 +33,18 @@ exact_in_unit num unit = powers_are_exact num (twos (shape_of unit)) (fives (sha
     (leb-true _ _ (unit_below_limit unit))
 
 -- The expansion of a number of bits in a unit is found by division.
-pub number_by_division : (num : ℕ) (unit : UnitName) (e : Finite) → IsExpansion num (bits (shape_of unit)) e
+number_by_division : (num : ℕ) (unit : UnitName) (e : Finite) → IsExpansion num (bits (shape_of unit)) e
     → e ≡ expansion_of num (bits (shape_of unit))
 number_by_division num unit e expansion =
     expansion_is_by_division num (bits (shape_of unit)) e (omega (arith, some_bits (shape_of unit)))
     (exact_in_unit num unit) expansion
+
+-- The text of the expansion of a size in a unit, a space and the unit's name are what `Display` writes.
+pub written_text : (kind : Kind) (size : ℕ) (unit : UnitName) {e : Finite} {name : List ℕ}
+    → IsExpansion (size * bits_in kind) (bits (shape_of unit)) e → name ≡ unit_name unit
+    → text_of e ++ codes " " ++ name ≡ adjusted_text kind size unit
+written_text kind size unit {e} expansion name_is =
+    rw (number_by_division (size * bits_in kind) unit e expansion, name_is) refl
 
 -- By the plain spec there is one space between number and name, and no padding.
 plain_layout : (number unit : List ℕ) → number ++ codes " " ++ unit ≡ layout number unit PLAIN

@@ -1,17 +1,19 @@
 -- A whole part and what follows it are the text of a size in its unit; how its bytes are written.
-use Rattle.std.proofs.Common.{◌≡◌, ℕ, ◌+◌, ◌-◌, ◌*◌, ◌/◌, ◌%◌, ◌^◌, ◌<◌, ◌≤◌, Bool, true, false, List, [], ◌∷◌, ◌++◌}
-use Rattle.std.proofs.Common.{length, take, drop, arith, ap, sym, subst, refl, ◌∙◌, append-nil, append_assoc}
+use Rattle.std.proofs.Common.{◌≡◌, ℕ, ◌+◌, ◌-◌, ◌*◌, ◌^◌, ◌<◌, ◌≤◌, Bool, false, List, [], ◌∷◌, ◌++◌}
+use Rattle.std.proofs.Common.{length, take, drop, arith, ap, sym, subst, ◌∙◌, append-nil, append_assoc}
 use Rattle.std.specs.Prelude.{if◌then◌else◌, slice_index, codes}
 use Rattle.std.specs.Fmt.{decimal}
 use Rattle.std.specs.Str.{IsAscii}
-use Rattle.std.proofs.lemmas.List.{take-append-drop, drop-take, take-append-le, drop-drop}
-use Rattle.std.proofs.Math.Nat.{mul-le-mul_left}
+use Rattle.std.proofs.lemmas.Grind.{common_steps}
+use Rattle.std.proofs.lemmas.List.{take-append-drop, drop-take, drop-drop}
+use Rattle.std.proofs.Math.Nat.{mul-le-mul_left, pow-le-pow_right}
+use Rattle.byte_unit_format.proofs.NarrowTexts.{prefix_of, prefix_at_least}
 use Rattle.std.proofs.lemmas.Slice.{drop-append-drop}
 use Rattle.std.proofs.lemmas.Str.{IsAscii-append}
 use Rattle.std.proofs.lemmas.Str.Ascii.{IsAscii-cons}
 use Rattle.byte_unit_math.specs.Bounds.{scale, places_of_decimal, size_limit}
 use Rattle.byte_unit_math.specs.Digits.{last_digits, at_places, trim_zeros, trim_expansion}
-use Rattle.byte_unit_math.specs.Numeral.{fraction_text, text_of, short_numeral}
+use Rattle.byte_unit_math.specs.Numeral.{text_of, short_numeral}
 use Rattle.byte_unit_math.proofs.Texts.{short_numeral_is_expansion, expansion_of_same_fraction, text_of_short_numeral}
 use Rattle.byte_unit_math.proofs.Digits.{last_digits_below_ten, small_without_zeros}
 use Rattle.byte_unit_base.specs.Choice.{IsRecoveredIn}
@@ -22,7 +24,6 @@ use Rattle.byte_unit_base.specs.declared.kind.Kind.{Kind}
 use Rattle.byte_unit_base.proofs.Names.{name_ascii, with_prefix}
 use Rattle.byte_unit_base.proofs.NumberTexts.{number_ascii}
 use Rattle.byte_unit_format.specs.Forms.{IsSizeForm}
-use Rattle.byte_unit_format.specs.Layout.{layout}
 use Rattle.byte_unit_format.specs.NamedSpecs.{alternate_spec}
 use Rattle.byte_unit_format.specs.Suffix.{thousandths_text, thousandths_of, unit_of, suffix_text, HasPrefix, IsSplit}
 use Rattle.byte_unit_format.specs.declared.thousandths.Suffix.{Suffix}
@@ -31,42 +32,28 @@ use Rattle.byte_unit_format.specs.declared.thousandths.Suffix.TheVariants.{Own, 
 -- Whole units and thousandths as one decimal without trailing zeros.
 text_of_thousandths : (whole thousandths : ℕ) → thousandths < 1000
     → text_of (trim_expansion (at_places 3 (whole * 1000 + thousandths))) ≡ decimal whole ++ thousandths_text thousandths
-text_of_thousandths whole thousandths below =
-    let q = whole * 1000 + thousandths in
-    let of_whole : ℕ → List ℕ = λ n. decimal n ++ thousandths_text q in
-    let of_digits : ℕ → ℕ → ℕ → List ℕ =
-    λ a b c. decimal whole ++ fraction_text (trim_zeros (a ∷ b ∷ c ∷ [])) in
-    let first : q / 100 % 10 ≡ thousandths / 100 % 10 = omega arith in
-    let second : q / 10 % 10 ≡ thousandths / 10 % 10 = omega arith in
-    let third : q / 1 % 10 ≡ thousandths / 1 % 10 = omega arith in
-    ap of_whole (let same : q / 1000 ≡ whole = omega (arith, below) in same)
-    ∙ (ap (λ a. of_digits a (q / 10 % 10) (q / 1 % 10)) first
-    ∙ (ap (λ b. of_digits (thousandths / 100 % 10) b (q / 1 % 10)) second
-    ∙ ap (λ c. of_digits (thousandths / 100 % 10) (thousandths / 10 % 10) c) third))
+text_of_thousandths whole thousandths below = grind arith
 
--- Without a width a number and its unit are separated by a space.
-layout_alternate : (number name : List ℕ) → layout number name alternate_spec ≡ number ++ 32 ∷ name
-layout_alternate number name =
-    ap (λ text. (text ++ 32 ∷ []) ++ name) (append-nil number) ∙ append_assoc number (32 ∷ []) name
-
-thousandths_below : (suffix : Suffix) → HasPrefix suffix → thousandths_of suffix < 1000
-thousandths_below Own known = omega arith
-thousandths_below (Eighths eighths power) known = omega (arith, known.0)
-thousandths_below (Thousandths thousandths power) known = known.0
+-- The thousandths are less than one, and the prefix is one of the nine.
+suffix_bounds : (kind : Kind) (suffix : Suffix) → HasPrefix suffix
+    → (thousandths_of suffix < 1000) × ((unit_of kind suffix).power ≤ 9)
+suffix_bounds kind Own known = (omega arith, omega arith)
+suffix_bounds kind (Eighths eighths power) known = (omega (arith, known.0), known.2)
+suffix_bounds kind (Thousandths thousandths power) known = (known.0, known.2)
 
 -- Whole units and thousandths of the unit that the size is shown in are the text of the size.
-pub form_of_thousandths : (kind : Kind) (size whole thousandths number : ℕ) (unit : Shape) → thousandths < 1000
-    → IsRecoveredIn current kind false size 3 unit → number ≡ whole * scale + thousandths * 10 ^ 25
-    → number * bits unit ≡ size * bits_in kind * scale
+pub form_of_thousandths : (kind : Kind) (size whole thousandths : ℕ) (unit : Shape) → thousandths < 1000
+    → IsRecoveredIn current kind false size 3 unit
+    → (whole * scale + thousandths * 10 ^ 25) * bits unit ≡ size * bits_in kind * scale
     → IsSizeForm kind size alternate_spec
     (decimal whole ++ (thousandths_text thousandths ++ 32 ∷ unit_name_in current unit))
-form_of_thousandths kind size whole thousandths number unit below recovered number_is product =
+form_of_thousandths kind size whole thousandths unit below recovered product =
+    let number = whole * scale + thousandths * 10 ^ 25 in
     let q = whole * 1000 + thousandths in
     let name = unit_name_in current unit in
     let e = trim_expansion (at_places 3 q) in
     let expansion = expansion_of_same_fraction q (10 ^ 3) number scale e
-    (record { positive = omega arith; positive' = omega arith; same = omega (arith, number_is) })
-    (short_numeral_is_expansion q 3) in
+    (record { positive = omega arith; positive' = omega arith; same = omega arith }) (short_numeral_is_expansion q 3) in
     let numeral : short_numeral number places_of_decimal ≡ decimal whole ++ thousandths_text thousandths =
     sym (text_of_short_numeral number places_of_decimal e expansion) ∙ text_of_thousandths whole thousandths below in
     record {
@@ -74,17 +61,15 @@ form_of_thousandths kind size whole thousandths number unit below recovered numb
       number = number;
       is_recovered = recovered;
       number_is = product;
-      text_is = sym (ap (λ number. layout number name alternate_spec) numeral
-          ∙ (layout_alternate (decimal whole ++ thousandths_text thousandths) name
-          ∙ append_assoc (decimal whole) (thousandths_text thousandths) (32 ∷ name)));
+      text_is = rw numeral (simp (append_assoc {A = ℕ}, append-nil {A = ℕ}));
     }
 
 -- A split size is the text of its whole part and of what follows.
 pub form_of_split : (kind : Kind) (size whole : ℕ) (suffix : Suffix) → HasPrefix suffix → IsSplit kind size 3 whole suffix
     → IsSizeForm kind size alternate_spec (decimal whole ++ suffix_text kind suffix)
 form_of_split kind size whole suffix known split =
-    form_of_thousandths kind size whole (thousandths_of suffix) (whole * scale + thousandths_of suffix * 10 ^ 25)
-    (unit_of kind suffix) (thousandths_below suffix known) split.recovered refl split.value
+    form_of_thousandths kind size whole (thousandths_of suffix) (unit_of kind suffix) (suffix_bounds kind suffix known).0
+    split.recovered split.value
 
 -- A space, the letter of a prefix, an `i` if it is binary, and the letter of the kind are a space and the unit's name.
 pub named : {first last : ℕ} (kind : Kind) (power : ℕ) (binary : Bool) → 1 ≤ power
@@ -92,10 +77,7 @@ pub named : {first last : ℕ} (kind : Kind) (power : ℕ) (binary : Bool) → 1
     → 32 ∷ first ∷ ((if binary then codes "i" else []) ++ last ∷ [])
     ≡ 32 ∷ unit_name_in current (shape power binary (counts_bits kind))
 named {first} {last} kind power binary some first_is last_is =
-    let middle : List ℕ = if binary then codes "i" else [] in
-    ap (λ first. 32 ∷ first ∷ (middle ++ last ∷ [])) first_is
-    ∙ (ap (λ behind. 32 ∷ slice_index current.letters (power - 1) ∷ (middle ++ behind)) last_is
-    ∙ ap (λ name. 32 ∷ name) (sym (with_prefix (shape power binary (counts_bits kind)) some)))
+    rw (first_is, last_is) (ap (λ name. 32 ∷ name) (sym (with_prefix (shape power binary (counts_bits kind)) some)))
 
 -- A list from an index on is known, also by another name of the index.
 pub drop_known : {index other : ℕ} {rest : List ℕ} (list : List ℕ) → index ≡ other → drop index list ≡ rest
@@ -110,35 +92,29 @@ pub written_over :
     → second ≡ point + len → take second new ≡ take second middle → drop second new ≡ name ++ drop end middle
     → drop point new ≡ (text ++ name) ++ drop end old
 written_over {text} old middle new digits name point len end four few covers text_is first_is digits_are second_is kept name_is =
-    let here = drop point new in
-    let behind : drop 4 (drop point old) ≡ drop (point + 4) old = drop-drop 4 point old in
-    let digits_here : drop point middle ≡ digits ++ drop 4 (drop point old) =
-    drop_known middle first_is digits_are ∙ ap (λ rest. digits ++ rest) (sym behind) in
-    let same_front : take (point + len) new ≡ take (point + len) middle =
-    subst (λ n. take n new ≡ take n middle) second_is kept in
-    let front : take len here ≡ text =
-    sym (drop-take point len new)
-    ∙ (ap (λ list. drop point list) same_front
-    ∙ (drop-take point len middle
-    ∙ (ap (λ list. take len list) digits_here
-    ∙ (take-append-le len digits (drop 4 (drop point old)) (omega (arith, four, few)) ∙ text_is)))) in
-    let sum : point + (end - point) ≡ end = omega (arith, covers) in
+    let here : drop point middle ≡ digits ++ drop 4 (drop point old) =
+    drop_known middle first_is digits_are ∙ ap (λ rest. digits ++ rest) (sym (drop-drop 4 point old)) in
+    let front : take len (drop point new) ≡ text =
+    grind (arith, common_steps, drop-take point len new, drop-take point len middle, second_is, kept, text_is, four, few) in
     let rest : drop end middle ≡ drop end old =
-    ap (λ at. drop at middle) (sym sum) ∙ (sym (drop-drop (end - point) point middle)
-    ∙ (ap (λ list. drop (end - point) list) digits_here
-    ∙ (drop-append-drop 4 (drop point old) digits (end - point) (omega (arith, covers)) four
-    ∙ (drop-drop (end - point) point old ∙ ap (λ at. drop at old) sum)))) in
-    sym (take-append-drop len here)
-    ∙ (ap (λ list. list ++ drop len here) front
-    ∙ (ap (λ list. text ++ list)
-    (drop-drop len point new ∙ (drop_known new second_is name_is ∙ ap (λ list. name ++ list) rest))
-    ∙ sym (append_assoc text name (drop end old))))
+    grind (
+      arith,
+      here,
+      drop-drop (end - point) point middle,
+      drop-drop (end - point) point old,
+      drop-append-drop 4 (drop point old) digits (end - point),
+      four,
+      covers,
+    ) in
+    let behind = drop_known new second_is name_is in
+    grind (arith, common_steps, front, behind, rest, take-append-drop len (drop point new), drop-drop len point new)
 
 -- In a unit with a prefix the whole part is below 10^27.
-pub whole_below : (size prefix whole thousandths : ℕ) → size < size_limit → 1000 ≤ prefix
-    → (whole * 1000 + thousandths) * prefix ≡ size * 1000 → whole < 10 ^ 27
-whole_below size prefix whole thousandths small large value =
-    omega (arith, small, value, mul-le-mul_left whole large)
+pub whole_below : (size power : ℕ) (binary : Bool) (whole thousandths : ℕ) → size < size_limit → 1 ≤ power
+    → (whole * 1000 + thousandths) * prefix_of power binary ≡ size * 1000 → whole < 10 ^ 27
+whole_below size power binary whole thousandths small some value =
+    let large = pow-le-pow_right {n = 10} (omega arith) {i = 3} {j = 3 * power} (omega (arith, some)) in
+    omega (arith, small, value, mul-le-mul_left whole (prefix_at_least power binary), mul-le-mul_left whole large)
 
 -- A number with its unit is ASCII.
 pub form_ascii : (whole thousandths : ℕ) (unit : Shape) → whole < 10 ^ 27 → unit.power ≤ 9
@@ -155,8 +131,5 @@ form_ascii whole thousandths unit small known =
 -- A size with what follows its whole part is ASCII.
 pub split_ascii : (kind : Kind) (whole : ℕ) (suffix : Suffix) → whole < 10 ^ 27 → HasPrefix suffix
     → IsAscii (decimal whole ++ suffix_text kind suffix)
-split_ascii kind whole Own small known = form_ascii whole 0 (own_unit kind) small (omega arith)
-split_ascii kind whole (Eighths eighths power) small known =
-    form_ascii whole (125 * eighths) (shape power true (counts_bits kind)) small known.2
-split_ascii kind whole (Thousandths thousandths power) small known =
-    form_ascii whole thousandths (shape power false (counts_bits kind)) small known.2
+split_ascii kind whole suffix small known =
+    form_ascii whole (thousandths_of suffix) (unit_of kind suffix) small (suffix_bounds kind suffix known).1

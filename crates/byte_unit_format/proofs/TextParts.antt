@@ -1,8 +1,9 @@
 -- The parts of a text, written one after the other, are the text.
-use Rattle.std.proofs.Common.{◌≡◌, ◌+◌, ◌-◌, ◌/◌, ◌<◌, ◌≤◌, ℕ, List, [], ◌∷◌, ◌++◌, length, take, drop, set, get_or, refl, replicate, append_assoc}
-use Rattle.std.proofs.Common.{arith, ap, sym, ◌∙◌, subst, min}
+use Rattle.std.proofs.Common.{◌≡◌, ◌+◌, ◌-◌, ◌/◌, ◌<◌, ◌≤◌, ℕ, List, [], ◌∷◌, ◌++◌, length, take, drop, set, get_or, replicate, append_assoc}
+use Rattle.std.proofs.Common.{arith, rules, ap, sym, ◌∙◌, subst, min}
 use Rattle.std.specs.Fmt.{decimal}
 use Rattle.std.specs.Str.{IsAscii}
+use Rattle.std.proofs.lemmas.Grind.{common_steps}
 use Rattle.std.proofs.lemmas.List.{replicate-append-replicate, take_at, drop-set-add, length-drop, drop-drop}
 use Rattle.std.proofs.lemmas.List.Elements.{All-replicate}
 use Rattle.std.proofs.lemmas.Str.{IsAscii-append}
@@ -26,34 +27,23 @@ fraction_long (Last digits places) =
     length_of_fraction_text (last_digits places digits) ∙ omega (arith, length_last_digits places digits)
 fraction_long (First e places) = fraction_length places e.now.digits
 
--- A run of the padding spaces and the spaces of the gap is both runs.
-pub gap_after_padding :
-    (before behind gap : ℕ) (number name : List ℕ)
-    → spaces before ++ number ++ spaces (behind + gap) ++ name
-    ≡ spaces before ++ number ++ spaces behind ++ spaces gap ++ name
-gap_after_padding before behind gap number name =
-    ap (λ both. both ++ name)
-    (ap (λ run. spaces before ++ number ++ run) (sym (replicate-append-replicate behind gap 32))
-    ∙ sym (append_assoc (spaces before ++ number) (spaces behind) (spaces gap)))
-
 -- A call that has written one text of a form has written a text of that form.
 pub writes_form :
     {IsForm : List ℕ → Type 0} {old new : List ℕ} {needed : ℕ} (text : List ℕ) → IsForm text
     → WritesForm (λ form. form ≡ text) old new needed → WritesForm IsForm old new needed
-writes_form {IsForm} text is_form this = record {
-  form = this.form;
-  is_form = subst IsForm (sym this.is_form) is_form;
-  needed_is = this.needed_is;
-  fits = this.fits;
-  too_long = this.too_long;
-}
+writes_form {IsForm} text is_form this =
+    let same = subst IsForm (sym this.is_form) is_form in search (rules, same)
+
+-- The beginning of a list, by its length.
+pub front_is : {list : List ℕ} {len : ℕ} (text behind : List ℕ) → list ≡ text ++ behind → len ≡ length text
+    → take len list ≡ text
+front_is {list} {len} text behind list_is len_is = ap (λ list. take len list) list_is ∙ take_at text behind len (sym len_is)
 
 -- The text that such a call has written is at the beginning of the buffer.
 pub front_written : {IsForm : List ℕ → Type 0} {old new : List ℕ} {needed : ℕ} (this : WritesForm IsForm old new needed)
     → needed ≤ length old → take needed new ≡ this.form
 front_written {IsForm} {old} {new} {needed} this room =
-    ap (λ list. take needed list) (this.fits (omega (arith, this.needed_is, room)))
-    ∙ take_at this.form (drop (length this.form) old) needed (sym this.needed_is)
+    front_is this.form (drop (length this.form) old) (this.fits (omega (arith, this.needed_is, room))) this.needed_is
 
 -- Padding, number, one run of spaces and the unit's name are the number formatted with its unit.
 pub layout_of_parts :
@@ -61,12 +51,10 @@ pub layout_of_parts :
     → before ≡ layout_left_padding spec.align pad → gap ≡ gap_of spec.sign name
     → spaces before ++ number ++ spaces (pad - before + gap) ++ name ≡ layout number name spec
 layout_of_parts number name spec pad before gap pad_is before_is gap_is =
-    let of : ℕ → ℕ → ℕ → List ℕ =
-    λ pad before gap. spaces before ++ number ++ spaces (pad - before) ++ spaces gap ++ name in
-    gap_after_padding before (pad - before) gap number name
-    ∙ (ap (λ gap. of pad before gap) gap_is
-    ∙ (ap (λ before. of pad before (gap_of spec.sign name)) before_is
-    ∙ ap (λ pad. of pad (layout_left_padding spec.align pad) (gap_of spec.sign name)) pad_is))
+    let all = layout_padding number name spec in
+    let front = layout_left_padding spec.align all in
+    rw (before_is, pad_is, gap_is, ← replicate-append-replicate {A = ℕ} (all - front) (gap_of spec.sign name) 32)
+    (simp (append_assoc {A = ℕ}))
 
 -- A run of an ASCII byte is ASCII.
 pub run_ascii : (count byte : ℕ) → byte < 128 → IsAscii (replicate count byte)
@@ -81,20 +69,12 @@ row_ascii row ready whole fraction =
     let front = IsAscii-append _ _ (run_ascii row.before 32 (omega arith)) number in
     IsAscii-append _ _ (IsAscii-append _ _ front (run_ascii row.after 32 (omega arith))) ready.2
 
--- A text that is written up to the end of an array is the array from the text's beginning.
-pub piece_of_array :
-    (room start : ℕ) (text bytes behind : List ℕ) → start + length text ≡ room → drop start bytes ≡ text ++ behind
-    → take (room - start) (drop start bytes) ≡ text
-piece_of_array room start text bytes behind begins put =
-    ap (λ l. take (room - start) l) put ∙ take_at text behind (room - start) (omega (arith, begins))
-
--- If that text is ASCII, this part of the array is.
+-- A text that is written up to the end of an array is the array from the text's beginning: if it is ASCII, that is.
 pub piece_ascii :
     (room start : ℕ) (text bytes behind : List ℕ) → start + length text ≡ room → drop start bytes ≡ text ++ behind
-    → IsAscii text
-    → IsAscii (take (room - start) (drop start bytes))
+    → IsAscii text → IsAscii (take (room - start) (drop start bytes))
 piece_ascii room start text bytes behind begins put ascii =
-    subst IsAscii (sym (piece_of_array room start text bytes behind begins put)) ascii
+    rw (put, take_at text behind (room - start) (omega (arith, begins))) ascii
 
 -- The last, the middle and the first element of a list of at most three, set in this order, are all of it.
 set_name : (name xs : List ℕ) → 0 < length name → length name ≤ 3 → length name ≤ length xs
@@ -102,36 +82,28 @@ set_name : (name xs : List ℕ) → 0 < length name → length name ≤ 3 → le
     0 (get_or name 0 0)
     ≡ name ++ drop (length name) xs
 set_name [] xs some few fits = absurd (omega (arith, some))
-set_name (a ∷ []) [] some few fits = absurd (omega (arith, fits))
-set_name (a ∷ []) (x ∷ xs) some few fits = refl
-set_name (a ∷ b ∷ []) [] some few fits = absurd (omega (arith, fits))
-set_name (a ∷ b ∷ []) (x ∷ []) some few fits = absurd (omega (arith, fits))
-set_name (a ∷ b ∷ []) (x ∷ y ∷ xs) some few fits = refl
-set_name (a ∷ b ∷ c ∷ []) [] some few fits = absurd (omega (arith, fits))
-set_name (a ∷ b ∷ c ∷ []) (x ∷ []) some few fits = absurd (omega (arith, fits))
-set_name (a ∷ b ∷ c ∷ []) (x ∷ y ∷ []) some few fits = absurd (omega (arith, fits))
-set_name (a ∷ b ∷ c ∷ []) (x ∷ y ∷ z ∷ xs) some few fits = refl
+set_name (a ∷ []) xs some few fits = grind (arith, common_steps)
+set_name (a ∷ b ∷ []) xs some few fits = grind (arith, common_steps)
+set_name (a ∷ b ∷ c ∷ []) xs some few fits = grind (arith, common_steps)
 set_name (a ∷ b ∷ c ∷ d ∷ more) xs some few fits = absurd (omega (arith, few))
 
 -- A name written in this way is there, and what follows stays.
-pub name_put : (name out : List ℕ) (start end : ℕ) → 0 < length name → length name ≤ 3 → start + length name ≡ end
-    → end ≤ length out
+pub name_put : (name out : List ℕ) (start : ℕ) → 0 < length name → length name ≤ 3 → start + length name ≤ length out
     → drop start (set (set (set out (start + (length name - 1)) (get_or name (length name - 1) 0))
     (start + length name / 2) (get_or name (length name / 2) 0)) start (get_or name 0 0))
-    ≡ name ++ drop end out
-name_put name out start end some few ends within =
+    ≡ name ++ drop (start + length name) out
+name_put name out start some few within =
     let back = get_or name (length name - 1) 0 in
     let middle = get_or name (length name / 2) 0 in
     let front = get_or name 0 0 in
+    let fits = set_name name (drop start out) some few (omega (arith, length-drop {A = ℕ} start out, within)) in
     let one = set out (start + (length name - 1)) back in
     let two = set one (start + length name / 2) middle in
-    let last : drop start one ≡ set (drop start out) (length name - 1) back =
-    drop-set-add start out (length name - 1) back in
-    let both : drop start two ≡ set (set (drop start out) (length name - 1) back) (length name / 2) middle =
-    drop-set-add start one (length name / 2) middle ∙ ap (λ xs. set xs (length name / 2) middle) last in
-    let here : start ≡ start + 0 = omega arith in
-    ap (λ i. drop start (set two i front)) here
-    ∙ (drop-set-add start two 0 front
-    ∙ (ap (λ xs. set xs 0 front) both
-    ∙ (set_name name (drop start out) some few (omega (arith, length-drop {A = ℕ} start out, ends, within))
-    ∙ ap (λ xs. name ++ xs) (drop-drop (length name) start out ∙ ap (λ i. drop i out) ends))))
+    grind (
+      arith,
+      fits,
+      drop-drop (length name) start out,
+      drop-set-add start out (length name - 1) back,
+      drop-set-add start one (length name / 2) middle,
+      drop-set-add start two 0 front,
+    )

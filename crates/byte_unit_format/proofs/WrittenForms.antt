@@ -1,20 +1,20 @@
 -- What the code writes of a size is its text, and all texts of a size are equally long.
 use Rattle.std.specs.Prelude.{MatchBool}
-use Rattle.std.proofs.Common.{◌≡◌, ◌+◌, ◌-◌, ◌*◌, ◌/◌, ◌%◌, ◌^◌, ◌<◌, ◌≤◌, ⊎_elim, min, ℕ, zero, suc}
-use Rattle.std.proofs.Common.{Bool, true, false, List, [], ◌∷◌, ◌++◌, length, take}
+use Rattle.std.proofs.Common.{◌≡◌, ◌+◌, ◌-◌, ◌*◌, ◌/◌, ◌%◌, ◌^◌, ◌<◌, ◌≤◌, min, ℕ, zero, suc}
+use Rattle.std.proofs.Common.{Bool, true, false, List, ◌∷◌, ◌++◌, length, take}
 use Rattle.std.proofs.Common.{replicate, arith, ap, sym, refl, subst, ◌∙◌}
 use Rattle.std.specs.Fmt.{decimal}
 use Rattle.std.proofs.Math.Nat.{mod-eq_of_lt}
-use Rattle.std.proofs.lemmas.Bool.{cases_lt}
-use Rattle.std.proofs.lemmas.List.{length-take, length-map, map-append, length-append, length-replicate}
+use Rattle.std.proofs.lemmas.List.{length-map, map-append}
+use Rattle.std.proofs.lemmas.Grind.{common_steps}
 use Rattle.byte_unit_math.specs.Bounds.{scale, places_of_decimal}
 use Rattle.byte_unit_math.specs.Digits.{last_digits}
-use Rattle.byte_unit_math.specs.Exact.{IsExactAt, IsLeastPlaces}
-use Rattle.byte_unit_math.specs.Finite.{Finite, IsExpansion, value_of_digits}
+use Rattle.byte_unit_math.specs.Exact.{IsLeastPlaces}
+use Rattle.byte_unit_math.specs.Finite.{Finite, IsExpansion}
 use Rattle.byte_unit_math.specs.Numeral.{glyphs, fraction_text, text_of}
 use Rattle.byte_unit_math.specs.Padded.{pad_of}
 use Rattle.byte_unit_math.proofs.Digits.{length_last_digits, last_digits_below_ten, value_of_last_digits}
-use Rattle.byte_unit_math.proofs.Fractions.{fraction_text_none, fraction_text_some}
+use Rattle.byte_unit_math.proofs.Fractions.{fraction_text_some}
 use Rattle.byte_unit_math.proofs.Scales.{pow10_split}
 use Rattle.byte_unit_math.proofs.Texts.{text_of_short_numeral, padded_to_own_places}
 use Rattle.byte_unit_base.specs.Shape.{Shape, bits}
@@ -32,60 +32,31 @@ glyphs_of_zeros : (count : ℕ) → glyphs (replicate count 0) ≡ replicate cou
 glyphs_of_zeros zero = refl
 glyphs_of_zeros (suc count) = ap (λ list. 48 ∷ list) (glyphs_of_zeros count)
 
--- Padded to no digits after the point, a decimal has no point.
-pub fraction_none :
-    (places : ℕ) (digits : List ℕ) → places ≡ 0
-    → fraction_text (take places digits ++ replicate (places - length digits) 0) ≡ []
-fraction_none zero digits none =
-    fraction_text_none (take 0 digits ++ replicate (0 - length digits) 0)
-    (omega (
-      arith,
-      length-append {A = ℕ} (take 0 digits) (replicate (0 - length digits) 0),
-      length-replicate {A = ℕ} (0 - length digits) 0,
-    ))
-fraction_none (suc places) digits none = absurd (omega (arith, none))
-
 -- Padded to some digits after the point, the fraction is a point, the digits, and zeros for the missing ones.
 pub fraction_some :
     (places : ℕ) (digits : List ℕ) → 0 < places
     → fraction_text (take places digits ++ replicate (places - length digits) 0)
     ≡ 46 ∷ (glyphs (take places digits) ++ replicate (places - length digits) 48)
 fraction_some places digits positive =
-    let front = take places digits in
-    let back = replicate (places - length digits) 0 in
-    let some : 0 < length (front ++ back) =
-    omega (
-      arith,
-      positive,
-      length-append {A = ℕ} front back,
-      length-replicate {A = ℕ} (places - length digits) 0,
-      length-take {A = ℕ} places digits,
-    ) in
-    fraction_text_some (front ++ back) some
-    ∙ ap (λ text. 46 ∷ text)
-    (map-append (λ digit. 48 + digit) front back
-    ∙ ap (λ text. glyphs front ++ text) (glyphs_of_zeros (places - length digits)))
+    let all = take places digits ++ replicate (places - length digits) 0 in
+    let some : 0 < length all = grind (arith, common_steps) in
+    rw (
+      fraction_text_some all some,
+      map-append (λ digit. 48 + digit) (take places digits) (replicate (places - length digits) 0),
+      glyphs_of_zeros (places - length digits),
+    ) refl
 
 -- The text of digits after the point is as long as the digits, and one more for the point if there are any.
 pub length_of_fraction_text : (digits : List ℕ) → length (fraction_text digits) ≡ length digits + min 1 (length digits)
-length_of_fraction_text [] = omega arith
-length_of_fraction_text (d ∷ ds) = omega (arith, length-map (d ∷ ds) (λ digit. 48 + digit))
+length_of_fraction_text digits = grind (arith, common_steps, length-map {A = ℕ} {B = ℕ})
 
 -- The text of a fraction padded to `places` digits is as long as these, and one more for the point if there are any.
 pub fraction_length :
     (places : ℕ) (digits : List ℕ)
     → length (fraction_text (take places digits ++ replicate (places - length digits) 0)) ≡ places + min 1 places
 fraction_length places digits =
-    ⊎_elim (λ some.
-    let front : List ℕ = glyphs (take places digits) in
-    let back : List ℕ = replicate (places - length digits) 48 in
-    let both = length-append {A = ℕ} front back in
-    let zeros = length-replicate {A = ℕ} (places - length digits) 48 in
-    let shown = length-map (take places digits) (λ digit. 48 + digit) in
-    ap length (fraction_some places digits some)
-    ∙ omega (arith, some, both, zeros, shown, length-take {A = ℕ} places digits))
-    (λ none. ap length (fraction_none places digits (omega (arith, none))) ∙ omega (arith, none))
-    (cases_lt 0 places)
+    let all = take places digits ++ replicate (places - length digits) 0 in
+    grind (arith, common_steps, length_of_fraction_text all)
 
 -- Padded to its own number of digits after the point, a decimal has the same text.
 pub all_places : (e : Finite) (places : ℕ) → places ≡ length e.digits → text_of (pad_of places e) ≡ text_of e
@@ -103,19 +74,14 @@ parts_expansion :
     {number whole digits places : ℕ} → AreParts number whole digits places
     → IsExpansion number scale (record { whole = whole; digits = last_digits places digits })
 parts_expansion {number} {whole} {digits} {places} parts =
-    let these = last_digits places digits in
-    let len : length these ≡ places = length_last_digits places digits in
-    let value : value_of_digits these ≡ digits = value_of_last_digits places digits ∙ mod-eq_of_lt parts.below in
+    let value = value_of_last_digits places digits ∙ mod-eq_of_lt parts.below in
     let product = ap (λ power. digits * power) (pow10_split places places_of_decimal parts.few) in
     let split : number ≡ whole * scale + digits * 10 ^ (places_of_decimal - places) =
     omega (arith, parts.whole_is, parts.digits_are) in
-    let times = ap (λ number. number * 10 ^ places) split in
-    let Exact : ℕ → Type 0 = λ places. number * 10 ^ places ≡ (whole * 10 ^ places + value_of_digits these) * scale in
-    let Least : ℕ → Type 0 = λ places. (p : ℕ) → IsExactAt number scale p → places ≤ p in
     record {
       small = last_digits_below_ten places digits;
-      exact = subst Exact (sym len) (omega (arith, times, product, ap (λ value. value * scale) value));
-      least = subst Least (sym len) parts.least.least;
+      exact = rw (length_last_digits places digits, value) (omega (arith, ap (λ number. number * 10 ^ places) split, product));
+      least = rw (length_last_digits places digits) parts.least.least;
     }
 
 -- If the number is the size in its exact unit, these parts, formatted with the unit, are the text of the size.
@@ -128,12 +94,11 @@ pub size_form_of_parts : (kind : Kind) (size : ℕ) (spec : FormatSpec) {unit : 
     → IsSizeForm kind size spec
     (layout (decimal whole ++ fraction_text (last_digits count digits)) (unit_name_in current unit) spec)
 size_form_of_parts kind size spec {unit} {number} {places} {whole} {digits} {count} places_are recovered product parts =
-    let within : ℕ → Type 0 = λ places. IsRecoveredIn current kind false size places unit in
     let e : Finite = record { whole = whole; digits = last_digits count digits } in
     record {
       unit = unit;
       number = number;
-      is_recovered = subst within places_are recovered;
+      is_recovered = rw (← places_are) recovered;
       number_is = product;
       text_is = ap (λ number. layout number (unit_name_in current unit) spec)
           (text_of_short_numeral number places_of_decimal e (parts_expansion parts));

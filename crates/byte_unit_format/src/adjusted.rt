@@ -166,6 +166,7 @@ pub fn display_adjusted<W: fmt::Write>(
 
 /// Writes as `write_adjusted`: the slow path, whose numbers are large values.
 #[inline(never)]
+#[tactic(auto, using(crate::proofs::TextParts::writes_form))]
 fn write_shown(size: u128, kind: Kind, unit: Unit, spec: FormatSpec, out: &mut [u8]) -> usize
     requires { size < size_limit }
     ensures written { WritesForm (IsAdjustedForm kind size unit spec) out.old out.new result }
@@ -228,6 +229,7 @@ fn rounded_to(size: u128, kind: Kind, unit: Unit, places: u32) -> Shown
 
 /// Returns the size in the unit times 10^places, rounded to a whole number, ties to even.
 #[inline(always)]
+#[tactic(auto, using(crate::proofs::AdjustedForms::scaled_size_small))]
 fn rounded_to_few(size: u128, kind: Kind, unit: Unit, places: u32) -> u128
     requires size { size < size_limit }
     requires places { places ≤ FEW_PLACES }
@@ -240,6 +242,7 @@ fn rounded_to_few(size: u128, kind: Kind, unit: Unit, places: u32) -> u128
 
 /// Returns the parts of a number, which is scaled by 10^places, with its unit.
 #[inline(always)]
+#[tactic(auto, using(crate::proofs::AdjustedForms::scaled_text, byte_unit_math::proofs::Digits::one_le_pow10))]
 fn scaled_parts<'a>(number: u128, places: u32, unit: Unit, spec: FormatSpec) -> TextParts<'a>
     requires { places ≤ places_of_decimal }
     ensures text { parts_text result ≡ layout (numeral number places) (unit_name unit) spec }

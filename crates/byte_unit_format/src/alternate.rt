@@ -98,6 +98,7 @@ fn put_form(size: u128, kind: Kind, out: &mut [u8]) -> usize
 
 /// Writes a whole part and what follows it to the beginning of `out`, and returns their length.
 #[inline(always)]
+#[tactic(auto, using(crate::proofs::NarrowTexts::whole_length, std::proofs::lemmas::Grind::common_steps))]
 pub(crate) fn put_split(whole: u128, suffix: Suffix, kind: Kind, out: &mut [u8]) -> usize
     requires small { whole < 10 ^ 27 }
     requires prefix { HasPrefix suffix }

@@ -22,6 +22,7 @@ const DEFAULT_PRECISION: usize = 3;
 /// Returns the length in bytes of a formatted size: at most 37 if no width is set. Does not allocate.
 ///
 /// Precondition (proved at every call): the size is below 10^30.
+#[tactic(auto, using(crate::proofs::WrittenForms::text_length_unique))]
 pub fn text_len(size: u128, kind: Kind, spec: FormatSpec) -> usize
     requires { size < size_limit }
     ensures exact { (form : List ℕ) → IsText kind size spec form → result ≡ length form }
@@ -75,6 +76,7 @@ pub fn append_text<A: Allocator>(
 /// assert!(rt; out == *b"1.5 KiB.");
 /// ```
 #[inline(always)]
+#[tactic(auto, using(crate::proofs::TextParts::writes_form))]
 pub fn write_text(size: u128, kind: Kind, spec: FormatSpec, out: &mut [u8]) -> usize
     requires { size < size_limit }
     ensures written { WritesForm (IsText kind size spec) out.old out.new result }

@@ -40,6 +40,7 @@ pub fn layout_len(e: &Expansion, places: u32, unit: Unit, spec: FormatSpec) -> u
 /// append_layout(&Expansion::new(10, 0, 0), 0, Unit::KiB, ten, &mut text)?;
 /// assert_eq!(rt; text.as_str(), "10     KiB");
 /// ```
+#[tactic(auto, using(crate::proofs::Appending::appends_same))]
 pub fn append_layout<A: Allocator>(
     e: &Expansion,
     places: u32,
@@ -55,6 +56,7 @@ pub fn append_layout<A: Allocator>(
 
 /// Writes what `append_layout` appends to the beginning of `out`, and returns its length. Writes nothing if it does not
 /// fit. Does not allocate.
+#[tactic(auto, using(crate::proofs::TextParts::writes_form))]
 pub fn write_layout(
     e: &Expansion,
     places: u32,

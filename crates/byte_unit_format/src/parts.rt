@@ -74,6 +74,7 @@ impl TextParts<'_> {
     }
 
     /// Appends the parts by one copy from a buffer on the stack.
+    #[tactic(auto, using(crate::proofs::TextParts::piece_ascii))]
     fn push_whole<A: Allocator>(&self, text: &mut String<A>)
         requires few { length (parts_text self.now) ≤ BUFFER_LEN }
         requires ready { IsReady self.now }
@@ -105,6 +106,7 @@ impl TextParts<'_> {
 
     /// Writes the parts so that they end before the index `end`, and returns the index where they begin.
     #[inline(always)]
+    #[tactic(auto, using(crate::proofs::TextParts::row_ascii))]
     fn put(&self, out: &mut [u8], end: usize) -> usize
         requires room { length (parts_text self.now) ≤ end }
         requires within { end ≤ length out.old }
@@ -169,6 +171,7 @@ impl Fraction<'_> {
 }
 
 /// Writes the point and `places` digits of an expansion, or nothing if `places` is 0.
+#[tactic(auto, using(crate::proofs::WrittenForms::fraction_length, crate::proofs::WrittenDigits::glyphs_within, std::proofs::lemmas::Grind::common_steps))]
 fn put_first(e: &Expansion, places: u32, out: &mut [u8], end: usize) -> usize
     requires room { length (fraction_text (pad_of places e.now).digits) ≤ end }
     requires within { end ≤ length out.old }
@@ -187,6 +190,7 @@ fn put_first(e: &Expansion, places: u32, out: &mut [u8], end: usize) -> usize
 }
 
 /// Appends the point and the last `places` digits of a number.
+#[tactic(auto, using(crate::proofs::TextParts::piece_ascii, crate::proofs::WrittenForms::length_of_fraction_text, byte_unit_math::proofs::Digits::length_last_digits))]
 fn push_last<A: Allocator>(text: &mut String<A>, digits: u128, places: u32)
     requires short { (places ≤ places_of_decimal) × (digits < 10 ^ places) }
     requires room { length (fraction_text (last_digits places digits)) ≤ spare_capacity text.old }

@@ -32,6 +32,7 @@ pub fn plain_len(size: u128, spec: FormatSpec) -> usize
 /// append_plain(10240, FormatSpec { width: Some(8), ..FormatSpec::PLAIN }, &mut text)?;
 /// assert_eq!(rt; text.as_str(), "   10240");
 /// ```
+#[tactic(auto, using(crate::proofs::Appending::appends_same))]
 pub fn append_plain<A: Allocator>(
     size: u128,
     spec: FormatSpec,
@@ -44,6 +45,7 @@ pub fn append_plain<A: Allocator>(
 
 /// Writes what `append_plain` appends to the beginning of `out`, and returns its length. Writes nothing if it does not
 /// fit. Does not allocate.
+#[tactic(auto, using(crate::proofs::TextParts::writes_form))]
 pub fn write_plain(size: u128, spec: FormatSpec, out: &mut [u8]) -> usize
     ensures written { WritesForm (λ form. form ≡ plain size spec) out.old out.new result }
     ensures small { result ≤ u16.MAX }

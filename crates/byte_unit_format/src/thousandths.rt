@@ -98,6 +98,7 @@ pub(crate) fn in_eighths(size: u128, power: u32) -> (u128, Suffix)
 /// Returns the size in the largest decimal prefix, not above it, in which it is exact within `places` decimal places:
 /// whole units, thousandths of one, and the position of the prefix, or 0 if there is none.
 #[inline(always)]
+#[tactic(auto, using(byte_unit_math::proofs::Digits::one_le_pow10))]
 fn in_thousands(size: u128, places: u32) -> (u128, u64, u32)
     requires large { 1000 ≤ size }
     requires small { size < size_limit }

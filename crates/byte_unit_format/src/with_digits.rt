@@ -74,6 +74,7 @@ fn put_with_digits(size: u128, kind: Kind, between: [u8; 3], out: &mut [u8]) -> 
 
 /// Writes the size in its unit, by its digits, to the beginning of `out`, and returns the length of this text.
 #[inline(always)]
+#[tactic(auto, using(crate::proofs::WithDigits::few_digits))]
 fn put_form_of(
     digits: &[u8; PADDED_DIGITS],
     len: usize,

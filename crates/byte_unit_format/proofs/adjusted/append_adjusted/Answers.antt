@@ -1,9 +1,8 @@
 -- The parts of the rounded number with its unit are the adjusted text.
-use Rattle.std.proofs.Common.{ap, length}
+use Rattle.std.proofs.Common.{ap, length, rules}
 use Rattle.byte_unit_base.specs.Version.{current}
 use Rattle.byte_unit_base.specs.Units.{shape_of}
 use Rattle.byte_unit_format.specs.Adjusted.{IsAdjustedFormIn}
-use Rattle.byte_unit_format.specs.Shown.{shown_text}
 use Rattle.byte_unit_format.specs.TextParts.{parts_text}
 use Rattle.byte_unit_format.proofs.Appending.{appends_form}
 use Rattle.byte_unit_format.proofs.AdjustedForms.{adjusted_form_unique}
@@ -12,11 +11,6 @@ use Rattle.byte_unit_format.proofs.adjusted.append_adjusted.Goals as goal
 pub returns : goal.returns
 returns g c =
     let form : IsAdjustedFormIn current c.args.kind c.args.size (shape_of c.args.unit) c.args.spec
-    (parts_text c.parts.result) = record {
-      number = shown_text c.rounded_in_unit-shown.result;
-      number_is = c.rounded_in_unit-shown.ensures.number;
-      text_is = c.parts.ensures.text;
-    } in
-    appends_form (IsAdjustedFormIn current c.args.kind c.args.size (shape_of c.args.unit) c.args.spec) c.args.text.now
-    c.append.new.text c.append.result (parts_text c.parts.result) form
-    (λ other is_other. ap length (adjusted_form_unique is_other form)) c.append.ensures
+    (parts_text c.parts.result) = search rules in
+    appends_form (parts_text c.parts.result) form (λ other is_other. ap length (adjusted_form_unique is_other form))
+    c.append.ensures

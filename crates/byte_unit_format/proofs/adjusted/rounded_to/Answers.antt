@@ -1,5 +1,5 @@
 -- The number is the nearest one with so many places, from one division or from the digits of the exact number.
-use Rattle.std.proofs.Common.{◌*◌, refl, arith}
+use Rattle.std.proofs.Common.{◌*◌}
 use Rattle.byte_unit_math.specs.declared.expansion.Ties.TheVariants.{Even}
 use Rattle.byte_unit_math.proofs.Texts.{nearest_of_expansion, text_of_padded}
 use Rattle.byte_unit_base.specs.Shape.{bits}
@@ -10,15 +10,10 @@ use Rattle.byte_unit_format.proofs.adjusted.rounded_to.Goals as goal
 
 pub returns-then-places-gt-FEW_PLACES-clause-number : goal.returns-then-places-gt-FEW_PLACES-clause-number
 returns-then-places-gt-FEW_PLACES-clause-number c =
-    let unit = shape_of c.args.unit in
-    let num = c.args.size * bits_in c.args.kind in
     let exact = c.number_in_unit-exact in
     let near = c.rounded.ensures in (
       near.0,
-      nearest_of_expansion num (bits unit) exact.result c.args.places Even near.0
-          (omega (arith, some_bits unit), exact.ensures.exact) near.1,
+      nearest_of_expansion (c.args.size * bits_in c.args.kind) (bits (shape_of c.args.unit)) exact.result c.args.places Even
+          near.0 (some_bits (shape_of c.args.unit), exact.ensures.exact) near.1,
       text_of_padded near.0 c.args.places c.rounded.result near.2,
     )
-
-pub returns-clause-number : goal.returns-clause-number
-returns-clause-number c = (c.rounded_to_few.result, c.rounded_to_few.ensures, refl)

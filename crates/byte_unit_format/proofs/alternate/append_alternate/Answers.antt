@@ -1,6 +1,5 @@
 -- The array begins with the text of the size, and a size has only one, so the length is known.
 use Rattle.std.proofs.Common.{arith}
-use Rattle.byte_unit_format.specs.Forms.{IsSizeForm}
 use Rattle.byte_unit_format.specs.NamedSpecs.{alternate_spec}
 use Rattle.byte_unit_format.proofs.Appending.{appends_form, appends_same}
 use Rattle.byte_unit_format.proofs.TextParts.{front_written}
@@ -12,6 +11,6 @@ returns g c =
     let kind = c.args.kind in
     let size = c.args.size in
     let written = c.put_form-len.ensures.written in
-    appends_form (IsSizeForm kind size alternate_spec) c.args.text.now c.append_ascii.new.text c.append_ascii.result
+    appends_form
     written.form written.is_form (text_length_unique kind size alternate_spec written.form written.is_form)
     (appends_same (front_written written (omega (arith, c.put_form-len.ensures.narrow))) c.append_ascii.ensures)

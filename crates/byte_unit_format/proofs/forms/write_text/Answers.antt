@@ -1,28 +1,18 @@
 -- The alternate form is written, or the parts of the text, which are a text of the size. Without a width it has at
 -- most 37 bytes.
-use Rattle.std.proofs.Common.{arith, sym, subst, ◌∙◌}
-use Rattle.byte_unit_format.specs.Forms.{IsText}
+use Rattle.std.proofs.Common.{arith, sym, ◌∙◌}
 use Rattle.byte_unit_format.specs.TextParts.{parts_text}
-use Rattle.byte_unit_format.specs.Written.{WritesForm}
-use Rattle.byte_unit_format.specs.declared.spec.FormatSpec.{FormatSpec}
 use Rattle.byte_unit_format.proofs.NamedSpecs.{is_alternate}
-use Rattle.byte_unit_format.proofs.TextParts.{writes_form}
 use Rattle.byte_unit_format.proofs.NarrowTexts.{text_without_width_narrow}
 use Rattle.byte_unit_format.proofs.forms.write_text.Goals as goal
 
 pub returns-then-eq-clause-written : goal.returns-then-eq-clause-written
 returns-then-eq-clause-written c =
-    let Written : FormatSpec → Type 0 =
-    λ spec. WritesForm (IsText c.args.kind c.args.size spec) c.args.out.now c.write_alternate.new.out
-    c.write_alternate.result in
-    subst Written (sym (is_alternate c.args.spec (sym c.eq.ensures ∙ c.if-eq.true))) c.write_alternate.ensures.written
-
-pub returns-clause-written : goal.returns-clause-written
-returns-clause-written c = writes_form (parts_text c.text_parts.result) c.text_parts.ensures.text c.write.ensures.written
+    rw (is_alternate c.args.spec (sym c.eq.ensures ∙ c.if-eq.true)) c.write_alternate.ensures.written
 
 pub returns-clause-narrow : goal.returns-clause-narrow
 returns-clause-narrow c = λ none.
     let text = parts_text c.text_parts.result in
-    let narrow = text_without_width_narrow c.args.kind c.args.size c.args.spec text c.requires none
+    let narrow = text_without_width_narrow c.args.spec.alternate c.args.kind c.args.size c.args.spec text c.requires none
     c.text_parts.ensures.text in
     omega (arith, c.text_parts.ensures.len, narrow)

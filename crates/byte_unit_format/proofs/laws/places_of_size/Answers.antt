@@ -1,12 +1,9 @@
 -- The law of numbers, for a size in bits and a unit.
 use Rattle.std.proofs.Common.{◌*◌}
-use Rattle.byte_unit_math.proofs.Powers.{places_by_powers, zero_takes_no_places}
-use Rattle.byte_unit_base.specs.Shape.{bits, twos, fives}
+use Rattle.byte_unit_math.proofs.Powers.{places_by_powers}
+use Rattle.byte_unit_base.specs.Shape.{twos, fives}
 use Rattle.byte_unit_base.specs.Kinds.{bits_in}
 use Rattle.byte_unit_format.proofs.laws.places_of_size.Goals as goal
 
-pub returns : goal.returns
-returns c = record {
-  places = λ kind size unit. places_by_powers (size * bits_in kind) (twos unit) (fives unit);
-  zero = λ unit. zero_takes_no_places (bits unit);
-}
+pub returns-clause-places : goal.returns-clause-places
+returns-clause-places c = λ kind size unit. places_by_powers (size * bits_in kind) (twos unit) (fives unit)

@@ -1,15 +1,9 @@
 -- The bytes of the name are written one by one, or there are none.
-use Rattle.std.proofs.Common.{◌-◌, ◌++◌, length, drop, ap, sym, arith}
+use Rattle.std.proofs.Common.{◌++◌, drop, ap, sym, arith}
 use Rattle.std.proofs.lemmas.List.{nil_from_length}
-use Rattle.byte_unit_format.proofs.TextParts.{name_put}
 use Rattle.byte_unit_format.proofs.put.put_name.Goals as goal
 
 pub returns-then-len-eq0-clause-bytes : goal.returns-then-len-eq0-clause-bytes
 returns-then-len-eq0-clause-bytes c =
     let none = nil_from_length c.args.name.now (omega (arith, c.if-len-eq0.true)) in
     ap (λ name. name ++ drop c.args.end c.args.out.now) (sym none)
-
-pub returns-clause-bytes : goal.returns-clause-bytes
-returns-clause-bytes c =
-    name_put c.args.name.now c.args.out.now (c.args.end - length c.args.name.now) c.args.end
-    (omega (arith, c.if-len-eq0.false)) c.requires.short (omega (arith, c.requires.room)) c.requires.within

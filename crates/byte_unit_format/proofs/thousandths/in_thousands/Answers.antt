@@ -1,12 +1,7 @@
 -- Zeros at the end of the thousandths keep the prefix; else the size is whole in the one before it.
 use Rattle.std.proofs.Common.{◌+◌, ◌*◌, ◌-◌, ◌%◌, ◌^◌, arith, ap, sym, ◌∙◌}
-use Rattle.std.proofs.Math.Nat.{one-le-pow}
 use Rattle.byte_unit_format.proofs.FewPlaces.{greatest_of_zeros_left, greatest_before, value_before}
 use Rattle.byte_unit_format.proofs.thousandths.in_thousands.Goals as goal
-
-pub nonzero_rem-thousandths : goal.nonzero_rem-thousandths
-nonzero_rem-thousandths c =
-    omega (arith, c.power_of_ten.ensures, one-le-pow (3 - c.args.places) 10 (omega arith))
 
 pub returns-then-thousandths-power_of_ten-eq0-clause-greatest :
     goal.returns-then-thousandths-power_of_ten-eq0-clause-greatest
@@ -18,7 +13,7 @@ returns-then-thousandths-power_of_ten-eq0-clause-greatest c =
 pub returns-clause-greatest : goal.returns-clause-greatest
 returns-clause-greatest c =
     let found = c.in_three_places-whole in
-    greatest_before found.result.0 found.result.1 c.requires.places found.ensures.some found.ensures.greatest
+    greatest_before found.result.0 found.result.1 c.requires.places found.ensures.some found.ensures.greatest.fits.not_above
     found.ensures.value
     (λ none. omega (arith, ap (λ n. found.result.1 % n) c.power_of_ten.ensures ∙ none, c.if-thousandths-power_of_ten-eq0.false))
 

@@ -1,18 +1,15 @@
 -- Each iteration divides the size by one more thousand, until a part is left over.
 use Rattle.std.proofs.Common.{arith}
-use Rattle.byte_unit_format.proofs.FewPlaces.{divided_more, divided_few, divided_small, greatest_thousands}
+use Rattle.byte_unit_format.proofs.FewPlaces.{divided_more, divided_small, greatest_thousands}
 use Rattle.byte_unit_format.proofs.thousandths.in_three_places.Goals as goal
 
 pub div_rem_thousand-next-requires : goal.div_rem_thousand-next-requires
-div_rem_thousand-next-requires c = omega (arith, divided_small c.requires.small c.groups.invariant)
-
-pub overflow_add-power : goal.overflow_add-power
-overflow_add-power c = omega (arith, divided_few c.requires.small c.groups.invariant)
+div_rem_thousand-next-requires c = omega (arith, divided_small c.groups.invariant)
 
 pub groups-preserved : goal.groups-preserved
 groups-preserved c =
-    divided_more c.groups.invariant c.groups-test.true c.if-whole-ge1000.true c.div_rem_thousand-next.ensures.quotient
-    c.div_rem_thousand-next.ensures.rest
+    divided_more c.requires.small c.groups.invariant c.groups-test.true c.if-whole-ge1000.true
+    c.div_rem_thousand-next.ensures.quotient c.div_rem_thousand-next.ensures.rest
 
 pub returns-else-whole-ge1000-clause-greatest : goal.returns-else-whole-ge1000-clause-greatest
 returns-else-whole-ge1000-clause-greatest c =
@@ -21,9 +18,3 @@ returns-else-whole-ge1000-clause-greatest c =
 pub returns-after-groups-clause-greatest : goal.returns-after-groups-clause-greatest
 returns-after-groups-clause-greatest c =
     greatest_thousands c.groups.invariant (λ none. absurd (omega (arith, none, c.groups-test.false)))
-
-pub returns-else-whole-ge1000-clause-few : goal.returns-else-whole-ge1000-clause-few
-returns-else-whole-ge1000-clause-few c = divided_few c.requires.small c.groups.invariant
-
-pub returns-after-groups-clause-few : goal.returns-after-groups-clause-few
-returns-after-groups-clause-few c = divided_few c.requires.small c.groups.invariant

@@ -1,6 +1,5 @@
 -- The larger of the two prefixes has the unit, and the size in it is a number of thousandths.
-use Rattle.std.proofs.Common.{◌≡◌, ℕ, ◌*◌, ◌+◌, ◌^◌, ◌≤◌, false, arith, refl, subst}
-use Rattle.std.proofs.Math.Nat.{pow-le-pow_right}
+use Rattle.std.proofs.Common.{◌≡◌, ℕ, ◌*◌, ◌≤◌, false, arith, refl, subst}
 use Rattle.byte_unit_math.specs.Bounds.{scale}
 use Rattle.byte_unit_base.specs.Choice.{places_within}
 use Rattle.byte_unit_base.specs.declared.kind.Kind.{Kind}
@@ -10,10 +9,10 @@ use Rattle.byte_unit_format.specs.declared.thousandths.Suffix.TheVariants.{Own}
 use Rattle.byte_unit_base.specs.Choice.{IsRecoveredIn}
 use Rattle.byte_unit_base.specs.Kinds.{own_unit}
 use Rattle.byte_unit_base.specs.Version.{current}
-use Rattle.byte_unit_format.proofs.SomeForm.{own_number}
+use Rattle.byte_unit_base.proofs.Choosing.{own_number}
 use Rattle.byte_unit_format.proofs.Suffix.{whole_below}
 use Rattle.byte_unit_format.proofs.FewPlaces.{recovered_own, recovered_none, recovered_decimal, recovered_binary}
-use Rattle.byte_unit_format.proofs.FewPlaces.{number_of_thousandths, number_of_units}
+use Rattle.byte_unit_format.proofs.FewPlaces.{number_of_units}
 use Rattle.byte_unit_format.proofs.thousandths.split.Goals as goal
 
 -- Few places are not cut off.
@@ -24,7 +23,9 @@ within {places} {base} {step} {size} {power} few greatest =
 
 own_split : (kind : Kind) (size places : ℕ) → IsRecoveredIn current kind false size places (own_unit kind)
     → IsSplit kind size places size Own
-own_split kind size places recovered = record { recovered = recovered; value = omega (arith, own_number kind size) }
+own_split kind size places recovered =
+    let number = own_number kind size (size * scale) (own_unit kind) refl refl in
+    record { recovered = recovered; value = omega (arith, number) }
 
 pub returns-then-size-lt1000-clause-split : goal.returns-then-size-lt1000-clause-split
 returns-then-size-lt1000-clause-split c = λ kind.
@@ -32,29 +33,18 @@ returns-then-size-lt1000-clause-split c = λ kind.
 
 pub returns-then-binary-power-clause-split : goal.returns-then-binary-power-clause-split
 returns-then-binary-power-clause-split c = λ kind.
-    let size = c.args.size in
-    let whole = c.in_thousands-whole.result.0 in
-    let thousandths = c.in_thousands-whole.result.1 in
-    let power = c.in_thousands-whole.result.2 in
-    let tens = c.in_thousands-whole.ensures in
-    let number = whole * scale + thousandths * 10 ^ 25 in
+    let found = c.in_thousands-whole in
     record {
-      recovered = recovered_decimal c.args.places kind (omega (arith, c.if-binary-power.true)) tens.few
-          (within c.requires.places tens.greatest) (within c.requires.places c.binary_power-binary.ensures.greatest)
+      recovered = recovered_decimal c.args.places kind (omega (arith, c.if-binary-power.true)) found.ensures.few
+          (within c.requires.places found.ensures.greatest) (within c.requires.places c.binary_power-binary.ensures.greatest)
           c.if-binary-power.true;
-      value = number_of_units kind size power false number
-          (number_of_thousandths size _ whole thousandths number refl tens.value);
+      value = number_of_units kind c.args.size found.result.2 false found.result.0 found.result.1 found.ensures.value;
     }
 
 pub returns-then-binary-power-clause-narrow : goal.returns-then-binary-power-clause-narrow
 returns-then-binary-power-clause-narrow c = λ three.
     let power = c.in_thousands-whole.result.2 in
-    whole_below c.args.size (10 ^ (3 * power)) _ _ c.requires.small
-    (omega (
-      arith,
-      pow-le-pow_right {n = 10} (omega arith) {i = 3} {j = 3 * power}
-          (omega (arith, c.if-binary-power.true)),
-    ))
+    whole_below c.args.size power false _ _ c.requires.small (omega (arith, c.if-binary-power.true))
     c.in_thousands-whole.ensures.value
 
 pub returns-then-binary-gt0-clause-split : goal.returns-then-binary-gt0-clause-split
@@ -67,11 +57,8 @@ returns-then-binary-gt0-clause-split c = λ kind.
 
 pub returns-else-binary-gt0-clause-split : goal.returns-else-binary-gt0-clause-split
 returns-else-binary-gt0-clause-split c = λ kind.
-    let places = places_within c.args.places in
-    let size = c.args.size in
     let no_binary : c.binary_power-binary.result ≡ 0 = omega (arith, c.if-binary-gt0.false) in
-    let no_decimal : c.in_thousands-whole.result.2 ≡ 0 = omega (arith, c.if-binary-power.false, no_binary) in
-    own_split kind size c.args.places
-    (recovered_none c.args.places kind
-    (subst (λ power. IsGreatest places 10 3 size power) no_decimal (within c.requires.places c.in_thousands-whole.ensures.greatest))
-    (subst (λ power. IsGreatest places 2 10 size power) no_binary (within c.requires.places c.binary_power-binary.ensures.greatest)))
+    own_split kind c.args.size c.args.places
+    (recovered_none c.args.places kind (omega (arith, c.if-binary-power.false, no_binary)) no_binary
+    (within c.requires.places c.in_thousands-whole.ensures.greatest)
+    (within c.requires.places c.binary_power-binary.ensures.greatest))

@@ -1,10 +1,10 @@
 -- The digits are copied, the point and the fraction are put over what follows the whole part, and the unit over the rest.
 use Rattle.std.proofs.Common.{◌≡◌, ◌+◌, ◌-◌, ◌<◌, ◌≤◌, ◌∷◌, [], ◌++◌, List, ℕ, false, refl, ap, sym, subst, arith, ◌∙◌, take, drop, length}
 use Rattle.std.proofs.Common.{length-append}
-use Rattle.std.proofs.lemmas.List.{take-append-le, take-take, length-take, length-drop}
+use Rattle.std.proofs.lemmas.List.{length-take, length-drop}
 use Rattle.byte_unit_format.specs.WithDigits.{cut_digits}
 use Rattle.byte_unit_format.proofs.Suffix.{drop_known, named, written_over}
-use Rattle.byte_unit_format.proofs.DecimalDigits.{text_at, cut_some, cut_none, three_of}
+use Rattle.byte_unit_format.proofs.DecimalDigits.{text_at, front_at, take_kept, cut_some, cut_none, three_of}
 use Rattle.byte_unit_format.proofs.with_digits.put_decimal.Goals as goal
 use Rattle.byte_unit_format.proofs.with_digits.put_decimal.Goals.{then-used-cut, else-used-cut}
 
@@ -20,10 +20,9 @@ returns-clause-text c =
     let long = c.told-digits in
     let name = c.put-2.ensures in
     let letters = 32 ∷ c.letter.result ∷ c.own_letter.result ∷ [] in
-    let copy : copied ≡ digits ++ drop 32 old =
-    drop_known {other = 0} copied (omega (arith, c.put.ensures.begins, long)) c.put.ensures.bytes in
     let front : take cut copied ≡ take cut digits =
-    ap (λ list. take cut list) copy ∙ take-append-le cut digits (drop 32 old) (omega (arith, long, c.requires.cut)) in
+    front_at copied digits (drop 32 old) cut (omega (arith, c.put.ensures.begins, long)) c.put.ensures.bytes
+    (omega (arith, long, c.requires.cut)) in
     let named_is = named c.args.kind c.args.power false c.requires.some c.letter.ensures c.own_letter.ensures in
     let take_len : length (take cut digits) ≡ cut =
     omega (arith, length-take {A = ℕ} cut digits, long, c.requires.cut) in
@@ -36,14 +35,7 @@ returns-clause-text c =
           let behind = drop end copied in
           let size_of = length-append {A = ℕ} shown letters in
           let count_len : length (take (used - cut) (drop cut digits)) ≡ used - cut =
-          omega (
-            arith,
-            length-take {A = ℕ} (used - cut) (drop cut digits),
-            length-drop {A = ℕ} cut digits,
-            long,
-            c.requires.cut,
-            c.requires.used,
-          ) in
+          omega (arith, length-take {A = ℕ}, length-drop {A = ℕ}, long, c.requires.cut, c.requires.used) in
           let here : drop cut new ≡ (shown ++ letters) ++ behind =
           written_over copied c.if-used-cut.out new _ letters cut (used - cut + 1) end refl
           (omega (arith, c.requires.used)) (omega (arith, w.end-is, more))
@@ -52,20 +44,14 @@ returns-clause-text c =
           (ap (λ list. drop w.put-then-used-cut.result list) w.out-is ∙ fraction.bytes)
           (omega (arith, name.begins, w.end-is, more)) name.before name.bytes in
           let kept : take cut new ≡ take cut digits =
-          sym (take-take cut c.put-2.result new (omega (arith, name.begins, w.end-is, more)))
-          ∙ (ap (λ list. take cut list) name.before
-          ∙ (take-take cut c.put-2.result c.if-used-cut.out (omega (arith, name.begins, w.end-is, more))
-          ∙ (ap (λ list. take cut list) w.out-is
-          ∙ (subst (λ n. take n w.put-then-used-cut.new.out ≡ take n copied)
-          (let same : w.put-then-used-cut.result ≡ cut = omega (arith, fraction.begins) in same) fraction.before ∙ front)))) in
+          take_kept _ _ (omega (arith, name.begins, w.end-is, more)) name.before
+          ∙ (ap (λ list. take cut list) w.out-is ∙ (take_kept _ _ (omega (arith, fraction.begins)) fraction.before ∙ front)) in
           text_at (shown ++ letters) new behind cut end kept here (omega (arith, size_of, take_len, count_len, w.end-is, more))
           ∙ ap (λ text. take cut digits ++ (text ++ letters)) (sym (cut_some cut used digits more)))
       | else-used-cut w ↦
           (let few : used ≤ cut = omega (arith, w.if-used-cut) in
           let kept : take cut new ≡ take cut digits =
-          subst (λ n. take n new ≡ take n c.if-used-cut.out)
-          (let same : c.put-2.result ≡ cut = omega (arith, name.begins, w.end-is) in same) name.before
-          ∙ (ap (λ list. take cut list) w.out-is ∙ front) in
+          take_kept _ _ (omega (arith, name.begins, w.end-is)) name.before ∙ (ap (λ list. take cut list) w.out-is ∙ front) in
           let here : drop cut new ≡ letters ++ drop end c.if-used-cut.out =
           drop_known {other = cut} new (omega (arith, name.begins, w.end-is)) name.bytes in
           text_at letters new (drop end c.if-used-cut.out) cut end kept here (omega (arith, take_len, w.end-is))

@@ -1,10 +1,10 @@
 -- The digits are copied, then what is between, and the size in its unit after that.
-use Rattle.std.proofs.Common.{◌≡◌, subst, ◌≤◌, ◌+◌, ◌-◌, ◌++◌, List, ℕ, ap, sym, arith, ◌∙◌, take, drop, length, append_assoc}
+use Rattle.std.proofs.Common.{◌≡◌, ◌≤◌, ◌+◌, ◌-◌, ◌++◌, List, ℕ, ap, sym, arith, ◌∙◌, take, drop, length, append_assoc}
 use Rattle.std.specs.Fmt.{decimal}
-use Rattle.std.proofs.lemmas.List.{take_at, drop_at, take-append-drop, length-take, length-drop}
-use Rattle.byte_unit_math.specs.Numeral.{padded_digits}
+use Rattle.std.proofs.Math.Seq.{take-append-add}
+use Rattle.std.proofs.lemmas.List.{take-append-le, length-take, length-drop}
 use Rattle.byte_unit_format.proofs.Suffix.{drop_known}
-use Rattle.byte_unit_format.proofs.DecimalDigits.{text_at}
+use Rattle.byte_unit_format.proofs.DecimalDigits.{text_at, front_at, take_kept}
 use Rattle.byte_unit_format.proofs.WithDigits.{first_of_padded, padded_length}
 use Rattle.byte_unit_format.proofs.with_digits.put_with_digits.Goals as goal
 
@@ -22,46 +22,24 @@ returns-clause-text c =
     let few = c.put_padded_digits-len.ensures.few in
     let array = c.put_padded_digits-len.new.digits in
     let digits = c.put_padded_digits-len.ensures.digits in
-    let long : length array ≡ 32 = padded_length size array digits (omega (arith, len_is, few)) in
-    let copy : copied ≡ padded_digits size ++ drop 32 old =
-    drop_known {other = 0} copied (omega (arith, c.put.ensures.begins, long)) c.put.ensures.bytes
-    ∙ ap (λ list. list ++ drop 32 old) digits in
+    let long : length array ≡ 32 = rw digits (padded_length size (omega (arith, len_is, few))) in
     let at : c.put-2.result ≡ len = omega (arith, c.put-2.ensures.begins) in
     let front : take len middle ≡ decimal size =
-    subst (λ n. take n middle ≡ take n copied) at c.put-2.ensures.before
-    ∙ (ap (λ list. take len list) copy ∙ first_of_padded size len (drop 32 old) len_is) in
+    take_kept _ _ (omega (arith, at)) c.put-2.ensures.before
+    ∙ (front_at copied array (drop 32 old) len (omega (arith, c.put.ensures.begins, long)) c.put.ensures.bytes
+    (omega (arith, long, few)) ∙ rw digits (first_of_padded size len len_is)) in
     let before : take (len + 3) middle ≡ decimal size ++ between =
     text_at between middle (drop (len + 3) copied) len (len + 3) front (drop_known middle at c.put-2.ensures.bytes)
     (omega (arith, len_is)) in
     let start = len + 3 in
     let behind : List ℕ = drop (length middle - start) (drop start middle) in
-    let room : count ≤ length written =
-    omega (
-      arith,
-      c.put_form_of.auto.out,
-      length-take {A = ℕ} (length middle - start) (drop start middle),
-      length-drop {A = ℕ} start middle,
-      c.put-2.auto.out,
-      c.put.auto.out,
-      c.requires.room,
-      few,
-      c.put_form_of.ensures.narrow,
-    ) in
-    let form = take count written in
-    let form_len : length form ≡ count = omega (arith, length-take {A = ℕ} count written, room) in
-    let start_len : length (take start middle) ≡ start =
-    omega (arith, length-take {A = ℕ} start middle, c.put-2.auto.out, c.put.auto.out, c.requires.room, few) in
-    let all : List ℕ = take start middle ++ (written ++ behind) in
-    let rest : drop start all ≡ form ++ (drop count written ++ behind) =
-    drop_at (take start middle) (written ++ behind) start start_len
-    ∙ (ap (λ list. list ++ behind) (sym (take-append-drop count written)) ∙ append_assoc form (drop count written) behind) in
-    let kept : take start all ≡ decimal size ++ between =
-    take_at (take start middle) (written ++ behind) start start_len ∙ before in
-    let front_len : length (decimal size ++ between) ≡ start = sym (ap (λ list. length list) before) ∙ start_len in
+    let room : count ≤ length written = omega (arith, length-take {A = ℕ}, length-drop {A = ℕ}, few) in
+    let start_len : length (take start middle) ≡ start = omega (arith, length-take {A = ℕ}, few) in
     record {
-      form = form;
+      form = take count written;
       is_form = c.put_form_of.ensures.form;
       text_is =
-          text_at form all (drop count written ++ behind) start (start + count) kept rest (omega (arith, front_len, form_len))
-          ∙ append_assoc (decimal size) between form;
+          ap (λ n. take (n + count) (take start middle ++ (written ++ behind))) (sym start_len)
+          ∙ (take-append-add (take start middle) (written ++ behind) count
+          ∙ rw (before, take-append-le count written behind room) (append_assoc (decimal size) between (take count written)));
     }

@@ -1,13 +1,14 @@
 -- The mask has a bit for each byte, set where it is not a zero, so its highest bit is that of the last such byte.
-use Rattle.std.proofs.Common.{◌≡◌, ◌≢◌, ℕ, Bool, true, false, ◌+◌, ◌-◌, ◌*◌, ◌/◌, ◌%◌, ◌^◌, ◌<◌, ◌≤◌, eqb, not, get_or, List, length, map, take, w8}
-use Rattle.std.proofs.Common.{⊎_elim, ap, sym, subst, refl, ◌∙◌, arith, eqb-true, cond}
-use Rattle.std.proofs.Math.Nat.{pow-le-pow_right, div-eq_of_lt, div-add-mod', mul-le-mul_right}
-use Rattle.std.proofs.lemmas.Bool.{cases_lt, eq-eqb}
+use Rattle.std.proofs.Common.{◌≡◌, ◌≢◌, ℕ, Bool, false, ◌+◌, ◌-◌, ◌*◌, ◌/◌, ◌%◌, ◌^◌, ◌<◌, ◌≤◌, eqb, not, get_or, List, length, map, take, w8}
+use Rattle.std.proofs.Common.{ap, sym, subst, refl, ◌∙◌, arith, cond}
+use Rattle.std.proofs.Math.Nat.{pow-le-pow_right, div-eq_of_lt, div-eq_of_lt-le}
+use Rattle.std.proofs.lemmas.Bool.Decides.{nat_tests}
 use Rattle.std.proofs.lemmas.List.{length-map, length-take, take_all, get_or-map}
-use Rattle.std.proofs.lemmas.Nat.{leading_length, mod_below, pow-add}
+use Rattle.std.proofs.lemmas.Nat.{leading_length, pow-add}
 use Rattle.std.proofs.lemmas.Simd.{bitmask_splat, mask_l-lt, bit_mask_l}
 use lib.Count.{count_leading_zeros}
 use lib.Lanes.{mask_l}
+use Rattle.byte_unit_format.proofs.FewPlaces.{exponent_below}
 use Rattle.byte_unit_format.proofs.with_digits.significant.Goals as goal
 
 abbrev is_used : ℕ → Bool
@@ -29,15 +30,8 @@ bits_of digits given used long given_is used_is =
     let found = leading_length 64 mask (omega (arith, small)) in
     let bits_are : found.0 ≡ used = omega (arith, found.1, used_is, ap (count_leading_zeros 64) same) in
     let above = subst (λ m. 2 ^ m ≤ 2 * mask + 1) bits_are found.3 in
-    record {
-      below = subst (λ m. mask < 2 ^ m) bits_are found.2;
-      above = above;
-      few =
-          ⊎_elim
-          (λ more.
-          absurd (omega (arith, above, small, pow-le-pow_right {n = 2} (omega arith) {i = 33} {j = used} (omega (arith, more)))))
-          (λ few. few) (cases_lt 32 used);
-    }
+    let less = exponent_below 2 used 33 (2 * mask + 1) (omega arith) above (omega (arith, small)) in
+    record { below = subst (λ m. mask < 2 ^ m) bits_are found.2; above = above; few = omega (arith, less) }
 
 -- The bit of a byte.
 bit_of : (vector : List ℕ) (i : ℕ) → i < length vector
@@ -45,34 +39,13 @@ bit_of : (vector : List ℕ) (i : ℕ) → i < length vector
 bit_of vector i within =
     bit_mask_l (map is_used vector) i ∙ ap (λ bit. cond bit 1 0) (get_or-map is_used vector i 0 false within)
 
-zero_byte : (byte : ℕ) (is_zero : Bool) → eqb byte 48 ≡ is_zero → ◌≡◌ {A = ℕ} (cond (not is_zero) 1 0) 0 → byte ≡ 48
-zero_byte byte true is clear = eqb-true byte 48 is
-zero_byte byte false is clear = absurd (let never : ⊥ = cc in never)
-
-other_byte : (byte : ℕ) (is_zero : Bool) → eqb byte 48 ≡ is_zero → ◌≡◌ {A = ℕ} (cond (not is_zero) 1 0) 1 → byte ≢ 48
-other_byte byte true is set = absurd (let never : ⊥ = cc in never)
-other_byte byte false is set = λ same. let found = eq-eqb byte 48 same in absurd (let never : ⊥ = cc in never)
-
 zero_behind : {vector : List ℕ} {used : ℕ} → Bits vector used → (i : ℕ) → used ≤ i → i < length vector
     → get_or vector i 0 ≡ 48
 zero_behind {vector} {used} bits i behind within =
     let mask = mask_l (map is_used vector) in
     let small : mask < 2 ^ i = omega (arith, bits.below, pow-le-pow_right {n = 2} (omega arith) behind) in
     let clear : mask / 2 ^ i % 2 ≡ 0 = ap (λ n. n % 2) (div-eq_of_lt small) in
-    zero_byte (get_or vector i 0) (eqb (get_or vector i 0) 48) refl (sym (bit_of vector i within) ∙ clear)
-
-div_is_one : (n power : ℕ) → power ≤ n → n < power * 2 → n / power ≡ 1
-div_is_one n power at_least below =
-    let split = div-add-mod' n power in
-    let rest = mod_below n power (omega (arith, at_least, below)) in
-    ⊎_elim
-    (λ none.
-    let nothing : n / power ≡ 0 = omega (arith, none) in
-    absurd (omega (arith, split, rest, at_least, ap (λ q. q * power) nothing)))
-    (λ some.
-    ⊎_elim (λ one. omega (arith, some, one))
-    (λ more. absurd (omega (arith, split, below, mul-le-mul_right power more))) (cases_lt (n / power) 2))
-    (cases_lt (n / power) 1)
+    let bit = sym (bit_of vector i within) ∙ clear in grind (arith, nat_tests, bit)
 
 last_is_used : {vector : List ℕ} {used : ℕ} → Bits vector used → (i : ℕ) → i + 1 ≡ used → length vector ≡ 32
     → get_or vector i 0 ≢ 48
@@ -81,9 +54,9 @@ last_is_used {vector} {used} bits i last long =
     let mask = mask_l (map is_used vector) in
     let next : 2 ^ used ≡ 2 ^ i * 2 = ap (λ n. 2 ^ n) (sym last) ∙ pow-add 2 i 1 in
     let one : mask / 2 ^ i ≡ 1 =
-    div_is_one mask (2 ^ i) (omega (arith, bits.above, next)) (omega (arith, bits.below, next)) in
+    div-eq_of_lt-le {k = 1} (2 ^ i) (omega (arith, bits.above, next)) (omega (arith, bits.below, next)) in
     let set : mask / 2 ^ i % 2 ≡ 1 = ap (λ n. n % 2) one in
-    other_byte (get_or vector i 0) (eqb (get_or vector i 0) 48) refl (sym (bit_of vector i within) ∙ set)
+    let bit = sym (bit_of vector i within) ∙ set in λ same. grind (arith, nat_tests, bit, same)
 
 pub returns-clause-within : goal.returns-clause-within
 returns-clause-within c =

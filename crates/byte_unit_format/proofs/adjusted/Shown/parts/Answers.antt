@@ -1,8 +1,6 @@
 -- The number is scaled by a power of ten, or a decimal, and its text is that of its parts.
-use Rattle.std.proofs.Common.{ap, sym, subst, arith, ◌∙◌}
-use Rattle.byte_unit_base.specs.Version.{unit_name}
-use Rattle.byte_unit_format.specs.Layout.{layout}
-use Rattle.byte_unit_format.specs.Shown.{shown_text, FitsShown}
+use Rattle.std.proofs.Common.{subst, arith}
+use Rattle.byte_unit_format.specs.Shown.{FitsShown}
 use Rattle.byte_unit_format.proofs.adjusted.Shown.parts.Goals as goal
 
 pub scaled_parts-requires : goal.scaled_parts-requires
@@ -10,8 +8,7 @@ scaled_parts-requires c = subst FitsShown c.in-Scaled.is c.requires
 
 pub returns-in-Scaled-clause-text : goal.returns-in-Scaled-clause-text
 returns-in-Scaled-clause-text c =
-    c.scaled_parts.ensures.text
-    ∙ ap (λ number. layout number (unit_name c.args.unit) c.args.spec) (sym (ap shown_text c.in-Scaled.is))
+    rw c.in-Scaled.is c.scaled_parts.ensures.text
 
 pub returns-in-Expanded-clause-small : goal.returns-in-Expanded-clause-small
 returns-in-Expanded-clause-small c =

@@ -1,6 +1,0 @@
--- The law is the statement of a lemma.
-use Rattle.byte_unit_format.proofs.SomeForm.{has_one_form}
-use Rattle.byte_unit_format.proofs.laws.size_has_one_form.Goals as goal
-
-pub returns : goal.returns
-returns c = has_one_form
