@@ -7,10 +7,9 @@ use Rattle.std.proofs.lemmas.Bool.{and_parts, cases_lt, cond-true, cond-false, l
 use Rattle.byte_unit_math.specs.Bounds.{unit_limit}
 use Rattle.byte_unit_base.specs.Shape.{Shape, bits}
 use Rattle.byte_unit_base.specs.Units.{shape_of}
-use Rattle.byte_unit_base.specs.UnitLists.{unit_of_shape}
+use Rattle.byte_unit_base.specs.UnitLists.{unit_of_shape, units_of_prefixes, prefix_count}
 use Rattle.byte_unit_base.specs.Errors.{size_fault}
 use Rattle.byte_unit_base.specs.Kinds.{bits_in, own_unit, own_family}
-use Rattle.byte_unit_base.specs.UnitLists.{units_of_prefixes, prefix_count}
 use Rattle.byte_unit_base.specs.Choice.{IsLargest, IsLargestOrOwn, NoneHas, IsEligibleUnit, IsAppropriate}
 use Rattle.byte_unit_base.specs.Version.{current}
 use Rattle.byte_unit_base.specs.Family.{InFamily}

@@ -1,6 +1,5 @@
 -- The number of bits of a unit, and a size in its base unit.
-use Rattle.std.proofs.Common.{◌≡◌, ℕ, ◌*◌, ◌≤◌, Bool, arith, inl}
-use Rattle.std.proofs.Common.{inr, refl}
+use Rattle.std.proofs.Common.{◌≡◌, ℕ, ◌*◌, ◌≤◌, Bool, arith, inl, inr, refl}
 use Rattle.std.proofs.Math.Nat.{one-le-pow, one-le-mul}
 use Rattle.byte_unit_math.specs.Bounds.{scale, unit_limit}
 use Rattle.byte_unit_math.specs.Exact.{IsExactAt}

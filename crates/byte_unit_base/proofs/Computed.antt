@@ -12,16 +12,14 @@ use Rattle.byte_unit_base.specs.SizeText.{trim_of}
 use Rattle.byte_unit_base.specs.Fault.{exceeded}
 use Rattle.byte_unit_base.specs.LeastOfKind.{IsLeastOf}
 use Rattle.byte_unit_base.specs.UnitScan.{unit_scan, unit_result, start}
-use Rattle.byte_unit_base.specs.SizeScan.{size_scan, size_result}
+use Rattle.byte_unit_base.specs.SizeScan.{size_scan, size_result, Beginning}
 use Rattle.byte_unit_base.specs.Scan.{read}
-use Rattle.byte_unit_base.specs.Parsed.{parsed_unit, parsed_number, parts_of_crate, rounded_up}
-use Rattle.byte_unit_base.specs.Parsed.{size_within_limit}
+use Rattle.byte_unit_base.specs.Parsed.{parsed_unit, parsed_number, parts_of_crate, rounded_up, size_within_limit}
 use Rattle.byte_unit_base.specs.declared.unit.Unit.{Unit as UnitName}
 use Rattle.byte_unit_base.specs.declared.errors.UnitParseError.{UnitParseError}
 use Rattle.byte_unit_base.specs.declared.errors.ParseError.{ParseError}
 use Rattle.byte_unit_base.specs.declared.kind.Kind.{Kind}
 use Rattle.byte_unit_base.specs.declared.kind.Kind.TheVariants.{Byte, Bit}
-use Rattle.byte_unit_base.specs.SizeScan.{Beginning}
 use Rattle.byte_unit_base.specs.declared.unit.Unit.TheVariants as UnitNames
 
 -- the unit of the crate that has the shape of a unit is that unit

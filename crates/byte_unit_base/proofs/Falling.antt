@@ -1,7 +1,6 @@
 -- The units of a unit set from the largest to the smallest, and the search for the largest that has a property.
 use Rattle.std.proofs.Common.{◌≡◌, ℕ, ◌+◌, ◌*◌, ◌<◌, ◌≤◌, ◌⊎◌, ⊎_elim, inl, inr, zero, suc, Bool, true, false, List, []}
-use Rattle.std.proofs.Common.{◌∷◌, ◌++◌}
-use Rattle.std.proofs.Common.{length, drop, get_or, ◌&&◌, leb, arith, sym, ap, ◌∙◌, refl, rules, ◌/◌}
+use Rattle.std.proofs.Common.{◌∷◌, ◌++◌, length, drop, get_or, ◌&&◌, leb, arith, sym, ap, ◌∙◌, refl, rules, ◌/◌}
 use Rattle.std.specs.List.{AllByRecursion}
 use Rattle.std.proofs.lemmas.List.{drop_at, drop-drop}
 use Rattle.std.proofs.lemmas.Bool.{and_parts, cases_lt, leb-true, agree_below, agree_below_at}

@@ -1,8 +1,7 @@
 -- The greatest step count of choosing a unit.
 use Rattle.std.proofs.Common.{◌≡◌, ℕ, ◌+◌, ◌-◌, ◌*◌, ◌^◌, ◌<◌, ◌≤◌, ⊎_elim, inl, inr}
 use Rattle.std.proofs.Common.{Bool, true, false, ltb, max, refl, arith, ap, ◌∙◌, subst}
-use Rattle.std.proofs.Math.Nat.{mul-le-mul_left, mul-le-mul_right}
-use Rattle.std.proofs.Math.Nat.{one-le-pow, pow-le-pow_left, pow-le-pow_right}
+use Rattle.std.proofs.Math.Nat.{mul-le-mul_left, mul-le-mul_right, one-le-pow, pow-le-pow_left, pow-le-pow_right}
 use Rattle.std.proofs.lemmas.Bool.{agree_below, agree_below_at, cases_lt, ltb-true}
 use Rattle.std.proofs.lemmas.Nat.{pow-add, mul-pow}
 use Rattle.byte_unit_math.specs.Bounds.{scale}
@@ -14,8 +13,7 @@ use Rattle.byte_unit_base.specs.Shape.{Shape, shape, bits, twos, fives}
 use Rattle.byte_unit_base.specs.UnitLists.{prefix_count}
 use Rattle.byte_unit_base.specs.Version.{current}
 use Rattle.byte_unit_base.specs.Kinds.{bits_in}
-use Rattle.byte_unit_base.specs.Choice.{IsLargest, IsExactUnit, IsChosen, CountsChoice}
-use Rattle.byte_unit_base.specs.Choice.{places_within, most_steps}
+use Rattle.byte_unit_base.specs.Choice.{IsLargest, IsExactUnit, IsChosen, CountsChoice, places_within, most_steps}
 use Rattle.byte_unit_base.specs.declared.kind.Kind.{Kind}
 use Rattle.byte_unit_base.specs.declared.kind.Kind.TheVariants.{Byte, Bit}
 use Rattle.byte_unit_base.specs.declared.unit.family.Family.{Family}

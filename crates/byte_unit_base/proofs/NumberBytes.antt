@@ -1,5 +1,5 @@
 -- What loops over bytes read: the digits, the number that they make, and the text of a prefix.
-use Rattle.std.proofs.Common.{◌≡◌, ℕ, zero, suc, ◌+◌, ◌-◌, ◌*◌, ◌^◌, ◌<◌, ◌≤◌, inl, List, [], ◌∷◌, ◌++◌, Some}
+use Rattle.std.proofs.Common.{◌≡◌, ℕ, zero, suc, ◌+◌, ◌-◌, ◌*◌, ◌^◌, ◌<◌, ◌≤◌, List, [], ◌∷◌, ◌++◌}
 use Rattle.std.proofs.Common.{◌%◌, length, take, drop, get_or, refl, ap, ◌∙◌, arith, slice_range, take_all}
 use Rattle.std.proofs.Math.Nat.{mod-eq_of_lt, pow-le-pow_right}
 use Rattle.std.specs.Float.Numeral.{digits_len}
@@ -12,10 +12,6 @@ use Rattle.byte_unit_base.proofs.SizeRuns.{value_rises}
 use Rattle.core.proofs.dec2flt.DigitsLemmas.{is_digit}
 use Rattle.core.proofs.dec2flt.Rows.{AllDigits-digits_len}
 use Rattle.std.proofs.lemmas.List.{take_more}
-use Rattle.byte_unit_base.specs.UnitScan.{prefix_at, IsMultipleText}
-use Rattle.byte_unit_base.specs.declared.unit.scan.Prefix.{Prefix}
-use Rattle.byte_unit_base.specs.declared.unit.scan.Multiple.TheVariants.{Decimal}
-use Rattle.byte_unit_base.proofs.UnitReached.{prefix_found}
 
 -- in a text of digits alone, the run of digits that std finds is the whole text
 pub digits_to_the_end : (ds : List ℕ) → AllDigits 10 ds → digits_len ds ≡ length ds
@@ -78,17 +74,3 @@ pub front_value : (ds : List ℕ) (n value : ℕ) → digits_value_after 10 valu
 front_value ds zero value = value_rises ds value
 front_value [] (suc n) value = omega arith
 front_value (d ∷ ds) (suc n) value = front_value ds n (value * 10 + digit_value d)
-
--- if the first byte is a prefix letter, the text of that byte is a decimal prefix
-pub decimal_text :
-    (bytes : List ℕ) (prefix : Prefix) → 0 < length bytes → prefix_at (get_or bytes 0 0) ≡ Some prefix
-    → IsMultipleText (Decimal prefix) (take 1 bytes)
-decimal_text [] prefix some is = absurd (omega (arith, some))
-decimal_text (c ∷ cs) prefix some is =
-    record {
-      letter = c;
-      infix_part = [];
-      text_is = refl;
-      letter_is = prefix_found c prefix is;
-      infix_is = inl (refl, refl);
-    }

@@ -1,7 +1,6 @@
 -- A decimal, as it is printed, is a number of the grammar with the same value.
 use Rattle.std.proofs.Common.{◌≡◌, ℕ, ◌+◌, ◌-◌, ◌*◌, ◌^◌, ◌<◌, ◌≤◌, inl, inr, List, [], ◌∷◌, ◌++◌, length, refl, sym}
-use Rattle.std.proofs.Common.{ap, ◌∙◌, arith}
-use Rattle.std.proofs.Common.{false, append-nil}
+use Rattle.std.proofs.Common.{ap, ◌∙◌, arith, false, append-nil}
 use Rattle.std.proofs.lemmas.List.{length-map}
 use Rattle.std.specs.List.{fold, All}
 use Rattle.std.specs.Char.{digit_value, is_whitespace}

@@ -1,8 +1,7 @@
 -- The rows of the table of units that a size can have, and the search for the largest that has a property.
 use Rattle.std.proofs.Common.{◌≡◌, ℕ, ◌+◌, ◌-◌, ◌*◌, ◌/◌, ◌^◌, ◌<◌, ◌≤◌, ⊎_elim, suc, Bool, true, false, List, [], ◌∷◌}
-use Rattle.std.proofs.Common.{length, map, max}
-use Rattle.std.proofs.Common.{drop, get_or, add-one, drop-cons}
-use Rattle.std.proofs.Common.{◌&&◌, leb, arith, sym, ap, ◌∙◌, subst, refl}
+use Rattle.std.proofs.Common.{length, map, max, drop, get_or, add-one, drop-cons, ◌&&◌, leb, arith, sym, ap, ◌∙◌, subst}
+use Rattle.std.proofs.Common.{refl}
 use Rattle.std.proofs.Math.Nat.{pow-le-pow_right}
 use Rattle.std.proofs.lemmas.List.{drop_all, drop-map, get_or-map, length-map}
 use Rattle.std.proofs.lemmas.Bool.{cases_Bool, cases_lt, leb-true, agree_below, agree_below_at}

@@ -1,16 +1,14 @@
 -- A state machine that reads an input character by character, over any set of states: what it returns, the longest
 -- viable prefix and the error after it.
-use Rattle.std.proofs.Common.{◌≡◌, ℕ, ◌+◌, ◌<◌, ◌⊎◌, inl, inr, List, [], ◌∷◌, ◌++◌, Option, Some, None, Result, Ok, Err}
-use Rattle.std.proofs.Common.{option_and_then}
-use Rattle.std.proofs.Common.{length, drop, get_or, sym, refl, ap, subst, ◌∙◌, arith, append-nil}
+use Rattle.std.proofs.Common.{◌≡◌, ℕ, ◌+◌, ◌⊎◌, inl, inr, List, [], ◌∷◌, ◌++◌, Option, Some, None, Result, Ok, Err}
+use Rattle.std.proofs.Common.{option_and_then, sym, refl, ap, subst, ◌∙◌, append-nil}
 use Rattle.std.specs.Prelude.{◌↔◌, ⊤, IfOk, IfErr, IsOkAnd}
-use Rattle.std.proofs.lemmas.List.{at_drop_all}
 use Rattle.byte_unit_base.specs.Version.{current}
 use Rattle.byte_unit_base.specs.ViablePrefix.{ParserState}
 use Rattle.byte_unit_base.specs.Fault.{Fault, fault_at, fault_at_end, IsFaultAfter, IsFirstFault}
 use Rattle.byte_unit_base.specs.ReaderLaws.{IsOneAnswer, CanBecome}
 use Rattle.byte_unit_base.specs.Scan.{Scan, run, read, map_result}
-use Rattle.byte_unit_base.proofs.Lists.{rest_starts_with_next, push_append}
+use Rattle.byte_unit_base.proofs.Lists.{push_append}
 use Rattle.byte_unit_base.proofs.Options.{some_passed}
 
 -- the state after a text
@@ -67,20 +65,6 @@ module _ {S Meaning : Type 0} (scan : Scan S Meaning) where
   read_through s t (c ∷ xs) ys h =
       let u = some_passed (λ v. run scan.step v xs) t (scan.step s c) h in
       read_some s u.0 c (xs ++ ys) u.1 ∙ read_through u.0 t xs ys u.2
-
-  -- the loop of the parser after a step: the result for what is left stays the same
-  pub read_more : (s t : S) (cs : List ℕ) (n c : ℕ) → (n < length cs) × (c ≡ get_or cs n c) → scan.step s c ≡ Some t
-      → read scan t (drop (n + 1) cs) ≡ read scan s (drop n cs)
-  read_more s t cs n c h e = sym (rest_starts_with_next (read scan s) cs n c h ∙ read_some s t c (drop (n + 1) cs) e)
-
-  -- the loop of the parser at a character that has no step: its error is the result
-  pub read_stop : (s : S) (cs : List ℕ) (n c : ℕ) → (n < length cs) × (c ≡ get_or cs n c) → scan.step s c ≡ None
-      → Err (fault_at current scan.flags (scan.place s) c) ≡ read scan s (drop n cs)
-  read_stop s cs n c h e = sym (rest_starts_with_next (read scan s) cs n c h ∙ read_none s c (drop (n + 1) cs) e)
-
-  -- the loop of the parser at the end of the input: the result of the last state is the result
-  pub read_end : (s : S) (cs : List ℕ) (n : ℕ) → length cs ≡ n → scan.at_end s ≡ read scan s (drop n cs)
-  read_end s cs n h = sym (at_drop_all (read scan s) cs n (omega arith))
 
 -- the result for an input that ends here: this error, or if there is none (`None`), a meaning of the input
 abbrev pub EndsIn : {Meaning : Type 0} → (Meaning → Type 0) → Option Fault → Result Meaning Fault → Type 0

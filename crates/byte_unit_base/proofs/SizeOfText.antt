@@ -2,7 +2,7 @@
 use Rattle.std.proofs.Common.{◌≡◌, ℕ, Bool, List, Some, None, Ok, Err, sym, ap, arith, inl, inr, refl, ◌∙◌}
 use Rattle.byte_unit_base.specs.Version.{current}
 use Rattle.byte_unit_base.specs.Units.{shape_of}
-use Rattle.byte_unit_base.specs.Fault.{exceeded}
+use Rattle.byte_unit_base.specs.Fault.{exceeded, IsSizeFault}
 use Rattle.byte_unit_base.specs.declared.unit.Unit.{Unit as UnitName}
 use Rattle.byte_unit_base.specs.declared.errors.ParseError.{ParseError}
 use Rattle.byte_unit_base.specs.declared.errors.ParseError.TheVariants.{Value}
@@ -15,11 +15,9 @@ use Rattle.byte_unit_base.specs.Readings.{IsNumberReading}
 use Rattle.byte_unit_base.specs.Accepted.{IsRead}
 use Rattle.byte_unit_base.specs.SizeReading.{IsSizeReading}
 use Rattle.byte_unit_base.specs.SizeText.{trim_of, IsSizeText}
-use Rattle.byte_unit_base.specs.Fault.{IsSizeFault}
 use Rattle.byte_unit_base.specs.SizeScan.{with_shape}
 use Rattle.byte_unit_base.specs.Errors.{size_fault}
 use Rattle.byte_unit_base.specs.Parsed.{parsed_number, parsed_size, rounded_up, size_of_parsed, size_within_limit}
-use Rattle.byte_unit_base.specs.Version.{current}
 use Rattle.byte_unit_base.proofs.Computed.{rounded_up_is_least, size_within, size_above}
 use Rattle.byte_unit_base.proofs.Scans.{reads_meaning, reads_fault}
 use Rattle.byte_unit_base.proofs.SizeReads.{size_scan_is}

@@ -13,16 +13,16 @@ use Rattle.byte_unit_base.specs.Spelling.{Flags, Spells}
 use Rattle.byte_unit_base.specs.Number.{IsNumberText}
 use Rattle.byte_unit_base.specs.SizeText.{trim_of, IsSizeText}
 use Rattle.byte_unit_base.specs.Readings.{IsNumberReading}
-use Rattle.byte_unit_base.specs.ViablePrefix.{ParserState, beginning, in_whole, after_point, in_fraction, after_prefix, after_bi}
-use Rattle.byte_unit_base.specs.ViablePrefix.{IsViableUnitPrefix}
-use Rattle.byte_unit_base.specs.ViablePrefix.{IsNumberAndUnitPrefix, IsViableSizePrefix}
+use Rattle.byte_unit_base.specs.ViablePrefix.{ParserState, beginning, in_whole, after_point, in_fraction, after_prefix}
+use Rattle.byte_unit_base.specs.ViablePrefix.{after_bi, IsViableUnitPrefix, IsNumberAndUnitPrefix, IsViableSizePrefix}
 use Rattle.byte_unit_base.specs.Fault.{Fault, IsFaultAfter, fault_at, fault_at_end, no_unit, too_long, exceeded}
 use Rattle.byte_unit_base.specs.Errors.{size_fault}
 use Rattle.byte_unit_base.specs.ReaderLaws.{Represents, SizeTextsHaveOneAnswer, ViableSizePrefixesAreBeginnings}
 use Rattle.byte_unit_base.specs.Scan.{read}
 use Rattle.byte_unit_base.specs.UnitScan.{unit_step, unit_of, unit_at_end, word_parser_state, scan_of, start as unit_start}
-use Rattle.byte_unit_base.specs.SizeScan.{is_digit, size_step, size_scan, size_result, with_shape, size_at_end, size_parser_state}
-use Rattle.byte_unit_base.specs.SizeScan.{size_or_fault, fixed_point}
+use Rattle.byte_unit_base.specs.SizeScan.{is_digit, size_step, size_scan, size_result, with_shape, size_at_end}
+use Rattle.byte_unit_base.specs.SizeScan.{size_parser_state, size_or_fault, fixed_point, SizeScan, Beginning, Whole}
+use Rattle.byte_unit_base.specs.SizeScan.{Point, Fraction, Gap, UnitAt}
 use Rattle.byte_unit_base.specs.PartsReading.{IsStopAt, next_char, stop_fault}
 use Rattle.byte_unit_base.specs.declared.read.stop.Reason.{Reason}
 use Rattle.byte_unit_base.specs.declared.unit.Unit.{Unit as UnitName}
@@ -32,9 +32,6 @@ use Rattle.byte_unit_base.specs.declared.unit.scan.Multiple.{Multiple}
 use Rattle.byte_unit_base.specs.declared.unit.scan.Multiple.TheVariants.{One, Decimal, Binary}
 use Rattle.byte_unit_base.specs.declared.unit.scan.Word.{Word}
 use Rattle.byte_unit_base.specs.declared.unit.scan.Word.TheVariants.{Empty, Bi}
-use Rattle.byte_unit_base.specs.SizeScan.{SizeScan}
-use Rattle.byte_unit_base.specs.SizeScan.{Beginning, Whole, Point, Fraction, Gap}
-use Rattle.byte_unit_base.specs.SizeScan.{UnitAt}
 use Rattle.byte_unit_base.proofs.Computed.{number_computed}
 use Rattle.byte_unit_base.proofs.Scans.{EndsIn, IsScanOf, read_found, read_meant, read_refused, reads_meaning}
 use Rattle.byte_unit_base.proofs.Scans.{one_answer, fronts_are_beginnings}

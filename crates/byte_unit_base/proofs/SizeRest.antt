@@ -1,10 +1,10 @@
 -- What the state machine of sizes returns where the parser stops: the rest of an input is a unit, or starts with an
 -- error.
-use Rattle.std.proofs.Common.{◌≡◌, ℕ, zero, suc, ◌+◌, ◌*◌, ◌<◌, Bool, true, false, cond, eqb, ltb, ⊎_elim}
+use Rattle.std.proofs.Common.{◌≡◌, ℕ, zero, suc, ◌+◌, ◌*◌, ◌<◌, true, false, eqb, ltb, ⊎_elim}
 use Rattle.std.proofs.Common.{List, [], ◌∷◌, ◌++◌, Option, Some, None, Result, Ok, Err, length, replicate, refl, sym, ap, subst, ◌∙◌}
 use Rattle.std.proofs.Common.{arith, take, drop, ◌≤◌, take-append-drop}
 use Rattle.std.specs.Option.{option_map}
-use Rattle.std.specs.Char.{digit_value, is_ascii_digit}
+use Rattle.std.specs.Char.{digit_value}
 use Rattle.std.specs.Str.{chars, encode_utf8_all, IsUtf8, IsAscii, IsCharBoundary}
 use Rattle.std.specs.Str.Parse.{AllDigits, digits_value_after}
 use Rattle.std.specs.Float.Numeral.{digits_len}
@@ -19,12 +19,11 @@ use Rattle.byte_unit_base.specs.Number.{IsWholePart}
 use Rattle.byte_unit_base.specs.ViablePrefix.{in_fraction}
 use Rattle.byte_unit_base.specs.Spelling.{Flags}
 use Rattle.byte_unit_base.specs.SizeText.{space}
-use Rattle.byte_unit_base.specs.Fault.{Fault, too_long}
+use Rattle.byte_unit_base.specs.Fault.{Fault, fault_at, too_long}
 use Rattle.byte_unit_base.specs.Scan.{read}
-use Rattle.byte_unit_base.specs.UnitScan.{unit_step, unit_scan, unit_of, unit_at_end, start}
-use Rattle.byte_unit_base.specs.SizeScan.{SizeScan, Beginning, Whole, Point, Fraction, Gap, UnitAt}
-use Rattle.byte_unit_base.specs.SizeScan.{is_digit, size_step, size_scan, size_at_end, size_or_fault, size_parser_state}
-use Rattle.byte_unit_base.specs.SizeScan.{after_number}
+use Rattle.byte_unit_base.specs.UnitScan.{unit_step, unit_scan, unit_of, unit_at_end, unit_parser_state, start}
+use Rattle.byte_unit_base.specs.SizeScan.{SizeScan, Beginning, Whole, Point, Fraction, Gap, UnitAt, is_digit, size_step}
+use Rattle.byte_unit_base.specs.SizeScan.{size_scan, size_at_end, size_or_fault, size_parser_state, after_number}
 use Rattle.byte_unit_base.specs.PartsReading.{IsFirst, IsNoSpace, EndsNumber, missing_digit, next_char}
 use Rattle.byte_unit_base.specs.declared.unit.scan.UnitScan.{UnitScan}
 use Rattle.byte_unit_base.proofs.Scans.{read_some, read_none, read_through}
@@ -73,17 +72,10 @@ IsNoDigit c = is_digit c ≡ false
 pub wide_no_digit : (c : ℕ) → 128 ≤ c → IsNoDigit c
 wide_no_digit c wide = grind (arith, nat_tests)
 
-other_is_no_digit : (b : ℕ) → is_ascii_digit b ≡ false → IsNoDigit b
-other_is_no_digit b other = grind (arith, nat_tests)
-
-none_counted : (t : Bool) (n : ℕ) → cond t (1 + n) 0 ≡ 0 → t ≡ false
-none_counted true n e = absurd (omega (arith, e))
-none_counted false n e = refl
-
 -- the bytes after a run of digits start with none
 pub no_digit_first : (bytes : List ℕ) → digits_len bytes ≡ 0 → IsFirst IsNoDigit bytes
 no_digit_first [] e = tt
-no_digit_first (b ∷ bs) e = other_is_no_digit b (none_counted (is_ascii_digit b) (digits_len bs) e)
+no_digit_first (b ∷ bs) e = grind (arith, nat_tests, e)
 
 -- a missing digit
 
@@ -173,11 +165,7 @@ pub ends_fraction : (s : SizeScan) (n c : ℕ) → AtNumber n s → size_parser_
 unfolding size_step
 ends_fraction (Fraction w f j) n c at place none =
     record { step_is = rw none (ap (λ n. after_number n c) at); fault_is = λ flags. rw none refl }
-ends_fraction (Whole w) n c at place none = absurd (let no : ⊥ = cc in no)
-ends_fraction (Gap m) n c at place none = absurd (let no : ⊥ = cc in no)
-ends_fraction Beginning n c at place none = absurd at
-ends_fraction (Point w) n c at place none = absurd at
-ends_fraction (UnitAt m s) n c at place none = absurd at
+ends_fraction _ n c at place none = grind (arith, at, place)
 
 -- the unit after a number
 
@@ -190,32 +178,26 @@ end_with_number : (n : ℕ) (unit : Option Shape) → size_or_fault n unit ≡ w
 end_with_number n None = refl
 end_with_number n (Some unit) = refl
 
-in_unit_at : (flags : Flags) (n c : ℕ) (u : UnitScan) (cs : List ℕ)
+-- a state that steps and fails as the parser of a unit does has its result, with the number
+first_of_unit : (flags : Flags) (n c : ℕ) (s : SizeScan) (u : UnitScan) (cs : List ℕ)
+    → size_step s c ≡ option_map (UnitAt n) (unit_step u c)
+    → fault_at current flags (size_parser_state s) c ≡ fault_at current flags (unit_parser_state u) c
     → ((t : UnitScan) → read (size_scan flags) (UnitAt n t) cs ≡ with_number n (read (unit_scan flags) t cs))
     → (o : Option UnitScan) → unit_step u c ≡ o
-    → read (size_scan flags) (UnitAt n u) (c ∷ cs) ≡ with_number n (read (unit_scan flags) u (c ∷ cs))
-unfolding size_step
-in_unit_at flags n c u cs more None e =
-    read_none (size_scan flags) (UnitAt n u) c cs (ap (option_map (UnitAt n)) e)
-    ∙ sym (ap (with_number n) (read_none (unit_scan flags) u c cs e))
-in_unit_at flags n c u cs more (Some t) e =
-    read_some (size_scan flags) (UnitAt n u) (UnitAt n t) c cs (ap (option_map (UnitAt n)) e)
+    → read (size_scan flags) s (c ∷ cs) ≡ with_number n (read (unit_scan flags) u (c ∷ cs))
+first_of_unit flags n c s u cs step fault more None e =
+    read_none (size_scan flags) s c cs (step ∙ ap (option_map (UnitAt n)) e)
+    ∙ (ap Err fault ∙ sym (ap (with_number n) (read_none (unit_scan flags) u c cs e)))
+first_of_unit flags n c s u cs step fault more (Some t) e =
+    read_some (size_scan flags) s (UnitAt n t) c cs (step ∙ ap (option_map (UnitAt n)) e)
     ∙ (more t ∙ sym (ap (with_number n) (read_some (unit_scan flags) u t c cs e)))
 
 read_in_unit : (flags : Flags) (n : ℕ) (u : UnitScan) (text : List ℕ)
     → read (size_scan flags) (UnitAt n u) text ≡ with_number n (read (unit_scan flags) u text)
+unfolding size_step
 read_in_unit flags n u [] = end_with_number n (unit_of flags u)
-read_in_unit flags n u (c ∷ cs) = in_unit_at flags n c u cs (λ t. read_in_unit flags n t cs) (unit_step u c) refl
-
-first_of_unit : (flags : Flags) (n c : ℕ) (s : SizeScan) (cs : List ℕ) → EndsNumber s n c → eqb c 32 ≡ false
-    → (o : Option UnitScan) → unit_step start c ≡ o
-    → read (size_scan flags) s (c ∷ cs) ≡ with_number n (read (unit_scan flags) start (c ∷ cs))
-first_of_unit flags n c s cs ends other None e =
-    read_none (size_scan flags) s c cs (ends.step_is ∙ rw (other, e) refl)
-    ∙ (ap Err (ends.fault_is flags) ∙ sym (ap (with_number n) (read_none (unit_scan flags) start c cs e)))
-first_of_unit flags n c s cs ends other (Some t) e =
-    read_some (size_scan flags) s (UnitAt n t) c cs (ends.step_is ∙ rw (other, e) refl)
-    ∙ (read_in_unit flags n t cs ∙ sym (ap (with_number n) (read_some (unit_scan flags) start t c cs e)))
+read_in_unit flags n u (c ∷ cs) =
+    first_of_unit flags n c (UnitAt n u) u cs refl refl (λ t. read_in_unit flags n t cs) (unit_step u c) refl
 
 -- the state is after the number `n`, which ends there
 pub record IsAfterNumber (flags : Flags) (s : SizeScan) (n : ℕ) (rest : List ℕ) : Type 0 where
@@ -228,20 +210,13 @@ read_first_of_unit : (flags : Flags) (n : ℕ) (s : SizeScan) (unit : List ℕ) 
 read_first_of_unit flags n s [] after other = after.at_end ∙ end_with_number n (unit_of flags start)
 read_first_of_unit flags n s (c ∷ cs) after other =
     let no_space : eqb c 32 ≡ false = grind (arith, nat_tests) in
-    first_of_unit flags n c s cs after.next no_space (unit_step start c) refl
+    first_of_unit flags n c s start cs (after.next.step_is ∙ rw no_space refl) (after.next.fault_is flags)
+    (λ t. read_in_unit flags n t cs) (unit_step start c) refl
 
 ends_gap : (n : ℕ) (text : List ℕ) → IsFirst (EndsNumber (Gap n) n) text
 unfolding size_step
 ends_gap n [] = tt
 ends_gap n (c ∷ cs) = record { step_is = refl; fault_is = λ flags. refl }
-
-read_gap : (flags : Flags) (n k : ℕ) (unit : List ℕ) → IsFirst IsNoSpace unit
-    → read (size_scan flags) (Gap n) (replicate k space ++ unit) ≡ with_number n (read (unit_scan flags) start unit)
-unfolding size_step
-read_gap flags n zero unit other =
-    read_first_of_unit flags n (Gap n) unit record { at_end = refl; next = ends_gap n unit } other
-read_gap flags n (suc k) unit other =
-    read_some (size_scan flags) (Gap n) (Gap n) space (replicate k space ++ unit) refl ∙ read_gap flags n k unit other
 
 -- after a number, spaces are passed over, and the rest is read as a unit
 pub read_after_number : (flags : Flags) (n k : ℕ) (s : SizeScan) (unit : List ℕ)
@@ -250,4 +225,4 @@ pub read_after_number : (flags : Flags) (n k : ℕ) (s : SizeScan) (unit : List 
 read_after_number flags n zero s unit after other = read_first_of_unit flags n s unit after other
 read_after_number flags n (suc k) s unit after other =
     read_some (size_scan flags) s (Gap n) space (replicate k space ++ unit) after.next.step_is
-    ∙ read_gap flags n k unit other
+    ∙ read_after_number flags n k (Gap n) unit record { at_end = refl; next = ends_gap n (replicate k space ++ unit) } other

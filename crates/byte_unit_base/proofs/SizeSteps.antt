@@ -1,15 +1,12 @@
 -- The steps of the state machine of sizes by cases.
-use Rattle.std.proofs.Common.{◌≡◌, ℕ, ◌+◌, ◌*◌, ◌<◌, ◌⊎◌, Some}
-use Rattle.std.proofs.Common.{arith}
+use Rattle.std.proofs.Common.{◌≡◌, ℕ, ◌+◌, ◌*◌, ◌<◌, ◌⊎◌, Some, arith}
 use Rattle.std.specs.Char.{digit_value}
 use Rattle.std.proofs.lemmas.Bool.Decides.{nat_tests}
 use Rattle.byte_unit_math.specs.Bounds.{scale, places_of_decimal, whole_limit}
 use Rattle.byte_unit_base.specs.UnitScan.{unit_step, start as unit_start}
-use Rattle.byte_unit_base.specs.SizeScan.{size_step, after_number, fixed_point}
+use Rattle.byte_unit_base.specs.SizeScan.{size_step, after_number, fixed_point, SizeScan, Beginning, Whole, Point}
+use Rattle.byte_unit_base.specs.SizeScan.{Fraction, Gap, UnitAt}
 use Rattle.byte_unit_base.specs.declared.unit.scan.UnitScan.{UnitScan}
-use Rattle.byte_unit_base.specs.SizeScan.{SizeScan}
-use Rattle.byte_unit_base.specs.SizeScan.{Beginning, Whole, Point, Fraction, Gap}
-use Rattle.byte_unit_base.specs.SizeScan.{UnitAt}
 use Rattle.byte_unit_base.proofs.Options.{some_mapped}
 
 -- after the number `n`, the character continues the unit `s`

@@ -1,8 +1,7 @@
 -- What is known of the text that led to a state of the state machine of units, and that the unit of a state is spelled
 -- by it.
 use Rattle.std.proofs.Common.{◌≡◌, ℕ, ◌-◌, inl, inr, List, [], ◌∷◌, ◌++◌, Option, Some, None, sym, refl, ap, subst, ◌∙◌}
-use Rattle.std.proofs.Common.{arith, Bool, true}
-use Rattle.std.proofs.Common.{false, cond, eqb, append-nil}
+use Rattle.std.proofs.Common.{arith, Bool, false, cond, eqb, append-nil}
 use Rattle.std.specs.Prelude.{slice_index}
 use Rattle.std.specs.Option.{option_map}
 use Rattle.std.specs.Char.{to_ascii_lowercase, to_ascii_uppercase}
@@ -11,9 +10,8 @@ use Rattle.std.proofs.lemmas.Bool.Decides.{nat_tests}
 use Rattle.byte_unit_base.specs.Shape.{Shape}
 use Rattle.byte_unit_base.specs.Version.{current}
 use Rattle.byte_unit_base.specs.Spelling.{Flags, IsPrefixLetter, SpellsBinary, SpellsCount, Spells}
-use Rattle.byte_unit_base.specs.UnitScan.{unit_step, unit_of, start, scan_of, power_of, prefix_at, is_i, multiple_step}
-use Rattle.byte_unit_base.specs.UnitScan.{word_step, or_word}
-use Rattle.byte_unit_base.specs.UnitScan.{count_of, multiple_shape, IsMultipleText, IsWordText}
+use Rattle.byte_unit_base.specs.UnitScan.{unit_step, unit_of, start, scan_of, power_of, prefix_at, multiple_step}
+use Rattle.byte_unit_base.specs.UnitScan.{word_step, or_word, count_of, multiple_shape, IsMultipleText, IsWordText}
 use Rattle.byte_unit_base.specs.declared.unit.scan.Prefix.{Prefix}
 use Rattle.byte_unit_base.specs.declared.unit.scan.Prefix.TheVariants.{Kilo, Mega, Giga, Tera, Peta, Exa, Zetta, Yotta}
 use Rattle.byte_unit_base.specs.declared.unit.scan.Prefix.TheVariants.{Ronna}
@@ -40,68 +38,42 @@ letter_found : (u : ℕ) (p : Prefix)
     (cond (eqb u 80) (Some Peta) (cond (eqb u 69) (Some Exa) (cond (eqb u 90) (Some Zetta) (cond (eqb u 89) (Some Yotta)
     (cond (eqb u 82) (Some Ronna) None)))))))) ≡ Some p → u ≡ slice_index current.letters (power_of p - 1)
 letter_found u Kilo e = grind (arith, nat_tests)
-letter_found u Mega e = grind (arith, nat_tests)
-letter_found u Giga e = grind (arith, nat_tests)
-letter_found u Tera e = grind (arith, nat_tests)
-letter_found u Peta e = grind (arith, nat_tests)
-letter_found u Exa e = grind (arith, nat_tests)
-letter_found u Zetta e = grind (arith, nat_tests)
-letter_found u Yotta e = grind (arith, nat_tests)
-letter_found u Ronna e = grind (arith, nat_tests)
+letter_found u _ e = grind (arith, nat_tests)
 
 -- a character for which a prefix is found is its letter, in either case
 pub prefix_found : (c : ℕ) (p : Prefix) → prefix_at c ≡ Some p → IsPrefixLetter current (power_of p) c
 prefix_found c Kilo e = (omega arith, omega arith, letter_found (to_ascii_uppercase c) Kilo e)
-prefix_found c Mega e = (omega arith, omega arith, letter_found (to_ascii_uppercase c) Mega e)
-prefix_found c Giga e = (omega arith, omega arith, letter_found (to_ascii_uppercase c) Giga e)
-prefix_found c Tera e = (omega arith, omega arith, letter_found (to_ascii_uppercase c) Tera e)
-prefix_found c Peta e = (omega arith, omega arith, letter_found (to_ascii_uppercase c) Peta e)
-prefix_found c Exa e = (omega arith, omega arith, letter_found (to_ascii_uppercase c) Exa e)
-prefix_found c Zetta e = (omega arith, omega arith, letter_found (to_ascii_uppercase c) Zetta e)
-prefix_found c Yotta e = (omega arith, omega arith, letter_found (to_ascii_uppercase c) Yotta e)
-prefix_found c Ronna e = (omega arith, omega arith, letter_found (to_ascii_uppercase c) Ronna e)
-
--- if a guarded value is there, its test holds, and it is this value
-pub guard_some : {X : Type 0} (t : Bool) (x y : X) → cond t (Some x) None ≡ Some y → (t ≡ true) × (x ≡ y)
-guard_some true x y e = (refl, cc)
-guard_some false x y e = absurd (let h : ⊥ = cc in h)
-
--- if the test of equality holds, the numbers are equal
-pub eq_if_test_true : (a b : ℕ) → eqb a b ≡ true → a ≡ b
-eq_if_test_true a b e = grind (arith, nat_tests)
+prefix_found c p e = (omega arith, omega arith, letter_found (to_ascii_uppercase c) p e)
 
 -- one character more of the prefix
-multiple_grows_from_one : (c : ℕ) (n : Multiple) → option_map Decimal (prefix_at c) ≡ Some n → IsMultipleText n (c ∷ [])
-multiple_grows_from_one c n e =
-    let p = some_mapped Decimal n (prefix_at c) e in
-    let one_letter : IsMultipleText (Decimal p.0) (c ∷ []) = record {
-      letter = c;
-      infix_part = [];
-      text_is = refl;
-      letter_is = prefix_found c p.0 p.1;
-      infix_is = inl (refl, refl);
-    } in
-    subst (λ m. IsMultipleText m (c ∷ [])) p.2 one_letter
-
 no_infix : (text : List ℕ) → SpellsBinary text false → text ≡ []
 no_infix text (inl h) = h.0
 no_infix text (inr h) = absurd (let k : ⊥ = cc (h.1) in k)
 
 multiple_grows : (m n : Multiple) (c : ℕ) (text : List ℕ) → multiple_step m c ≡ Some n → IsMultipleText m text
     → IsMultipleText n (text ++ c ∷ [])
-multiple_grows One n c text e h = rw h (multiple_grows_from_one c n e)
-multiple_grows (Decimal p) n c text e h =
-    let g = guard_some (is_i c) (Binary p) n e in
+multiple_grows One (Decimal p) c text e h =
+    let letter = some_mapped Decimal (Decimal p) (prefix_at c) e in
+    let found : prefix_at c ≡ Some p = cc (letter.1, letter.2) in
+    rw h (record {
+      letter = c;
+      infix_part = [];
+      text_is = refl;
+      letter_is = prefix_found c p found;
+      infix_is = inl (refl, refl);
+    })
+multiple_grows (Decimal p) (Binary q) c text e h =
     let whole : text ≡ h.letter ∷ [] = h.text_is ∙ ap (λ x. h.letter ∷ x) (no_infix h.infix_part h.infix_is) in
-    let with_i : IsMultipleText (Binary p) (text ++ c ∷ []) = record {
+    let same : p ≡ q = grind (arith, e) in
+    let is : to_ascii_lowercase c ≡ 105 = grind (arith, nat_tests, e) in
+    record {
       letter = h.letter;
       infix_part = c ∷ [];
       text_is = ap (λ x. x ++ c ∷ []) whole;
-      letter_is = h.letter_is;
-      infix_is = inr (ap (λ x. x ∷ []) (eq_if_test_true _ _ g.0), refl);
-    } in
-    subst (λ m. IsMultipleText m (text ++ c ∷ [])) g.1 with_i
-multiple_grows (Binary p) n c text e h = absurd (let k : ⊥ = cc in k)
+      letter_is = subst (λ p. IsPrefixLetter current (power_of p) h.letter) same h.letter_is;
+      infix_is = inr (ap (λ x. x ∷ []) is, refl);
+    }
+multiple_grows _ _ c text e h = grind (arith, nat_tests)
 
 -- one character more of the suffix
 lower_push : (text : List ℕ) (c : ℕ) → str_to_ascii_lowercase (text ++ c ∷ [])
@@ -109,35 +81,15 @@ lower_push : (text : List ℕ) (c : ℕ) → str_to_ascii_lowercase (text ++ c �
 lower_push [] c = refl
 lower_push (x ∷ xs) c = ap (λ t. to_ascii_lowercase x ∷ t) (lower_push xs c)
 
-first_grows : (v : Word) (c : ℕ) → cond (eqb c 66) (Some UpperB) (cond (eqb c 98) (Some LowerB) None) ≡ Some v
-    → IsWordText v (c ∷ [])
-first_grows Empty c e = grind (arith, nat_tests)
-first_grows UpperB c e = let k : c ≡ 66 = grind (arith, nat_tests) in ap (λ x. x ∷ []) k
-first_grows LowerB c e = let k : c ≡ 98 = grind (arith, nat_tests) in ap (λ x. x ∷ []) k
-first_grows Bi c e = grind (arith, nat_tests)
-first_grows Bit c e = grind (arith, nat_tests)
-first_grows Bits c e = grind (arith, nat_tests)
-
 word_grows : (w v : Word) (c : ℕ) (text : List ℕ) → word_step w c ≡ Some v → IsWordText w text
     → IsWordText v (text ++ c ∷ [])
-word_grows Empty v c text e h = rw h (first_grows v c e)
-word_grows UpperB v c text e h =
-    let g = guard_some (is_i c) Bi v e in rw h
-    (subst (λ w. IsWordText w (66 ∷ c ∷ [])) g.1 (ap (λ x. 98 ∷ x ∷ []) (eq_if_test_true _ _ g.0)))
-word_grows LowerB v c text e h =
-    let g = guard_some (is_i c) Bi v e in rw h
-    (subst (λ w. IsWordText w (98 ∷ c ∷ [])) g.1 (ap (λ x. 98 ∷ x ∷ []) (eq_if_test_true _ _ g.0)))
-word_grows Bi v c text e h =
-    let g = guard_some (eqb (to_ascii_lowercase c) 116) Bit v e in
-    subst (λ w. IsWordText w (text ++ c ∷ [])) g.1
-    (lower_push text c ∙ (ap (λ t. t ++ to_ascii_lowercase c ∷ []) h
-    ∙ ap (λ x. 98 ∷ 105 ∷ x ∷ []) (eq_if_test_true _ _ g.0)))
-word_grows Bit v c text e h =
-    let g = guard_some (eqb (to_ascii_lowercase c) 115) Bits v e in
-    subst (λ w. IsWordText w (text ++ c ∷ [])) g.1
-    (lower_push text c ∙ (ap (λ t. t ++ to_ascii_lowercase c ∷ []) h
-    ∙ ap (λ x. 98 ∷ 105 ∷ 116 ∷ x ∷ []) (eq_if_test_true _ _ g.0)))
-word_grows Bits v c text e h = absurd (let k : ⊥ = cc in k)
+word_grows Empty UpperB c text e h = rw h (grind (arith, nat_tests, e))
+word_grows Empty LowerB c text e h = rw h (grind (arith, nat_tests, e))
+word_grows UpperB Bi c text e h = rw h (grind (arith, nat_tests, e))
+word_grows LowerB Bi c text e h = rw h (grind (arith, nat_tests, e))
+word_grows Bi Bit c text e h = grind (arith, nat_tests, e, lower_push text c, h)
+word_grows Bit Bits c text e h = grind (arith, nat_tests, e, lower_push text c, h)
+word_grows _ _ c text e h = grind (arith, nat_tests, e)
 
 -- one character more of the prefix or of the suffix
 reached_by_word : (m : Multiple) (w : Word) (t : UnitScan) (c : ℕ) (text : List ℕ)
@@ -172,11 +124,7 @@ pub Reached-step : (m : Multiple) (w : Word) (t : UnitScan) (c : ℕ) (text : Li
     → Reached (scan_of m w) text → Reached t (text ++ c ∷ [])
 unfolding unit_step
 Reached-step m Empty t c text h r = reached_by_prefix m t c text (multiple_step m c) refl h r
-Reached-step m UpperB t c text h r = reached_by_word m UpperB t c text h r
-Reached-step m LowerB t c text h r = reached_by_word m LowerB t c text h r
-Reached-step m Bi t c text h r = reached_by_word m Bi t c text h r
-Reached-step m Bit t c text h r = reached_by_word m Bit t c text h r
-Reached-step m Bits t c text h r = reached_by_word m Bits t c text h r
+Reached-step m w t c text h r = reached_by_word m w t c text h r
 
 -- no character has led to the first state
 pub Reached-start : Reached start []
@@ -198,9 +146,7 @@ parts_spell_unit : (flags : Flags) (m : Multiple) (front word : List ℕ) (bit :
     → SpellsCount flags word bit
     → Spells current flags (front ++ word) (multiple_shape m bit)
 parts_spell_unit flags One front word bit h k = rw h (inl (record { count_is = k; power_is = refl; binary_is = refl }))
-parts_spell_unit flags (Decimal p) front word bit h k =
-    inr (record { prefix_part = front; count_part = word; text_is = refl; prefix_is = h; count_is = k })
-parts_spell_unit flags (Binary p) front word bit h k =
+parts_spell_unit flags m front word bit h k =
     inr (record { prefix_part = front; count_part = word; text_is = refl; prefix_is = h; count_is = k })
 
 -- if a state has a unit, the text that led to it spells this unit

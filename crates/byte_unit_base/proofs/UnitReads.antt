@@ -1,8 +1,7 @@
 -- The parser of a unit: its state machine accepts exactly the spellings of units, so it returns the unit of an input,
 -- or its error.
 use Rattle.std.proofs.Common.{◌≡◌, ℕ, ◌⊎◌, inl, inr, List, [], ◌∷◌, ◌++◌, Result, Ok, Some, None, ap, subst, sym, ◌∙◌}
-use Rattle.std.proofs.Common.{refl, append-nil}
-use Rattle.std.proofs.Common.{false, true}
+use Rattle.std.proofs.Common.{refl, append-nil, false, true}
 use Rattle.std.specs.Str.{str_to_ascii_lowercase}
 use Rattle.byte_unit_base.specs.Shape.{Shape}
 use Rattle.byte_unit_base.specs.Version.{current}
@@ -17,8 +16,7 @@ use Rattle.byte_unit_base.specs.Readings.{IsUnitReading}
 use Rattle.byte_unit_base.specs.ReaderLaws.{UnitTextsHaveOneAnswer, ViableUnitPrefixesAreBeginnings}
 use Rattle.byte_unit_base.specs.Scan.{read}
 use Rattle.byte_unit_base.specs.UnitScan.{unit_step, unit_scan, unit_of, unit_at_end, unit_result, start, scan_of}
-use Rattle.byte_unit_base.specs.UnitScan.{power_of, word_parser_state}
-use Rattle.byte_unit_base.specs.UnitScan.{multiple_parser_state, IsMultipleText}
+use Rattle.byte_unit_base.specs.UnitScan.{power_of, word_parser_state, multiple_parser_state, IsMultipleText}
 use Rattle.byte_unit_base.specs.declared.unit.Unit.{Unit as UnitName}
 use Rattle.byte_unit_base.specs.declared.errors.UnitParseError.{UnitParseError}
 use Rattle.byte_unit_base.specs.declared.unit.scan.Word.{Word}

@@ -1,22 +1,18 @@
 -- The state machine of units reads each spelling, and each of their viable prefixes, to its end.
 use Rattle.std.proofs.Common.{◌≡◌, ℕ, zero, suc, inl, inr, ⊎_elim, List, [], ◌∷◌, Option, Some, sym, refl, ap, subst}
-use Rattle.std.proofs.Common.{◌∙◌, arith, Bool}
-use Rattle.std.proofs.Common.{not}
+use Rattle.std.proofs.Common.{◌∙◌, arith, Bool, not}
 use Rattle.std.specs.Prelude.{codes}
 use Rattle.std.specs.Option.{option_map}
 use Rattle.std.specs.Char.{to_ascii_lowercase}
 use Rattle.std.specs.Str.{str_to_ascii_lowercase}
 use Rattle.byte_unit_base.specs.Shape.{Shape, shape}
 use Rattle.byte_unit_base.specs.Version.{current}
-use Rattle.byte_unit_base.specs.Spelling.{Flags, IsPrefixLetter, SpellsCount, SpellsBinary, SpellsPrefix}
-use Rattle.byte_unit_base.specs.Spelling.{Spells}
-use Rattle.byte_unit_base.specs.ViablePrefix.{ParserState, before_unit, after_prefix, after_b, after_bi, after_bit, after_bits}
-use Rattle.byte_unit_base.specs.ViablePrefix.{IsWord, IsViableWordPrefix}
-use Rattle.byte_unit_base.specs.ViablePrefix.{IsViableUnitPrefix}
+use Rattle.byte_unit_base.specs.Spelling.{Flags, IsPrefixLetter, SpellsCount, SpellsBinary, SpellsPrefix, Spells}
+use Rattle.byte_unit_base.specs.ViablePrefix.{ParserState, before_unit, after_prefix, after_b, after_bi, after_bit}
+use Rattle.byte_unit_base.specs.ViablePrefix.{after_bits, IsWord, IsViableWordPrefix, IsViableUnitPrefix}
 use Rattle.byte_unit_base.specs.Scan.{run}
 use Rattle.byte_unit_base.specs.UnitScan.{unit_step, unit_of, unit_scan, start, scan_of, power_of, prefix_at, count_of}
-use Rattle.byte_unit_base.specs.UnitScan.{multiple_shape, IsWordText}
-use Rattle.byte_unit_base.specs.UnitScan.{word_parser_state, multiple_parser_state}
+use Rattle.byte_unit_base.specs.UnitScan.{multiple_shape, IsWordText, word_parser_state, multiple_parser_state}
 use Rattle.byte_unit_base.specs.declared.unit.scan.Prefix.{Prefix}
 use Rattle.byte_unit_base.specs.declared.unit.scan.Prefix.TheVariants.{Kilo, Mega, Giga, Tera, Peta, Exa, Zetta, Yotta}
 use Rattle.byte_unit_base.specs.declared.unit.scan.Prefix.TheVariants.{Ronna}

@@ -36,6 +36,7 @@ pub fn each_size_has_a_choice_or_none()
 
 /// States that a size that is not zero is exact in a unit at a number of places if and only if neither exponent of the
 /// unit, of 2 and of 5, exceeds that of the size in bits by more than the places.
+#[tactic(auto, using(crate::proofs::SizePowers::sizes_by_powers))]
 pub fn sizes_are_exact_by_powers()
     ensures { SizesAreExactByPowers }
 {}

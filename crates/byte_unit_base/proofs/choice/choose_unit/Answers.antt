@@ -10,11 +10,9 @@ use Rattle.byte_unit_base.proofs.Choosing.{some_bits}
 use Rattle.byte_unit_base.proofs.FewSteps.{few_of_choice, few_of_none}
 use Rattle.byte_unit_base.proofs.Quotients.{places_of_quotient, quotient_of_product, whole_takes_none}
 use Rattle.byte_unit_base.proofs.Rows.{HasPowers, no_row, unit_in, search_start, power_of_powers, row_multiple}
-use Rattle.byte_unit_base.proofs.Rows.{row_at_is_row, row_powers, powers_in_row}
-use Rattle.byte_unit_base.proofs.Rows.{unit_found, unit_passed, none_found}
+use Rattle.byte_unit_base.proofs.Rows.{row_at_is_row, row_powers, powers_in_row, unit_found, unit_passed, none_found}
 use Rattle.byte_unit_base.proofs.SizePowers.{in_bits_powers, in_bits_product, chosen_by_powers, none_by_powers}
-use Rattle.byte_unit_base.proofs.SizePowers.{exact_by_row, counted_choice}
-use Rattle.byte_unit_base.proofs.SizePowers.{count_fits}
+use Rattle.byte_unit_base.proofs.SizePowers.{exact_by_row, counted_choice, count_fits}
 use Rattle.byte_unit_base.proofs.choice.choose_unit.Goals as goal
 use Rattle.byte_unit_base.proofs.choice.choose_unit.Goals.{then-places-gt-FEW_PLACES, else-places-gt-FEW_PLACES}
 

@@ -1,7 +1,6 @@
 use Rattle.std.proofs.Common.{◌≡◌, drop, map}
-use Rattle.byte_unit_base.proofs.Rows.{HasPowers}
+use Rattle.byte_unit_base.proofs.Rows.{HasPowers, unit_in}
 use Rattle.byte_unit_base.proofs.Falling.{Remain}
-use Rattle.byte_unit_base.proofs.Rows.{unit_in}
 use Rattle.byte_unit_base.proofs.choice.choose_unit.Given as goal
 
 -- each unit whose exponents of 2 and 5 are small enough is in this row or in a later one, and the loop has counted no

@@ -5,8 +5,7 @@ use Rattle.std.proofs.lemmas.Bool.{both_ways}
 use Rattle.byte_unit_base.specs.Choice.{IsEligibleUnit}
 use Rattle.byte_unit_base.specs.Family.{IsOfType}
 use Rattle.byte_unit_base.proofs.Choosing.{small_bits}
-use Rattle.byte_unit_base.proofs.Rows.{no_row, search_start, row_at_is_row}
-use Rattle.byte_unit_base.proofs.Rows.{unit_found, unit_passed}
+use Rattle.byte_unit_base.proofs.Rows.{no_row, search_start, row_at_is_row, unit_found, unit_passed}
 use Rattle.byte_unit_base.proofs.choice.largest_unit.Goals as goal
 use Rattle.byte_unit_base.proofs.choice.largest_unit.Goals.{else-row-in_bits-via-then-row-in_bits+else-takes}
 use Rattle.byte_unit_base.proofs.choice.largest_unit.Goals.{else-row-in_bits-via-else-row-in_bits}
