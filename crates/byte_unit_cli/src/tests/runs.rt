@@ -54,6 +54,10 @@ const TWO_MESSAGES: &[u8] = b"byte-unit: line 1: field 1: 'x': the character 'x'
 byte-unit: line 2: field 1: '\\xff': not UTF-8
 ";
 
+/// The message on a line of which the unit is rejected.
+const NO_UNIT: &[u8] = b"byte-unit: line 2: '1 x': the character 'x' is incorrect \
+('B', 'K', 'M', 'G', 'T', 'P', 'E', 'Z', 'Y' or 'R' or no character is expected)\n";
+
 /// A name, options and an input; what was counted, or why the run ends early; what is written, and the messages.
 type Row = (
     &'static str,
@@ -201,7 +205,7 @@ const ROWS: &[Row] = &[
         b"1 KB\n1 x\n2 KB\n",
         Err(Stop::Rejected),
         b"1 KB\n",
-        b"byte-unit: line 2: '1 x': the character 'x' is incorrect ('B', 'K', 'M', 'G', 'T', 'P', 'E', 'Z', 'Y' or 'R' or no character is expected)\n",
+        NO_UNIT,
     ),
     (
         "a rejected last line",
@@ -209,7 +213,7 @@ const ROWS: &[Row] = &[
         b"1 KB\n1 x",
         Err(Stop::Rejected),
         b"1 KB\n",
-        b"byte-unit: line 2: '1 x': the character 'x' is incorrect ('B', 'K', 'M', 'G', 'T', 'P', 'E', 'Z', 'Y' or 'R' or no character is expected)\n",
+        NO_UNIT,
     ),
     (
         "an empty line",
