@@ -30,7 +30,7 @@ impl<'a> Ended<'a> {
     }
 
     /// Asserts the result and the written bytes. A name and numbers tell which of a test's runs it was. The message has the
-    /// numbers of bytes, and how many at the beginning are those of the report.
+    /// number of bytes, since reports can be too long to be printed.
     pub fn expect(
         &self,
         rt: &impl Abort,
@@ -40,23 +40,9 @@ impl<'a> Ended<'a> {
         numbers: &[usize],
     ) {
         let taken = self.taken.as_slice();
-        let found = (self.result, taken.len(), equal_at_the_start(taken, report));
-        assert_eq!(rt;
-            found,
-            (wanted, report.len(), report.len()),
-            "{name} {numbers:?}"
-        );
+        let found = (self.result, taken.len(), taken == report);
+        assert_eq!(rt; found, (wanted, report.len(), true), "{name} {numbers:?}");
     }
-}
-
-/// Returns the number of bytes at the start of both that are equal.
-fn equal_at_the_start(left: &[u8], right: &[u8]) -> usize {
-    for (at, (one, other)) in left.iter().zip(right).enumerate() {
-        if *one != *other {
-            return at;
-        }
-    }
-    left.len().min(right.len())
 }
 
 /// Runs over this input with reads and writes at each pair of paces, and asserts the result and the written bytes. The

@@ -87,8 +87,8 @@ const BY_WRITES: &[(Pace, Result<(), RunError>, usize)] = &[
 fn answers_of_several_megabytes(rt: HostRuntime) {
     let input = repeated(&rt, b"\n", 300_000, b"");
     let report = repeated(&rt, b"no value\n", 300_000, b"");
-    let mut buffer = b" ".repeat(rt.alloc(), 300_000).expect(&rt, "memory");
     for (writes, wanted, count) in BY_WRITES {
+        let mut buffer = b" ".repeat(rt.alloc(), 300_000).expect(&rt, "memory");
         let ended = ran_in(
             rt.alloc(),
             &rt.alloc(),
