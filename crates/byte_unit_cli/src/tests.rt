@@ -10,13 +10,26 @@ use byte_unit_command::run::run;
 use byte_unit_command::stop::Stop;
 use byte_unit_command::tally::Tally;
 use byte_unit_command::writing::Writing;
-use std::alloc::Global;
 use std::process::Abort;
 
+/// What a run returns in which all fields are sizes within the limits, with this sum. A macro, so that constants can
+/// use it.
+macro_rules! sum {
+    ($total:expr) => {
+        Ok(Tally {
+            total: $total,
+            beyond: false,
+            rejected: false,
+        })
+    };
+}
+
 mod failing;
-mod fields;
 mod forms;
+mod runs;
 mod streams;
+
+use streams::{MemoryReader, MemoryWriter, Pace};
 
 /// The first field.
 const FIRST: &[FieldRange] = &[FieldRange {
@@ -42,45 +55,37 @@ const PLAIN: Options<'static> = Options {
     min: None,
 };
 
-/// What a run has returned, and the bytes that it has written to both streams.
-#[derive(Drop)]
-struct Written {
-    result: Result<Tally, Stop>,
-    written: Vec<u8>,
-    errors: Vec<u8>,
-}
+/// What a run returns, the lines that it writes, and its messages.
+type Ended<'a> = (Result<Tally, Stop>, &'a [u8], &'a [u8]);
 
-impl Written {
-    /// Asserts why the run ended early, or `None` if it did not, and the bytes that it has written. The name and the number
-    /// tell which of a test's runs it was.
-    fn expect(
-        &self,
-        rt: &impl Abort,
-        stop: Option<Stop>,
-        written: &[u8],
-        (name, number): (&str, usize),
-    ) {
-        let found = (self.result.err(), self.written.as_slice());
-        assert_eq!(rt; found, (stop, written), "{name} {number}");
-    }
-}
-
-/// Runs over an input in memory.
-fn ended(alloc: Global, options: &Options, input: &[u8]) -> Written {
-    let mut reader = Reading::new(input);
-    let mut writer = Writing::new(Vec::new(alloc));
-    let mut errors = Vec::new(alloc);
+/// Asserts what a run over an input in memory does, with reads and writes at these paces. The name and the number tell
+/// which of a table's rows it is.
+fn expect(
+    rt: &(impl Abort + AllocGlobal),
+    options: &Options,
+    input: &[u8],
+    (reads, writes): (Pace, Pace),
+    wanted: Ended<'_>,
+    (name, number): (&str, usize),
+) {
+    let mut reader = Reading::new(MemoryReader {
+        rest: input,
+        pace: reads,
+    });
+    let mut writer = Writing::new(MemoryWriter {
+        taken: Vec::new(rt.alloc()),
+        pace: writes,
+    });
+    let mut errors = Vec::new(rt.alloc());
     let result = run(
-        alloc,
+        rt.alloc(),
         options,
         "line",
         &mut reader,
         &mut writer,
         &mut errors,
     );
-    Written {
-        result,
-        written: writer.into_inner(),
-        errors,
-    }
+    let written = writer.into_inner().taken;
+    let found = (result, written.as_slice(), errors.as_slice());
+    assert_eq!(rt; found, wanted, "{name} {number}");
 }

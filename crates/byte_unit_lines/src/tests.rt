@@ -30,17 +30,6 @@ fn assert_is<S: PartialEq + Debug + Drop>(rt: &impl Abort, found: S, wanted: S, 
     assert_eq!(rt; found, wanted, "{name}");
 }
 
-/// Asserts the same. The name and the numbers tell which of a test's runs it was.
-fn assert_at<S: PartialEq + Debug + Drop>(
-    rt: &impl Abort,
-    found: S,
-    wanted: S,
-    name: &str,
-    numbers: &[usize],
-) {
-    assert_eq!(rt; found, wanted, "{name} {numbers:?}");
-}
-
 /// Returns what the program writes for an input in memory.
 fn report_of(alloc: Global, input: &[u8], kind: Kind) -> Result<Vec<u8>, RunError>
     ensures { IfOk result (λ output. IsReport kind input.now output.items) }

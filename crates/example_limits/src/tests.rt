@@ -1,4 +1,4 @@
-//! Tests of the limits that are read, of the reasons for rejected ones, and of a document that is rejected.
+//! Tests of the limits that are read, and of the reasons for which documents and limits are rejected.
 use crate::{Limits, Rule, in_one_line};
 use anyhow::Result;
 use byte_unit::{Bit, Byte};
@@ -8,39 +8,9 @@ use std::alloc::{AllocError, Global};
 const VALID: &str =
     "file = \"20 MB\"\ntotal = \"1.5 GiB\"\ncache = \"256 MiB\"\ndisk = \"1.75 GiB\"\nrate = \"1 Mbit\"\n";
 
-#[test]
-fn limits_are_read(rt: HostRuntime) -> Result<()> {
-    let limits: Limits = toml::from_str(rt.alloc(), VALID)?;
-    assert!(rt; limits.file == Byte::from_u64(20_000_000));
-    assert!(rt; limits.total == Byte::from_u64(1_610_612_736));
-    assert!(rt; limits.cache == Some(Byte::from_u64(268_435_456)));
-    assert!(rt; limits.disk == Byte::from_u64(1_879_048_192));
-    assert!(rt; limits.rate == Bit::from_u64(1_000_000));
-    Ok(())
-}
-
-/// Returns the messages of the rules that limits break, each in a line.
-fn messages(alloc: Global, limits: &Limits) -> Result<String, AllocError> {
-    let mut lines = String::new(alloc);
-    for rule in Rule::ALL {
-        if limits.breaks(rule) {
-            lines.push_str(rule.message())?;
-            lines.push_str("\n")?;
-        }
-    }
-    Ok(lines)
-}
-
-/// Returns the reasons for which the limits of a document are rejected, each in a line.
-fn reasons(alloc: Global, text: &str) -> Result<String> {
-    match toml::from_str::<Limits>(alloc, text) {
-        Ok(limits) => Ok(messages(alloc, &limits)?),
-        Err(error) => Err(error.into()),
-    }
-}
-
-/// Documents, and the reasons for which their limits are rejected. At `disk = "2 GiB"` and at `450 B` with one bit a
-/// second, limits are at the bound of a rule.
+/// Documents, and the reasons for which they are rejected: the messages of the rules that the limits break, each in a
+/// line, or the error in one line. At `disk = "2 GiB"` and at `450 B` with one bit a second, limits are at the bound of a
+/// rule.
 const REASONS: &[(&str, &str)] = &[
     (VALID, ""),
     (
@@ -67,33 +37,51 @@ const REASONS: &[(&str, &str)] = &[
         "file = \"1 KB\"\ntotal = \"999 B\"\ndisk = \"998 B\"\nrate = \"2 b\"\n",
         "`file` exceeds `total`\n`total` and `cache` exceed `disk`\na file of the size `file` takes more than an hour at `rate`\n",
     ),
-];
-
-#[test]
-fn contradicting_limits_are_rejected(rt: HostRuntime) -> Result<()> {
-    for (text, wanted) in REASONS {
-        let found = reasons(rt.alloc(), text)?;
-        assert!(rt; found.as_str() == *wanted, "{text}");
-    }
-    Ok(())
-}
-
-/// Documents that are rejected, and the reason in one line.
-const ERRORS: &[(&str, &str)] = &[
     ("file = \"20 XB\"\n", "bad unit in `file`"),
     ("file = \"B\"\n", "not a number in `file`"),
 ];
 
-#[test]
-fn documents_are_rejected(rt: HostRuntime) -> Result<()> {
-    for (text, wanted) in ERRORS {
-        match toml::from_str::<Limits>(rt.alloc(), text) {
-            Ok(_) => panic!(rt; "{text}"),
-            Err(error) => {
-                let reason = in_one_line(rt.alloc(), &error)?;
-                assert!(rt; reason.as_str() == *wanted, "{text}");
-            }
+/// Returns the messages of the rules that limits break, each in a line.
+fn messages(alloc: Global, limits: &Limits) -> Result<String, AllocError> {
+    let mut lines = String::new(alloc);
+    for rule in Rule::ALL {
+        if limits.breaks(rule) {
+            lines.push_str(rule.message())?;
+            lines.push_str("\n")?;
         }
+    }
+    Ok(lines)
+}
+
+/// Returns the reasons for which a document is rejected, or nothing if it is not.
+fn reasons(alloc: Global, text: &str) -> Result<String, AllocError> {
+    match toml::from_str(alloc, text) {
+        Ok(limits) => messages(alloc, &limits),
+        Err(error) => in_one_line(alloc, &error),
+    }
+}
+
+#[test]
+fn documents_are_read_or_rejected(rt: HostRuntime) -> Result<()> {
+    let limits: Limits = toml::from_str(rt.alloc(), VALID)?;
+    let read = (
+        limits.file,
+        limits.total,
+        limits.cache,
+        limits.disk,
+        limits.rate,
+    );
+    let wanted = (
+        Byte::from_u64(20_000_000),
+        Byte::from_u64(1_610_612_736),
+        Some(Byte::from_u64(268_435_456)),
+        Byte::from_u64(1_879_048_192),
+        Bit::from_u64(1_000_000),
+    );
+    assert_eq!(rt; read, wanted);
+    for (text, wanted) in REASONS {
+        let found = reasons(rt.alloc(), text)?;
+        assert_eq!(rt; found.as_str(), *wanted, "{text}");
     }
     Ok(())
 }

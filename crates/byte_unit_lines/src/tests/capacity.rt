@@ -1,8 +1,6 @@
 //! Runs in which each allocation after the start fails.
-ghost use Rattle.std.specs.Prelude.{◌<◌};
-
 use super::ended::{Ended, streams};
-use super::mixed::{INPUT, REPORT, first_lines, repeated};
+use super::mixed::{INPUT, REPORT, repeated};
 use super::refusing::Refusing;
 use super::streams::AT_ONCE;
 use super::*;
@@ -23,11 +21,9 @@ fn expect(
     step: usize,
     wanted: Result<(), RunError>,
     report: &[u8],
-)
-    requires { 0 < step }
-{
+) {
     let heap = Refusing::new(rt.alloc(), START + 1, u64::MAX);
-    let mut buffer = b" ".repeat(rt.alloc(), step).expect(rt, "memory");
+    let mut buffer = b" ".repeat(rt.alloc(), step.max(1)).expect(rt, "memory");
     let (mut reader, mut writer) = streams(rt.alloc(), input, AT_ONCE, AT_ONCE);
     let started = run_with_capacity(
         &heap,
@@ -49,25 +45,33 @@ fn expect(
     assert_is(rt, heap.asked(), START, "allocations");
 }
 
+/// The answers to the first seven lines of the input.
+const SEVEN: &[u8] =
+    b"1536 = 1.5 KiB\n1000 = 1 KB\nno value\nbad unit\nnot a number\nnot text\nout of range\n";
+
+/// A limit, an input, the number of bytes a read, the result, and the report.
+const LIMITS: &[(usize, &[u8], usize, Result<(), RunError>, &[u8])] = &[
+    // If a line is one byte longer, the answers to the lines before it are written.
+    (LONGEST - 1, INPUT, 1, Err(RunError::Memory), SEVEN),
+    // It is answered if one read gives the whole line, and so is a line whose end comes with its last bytes.
+    (LONGEST - 1, INPUT, INPUT.len(), Ok(()), REPORT),
+    (3, b"1 KB\n", 3, Ok(()), b"1000 = 1 KB\n"),
+    // Without a line end it is not.
+    (3, b"1 KB", 3, Err(RunError::Memory), b""),
+    // With no capacity for a line, each line must end in the read that it begins in.
+    (0, b"1KB\n2KB\n", 4, Ok(()), b"1000 = 1 KB\n2000 = 2 KB\n"),
+    (0, b"1KB\n2KB\n", 5, Err(RunError::Memory), b"1000 = 1 KB\n"),
+    (0, b"", 1, Ok(()), b""),
+];
+
 #[test]
 fn lines_and_the_limit(rt: HostRuntime) {
-    let failed = Err(RunError::Memory);
-    for step in 1..INPUT.len() + 1 {
+    for step in 1..=INPUT.len() {
         expect(&rt, LONGEST, INPUT, step, Ok(()), REPORT);
     }
-    // If a line is one byte longer, the answers to the lines before it are written.
-    let before = first_lines(REPORT, 7);
-    expect(&rt, LONGEST - 1, INPUT, 1, failed, before);
-    // It is answered if one read gives the whole line, and so is a line whose end comes with its last bytes.
-    expect(&rt, LONGEST - 1, INPUT, INPUT.len(), Ok(()), REPORT);
-    expect(&rt, 3, b"1 KB\n", 3, Ok(()), b"1000 = 1 KB\n");
-    // Without a line end it is not.
-    expect(&rt, 3, b"1 KB", 3, failed, b"");
-    // With no capacity for a line, each line must end in the read that it begins in.
-    let both = b"1000 = 1 KB\n2000 = 2 KB\n";
-    expect(&rt, 0, b"1KB\n2KB\n", 4, Ok(()), both);
-    expect(&rt, 0, b"1KB\n2KB\n", 5, failed, b"1000 = 1 KB\n");
-    expect(&rt, 0, b"", 1, Ok(()), b"");
+    for (longest, input, step, wanted, report) in LIMITS {
+        expect(&rt, *longest, input, *step, *wanted, report);
+    }
 }
 
 /// The number of zeros before the digit 1, and the result and the report with a limit of 100 bytes.

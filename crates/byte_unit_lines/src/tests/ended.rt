@@ -29,7 +29,8 @@ impl<'a> Ended<'a> {
         }
     }
 
-    /// Asserts the result and the written bytes. A name and numbers tell which of a test's runs it was.
+    /// Asserts the result and the written bytes. A name and numbers tell which of a test's runs it was. The message has the
+    /// number of bytes, since reports can be too long to be printed.
     pub fn expect(
         &self,
         rt: &impl Abort,
@@ -38,48 +39,26 @@ impl<'a> Ended<'a> {
         name: &str,
         numbers: &[usize],
     ) {
-        let ended = (self.result, self.taken.as_slice());
-        assert_at(rt, ended, (wanted, report), name, numbers);
-    }
-
-    /// Asserts the same for a report that is too long to be printed.
-    pub fn expect_long(
-        &self,
-        rt: &impl Abort,
-        wanted: Result<(), RunError>,
-        report: &[u8],
-        name: &str,
-        numbers: &[usize],
-    ) {
-        let ended = (self.result, self.taken.as_slice() == report);
-        assert_at(rt, ended, (wanted, true), name, numbers);
+        let taken = self.taken.as_slice();
+        let found = (self.result, taken.len(), taken == report);
+        assert_eq!(rt; found, (wanted, report.len(), true), "{name} {numbers:?}");
     }
 }
 
-/// Runs over this input with reads and writes at these paces, and asserts the result and the written bytes.
+/// Runs over this input with reads and writes at each pair of paces, and asserts the result and the written bytes. The
+/// name, the number and the index of the pair tell which run it was.
 pub fn check(
     rt: &(impl Abort + AllocGlobal),
     input: &[u8],
-    paces: (Pace, Pace),
-    wanted: (Result<(), RunError>, &[u8]),
+    paces: &[(Pace, Pace)],
+    (wanted, report): (Result<(), RunError>, &[u8]),
     name: &str,
-    numbers: &[usize],
+    number: usize,
 ) {
-    let ended = ran(rt.alloc(), input, paces.0, paces.1);
-    ended.expect(rt, wanted.0, wanted.1, name, numbers);
-}
-
-/// Does the same for a report that is too long to be printed.
-pub fn check_long(
-    rt: &(impl Abort + AllocGlobal),
-    input: &[u8],
-    paces: (Pace, Pace),
-    wanted: (Result<(), RunError>, &[u8]),
-    name: &str,
-    numbers: &[usize],
-) {
-    let ended = ran(rt.alloc(), input, paces.0, paces.1);
-    ended.expect_long(rt, wanted.0, wanted.1, name, numbers);
+    for (index, (reads, writes)) in paces.iter().enumerate() {
+        let ended = ran(rt.alloc(), input, *reads, *writes);
+        ended.expect(rt, wanted, report, name, &[number, index]);
+    }
 }
 
 /// Runs over this input, with reads and writes at these paces.

@@ -1,6 +1,6 @@
 //! The endings of calls of the program.
 use super::ended::{Ended, streams};
-use super::streams::{AT_ONCE, Pace, Then};
+use super::streams::{Pace, Then};
 use super::*;
 use crate::ending::{Ending, serve};
 use std::alloc::AllocError;
@@ -17,55 +17,98 @@ fn words(alloc: Global, words: &[&str]) -> Result<Vec<String>, AllocError> {
     Ok(texts)
 }
 
-/// Asserts the kind that arguments ask for, the ending, the output, and what is left of the input.
-fn expect(
-    rt: &(impl Abort + AllocGlobal),
-    asked: &[&str],
-    kind: Option<Kind>,
-    ending: Ending,
-    streams_after: (&[u8], &[u8]),
-    name: &str,
-) {
-    let words = words(rt.alloc(), asked).expect(rt, "memory");
-    assert_is(rt, kind_of(&words), kind, name);
-    let (mut reader, mut writer) = streams(rt.alloc(), INPUT, AT_ONCE, AT_ONCE);
-    let result = serve(rt.alloc(), &words, &mut reader, &mut writer);
-    assert_is(rt, result, ending, name);
-    let ended = Ended::new(Ok(()), reader, writer);
-    assert_is(
-        rt,
-        (ended.taken.as_slice(), ended.left),
-        streams_after,
-        name,
-    );
-}
+/// Reads of the whole input, and the end after it.
+const READS: Pace = Pace(5, 2, Then::Fail);
 
-#[test]
-fn kinds_and_endings_by_the_arguments(rt: HostRuntime) {
-    let (byte, bit) = (Some(Kind::Byte), Some(Kind::Bit));
-    let bytes = (b"1000 = 1 KB\n".as_slice(), b"".as_slice());
-    expect(&rt, &[], byte, Ending::Done, bytes, "no argument");
-    expect(&rt, &["byte"], byte, Ending::Done, bytes, "byte");
-    let bits = (b"8000 = 8 Kb\n".as_slice(), b"".as_slice());
-    expect(&rt, &["bit"], bit, Ending::Done, bits, "bit");
-    let nothing = (b"".as_slice(), INPUT);
-    expect(&rt, &["bits"], None, Ending::Usage, nothing, "bits");
-    expect(
-        &rt,
+/// One write of the whole answer.
+const WRITES: Pace = Pace(20, 1, Then::Fail);
+
+/// A call: its arguments and the kind that they ask for, the paces of its streams, its ending, the output, and what is left
+/// of the input.
+type Call = (
+    &'static [&'static str],
+    Option<Kind>,
+    (Pace, Pace),
+    Ending,
+    &'static [u8],
+    &'static [u8],
+);
+
+const CALLS: &[Call] = &[
+    (
+        &[],
+        Some(Kind::Byte),
+        (READS, WRITES),
+        Ending::Done,
+        b"1000 = 1 KB\n",
+        b"",
+    ),
+    (
+        &["byte"],
+        Some(Kind::Byte),
+        (READS, WRITES),
+        Ending::Done,
+        b"1000 = 1 KB\n",
+        b"",
+    ),
+    (
+        &["bit"],
+        Some(Kind::Bit),
+        (READS, WRITES),
+        Ending::Done,
+        b"8000 = 8 Kb\n",
+        b"",
+    ),
+    (&["bits"], None, (READS, WRITES), Ending::Usage, b"", INPUT),
+    (
         &["bit", "bit"],
         None,
+        (READS, WRITES),
         Ending::Usage,
-        nothing,
-        "bit bit",
-    );
-}
-
-/// The numbers of reads and writes that succeed, and the ending.
-const BY_STREAMS: &[(usize, usize, Ending)] = &[
-    (2, 1, Ending::Done),
-    (1, 1, Ending::Failed(RunError::Read)),
-    (2, 0, Ending::Failed(RunError::Write)),
+        b"",
+        INPUT,
+    ),
+    // A read fails after the input, and the write of the answer fails.
+    (
+        &["bit"],
+        Some(Kind::Bit),
+        (Pace(5, 1, Then::Fail), WRITES),
+        Ending::Failed(RunError::Read),
+        b"8000 = 8 Kb\n",
+        b"",
+    ),
+    (
+        &["bit"],
+        Some(Kind::Bit),
+        (READS, Pace(20, 0, Then::Fail)),
+        Ending::Failed(RunError::Write),
+        b"",
+        b"",
+    ),
 ];
+
+#[test]
+fn endings_of_calls(rt: HostRuntime) {
+    for (number, (asked, kind, paces, ending, output, left)) in CALLS.iter().enumerate() {
+        let words = words(rt.alloc(), asked).expect(&rt, "memory");
+        let (mut reader, mut writer) = streams(rt.alloc(), INPUT, paces.0, paces.1);
+        let result = serve(rt.alloc(), &words, &mut reader, &mut writer);
+        let ended = Ended::new(Ok(()), reader, writer);
+        let found = (
+            number,
+            kind_of(&words),
+            result,
+            ended.taken.as_slice(),
+            ended.left,
+        );
+        assert_is(
+            &rt,
+            found,
+            (number, *kind, *ending, *output, *left),
+            "a call",
+        );
+    }
+}
 
 /// Each ending, its exit status, and its line for standard error.
 const STATUSES: &[(Ending, u8, Option<&str>)] = &[
@@ -77,17 +120,9 @@ const STATUSES: &[(Ending, u8, Option<&str>)] = &[
 ];
 
 #[test]
-fn endings_by_the_streams_and_their_statuses(rt: HostRuntime) {
-    let asked = words(rt.alloc(), &["bit"]).expect(&rt, "memory");
-    for (reads, writes, ending) in BY_STREAMS {
-        let reads = Pace(5, *reads, Then::Fail);
-        let writes = Pace(20, *writes, Then::Fail);
-        let (mut reader, mut writer) = streams(rt.alloc(), INPUT, reads, writes);
-        let result = serve(rt.alloc(), &asked, &mut reader, &mut writer);
-        assert_is(&rt, result, *ending, "streams");
-    }
+fn statuses_and_lines_of_endings(rt: HostRuntime) {
     for (ending, status, line) in STATUSES {
-        let found = (ending.status(), ending.line());
-        assert_is(&rt, found, (*status, *line), "a status and a line");
+        let found = (*ending, ending.status(), ending.line());
+        assert_is(&rt, found, (*ending, *status, *line), "a status and a line");
     }
 }

@@ -2,7 +2,7 @@
 use super::ended::{check, expect_failed_allocation, ran_in};
 use super::mixed::{self, finished, first_lines, repeated};
 use super::refusing::Refusing;
-use super::streams::{AT_ONCE, FAILING, MemoryReader, MemoryWriter, Pace, Then};
+use super::streams::{ALL_BUT_ONE, AT_ONCE, BYTE_BY_BYTE, MemoryReader, MemoryWriter, Pace, Then};
 use super::*;
 use std::io::{Read, Write};
 
@@ -11,129 +11,106 @@ const INPUT: &[u8] = b"1.5 KiB\n\n1Kbi\nx\n1YB";
 const OUTPUT: &[u8] =
     b"1536 = 1.5 KiB\nno value\nbad unit\nnot a number\n1000000000000000000000000 = 1 YB\n";
 
-/// The paces of slow streams, and of one that is not slow.
-const PACES: &[Then] = &[Then::ByteByByte, Then::AllButOne, Then::All];
+/// Each pair of a pace of reads and one of writes.
+const PAIRS: [(Pace, Pace); 9] = [
+    (BYTE_BY_BYTE, BYTE_BY_BYTE),
+    (BYTE_BY_BYTE, ALL_BUT_ONE),
+    (BYTE_BY_BYTE, AT_ONCE),
+    (ALL_BUT_ONE, BYTE_BY_BYTE),
+    (ALL_BUT_ONE, ALL_BUT_ONE),
+    (ALL_BUT_ONE, AT_ONCE),
+    (AT_ONCE, BYTE_BY_BYTE),
+    (AT_ONCE, ALL_BUT_ONE),
+    (AT_ONCE, AT_ONCE),
+];
 
-/// Asserts the report on an input that is read at each pace.
-fn each_pace_of_reads(rt: &(impl Abort + AllocGlobal), input: &[u8], report: &[u8]) {
-    let wanted = (Ok(()), report);
-    for step in 1..=input.len() {
-        let reads = Pace(step, usize::MAX, Then::Fail);
-        check(rt, input, (reads, AT_ONCE), wanted, "bytes a read", &[step]);
-        let reads = Pace(step, 1, Then::All);
-        check(rt, input, (reads, AT_ONCE), wanted, "cut at", &[step]);
-    }
-    for calls in 0..10usize {
-        let reads = Pace(2, calls, Then::ByteByByte);
-        check(
-            rt,
-            input,
-            (reads, AT_ONCE),
-            wanted,
-            "reads before byte by byte",
-            &[calls],
-        );
-    }
+/// Returns paces by a number: that number of bytes in each call or in the first, and byte by byte after that number of
+/// calls, of reads and then of writes.
+fn paces_by(number: usize, len: usize) -> [(Pace, Pace); 7] {
+    let steps = Pace(number, usize::MAX, Then::Fail);
+    [
+        (steps, AT_ONCE),
+        (Pace(number, 1, Then::All), AT_ONCE),
+        (Pace(2, number, Then::ByteByByte), AT_ONCE),
+        (AT_ONCE, steps),
+        (AT_ONCE, Pace(1, number, Then::ByteByByte)),
+        (AT_ONCE, Pace(7, number, Then::ByteByByte)),
+        (AT_ONCE, Pace(len, number, Then::ByteByByte)),
+    ]
 }
 
-/// Asserts the report on an input if it is written at each pace.
-fn each_pace_of_writes(rt: &(impl Abort + AllocGlobal), input: &[u8], report: &[u8]) {
-    let wanted = (Ok(()), report);
-    for step in 1..=report.len() {
-        let writes = Pace(step, usize::MAX, Then::Fail);
-        check(
-            rt,
-            input,
-            (AT_ONCE, writes),
-            wanted,
-            "bytes a write",
-            &[step],
-        );
-    }
-    for calls in 0..10usize {
-        for step in [1, 7, report.len()] {
-            let writes = Pace(step, calls, Then::ByteByByte);
-            check(
-                rt,
-                input,
-                (AT_ONCE, writes),
-                wanted,
-                "writes before byte by byte",
-                &[calls],
-            );
-        }
-    }
-    for number in 0..PACES.len() {
-        for other in 0..PACES.len() {
-            let paces = (Pace(0, 0, PACES[number]), Pace(0, 0, PACES[other]));
-            check(rt, input, paces, wanted, "paces", &[number, other]);
-        }
+/// Asserts the report on an input that is read and written at each pace.
+fn each_pace_of(rt: &(impl Abort + AllocGlobal), input: &[u8], report: &[u8]) {
+    check(rt, input, &PAIRS, (Ok(()), report), "pairs", 0);
+    for number in 1..=report.len() {
+        let paces = paces_by(number, report.len());
+        check(rt, input, &paces, (Ok(()), report), "number", number);
     }
 }
 
 #[test]
 fn each_pace(rt: HostRuntime) {
-    each_pace_of_reads(&rt, INPUT, OUTPUT);
-    each_pace_of_reads(&rt, mixed::INPUT, mixed::REPORT);
-    each_pace_of_writes(&rt, INPUT, OUTPUT);
-    each_pace_of_writes(&rt, mixed::INPUT, mixed::REPORT);
+    each_pace_of(&rt, INPUT, OUTPUT);
+    each_pace_of(&rt, mixed::INPUT, mixed::REPORT);
 }
 
-/// Asserts what is written if a read of an input fails.
-fn each_failing_read(rt: &(impl Abort + AllocGlobal), input: &[u8], report: &[u8]) {
-    for step in 1..=input.len() {
-        for calls in 0..=input.len() {
-            let read = calls.saturating_mul(step);
-            if read <= input.len() {
-                let reads = Pace(step, calls, Then::Fail);
-                let wanted = (
-                    Err(RunError::Read),
-                    first_lines(report, finished(&input[..read])),
-                );
-                check(
-                    rt,
-                    input,
-                    (reads, AT_ONCE),
-                    wanted,
-                    "reads and their step",
-                    &[calls, step],
-                );
-            }
+/// Asserts what is written if a read of `step` bytes fails after each number of such reads.
+fn each_failing_read(rt: &(impl Abort + AllocGlobal), input: &[u8], report: &[u8], step: usize) {
+    for calls in 0..=input.len() {
+        let read = calls.saturating_mul(step);
+        if read > input.len() {
+            return;
         }
-    }
-}
-
-/// Asserts what is written if a write of the report on an input fails.
-fn each_failing_write(rt: &(impl Abort + AllocGlobal), input: &[u8], report: &[u8], then: Then) {
-    for calls in 0..report.len() {
-        let writes = Pace(1, calls, then);
-        let wanted = (Err(RunError::Write), &report[..calls]);
+        let paces = [(Pace(step, calls, Then::Fail), AT_ONCE)];
+        let front = first_lines(report, finished(&input[..read]));
         check(
             rt,
             input,
-            (AT_ONCE, writes),
-            wanted,
-            "writes before",
-            &[calls],
+            &paces,
+            (Err(RunError::Read), front),
+            "reads before",
+            calls,
         );
     }
-    for lines in 0..finished(report) {
-        // If the input is read byte by byte, each answer is written by its own call.
-        let reads = Pace(1, usize::MAX, Then::Fail);
-        let writes = Pace(usize::MAX, lines, then);
-        let wanted = (Err(RunError::Write), first_lines(report, lines));
-        check(rt, input, (reads, writes), wanted, "lines before", &[lines]);
+}
+
+/// Asserts what is written if a write of the report fails or accepts nothing: of its bytes, and of its lines, since each
+/// answer is written by its own call if the input is read byte by byte.
+fn each_failing_write(rt: &(impl Abort + AllocGlobal), input: &[u8], report: &[u8]) {
+    let reads = Pace(1, usize::MAX, Then::Fail);
+    let failed = Err(RunError::Write);
+    for calls in 0..report.len() {
+        let bytes = [
+            (AT_ONCE, Pace(1, calls, Then::Fail)),
+            (AT_ONCE, Pace(1, calls, Then::TakeNothing)),
+        ];
+        check(
+            rt,
+            input,
+            &bytes,
+            (failed, &report[..calls]),
+            "bytes before",
+            calls,
+        );
+    }
+    for calls in 0..finished(report) {
+        let lines = [
+            (reads, Pace(usize::MAX, calls, Then::Fail)),
+            (reads, Pace(usize::MAX, calls, Then::TakeNothing)),
+        ];
+        let front = first_lines(report, calls);
+        check(rt, input, &lines, (failed, front), "lines before", calls);
     }
 }
 
 #[test]
 fn each_failing_stream(rt: HostRuntime) {
-    each_failing_read(&rt, INPUT, OUTPUT);
-    each_failing_read(&rt, mixed::INPUT, mixed::REPORT);
-    for then in FAILING {
-        each_failing_write(&rt, INPUT, OUTPUT, *then);
-        each_failing_write(&rt, mixed::INPUT, mixed::REPORT, *then);
+    for step in 1..=mixed::INPUT.len() {
+        each_failing_read(&rt, INPUT, OUTPUT, step);
+        each_failing_read(&rt, mixed::INPUT, mixed::REPORT, step);
     }
+    each_failing_write(&rt, INPUT, OUTPUT);
+    each_failing_write(&rt, mixed::INPUT, mixed::REPORT);
 }
 
 /// The answer to the unfinished line after each number of bytes of the input, or nothing if there is none.
@@ -165,28 +142,29 @@ fn each_end_of_the_input(rt: HostRuntime) {
     for calls in 0..=INPUT.len() {
         let lines = first_lines(OUTPUT, finished(&INPUT[..calls]));
         let report = repeated(&rt, lines, 1, LAST[calls]);
-        let reads = Pace(1, calls, Then::TakeNothing);
+        let paces = [(Pace(1, calls, Then::TakeNothing), AT_ONCE)];
         check(
             &rt,
             INPUT,
-            (reads, AT_ONCE),
+            &paces,
             (Ok(()), &report),
             "reads before the end",
-            &[calls],
+            calls,
         );
     }
 }
 
 #[test]
 fn failing_after_a_piece(rt: HostRuntime) {
-    let reads = Pace(6, 1, Then::Fail);
+    let reads = [(Pace(6, 1, Then::Fail), AT_ONCE)];
     let wanted = (Err(RunError::Read), b"1000 = 1 KB\n".as_slice());
-    check(&rt, b"1KB\n2K", (reads, AT_ONCE), wanted, "a read", &[]);
-    for then in FAILING {
-        let writes = Pace(5, 1, *then);
-        let wanted = (Err(RunError::Write), b"1000 ".as_slice());
-        check(&rt, b"1KB", (AT_ONCE, writes), wanted, "a write", &[]);
-    }
+    check(&rt, b"1KB\n2K", &reads, wanted, "a read", 1);
+    let writes = [
+        (AT_ONCE, Pace(5, 1, Then::Fail)),
+        (AT_ONCE, Pace(5, 1, Then::TakeNothing)),
+    ];
+    let wanted = (Err(RunError::Write), b"1000 ".as_slice());
+    check(&rt, b"1KB", &writes, wanted, "a write", 1);
 }
 
 #[test]
@@ -199,12 +177,10 @@ fn each_size_of_buffer_and_failed_allocation(rt: HostRuntime) {
     }
     // The number of lines that are written if the first allocation fails, the second and so on. The first answer takes
     // one allocation, those after it two more, then the unfinished line one; the last answer fits the capacity.
-    let mut number = 1u64;
-    for lines in [0, 1, 2, 4] {
+    for (number, lines) in [(1, 0), (2, 1), (3, 2), (4, 4)] {
         expect_failed_allocation(&rt, INPUT, AT_ONCE, number, first_lines(OUTPUT, lines));
-        number = number.saturating_add(1);
     }
-    let heap = Refusing::new(rt.alloc(), number, u64::MAX);
+    let heap = Refusing::new(rt.alloc(), 5, u64::MAX);
     let ended = ran_in(rt.alloc(), &heap, &mut buffer, INPUT, AT_ONCE, AT_ONCE);
     ended.expect(&rt, Ok(()), OUTPUT, "no failed allocation", &[]);
 }

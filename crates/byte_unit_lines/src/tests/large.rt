@@ -1,6 +1,6 @@
 //! Long lines, large reports and many reads. Lines of 10 MB and of 1 GB are left to `tools/at-scale`, since `rt try`
 //! takes a minute for the first.
-use super::ended::{check_long, ran_in};
+use super::ended::{check, ran_in};
 use super::mixed::repeated;
 use super::streams::{AT_ONCE, Pace, Then};
 use super::*;
@@ -8,18 +8,12 @@ use super::*;
 /// Asserts the report on some bytes, repeated, and then the bytes that follow them.
 fn expect(rt: &(impl Abort + AllocGlobal), bytes: &str, count: usize, end: &[u8], report: &[u8]) {
     let input = repeated(rt, bytes.as_bytes(), count, end);
-    check_long(
-        rt,
-        &input,
-        (AT_ONCE, AT_ONCE),
-        (Ok(()), report),
-        bytes,
-        &[count],
-    );
+    let paces = [(AT_ONCE, AT_ONCE)];
+    check(rt, &input, &paces, (Ok(()), report), bytes, count);
 }
 
-/// A byte, the number of its repetitions, what follows it, and the report. The lines are longer than one chunk, than
-/// three and than four.
+/// A byte, the number of its repetitions, what follows it, and the report. The first lines are longer than one chunk,
+/// than three and than four. The others end near the end of a chunk.
 const ROWS: &[(&str, usize, &[u8], &[u8])] = &[
     ("0", 100_000, b"1", b"1 = 1 B\n"),
     (
@@ -41,18 +35,26 @@ const ROWS: &[(&str, usize, &[u8], &[u8])] = &[
     ("x", 200_000, b"\n1KB", b"not a number\n1000 = 1 KB\n"),
     ("0", 300_000, b"1", b"1 = 1 B\n"),
     ("x", 300_000, b"", b"not a number\n"),
+    ("0", 65_532, b"\n1KB", b"0 = 0 B\n1000 = 1 KB\n"),
+    ("0", 65_532, b"\r\n1KB", b"0 = 0 B\n1000 = 1 KB\n"),
+    ("0", 65_533, b"\n1KB", b"0 = 0 B\n1000 = 1 KB\n"),
+    ("0", 65_533, b"\r\n1KB", b"0 = 0 B\n1000 = 1 KB\n"),
+    ("0", 65_534, b"\n1KB", b"0 = 0 B\n1000 = 1 KB\n"),
+    ("0", 65_534, b"\r\n1KB", b"0 = 0 B\n1000 = 1 KB\n"),
+    ("0", 65_535, b"\n1KB", b"0 = 0 B\n1000 = 1 KB\n"),
+    ("0", 65_535, b"\r\n1KB", b"0 = 0 B\n1000 = 1 KB\n"),
+    ("0", 65_536, b"\n1KB", b"0 = 0 B\n1000 = 1 KB\n"),
+    ("0", 65_536, b"\r\n1KB", b"0 = 0 B\n1000 = 1 KB\n"),
+    ("0", 65_537, b"\n1KB", b"0 = 0 B\n1000 = 1 KB\n"),
+    ("0", 65_537, b"\r\n1KB", b"0 = 0 B\n1000 = 1 KB\n"),
+    ("0", 65_538, b"\n1KB", b"0 = 0 B\n1000 = 1 KB\n"),
+    ("0", 65_538, b"\r\n1KB", b"0 = 0 B\n1000 = 1 KB\n"),
 ];
 
 #[test]
 fn long_lines(rt: HostRuntime) {
     for (character, count, end, report) in ROWS {
         expect(&rt, character, *count, end, report);
-    }
-    // Lines that end near the end of a chunk.
-    for digits in 65_532..=65_538 {
-        for end in [b"\n1KB".as_slice(), b"\r\n1KB"] {
-            expect(&rt, "0", digits, end, b"0 = 0 B\n1000 = 1 KB\n");
-        }
     }
 }
 
@@ -69,49 +71,35 @@ fn many_lines(rt: HostRuntime) {
     expect(&rt, "1KB\n", 1000, &last, &report);
 }
 
-/// Asserts the result and the number of bytes that are written of a report on many lines, all given to one read.
-fn expect_bytes(
-    rt: &(impl Abort + AllocGlobal),
-    (input, report): (&[u8], &[u8]),
-    writes: Pace,
-    wanted: Result<(), RunError>,
-    count: usize,
-) {
-    let buffer = b" ".repeat(rt.alloc(), 300_000);
-    let mut buffer = buffer.expect(rt, "memory");
-    let ended = ran_in(rt.alloc(), &rt.alloc(), &mut buffer, input, AT_ONCE, writes);
-    let front = report.get(..count).unwrap_or(report);
-    ended.expect_long(rt, wanted, front, "bytes", &[count]);
-}
+/// The pace of writes of a report of 2,700,000 bytes, all given to one read; the result, and the number of bytes that are
+/// written. All are written in one call, and in several.
+const BY_WRITES: &[(Pace, Result<(), RunError>, usize)] = &[
+    (Pace(usize::MAX, 1, Then::Fail), Ok(()), 2_700_000),
+    (Pace(1_000_000, 3, Then::Fail), Ok(()), 2_700_000),
+    (
+        Pace(1_000_000, 2, Then::TakeNothing),
+        Err(RunError::Write),
+        2_000_000,
+    ),
+];
 
 #[test]
 fn answers_of_several_megabytes(rt: HostRuntime) {
     let input = repeated(&rt, b"\n", 300_000, b"");
     let report = repeated(&rt, b"no value\n", 300_000, b"");
-    let lines = (input.as_slice(), report.as_slice());
-    // All in one call, and in several.
-    expect_bytes(
-        &rt,
-        lines,
-        Pace(usize::MAX, 1, Then::Fail),
-        Ok(()),
-        2_700_000,
-    );
-    expect_bytes(
-        &rt,
-        lines,
-        Pace(1_000_000, 3, Then::Fail),
-        Ok(()),
-        2_700_000,
-    );
-    let failed = Err(RunError::Write);
-    expect_bytes(
-        &rt,
-        lines,
-        Pace(1_000_000, 2, Then::TakeNothing),
-        failed,
-        2_000_000,
-    );
+    for (writes, wanted, count) in BY_WRITES {
+        let mut buffer = b" ".repeat(rt.alloc(), 300_000).expect(&rt, "memory");
+        let ended = ran_in(
+            rt.alloc(),
+            &rt.alloc(),
+            &mut buffer,
+            &input,
+            AT_ONCE,
+            *writes,
+        );
+        let front = report.get(..*count).unwrap_or(&report);
+        ended.expect(&rt, *wanted, front, "bytes", &[*count]);
+    }
 }
 
 #[test]
@@ -119,16 +107,9 @@ fn many_reads(rt: HostRuntime) {
     let input = repeated(&rt, b"1KB\nx\n\n12\n", 20_000, b"");
     let report = b"1000 = 1 KB\nnot a number\nno value\n12 = 12 B\n";
     let report = repeated(&rt, report, 20_000, b"");
-    let reads = Pace(1, 200_001, Then::Fail);
-    check_long(
-        &rt,
-        &input,
-        (reads, AT_ONCE),
-        (Ok(()), &report),
-        "reads",
-        &[200_001],
-    );
-    let reads = Pace(1, 200_000, Then::Fail);
+    let reads = [(Pace(1, 200_001, Then::Fail), AT_ONCE)];
+    check(&rt, &input, &reads, (Ok(()), &report), "reads", 200_001);
+    let reads = [(Pace(1, 200_000, Then::Fail), AT_ONCE)];
     let wanted = (Err(RunError::Read), report.as_slice());
-    check_long(&rt, &input, (reads, AT_ONCE), wanted, "reads", &[200_000]);
+    check(&rt, &input, &reads, wanted, "reads", 200_000);
 }

@@ -2,11 +2,14 @@
 use std::cell::Cell;
 use std::io::{self, Error, ErrorKind, Read, Write};
 
-/// The two ways in which a writer fails.
-pub const FAILING: &[Then] = &[Then::Fail, Then::TakeNothing];
-
 /// Each call transfers all bytes.
 pub const AT_ONCE: Pace = Pace(0, 0, Then::All);
+
+/// Each call transfers one byte.
+pub const BYTE_BY_BYTE: Pace = Pace(0, 0, Then::ByteByByte);
+
+/// Each call transfers all bytes but one, and at least one.
+pub const ALL_BUT_ONE: Pace = Pace(0, 0, Then::AllButOne);
 
 /// What a stream does after a number of calls.
 #[derive(Clone, Copy)]

@@ -55,15 +55,18 @@ pub fn is_error(error: &ParseError, wanted: Expected) -> bool {
     }
 }
 
+/// Returns whether the result of parsing is the expected one.
+fn is_result(read: &Result<u128, ParseError>, wanted: Expected) -> bool {
+    match read {
+        Ok(size) => matches!(wanted, Expected::Size(n) if n == *size),
+        Err(error) => is_error(error, wanted),
+    }
+}
+
 /// Asserts that a string was parsed with the expected result.
 fn assert_result(rt: &impl Abort, text: &str, read: Result<u128, ParseError>, wanted: Expected) {
-    match read {
-        Ok(size) => assert!(rt;
-            matches!(wanted, Expected::Size(n) if n == size),
-            "{text} is {size}"
-        ),
-        Err(error) => assert!(rt; is_error(&error, wanted), "{text} is rejected: {error}"),
-    }
+    let is_wanted = is_result(&read, wanted);
+    assert!(rt; is_wanted, "{text} is {read:?}");
 }
 
 /// Asserts the result of parsing a string as bytes, by `parse_str` and from its UTF-8 bytes.

@@ -38,10 +38,14 @@ const SIZES_EXACT_IN_NO_UNIT: &[(u128, Family, u128, usize)] = &[
     (3_211_776, Family::Bytes, 8, 0),
 ];
 
-/// Sizes, each with its step count. 500 is 2^2 * 5^3.
-const STEP_COUNTS_WITHOUT_AN_EXACT_UNIT: &[(u128, u64)] = &[(0, 0), (1, 2), (500, 7), (999, 2)];
-
-const ONE_STEP_PER_TRIAL_AND_DECIMAL: &[(u128, usize, Option<(u128, u128, Unit)>, u64)] = &[
+/// A size, the number of decimals, the number and the unit if there is one, and the step count: one for each trial and
+/// decimal.
+const STEP_COUNTS: &[(u128, usize, Option<(u128, u128, Unit)>, u64)] = &[
+    (0, 28, None, 0),
+    (1, 28, None, 2),
+    // 500 is 2^2 * 5^3.
+    (500, 28, None, 7),
+    (999, 28, None, 2),
     // 1088 is 2^6 * 17: four decimals in KiB, and three in KB.
     (1088, 2, None, 8),
     // 1001 has no factor 2 or 5: three decimals in KB.
@@ -86,20 +90,20 @@ fn chosen_units_and_step_counts(rt: HostRuntime) {
         let (choice, _) = chosen(&rt, *size, *family, *divisor, *places);
         assert_is(&rt, (*size, choice), (*size, None));
     }
-    for (size, count) in STEP_COUNTS_WITHOUT_AN_EXACT_UNIT {
-        let (_, steps) = chosen(&rt, *size, Family::Bytes, 8, 28);
-        assert_is(&rt, (*size, steps), (*size, *count));
-    }
-    for (size, places, choice, count) in ONE_STEP_PER_TRIAL_AND_DECIMAL {
+    for (size, places, choice, count) in STEP_COUNTS {
         let found = chosen(&rt, *size, Family::Bytes, 8, *places);
         assert_is(&rt, (*size, found), (*size, (*choice, *count)));
     }
+}
+
+/// Steps are added to those of the calls before.
+#[test]
+fn steps_of_two_choices(rt: HostRuntime) {
     let mut once = Steps::new();
     let _ = choose_unit(1088, Family::Bytes, 8, 3, &mut once);
     let mut twice = once;
     let _ = choose_unit(1088, Family::Bytes, 8, 3, &mut twice);
-    assert!(rt; once.count() >= 3 && once.count() < 1000);
-    assert_is(&rt, twice.count(), 2 * once.count());
+    assert_is(&rt, (once.count(), twice.count()), (11, 22));
 }
 
 const LARGEST_UNITS: &[(u128, Family, UnitType, u128, Option<Unit>)] = &[

@@ -82,6 +82,22 @@ fn lists_round_trip(rt: HostRuntime) {
     assert_round_trip(&rt, alloc, &units, "[\"Kb\",\"GiB\"]");
 }
 
+/// Asserts that a JSON text and a TOML document are written as they were read, and returns what was read from each.
+fn read_and_write<'a, T: Serialize + Deserialize<'a> + DeserializeOwned + Drop>(
+    rt: &impl Abort,
+    alloc: Global,
+    json: &'a str,
+    document: &str,
+) -> (T, T) {
+    let from_json: T = serde_json::from_str(alloc, json).expect(rt, "JSON");
+    let text = serde_json::to_string(alloc, &from_json).expect(rt, "JSON");
+    assert_is(rt, text.as_str(), json);
+    let from_toml: T = toml::from_str(alloc, document).expect(rt, "TOML");
+    let text = toml::to_string(alloc, &from_toml).expect(rt, "TOML");
+    assert_is(rt, text.as_str(), document);
+    (from_json, from_toml)
+}
+
 /// A struct with a value of each type.
 #[derive(Drop, Serialize, Deserialize)]
 struct Values {
@@ -93,21 +109,17 @@ struct Values {
     unit: Unit,
 }
 
-const VALUES: &str = "{\"size\":\"20 MB\",\"rate\":\"8 Mb\",\"unit\":\"GiB\"}";
-
 #[test]
 fn fields_with_a_value(rt: HostRuntime) {
-    let alloc = rt.alloc();
-    let read: Values = serde_json::from_str(alloc, VALUES).expect(&rt, "JSON");
-    assert_is(&rt, read.size, Byte::from_u64(20_000_000));
-    assert_is(&rt, read.rate, Bit::from_u64(8_000_000));
-    assert_is(&rt, read.unit, Unit::GiB);
-    let text = serde_json::to_string(alloc, &read).expect(&rt, "JSON");
-    assert_is(&rt, text.as_str(), VALUES);
+    let json = "{\"size\":\"20 MB\",\"rate\":\"8 Mb\",\"unit\":\"GiB\"}";
     let document = "size = \"20 MB\"\nrate = \"8 Mb\"\nunit = \"GiB\"\n";
-    let read: Values = toml::from_str(alloc, document).expect(&rt, "TOML");
-    let text = toml::to_string(alloc, &read).expect(&rt, "TOML");
-    assert_is(&rt, text.as_str(), document);
+    let (read, _): (Values, Values) = read_and_write(&rt, rt.alloc(), json, document);
+    let wanted = (
+        Byte::from_u64(20_000_000),
+        Bit::from_u64(8_000_000),
+        Unit::GiB,
+    );
+    assert_is(&rt, (read.size, read.rate, read.unit), wanted);
 }
 
 /// A struct with an optional value of each type.
@@ -121,22 +133,17 @@ struct Options {
     other: Option<Unit>,
 }
 
-const OPTIONS: &str = "{\"limit\":\"1 GiB\",\"most\":\"1 Kb\",\"other\":\"Kb\"}";
-
 #[test]
 fn fields_with_an_optional_value(rt: HostRuntime) {
-    let alloc = rt.alloc();
-    let read: Options = serde_json::from_str(alloc, OPTIONS).expect(&rt, "JSON");
-    assert_is(&rt, read.limit, Some(Byte::GIBIBYTE));
-    assert_is(&rt, read.most, Some(Bit::from_u64(1000)));
-    assert_is(&rt, read.other, Some(Unit::Kbit));
-    let text = serde_json::to_string(alloc, &read).expect(&rt, "JSON");
-    assert_is(&rt, text.as_str(), OPTIONS);
-    let read: Options = toml::from_str(alloc, "").expect(&rt, "TOML");
-    let is_none = read.limit.is_none() && read.most.is_none() && read.other.is_none();
-    assert_for(&rt, is_none, "no optional value");
-    let text = toml::to_string(alloc, &read).expect(&rt, "TOML");
-    assert_is(&rt, text.as_str(), "");
+    let json = "{\"limit\":\"1 GiB\",\"most\":\"1 Kb\",\"other\":\"Kb\"}";
+    let (read, none): (Options, Options) = read_and_write(&rt, rt.alloc(), json, "");
+    let wanted = (
+        Some(Byte::GIBIBYTE),
+        Some(Bit::from_u64(1000)),
+        Some(Unit::Kbit),
+    );
+    assert_is(&rt, (read.limit, read.most, read.other), wanted);
+    assert_is(&rt, (none.limit, none.most, none.other), (None, None, None));
 }
 
 /// A struct with a list of each type of size.
@@ -148,22 +155,15 @@ struct Lists {
     rates: Vec<Bit>,
 }
 
-const LISTS: &str = "{\"parts\":[\"1 KB\",\"0 B\"],\"rates\":[\"1 Kb\"]}";
-
 #[test]
 fn fields_with_a_list(rt: HostRuntime) {
-    let alloc = rt.alloc();
-    let read: Lists = serde_json::from_str(alloc, LISTS).expect(&rt, "JSON");
-    let is_wanted = read.parts.as_slice() == [Byte::KILOBYTE, Byte::MIN].as_slice();
-    assert_for(&rt, is_wanted, "parts");
-    let is_wanted = read.rates.as_slice() == [Bit::KILOBIT].as_slice();
-    assert_for(&rt, is_wanted, "rates");
-    let text = serde_json::to_string(alloc, &read).expect(&rt, "JSON");
-    assert_is(&rt, text.as_str(), LISTS);
+    let json = "{\"parts\":[\"1 KB\",\"0 B\"],\"rates\":[\"1 Kb\"]}";
     let document = "parts = [\"1 KB\"]\nrates = []\n";
-    let read: Lists = toml::from_str(alloc, document).expect(&rt, "TOML");
-    let text = toml::to_string(alloc, &read).expect(&rt, "TOML");
-    assert_is(&rt, text.as_str(), document);
+    let (read, _): (Lists, Lists) = read_and_write(&rt, rt.alloc(), json, document);
+    let parts = [Byte::KILOBYTE, Byte::MIN];
+    let rates = [Bit::KILOBIT];
+    let wanted = (parts.as_slice(), rates.as_slice());
+    assert_is(&rt, (read.parts.as_slice(), read.rates.as_slice()), wanted);
 }
 
 #[test]
@@ -175,8 +175,9 @@ fn toml_values(rt: HostRuntime) {
     );
     let table = table.expect(&rt, "TOML");
     let size = table.get("size").expect(&rt, "a size");
-    assert_is(&rt, byte_from_toml(size).ok(), Some(Byte::from_u64(1536)));
-    assert_is(&rt, bit_from_toml(size).ok(), Some(Bit::from_u64(12_288)));
+    let sizes = (byte_from_toml(size).ok(), bit_from_toml(size).ok());
+    let wanted = (Some(Byte::from_u64(1536)), Some(Bit::from_u64(12_288)));
+    assert_is(&rt, sizes, wanted);
     let unit = table.get("unit").expect(&rt, "a unit");
     assert_is(&rt, unit_from_toml(unit).ok(), Some(Unit::Kbit));
     let lines = table.get("lines").expect(&rt, "a number");

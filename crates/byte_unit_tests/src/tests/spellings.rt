@@ -4,80 +4,107 @@ use byte_unit::Unit;
 use std::alloc::Global;
 use std::process::Abort;
 
-/// The four units of each prefix: decimal bits and bytes, binary bits and bytes.
-const UNITS: [[Unit; 4]; 9] = [
-    [Unit::Kbit, Unit::KB, Unit::Kibit, Unit::KiB],
-    [Unit::Mbit, Unit::MB, Unit::Mibit, Unit::MiB],
-    [Unit::Gbit, Unit::GB, Unit::Gibit, Unit::GiB],
-    [Unit::Tbit, Unit::TB, Unit::Tibit, Unit::TiB],
-    [Unit::Pbit, Unit::PB, Unit::Pibit, Unit::PiB],
-    [Unit::Ebit, Unit::EB, Unit::Eibit, Unit::EiB],
-    [Unit::Zbit, Unit::ZB, Unit::Zibit, Unit::ZiB],
-    [Unit::Ybit, Unit::YB, Unit::Yibit, Unit::YiB],
-    [Unit::Rbit, Unit::RB, Unit::Ribit, Unit::RiB],
+/// Every prefix, and none, each with its unit of bits and its unit of bytes.
+const PREFIXES: [(&str, Unit, Unit); 55] = [
+    ("", Unit::Bit, Unit::B),
+    ("K", Unit::Kbit, Unit::KB),
+    ("Ki", Unit::Kibit, Unit::KiB),
+    ("KI", Unit::Kibit, Unit::KiB),
+    ("k", Unit::Kbit, Unit::KB),
+    ("ki", Unit::Kibit, Unit::KiB),
+    ("kI", Unit::Kibit, Unit::KiB),
+    ("M", Unit::Mbit, Unit::MB),
+    ("Mi", Unit::Mibit, Unit::MiB),
+    ("MI", Unit::Mibit, Unit::MiB),
+    ("m", Unit::Mbit, Unit::MB),
+    ("mi", Unit::Mibit, Unit::MiB),
+    ("mI", Unit::Mibit, Unit::MiB),
+    ("G", Unit::Gbit, Unit::GB),
+    ("Gi", Unit::Gibit, Unit::GiB),
+    ("GI", Unit::Gibit, Unit::GiB),
+    ("g", Unit::Gbit, Unit::GB),
+    ("gi", Unit::Gibit, Unit::GiB),
+    ("gI", Unit::Gibit, Unit::GiB),
+    ("T", Unit::Tbit, Unit::TB),
+    ("Ti", Unit::Tibit, Unit::TiB),
+    ("TI", Unit::Tibit, Unit::TiB),
+    ("t", Unit::Tbit, Unit::TB),
+    ("ti", Unit::Tibit, Unit::TiB),
+    ("tI", Unit::Tibit, Unit::TiB),
+    ("P", Unit::Pbit, Unit::PB),
+    ("Pi", Unit::Pibit, Unit::PiB),
+    ("PI", Unit::Pibit, Unit::PiB),
+    ("p", Unit::Pbit, Unit::PB),
+    ("pi", Unit::Pibit, Unit::PiB),
+    ("pI", Unit::Pibit, Unit::PiB),
+    ("E", Unit::Ebit, Unit::EB),
+    ("Ei", Unit::Eibit, Unit::EiB),
+    ("EI", Unit::Eibit, Unit::EiB),
+    ("e", Unit::Ebit, Unit::EB),
+    ("ei", Unit::Eibit, Unit::EiB),
+    ("eI", Unit::Eibit, Unit::EiB),
+    ("Z", Unit::Zbit, Unit::ZB),
+    ("Zi", Unit::Zibit, Unit::ZiB),
+    ("ZI", Unit::Zibit, Unit::ZiB),
+    ("z", Unit::Zbit, Unit::ZB),
+    ("zi", Unit::Zibit, Unit::ZiB),
+    ("zI", Unit::Zibit, Unit::ZiB),
+    ("Y", Unit::Ybit, Unit::YB),
+    ("Yi", Unit::Yibit, Unit::YiB),
+    ("YI", Unit::Yibit, Unit::YiB),
+    ("y", Unit::Ybit, Unit::YB),
+    ("yi", Unit::Yibit, Unit::YiB),
+    ("yI", Unit::Yibit, Unit::YiB),
+    ("R", Unit::Rbit, Unit::RB),
+    ("Ri", Unit::Ribit, Unit::RiB),
+    ("RI", Unit::Ribit, Unit::RiB),
+    ("r", Unit::Rbit, Unit::RB),
+    ("ri", Unit::Ribit, Unit::RiB),
+    ("rI", Unit::Ribit, Unit::RiB),
 ];
 
-const LETTERS: [[&str; 2]; 9] = [
-    ["K", "k"],
-    ["M", "m"],
-    ["G", "g"],
-    ["T", "t"],
-    ["P", "p"],
-    ["E", "e"],
-    ["Z", "z"],
-    ["Y", "y"],
-    ["R", "r"],
-];
-
-/// Every suffix, after a prefix and its `i` or alone.
-const B_PARTS: [&str; 27] = [
+/// Every suffix, after a prefix or alone.
+const SUFFIXES: [&str; 27] = [
     "", "B", "b", "bit", "biT", "bIt", "bIT", "Bit", "BiT", "BIt", "BIT", "bits", "bitS", "biTs",
     "biTS", "bIts", "bItS", "bITs", "bITS", "Bits", "BitS", "BiTs", "BiTS", "BIts", "BItS", "BITs",
     "BITS",
 ];
 
+/// Every combination of the flags `ignore_case` and `prefer_byte`.
+const FLAGS: [(bool, bool); 4] = [(false, false), (false, true), (true, false), (true, true)];
+
+/// Returns whether a spelling with this suffix means a unit of bytes.
+fn is_byte(suffix: &str, (ignore_case, prefer_byte): (bool, bool)) -> bool {
+    match suffix {
+        "" => prefer_byte,
+        "B" => true,
+        "b" => ignore_case,
+        _ => false,
+    }
+}
+
+/// Asserts the unit of a spelling.
 fn assert_read(rt: &impl Abort, text: &str, flags: (bool, bool), want: Unit) {
     let read = Unit::parse_str(text, flags.0, flags.1).ok();
     assert_is(rt, (text, read), (text, Some(want)));
 }
 
-/// Parses every spelling with this suffix, and returns their number.
-fn read_all_before(rt: &impl Abort, alloc: Global, b_part: &str, flags: (bool, bool)) -> u32 {
-    let (ignore_case, prefer_byte) = flags;
-    let is_byte = match b_part {
-        "" => prefer_byte,
-        "B" => true,
-        "b" => ignore_case,
-        _ => false,
-    };
-    let plain = if is_byte { Unit::B } else { Unit::Bit };
-    assert_read(rt, b_part, flags, plain);
-    let mut texts = 1u32;
-    for (letters, [bits, bytes, binary_bits, binary_bytes]) in LETTERS.iter().zip(UNITS) {
-        for letter in letters {
-            for (infix, bits, bytes) in [
-                ("", bits, bytes),
-                ("i", binary_bits, binary_bytes),
-                ("I", binary_bits, binary_bytes),
-            ] {
-                let text = format!(in alloc; "{letter}{infix}{b_part}").expect(rt, "memory");
-                let want = if is_byte { bytes } else { bits };
-                assert_read(rt, text.as_str(), flags, want);
-                texts = texts.saturating_add(1);
-            }
-        }
+/// Asserts the unit of each spelling with this suffix.
+fn assert_all(rt: &impl Abort, alloc: Global, suffix: &str, flags: (bool, bool)) {
+    let is_byte = is_byte(suffix, flags);
+    for (prefix, bits, bytes) in PREFIXES {
+        let text = format!(in alloc; "{prefix}{suffix}").expect(rt, "memory");
+        let want = if is_byte { bytes } else { bits };
+        assert_read(rt, text.as_str(), flags, want);
     }
-    texts
 }
 
 #[test]
 fn every_spelling(rt: HostRuntime) {
-    let mut texts = 0u32;
-    for flags in [(false, false), (false, true), (true, false), (true, true)] {
-        for b_part in B_PARTS {
-            let read = read_all_before(&rt, rt.alloc(), b_part, flags);
-            texts = texts.saturating_add(read);
+    // These are 55 * 27 spellings, each with four combinations of the flags.
+    for flags in FLAGS {
+        for suffix in SUFFIXES {
+            assert_all(&rt, rt.alloc(), suffix, flags);
         }
     }
-    assert_is(&rt, texts, 5940);
 }

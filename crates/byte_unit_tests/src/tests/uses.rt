@@ -1,5 +1,5 @@
 //! Tests of the functions of `byte_unit_uses`.
-use super::asserting::{assert_for, assert_is};
+use super::asserting::{assert_each, assert_for, assert_is};
 use super::error_texts::assert_error;
 use byte_unit::{
     AdjustedByte, Bit, Byte, FormatSpec, JsonSizeError, ParseError, Unit, ValueParseError,
@@ -19,59 +19,111 @@ use std::process::Abort;
 
 #[test]
 fn limits_from_strings(rt: HostRuntime) {
-    assert_is(
+    let (max, kib, mib) = (Byte::GIGABYTE, Byte::KIBIBYTE, Byte::MEBIBYTE);
+    let half = Some(Byte::from_u64(500_000_000));
+    assert_each(
         &rt,
-        limit("1.5 GiB").ok(),
-        Some(Byte::from_u64(1_610_612_736)),
+        &[
+            (
+                "limit",
+                limit("1.5 GiB").ok(),
+                Some(Byte::from_u64(1_610_612_736)),
+            ),
+            (
+                "limit_ok",
+                limit_ok("20 mb"),
+                Some(Byte::from_u64(20_000_000)),
+            ),
+            ("limit_ok of no size", limit_ok("20 x"), None),
+            (
+                "limit_or",
+                Some(limit_or("4 KiB", mib)),
+                Some(Byte::from_u64(4096)),
+            ),
+            (
+                "limit_or of no size",
+                Some(limit_or("much", mib)),
+                Some(mib),
+            ),
+            (
+                "unwrap_limit_or",
+                Some(unwrap_limit_or(limit("1 MB"), kib)),
+                Some(Byte::MEGABYTE),
+            ),
+            (
+                "unwrap_limit_or of no size",
+                Some(unwrap_limit_or(limit("1 x"), kib)),
+                Some(kib),
+            ),
+        ],
     );
-    let is_wanted = matches!(limit(""), Err(ParseError::Value(ValueParseError::NoValue)));
-    assert_for(&rt, is_wanted, "no limit");
+    assert_each(
+        &rt,
+        &[
+            ("below the maximum", limit_at_most("500 MB", max).ok(), half),
+            ("the maximum", limit_at_most("1 GB", max).ok(), Some(max)),
+            (
+                "above the maximum",
+                limit_at_most("2 GB", max).ok(),
+                Some(max),
+            ),
+            (
+                "exceeded",
+                max_exceeded(&read_limit("2 GB", max)),
+                Some(max),
+            ),
+            ("not exceeded", max_exceeded(&read_limit("1 GB", max)), None),
+            ("no size", max_exceeded(&read_limit("2 X", max)), None),
+        ],
+    );
     assert_is(&rt, rate("100 Mbit").ok(), Some(Bit::from_u64(100_000_000)));
-    assert_is(&rt, limit_ok("20 mb"), Some(Byte::from_u64(20_000_000)));
-    assert_is(&rt, limit_ok("20 x"), None);
-    assert_is(&rt, limit_or("4 KiB", Byte::MEBIBYTE), Byte::from_u64(4096));
-    assert_is(&rt, limit_or("much", Byte::MEBIBYTE), Byte::MEBIBYTE);
-    assert_is(
-        &rt,
-        unwrap_limit_or(limit("1 MB"), Byte::KIBIBYTE),
-        Byte::MEGABYTE,
-    );
-    assert_is(
-        &rt,
-        unwrap_limit_or(limit("1 x"), Byte::KIBIBYTE),
-        Byte::KIBIBYTE,
-    );
+}
+
+/// Returns whether parsing failed because there is no value.
+fn is_no_value(read: Result<Byte, ParseError>) -> bool {
+    matches!(read, Err(ParseError::Value(ValueParseError::NoValue)))
+}
+
+#[test]
+fn limits_from_an_empty_string(rt: HostRuntime) {
     let max = Byte::GIGABYTE;
-    let half = Byte::from_u64(500_000_000);
-    assert_is(&rt, limit_at_most("500 MB", max).ok(), Some(half));
-    assert_is(&rt, limit_at_most("1 GB", max).ok(), Some(max));
-    assert_is(&rt, limit_at_most("2 GB", max).ok(), Some(max));
-    let is_wanted = matches!(
-        limit_at_most("", max),
-        Err(ParseError::Value(ValueParseError::NoValue))
-    );
-    assert_for(&rt, is_wanted, "no limit at most");
-    assert_is(&rt, max_exceeded(&read_limit("2 GB", max)), Some(max));
-    assert_is(&rt, max_exceeded(&read_limit("1 GB", max)), None);
-    assert_is(&rt, max_exceeded(&read_limit("2 X", max)), None);
+    assert_for(&rt, is_no_value(limit("")), "limit");
+    assert_for(&rt, is_no_value(limit_at_most("", max)), "limit_at_most");
     let is_wanted = matches!(read_limit("", max), Err(LimitError::Parse(_)));
-    assert_for(&rt, is_wanted, "no limit that is read");
+    assert_for(&rt, is_wanted, "read_limit");
 }
 
 #[test]
 fn literals_and_quotas(rt: HostRuntime) {
-    assert_is(&rt, spaces(), Byte::from_u64(1_500_000_000));
-    assert_is(&rt, unit(), Unit::Kibit);
-    assert_is(&rt, adjusted_unit().get_unit(), Unit::Mibit);
     let limits = default_limits(rt.alloc()).expect(&rt, "limits");
-    assert_is(&rt, limits.cache, Byte::from_u64(67_108_864));
-    assert_is(&rt, limits.upload, Byte::from_u64(20_000_000));
     let used = Byte::from_u64(900_000_000);
-    assert_is(
+    assert_each(
         &rt,
-        left("1 GiB", used).ok(),
-        Some(Byte::from_u64(173_741_824)),
+        &[
+            (
+                "spaces",
+                Some(spaces()),
+                Some(Byte::from_u64(1_500_000_000)),
+            ),
+            (
+                "cache",
+                Some(limits.cache),
+                Some(Byte::from_u64(67_108_864)),
+            ),
+            (
+                "upload",
+                Some(limits.upload),
+                Some(Byte::from_u64(20_000_000)),
+            ),
+            (
+                "left",
+                left("1 GiB", used).ok(),
+                Some(Byte::from_u64(173_741_824)),
+            ),
+        ],
     );
+    let units = (unit(), adjusted_unit().get_unit());
+    assert_is(&rt, units, (Unit::Kibit, Unit::Mibit));
     let is_wanted = matches!(left("500 MB", used), Err(QuotaError::Exceeded));
     assert_for(&rt, is_wanted, "quota exceeded");
     assert_error(
@@ -80,12 +132,8 @@ fn literals_and_quotas(rt: HostRuntime) {
         left("1 GX", used),
         "no quota: the character 'X' is incorrect ('B' or 'b' or no character is expected)",
     );
-    assert_is(
-        &rt,
-        share("10 KB", 3).ok(),
-        Some(Some(Byte::from_u64(3333))),
-    );
-    assert_is(&rt, share("10 KB", 0).ok(), Some(None));
+    let shares = (share("10 KB", 3).ok(), share("10 KB", 0).ok());
+    assert_is(&rt, shares, (Some(Some(Byte::from_u64(3333))), Some(None)));
 }
 
 /// Creates a JSON string.
@@ -135,6 +183,19 @@ fn assert_formatted<E: Drop>(
 /// The name of each entry, and the string of its size.
 const ENTRIES: &[(&str, &str)] = &[("logs", "1.5 KiB"), ("cache", "2 GB"), ("none", "2 X")];
 
+/// Returns the entries whose sizes are below a limit.
+fn entries_below(rt: &impl Abort, alloc: Global, limit: Byte) -> Vec<Entry<'static>> {
+    let mut report = Vec::new(alloc);
+    for (name, text) in ENTRIES {
+        if let Ok(entry) = Entry::read(name, text) {
+            if let Some(entry) = filter_below(entry, limit) {
+                add(&mut report, entry).expect(rt, "memory");
+            }
+        }
+    }
+    report
+}
+
 #[test]
 fn sizes_in_units_and_entries(rt: HostRuntime) {
     let alloc = rt.alloc();
@@ -142,17 +203,11 @@ fn sizes_in_units_and_entries(rt: HostRuntime) {
     assert_formatted(&rt, alloc, size, "120.5625 KiB");
     assert_is(&rt, parse_unit("3 Mbit").ok(), Some(Unit::Mbit));
     assert_formatted(&rt, alloc, parse_adjusted("10000"), "9.765625 KiB");
-    let mut report = Vec::new(alloc);
-    for (name, text) in ENTRIES {
-        if let Ok(entry) = Entry::read(name, text) {
-            if let Some(entry) = filter_below(entry, Byte::GIBIBYTE) {
-                add(&mut report, entry).expect(&rt, "memory");
-            }
-        }
-    }
-    assert!(rt; report.len() == 1);
-    assert_is(&rt, report[0].name(), "logs");
-    assert_is(&rt, report[0].size(), Byte::from_u64(1536));
+    let report = entries_below(&rt, alloc, Byte::GIBIBYTE);
+    let first = report.as_slice().first();
+    let found = first.map(|entry| (entry.name(), entry.size()));
+    let wanted = Some(("logs", Byte::from_u64(1536)));
+    assert_is(&rt, (report.len(), found), (1, wanted));
     let limit = parse_argument("12 GB").ok();
     assert_is(&rt, limit, Some(Byte::from_u64(12_000_000_000)));
     let rejected = parse_argument("12 QB");
