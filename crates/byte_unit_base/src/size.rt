@@ -175,7 +175,8 @@ pub fn visible_error(
 
 /// Parses as `parse_bytes` does, from bytes in which `read_bytes` stops at this place and for this reason.
 ///
-/// The two are passed apart, since a `Stop` would be in memory.
+/// The two are passed apart, since a `Stop` would be in memory. `stopped_error` and `parse_text` are called, not inlined:
+/// LLVM then sees that the result is written whole, and does not clear its memory on the way of bytes that are accepted.
 #[cold]
 #[inline(never)]
 fn parse_stopped(
@@ -189,10 +190,25 @@ fn parse_stopped(
     ensures reading { IsBytesReading kind ignore_case bytes.now result }
     ensures small { IfSome result (λ answer. IfOk answer (λ n. n < size_limit)) }
 {
-    match visible_error(bytes, place, reason, ignore_case, kind) {
+    match stopped_error(bytes, place, reason, ignore_case, kind) {
         Some(error) => Some(Err(error)),
         None => parse_text(bytes, ignore_case, kind),
     }
+}
+
+/// Returns what `visible_error` does, by a call.
+#[inline(never)]
+fn stopped_error(
+    bytes: &[u8],
+    place: usize,
+    reason: Reason,
+    ignore_case: bool,
+    kind: Kind,
+) -> Option<ParseError>
+    requires { IsStopAt (flags_for kind ignore_case) bytes.now place reason }
+    ensures { IfSome result (λ error. IsUtf8 bytes.now × IsSizeReading kind ignore_case bytes.now (Err error)) }
+{
+    visible_error(bytes, place, reason, ignore_case, kind)
 }
 
 /// Parses as `parse_bytes` does, from the string that the bytes are, trimmed.
