@@ -72,8 +72,10 @@ pub fn reading_at(flags: u32) -> Option<Reading>
     ensures { result ≡ reading_at flags }
 {
     match flags {
-        0 | IGNORE_CASE => Some(Reading::new(Kind::Byte, flags == IGNORE_CASE)),
-        BITS | BITS_IGNORE_CASE => Some(Reading::new(Kind::Bit, flags == BITS_IGNORE_CASE)),
+        0 => Some(Reading::new(Kind::Byte, false)),
+        BITS => Some(Reading::new(Kind::Bit, false)),
+        IGNORE_CASE => Some(Reading::new(Kind::Byte, true)),
+        BITS_IGNORE_CASE => Some(Reading::new(Kind::Bit, true)),
         _ => None,
     }
 }
