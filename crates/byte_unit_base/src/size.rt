@@ -144,6 +144,12 @@ pub fn parse_bytes(bytes: &[u8], ignore_case: bool, kind: Kind) -> Option<Result
 ///
 /// # Errors
 /// Returns where the parser stops, also at white space that `parse` would trim.
+///
+/// # Examples
+/// ```rust
+/// assert!(rt; matches!(size::read_bytes(b"1.5 KiB", false, Kind::Byte), Ok((Unit::KiB, _))));
+/// assert!(rt; size::read_bytes(b" 1.5 KiB", false, Kind::Byte).is_err());
+/// ```
 #[inline(always)]
 pub fn read_bytes(bytes: &[u8], ignore_case: bool, kind: Kind) -> Result<(Unit, Decimal), Stop>
     ensures { IsBytesNumber (flags_for kind ignore_case) bytes.now result }
@@ -153,6 +159,14 @@ pub fn read_bytes(bytes: &[u8], ignore_case: bool, kind: Kind) -> Result<(Unit, 
 
 /// Returns the error of bytes in which `read_bytes` stops at this place and for this reason. Returns `None` if there may be
 /// white space to trim, or characters past ASCII.
+///
+/// # Examples
+/// ```rust
+/// if let Err(stop) = size::read_bytes(b"1 byte", false, Kind::Byte) {
+///     let error = size::visible_error(b"1 byte", stop.place, stop.reason, false, Kind::Byte);
+///     assert!(rt; matches!(error, Some(ParseError::Unit(_))));
+/// }
+/// ```
 #[inline(always)]
 pub fn visible_error(
     bytes: &[u8],
@@ -212,6 +226,14 @@ fn stopped_error(
 }
 
 /// Parses as `parse_bytes` does, from the string that the bytes are, trimmed.
+///
+/// # Errors
+/// As `parse_bytes`.
+///
+/// # Examples
+/// ```rust
+/// assert!(rt; matches!(size::parse_text(b" 1 KiB ", false, Kind::Byte), Some(Ok(1024))));
+/// ```
 #[cold]
 #[inline(never)]
 pub fn parse_text(bytes: &[u8], ignore_case: bool, kind: Kind) -> Option<Result<u128, ParseError>>
@@ -225,6 +247,15 @@ pub fn parse_text(bytes: &[u8], ignore_case: bool, kind: Kind) -> Option<Result<
 /// Returns the result of `parse` for a string with this number and this unit.
 ///
 /// `#[inline(always)]`: a call would return the result through memory.
+///
+/// # Errors
+/// Returns `ExceededBounds` with the number if the size would be 10^30 or more.
+///
+/// # Examples
+/// ```rust
+/// let found = (Decimal::from_digits(1, 5, 1), Unit::KiB);
+/// assert!(rt; matches!(size::size_of(found, Kind::Byte), Ok(1536)));
+/// ```
 #[inline(always)]
 pub fn size_of(found: (Decimal, Unit), kind: Kind) -> Result<u128, ParseError>
     ensures reading { (ignore_case : Bool) (bytes : List ℕ)
