@@ -251,8 +251,8 @@ TABLES = [
     ("Units", "each_unit", [("TO_TERA", properties), ("FROM_PETA", properties)]),
     ("Constants", "constants", [
         ("constants_without_a_prefix 0", constants("byte")), ("constants_without_a_prefix 1", constants("bit")),
-        *((f"{name} 0", constants("byte")) for name in ["decimal_bytes", "binary_bytes", "decimal_bits_in_bytes", "binary_bits_in_bytes"]),
-        *((f"{name} 0", constants("bit")) for name in ["decimal_bytes_in_bits", "binary_bytes_in_bits", "decimal_bits", "binary_bits"])]),
+        *((name, constants("byte")) for name in ["DECIMAL_BYTES", "BINARY_BYTES", "DECIMAL_BITS_IN_BYTES", "BINARY_BITS_IN_BYTES"]),
+        *((name, constants("bit")) for name in ["DECIMAL_BYTES_IN_BITS", "BINARY_BYTES_IN_BITS", "DECIMAL_BITS", "BINARY_BITS"])]),
 ]
 
 SOURCES = {
