@@ -5,7 +5,7 @@ use std::alloc::Global;
 use std::process::Abort;
 
 /// Every prefix, and none, each with its unit of bits and its unit of bytes.
-const PREFIXES: [(&str, Unit, Unit); 55] = [
+const PREFIXES: &[(&str, Unit, Unit)] = &[
     ("", Unit::Bit, Unit::B),
     ("K", Unit::Kbit, Unit::KB),
     ("Ki", Unit::Kibit, Unit::KiB),
@@ -64,23 +64,18 @@ const PREFIXES: [(&str, Unit, Unit); 55] = [
 ];
 
 /// Every suffix, after a prefix or alone.
-const SUFFIXES: [&str; 27] = [
+const SUFFIXES: &[&str] = &[
     "", "B", "b", "bit", "biT", "bIt", "bIT", "Bit", "BiT", "BIt", "BIT", "bits", "bitS", "biTs",
     "biTS", "bIts", "bItS", "bITs", "bITS", "Bits", "BitS", "BiTs", "BiTS", "BIts", "BItS", "BITs",
     "BITS",
 ];
 
 /// Every combination of the flags `ignore_case` and `prefer_byte`.
-const FLAGS: [(bool, bool); 4] = [(false, false), (false, true), (true, false), (true, true)];
+const FLAGS: &[(bool, bool)] = &[(false, false), (false, true), (true, false), (true, true)];
 
 /// Returns whether a spelling with this suffix means a unit of bytes.
 fn is_byte(suffix: &str, (ignore_case, prefer_byte): (bool, bool)) -> bool {
-    match suffix {
-        "" => prefer_byte,
-        "B" => true,
-        "b" => ignore_case,
-        _ => false,
-    }
+    suffix == "B" || (suffix == "b" && ignore_case) || (suffix.is_empty() && prefer_byte)
 }
 
 /// Asserts the unit of a spelling.
@@ -94,7 +89,7 @@ fn assert_all(rt: &impl Abort, alloc: Global, suffix: &str, flags: (bool, bool))
     let is_byte = is_byte(suffix, flags);
     for (prefix, bits, bytes) in PREFIXES {
         let text = format!(in alloc; "{prefix}{suffix}").expect(rt, "memory");
-        let want = if is_byte { bytes } else { bits };
+        let want = if is_byte { *bytes } else { *bits };
         assert_read(rt, text.as_str(), flags, want);
     }
 }
@@ -104,7 +99,7 @@ fn every_spelling(rt: HostRuntime) {
     // These are 55 * 27 spellings, each with four combinations of the flags.
     for flags in FLAGS {
         for suffix in SUFFIXES {
-            assert_all(&rt, rt.alloc(), suffix, flags);
+            assert_all(&rt, rt.alloc(), suffix, *flags);
         }
     }
 }
