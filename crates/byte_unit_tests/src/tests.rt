@@ -33,8 +33,8 @@ macro_rules! precise {
     };
 }
 
-/// What a run of the command returns in which all fields are sizes within the limits, with this sum. A macro, so that constants can
-/// use it.
+/// What a run of the command returns in which all fields are sizes within the limits, with this sum. A macro, so that
+/// constants can use it.
 macro_rules! sum {
     ($total:expr) => {
         Ok(Tally {

@@ -26,8 +26,8 @@ const READS: Pace = Pace(5, 2, Then::Fail);
 /// One write of the whole answer, and then writes that fail.
 const WRITES: Pace = Pace(20, 1, Then::Fail);
 
-/// A call: its arguments and the kind that they ask for, the paces of its streams, its ending, the output, and what is left
-/// of the input.
+/// A call: its arguments and the kind that they ask for, the paces of its streams, its ending, the output, and what is
+/// left of the input.
 type Call = (
     &'static [&'static str],
     Option<Kind>,
