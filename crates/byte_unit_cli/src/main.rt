@@ -1,9 +1,6 @@
 //! Converts sizes: the operands, or the lines of standard input, each to the form that the options ask for.
 #![tactic(auto)]
 
-#[cfg(test)]
-mod tests;
-
 use byte_unit_command::arguments::{Wrong, command, fields_of, options_of};
 use byte_unit_command::ending::{message, status};
 use byte_unit_command::options::Options;

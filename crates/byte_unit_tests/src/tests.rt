@@ -33,13 +33,29 @@ macro_rules! precise {
     };
 }
 
+/// What a run of the command returns in which all fields are sizes within the limits, with this sum. A macro, so that
+/// constants can use it.
+macro_rules! sum {
+    ($total:expr) => {
+        Ok(Tally {
+            total: $total,
+            beyond: false,
+            rejected: false,
+        })
+    };
+}
+
 mod adjusted;
 mod answers;
 mod any_texts;
 mod asserting;
 mod bounds;
 mod choices;
+mod command;
+mod command_forms;
 mod command_line;
+mod command_options;
+mod command_streams;
 mod constants;
 mod decimals;
 mod documented;

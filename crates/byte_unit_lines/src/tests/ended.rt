@@ -29,8 +29,8 @@ impl<'a> Ended<'a> {
         }
     }
 
-    /// Asserts the result and the written bytes. A name and numbers tell which of a test's runs it was. The message has the
-    /// number of bytes, since reports can be too long to be printed.
+    /// Asserts the result and the written bytes. A name and numbers tell which of a test's runs it was. The message has
+    /// the number of bytes, since reports can be too long to be printed.
     pub fn expect(
         &self,
         rt: &impl Abort,

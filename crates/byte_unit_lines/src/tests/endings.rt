@@ -1,6 +1,6 @@
 //! The endings of calls of the program.
 use super::ended::{Ended, streams};
-use super::streams::{Pace, Then};
+use super::streams::{AT_ONCE, Pace, Then};
 use super::*;
 use crate::ending::{Ending, serve};
 use std::alloc::AllocError;
@@ -17,14 +17,17 @@ fn words(alloc: Global, words: &[&str]) -> Result<Vec<String>, AllocError> {
     Ok(texts)
 }
 
-/// Reads of the whole input, and the end after it.
+/// Streams that transfer all bytes in each call.
+const OPEN: (Pace, Pace) = (AT_ONCE, AT_ONCE);
+
+/// One read of the whole input, one of its end, and then reads that fail.
 const READS: Pace = Pace(5, 2, Then::Fail);
 
-/// One write of the whole answer.
+/// One write of the whole answer, and then writes that fail.
 const WRITES: Pace = Pace(20, 1, Then::Fail);
 
-/// A call: its arguments and the kind that they ask for, the paces of its streams, its ending, the output, and what is left
-/// of the input.
+/// A call: its arguments and the kind that they ask for, the paces of its streams, its ending, the output, and what is
+/// left of the input.
 type Call = (
     &'static [&'static str],
     Option<Kind>,
@@ -38,7 +41,7 @@ const CALLS: &[Call] = &[
     (
         &[],
         Some(Kind::Byte),
-        (READS, WRITES),
+        OPEN,
         Ending::Done,
         b"1000 = 1 KB\n",
         b"",
@@ -46,11 +49,22 @@ const CALLS: &[Call] = &[
     (
         &["byte"],
         Some(Kind::Byte),
-        (READS, WRITES),
+        OPEN,
         Ending::Done,
         b"1000 = 1 KB\n",
         b"",
     ),
+    (
+        &["bit"],
+        Some(Kind::Bit),
+        OPEN,
+        Ending::Done,
+        b"8000 = 8 Kb\n",
+        b"",
+    ),
+    (&["bits"], None, OPEN, Ending::Usage, b"", INPUT),
+    (&["bit", "bit"], None, OPEN, Ending::Usage, b"", INPUT),
+    // No call of a stream is made after these; then a read fails after the input, and the write of the answer fails.
     (
         &["bit"],
         Some(Kind::Bit),
@@ -59,16 +73,6 @@ const CALLS: &[Call] = &[
         b"8000 = 8 Kb\n",
         b"",
     ),
-    (&["bits"], None, (READS, WRITES), Ending::Usage, b"", INPUT),
-    (
-        &["bit", "bit"],
-        None,
-        (READS, WRITES),
-        Ending::Usage,
-        b"",
-        INPUT,
-    ),
-    // A read fails after the input, and the write of the answer fails.
     (
         &["bit"],
         Some(Kind::Bit),

@@ -74,8 +74,8 @@ fn each_failing_read(rt: &(impl Abort + AllocGlobal), input: &[u8], report: &[u8
     }
 }
 
-/// Asserts what is written if a write of the report fails or accepts nothing: of its bytes, and of its lines, since each
-/// answer is written by its own call if the input is read byte by byte.
+/// Asserts what is written if a write of the report fails or accepts nothing: of its bytes, and of its lines, since
+/// each answer is written by its own call if the input is read byte by byte.
 fn each_failing_write(rt: &(impl Abort + AllocGlobal), input: &[u8], report: &[u8]) {
     let reads = Pace(1, usize::MAX, Then::Fail);
     let failed = Err(RunError::Write);

@@ -71,8 +71,8 @@ fn many_lines(rt: HostRuntime) {
     expect(&rt, "1KB\n", 1000, &last, &report);
 }
 
-/// The pace of writes of a report of 2,700,000 bytes, all given to one read; the result, and the number of bytes that are
-/// written. All are written in one call, and in several.
+/// The pace of writes of a report of 2,700,000 bytes, all given to one read; the result, and the number of bytes that
+/// are written. All are written in one call, and in several.
 const BY_WRITES: &[(Pace, Result<(), RunError>, usize)] = &[
     (Pace(usize::MAX, 1, Then::Fail), Ok(()), 2_700_000),
     (Pace(1_000_000, 3, Then::Fail), Ok(()), 2_700_000),

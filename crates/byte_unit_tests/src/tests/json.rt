@@ -8,7 +8,7 @@ use super::shown::{
 };
 use byte_unit::{Bit, Byte, Kind, Unit, unit_to_json};
 use serde_json::{Map, Value};
-use std::alloc::{AllocError, Global};
+use std::alloc::Global;
 use std::process::Abort;
 
 /// Returns sizes, each with its JSON string.
@@ -98,55 +98,36 @@ fn member<'a>(settings: &'a Value, name: &str, null: &'a Value) -> &'a Value {
     settings.get(name).unwrap_or(null)
 }
 
-/// Asserts the size that a member represents, parsed as the type of `like`.
-fn assert_member(rt: &impl Abort, settings: &Value, name: &str, like: &Shown, wanted: u128) {
-    let read = read_like(like, member(settings, name, &Value::Null)).ok();
-    assert_is(rt, (name, read), (name, Some(wanted)));
+/// Asserts the size that each member represents, parsed as the type of a size.
+fn assert_members(rt: &impl Abort, settings: &Value, rows: &[(&str, Shown, u128)]) {
+    for (name, like, wanted) in rows {
+        let read = read_like(like, member(settings, name, &Value::Null)).ok();
+        assert_is(rt, (*name, read), (*name, Some(*wanted)));
+    }
 }
 
 /// Adds a member to an object.
-fn put(
-    settings: &mut Map<String, Value>,
-    alloc: Global,
-    name: &str,
-    value: Value,
-) -> Result<(), AllocError> {
-    settings.insert(String::from_str(alloc, name)?, value)?;
-    Ok(())
+fn put(rt: &impl Abort, settings: &mut Map<String, Value>, name: String, value: Value) {
+    let before: Result<_, _> = settings.insert(name, value);
+    let _ = before.expect(rt, "memory");
 }
 
 /// Creates settings with a value of each type: 1536 bytes, 100,000,000 bits, a unit, and 1536 bytes in a unit.
-fn settings_of_each_type(alloc: Global) -> Result<Value, AllocError> {
+fn settings_of_each_type(rt: &impl Abort, alloc: Global) -> Value {
     let mut settings = Map::new(alloc);
-    put(&mut settings, alloc, "cache", stored(&bytes(1536), alloc)?)?;
-    put(
-        &mut settings,
-        alloc,
-        "limit",
-        stored(&bits(100_000_000), alloc)?,
-    )?;
-    put(
-        &mut settings,
-        alloc,
-        "unit",
-        unit_to_json(alloc, Unit::MiB)?,
-    )?;
-    put(
-        &mut settings,
-        alloc,
-        "shown",
-        stored(&bytes_in(1536, Unit::MB), alloc)?,
-    )?;
-    Ok(Value::Object(settings))
-}
-
-/// Asserts that the settings round-trip.
-fn assert_of_each_type(rt: &impl Abort, settings: &Value) {
-    assert_member(rt, settings, "cache", &bytes(0), 1536);
-    assert_member(rt, settings, "limit", &bits(0), 100_000_000);
-    assert_unit(rt, member(settings, "unit", &Value::Null), Unit::MiB);
-    assert_string(rt, member(settings, "shown", &Value::Null), "0.001536 MB");
-    assert_member(rt, settings, "shown", &bytes_in(0, Unit::B), 1536);
+    for (name, shown) in [
+        ("cache", bytes(1536)),
+        ("limit", bits(100_000_000)),
+        ("shown", bytes_in(1536, Unit::MB)),
+    ] {
+        let name = String::from_str(alloc, name).expect(rt, "memory");
+        let value = stored(&shown, alloc).expect(rt, "memory");
+        put(rt, &mut settings, name, value);
+    }
+    let name = String::from_str(alloc, "unit").expect(rt, "memory");
+    let value = unit_to_json(alloc, Unit::MiB).expect(rt, "memory");
+    put(rt, &mut settings, name, value);
+    Value::Object(settings)
 }
 
 #[test]
@@ -154,11 +135,32 @@ fn settings_of_sizes(rt: HostRuntime) {
     let alloc = rt.alloc();
     let text = "{ \"cache\": \"1.5 GiB\", \"upload\": \"20 MB\", \"line\": \"100 Mb\" }";
     let settings = Value::from_str(alloc, text).expect(&rt, "settings");
-    assert_member(&rt, &settings, "cache", &bytes(0), 1_610_612_736);
-    assert_member(&rt, &settings, "upload", &bytes(0), 20_000_000);
-    assert_member(&rt, &settings, "line", &bits(0), 100_000_000);
-    let settings = settings_of_each_type(alloc).expect(&rt, "memory");
+    assert_members(
+        &rt,
+        &settings,
+        &[
+            ("cache", bytes(0), 1_610_612_736),
+            ("upload", bytes(0), 20_000_000),
+            ("line", bits(0), 100_000_000),
+        ],
+    );
+}
+
+#[test]
+fn settings_of_each_type_round_trip(rt: HostRuntime) {
+    let alloc = rt.alloc();
+    let settings = settings_of_each_type(&rt, alloc);
     let text = settings.to_string(alloc).expect(&rt, "memory");
     let settings = Value::from_str(alloc, text.as_str()).expect(&rt, "settings");
-    assert_of_each_type(&rt, &settings);
+    assert_members(
+        &rt,
+        &settings,
+        &[
+            ("cache", bytes(0), 1536),
+            ("limit", bits(0), 100_000_000),
+            ("shown", bytes_in(0, Unit::B), 1536),
+        ],
+    );
+    assert_unit(&rt, member(&settings, "unit", &Value::Null), Unit::MiB);
+    assert_string(&rt, member(&settings, "shown", &Value::Null), "0.001536 MB");
 }

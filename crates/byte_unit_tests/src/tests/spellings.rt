@@ -5,7 +5,7 @@ use std::alloc::Global;
 use std::process::Abort;
 
 /// Every prefix, and none, each with its unit of bits and its unit of bytes.
-const PREFIXES: [(&str, Unit, Unit); 55] = [
+const PREFIXES: &[(&str, Unit, Unit)] = &[
     ("", Unit::Bit, Unit::B),
     ("K", Unit::Kbit, Unit::KB),
     ("Ki", Unit::Kibit, Unit::KiB),
@@ -63,25 +63,50 @@ const PREFIXES: [(&str, Unit, Unit); 55] = [
     ("rI", Unit::Ribit, Unit::RiB),
 ];
 
-/// Every suffix, after a prefix or alone.
-const SUFFIXES: [&str; 27] = [
-    "", "B", "b", "bit", "biT", "bIt", "bIT", "Bit", "BiT", "BIt", "BIT", "bits", "bitS", "biTs",
-    "biTS", "bIts", "bItS", "bITs", "bITS", "Bits", "BitS", "BiTs", "BiTS", "BIts", "BItS", "BITs",
-    "BITS",
-];
-
 /// Every combination of the flags `ignore_case` and `prefer_byte`.
-const FLAGS: [(bool, bool); 4] = [(false, false), (false, true), (true, false), (true, true)];
+const FLAGS: &[(bool, bool)] = &[(false, false), (false, true), (true, false), (true, true)];
 
-/// Returns whether a spelling with this suffix means a unit of bytes.
-fn is_byte(suffix: &str, (ignore_case, prefer_byte): (bool, bool)) -> bool {
-    match suffix {
-        "" => prefer_byte,
-        "B" => true,
-        "b" => ignore_case,
-        _ => false,
-    }
-}
+/// With each combination, whether a suffix means bytes.
+type MeansBytes = [bool; 4];
+
+const ALWAYS: MeansBytes = [true, true, true, true];
+
+const IF_BYTES_ARE_PREFERRED: MeansBytes = [false, true, false, true];
+
+const IF_CASE_IS_IGNORED: MeansBytes = [false, false, true, true];
+
+const NEVER: MeansBytes = [false, false, false, false];
+
+/// Every suffix, after a prefix or alone.
+const SUFFIXES: &[(&str, MeansBytes)] = &[
+    ("", IF_BYTES_ARE_PREFERRED),
+    ("B", ALWAYS),
+    ("b", IF_CASE_IS_IGNORED),
+    ("bit", NEVER),
+    ("biT", NEVER),
+    ("bIt", NEVER),
+    ("bIT", NEVER),
+    ("Bit", NEVER),
+    ("BiT", NEVER),
+    ("BIt", NEVER),
+    ("BIT", NEVER),
+    ("bits", NEVER),
+    ("bitS", NEVER),
+    ("biTs", NEVER),
+    ("biTS", NEVER),
+    ("bIts", NEVER),
+    ("bItS", NEVER),
+    ("bITs", NEVER),
+    ("bITS", NEVER),
+    ("Bits", NEVER),
+    ("BitS", NEVER),
+    ("BiTs", NEVER),
+    ("BiTS", NEVER),
+    ("BIts", NEVER),
+    ("BItS", NEVER),
+    ("BITs", NEVER),
+    ("BITS", NEVER),
+];
 
 /// Asserts the unit of a spelling.
 fn assert_read(rt: &impl Abort, text: &str, flags: (bool, bool), want: Unit) {
@@ -89,12 +114,17 @@ fn assert_read(rt: &impl Abort, text: &str, flags: (bool, bool), want: Unit) {
     assert_is(rt, (text, read), (text, Some(want)));
 }
 
-/// Asserts the unit of each spelling with this suffix.
-fn assert_all(rt: &impl Abort, alloc: Global, suffix: &str, flags: (bool, bool)) {
-    let is_byte = is_byte(suffix, flags);
+/// Asserts the unit of each spelling with this suffix, which means bytes or bits.
+fn assert_all(
+    rt: &impl Abort,
+    alloc: Global,
+    suffix: &str,
+    flags: (bool, bool),
+    means_bytes: bool,
+) {
     for (prefix, bits, bytes) in PREFIXES {
         let text = format!(in alloc; "{prefix}{suffix}").expect(rt, "memory");
-        let want = if is_byte { bytes } else { bits };
+        let want = if means_bytes { *bytes } else { *bits };
         assert_read(rt, text.as_str(), flags, want);
     }
 }
@@ -102,9 +132,10 @@ fn assert_all(rt: &impl Abort, alloc: Global, suffix: &str, flags: (bool, bool))
 #[test]
 fn every_spelling(rt: HostRuntime) {
     // These are 55 * 27 spellings, each with four combinations of the flags.
-    for flags in FLAGS {
-        for suffix in SUFFIXES {
-            assert_all(&rt, rt.alloc(), suffix, flags);
+    assert_is(&rt, (PREFIXES.len(), SUFFIXES.len()), (55, 27));
+    for (suffix, means_bytes) in SUFFIXES {
+        for (flags, means_bytes) in FLAGS.iter().zip(means_bytes.iter()) {
+            assert_all(&rt, rt.alloc(), suffix, *flags, *means_bytes);
         }
     }
 }

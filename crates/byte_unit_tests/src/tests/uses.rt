@@ -95,35 +95,18 @@ fn limits_from_an_empty_string(rt: HostRuntime) {
 
 #[test]
 fn literals_and_quotas(rt: HostRuntime) {
+    assert_is(&rt, spaces(), Byte::from_u64(1_500_000_000));
+    assert_is(&rt, unit(), Unit::Kibit);
+    assert_is(&rt, adjusted_unit().get_unit(), Unit::Mibit);
     let limits = default_limits(rt.alloc()).expect(&rt, "limits");
+    assert_is(&rt, limits.cache, Byte::from_u64(67_108_864));
+    assert_is(&rt, limits.upload, Byte::from_u64(20_000_000));
     let used = Byte::from_u64(900_000_000);
-    assert_each(
+    assert_is(
         &rt,
-        &[
-            (
-                "spaces",
-                Some(spaces()),
-                Some(Byte::from_u64(1_500_000_000)),
-            ),
-            (
-                "cache",
-                Some(limits.cache),
-                Some(Byte::from_u64(67_108_864)),
-            ),
-            (
-                "upload",
-                Some(limits.upload),
-                Some(Byte::from_u64(20_000_000)),
-            ),
-            (
-                "left",
-                left("1 GiB", used).ok(),
-                Some(Byte::from_u64(173_741_824)),
-            ),
-        ],
+        left("1 GiB", used).ok(),
+        Some(Byte::from_u64(173_741_824)),
     );
-    let units = (unit(), adjusted_unit().get_unit());
-    assert_is(&rt, units, (Unit::Kibit, Unit::Mibit));
     let is_wanted = matches!(left("500 MB", used), Err(QuotaError::Exceeded));
     assert_for(&rt, is_wanted, "quota exceeded");
     assert_error(
@@ -132,8 +115,12 @@ fn literals_and_quotas(rt: HostRuntime) {
         left("1 GX", used),
         "no quota: the character 'X' is incorrect ('B' or 'b' or no character is expected)",
     );
-    let shares = (share("10 KB", 3).ok(), share("10 KB", 0).ok());
-    assert_is(&rt, shares, (Some(Some(Byte::from_u64(3333))), Some(None)));
+    assert_is(
+        &rt,
+        share("10 KB", 3).ok(),
+        Some(Some(Byte::from_u64(3333))),
+    );
+    assert_is(&rt, share("10 KB", 0).ok(), Some(None));
 }
 
 /// Creates a JSON string.
@@ -204,10 +191,9 @@ fn sizes_in_units_and_entries(rt: HostRuntime) {
     assert_is(&rt, parse_unit("3 Mbit").ok(), Some(Unit::Mbit));
     assert_formatted(&rt, alloc, parse_adjusted("10000"), "9.765625 KiB");
     let report = entries_below(&rt, alloc, Byte::GIBIBYTE);
-    let first = report.as_slice().first();
-    let found = first.map(|entry| (entry.name(), entry.size()));
-    let wanted = Some(("logs", Byte::from_u64(1536)));
-    assert_is(&rt, (report.len(), found), (1, wanted));
+    assert!(rt; report.len() == 1);
+    assert_is(&rt, report[0].name(), "logs");
+    assert_is(&rt, report[0].size(), Byte::from_u64(1536));
     let limit = parse_argument("12 GB").ok();
     assert_is(&rt, limit, Some(Byte::from_u64(12_000_000_000)));
     let rejected = parse_argument("12 QB");

@@ -1,7 +1,8 @@
-//! The text of a size in each form.
-
-use super::streams::AT_ONCE;
-use super::*;
+//! Tests of the command `byte-unit`: the text of a size in each form.
+use super::command::{PLAIN, assert_run};
+use super::command_streams::AT_ONCE;
+use byte_unit_command::options::{Form, Options, Unit, UnitType};
+use byte_unit_command::tally::Tally;
 
 /// Test vectors: a form, a precision, a size, its number of bytes, and its text.
 const ROWS: &[(Form, Option<u16>, &str, u128, &str)] = &[
@@ -86,7 +87,7 @@ fn sizes_in_each_form(rt: HostRuntime) {
         };
         let wanted = (sum!(*bytes), text.as_bytes(), b"".as_slice());
         let input = size.as_bytes();
-        expect(
+        assert_run(
             &rt,
             &options,
             input,

@@ -1,7 +1,10 @@
-//! What each option does: the lines that are written, the total, the messages, and why a run ends early.
-
-use super::streams::AT_ONCE;
-use super::*;
+//! Tests of the command `byte-unit`: what each option does to the lines that are written, the total and the messages,
+//! and why a run ends early.
+use super::command::{PLAIN, assert_run};
+use super::command_streams::AT_ONCE;
+use byte_unit_command::options::{FieldRange, Form, Invalid, Kind, Options};
+use byte_unit_command::stop::Stop;
+use byte_unit_command::tally::Tally;
 
 /// Fields 1 and 3, and all from 5 on.
 const SOME: &[FieldRange] = &[
@@ -282,7 +285,7 @@ byte-unit: line 3: field 1: '\\xff\\xfeb': not UTF-8
 fn what_each_option_does(rt: HostRuntime) {
     for (number, (name, options, input, result, written, messages)) in ROWS.iter().enumerate() {
         let wanted = (*result, *written, *messages);
-        expect(
+        assert_run(
             &rt,
             options,
             input,

@@ -1,7 +1,79 @@
-//! Streams that go in small steps, and reads and writes that fail.
+//! Tests of the command `byte-unit` with streams that go in small steps, and with reads and writes that fail.
+use super::command::{PLAIN, assert_run};
+use byte_unit_command::stop::Stop;
+use byte_unit_command::tally::Tally;
+use std::io::{self, Error, ErrorKind, Read, Write};
 
-use super::streams::{AT_ONCE, Pace, Then};
-use super::*;
+/// Each call transfers all bytes.
+pub const AT_ONCE: Pace = Pace(0, 0, Then::All);
+
+/// What a stream does after a number of calls.
+#[derive(Clone, Copy)]
+pub enum Then {
+    /// Each call fails.
+    Fail,
+    /// Each call transfers nothing: a write accepts no byte, and a read is at the end of the input.
+    TakeNothing,
+    /// Each call transfers all bytes.
+    All,
+}
+
+/// The number of bytes that a call transfers at most, for a number of calls, and what the stream does after these.
+#[derive(Clone, Copy)]
+pub struct Pace(pub usize, pub usize, pub Then);
+
+impl Pace {
+    /// Returns the number of bytes that the next call transfers, of those that are asked for.
+    fn next(&mut self, asked: usize) -> io::Result<usize> {
+        let Pace(step, calls, then) = *self;
+        if calls > 0 {
+            *self = Pace(step, calls - 1, then);
+            return Ok(step);
+        }
+        match then {
+            Then::Fail => Err(Error::from(ErrorKind::Other)),
+            Then::TakeNothing => Ok(0),
+            Then::All => Ok(asked),
+        }
+    }
+}
+
+/// A reader that gives the bytes that are left at a pace.
+#[derive(Drop)]
+pub struct MemoryReader<'a> {
+    pub rest: &'a [u8],
+    pub pace: Pace,
+}
+
+impl<'a> Read for MemoryReader<'a> {
+    fn read(&mut self, buf: &mut [u8]) -> io::Result<usize> {
+        let asked = self.rest.len().min(buf.len());
+        let n = self.pace.next(asked)?.min(asked);
+        let (front, rest) = self.rest.split_at(n);
+        buf[..n].copy_from_slice(front);
+        self.rest = rest;
+        Ok(n)
+    }
+}
+
+/// A writer that accepts bytes at a pace.
+#[derive(Drop)]
+pub struct MemoryWriter {
+    pub taken: Vec<u8>,
+    pub pace: Pace,
+}
+
+impl Write for MemoryWriter {
+    fn write(&mut self, bytes: &[u8]) -> io::Result<usize> {
+        let n = self.pace.next(bytes.len())?.min(bytes.len());
+        self.taken.extend_from_slice(&bytes[..n])?;
+        Ok(n)
+    }
+
+    fn flush(&mut self) -> io::Result<()> {
+        Ok(())
+    }
+}
 
 /// The input of these tests.
 const INPUT: &[u8] = b"1024\n1.5 KiB\n100 MB\n7";
@@ -99,7 +171,7 @@ const ROWS: &[(Pace, Pace, Result<Tally, Stop>, &[u8])] = &[
 fn small_steps_and_failing_streams(rt: HostRuntime) {
     for (number, (reads, writes, result, written)) in ROWS.iter().enumerate() {
         let wanted = (*result, *written, b"".as_slice());
-        expect(
+        assert_run(
             &rt,
             &PLAIN,
             INPUT,

@@ -1,35 +1,13 @@
-//! Tests of the run with input and output in memory.
-
-ghost use Rattle.std.specs.Prelude.{IfOk, List, ℕ, ◌≡◌};
-ghost use Rattle.byte_unit_command.specs.Outcome.{IsWritten};
-ghost use Rattle.byte_unit_command.specs.Records.{finished_records, records_of};
-
-use byte_unit_command::options::{FieldRange, Form, Invalid, Kind, Options, Unit, UnitType};
+//! Runs of the command `byte-unit` with input and output in memory.
+use super::command_streams::{MemoryReader, MemoryWriter, Pace};
+use byte_unit_command::options::{FieldRange, Form, Invalid, Kind, Options};
 use byte_unit_command::reading::Reading;
 use byte_unit_command::run::run;
 use byte_unit_command::stop::Stop;
 use byte_unit_command::tally::Tally;
 use byte_unit_command::writing::Writing;
+use std::alloc::AllocError;
 use std::process::Abort;
-
-/// What a run returns in which all fields are sizes within the limits, with this sum. A macro, so that constants can
-/// use it.
-macro_rules! sum {
-    ($total:expr) => {
-        Ok(Tally {
-            total: $total,
-            beyond: false,
-            rejected: false,
-        })
-    };
-}
-
-mod failing;
-mod forms;
-mod runs;
-mod streams;
-
-use streams::{MemoryReader, MemoryWriter, Pace};
 
 /// The first field.
 const FIRST: &[FieldRange] = &[FieldRange {
@@ -38,7 +16,7 @@ const FIRST: &[FieldRange] = &[FieldRange {
 }];
 
 /// The options of a call without options.
-const PLAIN: Options<'static> = Options {
+pub const PLAIN: Options<'static> = Options {
     kind: Kind::Byte,
     ignore_case: false,
     form: Form::Exact,
@@ -55,12 +33,15 @@ const PLAIN: Options<'static> = Options {
     min: None,
 };
 
+/// The length of the longest output and of the longest messages, at most. They are allocated before a run.
+const LONGEST: usize = 256;
+
 /// What a run returns, the lines that it writes, and its messages.
 type Ended<'a> = (Result<Tally, Stop>, &'a [u8], &'a [u8]);
 
 /// Asserts what a run over an input in memory does, with reads and writes at these paces. The name and the number tell
 /// which of a table's rows it is.
-fn expect(
+pub fn assert_run(
     rt: &(impl Abort + AllocGlobal),
     options: &Options,
     input: &[u8],
@@ -68,24 +49,34 @@ fn expect(
     wanted: Ended<'_>,
     (name, number): (&str, usize),
 ) {
+    let alloc = rt.alloc();
     let mut reader = Reading::new(MemoryReader {
         rest: input,
         pace: reads,
     });
     let mut writer = Writing::new(MemoryWriter {
-        taken: Vec::new(rt.alloc()),
+        taken: Vec::with_capacity(alloc, LONGEST).expect(rt, "memory"),
         pace: writes,
     });
-    let mut errors = Vec::new(rt.alloc());
+    let mut errors = Vec::with_capacity(alloc, LONGEST).expect(rt, "memory");
     let result = run(
-        rt.alloc(),
+        alloc,
         options,
         "line",
         &mut reader,
         &mut writer,
         &mut errors,
     );
+    allocated(result).expect(rt, "memory");
     let written = writer.into_inner().taken;
     let found = (result, written.as_slice(), errors.as_slice());
     assert_eq!(rt; found, wanted, "{name} {number}");
+}
+
+/// Returns an error if the run ended because an allocation failed.
+fn allocated(end: Result<Tally, Stop>) -> Result<(), AllocError> {
+    match end {
+        Err(Stop::Memory) => Err(AllocError),
+        Ok(_) | Err(_) => Ok(()),
+    }
 }
