@@ -1,5 +1,4 @@
 pub mod Scales
-pub mod Places
 pub mod RoundedUp
 pub mod Division
 pub mod Estimates
@@ -7,13 +6,11 @@ pub mod ShortDecimals
 pub mod Digits
 pub mod WrittenDigits
 pub mod PairsInLanes
-pub mod BinaryDigits
 pub mod FactoredNumbers
 pub mod Fractions
 pub mod Expanding
 pub mod Nearest
 pub mod Cut
-pub mod Kept
 pub mod Powers
 pub mod TwosFives
 pub mod Texts

@@ -1,5 +1,5 @@
 -- Factors of 2 and 5 divided out of a number.
-use Rattle.std.proofs.Common.{◌≡◌, ◌≢◌, ℕ, zero, suc, ◌+◌, ◌*◌, ◌/◌, ◌%◌, ◌^◌, ◌<◌, ◌≤◌, arith, sym, ap, ◌∙◌, add-one}
+use Rattle.std.proofs.Common.{◌≡◌, ◌≢◌, ℕ, zero, suc, ◌+◌, ◌*◌, ◌/◌, ◌%◌, ◌^◌, ◌<◌, ◌≤◌, arith, ap, ◌∙◌}
 use Rattle.std.specs.Int.{bit_at, trailing_zeros, w128}
 use Rattle.std.proofs.Math.Nat.{pow-suc, pow-le-pow_left, mul-le-mul_left, mul-le-mul_right, div-one}
 use Rattle.std.proofs.lemmas.Nat.{pow-add, shr-shr}
@@ -45,17 +45,6 @@ FivesOff-trailing_zeros number some small =
       product = trailing_zeros_divide number (trailing_zeros w128 number) lowest.2 ∙ omega arith;
     }
 
--- Dividing what is left by five is one factor of 5 more.
-pub FivesOff-more :
-    (number left twos fives fifth : ℕ) → FivesOff number left twos fives → fifth * 5 ≡ left
-    → FivesOff number fifth twos (fives + 1)
-FivesOff-more number left twos fives fifth h parts =
-    let power = ap (λ n. fifth * (2 ^ twos * n)) (ap (λ n. 5 ^ n) (add-one fives) ∙ pow-suc 5 fives) in
-    record {
-      odd = λ even. h.odd (omega (arith, parts, even));
-      product = h.product ∙ (ap (λ n. n * (2 ^ twos * 5 ^ fives)) (sym parts) ∙ omega (arith, power));
-    }
-
 -- Dividing what is left by a power of 5 adds its exponent to the factors of 5.
 pub FivesOff-joined :
     (number left twos fives rest others : ℕ) → FivesOff number left twos fives → left ≡ rest * 5 ^ others → rest % 2 ≢ 0
@@ -63,6 +52,13 @@ pub FivesOff-joined :
 FivesOff-joined number left twos fives rest others h parts odd =
     let power = ap (λ n. rest * (2 ^ twos * n)) (pow-add 5 fives others) in
     record { odd = odd; product = h.product ∙ (ap (λ n. n * (2 ^ twos * 5 ^ fives)) parts ∙ omega (arith, power)) }
+
+-- Dividing what is left by five is one factor of 5 more.
+pub FivesOff-more :
+    (number left twos fives fifth : ℕ) → FivesOff number left twos fives → fifth * 5 ≡ left
+    → FivesOff number fifth twos (fives + 1)
+FivesOff-more number left twos fives fifth h parts =
+    FivesOff-joined number left twos fives fifth 1 h (omega (arith, parts)) (λ even. h.odd (omega (arith, parts, even)))
 
 -- A number below 10^30 has at most 99 factors of 2 and 5 together.
 pub FivesOff-few : (number left twos fives : ℕ) → number < size_limit → FivesOff number left twos fives

@@ -129,7 +129,7 @@ pub fn fmt_u128<W: fmt::Write>(n: u128, f: &mut fmt::Formatter<W>) -> fmt::Resul
 /// assert_eq!(rt; decimal_len(0), 1);
 /// ```
 #[inline(always)]
-#[tactic(auto, using(crate::proofs::BinaryDigits::digits_by_bits))]
+#[tactic(auto, using(crate::proofs::WrittenDigits::digits_by_bits))]
 pub fn decimal_len(n: u128) -> usize
     ensures exact { result ≡ length (decimal n) }
     ensures few { result ≤ NUMBER_DIGITS }
@@ -150,7 +150,7 @@ pub fn decimal_len(n: u128) -> usize
 
 /// Returns the number of decimal digits as `decimal_len`, in 64 bits.
 #[inline(always)]
-#[tactic(auto, using(crate::proofs::BinaryDigits::digits_by_bits))]
+#[tactic(auto, using(crate::proofs::WrittenDigits::digits_by_bits))]
 fn decimal_len_u64(n: u64) -> usize
     requires { 10 ≤ n }
     ensures exact { result ≡ length (decimal n) }

@@ -217,7 +217,7 @@ impl Expansion {
     }
 
     /// Returns the first `places` digits, and then zeros.
-    #[tactic(auto, using(crate::proofs::Kept::copied))]
+    #[tactic(auto, using(crate::proofs::Cut::copied))]
     fn leading_digits(&self, places: u32) -> [u8; EXPANSION_PLACES]
         requires { places ≤ length self.now.digits }
         ensures size { length result ≡ expansion_places }
@@ -248,7 +248,7 @@ impl Expansion {
     }
 
     /// Rounds up to `places` digits after the point, of which the number has more.
-    #[tactic(auto, using(crate::proofs::Kept::next_whole_is_expansion))]
+    #[tactic(auto, using(crate::proofs::Cut::next_whole_is_expansion))]
     fn ceil_to(&self, places: u32) -> Expansion
         requires { places < length self.now.digits }
         ensures { IsExpansion (ulps_of (cut_after places self.now) + 1) (10 ^ places) result }
