@@ -45,30 +45,34 @@ pub record IsShown (e : Finite) : Type 0 where
   pub small : All (λ d. d < 10) e.digits
   pub last : 0 < length e.digits → 0 < get_or e.digits (length e.digits - 1) 0
 
+-- The decimal cut off after p digits is nearest.
+abbrev CutIsNearest : Finite → ℕ → Ties → Type 0
+CutIsNearest e p ties = IsNearest (ulps_of e) (10 ^ length e.digits) p ties (ulps_of (cut_after p e))
+
+-- One more in the last digit of the decimal cut off after p digits is nearest.
+abbrev NextIsNearest : Finite → ℕ → Ties → Type 0
+NextIsNearest e p ties = IsNearest (ulps_of e) (10 ^ length e.digits) p ties (ulps_of (cut_after p e) + 1)
+
 -- The digits that are cut off, compared with one half.
-
 module _ (e : Finite) (p : ℕ) (h : IsShown e) (l : p < length e.digits) where
-  abbrev all_digits : List ℕ
-  all_digits = e.digits
-
   -- The digits that are cut off, as a number.
   abbrev cut_value : ℕ
-  cut_value = value_of_digits (drop p all_digits)
+  cut_value = value_of_digits (drop p e.digits)
 
   -- The digits after the first one that is cut off: their power of ten, and the digits as a number.
   abbrev rest_power : ℕ
-  rest_power = 10 ^ length (drop (p + 1) all_digits)
+  rest_power = 10 ^ length (drop (p + 1) e.digits)
 
   abbrev rest_value : ℕ
-  rest_value = value_of_digits (drop (p + 1) all_digits)
+  rest_value = value_of_digits (drop (p + 1) e.digits)
 
-  cut_value_is : cut_value ≡ get_or all_digits p 0 * rest_power + rest_value
+  cut_value_is : cut_value ≡ get_or e.digits p 0 * rest_power + rest_value
   cut_value_is = grind (arith, common_steps, add-one, drop-cons, value_cons)
 
   rest_value_small : rest_value < rest_power
-  rest_value_small = value_below_power (drop (p + 1) all_digits) (All-drop (λ d. d < 10) (p + 1) all_digits h.small)
+  rest_value_small = value_below_power (drop (p + 1) e.digits) (All-drop (λ d. d < 10) (p + 1) e.digits h.small)
 
-  power_is : 10 ^ length all_digits ≡ 10 ^ p * (10 * rest_power)
+  power_is : 10 ^ length e.digits ≡ 10 ^ p * (10 * rest_power)
   power_is = grind (arith, common_steps, add-one, length-drop, pow-add, pow-succ')
 
   cut_below : cut_value < 10 * rest_power
@@ -78,74 +82,52 @@ module _ (e : Finite) (p : ℕ) (h : IsShown e) (l : p < length e.digits) where
   scaled : {a b : ℕ} → a < b → a * 10 ^ p < b * 10 ^ p
   scaled less = mul-lt-mul_of_pos_right {k = 10 ^ p} less (one_le_pow10 p)
 
-  pub cut_lies : LiesAbove (ulps_of e) (10 ^ length all_digits) p (ulps_of (cut_after p e)) (cut_value * 10 ^ p)
+  cut_lies : LiesAbove (ulps_of e) (10 ^ length e.digits) p (ulps_of (cut_after p e)) (cut_value * 10 ^ p)
   cut_lies = record { split = cut_split e p (omega (arith, l)); below = omega (arith, scaled cut_below, power_is) }
 
-  below_half_from : 2 * cut_value < 10 * rest_power → 2 * (cut_value * 10 ^ p) < 10 ^ length all_digits
+  below_half_from : 2 * cut_value < 10 * rest_power → 2 * (cut_value * 10 ^ p) < 10 ^ length e.digits
   below_half_from below = omega (arith, scaled below, power_is)
 
-  above_half_from : 10 * rest_power < 2 * cut_value → 10 ^ length all_digits < 2 * (cut_value * 10 ^ p)
+  above_half_from : 10 * rest_power < 2 * cut_value → 10 ^ length e.digits < 2 * (cut_value * 10 ^ p)
   above_half_from above = omega (arith, scaled above, power_is)
 
-  pub below_half : get_or all_digits p 0 < 5 → 2 * (cut_value * 10 ^ p) < 10 ^ length all_digits
+  below_half : get_or e.digits p 0 < 5 → 2 * (cut_value * 10 ^ p) < 10 ^ length e.digits
   below_half small = grind (arith, below_half_from, cut_value_is, mul-le-mul_right, rest_value_small)
 
-  pub above_half : 5 < get_or all_digits p 0 → 10 ^ length all_digits < 2 * (cut_value * 10 ^ p)
+  above_half : 5 < get_or e.digits p 0 → 10 ^ length e.digits < 2 * (cut_value * 10 ^ p)
   above_half great = grind (arith, above_half_from, cut_value_is, mul-le-mul_right, rest_value_small)
 
-  rest_value_positive : p + 1 < length all_digits → 0 < rest_value
+  rest_value_positive : p + 1 < length e.digits → 0 < rest_value
   rest_value_positive k = grind (arith, get_or-drop, length-drop, value_by_last_digit)
 
-  pub above_half_after_five : get_or all_digits p 0 ≡ 5 → p + 1 < length all_digits
-      → 10 ^ length all_digits < 2 * (cut_value * 10 ^ p)
-  above_half_after_five five k = grind (arith, above_half_from, cut_value_is, rest_value_positive)
-
-  pub just_half : get_or all_digits p 0 ≡ 5 → length all_digits ≤ p + 1
-      → 2 * (cut_value * 10 ^ p) ≡ 10 ^ length all_digits
+  just_half : get_or e.digits p 0 ≡ 5 → length e.digits ≤ p + 1
+      → 2 * (cut_value * 10 ^ p) ≡ 10 ^ length e.digits
   just_half five k = grind (arith, cut_value_is, length-drop, power_is, rest_value_small)
 
--- The decimal cut off after p digits is nearest.
-abbrev CutIsNearest : Finite → ℕ → Ties → Type 0
-CutIsNearest e p ties = IsNearest (ulps_of e) (10 ^ length e.digits) p ties (ulps_of (cut_after p e))
+  -- If the first digit that is cut off is not 5, the decimal is rounded up if it is greater and down if it is less.
+  pub nearest_by_digit : (next : ℕ) (ties : Ties) → next ≡ get_or e.digits p 0 → next ≢ 5
+      → MatchBool (ltb 5 next) (NextIsNearest e p ties) (CutIsNearest e p ties)
+  nearest_by_digit next ties same other =
+      let down = nearest_down (ulps_of e) (10 ^ length e.digits) p (ulps_of (cut_after p e)) _ cut_lies ties in
+      let up = nearest_up (ulps_of e) (10 ^ length e.digits) p (ulps_of (cut_after p e)) _ cut_lies ties in
+      grind (arith, nat_tests, down, up, below_half, above_half)
 
--- One more in the last digit of the decimal cut off after p digits is nearest.
-abbrev NextIsNearest : Finite → ℕ → Ties → Type 0
-NextIsNearest e p ties = IsNearest (ulps_of e) (10 ^ length e.digits) p ties (ulps_of (cut_after p e) + 1)
+  -- If the first digit that is cut off is 5 and more digits follow, the decimal is rounded up.
+  pub nearest_after_five : (ties : Ties) → get_or e.digits p 0 ≡ 5 → p + 1 < length e.digits → NextIsNearest e p ties
+  nearest_after_five ties five k =
+      nearest_up _ _ p _ _ cut_lies ties (grind (arith, above_half_from, cut_value_is, rest_value_positive))
 
--- If the first digit that is cut off is not 5, the decimal is rounded up if it is greater and down if it is less.
-pub nearest_by_digit :
-    (e : Finite) (p next : ℕ) (ties : Ties) → IsShown e → p < length e.digits → next ≡ get_or e.digits p 0 → next ≢ 5
-    → MatchBool (ltb 5 next) (NextIsNearest e p ties) (CutIsNearest e p ties)
-nearest_by_digit e p next ties h l same other =
-    let down = nearest_down (ulps_of e) (10 ^ length e.digits) p (ulps_of (cut_after p e)) _ (cut_lies e p h l) ties in
-    let up = nearest_up (ulps_of e) (10 ^ length e.digits) p (ulps_of (cut_after p e)) _ (cut_lies e p h l) ties in
-    grind (arith, nat_tests, down, up, below_half e p h l, above_half e p h l)
+  -- If the first digit that is cut off is 5 and none follows, and ties go up, the decimal is rounded up.
+  pub tie_goes_up : get_or e.digits p 0 ≡ 5 → length e.digits ≤ p + 1 → NextIsNearest e p Up
+  tie_goes_up five k = tie_up_next _ _ p _ _ cut_lies (just_half five k)
 
--- If the first digit that is cut off is 5 and more digits follow, the decimal is rounded up.
-pub nearest_after_five :
-    (e : Finite) (p : ℕ) (ties : Ties) → IsShown e → p < length e.digits → get_or e.digits p 0 ≡ 5
-    → p + 1 < length e.digits → NextIsNearest e p ties
-nearest_after_five e p ties h l five k =
-    nearest_up _ _ p _ _ (cut_lies e p h l) ties (above_half_after_five e p h l five k)
-
--- If the first digit that is cut off is 5 and none follows, and ties go up, the decimal is rounded up.
-pub tie_goes_up :
-    (e : Finite) (p : ℕ) → IsShown e → p < length e.digits → get_or e.digits p 0 ≡ 5 → length e.digits ≤ p + 1
-    → NextIsNearest e p Up
-tie_goes_up e p h l five k =
-    tie_up_next _ _ p _ _ (cut_lies e p h l) (just_half e p h l five k)
-
--- If the first digit that is cut off is 5 and none follows, and ties go to even, it is rounded up only if the cut
--- number is odd.
-pub tie_goes_even :
-    (is_odd : Bool) (e : Finite) (p : ℕ) → IsShown e → p < length e.digits → get_or e.digits p 0 ≡ 5
-    → length e.digits ≤ p + 1
-    → MatchBool is_odd (ulps_of (cut_after p e) % 2 ≡ 1) (ulps_of (cut_after p e) % 2 ≡ 0)
-    → MatchBool is_odd (NextIsNearest e p Even) (CutIsNearest e p Even)
-tie_goes_even true e p h l five k odd =
-    tie_even_next _ _ p _ _ (cut_lies e p h l) (just_half e p h l five k) odd
-tie_goes_even false e p h l five k even =
-    tie_even_this _ _ p _ _ (cut_lies e p h l) (just_half e p h l five k) even
+  -- If the first digit that is cut off is 5 and none follows, and ties go to even, it is rounded up only if the cut
+  -- number is odd.
+  pub tie_goes_even : (is_odd : Bool) → get_or e.digits p 0 ≡ 5 → length e.digits ≤ p + 1
+      → MatchBool is_odd (ulps_of (cut_after p e) % 2 ≡ 1) (ulps_of (cut_after p e) % 2 ≡ 0)
+      → MatchBool is_odd (NextIsNearest e p Even) (CutIsNearest e p Even)
+  tie_goes_even true five k odd = tie_even_next _ _ p _ _ cut_lies (just_half five k) odd
+  tie_goes_even false five k even = tie_even_this _ _ p _ _ cut_lies (just_half five k) even
 
 -- If p is not 0, a decimal cut off after p digits is, without its point, an odd number if and only if its last digit is
 -- odd.
