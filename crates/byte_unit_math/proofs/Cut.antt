@@ -167,9 +167,6 @@ IsShown-view i e h v = grind (arith, All-take, get_or-take, length-take-le)
 pub length_of_view : (i : Inside) (e : Finite) → IsStored i → expansion_view i ≡ e → length e.digits ≡ i.places
 length_of_view i e h v = grind (arith, length-take-le)
 
--- The number cut off is odd if its last digit is.
-pub ruleset odd = (odd_by_last_digit, is_odd_by_digit)
-
 -- What decides whether a decimal is rounded up.
 pub ruleset rounding = (nearest_by_digit, nearest_after_five, tie_goes_up, tie_goes_even, IsShown-view, length_of_view)
 
@@ -250,8 +247,7 @@ pub next_whole_is_expansion :
     (e : Finite) (p kept : ℕ) → EndsInRunOf e p kept 9 → kept ≡ 0
     → IsExpansion (ulps_of (cut_after p e) + 1) (10 ^ p) (record { whole = e.whole + 1; digits = [] })
 next_whole_is_expansion e p kept h none =
-    grind (arith, All-nil, expansion_of_digits, fold-append, fold_nines, one_le_pow10, pow10_split, scaled_cut,
-    scaled_nines)
+    grind (arith, All-nil, expansion_of_digits, fold_nines, one_le_pow10, pow10_split, scaled_cut, scaled_nines)
 
 -- An array in which the last digit kept is one more represents one more.
 value_one_more :
@@ -302,18 +298,9 @@ no_digits_copied es =
       small = All-replicate (λ d. d < 10) expansion_places 0 (omega arith);
     }
 
--- `d` is the digit of `es` at index i.
-pub record IsDigitAt (es : List ℕ) (i d : ℕ) : Type 0 where
-  pub within : i < length es
-  pub is : d ≡ get_or es (i + 1 - 1) 0
-  pub small : d < 10
-
 -- After the digit at index i is copied, i + 1 digits are.
 pub one_more_digit_copied :
-    (ds es : List ℕ) (i d : ℕ) → IsCopied ds es i → i < expansion_places → IsDigitAt es i d
-    → IsCopied (set ds i d) es (i + 1)
-one_more_digit_copied ds es i d h room digit =
+    (ds es : List ℕ) (i d : ℕ) → IsCopied ds es i → i < expansion_places → i < length es
+    → d ≡ get_or es (i + 1 - 1) 0 → d < 10 → IsCopied (set ds i d) es (i + 1)
+one_more_digit_copied ds es i d h room within is small =
     grind (arith, common_steps, All-set, length-set, take_more, take_more_set, zeros_after_set)
-
--- What the proof of copying digits uses.
-pub ruleset copied = (common_steps, one_more_digit_copied)

@@ -112,5 +112,6 @@ long_division n divisor middle low some middle_is low_is =
     (omega (arith, high, div-add-mod middle divisor, div-add-mod low divisor, middle_is, low_is)) (mod-lt low some)
 
 -- What the proof of the division by an inverse uses.
-pub ruleset estimates = (leading_bits_fit, product_fits, estimate_fits, IsEstimate-inverse, quotient_from_bounds,
-  rest_from_bounds, quotient_after, rest_after)
+pub ruleset estimates = (leading_bits_fit, product_fits, estimate_fits, IsEstimate-inverse)
+
+pub ruleset quotients = (quotient_from_bounds, rest_from_bounds, quotient_after, rest_after)

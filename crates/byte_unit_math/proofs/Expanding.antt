@@ -131,8 +131,7 @@ pub IsDividing-ended :
     (num den whole rest places : ℕ) (digits : List ℕ) → IsDividing num den whole rest places digits → rest ≡ 0
     → IsExpansion num den (record { whole = whole; digits = take places digits })
 IsDividing-ended num den whole rest places digits h none =
-    grind (arith, All-get_or, All-take, expansion_of_digits, expansion_of_first_digits, get_or-take, length-take-le,
-    value_by_last_digit)
+    grind (arith, All-get_or, All-take, expansion_of_digits, get_or-take, length-take-le, value_by_last_digit)
 
 -- If 2^a * 5^b is at most 2^93, so are 2^a and 5^b.
 pub factors_within_limit : (a b : ℕ) → 2 ^ a * 5 ^ b ≤ unit_limit → (2 ^ a ≤ unit_limit) × (5 ^ b ≤ unit_limit)
@@ -175,6 +174,3 @@ new_is_exact num x y a b hx hy h = rw (hx, hy, div-add-mod' num (2 ^ a * 5 ^ b))
 -- A number is its whole part and its fraction.
 pub decimal_parts : (n : ℕ) → n / scale * scale + n % scale ≡ n
 decimal_parts n = omega arith
-
--- What the proof of the expansion of a decimal uses.
-pub ruleset decimals = (decimal_is_exact, decimal_parts)

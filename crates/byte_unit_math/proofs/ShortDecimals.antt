@@ -22,16 +22,12 @@ pub HasDigits-tenth : (fraction digits places : ℕ) → HasDigits fraction digi
     → HasDigits fraction (digits / 10) (places - 1)
 HasDigits-tenth fraction digits places h some last =
     let tens : digits ≡ digits / 10 * 10 = omega (arith, last) in
-    let behind = power_of_sum 10 (places_of_decimal - (places - 1)) 1 (places_of_decimal - places)
+    let product = ap (λ n. n * 10 ^ (places_of_decimal - places)) tens in
+    let power = power_of_sum 10 (places_of_decimal - (places - 1)) 1 (places_of_decimal - places)
     (omega (arith, h.few, some)) in
     record {
       few = omega (arith, h.few);
-      same = omega (
-          arith,
-          h.same,
-          ap (λ n. n * 10 ^ (places_of_decimal - places)) tens,
-          ap (λ n. digits / 10 * n) behind,
-      );
+      same = omega (arith, h.same, product, ap (λ n. digits / 10 * n) power);
       below = omega (arith, h.below, tens, pow10_split 1 places some);
     }
 
@@ -106,11 +102,8 @@ short_fraction_is rest digits places h last =
     trimmed rest (digits, places) short none
 
 -- Such digits after a whole part below 2^112 satisfy the invariant of a `Decimal`.
-pub IsNormalized-digits :
+pub digits_are_normalized :
     (whole fraction digits places : ℕ) → whole < whole_limit → HasDigits fraction digits places
     → (0 < places → 0 < digits % 10)
     → IsNormalized (record { whole = whole; digits = digits; places = places })
-IsNormalized-digits whole fraction digits places bound h last = grind (arith, fraction_below_one, short_fraction_is)
-
--- What the proofs of the functions that make and read a `Decimal` use.
-pub ruleset decimals = (IsNormalized-digits, digits_of_fields)
+digits_are_normalized whole fraction digits places bound h last = grind (arith, fraction_below_one, short_fraction_is)

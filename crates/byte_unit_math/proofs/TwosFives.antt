@@ -7,16 +7,6 @@ use Rattle.std.proofs.lemmas.Nat.Bits.{bit_at-trailing_zeros}
 use Rattle.byte_unit_math.specs.Bounds.{size_limit}
 use Rattle.byte_unit_math.proofs.Scales.{exponent_at_most}
 
-few_factors_of_size : (size left twos fives : ℕ) → 0 < left → size ≡ left * (2 ^ twos * 5 ^ fives) → size < size_limit
-    → twos + fives ≤ 99
-few_factors_of_size size left twos fives some h small =
-    let powers = mul-le-mul_left {m = 2 ^ fives} {n = 5 ^ fives} (2 ^ twos)
-    (pow-le-pow_left {n = 2} {m = 5} (omega arith) fives) in
-    let product = mul-le-mul_right {m = 1} {n = left} (2 ^ twos * 5 ^ fives) some in
-    exponent_at_most 2 99 (twos + fives) size_limit (omega arith)
-    (omega (arith, pow-add 2 twos fives, powers, product, h, small))
-    (omega arith)
-
 -- A number whose lowest `twos` bits are 0 is a multiple of 2^twos.
 trailing_zeros_divide : (number twos : ℕ) → ((i : ℕ) → i < twos → bit_at number i ≡ 0)
     → number ≡ number / 2 ^ twos * 2 ^ twos
@@ -63,4 +53,9 @@ FivesOff-more number left twos fives fifth h parts =
 -- A number below 10^30 has at most 99 factors of 2 and 5 together.
 pub FivesOff-few : (number left twos fives : ℕ) → number < size_limit → FivesOff number left twos fives
     → twos + fives ≤ 99
-FivesOff-few number left twos fives small h = grind (arith, few_factors_of_size)
+FivesOff-few number left twos fives small h =
+    let powers = mul-le-mul_left (2 ^ twos) (pow-le-pow_left {n = 2} {m = 5} (omega arith) fives) in
+    let some : 1 ≤ left = omega (arith, h.odd) in
+    let product = mul-le-mul_right (2 ^ twos * 5 ^ fives) some in
+    exponent_at_most 2 99 (twos + fives) size_limit (omega arith)
+    (omega (arith, pow-add 2 twos fives, powers, product, h.product, small)) (omega arith)

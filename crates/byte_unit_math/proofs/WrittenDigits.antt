@@ -231,8 +231,6 @@ pub ruleset groups_written =
 pub eighteen_more : (n : ℕ) → 10 ^ 18 ≤ n → n < 2 ^ 128 → length (decimal n) ≡ length (decimal (n / 10 ^ 18)) + 18
 eighteen_more = decimal_length_split 18
 
-pub ruleset eighteen_written = (eighteen_more, decimal_length_positive, length_of_one_and_18_digits)
-
 -- The lengths that the proofs of padded digits use.
 pub few_30 : (n : ℕ) → n < 10 ^ 30 → length (decimal n) ≤ 30
 few_30 n small = length-decimal-le_wide 30 n (omega arith) small (omega (arith, small))
@@ -242,8 +240,6 @@ few_16 n small = length-decimal-le_wide 16 n (omega arith) small (omega (arith, 
 
 pub more_16 : (n : ℕ) → 10 ^ 16 ≤ n → n < 10 ^ 30 → length (decimal n) ≡ length (decimal (n / 10 ^ 16)) + 16
 more_16 n wide small = decimal_length_split 16 n wide (omega (arith, small))
-
-pub ruleset padded_lengths = (few_30, few_16, more_16)
 
 -- A number of this many bits has the estimated number of decimal digits, or one more.
 abbrev digits_estimate : ℕ → ℕ
@@ -300,6 +296,3 @@ module _ (k n : ℕ) (few : k ≤ 128) (wide : 10 ≤ n) (small : n < 2 ^ k) whe
   pub more_digits : 10 ^ digits_estimate (k - count_leading_zeros k n) ≤ n
       → length (decimal n) ≡ suc (digits_estimate (k - count_leading_zeros k n))
   more_digits reached = decimal_length_between _ n reached bounds.1 wide_enough
-
--- What decides the number of digits.
-pub ruleset digits_by_bits = (decimal_length_one, few_digits, more_digits)

@@ -34,7 +34,7 @@ const GROUPS: u32 = 4;
 /// assert_eq!(rt; least_size(Decimal::from_digits(1, 5, 1), 1024, 1536), None);
 /// ```
 #[inline(always)]
-#[tactic(auto, using(crate::proofs::RoundedUp::groups))]
+#[tactic(auto, using(crate::proofs::RoundedUp::in_first_group))]
 pub fn least_size(d: Decimal, unit_size: u128, limit: u128) -> Option<u128>
     requires some_unit { 1 ≤ unit_size }
     requires small_unit { unit_size ≤ unit_limit }

@@ -13,12 +13,12 @@ loop-rest-preserved c =
     let put = c.put_u64-start in
     let long = length_of_one_and_18_digits parts.result.1 (omega arith) in
     let more = decimal_length_split 18 l.rest (omega arith) (omega arith) in
+    let behind = sym (drop-drop 1 put.result put.new.bytes) in
     let one = decimal_of_one_and_digits 18 parts.result.1 (omega arith) (omega arith) in
     record {
       within = omega (arith, long);
       place = omega (arith, long, more, ap (λ n. length (decimal n)) parts.ensures.quotient);
       digits =
-          rw (parts.ensures.quotient, sym (drop-drop 1 put.result put.new.bytes), put.ensures.digits, one,
-          parts.ensures.rest)
+          rw (parts.ensures.quotient, behind, put.ensures.digits, one, parts.ensures.rest)
           (sym (digits_before 18 l.rest (drop l.start l.bytes) (omega arith) (omega arith)) ∙ l.invariant.digits);
     }
