@@ -71,6 +71,7 @@ pub value_more : (ds : List ℕ) (i : ℕ) → i < length ds
     → value_of_digits (take (i + 1) ds) ≡ value_of_digits (take i ds) * 10 + get_or ds i 0
 value_more ds i within = grind (arith, common_steps, fold-append, take_more)
 
+-- The same where that digit is set.
 pub value_more_set : (ds : List ℕ) (i d : ℕ) → i < length ds
     → value_of_digits (take (i + 1) (set ds i d)) ≡ value_of_digits (take i ds) * 10 + d
 value_more_set ds i d within = grind (arith, fold-append, take_more_set)

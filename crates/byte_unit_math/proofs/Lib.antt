@@ -1,6 +1,5 @@
 pub mod Scales
 pub mod RoundedUp
-pub mod Division
 pub mod Estimates
 pub mod ShortDecimals
 pub mod Digits

@@ -101,7 +101,7 @@ fn checked_mul(number: u128, unit_size: u128) -> Option<u128>
 
 /// Splits the fraction `digits / 10^places`, as 28 digits, into its first and its last 14.
 #[inline(always)]
-#[tactic(auto, using(crate::proofs::Division::fraction_below_one))]
+#[tactic(auto, using(crate::proofs::Expanding::fraction_below_one))]
 fn split_fraction(digits: u128, places: u32) -> (u64, u64)
     requires digits { digits < 10 ^ places }
     requires places { places ≤ places_of_decimal }
