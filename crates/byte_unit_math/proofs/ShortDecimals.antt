@@ -87,19 +87,18 @@ zeros_dropped (suc behind) (suc all) places digits rest count product last =
     zero_dropped all rest (omega (arith, tens))
     ∙ zeros_dropped behind all places digits (rest / 10) (omega (arith, count)) (omega (arith, tens)) last
 
-trimmed : (rest : ℕ) (pair : ℕ × ℕ) → trim_digits places_of_decimal rest ≡ pair
-    → trim_digits places_of_decimal 0 ≡ (0, 0) → trim_fraction rest ≡ pair
-trimmed zero pair short none = sym none ∙ short
-trimmed (suc rest) pair short none = short
+trimmed : (rest : ℕ) (pair : ℕ × ℕ) → trim_digits places_of_decimal rest ≡ pair → trim_fraction rest ≡ pair
+trimmed zero pair short =
+    sym (zeros_dropped places_of_decimal places_of_decimal 0 0 0 refl (omega arith)
+    (λ some. absurd (omega (arith, some)))) ∙ short
+trimmed (suc rest) pair short = short
 
 short_fraction_is : (rest digits places : ℕ) → HasDigits rest digits places → (0 < places → 0 < digits % 10)
     → trim_fraction rest ≡ (digits, places)
 short_fraction_is rest digits places h last =
-    let short = zeros_dropped (places_of_decimal - places) places_of_decimal places digits rest (omega (arith, h.few))
-    (sym h.same) last in
-    let none = zeros_dropped places_of_decimal places_of_decimal 0 0 0 refl (omega arith)
-    (λ some. absurd (omega (arith, some))) in
-    trimmed rest (digits, places) short none
+    trimmed rest (digits, places)
+    (zeros_dropped (places_of_decimal - places) places_of_decimal places digits rest (omega (arith, h.few)) (sym h.same)
+    last)
 
 -- Such digits after a whole part below 2^112 satisfy the invariant of a `Decimal`.
 pub digits_are_normalized :

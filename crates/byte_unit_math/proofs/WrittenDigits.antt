@@ -133,10 +133,8 @@ pairs_from_at (suc count) from zero few = (omega arith, omega arith)
 pairs_from_at (suc count) from (suc k) few =
     let both = pairs_from_at count (suc from) k (omega (arith, few)) in
     let first : suc k * 2 ≡ suc (suc (k * 2)) = omega arith in
-    let second : suc k * 2 + 1 ≡ suc (suc (k * 2 + 1)) = omega arith in (
-      ap (λ i. get_or (pairs_from (suc count) from) i 0) first ∙ omega (arith, both.0),
-      ap (λ i. get_or (pairs_from (suc count) from) i 0) second ∙ omega (arith, both.1),
-    )
+    let second : suc k * 2 + 1 ≡ suc (suc (k * 2 + 1)) = omega arith in
+    (rw first (omega (arith, both.0)), rw second (omega (arith, both.1)))
 
 -- Writing the tens and the ones of a number below 100 at `start` puts its last two digits there, and leaves what
 -- follows.
