@@ -1,10 +1,12 @@
--- A decimal cut off after some digits, and whether it or the next one is nearest.
+-- A decimal cut off after some digits: whether it or the next one is nearest, and the expansion that is left without
+-- the trailing zeros or nines.
 use Rattle.std.proofs.Common.{◌≢◌, ◌≡◌, ◌+◌, ◌-◌, ◌*◌, ◌^◌, ◌%◌, ◌<◌, ◌≤◌, ℕ, List, length, take, drop, get_or, arith}
 use Rattle.std.proofs.Common.{ap, sym, ◌∙◌, add-one, length-take-le, take-append-drop, length-drop, drop-cons, Bool}
-use Rattle.std.proofs.Common.{true, false, ltb, nat_eq}
-use Rattle.std.specs.List.{All}
-use Rattle.std.proofs.lemmas.List.{get_or-take, get_or-drop}
-use Rattle.std.proofs.lemmas.List.Elements.{All-take, All-get_or, All-drop}
+use Rattle.std.proofs.Common.{true, false, ltb, nat_eq, zero, suc, [], ◌++◌, set, replicate, refl}
+use Rattle.std.specs.List.{All, fold}
+use Rattle.std.proofs.lemmas.List.{get_or-take, get_or-drop, length-take, take_more, take_more_set, length-set}
+use Rattle.std.proofs.lemmas.List.{length-replicate, get_or-set_same}
+use Rattle.std.proofs.lemmas.List.Elements.{All-take, All-get_or, All-drop, All-nil, All-replicate, All-set}
 use Rattle.std.proofs.lemmas.Nat.{pow-add}
 use Rattle.std.proofs.Math.Nat.{pow-succ', mul-le-mul_right, mul-lt-mul_of_pos_right}
 use Rattle.byte_unit_math.specs.Bounds.{expansion_places}
@@ -15,13 +17,16 @@ use Rattle.byte_unit_math.specs.declared.expansion.Ties.TheVariants.{Even, Up}
 use Rattle.byte_unit_math.specs.declared.expansion.Expansion.TheInside.{Inside}
 use Rattle.byte_unit_math.specs.Stored.{expansion_view, IsStored}
 use Rattle.byte_unit_math.proofs.Digits.{one_le_pow10, value_append, value_more, value_cons, value_below_power}
+use Rattle.byte_unit_math.proofs.Digits.{value_append_zeros}
 use Rattle.std.specs.Bool.{MatchBool}
 use Rattle.std.proofs.lemmas.Bool.Decides.{nat_tests}
 use Rattle.byte_unit_math.proofs.Nearest.{LiesAbove, nearest_down, nearest_up, tie_up_next, tie_even_next}
 use Rattle.byte_unit_math.proofs.Nearest.{tie_even_this}
-use Rattle.byte_unit_math.proofs.Expanding.{expansion_of_digits, value_by_last_digit}
+use Rattle.byte_unit_math.proofs.Expanding.{expansion_of_digits, value_by_last_digit, expansion_of_first_digits}
+use Rattle.byte_unit_math.proofs.Expanding.{zeros_after_set}
 use Rattle.byte_unit_math.proofs.Scales.{pow10_split, power_of_sum}
 use Rattle.std.proofs.lemmas.Grind.{common_steps}
+use Rattle.std.proofs.lemmas.List.Sums.{fold-append}
 
 -- A decimal is the decimal cut off after p digits, and the digits that are cut off.
 pub cut_split :
@@ -40,30 +45,34 @@ pub record IsShown (e : Finite) : Type 0 where
   pub small : All (λ d. d < 10) e.digits
   pub last : 0 < length e.digits → 0 < get_or e.digits (length e.digits - 1) 0
 
+-- The decimal cut off after p digits is nearest.
+abbrev CutIsNearest : Finite → ℕ → Ties → Type 0
+CutIsNearest e p ties = IsNearest (ulps_of e) (10 ^ length e.digits) p ties (ulps_of (cut_after p e))
+
+-- One more in the last digit of the decimal cut off after p digits is nearest.
+abbrev NextIsNearest : Finite → ℕ → Ties → Type 0
+NextIsNearest e p ties = IsNearest (ulps_of e) (10 ^ length e.digits) p ties (ulps_of (cut_after p e) + 1)
+
 -- The digits that are cut off, compared with one half.
-
 module _ (e : Finite) (p : ℕ) (h : IsShown e) (l : p < length e.digits) where
-  abbrev all_digits : List ℕ
-  all_digits = e.digits
-
   -- The digits that are cut off, as a number.
   abbrev cut_value : ℕ
-  cut_value = value_of_digits (drop p all_digits)
+  cut_value = value_of_digits (drop p e.digits)
 
   -- The digits after the first one that is cut off: their power of ten, and the digits as a number.
   abbrev rest_power : ℕ
-  rest_power = 10 ^ length (drop (p + 1) all_digits)
+  rest_power = 10 ^ length (drop (p + 1) e.digits)
 
   abbrev rest_value : ℕ
-  rest_value = value_of_digits (drop (p + 1) all_digits)
+  rest_value = value_of_digits (drop (p + 1) e.digits)
 
-  cut_value_is : cut_value ≡ get_or all_digits p 0 * rest_power + rest_value
+  cut_value_is : cut_value ≡ get_or e.digits p 0 * rest_power + rest_value
   cut_value_is = grind (arith, common_steps, add-one, drop-cons, value_cons)
 
   rest_value_small : rest_value < rest_power
-  rest_value_small = value_below_power (drop (p + 1) all_digits) (All-drop (λ d. d < 10) (p + 1) all_digits h.small)
+  rest_value_small = value_below_power (drop (p + 1) e.digits) (All-drop (λ d. d < 10) (p + 1) e.digits h.small)
 
-  power_is : 10 ^ length all_digits ≡ 10 ^ p * (10 * rest_power)
+  power_is : 10 ^ length e.digits ≡ 10 ^ p * (10 * rest_power)
   power_is = grind (arith, common_steps, add-one, length-drop, pow-add, pow-succ')
 
   cut_below : cut_value < 10 * rest_power
@@ -73,74 +82,52 @@ module _ (e : Finite) (p : ℕ) (h : IsShown e) (l : p < length e.digits) where
   scaled : {a b : ℕ} → a < b → a * 10 ^ p < b * 10 ^ p
   scaled less = mul-lt-mul_of_pos_right {k = 10 ^ p} less (one_le_pow10 p)
 
-  pub cut_lies : LiesAbove (ulps_of e) (10 ^ length all_digits) p (ulps_of (cut_after p e)) (cut_value * 10 ^ p)
+  cut_lies : LiesAbove (ulps_of e) (10 ^ length e.digits) p (ulps_of (cut_after p e)) (cut_value * 10 ^ p)
   cut_lies = record { split = cut_split e p (omega (arith, l)); below = omega (arith, scaled cut_below, power_is) }
 
-  below_half_from : 2 * cut_value < 10 * rest_power → 2 * (cut_value * 10 ^ p) < 10 ^ length all_digits
+  below_half_from : 2 * cut_value < 10 * rest_power → 2 * (cut_value * 10 ^ p) < 10 ^ length e.digits
   below_half_from below = omega (arith, scaled below, power_is)
 
-  above_half_from : 10 * rest_power < 2 * cut_value → 10 ^ length all_digits < 2 * (cut_value * 10 ^ p)
+  above_half_from : 10 * rest_power < 2 * cut_value → 10 ^ length e.digits < 2 * (cut_value * 10 ^ p)
   above_half_from above = omega (arith, scaled above, power_is)
 
-  pub below_half : get_or all_digits p 0 < 5 → 2 * (cut_value * 10 ^ p) < 10 ^ length all_digits
+  below_half : get_or e.digits p 0 < 5 → 2 * (cut_value * 10 ^ p) < 10 ^ length e.digits
   below_half small = grind (arith, below_half_from, cut_value_is, mul-le-mul_right, rest_value_small)
 
-  pub above_half : 5 < get_or all_digits p 0 → 10 ^ length all_digits < 2 * (cut_value * 10 ^ p)
+  above_half : 5 < get_or e.digits p 0 → 10 ^ length e.digits < 2 * (cut_value * 10 ^ p)
   above_half great = grind (arith, above_half_from, cut_value_is, mul-le-mul_right, rest_value_small)
 
-  rest_value_positive : p + 1 < length all_digits → 0 < rest_value
+  rest_value_positive : p + 1 < length e.digits → 0 < rest_value
   rest_value_positive k = grind (arith, get_or-drop, length-drop, value_by_last_digit)
 
-  pub above_half_after_five : get_or all_digits p 0 ≡ 5 → p + 1 < length all_digits
-      → 10 ^ length all_digits < 2 * (cut_value * 10 ^ p)
-  above_half_after_five five k = grind (arith, above_half_from, cut_value_is, rest_value_positive)
-
-  pub just_half : get_or all_digits p 0 ≡ 5 → length all_digits ≤ p + 1
-      → 2 * (cut_value * 10 ^ p) ≡ 10 ^ length all_digits
+  just_half : get_or e.digits p 0 ≡ 5 → length e.digits ≤ p + 1
+      → 2 * (cut_value * 10 ^ p) ≡ 10 ^ length e.digits
   just_half five k = grind (arith, cut_value_is, length-drop, power_is, rest_value_small)
 
--- The decimal cut off after p digits is nearest.
-abbrev CutIsNearest : Finite → ℕ → Ties → Type 0
-CutIsNearest e p ties = IsNearest (ulps_of e) (10 ^ length e.digits) p ties (ulps_of (cut_after p e))
+  -- If the first digit that is cut off is not 5, the decimal is rounded up if it is greater and down if it is less.
+  pub nearest_by_digit : (next : ℕ) (ties : Ties) → next ≡ get_or e.digits p 0 → next ≢ 5
+      → MatchBool (ltb 5 next) (NextIsNearest e p ties) (CutIsNearest e p ties)
+  nearest_by_digit next ties same other =
+      let down = nearest_down (ulps_of e) (10 ^ length e.digits) p (ulps_of (cut_after p e)) _ cut_lies ties in
+      let up = nearest_up (ulps_of e) (10 ^ length e.digits) p (ulps_of (cut_after p e)) _ cut_lies ties in
+      grind (arith, nat_tests, down, up, below_half, above_half)
 
--- One more in the last digit of the decimal cut off after p digits is nearest.
-abbrev NextIsNearest : Finite → ℕ → Ties → Type 0
-NextIsNearest e p ties = IsNearest (ulps_of e) (10 ^ length e.digits) p ties (ulps_of (cut_after p e) + 1)
+  -- If the first digit that is cut off is 5 and more digits follow, the decimal is rounded up.
+  pub nearest_after_five : (ties : Ties) → get_or e.digits p 0 ≡ 5 → p + 1 < length e.digits → NextIsNearest e p ties
+  nearest_after_five ties five k =
+      nearest_up _ _ p _ _ cut_lies ties (grind (arith, above_half_from, cut_value_is, rest_value_positive))
 
--- If the first digit that is cut off is not 5, the decimal is rounded up if it is greater and down if it is less.
-pub nearest_by_digit :
-    (e : Finite) (p next : ℕ) (ties : Ties) → IsShown e → p < length e.digits → next ≡ get_or e.digits p 0 → next ≢ 5
-    → MatchBool (ltb 5 next) (NextIsNearest e p ties) (CutIsNearest e p ties)
-nearest_by_digit e p next ties h l same other =
-    let down = nearest_down (ulps_of e) (10 ^ length e.digits) p (ulps_of (cut_after p e)) _ (cut_lies e p h l) ties in
-    let up = nearest_up (ulps_of e) (10 ^ length e.digits) p (ulps_of (cut_after p e)) _ (cut_lies e p h l) ties in
-    grind (arith, nat_tests, down, up, below_half e p h l, above_half e p h l)
+  -- If the first digit that is cut off is 5 and none follows, and ties go up, the decimal is rounded up.
+  pub tie_goes_up : get_or e.digits p 0 ≡ 5 → length e.digits ≤ p + 1 → NextIsNearest e p Up
+  tie_goes_up five k = tie_up_next _ _ p _ _ cut_lies (just_half five k)
 
--- If the first digit that is cut off is 5 and more digits follow, the decimal is rounded up.
-pub nearest_after_five :
-    (e : Finite) (p : ℕ) (ties : Ties) → IsShown e → p < length e.digits → get_or e.digits p 0 ≡ 5
-    → p + 1 < length e.digits → NextIsNearest e p ties
-nearest_after_five e p ties h l five k =
-    nearest_up _ _ p _ _ (cut_lies e p h l) ties (above_half_after_five e p h l five k)
-
--- If the first digit that is cut off is 5 and none follows, and ties go up, the decimal is rounded up.
-pub tie_goes_up :
-    (e : Finite) (p : ℕ) → IsShown e → p < length e.digits → get_or e.digits p 0 ≡ 5 → length e.digits ≤ p + 1
-    → NextIsNearest e p Up
-tie_goes_up e p h l five k =
-    tie_up_next _ _ p _ _ (cut_lies e p h l) (just_half e p h l five k)
-
--- If the first digit that is cut off is 5 and none follows, and ties go to even, it is rounded up only if the cut
--- number is odd.
-pub tie_goes_even :
-    (is_odd : Bool) (e : Finite) (p : ℕ) → IsShown e → p < length e.digits → get_or e.digits p 0 ≡ 5
-    → length e.digits ≤ p + 1
-    → MatchBool is_odd (ulps_of (cut_after p e) % 2 ≡ 1) (ulps_of (cut_after p e) % 2 ≡ 0)
-    → MatchBool is_odd (NextIsNearest e p Even) (CutIsNearest e p Even)
-tie_goes_even true e p h l five k odd =
-    tie_even_next _ _ p _ _ (cut_lies e p h l) (just_half e p h l five k) odd
-tie_goes_even false e p h l five k even =
-    tie_even_this _ _ p _ _ (cut_lies e p h l) (just_half e p h l five k) even
+  -- If the first digit that is cut off is 5 and none follows, and ties go to even, it is rounded up only if the cut
+  -- number is odd.
+  pub tie_goes_even : (is_odd : Bool) → get_or e.digits p 0 ≡ 5 → length e.digits ≤ p + 1
+      → MatchBool is_odd (ulps_of (cut_after p e) % 2 ≡ 1) (ulps_of (cut_after p e) % 2 ≡ 0)
+      → MatchBool is_odd (NextIsNearest e p Even) (CutIsNearest e p Even)
+  tie_goes_even true five k odd = tie_even_next _ _ p _ _ cut_lies (just_half five k) odd
+  tie_goes_even false five k even = tie_even_this _ _ p _ _ cut_lies (just_half five k) even
 
 -- If p is not 0, a decimal cut off after p digits is, without its point, an odd number if and only if its last digit is
 -- odd.
@@ -180,8 +167,140 @@ IsShown-view i e h v = grind (arith, All-take, get_or-take, length-take-le)
 pub length_of_view : (i : Inside) (e : Finite) → IsStored i → expansion_view i ≡ e → length e.digits ≡ i.places
 length_of_view i e h v = grind (arith, length-take-le)
 
--- The number cut off is odd if its last digit is.
-pub ruleset odd = (odd_by_last_digit, is_odd_by_digit)
-
 -- What decides whether a decimal is rounded up.
 pub ruleset rounding = (nearest_by_digit, nearest_after_five, tie_goes_up, tie_goes_even, IsShown-view, length_of_view)
+
+-- The first p digits of `e` are its first `kept` digits and then only `digit`; the last of those kept is another digit.
+pub record EndsInRunOf (e : Finite) (p kept digit : ℕ) : Type 0 where
+  pub within : p ≤ length e.digits
+  pub few : kept ≤ p
+  pub same : take p e.digits ≡ take kept e.digits ++ replicate (p - kept) digit
+  pub stops : 0 < kept → get_or e.digits (kept - 1) 0 ≢ digit
+
+-- An array of 93 digits begins with the first `kept` digits of `e`.
+pub record BeginsWith (e : Finite) (kept : ℕ) (ds : List ℕ) : Type 0 where
+  pub size : length ds ≡ expansion_places
+  pub front : take kept ds ≡ take kept e.digits
+  pub small : All (λ d. d < 10) ds
+
+scaled_cut : (e : Finite) (p : ℕ) → p ≤ length e.digits
+    → ulps_of (cut_after p e) ≡ e.whole * 10 ^ p + value_of_digits (take p e.digits)
+scaled_cut e p within =
+    ap (λ n. e.whole * 10 ^ n + value_of_digits (take p e.digits)) (length-take-le p e.digits within)
+
+-- If the last of them are zeros, the decimal cut off after p digits is that of the digits kept, times a power of ten.
+scaled_zeros :
+    (e : Finite) (p kept : ℕ) → EndsInRunOf e p kept 0
+    → ulps_of (cut_after p e) ≡ (e.whole * 10 ^ kept + value_of_digits (take kept e.digits)) * 10 ^ (p - kept)
+scaled_zeros e p kept h =
+    let product = ap (λ n. e.whole * n) (pow10_split kept p h.few) in
+    let value = ap value_of_digits h.same ∙ value_append_zeros (take kept e.digits) (p - kept) in
+    scaled_cut e p h.within ∙ omega (arith, product, value)
+
+fold_nines : (n k : ℕ) → fold (λ n d. n * 10 + d) n (replicate k 9) + 1 ≡ (n + 1) * 10 ^ k
+fold_nines n zero = omega arith
+fold_nines n (suc k) = rw (pow-succ' 10 k) (omega (arith, fold_nines (n * 10 + 9) k))
+
+-- If the last of them are nines, the decimal cut off after p digits, plus one in its last digit, is that of the digits
+-- kept, plus one in their last digit, times a power of ten.
+scaled_nines :
+    (e : Finite) (p kept : ℕ) → EndsInRunOf e p kept 9
+    → ulps_of (cut_after p e) + 1 ≡ (e.whole * 10 ^ kept + (value_of_digits (take kept e.digits) + 1)) * 10 ^ (p - kept)
+scaled_nines e p kept h =
+    let product = ap (λ n. e.whole * n) (pow10_split kept p h.few) in
+    let value = ap value_of_digits h.same
+    ∙ fold-append (λ n d. n * 10 + d) 0 (take kept e.digits) (replicate (p - kept) 9) in
+    let nines = fold_nines (value_of_digits (take kept e.digits)) (p - kept) in
+    ap (λ n. n + 1) (scaled_cut e p h.within) ∙ omega (arith, product, value, nines)
+
+-- The last of the digits that are kept is the same in the array.
+same_last_digit :
+    (e : Finite) (kept : ℕ) (ds : List ℕ) → BeginsWith e kept ds → 0 < kept
+    → get_or ds (kept - 1) 0 ≡ get_or e.digits (kept - 1) 0
+same_last_digit e kept ds h some = grind (arith, get_or-take)
+
+-- The array has the digits that are kept.
+kept_fits : (e : Finite) (p kept digit : ℕ) (ds : List ℕ) → EndsInRunOf e p kept digit → BeginsWith e kept ds
+    → kept ≤ length ds
+kept_fits e p kept digit ds h array =
+    let few = length-take-le kept e.digits (omega (arith, h.few, h.within)) in
+    omega (arith, few, ap length array.front, length-take kept ds)
+
+-- A decimal cut off after p digits, without the zeros at their end, is the expansion of the cut number.
+pub cut_is_expansion :
+    (e : Finite) (p kept : ℕ) (ds : List ℕ) → EndsInRunOf e p kept 0 → BeginsWith e kept ds
+    → IsExpansion (ulps_of (cut_after p e)) (10 ^ p) (record { whole = e.whole; digits = take kept ds })
+cut_is_expansion e p kept ds h array =
+    let count = e.whole * 10 ^ kept + value_of_digits (take kept e.digits) in
+    let scaled = ap (λ n. n * 10 ^ kept) (scaled_zeros e p kept h) in
+    let power = ap (λ n. count * n) (pow10_split kept p h.few) in
+    expansion_of_first_digits (ulps_of (cut_after p e)) (10 ^ p) e.whole kept ds (one_le_pow10 p)
+    (record {
+      few = kept_fits e p kept 0 ds h array;
+      small = array.small;
+      exact = rw array.front (omega (arith, scaled, power));
+      last = λ some. let other = h.stops some in omega (arith, same_last_digit e kept ds array some, other);
+    })
+
+-- If the first p digits are all nines, the cut number plus one in its last digit is the whole part plus one.
+pub next_whole_is_expansion :
+    (e : Finite) (p kept : ℕ) → EndsInRunOf e p kept 9 → kept ≡ 0
+    → IsExpansion (ulps_of (cut_after p e) + 1) (10 ^ p) (record { whole = e.whole + 1; digits = [] })
+next_whole_is_expansion e p kept h none =
+    grind (arith, All-nil, expansion_of_digits, fold_nines, one_le_pow10, pow10_split, scaled_cut, scaled_nines)
+
+-- An array in which the last digit kept is one more represents one more.
+value_one_more :
+    (e : Finite) (kept : ℕ) (ds : List ℕ) → BeginsWith e kept ds → 0 < kept → kept ≤ length ds
+    → value_of_digits (take kept (set ds (kept - 1) (get_or ds (kept - 1) 0 + 1)))
+    ≡ value_of_digits (take kept e.digits) + 1
+value_one_more e kept ds array some room = grind (arith, common_steps, fold-append, take_more, take_more_set)
+
+-- If nines follow the digits that are kept, the cut number plus one in its last digit has these digits, the last of
+-- them one more.
+pub next_digit_is_expansion :
+    (e : Finite) (p kept : ℕ) (ds : List ℕ) → EndsInRunOf e p kept 9 → BeginsWith e kept ds → 0 < kept
+    → IsExpansion (ulps_of (cut_after p e) + 1) (10 ^ p)
+    (record { whole = e.whole; digits = take kept (set ds (kept - 1) (get_or ds (kept - 1) 0 + 1)) })
+next_digit_is_expansion e p kept ds h array some =
+    let last : ℕ = kept - 1 in
+    let digit = get_or ds last 0 in
+    let fits : last < length ds = omega (arith, some, kept_fits e p kept 9 ds h array) in
+    let count = e.whole * 10 ^ kept + (value_of_digits (take kept e.digits) + 1) in
+    let scaled = ap (λ n. n * 10 ^ kept) (scaled_nines e p kept h) in
+    let power = ap (λ n. count * n) (pow10_split kept p h.few) in
+    let small : digit < 10 = All-get_or (λ d. d < 10) ds last 0 fits array.small in
+    let other = h.stops some in
+    let nine : digit + 1 < 10 = omega (arith, small, same_last_digit e kept ds array some, other) in
+    expansion_of_first_digits (ulps_of (cut_after p e) + 1) (10 ^ p) e.whole kept (set ds last (digit + 1))
+    (one_le_pow10 p)
+    (record {
+      few = omega (arith, length-set ds last (digit + 1), fits);
+      small = All-set (λ d. d < 10) ds last (digit + 1) nine array.small;
+      exact = rw (value_one_more e kept ds array some (omega (arith, fits))) (omega (arith, scaled, power));
+      last = λ _. let at = get_or-set_same ds last (digit + 1) 0 fits in omega (arith, at);
+    })
+
+-- The first i digits of `ds` are those of `es`, and the rest of its 93 digits are zeros.
+pub record IsCopied (ds es : List ℕ) (i : ℕ) : Type 0 where
+  pub size : length ds ≡ expansion_places
+  pub front : take i ds ≡ take i es
+  pub rest : drop i ds ≡ replicate (expansion_places - i) 0
+  pub small : All (λ d. d < 10) ds
+
+-- An array of zeros has no digit of another copied.
+pub no_digits_copied : (es : List ℕ) → IsCopied (replicate expansion_places 0) es 0
+no_digits_copied es =
+    record {
+      size = length-replicate {A = ℕ} expansion_places 0;
+      front = refl;
+      rest = refl;
+      small = All-replicate (λ d. d < 10) expansion_places 0 (omega arith);
+    }
+
+-- After the digit at index i is copied, i + 1 digits are.
+pub one_more_digit_copied :
+    (ds es : List ℕ) (i d : ℕ) → IsCopied ds es i → i < expansion_places → i < length es
+    → d ≡ get_or es (i + 1 - 1) 0 → d < 10 → IsCopied (set ds i d) es (i + 1)
+one_more_digit_copied ds es i d h room within is small =
+    grind (arith, common_steps, All-set, length-set, take_more, take_more_set, zeros_after_set)

@@ -71,6 +71,7 @@ pub value_more : (ds : List ℕ) (i : ℕ) → i < length ds
     → value_of_digits (take (i + 1) ds) ≡ value_of_digits (take i ds) * 10 + get_or ds i 0
 value_more ds i within = grind (arith, common_steps, fold-append, take_more)
 
+-- The same where that digit is set.
 pub value_more_set : (ds : List ℕ) (i d : ℕ) → i < length ds
     → value_of_digits (take (i + 1) (set ds i d)) ≡ value_of_digits (take i ds) * 10 + d
 value_more_set ds i d within = grind (arith, fold-append, take_more_set)
@@ -138,25 +139,17 @@ pub record ShortOf (q p : ℕ) (e : Finite) : Type 0 where
 pub ShortOf-shortened : (q p : ℕ) → ShortOf q p (trim_expansion (at_places p q))
 ShortOf-shortened q p =
     let ds = last_digits p q in
+    let front = trim_zeros ds in
     let behind = HasTrailingZeros-trim ds in
-    let len : length (trim_zeros ds) + behind.zeros ≡ p =
-    omega (
-      arith,
-      ap length behind.list_is,
-      length-append (trim_zeros ds) (replicate behind.zeros 0),
-      length-replicate {A = ℕ} behind.zeros 0,
-      length_last_digits p q,
-    ) in
-    let left : p - length (trim_zeros ds) ≡ behind.zeros = omega (arith, len) in
-    let value : q % 10 ^ p ≡ value_of_digits (trim_zeros ds) * 10 ^ behind.zeros =
-    sym (value_of_last_digits p q)
-    ∙ (ap value_of_digits behind.list_is ∙ value_append_zeros (trim_zeros ds) behind.zeros) in
-    let power : 10 ^ p ≡ 10 ^ length (trim_zeros ds) * 10 ^ behind.zeros =
-    ap (λ n. 10 ^ n) (sym len) ∙ pow-add 10 (length (trim_zeros ds)) behind.zeros in
-    let product = ap (λ n. q / 10 ^ p * n) power in
+    let len : length front + behind.zeros ≡ p =
+    grind (arith, ap length behind.list_is, length-append, length-replicate, length_last_digits) in
+    let left : p - length front ≡ behind.zeros = omega (arith, len) in
+    let value = sym (value_of_last_digits p q)
+    ∙ (ap value_of_digits behind.list_is ∙ value_append_zeros front behind.zeros) in
+    let power = ap (λ n. q / 10 ^ p * n) (ap (λ n. 10 ^ n) (sym len) ∙ pow-add 10 (length front) behind.zeros) in
     let parts : q ≡ q / 10 ^ p * 10 ^ p + q % 10 ^ p = omega (arith, one_le_pow10 p) in
     record {
       few = omega (arith, len);
       small = small_without_zeros ds (last_digits_below_ten p q);
-      scaled_is = rw left (omega (arith, parts, product, value));
+      scaled_is = rw left (omega (arith, parts, power, value));
     }

@@ -84,20 +84,17 @@ rest_from_bounds n divisor quotient enough close =
     (division_is n divisor quotient _ (omega (arith, enough)) close).1
 
 -- The same where the estimate is one less.
-quotient_and_rest_after :
-    (n divisor estimate : ℕ) → estimate * divisor + divisor ≤ n → n < estimate * divisor + 2 * divisor
-    → (estimate + 1 ≡ n / divisor) × (n - estimate * divisor - divisor ≡ n % divisor)
-quotient_and_rest_after n divisor estimate enough close =
-    division_is n divisor (estimate + 1) (n - estimate * divisor - divisor) (omega (arith, enough))
-    (omega (arith, enough, close))
-
 pub quotient_after : (n divisor estimate : ℕ) → estimate * divisor + divisor ≤ n → n < estimate * divisor + 2 * divisor
     → estimate + 1 ≡ n / divisor
-quotient_after n divisor estimate enough close = (quotient_and_rest_after n divisor estimate enough close).0
+quotient_after n divisor estimate enough close =
+    (division_is n divisor (estimate + 1) (n - estimate * divisor - divisor) (omega (arith, enough))
+    (omega (arith, enough, close))).0
 
 pub rest_after : (n divisor estimate : ℕ) → estimate * divisor + divisor ≤ n → n < estimate * divisor + 2 * divisor
     → n - estimate * divisor - divisor ≡ n % divisor
-rest_after n divisor estimate enough close = (quotient_and_rest_after n divisor estimate enough close).1
+rest_after n divisor estimate enough close =
+    (division_is n divisor (estimate + 1) (n - estimate * divisor - divisor) (omega (arith, enough))
+    (omega (arith, enough, close))).1
 
 -- Long division in base 2^40, of a number of three digits: the digits of the quotient and the last remainder are those
 -- of the whole division.
@@ -112,5 +109,6 @@ long_division n divisor middle low some middle_is low_is =
     (omega (arith, high, div-add-mod middle divisor, div-add-mod low divisor, middle_is, low_is)) (mod-lt low some)
 
 -- What the proof of the division by an inverse uses.
-pub ruleset estimates = (leading_bits_fit, product_fits, estimate_fits, IsEstimate-inverse, quotient_from_bounds,
-  rest_from_bounds, quotient_after, rest_after)
+pub ruleset estimates = (leading_bits_fit, product_fits, estimate_fits, IsEstimate-inverse)
+
+pub ruleset quotients = (quotient_from_bounds, rest_from_bounds, quotient_after, rest_after)

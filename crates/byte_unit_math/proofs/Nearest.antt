@@ -64,5 +64,3 @@ pub rounds_down_even : (num den p : ℕ) → 0 < den → 2 * (num * 10 ^ p % den
     → IsNearest num den p Even (num * 10 ^ p / den)
 rounds_down_even num den p some h =
     nearest_even_this num den p _ _ (lies_above_quotient num den p _ _ _ refl some refl refl) h
-
-pub ruleset rounding_even = (rounds_up_even, rounds_down_even)

@@ -32,9 +32,9 @@ pub record InFirstGroup (digits places : ℕ) : Type 0 where
       ≡ digits * 10 ^ (group_places - places) * (group_limit * half_limit)
 
 -- At most seven digits after the point are all in the first group.
-pub InFirstGroup-places : (digits places : ℕ) → places ≤ group_places → digits < 10 ^ places
+pub in_first_group : (digits places : ℕ) → places ≤ group_places → digits < 10 ^ places
     → InFirstGroup digits places
-InFirstGroup-places digits places few small =
+in_first_group digits places few small =
     let some = one_le_pow10 (group_places - places) in
     let below = mul-lt-mul_of_pos_right {k = 10 ^ (group_places - places)} small some in
     let behind = power_of_sum 10 (places_of_decimal - places) (group_places - places) 21 (omega (arith, few)) in
@@ -86,6 +86,3 @@ IfNone-always (Some x) Fact fact = tt
 pub IfNone-below : (size limit : ℕ) (Fact : Type 0) → (limit ≤ size → Fact)
     → IfNone (then_some (ltb size limit) size) Fact
 IfNone-below size limit Fact reached = grind (arith, IfNone-always, nat_tests)
-
--- What the proof of the groups of digits uses.
-pub ruleset groups = (InFirstGroup-places, IfNone-always)

@@ -1,13 +1,54 @@
--- The fields of a `Decimal` are determined by its value, since its digits have no trailing zeros.
-use Rattle.std.proofs.Common.{◌≡◌, ℕ, zero, suc, ◌+◌, ◌-◌, ◌*◌, ◌/◌, ◌%◌, ◌^◌, ◌<◌, arith, ap, refl, sym, ◌∙◌}
-use Rattle.std.proofs.Math.Nat.{pow-succ'}
-use Rattle.std.proofs.lemmas.Bool.Decides.{nat_tests}
+-- A fraction without trailing zeros has the least number of digits after the point, so the fields of a `Decimal` are
+-- determined by its value.
+use Rattle.std.proofs.Common.{◌≡◌, ℕ, ◌+◌, ◌-◌, ◌*◌, ◌/◌, ◌%◌, ◌^◌, ◌<◌, ◌≤◌, arith, ap, subst, zero, suc, refl, sym}
+use Rattle.std.proofs.Common.{◌∙◌}
 use Rattle.byte_unit_math.specs.Bounds.{scale, places_of_decimal, whole_limit}
 use Rattle.byte_unit_math.specs.Exact.{IsLeastPlaces}
+use Rattle.byte_unit_math.proofs.Expanding.{IsLeastPlaces-last_digit, fraction_below_one}
+use Rattle.byte_unit_math.proofs.Scales.{pow10_split, pow10_times_rest, power_of_sum}
+use Rattle.std.proofs.Math.Nat.{pow-succ'}
+use Rattle.std.proofs.lemmas.Bool.Decides.{nat_tests}
 use Rattle.byte_unit_math.specs.StoredDecimal.{decimal_value, trim_digits, trim_fraction, IsNormalized}
 use Rattle.byte_unit_math.specs.declared.decimal.Decimal.TheInside.{Inside}
-use Rattle.byte_unit_math.proofs.Division.{fraction_below_one}
-use Rattle.byte_unit_math.proofs.Places.{HasDigits, HasDigits-least, HasDigits-at_least}
+
+-- A fraction scaled by 10^28 is `digits` in `places` digits after the point, followed by zeros.
+pub record HasDigits (fraction digits places : ℕ) : Type 0 where
+  pub few : places ≤ places_of_decimal
+  pub same : digits * 10 ^ (places_of_decimal - places) ≡ fraction
+  pub below : digits < 10 ^ places
+
+-- A last digit that is zero can be removed: a tenth of the number, in one digit less.
+pub HasDigits-tenth : (fraction digits places : ℕ) → HasDigits fraction digits places → 0 < places → digits % 10 ≡ 0
+    → HasDigits fraction (digits / 10) (places - 1)
+HasDigits-tenth fraction digits places h some last =
+    let tens : digits ≡ digits / 10 * 10 = omega (arith, last) in
+    let product = ap (λ n. n * 10 ^ (places_of_decimal - places)) tens in
+    let power = power_of_sum 10 (places_of_decimal - (places - 1)) 1 (places_of_decimal - places)
+    (omega (arith, h.few, some)) in
+    record {
+      few = omega (arith, h.few);
+      same = omega (arith, h.same, product, ap (λ n. digits / 10 * n) power);
+      below = omega (arith, h.below, tens, pow10_split 1 places some);
+    }
+
+-- If the last digit is not zero, N / 10^28 is exact with no fewer digits after the point.
+pub HasDigits-least : (N digits places : ℕ) → HasDigits (N % scale) digits places → (0 < places → 0 < digits % 10)
+    → IsLeastPlaces N scale places
+HasDigits-least N digits places h last =
+    let parts : N ≡ N / scale * scale + digits * 10 ^ (places_of_decimal - places) = omega (arith, h.same) in
+    let product = ap (λ n. n * 10 ^ places) parts in
+    let rest = ap (λ n. digits * n) (pow10_times_rest places h.few) in
+    IsLeastPlaces-last_digit N scale (N / scale * 10 ^ places + digits) places (omega arith)
+    (omega (arith, product, rest))
+    (λ some. omega (arith, ap (λ n. N / scale * n) (pow10_split 1 places some), last some))
+
+-- There is only one least number of digits after the point.
+pub HasDigits-at_least :
+    (N digits places least : ℕ) → HasDigits (N % scale) digits places → (0 < places → 0 < digits % 10)
+    → IsLeastPlaces N scale least → HasDigits (N % scale) digits least
+HasDigits-at_least N digits places least h last is =
+    let this = HasDigits-least N digits places h last in
+    subst (HasDigits (N % scale) digits) (omega (arith, this.least least is.has, is.least places this.has)) h
 
 -- The fields hold the fraction of the value.
 fields_have_digits : (N : ℕ) (d : Inside) → IsNormalized d → decimal_value d ≡ N
@@ -46,26 +87,22 @@ zeros_dropped (suc behind) (suc all) places digits rest count product last =
     zero_dropped all rest (omega (arith, tens))
     ∙ zeros_dropped behind all places digits (rest / 10) (omega (arith, count)) (omega (arith, tens)) last
 
-trimmed : (rest : ℕ) (pair : ℕ × ℕ) → trim_digits places_of_decimal rest ≡ pair
-    → trim_digits places_of_decimal 0 ≡ (0, 0) → trim_fraction rest ≡ pair
-trimmed zero pair short none = sym none ∙ short
-trimmed (suc rest) pair short none = short
+trimmed : (rest : ℕ) (pair : ℕ × ℕ) → trim_digits places_of_decimal rest ≡ pair → trim_fraction rest ≡ pair
+trimmed zero pair short =
+    sym (zeros_dropped places_of_decimal places_of_decimal 0 0 0 refl (omega arith)
+    (λ some. absurd (omega (arith, some)))) ∙ short
+trimmed (suc rest) pair short = short
 
 short_fraction_is : (rest digits places : ℕ) → HasDigits rest digits places → (0 < places → 0 < digits % 10)
     → trim_fraction rest ≡ (digits, places)
 short_fraction_is rest digits places h last =
-    let short = zeros_dropped (places_of_decimal - places) places_of_decimal places digits rest (omega (arith, h.few))
-    (sym h.same) last in
-    let none = zeros_dropped places_of_decimal places_of_decimal 0 0 0 refl (omega arith)
-    (λ some. absurd (omega (arith, some))) in
-    trimmed rest (digits, places) short none
+    trimmed rest (digits, places)
+    (zeros_dropped (places_of_decimal - places) places_of_decimal places digits rest (omega (arith, h.few)) (sym h.same)
+    last)
 
 -- Such digits after a whole part below 2^112 satisfy the invariant of a `Decimal`.
-pub IsNormalized-digits :
+pub digits_are_normalized :
     (whole fraction digits places : ℕ) → whole < whole_limit → HasDigits fraction digits places
     → (0 < places → 0 < digits % 10)
     → IsNormalized (record { whole = whole; digits = digits; places = places })
-IsNormalized-digits whole fraction digits places bound h last = grind (arith, fraction_below_one, short_fraction_is)
-
--- What the proofs of the functions that make and read a `Decimal` use.
-pub ruleset decimals = (IsNormalized-digits, digits_of_fields)
+digits_are_normalized whole fraction digits places bound h last = grind (arith, fraction_below_one, short_fraction_is)

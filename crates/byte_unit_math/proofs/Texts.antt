@@ -25,13 +25,9 @@ use Rattle.byte_unit_math.proofs.Digits.{same_digits, last_digits_below_ten, sca
 use Rattle.byte_unit_math.proofs.Expanding.{expansion_of_digits}
 use Rattle.byte_unit_math.proofs.Scales.{pow10_split}
 
--- Each of the numbers is a decimal digit.
-abbrev AllBelowTen : List ℕ → Type 0
-AllBelowTen ds = All (λ d. d < 10) ds
-
 -- Two decimals with as many digits after the point and the same scaled value are equal.
-pub same_finite : (e f : Finite) → AllBelowTen e.digits → AllBelowTen f.digits → length e.digits ≡ length f.digits
-    → ulps_of e ≡ ulps_of f → e ≡ f
+pub same_finite : (e f : Finite) → All (λ d. d < 10) e.digits → All (λ d. d < 10) f.digits
+    → length e.digits ≡ length f.digits → ulps_of e ≡ ulps_of f → e ≡ f
 same_finite e f h k len same =
     let product = ap (λ n. f.whole * 10 ^ n) len in
     let parts =

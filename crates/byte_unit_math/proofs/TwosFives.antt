@@ -1,21 +1,11 @@
 -- Factors of 2 and 5 divided out of a number.
-use Rattle.std.proofs.Common.{◌≡◌, ◌≢◌, ℕ, zero, suc, ◌+◌, ◌*◌, ◌/◌, ◌%◌, ◌^◌, ◌<◌, ◌≤◌, arith, sym, ap, ◌∙◌, add-one}
+use Rattle.std.proofs.Common.{◌≡◌, ◌≢◌, ℕ, zero, suc, ◌+◌, ◌*◌, ◌/◌, ◌%◌, ◌^◌, ◌<◌, ◌≤◌, arith, ap, ◌∙◌}
 use Rattle.std.specs.Int.{bit_at, trailing_zeros, w128}
 use Rattle.std.proofs.Math.Nat.{pow-suc, pow-le-pow_left, mul-le-mul_left, mul-le-mul_right, div-one}
 use Rattle.std.proofs.lemmas.Nat.{pow-add, shr-shr}
 use Rattle.std.proofs.lemmas.Nat.Bits.{bit_at-trailing_zeros}
 use Rattle.byte_unit_math.specs.Bounds.{size_limit}
 use Rattle.byte_unit_math.proofs.Scales.{exponent_at_most}
-
-few_factors_of_size : (size left twos fives : ℕ) → 0 < left → size ≡ left * (2 ^ twos * 5 ^ fives) → size < size_limit
-    → twos + fives ≤ 99
-few_factors_of_size size left twos fives some h small =
-    let powers = mul-le-mul_left {m = 2 ^ fives} {n = 5 ^ fives} (2 ^ twos)
-    (pow-le-pow_left {n = 2} {m = 5} (omega arith) fives) in
-    let product = mul-le-mul_right {m = 1} {n = left} (2 ^ twos * 5 ^ fives) some in
-    exponent_at_most 2 99 (twos + fives) size_limit (omega arith)
-    (omega (arith, pow-add 2 twos fives, powers, product, h, small))
-    (omega arith)
 
 -- A number whose lowest `twos` bits are 0 is a multiple of 2^twos.
 trailing_zeros_divide : (number twos : ℕ) → ((i : ℕ) → i < twos → bit_at number i ≡ 0)
@@ -45,17 +35,6 @@ FivesOff-trailing_zeros number some small =
       product = trailing_zeros_divide number (trailing_zeros w128 number) lowest.2 ∙ omega arith;
     }
 
--- Dividing what is left by five is one factor of 5 more.
-pub FivesOff-more :
-    (number left twos fives fifth : ℕ) → FivesOff number left twos fives → fifth * 5 ≡ left
-    → FivesOff number fifth twos (fives + 1)
-FivesOff-more number left twos fives fifth h parts =
-    let power = ap (λ n. fifth * (2 ^ twos * n)) (ap (λ n. 5 ^ n) (add-one fives) ∙ pow-suc 5 fives) in
-    record {
-      odd = λ even. h.odd (omega (arith, parts, even));
-      product = h.product ∙ (ap (λ n. n * (2 ^ twos * 5 ^ fives)) (sym parts) ∙ omega (arith, power));
-    }
-
 -- Dividing what is left by a power of 5 adds its exponent to the factors of 5.
 pub FivesOff-joined :
     (number left twos fives rest others : ℕ) → FivesOff number left twos fives → left ≡ rest * 5 ^ others → rest % 2 ≢ 0
@@ -64,7 +43,19 @@ FivesOff-joined number left twos fives rest others h parts odd =
     let power = ap (λ n. rest * (2 ^ twos * n)) (pow-add 5 fives others) in
     record { odd = odd; product = h.product ∙ (ap (λ n. n * (2 ^ twos * 5 ^ fives)) parts ∙ omega (arith, power)) }
 
+-- Dividing what is left by five is one factor of 5 more.
+pub FivesOff-more :
+    (number left twos fives fifth : ℕ) → FivesOff number left twos fives → fifth * 5 ≡ left
+    → FivesOff number fifth twos (fives + 1)
+FivesOff-more number left twos fives fifth h parts =
+    FivesOff-joined number left twos fives fifth 1 h (omega (arith, parts)) (λ even. h.odd (omega (arith, parts, even)))
+
 -- A number below 10^30 has at most 99 factors of 2 and 5 together.
 pub FivesOff-few : (number left twos fives : ℕ) → number < size_limit → FivesOff number left twos fives
     → twos + fives ≤ 99
-FivesOff-few number left twos fives small h = grind (arith, few_factors_of_size)
+FivesOff-few number left twos fives small h =
+    let powers = mul-le-mul_left (2 ^ twos) (pow-le-pow_left {n = 2} {m = 5} (omega arith) fives) in
+    let some : 1 ≤ left = omega (arith, h.odd) in
+    let product = mul-le-mul_right (2 ^ twos * 5 ^ fives) some in
+    exponent_at_most 2 99 (twos + fives) size_limit (omega arith)
+    (omega (arith, pow-add 2 twos fives, powers, product, h.product, small)) (omega arith)

@@ -1,16 +1,15 @@
--- The decimal digits of a number, written from the last to the first.
+-- The decimal digits of a number, written from the last to the first, and their number.
 use Rattle.std.specs.Fmt.{decimal}
 use Rattle.std.specs.Str.{IsAscii}
 use Rattle.std.proofs.Common.{set, ◌≡◌, ℕ, zero, suc, ◌+◌, ◌*◌, ◌^◌, ◌/◌, ◌%◌, ◌<◌, ◌-◌, ◌≤◌, ⊎_elim, List, [], ◌∷◌}
 use Rattle.std.proofs.Common.{◌++◌, length, drop, arith, ap, sym, refl, ◌∙◌, length-append, append_assoc, append-nil}
-use Rattle.std.proofs.Common.{get_or, subst}
+use Rattle.std.proofs.Common.{get_or, subst, Bool, true, ◌&&◌, leb}
 use Rattle.std.proofs.Math.Nat.{pow-succ', mod-mod, div-le_self, div-div-eq-div-mul, le-div_iff_mul-le}
-use Rattle.std.proofs.lemmas.Bool.{cases_lt}
+use Rattle.std.proofs.Math.Nat.{pow-le-pow_right}
+use Rattle.std.proofs.lemmas.Bool.{cases_lt, and_parts, leb-true}
 use Rattle.std.proofs.lemmas.Fmt.{decimal_digit, decimal_step_wide, length-decimal-le_wide, IsAscii-decimal_wide}
-use Rattle.std.proofs.lemmas.List.{drop-set, drop-drop, length-set, length-map, drop-replicate, take-replicate}
-use Rattle.std.proofs.Math.Seq.{take-append-add}
-use Rattle.std.proofs.lemmas.Simd.{put_chunk_whole}
-use Rattle.std.proofs.lemmas.Nat.{div_below, div-mul-add, mod-mul-add}
+use Rattle.std.proofs.lemmas.List.{drop-set, drop-drop, length-set, length-map}
+use Rattle.std.proofs.lemmas.Nat.{div_below, div-mul-add, mod-mul-add, leading_top}
 use Rattle.std.proofs.lemmas.Str.{IsUtf8-from_ascii, IsAscii-drop, IsAscii-take}
 use Rattle.std.proofs.lemmas.Str.Ascii.{IsAscii-cons}
 use Rattle.byte_unit_math.specs.Digits.{last_digits}
@@ -19,6 +18,7 @@ use Rattle.byte_unit_math.proofs.Digits.{length_last_digits, last_digits_below_t
 use Rattle.byte_unit_math.proofs.Digits.{one_le_pow10}
 use Rattle.byte_unit_math.proofs.Fractions.{fraction_text_some}
 use Rattle.byte_unit_math.proofs.Scales.{pow10_bounds}
+use Rattle.std.specs.Int.Count.{count_leading_zeros}
 
 -- A number below ten is written as one digit.
 pub decimal_one_digit : (n : ℕ) → n < 10 → decimal n ≡ (48 + n) ∷ []
@@ -68,14 +68,7 @@ decimal_cut k n wide small = rw (last_digits_of_rest k n) (sym (decimal_split k 
 -- A number of more than k digits has k digits more than the number without its last k digits.
 pub decimal_length_split : (k n : ℕ) → 10 ^ k ≤ n → n < 2 ^ 128 → length (decimal n) ≡ length (decimal (n / 10 ^ k)) + k
 decimal_length_split k n wide small =
-    let ds = last_digits k n in
-    omega (
-      arith,
-      ap length (decimal_split k n wide small),
-      length-append (decimal (n / 10 ^ k)) (glyphs ds),
-      length-map {A = ℕ} ds (λ d. 48 + d),
-      length_last_digits k n,
-    )
+    grind (arith, decimal_split k n wide small, length-append, length-map, length_last_digits)
 
 -- A number has at least one digit.
 pub decimal_length_positive : (n : ℕ) → n < 2 ^ 128 → 1 ≤ length (decimal n)
@@ -140,10 +133,8 @@ pairs_from_at (suc count) from zero few = (omega arith, omega arith)
 pairs_from_at (suc count) from (suc k) few =
     let both = pairs_from_at count (suc from) k (omega (arith, few)) in
     let first : suc k * 2 ≡ suc (suc (k * 2)) = omega arith in
-    let second : suc k * 2 + 1 ≡ suc (suc (k * 2 + 1)) = omega arith in (
-      ap (λ i. get_or (pairs_from (suc count) from) i 0) first ∙ omega (arith, both.0),
-      ap (λ i. get_or (pairs_from (suc count) from) i 0) second ∙ omega (arith, both.1),
-    )
+    let second : suc k * 2 + 1 ≡ suc (suc (k * 2 + 1)) = omega arith in
+    (rw first (omega (arith, both.0)), rw second (omega (arith, both.1)))
 
 -- Writing the tens and the ones of a number below 100 at `start` puts its last two digits there, and leaves what
 -- follows.
@@ -195,6 +186,9 @@ fraction_ascii places digits fits ascii =
     subst IsAscii (sym (fraction_text_glyphs places digits fits.0))
     (IsAscii-cons 46 (glyphs (last_digits places digits)) (omega arith) glyphs_ascii)
 
+-- A number has at most 39 digits.
+pub ruleset decimal_few = (decimal_length_le_39, append-nil)
+
 -- The digits of a number are ASCII.
 pub ruleset decimal_ascii = (IsAscii-decimal_wide)
 
@@ -204,7 +198,7 @@ pub ruleset ascii_texts = (IsUtf8-from_ascii, IsAscii-take)
 -- What the proof of a fraction's text uses.
 pub ruleset fractions_written = (pow10_bounds, length_of_one_and_digits, one_becomes_point, fraction_ascii)
 
--- A number of more than two or four digits is written as the number without them, and these digits.
+-- A number of more than k digits is written as the number without them, and these digits.
 pub digits_before :
     (k n : ℕ) (behind : List ℕ) → 10 ^ k ≤ n → n < 2 ^ 128
     → decimal n ++ behind ≡ decimal (n / 10 ^ k) ++ (glyphs (last_digits k (n % 10 ^ k)) ++ behind)
@@ -212,6 +206,7 @@ digits_before k n behind wide small =
     ap (λ l. l ++ behind) (sym (decimal_cut k n wide small))
     ∙ append_assoc (decimal (n / 10 ^ k)) (glyphs (last_digits k (n % 10 ^ k))) behind
 
+-- The same for two and for four digits, and their number.
 pub last_two : (n : ℕ) (behind : List ℕ) → 100 ≤ n → n < 2 ^ 128
     → decimal n ++ behind ≡ decimal (n / 100) ++ (glyphs (last_digits 2 (n % 100)) ++ behind)
 last_two = digits_before 2
@@ -226,28 +221,15 @@ two_more = decimal_length_split 2
 pub four_more : (n : ℕ) → 10000 ≤ n → n < 2 ^ 128 → length (decimal n) ≡ length (decimal (n / 10000)) + 4
 four_more = decimal_length_split 4
 
-pub last_eighteen : (n : ℕ) (behind : List ℕ) → 10 ^ 18 ≤ n → n < 2 ^ 128
-    → decimal n ++ behind ≡ decimal (n / 10 ^ 18) ++ (glyphs (last_digits 18 (n % 10 ^ 18)) ++ behind)
-last_eighteen = digits_before 18
-
-pub eighteen_more : (n : ℕ) → 10 ^ 18 ≤ n → n < 2 ^ 128 → length (decimal n) ≡ length (decimal (n / 10 ^ 18)) + 18
-eighteen_more = decimal_length_split 18
-
-pub one_and_eighteen : (r : ℕ) → r < 10 ^ 18 → decimal (10 ^ 18 + r) ≡ 49 ∷ glyphs (last_digits 18 r)
-one_and_eighteen r small = decimal_of_one_and_digits 18 r small (omega arith)
-
-pub drop_one_more : (place : ℕ) (bytes : List ℕ) → drop (place + 1) bytes ≡ drop 1 (drop place bytes)
-drop_one_more place bytes = sym (drop-drop 1 place bytes)
-
-pub ruleset eighteen_written =
-    (eighteen_more, decimal_length_positive, length_of_one_and_18_digits)
-
--- What the proof of writing digits in groups uses.
+-- What the proof of writing digits in groups of two and four uses.
 pub ruleset groups_written =
     (decimal_one_digit, decimal_length_one, decimal_two_digits, last_two, last_four, two_more, four_more, drop-set)
 
-pub ruleset decimal_few = (decimal_length_le_39, append-nil)
+-- What the proof of writing 18 digits at a time uses.
+pub eighteen_more : (n : ℕ) → 10 ^ 18 ≤ n → n < 2 ^ 128 → length (decimal n) ≡ length (decimal (n / 10 ^ 18)) + 18
+eighteen_more = decimal_length_split 18
 
+-- The lengths that the proofs of padded digits use.
 pub few_30 : (n : ℕ) → n < 10 ^ 30 → length (decimal n) ≤ 30
 few_30 n small = length-decimal-le_wide 30 n (omega arith) small (omega (arith, small))
 
@@ -257,6 +239,58 @@ few_16 n small = length-decimal-le_wide 16 n (omega arith) small (omega (arith, 
 pub more_16 : (n : ℕ) → 10 ^ 16 ≤ n → n < 10 ^ 30 → length (decimal n) ≡ length (decimal (n / 10 ^ 16)) + 16
 more_16 n wide small = decimal_length_split 16 n wide (omega (arith, small))
 
-pub ruleset padded = (few_30, drop-replicate, take-append-add, take-replicate)
+-- A number of this many bits has the estimated number of decimal digits, or one more.
+abbrev digits_estimate : ℕ → ℕ
+digits_estimate binary = binary * 1233 / 4096
 
-pub ruleset zeros_first = (few_30, few_16, more_16, without_leading_zeros, put_chunk_whole)
+abbrev estimate_holds_below : ℕ → Bool
+estimate_holds_below zero = true
+estimate_holds_below (suc j) =
+    leb (10 ^ digits_estimate (suc j)) (10 * 2 ^ j) &&
+    (leb (2 ^ suc j) (10 ^ suc (digits_estimate (suc j))) && estimate_holds_below j)
+
+IsBetween : ℕ → Type 0
+IsBetween j = (10 ^ digits_estimate (suc j) ≤ 10 * 2 ^ j) × (2 ^ suc j ≤ 10 ^ suc (digits_estimate (suc j)))
+
+is_between : (count j : ℕ) → estimate_holds_below count ≡ true → j < count → IsBetween j
+unfolding IsBetween
+is_between zero j h few = absurd (omega (arith, few))
+is_between (suc count) j h few =
+    let parts = and_parts (leb (10 ^ digits_estimate (suc count)) (10 * 2 ^ count)) _ h in
+    let others = and_parts (leb (2 ^ suc count) (10 ^ suc (digits_estimate (suc count)))) _ parts.1 in
+    ⊎_elim (λ below. is_between count j others.1 below)
+    (λ last. subst IsBetween (let e : count ≡ j = omega (arith, few, last) in e)
+    (leb-true _ _ parts.0, leb-true _ _ others.0)) (cases_lt j count)
+
+-- A number between 10^k and 10^(k + 1) has k + 1 digits.
+decimal_length_between : (k n : ℕ) → 10 ^ k ≤ n → n < 10 ^ suc k → n < 2 ^ 128 → length (decimal n) ≡ suc k
+decimal_length_between k n low high small =
+    let digit = div_below n (10 ^ k) 10 (one_le_pow10 k) (omega (arith, high, pow-succ' 10 k)) in
+    omega (arith, decimal_length_split k n low small, decimal_length_one (n / 10 ^ k) digit)
+
+digits_below_power : (few n : ℕ) → 10 ^ few ≤ 10 * n → 10 ≤ n → n < 2 ^ 128 → n < 10 ^ few → length (decimal n) ≡ few
+digits_below_power zero n low wide small below = absurd (omega (arith, wide, below))
+digits_below_power (suc few) n low wide small below = grind (arith, decimal_length_between, pow-succ')
+
+-- A number of at most 128 bits has as many digits as estimated if it is below that power of ten, or else one more.
+module _ (k n : ℕ) (few : k ≤ 128) (wide : 10 ≤ n) (small : n < 2 ^ k) where
+  wide_enough : n < 2 ^ 128
+  wide_enough = omega (arith, small, pow-le-pow_right {n = 2} (omega arith) {i = k} {j = 128} few)
+
+  bounds : (10 ^ digits_estimate (k - count_leading_zeros k n) ≤ 10 * n)
+      × (n < 10 ^ suc (digits_estimate (k - count_leading_zeros k n)))
+  unfolding IsBetween
+  bounds =
+      let top = leading_top k n (omega (arith, wide)) small in
+      let between = is_between 128 top.0 refl (omega (arith, top.1, few)) in
+      let binary : suc top.0 ≡ k - count_leading_zeros k n = omega (arith, top.1) in
+      subst (λ b. (10 ^ digits_estimate b ≤ 10 * n) × (n < 10 ^ suc (digits_estimate b))) binary
+      (omega (arith, between.0, top.2), omega (arith, between.1, top.3))
+
+  pub few_digits : n < 10 ^ digits_estimate (k - count_leading_zeros k n)
+      → length (decimal n) ≡ digits_estimate (k - count_leading_zeros k n)
+  few_digits below = digits_below_power _ n bounds.0 wide wide_enough below
+
+  pub more_digits : 10 ^ digits_estimate (k - count_leading_zeros k n) ≤ n
+      → length (decimal n) ≡ suc (digits_estimate (k - count_leading_zeros k n))
+  more_digits reached = decimal_length_between _ n reached bounds.1 wide_enough

@@ -105,7 +105,7 @@ impl Decimal {
     /// assert_eq!(rt; (d.whole(), d.digits(), d.places()), (50, 84, 2));
     /// assert_eq!(rt; Decimal::from_u128_with_scale(1, 29), None);
     /// ```
-    #[tactic(auto, using(crate::proofs::Scales::cut))]
+    #[tactic(auto, using(crate::proofs::Scales::pow10_bounds, crate::proofs::Scales::cut_at_point))]
     pub fn from_u128_with_scale(mantissa: u128, places: u32) -> Option<Decimal>
         ensures { SomeIff result
             ((places ≤ places_of_decimal) × (mantissa / 10 ^ places < whole_limit))
@@ -133,7 +133,7 @@ impl Decimal {
     /// assert_eq!(rt; Decimal::from_digits(1, 500, 3).places(), 1);
     /// ```
     #[inline(always)]
-    #[tactic(auto, using(crate::proofs::ShortDecimals::decimals))]
+    #[tactic(auto, using(crate::proofs::ShortDecimals::digits_are_normalized))]
     pub fn from_digits(whole: u128, digits: u128, places: u32) -> Decimal
         requires whole { whole < whole_limit }
         requires places { places ≤ places_of_decimal }
@@ -158,7 +158,7 @@ impl Decimal {
     }
 
     /// Creates the same number from digits that need more than 64 bits, whose divisions take longer.
-    #[tactic(auto, using(crate::proofs::ShortDecimals::decimals))]
+    #[tactic(auto, using(crate::proofs::ShortDecimals::digits_are_normalized))]
     fn from_wide_digits(whole: u128, digits: u128, places: u32) -> Decimal
         requires whole { whole < whole_limit }
         requires places { places ≤ places_of_decimal }
@@ -227,7 +227,7 @@ impl Decimal {
     /// assert_eq!(rt; Decimal::from_digits(50, 84, 3).digits(), 84);
     /// assert_eq!(rt; Decimal::from(7u8).digits(), 0);
     /// ```
-    #[tactic(auto, using(crate::proofs::ShortDecimals::decimals))]
+    #[tactic(auto, using(crate::proofs::ShortDecimals::digits_of_fields))]
     pub fn digits(self) -> u128
         ensures value { (places : ℕ) → IsLeastPlaces self scale places
             → result * 10 ^ (places_of_decimal - places) ≡ self % scale }

@@ -40,7 +40,7 @@ pub fn div_rem(dividend: u128, divisor: u128) -> (u128, u128)
 /// Returns the quotient and the remainder by a constant, without division: the leading 64 bits of the dividend times
 /// `inverse`, 2^(cut + shift) / divisor rounded down, give an estimate, which is the quotient or one less.
 #[inline(always)]
-#[tactic(auto, using(crate::proofs::Estimates::estimates))]
+#[tactic(auto, using(crate::proofs::Estimates::estimates, crate::proofs::Estimates::quotients))]
 pub(crate) fn div_rem_by_inverse(
     dividend: u128,
     divisor: u64,

@@ -86,7 +86,7 @@ impl Expansion {
     /// let e = Expansion::from_decimal(Decimal::from_digits(50, 84, 3));
     /// assert_eq!(rt; (e.whole(), e.places(), e.digit(3)), (50, 3, 4));
     /// ```
-    #[tactic(auto, using(crate::proofs::Expanding::decimals))]
+    #[tactic(auto, using(crate::proofs::Expanding::decimal_is_exact, crate::proofs::Expanding::decimal_parts))]
     pub fn from_decimal(d: Decimal) -> Expansion
         ensures { IsExpansion d scale result }
     {
@@ -188,7 +188,7 @@ impl Expansion {
     }
 
     /// Returns whether the last digit is odd if the number is rounded down to `places` digits.
-    #[tactic(auto, using(crate::proofs::Cut::odd))]
+    #[tactic(auto, using(crate::proofs::Cut::odd_by_last_digit, crate::proofs::Cut::is_odd_by_digit))]
     fn is_odd_at(&self, places: u32) -> bool
         requires { places < length self.now.digits }
         ensures { let cut = ulps_of (cut_after places self.now) in
@@ -217,7 +217,7 @@ impl Expansion {
     }
 
     /// Returns the first `places` digits, and then zeros.
-    #[tactic(auto, using(crate::proofs::Kept::copied))]
+    #[tactic(auto, using(crate::proofs::Cut::one_more_digit_copied, std::proofs::lemmas::Grind::common_steps))]
     fn leading_digits(&self, places: u32) -> [u8; EXPANSION_PLACES]
         requires { places ≤ length self.now.digits }
         ensures size { length result ≡ expansion_places }
@@ -248,7 +248,7 @@ impl Expansion {
     }
 
     /// Rounds up to `places` digits after the point, of which the number has more.
-    #[tactic(auto, using(crate::proofs::Kept::next_whole_is_expansion))]
+    #[tactic(auto, using(crate::proofs::Cut::next_whole_is_expansion))]
     fn ceil_to(&self, places: u32) -> Expansion
         requires { places < length self.now.digits }
         ensures { IsExpansion (ulps_of (cut_after places self.now) + 1) (10 ^ places) result }

@@ -34,7 +34,7 @@ const GROUPS: u32 = 4;
 /// assert_eq!(rt; least_size(Decimal::from_digits(1, 5, 1), 1024, 1536), None);
 /// ```
 #[inline(always)]
-#[tactic(auto, using(crate::proofs::RoundedUp::groups))]
+#[tactic(auto, using(crate::proofs::RoundedUp::in_first_group))]
 pub fn least_size(d: Decimal, unit_size: u128, limit: u128) -> Option<u128>
     requires some_unit { 1 ≤ unit_size }
     requires small_unit { unit_size ≤ unit_limit }
@@ -101,7 +101,7 @@ fn checked_mul(number: u128, unit_size: u128) -> Option<u128>
 
 /// Splits the fraction `digits / 10^places`, as 28 digits, into its first and its last 14.
 #[inline(always)]
-#[tactic(auto, using(crate::proofs::Division::fraction_below_one))]
+#[tactic(auto, using(crate::proofs::Expanding::fraction_below_one))]
 fn split_fraction(digits: u128, places: u32) -> (u64, u64)
     requires digits { digits < 10 ^ places }
     requires places { places ≤ places_of_decimal }

@@ -131,7 +131,7 @@ fn div_rem_small(count: u128, divisor: u64) -> (u128, u128)
 /// assert_eq!(rt; rounded_quotient(8, 3), 3);
 /// ```
 #[inline]
-#[tactic(auto, using(crate::proofs::Nearest::rounding_even))]
+#[tactic(auto, using(crate::proofs::Nearest::rounds_up_even, crate::proofs::Nearest::rounds_down_even))]
 pub fn rounded_quotient(numerator: u128, divisor: u128) -> u128
     requires small { numerator < 2 ^ 127 }
     requires some_divisor { 1 ≤ divisor }

@@ -3,8 +3,8 @@ use Rattle.std.proofs.Common.{ℕ, ◌+◌, ◌-◌, ◌*◌, ◌^◌, ◌<◌, 
 use Rattle.std.proofs.lemmas.Bool.Decides.{nat_tests}
 use Rattle.byte_unit_math.specs.Bounds.{places_of_decimal}
 use Rattle.byte_unit_math.specs.Least.{IsLeastSize}
-use Rattle.byte_unit_math.proofs.RoundedUp.{IsRoundedUp-groups, IsLeastSize-halves, IsLeastSize-parts}
-use Rattle.byte_unit_math.proofs.RoundedUp.{InFirstGroup-places, IsLeastSize-group, IfNone-always, IfNone-below}
+use Rattle.byte_unit_math.proofs.RoundedUp.{IsRoundedUp-groups, IsLeastSize-halves, IsLeastSize-parts, in_first_group}
+use Rattle.byte_unit_math.proofs.RoundedUp.{IsLeastSize-group, IfNone-always, IfNone-below}
 use Rattle.byte_unit_math.proofs.least.least_size.Goals.{After-whole, then-places-le-GROUP_PLACES}
 use Rattle.byte_unit_math.proofs.least.least_size.Goals.{else-places-le-GROUP_PLACES}
 use Rattle.byte_unit_math.proofs.least.least_size.Goals as goal
@@ -22,7 +22,7 @@ fraction_least c =
     let fraction = c.digits-digits.result * 10 ^ (places_of_decimal - c.places-places.result) in
     elim c.if-places-le-GROUP_PLACES.branch [
       | then-places-le-GROUP_PLACES w ↦
-          let first = InFirstGroup-places c.digits-digits.result c.places-places.result
+          let first = in_first_group c.digits-digits.result c.places-places.result
           w.if-places-le-GROUP_PLACES.true (digits_below c) in
           let rounded = rw w.power_of_ten.ensures at w.carry_of_group-part.ensures.rounded in
           rw w.part-is (IsLeastSize-group fraction _ unit _ first.all rounded)

@@ -2,8 +2,8 @@
 use Rattle.std.proofs.Common.{◌≡◌, min, arith, subst}
 use Rattle.byte_unit_math.specs.Bounds.{places_of_decimal}
 use Rattle.byte_unit_math.specs.Exact.{IsExactAt}
-use Rattle.byte_unit_math.proofs.Division.{Dividing-more, Dividing-ended, next_digit_below, not_exact}
-use Rattle.byte_unit_math.proofs.Division.{IsQuotient-digits, IsQuotient-times}
+use Rattle.byte_unit_math.proofs.Expanding.{Dividing-more, Dividing-ended, next_digit_below, not_exact}
+use Rattle.byte_unit_math.proofs.Expanding.{IsQuotient-digits, IsQuotient-times}
 use Rattle.byte_unit_math.proofs.quotient.exact_quotient.Goals as goal
 
 pub overflow_mul-fraction : goal.overflow_mul-fraction

@@ -1,7 +1,7 @@
 -- The digits that are left are those at the start, without some zeros at their end.
 use Rattle.std.proofs.Common.{◌-◌, ◌*◌, ◌^◌}
 use Rattle.byte_unit_math.specs.Bounds.{places_of_decimal}
-use Rattle.byte_unit_math.proofs.Places.{HasDigits}
+use Rattle.byte_unit_math.proofs.ShortDecimals.{HasDigits}
 use Rattle.byte_unit_math.proofs.decimal.Decimal.from_digits.Given as goal
 
 abbrev pub invariant-loop-left : goal.invariant-loop-left

@@ -1,6 +1,6 @@
 -- Each iteration takes off a zero at the end; what is left is the same number without trailing zeros.
 use Rattle.std.proofs.Common.{arith}
-use Rattle.byte_unit_math.proofs.Places.{HasDigits-tenth}
+use Rattle.byte_unit_math.proofs.ShortDecimals.{HasDigits-tenth}
 use Rattle.byte_unit_math.proofs.decimal.Decimal.from_wide_digits.Goals as goal
 
 pub loop-left-preserved : goal.loop-left-preserved

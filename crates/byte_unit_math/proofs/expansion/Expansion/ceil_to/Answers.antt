@@ -1,7 +1,7 @@
 -- One is added at the last place that is not a nine, and the digits after it go; if there is none, it is added to the
 -- whole part.
 use Rattle.std.proofs.Common.{arith}
-use Rattle.byte_unit_math.proofs.Kept.{next_digit_is_expansion, EndsInRunOf, BeginsWith}
+use Rattle.byte_unit_math.proofs.Cut.{next_digit_is_expansion, EndsInRunOf, BeginsWith}
 use Rattle.byte_unit_math.proofs.expansion.Expansion.ceil_to.Goals as goal
 
 pub returns-else-kept-eq0 : goal.returns-else-kept-eq0

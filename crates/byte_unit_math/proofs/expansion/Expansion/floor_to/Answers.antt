@@ -1,6 +1,6 @@
 -- The digits after the places go, and then the zeros at the end: the number cut off after the places.
 use Rattle.std.proofs.Common.{arith}
-use Rattle.byte_unit_math.proofs.Kept.{cut_is_expansion, EndsInRunOf, BeginsWith}
+use Rattle.byte_unit_math.proofs.Cut.{cut_is_expansion, EndsInRunOf, BeginsWith}
 use Rattle.byte_unit_math.proofs.expansion.Expansion.floor_to.Goals as goal
 
 pub returns : goal.returns
