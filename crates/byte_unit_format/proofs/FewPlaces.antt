@@ -2,8 +2,8 @@
 use Rattle.std.proofs.Common.{◌≡◌, ◌≢◌, ℕ, ◌+◌, ◌-◌, ◌*◌, ◌/◌, ◌%◌, ◌^◌, ◌<◌, ◌≤◌, ⊎_elim, inl, inr, Bool, true, false}
 use Rattle.std.proofs.Common.{min, zero, suc, arith, ap, sym, refl, ◌∙◌}
 use Rattle.std.specs.Int.{w128, leading_zeros, trailing_zeros}
-use Rattle.std.proofs.Math.Nat.{eq_of_mul-eq-mul_right, mul-le-mul_right, le_of_mul-le-mul_right}
-use Rattle.std.proofs.Math.Nat.{pow-le-pow_right, one-le-pow, mul-mod_left}
+use Rattle.std.proofs.Math.Nat.{eq_of_mul-eq-mul_right, mul-le-mul_right, le_of_mul-le-mul_right, pow-le-pow_right}
+use Rattle.std.proofs.Math.Nat.{one-le-pow, mul-mod_left}
 use Rattle.std.proofs.lemmas.Bool.{cases_lt}
 use Rattle.std.proofs.lemmas.Nat.{pow-add, mul-pow, div-add-mod', leading_top}
 use Rattle.byte_unit_math.specs.Bounds.{size_limit, scale}

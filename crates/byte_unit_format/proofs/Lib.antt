@@ -1,8 +1,5 @@
-pub mod UnitNames
 pub mod NamedSpecs
-pub mod WrittenDigits
 pub mod TrimmedTexts
-pub mod OneForm
 pub mod WrittenForms
 pub mod TextParts
 pub mod SomeForm
@@ -16,6 +13,5 @@ pub mod Widths
 pub mod NarrowTexts
 pub mod FewPlaces
 pub mod Suffix
-pub mod DecimalDigits
 pub mod WithDigits
 pub mod LaterVersion

@@ -1,10 +1,8 @@
 -- A formatted size is read as the size.
-use Rattle.std.proofs.Common.{◌≡◌, ◌≢◌, ℕ, ◌+◌, ◌-◌, ◌*◌, ◌<◌, ◌≤◌, inl, inr, List, [], ◌∷◌, ◌++◌, length}
-use Rattle.std.proofs.Common.{refl, sym, ap, subst}
-use Rattle.std.proofs.Common.{◌∙◌, arith, Bool, false, append-nil, append_assoc}
+use Rattle.std.proofs.Common.{◌≡◌, ◌≢◌, ℕ, ◌+◌, ◌-◌, ◌*◌, ◌/◌, ◌%◌, ◌<◌, ◌≤◌, ⊎_elim, inl, inr, List, [], ◌++◌}
+use Rattle.std.proofs.Common.{length, refl, sym, ap, ◌∙◌, arith, Bool, false, append-nil, append_assoc}
 use Rattle.std.specs.Fmt.{decimal}
 use Rattle.std.specs.Str.{IsAscii}
-use Rattle.std.specs.Str.Parse.{AllDigits}
 use Rattle.std.proofs.lemmas.Nat.{mul-le}
 use Rattle.std.proofs.lemmas.List.{replicate-append-replicate}
 use Rattle.std.proofs.lemmas.Str.{IsAscii-append}
@@ -18,6 +16,9 @@ use Rattle.byte_unit_math.specs.Digits.{at_places, trim_expansion}
 use Rattle.byte_unit_math.specs.Numeral.{fraction_text, text_of}
 use Rattle.byte_unit_math.proofs.Digits.{ShortOf-shortened}
 use Rattle.byte_unit_math.proofs.Scales.{pow10_times_rest}
+use Rattle.byte_unit_math.proofs.WrittenDigits.{decimal_one_digit, decimal_next_digit}
+use Rattle.std.proofs.lemmas.Bool.{cases_lt}
+use Rattle.std.proofs.lemmas.Bool.Decides.{nat_tests}
 use Rattle.byte_unit_base.specs.declared.kind.Kind.{Kind}
 use Rattle.byte_unit_base.specs.declared.kind.Kind.TheVariants.{Byte, Bit}
 use Rattle.byte_unit_format.specs.declared.spec.FormatSpec.{FormatSpec}
@@ -35,8 +36,7 @@ use Rattle.byte_unit_format.specs.Plain.{spaces, plus_of, plain, plain_padding, 
 use Rattle.byte_unit_format.specs.Forms.{places_of}
 use Rattle.byte_unit_format.specs.FormLaws.{SizeFormReadsBack, PlainFormReadsBack}
 use Rattle.byte_unit_base.proofs.NumberTexts.{fixed_point_of, number_text, number_start, number_ascii, decimal_ascii}
-use Rattle.byte_unit_base.proofs.NumberTexts.{whole_text}
-use Rattle.byte_unit_base.proofs.NumberTexts.{IsBounded, not_white, starts_with_digit}
+use Rattle.byte_unit_base.proofs.NumberTexts.{whole_text, IsBounded, starts_with_digit}
 use Rattle.byte_unit_base.proofs.Trim.{StartsWithoutSpace, EndsWithoutSpace}
 use Rattle.byte_unit_format.proofs.NarrowTexts.{own_kind}
 use Rattle.byte_unit_format.proofs.TrimmedTexts.{trim_between, spaces_ascii}
@@ -160,30 +160,26 @@ size_form_reads_back kind size spec ignore_case text below form =
 no_plus : (sign : Sign) → sign ≢ Plus → plus_of sign ≡ []
 no_plus sign other = grind arith
 
-last_digit : (digit : ℕ) (digits : List ℕ) → AllDigits 10 (digit ∷ digits) → EndsWithoutSpace (digit ∷ digits)
-last_digit digit [] all = record { front = []; last = digit; text_is = refl; last_is = not_white digit all.0 }
-last_digit digit (next ∷ digits) all =
-    let behind = last_digit next digits all.1 in
-    record {
-      front = digit ∷ behind.front;
-      last = behind.last;
-      text_is = ap (λ text. digit ∷ text) behind.text_is;
-      last_is = behind.last_is;
-    }
+decimal_end : (whole : ℕ) → whole < whole_limit → EndsWithoutSpace (decimal whole)
+decimal_end whole bound =
+    ⊎_elim
+    (λ one. record {
+      front = [];
+      last = 48 + whole;
+      text_is = decimal_one_digit whole one;
+      last_is = grind (arith, nat_tests);
+    })
+    (λ more. record {
+      front = decimal (whole / 10);
+      last = 48 + whole % 10;
+      text_is = decimal_next_digit whole more (omega (arith, bound));
+      last_is = grind (arith, nat_tests);
+    })
+    (cases_lt whole 10)
 
 no_unit : (kind : Kind) (ignore_case : Bool) → Spells current (flags_for kind ignore_case) [] (own_unit kind)
 no_unit Byte ignore_case = inl record { count_is = inl (refl, refl); power_is = refl; binary_is = refl }
 no_unit Bit ignore_case = inl record { count_is = inl (refl, refl); power_is = refl; binary_is = refl }
-
-trim_number : (before behind whole : ℕ) → whole < whole_limit
-    → trim_of ((spaces before ++ decimal whole) ++ spaces behind) ≡ decimal whole
-trim_number before behind whole bound =
-    let text = whole_text whole bound in
-    let start = starts_with_digit (decimal whole) text.0 in
-    let end = last_digit start.head start.tail (subst (AllDigits 10) start.text_is text.0.1) in
-    ap trim_of (append_assoc (spaces before) (decimal whole) (spaces behind))
-    ∙ trim_between before behind (decimal whole) start (subst EndsWithoutSpace (sym start.text_is) end)
-    (decimal_ascii whole bound)
 
 -- A size formatted as digits without a plus sign is read as the size.
 pub plain_form_reads_back : PlainFormReadsBack
@@ -193,7 +189,9 @@ plain_form_reads_back kind size spec ignore_case below sign =
     let before = plain_left_padding spec.align pad in
     let trims : trim_of (plain size spec) ≡ decimal size =
     ap (λ plus. trim_of ((spaces before ++ (plus ++ decimal size)) ++ spaces (pad - before))) (no_plus spec.sign sign)
-    ∙ trim_number before (pad - before) size bound in
+    ∙ (ap trim_of (append_assoc (spaces before) (decimal size) (spaces (pad - before)))
+    ∙ trim_between before (pad - before) (decimal size) (starts_with_digit (decimal size) (whole_text size bound).0)
+    (decimal_end size bound) (decimal_ascii size bound)) in
     let own = ap (λ bits. (size * scale) * bits) (own_bits kind) in
     record {
       number = size * scale;

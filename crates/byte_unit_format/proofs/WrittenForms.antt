@@ -1,8 +1,7 @@
 -- What the code writes of a size is its text, and all texts of a size are equally long.
 use Rattle.std.specs.Prelude.{MatchBool}
-use Rattle.std.proofs.Common.{◌≡◌, ◌+◌, ◌-◌, ◌*◌, ◌/◌, ◌%◌, ◌^◌, ◌<◌, ◌≤◌, min, ℕ, zero, suc}
-use Rattle.std.proofs.Common.{Bool, true, false, List, ◌∷◌, ◌++◌, length, take}
-use Rattle.std.proofs.Common.{replicate, arith, ap, sym, refl, subst, ◌∙◌}
+use Rattle.std.proofs.Common.{◌≡◌, ◌+◌, ◌-◌, ◌*◌, ◌/◌, ◌%◌, ◌^◌, ◌<◌, ◌≤◌, min, ℕ, zero, suc, Bool, true, false, List}
+use Rattle.std.proofs.Common.{◌∷◌, ◌++◌, length, take, replicate, arith, ap, sym, refl, subst, ◌∙◌}
 use Rattle.std.specs.Fmt.{decimal}
 use Rattle.std.proofs.Math.Nat.{mod-eq_of_lt}
 use Rattle.std.proofs.lemmas.List.{length-map, map-append}
@@ -26,7 +25,7 @@ use Rattle.byte_unit_base.specs.Kinds.{bits_in}
 use Rattle.byte_unit_format.specs.Layout.{layout}
 use Rattle.byte_unit_format.specs.Plain.{plain}
 use Rattle.byte_unit_format.specs.Forms.{IsSizeForm, IsText, places_of}
-use Rattle.byte_unit_format.proofs.OneForm.{size_form_unique}
+use Rattle.byte_unit_format.proofs.SomeForm.{size_form_unique}
 
 glyphs_of_zeros : (count : ℕ) → glyphs (replicate count 0) ≡ replicate count 48
 glyphs_of_zeros zero = refl

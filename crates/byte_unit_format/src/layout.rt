@@ -73,7 +73,7 @@ pub fn write_layout(
 
 /// Returns the parts of a number with its unit.
 #[inline(always)]
-#[tactic(auto, using(crate::proofs::UnitNames::name_short))]
+#[tactic(auto, using(crate::proofs::Widths::name_short))]
 pub(crate) fn layout_parts<'a>(
     whole: u128,
     fraction: Fraction<'a>,

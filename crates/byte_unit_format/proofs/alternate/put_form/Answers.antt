@@ -1,9 +1,8 @@
 -- The whole part and what follows it are the text of the size.
-use Rattle.std.proofs.Common.{◌++◌, ap, sym, subst, arith, refl, ◌∙◌, drop}
+use Rattle.std.proofs.Common.{◌++◌, ap, arith, refl, ◌∙◌, drop}
 use Rattle.std.specs.Fmt.{decimal}
-use Rattle.std.specs.Str.{IsAscii}
 use Rattle.byte_unit_format.specs.Suffix.{suffix_text}
-use Rattle.byte_unit_format.proofs.TextParts.{front_written}
+use Rattle.byte_unit_format.proofs.TextParts.{front_is}
 use Rattle.byte_unit_format.proofs.Suffix.{form_of_split, split_ascii}
 use Rattle.byte_unit_format.proofs.alternate.put_form.Goals as goal
 
@@ -21,9 +20,7 @@ returns-clause-written c =
     }
 
 pub returns-clause-ascii : goal.returns-clause-ascii
-unfolding returns-clause-written
 returns-clause-ascii c =
-    subst IsAscii
-    (sym (front_written (returns-clause-written c) (omega (arith, c.put_split.ensures.narrow, c.requires.room))))
+    rw (front_is _ _ c.put_split.ensures.bytes c.put_split.ensures.ends)
     (split_ascii c.args.kind c.split-whole.result.0 c.split-whole.result.1 (c.split-whole.ensures.narrow refl)
     c.split-whole.ensures.prefix)

@@ -1,6 +1,5 @@
 -- The digits are written, and the space and the name over what is left of their four bytes.
-use Rattle.std.proofs.Common.{◌≡◌, ◌+◌, ◌∷◌, [], ◌++◌, true, false, refl, ap, subst, arith, ◌∙◌}
-use Rattle.std.proofs.Common.{drop}
+use Rattle.std.proofs.Common.{◌≡◌, ◌+◌, ◌∷◌, [], ◌++◌, true, false, refl, ap, subst, arith, ◌∙◌, drop}
 use Rattle.byte_unit_format.specs.Suffix.{thousandths_text, HasPrefix}
 use Rattle.byte_unit_format.proofs.Suffix.{drop_known, named, written_over}
 use Rattle.byte_unit_format.proofs.alternate.put_suffix.Goals as goal

@@ -2,8 +2,7 @@
 use Rattle.std.proofs.Common.{◌≡◌, length, take, arith, replicate}
 use Rattle.std.specs.String.{string_bytes}
 use Rattle.std.proofs.lemmas.List.{length-replicate, take-replicate}
-use Rattle.byte_unit_format.proofs.TextParts.{run_ascii}
-use Rattle.byte_unit_format.proofs.WrittenDigits.{run_more}
+use Rattle.byte_unit_format.proofs.TextParts.{run_ascii, run_more}
 use Rattle.byte_unit_format.proofs.capacity.push_run.Goals as goal
 
 pub push_ascii-requires-clause-ascii : goal.push_ascii-requires-clause-ascii

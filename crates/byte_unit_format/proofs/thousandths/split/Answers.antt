@@ -1,12 +1,11 @@
 -- The larger of the two prefixes has the unit, and the size in it is a number of thousandths.
 use Rattle.std.proofs.Common.{◌≡◌, ℕ, ◌*◌, ◌≤◌, false, arith, refl, subst}
 use Rattle.byte_unit_math.specs.Bounds.{scale}
-use Rattle.byte_unit_base.specs.Choice.{places_within}
+use Rattle.byte_unit_base.specs.Choice.{places_within, IsRecoveredIn}
 use Rattle.byte_unit_base.specs.declared.kind.Kind.{Kind}
 use Rattle.byte_unit_format.specs.FewPlaces.{IsGreatest}
 use Rattle.byte_unit_format.specs.Suffix.{IsSplit}
 use Rattle.byte_unit_format.specs.declared.thousandths.Suffix.TheVariants.{Own}
-use Rattle.byte_unit_base.specs.Choice.{IsRecoveredIn}
 use Rattle.byte_unit_base.specs.Kinds.{own_unit}
 use Rattle.byte_unit_base.specs.Version.{current}
 use Rattle.byte_unit_base.proofs.Choosing.{own_number}

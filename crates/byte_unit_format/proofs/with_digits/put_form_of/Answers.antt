@@ -8,8 +8,8 @@ use Rattle.byte_unit_format.specs.FewPlaces.{FitsPrefix}
 use Rattle.byte_unit_format.proofs.TextParts.{front_is}
 use Rattle.byte_unit_format.proofs.Suffix.{form_of_split, form_of_thousandths}
 use Rattle.byte_unit_format.proofs.FewPlaces.{recovered_own, recovered_binary, recovered_decimal, number_of_units}
-use Rattle.byte_unit_format.proofs.WithDigits.{size_from_digits, size_above_digits}
-use Rattle.byte_unit_format.proofs.WithDigits.{found_power, cut_of_size, not_above_digits}
+use Rattle.byte_unit_format.proofs.WithDigits.{size_from_digits, size_above_digits, found_power, cut_of_size}
+use Rattle.byte_unit_format.proofs.WithDigits.{not_above_digits}
 use Rattle.byte_unit_format.proofs.with_digits.put_form_of.Goals as goal
 use Rattle.byte_unit_format.proofs.with_digits.put_form_of.Goals.{then-binary-most+else-binary-power, else-binary-most}
 

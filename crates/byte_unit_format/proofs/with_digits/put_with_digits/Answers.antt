@@ -4,8 +4,7 @@ use Rattle.std.specs.Fmt.{decimal}
 use Rattle.std.proofs.Math.Seq.{take-append-add}
 use Rattle.std.proofs.lemmas.List.{take-append-le, length-take, length-drop}
 use Rattle.byte_unit_format.proofs.Suffix.{drop_known}
-use Rattle.byte_unit_format.proofs.DecimalDigits.{text_at, front_at, take_kept}
-use Rattle.byte_unit_format.proofs.WithDigits.{first_of_padded, padded_length}
+use Rattle.byte_unit_format.proofs.WithDigits.{text_at, front_at, take_kept, first_of_padded, padded_length}
 use Rattle.byte_unit_format.proofs.with_digits.put_with_digits.Goals as goal
 
 pub returns-clause-text : goal.returns-clause-text
