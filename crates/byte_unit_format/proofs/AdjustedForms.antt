@@ -43,12 +43,12 @@ numeral_unique (short_to places) num den text other some of_text of_other =
 
 -- A size has at most one text in a unit by a spec.
 pub adjusted_form_unique : {version : Version} {kind : Kind} {size : ℕ} {unit : Shape} {spec : FormatSpec}
-    {text other : List ℕ}
-    → IsAdjustedFormIn version kind size unit spec text → IsAdjustedFormIn version kind size unit spec other → text ≡ other
+    {text other : List ℕ} → IsAdjustedFormIn version kind size unit spec text
+    → IsAdjustedFormIn version kind size unit spec other → text ≡ other
 adjusted_form_unique {version} {kind} {size} {unit} {spec} form other =
-    let same =
-    numeral_unique (rule_of spec.precision spec.alternate unit) (size * bits_in kind) (bits unit) form.number other.number
-    (some_bits unit) form.number_is other.number_is in
+    let rule = rule_of spec.precision spec.alternate unit in
+    let same = numeral_unique rule (size * bits_in kind) (bits unit) form.number other.number (some_bits unit)
+    form.number_is other.number_is in
     rw (form.text_is, other.text_is, same) refl
 
 nearest_exists : (num den places : ℕ) (ties : Ties) → 0 < den → (q : ℕ) × IsNearest num den places ties q

@@ -77,7 +77,8 @@ form_rejected kind size unit text below form long =
     let expansion = form.number_is.1 in
     let many : places_of_decimal < length e.digits =
     ⊎_elim (λ many. many)
-    (λ few. absurd (long (exact_more (size * bits_in kind) (bits shape) _ places_of_decimal few (ulps_of e, expansion.exact))))
+    (λ few.
+    absurd (long (exact_more (size * bits_in kind) (bits shape) _ places_of_decimal few (ulps_of e, expansion.exact))))
     (cases_lt places_of_decimal (length e.digits)) in
     let bounded = expansion_bounded kind size shape e below expansion in
     let layout_is = trimmed_layout ALTERNATE e shape bounded (unit_known unit).known in

@@ -96,8 +96,8 @@ appropriate_stays kind unit_type size unit small =
     (same_largest kind _ _ unit there back, same_largest kind _ _ unit back there)
 
 -- The exact unit of a size in the first version is a unit of that version.
-recovered_old : (kind : Kind) (size precision : ℕ) (unit : Shape) → IsRecoveredIn first_version kind false size precision unit
-    → unit.power ≤ length first_version.letters
+recovered_old : (kind : Kind) (size precision : ℕ) (unit : Shape)
+    → IsRecoveredIn first_version kind false size precision unit → unit.power ≤ length first_version.letters
 recovered_old kind size precision unit (inl h) = h.has.member.prefix.known
 recovered_old kind size precision unit (inr h) = omega (arith, ap (λ s. s.power) h.1)
 

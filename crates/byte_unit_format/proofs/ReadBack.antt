@@ -1,6 +1,6 @@
 -- A formatted size is read as the size.
-use Rattle.std.proofs.Common.{◌≡◌, ◌≢◌, ℕ, ◌+◌, ◌-◌, ◌*◌, ◌/◌, ◌%◌, ◌<◌, ◌≤◌, ⊎_elim, inl, inr, List, [], ◌++◌}
-use Rattle.std.proofs.Common.{length, refl, sym, ap, ◌∙◌, arith, Bool, false, append-nil, append_assoc}
+use Rattle.std.proofs.Common.{◌≡◌, ◌≢◌, ℕ, ◌+◌, ◌-◌, ◌*◌, ◌/◌, ◌%◌, ◌<◌, ◌≤◌, ⊎_elim, inl, inr, List, [], ◌++◌, length}
+use Rattle.std.proofs.Common.{rules, refl, sym, ap, ◌∙◌, arith, Bool, false, append-nil, append_assoc}
 use Rattle.std.specs.Fmt.{decimal}
 use Rattle.std.specs.Str.{IsAscii}
 use Rattle.std.proofs.lemmas.Nat.{mul-le}
@@ -102,23 +102,11 @@ pub layout_accepted :
     → fixed_point_of e.whole e.digits * bits unit ≡ size * bits_in kind * scale → size < current.size_limit
     → IsAccepted kind ignore_case (layout (text_of e) (unit_name_in current unit) spec) size
 layout_accepted kind ignore_case size spec e unit bounded few known says exact below =
-    let trimmed = trimmed_layout spec e unit bounded known.known in
-    record {
-      number = fixed_point_of e.whole e.digits;
-      is_read = record {
-        unit = unit;
-        is_size = record {
-          number_part = text_of e;
-          spaces = trimmed.0;
-          unit_part = unit_name_in current unit;
-          text_is = trimmed.1;
-          number_is = number_text e.whole e.digits bounded.small few bounded.bound;
-          unit_is = name_spells (flags_for kind ignore_case) unit known says;
-        };
-        is_least = IsLeastOf-exact kind (fixed_point_of e.whole e.digits) size unit exact;
-      };
-      below = below;
-    }
+    let text = (trimmed_layout spec e unit bounded known.known).1 in
+    let number = number_text e.whole e.digits bounded.small few bounded.bound in
+    let spelled = name_spells (flags_for kind ignore_case) unit known says in
+    let is_least = IsLeastOf-exact kind (fixed_point_of e.whole e.digits) size unit exact in
+    search (rules, text, number, spelled, is_least)
 
 -- A size has fewer than 8 * 10^30 bits.
 pub bits_of_size_bound : (kind : Kind) (size : ℕ) → size < current.size_limit → size * bits_in kind < bits_limit
@@ -154,8 +142,9 @@ size_form_reads_back kind size spec ignore_case text below form =
     let number : fixed_point_of e.whole e.digits ≡ form.number =
     omega (arith, short.scaled_is, ap (λ n. e.whole * n) (pow10_times_rest (length e.digits) short.few)) in
     let named = recovered_name kind ignore_case size (places_of spec.precision) form.unit form.is_recovered in
-    rw form.text_is (layout_accepted kind ignore_case size spec e form.unit (record { small = short.small; bound = bound })
-    short.few named.0 named.1 (ap (λ number. number * bits form.unit) number ∙ form.number_is) below)
+    let exact = ap (λ number. number * bits form.unit) number ∙ form.number_is in
+    rw form.text_is (layout_accepted kind ignore_case size spec e form.unit
+    (record { small = short.small; bound = bound }) short.few named.0 named.1 exact below)
 
 no_plus : (sign : Sign) → sign ≢ Plus → plus_of sign ≡ []
 no_plus sign other = grind arith

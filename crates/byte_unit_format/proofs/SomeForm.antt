@@ -1,5 +1,5 @@
 -- A size has exactly one text with a unit by each spec: in its exact unit, or in the base unit of its kind.
-use Rattle.std.proofs.Common.{◌≡◌, ℕ, ◌*◌, inl, inr, false, List, refl, sym, ◌∙◌, ⊎_elim}
+use Rattle.std.proofs.Common.{rules, ◌≡◌, ℕ, ◌*◌, inl, inr, false, List, refl, sym, ◌∙◌, ⊎_elim}
 use Rattle.std.proofs.Math.Nat.{eq_of_mul-eq-mul_right}
 use Rattle.byte_unit_base.specs.Shape.{Shape, bits}
 use Rattle.byte_unit_base.specs.Version.{Version, unit_name_in}
@@ -49,26 +49,23 @@ form_exists version kind size spec =
     λ unit number. layout (short_numeral number places_of_decimal) (unit_name_in version unit) spec in
     let precision = places_of spec.precision in
     ⊎_elim
-    (λ found. (
-      of found.0 found.1,
-      record {
-        unit = found.0;
-        number = found.1;
-        is_recovered = inl found.2.unit_is;
-        number_is = number_times_chosen version (own_family kind) (size * bits_in kind) precision found.1 found.0 found.2;
-        text_is = refl;
-      },
-    ))
-    (λ none. (
-      of (own_unit kind) (size * scale),
-      record {
-        unit = own_unit kind;
-        number = size * scale;
-        is_recovered = inr (none, refl);
-        number_is = own_number kind size (size * scale) (own_unit kind) refl refl;
-        text_is = refl;
-      },
-    ))
+    (λ found.
+    let product = number_times_chosen version (own_family kind) (size * bits_in kind) precision found.1 found.0
+    found.2 in
+    let form : IsSizeFormIn version kind size spec (of found.0 found.1) = search (rules, product, found.2.unit_is) in
+    (of found.0 found.1, form))
+    (λ none.
+    let product = own_number kind size (size * scale) (own_unit kind) refl refl in
+    let recovered : IsRecoveredIn version kind false size precision (own_unit kind) = inr (none, refl) in
+    let form : IsSizeFormIn version kind size spec (of (own_unit kind) (size * scale)) =
+    record {
+      unit = own_unit kind;
+      number = size * scale;
+      is_recovered = recovered;
+      number_is = product;
+      text_is = refl;
+    } in
+    (of (own_unit kind) (size * scale), form))
     (choice_or_none version (own_family kind) (size * bits_in kind) precision)
 
 -- A size has exactly one text with a unit by a spec.

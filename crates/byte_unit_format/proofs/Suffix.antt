@@ -31,7 +31,8 @@ use Rattle.byte_unit_format.specs.declared.thousandths.Suffix.TheVariants.{Own, 
 
 -- Whole units and thousandths as one decimal without trailing zeros.
 text_of_thousandths : (whole thousandths : ℕ) → thousandths < 1000
-    → text_of (trim_expansion (at_places 3 (whole * 1000 + thousandths))) ≡ decimal whole ++ thousandths_text thousandths
+    → text_of (trim_expansion (at_places 3 (whole * 1000 + thousandths)))
+    ≡ decimal whole ++ thousandths_text thousandths
 text_of_thousandths whole thousandths below = grind arith
 
 -- The thousandths are less than one, and the prefix is one of the nine.
@@ -65,11 +66,11 @@ form_of_thousandths kind size whole thousandths unit below recovered product =
     }
 
 -- A split size is the text of its whole part and of what follows.
-pub form_of_split : (kind : Kind) (size whole : ℕ) (suffix : Suffix) → HasPrefix suffix → IsSplit kind size 3 whole suffix
-    → IsSizeForm kind size alternate_spec (decimal whole ++ suffix_text kind suffix)
+pub form_of_split : (kind : Kind) (size whole : ℕ) (suffix : Suffix) → HasPrefix suffix
+    → IsSplit kind size 3 whole suffix → IsSizeForm kind size alternate_spec (decimal whole ++ suffix_text kind suffix)
 form_of_split kind size whole suffix known split =
-    form_of_thousandths kind size whole (thousandths_of suffix) (unit_of kind suffix) (suffix_bounds kind suffix known).0
-    split.recovered split.value
+    form_of_thousandths kind size whole (thousandths_of suffix) (unit_of kind suffix)
+    (suffix_bounds kind suffix known).0 split.recovered split.value
 
 -- A space, the letter of a prefix, an `i` if it is binary, and the letter of the kind are a space and the unit's name.
 pub named : {first last : ℕ} (kind : Kind) (power : ℕ) (binary : Bool) → 1 ≤ power
@@ -91,11 +92,12 @@ pub written_over :
     → first ≡ point → drop first middle ≡ digits ++ drop (point + 4) old
     → second ≡ point + len → take second new ≡ take second middle → drop second new ≡ name ++ drop end middle
     → drop point new ≡ (text ++ name) ++ drop end old
-written_over {text} old middle new digits name point len end four few covers text_is first_is digits_are second_is kept name_is =
+written_over {text} old middle new digits name point len end four few covers text_is first_is digits_are second_is kept
+    name_is =
     let here : drop point middle ≡ digits ++ drop 4 (drop point old) =
     drop_known middle first_is digits_are ∙ ap (λ rest. digits ++ rest) (sym (drop-drop 4 point old)) in
     let front : take len (drop point new) ≡ text =
-    grind (arith, common_steps, drop-take point len new, drop-take point len middle, second_is, kept, text_is, four, few) in
+    grind (arith, common_steps, drop-take point len new, drop-take point len middle, second_is, kept, text_is) in
     let rest : drop end middle ≡ drop end old =
     grind (
       arith,

@@ -77,7 +77,7 @@ writes_form {IsForm} text is_form this =
 -- The beginning of a list, by its length.
 pub front_is : {list : List ℕ} {len : ℕ} (text behind : List ℕ) → list ≡ text ++ behind → len ≡ length text
     → take len list ≡ text
-front_is {list} {len} text behind list_is len_is = ap (λ list. take len list) list_is ∙ take_at text behind len (sym len_is)
+front_is text behind list_is len_is = rw list_is (take_at text behind _ (sym len_is))
 
 -- The text that such a call has written is at the beginning of the buffer.
 pub front_written : {IsForm : List ℕ → Type 0} {old new : List ℕ} {needed : ℕ} (this : WritesForm IsForm old new needed)
@@ -118,8 +118,8 @@ piece_ascii room start text bytes behind begins put ascii =
 
 -- The last, the middle and the first element of a list of at most three, set in this order, are all of it.
 set_name : (name xs : List ℕ) → 0 < length name → length name ≤ 3 → length name ≤ length xs
-    → set (set (set xs (length name - 1) (get_or name (length name - 1) 0)) (length name / 2) (get_or name (length name / 2) 0))
-    0 (get_or name 0 0)
+    → set (set (set xs (length name - 1) (get_or name (length name - 1) 0))
+    (length name / 2) (get_or name (length name / 2) 0)) 0 (get_or name 0 0)
     ≡ name ++ drop (length name) xs
 set_name [] xs some few fits = absurd (omega (arith, some))
 set_name (a ∷ []) xs some few fits = grind (arith, common_steps)

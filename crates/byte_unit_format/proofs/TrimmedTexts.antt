@@ -8,7 +8,8 @@ use Rattle.byte_unit_base.specs.SizeText.{trim_of}
 use Rattle.byte_unit_base.proofs.Trim.{StartsWithoutSpace, EndsWithoutSpace, keep_last}
 use Rattle.byte_unit_format.specs.Plain.{spaces}
 
-skip_spaces : (count : ℕ) (text : List ℕ) → skip_leading_whitespace (spaces count ++ text) ≡ skip_leading_whitespace text
+skip_spaces : (count : ℕ) (text : List ℕ)
+    → skip_leading_whitespace (spaces count ++ text) ≡ skip_leading_whitespace text
 skip_spaces zero text = refl
 skip_spaces (suc count) text = skip_spaces count text
 

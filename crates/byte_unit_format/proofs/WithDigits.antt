@@ -63,11 +63,11 @@ pub greatest_of_zeros :
 greatest_of_zeros size front zeros len power product odd at_least below power_is =
     let next = ap (λ n. front * n) (pow-add 10 zeros 3) in
     let split = power_split 10 (3 * power) (zeros + 3) (omega (arith, power_is)) in
-    let short : 3 * power ≤ len - 1 = omega (arith, power_is) in
+    let short = pow-le-pow_right {n = 10} (omega arith) {i = 3 * power} {j = len - 1} (omega (arith, power_is)) in
     record {
       fits = record {
         exact = (front * 10 ^ (zeros + 3 - 3 * power), omega (arith, product, next, ap (λ n. front * n) split));
-        not_above = omega (arith, at_least, pow-le-pow_right {n = 10} (omega arith) {i = 3 * power} {j = len - 1} short);
+        not_above = omega (arith, at_least, short);
       };
       greatest = λ other fits.
           let high = exponent_below 10 (3 * other) len size (omega arith) fits.not_above below in
@@ -88,7 +88,8 @@ pub front_at : {start : ℕ} (list text behind : List ℕ) (cut : ℕ) → start
 front_at list text behind cut first list_is few = grind (arith, common_steps)
 
 -- What is kept before an index is kept before each smaller one.
-pub take_kept : (new old : List ℕ) {few more : ℕ} → few ≤ more → take more new ≡ take more old → take few new ≡ take few old
+pub take_kept : (new old : List ℕ) {few more : ℕ} → few ≤ more → take more new ≡ take more old
+    → take few new ≡ take few old
 take_kept new old {few} {more} less kept = rw (← take-take few more new less, kept, take-take few more old less) refl
 
 -- The digits after the point, if there are any, and if there are none.
@@ -142,7 +143,8 @@ digit_of_size size k wide small =
 -- A size has as many digits as powers of ten are at most as large.
 power_within : (size k : ℕ) → 1 ≤ size → size < size_limit → k < length (decimal size) → 10 ^ k ≤ size
 power_within size k some small within =
-    grind (arith, between_powers size some, pow-le-pow_right {n = 10} (omega arith) {i = k} {j = length (decimal size) - 1})
+    let rises = pow-le-pow_right {n = 10} (omega arith) {i = k} {j = length (decimal size) - 1} in
+    grind (arith, between_powers size some, rises)
 
 -- If the digits are zeros from an index on, what is written there is worth nothing.
 rest_is_zero : (size used k : ℕ) → 1 ≤ size → size < size_limit → IsUsed (padded_digits size) used
@@ -243,13 +245,15 @@ cut_of_size size used power some small wide is_used few =
     let positive : 1 ≤ size = omega (arith, wide, one_le_pow10 k) in
     let front = size / 10 ^ m in
     let t = front % 1000 in
-    let place : (j at : ℕ) → j < 3 → at ≡ len - 1 - (m + j) → get_or (padded_digits size) at 0 ≡ 48 + front / 10 ^ j % 10 =
+    let place : (j at : ℕ) → j < 3 → at ≡ len - 1 - (m + j)
+    → get_or (padded_digits size) at 0 ≡ 48 + front / 10 ^ j % 10 =
     λ j at short at_is.
-    let digit = digit_of_size size (m + j) (power_within size (m + j) positive small (omega (arith, longer, short, some))) small in
+    let wide_enough = power_within size (m + j) positive small (omega (arith, longer, short, some)) in
+    let digit = digit_of_size size (m + j) wide_enough small in
     rw (at_is, digit, div-div-eq-div-mul size (10 ^ m) (10 ^ j), pow-add 10 m j) refl in
     let whole_is : size / 10 ^ k ≡ front / 1000 = rw power_is (sym (div-div-eq-div-mul size (10 ^ m) 1000)) in
-    let product : front * 10 ^ m ≡ size =
-    omega (arith, div-add-mod' size (10 ^ m), rest_is_zero size used m positive small is_used (omega (arith, few, some))) in
+    let zeros = rest_is_zero size used m positive small is_used (omega (arith, few, some)) in
+    let product : front * 10 ^ m ≡ size = omega (arith, div-add-mod' size (10 ^ m), zeros) in
     let both : size / 10 ^ k * 1000 + t ≡ front = omega (arith, whole_is) in
     record {
       thousandths = t;
@@ -275,8 +279,8 @@ pub record FoundPower (size used power : ℕ) : Type 0 where
   pub known : power ≤ 9
   pub within : used ≤ length (decimal size)
 
-pub found_power : {digits : List ℕ} {size len used power : ℕ} → digits ≡ padded_digits size → len ≡ length (decimal size)
-    → size < size_limit → 4 ≤ len → IsUsed digits used → used ≤ 32
+pub found_power : {digits : List ℕ} {size len used power : ℕ} → digits ≡ padded_digits size
+    → len ≡ length (decimal size) → size < size_limit → 4 ≤ len → IsUsed digits used → used ≤ 32
     → power ≡ min ((len - 1) / 3) ((len + 3 - used) / 3) → FoundPower size used power
 found_power {digits} {size} {len} {used} {power} digits_are len_is small wide given within power_is =
     let is_used = rw digits_are at given in

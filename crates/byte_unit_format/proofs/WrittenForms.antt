@@ -1,7 +1,7 @@
 -- What the code writes of a size is its text, and all texts of a size are equally long.
 use Rattle.std.specs.Prelude.{MatchBool}
-use Rattle.std.proofs.Common.{◌≡◌, ◌+◌, ◌-◌, ◌*◌, ◌/◌, ◌%◌, ◌^◌, ◌<◌, ◌≤◌, min, ℕ, zero, suc, Bool, true, false, List}
-use Rattle.std.proofs.Common.{◌∷◌, ◌++◌, length, take, replicate, arith, ap, sym, refl, subst, ◌∙◌}
+use Rattle.std.proofs.Common.{rules, ◌≡◌, ◌+◌, ◌-◌, ◌*◌, ◌/◌, ◌%◌, ◌^◌, ◌<◌, ◌≤◌, min, ℕ, zero, suc, Bool, true, false}
+use Rattle.std.proofs.Common.{List, ◌∷◌, ◌++◌, length, take, replicate, arith, ap, sym, refl, subst, ◌∙◌}
 use Rattle.std.specs.Fmt.{decimal}
 use Rattle.std.proofs.Math.Nat.{mod-eq_of_lt}
 use Rattle.std.proofs.lemmas.List.{length-map, map-append}
@@ -77,9 +77,10 @@ parts_expansion {number} {whole} {digits} {places} parts =
     let product = ap (λ power. digits * power) (pow10_split places places_of_decimal parts.few) in
     let split : number ≡ whole * scale + digits * 10 ^ (places_of_decimal - places) =
     omega (arith, parts.whole_is, parts.digits_are) in
+    let times = ap (λ number. number * 10 ^ places) split in
     record {
       small = last_digits_below_ten places digits;
-      exact = rw (length_last_digits places digits, value) (omega (arith, ap (λ number. number * 10 ^ places) split, product));
+      exact = rw (length_last_digits places digits, value) (omega (arith, times, product));
       least = rw (length_last_digits places digits) parts.least.least;
     }
 
@@ -94,14 +95,10 @@ pub size_form_of_parts : (kind : Kind) (size : ℕ) (spec : FormatSpec) {unit : 
     (layout (decimal whole ++ fraction_text (last_digits count digits)) (unit_name_in current unit) spec)
 size_form_of_parts kind size spec {unit} {number} {places} {whole} {digits} {count} places_are recovered product parts =
     let e : Finite = record { whole = whole; digits = last_digits count digits } in
-    record {
-      unit = unit;
-      number = number;
-      is_recovered = rw (← places_are) recovered;
-      number_is = product;
-      text_is = ap (λ number. layout number (unit_name_in current unit) spec)
-          (text_of_short_numeral number places_of_decimal e (parts_expansion parts));
-    }
+    let within = rw places_are at recovered in
+    let text_is = ap (λ number. layout number (unit_name_in current unit) spec)
+    (text_of_short_numeral number places_of_decimal e (parts_expansion parts)) in
+    search (rules, within, product, text_is)
 
 -- If the alternate form is set, the size formatted with a unit is its text.
 pub size_form_is_text :

@@ -40,5 +40,6 @@ returns-clause-text c =
       text_is =
           ap (λ n. take (n + count) (take start middle ++ (written ++ behind))) (sym start_len)
           ∙ (take-append-add (take start middle) (written ++ behind) count
-          ∙ rw (before, take-append-le count written behind room) (append_assoc (decimal size) between (take count written)));
+          ∙ rw (before, take-append-le count written behind room)
+          (append_assoc (decimal size) between (take count written)));
     }

@@ -26,7 +26,8 @@ mask_of digits long =
     let all : length (take 32 digits) ≡ 32 = omega (arith, length-take {A = ℕ} 32 digits, long) in
     (_, bitmask_splat w8 (λ a b. not (eqb a b)) (take 32 digits) 32 48 all (omega arith))
 
-bits_of : (digits : List ℕ) (long : length digits ≡ 32) → Bits digits (64 - count_leading_zeros 64 (mask_of digits long).0)
+bits_of : (digits : List ℕ) (long : length digits ≡ 32)
+    → Bits digits (64 - count_leading_zeros 64 (mask_of digits long).0)
 bits_of digits long =
     let used = 64 - count_leading_zeros 64 (mask_of digits long).0 in
     let mask = mask_l (map is_used digits) in
@@ -70,7 +71,8 @@ returns-clause-within c = (bits_of c.args.digits.now (omega (arith, c.told-digit
 
 pub returns-clause-zeros : goal.returns-clause-zeros
 returns-clause-zeros c = λ i behind within.
-    zero_behind (bits_of c.args.digits.now (omega (arith, c.told-digits))) i behind (omega (arith, within, c.told-digits))
+    zero_behind (bits_of c.args.digits.now (omega (arith, c.told-digits))) i behind
+    (omega (arith, within, c.told-digits))
 
 pub returns-clause-last : goal.returns-clause-last
 returns-clause-last c = λ i last.
