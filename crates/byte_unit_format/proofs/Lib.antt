@@ -1,13 +1,9 @@
 pub mod NamedSpecs
-pub mod TrimmedTexts
 pub mod WrittenForms
 pub mod TextParts
-pub mod SomeForm
 pub mod ReadBack
 pub mod AdjustedForms
 pub mod ShownForms
-pub mod AdjustedStrings
-pub mod Appending
 pub mod ShortExpansions
 pub mod Widths
 pub mod NarrowTexts

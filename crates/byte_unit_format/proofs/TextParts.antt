@@ -1,6 +1,10 @@
--- The parts of a text, written one after the other, are the text: runs of one byte, digits after the point, names.
-use Rattle.std.proofs.Common.{◌≡◌, ℕ, ◌+◌, ◌-◌, ◌<◌, ◌≤◌, min, List, ◌∷◌, ◌++◌, length, take, replicate, arith, ap, sym}
-use Rattle.std.proofs.Common.{append_assoc, ◌/◌, [], drop, set, get_or, rules, ◌∙◌, subst}
+-- The parts of a text, written or appended one after the other, are the text: runs of one byte, digits, names.
+use Rattle.std.proofs.Common.{◌≡◌, ℕ, List, ◌++◌, length, Result, arith, ap, refl, subst, ◌∙◌, ◌+◌, ◌-◌, ◌<◌, ◌≤◌, min}
+use Rattle.std.proofs.Common.{◌∷◌, take, replicate, sym, append_assoc, ◌/◌, [], drop, set, get_or, rules}
+use Rattle.std.specs.String.{string_bytes}
+use Rattle.std.specs.declared.string.String.{String}
+use Rattle.std.proofs.lemmas.Result.{on_ok_weaker, on_err_weaker}
+use Rattle.byte_unit_format.specs.Room.{AppendsForm}
 use Rattle.std.proofs.lemmas.Grind.{common_steps}
 use Rattle.std.proofs.lemmas.List.{take-replicate, replicate-append-replicate, take_all, take-take, take-map}
 use Rattle.std.proofs.lemmas.List.{length-map, take_at, drop-set-add, length-drop, drop-drop}
@@ -21,6 +25,28 @@ use Rattle.byte_unit_format.specs.declared.spec.FormatSpec.{FormatSpec}
 use Rattle.byte_unit_format.specs.declared.parts.TextParts.{TextParts}
 use Rattle.byte_unit_format.specs.declared.parts.Fraction.{Fraction}
 use Rattle.byte_unit_format.specs.declared.parts.Fraction.TheVariants.{Last, First}
+
+-- A call that appends one text of a form appends a text of that form, if all are equally long.
+pub appends_form : {Z E R : Type 0} {IsForm : List ℕ → Type 0} {old new : String Z} {result : Result R E}
+    (form : List ℕ) → IsForm form → ((other : List ℕ) → IsForm other → length other ≡ length form)
+    → AppendsForm (λ other. other ≡ form) old new result → AppendsForm IsForm old new result
+appends_form {old = old} {result = result} form is_form as_long this = record {
+  added = on_ok_weaker result (λ added. (form, is_form, added.2 ∙ ap (λ other. string_bytes old ++ other) added.1))
+      this.added;
+  used = on_ok_weaker result (λ used other is_other. let room = used form refl in
+      omega (arith, room, as_long other is_other)) this.used;
+  refused =
+      on_err_weaker result (λ refused.
+      (form, is_form, let same = ap length refused.1 in omega (arith, same, refused.2))) this.refused;
+  unchanged = this.unchanged;
+  kept = this.kept;
+}
+
+-- A call that appends a text appends each equal text.
+pub appends_same : {Z E R : Type 0} {old new : String Z} {result : Result R E} {text form : List ℕ} → text ≡ form
+    → AppendsForm (λ other. other ≡ text) old new result → AppendsForm (λ other. other ≡ form) old new result
+appends_same {old} {new} {result} {text} {form} same this =
+    let Adds : List ℕ → Type 0 = λ text. AppendsForm (λ other. other ≡ text) old new result in subst Adds same this
 
 -- After the next part of a run is added, at most 64 bytes, that many bytes fewer are left.
 pub run_more : (byte count left next : ℕ) (old : List ℕ) → left ≤ count → next ≡ min left 64
