@@ -61,6 +61,7 @@ pub record IsDivided (size whole thousandths power : ℕ) : Type 0 where
   pub value : (whole * 1000 + thousandths) * 10 ^ (3 * power) ≡ size * 1000
   pub below : thousandths < 1000
   pub some : 1 ≤ whole
+  pub within : whole ≤ size
   pub positive : 1 ≤ power
   pub few : power ≤ 9
 
@@ -102,13 +103,10 @@ divided_more {size} {whole} {thousandths} {power} {next} {rest} small divided no
       value = value;
       below = omega (arith, rest_is);
       some = some;
+      within = omega (arith, divided.within, next_is);
       positive = omega arith;
       few = few_thousands (power + 1) size small (omega (arith, value, mul-le-mul_right prefix some));
     }
-
--- What is left is at most the size.
-pub divided_small : {size whole thousandths power : ℕ} → IsDivided size whole thousandths power → whole ≤ size
-divided_small {size} {whole} {thousandths} {power} divided = grind (arith, one-le-pow (3 * power) 10 (omega arith))
 
 -- Three digits after the point are as many as `places`, and the rest.
 places_and_rest : (places : ℕ) → places ≤ 3 → 10 ^ places * 10 ^ (3 - places) ≡ 1000

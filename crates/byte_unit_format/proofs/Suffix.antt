@@ -94,22 +94,18 @@ pub written_over :
     → drop point new ≡ (text ++ name) ++ drop end old
 written_over {text} old middle new digits name point len end four few covers text_is first_is digits_are second_is kept
     name_is =
-    let here : drop point middle ≡ digits ++ drop 4 (drop point old) =
-    drop_known middle first_is digits_are ∙ ap (λ rest. digits ++ rest) (sym (drop-drop 4 point old)) in
-    let front : take len (drop point new) ≡ text =
-    grind (arith, common_steps, drop-take point len new, drop-take point len middle, second_is, kept, text_is) in
-    let rest : drop end middle ≡ drop end old =
     grind (
       arith,
-      here,
+      common_steps,
+      drop-take point len new,
+      drop-take point len middle,
       drop-drop (end - point) point middle,
       drop-drop (end - point) point old,
+      drop-drop 4 point old,
       drop-append-drop 4 (drop point old) digits (end - point),
-      four,
-      covers,
-    ) in
-    let behind = drop_known new second_is name_is in
-    grind (arith, common_steps, front, behind, rest, take-append-drop len (drop point new), drop-drop len point new)
+      take-append-drop len (drop point new),
+      drop-drop len point new,
+    )
 
 -- In a unit with a prefix the whole part is below 10^27.
 pub whole_below : (size power : ℕ) (binary : Bool) (whole thousandths : ℕ) → size < size_limit → 1 ≤ power

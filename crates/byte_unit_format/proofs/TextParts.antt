@@ -7,7 +7,7 @@ use Rattle.std.proofs.lemmas.Result.{on_ok_weaker, on_err_weaker}
 use Rattle.byte_unit_format.specs.Room.{AppendsForm}
 use Rattle.std.proofs.lemmas.Grind.{common_steps}
 use Rattle.std.proofs.lemmas.List.{take-replicate, replicate-append-replicate, take_all, take-take, take-map}
-use Rattle.std.proofs.lemmas.List.{length-map, take_at, drop-set-add, length-drop, drop-drop}
+use Rattle.std.proofs.lemmas.List.{length-map, take_at}
 use Rattle.byte_unit_math.specs.Numeral.{fraction_text, glyphs}
 use Rattle.byte_unit_format.proofs.WrittenForms.{fraction_some, fraction_length, length_of_fraction_text}
 use Rattle.std.specs.Fmt.{decimal}
@@ -142,34 +142,13 @@ pub piece_ascii :
 piece_ascii room start text bytes behind begins put ascii =
     rw (put, take_at text behind (room - start) (omega (arith, begins))) ascii
 
--- The last, the middle and the first element of a list of at most three, set in this order, are all of it.
-set_name : (name xs : List ℕ) → 0 < length name → length name ≤ 3 → length name ≤ length xs
-    → set (set (set xs (length name - 1) (get_or name (length name - 1) 0))
-    (length name / 2) (get_or name (length name / 2) 0)) 0 (get_or name 0 0)
-    ≡ name ++ drop (length name) xs
-set_name [] xs some few fits = absurd (omega (arith, some))
-set_name (a ∷ []) xs some few fits = grind (arith, common_steps)
-set_name (a ∷ b ∷ []) xs some few fits = grind (arith, common_steps)
-set_name (a ∷ b ∷ c ∷ []) xs some few fits = grind (arith, common_steps)
-set_name (a ∷ b ∷ c ∷ d ∷ more) xs some few fits = absurd (omega (arith, few))
-
--- A name written in this way is there, and what follows stays.
+-- The last, the middle and the first byte of a name of at most three, set in this order, are all of it.
 pub name_put : (name out : List ℕ) (start : ℕ) → 0 < length name → length name ≤ 3 → start + length name ≤ length out
     → drop start (set (set (set out (start + (length name - 1)) (get_or name (length name - 1) 0))
     (start + length name / 2) (get_or name (length name / 2) 0)) start (get_or name 0 0))
     ≡ name ++ drop (start + length name) out
-name_put name out start some few within =
-    let back = get_or name (length name - 1) 0 in
-    let middle = get_or name (length name / 2) 0 in
-    let front = get_or name 0 0 in
-    let fits = set_name name (drop start out) some few (omega (arith, length-drop {A = ℕ} start out, within)) in
-    let one = set out (start + (length name - 1)) back in
-    let two = set one (start + length name / 2) middle in
-    grind (
-      arith,
-      fits,
-      drop-drop (length name) start out,
-      drop-set-add start out (length name - 1) back,
-      drop-set-add start one (length name / 2) middle,
-      drop-set-add start two 0 front,
-    )
+name_put [] out start some few within = absurd (omega (arith, some))
+name_put (a ∷ []) out start some few within = grind (arith, common_steps)
+name_put (a ∷ b ∷ []) out start some few within = grind (arith, common_steps)
+name_put (a ∷ b ∷ c ∷ []) out start some few within = grind (arith, common_steps)
+name_put (a ∷ b ∷ c ∷ d ∷ more) out start some few within = absurd (omega (arith, few))

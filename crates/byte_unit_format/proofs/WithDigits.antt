@@ -1,14 +1,13 @@
 -- The digits of a size: how many of them are zeros at their end, and where a decimal prefix cuts them.
 use Rattle.std.proofs.Common.{◌≡◌, ◌≢◌, ℕ, ◌+◌, ◌-◌, ◌*◌, ◌/◌, ◌%◌, ◌^◌, ◌<◌, ◌≤◌, List, [], ◌∷◌, ◌++◌, length, take}
-use Rattle.std.proofs.Common.{drop, get_or, min, suc, arith, ap, sym, refl, ◌∙◌, zero, replicate}
+use Rattle.std.proofs.Common.{drop, get_or, min, suc, arith, ap, sym, refl, ◌∙◌, zero}
 use Rattle.std.specs.Fmt.{decimal}
 use Rattle.std.proofs.Math.Nat.{pow-le-pow_right, div-le_self, div-add-mod', div-div-eq-div-mul, mod-eq_of_lt}
 use Rattle.std.proofs.Math.Nat.{pow-succ'}
 use Rattle.std.proofs.lemmas.Bool.Decides.{nat_tests}
 use Rattle.std.proofs.lemmas.Fmt.{length-decimal-le_wide}
 use Rattle.std.proofs.lemmas.Grind.{common_steps}
-use Rattle.std.proofs.lemmas.List.{take-append-drop, take-append-le, take-take, drop_more, get_or_append_left}
-use Rattle.std.proofs.lemmas.List.{get_or-append_right, get_or-replicate}
+use Rattle.std.proofs.lemmas.List.{take-append-drop, take-append-le, take-take, drop_more}
 use Rattle.std.proofs.lemmas.Nat.{pow-add}
 use Rattle.byte_unit_math.proofs.WrittenDigits.{decimal_one_digit, decimal_next_digit, decimal_length_positive}
 use Rattle.byte_unit_math.proofs.WrittenDigits.{decimal_cut, decimal_length_split}
@@ -135,10 +134,7 @@ pub record IsUsed (digits : List ℕ) (used : ℕ) : Type 0 where
 -- The digit of a size at a power of ten.
 digit_of_size : (size k : ℕ) → 10 ^ k ≤ size → size < size_limit
     → get_or (padded_digits size) (length (decimal size) - 1 - k) 0 ≡ 48 + size / 10 ^ k % 10
-digit_of_size size k wide small =
-    let some = decimal_length_positive size (omega (arith, small)) in
-    get_or_append_left (decimal size) (replicate (32 - length (decimal size)) 48) 0 _ (omega (arith, some))
-    ∙ digit_of_decimal k size wide (omega (arith, small))
+digit_of_size size k wide small = grind (arith, common_steps, digit_of_decimal k size, few_digits size)
 
 -- A size has as many digits as powers of ten are at most as large.
 power_within : (size k : ℕ) → 1 ≤ size → size < size_limit → k < length (decimal size) → 10 ^ k ≤ size
@@ -163,60 +159,28 @@ rest_is_zero size used (suc k) some small is_used behind =
 pub used_within : (size used : ℕ) → 1 ≤ size → size < size_limit → IsUsed (padded_digits size) used → used ≤ 32
     → (1 ≤ used) × (used ≤ length (decimal size))
 used_within size used some small is_used within =
-    let len = length (decimal size) in
-    let few = few_digits size small in
     let below = (between_powers size some (omega (arith, small))).1 in (
-      grind (arith, rest_is_zero size used len some small is_used, mod-eq_of_lt below),
-      grind (
-        arith,
-        is_used.last (used - 1),
-        get_or-append_right (decimal size) (replicate (32 - len) 48) len (used - 1) 0,
-        get_or-replicate {A = ℕ} (32 - len) (used - 1 - len) 48 0,
-      ),
+      grind (arith, rest_is_zero size used (length (decimal size)) some small is_used, mod-eq_of_lt below),
+      grind (arith, common_steps, is_used.last (used - 1), few_digits size),
     )
 
--- Three digits from an index on, and the number of digits up to the last that is not a zero.
-record AreDigits (digits : List ℕ) (cut used a b c : ℕ) : Type 0 where
-  is_used : IsUsed digits used
-  few : used ≤ cut + 3
-  room : cut + 3 ≤ 32
-  long : length digits ≡ 32
-  first : get_or digits cut 0 ≡ 48 + a
-  second : get_or digits (cut + 1) 0 ≡ 48 + b
-  third : get_or digits (cut + 2) 0 ≡ 48 + c
-
--- The last of the three that is not a zero tells this number.
-last_of_three : {digits : List ℕ} {cut used a b c : ℕ} → AreDigits digits cut used a b c
-    → (1 ≤ c → used ≡ cut + 3) × (c ≡ 0 → 1 ≤ b → used ≡ cut + 2) × (c ≡ 0 → b ≡ 0 → 1 ≤ a → used ≡ cut + 1)
-    × (c ≡ 0 → b ≡ 0 → a ≡ 0 → used ≤ cut)
-last_of_three {digits} {cut} {used} are =
-    let zeros = are.is_used.zeros in
-    let last = are.is_used.last in (
-      λ some. grind (arith, zeros (cut + 2)),
-      λ none some. grind (arith, zeros (cut + 1), last (cut + 2)),
-      λ none no some. grind (arith, zeros cut, last (cut + 2), last (cut + 1)),
-      λ none no nor. grind (arith, last (cut + 2), last (cut + 1), last cut),
+-- Three digits without trailing zeros, by the number of digits up to the last that is not a zero.
+shown_digits : (digits : List ℕ) (cut used a b c : ℕ) → IsUsed digits used → used ≤ cut + 3 → cut + 3 ≤ 32
+    → length digits ≡ 32 → get_or digits cut 0 ≡ 48 + a → get_or digits (cut + 1) 0 ≡ 48 + b
+    → get_or digits (cut + 2) 0 ≡ 48 + c → cut_digits cut used digits ≡ fraction_text (trim_zeros (a ∷ b ∷ c ∷ []))
+shown_digits digits cut used a b c is_used few room long first second third =
+    grind (
+      arith,
+      cut_some cut used digits,
+      cut_none cut used digits,
+      three_elements digits cut,
+      is_used.zeros (cut + 2),
+      is_used.last (cut + 2),
+      is_used.zeros (cut + 1),
+      is_used.last (cut + 1),
+      is_used.zeros cut,
+      is_used.last cut,
     )
-
-some_shown : {digits : List ℕ} {cut used a b c : ℕ} (count : ℕ) → AreDigits digits cut used a b c → used ≡ cut + count
-    → 1 ≤ count → cut_digits cut used digits ≡ 46 ∷ take count ((48 + a) ∷ (48 + b) ∷ (48 + c) ∷ drop (cut + 3) digits)
-some_shown {digits} {cut} {used} count are is some =
-    let all = three_elements digits cut (omega (arith, are.long, are.room)) in
-    cut_some cut used digits (omega (arith, is, some))
-    ∙ (ap (λ n. 46 ∷ take n (drop cut digits)) (let same : used - cut ≡ count = omega (arith, is) in same)
-    ∙ rw (all, are.first, are.second, are.third) refl)
-
--- Three digits without trailing zeros, by the number of them that are shown.
-shown_digits : {digits : List ℕ} {cut used : ℕ} (a b c : ℕ) → AreDigits digits cut used a b c
-    → cut_digits cut used digits ≡ fraction_text (trim_zeros (a ∷ b ∷ c ∷ []))
-shown_digits {digits} {cut} {used} zero zero zero are = cut_none cut used digits ((last_of_three are).3 refl refl refl)
-shown_digits (suc a) zero zero are = some_shown 1 are ((last_of_three are).2 refl refl (omega arith)) (omega arith)
-shown_digits zero (suc b) zero are = some_shown 2 are ((last_of_three are).1 refl (omega arith)) (omega arith)
-shown_digits (suc a) (suc b) zero are = some_shown 2 are ((last_of_three are).1 refl (omega arith)) (omega arith)
-shown_digits zero zero (suc c) are = some_shown 3 are ((last_of_three are).0 (omega arith)) (omega arith)
-shown_digits zero (suc b) (suc c) are = some_shown 3 are ((last_of_three are).0 (omega arith)) (omega arith)
-shown_digits (suc a) zero (suc c) are = some_shown 3 are ((last_of_three are).0 (omega arith)) (omega arith)
-shown_digits (suc a) (suc b) (suc c) are = some_shown 3 are ((last_of_three are).0 (omega arith)) (omega arith)
 
 -- The array of the digits has 32 bytes, of which the first are the digits.
 pub padded_length : (size : ℕ) → length (decimal size) ≤ 32 → length (padded_digits size) ≡ 32
@@ -259,15 +223,11 @@ cut_of_size size used power some small wide is_used few =
       thousandths = t;
       below = omega arith;
       whole_is = take-append-le cut (decimal size) _ (omega arith) ∙ first_digits k size wide (omega (arith, small));
-      fraction_is = shown_digits (t / 10 ^ 2 % 10) (t / 10 ^ 1 % 10) (t / 10 ^ 0 % 10) (record {
-        is_used = is_used;
-        few = omega (arith, few, longer);
-        room = omega (arith, most, some);
-        long = padded_length size (omega (arith, most));
-        first = omega (arith, place 2 cut (omega arith) (omega (arith, longer, some)));
-        second = omega (arith, place 1 (cut + 1) (omega arith) (omega (arith, longer, some)));
-        third = omega (arith, place 0 (cut + 2) (omega arith) (omega (arith, longer, some)));
-      });
+      fraction_is = shown_digits (padded_digits size) cut used (t / 10 ^ 2 % 10) (t / 10 ^ 1 % 10) (t / 10 ^ 0 % 10)
+          is_used (omega (arith, few, longer)) (omega (arith, most, some)) (padded_length size (omega (arith, most)))
+          (omega (arith, place 2 cut (omega arith) (omega (arith, longer, some))))
+          (omega (arith, place 1 (cut + 1) (omega arith) (omega (arith, longer, some))))
+          (omega (arith, place 0 (cut + 2) (omega arith) (omega (arith, longer, some))));
       value = ap (λ n. n * 10 ^ k) both ∙ omega (arith, ap (λ n. front * n) power_is, product);
     }
 

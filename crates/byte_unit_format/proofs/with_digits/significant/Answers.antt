@@ -52,8 +52,7 @@ zero_behind : {vector : List ℕ} {used : ℕ} → Bits vector used → (i : ℕ
 zero_behind {vector} {used} bits i behind within =
     let mask = mask_l (map is_used vector) in
     let small : mask < 2 ^ i = omega (arith, bits.below, pow-le-pow_right {n = 2} (omega arith) behind) in
-    let clear : mask / 2 ^ i % 2 ≡ 0 = ap (λ n. n % 2) (div-eq_of_lt small) in
-    let bit = sym (bit_of vector i within) ∙ clear in grind (arith, nat_tests, bit)
+    grind (arith, nat_tests, bit_of vector i within, div-eq_of_lt small)
 
 last_is_used : {vector : List ℕ} {used : ℕ} → Bits vector used → (i : ℕ) → i + 1 ≡ used → length vector ≡ 32
     → get_or vector i 0 ≢ 48
@@ -63,8 +62,7 @@ last_is_used {vector} {used} bits i last long =
     let next : 2 ^ used ≡ 2 ^ i * 2 = ap (λ n. 2 ^ n) (sym last) ∙ pow-add 2 i 1 in
     let one : mask / 2 ^ i ≡ 1 =
     div-eq_of_lt-le {k = 1} (2 ^ i) (omega (arith, bits.above, next)) (omega (arith, bits.below, next)) in
-    let set : mask / 2 ^ i % 2 ≡ 1 = ap (λ n. n % 2) one in
-    let bit = sym (bit_of vector i within) ∙ set in λ same. grind (arith, nat_tests, bit, same)
+    λ same. grind (arith, nat_tests, bit_of vector i within, one, same)
 
 pub returns-clause-within : goal.returns-clause-within
 returns-clause-within c = (bits_of c.args.digits.now (omega (arith, c.told-digits))).few
