@@ -1,7 +1,5 @@
 -- A size has exactly one text in a given unit by each spec.
-use Rattle.std.proofs.Common.{◌≡◌, ℕ, ◌+◌, ◌*◌, ◌/◌, ◌%◌, ◌^◌, ◌<◌, ◌≤◌, ◌++◌, ⊎_elim, List, arith}
-use Rattle.std.proofs.Common.{ap, sym, refl}
-use Rattle.std.proofs.Common.{◌∙◌}
+use Rattle.std.proofs.Common.{◌≡◌, ℕ, ◌+◌, ◌*◌, ◌/◌, ◌%◌, ◌^◌, ◌<◌, ◌≤◌, ◌++◌, ⊎_elim, List, arith, ap, sym, refl, ◌∙◌}
 use Rattle.std.specs.Fmt.{decimal}
 use Rattle.std.proofs.Math.Nat.{div-add-mod', mod-eq_of_lt, pow-le-pow_right}
 use Rattle.std.proofs.lemmas.Nat.{pow-add, mul-pow, mod_below}
@@ -15,8 +13,8 @@ use Rattle.byte_unit_math.specs.declared.expansion.Ties.{Ties}
 use Rattle.byte_unit_math.specs.declared.expansion.Ties.TheVariants.{Even, Up}
 use Rattle.byte_unit_math.proofs.Digits.{one_le_pow10, length_last_digits, last_digits_below_ten, value_of_last_digits}
 use Rattle.byte_unit_math.proofs.Digits.{scaled_at_places}
-use Rattle.byte_unit_math.proofs.Nearest.{lies_above_quotient, nearest_down, nearest_up, tie_up_next}
-use Rattle.byte_unit_math.proofs.Nearest.{nearest_even_next, nearest_even_this}
+use Rattle.byte_unit_math.proofs.Nearest.{lies_above_quotient, nearest_down, nearest_up, tie_up_next, nearest_even_next}
+use Rattle.byte_unit_math.proofs.Nearest.{nearest_even_this}
 use Rattle.byte_unit_math.proofs.Texts.{same_finite, expansion_unique, nearest_unique, short_numeral_is_expansion}
 use Rattle.byte_unit_math.proofs.Texts.{expansion_of_same_fraction}
 use Rattle.byte_unit_base.specs.Shape.{Shape, bits, twos, fives}
@@ -26,8 +24,7 @@ use Rattle.byte_unit_base.specs.declared.kind.Kind.{Kind}
 use Rattle.byte_unit_format.specs.declared.spec.FormatSpec.{FormatSpec}
 use Rattle.byte_unit_base.specs.Kinds.{bits_in}
 use Rattle.byte_unit_format.specs.Layout.{layout}
-use Rattle.byte_unit_format.specs.Adjusted.{Rule, full, round_to, short_to, IsNumeralBy, rule_of}
-use Rattle.byte_unit_format.specs.Adjusted.{IsAdjustedFormIn}
+use Rattle.byte_unit_format.specs.Adjusted.{Rule, full, round_to, short_to, IsNumeralBy, rule_of, IsAdjustedFormIn}
 use Rattle.byte_unit_format.specs.FormLaws.{SizeHasOneAdjustedForm}
 
 numeral_unique : (rule : Rule) (num den : ℕ) (text other : List ℕ) → 0 < den → IsNumeralBy rule num den text
@@ -46,12 +43,12 @@ numeral_unique (short_to places) num den text other some of_text of_other =
 
 -- A size has at most one text in a unit by a spec.
 pub adjusted_form_unique : {version : Version} {kind : Kind} {size : ℕ} {unit : Shape} {spec : FormatSpec}
-    {text other : List ℕ}
-    → IsAdjustedFormIn version kind size unit spec text → IsAdjustedFormIn version kind size unit spec other → text ≡ other
+    {text other : List ℕ} → IsAdjustedFormIn version kind size unit spec text
+    → IsAdjustedFormIn version kind size unit spec other → text ≡ other
 adjusted_form_unique {version} {kind} {size} {unit} {spec} form other =
-    let same =
-    numeral_unique (rule_of spec.precision spec.alternate unit) (size * bits_in kind) (bits unit) form.number other.number
-    (some_bits unit) form.number_is other.number_is in
+    let rule = rule_of spec.precision spec.alternate unit in
+    let same = numeral_unique rule (size * bits_in kind) (bits unit) form.number other.number (some_bits unit)
+    form.number_is other.number_is in
     rw (form.text_is, other.text_is, same) refl
 
 nearest_exists : (num den places : ℕ) (ties : Ties) → 0 < den → (q : ℕ) × IsNearest num den places ties q

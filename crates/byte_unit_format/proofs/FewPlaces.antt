@@ -2,8 +2,8 @@
 use Rattle.std.proofs.Common.{◌≡◌, ◌≢◌, ℕ, ◌+◌, ◌-◌, ◌*◌, ◌/◌, ◌%◌, ◌^◌, ◌<◌, ◌≤◌, ⊎_elim, inl, inr, Bool, true, false}
 use Rattle.std.proofs.Common.{min, zero, suc, arith, ap, sym, refl, ◌∙◌}
 use Rattle.std.specs.Int.{w128, leading_zeros, trailing_zeros}
-use Rattle.std.proofs.Math.Nat.{eq_of_mul-eq-mul_right, mul-le-mul_right, le_of_mul-le-mul_right}
-use Rattle.std.proofs.Math.Nat.{pow-le-pow_right, one-le-pow, mul-mod_left}
+use Rattle.std.proofs.Math.Nat.{eq_of_mul-eq-mul_right, mul-le-mul_right, le_of_mul-le-mul_right, pow-le-pow_right}
+use Rattle.std.proofs.Math.Nat.{one-le-pow, mul-mod_left}
 use Rattle.std.proofs.lemmas.Bool.{cases_lt}
 use Rattle.std.proofs.lemmas.Nat.{pow-add, mul-pow, div-add-mod', leading_top}
 use Rattle.byte_unit_math.specs.Bounds.{size_limit, scale}
@@ -18,7 +18,8 @@ use Rattle.byte_unit_format.proofs.NarrowTexts.{pow10_next, prefix_of, unit_bits
 use Rattle.byte_unit_format.proofs.NarrowTexts.{bits_in_positive, prefix_at_least, prefix_lt_next, exact_of_fits}
 
 -- A power of a larger exponent is a multiple.
-pub power_split : (base least exponent : ℕ) → least ≤ exponent → base ^ exponent ≡ base ^ (exponent - least) * base ^ least
+pub power_split : (base least exponent : ℕ) → least ≤ exponent
+    → base ^ exponent ≡ base ^ (exponent - least) * base ^ least
 power_split base least exponent few = grind (arith, pow-add base (exponent - least) least)
 
 -- A power that is at most a number has an exponent below that of a power above it.
@@ -60,6 +61,7 @@ pub record IsDivided (size whole thousandths power : ℕ) : Type 0 where
   pub value : (whole * 1000 + thousandths) * 10 ^ (3 * power) ≡ size * 1000
   pub below : thousandths < 1000
   pub some : 1 ≤ whole
+  pub within : whole ≤ size
   pub positive : 1 ≤ power
   pub few : power ≤ 9
 
@@ -77,15 +79,9 @@ greatest_thousands {size} {whole} {thousandths} {power} divided ends =
           ⊎_elim
           (λ none.
           let zero_left : thousandths ≡ 0 = omega (arith, none) in
+          let product = ap (λ n. n * prefix) zero_left in
           let less : size < 10 ^ (3 * (power + 1)) =
-          omega (
-            arith,
-            divided.value,
-            ap (λ n. n * prefix) zero_left,
-            pow10_next power,
-            mul-le-mul_right prefix (ends zero_left),
-            one-le-pow (3 * power) 10 (omega arith),
-          ) in
+          grind (arith, ends zero_left, pow10_next power, one-le-pow (3 * power) 10 (omega arith), product) in
           grind (arith, exponent_below 10 (3 * other) (3 * (power + 1)) size (omega arith) fits.not_above less))
           (λ some.
           power_divides 10 3 (whole * 1000 + thousandths) fits.exact.0 power other (omega arith)
@@ -94,25 +90,23 @@ greatest_thousands {size} {whole} {thousandths} {power} divided ends =
     }
 
 -- The next division by 1000 leaves as much.
-pub divided_more : {size whole thousandths power next rest : ℕ} → size < size_limit → IsDivided size whole thousandths power
-    → thousandths ≡ 0 → 1000 ≤ whole → next ≡ whole / 1000 → rest ≡ whole % 1000
-    → IsDivided size next rest (power + 1)
+pub divided_more : {size whole thousandths power next rest : ℕ} → size < size_limit
+    → IsDivided size whole thousandths power → thousandths ≡ 0 → 1000 ≤ whole → next ≡ whole / 1000
+    → rest ≡ whole % 1000 → IsDivided size next rest (power + 1)
 divided_more {size} {whole} {thousandths} {power} {next} {rest} small divided none more next_is rest_is =
     let parts : next * 1000 + rest ≡ whole = omega (arith, next_is, rest_is) in
     let prefix = 10 ^ (3 * (power + 1)) in
     let some : 1 ≤ next = omega (arith, more, next_is) in
-    let value : (next * 1000 + rest) * prefix ≡ size * 1000 = rw (parts, pow10_next power) (grind (arith, divided.value)) in
+    let value : (next * 1000 + rest) * prefix ≡ size * 1000 =
+    rw (parts, pow10_next power) (grind (arith, divided.value)) in
     record {
       value = value;
       below = omega (arith, rest_is);
       some = some;
+      within = omega (arith, divided.within, next_is);
       positive = omega arith;
       few = few_thousands (power + 1) size small (omega (arith, value, mul-le-mul_right prefix some));
     }
-
--- What is left is at most the size.
-pub divided_small : {size whole thousandths power : ℕ} → IsDivided size whole thousandths power → whole ≤ size
-divided_small {size} {whole} {thousandths} {power} divided = grind (arith, one-le-pow (3 * power) 10 (omega arith))
 
 -- Three digits after the point are as many as `places`, and the rest.
 places_and_rest : (places : ℕ) → places ≤ 3 → 10 ^ places * 10 ^ (3 - places) ≡ 1000
@@ -179,11 +173,11 @@ greatest_before {places} {size} {power} whole thousandths few some not_above val
     let counted : count * 10 ^ (3 * (power - 1)) ≡ size * 10 ^ places =
     omega (arith, ap (λ n. n * 10 ^ places) (value_before whole thousandths some value)) in
     let less = pow-le-pow_right {n = 10} (omega arith) {i = 3 * (power - 1)} {j = 3 * power} (omega arith) in
+    let odd = left_over whole thousandths places few left in
     record {
       fits = record { exact = (count, sym counted); not_above = omega (arith, not_above, less) };
       greatest = λ other fits.
-          power_divides 10 3 count fits.exact.0 (power - 1) other (omega arith) (left_over whole thousandths places few left)
-          (counted ∙ fits.exact.1);
+          power_divides 10 3 count fits.exact.0 (power - 1) other (omega arith) odd (counted ∙ fits.exact.1);
     }
 
 -- An odd number times a power of five is odd.
@@ -242,109 +236,115 @@ eighths_value size power some whole_eighths =
     let power_is : 2 ^ (10 * power) ≡ 2 ^ eighth * 8 = grind (arith, pow-add 2 eighth 3) in
     rw (parts, power_is) (omega (arith, counted))
 
--- A size is exact in a unit within a precision only if it fits the unit's prefix.
-fits_of_exact : {precision : ℕ} (kind : Kind) (size : ℕ) (unit : Shape)
-    → IsExactUnit (own_family kind) (size * bits_in kind) precision unit
-    → FitsPrefix (places_within precision) size (prefix_of unit.power unit.binary)
-fits_of_exact {precision} kind size unit exact_unit =
-    let prefix = prefix_of unit.power unit.binary in
-    let same = unit_bits kind unit.power unit.binary unit.bit exact_unit.member.kind in
-    let exact = exact_unit.exact in
-    let positive = bits_in_positive kind in
-    record {
-      exact = (
-        exact.0,
-        eq_of_mul-eq-mul_right (bits_in kind) positive (size * 10 ^ places_within precision) (exact.0 * prefix)
-            (omega (arith, exact.1, ap (λ n. exact.0 * n) same)),
-      );
-      not_above = le_of_mul-le-mul_right {k = bits_in kind} (omega (arith, same, exact_unit.not_above)) positive;
-    }
-
--- A unit whose prefix fits the size, and is at least as large as each that does, is the exact unit.
-largest_of_prefixes : {precision : ℕ} (kind : Kind) (size power : ℕ) (binary : Bool) → 1 ≤ power → power ≤ 9
-    → FitsPrefix (places_within precision) size (prefix_of power binary)
-    → ((other : ℕ) (is_binary : Bool) → FitsPrefix (places_within precision) size (prefix_of other is_binary)
-    → prefix_of other is_binary ≤ prefix_of power binary)
-    → IsRecoveredIn current kind false size precision (shape power binary (counts_bits kind))
-largest_of_prefixes {precision} kind size power binary some known fits largest =
-    inl (record {
-      has = exact_of_fits {precision = precision} kind size power binary some known fits;
-      largest = λ other exact_unit.
-          let at_most = largest other.power other.binary (fits_of_exact {precision = precision} kind size other exact_unit) in
-          omega (
-            arith,
-            unit_bits kind power binary (counts_bits kind) (own_kind kind),
-            unit_bits kind other.power other.binary other.bit exact_unit.member.kind,
-            mul-le-mul_right (bits_in kind) at_most,
-          );
-    })
-
 -- What is true of each binary prefix that fits a size, and of each decimal one, is true of each prefix that does.
-by_prefix : {places size : ℕ} (At : ℕ → Bool → Type 0) → ((other : ℕ) → FitsPrefix places size (2 ^ (10 * other)) → At other true)
+by_prefix : {places size : ℕ} (At : ℕ → Bool → Type 0)
+    → ((other : ℕ) → FitsPrefix places size (2 ^ (10 * other)) → At other true)
     → ((other : ℕ) → FitsPrefix places size (10 ^ (3 * other)) → At other false) → (other : ℕ) (binary : Bool)
     → FitsPrefix places size (prefix_of other binary) → At other binary
 by_prefix At twos tens other true fits = twos other fits
 by_prefix At twos tens other false fits = tens other fits
 
--- If no decimal prefix of a later position fits the size, the binary prefix is the larger one.
-pub recovered_binary : (precision : ℕ) (kind : Kind) {size binary : ℕ} → 1 ≤ binary → binary ≤ 9
-    → IsGreatest (places_within precision) 2 10 size binary
-    → ((other : ℕ) → FitsPrefix (places_within precision) size (10 ^ (3 * other)) → other ≤ binary)
-    → IsRecoveredIn current kind false size precision (shape binary true (counts_bits kind))
-recovered_binary precision kind {size} {binary} some known twos later =
-    let raised = λ (other : ℕ) (few : other ≤ binary).
-    pow-le-pow_right {n = 2} (omega arith) {i = 10 * other} {j = 10 * binary} (omega (arith, few)) in
-    largest_of_prefixes {precision = precision} kind size binary true some known twos.fits
-    (by_prefix (λ other is_binary. prefix_of other is_binary ≤ 2 ^ (10 * binary)) (λ other fits. raised other (twos.greatest other fits))
-    (λ other fits. omega (arith, raised other (later other fits), pow10_le_pow2 other)))
+module _ (kind : Kind) (places size : ℕ) (few : places ≤ 3) where
+  -- Few places are not cut off.
+  within : places_within places ≡ places
+  within = omega (arith, few)
 
--- If not, the decimal prefix is the larger one.
-pub recovered_decimal : (precision : ℕ) (kind : Kind) {size decimal binary : ℕ} → 1 ≤ decimal → decimal ≤ 9
-    → IsGreatest (places_within precision) 10 3 size decimal → IsGreatest (places_within precision) 2 10 size binary
-    → binary < decimal → IsRecoveredIn current kind false size precision (shape decimal false (counts_bits kind))
-recovered_decimal precision kind {size} {decimal} {binary} some known tens twos earlier =
-    let raised = λ (other : ℕ) (few : other ≤ decimal).
-    pow-le-pow_right {n = 10} (omega arith) {i = 3 * other} {j = 3 * decimal} (omega (arith, few)) in
-    largest_of_prefixes {precision = precision} kind size decimal false some known tens.fits
-    (by_prefix (λ other is_binary. prefix_of other is_binary ≤ 10 ^ (3 * decimal))
-    (λ other fits.
-    let few = twos.greatest other fits in
-    omega (arith, prefix_lt_next other true (omega (arith, few, earlier, known)), raised (other + 1) (omega (arith, few, earlier))))
-    (λ other fits. raised other (tens.greatest other fits)))
+  -- A size is exact in a unit within these places only if it fits the unit's prefix.
+  fits_of_exact : (unit : Shape) → IsExactUnit (own_family kind) (size * bits_in kind) places unit
+      → FitsPrefix places size (prefix_of unit.power unit.binary)
+  fits_of_exact unit exact_unit =
+      let prefix = prefix_of unit.power unit.binary in
+      let same = unit_bits kind unit.power unit.binary unit.bit exact_unit.member.kind in
+      let exact = exact_unit.exact in
+      let positive = bits_in_positive kind in
+      record {
+        exact = (
+          exact.0,
+          eq_of_mul-eq-mul_right (bits_in kind) positive (size * 10 ^ places) (exact.0 * prefix)
+              (omega (arith, rw within at exact.1, ap (λ n. exact.0 * n) same)),
+        );
+        not_above = le_of_mul-le-mul_right {k = bits_in kind} (omega (arith, same, exact_unit.not_above)) positive;
+      }
 
--- A size below 1000 is in no unit with a prefix.
-pub recovered_own : (precision : ℕ) (kind : Kind) (size : ℕ) → size < 1000
-    → IsRecoveredIn current kind false size precision (own_unit kind)
-recovered_own precision kind size below =
-    inr (
-      λ unit exact_unit.
-          omega (
-            arith,
-            (fits_of_exact {precision = precision} kind size unit exact_unit).not_above,
-            pow-le-pow_right {n = 10} (omega arith) {i = 3} {j = 3 * unit.power} (omega (arith, exact_unit.member.prefix.some)),
-            prefix_at_least unit.power unit.binary,
-            below,
-          ),
-      refl,
-    )
+  -- A unit whose prefix fits the size, and is at least as large as each that does, is the exact unit.
+  largest_of_prefixes : (power : ℕ) (binary : Bool) → 1 ≤ power → power ≤ 9
+      → FitsPrefix places size (prefix_of power binary)
+      → ((other : ℕ) (is_binary : Bool) → FitsPrefix places size (prefix_of other is_binary)
+      → prefix_of other is_binary ≤ prefix_of power binary)
+      → IsRecoveredIn current kind false size places (shape power binary (counts_bits kind))
+  largest_of_prefixes power binary some known fits largest =
+      inl (record {
+        has = exact_of_fits {precision = places} kind size power binary some known (rw within fits);
+        largest = λ other exact_unit.
+            omega (
+              arith,
+              unit_bits kind power binary (counts_bits kind) (own_kind kind),
+              unit_bits kind other.power other.binary other.bit exact_unit.member.kind,
+              mul-le-mul_right (bits_in kind) (largest other.power other.binary (fits_of_exact other exact_unit)),
+            );
+      })
 
--- Nor is one that fits none.
-pub recovered_none : (precision : ℕ) (kind : Kind) {size decimal binary : ℕ} → decimal ≡ 0 → binary ≡ 0
-    → IsGreatest (places_within precision) 10 3 size decimal → IsGreatest (places_within precision) 2 10 size binary
-    → IsRecoveredIn current kind false size precision (own_unit kind)
-recovered_none precision kind {size} no_decimal no_binary tens twos =
-    inr (
-      λ unit exact_unit.
-          let none = by_prefix (λ other binary. other ≤ 0) (λ other fits. omega (arith, no_binary, twos.greatest other fits))
-          (λ other fits. omega (arith, no_decimal, tens.greatest other fits)) unit.power unit.binary
-          (fits_of_exact {precision = precision} kind size unit exact_unit) in
-          omega (arith, none, exact_unit.member.prefix.some),
-      refl,
-    )
+  -- If no decimal prefix of a later position fits the size, the binary prefix is the larger one.
+  pub recovered_binary : {binary : ℕ} → 1 ≤ binary → binary ≤ 9 → IsGreatest places 2 10 size binary
+      → ((other : ℕ) → FitsPrefix places size (10 ^ (3 * other)) → other ≤ binary)
+      → IsRecoveredIn current kind false size places (shape binary true (counts_bits kind))
+  recovered_binary {binary} some known twos later =
+      let raised = λ (other : ℕ) (at_most : other ≤ binary).
+      pow-le-pow_right {n = 2} (omega arith) {i = 10 * other} {j = 10 * binary} (omega (arith, at_most)) in
+      largest_of_prefixes binary true some known twos.fits
+      (by_prefix (λ other is_binary. prefix_of other is_binary ≤ 2 ^ (10 * binary))
+      (λ other fits. raised other (twos.greatest other fits))
+      (λ other fits. omega (arith, raised other (later other fits), pow10_le_pow2 other)))
+
+  -- If not, the decimal prefix is the larger one.
+  pub recovered_decimal : {decimal binary : ℕ} → 1 ≤ decimal → decimal ≤ 9 → IsGreatest places 10 3 size decimal
+      → IsGreatest places 2 10 size binary → binary < decimal
+      → IsRecoveredIn current kind false size places (shape decimal false (counts_bits kind))
+  recovered_decimal {decimal} {binary} some known tens twos earlier =
+      let raised = λ (other : ℕ) (at_most : other ≤ decimal).
+      pow-le-pow_right {n = 10} (omega arith) {i = 3 * other} {j = 3 * decimal} (omega (arith, at_most)) in
+      largest_of_prefixes decimal false some known tens.fits
+      (by_prefix (λ other is_binary. prefix_of other is_binary ≤ 10 ^ (3 * decimal))
+      (λ other fits.
+      let next : other + 1 ≤ decimal = omega (arith, twos.greatest other fits, earlier) in
+      omega (arith, prefix_lt_next other true (omega (arith, next, known)), raised (other + 1) next))
+      (λ other fits. raised other (tens.greatest other fits)))
+
+  -- A size below 1000 is in no unit with a prefix.
+  pub recovered_own : size < 1000 → IsRecoveredIn current kind false size places (own_unit kind)
+  recovered_own below =
+      inr (
+        λ unit exact_unit.
+            let some = exact_unit.member.prefix.some in
+            omega (
+              arith,
+              (fits_of_exact unit exact_unit).not_above,
+              pow-le-pow_right {n = 10} (omega arith) {i = 3} {j = 3 * unit.power} (omega (arith, some)),
+              prefix_at_least unit.power unit.binary,
+              below,
+            ),
+        refl,
+      )
+
+  -- Nor is one that fits none.
+  pub recovered_none : {decimal binary : ℕ} → decimal ≡ 0 → binary ≡ 0 → IsGreatest places 10 3 size decimal
+      → IsGreatest places 2 10 size binary → IsRecoveredIn current kind false size places (own_unit kind)
+  recovered_none no_decimal no_binary tens twos =
+      inr (
+        λ unit exact_unit.
+            let none = by_prefix (λ other binary. other ≤ 0)
+            (λ other fits. omega (arith, no_binary, twos.greatest other fits))
+            (λ other fits. omega (arith, no_decimal, tens.greatest other fits)) unit.power unit.binary
+            (fits_of_exact unit exact_unit) in
+            omega (arith, none, exact_unit.member.prefix.some),
+        refl,
+      )
 
 -- The number of units, scaled by 10^28, times the bits of the unit is the size in bits.
 pub number_of_units : (kind : Kind) (size power : ℕ) (binary : Bool) (whole thousandths : ℕ)
     → (whole * 1000 + thousandths) * prefix_of power binary ≡ size * 1000
-    → (whole * scale + thousandths * 10 ^ 25) * bits (shape power binary (counts_bits kind)) ≡ size * bits_in kind * scale
+    → (whole * scale + thousandths * 10 ^ 25) * bits (shape power binary (counts_bits kind))
+    ≡ size * bits_in kind * scale
 number_of_units kind size power binary whole thousandths value =
-    rw (unit_bits kind power binary (counts_bits kind) (own_kind kind)) (omega (arith, ap (λ n. n * bits_in kind) value))
+    rw (unit_bits kind power binary (counts_bits kind) (own_kind kind))
+    (omega (arith, ap (λ n. n * bits_in kind) value))

@@ -1,9 +1,9 @@
 -- What the first version of the grammar accepts and formats, the current version does in the same way.
-use Rattle.std.proofs.Common.{◌≡◌, ℕ, zero, suc, ◌-◌, ◌*◌, ◌<◌, ◌≤◌, inl, inr, Bool, false, List}
-use Rattle.std.proofs.Common.{length, rules, arith, refl, sym, ap, ◌∙◌}
-use Rattle.std.specs.Prelude.{◌↔◌, slice_index, codes}
+use Rattle.std.proofs.Common.{◌≡◌, ℕ, ◌-◌, ◌*◌, ◌<◌, ◌≤◌, inl, inr, Bool, false, List, length, rules, arith, sym, ap}
+use Rattle.std.proofs.Common.{◌∙◌}
+use Rattle.std.specs.Prelude.{◌↔◌, slice_index}
 use Rattle.std.proofs.Math.Nat.{le_of_mul-le-mul_right}
-use Rattle.std.proofs.lemmas.List.{get_or_append_left}
+use Rattle.std.proofs.lemmas.Bool.Decides.{nat_tests}
 use Rattle.byte_unit_math.specs.Bounds.{places_of_decimal}
 use Rattle.byte_unit_math.specs.Numeral.{short_numeral}
 use Rattle.byte_unit_base.specs.Shape.{Shape, shape, bits}
@@ -27,14 +27,12 @@ use Rattle.byte_unit_format.proofs.FewPlaces.{exponent_below}
 -- A prefix of the first version has the same letter.
 letter_stays : (power : ℕ) → 0 < power → power ≤ length first_version.letters
     → slice_index first_version.letters (power - 1) ≡ slice_index current.letters (power - 1)
-letter_stays power some known =
-    sym (get_or_append_left first_version.letters (codes "R") 0 (power - 1) (omega (arith, some, known)))
+letter_stays power some known = grind arith
 
 -- A unit of the first version has the same name.
 name_stays : (power : ℕ) (binary bit : Bool) → power ≤ length first_version.letters
     → unit_name_in first_version (shape power binary bit) ≡ unit_name_in current (shape power binary bit)
-name_stays zero binary bit known = refl
-name_stays (suc power) binary bit known = rw (letter_stays (suc power) (omega arith) known) refl
+name_stays power binary bit known = grind (arith, nat_tests, letter_stays power)
 
 prefix_stays : (text : List ℕ) (power : ℕ) (binary : Bool) → SpellsPrefix first_version text power binary
     → SpellsPrefix current text power binary
@@ -96,8 +94,8 @@ appropriate_stays kind unit_type size unit small =
     (same_largest kind _ _ unit there back, same_largest kind _ _ unit back there)
 
 -- The exact unit of a size in the first version is a unit of that version.
-recovered_old : (kind : Kind) (size precision : ℕ) (unit : Shape) → IsRecoveredIn first_version kind false size precision unit
-    → unit.power ≤ length first_version.letters
+recovered_old : (kind : Kind) (size precision : ℕ) (unit : Shape)
+    → IsRecoveredIn first_version kind false size precision unit → unit.power ≤ length first_version.letters
 recovered_old kind size precision unit (inl h) = h.has.member.prefix.known
 recovered_old kind size precision unit (inr h) = omega (arith, ap (λ s. s.power) h.1)
 

@@ -4,8 +4,7 @@ use Rattle.std.proofs.Common.{◌≡◌, ℕ, ◌+◌, ◌-◌, ◌*◌, ◌/◌
 use Rattle.std.proofs.Common.{None, List, length, arith, sym, ap, refl, ◌∙◌}
 use Rattle.std.specs.Fmt.{decimal}
 use Rattle.std.proofs.Math.Nat.{eq_of_mul-eq-mul_right, mul-le-mul_right, mul-le-mul_left, le_of_mul-le-mul_right}
-use Rattle.std.proofs.Math.Nat.{lt_of_mul-lt-mul_right}
-use Rattle.std.proofs.Math.Nat.{pow-le-pow_right, one-le-pow}
+use Rattle.std.proofs.Math.Nat.{lt_of_mul-lt-mul_right, pow-le-pow_right, one-le-pow}
 use Rattle.std.proofs.lemmas.Bool.{cases_lt}
 use Rattle.std.proofs.lemmas.Fmt.{length-decimal-le_wide}
 use Rattle.std.proofs.lemmas.List.{length-append}
@@ -28,8 +27,7 @@ use Rattle.byte_unit_format.specs.FewPlaces.{FitsPrefix}
 use Rattle.byte_unit_format.specs.declared.spec.FormatSpec.{FormatSpec}
 use Rattle.byte_unit_format.specs.Plain.{plain}
 use Rattle.byte_unit_format.specs.Forms.{IsSizeForm, places_of, narrow_text}
-use Rattle.byte_unit_format.proofs.UnitNames.{name_short}
-use Rattle.byte_unit_format.proofs.Widths.{plain_form_fills_width, layout_fills_width}
+use Rattle.byte_unit_format.proofs.Widths.{name_short, plain_form_fills_width, layout_fills_width}
 use Rattle.byte_unit_format.proofs.WrittenForms.{length_of_fraction_text}
 
 -- The next decimal prefix is a thousand times larger.
@@ -107,7 +105,10 @@ size_lt_next kind size precision unit largest few places =
     ⊎_elim (λ less. less)
     (λ above.
     let fits : FitsPrefix (places_within precision) size (10 ^ (3 * next)) =
-    record { exact = (size * rest, rw (pow10_split (3 * next) (places_within precision) places) (omega arith)); not_above = above } in
+    record {
+      exact = (size * rest, rw (pow10_split (3 * next) (places_within precision) places) (omega arith));
+      not_above = above;
+    } in
     let exact = exact_of_fits {precision = precision} kind size next false (omega arith) (omega (arith, few)) fits in
     absurd (omega (
       arith,
@@ -120,7 +121,8 @@ size_lt_next kind size precision unit largest few places =
     (cases_lt size (10 ^ (3 * next)))
 
 -- A number below 10^digits has at most that many digits.
-pub decimal_length : (whole digits : ℕ) → 0 < digits → digits ≤ 30 → whole < 10 ^ digits → length (decimal whole) ≤ digits
+pub decimal_length : (whole digits : ℕ) → 0 < digits → digits ≤ 30 → whole < 10 ^ digits
+    → length (decimal whole) ≤ digits
 decimal_length whole digits some few small =
     let most = pow-le-pow_right {n = 10} (omega arith) few in
     length-decimal-le_wide digits whole some small (omega (arith, small, most))
@@ -157,15 +159,16 @@ recovered_length kind size precision number unit below (inl largest) number_is =
     let same = unit_bits kind power unit.binary unit.bit largest.has.member.kind in
     let in_bits : whole * bits unit ≤ size * bits_in kind =
     omega (arith, number_is, mul-le-mul_right (bits unit) (let cut : whole * scale ≤ number = omega arith in cut)) in
+    let least = mul-le-mul_left (whole * bits_in kind) (prefix_at_least power unit.binary) in
     let product : whole * prefix ≤ size =
-    le_of_mul-le-mul_right {k = bits_in kind}
-    (omega (arith, in_bits, ap (λ n. whole * n) same, mul-le-mul_left (whole * bits_in kind) (prefix_at_least power unit.binary)))
+    le_of_mul-le-mul_right {k = bits_in kind} (omega (arith, in_bits, ap (λ n. whole * n) same, least))
     (bits_in_positive kind) in
     ⊎_elim
     (λ less.
     let small : whole < 10 ^ (30 - 3 * power) =
     lt_of_mul-lt-mul_right prefix (omega (arith, pow10_split (3 * power) 30 (omega (arith, known)), product, below)) in
-    omega (arith, less, short_length number, decimal_length whole (30 - 3 * power) (omega (arith, known)) (omega arith) small))
+    let digits = decimal_length whole (30 - 3 * power) (omega (arith, known)) (omega arith) small in
+    omega (arith, less, short_length number, digits))
     (λ more.
     let next = size_lt_next kind size precision unit largest (omega (arith, more, few)) (omega (arith, more, few)) in
     let small : whole < 10 ^ 3 = lt_of_mul-lt-mul_right prefix (omega (arith, pow10_next power, product, next)) in

@@ -1,23 +1,29 @@
--- A formatted size is read as the size.
-use Rattle.std.proofs.Common.{◌≡◌, ◌≢◌, ℕ, ◌+◌, ◌-◌, ◌*◌, ◌<◌, ◌≤◌, inl, inr, List, [], ◌∷◌, ◌++◌, length}
-use Rattle.std.proofs.Common.{refl, sym, ap, subst}
-use Rattle.std.proofs.Common.{◌∙◌, arith, Bool, false, append-nil, append_assoc}
+-- A formatted size is read as the size, and what the string of an adjusted size is read as.
+use Rattle.std.proofs.Common.{◌≡◌, ℕ, zero, suc, ◌<◌, List, [], ◌∷◌, ◌++◌, refl, arith, ◌≢◌, ◌+◌, ◌-◌, ◌*◌, ◌/◌, ◌%◌}
+use Rattle.std.proofs.Common.{◌≤◌, ⊎_elim, inl, inr, length, rules, sym, ap, ◌∙◌, Bool, false, append-nil, append_assoc}
+use Rattle.std.proofs.Common.{◌^◌}
+use Rattle.std.specs.Str.{skip_leading_whitespace, drop_trailing_whitespace, IsAscii}
+use Rattle.std.proofs.lemmas.Str.{chars-IsAscii, IsAscii-append}
+use Rattle.std.proofs.lemmas.Str.Ascii.{IsAscii-from_all}
+use Rattle.std.proofs.lemmas.List.Elements.{All-replicate}
+use Rattle.byte_unit_base.specs.SizeText.{trim_of}
+use Rattle.byte_unit_base.proofs.Trim.{StartsWithoutSpace, EndsWithoutSpace, keep_last}
+use Rattle.byte_unit_format.specs.Plain.{spaces, plus_of, plain, plain_padding, plain_left_padding}
 use Rattle.std.specs.Fmt.{decimal}
-use Rattle.std.specs.Str.{IsAscii}
-use Rattle.std.specs.Str.Parse.{AllDigits}
 use Rattle.std.proofs.lemmas.Nat.{mul-le}
 use Rattle.std.proofs.lemmas.List.{replicate-append-replicate}
-use Rattle.std.proofs.lemmas.Str.{IsAscii-append}
 use Rattle.byte_unit_math.specs.Bounds.{scale, places_of_decimal, whole_limit, bits_limit}
 use Rattle.byte_unit_base.specs.Shape.{Shape, bits}
 use Rattle.byte_unit_base.specs.Version.{current, unit_name_in}
 use Rattle.byte_unit_base.specs.Spelling.{Spells}
-use Rattle.byte_unit_base.specs.SizeText.{trim_of}
-use Rattle.byte_unit_math.specs.Finite.{Finite}
+use Rattle.byte_unit_math.specs.Finite.{Finite, IsExpansion, ulps_of}
 use Rattle.byte_unit_math.specs.Digits.{at_places, trim_expansion}
 use Rattle.byte_unit_math.specs.Numeral.{fraction_text, text_of}
-use Rattle.byte_unit_math.proofs.Digits.{ShortOf-shortened}
+use Rattle.byte_unit_math.proofs.Digits.{ShortOf-shortened, one_le_pow10}
 use Rattle.byte_unit_math.proofs.Scales.{pow10_times_rest}
+use Rattle.byte_unit_math.proofs.WrittenDigits.{decimal_one_digit, decimal_next_digit}
+use Rattle.std.proofs.lemmas.Bool.{cases_lt}
+use Rattle.std.proofs.lemmas.Bool.Decides.{nat_tests}
 use Rattle.byte_unit_base.specs.declared.kind.Kind.{Kind}
 use Rattle.byte_unit_base.specs.declared.kind.Kind.TheVariants.{Byte, Bit}
 use Rattle.byte_unit_format.specs.declared.spec.FormatSpec.{FormatSpec}
@@ -26,20 +32,61 @@ use Rattle.byte_unit_format.specs.declared.spec.Sign.TheVariants.{Plus}
 use Rattle.byte_unit_base.specs.Family.{HasKind}
 use Rattle.byte_unit_base.specs.Choice.{IsRecoveredIn}
 use Rattle.byte_unit_base.proofs.Choosing.{some_bits, own_bits}
-use Rattle.byte_unit_base.proofs.Names.{IsKnown, SaysKind, name_spells, name_ascii, name_end}
+use Rattle.byte_unit_base.proofs.Names.{IsKnown, SaysKind, name_spells, name_ascii, name_end, unit_known}
 use Rattle.byte_unit_base.specs.Kinds.{bits_in, counts_bits, own_unit, own_family, flags_for}
 use Rattle.byte_unit_base.specs.LeastOfKind.{IsLeastOf}
-use Rattle.byte_unit_base.specs.Accepted.{IsAccepted}
+use Rattle.byte_unit_base.specs.Accepted.{IsAccepted, IsRejected}
 use Rattle.byte_unit_format.specs.Layout.{layout, layout_padding, layout_left_padding, gap_of}
-use Rattle.byte_unit_format.specs.Plain.{spaces, plus_of, plain, plain_padding, plain_left_padding}
 use Rattle.byte_unit_format.specs.Forms.{places_of}
-use Rattle.byte_unit_format.specs.FormLaws.{SizeFormReadsBack, PlainFormReadsBack}
+use Rattle.byte_unit_format.specs.FormLaws.{SizeFormReadsBack, PlainFormReadsBack, AdjustedStringReadsBack, FitsDecimal}
 use Rattle.byte_unit_base.proofs.NumberTexts.{fixed_point_of, number_text, number_start, number_ascii, decimal_ascii}
-use Rattle.byte_unit_base.proofs.NumberTexts.{whole_text}
-use Rattle.byte_unit_base.proofs.NumberTexts.{IsBounded, not_white, starts_with_digit}
-use Rattle.byte_unit_base.proofs.Trim.{StartsWithoutSpace, EndsWithoutSpace}
+use Rattle.byte_unit_base.proofs.NumberTexts.{whole_text, IsBounded, starts_with_digit}
 use Rattle.byte_unit_format.proofs.NarrowTexts.{own_kind}
-use Rattle.byte_unit_format.proofs.TrimmedTexts.{trim_between, spaces_ascii}
+use Rattle.std.proofs.Math.Nat.{le_of_mul-le-mul_right, mul-le-mul_left}
+use Rattle.byte_unit_math.specs.Exact.{IsExactAt}
+use Rattle.byte_unit_base.specs.Units.{shape_of}
+use Rattle.byte_unit_base.specs.Fault.{too_long, IsSizeFault}
+use Rattle.byte_unit_format.specs.Adjusted.{IsAdjustedForm}
+use Rattle.byte_unit_format.specs.AdjustedString.{IsAdjustedString}
+use Rattle.byte_unit_format.specs.declared.spec.TheConstants.FormatSpec.{ALTERNATE}
+use Rattle.byte_unit_base.specs.declared.unit.Unit.{Unit as UnitName}
+use Rattle.byte_unit_base.proofs.LongFractions.{long_fault}
+use Rattle.byte_unit_base.proofs.Quotients.{exact_more}
+
+skip_spaces : (count : ℕ) (text : List ℕ)
+    → skip_leading_whitespace (spaces count ++ text) ≡ skip_leading_whitespace text
+skip_spaces zero text = refl
+skip_spaces (suc count) text = skip_spaces count text
+
+drop_spaces : (count : ℕ) → drop_trailing_whitespace (spaces count) ≡ []
+drop_spaces zero = refl
+drop_spaces (suc count) = rw (drop_spaces count) refl
+
+drop_end : (text : List ℕ) (count : ℕ) → drop_trailing_whitespace (text ++ spaces count) ≡ drop_trailing_whitespace text
+drop_end [] count = drop_spaces count
+drop_end (next ∷ text) count = rw (drop_end text count) refl
+
+-- A run of spaces is ASCII.
+pub spaces_ascii : (count : ℕ) → IsAscii (spaces count)
+spaces_ascii count = IsAscii-from_all (spaces count) (All-replicate (λ byte. byte < 128) count 32 (omega arith))
+
+-- Trimming a text between spaces gives the text, if it begins and ends with no white space.
+pub trim_between :
+    (before behind : ℕ) (text : List ℕ) → StartsWithoutSpace text → EndsWithoutSpace text → IsAscii text
+    → trim_of (spaces before ++ (text ++ spaces behind)) ≡ text
+trim_between before behind text start end ascii =
+    let all : IsAscii (spaces before ++ (text ++ spaces behind)) =
+    IsAscii-append (spaces before) (text ++ spaces behind) (spaces_ascii before)
+    (IsAscii-append text (spaces behind) ascii (spaces_ascii behind)) in
+    let skipped : skip_leading_whitespace (text ++ spaces behind) ≡ text ++ spaces behind =
+    rw (start.text_is, start.head_is) refl in
+    let kept : drop_trailing_whitespace text ≡ text = rw end.text_is (keep_last end.front end.last end.last_is) in
+    rw (
+      chars-IsAscii (spaces before ++ (text ++ spaces behind)) all,
+      skip_spaces before (text ++ spaces behind),
+      skipped,
+      drop_end text behind,
+    ) kept
 
 -- Units of the kind's own unit set are read in their kind: where bits are read, case is significant.
 own_says : (kind : Kind) (ignore_case bit : Bool) → HasKind (own_family kind) bit
@@ -102,23 +149,11 @@ pub layout_accepted :
     → fixed_point_of e.whole e.digits * bits unit ≡ size * bits_in kind * scale → size < current.size_limit
     → IsAccepted kind ignore_case (layout (text_of e) (unit_name_in current unit) spec) size
 layout_accepted kind ignore_case size spec e unit bounded few known says exact below =
-    let trimmed = trimmed_layout spec e unit bounded known.known in
-    record {
-      number = fixed_point_of e.whole e.digits;
-      is_read = record {
-        unit = unit;
-        is_size = record {
-          number_part = text_of e;
-          spaces = trimmed.0;
-          unit_part = unit_name_in current unit;
-          text_is = trimmed.1;
-          number_is = number_text e.whole e.digits bounded.small few bounded.bound;
-          unit_is = name_spells (flags_for kind ignore_case) unit known says;
-        };
-        is_least = IsLeastOf-exact kind (fixed_point_of e.whole e.digits) size unit exact;
-      };
-      below = below;
-    }
+    let text = (trimmed_layout spec e unit bounded known.known).1 in
+    let number = number_text e.whole e.digits bounded.small few bounded.bound in
+    let spelled = name_spells (flags_for kind ignore_case) unit known says in
+    let is_least = IsLeastOf-exact kind (fixed_point_of e.whole e.digits) size unit exact in
+    search (rules, text, number, spelled, is_least)
 
 -- A size has fewer than 8 * 10^30 bits.
 pub bits_of_size_bound : (kind : Kind) (size : ℕ) → size < current.size_limit → size * bits_in kind < bits_limit
@@ -154,36 +189,33 @@ size_form_reads_back kind size spec ignore_case text below form =
     let number : fixed_point_of e.whole e.digits ≡ form.number =
     omega (arith, short.scaled_is, ap (λ n. e.whole * n) (pow10_times_rest (length e.digits) short.few)) in
     let named = recovered_name kind ignore_case size (places_of spec.precision) form.unit form.is_recovered in
-    rw form.text_is (layout_accepted kind ignore_case size spec e form.unit (record { small = short.small; bound = bound })
-    short.few named.0 named.1 (ap (λ number. number * bits form.unit) number ∙ form.number_is) below)
+    let exact = ap (λ number. number * bits form.unit) number ∙ form.number_is in
+    rw form.text_is (layout_accepted kind ignore_case size spec e form.unit
+    (record { small = short.small; bound = bound }) short.few named.0 named.1 exact below)
 
 no_plus : (sign : Sign) → sign ≢ Plus → plus_of sign ≡ []
 no_plus sign other = grind arith
 
-last_digit : (digit : ℕ) (digits : List ℕ) → AllDigits 10 (digit ∷ digits) → EndsWithoutSpace (digit ∷ digits)
-last_digit digit [] all = record { front = []; last = digit; text_is = refl; last_is = not_white digit all.0 }
-last_digit digit (next ∷ digits) all =
-    let behind = last_digit next digits all.1 in
-    record {
-      front = digit ∷ behind.front;
-      last = behind.last;
-      text_is = ap (λ text. digit ∷ text) behind.text_is;
-      last_is = behind.last_is;
-    }
+decimal_end : (whole : ℕ) → whole < whole_limit → EndsWithoutSpace (decimal whole)
+decimal_end whole bound =
+    ⊎_elim
+    (λ one. record {
+      front = [];
+      last = 48 + whole;
+      text_is = decimal_one_digit whole one;
+      last_is = grind (arith, nat_tests);
+    })
+    (λ more. record {
+      front = decimal (whole / 10);
+      last = 48 + whole % 10;
+      text_is = decimal_next_digit whole more (omega (arith, bound));
+      last_is = grind (arith, nat_tests);
+    })
+    (cases_lt whole 10)
 
 no_unit : (kind : Kind) (ignore_case : Bool) → Spells current (flags_for kind ignore_case) [] (own_unit kind)
 no_unit Byte ignore_case = inl record { count_is = inl (refl, refl); power_is = refl; binary_is = refl }
 no_unit Bit ignore_case = inl record { count_is = inl (refl, refl); power_is = refl; binary_is = refl }
-
-trim_number : (before behind whole : ℕ) → whole < whole_limit
-    → trim_of ((spaces before ++ decimal whole) ++ spaces behind) ≡ decimal whole
-trim_number before behind whole bound =
-    let text = whole_text whole bound in
-    let start = starts_with_digit (decimal whole) text.0 in
-    let end = last_digit start.head start.tail (subst (AllDigits 10) start.text_is text.0.1) in
-    ap trim_of (append_assoc (spaces before) (decimal whole) (spaces behind))
-    ∙ trim_between before behind (decimal whole) start (subst EndsWithoutSpace (sym start.text_is) end)
-    (decimal_ascii whole bound)
 
 -- A size formatted as digits without a plus sign is read as the size.
 pub plain_form_reads_back : PlainFormReadsBack
@@ -193,7 +225,9 @@ plain_form_reads_back kind size spec ignore_case below sign =
     let before = plain_left_padding spec.align pad in
     let trims : trim_of (plain size spec) ≡ decimal size =
     ap (λ plus. trim_of ((spaces before ++ (plus ++ decimal size)) ++ spaces (pad - before))) (no_plus spec.sign sign)
-    ∙ trim_number before (pad - before) size bound in
+    ∙ (ap trim_of (append_assoc (spaces before) (decimal size) (spaces (pad - before)))
+    ∙ trim_between before (pad - before) (decimal size) (starts_with_digit (decimal size) (whole_text size bound).0)
+    (decimal_end size bound) (decimal_ascii size bound)) in
     let own = ap (λ bits. (size * scale) * bits) (own_bits kind) in
     record {
       number = size * scale;
@@ -210,4 +244,86 @@ plain_form_reads_back kind size spec ignore_case below sign =
         is_least = IsLeastOf-exact kind (size * scale) size (own_unit kind) (omega (arith, own));
       };
       below = below;
+    }
+
+whole_not_above : (num den : ℕ) (e : Finite) → 1 ≤ den → IsExpansion num den e → e.whole ≤ num
+whole_not_above num den e some expansion =
+    le_of_mul-le-mul_right {k = 10 ^ length e.digits}
+    (omega (arith, expansion.exact, mul-le-mul_left (ulps_of e) some)) (one_le_pow10 (length e.digits))
+
+-- The digits of the expansion of a size are below ten, and its whole part is within the bound of the grammar.
+expansion_bounded : (kind : Kind) (size : ℕ) (unit : Shape) (e : Finite) → size < current.size_limit
+    → IsExpansion (size * bits_in kind) (bits unit) e → IsBounded e
+expansion_bounded kind size unit e below expansion =
+    let not_above = whole_not_above (size * bits_in kind) (bits unit) e (some_bits unit) expansion in
+    record { small = expansion.small; bound = omega (arith, not_above, bits_of_size_bound kind size below) }
+
+-- The expansion scaled by 10^28, times the unit, is the size scaled by 10^28.
+expansion_product : (num den : ℕ) (e : Finite) → IsExpansion num den e → length e.digits ≤ places_of_decimal
+    → fixed_point_of e.whole e.digits * den ≡ num * scale
+expansion_product num den e expansion few =
+    let power = pow10_times_rest (length e.digits) few in
+    omega (
+      arith,
+      ap (λ n. n * 10 ^ (places_of_decimal - length e.digits)) expansion.exact,
+      ap (λ n. num * n) power,
+      ap (λ n. e.whole * den * n) power,
+    )
+
+form_accepted : (kind : Kind) (size : ℕ) (unit : UnitName) (text : List ℕ) → size < current.size_limit
+    → IsAdjustedForm kind size unit ALTERNATE text
+    → IsExactAt (size * bits_in kind) (bits (shape_of unit)) places_of_decimal → IsAccepted kind false text size
+form_accepted kind size unit text below form exact =
+    let shape = shape_of unit in
+    let e = form.number_is.0 in
+    let expansion = form.number_is.1 in
+    let few = expansion.least places_of_decimal exact in
+    rw (form.text_is, form.number_is.2) (layout_accepted kind false size ALTERNATE e shape
+    (expansion_bounded kind size shape e below expansion) few (unit_known unit) (λ bit. case_counts kind)
+    (expansion_product (size * bits_in kind) (bits shape) e expansion few) below)
+
+form_rejected : (kind : Kind) (size : ℕ) (unit : UnitName) (text : List ℕ) → size < current.size_limit
+    → IsAdjustedForm kind size unit ALTERNATE text
+    → ¬ (IsExactAt (size * bits_in kind) (bits (shape_of unit)) places_of_decimal)
+    → IsSizeFault current (flags_for kind false) (trim_of text) too_long
+form_rejected kind size unit text below form long =
+    let shape = shape_of unit in
+    let e = form.number_is.0 in
+    let expansion = form.number_is.1 in
+    let many : places_of_decimal < length e.digits =
+    ⊎_elim (λ many. many)
+    (λ few.
+    absurd (long (exact_more (size * bits_in kind) (bits shape) _ places_of_decimal few (ulps_of e, expansion.exact))))
+    (cases_lt places_of_decimal (length e.digits)) in
+    let bounded = expansion_bounded kind size shape e below expansion in
+    let layout_is = trimmed_layout ALTERNATE e shape bounded (unit_known unit).known in
+    let text_is =
+    ap trim_of (form.text_is ∙ ap (λ number. layout number (unit_name_in current shape) ALTERNATE) form.number_is.2)
+    ∙ layout_is.1 in
+    long_fault (flags_for kind false) e (spaces layout_is.0 ++ unit_name_in current shape) (trim_of text) bounded
+    many text_is
+
+string_accepted : (kind : Kind) (size : ℕ) (unit : UnitName) (text : List ℕ) → size < current.size_limit
+    → IsAdjustedString kind size unit text → FitsDecimal current kind size (shape_of unit)
+    → IsAccepted kind false text size
+string_accepted kind size unit text below (inl greatest) fits =
+    size_form_reads_back kind size ALTERNATE false text below greatest.1
+string_accepted kind size unit text below (inr other) (inl greatest) = absurd (other.0 greatest)
+string_accepted kind size unit text below (inr other) (inr exact) =
+    form_accepted kind size unit text below other.1 exact
+
+string_rejected : (kind : Kind) (size : ℕ) (unit : UnitName) (text : List ℕ) → size < current.size_limit
+    → IsAdjustedString kind size unit text → ¬ (FitsDecimal current kind size (shape_of unit))
+    → IsRejected kind false text too_long
+string_rejected kind size unit text below (inl greatest) long = absurd (long (inl greatest.0))
+string_rejected kind size unit text below (inr other) long =
+    inr (form_rejected kind size unit text below other.1 (λ exact. long (inr exact)))
+
+-- The string of an adjusted size is read as the size if it has at most 28 digits after the point, and is else rejected
+-- as too long.
+pub adjusted_string_reads_back : AdjustedStringReadsBack
+adjusted_string_reads_back kind size unit text below string =
+    record {
+      accepted = string_accepted kind size unit text below string;
+      refused = string_rejected kind size unit text below string;
     }

@@ -1,5 +1,5 @@
 -- What `Display` writes of a size, and of a size in a unit, is its text by the plain spec.
-use Rattle.std.proofs.Common.{◌≡◌, ◌*◌, ◌<◌, ◌++◌, ℕ, List, true, leb, append-nil, arith, ap, sym, refl}
+use Rattle.std.proofs.Common.{◌≡◌, ◌*◌, ◌++◌, ℕ, List, true, leb, append-nil, ap, sym, refl}
 use Rattle.std.specs.Prelude.{codes}
 use Rattle.std.specs.Fmt.{decimal}
 use Rattle.std.proofs.lemmas.Bool.{leb-true}
@@ -36,7 +36,7 @@ exact_in_unit num unit = powers_are_exact num (twos (shape_of unit)) (fives (sha
 number_by_division : (num : ℕ) (unit : UnitName) (e : Finite) → IsExpansion num (bits (shape_of unit)) e
     → e ≡ expansion_of num (bits (shape_of unit))
 number_by_division num unit e expansion =
-    expansion_is_by_division num (bits (shape_of unit)) e (omega (arith, some_bits (shape_of unit)))
+    expansion_is_by_division num (bits (shape_of unit)) e (some_bits (shape_of unit))
     (exact_in_unit num unit) expansion
 
 -- The text of the expansion of a size in a unit, a space and the unit's name are what `Display` writes.
@@ -59,9 +59,12 @@ pub shown_adjusted_size_is_plain : ShownAdjustedSizeIsPlainForm
 shown_adjusted_size_is_plain version kind size unit =
     let num : ℕ = size * bits_in kind in
     let den : ℕ = bits (shape_of unit) in
-    let some : 0 < den = omega (arith, some_bits (shape_of unit)) in
     record {
       number = text_of (expansion_of num den);
-      number_is = (expansion_of num den, expansion_of_is_expansion num den some (exact_in_unit num unit), refl);
+      number_is = (
+        expansion_of num den,
+        expansion_of_is_expansion num den (some_bits (shape_of unit)) (exact_in_unit num unit),
+        refl,
+      );
       text_is = plain_layout (text_of (expansion_of num den)) (unit_name_in version (shape_of unit));
     }

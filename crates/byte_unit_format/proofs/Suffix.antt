@@ -1,6 +1,6 @@
 -- A whole part and what follows it are the text of a size in its unit; how its bytes are written.
-use Rattle.std.proofs.Common.{◌≡◌, ℕ, ◌+◌, ◌-◌, ◌*◌, ◌^◌, ◌<◌, ◌≤◌, Bool, false, List, [], ◌∷◌, ◌++◌}
-use Rattle.std.proofs.Common.{length, take, drop, arith, ap, sym, subst, ◌∙◌, append-nil, append_assoc}
+use Rattle.std.proofs.Common.{◌≡◌, ℕ, ◌+◌, ◌-◌, ◌*◌, ◌^◌, ◌<◌, ◌≤◌, Bool, false, List, [], ◌∷◌, ◌++◌, length, take}
+use Rattle.std.proofs.Common.{drop, arith, ap, sym, subst, ◌∙◌, append-nil, append_assoc}
 use Rattle.std.specs.Prelude.{if◌then◌else◌, slice_index, codes}
 use Rattle.std.specs.Fmt.{decimal}
 use Rattle.std.specs.Str.{IsAscii}
@@ -31,7 +31,8 @@ use Rattle.byte_unit_format.specs.declared.thousandths.Suffix.TheVariants.{Own, 
 
 -- Whole units and thousandths as one decimal without trailing zeros.
 text_of_thousandths : (whole thousandths : ℕ) → thousandths < 1000
-    → text_of (trim_expansion (at_places 3 (whole * 1000 + thousandths))) ≡ decimal whole ++ thousandths_text thousandths
+    → text_of (trim_expansion (at_places 3 (whole * 1000 + thousandths)))
+    ≡ decimal whole ++ thousandths_text thousandths
 text_of_thousandths whole thousandths below = grind arith
 
 -- The thousandths are less than one, and the prefix is one of the nine.
@@ -65,11 +66,11 @@ form_of_thousandths kind size whole thousandths unit below recovered product =
     }
 
 -- A split size is the text of its whole part and of what follows.
-pub form_of_split : (kind : Kind) (size whole : ℕ) (suffix : Suffix) → HasPrefix suffix → IsSplit kind size 3 whole suffix
-    → IsSizeForm kind size alternate_spec (decimal whole ++ suffix_text kind suffix)
+pub form_of_split : (kind : Kind) (size whole : ℕ) (suffix : Suffix) → HasPrefix suffix
+    → IsSplit kind size 3 whole suffix → IsSizeForm kind size alternate_spec (decimal whole ++ suffix_text kind suffix)
 form_of_split kind size whole suffix known split =
-    form_of_thousandths kind size whole (thousandths_of suffix) (unit_of kind suffix) (suffix_bounds kind suffix known).0
-    split.recovered split.value
+    form_of_thousandths kind size whole (thousandths_of suffix) (unit_of kind suffix)
+    (suffix_bounds kind suffix known).0 split.recovered split.value
 
 -- A space, the letter of a prefix, an `i` if it is binary, and the letter of the kind are a space and the unit's name.
 pub named : {first last : ℕ} (kind : Kind) (power : ℕ) (binary : Bool) → 1 ≤ power
@@ -91,23 +92,20 @@ pub written_over :
     → first ≡ point → drop first middle ≡ digits ++ drop (point + 4) old
     → second ≡ point + len → take second new ≡ take second middle → drop second new ≡ name ++ drop end middle
     → drop point new ≡ (text ++ name) ++ drop end old
-written_over {text} old middle new digits name point len end four few covers text_is first_is digits_are second_is kept name_is =
-    let here : drop point middle ≡ digits ++ drop 4 (drop point old) =
-    drop_known middle first_is digits_are ∙ ap (λ rest. digits ++ rest) (sym (drop-drop 4 point old)) in
-    let front : take len (drop point new) ≡ text =
-    grind (arith, common_steps, drop-take point len new, drop-take point len middle, second_is, kept, text_is, four, few) in
-    let rest : drop end middle ≡ drop end old =
+written_over {text} old middle new digits name point len end four few covers text_is first_is digits_are second_is kept
+    name_is =
     grind (
       arith,
-      here,
+      common_steps,
+      drop-take point len new,
+      drop-take point len middle,
       drop-drop (end - point) point middle,
       drop-drop (end - point) point old,
+      drop-drop 4 point old,
       drop-append-drop 4 (drop point old) digits (end - point),
-      four,
-      covers,
-    ) in
-    let behind = drop_known new second_is name_is in
-    grind (arith, common_steps, front, behind, rest, take-append-drop len (drop point new), drop-drop len point new)
+      take-append-drop len (drop point new),
+      drop-drop len point new,
+    )
 
 -- In a unit with a prefix the whole part is below 10^27.
 pub whole_below : (size power : ℕ) (binary : Bool) (whole thousandths : ℕ) → size < size_limit → 1 ≤ power

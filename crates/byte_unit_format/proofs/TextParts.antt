@@ -1,10 +1,17 @@
--- The parts of a text, written one after the other, are the text.
-use Rattle.std.proofs.Common.{◌≡◌, ◌+◌, ◌-◌, ◌/◌, ◌<◌, ◌≤◌, ℕ, List, [], ◌∷◌, ◌++◌, length, take, drop, set, get_or, replicate, append_assoc}
-use Rattle.std.proofs.Common.{arith, rules, ap, sym, ◌∙◌, subst, min}
+-- The parts of a text, written or appended one after the other, are the text: runs of one byte, digits, names.
+use Rattle.std.proofs.Common.{◌≡◌, ℕ, List, ◌++◌, length, Result, arith, ap, refl, subst, ◌∙◌, ◌+◌, ◌-◌, ◌<◌, ◌≤◌, min}
+use Rattle.std.proofs.Common.{◌∷◌, take, replicate, sym, append_assoc, ◌/◌, [], drop, set, get_or, rules}
+use Rattle.std.specs.String.{string_bytes}
+use Rattle.std.specs.declared.string.String.{String}
+use Rattle.std.proofs.lemmas.Result.{on_ok_weaker, on_err_weaker}
+use Rattle.byte_unit_format.specs.Room.{AppendsForm}
+use Rattle.std.proofs.lemmas.Grind.{common_steps}
+use Rattle.std.proofs.lemmas.List.{take-replicate, replicate-append-replicate, take_all, take-take, take-map}
+use Rattle.std.proofs.lemmas.List.{length-map, take_at}
+use Rattle.byte_unit_math.specs.Numeral.{fraction_text, glyphs}
+use Rattle.byte_unit_format.proofs.WrittenForms.{fraction_some, fraction_length, length_of_fraction_text}
 use Rattle.std.specs.Fmt.{decimal}
 use Rattle.std.specs.Str.{IsAscii}
-use Rattle.std.proofs.lemmas.Grind.{common_steps}
-use Rattle.std.proofs.lemmas.List.{replicate-append-replicate, take_at, drop-set-add, length-drop, drop-drop}
 use Rattle.std.proofs.lemmas.List.Elements.{All-replicate}
 use Rattle.std.proofs.lemmas.Str.{IsAscii-append}
 use Rattle.std.proofs.lemmas.Str.Ascii.{IsAscii-from_all}
@@ -18,7 +25,66 @@ use Rattle.byte_unit_format.specs.declared.spec.FormatSpec.{FormatSpec}
 use Rattle.byte_unit_format.specs.declared.parts.TextParts.{TextParts}
 use Rattle.byte_unit_format.specs.declared.parts.Fraction.{Fraction}
 use Rattle.byte_unit_format.specs.declared.parts.Fraction.TheVariants.{Last, First}
-use Rattle.byte_unit_format.proofs.WrittenForms.{fraction_length, length_of_fraction_text}
+
+-- A call that appends one text of a form appends a text of that form, if all are equally long.
+pub appends_form : {Z E R : Type 0} {IsForm : List ℕ → Type 0} {old new : String Z} {result : Result R E}
+    (form : List ℕ) → IsForm form → ((other : List ℕ) → IsForm other → length other ≡ length form)
+    → AppendsForm (λ other. other ≡ form) old new result → AppendsForm IsForm old new result
+appends_form {old = old} {result = result} form is_form as_long this = record {
+  added = on_ok_weaker result (λ added. (form, is_form, added.2 ∙ ap (λ other. string_bytes old ++ other) added.1))
+      this.added;
+  used = on_ok_weaker result (λ used other is_other. let room = used form refl in
+      omega (arith, room, as_long other is_other)) this.used;
+  refused =
+      on_err_weaker result (λ refused.
+      (form, is_form, let same = ap length refused.1 in omega (arith, same, refused.2))) this.refused;
+  unchanged = this.unchanged;
+  kept = this.kept;
+}
+
+-- A call that appends a text appends each equal text.
+pub appends_same : {Z E R : Type 0} {old new : String Z} {result : Result R E} {text form : List ℕ} → text ≡ form
+    → AppendsForm (λ other. other ≡ text) old new result → AppendsForm (λ other. other ≡ form) old new result
+appends_same {old} {new} {result} {text} {form} same this =
+    let Adds : List ℕ → Type 0 = λ text. AppendsForm (λ other. other ≡ text) old new result in subst Adds same this
+
+-- After the next part of a run is added, at most 64 bytes, that many bytes fewer are left.
+pub run_more : (byte count left next : ℕ) (old : List ℕ) → left ≤ count → next ≡ min left 64
+    → (old ++ replicate (count - left) byte) ++ take next (replicate 64 byte)
+    ≡ old ++ replicate (count - (left - next)) byte
+run_more byte count left next old few next_is =
+    rw (take-replicate next 64 byte (omega (arith, next_is)))
+    (grind (
+      arith,
+      append_assoc old (replicate (count - left) byte) (replicate next byte),
+      replicate-append-replicate (count - left) next byte,
+    ))
+
+-- A point, the digits that are written, and zeros are the text of the padded fraction.
+pub fraction_text_of_shown :
+    (places shown : ℕ) (digits characters : List ℕ) → 0 < places → shown ≡ min places (length digits)
+    → take (length digits) characters ≡ glyphs digits
+    → 46 ∷ (take shown characters ++ replicate (places - shown) 48)
+    ≡ fraction_text (take places digits ++ replicate (places - length digits) 0)
+fraction_text_of_shown places shown digits characters some shown_is characters_are =
+    let rest : places - shown ≡ places - length digits = omega (arith, shown_is) in
+    let these : take shown characters ≡ glyphs (take places digits) =
+    grind (
+      arith,
+      common_steps,
+      characters_are,
+      take-map (λ digit. 48 + digit) shown digits,
+      take-take shown (length digits) characters,
+      take_all shown digits,
+      take_all places digits,
+    ) in
+    rw (these, rest) (sym (fraction_some places digits some))
+
+-- Characters that begin with the text of digits are at least as many as these.
+pub glyphs_within : (digits characters : List ℕ) → take (length digits) characters ≡ glyphs digits
+    → (take (length digits) characters ≡ glyphs digits) × (length digits ≤ length characters)
+glyphs_within digits characters are =
+    (are, grind (arith, common_steps, ap length are, length-map digits (λ digit. 48 + digit)))
 
 -- The text of the digits after the point is as long as the digits, and one more for the point if there are any.
 pub fraction_long : (fraction : Fraction)
@@ -37,7 +103,7 @@ writes_form {IsForm} text is_form this =
 -- The beginning of a list, by its length.
 pub front_is : {list : List ℕ} {len : ℕ} (text behind : List ℕ) → list ≡ text ++ behind → len ≡ length text
     → take len list ≡ text
-front_is {list} {len} text behind list_is len_is = ap (λ list. take len list) list_is ∙ take_at text behind len (sym len_is)
+front_is text behind list_is len_is = rw list_is (take_at text behind _ (sym len_is))
 
 -- The text that such a call has written is at the beginning of the buffer.
 pub front_written : {IsForm : List ℕ → Type 0} {old new : List ℕ} {needed : ℕ} (this : WritesForm IsForm old new needed)
@@ -76,34 +142,13 @@ pub piece_ascii :
 piece_ascii room start text bytes behind begins put ascii =
     rw (put, take_at text behind (room - start) (omega (arith, begins))) ascii
 
--- The last, the middle and the first element of a list of at most three, set in this order, are all of it.
-set_name : (name xs : List ℕ) → 0 < length name → length name ≤ 3 → length name ≤ length xs
-    → set (set (set xs (length name - 1) (get_or name (length name - 1) 0)) (length name / 2) (get_or name (length name / 2) 0))
-    0 (get_or name 0 0)
-    ≡ name ++ drop (length name) xs
-set_name [] xs some few fits = absurd (omega (arith, some))
-set_name (a ∷ []) xs some few fits = grind (arith, common_steps)
-set_name (a ∷ b ∷ []) xs some few fits = grind (arith, common_steps)
-set_name (a ∷ b ∷ c ∷ []) xs some few fits = grind (arith, common_steps)
-set_name (a ∷ b ∷ c ∷ d ∷ more) xs some few fits = absurd (omega (arith, few))
-
--- A name written in this way is there, and what follows stays.
+-- The last, the middle and the first byte of a name of at most three, set in this order, are all of it.
 pub name_put : (name out : List ℕ) (start : ℕ) → 0 < length name → length name ≤ 3 → start + length name ≤ length out
     → drop start (set (set (set out (start + (length name - 1)) (get_or name (length name - 1) 0))
     (start + length name / 2) (get_or name (length name / 2) 0)) start (get_or name 0 0))
     ≡ name ++ drop (start + length name) out
-name_put name out start some few within =
-    let back = get_or name (length name - 1) 0 in
-    let middle = get_or name (length name / 2) 0 in
-    let front = get_or name 0 0 in
-    let fits = set_name name (drop start out) some few (omega (arith, length-drop {A = ℕ} start out, within)) in
-    let one = set out (start + (length name - 1)) back in
-    let two = set one (start + length name / 2) middle in
-    grind (
-      arith,
-      fits,
-      drop-drop (length name) start out,
-      drop-set-add start out (length name - 1) back,
-      drop-set-add start one (length name / 2) middle,
-      drop-set-add start two 0 front,
-    )
+name_put [] out start some few within = absurd (omega (arith, some))
+name_put (a ∷ []) out start some few within = grind (arith, common_steps)
+name_put (a ∷ b ∷ []) out start some few within = grind (arith, common_steps)
+name_put (a ∷ b ∷ c ∷ []) out start some few within = grind (arith, common_steps)
+name_put (a ∷ b ∷ c ∷ d ∷ more) out start some few within = absurd (omega (arith, few))

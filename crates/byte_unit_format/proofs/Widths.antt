@@ -1,7 +1,14 @@
--- The length of a text that is padded to a width.
-use Rattle.std.proofs.Common.{ℕ, arith}
+-- The length of a text that is padded to a width, and of the name of a unit.
+use Rattle.std.proofs.Common.{◌≤◌, length, arith, ℕ}
+use Rattle.std.proofs.lemmas.Grind.{common_steps}
+use Rattle.byte_unit_base.specs.Shape.{Shape}
+use Rattle.byte_unit_base.specs.Version.{unit_name_in, current}
 use Rattle.std.proofs.lemmas.List.{length-append, length-replicate}
 use Rattle.byte_unit_format.specs.FormLaws.{PlainFormFillsWidth, LayoutFillsWidth}
+
+-- The name of a unit has at most three characters.
+pub name_short : (unit : Shape) → length (unit_name_in current unit) ≤ 3
+name_short unit = grind (arith, common_steps)
 
 -- A size formatted as digits is as long as the width, or as its sign and digits if these are longer.
 pub plain_form_fills_width : PlainFormFillsWidth

@@ -1,25 +1,118 @@
 -- The digits of a size: how many of them are zeros at their end, and where a decimal prefix cuts them.
-use Rattle.std.proofs.Common.{◌≡◌, ◌≢◌, ℕ, zero, suc, ◌+◌, ◌-◌, ◌*◌, ◌/◌, ◌%◌, ◌^◌, ◌<◌, ◌≤◌, List, [], ◌∷◌}
-use Rattle.std.proofs.Common.{length, take, drop, replicate, get_or, min, arith, ap, sym, refl, ◌∙◌}
+use Rattle.std.proofs.Common.{◌≡◌, ◌≢◌, ℕ, ◌+◌, ◌-◌, ◌*◌, ◌/◌, ◌%◌, ◌^◌, ◌<◌, ◌≤◌, List, [], ◌∷◌, ◌++◌, length, take}
+use Rattle.std.proofs.Common.{drop, get_or, min, suc, arith, ap, sym, refl, ◌∙◌, zero}
 use Rattle.std.specs.Fmt.{decimal}
-use Rattle.std.proofs.Math.Nat.{pow-le-pow_right, div-add-mod', div-div-eq-div-mul, mod-eq_of_lt, pow-succ'}
+use Rattle.std.proofs.Math.Nat.{pow-le-pow_right, div-le_self, div-add-mod', div-div-eq-div-mul, mod-eq_of_lt}
+use Rattle.std.proofs.Math.Nat.{pow-succ'}
+use Rattle.std.proofs.lemmas.Bool.Decides.{nat_tests}
 use Rattle.std.proofs.lemmas.Fmt.{length-decimal-le_wide}
 use Rattle.std.proofs.lemmas.Grind.{common_steps}
-use Rattle.std.proofs.lemmas.List.{take-append-le}
-use Rattle.std.proofs.lemmas.List.{get_or_append_left, get_or-append_right, get_or-replicate}
+use Rattle.std.proofs.lemmas.List.{take-append-drop, take-append-le, take-take, drop_more}
 use Rattle.std.proofs.lemmas.Nat.{pow-add}
+use Rattle.byte_unit_math.proofs.WrittenDigits.{decimal_one_digit, decimal_next_digit, decimal_length_positive}
+use Rattle.byte_unit_math.proofs.WrittenDigits.{decimal_cut, decimal_length_split}
+use Rattle.byte_unit_format.specs.FewPlaces.{IsGreatest, FitsPrefix}
+use Rattle.byte_unit_format.specs.WithDigits.{cut_digits}
+use Rattle.byte_unit_format.proofs.FewPlaces.{power_split, exponent_below, power_divides, few_thousands}
 use Rattle.byte_unit_math.specs.Bounds.{size_limit}
 use Rattle.byte_unit_math.specs.Digits.{trim_zeros}
 use Rattle.byte_unit_math.specs.Numeral.{fraction_text, padded_digits}
 use Rattle.byte_unit_math.proofs.Digits.{mod_next_power, one_le_pow10}
-use Rattle.byte_unit_math.proofs.WrittenDigits.{decimal_length_positive, decimal_length_split}
-use Rattle.byte_unit_format.specs.FewPlaces.{FitsPrefix, IsGreatest}
 use Rattle.byte_unit_format.specs.Suffix.{thousandths_text}
-use Rattle.byte_unit_format.specs.WithDigits.{cut_digits}
 use Rattle.byte_unit_format.proofs.NarrowTexts.{decimal_length}
-use Rattle.byte_unit_format.proofs.FewPlaces.{exponent_below, few_thousands}
-use Rattle.byte_unit_format.proofs.DecimalDigits.{first_digits, digit_of_decimal, between_powers, greatest_of_zeros}
-use Rattle.byte_unit_format.proofs.DecimalDigits.{cut_some, cut_none, three_elements}
+
+-- The first digits of a number, without the last k.
+pub first_digits : (k n : ℕ) → 10 ^ k ≤ n → n < 2 ^ 128
+    → take (length (decimal n) - k) (decimal n) ≡ decimal (n / 10 ^ k)
+first_digits k n wide small =
+    grind (arith, common_steps, decimal_cut k n wide small, decimal_length_split k n wide small)
+
+-- The last character of a number is its last digit.
+last_of_decimal : (n : ℕ) → n < 2 ^ 128 → get_or (decimal n) (length (decimal n) - 1) 0 ≡ 48 + n % 10
+last_of_decimal n small = grind (arith, common_steps, decimal_one_digit n, decimal_next_digit n)
+
+-- The character of the power of ten with k zeros is the digit there.
+pub digit_of_decimal : (k n : ℕ) → 10 ^ k ≤ n → n < 2 ^ 128
+    → get_or (decimal n) (length (decimal n) - 1 - k) 0 ≡ 48 + n / 10 ^ k % 10
+digit_of_decimal k n wide small =
+    let small_front : n / 10 ^ k < 2 ^ 128 = omega (arith, small, div-le_self n (10 ^ k)) in
+    grind (
+      arith,
+      common_steps,
+      decimal_cut k n wide small,
+      decimal_length_split k n wide small,
+      last_of_decimal (n / 10 ^ k) small_front,
+      decimal_length_positive (n / 10 ^ k) small_front,
+    )
+
+-- A number of a number of digits is at least the power of ten with one digit more than zeros, and below the next one.
+pub between_powers : (n : ℕ) → 1 ≤ n → n < 2 ^ 128
+    → (10 ^ (length (decimal n) - 1) ≤ n) × (n < 10 ^ length (decimal n))
+between_powers n some small =
+    let len = length (decimal n) in
+    let one = pow-le-pow_right {n = 10} (omega arith) {i = len - 1} {j = 0} in (
+      grind (arith, one, length-decimal-le_wide (len - 1) n, decimal_length_positive n small),
+      grind (arith, decimal_length_split len n, decimal_length_positive (n / 10 ^ len), div-le_self n (10 ^ len)),
+    )
+
+-- The zeros at the end of a size tell the largest decimal prefix.
+pub greatest_of_zeros :
+    (size front zeros len power : ℕ) → size ≡ front * 10 ^ zeros → front % 10 ≢ 0 → 10 ^ (len - 1) ≤ size
+    → size < 10 ^ len → power ≡ min ((len - 1) / 3) ((zeros + 3) / 3) → IsGreatest 3 10 3 size power
+greatest_of_zeros size front zeros len power product odd at_least below power_is =
+    let next = ap (λ n. front * n) (pow-add 10 zeros 3) in
+    let split = power_split 10 (3 * power) (zeros + 3) (omega (arith, power_is)) in
+    let short = pow-le-pow_right {n = 10} (omega arith) {i = 3 * power} {j = len - 1} (omega (arith, power_is)) in
+    record {
+      fits = record {
+        exact = (front * 10 ^ (zeros + 3 - 3 * power), omega (arith, product, next, ap (λ n. front * n) split));
+        not_above = omega (arith, at_least, short);
+      };
+      greatest = λ other fits.
+          let high = exponent_below 10 (3 * other) len size (omega arith) fits.not_above below in
+          let low = power_divides 10 1 front fits.exact.0 (zeros + 3) (3 * other) (omega arith) odd
+          (grind (arith, product, next, fits.exact.1)) in
+          omega (arith, high, low, power_is);
+    }
+
+-- What a list has before an index and from there on is its text up to the end.
+pub text_at : {front : List ℕ} (text list behind : List ℕ) (cut end : ℕ) → take cut list ≡ front
+    → drop cut list ≡ text ++ behind → length front + length text ≡ end → take end list ≡ front ++ text
+text_at {front} text list behind cut end front_is text_is end_is =
+    grind (arith, common_steps, take-append-drop cut list)
+
+-- The beginning of a list that begins with a text is that of the text.
+pub front_at : {start : ℕ} (list text behind : List ℕ) (cut : ℕ) → start ≡ 0 → drop start list ≡ text ++ behind
+    → cut ≤ length text → take cut list ≡ take cut text
+front_at list text behind cut first list_is few = grind (arith, common_steps)
+
+-- What is kept before an index is kept before each smaller one.
+pub take_kept : (new old : List ℕ) {few more : ℕ} → few ≤ more → take more new ≡ take more old
+    → take few new ≡ take few old
+take_kept new old {few} {more} less kept = rw (← take-take few more new less, kept, take-take few more old less) refl
+
+-- The digits after the point, if there are any, and if there are none.
+pub cut_some : (cut used : ℕ) (digits : List ℕ) → cut < used
+    → cut_digits cut used digits ≡ 46 ∷ take (used - cut) (drop cut digits)
+cut_some cut used digits more = grind (arith, nat_tests)
+
+pub cut_none : (cut used : ℕ) (digits : List ℕ) → used ≤ cut → cut_digits cut used digits ≡ []
+cut_none cut used digits few = grind (arith, nat_tests)
+
+-- The first of three elements from an index on are the first from there on.
+pub three_elements : (list : List ℕ) (at : ℕ) → at + 3 ≤ length list
+    → drop at list ≡ get_or list at 0 ∷ get_or list (at + 1) 0 ∷ get_or list (at + 2) 0 ∷ drop (at + 3) list
+three_elements list at within =
+    grind (arith, drop_more list at 0, drop_more list (at + 1) 0, drop_more list (at + 2) 0)
+
+pub three_of : (list : List ℕ) (at count : ℕ) → count ≤ 3 → at + 3 ≤ length list
+    → take (count + 1) (46 ∷ get_or list at 0 ∷ get_or list (at + 1) 0 ∷ get_or list (at + 2) 0 ∷ [])
+    ≡ 46 ∷ take count (drop at list)
+three_of list at count few within =
+    let three = get_or list at 0 ∷ get_or list (at + 1) 0 ∷ get_or list (at + 2) 0 ∷ [] in
+    ap (λ n. take n (46 ∷ three)) (let next : count + 1 ≡ suc count = omega arith in next)
+    ∙ ap (λ l. 46 ∷ l) (sym (take-append-le count three (drop (at + 3) list) (omega (arith, few)))
+    ∙ ap (λ l. take count l) (sym (three_elements list at within)))
 
 -- A size has from 1 to 30 digits; one of at most three is below 1000, and one of more is not.
 pub few_digits : (size : ℕ) → size < size_limit → (1 ≤ length (decimal size)) × (length (decimal size) ≤ 30)
@@ -41,15 +134,13 @@ pub record IsUsed (digits : List ℕ) (used : ℕ) : Type 0 where
 -- The digit of a size at a power of ten.
 digit_of_size : (size k : ℕ) → 10 ^ k ≤ size → size < size_limit
     → get_or (padded_digits size) (length (decimal size) - 1 - k) 0 ≡ 48 + size / 10 ^ k % 10
-digit_of_size size k wide small =
-    let some = decimal_length_positive size (omega (arith, small)) in
-    get_or_append_left (decimal size) (replicate (32 - length (decimal size)) 48) 0 _ (omega (arith, some))
-    ∙ digit_of_decimal k size wide (omega (arith, small))
+digit_of_size size k wide small = grind (arith, common_steps, digit_of_decimal k size, few_digits size)
 
 -- A size has as many digits as powers of ten are at most as large.
 power_within : (size k : ℕ) → 1 ≤ size → size < size_limit → k < length (decimal size) → 10 ^ k ≤ size
 power_within size k some small within =
-    grind (arith, between_powers size some, pow-le-pow_right {n = 10} (omega arith) {i = k} {j = length (decimal size) - 1})
+    let rises = pow-le-pow_right {n = 10} (omega arith) {i = k} {j = length (decimal size) - 1} in
+    grind (arith, between_powers size some, rises)
 
 -- If the digits are zeros from an index on, what is written there is worth nothing.
 rest_is_zero : (size used k : ℕ) → 1 ≤ size → size < size_limit → IsUsed (padded_digits size) used
@@ -68,60 +159,28 @@ rest_is_zero size used (suc k) some small is_used behind =
 pub used_within : (size used : ℕ) → 1 ≤ size → size < size_limit → IsUsed (padded_digits size) used → used ≤ 32
     → (1 ≤ used) × (used ≤ length (decimal size))
 used_within size used some small is_used within =
-    let len = length (decimal size) in
-    let few = few_digits size small in
     let below = (between_powers size some (omega (arith, small))).1 in (
-      grind (arith, rest_is_zero size used len some small is_used, mod-eq_of_lt below),
-      grind (
-        arith,
-        is_used.last (used - 1),
-        get_or-append_right (decimal size) (replicate (32 - len) 48) len (used - 1) 0,
-        get_or-replicate {A = ℕ} (32 - len) (used - 1 - len) 48 0,
-      ),
+      grind (arith, rest_is_zero size used (length (decimal size)) some small is_used, mod-eq_of_lt below),
+      grind (arith, common_steps, is_used.last (used - 1), few_digits size),
     )
 
--- Three digits from an index on, and the number of digits up to the last that is not a zero.
-record AreDigits (digits : List ℕ) (cut used a b c : ℕ) : Type 0 where
-  is_used : IsUsed digits used
-  few : used ≤ cut + 3
-  room : cut + 3 ≤ 32
-  long : length digits ≡ 32
-  first : get_or digits cut 0 ≡ 48 + a
-  second : get_or digits (cut + 1) 0 ≡ 48 + b
-  third : get_or digits (cut + 2) 0 ≡ 48 + c
-
--- The last of the three that is not a zero tells this number.
-last_of_three : {digits : List ℕ} {cut used a b c : ℕ} → AreDigits digits cut used a b c
-    → (1 ≤ c → used ≡ cut + 3) × (c ≡ 0 → 1 ≤ b → used ≡ cut + 2) × (c ≡ 0 → b ≡ 0 → 1 ≤ a → used ≡ cut + 1)
-    × (c ≡ 0 → b ≡ 0 → a ≡ 0 → used ≤ cut)
-last_of_three {digits} {cut} {used} are =
-    let zeros = are.is_used.zeros in
-    let last = are.is_used.last in (
-      λ some. grind (arith, zeros (cut + 2)),
-      λ none some. grind (arith, zeros (cut + 1), last (cut + 2)),
-      λ none no some. grind (arith, zeros cut, last (cut + 2), last (cut + 1)),
-      λ none no nor. grind (arith, last (cut + 2), last (cut + 1), last cut),
+-- Three digits without trailing zeros, by the number of digits up to the last that is not a zero.
+shown_digits : (digits : List ℕ) (cut used a b c : ℕ) → IsUsed digits used → used ≤ cut + 3 → cut + 3 ≤ 32
+    → length digits ≡ 32 → get_or digits cut 0 ≡ 48 + a → get_or digits (cut + 1) 0 ≡ 48 + b
+    → get_or digits (cut + 2) 0 ≡ 48 + c → cut_digits cut used digits ≡ fraction_text (trim_zeros (a ∷ b ∷ c ∷ []))
+shown_digits digits cut used a b c is_used few room long first second third =
+    grind (
+      arith,
+      cut_some cut used digits,
+      cut_none cut used digits,
+      three_elements digits cut,
+      is_used.zeros (cut + 2),
+      is_used.last (cut + 2),
+      is_used.zeros (cut + 1),
+      is_used.last (cut + 1),
+      is_used.zeros cut,
+      is_used.last cut,
     )
-
-some_shown : {digits : List ℕ} {cut used a b c : ℕ} (count : ℕ) → AreDigits digits cut used a b c → used ≡ cut + count
-    → 1 ≤ count → cut_digits cut used digits ≡ 46 ∷ take count ((48 + a) ∷ (48 + b) ∷ (48 + c) ∷ drop (cut + 3) digits)
-some_shown {digits} {cut} {used} count are is some =
-    let all = three_elements digits cut (omega (arith, are.long, are.room)) in
-    cut_some cut used digits (omega (arith, is, some))
-    ∙ (ap (λ n. 46 ∷ take n (drop cut digits)) (let same : used - cut ≡ count = omega (arith, is) in same)
-    ∙ rw (all, are.first, are.second, are.third) refl)
-
--- Three digits without trailing zeros, by the number of them that are shown.
-shown_digits : {digits : List ℕ} {cut used : ℕ} (a b c : ℕ) → AreDigits digits cut used a b c
-    → cut_digits cut used digits ≡ fraction_text (trim_zeros (a ∷ b ∷ c ∷ []))
-shown_digits {digits} {cut} {used} zero zero zero are = cut_none cut used digits ((last_of_three are).3 refl refl refl)
-shown_digits (suc a) zero zero are = some_shown 1 are ((last_of_three are).2 refl refl (omega arith)) (omega arith)
-shown_digits zero (suc b) zero are = some_shown 2 are ((last_of_three are).1 refl (omega arith)) (omega arith)
-shown_digits (suc a) (suc b) zero are = some_shown 2 are ((last_of_three are).1 refl (omega arith)) (omega arith)
-shown_digits zero zero (suc c) are = some_shown 3 are ((last_of_three are).0 (omega arith)) (omega arith)
-shown_digits zero (suc b) (suc c) are = some_shown 3 are ((last_of_three are).0 (omega arith)) (omega arith)
-shown_digits (suc a) zero (suc c) are = some_shown 3 are ((last_of_three are).0 (omega arith)) (omega arith)
-shown_digits (suc a) (suc b) (suc c) are = some_shown 3 are ((last_of_three are).0 (omega arith)) (omega arith)
 
 -- The array of the digits has 32 bytes, of which the first are the digits.
 pub padded_length : (size : ℕ) → length (decimal size) ≤ 32 → length (padded_digits size) ≡ 32
@@ -150,27 +209,25 @@ cut_of_size size used power some small wide is_used few =
     let positive : 1 ≤ size = omega (arith, wide, one_le_pow10 k) in
     let front = size / 10 ^ m in
     let t = front % 1000 in
-    let place : (j at : ℕ) → j < 3 → at ≡ len - 1 - (m + j) → get_or (padded_digits size) at 0 ≡ 48 + front / 10 ^ j % 10 =
+    let place : (j at : ℕ) → j < 3 → at ≡ len - 1 - (m + j)
+    → get_or (padded_digits size) at 0 ≡ 48 + front / 10 ^ j % 10 =
     λ j at short at_is.
-    let digit = digit_of_size size (m + j) (power_within size (m + j) positive small (omega (arith, longer, short, some))) small in
+    let wide_enough = power_within size (m + j) positive small (omega (arith, longer, short, some)) in
+    let digit = digit_of_size size (m + j) wide_enough small in
     rw (at_is, digit, div-div-eq-div-mul size (10 ^ m) (10 ^ j), pow-add 10 m j) refl in
     let whole_is : size / 10 ^ k ≡ front / 1000 = rw power_is (sym (div-div-eq-div-mul size (10 ^ m) 1000)) in
-    let product : front * 10 ^ m ≡ size =
-    omega (arith, div-add-mod' size (10 ^ m), rest_is_zero size used m positive small is_used (omega (arith, few, some))) in
+    let zeros = rest_is_zero size used m positive small is_used (omega (arith, few, some)) in
+    let product : front * 10 ^ m ≡ size = omega (arith, div-add-mod' size (10 ^ m), zeros) in
     let both : size / 10 ^ k * 1000 + t ≡ front = omega (arith, whole_is) in
     record {
       thousandths = t;
       below = omega arith;
       whole_is = take-append-le cut (decimal size) _ (omega arith) ∙ first_digits k size wide (omega (arith, small));
-      fraction_is = shown_digits (t / 10 ^ 2 % 10) (t / 10 ^ 1 % 10) (t / 10 ^ 0 % 10) (record {
-        is_used = is_used;
-        few = omega (arith, few, longer);
-        room = omega (arith, most, some);
-        long = padded_length size (omega (arith, most));
-        first = omega (arith, place 2 cut (omega arith) (omega (arith, longer, some)));
-        second = omega (arith, place 1 (cut + 1) (omega arith) (omega (arith, longer, some)));
-        third = omega (arith, place 0 (cut + 2) (omega arith) (omega (arith, longer, some)));
-      });
+      fraction_is = shown_digits (padded_digits size) cut used (t / 10 ^ 2 % 10) (t / 10 ^ 1 % 10) (t / 10 ^ 0 % 10)
+          is_used (omega (arith, few, longer)) (omega (arith, most, some)) (padded_length size (omega (arith, most)))
+          (omega (arith, place 2 cut (omega arith) (omega (arith, longer, some))))
+          (omega (arith, place 1 (cut + 1) (omega arith) (omega (arith, longer, some))))
+          (omega (arith, place 0 (cut + 2) (omega arith) (omega (arith, longer, some))));
       value = ap (λ n. n * 10 ^ k) both ∙ omega (arith, ap (λ n. front * n) power_is, product);
     }
 
@@ -182,8 +239,8 @@ pub record FoundPower (size used power : ℕ) : Type 0 where
   pub known : power ≤ 9
   pub within : used ≤ length (decimal size)
 
-pub found_power : {digits : List ℕ} {size len used power : ℕ} → digits ≡ padded_digits size → len ≡ length (decimal size)
-    → size < size_limit → 4 ≤ len → IsUsed digits used → used ≤ 32
+pub found_power : {digits : List ℕ} {size len used power : ℕ} → digits ≡ padded_digits size
+    → len ≡ length (decimal size) → size < size_limit → 4 ≤ len → IsUsed digits used → used ≤ 32
     → power ≡ min ((len - 1) / 3) ((len + 3 - used) / 3) → FoundPower size used power
 found_power {digits} {size} {len} {used} {power} digits_are len_is small wide given within power_is =
     let is_used = rw digits_are at given in

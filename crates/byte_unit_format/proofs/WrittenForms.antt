@@ -1,32 +1,97 @@
--- What the code writes of a size is its text, and all texts of a size are equally long.
+-- A size has exactly one text with a unit by each spec, and what the code writes of it is this text.
+use Rattle.std.proofs.Common.{rules, ◌≡◌, ℕ, ◌*◌, inl, inr, false, List, refl, sym, ◌∙◌, ⊎_elim, ◌+◌, ◌-◌, ◌/◌, ◌%◌}
+use Rattle.std.proofs.Common.{◌^◌, ◌<◌, ◌≤◌, min, zero, suc, Bool, true, ◌∷◌, ◌++◌, length, take, replicate, arith, ap}
+use Rattle.std.proofs.Common.{subst}
+use Rattle.std.proofs.Math.Nat.{eq_of_mul-eq-mul_right, mod-eq_of_lt}
+use Rattle.byte_unit_base.specs.Shape.{Shape, bits}
+use Rattle.byte_unit_base.specs.Version.{Version, unit_name_in, current}
+use Rattle.byte_unit_base.specs.Choice.{IsRecoveredIn, family_for}
+use Rattle.byte_unit_base.proofs.Choosing.{some_bits, own_number}
+use Rattle.byte_unit_base.proofs.OneChoice.{one_largest}
+use Rattle.byte_unit_base.specs.declared.kind.Kind.{Kind}
+use Rattle.byte_unit_format.specs.declared.spec.FormatSpec.{FormatSpec}
+use Rattle.byte_unit_base.specs.Kinds.{bits_in, own_family, own_unit}
+use Rattle.byte_unit_format.specs.Forms.{places_of, IsSizeFormIn, IsSizeForm, IsText}
+use Rattle.byte_unit_math.specs.Bounds.{scale, places_of_decimal}
+use Rattle.byte_unit_math.specs.Numeral.{short_numeral, glyphs, fraction_text, text_of}
+use Rattle.byte_unit_base.proofs.LaterChoices.{number_times_chosen}
+use Rattle.byte_unit_base.proofs.SomeChoice.{choice_or_none}
+use Rattle.byte_unit_format.specs.Layout.{layout}
+use Rattle.byte_unit_format.specs.FormLaws.{SizeHasOneForm}
 use Rattle.std.specs.Prelude.{MatchBool}
-use Rattle.std.proofs.Common.{◌≡◌, ◌+◌, ◌-◌, ◌*◌, ◌/◌, ◌%◌, ◌^◌, ◌<◌, ◌≤◌, min, ℕ, zero, suc}
-use Rattle.std.proofs.Common.{Bool, true, false, List, ◌∷◌, ◌++◌, length, take}
-use Rattle.std.proofs.Common.{replicate, arith, ap, sym, refl, subst, ◌∙◌}
 use Rattle.std.specs.Fmt.{decimal}
-use Rattle.std.proofs.Math.Nat.{mod-eq_of_lt}
 use Rattle.std.proofs.lemmas.List.{length-map, map-append}
 use Rattle.std.proofs.lemmas.Grind.{common_steps}
-use Rattle.byte_unit_math.specs.Bounds.{scale, places_of_decimal}
 use Rattle.byte_unit_math.specs.Digits.{last_digits}
 use Rattle.byte_unit_math.specs.Exact.{IsLeastPlaces}
 use Rattle.byte_unit_math.specs.Finite.{Finite, IsExpansion}
-use Rattle.byte_unit_math.specs.Numeral.{glyphs, fraction_text, text_of}
 use Rattle.byte_unit_math.specs.Padded.{pad_of}
 use Rattle.byte_unit_math.proofs.Digits.{length_last_digits, last_digits_below_ten, value_of_last_digits}
 use Rattle.byte_unit_math.proofs.Fractions.{fraction_text_some}
 use Rattle.byte_unit_math.proofs.Scales.{pow10_split}
 use Rattle.byte_unit_math.proofs.Texts.{text_of_short_numeral, padded_to_own_places}
-use Rattle.byte_unit_base.specs.Shape.{Shape, bits}
-use Rattle.byte_unit_base.specs.Version.{current, unit_name_in}
-use Rattle.byte_unit_base.specs.Choice.{IsRecoveredIn}
-use Rattle.byte_unit_base.specs.declared.kind.Kind.{Kind}
-use Rattle.byte_unit_format.specs.declared.spec.FormatSpec.{FormatSpec}
-use Rattle.byte_unit_base.specs.Kinds.{bits_in}
-use Rattle.byte_unit_format.specs.Layout.{layout}
 use Rattle.byte_unit_format.specs.Plain.{plain}
-use Rattle.byte_unit_format.specs.Forms.{IsSizeForm, IsText, places_of}
-use Rattle.byte_unit_format.proofs.OneForm.{size_form_unique}
+
+-- A size has at most one exact unit within a precision.
+pub recovered_unit_unique :
+    (version : Version) (kind : Kind) (size precision : ℕ) (unit other : Shape)
+    → IsRecoveredIn version kind false size precision unit
+    → IsRecoveredIn version kind false size precision other → unit ≡ other
+recovered_unit_unique version kind size precision unit other (inl largest) (inl other_largest) =
+    one_largest version (family_for kind false) (size * bits_in kind) precision unit other largest other_largest
+recovered_unit_unique version kind size precision unit other (inl largest) (inr none) = absurd (none.0 unit largest.has)
+recovered_unit_unique version kind size precision unit other (inr none) (inl largest) =
+    absurd (none.0 other largest.has)
+recovered_unit_unique version kind size precision unit other (inr own) (inr other_own) = own.1 ∙ sym other_own.1
+
+-- A size has at most one text with a unit by a spec.
+pub size_form_unique : (version : Version) (kind : Kind) (size : ℕ) (spec : FormatSpec) (text other : List ℕ)
+    → IsSizeFormIn version kind size spec text
+    → IsSizeFormIn version kind size spec other → text ≡ other
+size_form_unique version kind size spec text other form other_form =
+    let unit =
+    recovered_unit_unique version kind size (places_of spec.precision) form.unit other_form.unit form.is_recovered
+    other_form.is_recovered in
+    let same : form.number * bits form.unit ≡ other_form.number * bits form.unit =
+    form.number_is ∙ rw unit (sym other_form.number_is) in
+    let number = eq_of_mul-eq-mul_right (bits form.unit) (some_bits form.unit) form.number other_form.number same in
+    rw (form.text_is, other_form.text_is, unit, number) refl
+
+form_exists : (version : Version) (kind : Kind) (size : ℕ) (spec : FormatSpec)
+    → (form : List ℕ) × IsSizeFormIn version kind size spec form
+form_exists version kind size spec =
+    let of : Shape → ℕ → List ℕ =
+    λ unit number. layout (short_numeral number places_of_decimal) (unit_name_in version unit) spec in
+    let precision = places_of spec.precision in
+    ⊎_elim
+    (λ found.
+    let product = number_times_chosen version (own_family kind) (size * bits_in kind) precision found.1 found.0
+    found.2 in
+    let form : IsSizeFormIn version kind size spec (of found.0 found.1) = search (rules, product, found.2.unit_is) in
+    (of found.0 found.1, form))
+    (λ none.
+    let product = own_number kind size (size * scale) (own_unit kind) refl refl in
+    let recovered : IsRecoveredIn version kind false size precision (own_unit kind) = inr (none, refl) in
+    let form : IsSizeFormIn version kind size spec (of (own_unit kind) (size * scale)) =
+    record {
+      unit = own_unit kind;
+      number = size * scale;
+      is_recovered = recovered;
+      number_is = product;
+      text_is = refl;
+    } in
+    (of (own_unit kind) (size * scale), form))
+    (choice_or_none version (own_family kind) (size * bits_in kind) precision)
+
+-- A size has exactly one text with a unit by a spec.
+pub has_one_form : SizeHasOneForm
+has_one_form version kind size spec =
+    let found = form_exists version kind size spec in
+    record {
+      form = found.0;
+      is_form = found.1;
+      one = λ other is_other. size_form_unique version kind size spec other found.0 is_other found.1;
+    }
 
 glyphs_of_zeros : (count : ℕ) → glyphs (replicate count 0) ≡ replicate count 48
 glyphs_of_zeros zero = refl
@@ -78,9 +143,10 @@ parts_expansion {number} {whole} {digits} {places} parts =
     let product = ap (λ power. digits * power) (pow10_split places places_of_decimal parts.few) in
     let split : number ≡ whole * scale + digits * 10 ^ (places_of_decimal - places) =
     omega (arith, parts.whole_is, parts.digits_are) in
+    let times = ap (λ number. number * 10 ^ places) split in
     record {
       small = last_digits_below_ten places digits;
-      exact = rw (length_last_digits places digits, value) (omega (arith, ap (λ number. number * 10 ^ places) split, product));
+      exact = rw (length_last_digits places digits, value) (omega (arith, times, product));
       least = rw (length_last_digits places digits) parts.least.least;
     }
 
@@ -95,14 +161,10 @@ pub size_form_of_parts : (kind : Kind) (size : ℕ) (spec : FormatSpec) {unit : 
     (layout (decimal whole ++ fraction_text (last_digits count digits)) (unit_name_in current unit) spec)
 size_form_of_parts kind size spec {unit} {number} {places} {whole} {digits} {count} places_are recovered product parts =
     let e : Finite = record { whole = whole; digits = last_digits count digits } in
-    record {
-      unit = unit;
-      number = number;
-      is_recovered = rw (← places_are) recovered;
-      number_is = product;
-      text_is = ap (λ number. layout number (unit_name_in current unit) spec)
-          (text_of_short_numeral number places_of_decimal e (parts_expansion parts));
-    }
+    let within = rw places_are at recovered in
+    let text_is = ap (λ number. layout number (unit_name_in current unit) spec)
+    (text_of_short_numeral number places_of_decimal e (parts_expansion parts)) in
+    search (rules, within, product, text_is)
 
 -- If the alternate form is set, the size formatted with a unit is its text.
 pub size_form_is_text :

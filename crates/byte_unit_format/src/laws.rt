@@ -28,7 +28,7 @@ pub fn size_string_reads_back()
 {}
 
 /// States that a size has one form with a unit under each spec, in each version of the grammar.
-#[tactic(auto, using(crate::proofs::SomeForm::has_one_form))]
+#[tactic(auto, using(crate::proofs::WrittenForms::has_one_form))]
 pub fn size_has_one_form()
     ensures { SizeHasOneForm }
 {}
@@ -64,7 +64,7 @@ pub fn layout_fills_width()
 
 /// States that the string of an adjusted size is parsed as the size that it shows if it has at most 28 digits after the
 /// point, and is else rejected at its 29th digit.
-#[tactic(auto, using(crate::proofs::AdjustedStrings::adjusted_string_reads_back))]
+#[tactic(auto, using(crate::proofs::ReadBack::adjusted_string_reads_back))]
 pub fn adjusted_string_reads_back()
     ensures { AdjustedStringReadsBack }
 {}

@@ -40,7 +40,7 @@ pub fn layout_len(e: &Expansion, places: u32, unit: Unit, spec: FormatSpec) -> u
 /// append_layout(&Expansion::new(10, 0, 0), 0, Unit::KiB, ten, &mut text)?;
 /// assert_eq!(rt; text.as_str(), "10     KiB");
 /// ```
-#[tactic(auto, using(crate::proofs::Appending::appends_same))]
+#[tactic(auto, using(crate::proofs::TextParts::appends_same))]
 pub fn append_layout<A: Allocator>(
     e: &Expansion,
     places: u32,
@@ -73,7 +73,7 @@ pub fn write_layout(
 
 /// Returns the parts of a number with its unit.
 #[inline(always)]
-#[tactic(auto, using(crate::proofs::UnitNames::name_short))]
+#[tactic(auto, using(crate::proofs::Widths::name_short))]
 pub(crate) fn layout_parts<'a>(
     whole: u128,
     fraction: Fraction<'a>,

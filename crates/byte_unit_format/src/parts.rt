@@ -171,7 +171,7 @@ impl Fraction<'_> {
 }
 
 /// Writes the point and `places` digits of an expansion, or nothing if `places` is 0.
-#[tactic(auto, using(crate::proofs::WrittenForms::fraction_length, crate::proofs::WrittenDigits::glyphs_within, std::proofs::lemmas::Grind::common_steps))]
+#[tactic(auto, using(crate::proofs::WrittenForms::fraction_length, crate::proofs::TextParts::glyphs_within, std::proofs::lemmas::Grind::common_steps))]
 fn put_first(e: &Expansion, places: u32, out: &mut [u8], end: usize) -> usize
     requires room { length (fraction_text (pad_of places e.now).digits) ≤ end }
     requires within { end ≤ length out.old }

@@ -32,7 +32,7 @@ pub fn plain_len(size: u128, spec: FormatSpec) -> usize
 /// append_plain(10240, FormatSpec { width: Some(8), ..FormatSpec::PLAIN }, &mut text)?;
 /// assert_eq!(rt; text.as_str(), "   10240");
 /// ```
-#[tactic(auto, using(crate::proofs::Appending::appends_same))]
+#[tactic(auto, using(crate::proofs::TextParts::appends_same))]
 pub fn append_plain<A: Allocator>(
     size: u128,
     spec: FormatSpec,

@@ -4,7 +4,7 @@ use Rattle.byte_unit_base.specs.Version.{current}
 use Rattle.byte_unit_base.specs.Units.{shape_of}
 use Rattle.byte_unit_format.specs.Adjusted.{IsAdjustedFormIn}
 use Rattle.byte_unit_format.specs.TextParts.{parts_text}
-use Rattle.byte_unit_format.proofs.Appending.{appends_form}
+use Rattle.byte_unit_format.proofs.TextParts.{appends_form}
 use Rattle.byte_unit_format.proofs.AdjustedForms.{adjusted_form_unique}
 use Rattle.byte_unit_format.proofs.adjusted.append_adjusted.Goals as goal
 

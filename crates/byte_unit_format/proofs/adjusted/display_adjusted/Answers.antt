@@ -10,7 +10,8 @@ returns-clause-plain g c = λ plain ok.
     let digits = c.in_ok-fmt.ensures.writes plain refl in
     let space = c.in_ok-write_str.ensures.writes digits.plain refl in
     let front = has_written_append _ _ _ _ _ _ digits space in
-    has_written_of_eq _ _ _ _ _ (written_text c.args.kind c.args.size c.args.unit c.number_in_unit.ensures c.as_str.ensures)
+    has_written_of_eq _ _ _ _ _
+    (written_text c.args.kind c.args.size c.args.unit c.number_in_unit.ensures c.as_str.ensures)
     (has_written_append _ _ _ _ _ _ front (c.write_str-2.ensures.writes space.plain ok))
 
 pub returns-clause-styled : goal.returns-clause-styled
@@ -18,5 +19,6 @@ returns-clause-styled g c = λ flush ok.
     let digits = c.in_ok-fmt.ensures.styled flush refl in
     let space = c.in_ok-write_str.ensures.styled digits.flush refl in
     let front = has_written_styled_append _ _ _ _ _ _ digits space in
-    has_written_styled_of_eq _ _ _ _ _ (written_text c.args.kind c.args.size c.args.unit c.number_in_unit.ensures c.as_str.ensures)
+    has_written_styled_of_eq _ _ _ _ _
+    (written_text c.args.kind c.args.size c.args.unit c.number_in_unit.ensures c.as_str.ensures)
     (has_written_styled_append _ _ _ _ _ _ front (c.write_str-2.ensures.styled space.flush ok))

@@ -27,8 +27,9 @@ returns-then-spec-clause-number c =
 
 pub returns-then-is_single-clause-number : goal.returns-then-is_single-clause-number
 returns-then-is_single-clause-number c =
+    let exact = c.number_in_unit-then-is_single in
     rw (c.in-Some.is, c.if-spec.false, sym c.is_single.ensures ∙ c.if-is_single.true)
-    (c.number_in_unit-then-is_single.result, c.number_in_unit-then-is_single.ensures, c.all_places-then-is_single.ensures.text)
+    (exact.result, exact.ensures, c.all_places-then-is_single.ensures.text)
 
 pub returns-else-is_single-clause-number : goal.returns-else-is_single-clause-number
 returns-else-is_single-clause-number c =

@@ -13,7 +13,7 @@ returns-then-places-gt-FEW_PLACES-clause-number c =
     let exact = c.number_in_unit-exact in
     let near = c.rounded.ensures in (
       near.0,
-      nearest_of_expansion (c.args.size * bits_in c.args.kind) (bits (shape_of c.args.unit)) exact.result c.args.places Even
-          near.0 (some_bits (shape_of c.args.unit), exact.ensures.exact) near.1,
+      nearest_of_expansion (c.args.size * bits_in c.args.kind) (bits (shape_of c.args.unit)) exact.result
+          c.args.places Even near.0 (some_bits (shape_of c.args.unit), exact.ensures.exact) near.1,
       text_of_padded near.0 c.args.places c.rounded.result near.2,
     )

@@ -1,8 +1,7 @@
 -- The array begins with the text of the size, and a size has only one, so the length is known.
 use Rattle.std.proofs.Common.{arith}
 use Rattle.byte_unit_format.specs.NamedSpecs.{alternate_spec}
-use Rattle.byte_unit_format.proofs.Appending.{appends_form, appends_same}
-use Rattle.byte_unit_format.proofs.TextParts.{front_written}
+use Rattle.byte_unit_format.proofs.TextParts.{appends_form, appends_same, front_written}
 use Rattle.byte_unit_format.proofs.WrittenForms.{text_length_unique}
 use Rattle.byte_unit_format.proofs.alternate.append_alternate.Goals as goal
 

@@ -1,29 +1,27 @@
 -- The whole part and what follows it are the text of the size.
-use Rattle.std.proofs.Common.{◌++◌, ap, sym, subst, arith, refl, ◌∙◌, drop}
+use Rattle.std.proofs.Common.{◌++◌, ap, arith, refl, ◌∙◌, drop}
 use Rattle.std.specs.Fmt.{decimal}
-use Rattle.std.specs.Str.{IsAscii}
 use Rattle.byte_unit_format.specs.Suffix.{suffix_text}
-use Rattle.byte_unit_format.proofs.TextParts.{front_written}
+use Rattle.byte_unit_format.proofs.TextParts.{front_is}
 use Rattle.byte_unit_format.proofs.Suffix.{form_of_split, split_ascii}
 use Rattle.byte_unit_format.proofs.alternate.put_form.Goals as goal
 
 pub returns-clause-written : goal.returns-clause-written
 returns-clause-written c =
-    let text = decimal c.split-whole.result.0 ++ suffix_text c.args.kind c.split-whole.result.1 in
+    let split = c.split-whole in
+    let text = decimal split.result.0 ++ suffix_text c.args.kind split.result.1 in
     let ends = c.put_split.ensures.ends in
     record {
       form = text;
-      is_form = form_of_split c.args.kind c.args.size c.split-whole.result.0 c.split-whole.result.1 c.split-whole.ensures.prefix
-          (c.split-whole.ensures.split c.args.kind);
+      is_form = form_of_split c.args.kind c.args.size split.result.0 split.result.1 split.ensures.prefix
+          (split.ensures.split c.args.kind);
       needed_is = ends;
       fits = λ room. c.put_split.ensures.bytes ∙ ap (λ n. text ++ drop n c.args.out.now) ends;
       too_long = λ less. absurd (omega (arith, less, ends, c.put_split.ensures.narrow, c.requires.room));
     }
 
 pub returns-clause-ascii : goal.returns-clause-ascii
-unfolding returns-clause-written
 returns-clause-ascii c =
-    subst IsAscii
-    (sym (front_written (returns-clause-written c) (omega (arith, c.put_split.ensures.narrow, c.requires.room))))
+    rw (front_is _ _ c.put_split.ensures.bytes c.put_split.ensures.ends)
     (split_ascii c.args.kind c.split-whole.result.0 c.split-whole.result.1 (c.split-whole.ensures.narrow refl)
     c.split-whole.ensures.prefix)

@@ -2,14 +2,14 @@
 use Rattle.std.proofs.Common.{◌≡◌, length, take, arith, replicate}
 use Rattle.std.specs.String.{string_bytes}
 use Rattle.std.proofs.lemmas.List.{length-replicate, take-replicate}
-use Rattle.byte_unit_format.proofs.TextParts.{run_ascii}
-use Rattle.byte_unit_format.proofs.WrittenDigits.{run_more}
+use Rattle.byte_unit_format.proofs.TextParts.{run_ascii, run_more}
 use Rattle.byte_unit_format.proofs.capacity.push_run.Goals as goal
 
 pub push_ascii-requires-clause-ascii : goal.push_ascii-requires-clause-ascii
 push_ascii-requires-clause-ascii g c =
     let next = c.min-next.result in
-    rw (take-replicate next 64 c.args.byte (omega (arith, c.min-next.ensures))) (run_ascii next c.args.byte c.requires.ascii)
+    rw (take-replicate next 64 c.args.byte (omega (arith, c.min-next.ensures)))
+    (run_ascii next c.args.byte c.requires.ascii)
 
 pub loop-left-preserved : goal.loop-left-preserved
 loop-left-preserved g c =
@@ -21,7 +21,8 @@ loop-left-preserved g c =
     record {
       few = omega (arith, c.min-next.ensures);
       bytes = rw (c.push_ascii.ensures.bytes, loop.invariant.bytes)
-          (run_more byte c.args.count loop.left next (string_bytes c.args.text.now) loop.invariant.few c.min-next.ensures);
+          (run_more byte c.args.count loop.left next (string_bytes c.args.text.now) loop.invariant.few
+          c.min-next.ensures);
       room = omega (arith, c.min-next.ensures, c.push_ascii.ensures.spare, len);
       used = omega (arith, c.min-next.ensures, c.push_ascii.ensures.spare, len);
     }

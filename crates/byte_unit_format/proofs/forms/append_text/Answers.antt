@@ -2,7 +2,7 @@
 -- its length is known.
 use Rattle.std.proofs.Common.{sym, ◌∙◌}
 use Rattle.byte_unit_format.specs.TextParts.{parts_text}
-use Rattle.byte_unit_format.proofs.Appending.{appends_form}
+use Rattle.byte_unit_format.proofs.TextParts.{appends_form}
 use Rattle.byte_unit_format.proofs.NamedSpecs.{is_alternate}
 use Rattle.byte_unit_format.proofs.WrittenForms.{text_length_unique}
 use Rattle.byte_unit_format.proofs.forms.append_text.Goals as goal

@@ -12,7 +12,6 @@ returns-then-eq-clause-written c =
 
 pub returns-clause-narrow : goal.returns-clause-narrow
 returns-clause-narrow c = λ none.
-    let text = parts_text c.text_parts.result in
-    let narrow = text_without_width_narrow c.args.spec.alternate c.args.kind c.args.size c.args.spec text c.requires none
-    c.text_parts.ensures.text in
+    let narrow = text_without_width_narrow c.args.spec.alternate c.args.kind c.args.size c.args.spec
+    (parts_text c.text_parts.result) c.requires none c.text_parts.ensures.text in
     omega (arith, c.text_parts.ensures.len, narrow)

@@ -1,8 +1,7 @@
 -- The columns of number, spaces and name are counted, and what they lack of the width is the padding.
-use Rattle.std.proofs.Common.{◌≡◌, ◌+◌, ◌++◌, ◌∙◌, ℕ, length, length-append, arith, ap, rules}
+use Rattle.std.proofs.Common.{◌≡◌, ◌++◌, ◌∙◌, ℕ, length-append, arith, ap, rules}
 use Rattle.std.specs.Fmt.{decimal}
-use Rattle.byte_unit_format.specs.Layout.{layout, layout_left_padding, gap_of}
-use Rattle.byte_unit_format.specs.Plain.{padding_for}
+use Rattle.byte_unit_format.specs.Layout.{layout, layout_padding, layout_left_padding, gap_of}
 use Rattle.byte_unit_format.specs.TextParts.{fraction_of}
 use Rattle.byte_unit_format.proofs.TextParts.{layout_of_parts}
 use Rattle.byte_unit_format.proofs.layout.layout_parts.Goals as goal
@@ -16,9 +15,7 @@ returns-clause-text c =
     let pad = c.padding-pad.result in
     let gap_is : c.match-spec.gap ≡ gap_of spec.sign unit = search rules in
     let before_is : c.match-spec-2.before ≡ layout_left_padding spec.align pad = search rules in
-    let columns : c.decimal_len.result + c.len.result + c.match-spec.gap + length unit
-    ≡ length (whole ++ fraction) + gap_of spec.sign unit + length unit =
-    omega (arith, length-append {A = ℕ} whole fraction, c.decimal_len.ensures.exact, c.len.ensures.exact, gap_is) in
-    layout_of_parts (whole ++ fraction) unit spec pad c.match-spec-2.before c.match-spec.gap
-    (c.padding-pad.ensures.exact ∙ ap (λ columns. padding_for spec.width columns) columns) before_is gap_is
+    let pad_is : pad ≡ layout_padding (whole ++ fraction) unit spec =
+    grind (arith, length-append {A = ℕ} whole fraction, gap_is) in
+    layout_of_parts (whole ++ fraction) unit spec pad c.match-spec-2.before c.match-spec.gap pad_is before_is gap_is
     ∙ ap (λ unit. layout (whole ++ fraction) unit spec) c.as_str-name.ensures

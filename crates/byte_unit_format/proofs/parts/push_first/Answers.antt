@@ -2,7 +2,7 @@
 use Rattle.std.proofs.Common.{arith, ◌++◌, append_assoc, ap, ℕ}
 use Rattle.std.specs.String.{string_bytes}
 use Rattle.std.proofs.lemmas.Str.{IsAscii-take}
-use Rattle.byte_unit_format.proofs.WrittenDigits.{fraction_text_of_shown}
+use Rattle.byte_unit_format.proofs.TextParts.{fraction_text_of_shown}
 use Rattle.byte_unit_format.proofs.parts.push_first.Goals as goal
 
 pub push_ascii-requires-clause-ascii : goal.push_ascii-requires-clause-ascii

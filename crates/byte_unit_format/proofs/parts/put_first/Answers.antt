@@ -1,11 +1,9 @@
 -- The point, the first digits of a decimal, and zeros for the missing ones are written into the array, up to `end`.
-use Rattle.std.proofs.Common.{◌-◌, ℕ, arith}
-use Rattle.std.proofs.Common.{append_assoc, subst}
+use Rattle.std.proofs.Common.{◌-◌, ℕ, arith, append_assoc, subst}
 use Rattle.std.specs.Str.{IsAscii}
 use Rattle.std.proofs.lemmas.Str.{IsAscii-take, IsAscii-append}
 use Rattle.std.proofs.lemmas.Str.Ascii.{IsAscii-cons}
-use Rattle.byte_unit_format.proofs.WrittenDigits.{fraction_text_of_shown}
-use Rattle.byte_unit_format.proofs.TextParts.{run_ascii}
+use Rattle.byte_unit_format.proofs.TextParts.{fraction_text_of_shown, run_ascii}
 use Rattle.byte_unit_format.proofs.parts.put_first.Goals as goal
 
 pub returns-clause-bytes : goal.returns-clause-bytes

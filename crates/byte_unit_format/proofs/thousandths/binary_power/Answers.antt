@@ -5,11 +5,13 @@ use Rattle.byte_unit_format.proofs.thousandths.binary_power.Goals as goal
 
 pub returns-clause-greatest : goal.returns-clause-greatest
 returns-clause-greatest c =
-    (binary_greatest c.args.places c.args.size _ c.requires.places c.requires.some c.requires.small (omega (arith, c.min.ensures))).0
+    (binary_greatest c.args.places c.args.size _ c.requires.places c.requires.some c.requires.small
+    (omega (arith, c.min.ensures))).0
 
 pub returns-clause-few : goal.returns-clause-few
 returns-clause-few c = few_binary _ c.args.size c.requires.small (returns-clause-greatest c).fits.not_above
 
 pub returns-clause-eighths : goal.returns-clause-eighths
 returns-clause-eighths c =
-    (binary_greatest c.args.places c.args.size _ c.requires.places c.requires.some c.requires.small (omega (arith, c.min.ensures))).1
+    (binary_greatest c.args.places c.args.size _ c.requires.places c.requires.some c.requires.small
+    (omega (arith, c.min.ensures))).1

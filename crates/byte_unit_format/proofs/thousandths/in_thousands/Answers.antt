@@ -13,12 +13,14 @@ returns-then-thousandths-power_of_ten-eq0-clause-greatest c =
 pub returns-clause-greatest : goal.returns-clause-greatest
 returns-clause-greatest c =
     let found = c.in_three_places-whole in
-    greatest_before found.result.0 found.result.1 c.requires.places found.ensures.some found.ensures.greatest.fits.not_above
-    found.ensures.value
-    (λ none. omega (arith, ap (λ n. found.result.1 % n) c.power_of_ten.ensures ∙ none, c.if-thousandths-power_of_ten-eq0.false))
+    let power = ap (λ n. found.result.1 % n) c.power_of_ten.ensures in
+    greatest_before found.result.0 found.result.1 c.requires.places found.ensures.some
+    found.ensures.greatest.fits.not_above found.ensures.value
+    (λ none. omega (arith, power ∙ none, c.if-thousandths-power_of_ten-eq0.false))
 
 pub returns-clause-value : goal.returns-clause-value
 returns-clause-value c =
     let found = c.in_three_places-whole in
     let parts = value_before found.result.0 found.result.1 found.ensures.some found.ensures.value in
-    ap (λ n. ((found.result.0 * 1000 + n) * 1000 + 0) * 10 ^ (3 * (found.result.2 - 1))) c.from.ensures ∙ omega (arith, parts)
+    ap (λ n. ((found.result.0 * 1000 + n) * 1000 + 0) * 10 ^ (3 * (found.result.2 - 1))) c.from.ensures
+    ∙ omega (arith, parts)

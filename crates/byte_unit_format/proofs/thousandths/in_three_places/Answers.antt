@@ -1,10 +1,7 @@
 -- Each iteration divides the size by one more thousand, until a part is left over.
 use Rattle.std.proofs.Common.{arith}
-use Rattle.byte_unit_format.proofs.FewPlaces.{divided_more, divided_small, greatest_thousands}
+use Rattle.byte_unit_format.proofs.FewPlaces.{divided_more, greatest_thousands}
 use Rattle.byte_unit_format.proofs.thousandths.in_three_places.Goals as goal
-
-pub div_rem_thousand-next-requires : goal.div_rem_thousand-next-requires
-div_rem_thousand-next-requires c = omega (arith, divided_small c.groups.invariant)
 
 pub groups-preserved : goal.groups-preserved
 groups-preserved c =

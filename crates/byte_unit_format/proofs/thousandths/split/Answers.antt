@@ -1,12 +1,10 @@
 -- The larger of the two prefixes has the unit, and the size in it is a number of thousandths.
-use Rattle.std.proofs.Common.{◌≡◌, ℕ, ◌*◌, ◌≤◌, false, arith, refl, subst}
+use Rattle.std.proofs.Common.{◌≡◌, ℕ, ◌*◌, false, arith, refl}
 use Rattle.byte_unit_math.specs.Bounds.{scale}
-use Rattle.byte_unit_base.specs.Choice.{places_within}
+use Rattle.byte_unit_base.specs.Choice.{IsRecoveredIn}
 use Rattle.byte_unit_base.specs.declared.kind.Kind.{Kind}
-use Rattle.byte_unit_format.specs.FewPlaces.{IsGreatest}
 use Rattle.byte_unit_format.specs.Suffix.{IsSplit}
 use Rattle.byte_unit_format.specs.declared.thousandths.Suffix.TheVariants.{Own}
-use Rattle.byte_unit_base.specs.Choice.{IsRecoveredIn}
 use Rattle.byte_unit_base.specs.Kinds.{own_unit}
 use Rattle.byte_unit_base.specs.Version.{current}
 use Rattle.byte_unit_base.proofs.Choosing.{own_number}
@@ -14,12 +12,6 @@ use Rattle.byte_unit_format.proofs.Suffix.{whole_below}
 use Rattle.byte_unit_format.proofs.FewPlaces.{recovered_own, recovered_none, recovered_decimal, recovered_binary}
 use Rattle.byte_unit_format.proofs.FewPlaces.{number_of_units}
 use Rattle.byte_unit_format.proofs.thousandths.split.Goals as goal
-
--- Few places are not cut off.
-within : {places base step size power : ℕ} → places ≤ 3 → IsGreatest places base step size power
-    → IsGreatest (places_within places) base step size power
-within {places} {base} {step} {size} {power} few greatest =
-    subst (λ p. IsGreatest p base step size power) (let same : places ≡ places_within places = omega (arith, few) in same) greatest
 
 own_split : (kind : Kind) (size places : ℕ) → IsRecoveredIn current kind false size places (own_unit kind)
     → IsSplit kind size places size Own
@@ -29,15 +21,16 @@ own_split kind size places recovered =
 
 pub returns-then-size-lt1000-clause-split : goal.returns-then-size-lt1000-clause-split
 returns-then-size-lt1000-clause-split c = λ kind.
-    own_split kind c.args.size c.args.places (recovered_own c.args.places kind c.args.size c.if-size-lt1000.true)
+    own_split kind c.args.size c.args.places
+    (recovered_own kind c.args.places c.args.size c.requires.places c.if-size-lt1000.true)
 
 pub returns-then-binary-power-clause-split : goal.returns-then-binary-power-clause-split
 returns-then-binary-power-clause-split c = λ kind.
     let found = c.in_thousands-whole in
     record {
-      recovered = recovered_decimal c.args.places kind (omega (arith, c.if-binary-power.true)) found.ensures.few
-          (within c.requires.places found.ensures.greatest) (within c.requires.places c.binary_power-binary.ensures.greatest)
-          c.if-binary-power.true;
+      recovered = recovered_decimal kind c.args.places c.args.size c.requires.places
+          (omega (arith, c.if-binary-power.true)) found.ensures.few found.ensures.greatest
+          c.binary_power-binary.ensures.greatest c.if-binary-power.true;
       value = number_of_units kind c.args.size found.result.2 false found.result.0 found.result.1 found.ensures.value;
     }
 
@@ -50,15 +43,14 @@ returns-then-binary-power-clause-narrow c = λ three.
 pub returns-then-binary-gt0-clause-split : goal.returns-then-binary-gt0-clause-split
 returns-then-binary-gt0-clause-split c = λ kind.
     let twos = c.binary_power-binary.ensures in
-    let tens = within c.requires.places c.in_thousands-whole.ensures.greatest in
     c.in_eighths.ensures.split kind c.args.places
-    (recovered_binary c.args.places kind (omega (arith, c.if-binary-gt0.true)) twos.few (within c.requires.places twos.greatest)
-    (λ other fits. omega (arith, tens.greatest other fits, c.if-binary-power.false)))
+    (recovered_binary kind c.args.places c.args.size c.requires.places (omega (arith, c.if-binary-gt0.true)) twos.few
+    twos.greatest
+    (λ other fits. omega (arith, c.in_thousands-whole.ensures.greatest.greatest other fits, c.if-binary-power.false)))
 
 pub returns-else-binary-gt0-clause-split : goal.returns-else-binary-gt0-clause-split
 returns-else-binary-gt0-clause-split c = λ kind.
     let no_binary : c.binary_power-binary.result ≡ 0 = omega (arith, c.if-binary-gt0.false) in
     own_split kind c.args.size c.args.places
-    (recovered_none c.args.places kind (omega (arith, c.if-binary-power.false, no_binary)) no_binary
-    (within c.requires.places c.in_thousands-whole.ensures.greatest)
-    (within c.requires.places c.binary_power-binary.ensures.greatest))
+    (recovered_none kind c.args.places c.args.size c.requires.places (omega (arith, c.if-binary-power.false, no_binary))
+    no_binary c.in_thousands-whole.ensures.greatest c.binary_power-binary.ensures.greatest)

@@ -1,10 +1,10 @@
--- The digits are copied, the point and the fraction are put over what follows the whole part, and the unit over the rest.
-use Rattle.std.proofs.Common.{◌≡◌, ◌+◌, ◌-◌, ◌<◌, ◌≤◌, ◌∷◌, [], ◌++◌, List, ℕ, false, refl, ap, sym, subst, arith, ◌∙◌, take, drop, length}
-use Rattle.std.proofs.Common.{length-append}
+-- The digits are copied, the point and the fraction are put over those after the whole part, and the unit behind.
+use Rattle.std.proofs.Common.{◌≡◌, ◌+◌, ◌-◌, ◌<◌, ◌≤◌, ◌∷◌, [], ◌++◌, List, ℕ, false, refl, ap, sym, subst, arith, ◌∙◌}
+use Rattle.std.proofs.Common.{take, drop, length, length-append}
 use Rattle.std.proofs.lemmas.List.{length-take, length-drop}
 use Rattle.byte_unit_format.specs.WithDigits.{cut_digits}
 use Rattle.byte_unit_format.proofs.Suffix.{drop_known, named, written_over}
-use Rattle.byte_unit_format.proofs.DecimalDigits.{text_at, front_at, take_kept, cut_some, cut_none, three_of}
+use Rattle.byte_unit_format.proofs.WithDigits.{text_at, front_at, take_kept, cut_some, cut_none, three_of}
 use Rattle.byte_unit_format.proofs.with_digits.put_decimal.Goals as goal
 use Rattle.byte_unit_format.proofs.with_digits.put_decimal.Goals.{then-used-cut, else-used-cut}
 
@@ -45,13 +45,14 @@ returns-clause-text c =
           (omega (arith, name.begins, w.end-is, more)) name.before name.bytes in
           let kept : take cut new ≡ take cut digits =
           take_kept _ _ (omega (arith, name.begins, w.end-is, more)) name.before
-          ∙ (ap (λ list. take cut list) w.out-is ∙ (take_kept _ _ (omega (arith, fraction.begins)) fraction.before ∙ front)) in
-          text_at (shown ++ letters) new behind cut end kept here (omega (arith, size_of, take_len, count_len, w.end-is, more))
+          ∙ rw w.out-is (take_kept _ _ (omega (arith, fraction.begins)) fraction.before ∙ front) in
+          text_at (shown ++ letters) new behind cut end kept here
+          (omega (arith, size_of, take_len, count_len, w.end-is, more))
           ∙ ap (λ text. take cut digits ++ (text ++ letters)) (sym (cut_some cut used digits more)))
       | else-used-cut w ↦
           (let few : used ≤ cut = omega (arith, w.if-used-cut) in
           let kept : take cut new ≡ take cut digits =
-          take_kept _ _ (omega (arith, name.begins, w.end-is)) name.before ∙ (ap (λ list. take cut list) w.out-is ∙ front) in
+          take_kept _ _ (omega (arith, name.begins, w.end-is)) name.before ∙ rw w.out-is front in
           let here : drop cut new ≡ letters ++ drop end c.if-used-cut.out =
           drop_known {other = cut} new (omega (arith, name.begins, w.end-is)) name.bytes in
           text_at letters new (drop end c.if-used-cut.out) cut end kept here (omega (arith, take_len, w.end-is))

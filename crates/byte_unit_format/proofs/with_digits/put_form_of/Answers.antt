@@ -8,8 +8,8 @@ use Rattle.byte_unit_format.specs.FewPlaces.{FitsPrefix}
 use Rattle.byte_unit_format.proofs.TextParts.{front_is}
 use Rattle.byte_unit_format.proofs.Suffix.{form_of_split, form_of_thousandths}
 use Rattle.byte_unit_format.proofs.FewPlaces.{recovered_own, recovered_binary, recovered_decimal, number_of_units}
-use Rattle.byte_unit_format.proofs.WithDigits.{size_from_digits, size_above_digits}
-use Rattle.byte_unit_format.proofs.WithDigits.{found_power, cut_of_size, not_above_digits}
+use Rattle.byte_unit_format.proofs.WithDigits.{size_from_digits, size_above_digits, found_power, cut_of_size}
+use Rattle.byte_unit_format.proofs.WithDigits.{not_above_digits}
 use Rattle.byte_unit_format.proofs.with_digits.put_form_of.Goals as goal
 use Rattle.byte_unit_format.proofs.with_digits.put_form_of.Goals.{then-binary-most+else-binary-power, else-binary-most}
 
@@ -25,7 +25,8 @@ returns-then-most-eq0-clause-form c =
     let below = size_from_digits size c.requires.small (omega (arith, c.requires.len, c.if-most-eq0.true)) in
     let number = own_number kind size (size * scale) (own_unit kind) refl refl in
     rw (front_is _ _ c.put_split.ensures.bytes c.put_split.ensures.ends)
-    (form_of_thousandths kind size size 0 (own_unit kind) (omega arith) (recovered_own 3 kind size below) (omega (arith, number)))
+    (form_of_thousandths kind size size 0 (own_unit kind) (omega arith) (recovered_own kind 3 size (omega arith) below)
+    (omega (arith, number)))
 
 pub binary_power-binary-requires-clause-some : goal.binary_power-binary-requires-clause-some
 binary_power-binary-requires-clause-some c =
@@ -44,8 +45,8 @@ in_eighths-whole-requires-clause-some c =
     elim c.if-binary-most.branch [
       | then-binary-most+else-binary-power w ↦
           (let used = w.significant-used.ensures in
-          let found = found_power {power = w.min-power.result} c.requires.digits c.requires.len c.requires.small (omega (arith, c.if-most-eq0.false))
-          (assumption used) used.within (omega (arith, w.min-power.ensures)) in
+          let found = found_power {power = w.min-power.result} c.requires.digits c.requires.len c.requires.small
+          (omega (arith, c.if-most-eq0.false)) (assumption used) used.within (omega (arith, w.min-power.ensures)) in
           omega (arith, found.some, w.if-binary-power))
       | else-binary-most w ↦ omega (arith, c.if-most-eq0.false, w.if-binary-most)
     ]
@@ -68,8 +69,10 @@ returns-then-binary-power-clause-form c =
     let cut = cut_of_size size c.significant-used.result power found.some c.requires.small found.greatest.fits.not_above
     found.is_used (omega (arith, c.min-power.ensures, c.requires.len, found.within)) in
     rw (c.put_decimal.ensures.text, c.requires.digits, c.requires.len, cut.whole_is, cut.fraction_is)
-    (form_of_thousandths kind size (size / 10 ^ (3 * power)) cut.thousandths (shape power false (counts_bits kind)) cut.below
-    (recovered_decimal 3 kind found.some found.known found.greatest c.binary_power-binary.ensures.greatest c.if-binary-power.true)
+    (form_of_thousandths kind size (size / 10 ^ (3 * power)) cut.thousandths (shape power false (counts_bits kind))
+    cut.below
+    (recovered_decimal kind 3 size (omega arith) found.some found.known found.greatest
+    c.binary_power-binary.ensures.greatest c.if-binary-power.true)
     (number_of_units kind size power false (size / 10 ^ (3 * power)) cut.thousandths cut.value))
 
 pub returns-clause-form : goal.returns-clause-form
@@ -82,8 +85,8 @@ returns-clause-form c =
     elim c.if-binary-most.branch [
       | then-binary-most+else-binary-power w ↦
           (let used = w.significant-used.ensures in
-          let found = found_power {power = w.min-power.result} c.requires.digits c.requires.len c.requires.small (omega (arith, c.if-most-eq0.false))
-          (assumption used) used.within (omega (arith, w.min-power.ensures)) in (
+          let found = found_power {power = w.min-power.result} c.requires.digits c.requires.len c.requires.small
+          (omega (arith, c.if-most-eq0.false)) (assumption used) used.within (omega (arith, w.min-power.ensures)) in (
             omega (arith, found.some, w.if-binary-power),
             λ other fits. omega (arith, found.greatest.greatest other fits, w.if-binary-power),
           ))
@@ -102,4 +105,5 @@ returns-clause-form c =
     let split = c.in_eighths-whole in
     rw (front_is _ _ c.put_split-2.ensures.bytes c.put_split-2.ensures.ends)
     (form_of_split kind size split.result.0 split.result.1 split.ensures.prefix
-    (split.ensures.split kind 3 (recovered_binary 3 kind not_less.0 twos.few twos.greatest not_less.1)))
+    (split.ensures.split kind 3
+    (recovered_binary kind 3 size (omega arith) not_less.0 twos.few twos.greatest not_less.1)))

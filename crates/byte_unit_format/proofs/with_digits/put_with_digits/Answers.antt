@@ -4,8 +4,7 @@ use Rattle.std.specs.Fmt.{decimal}
 use Rattle.std.proofs.Math.Seq.{take-append-add}
 use Rattle.std.proofs.lemmas.List.{take-append-le, length-take, length-drop}
 use Rattle.byte_unit_format.proofs.Suffix.{drop_known}
-use Rattle.byte_unit_format.proofs.DecimalDigits.{text_at, front_at, take_kept}
-use Rattle.byte_unit_format.proofs.WithDigits.{first_of_padded, padded_length}
+use Rattle.byte_unit_format.proofs.WithDigits.{text_at, front_at, take_kept, first_of_padded, padded_length}
 use Rattle.byte_unit_format.proofs.with_digits.put_with_digits.Goals as goal
 
 pub returns-clause-text : goal.returns-clause-text
@@ -41,5 +40,6 @@ returns-clause-text c =
       text_is =
           ap (λ n. take (n + count) (take start middle ++ (written ++ behind))) (sym start_len)
           ∙ (take-append-add (take start middle) (written ++ behind) count
-          ∙ rw (before, take-append-le count written behind room) (append_assoc (decimal size) between (take count written)));
+          ∙ rw (before, take-append-le count written behind room)
+          (append_assoc (decimal size) between (take count written)));
     }

@@ -1,6 +1,6 @@
 -- The mask has a bit for each byte, set where it is not a zero, so its highest bit is that of the last such byte.
-use Rattle.std.proofs.Common.{◌≡◌, ◌≢◌, ℕ, Bool, false, ◌+◌, ◌-◌, ◌*◌, ◌/◌, ◌%◌, ◌^◌, ◌<◌, ◌≤◌, eqb, not, get_or, List, length, map, take, w8}
-use Rattle.std.proofs.Common.{ap, sym, subst, refl, ◌∙◌, arith, cond}
+use Rattle.std.proofs.Common.{◌≡◌, ◌≢◌, ℕ, Bool, false, ◌+◌, ◌-◌, ◌*◌, ◌/◌, ◌%◌, ◌^◌, ◌<◌, ◌≤◌, eqb, not, get_or, List}
+use Rattle.std.proofs.Common.{length, map, take, w8, ap, sym, subst, ◌∙◌, arith, cond}
 use Rattle.std.proofs.Math.Nat.{pow-le-pow_right, div-eq_of_lt, div-eq_of_lt-le}
 use Rattle.std.proofs.lemmas.Bool.Decides.{nat_tests}
 use Rattle.std.proofs.lemmas.List.{length-map, length-take, take_all, get_or-map}
@@ -20,15 +20,23 @@ record Bits (vector : List ℕ) (used : ℕ) : Type 0 where
   above : 2 ^ used ≤ 2 * mask_l (map is_used vector) + 1
   few : used ≤ 32
 
-bits_of : (digits : List ℕ) (given used : ℕ) → length digits ≡ 32 → given ≡ mask_l (map is_used (take 32 digits))
-    → used ≡ 64 - count_leading_zeros 64 given → Bits digits used
-bits_of digits given used long given_is used_is =
+-- The mask, which is that of the bytes that are used.
+abbrev mask_of : (digits : List ℕ) → length digits ≡ 32 → (given : ℕ) × (given ≡ mask_l (map is_used (take 32 digits)))
+mask_of digits long =
+    let all : length (take 32 digits) ≡ 32 = omega (arith, length-take {A = ℕ} 32 digits, long) in
+    (_, bitmask_splat w8 (λ a b. not (eqb a b)) (take 32 digits) 32 48 all (omega arith))
+
+bits_of : (digits : List ℕ) (long : length digits ≡ 32)
+    → Bits digits (64 - count_leading_zeros 64 (mask_of digits long).0)
+bits_of digits long =
+    let used = 64 - count_leading_zeros 64 (mask_of digits long).0 in
     let mask = mask_l (map is_used digits) in
-    let same : given ≡ mask = given_is ∙ ap (λ list. mask_l (map is_used list)) (take_all 32 digits (omega (arith, long))) in
+    let same : (mask_of digits long).0 ≡ mask =
+    (mask_of digits long).1 ∙ ap (λ list. mask_l (map is_used list)) (take_all 32 digits (omega (arith, long))) in
     let small : mask < 2 ^ 32 =
     subst (λ lanes. mask < 2 ^ lanes) (length-map digits is_used ∙ long) (mask_l-lt (map is_used digits)) in
     let found = leading_length 64 mask (omega (arith, small)) in
-    let bits_are : found.0 ≡ used = omega (arith, found.1, used_is, ap (count_leading_zeros 64) same) in
+    let bits_are : found.0 ≡ used = omega (arith, found.1, ap (count_leading_zeros 64) same) in
     let above = subst (λ m. 2 ^ m ≤ 2 * mask + 1) bits_are found.3 in
     let less = exponent_below 2 used 33 (2 * mask + 1) (omega arith) above (omega (arith, small)) in
     record { below = subst (λ m. mask < 2 ^ m) bits_are found.2; above = above; few = omega (arith, less) }
@@ -44,8 +52,7 @@ zero_behind : {vector : List ℕ} {used : ℕ} → Bits vector used → (i : ℕ
 zero_behind {vector} {used} bits i behind within =
     let mask = mask_l (map is_used vector) in
     let small : mask < 2 ^ i = omega (arith, bits.below, pow-le-pow_right {n = 2} (omega arith) behind) in
-    let clear : mask / 2 ^ i % 2 ≡ 0 = ap (λ n. n % 2) (div-eq_of_lt small) in
-    let bit = sym (bit_of vector i within) ∙ clear in grind (arith, nat_tests, bit)
+    grind (arith, nat_tests, bit_of vector i within, div-eq_of_lt small)
 
 last_is_used : {vector : List ℕ} {used : ℕ} → Bits vector used → (i : ℕ) → i + 1 ≡ used → length vector ≡ 32
     → get_or vector i 0 ≢ 48
@@ -55,26 +62,16 @@ last_is_used {vector} {used} bits i last long =
     let next : 2 ^ used ≡ 2 ^ i * 2 = ap (λ n. 2 ^ n) (sym last) ∙ pow-add 2 i 1 in
     let one : mask / 2 ^ i ≡ 1 =
     div-eq_of_lt-le {k = 1} (2 ^ i) (omega (arith, bits.above, next)) (omega (arith, bits.below, next)) in
-    let set : mask / 2 ^ i % 2 ≡ 1 = ap (λ n. n % 2) one in
-    let bit = sym (bit_of vector i within) ∙ set in λ same. grind (arith, nat_tests, bit, same)
+    λ same. grind (arith, nat_tests, bit_of vector i within, one, same)
 
 pub returns-clause-within : goal.returns-clause-within
-returns-clause-within c =
-    let digits = c.args.digits.now in
-    let long : length (take 32 digits) ≡ 32 = omega (arith, length-take {A = ℕ} 32 digits, c.told-digits) in
-    let mask = bitmask_splat w8 (λ a b. not (eqb a b)) (take 32 digits) 32 48 long (omega arith) in
-    (bits_of digits _ _ (omega (arith, c.told-digits)) mask refl).few
+returns-clause-within c = (bits_of c.args.digits.now (omega (arith, c.told-digits))).few
 
 pub returns-clause-zeros : goal.returns-clause-zeros
 returns-clause-zeros c = λ i behind within.
-    let digits = c.args.digits.now in
-    let long : length (take 32 digits) ≡ 32 = omega (arith, length-take {A = ℕ} 32 digits, c.told-digits) in
-    let mask = bitmask_splat w8 (λ a b. not (eqb a b)) (take 32 digits) 32 48 long (omega arith) in
-    zero_behind (bits_of digits _ _ (omega (arith, c.told-digits)) mask refl) i behind (omega (arith, within, c.told-digits))
+    zero_behind (bits_of c.args.digits.now (omega (arith, c.told-digits))) i behind
+    (omega (arith, within, c.told-digits))
 
 pub returns-clause-last : goal.returns-clause-last
 returns-clause-last c = λ i last.
-    let digits = c.args.digits.now in
-    let long : length (take 32 digits) ≡ 32 = omega (arith, length-take {A = ℕ} 32 digits, c.told-digits) in
-    let mask = bitmask_splat w8 (λ a b. not (eqb a b)) (take 32 digits) 32 48 long (omega arith) in
-    last_is_used (bits_of digits _ _ (omega (arith, c.told-digits)) mask refl) i last (omega (arith, c.told-digits))
+    last_is_used (bits_of c.args.digits.now (omega (arith, c.told-digits))) i last (omega (arith, c.told-digits))
