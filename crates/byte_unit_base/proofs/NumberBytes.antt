@@ -37,10 +37,8 @@ short_below ds digits few =
     omega (arith, digits_value-lt 10 ds digits, power)
 
 -- at most 19 digits have a value that its last 64 bits are
-pub short_digits : (ds : List ℕ) (bits : ℕ) → AllDigits 10 ds → length ds ≤ 19 → bits ≡ digits_value 10 ds % 2 ^ 64
-    → bits ≡ digits_value 10 ds
-short_digits ds bits digits few is =
-    let small : digits_value 10 ds < 2 ^ 64 = omega (arith, short_below ds digits few) in is ∙ mod-eq_of_lt small
+pub short_digits : (ds : List ℕ) → AllDigits 10 ds → length ds ≤ 19 → digits_value 10 ds % 2 ^ 64 ≡ digits_value 10 ds
+short_digits ds digits few = mod-eq_of_lt (omega (arith, short_below ds digits few))
 
 -- a text of at most 19 digits has the value that std reads modulo 2^64
 pub short_value :
@@ -51,7 +49,7 @@ short_value ds count value digits count_is few value_is =
     let same : slice_range ds 0 count ≡ ds = ap (λ n. take n ds) all ∙ take_all (length ds) ds (omega arith) in
     let read : 0 * 10 ^ (count - 0) + digits_value 10 (slice_range ds 0 count) ≡ digits_value 10 ds =
     omega (arith, ap (digits_value 10) same) in
-    short_digits ds value digits few (value_is ∙ ap (λ n. n % 2 ^ 64) read)
+    value_is ∙ (ap (λ n. n % 2 ^ 64) read ∙ short_digits ds digits few)
 
 -- the last 19 digits of a number follow from its last 64 bits and the digits before them
 pub last_digits_are :

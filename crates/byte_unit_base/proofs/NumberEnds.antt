@@ -79,12 +79,12 @@ stops_at_start bytes none flags = record {
 -- the bytes begin with the digits of a whole part, as std finds and reads them
 module _ (bytes : List ℕ) (end whole : ℕ) (run_is : end ≡ 0 + digits_len (drop 0 bytes)) (within : end ≤ length bytes)
     (some : end ≡ 0 → ⊥)
-    (value_is : (whole < whole_limit) × (whole ≡ digits_value 10 (take end bytes))) where
+    (small : whole < whole_limit) (exact : whole < whole_limit → whole ≡ digits_value 10 (take end bytes)) where
   whole_is : IsWholePart current (take end bytes) whole
   whole_is = (
     (omega (arith, length-take-le end bytes within, some), digits_of_run bytes end run_is),
-    value_is.1,
-    value_is.0,
+    exact small,
+    small,
   )
 
   -- a whole part that no point follows is the leading number
@@ -143,9 +143,18 @@ module _ (bytes : List ℕ) (end whole : ℕ) (run_is : end ≡ 0 + digits_len (
     }
 
     -- digits of a fraction follow the point, as std finds and reads them
-    module _ (places : ℕ) (places_are : places ≡ 0 + digits_len (drop 0 rest)) (all : places ≤ length rest) where
+    module _ (stop : ℕ) (stop_is : stop ≡ end + 1 + digits_len rest) (stop_within : stop ≤ length bytes) where
+      abbrev places : ℕ
+      places = stop - (end + 1)
+
       abbrev digits : List ℕ
       digits = take places rest
+
+      places_are : places ≡ 0 + digits_len (drop 0 rest)
+      places_are = omega (arith, stop_is)
+
+      all : places ≤ length rest
+      all = omega (arith, stop_within, length-drop {A = ℕ} (end + 1) bytes)
 
       digits_are : AllDigits 10 digits
       digits_are = digits_of_run rest places places_are
@@ -177,7 +186,7 @@ module _ (bytes : List ℕ) (end whole : ℕ) (run_is : end ≡ 0 + digits_len (
       -- a whole part, a point and a fraction are the leading number
       pub leading_precise : (fraction n : ℕ) → (places ≡ 0 → ⊥)
           → places ≤ places_of_decimal → fraction ≡ digits_value 10 digits
-          → n ≡ fixed_point whole fraction places → IsLeadingNumber bytes n (end + 1 + places)
+          → n ≡ fixed_point whole fraction places → IsLeadingNumber bytes n stop
       leading_precise fraction n some_places few value value_of_n =
           let last = end + 1 + places in
           let number : IsPrecise current (take last bytes) n = record {
@@ -200,7 +209,8 @@ module _ (bytes : List ℕ) (end whole : ℕ) (run_is : end ≡ 0 + digits_len (
           ends_fraction run.state n c run.holds.0 run.holds.1 none in
           let rest_is : drop places rest ≡ drop last bytes =
           drop-drop places (end + 1) bytes in
-          record {
+          let to_stop : last ≡ stop = omega (arith, stop_is) in
+          subst (IsLeadingNumber bytes n) to_stop (record {
             within = end_within;
             number_is = inr number;
             state = run.state;
@@ -211,7 +221,7 @@ module _ (bytes : List ℕ) (end whole : ℕ) (run_is : end ≡ 0 + digits_len (
                 (utf8_from bytes last utf8 end_within (number_ascii (take last bytes) n (inr number)))
                 (first_map IsNoDigit ends ends_number (drop last bytes)
                 (subst (IsFirst IsNoDigit) rest_is (none_after rest places places_are)));
-          }
+          })
 
 too_large_read : (flags : Flags) (ds rest : List ℕ) → AllDigits 10 ds → whole_limit ≤ digits_value 10 ds
     → read (size_scan flags) Beginning (ds ++ rest) ≡ Err too_long

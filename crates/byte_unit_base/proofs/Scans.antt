@@ -1,7 +1,7 @@
 -- A state machine that reads an input character by character, over any set of states: what it returns, the longest
 -- viable prefix and the error after it.
 use Rattle.std.proofs.Common.{◌≡◌, ℕ, ◌+◌, ◌⊎◌, inl, inr, List, [], ◌∷◌, ◌++◌, Option, Some, None, Result, Ok, Err}
-use Rattle.std.proofs.Common.{option_and_then, sym, refl, ap, subst, ◌∙◌, append-nil}
+use Rattle.std.proofs.Common.{option_and_then, sym, refl, ap, subst, ◌∙◌, append-nil, ⊎_elim}
 use Rattle.std.specs.Prelude.{◌↔◌, ⊤, IfOk, IfErr, IsOkAnd}
 use Rattle.byte_unit_base.specs.Version.{current}
 use Rattle.byte_unit_base.specs.ViablePrefix.{ParserState}
@@ -9,7 +9,7 @@ use Rattle.byte_unit_base.specs.Fault.{Fault, fault_at, fault_at_end, IsFaultAft
 use Rattle.byte_unit_base.specs.ReaderLaws.{IsOneAnswer, CanBecome}
 use Rattle.byte_unit_base.specs.Scan.{Scan, run, read, map_result}
 use Rattle.byte_unit_base.proofs.Lists.{push_append}
-use Rattle.byte_unit_base.proofs.Options.{some_passed}
+use Rattle.byte_unit_base.proofs.Options.{none_or_some, some_passed}
 
 -- the state after a text
 
@@ -153,14 +153,6 @@ module _ {S Meaning : Type 0} {scan : Scan S Meaning} {Reached : S → List ℕ 
   answer_at_end s text front t e (Some fault) at ends =
       subst (Answers text) (sym ends) (first_fault s text front [] fault t e tt at)
 
-  answer_by_step : (s : S) (text front : List ℕ) (c : ℕ) (cs : List ℕ) → text ≡ front ++ c ∷ cs
-      → run scan.step scan.start front ≡ Some s → (o : Option S) → scan.step s c ≡ o
-      → ((t : S) → scan.step s c ≡ Some t → Answers text (read scan t cs)) → Answers text (read scan s (c ∷ cs))
-  answer_by_step s text front c cs t e None stops next =
-      subst (Answers text) (sym (read_none scan s c cs stops)) (first_fault s text front (c ∷ cs) _ t e stops refl)
-  answer_by_step s text front c cs t e (Some u) goes next =
-      subst (Answers text) (sym (read_some scan s u c cs goes)) (next u goes)
-
   answer_from : (s : S) (text front rest : List ℕ) → text ≡ front ++ rest → run scan.step scan.start front ≡ Some s
       → Answers text (read scan s rest)
   answer_from s text front [] t e =
@@ -168,9 +160,13 @@ module _ {S Meaning : Type 0} {scan : Scan S Meaning} {Reached : S → List ℕ 
       answer_at_end s text front t e (fault_at_end (scan.place s)) refl
       (is.ends s text (subst (Reached s) whole (reached front s e)))
   answer_from s text front (c ∷ cs) t e =
-      answer_by_step s text front c cs t e (scan.step s c) refl
-      (λ u goes. answer_from u text (front ++ c ∷ []) cs (t ∙ sym (push_append front cs c))
-      (run_through scan.step scan.start s front (c ∷ []) e ∙ run_step scan.step s u c [] goes))
+      ⊎_elim
+      (λ stops. subst (Answers text) (sym (read_none scan s c cs stops))
+      (first_fault s text front (c ∷ cs) _ t e stops refl))
+      (λ goes. subst (Answers text) (sym (read_some scan s goes.0 c cs goes.1))
+      (answer_from goes.0 text (front ++ c ∷ []) cs (t ∙ sym (push_append front cs c))
+      (run_through scan.step scan.start s front (c ∷ []) e ∙ run_step scan.step s goes.0 c [] goes.1)))
+      (none_or_some (scan.step s c))
 
   -- the result for an input is its meaning or its error
   pub reads_meaning_or_fault : (text : List ℕ)
@@ -183,20 +179,16 @@ module _ {S Meaning : Type 0} {scan : Scan S Meaning} {Reached : S → List ℕ 
       let r = is.meaning_read text meaning h in
       ap (read scan scan.start) (sym (append-nil text)) ∙ (read_through scan scan.start r.0 text [] r.1 ∙ r.2)
 
-  -- no character has a step after the longest viable prefix
-  no_step : (s : S) (front cs : List ℕ) (c : ℕ) → Reached s front → NoLongerFront IsViable front (c ∷ cs)
-      → (o : Option S) → scan.step s c ≡ o → scan.step s c ≡ None
-  no_step s front cs c r longest None e = e
-  no_step s front cs c r longest (Some t) e =
-      let none = longest (scan.place t) (c ∷ []) cs refl (is.front t (front ++ c ∷ []) (is.steps s t c front e r)) in
-      absurd (let k : ⊥ = cc in k)
-
   fault_of_rest : (s : S) (front rest : List ℕ) (fault : Fault) → Reached s front → NoLongerFront IsViable front rest
       → IsFaultAfter current scan.flags (scan.place s) rest fault → read scan s rest ≡ Err fault
   fault_of_rest s front [] fault r longest h =
       subst (λ o. EndsIn (Means front) o (scan.at_end s)) h (is.ends s front r)
   fault_of_rest s front (c ∷ cs) fault r longest h =
-      read_none scan s c cs (no_step s front cs c r longest (scan.step s c) refl) ∙ ap Err (sym h)
+      let none = ⊎_elim (λ e. e)
+      (λ t. absurd (let farther = longest _ (c ∷ []) cs refl (is.front t.0 _ (is.steps s t.0 c front t.1 r)) in
+      let k : ⊥ = cc in k))
+      (none_or_some (scan.step s c)) in
+      read_none scan s c cs none ∙ ap Err (sym h)
 
   -- the result for an input that has an error is this error
   pub reads_fault : (text : List ℕ) (fault : Fault) → IsFirstFault IsViable current scan.flags text fault

@@ -74,8 +74,6 @@ spelled_at_end flags m w text unit e r = (unit, Spells-reached flags m w text un
 pub unit_ends : (flags : Flags) (m : Multiple) (w : Word) (text : List ℕ) → Reached (scan_of m w) text
     → EndsIn (Spells current flags text) (fault_at_end (word_parser_state m w)) (unit_at_end (unit_of flags (scan_of m w)))
 unit_ends flags One Empty text r = spelled_at_end flags One Empty text _ refl r
-unit_ends flags (Decimal p) Empty text r = spelled_at_end flags (Decimal p) Empty text _ refl r
-unit_ends flags (Binary p) Empty text r = spelled_at_end flags (Binary p) Empty text _ refl r
 unit_ends flags m Bi text r = refl
 unit_ends flags m w text r = spelled_at_end flags m w text _ refl r
 
