@@ -2,6 +2,7 @@
 -- where the machine has an error.
 use Rattle.std.proofs.Common.{◌≡◌, ◌≢◌, ℕ, zero, suc, ◌+◌, ◌-◌, ◌*◌, ◌^◌, ◌<◌, ◌≤◌, false, nat_eq, eqb, inl, inr, List, [], ◌∷◌}
 use Rattle.std.proofs.Common.{◌++◌, Err, length, take, drop, get_or, replicate, refl, sym, ap, subst, ◌∙◌, arith}
+use Rattle.std.proofs.Common.{append_assoc}
 use Rattle.std.proofs.Math.Seq.{take-add}
 use Rattle.std.specs.Char.{digit_value}
 use Rattle.std.specs.Float.Numeral.{digits_len}
@@ -27,7 +28,6 @@ use Rattle.byte_unit_base.specs.PartsReading.{IsFirst, IsNoSpace, IsStopAt, Ends
 use Rattle.byte_unit_base.specs.PartsReading.{missing_digit, next_char, unit_stop_fault}
 use Rattle.byte_unit_base.specs.declared.read.stop.Reason.TheVariants.{NoDigit, TooLong, InUnit}
 use Rattle.byte_unit_base.specs.declared.unit.scan.UnitScan.{UnitScan}
-use Rattle.byte_unit_base.proofs.Lists.{push_append}
 use Rattle.byte_unit_base.proofs.Scans.{read_through, read_some}
 use Rattle.byte_unit_base.proofs.SizeRuns.{step_first, run_whole, run_precise, number_end}
 use Rattle.byte_unit_base.proofs.SizeAscii.{number_ascii}
@@ -55,17 +55,11 @@ no_point_first (b ∷ bs) zero other none =
     let differs : b ≢ point = other (omega arith) in (none, grind (arith, nat_tests))
 no_point_first (b ∷ bs) (suc end) other none = no_point_first bs end (λ inside. other (omega (arith, inside))) none
 
-wide_no_point : (c : ℕ) → 128 ≤ c → eqb c 46 ≡ false
-wide_no_point c wide = grind (arith, nat_tests)
-
 -- no digit follows a run of digits that std finds
 none_after : (bytes : List ℕ) (end : ℕ) → end ≡ 0 + digits_len (drop 0 bytes) → IsFirst IsNoDigit (drop end bytes)
 none_after bytes end is =
     let all : end ≡ digits_len bytes = omega (arith, is) in
     no_digit_first (drop end bytes) (ap (λ n. digits_len (drop n bytes)) all ∙ ends_digits bytes)
-
-after_start : (end : ℕ) → nat_eq (end + 1) 0 ≡ false
-after_start end = grind (arith, nat_tests)
 
 -- a digit is missing at the start
 pub stops_at_start : (bytes : List ℕ) → digits_len bytes ≡ 0 → (flags : Flags) → IsStopAt flags bytes 0 NoDigit
@@ -101,7 +95,7 @@ module _ (bytes : List ℕ) (end whole : ℕ) (run_is : end ≡ 0 + digits_len (
         run_is = run_whole (take end bytes) whole whole_is;
         at_end = λ flags. number_end flags n (Whole whole) value;
         next = λ utf8.
-            first_char ends (λ c wide. ends_whole whole n c value (wide_no_digit c wide) (wide_no_point c wide))
+            first_char ends (λ c wide. ends_whole whole n c value (wide_no_digit c wide) (grind (arith, nat_tests)))
             (drop end bytes) (utf8_from bytes end utf8 within ascii)
             (first_map EndsWhole ends (λ c has. ends_whole whole n c value has.0 has.1) (drop end bytes) next);
       }
@@ -127,7 +121,7 @@ module _ (bytes : List ℕ) (end whole : ℕ) (run_is : end ≡ 0 + digits_len (
         → read (size_scan flags) Beginning (chars bytes) ≡ read (size_scan flags) (Point whole) (chars rest)
     read_rest flags =
         ap (read (size_scan flags) Beginning) (text_from bytes (end + 1) pointed_ascii
-        ∙ (ap (λ front. front ++ chars rest) pointed_text ∙ push_append (take end bytes) (chars rest) point))
+        ∙ (ap (λ front. front ++ chars rest) pointed_text ∙ append_assoc (take end bytes) (point ∷ []) (chars rest)))
         ∙ read_point flags (take end bytes) (chars rest) whole whole_is
 
     -- a digit is missing after the point
@@ -139,7 +133,8 @@ module _ (bytes : List ℕ) (end whole : ℕ) (run_is : end ≡ 0 + digits_len (
           ∙ (missing_after_point flags whole (chars rest)
           (first_char IsNoDigit wide_no_digit rest (utf8_from bytes (end + 1) utf8 pointed_within pointed_ascii)
           (no_digit_first rest none))
-          ∙ ap (λ at_start. Err (missing_digit at_start (next_char (chars rest)))) (sym (after_start end)));
+          ∙ ap (λ at_start. Err (missing_digit at_start (next_char (chars rest))))
+          (let at_point : false ≡ nat_eq (end + 1) 0 = grind (arith, nat_tests) in at_point));
     }
 
     -- digits of a fraction follow the point, as std finds and reads them
@@ -181,7 +176,7 @@ module _ (bytes : List ℕ) (end whole : ℕ) (run_is : end ≡ 0 + digits_len (
       fraction_text : take (end + 1 + places) bytes ≡ take end bytes ++ point ∷ digits
       fraction_text =
           take-add (end + 1) places bytes
-          ∙ (ap (λ front. front ++ take places rest) pointed_text ∙ push_append (take end bytes) (take places rest) point)
+          ∙ (ap (λ front. front ++ take places rest) pointed_text ∙ append_assoc (take end bytes) (point ∷ []) digits)
 
       -- a whole part, a point and a fraction are the leading number
       pub leading_precise : (fraction n : ℕ) → (places ≡ 0 → ⊥)

@@ -1,14 +1,13 @@
 -- A state machine that reads an input character by character, over any set of states: what it returns, the longest
 -- viable prefix and the error after it.
 use Rattle.std.proofs.Common.{◌≡◌, ℕ, ◌+◌, ◌⊎◌, inl, inr, List, [], ◌∷◌, ◌++◌, Option, Some, None, Result, Ok, Err}
-use Rattle.std.proofs.Common.{option_and_then, sym, refl, ap, subst, ◌∙◌, append-nil, ⊎_elim}
+use Rattle.std.proofs.Common.{option_and_then, sym, refl, ap, subst, ◌∙◌, append-nil, ⊎_elim, append_assoc}
 use Rattle.std.specs.Prelude.{◌↔◌, ⊤, IfOk, IfErr, IsOkAnd}
 use Rattle.byte_unit_base.specs.Version.{current}
 use Rattle.byte_unit_base.specs.ViablePrefix.{ParserState}
 use Rattle.byte_unit_base.specs.Fault.{Fault, fault_at, fault_at_end, IsFaultAfter, IsFirstFault}
 use Rattle.byte_unit_base.specs.ReaderLaws.{IsOneAnswer, CanBecome}
 use Rattle.byte_unit_base.specs.Scan.{Scan, run, read, map_result}
-use Rattle.byte_unit_base.proofs.Lists.{push_append}
 use Rattle.byte_unit_base.proofs.Options.{none_or_some, some_passed}
 
 -- the state after a text
@@ -41,7 +40,7 @@ module _ {S : Type 0} (step : S → ℕ → Option S) (Holds : S → List ℕ �
       let k : s ≡ t = cc in subst (λ u. Holds u (front ++ [])) k (subst (Holds s) (sym (append-nil front)) p)
   run_keeps (c ∷ xs) front s t e p =
       let u = some_passed (λ v. run step v xs) t (step s c) e in
-      subst (Holds t) (push_append front xs c) (run_keeps xs (front ++ c ∷ []) u.0 t u.2 (keeps s u.0 c front u.1 p))
+      subst (Holds t) (append_assoc front (c ∷ []) xs) (run_keeps xs (front ++ c ∷ []) u.0 t u.2 (keeps s u.0 c front u.1 p))
 
 module _ {S : Type 0} (step : S → ℕ → Option S) where
   -- no further character is read: the rest is empty, or its first character has no step
@@ -164,7 +163,7 @@ module _ {S Meaning : Type 0} {scan : Scan S Meaning} {Reached : S → List ℕ 
       (λ stops. subst (Answers text) (sym (read_none scan s c cs stops))
       (first_fault s text front (c ∷ cs) _ t e stops refl))
       (λ goes. subst (Answers text) (sym (read_some scan s goes.0 c cs goes.1))
-      (answer_from goes.0 text (front ++ c ∷ []) cs (t ∙ sym (push_append front cs c))
+      (answer_from goes.0 text (front ++ c ∷ []) cs (t ∙ sym (append_assoc front (c ∷ []) cs))
       (run_through scan.step scan.start s front (c ∷ []) e ∙ run_step scan.step s goes.0 c [] goes.1)))
       (none_or_some (scan.step s c))
 

@@ -71,23 +71,12 @@ size_front Beginning text r = r
 size_front (Whole w) text r = (w, r)
 size_front (Point w) text r = (w, r)
 size_front (Fraction w f j) text r = (fixed_point w f j, fraction_number w f j text r)
-size_front (Gap n) text r = (
-  record {
-    number_part = r.number_part;
-    number = n;
-    spaces = r.spaces;
-    unit_part = [];
-    text_is = r.text_is ∙ ap (λ g. r.number_part ++ g) (sym (append-nil (replicate r.spaces 32)));
-    number_is = r.number_is;
-    unit_is = refl;
-  },
-  r.some,
-)
+size_front (Gap n) text r = (r.0, r.2)
 size_front (UnitAt n s) text r = size_front_in_unit n s.multiple s.word text r.0 r.1
 
 -- the result for an input that ends in a state
 
-number_at_end : (flags : Flags) (n : ℕ) (text number : List ℕ) (k : ℕ) → text ≡ number ++ replicate k 32
+number_at_end : (flags : Flags) (n : ℕ) (text number : List ℕ) (k : ℕ) → text ≡ number ++ (replicate k 32 ++ [])
     → IsNumberText current number n
     → EndsIn (Represents flags text) None (size_or_fault n (unit_of flags unit_start))
 number_at_end flags n text number k e h = (
@@ -96,7 +85,7 @@ number_at_end flags n text number k e h = (
     number_part = number;
     spaces = k;
     unit_part = [];
-    text_is = e ∙ ap (λ g. number ++ g) (sym (append-nil (replicate k 32)));
+    text_is = e;
     number_is = h;
     unit_is = Spells-reached flags _ _ [] _ refl Reached-start;
   },
@@ -121,7 +110,10 @@ size_ends flags (Whole w) text r = number_at_end flags (w * scale) text text 0 (
 size_ends flags (Point w) text r = refl
 size_ends flags (Fraction w f j) text r =
     number_at_end flags (fixed_point w f j) text text 0 (sym (append-nil text)) (inr (fraction_number w f j text r))
-size_ends flags (Gap n) text r = number_at_end flags n text r.number_part r.spaces r.text_is r.number_is
+size_ends flags (Gap n) text r =
+    let front = r.0 in
+    number_at_end flags n text front.number_part front.spaces (rw front.unit_is at front.text_is)
+    (rw r.1 at front.number_is)
 size_ends flags (UnitAt n s) text r =
     let u = r.0 in
     unit_at_end_of flags n text u.unit_part

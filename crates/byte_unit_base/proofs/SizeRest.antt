@@ -1,6 +1,6 @@
 -- What the state machine of sizes returns where the parser stops: the rest of an input is a unit, or starts with an
 -- error.
-use Rattle.std.proofs.Common.{◌≡◌, ℕ, zero, suc, ◌+◌, ◌*◌, ◌<◌, true, false, eqb, ltb, ⊎_elim}
+use Rattle.std.proofs.Common.{◌≡◌, ℕ, zero, suc, ◌+◌, ◌*◌, ◌<◌, true, false, eqb, ⊎_elim}
 use Rattle.std.proofs.Common.{List, [], ◌∷◌, ◌++◌, Option, Some, None, Result, Ok, Err, length, replicate, refl, sym, ap, subst, ◌∙◌}
 use Rattle.std.proofs.Common.{arith, take, drop, ◌≤◌, take-append-drop}
 use Rattle.std.specs.Option.{option_map}
@@ -100,14 +100,11 @@ digit_is c small = grind (arith, nat_tests)
 
 no_more_whole : (w c : ℕ) → digit_value c < 10 → whole_limit ≤ w * 10 + digit_value c → size_step (Whole w) c ≡ None
 unfolding size_step
-no_more_whole w c small large =
-    let too_large : ltb (w * 10 + digit_value c) whole_limit ≡ false = grind (arith, nat_tests) in
-    rw (digit_is c small, too_large) refl
+no_more_whole w c small large = grind (arith, nat_tests)
 
 no_more_places : (w f j c : ℕ) → digit_value c < 10 → places_of_decimal ≤ j → size_step (Fraction w f j) c ≡ None
 unfolding size_step
-no_more_places w f j c small many =
-    let full : ltb j places_of_decimal ≡ false = grind (arith, nat_tests) in rw (digit_is c small, full) refl
+no_more_places w f j c small many = grind (arith, nat_tests)
 
 -- the error of a whole part that reaches the limit
 pub too_large : (flags : Flags) (ds rest : List ℕ) (w : ℕ) → AllDigits 10 ds → w < whole_limit

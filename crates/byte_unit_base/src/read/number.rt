@@ -22,6 +22,7 @@ const NINETEEN_DIGITS: u128 = 10_000_000_000_000_000_000;
 ///
 /// # Errors
 /// Returns where the parser stops: `NoDigit` or `TooLong`.
+#[tactic(auto, using(crate::proofs::NumberBytes::digits_of_run))]
 #[inline(always)]
 pub fn read_number(bytes: &[u8]) -> Result<(usize, Decimal), Stop>
     ensures { IsNumberEnd bytes.now result }

@@ -1,8 +1,7 @@
 -- The bytes begin with a whole part, or with a whole part, a point and a fraction, or stop where a digit is missing or
 -- is one too many.
-use Rattle.std.proofs.Common.{◌≢◌, ◌+◌, ◌-◌, ◌<◌, length, drop, get_or, arith}
+use Rattle.std.proofs.Common.{◌≢◌, ◌+◌, ◌-◌, ◌<◌, length, get_or, arith}
 use Rattle.byte_unit_base.specs.Number.{point}
-use Rattle.byte_unit_base.proofs.NumberBytes.{digits_of_run}
 use Rattle.byte_unit_base.proofs.NumberEnds.{leading_whole, leading_precise, stops_at_start, stops_after_point}
 use Rattle.byte_unit_base.proofs.NumberEnds.{stops_in_whole, stops_in_fraction, fraction_below}
 use Rattle.byte_unit_base.proofs.read.number.read_number.Goals.{then-end-bytes-via-then-end-bytes}
@@ -12,9 +11,6 @@ use Rattle.byte_unit_base.proofs.read.number.read_number.Goals as goal
 pub returns-then-end-eq0 : goal.returns-then-end-eq0
 returns-then-end-eq0 c =
     stops_at_start c.args.bytes.now (omega (arith, c.if-end-eq0.true, c.read_digits-end.ensures.end))
-
-pub whole_part-whole-requires-clause-digits : goal.whole_part-whole-requires-clause-digits
-whole_part-whole-requires-clause-digits c = digits_of_run c.args.bytes.now _ c.read_digits-end.ensures.end
 
 pub returns-then-whole-ge-WHOLE_LIMIT : goal.returns-then-whole-ge-WHOLE_LIMIT
 returns-then-whole-ge-WHOLE_LIMIT c =
@@ -48,10 +44,6 @@ returns-then-places c =
     stops_in_fraction c.args.bytes.now run.result.0 c.whole_part-whole.result run.ensures.end run.ensures.within
     c.if-end-eq0.false c.if-whole-ge-WHOLE_LIMIT.false c.whole_part-whole.ensures.exact c.if-end-bytes.false
     c.if-bytes-end-ne46.false stop.result.0 stop.ensures.end stop.ensures.within (omega (arith, c.if-places.true))
-
-pub value_of-digits-requires-clause-digits : goal.value_of-digits-requires-clause-digits
-value_of-digits-requires-clause-digits c =
-    digits_of_run (drop (c.read_digits-end.result.0 + 1) c.args.bytes.now) _ (omega (arith, c.read_digits-stop.ensures.end))
 
 pub from_digits-number-requires-clause-digits : goal.from_digits-number-requires-clause-digits
 from_digits-number-requires-clause-digits c =
