@@ -32,6 +32,11 @@ module _ {S : Type 0} (step : S → ℕ → Option S) where
       let t = run_before next.0 u xs ys next.2 in
       (t.0, run_step s next.0 c xs next.1 ∙ t.1)
 
+  -- no further character is read: the rest is empty, or its first character has no step
+  abbrev pub CannotStep : S → List ℕ → Type 0
+  CannotStep s [] = ⊤
+  CannotStep s (c ∷ rest) = step s c ≡ None
+
 module _ {S : Type 0} (step : S → ℕ → Option S) (Holds : S → List ℕ → Type 0)
     (keeps : (s t : S) (c : ℕ) (text : List ℕ) → step s c ≡ Some t → Holds s text → Holds t (text ++ c ∷ [])) where
   -- what holds at the start, and after each step if before it, holds at the state after a text
@@ -41,12 +46,6 @@ module _ {S : Type 0} (step : S → ℕ → Option S) (Holds : S → List ℕ �
   run_keeps (c ∷ xs) front s t e p =
       let u = some_passed (λ v. run step v xs) t (step s c) e in
       subst (Holds t) (append_assoc front (c ∷ []) xs) (run_keeps xs (front ++ c ∷ []) u.0 t u.2 (keeps s u.0 c front u.1 p))
-
-module _ {S : Type 0} (step : S → ℕ → Option S) where
-  -- no further character is read: the rest is empty, or its first character has no step
-  abbrev pub CannotStep : S → List ℕ → Type 0
-  CannotStep s [] = ⊤
-  CannotStep s (c ∷ rest) = step s c ≡ None
 
 module _ {S Meaning : Type 0} (scan : Scan S Meaning) where
   -- if the next character has a step, the result is that of the rest from the next state

@@ -48,8 +48,7 @@ loop-row-preserved c =
 
 pub exact_quotient-requires-clause-some_unit : goal.exact_quotient-requires-clause-some_unit
 exact_quotient-requires-clause-some_unit c =
-    let multiple = row_multiple (row_at_is_row no_row c.multiples_within-row-items.ensures c.loop-row-test.true) in
-    omega (arith, multiple.large)
+    omega (arith, (row_multiple (row_at_is_row no_row c.multiples_within-row-items.ensures c.loop-row-test.true)).large)
 
 pub exact_quotient-requires-clause-small_unit : goal.exact_quotient-requires-clause-small_unit
 exact_quotient-requires-clause-small_unit c =
