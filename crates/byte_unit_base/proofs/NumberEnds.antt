@@ -266,11 +266,8 @@ stops_in_unit flags bytes rest n end spaces place scan number rest_is within gap
           ap (read (size_scan flags) Beginning) (text_from bytes end number_small)
           ∙ (read_through (size_scan flags) Beginning number.state (take end bytes) (chars (drop end bytes)) number.run_is
           ∙ (ap (read (size_scan flags) number.state) text
-          ∙ (read_after_number flags n spaces number.state (chars unit)
-          record {
-            at_end = number.at_end flags;
-            next = subst (IsFirst (EndsNumber number.state n)) text (number.next utf8);
-          }
+          ∙ (read_after_number flags n spaces number.state (chars unit) (number.at_end flags)
+          (subst (IsFirst (EndsNumber number.state n)) text (number.next utf8))
           (first_char IsNoSpace (λ c wide. λ e. omega (arith, wide, e)) unit utf8_unit (subst (IsFirst IsNoSpace) at_unit other))
           ∙ (ap (with_number n) (stop_read flags unit place scan stop utf8_unit)
           ∙ ap (λ r. Err (unit_stop_fault flags scan (next_char (chars r)))) (drop-drop place (end + spaces) bytes)))));

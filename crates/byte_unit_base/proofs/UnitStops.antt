@@ -16,7 +16,7 @@ use Rattle.byte_unit_base.specs.UnitScan.{scan_of, start, IsWordText}
 use Rattle.byte_unit_base.specs.PartsReading.{IsFirst, IsLeadingUnit, IsUnitStop, next_char, unit_stop_fault}
 use Rattle.byte_unit_base.specs.declared.unit.scan.UnitScan.{UnitScan}
 use Rattle.byte_unit_base.specs.declared.unit.scan.Multiple.{Multiple}
-use Rattle.byte_unit_base.specs.declared.unit.scan.Multiple.TheVariants.{One, Decimal, Binary}
+use Rattle.byte_unit_base.specs.declared.unit.scan.Multiple.TheVariants.{One}
 use Rattle.byte_unit_base.specs.declared.unit.scan.Word.{Word}
 use Rattle.byte_unit_base.specs.declared.unit.scan.Word.TheVariants.{Empty, Bits}
 use Rattle.byte_unit_base.proofs.Options.{some_passed}
@@ -28,21 +28,13 @@ use Rattle.byte_unit_base.proofs.SizeRest.{first_char, text_from, utf8_from}
 
 -- beginnings of units are ASCII
 
-no_wide_multiple : (m : Multiple) (c : ℕ) → 128 ≤ c → multiple_step m c ≡ None
-no_wide_multiple One c wide = let none : prefix_at c ≡ None = grind (arith, nat_tests) in rw none refl
-no_wide_multiple (Decimal p) c wide = grind (arith, nat_tests)
-no_wide_multiple (Binary p) c wide = refl
-
-no_wide_word : (w : Word) (c : ℕ) → 128 ≤ c → word_step w c ≡ None
-no_wide_word Bits c wide = refl
-no_wide_word _ c wide = grind (arith, nat_tests)
-
 -- no character past ASCII continues a unit
 no_wide_step : (m : Multiple) (w : Word) (c : ℕ) → 128 ≤ c → unit_step (scan_of m w) c ≡ None
 unfolding unit_step
-no_wide_step m Empty c wide = rw (no_wide_multiple m c wide, no_wide_word Empty c wide) refl
 no_wide_step m Bits c wide = refl
-no_wide_step m w c wide = rw (no_wide_word w c wide) refl
+no_wide_step One Empty c wide =
+    let none : prefix_at c ≡ None = grind (arith, nat_tests) in rw none (grind (arith, nat_tests))
+no_wide_step m w c wide = grind (arith, nat_tests)
 
 run_ascii : (text : List ℕ) (s t : UnitScan) → run unit_step s text ≡ Some t → IsAscii text
 run_ascii [] s t e = IsAscii-nil
