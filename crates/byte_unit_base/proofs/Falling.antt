@@ -10,7 +10,7 @@ use Rattle.byte_unit_base.specs.Version.{current}
 use Rattle.byte_unit_base.specs.Family.{HasKind, InFamily}
 use Rattle.byte_unit_base.specs.UnitLists.{units_of_prefix, units_of_prefixes, prefix_count}
 use Rattle.byte_unit_base.specs.declared.unit.family.Family.{Family}
-use Rattle.byte_unit_base.specs.declared.unit.family.Family.TheVariants.{All, Bytes, Bits}
+use Rattle.byte_unit_base.specs.declared.unit.family.Family.TheVariants.{All}
 
 -- the unit is one of these
 abbrev pub IsIn : Shape → List Shape → Type 0
@@ -58,8 +58,7 @@ pub all_in_family : (family : Family) (n : ℕ) → n ≤ prefix_count
     → AllByRecursion (InFamily current family) (units_of_prefixes family n)
 all_in_family family zero few = tt
 all_in_family All (suc n) few = let rest = all_in_family All n (omega arith) in search rules
-all_in_family Bytes (suc n) few = let rest = all_in_family Bytes n (omega arith) in search rules
-all_in_family Bits (suc n) few = let rest = all_in_family Bits n (omega arith) in search rules
+all_in_family family (suc n) few = let rest = all_in_family family n (omega arith) in search rules
 
 -- no unit of a falling list is larger than the bound
 pub le_of_falls : (xs : List Shape) (bound : ℕ) (unit : Shape) → falls bound xs ≡ true → IsIn unit xs
@@ -80,8 +79,7 @@ falls_after (x ∷ xs) bound (suc i) d h within = falls_after xs (bits x) i d (a
 known_lists_fall : (family : Family)
     → agree_below (λ n. falls unit_limit (units_of_prefixes family n)) (λ n. true) (prefix_count + 1) ≡ true
 known_lists_fall All = refl
-known_lists_fall Bytes = refl
-known_lists_fall Bits = refl
+known_lists_fall _ = refl
 
 -- the lists of the units of the current version fall
 pub current_falls : (family : Family) (n : ℕ) → n ≤ prefix_count → falls unit_limit (units_of_prefixes family n) ≡ true
@@ -95,8 +93,7 @@ units_per_prefix family = length (units_of_prefixes family prefix_count) / prefi
 
 length_of_prefix : (family : Family) (power : ℕ) → length (units_of_prefix family power) ≡ units_per_prefix family
 length_of_prefix All power = omega arith
-length_of_prefix Bytes power = omega arith
-length_of_prefix Bits power = omega arith
+length_of_prefix _ power = omega arith
 
 -- without the units of its last prefix letters, the list of units is that of the other letters
 pub drop_prefixes : (family : Family) (dropped n : ℕ)

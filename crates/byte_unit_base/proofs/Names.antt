@@ -69,9 +69,8 @@ count_spells flags true h = inr (inr (inl (refl, ap not (sym (h refl)))))
 -- what follows the prefix letter is ASCII
 rest_ascii : (binary bit : Bool) → IsAscii (infix_of binary ++ count_of bit)
 rest_ascii true true = visible_ascii (codes "ib") refl
-rest_ascii true false = visible_ascii (codes "iB") refl
 rest_ascii false true = visible_ascii (codes "b") refl
-rest_ascii false false = visible_ascii (codes "B") refl
+rest_ascii binary bit = visible_ascii (infix_of binary ++ count_of bit) refl
 
 count_end : (bit : Bool) → (last : ℕ) × (count_of bit ≡ last ∷ []) × (is_whitespace last ≡ false)
 count_end true = (98, refl, refl)

@@ -1,16 +1,14 @@
 -- What loops over bytes read: the digits, the number that they make, and the text of a prefix.
-use Rattle.std.proofs.Common.{◌≡◌, ℕ, zero, suc, ◌+◌, ◌-◌, ◌*◌, ◌^◌, ◌<◌, ◌≤◌, List, [], ◌∷◌, ◌++◌}
+use Rattle.std.proofs.Common.{◌≡◌, ℕ, ◌+◌, ◌-◌, ◌*◌, ◌^◌, ◌<◌, ◌≤◌, List, [], ◌∷◌}
 use Rattle.std.proofs.Common.{◌%◌, length, take, drop, get_or, refl, ap, ◌∙◌, arith, slice_range, take_all}
-use Rattle.std.proofs.Math.Nat.{mod-eq_of_lt, pow-le-pow_right}
+use Rattle.std.proofs.Math.Nat.{mod-eq_of_lt}
 use Rattle.std.specs.Float.Numeral.{digits_len}
-use Rattle.std.specs.Str.Parse.{AllDigits, digits_value, digits_value_after}
-use Rattle.std.proofs.lemmas.Int.Digits.{digits_value-lt, digits_value_push}
+use Rattle.std.specs.Str.Parse.{AllDigits, digits_value}
+use Rattle.std.proofs.lemmas.Int.Digits.{digits_value_push}
 use Rattle.std.proofs.lemmas.Str.Parse.{digit_from_value, digit_at}
 use Rattle.std.proofs.lemmas.Str.{digit_value_digit}
-use Rattle.std.specs.Char.{digit_value}
-use Rattle.byte_unit_base.proofs.SizeRuns.{value_rises}
 use Rattle.core.proofs.dec2flt.DigitsLemmas.{is_digit}
-use Rattle.core.proofs.dec2flt.Rows.{AllDigits-digits_len}
+use Rattle.core.proofs.dec2flt.Rows.{AllDigits-digits_len, short_fits}
 use Rattle.std.proofs.lemmas.List.{take_more}
 
 -- in a text of digits alone, the run of digits that std finds is the whole text
@@ -25,22 +23,9 @@ pub digits_of_run : (bytes : List ℕ) (count : ℕ) → count ≡ 0 + digits_le
     → AllDigits 10 (take count bytes)
 digits_of_run bytes count is = AllDigits-digits_len bytes count (omega (arith, is))
 
--- both parts of a text of digits are digits
-pub both_digits : (front behind : List ℕ) → AllDigits 10 (front ++ behind) → AllDigits 10 front × AllDigits 10 behind
-both_digits [] behind digits = (tt, digits)
-both_digits (d ∷ ds) behind digits = let rest = both_digits ds behind digits.1 in ((digits.0, rest.0), rest.1)
-
--- at most 19 digits have a value below 10^19
-pub short_below : (ds : List ℕ) → AllDigits 10 ds → length ds ≤ 19 → digits_value 10 ds < 10 ^ 19
-short_below ds digits few =
-    let power = pow-le-pow_right {n = 10} (omega arith) {i = length ds} {j = 19} few in
-    omega (arith, digits_value-lt 10 ds digits, power)
-
 -- at most 19 digits have a value that its last 64 bits are
-pub short_digits : (ds : List ℕ) (bits : ℕ) → AllDigits 10 ds → length ds ≤ 19 → bits ≡ digits_value 10 ds % 2 ^ 64
-    → bits ≡ digits_value 10 ds
-short_digits ds bits digits few is =
-    let small : digits_value 10 ds < 2 ^ 64 = omega (arith, short_below ds digits few) in is ∙ mod-eq_of_lt small
+pub short_digits : (ds : List ℕ) → AllDigits 10 ds → length ds ≤ 19 → digits_value 10 ds % 2 ^ 64 ≡ digits_value 10 ds
+short_digits ds digits few = mod-eq_of_lt (short_fits ds digits few)
 
 -- a text of at most 19 digits has the value that std reads modulo 2^64
 pub short_value :
@@ -51,7 +36,7 @@ short_value ds count value digits count_is few value_is =
     let same : slice_range ds 0 count ≡ ds = ap (λ n. take n ds) all ∙ take_all (length ds) ds (omega arith) in
     let read : 0 * 10 ^ (count - 0) + digits_value 10 (slice_range ds 0 count) ≡ digits_value 10 ds =
     omega (arith, ap (digits_value 10) same) in
-    short_digits ds value digits few (value_is ∙ ap (λ n. n % 2 ^ 64) read)
+    value_is ∙ (ap (λ n. n % 2 ^ 64) read ∙ short_digits ds digits few)
 
 -- the last 19 digits of a number follow from its last 64 bits and the digits before them
 pub last_digits_are :
@@ -68,9 +53,3 @@ one_digit_more ds i value digit next digits inside value_is digit_is next_is =
     let digit_value_is = digit_value_digit (get_or ds i 0) range in
     let more = ap (digits_value 10) (take_more ds i 0 inside) ∙ digits_value_push 10 (take i ds) (get_or ds i 0) in
     omega (arith, more, digit_value_is, value_is, digit_is, next_is)
-
--- the first digits make no greater number than all
-pub front_value : (ds : List ℕ) (n value : ℕ) → digits_value_after 10 value (take n ds) ≤ digits_value_after 10 value ds
-front_value ds zero value = value_rises ds value
-front_value [] (suc n) value = omega arith
-front_value (d ∷ ds) (suc n) value = front_value ds n (value * 10 + digit_value d)

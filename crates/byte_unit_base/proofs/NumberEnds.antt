@@ -2,10 +2,11 @@
 -- where the machine has an error.
 use Rattle.std.proofs.Common.{◌≡◌, ◌≢◌, ℕ, zero, suc, ◌+◌, ◌-◌, ◌*◌, ◌^◌, ◌<◌, ◌≤◌, false, nat_eq, eqb, inl, inr, List, [], ◌∷◌}
 use Rattle.std.proofs.Common.{◌++◌, Err, length, take, drop, get_or, replicate, refl, sym, ap, subst, ◌∙◌, arith}
+use Rattle.std.proofs.Common.{append_assoc}
 use Rattle.std.proofs.Math.Seq.{take-add}
 use Rattle.std.specs.Char.{digit_value}
 use Rattle.std.specs.Float.Numeral.{digits_len}
-use Rattle.std.specs.Str.{chars, IsUtf8, IsAscii}
+use Rattle.std.specs.Str.{chars, IsAscii}
 use Rattle.std.specs.Str.Parse.{AllDigits, digits_value, digits_value_after}
 use Rattle.core.proofs.dec2flt.DigitsLemmas.{ends_digits}
 use Rattle.std.proofs.lemmas.Bool.Decides.{nat_tests}
@@ -27,7 +28,6 @@ use Rattle.byte_unit_base.specs.PartsReading.{IsFirst, IsNoSpace, IsStopAt, Ends
 use Rattle.byte_unit_base.specs.PartsReading.{missing_digit, next_char, unit_stop_fault}
 use Rattle.byte_unit_base.specs.declared.read.stop.Reason.TheVariants.{NoDigit, TooLong, InUnit}
 use Rattle.byte_unit_base.specs.declared.unit.scan.UnitScan.{UnitScan}
-use Rattle.byte_unit_base.proofs.Lists.{push_append}
 use Rattle.byte_unit_base.proofs.Scans.{read_through, read_some}
 use Rattle.byte_unit_base.proofs.SizeRuns.{step_first, run_whole, run_precise, number_end}
 use Rattle.byte_unit_base.proofs.SizeAscii.{number_ascii}
@@ -55,17 +55,11 @@ no_point_first (b ∷ bs) zero other none =
     let differs : b ≢ point = other (omega arith) in (none, grind (arith, nat_tests))
 no_point_first (b ∷ bs) (suc end) other none = no_point_first bs end (λ inside. other (omega (arith, inside))) none
 
-wide_no_point : (c : ℕ) → 128 ≤ c → eqb c 46 ≡ false
-wide_no_point c wide = grind (arith, nat_tests)
-
 -- no digit follows a run of digits that std finds
 none_after : (bytes : List ℕ) (end : ℕ) → end ≡ 0 + digits_len (drop 0 bytes) → IsFirst IsNoDigit (drop end bytes)
 none_after bytes end is =
     let all : end ≡ digits_len bytes = omega (arith, is) in
     no_digit_first (drop end bytes) (ap (λ n. digits_len (drop n bytes)) all ∙ ends_digits bytes)
-
-after_start : (end : ℕ) → nat_eq (end + 1) 0 ≡ false
-after_start end = grind (arith, nat_tests)
 
 -- a digit is missing at the start
 pub stops_at_start : (bytes : List ℕ) → digits_len bytes ≡ 0 → (flags : Flags) → IsStopAt flags bytes 0 NoDigit
@@ -79,12 +73,12 @@ stops_at_start bytes none flags = record {
 -- the bytes begin with the digits of a whole part, as std finds and reads them
 module _ (bytes : List ℕ) (end whole : ℕ) (run_is : end ≡ 0 + digits_len (drop 0 bytes)) (within : end ≤ length bytes)
     (some : end ≡ 0 → ⊥)
-    (value_is : (whole < whole_limit) × (whole ≡ digits_value 10 (take end bytes))) where
+    (small : whole < whole_limit) (exact : whole < whole_limit → whole ≡ digits_value 10 (take end bytes)) where
   whole_is : IsWholePart current (take end bytes) whole
   whole_is = (
     (omega (arith, length-take-le end bytes within, some), digits_of_run bytes end run_is),
-    value_is.1,
-    value_is.0,
+    exact small,
+    small,
   )
 
   -- a whole part that no point follows is the leading number
@@ -101,7 +95,7 @@ module _ (bytes : List ℕ) (end whole : ℕ) (run_is : end ≡ 0 + digits_len (
         run_is = run_whole (take end bytes) whole whole_is;
         at_end = λ flags. number_end flags n (Whole whole) value;
         next = λ utf8.
-            first_char ends (λ c wide. ends_whole whole n c value (wide_no_digit c wide) (wide_no_point c wide))
+            first_char ends (λ c wide. ends_whole whole n c value (wide_no_digit c wide) (grind (arith, nat_tests)))
             (drop end bytes) (utf8_from bytes end utf8 within ascii)
             (first_map EndsWhole ends (λ c has. ends_whole whole n c value has.0 has.1) (drop end bytes) next);
       }
@@ -127,7 +121,7 @@ module _ (bytes : List ℕ) (end whole : ℕ) (run_is : end ≡ 0 + digits_len (
         → read (size_scan flags) Beginning (chars bytes) ≡ read (size_scan flags) (Point whole) (chars rest)
     read_rest flags =
         ap (read (size_scan flags) Beginning) (text_from bytes (end + 1) pointed_ascii
-        ∙ (ap (λ front. front ++ chars rest) pointed_text ∙ push_append (take end bytes) (chars rest) point))
+        ∙ (ap (λ front. front ++ chars rest) pointed_text ∙ append_assoc (take end bytes) (point ∷ []) (chars rest)))
         ∙ read_point flags (take end bytes) (chars rest) whole whole_is
 
     -- a digit is missing after the point
@@ -139,13 +133,23 @@ module _ (bytes : List ℕ) (end whole : ℕ) (run_is : end ≡ 0 + digits_len (
           ∙ (missing_after_point flags whole (chars rest)
           (first_char IsNoDigit wide_no_digit rest (utf8_from bytes (end + 1) utf8 pointed_within pointed_ascii)
           (no_digit_first rest none))
-          ∙ ap (λ at_start. Err (missing_digit at_start (next_char (chars rest)))) (sym (after_start end)));
+          ∙ ap (λ at_start. Err (missing_digit at_start (next_char (chars rest))))
+          (let at_point : false ≡ nat_eq (end + 1) 0 = grind (arith, nat_tests) in at_point));
     }
 
     -- digits of a fraction follow the point, as std finds and reads them
-    module _ (places : ℕ) (places_are : places ≡ 0 + digits_len (drop 0 rest)) (all : places ≤ length rest) where
+    module _ (stop : ℕ) (stop_is : stop ≡ end + 1 + digits_len rest) (stop_within : stop ≤ length bytes) where
+      abbrev places : ℕ
+      places = stop - (end + 1)
+
       abbrev digits : List ℕ
       digits = take places rest
+
+      places_are : places ≡ 0 + digits_len (drop 0 rest)
+      places_are = omega (arith, stop_is)
+
+      all : places ≤ length rest
+      all = omega (arith, stop_within, length-drop {A = ℕ} (end + 1) bytes)
 
       digits_are : AllDigits 10 digits
       digits_are = digits_of_run rest places places_are
@@ -156,8 +160,7 @@ module _ (bytes : List ℕ) (end whole : ℕ) (run_is : end ≡ 0 + digits_len (
       -- the value of the digits has no more digits
       pub fraction_below : (fraction : ℕ) → fraction ≡ digits_value 10 digits → fraction < 10 ^ places
       fraction_below fraction is =
-          subst (λ value. value < 10 ^ places) (sym is)
-          (subst (λ n. digits_value 10 digits < 10 ^ n) count_is (digits_value-lt 10 digits digits_are))
+          omega (arith, is, digits_value-lt 10 digits digits_are, ap (λ n. 10 ^ n) count_is)
 
       -- the fraction has more than 28 digits
       pub stops_in_fraction : places_of_decimal < places → (flags : Flags) → IsStopAt flags bytes 0 TooLong
@@ -169,18 +172,20 @@ module _ (bytes : List ℕ) (end whole : ℕ) (run_is : end ≡ 0 + digits_len (
             ∙ too_many_places flags digits (chars (drop places rest)) whole digits_are (omega (arith, many, count_is)));
       }
 
-      fraction_text : take (end + 1 + places) bytes ≡ take end bytes ++ point ∷ digits
+      to_stop : end + 1 + places ≡ stop
+      to_stop = omega (arith, stop_is)
+
+      fraction_text : take stop bytes ≡ take end bytes ++ point ∷ digits
       fraction_text =
-          take-add (end + 1) places bytes
-          ∙ (ap (λ front. front ++ take places rest) pointed_text ∙ push_append (take end bytes) (take places rest) point)
+          ap (λ n. take n bytes) (sym to_stop) ∙ take-add (end + 1) places bytes
+          ∙ (ap (λ front. front ++ take places rest) pointed_text ∙ append_assoc (take end bytes) (point ∷ []) digits)
 
       -- a whole part, a point and a fraction are the leading number
       pub leading_precise : (fraction n : ℕ) → (places ≡ 0 → ⊥)
           → places ≤ places_of_decimal → fraction ≡ digits_value 10 digits
-          → n ≡ fixed_point whole fraction places → IsLeadingNumber bytes n (end + 1 + places)
+          → n ≡ fixed_point whole fraction places → IsLeadingNumber bytes n stop
       leading_precise fraction n some_places few value value_of_n =
-          let last = end + 1 + places in
-          let number : IsPrecise current (take last bytes) n = record {
+          let number : IsPrecise current (take stop bytes) n = record {
             whole = take end bytes;
             fraction = digits;
             value = whole;
@@ -192,24 +197,21 @@ module _ (bytes : List ℕ) (end whole : ℕ) (run_is : end ≡ 0 + digits_len (
                 ∙ (ap (λ f. whole * scale + f * 10 ^ (places_of_decimal - places)) value
                 ∙ ap (λ k. whole * scale + digits_value 10 digits * 10 ^ (places_of_decimal - k)) (sym count_is));
           } in
-          let run = run_precise (take last bytes) n number in
-          let end_within : last ≤ length bytes =
-          omega (arith, all, pointed_within, length-drop (end + 1) bytes) in
+          let run = run_precise (take stop bytes) n number in
           let ends = EndsNumber run.state n in
           let ends_number : (c : ℕ) → IsNoDigit c → ends c = λ c none.
           ends_fraction run.state n c run.holds.0 run.holds.1 none in
-          let rest_is : drop places rest ≡ drop last bytes =
-          drop-drop places (end + 1) bytes in
+          let rest_is = drop-drop places (end + 1) bytes ∙ ap (λ n. drop n bytes) to_stop in
           record {
-            within = end_within;
+            within = stop_within;
             number_is = inr number;
             state = run.state;
             run_is = run.run;
             at_end = λ flags. number_end flags n run.state run.holds.0;
             next = λ utf8.
-                first_char ends (λ c wide. ends_number c (wide_no_digit c wide)) (drop last bytes)
-                (utf8_from bytes last utf8 end_within (number_ascii (take last bytes) n (inr number)))
-                (first_map IsNoDigit ends ends_number (drop last bytes)
+                first_char ends (λ c wide. ends_number c (wide_no_digit c wide)) (drop stop bytes)
+                (utf8_from bytes stop utf8 stop_within (number_ascii (take stop bytes) n (inr number)))
+                (first_map IsNoDigit ends ends_number (drop stop bytes)
                 (subst (IsFirst IsNoDigit) rest_is (none_after rest places places_are)));
           }
 
@@ -238,41 +240,35 @@ stops_in_whole bytes end run_is above flags =
 -- the number is read, and the parser of the unit stops after it
 pub stops_in_unit : (flags : Flags) (bytes rest : List ℕ) (n end spaces place : ℕ) (scan : UnitScan)
     → IsLeadingNumber bytes n end → drop end bytes ≡ rest → spaces ≤ length rest → take spaces rest ≡ replicate spaces space
-    → IsFirst IsNoSpace (drop spaces rest) → IsUnitStop flags (drop spaces rest) scan place
+    → IsFirst IsNoSpace (drop spaces rest) → IsUnitStop flags (drop (end + spaces) bytes) scan place
     → IsStopAt flags bytes (end + spaces + place) (InUnit scan)
 stops_in_unit flags bytes rest n end spaces place scan number rest_is within gap other stop =
     let number_small = number_ascii (take end bytes) n number.number_is in
     let gap_small = All-replicate (λ c. c < 128) spaces space (omega arith) in
     let gap_ascii : IsAscii (take spaces rest) = subst IsAscii (sym gap) (IsAscii-from_all (replicate spaces space) gap_small) in
-    let at_unit : drop spaces rest ≡ drop (end + spaces) bytes =
-    ap (drop spaces) (sym rest_is) ∙ drop-drop spaces end bytes in
-    let at_stop : drop place (drop spaces rest) ≡ drop (end + spaces + place) bytes =
-    ap (drop place) at_unit ∙ drop-drop place (end + spaces) bytes in
+    let unit = drop (end + spaces) bytes in
+    let at_unit : drop spaces rest ≡ unit = ap (drop spaces) (sym rest_is) ∙ drop-drop spaces end bytes in
     let front : take (end + spaces) bytes ≡ take end bytes ++ take spaces rest =
     take-add end spaces bytes ∙ ap (λ r. take end bytes ++ take spaces r) rest_is in
     let ascii : IsAscii (take (end + spaces) bytes) =
     subst IsAscii (sym front) (IsAscii-append (take end bytes) (take spaces rest) number_small gap_ascii) in
     let inside : end + spaces ≤ length bytes = omega (arith, within, number.within, ap length rest_is, length-drop end bytes) in
-    let text : chars (drop end bytes) ≡ replicate spaces space ++ chars (drop spaces rest) =
-    ap chars rest_is ∙ (text_from rest spaces gap_ascii ∙ ap (λ g. g ++ chars (drop spaces rest)) gap) in
-    let unit = drop spaces rest in
-    let unit_ascii = beginning_ascii unit place scan stop.0.run_is in
+    let text : chars (drop end bytes) ≡ replicate spaces space ++ chars unit =
+    ap chars rest_is ∙ (text_from rest spaces gap_ascii
+    ∙ (ap (λ g. g ++ chars (drop spaces rest)) gap ∙ ap (λ u. replicate spaces space ++ chars u) at_unit)) in
     record {
-      within = omega (arith, inside, stop.0.within, length-drop spaces rest, ap length rest_is, length-drop end bytes);
-      ascii = subst IsAscii
-          (sym (take-add (end + spaces) place bytes ∙ ap (λ r. take (end + spaces) bytes ++ take place r) (sym at_unit)))
-          (IsAscii-append (take (end + spaces) bytes) (take place unit) ascii unit_ascii);
+      within = omega (arith, inside, stop.0.within, length-drop (end + spaces) bytes);
+      ascii = subst IsAscii (sym (take-add (end + spaces) place bytes))
+          (IsAscii-append (take (end + spaces) bytes) (take place unit) ascii
+          (beginning_ascii unit place scan stop.0.run_is));
       result_is = λ utf8.
-          let utf8_unit : IsUtf8 unit = subst IsUtf8 (sym at_unit) (utf8_from bytes (end + spaces) utf8 inside ascii) in
+          let utf8_unit = utf8_from bytes (end + spaces) utf8 inside ascii in
           ap (read (size_scan flags) Beginning) (text_from bytes end number_small)
           ∙ (read_through (size_scan flags) Beginning number.state (take end bytes) (chars (drop end bytes)) number.run_is
           ∙ (ap (read (size_scan flags) number.state) text
-          ∙ (read_after_number flags n spaces number.state (chars unit)
-          record {
-            at_end = number.at_end flags;
-            next = subst (IsFirst (EndsNumber number.state n)) text (number.next utf8);
-          }
-          (first_char IsNoSpace (λ c wide. λ e. omega (arith, wide, e)) unit utf8_unit other)
+          ∙ (read_after_number flags n spaces number.state (chars unit) (number.at_end flags)
+          (subst (IsFirst (EndsNumber number.state n)) text (number.next utf8))
+          (first_char IsNoSpace (λ c wide. λ e. omega (arith, wide, e)) unit utf8_unit (subst (IsFirst IsNoSpace) at_unit other))
           ∙ (ap (with_number n) (stop_read flags unit place scan stop utf8_unit)
-          ∙ ap (λ r. Err (unit_stop_fault flags scan (next_char (chars r)))) at_stop))));
+          ∙ ap (λ r. Err (unit_stop_fault flags scan (next_char (chars r)))) (drop-drop place (end + spaces) bytes)))));
     }

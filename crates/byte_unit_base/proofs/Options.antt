@@ -1,6 +1,11 @@
--- What an option was before a function was applied to its value, if the result is known.
-use Rattle.std.proofs.Common.{◌≡◌, Option, Some, None, option_and_then, refl}
+-- Which of its two forms an option has, and what an option was before a function was applied to its value, if the result is known.
+use Rattle.std.proofs.Common.{◌≡◌, Option, Some, None, option_and_then, refl, ◌⊎◌, inl, inr}
 use Rattle.std.specs.Option.{option_map}
+
+-- an option is `None`, or `Some` of a value
+pub none_or_some : {A : Type 0} (o : Option A) → (o ≡ None) ⊎ ((a : A) × (o ≡ Some a))
+none_or_some None = inl refl
+none_or_some (Some a) = inr (a, refl)
 
 -- if an option that is mapped is `Some(b)`, then it was a value that the function takes to `b`
 pub some_mapped : {A B : Type 0} (f : A → B) (b : B) (o : Option A) → option_map f o ≡ Some b

@@ -53,25 +53,16 @@ exact_where_stated size unit number digits product e =
     let q = ap (λ x. x * unit) e.1 in
     (e.0, eq_of_mul-eq-mul_right scale (omega arith) (size * 10 ^ digits) (e.0 * unit) (omega (arith, p, q)))
 
--- the number is the exact quotient at this number of places, and `digits` is the first count of digits at which a
--- division ends
-pub record IsDivided (size unit places digits number : ℕ) : Type 0 where
-  pub some : 1 ≤ unit
-  pub room : places ≤ places_of_decimal
-  pub quotient : IsQuotient size unit places number
-  pub first : IsFirstExact size unit places digits
-
--- the digits of the division are the least number of digits after the point that the quotient needs
-pub places_of_quotient : (size unit places digits number : ℕ) → IsDivided size unit places digits number
-    → IsLeastPlaces number scale digits
-places_of_quotient size unit places digits number divided =
-    let quotient = divided.quotient in
-    let product = number_times_unit size unit places number divided.room quotient in
+-- the digits at which a division first ends are the least number of digits after the point that its quotient needs
+pub places_of_quotient : (size unit places digits number : ℕ) → 1 ≤ unit → places ≤ places_of_decimal
+    → IsQuotient size unit places number → IsFirstExact size unit places digits → IsLeastPlaces number scale digits
+places_of_quotient size unit places digits number some room quotient first =
+    let product = number_times_unit size unit places number room quotient in
     let exact : IsExactAt size unit digits =
-    ⊎_elim (λ e. e) (λ e. rw e (quotient.count, quotient.exact)) divided.first.ends in
+    ⊎_elim (λ e. e) (λ e. rw e (quotient.count, quotient.exact)) first.ends in
     record {
-      has = stated_where_exact size unit number digits divided.some product exact;
-      least = λ fewer e. divided.first.first fewer (exact_where_stated size unit number fewer product e);
+      has = stated_where_exact size unit number digits some product exact;
+      least = λ fewer e. first.first fewer (exact_where_stated size unit number fewer product e);
     }
 
 -- a whole number needs no digits after the point

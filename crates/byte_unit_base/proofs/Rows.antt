@@ -52,9 +52,8 @@ reaches binary bit power = leb (2 ^ (10 * power - 1)) (bits (shape power binary 
 
 known_units_reach : (binary bit : Bool) → agree_below (reaches binary bit) (λ n. true) (prefix_count + 1) ≡ true
 known_units_reach true true = refl
-known_units_reach true false = refl
 known_units_reach false true = refl
-known_units_reach false false = refl
+known_units_reach _ _ = refl
 
 reaches_its_prefix : (unit : Shape) → HasPrefix current unit → 2 ^ (10 * unit.power - 1) ≤ bits unit
 reaches_its_prefix unit prefix =

@@ -1,15 +1,14 @@
 -- A state machine that reads an input character by character, over any set of states: what it returns, the longest
 -- viable prefix and the error after it.
-use Rattle.std.proofs.Common.{◌≡◌, ℕ, ◌⊎◌, inl, inr, List, [], ◌∷◌, ◌++◌, Option, Some, None, Result, Ok, Err}
-use Rattle.std.proofs.Common.{option_and_then, sym, refl, ap, subst, ◌∙◌, append-nil}
+use Rattle.std.proofs.Common.{◌≡◌, ℕ, ◌+◌, ◌⊎◌, inl, inr, List, [], ◌∷◌, ◌++◌, Option, Some, None, Result, Ok, Err}
+use Rattle.std.proofs.Common.{option_and_then, sym, refl, ap, subst, ◌∙◌, append-nil, ⊎_elim, append_assoc}
 use Rattle.std.specs.Prelude.{◌↔◌, ⊤, IfOk, IfErr, IsOkAnd}
 use Rattle.byte_unit_base.specs.Version.{current}
 use Rattle.byte_unit_base.specs.ViablePrefix.{ParserState}
 use Rattle.byte_unit_base.specs.Fault.{Fault, fault_at, fault_at_end, IsFaultAfter, IsFirstFault}
 use Rattle.byte_unit_base.specs.ReaderLaws.{IsOneAnswer, CanBecome}
 use Rattle.byte_unit_base.specs.Scan.{Scan, run, read, map_result}
-use Rattle.byte_unit_base.proofs.Lists.{push_append}
-use Rattle.byte_unit_base.proofs.Options.{some_passed}
+use Rattle.byte_unit_base.proofs.Options.{none_or_some, some_passed}
 
 -- the state after a text
 
@@ -33,6 +32,11 @@ module _ {S : Type 0} (step : S → ℕ → Option S) where
       let t = run_before next.0 u xs ys next.2 in
       (t.0, run_step s next.0 c xs next.1 ∙ t.1)
 
+  -- no further character is read: the rest is empty, or its first character has no step
+  abbrev pub CannotStep : S → List ℕ → Type 0
+  CannotStep s [] = ⊤
+  CannotStep s (c ∷ rest) = step s c ≡ None
+
 module _ {S : Type 0} (step : S → ℕ → Option S) (Holds : S → List ℕ → Type 0)
     (keeps : (s t : S) (c : ℕ) (text : List ℕ) → step s c ≡ Some t → Holds s text → Holds t (text ++ c ∷ [])) where
   -- what holds at the start, and after each step if before it, holds at the state after a text
@@ -41,13 +45,7 @@ module _ {S : Type 0} (step : S → ℕ → Option S) (Holds : S → List ℕ �
       let k : s ≡ t = cc in subst (λ u. Holds u (front ++ [])) k (subst (Holds s) (sym (append-nil front)) p)
   run_keeps (c ∷ xs) front s t e p =
       let u = some_passed (λ v. run step v xs) t (step s c) e in
-      subst (Holds t) (push_append front xs c) (run_keeps xs (front ++ c ∷ []) u.0 t u.2 (keeps s u.0 c front u.1 p))
-
-module _ {S : Type 0} (step : S → ℕ → Option S) where
-  -- no further character is read: the rest is empty, or its first character has no step
-  abbrev pub CannotStep : S → List ℕ → Type 0
-  CannotStep s [] = ⊤
-  CannotStep s (c ∷ rest) = step s c ≡ None
+      subst (Holds t) (append_assoc front (c ∷ []) xs) (run_keeps xs (front ++ c ∷ []) u.0 t u.2 (keeps s u.0 c front u.1 p))
 
 module _ {S Meaning : Type 0} (scan : Scan S Meaning) where
   -- if the next character has a step, the result is that of the rest from the next state
@@ -153,14 +151,6 @@ module _ {S Meaning : Type 0} {scan : Scan S Meaning} {Reached : S → List ℕ 
   answer_at_end s text front t e (Some fault) at ends =
       subst (Answers text) (sym ends) (first_fault s text front [] fault t e tt at)
 
-  answer_by_step : (s : S) (text front : List ℕ) (c : ℕ) (cs : List ℕ) → text ≡ front ++ c ∷ cs
-      → run scan.step scan.start front ≡ Some s → (o : Option S) → scan.step s c ≡ o
-      → ((t : S) → scan.step s c ≡ Some t → Answers text (read scan t cs)) → Answers text (read scan s (c ∷ cs))
-  answer_by_step s text front c cs t e None stops next =
-      subst (Answers text) (sym (read_none scan s c cs stops)) (first_fault s text front (c ∷ cs) _ t e stops refl)
-  answer_by_step s text front c cs t e (Some u) goes next =
-      subst (Answers text) (sym (read_some scan s u c cs goes)) (next u goes)
-
   answer_from : (s : S) (text front rest : List ℕ) → text ≡ front ++ rest → run scan.step scan.start front ≡ Some s
       → Answers text (read scan s rest)
   answer_from s text front [] t e =
@@ -168,9 +158,13 @@ module _ {S Meaning : Type 0} {scan : Scan S Meaning} {Reached : S → List ℕ 
       answer_at_end s text front t e (fault_at_end (scan.place s)) refl
       (is.ends s text (subst (Reached s) whole (reached front s e)))
   answer_from s text front (c ∷ cs) t e =
-      answer_by_step s text front c cs t e (scan.step s c) refl
-      (λ u goes. answer_from u text (front ++ c ∷ []) cs (t ∙ sym (push_append front cs c))
-      (run_through scan.step scan.start s front (c ∷ []) e ∙ run_step scan.step s u c [] goes))
+      ⊎_elim
+      (λ stops. subst (Answers text) (sym (read_none scan s c cs stops))
+      (first_fault s text front (c ∷ cs) _ t e stops refl))
+      (λ goes. subst (Answers text) (sym (read_some scan s goes.0 c cs goes.1))
+      (answer_from goes.0 text (front ++ c ∷ []) cs (t ∙ sym (append_assoc front (c ∷ []) cs))
+      (run_through scan.step scan.start s front (c ∷ []) e ∙ run_step scan.step s goes.0 c [] goes.1)))
+      (none_or_some (scan.step s c))
 
   -- the result for an input is its meaning or its error
   pub reads_meaning_or_fault : (text : List ℕ)
@@ -183,20 +177,16 @@ module _ {S Meaning : Type 0} {scan : Scan S Meaning} {Reached : S → List ℕ 
       let r = is.meaning_read text meaning h in
       ap (read scan scan.start) (sym (append-nil text)) ∙ (read_through scan scan.start r.0 text [] r.1 ∙ r.2)
 
-  -- no character has a step after the longest viable prefix
-  no_step : (s : S) (front cs : List ℕ) (c : ℕ) → Reached s front → NoLongerFront IsViable front (c ∷ cs)
-      → (o : Option S) → scan.step s c ≡ o → scan.step s c ≡ None
-  no_step s front cs c r longest None e = e
-  no_step s front cs c r longest (Some t) e =
-      let none = longest (scan.place t) (c ∷ []) cs refl (is.front t (front ++ c ∷ []) (is.steps s t c front e r)) in
-      absurd (let k : ⊥ = cc in k)
-
   fault_of_rest : (s : S) (front rest : List ℕ) (fault : Fault) → Reached s front → NoLongerFront IsViable front rest
       → IsFaultAfter current scan.flags (scan.place s) rest fault → read scan s rest ≡ Err fault
   fault_of_rest s front [] fault r longest h =
       subst (λ o. EndsIn (Means front) o (scan.at_end s)) h (is.ends s front r)
   fault_of_rest s front (c ∷ cs) fault r longest h =
-      read_none scan s c cs (no_step s front cs c r longest (scan.step s c) refl) ∙ ap Err (sym h)
+      let none = ⊎_elim (λ e. e)
+      (λ t. absurd (let farther = longest _ (c ∷ []) cs refl (is.front t.0 _ (is.steps s t.0 c front t.1 r)) in
+      let k : ⊥ = cc in k))
+      (none_or_some (scan.step s c)) in
+      read_none scan s c cs none ∙ ap Err (sym h)
 
   -- the result for an input that has an error is this error
   pub reads_fault : (text : List ℕ) (fault : Fault) → IsFirstFault IsViable current scan.flags text fault

@@ -42,31 +42,27 @@ eight_times size a b h =
     let p = ap (λ n. h.left * (n * 5 ^ b)) (pow-add 2 a 3) in
     record { left = h.left; product = e ∙ (omega arith ∙ sym p); odd = h.odd; no_five = h.no_five }
 
-eight_zeros : trailing_zeros w128 8 ≡ 3
+known_zeros : (trailing_zeros w128 8 ≡ 3) × (trailing_zeros w128 1 ≡ 0)
 unfolding lib.Count.count_trailing_zeros
-eight_zeros = refl
-
-one_zeros : trailing_zeros w128 1 ≡ 0
-unfolding lib.Count.count_trailing_zeros
-one_zeros = refl
+known_zeros = (refl, refl)
 
 -- a size in bits has the exponents of the size in its kind, that of 2 greater by three for bytes
 pub in_bits_powers : (size divisor a b : ℕ) → (divisor ≡ 8) ⊎ (divisor ≡ 1) → IsTwoFive size a b
     → IsTwoFive (size * divisor) (a + trailing_zeros w128 divisor) b
-in_bits_powers size divisor a b (inl e) h = rw (e, eight_zeros) (eight_times size a b h)
+in_bits_powers size divisor a b (inl e) h = rw (e, known_zeros.0) (eight_times size a b h)
 in_bits_powers size divisor a b (inr e) h =
     let once : size * 1 ≡ size = omega arith in
     let none : a + 0 ≡ a = omega arith in
-    rw (e, one_zeros, once, none) h
+    rw (e, known_zeros.1, once, none) h
 
 -- a size in bits is 2 and 5 to its exponents times the factor that is left, as the size in its kind is
 pub in_bits_product : (size divisor left a b : ℕ) → (divisor ≡ 8) ⊎ (divisor ≡ 1) → left * (2 ^ a * 5 ^ b) ≡ size
     → left * (2 ^ (a + trailing_zeros w128 divisor) * 5 ^ b) ≡ size * divisor
 in_bits_product size divisor left a b (inl e) h =
-    rw (e, eight_zeros, pow-add 2 a 3) (omega (arith, ap (λ n. n * 8) h))
+    rw (e, known_zeros.0, pow-add 2 a 3) (omega (arith, ap (λ n. n * 8) h))
 in_bits_product size divisor left a b (inr e) h =
     let none : a + 0 ≡ a = omega arith in
-    rw (e, one_zeros, none) (h ∙ omega arith)
+    rw (e, known_zeros.1, none) (h ∙ omega arith)
 
 -- the units with no greater exponents than those of the size plus the places are those in which it is exact
 module _ {family : Family} {in_bits most a b : ℕ} (precision : ℕ) (same : most ≡ places_within precision)

@@ -15,6 +15,7 @@ use Rattle.byte_unit_base.specs.declared.unit.scan.UnitScan.{UnitScan}
 use Rattle.byte_unit_base.proofs.UnitReached.{Reached, Reached-step, Reached-start}
 use Rattle.byte_unit_base.proofs.SizeSteps.{UnitStep, AfterNumber, StepOf}
 use Rattle.byte_unit_base.proofs.Lists.{push_last}
+use Rattle.byte_unit_base.specs.ViablePrefix.{before_unit, IsNumberAndUnitPrefix}
 
 -- the text is a whole part `w`, a point, and `j` digits of value `f`
 pub record FractionReached (w f j : ℕ) (text : List ℕ) : Type 0 where
@@ -26,14 +27,6 @@ pub record FractionReached (w f j : ℕ) (text : List ℕ) : Type 0 where
   pub value_is : f ≡ digits_value 10 fraction
   pub length_is : length fraction ≡ j
   pub few : j ≤ places_of_decimal
-
--- the text is the number `n`, scaled by 10^28, and at least one space
-pub record GapReached (n : ℕ) (text : List ℕ) : Type 0 where
-  pub number_part : List ℕ
-  pub spaces : ℕ
-  pub some : 0 < spaces
-  pub text_is : text ≡ number_part ++ replicate spaces 32
-  pub number_is : IsNumberText current number_part n
 
 -- the text is the number `n`, scaled by 10^28, any number of spaces, and what led the state machine of units to `s`
 pub record UnitReached (n : ℕ) (s : UnitScan) (text : List ℕ) : Type 0 where
@@ -50,7 +43,8 @@ SizeReached Beginning text = text ≡ []
 SizeReached (Whole w) text = IsWholePart current text w
 SizeReached (Point w) text = IsPointed current text w
 SizeReached (Fraction w f j) text = FractionReached w f j text
-SizeReached (Gap n) text = GapReached n text
+SizeReached (Gap n) text =
+    (r : IsNumberAndUnitPrefix current before_unit text) × (r.number ≡ n) × (0 < r.spaces)
 SizeReached (UnitAt n s) text = (r : UnitReached n s text) × (0 < length r.unit_part)
 
 -- the text of a whole part, a point and a fraction is their number
@@ -87,24 +81,30 @@ unit_grows n c s t text r k =
     subst (λ x. SizeReached x (text ++ c ∷ [])) k.2 (grown, omega (arith, length-append r.unit_part (c ∷ [])))
 
 -- after a number and any number of spaces there is one space more, or the first character of a unit
-number_grows : (n spaces c : ℕ) (t : SizeScan) (text number : List ℕ) → text ≡ number ++ replicate spaces 32
+number_grows : (n spaces c : ℕ) (t : SizeScan) (text number : List ℕ) → text ≡ number ++ (replicate spaces 32 ++ [])
     → IsNumberText current number n → AfterNumber n c t → SizeReached t (text ++ c ∷ [])
 number_grows n spaces c t text number e h (inl k) =
-    subst (λ x. SizeReached x (text ++ c ∷ [])) k.1 (record {
-      number_part = number;
-      spaces = spaces + 1;
-      some = omega arith;
-      text_is = push_last text number (replicate spaces 32) c e
-          ∙ (ap (λ x. number ++ (replicate spaces 32 ++ x ∷ [])) k.0
-          ∙ ap (λ g. number ++ g) (replicate_more spaces 32));
-      number_is = h;
-    })
+    let more : (replicate spaces 32 ++ []) ++ c ∷ [] ≡ replicate (spaces + 1) 32 ++ [] =
+    rw (append-nil {A = ℕ}, k.0, append-nil {A = ℕ}) (replicate_more spaces 32) in
+    subst (λ x. SizeReached x (text ++ c ∷ [])) k.1 (
+      record {
+        number_part = number;
+        number = n;
+        spaces = spaces + 1;
+        unit_part = [];
+        text_is = push_last text number (replicate spaces 32 ++ []) c e ∙ ap (λ g. number ++ g) more;
+        number_is = h;
+        unit_is = refl;
+      },
+      refl,
+      omega arith,
+    )
 number_grows n spaces c t text number e h (inr k) =
     unit_grows n c unit_start t text (record {
       number_part = number;
       spaces = spaces;
       unit_part = [];
-      text_is = e ∙ ap (λ g. number ++ g) (sym (append-nil (replicate spaces 32)));
+      text_is = e;
       number_is = h;
       reached = Reached-start;
     }) k
@@ -154,5 +154,8 @@ SizeReached-step (Fraction w f j) t c text (inl k) r =
     })
 SizeReached-step (Fraction w f j) t c text (inr k) r =
     number_grows (fixed_point w f j) 0 c t text text (sym (append-nil text)) (inr (fraction_number w f j text r)) k
-SizeReached-step (Gap n) t c text k r = number_grows n r.spaces c t text r.number_part r.text_is r.number_is k
+SizeReached-step (Gap n) t c text k r =
+    let front = r.0 in
+    number_grows n front.spaces c t text front.number_part (rw front.unit_is at front.text_is)
+    (rw r.1 at front.number_is) k
 SizeReached-step (UnitAt n s) t c text k r = unit_grows n c s t text r.0 k

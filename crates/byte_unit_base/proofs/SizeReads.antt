@@ -1,8 +1,7 @@
 -- The parser of a number and a unit: its state machine accepts exactly the inputs of the grammar, so it returns the
 -- number and unit of an input, or its error.
-use Rattle.std.proofs.Common.{◌≡◌, ◌≢◌, ℕ, ◌<◌, Bool, true, false, cond, ◌*◌, inl, inr, List, [], ◌∷◌, ◌++◌, Option}
-use Rattle.std.proofs.Common.{Some, None, Result, Ok}
-use Rattle.std.proofs.Common.{Err, IfErr, length, nat_eq, drop, replicate, sym, refl, ap, ◌∙◌, arith, append-nil}
+use Rattle.std.proofs.Common.{◌≡◌, ◌≢◌, ℕ, ◌<◌, ◌*◌, inl, inr, List, [], ◌∷◌, ◌++◌, Option, Some, None, Result, Ok, Err}
+use Rattle.std.proofs.Common.{IfErr, length, nat_eq, drop, replicate, sym, refl, ap, ◌∙◌, arith, append-nil}
 use Rattle.std.specs.Prelude.{IsOkAnd}
 use Rattle.std.specs.Str.{chars, IsUtf8}
 use Rattle.byte_unit_math.specs.Bounds.{scale}
@@ -13,14 +12,14 @@ use Rattle.byte_unit_base.specs.Spelling.{Flags, Spells}
 use Rattle.byte_unit_base.specs.Number.{IsNumberText}
 use Rattle.byte_unit_base.specs.SizeText.{trim_of, IsSizeText}
 use Rattle.byte_unit_base.specs.Readings.{IsNumberReading}
-use Rattle.byte_unit_base.specs.ViablePrefix.{ParserState, beginning, in_whole, after_point, in_fraction, after_prefix}
-use Rattle.byte_unit_base.specs.ViablePrefix.{after_bi, IsViableUnitPrefix, IsNumberAndUnitPrefix, IsViableSizePrefix}
-use Rattle.byte_unit_base.specs.Fault.{Fault, IsFaultAfter, fault_at, fault_at_end, no_unit, too_long, exceeded}
+use Rattle.byte_unit_base.specs.ViablePrefix.{ParserState, beginning, in_whole}
+use Rattle.byte_unit_base.specs.ViablePrefix.{IsViableUnitPrefix, IsNumberAndUnitPrefix, IsViableSizePrefix, after_bi}
+use Rattle.byte_unit_base.specs.Fault.{Fault, IsFaultAfter, fault_at, fault_at_end, exceeded}
 use Rattle.byte_unit_base.specs.Errors.{size_fault}
 use Rattle.byte_unit_base.specs.ReaderLaws.{Represents, SizeTextsHaveOneAnswer, ViableSizePrefixesAreBeginnings}
 use Rattle.byte_unit_base.specs.Scan.{read}
 use Rattle.byte_unit_base.specs.UnitScan.{unit_step, unit_of, unit_at_end, word_parser_state, scan_of, start as unit_start}
-use Rattle.byte_unit_base.specs.SizeScan.{is_digit, size_step, size_scan, size_result, with_shape, size_at_end}
+use Rattle.byte_unit_base.specs.SizeScan.{size_step, size_scan, size_result, with_shape, size_at_end}
 use Rattle.byte_unit_base.specs.SizeScan.{size_parser_state, size_or_fault, fixed_point, SizeScan, Beginning, Whole}
 use Rattle.byte_unit_base.specs.SizeScan.{Point, Fraction, Gap, UnitAt}
 use Rattle.byte_unit_base.specs.PartsReading.{IsStopAt, next_char, stop_fault}
@@ -29,7 +28,7 @@ use Rattle.byte_unit_base.specs.declared.unit.Unit.{Unit as UnitName}
 use Rattle.byte_unit_base.specs.declared.errors.ParseError.{ParseError}
 use Rattle.byte_unit_base.specs.declared.unit.scan.UnitScan.{UnitScan}
 use Rattle.byte_unit_base.specs.declared.unit.scan.Multiple.{Multiple}
-use Rattle.byte_unit_base.specs.declared.unit.scan.Multiple.TheVariants.{One, Decimal, Binary}
+use Rattle.byte_unit_base.specs.declared.unit.scan.Multiple.TheVariants.{One}
 use Rattle.byte_unit_base.specs.declared.unit.scan.Word.{Word}
 use Rattle.byte_unit_base.specs.declared.unit.scan.Word.TheVariants.{Empty, Bi}
 use Rattle.byte_unit_base.proofs.Computed.{number_computed}
@@ -60,14 +59,11 @@ front_in_unit n s place text r h =
 size_front_in_unit : (n : ℕ) (m : Multiple) (w : Word) (text : List ℕ) (r : UnitReached n (scan_of m w) text)
     → 0 < length r.unit_part
     → IsViableSizePrefix current (word_parser_state m w) text
+size_front_in_unit n m Bi text r some = front_in_unit n _ after_bi text r (unit_front m Bi r.unit_part r.reached)
 size_front_in_unit n One Empty text r some =
     let none : r.unit_part ≡ [] = r.reached.text_is
     ∙ (ap (λ x. x ++ r.reached.word) r.reached.front_is ∙ r.reached.word_is) in
     absurd (omega (arith, some, ap length none))
-size_front_in_unit n (Decimal p) Empty text r some =
-    front_in_unit n _ after_prefix text r (unit_front (Decimal p) Empty r.unit_part r.reached)
-size_front_in_unit n (Binary p) Empty text r some =
-    front_in_unit n _ after_prefix text r (unit_front (Binary p) Empty r.unit_part r.reached)
 size_front_in_unit n m w text r some = front_in_unit n _ (word_parser_state m w) text r (unit_front m w r.unit_part r.reached)
 
 size_front : (s : SizeScan) (text : List ℕ) → SizeReached s text → IsViableSizePrefix current (size_parser_state s) text
@@ -75,23 +71,12 @@ size_front Beginning text r = r
 size_front (Whole w) text r = (w, r)
 size_front (Point w) text r = (w, r)
 size_front (Fraction w f j) text r = (fixed_point w f j, fraction_number w f j text r)
-size_front (Gap n) text r = (
-  record {
-    number_part = r.number_part;
-    number = n;
-    spaces = r.spaces;
-    unit_part = [];
-    text_is = r.text_is ∙ ap (λ g. r.number_part ++ g) (sym (append-nil (replicate r.spaces 32)));
-    number_is = r.number_is;
-    unit_is = refl;
-  },
-  r.some,
-)
+size_front (Gap n) text r = (r.0, r.2)
 size_front (UnitAt n s) text r = size_front_in_unit n s.multiple s.word text r.0 r.1
 
 -- the result for an input that ends in a state
 
-number_at_end : (flags : Flags) (n : ℕ) (text number : List ℕ) (k : ℕ) → text ≡ number ++ replicate k 32
+number_at_end : (flags : Flags) (n : ℕ) (text number : List ℕ) (k : ℕ) → text ≡ number ++ (replicate k 32 ++ [])
     → IsNumberText current number n
     → EndsIn (Represents flags text) None (size_or_fault n (unit_of flags unit_start))
 number_at_end flags n text number k e h = (
@@ -100,7 +85,7 @@ number_at_end flags n text number k e h = (
     number_part = number;
     spaces = k;
     unit_part = [];
-    text_is = e ∙ ap (λ g. number ++ g) (sym (append-nil (replicate k 32)));
+    text_is = e;
     number_is = h;
     unit_is = Spells-reached flags _ _ [] _ refl Reached-start;
   },
@@ -125,7 +110,10 @@ size_ends flags (Whole w) text r = number_at_end flags (w * scale) text text 0 (
 size_ends flags (Point w) text r = refl
 size_ends flags (Fraction w f j) text r =
     number_at_end flags (fixed_point w f j) text text 0 (sym (append-nil text)) (inr (fraction_number w f j text r))
-size_ends flags (Gap n) text r = number_at_end flags n text r.number_part r.spaces r.text_is r.number_is
+size_ends flags (Gap n) text r =
+    let front = r.0 in
+    number_at_end flags n text front.number_part front.spaces (rw front.unit_is at front.text_is)
+    (rw r.1 at front.number_is)
 size_ends flags (UnitAt n s) text r =
     let u = r.0 in
     unit_at_end_of flags n text u.unit_part
@@ -176,19 +164,12 @@ size_scan_is flags = record {
 }
 
 -- no parser state gives the error of a size that is too large
-digit_bounds : (t : Bool) (c n : ℕ) → cond t too_long (no_unit current c) ≢ exceeded n
-digit_bounds true c n = λ e. cc
-digit_bounds false c n = λ e. cc
-
 no_bounds_at : (flags : Flags) (place : ParserState) (c n : ℕ) → fault_at current flags place c ≢ exceeded n
-no_bounds_at flags in_whole c n = digit_bounds (is_digit c) c n
-no_bounds_at flags in_fraction c n = digit_bounds (is_digit c) c n
-no_bounds_at flags _ c n = λ e. cc
+no_bounds_at flags in_whole c n = λ e. grind (arith, e)
+no_bounds_at flags _ c n = λ e. grind (arith, e)
 
 no_bounds_at_end : (place : ParserState) (n : ℕ) → fault_at_end place ≢ Some (exceeded n)
 no_bounds_at_end beginning n = λ e. cc
-no_bounds_at_end after_point n = λ e. cc
-no_bounds_at_end after_bi n = λ e. cc
 no_bounds_at_end _ n = λ e. cc
 
 no_bounds_after : (flags : Flags) (place : ParserState) (rest : List ℕ) (fault : Fault) (n : ℕ)

@@ -1,6 +1,6 @@
 -- What the state machine of sizes returns where the parser stops: the rest of an input is a unit, or starts with an
 -- error.
-use Rattle.std.proofs.Common.{◌≡◌, ℕ, zero, suc, ◌+◌, ◌*◌, ◌<◌, true, false, eqb, ltb, ⊎_elim}
+use Rattle.std.proofs.Common.{◌≡◌, ℕ, zero, suc, ◌+◌, ◌*◌, ◌<◌, true, false, eqb, ⊎_elim}
 use Rattle.std.proofs.Common.{List, [], ◌∷◌, ◌++◌, Option, Some, None, Result, Ok, Err, length, replicate, refl, sym, ap, subst, ◌∙◌}
 use Rattle.std.proofs.Common.{arith, take, drop, ◌≤◌, take-append-drop}
 use Rattle.std.specs.Option.{option_map}
@@ -100,14 +100,11 @@ digit_is c small = grind (arith, nat_tests)
 
 no_more_whole : (w c : ℕ) → digit_value c < 10 → whole_limit ≤ w * 10 + digit_value c → size_step (Whole w) c ≡ None
 unfolding size_step
-no_more_whole w c small large =
-    let too_large : ltb (w * 10 + digit_value c) whole_limit ≡ false = grind (arith, nat_tests) in
-    rw (digit_is c small, too_large) refl
+no_more_whole w c small large = grind (arith, nat_tests)
 
 no_more_places : (w f j c : ℕ) → digit_value c < 10 → places_of_decimal ≤ j → size_step (Fraction w f j) c ≡ None
 unfolding size_step
-no_more_places w f j c small many =
-    let full : ltb j places_of_decimal ≡ false = grind (arith, nat_tests) in rw (digit_is c small, full) refl
+no_more_places w f j c small many = grind (arith, nat_tests)
 
 -- the error of a whole part that reaches the limit
 pub too_large : (flags : Flags) (ds rest : List ℕ) (w : ℕ) → AllDigits 10 ds → w < whole_limit
@@ -199,18 +196,13 @@ read_in_unit flags n u [] = end_with_number n (unit_of flags u)
 read_in_unit flags n u (c ∷ cs) =
     first_of_unit flags n c (UnitAt n u) u cs refl refl (λ t. read_in_unit flags n t cs) (unit_step u c) refl
 
--- the state is after the number `n`, which ends there
-pub record IsAfterNumber (flags : Flags) (s : SizeScan) (n : ℕ) (rest : List ℕ) : Type 0 where
-  pub at_end : size_at_end flags s ≡ size_or_fault n (unit_of flags start)
-  pub next : IsFirst (EndsNumber s n) rest
-
-read_first_of_unit : (flags : Flags) (n : ℕ) (s : SizeScan) (unit : List ℕ) → IsAfterNumber flags s n unit
-    → IsFirst IsNoSpace unit
+read_first_of_unit : (flags : Flags) (n : ℕ) (s : SizeScan) (unit : List ℕ)
+    → size_at_end flags s ≡ size_or_fault n (unit_of flags start) → IsFirst (EndsNumber s n) unit → IsFirst IsNoSpace unit
     → read (size_scan flags) s unit ≡ with_number n (read (unit_scan flags) start unit)
-read_first_of_unit flags n s [] after other = after.at_end ∙ end_with_number n (unit_of flags start)
-read_first_of_unit flags n s (c ∷ cs) after other =
+read_first_of_unit flags n s [] at_end next other = at_end ∙ end_with_number n (unit_of flags start)
+read_first_of_unit flags n s (c ∷ cs) at_end next other =
     let no_space : eqb c 32 ≡ false = grind (arith, nat_tests) in
-    first_of_unit flags n c s start cs (after.next.step_is ∙ rw no_space refl) (after.next.fault_is flags)
+    first_of_unit flags n c s start cs (next.step_is ∙ rw no_space refl) (next.fault_is flags)
     (λ t. read_in_unit flags n t cs) (unit_step start c) refl
 
 ends_gap : (n : ℕ) (text : List ℕ) → IsFirst (EndsNumber (Gap n) n) text
@@ -220,9 +212,10 @@ ends_gap n (c ∷ cs) = record { step_is = refl; fault_is = λ flags. refl }
 
 -- after a number, spaces are passed over, and the rest is read as a unit
 pub read_after_number : (flags : Flags) (n k : ℕ) (s : SizeScan) (unit : List ℕ)
-    → IsAfterNumber flags s n (replicate k space ++ unit) → IsFirst IsNoSpace unit
+    → size_at_end flags s ≡ size_or_fault n (unit_of flags start)
+    → IsFirst (EndsNumber s n) (replicate k space ++ unit) → IsFirst IsNoSpace unit
     → read (size_scan flags) s (replicate k space ++ unit) ≡ with_number n (read (unit_scan flags) start unit)
-read_after_number flags n zero s unit after other = read_first_of_unit flags n s unit after other
-read_after_number flags n (suc k) s unit after other =
-    read_some (size_scan flags) s (Gap n) space (replicate k space ++ unit) after.next.step_is
-    ∙ read_after_number flags n k (Gap n) unit record { at_end = refl; next = ends_gap n (replicate k space ++ unit) } other
+read_after_number flags n zero s unit at_end next other = read_first_of_unit flags n s unit at_end next other
+read_after_number flags n (suc k) s unit at_end next other =
+    read_some (size_scan flags) s (Gap n) space (replicate k space ++ unit) next.step_is
+    ∙ read_after_number flags n k (Gap n) unit refl (ends_gap n (replicate k space ++ unit)) other

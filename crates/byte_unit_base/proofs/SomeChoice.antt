@@ -56,39 +56,30 @@ states_decided version family in_bits precision unit =
     (λ fails. inr (λ s. fails (((s.member.prefix.some, s.member.prefix.known), s.member.kind), (s.not_above, s.exact))))
     (both_decided member (both_decided (le_decided (bits unit) in_bits) exact))
 
--- the unit has the property, and no larger one of these has it
-record IsLargestOf (Has : Shape → Type 0) (units : List Shape) (unit : Shape) : Type 0 where
-  has : Has unit
-  largest : (other : Shape) → IsIn other units → Has other → bits other ≤ bits unit
-
+-- one of these units is the largest that has the property, or none of them has it
 abbrev LargestOrNone : (Shape → Type 0) → List Shape → Type 0
 LargestOrNone Has units =
-    ((unit : Shape) × IsLargestOf Has units unit) ⊎ ((unit : Shape) → IsIn unit units → ¬ (Has unit))
+    ((unit : Shape) × Has unit × ((other : Shape) → IsIn other units → Has other → bits other ≤ bits unit))
+    ⊎ ((unit : Shape) → IsIn unit units → ¬ (Has unit))
 
 module _ (Has : Shape → Type 0) (x : Shape) (xs : List Shape) where
-  -- a unit stays the largest beside one more that is no larger, or does not have the property
-  stays : (unit : Shape) → IsLargestOf Has xs unit → (Has x → bits x ≤ bits unit) → IsLargestOf Has (x ∷ xs) unit
-  stays unit l low = record {
-    has = l.has;
-    largest = λ other i h.
-        ⊎_elim (λ e. omega (arith, ap bits e, low (subst Has (sym e) h))) (λ k. l.largest other k h) i;
-  }
-
-  -- one more unit is the largest, if none before it that has the property is larger
-  becomes : Has x → ((other : Shape) → IsIn other xs → Has other → bits other ≤ bits x) → IsLargestOf Has (x ∷ xs) x
-  becomes has low = record {
-    has = has;
-    largest = λ other i h. ⊎_elim (λ e. omega (arith, ap bits e)) (λ k. low other k h) i;
-  }
+  -- a bound for the units that have the property is one with a unit more that is no larger, or does not have it
+  bounds_more : (bound : ℕ) → (Has x → bits x ≤ bound)
+      → ((other : Shape) → IsIn other xs → Has other → bits other ≤ bound)
+      → (other : Shape) → IsIn other (x ∷ xs) → Has other → bits other ≤ bound
+  bounds_more bound first rest other i h =
+      ⊎_elim (λ e. omega (arith, ap bits e, first (subst Has (sym e) h))) (λ k. rest other k h) i
 
   one_more : Decided (Has x) → LargestOrNone Has xs → LargestOrNone Has (x ∷ xs)
-  one_more (inr fails) (inl (unit, l)) = inl (unit, stays unit l (λ h. absurd (fails h)))
+  one_more (inr fails) (inl (unit, found, low)) = inl (unit, found, bounds_more (bits unit) (λ h. absurd (fails h)) low)
   one_more (inr fails) (inr none) = inr (λ other i h. ⊎_elim (λ e. fails (subst Has (sym e) h)) (λ k. none other k h) i)
-  one_more (inl has) (inr none) = inl (x, becomes has (λ other i h. absurd (none other i h)))
-  one_more (inl has) (inl (unit, l)) =
+  one_more (inl has) (inr none) =
+      inl (x, has, bounds_more (bits x) (λ h. omega arith) (λ other i h. absurd (none other i h)))
+  one_more (inl has) (inl (unit, found, low)) =
       ⊎_elim
-      (λ smaller. inl (unit, stays unit l (λ h. omega (arith, smaller))))
-      (λ larger. inl (x, becomes has (λ other i h. omega (arith, l.largest other i h, larger))))
+      (λ smaller. inl (unit, found, bounds_more (bits unit) (λ h. omega (arith, smaller)) low))
+      (λ larger. inl (x, has, bounds_more (bits x) (λ h. omega arith)
+      (λ other i h. omega (arith, low other i h, larger))))
       (cases_lt (bits x) (bits unit))
 
 -- one of the units that have the property is the largest, or none has it
@@ -106,12 +97,12 @@ choice_or_none version family in_bits precision =
     in_falling family (length version.letters) unit s.member.kind s.member.prefix.some s.member.prefix.known in
     ⊎_elim
     (λ found.
-    let exact = found.1.has.exact in
+    let exact = found.1.exact in
     inl (
       found.0,
       exact.0 * 10 ^ (places_of_decimal - places_within precision),
       record {
-        unit_is = record { has = found.1.has; largest = λ other s. found.1.largest other (there other s) s };
+        unit_is = record { has = found.1; largest = λ other s. found.2 other (there other s) s };
         number_is = record { count = exact.0; exact = exact.1; number = refl };
       },
     ))

@@ -1,6 +1,6 @@
 -- The parser of a unit: its state machine accepts exactly the spellings of units, so it returns the unit of an input,
 -- or its error.
-use Rattle.std.proofs.Common.{◌≡◌, ℕ, ◌⊎◌, inl, inr, List, [], ◌∷◌, ◌++◌, Result, Ok, Some, None, ap, subst, sym, ◌∙◌}
+use Rattle.std.proofs.Common.{◌≡◌, ℕ, ◌⊎◌, inl, inr, List, [], ◌∷◌, ◌++◌, Result, Ok, ap, subst, sym, ◌∙◌}
 use Rattle.std.proofs.Common.{refl, append-nil, false, true}
 use Rattle.std.specs.Str.{str_to_ascii_lowercase}
 use Rattle.byte_unit_base.specs.Shape.{Shape}
@@ -65,19 +65,12 @@ unit_front m Bits text r = word_front after_bits m Bits text r r.word_is
 
 -- the result for an input that ends in a state
 
-spelled_at_end : (flags : Flags) (m : Multiple) (w : Word) (text : List ℕ) (unit : Shape)
-    → unit_of flags (scan_of m w) ≡ Some unit
-    → Reached (scan_of m w) text → EndsIn (Spells current flags text) None (unit_at_end (unit_of flags (scan_of m w)))
-spelled_at_end flags m w text unit e r = (unit, Spells-reached flags m w text unit e r, ap unit_at_end e)
-
 -- an input that ends in a state spells the unit of the state, or has the error of its parser state
 pub unit_ends : (flags : Flags) (m : Multiple) (w : Word) (text : List ℕ) → Reached (scan_of m w) text
     → EndsIn (Spells current flags text) (fault_at_end (word_parser_state m w)) (unit_at_end (unit_of flags (scan_of m w)))
-unit_ends flags One Empty text r = spelled_at_end flags One Empty text _ refl r
-unit_ends flags (Decimal p) Empty text r = spelled_at_end flags (Decimal p) Empty text _ refl r
-unit_ends flags (Binary p) Empty text r = spelled_at_end flags (Binary p) Empty text _ refl r
+unit_ends flags One Empty text r = (_, Spells-reached flags One Empty text _ refl r, refl)
 unit_ends flags m Bi text r = refl
-unit_ends flags m w text r = spelled_at_end flags m w text _ refl r
+unit_ends flags m w text r = (_, Spells-reached flags m w text _ refl r, refl)
 
 -- each state can be completed: a `t` makes a unit after `bi`, and elsewhere nothing is missing
 unit_goes_on : (flags : Flags) (m : Multiple) (w : Word)

@@ -1,10 +1,8 @@
 -- The state machine of units reads each spelling, and each of their viable prefixes, to its end.
-use Rattle.std.proofs.Common.{◌≡◌, ℕ, zero, suc, inl, inr, ⊎_elim, List, [], ◌∷◌, Option, Some, sym, refl, ap, subst}
+use Rattle.std.proofs.Common.{◌≡◌, ℕ, zero, suc, inl, inr, ⊎_elim, List, [], ◌∷◌, Some, sym, refl, ap, subst}
 use Rattle.std.proofs.Common.{◌∙◌, arith, Bool, not}
-use Rattle.std.specs.Prelude.{codes}
 use Rattle.std.specs.Option.{option_map}
 use Rattle.std.specs.Char.{to_ascii_lowercase}
-use Rattle.std.specs.Str.{str_to_ascii_lowercase}
 use Rattle.byte_unit_base.specs.Shape.{Shape, shape}
 use Rattle.byte_unit_base.specs.Version.{current}
 use Rattle.byte_unit_base.specs.Spelling.{Flags, IsPrefixLetter, SpellsCount, SpellsBinary, SpellsPrefix, Spells}
@@ -20,8 +18,7 @@ use Rattle.byte_unit_base.specs.declared.unit.scan.Word.{Word}
 use Rattle.byte_unit_base.specs.declared.unit.scan.Word.TheVariants.{Empty, UpperB, LowerB, Bi, Bit, Bits}
 use Rattle.byte_unit_base.specs.declared.unit.scan.Multiple.{Multiple}
 use Rattle.byte_unit_base.specs.declared.unit.scan.Multiple.TheVariants.{One, Decimal, Binary}
-use Rattle.byte_unit_base.specs.declared.unit.scan.UnitScan.{UnitScan}
-use Rattle.byte_unit_base.proofs.Lists.{from_lowercase, lower_cons, lower_nil}
+use Rattle.byte_unit_base.proofs.Lists.{from_lowercase}
 use Rattle.byte_unit_base.proofs.Scans.{run_through, run_step, IsScanned}
 
 -- `B` and `b` begin a suffix
@@ -31,47 +28,17 @@ unfolding unit_step
 step_letter_b One = (refl, refl)
 step_letter_b _ = (refl, refl)
 
--- after `b` or `B` an `i` can follow
-record BStep (m : Multiple) (c : ℕ) : Type 0 where
-  word : Word
-  step : unit_step (scan_of m Empty) c ≡ Some (scan_of m word)
-  then_i : (i : ℕ) → to_ascii_lowercase i ≡ 105 → unit_step (scan_of m word) i ≡ Some (scan_of m Bi)
-  place_is : word_parser_state m word ≡ after_b
-
-step_b : (m : Multiple) (c : ℕ) → to_ascii_lowercase c ≡ 98 → BStep m c
+-- `bi` is read after any prefix, in either case
+after_bi_text : (m : Multiple) (b i : ℕ) (rest : List ℕ) → to_ascii_lowercase b ≡ 98 → to_ascii_lowercase i ≡ 105
+    → run unit_step (scan_of m Empty) (b ∷ i ∷ rest) ≡ run unit_step (scan_of m Bi) rest
 unfolding unit_step
-step_b m c e =
+after_bi_text m b i rest e k =
     ⊎_elim
-    (λ small. subst (BStep m) (sym small)
-    (record { word = LowerB; step = (step_letter_b m).1; then_i = λ i k. rw k refl; place_is = refl }))
-    (λ capital. let same : 66 ≡ c = omega arith in subst (BStep m) same
-    (record { word = UpperB; step = (step_letter_b m).0; then_i = λ i k. rw k refl; place_is = refl }))
-    (from_lowercase c 98 (omega arith) (omega arith) e)
-
--- if each letter of this lower case leads to the next state, a text of this lower case is read from there
-run_lower : (s t : UnitScan) (end : Option UnitScan) (x : ℕ) (xs text : List ℕ)
-    → ((c : ℕ) → to_ascii_lowercase c ≡ x → unit_step s c ≡ Some t)
-    → ((tail : List ℕ) → str_to_ascii_lowercase tail ≡ xs → run unit_step t tail ≡ end)
-    → str_to_ascii_lowercase text ≡ x ∷ xs → run unit_step s text ≡ end
-run_lower s t end x xs text step next e =
-    let l = lower_cons x xs text e in
-    ap (run unit_step s) l.text_is
-    ∙ (run_step unit_step s t l.head l.tail (step l.head l.head_is) ∙ next l.tail l.tail_is)
-
-run_nothing : (s : UnitScan) (text : List ℕ) → str_to_ascii_lowercase text ≡ [] → run unit_step s text ≡ Some s
-run_nothing s text e = ap (run unit_step s) (lower_nil text e)
-
--- the letter `b` or `B` is read after any prefix
-run_b : (end : Option UnitScan) (m : Multiple) (rest text : List ℕ)
-    → ((c : ℕ) (b : BStep m c) (tail : List ℕ) → str_to_ascii_lowercase tail ≡ rest
-    → run unit_step (scan_of m b.word) tail ≡ end)
-    → str_to_ascii_lowercase text ≡ 98 ∷ rest → run unit_step (scan_of m Empty) text ≡ end
-run_b end m rest text next e =
-    let l = lower_cons 98 rest text e in
-    let b = step_b m l.head l.head_is in
-    ap (run unit_step (scan_of m Empty)) l.text_is
-    ∙ (run_step unit_step (scan_of m Empty) (scan_of m b.word) l.head l.tail b.step
-    ∙ next l.head b l.tail l.tail_is)
+    (λ small. run_step unit_step (scan_of m Empty) (scan_of m LowerB) b (i ∷ rest) (rw small (step_letter_b m).1)
+    ∙ rw k refl)
+    (λ capital. let same : b ≡ 66 = omega arith in
+    run_step unit_step (scan_of m Empty) (scan_of m UpperB) b (i ∷ rest) (rw same (step_letter_b m).0) ∙ rw k refl)
+    (from_lowercase b 98 (omega arith) (omega arith) e)
 
 -- a suffix, and `bi`, is read after any prefix
 pub run_suffix : (m : Multiple) (w : Word) (text : List ℕ) → IsWordText w text
@@ -84,15 +51,14 @@ run_suffix m UpperB text h =
 run_suffix m LowerB text h =
     ap (run unit_step (scan_of m Empty)) h
     ∙ run_step unit_step (scan_of m Empty) (scan_of m LowerB) 98 [] (step_letter_b m).1
-run_suffix m Bi text h =
-    run_b _ m (codes "i") text (λ c b i. run_lower _ _ _ 105 [] i b.then_i (run_nothing (scan_of m Bi))) h
-run_suffix m Bit text h =
-    run_b _ m (codes "it") text (λ c b it. run_lower _ _ _ 105 (codes "t") it b.then_i
-    (λ t. run_lower _ _ _ 116 [] t (λ c e. rw e refl) (run_nothing (scan_of m Bit)))) h
-run_suffix m Bits text h =
-    run_b _ m (codes "its") text (λ c b its. run_lower _ _ _ 105 (codes "ts") its b.then_i
-    (λ ts. run_lower _ (scan_of m Bit) _ 116 (codes "s") ts (λ c e. rw e refl)
-    (λ s. run_lower _ _ _ 115 [] s (λ c e. rw e refl) (run_nothing (scan_of m Bits))))) h
+run_suffix m Bi (b ∷ i ∷ []) h = after_bi_text m b i [] (cc) (cc)
+run_suffix m Bit (b ∷ i ∷ t ∷ []) h =
+    let third : to_ascii_lowercase t ≡ 116 = cc in after_bi_text m b i (t ∷ []) (cc) (cc) ∙ rw third refl
+run_suffix m Bits (b ∷ i ∷ t ∷ s ∷ []) h =
+    let third : to_ascii_lowercase t ≡ 116 = cc in
+    let last : to_ascii_lowercase s ≡ 115 = cc in
+    after_bi_text m b i (t ∷ s ∷ []) (cc) (cc) ∙ rw (third, last) refl
+run_suffix m _ _ h = absurd (let k : ⊥ = cc in k)
 
 -- each suffix is that of a state, and means bits or bytes there
 count_word : (flags : Flags) (text : List ℕ) (bit : Bool) → SpellsCount flags text bit
@@ -141,13 +107,14 @@ run_letter p c rest binary e (inl h) = record {
   shape_is = λ bit. ap (λ x. shape (power_of p) x bit) (sym h.1);
   place_is = refl;
 }
-run_letter p c rest binary e (inr h) = record {
+run_letter p c (i ∷ []) binary e (inr h) = record {
   multiple = Binary p;
-  run = run_step unit_step start (scan_of (Decimal p) Empty) c rest (step_prefix c p e)
-      ∙ run_lower _ _ _ 105 [] rest (λ i k. rw k refl) (run_nothing (scan_of (Binary p) Empty)) h.0;
+  run = run_step unit_step start (scan_of (Decimal p) Empty) c (i ∷ []) (step_prefix c p e)
+      ∙ (let is : to_ascii_lowercase i ≡ 105 = cc (h.0) in rw is refl);
   shape_is = λ bit. ap (λ x. shape (power_of p) x bit) (sym h.1);
   place_is = refl;
 }
+run_letter p c _ binary e (inr h) = absurd (let k : ⊥ = cc (h.0) in k)
 
 -- a prefix is read to its end
 run_prefix : (text : List ℕ) (power : ℕ) (binary : Bool) → SpellsPrefix current text power binary
@@ -192,14 +159,11 @@ spelling_runs flags text s (inr h) =
 -- each beginning of `bits` is that of a state, which has its parser state
 word_of : (place : ParserState) (m : Multiple) (text : List ℕ) → IsWord place text
     → (w : Word) × (run unit_step (scan_of m Empty) text ≡ Some (scan_of m w)) × (word_parser_state m w ≡ place)
-word_of after_b m text h =
-    let l = lower_cons 98 [] text h in
-    let b = step_b m l.head l.head_is in (
-      b.word,
-      ap (run unit_step (scan_of m Empty)) (l.text_is ∙ ap (λ r. l.head ∷ r) (lower_nil l.tail l.tail_is))
-          ∙ run_step unit_step (scan_of m Empty) (scan_of m b.word) l.head [] b.step,
-      b.place_is,
-    )
+word_of after_b m (b ∷ []) h =
+    ⊎_elim (λ small. (LowerB, run_suffix m LowerB (b ∷ []) (ap (λ x. x ∷ []) small), refl))
+    (λ capital. let same : b ≡ 66 = omega arith in (UpperB, run_suffix m UpperB (b ∷ []) (ap (λ x. x ∷ []) same), refl))
+    (from_lowercase b 98 (omega arith) (omega arith) (cc))
+word_of after_b m _ h = absurd (let k : ⊥ = cc in k)
 word_of after_bi m text h = (Bi, run_suffix m Bi text h, refl)
 word_of after_bit m text h = (Bit, run_suffix m Bit text h, refl)
 word_of after_bits m text h = (Bits, run_suffix m Bits text h, refl)

@@ -1,6 +1,6 @@
 -- The parser of a unit stops after the longest beginning of a unit, in the state that the state machine has there.
-use Rattle.std.proofs.Common.{◌≡◌, ℕ, zero, suc, ◌+◌, ◌<◌, ◌≤◌, List, [], ◌∷◌, ◌++◌, Some, None, Err, length, take, drop}
-use Rattle.std.proofs.Common.{refl, sym, ap, ◌∙◌, subst, arith, ⊎_elim, length-drop, drop-drop, take-add}
+use Rattle.std.proofs.Common.{◌≡◌, ℕ, ◌+◌, ◌<◌, ◌≤◌, List, [], ◌∷◌, ◌++◌, Some, None, Err, length, take, drop, refl}
+use Rattle.std.proofs.Common.{sym, ap, ◌∙◌, subst, arith, ⊎_elim, length-drop, drop-drop, take-add, take-append-drop}
 use Rattle.std.specs.Str.{chars, encode_utf8_all, IsUtf8, IsAscii}
 use Rattle.std.proofs.lemmas.Bool.{cases_lt}
 use Rattle.std.proofs.lemmas.List.{take_all}
@@ -16,7 +16,7 @@ use Rattle.byte_unit_base.specs.UnitScan.{scan_of, start, IsWordText}
 use Rattle.byte_unit_base.specs.PartsReading.{IsFirst, IsLeadingUnit, IsUnitStop, next_char, unit_stop_fault}
 use Rattle.byte_unit_base.specs.declared.unit.scan.UnitScan.{UnitScan}
 use Rattle.byte_unit_base.specs.declared.unit.scan.Multiple.{Multiple}
-use Rattle.byte_unit_base.specs.declared.unit.scan.Multiple.TheVariants.{One, Decimal, Binary}
+use Rattle.byte_unit_base.specs.declared.unit.scan.Multiple.TheVariants.{One}
 use Rattle.byte_unit_base.specs.declared.unit.scan.Word.{Word}
 use Rattle.byte_unit_base.specs.declared.unit.scan.Word.TheVariants.{Empty, Bits}
 use Rattle.byte_unit_base.proofs.Options.{some_passed}
@@ -28,21 +28,13 @@ use Rattle.byte_unit_base.proofs.SizeRest.{first_char, text_from, utf8_from}
 
 -- beginnings of units are ASCII
 
-no_wide_multiple : (m : Multiple) (c : ℕ) → 128 ≤ c → multiple_step m c ≡ None
-no_wide_multiple One c wide = let none : prefix_at c ≡ None = grind (arith, nat_tests) in rw none refl
-no_wide_multiple (Decimal p) c wide = grind (arith, nat_tests)
-no_wide_multiple (Binary p) c wide = refl
-
-no_wide_word : (w : Word) (c : ℕ) → 128 ≤ c → word_step w c ≡ None
-no_wide_word Bits c wide = refl
-no_wide_word _ c wide = grind (arith, nat_tests)
-
 -- no character past ASCII continues a unit
 no_wide_step : (m : Multiple) (w : Word) (c : ℕ) → 128 ≤ c → unit_step (scan_of m w) c ≡ None
 unfolding unit_step
-no_wide_step m Empty c wide = rw (no_wide_multiple m c wide, no_wide_word Empty c wide) refl
 no_wide_step m Bits c wide = refl
-no_wide_step m w c wide = rw (no_wide_word w c wide) refl
+no_wide_step One Empty c wide =
+    let none : prefix_at c ≡ None = grind (arith, nat_tests) in rw none (grind (arith, nat_tests))
+no_wide_step m w c wide = grind (arith, nat_tests)
 
 run_ascii : (text : List ℕ) (s t : UnitScan) → run unit_step s text ≡ Some t → IsAscii text
 run_ascii [] s t e = IsAscii-nil
@@ -71,10 +63,8 @@ no_step_first m Empty (c ∷ cs) no_multiple no_word = rw (no_multiple refl, no_
 no_step_first m Bits (c ∷ cs) no_multiple no_word = refl
 no_step_first m w (c ∷ cs) no_multiple no_word = rw no_word refl
 
-nothing_taken : (n : ℕ) (rest : List ℕ) → n ≤ length rest → take n rest ≡ [] → drop n rest ≡ rest
-nothing_taken zero rest within none = refl
-nothing_taken (suc n) [] within none = refl
-nothing_taken (suc n) (c ∷ cs) within none = absurd (let no : ⊥ = cc in no)
+nothing_taken : (n : ℕ) (rest : List ℕ) → take n rest ≡ [] → drop n rest ≡ rest
+nothing_taken n rest none = ap (λ front. front ++ drop n rest) (sym none) ∙ take-append-drop n rest
 
 -- the longest prefix, and the longest beginning of a suffix after it, are the longest beginning of a unit
 pub leading_unit : (bytes rest : List ℕ) (m : Multiple) (w : Word) (k n : ℕ) → k ≤ length bytes
@@ -84,7 +74,7 @@ pub leading_unit : (bytes rest : List ℕ) (m : Multiple) (w : Word) (k n : ℕ)
 leading_unit bytes rest m w k n inside read no_multiple rest_is within word no_word =
     let after : drop n rest ≡ drop (k + n) bytes = ap (drop n) (sym rest_is) ∙ drop-drop n k bytes in
     let same : w ≡ Empty → drop k bytes ≡ drop n rest =
-    λ e. rest_is ∙ sym (nothing_taken n rest within (subst (λ w. IsWordText w (take n rest)) e word)) in
+    λ e. rest_is ∙ sym (nothing_taken n rest (subst (λ w. IsWordText w (take n rest)) e word)) in
     record {
       within = omega (arith, inside, within, ap length rest_is, length-drop k bytes);
       run_is = ap (run unit_step start) (take-add k n bytes ∙ ap (λ r. take k bytes ++ take n r) rest_is)

@@ -22,6 +22,7 @@ const NINETEEN_DIGITS: u128 = 10_000_000_000_000_000_000;
 ///
 /// # Errors
 /// Returns where the parser stops: `NoDigit` or `TooLong`.
+#[tactic(auto, using(crate::proofs::NumberBytes::digits_of_run))]
 #[inline(always)]
 pub fn read_number(bytes: &[u8]) -> Result<(usize, Decimal), Stop>
     ensures { IsNumberEnd bytes.now result }
@@ -54,6 +55,7 @@ pub fn read_number(bytes: &[u8]) -> Result<(usize, Decimal), Stop>
 
 /// Returns the value of the digits of a whole part, from the last 64 bits of that value. If one of both is 2^112 or
 /// more, so is the other.
+#[tactic(auto, using(crate::proofs::NumberBytes::short_digits))]
 #[inline(always)]
 fn whole_part(digits: &[u8], last_bits: u64) -> u128
     requires digits { AllDigits 10 digits.now }
@@ -88,6 +90,7 @@ fn long_whole(digits: &[u8]) -> u128
 }
 
 /// Returns the value of at most 38 digits, from the last 64 bits of that value.
+#[tactic(auto, using(crate::proofs::NumberBytes::short_digits))]
 #[inline(always)]
 fn value_of(digits: &[u8], last_bits: u64) -> u128
     requires digits { AllDigits 10 digits.now }

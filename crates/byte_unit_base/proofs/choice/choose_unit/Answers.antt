@@ -1,9 +1,9 @@
 -- The first row that passes the test is the largest unit in which the size is exact; the number times the unit is the
 -- size; if no row passes, no unit of the set is such. The steps are those of `factors_of` and one for each place.
-use Rattle.std.proofs.Common.{◌≡◌, ◌*◌, ◌^◌, ℕ, IfSome, get_or, min, arith, refl, ap, subst, sym, ◌∙◌}
+use Rattle.std.proofs.Common.{◌≡◌, ◌*◌, ◌^◌, ℕ, get_or, min, arith, refl, ap, subst, sym, ◌∙◌}
 use Rattle.std.proofs.lemmas.Bool.{both_ways, some_since}
 use Rattle.byte_unit_math.specs.Bounds.{scale, places_of_decimal, whole_limit}
-use Rattle.byte_unit_math.specs.Exact.{IsLeastPlaces, IsQuotient}
+use Rattle.byte_unit_math.specs.Exact.{IsLeastPlaces}
 use Rattle.byte_unit_math.specs.Steps.{saturating_add}
 use Rattle.byte_unit_base.specs.Choice.{IsChosen}
 use Rattle.byte_unit_base.proofs.Choosing.{some_bits}
@@ -48,8 +48,7 @@ loop-row-preserved c =
 
 pub exact_quotient-requires-clause-some_unit : goal.exact_quotient-requires-clause-some_unit
 exact_quotient-requires-clause-some_unit c =
-    let multiple = row_multiple (row_at_is_row no_row c.multiples_within-row-items.ensures c.loop-row-test.true) in
-    omega (arith, multiple.large)
+    omega (arith, (row_multiple (row_at_is_row no_row c.multiples_within-row-items.ensures c.loop-row-test.true)).large)
 
 pub exact_quotient-requires-clause-small_unit : goal.exact_quotient-requires-clause-small_unit
 exact_quotient-requires-clause-small_unit c =
@@ -83,8 +82,7 @@ returns-then-row-in_bits-clause-exact c =
     elim c.if-places-gt-FEW_PLACES.branch [
       | then-places-gt-FEW_PLACES w ↦
           ap (λ n. n * _) w.number-is
-          ∙ subst (λ answer. IfSome answer (λ n. n * _ ≡ in_bits * scale)) w.unwrap-number.ensures
-          w.exact_quotient.ensures.exact
+          ∙ (rw w.unwrap-number.ensures at w.exact_quotient.ensures.exact)
       | else-places-gt-FEW_PLACES w ↦
           ap (λ n. n * _) w.number-is
           ∙ (ap (λ n. w.factored_quotient-number.result * n) multiple.powers
@@ -119,16 +117,9 @@ returns-then-row-in_bits-clause-steps c =
     elim c.if-places-gt-FEW_PLACES.branch [
       | then-places-gt-FEW_PLACES w ↦
           let digits = w.exact_quotient.ensures.steps in
-          let quotient =
-          subst (λ answer. IfSome answer (IsQuotient in_bits row.bits most)) w.unwrap-number.ensures
-          w.exact_quotient.ensures.quotient in
+          let quotient = rw w.unwrap-number.ensures at w.exact_quotient.ensures.quotient in
           let least = places_of_quotient in_bits row.bits most digits.0 w.unwrap-number.result
-          (record {
-            some = omega (arith, multiple.large);
-            room = omega arith;
-            quotient = quotient;
-            first = digits.1;
-          }) in
+          (omega (arith, multiple.large)) (omega arith) quotient digits.1 in
           let same = subst (λ n. IsLeastPlaces n scale digits.0) (sym w.number-is) least in
           (digits.0, same, omega (arith, w.steps-is, digits.2, unmoved))
       | else-places-gt-FEW_PLACES w ↦

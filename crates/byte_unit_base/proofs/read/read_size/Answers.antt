@@ -1,9 +1,7 @@
 -- The number and unit of the trimmed string, or the error of the rest of it, where the parser stops.
-use Rattle.std.proofs.Common.{List, ℕ, nat_eq, ap, subst, ◌∙◌}
+use Rattle.std.proofs.Common.{nat_eq, ap, subst, ◌∙◌}
 use Rattle.std.specs.Str.{chars, IsUtf8}
-use Rattle.byte_unit_base.specs.Version.{current}
 use Rattle.byte_unit_base.specs.Spelling.{flags_of}
-use Rattle.byte_unit_base.specs.SizeText.{IsSizeText}
 use Rattle.byte_unit_base.specs.Units.{shape_of}
 use Rattle.byte_unit_base.specs.PartsReading.{IsStop, next_char, stop_fault}
 use Rattle.byte_unit_base.proofs.SizeAscii.{size_of_chars}
@@ -21,12 +19,10 @@ range_from-requires c =
 pub returns-in-Ok : goal.returns-in-Ok
 returns-in-Ok c =
     let flags = flags_of c.args.ignore_case c.args.prefer_byte in
-    let number : ℕ = c.in-Ok.found.1 in
-    let unit = c.in-Ok.found.0 in
-    let IsFoundIn : List ℕ → Type 0 = λ text. IsSizeText current flags text number (shape_of unit) in
-    let text = subst IsFoundIn c.as_bytes.ensures.value c.in-Ok.ensures in
-    let chars_of_text = size_of_chars flags c.trimmed-text.result.now number (shape_of unit) text in
-    stated_reading flags c.args.s.now (number, unit) (subst IsFoundIn c.trimmed-text.ensures chars_of_text)
+    let found = c.in-Ok.found in
+    let text = rw c.as_bytes.ensures.value at c.in-Ok.ensures in
+    stated_reading flags c.args.s.now (found.1, found.0)
+    (rw c.trimmed-text.ensures at (size_of_chars flags c.trimmed-text.result.now found.1 (shape_of found.0) text))
 
 pub returns-in-Err : goal.returns-in-Err
 returns-in-Err c =

@@ -1,5 +1,5 @@
 -- Bytes that are a number and a unit are UTF-8, and the same number and unit when trimmed.
-use Rattle.std.proofs.Common.{ℕ, List, Result, Ok, Err, subst}
+use Rattle.std.proofs.Common.{ℕ, List, Result, Ok, Err}
 use Rattle.byte_unit_base.specs.Kinds.{flags_for}
 use Rattle.byte_unit_base.specs.Units.{shape_of}
 use Rattle.byte_unit_base.specs.PartsReading.{IsPartsReading, IsBytesNumber}
@@ -21,4 +21,4 @@ bytes_number flags bytes (Err stop) is = is
 pub returns : goal.returns
 returns c =
     bytes_number (flags_for c.args.kind c.args.ignore_case) c.args.bytes.now c.read_parts.result
-    (subst (λ flags. IsPartsReading flags c.args.bytes.now c.read_parts.result) c.flags_for.ensures c.read_parts.ensures)
+    (rw c.flags_for.ensures at c.read_parts.ensures)

@@ -1,11 +1,9 @@
 -- ASCII with visible ends is trimmed, so the error where the parser stops is that of the string.
-use Rattle.std.proofs.Common.{◌≡◌, length, take, drop, nat_eq, slice_range, ap, sym, subst, ◌∙◌, take-append-drop}
+use Rattle.std.proofs.Common.{length, take, drop, nat_eq, slice_range, ap, sym, subst, ◌∙◌, take-append-drop}
 use Rattle.std.specs.Str.{chars, IsAscii}
 use Rattle.std.proofs.lemmas.List.{take_rest}
 use Rattle.std.proofs.lemmas.Str.{IsAscii-append, IsUtf8-from_ascii}
-use Rattle.byte_unit_base.specs.Spelling.{Flags}
 use Rattle.byte_unit_base.specs.Kinds.{flags_for}
-use Rattle.byte_unit_base.specs.Errors.{size_fault}
 use Rattle.byte_unit_base.specs.PartsReading.{next_char, stop_fault}
 use Rattle.byte_unit_base.proofs.Trim.{trim_visible}
 use Rattle.byte_unit_base.proofs.SizeReads.{stop_reading}
@@ -25,9 +23,7 @@ returns-then-is_ascii c =
     let utf8 = IsUtf8-from_ascii bytes ascii in
     let ends = c.has_visible_ends.ensures c.if-has_visible_ends.true in
     let next_is = c.first_ascii.ensures ∙ ap (λ rest. next_char (chars rest)) (take_rest bytes place) in
-    let IsErrorBefore : Flags → Type 0 =
-    λ flags. size_fault c.error_at.result ≡ stop_fault flags (nat_eq place 0) reason c.first_ascii.result in
-    let error_is = subst IsErrorBefore c.flags_for-flags.ensures c.error_at.ensures
+    let error_is = (rw c.flags_for-flags.ensures at c.error_at.ensures)
         ∙ ap (stop_fault flags (nat_eq place 0) reason) next_is in
     let reading = stop_reading flags bytes bytes place reason c.error_at.result (sym (trim_visible bytes utf8 ends)) utf8
     c.requires error_is in

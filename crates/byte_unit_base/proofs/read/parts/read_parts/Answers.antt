@@ -1,15 +1,9 @@
 -- The bytes are a number, spaces and a unit, one after the other, or stop at one of these.
-use Rattle.std.proofs.Common.{◌≡◌, ℕ, List, ◌+◌, length, drop, ap, sym, subst, ◌∙◌, slice_range}
-use Rattle.std.proofs.lemmas.List.{take_rest, drop-drop}
+use Rattle.std.proofs.Common.{◌+◌, sym, subst}
+use Rattle.std.proofs.lemmas.List.{take_rest}
 use Rattle.byte_unit_base.specs.PartsReading.{IsUnitStop}
 use Rattle.byte_unit_base.proofs.NumberEnds.{stops_in_unit}
 use Rattle.byte_unit_base.proofs.read.parts.read_parts.Goals as goal
-
--- what follows the spaces
-unit_at : (bytes : List ℕ) (end spaces : ℕ)
-    → slice_range bytes (end + spaces) (length bytes) ≡ drop spaces (slice_range bytes end (length bytes))
-unit_at bytes end spaces =
-    take_rest bytes (end + spaces) ∙ sym (ap (drop spaces) (take_rest bytes end) ∙ drop-drop spaces end bytes)
 
 pub returns-in-Err-read_unit : goal.returns-in-Err-read_unit
 returns-in-Err-read_unit c =
@@ -19,4 +13,5 @@ returns-in-Err-read_unit c =
     let stop = c.in-Err-read_unit.stop in
     stops_in_unit c.args.flags bytes _ c.in-Ok.found.1 end spaces.result stop.1 stop.0 c.in-Ok.ensures
     (sym (take_rest bytes end)) spaces.ensures.within spaces.ensures.spaces spaces.ensures.all
-    (subst (λ unit. IsUnitStop c.args.flags unit stop.0 stop.1) (unit_at bytes end spaces.result) c.in-Err-read_unit.ensures)
+    (subst (λ unit. IsUnitStop c.args.flags unit stop.0 stop.1) (take_rest bytes (end + spaces.result))
+    c.in-Err-read_unit.ensures)
