@@ -67,18 +67,15 @@ pub fraction_text_of_shown :
     → 46 ∷ (take shown characters ++ replicate (places - shown) 48)
     ≡ fraction_text (take places digits ++ replicate (places - length digits) 0)
 fraction_text_of_shown places shown digits characters some shown_is characters_are =
-    let rest : places - shown ≡ places - length digits = omega (arith, shown_is) in
-    let these : take shown characters ≡ glyphs (take places digits) =
     grind (
       arith,
       common_steps,
-      characters_are,
+      fraction_some places digits some,
       take-map (λ digit. 48 + digit) shown digits,
       take-take shown (length digits) characters,
       take_all shown digits,
       take_all places digits,
-    ) in
-    rw (these, rest) (sym (fraction_some places digits some))
+    )
 
 -- Characters that begin with the text of digits are at least as many as these.
 pub glyphs_within : (digits characters : List ℕ) → take (length digits) characters ≡ glyphs digits

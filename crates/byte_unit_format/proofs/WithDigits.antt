@@ -116,15 +116,13 @@ three_of list at count few within =
 
 -- A size has from 1 to 30 digits; one of at most three is below 1000, and one of more is not.
 pub few_digits : (size : ℕ) → size < size_limit → (1 ≤ length (decimal size)) × (length (decimal size) ≤ 30)
-few_digits size small =
-    (decimal_length_positive size (omega (arith, small)), decimal_length size 30 (omega arith) (omega arith) small)
-
-pub size_from_digits : (size : ℕ) → size < size_limit → length (decimal size) < 4 → size < 1000
-size_from_digits size small few =
-    grind (arith, decimal_length_split 3 size, decimal_length_positive (size / 10 ^ 3))
-
-pub size_above_digits : (size : ℕ) → size < size_limit → 4 ≤ length (decimal size) → 1000 ≤ size
-size_above_digits size small many = grind (arith, length-decimal-le_wide 3 size)
+    × (length (decimal size) < 4 → size < 1000) × (4 ≤ length (decimal size) → 1000 ≤ size)
+few_digits size small = (
+  decimal_length_positive size (omega (arith, small)),
+  decimal_length size 30 (omega arith) (omega arith) small,
+  λ few. grind (arith, decimal_length_split 3 size, decimal_length_positive (size / 10 ^ 3)),
+  λ many. grind (arith, length-decimal-le_wide 3 size),
+)
 
 -- What is known of the number of digits up to the last that is not a zero.
 pub record IsUsed (digits : List ℕ) (used : ℕ) : Type 0 where
@@ -244,7 +242,7 @@ pub found_power : {digits : List ℕ} {size len used power : ℕ} → digits ≡
     → power ≡ min ((len - 1) / 3) ((len + 3 - used) / 3) → FoundPower size used power
 found_power {digits} {size} {len} {used} {power} digits_are len_is small wide given within power_is =
     let is_used = rw digits_are at given in
-    let some : 1 ≤ size = omega (arith, size_above_digits size small (omega (arith, len_is, wide))) in
+    let some : 1 ≤ size = omega (arith, (few_digits size small).3 (omega (arith, len_is, wide))) in
     let bounds = used_within size used some small is_used within in
     let powers = between_powers size some (omega (arith, small)) in
     let zeros = len - used in

@@ -8,30 +8,19 @@ use Rattle.byte_unit_format.specs.FewPlaces.{FitsPrefix}
 use Rattle.byte_unit_format.proofs.TextParts.{front_is}
 use Rattle.byte_unit_format.proofs.Suffix.{form_of_split, form_of_thousandths}
 use Rattle.byte_unit_format.proofs.FewPlaces.{recovered_own, recovered_binary, recovered_decimal, number_of_units}
-use Rattle.byte_unit_format.proofs.WithDigits.{size_from_digits, size_above_digits, found_power, cut_of_size}
-use Rattle.byte_unit_format.proofs.WithDigits.{not_above_digits}
+use Rattle.byte_unit_format.proofs.WithDigits.{few_digits, found_power, cut_of_size, not_above_digits}
 use Rattle.byte_unit_format.proofs.with_digits.put_form_of.Goals as goal
 use Rattle.byte_unit_format.proofs.with_digits.put_form_of.Goals.{then-binary-most+else-binary-power, else-binary-most}
-
-pub put_split-requires-clause-small : goal.put_split-requires-clause-small
-put_split-requires-clause-small c =
-    let below = size_from_digits c.args.size c.requires.small (omega (arith, c.requires.len, c.if-most-eq0.true)) in
-    omega (arith, below)
 
 pub returns-then-most-eq0-clause-form : goal.returns-then-most-eq0-clause-form
 returns-then-most-eq0-clause-form c =
     let kind = c.args.kind in
     let size = c.args.size in
-    let below = size_from_digits size c.requires.small (omega (arith, c.requires.len, c.if-most-eq0.true)) in
+    let below = (few_digits size c.requires.small).2 (omega (arith, c.requires.len, c.if-most-eq0.true)) in
     let number = own_number kind size (size * scale) (own_unit kind) refl refl in
     rw (front_is _ _ c.put_split.ensures.bytes c.put_split.ensures.ends)
     (form_of_thousandths kind size size 0 (own_unit kind) (omega arith) (recovered_own kind 3 size (omega arith) below)
     (omega (arith, number)))
-
-pub binary_power-binary-requires-clause-some : goal.binary_power-binary-requires-clause-some
-binary_power-binary-requires-clause-some c =
-    let above = size_above_digits c.args.size c.requires.small (omega (arith, c.requires.len, c.if-most-eq0.false)) in
-    omega (arith, above)
 
 pub overflow_sub-len : goal.overflow_sub-len
 overflow_sub-len c =
@@ -91,7 +80,7 @@ returns-clause-form c =
             λ other fits. omega (arith, found.greatest.greatest other fits, w.if-binary-power),
           ))
       | else-binary-most w ↦
-          (let above = size_above_digits size c.requires.small (omega (arith, c.requires.len, c.if-most-eq0.false)) in (
+          (let above = (few_digits size c.requires.small).3 (omega (arith, c.requires.len, c.if-most-eq0.false)) in (
             omega (arith, c.if-most-eq0.false, w.if-binary-most),
             λ other fits.
                 omega (
