@@ -1,6 +1,6 @@
 -- A state machine that reads an input character by character, over any set of states: what it returns, the longest
 -- viable prefix and the error after it.
-use Rattle.std.proofs.Common.{◌≡◌, ℕ, ◌+◌, ◌⊎◌, inl, inr, List, [], ◌∷◌, ◌++◌, Option, Some, None, Result, Ok, Err}
+use Rattle.std.proofs.Common.{◌≡◌, ℕ, ◌⊎◌, inl, inr, List, [], ◌∷◌, ◌++◌, Option, Some, None, Result, Ok, Err}
 use Rattle.std.proofs.Common.{option_and_then, sym, refl, ap, subst, ◌∙◌, append-nil, ⊎_elim, append_assoc}
 use Rattle.std.specs.Prelude.{◌↔◌, ⊤, IfOk, IfErr, IsOkAnd}
 use Rattle.byte_unit_base.specs.Version.{current}

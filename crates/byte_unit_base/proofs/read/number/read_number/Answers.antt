@@ -1,6 +1,6 @@
 -- The bytes begin with a whole part, or with a whole part, a point and a fraction, or stop where a digit is missing or
 -- is one too many.
-use Rattle.std.proofs.Common.{◌≢◌, ◌+◌, ◌-◌, ◌<◌, length, get_or, arith}
+use Rattle.std.proofs.Common.{◌≢◌, ◌<◌, length, get_or, arith}
 use Rattle.byte_unit_base.specs.Number.{point}
 use Rattle.byte_unit_base.proofs.NumberEnds.{leading_whole, leading_precise, stops_at_start, stops_after_point}
 use Rattle.byte_unit_base.proofs.NumberEnds.{stops_in_whole, stops_in_fraction, fraction_below}
