@@ -182,6 +182,5 @@ pub few_of_none : (kind : Kind) (size old new : ℕ) → size < current.size_lim
     → new ≤ saturating_add old (most_steps kind)
 few_of_none kind size old new small (inl h) = omega (arith, h.1)
 few_of_none kind size old new small (inr (steps, t, e)) =
-    let none = t.is_places.least 0 (0, omega arith) in
     let few = few_powers size t.twos t.fives t.powers (omega (arith, small)) in
-    omega (arith, few_trials kind, few, none, t.steps_are, e)
+    omega (arith, few_trials kind, few, t.is_places.least 0 (0, omega arith), t.steps_are, e)

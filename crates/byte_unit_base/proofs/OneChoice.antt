@@ -48,9 +48,8 @@ pub one_largest : (version : Version) (family : Family) (in_bits precision : ℕ
     → IsLargest (IsExactUnitIn version family in_bits precision) unit
     → IsLargest (IsExactUnitIn version family in_bits precision) other → unit ≡ other
 one_largest version family in_bits precision unit other largest other_largest =
-    let low = largest.largest other other_largest.has in
-    let high = other_largest.largest unit largest.has in
-    same_unit unit other largest.has.member.prefix.some other_largest.has.member.prefix.some (omega (arith, low, high))
+    same_unit unit other largest.has.member.prefix.some other_largest.has.member.prefix.some
+    (omega (arith, largest.largest other other_largest.has, other_largest.largest unit largest.has))
 
 -- an exact quotient has only one value
 same_number : (size places unit number other : ℕ) → 1 ≤ unit → IsQuotient size unit places number

@@ -47,10 +47,7 @@ least_below Bit limit b n small low some = omega (arith, small, low, some)
 -- a number of a unit is rounded up to only one size
 pub least_is_unique : (kind : Kind) (N : ℕ) (unit : Shape) (m n : ℕ) → IsLeastOf kind N unit m
     → IsLeastOf kind N unit n → m ≡ n
-least_is_unique kind N unit m n a b =
-    let up = a.least n b.has in
-    let down = b.least m a.has in
-    omega (arith, up, down)
+least_is_unique kind N unit m n a b = omega (arith, a.least n b.has, b.least m a.has)
 
 -- a number of a unit, rounded up to whole bytes or bits, exists
 pub least_exists : (kind : Kind) (N : ℕ) (unit : Shape) → (n : ℕ) × IsLeastOf kind N unit n

@@ -140,10 +140,8 @@ row_multiple {family} {row} is =
     let member = is.member in
     let first = pow-le-pow_right {n = 2} (omega arith) {i = 9} {j = 10 * row.unit.power - 1}
     (omega (arith, member.prefix.some)) in
-    let twos_same = ap (λ n. 2 ^ n * 5 ^ fives row.unit) (sym is.twos_are) in
-    let fives_same = ap (λ n. 2 ^ row.twos * 5 ^ n) (sym is.fives_are) in
     record {
-      powers = is.bits_are ∙ (twos_same ∙ fives_same);
+      powers = rw (is.bits_are, is.twos_are, is.fives_are) refl;
       large = omega (arith, first, reaches_its_prefix row.unit member.prefix, is.bits_are);
       small = omega (arith, small_bits family row.unit member, is.bits_are);
     }

@@ -14,7 +14,7 @@ use Rattle.byte_unit_base.specs.SizeText.{trim_of, IsSizeText}
 use Rattle.byte_unit_base.specs.Readings.{IsNumberReading}
 use Rattle.byte_unit_base.specs.ViablePrefix.{ParserState, beginning, in_whole}
 use Rattle.byte_unit_base.specs.ViablePrefix.{IsViableUnitPrefix, IsNumberAndUnitPrefix, IsViableSizePrefix, after_bi}
-use Rattle.byte_unit_base.specs.Fault.{Fault, IsFaultAfter, fault_at, fault_at_end, exceeded}
+use Rattle.byte_unit_base.specs.Fault.{Fault, IsFaultAfter, fault_at_end, exceeded}
 use Rattle.byte_unit_base.specs.Errors.{size_fault}
 use Rattle.byte_unit_base.specs.ReaderLaws.{Represents, SizeTextsHaveOneAnswer, ViableSizePrefixesAreBeginnings}
 use Rattle.byte_unit_base.specs.Scan.{read}
@@ -164,19 +164,11 @@ size_scan_is flags = record {
 }
 
 -- no parser state gives the error of a size that is too large
-no_bounds_at : (flags : Flags) (place : ParserState) (c n : ℕ) → fault_at current flags place c ≢ exceeded n
-no_bounds_at flags in_whole c n = λ e. grind (arith, e)
-no_bounds_at flags _ c n = λ e. grind (arith, e)
-
-no_bounds_at_end : (place : ParserState) (n : ℕ) → fault_at_end place ≢ Some (exceeded n)
-no_bounds_at_end beginning n = λ e. cc
-no_bounds_at_end _ n = λ e. cc
-
-no_bounds_after : (flags : Flags) (place : ParserState) (rest : List ℕ) (fault : Fault) (n : ℕ)
-    → IsFaultAfter current flags place rest fault
-    → fault ≢ exceeded n
-no_bounds_after flags place [] fault n h = λ e. no_bounds_at_end place n (h ∙ ap Some e)
-no_bounds_after flags place (c ∷ cs) fault n h = λ e. no_bounds_at flags place c n (sym h ∙ e)
+no_bounds_after : (flags : Flags) (rest : List ℕ) (place : ParserState) (fault : Fault) (n : ℕ)
+    → IsFaultAfter current flags place rest fault → fault ≢ exceeded n
+no_bounds_after flags [] beginning fault n h = λ e. grind (arith, h, e)
+no_bounds_after flags (c ∷ cs) in_whole fault n h = λ e. grind (arith, h, e)
+no_bounds_after flags _ _ fault n h = λ e. grind (arith, h, e)
 
 read_no_bounds : (flags : Flags) (text : List ℕ) (r : Result (ℕ × UnitName) ParseError)
     → size_result r ≡ read (size_scan flags) Beginning text
@@ -184,7 +176,7 @@ read_no_bounds : (flags : Flags) (text : List ℕ) (r : Result (ℕ × UnitName)
 read_no_bounds flags text (Ok x) e = tt
 read_no_bounds flags text (Err x) e = λ n.
     let f = read_refused (size_scan_is flags) with_shape size_fault text (Err x) e in
-    no_bounds_after flags f.place f.rest (size_fault x) n f.fault_is
+    no_bounds_after flags f.rest f.place (size_fault x) n f.fault_is
 
 -- what the contracts of the parsers say, and the laws
 
