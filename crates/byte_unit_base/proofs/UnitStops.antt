@@ -107,7 +107,8 @@ stop_read flags bytes place scan stop utf8 =
     let rest = drop place bytes in
     let utf8_rest = utf8_from bytes place utf8 leads.within ascii in
     let at_end : chars rest ≡ [] → place ≡ length bytes =
-    λ none. omega (arith, leads.within, length-drop place bytes, ap length (sym (encodes-chars rest utf8_rest) ∙ ap encode_utf8_all none)) in
+    λ none. let empty : rest ≡ [] = sym (encodes-chars rest utf8_rest) ∙ ap encode_utf8_all none in
+    omega (arith, leads.within, length-drop place bytes, ap length empty) in
     ap (read (unit_scan flags) start) (text_from bytes place ascii)
     ∙ (read_through (unit_scan flags) start scan (take place bytes) (chars rest) leads.run_is
     ∙ stopped flags scan (chars rest) (λ none. stop.1 (at_end none))

@@ -1,6 +1,6 @@
--- Private: what the parts of the parser of a number and a unit return. No public contract cites this file.
-use Rattle.std.specs.Prelude.{◌≡◌, ℕ, ◌-◌, ◌<◌, ◌≤◌, Bool, true, false, nat_eq, ⊤, ◌≢◌, List, [], ◌∷◌, length, take, drop, slice_index}
-use Rattle.std.specs.Prelude.{Option, Some, None, Result, Ok, Err}
+-- What the parts of the parser of a number and a unit return. Contracts of this crate alone cite this file.
+use Rattle.std.specs.Prelude.{◌≡◌, ◌≢◌, ⊤, ℕ, ◌-◌, ◌<◌, ◌≤◌, nat_eq, Bool, true, false, List, [], ◌∷◌, length, take}
+use Rattle.std.specs.Prelude.{drop, slice_index, Option, Some, None, Result, Ok, Err}
 use Rattle.std.specs.Char.{is_ascii_graphic}
 use Rattle.std.specs.Str.{IsUtf8, IsAscii, chars}
 use Rattle.byte_unit_base.specs.Version.{current}
@@ -11,7 +11,8 @@ use Rattle.byte_unit_base.specs.SizeText.{space, IsSizeText}
 use Rattle.byte_unit_base.specs.Fault.{Fault, fault_at, no_unit, not_number, no_value, too_long, stops_at_bi}
 use Rattle.byte_unit_base.specs.Scan.{run, read}
 use Rattle.byte_unit_base.specs.UnitScan.{unit_of, unit_step, unit_parser_state, start}
-use Rattle.byte_unit_base.specs.SizeScan.{SizeScan, Beginning, size_step, size_scan, size_at_end, size_or_fault, size_parser_state, after_number}
+use Rattle.byte_unit_base.specs.SizeScan.{SizeScan, Beginning, size_step, size_scan, size_at_end, size_or_fault}
+use Rattle.byte_unit_base.specs.SizeScan.{size_parser_state, after_number}
 use Rattle.byte_unit_base.specs.Readings.{IsNumberReading}
 use Rattle.byte_unit_base.specs.declared.unit.Unit.{Unit as UnitName}
 use Rattle.byte_unit_base.specs.declared.read.stop.Stop.{Stop}
@@ -84,7 +85,8 @@ pub record IsStopAt (flags : Flags) (bytes : List ℕ) (place : ℕ) (reason : R
 abbrev pub IsStop : Flags → List ℕ → Stop → Type 0
 IsStop flags bytes stop = IsStopAt flags bytes stop.place stop.reason
 
--- the character ends the number `n` of this state: it is a space, or begins a unit, or has the error of one that does not
+-- the character ends the number `n` of this state: it is a space, or begins a unit, or has the error of one that does
+-- not
 pub record EndsNumber (state : SizeScan) (n c : ℕ) : Type 0 where
   pub step_is : size_step state c ≡ after_number n c
   pub fault_is : (flags : Flags) → fault_at current flags (size_parser_state state) c ≡ no_unit current c

@@ -139,8 +139,8 @@ pub fn parse_bytes(bytes: &[u8], ignore_case: bool, kind: Kind) -> Option<Result
 
 /// Parses the unit and the number of a size from bytes, none of which is trimmed.
 ///
-/// What is accepted is ASCII, so there is no test for UTF-8. It starts with a digit, and ends in spaces only after a number
-/// without a unit, where the grammar allows them, so it is the same when trimmed.
+/// What is accepted is ASCII, so there is no test for UTF-8. It starts with a digit, and ends in spaces only after a
+/// number without a unit, where the grammar allows them, so it is the same when trimmed.
 ///
 /// # Errors
 /// Returns where the parser stops, also at white space that `parse` would trim.
@@ -157,8 +157,8 @@ pub fn read_bytes(bytes: &[u8], ignore_case: bool, kind: Kind) -> Result<(Unit, 
     read_parts(bytes, flags_for(kind, ignore_case))
 }
 
-/// Returns the error of bytes in which `read_bytes` stops at this place and for this reason. Returns `None` if there may be
-/// white space to trim, or characters past ASCII.
+/// Returns the error of bytes in which `read_bytes` stops at this place and for this reason. Returns `None` if there may
+/// be white space to trim, or characters past ASCII.
 ///
 /// # Examples
 /// ```rust
@@ -189,8 +189,9 @@ pub fn visible_error(
 
 /// Parses as `parse_bytes` does, from bytes in which `read_bytes` stops at this place and for this reason.
 ///
-/// The two are passed apart, since a `Stop` would be in memory. `stopped_error` and `parse_text` are called, not inlined:
-/// LLVM then sees that the result is written whole, and does not clear its memory on the way of bytes that are accepted.
+/// The two are passed apart, since a `Stop` would be in memory. `stopped_error` and `parse_text` are called, not
+/// inlined: LLVM then sees that the result is written whole, and does not clear its memory on the way of bytes that are
+/// accepted.
 #[cold]
 #[inline(never)]
 fn parse_stopped(

@@ -42,8 +42,8 @@ fn is_plain(c: char) -> bool
     (' ' <= c) & (c <= '~') & (c != '\'') & (c != '\\')
 }
 
-/// Returns the rest of the message of an error in the unit, after its character. Returns `None` for a list of characters
-/// that no parser expects.
+/// Returns the rest of the message of an error in the unit, after its character. Returns `None` for a list of
+/// characters that no parser expects.
 fn rest_of_message(expected: &[char], also_expect_no_character: bool) -> Option<&'static [u8]>
     ensures text { IfSome result (λ rest.
         Some rest.now ≡ Some (codes "' is incorrect") ++? expected_text expected.now also_expect_no_character) }

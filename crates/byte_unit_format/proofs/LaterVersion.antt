@@ -137,3 +137,6 @@ adjusted_forms_stay kind size unit spec text known = (
   λ h. let text_is = h.text_is ∙ layout_stays h.number unit spec known in search (rules, text_is),
   λ h. let text_is = h.text_is ∙ sym (layout_stays h.number unit spec known) in search (rules, text_is),
 )
+
+-- what the first version accepts and prints keeps its meaning
+pub ruleset meanings_stay = (accepted_stays, forms_stay, appropriate_stays, adjusted_forms_stay)

@@ -87,7 +87,7 @@ pub fn expansions_end()
 /// the same size, under the same flags. Each size of the first version has the same form with a unit under each spec,
 /// and the same appropriate unit of its own kind by each type; and in each unit of the first version a size has the
 /// same form under each spec.
-#[tactic(auto, using(crate::proofs::LaterVersion::accepted_stays, crate::proofs::LaterVersion::forms_stay, crate::proofs::LaterVersion::appropriate_stays, crate::proofs::LaterVersion::adjusted_forms_stay))]
+#[tactic(auto, using(crate::proofs::LaterVersion::meanings_stay))]
 pub fn old_meanings_stay()
     ensures accepted_texts { AcceptedTextsStay }
     ensures size_forms { SizeFormsStay }

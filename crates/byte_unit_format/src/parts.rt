@@ -171,7 +171,7 @@ impl Fraction<'_> {
 }
 
 /// Writes the point and `places` digits of an expansion, or nothing if `places` is 0.
-#[tactic(auto, using(crate::proofs::WrittenForms::fraction_length, crate::proofs::TextParts::glyphs_within, std::proofs::lemmas::Grind::common_steps))]
+#[tactic(auto, using(crate::proofs::TextParts::first_digits_put))]
 fn put_first(e: &Expansion, places: u32, out: &mut [u8], end: usize) -> usize
     requires room { length (fraction_text (pad_of places e.now).digits) ≤ end }
     requires within { end ≤ length out.old }
@@ -190,7 +190,7 @@ fn put_first(e: &Expansion, places: u32, out: &mut [u8], end: usize) -> usize
 }
 
 /// Appends the point and the last `places` digits of a number.
-#[tactic(auto, using(crate::proofs::TextParts::piece_ascii, crate::proofs::WrittenForms::length_of_fraction_text, byte_unit_math::proofs::Digits::length_last_digits))]
+#[tactic(auto, using(crate::proofs::TextParts::last_digits_put))]
 fn push_last<A: Allocator>(text: &mut String<A>, digits: u128, places: u32)
     requires short { (places ≤ places_of_decimal) × (digits < 10 ^ places) }
     requires room { length (fraction_text (last_digits places digits)) ≤ spare_capacity text.old }

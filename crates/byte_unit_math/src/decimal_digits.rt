@@ -129,7 +129,7 @@ pub fn fmt_u128<W: fmt::Write>(n: u128, f: &mut fmt::Formatter<W>) -> fmt::Resul
 /// assert_eq!(rt; decimal_len(0), 1);
 /// ```
 #[inline(always)]
-#[tactic(auto, using(crate::proofs::WrittenDigits::decimal_length_one, crate::proofs::WrittenDigits::few_digits, crate::proofs::WrittenDigits::more_digits))]
+#[tactic(auto, using(crate::proofs::WrittenDigits::lengths_by_bits))]
 pub fn decimal_len(n: u128) -> usize
     ensures exact { result ≡ length (decimal n) }
     ensures few { result ≤ NUMBER_DIGITS }
@@ -150,7 +150,7 @@ pub fn decimal_len(n: u128) -> usize
 
 /// Returns the number of decimal digits as `decimal_len`, in 64 bits.
 #[inline(always)]
-#[tactic(auto, using(crate::proofs::WrittenDigits::decimal_length_one, crate::proofs::WrittenDigits::few_digits, crate::proofs::WrittenDigits::more_digits))]
+#[tactic(auto, using(crate::proofs::WrittenDigits::lengths_by_bits))]
 fn decimal_len_u64(n: u64) -> usize
     requires { 10 ≤ n }
     ensures exact { result ≡ length (decimal n) }
@@ -224,7 +224,7 @@ pub fn put_fraction(digits: u128, places: u32, bytes: &mut [u8], end: usize) -> 
 
 /// Writes digits as `put_u128`, 18 at a time: the slow path, for numbers of more than 64 bits.
 #[inline(never)]
-#[tactic(auto, using(crate::proofs::WrittenDigits::eighteen_more, crate::proofs::WrittenDigits::decimal_length_positive, crate::proofs::WrittenDigits::length_of_one_and_18_digits))]
+#[tactic(auto, using(crate::proofs::WrittenDigits::lengths_by_18))]
 fn put_u128_wide(n: u128, bytes: &mut [u8], end: usize) -> usize
     requires room { length (decimal n) ≤ end }
     requires within { end ≤ length bytes.old }

@@ -30,7 +30,7 @@ const TEN_POW_16_INVERSE: u64 = 16_615_349_947_311_448_411;
 /// assert_eq!(rt; &digits, b"15360000000000000000000000000000");
 /// ```
 #[inline(always)]
-#[tactic(auto, using(crate::proofs::WrittenDigits::few_30, crate::proofs::WrittenDigits::few_16, crate::proofs::WrittenDigits::more_16))]
+#[tactic(auto, using(crate::proofs::WrittenDigits::lengths_by_16))]
 pub fn put_padded_digits(n: u128, digits: &mut [u8; PADDED_DIGITS]) -> usize
     requires { n < 10 ^ 30 }
     ensures digits { digits.new ≡ padded_digits n }
@@ -53,7 +53,7 @@ pub fn put_padded_digits(n: u128, digits: &mut [u8; PADDED_DIGITS]) -> usize
 
 /// Returns the digits of a number with leading zeros, and the number of both, 16 or 32. After them is the digit 0.
 #[inline(always)]
-#[tactic(auto, using(crate::proofs::WrittenDigits::few_30, crate::proofs::WrittenDigits::few_16, crate::proofs::WrittenDigits::more_16))]
+#[tactic(auto, using(crate::proofs::WrittenDigits::lengths_by_16))]
 fn digits_with_zeros(n: u128) -> ([u8; 48], usize)
     requires { n < 10 ^ 30 }
     ensures digits { drop (result.1 - length (decimal n)) result.0 ≡ decimal n ++ replicate (48 - result.1) 48 }
