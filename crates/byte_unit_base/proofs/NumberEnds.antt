@@ -34,8 +34,9 @@ use Rattle.byte_unit_base.proofs.SizeAscii.{number_ascii}
 use Rattle.byte_unit_base.proofs.SizeRest.{first_char, IsNoDigit, wide_no_digit, no_digit_first, missing_at_start}
 use Rattle.byte_unit_base.proofs.SizeRest.{missing_after_point, too_large, too_many_places, read_point, ends_whole}
 use Rattle.byte_unit_base.proofs.SizeRest.{ends_fraction, read_after_number, with_number, text_from, utf8_from}
-use Rattle.byte_unit_base.proofs.UnitStops.{beginning_ascii, stop_read}
+use Rattle.byte_unit_base.proofs.UnitStops.{run_ascii, stop_read}
 use Rattle.byte_unit_base.proofs.NumberBytes.{digits_of_run}
+use Rattle.byte_unit_base.specs.UnitScan.{start}
 
 -- what follows a number
 
@@ -260,7 +261,7 @@ stops_in_unit flags bytes rest n end spaces place scan number rest_is within gap
       within = omega (arith, inside, stop.0.within, length-drop (end + spaces) bytes);
       ascii = subst IsAscii (sym (take-add (end + spaces) place bytes))
           (IsAscii-append (take (end + spaces) bytes) (take place unit) ascii
-          (beginning_ascii unit place scan stop.0.run_is));
+          (run_ascii (take place unit) start scan stop.0.run_is));
       result_is = λ utf8.
           let utf8_unit = utf8_from bytes (end + spaces) utf8 inside ascii in
           ap (read (size_scan flags) Beginning) (text_from bytes end number_small)
