@@ -27,11 +27,6 @@ powers_below n a b h =
     let some : 1 ≤ h.left = grind (arith, h.odd) in
     omega (arith, mul-le-mul_right {m = 1} {n = h.left} (2 ^ a * 5 ^ b) some, h.product)
 
--- a number is at least its power of two
-twos_below : (n a b : ℕ) → IsTwoFive n a b → 2 ^ a ≤ n
-twos_below n a b h =
-    omega (arith, powers_below n a b h, mul-le-mul_left {m = 1} {n = 5 ^ b} (2 ^ a) (one-le-pow b 5 (omega arith)))
-
 -- a + 2 b <= 102 for the exponents a of 2 and b of 5 in a number below 2^103, since 5 is greater than 2^2
 few_powers : (n a b : ℕ) → IsTwoFive n a b → n < 2 ^ 103 → a + 2 * b ≤ 102
 few_powers n a b h small =
@@ -86,7 +81,8 @@ module _ (family : Family) (in_bits precision a b power : ℕ) (bit : Bool) (pow
       (λ more.
       let below = below_greatest (omega (arith, more)) in
       let power_of_two = pow-le-pow_right {n = 2} (omega arith) {i = twos (greatest bit)} {j = a} more in
-      absurd (omega (arith, below, power_of_two, twos_below in_bits a b powers)))
+      let product = mul-le-mul_left {m = 1} {n = 5 ^ b} (2 ^ a) (one-le-pow b 5 (omega arith)) in
+      absurd (omega (arith, below, power_of_two, product, powers_below in_bits a b powers)))
       (cases_lt a (twos (greatest bit)))
 
 -- no multiple of 2^91 lies between RB and RiB

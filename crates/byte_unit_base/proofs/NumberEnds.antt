@@ -34,8 +34,9 @@ use Rattle.byte_unit_base.proofs.SizeAscii.{number_ascii}
 use Rattle.byte_unit_base.proofs.SizeRest.{first_char, IsNoDigit, wide_no_digit, no_digit_first, missing_at_start}
 use Rattle.byte_unit_base.proofs.SizeRest.{missing_after_point, too_large, too_many_places, read_point, ends_whole}
 use Rattle.byte_unit_base.proofs.SizeRest.{ends_fraction, read_after_number, with_number, text_from, utf8_from}
-use Rattle.byte_unit_base.proofs.UnitStops.{beginning_ascii, stop_read}
+use Rattle.byte_unit_base.proofs.UnitStops.{run_ascii, stop_read}
 use Rattle.byte_unit_base.proofs.NumberBytes.{digits_of_run}
+use Rattle.byte_unit_base.specs.UnitScan.{start}
 
 -- what follows a number
 
@@ -148,14 +149,11 @@ module _ (bytes : List ℕ) (end whole : ℕ) (run_is : end ≡ 0 + digits_len (
       places_are : places ≡ 0 + digits_len (drop 0 rest)
       places_are = omega (arith, stop_is)
 
-      all : places ≤ length rest
-      all = omega (arith, stop_within, length-drop {A = ℕ} (end + 1) bytes)
-
       digits_are : AllDigits 10 digits
       digits_are = digits_of_run rest places places_are
 
       count_is : length digits ≡ places
-      count_is = length-take-le places rest all
+      count_is = length-take-le places rest (omega (arith, stop_within, length-drop {A = ℕ} (end + 1) bytes))
 
       -- the value of the digits has no more digits
       pub fraction_below : (fraction : ℕ) → fraction ≡ digits_value 10 digits → fraction < 10 ^ places
@@ -175,11 +173,6 @@ module _ (bytes : List ℕ) (end whole : ℕ) (run_is : end ≡ 0 + digits_len (
       to_stop : end + 1 + places ≡ stop
       to_stop = omega (arith, stop_is)
 
-      fraction_text : take stop bytes ≡ take end bytes ++ point ∷ digits
-      fraction_text =
-          ap (λ n. take n bytes) (sym to_stop) ∙ take-add (end + 1) places bytes
-          ∙ (ap (λ front. front ++ take places rest) pointed_text ∙ append_assoc (take end bytes) (point ∷ []) digits)
-
       -- a whole part, a point and a fraction are the leading number
       pub leading_precise : (fraction n : ℕ) → (places ≡ 0 → ⊥)
           → places ≤ places_of_decimal → fraction ≡ digits_value 10 digits
@@ -190,7 +183,8 @@ module _ (bytes : List ℕ) (end whole : ℕ) (run_is : end ≡ 0 + digits_len (
             fraction = digits;
             value = whole;
             part = digits_value 10 digits * 10 ^ (places_of_decimal - length digits);
-            text_is = fraction_text;
+            text_is = ap (λ n. take n bytes) (sym to_stop) ∙ (take-add (end + 1) places bytes
+                ∙ (ap (λ front. front ++ digits) pointed_text ∙ append_assoc (take end bytes) (point ∷ []) digits));
             whole_is = whole_is;
             fraction_is = ((omega (arith, count_is, some_places), digits_are), omega (arith, few, count_is), refl);
             number_is = value_of_n
@@ -260,7 +254,7 @@ stops_in_unit flags bytes rest n end spaces place scan number rest_is within gap
       within = omega (arith, inside, stop.0.within, length-drop (end + spaces) bytes);
       ascii = subst IsAscii (sym (take-add (end + spaces) place bytes))
           (IsAscii-append (take (end + spaces) bytes) (take place unit) ascii
-          (beginning_ascii unit place scan stop.0.run_is));
+          (run_ascii (take place unit) start scan stop.0.run_is));
       result_is = λ utf8.
           let utf8_unit = utf8_from bytes (end + spaces) utf8 inside ascii in
           ap (read (size_scan flags) Beginning) (text_from bytes end number_small)

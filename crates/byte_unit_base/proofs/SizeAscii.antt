@@ -4,7 +4,7 @@ use Rattle.std.proofs.Common.{◌≡◌, ℕ, zero, suc, ◌-◌, ◌<◌, Bool,
 use Rattle.std.proofs.Common.{◌++◌, length, replicate, refl, ap, sym, subst, ◌∙◌, arith, append-nil}
 use Rattle.std.specs.List.{list_all}
 use Rattle.std.specs.Char.{is_ascii_graphic, to_ascii_lowercase}
-use Rattle.std.specs.Str.{IsAscii, IsUtf8, chars, str_to_ascii_lowercase, skip_leading_whitespace, drop_trailing_whitespace}
+use Rattle.std.specs.Str.{IsAscii, chars, str_to_ascii_lowercase, skip_leading_whitespace, drop_trailing_whitespace}
 use Rattle.std.specs.Str.Parse.{AllDigits}
 use Rattle.std.proofs.lemmas.Bool.{and_from, and_parts}
 use Rattle.std.proofs.lemmas.Bool.Decides.{nat_tests}
@@ -12,7 +12,7 @@ use Rattle.std.proofs.lemmas.List.{length-append}
 use Rattle.std.proofs.lemmas.List.Elements.{All-replicate, All-get_or}
 use Rattle.std.proofs.lemmas.List.Sums.{AllPass-from_list_all}
 use Rattle.std.proofs.lemmas.List.Folds.{list_all-append}
-use Rattle.std.proofs.lemmas.Str.{IsAscii-append, IsUtf8-from_ascii, chars-IsAscii}
+use Rattle.std.proofs.lemmas.Str.{IsAscii-append, chars-IsAscii}
 use Rattle.std.proofs.lemmas.Str.Ascii.{IsAscii-nil, IsAscii-cons, IsAscii-from_all}
 use Rattle.byte_unit_base.specs.Shape.{Shape}
 use Rattle.byte_unit_base.specs.Version.{current}
@@ -96,7 +96,7 @@ pub number_ascii : (text : List ℕ) (number : ℕ) → IsNumberText current tex
 number_ascii text number h = visible_ascii text (number_visible text number h)
 
 -- the text of a number and a unit is ASCII
-size_ascii : (flags : Flags) (text : List ℕ) (number : ℕ) (unit : Shape) → IsSizeText current flags text number unit
+pub size_ascii : (flags : Flags) (text : List ℕ) (number : ℕ) (unit : Shape) → IsSizeText current flags text number unit
     → IsAscii text
 size_ascii flags text number unit h =
     let gap = IsAscii-from_all (replicate h.spaces space) (All-replicate (λ c. c < 128) h.spaces space (omega arith)) in
@@ -157,11 +157,6 @@ trimmed_size flags bytes number unit h =
       number_is = h.number_is;
       unit_is = h.unit_is;
     }
-
--- bytes that are a number and a unit are UTF-8
-pub size_utf8 : (flags : Flags) (bytes : List ℕ) (number : ℕ) (unit : Shape)
-    → IsSizeText current flags bytes number unit → IsUtf8 bytes
-size_utf8 flags bytes number unit h = IsUtf8-from_ascii bytes (size_ascii flags bytes number unit h)
 
 -- bytes that are a number and a unit are their characters
 pub size_of_chars : (flags : Flags) (bytes : List ℕ) (number : ℕ) (unit : Shape)

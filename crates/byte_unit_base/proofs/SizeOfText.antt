@@ -33,86 +33,78 @@ found_as_read {number} reading read =
 -- the parser as a function finds the number and unit that the parser found, rounds the number up, and gives the result
 -- by the size
 
-parsed_found : (kind : Kind) (ignore_case : Bool) (bytes : List ℕ) (found : ℕ × UnitName)
-    → IsSizeText current (flags_for kind ignore_case) (trim_of bytes) found.0 (shape_of found.1)
-    → parsed_size kind ignore_case bytes
-    ≡ size_within_limit found.0 (rounded_up kind found.0 (shape_of found.1))
-unfolding parsed_size parsed_number
-parsed_found kind ignore_case bytes found h =
-    ap (size_of_parsed kind)
-    (reads_meaning (size_scan_is (flags_for kind ignore_case)) (trim_of bytes) (with_shape found) h)
+module _ (kind : Kind) (ignore_case : Bool) (bytes : List ℕ) where
+  parsed_found : (found : ℕ × UnitName)
+      → IsSizeText current (flags_for kind ignore_case) (trim_of bytes) found.0 (shape_of found.1)
+      → parsed_size kind ignore_case bytes ≡ size_within_limit found.0 (rounded_up kind found.0 (shape_of found.1))
+  unfolding parsed_size parsed_number
+  parsed_found found h =
+      ap (size_of_parsed kind)
+      (reads_meaning (size_scan_is (flags_for kind ignore_case)) (trim_of bytes) (with_shape found) h)
 
-parsed_fault : (kind : Kind) (ignore_case : Bool) (bytes : List ℕ) (error : ParseError)
-    → IsSizeFault current (flags_for kind ignore_case) (trim_of bytes) (size_fault error)
-    → parsed_size kind ignore_case bytes ≡ Err (size_fault error)
-unfolding parsed_size parsed_number
-parsed_fault kind ignore_case bytes error h =
-    ap (size_of_parsed kind)
-    (reads_fault (size_scan_is (flags_for kind ignore_case)) (trim_of bytes) (size_fault error) h)
+  parsed_fault : (error : ParseError)
+      → IsSizeFault current (flags_for kind ignore_case) (trim_of bytes) (size_fault error)
+      → parsed_size kind ignore_case bytes ≡ Err (size_fault error)
+  unfolding parsed_size parsed_number
+  parsed_fault error h =
+      ap (size_of_parsed kind)
+      (reads_fault (size_scan_is (flags_for kind ignore_case)) (trim_of bytes) (size_fault error) h)
 
--- the result if the number and unit give a size
-pub reading_of_size :
-    (kind : Kind) (ignore_case : Bool) (bytes : List ℕ) (found : ℕ × UnitName) (n : ℕ)
-    → IsNumberReading (flags_for kind ignore_case) bytes (Ok found)
-    → IsSizeOrNone (IsLeastOf kind found.0 (shape_of found.1)) (Some n)
-    → IsSizeReading kind ignore_case bytes (Ok n)
-reading_of_size kind ignore_case bytes found n reading size = record {
-  found = record {
-    number = found.0;
-    is_read = record { unit = shape_of found.1; is_size = reading.found; is_least = size.0 };
-    below = size.1;
-  };
-  reads = λ m a. let other = found_as_read reading a.is_read in
-      ap (λ k. Ok k) (least_is_unique kind found.0 (shape_of found.1) n m size.0 other.1);
-  exceeds = λ number e. let other = found_as_read reading e.is_read in
-      let same = least_is_unique kind found.0 (shape_of found.1) n e.size size.0 other.1 in
-      absurd (omega (arith, same, size.1, e.above));
-  fault = tt;
-  computed =
-      let unit = shape_of found.1 in
-      let rounded = rounded_up kind found.0 unit in
-      let same : rounded ≡ n =
-      least_is_unique kind found.0 unit rounded n (rounded_up_is_least kind found.0 unit) size.0 in
-      sym (parsed_found kind ignore_case bytes found reading.found
-      ∙ (ap (size_within_limit found.0) same ∙ size_within found.0 n size.1));
-}
+  -- the result if the number and unit give a size
+  pub reading_of_size : (found : ℕ × UnitName) (n : ℕ)
+      → IsNumberReading (flags_for kind ignore_case) bytes (Ok found)
+      → IsSizeOrNone (IsLeastOf kind found.0 (shape_of found.1)) (Some n)
+      → IsSizeReading kind ignore_case bytes (Ok n)
+  reading_of_size found n reading size =
+      let unique = least_is_unique kind found.0 (shape_of found.1) in
+      record {
+        found = record {
+          number = found.0;
+          is_read = record { unit = shape_of found.1; is_size = reading.found; is_least = size.0 };
+          below = size.1;
+        };
+        reads = λ m a. ap (λ k. Ok k) (unique n m size.0 (found_as_read reading a.is_read).1);
+        exceeds = λ number e.
+            let same = unique n e.size size.0 (found_as_read reading e.is_read).1 in
+            absurd (omega (arith, same, size.1, e.above));
+        fault = tt;
+        computed =
+            let same = unique _ n (rounded_up_is_least kind found.0 (shape_of found.1)) size.0 in
+            sym (parsed_found found reading.found
+            ∙ (ap (size_within_limit found.0) same ∙ size_within found.0 n size.1));
+      }
 
--- the result if the size of the number and unit reaches the limit: an error with the number
-pub reading_of_excess :
-    (kind : Kind) (ignore_case : Bool) (bytes : List ℕ) (found : ℕ × UnitName)
-    → ((n : ℕ) × IsLeastOf kind found.0 (shape_of found.1) n)
-    → IsNumberReading (flags_for kind ignore_case) bytes (Ok found)
-    → IsSizeOrNone (IsLeastOf kind found.0 (shape_of found.1)) None
-    → IsSizeReading kind ignore_case bytes (Err (Value (ExceededBounds found.0)))
-reading_of_excess kind ignore_case bytes found least reading none = record {
-  found = tt;
-  reads = λ m a. let other = found_as_read reading a.is_read in absurd (omega (arith, none m other.1, a.below));
-  exceeds = λ number e. ap exceeded (found_as_read reading e.is_read).0;
-  fault = inl (
-    found.0,
-    refl,
-    record {
-      size = least.0;
-      is_read = record { unit = shape_of found.1; is_size = reading.found; is_least = least.1 };
-      above = none least.0 least.1;
-    },
-  );
-  computed =
-      let unit = shape_of found.1 in
-      let rounded = rounded_up kind found.0 unit in
-      sym (parsed_found kind ignore_case bytes found reading.found
-      ∙ size_above found.0 rounded (none rounded (rounded_up_is_least kind found.0 unit)));
-}
+  -- the result if the size of the number and unit reaches the limit: an error with the number
+  pub reading_of_excess : (found : ℕ × UnitName)
+      → IsNumberReading (flags_for kind ignore_case) bytes (Ok found)
+      → IsSizeOrNone (IsLeastOf kind found.0 (shape_of found.1)) None
+      → IsSizeReading kind ignore_case bytes (Err (Value (ExceededBounds found.0)))
+  reading_of_excess found reading none =
+      let rounded = rounded_up kind found.0 (shape_of found.1) in
+      let least = rounded_up_is_least kind found.0 (shape_of found.1) in
+      record {
+        found = tt;
+        reads = λ m a. let other = found_as_read reading a.is_read in absurd (omega (arith, none m other.1, a.below));
+        exceeds = λ number e. ap exceeded (found_as_read reading e.is_read).0;
+        fault = inl (
+          found.0,
+          refl,
+          record {
+            size = rounded;
+            is_read = record { unit = shape_of found.1; is_size = reading.found; is_least = least };
+            above = none rounded least;
+          },
+        );
+        computed = sym (parsed_found found reading.found ∙ size_above found.0 rounded (none rounded least));
+      }
 
--- the result if the input is not a number and a unit: its error
-pub reading_of_fault :
-    (kind : Kind) (ignore_case : Bool) (bytes : List ℕ) (error : ParseError)
-    → IsNumberReading (flags_for kind ignore_case) bytes (Err error)
-    → IsSizeReading kind ignore_case bytes (Err error)
-reading_of_fault kind ignore_case bytes error reading = record {
-  found = tt;
-  reads = λ m a. absurd (reading.reads a.number a.is_read.unit a.is_read.is_size);
-  exceeds = λ number e. absurd (reading.reads number e.is_read.unit e.is_read.is_size);
-  fault = inr reading.fault;
-  computed = sym (parsed_fault kind ignore_case bytes error reading.fault);
-}
+  -- the result if the input is not a number and a unit: its error
+  pub reading_of_fault : (error : ParseError) → IsNumberReading (flags_for kind ignore_case) bytes (Err error)
+      → IsSizeReading kind ignore_case bytes (Err error)
+  reading_of_fault error reading = record {
+    found = tt;
+    reads = λ m a. absurd (reading.reads a.number a.is_read.unit a.is_read.is_size);
+    exceeds = λ number e. absurd (reading.reads number e.is_read.unit e.is_read.is_size);
+    fault = inr reading.fault;
+    computed = sym (parsed_fault error reading.fault);
+  }

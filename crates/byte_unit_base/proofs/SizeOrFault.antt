@@ -12,12 +12,13 @@ use Rattle.byte_unit_base.specs.SizeLaws.{IsOneOfThree}
 use Rattle.byte_unit_base.specs.ReaderLaws.{IsOneAnswer, Represents}
 use Rattle.byte_unit_base.specs.declared.kind.Kind.{Kind}
 use Rattle.byte_unit_base.proofs.Rounding.{least_exists, least_is_unique}
-use Rattle.byte_unit_base.proofs.SizeReads.{size_texts_have_one_answer}
+use Rattle.byte_unit_base.proofs.Scans
+use Rattle.byte_unit_base.proofs.SizeReads.{size_scan_is}
 
 module _ (kind : Kind) (ignore_case : Bool) (text : List ℕ) where
   one_answer : IsOneAnswer (ℕ × Shape) (Represents (flags_for kind ignore_case) (trim_of text))
       (HasFault kind ignore_case text)
-  one_answer = size_texts_have_one_answer (flags_for kind ignore_case) (trim_of text)
+  one_answer = Scans.one_answer (size_scan_is (flags_for kind ignore_case)) (trim_of text)
 
   -- two readings of an input have the same number and the same size
   same_read : (number other n m : ℕ) → IsRead current kind ignore_case text number n

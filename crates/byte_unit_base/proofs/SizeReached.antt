@@ -85,7 +85,7 @@ number_grows : (n spaces c : ℕ) (t : SizeScan) (text number : List ℕ) → te
     → IsNumberText current number n → AfterNumber n c t → SizeReached t (text ++ c ∷ [])
 number_grows n spaces c t text number e h (inl k) =
     let more : (replicate spaces 32 ++ []) ++ c ∷ [] ≡ replicate (spaces + 1) 32 ++ [] =
-    rw (append-nil {A = ℕ}, k.0, append-nil {A = ℕ}) (replicate_more spaces 32) in
+    rw (append-nil {A = ℕ} (replicate spaces 32), k.0, append-nil {A = ℕ}) (replicate_more spaces 32) in
     subst (λ x. SizeReached x (text ++ c ∷ [])) k.1 (
       record {
         number_part = number;

@@ -16,7 +16,7 @@ use Rattle.byte_unit_base.specs.ViablePrefix.{ParserState, beginning, in_whole}
 use Rattle.byte_unit_base.specs.ViablePrefix.{IsViableUnitPrefix, IsNumberAndUnitPrefix, IsViableSizePrefix, after_bi}
 use Rattle.byte_unit_base.specs.Fault.{Fault, IsFaultAfter, fault_at_end, exceeded}
 use Rattle.byte_unit_base.specs.Errors.{size_fault}
-use Rattle.byte_unit_base.specs.ReaderLaws.{Represents, SizeTextsHaveOneAnswer, ViableSizePrefixesAreBeginnings}
+use Rattle.byte_unit_base.specs.ReaderLaws.{Represents}
 use Rattle.byte_unit_base.specs.Scan.{read}
 use Rattle.byte_unit_base.specs.UnitScan.{unit_step, unit_of, unit_at_end, word_parser_state, scan_of, start as unit_start}
 use Rattle.byte_unit_base.specs.SizeScan.{size_step, size_scan, size_result, with_shape, size_at_end}
@@ -33,7 +33,6 @@ use Rattle.byte_unit_base.specs.declared.unit.scan.Word.{Word}
 use Rattle.byte_unit_base.specs.declared.unit.scan.Word.TheVariants.{Empty, Bi}
 use Rattle.byte_unit_base.proofs.Computed.{number_computed}
 use Rattle.byte_unit_base.proofs.Scans.{EndsIn, IsScanOf, read_found, read_meant, read_refused, reads_meaning}
-use Rattle.byte_unit_base.proofs.Scans.{one_answer, fronts_are_beginnings}
 use Rattle.byte_unit_base.proofs.UnitReached.{Reached-start, Spells-reached}
 use Rattle.byte_unit_base.proofs.UnitReads.{unit_front, unit_ends}
 use Rattle.byte_unit_base.proofs.SizeSteps.{step_cases}
@@ -207,14 +206,6 @@ pub stop_reading : (flags : Flags) (bytes text : List ℕ) (place : ℕ) (reason
 stop_reading flags bytes text place reason error trimmed utf8 stop error_is =
     number_reading flags bytes (Err error)
     (ap Err error_is ∙ (sym (stop.result_is utf8) ∙ ap (read (size_scan flags) Beginning) trimmed))
-
--- each input is exactly one number and unit, or has exactly one error, and not both
-pub size_texts_have_one_answer : SizeTextsHaveOneAnswer
-size_texts_have_one_answer flags text = one_answer (size_scan_is flags) text
-
--- the viable prefixes of sizes are exactly the beginnings of the inputs in the grammar
-pub size_fronts_are_beginnings : ViableSizePrefixesAreBeginnings
-size_fronts_are_beginnings flags text = fronts_are_beginnings (size_scan_is flags) text
 
 -- a parser that returns the number and unit of the input is right, however it found them
 pub stated_reading : (flags : Flags) (bytes : List ℕ) (found : ℕ × UnitName)

@@ -98,38 +98,32 @@ missing_after_point flags w (c ∷ cs) none = read_none (size_scan flags) (Point
 digit_is : (c : ℕ) → digit_value c < 10 → is_digit c ≡ true
 digit_is c small = grind (arith, nat_tests)
 
-no_more_whole : (w c : ℕ) → digit_value c < 10 → whole_limit ≤ w * 10 + digit_value c → size_step (Whole w) c ≡ None
-unfolding size_step
-no_more_whole w c small large = grind (arith, nat_tests)
-
-no_more_places : (w f j c : ℕ) → digit_value c < 10 → places_of_decimal ≤ j → size_step (Fraction w f j) c ≡ None
-unfolding size_step
-no_more_places w f j c small many = grind (arith, nat_tests)
-
 -- the error of a whole part that reaches the limit
 pub too_large : (flags : Flags) (ds rest : List ℕ) (w : ℕ) → AllDigits 10 ds → w < whole_limit
     → whole_limit ≤ digits_value_after 10 w ds
     → read (size_scan flags) (Whole w) (ds ++ rest) ≡ Err too_long
+unfolding size_step
 too_large flags [] rest w digits below above = absurd (omega (arith, below, above))
 too_large flags (c ∷ cs) rest w digits below above =
     let next = w * 10 + digit_value c in
     ⊎_elim
     (λ small. read_some (size_scan flags) (Whole w) (Whole next) c (cs ++ rest) (step_whole w c digits.0 small)
     ∙ too_large flags cs rest next digits.1 small above)
-    (λ large. read_none (size_scan flags) (Whole w) c (cs ++ rest) (no_more_whole w c digits.0 large)
+    (λ large. read_none (size_scan flags) (Whole w) c (cs ++ rest) (grind (arith, nat_tests, digits.0, large))
     ∙ rw (digit_is c digits.0) refl)
     (cases_lt next whole_limit)
 
 too_many_more : (flags : Flags) (ds rest : List ℕ) (w f j : ℕ) → AllDigits 10 ds → j ≤ places_of_decimal
     → places_of_decimal < j + length ds
     → read (size_scan flags) (Fraction w f j) (ds ++ rest) ≡ Err too_long
+unfolding size_step
 too_many_more flags [] rest w f j digits few many = absurd (omega (arith, few, many))
 too_many_more flags (c ∷ cs) rest w f j digits few many =
     ⊎_elim
     (λ more. read_some (size_scan flags) (Fraction w f j) (Fraction w (f * 10 + digit_value c) (j + 1)) c (cs ++ rest)
     (step_fraction w f j c digits.0 more)
     ∙ too_many_more flags cs rest w (f * 10 + digit_value c) (j + 1) digits.1 (omega arith) (omega arith))
-    (λ full. read_none (size_scan flags) (Fraction w f j) c (cs ++ rest) (no_more_places w f j c digits.0 full)
+    (λ full. read_none (size_scan flags) (Fraction w f j) c (cs ++ rest) (grind (arith, nat_tests, digits.0, full))
     ∙ rw (digit_is c digits.0) refl)
     (cases_lt j places_of_decimal)
 

@@ -13,7 +13,6 @@ use Rattle.byte_unit_base.specs.ViablePrefix.{ParserState, after_b, after_bi, af
 use Rattle.byte_unit_base.specs.ViablePrefix.{IsViableUnitPrefix}
 use Rattle.byte_unit_base.specs.Fault.{fault_at_end}
 use Rattle.byte_unit_base.specs.Readings.{IsUnitReading}
-use Rattle.byte_unit_base.specs.ReaderLaws.{UnitTextsHaveOneAnswer, ViableUnitPrefixesAreBeginnings}
 use Rattle.byte_unit_base.specs.Scan.{read}
 use Rattle.byte_unit_base.specs.UnitScan.{unit_step, unit_scan, unit_of, unit_at_end, unit_result, start, scan_of}
 use Rattle.byte_unit_base.specs.UnitScan.{power_of, word_parser_state, multiple_parser_state, IsMultipleText}
@@ -23,8 +22,7 @@ use Rattle.byte_unit_base.specs.declared.unit.scan.Word.{Word}
 use Rattle.byte_unit_base.specs.declared.unit.scan.Word.TheVariants.{Empty, UpperB, LowerB, Bi, Bit, Bits}
 use Rattle.byte_unit_base.specs.declared.unit.scan.Multiple.{Multiple}
 use Rattle.byte_unit_base.specs.declared.unit.scan.Multiple.TheVariants.{One, Decimal, Binary}
-use Rattle.byte_unit_base.proofs.Scans.{EndsIn, IsScanOf, read_found, read_meant, read_refused, one_answer}
-use Rattle.byte_unit_base.proofs.Scans.{fronts_are_beginnings}
+use Rattle.byte_unit_base.proofs.Scans.{EndsIn, IsScanOf, read_found, read_meant, read_refused}
 use Rattle.byte_unit_base.proofs.Computed.{unit_computed}
 use Rattle.byte_unit_base.proofs.UnitReached.{Reached, Reached-step, Reached-start, Spells-reached}
 use Rattle.byte_unit_base.proofs.UnitRuns.{spelling_runs, unit_front_runs}
@@ -102,11 +100,3 @@ unit_reading flags bytes r e = record {
   fault = read_refused (unit_scan_is flags) shape_of unit_fault (trim_of bytes) r e;
   computed = unit_computed flags bytes r e;
 }
-
--- each input spells exactly one unit, or has exactly one error, and not both
-pub unit_texts_have_one_answer : UnitTextsHaveOneAnswer
-unit_texts_have_one_answer flags text = one_answer (unit_scan_is flags) text
-
--- the viable prefixes of a unit are exactly the beginnings of the spellings of units
-pub unit_fronts_are_beginnings : ViableUnitPrefixesAreBeginnings
-unit_fronts_are_beginnings flags text = fronts_are_beginnings (unit_scan_is flags) text

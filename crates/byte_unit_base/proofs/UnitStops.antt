@@ -36,18 +36,14 @@ no_wide_step One Empty c wide =
     let none : prefix_at c ≡ None = grind (arith, nat_tests) in rw none (grind (arith, nat_tests))
 no_wide_step m w c wide = grind (arith, nat_tests)
 
-run_ascii : (text : List ℕ) (s t : UnitScan) → run unit_step s text ≡ Some t → IsAscii text
+-- what the state machine reads is ASCII
+pub run_ascii : (text : List ℕ) (s t : UnitScan) → run unit_step s text ≡ Some t → IsAscii text
 run_ascii [] s t e = IsAscii-nil
 run_ascii (c ∷ cs) s t e =
     let u = some_passed (λ v. run unit_step v cs) t (unit_step s c) e in
     let small : c < 128 =
     ⊎_elim (λ small. small) (λ wide. let no : ⊥ = cc (u.1, no_wide_step s.multiple s.word c wide) in absurd no) (cases_lt c 128) in
     IsAscii-cons c cs small (run_ascii cs u.0 t u.2)
-
--- what the state machine reads is ASCII
-pub beginning_ascii : (bytes : List ℕ) (place : ℕ) (scan : UnitScan) → run unit_step start (take place bytes) ≡ Some scan
-    → IsAscii (take place bytes)
-beginning_ascii bytes place scan e = run_ascii (take place bytes) start scan e
 
 -- the text of a unit is ASCII, so its bytes are its characters
 pub spelled_chars : (flags : Flags) (bytes : List ℕ) (unit : Shape) → Spells current flags bytes unit → chars bytes ≡ bytes
@@ -103,7 +99,7 @@ pub stop_read : (flags : Flags) (bytes : List ℕ) (place : ℕ) (scan : UnitSca
     → IsUtf8 bytes → read (unit_scan flags) start (chars bytes) ≡ Err (unit_stop_fault flags scan (next_char (chars (drop place bytes))))
 stop_read flags bytes place scan stop utf8 =
     let leads = stop.0 in
-    let ascii = beginning_ascii bytes place scan leads.run_is in
+    let ascii = run_ascii (take place bytes) start scan leads.run_is in
     let rest = drop place bytes in
     let utf8_rest = utf8_from bytes place utf8 leads.within ascii in
     let at_end : chars rest ≡ [] → place ≡ length bytes =

@@ -1,7 +1,5 @@
 -- A number and a unit whose size is below the limit are accepted as it; if the size is too large, the error is
 -- `ExceededBounds`.
-use Rattle.byte_unit_base.specs.Units.{shape_of}
-use Rattle.byte_unit_base.proofs.Rounding.{least_exists}
 use Rattle.byte_unit_base.proofs.SizeOfText.{reading_of_size, reading_of_excess}
 use Rattle.byte_unit_base.proofs.size.size_of.Goals as goal
 
@@ -11,5 +9,4 @@ returns-in-Some-clause-reading c = λ ignore_case bytes reading.
 
 pub returns-in-None-clause-reading : goal.returns-in-None-clause-reading
 returns-in-None-clause-reading c = λ ignore_case bytes reading.
-    reading_of_excess c.args.kind ignore_case bytes c.args.found
-    (least_exists c.args.kind c.args.found.0 (shape_of c.args.found.1)) reading c.in-None.ensures.size
+    reading_of_excess c.args.kind ignore_case bytes c.args.found reading c.in-None.ensures.size

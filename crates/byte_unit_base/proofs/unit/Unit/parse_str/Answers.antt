@@ -11,7 +11,7 @@ use Rattle.byte_unit_base.proofs.Scans.{reads_meaning}
 use Rattle.byte_unit_base.proofs.SizeRest.{boundary_at}
 use Rattle.byte_unit_base.proofs.Trim.{chars-trim}
 use Rattle.byte_unit_base.proofs.UnitReads.{unit_reading, unit_scan_is}
-use Rattle.byte_unit_base.proofs.UnitStops.{beginning_ascii, spelled_chars, stop_read}
+use Rattle.byte_unit_base.proofs.UnitStops.{run_ascii, spelled_chars, stop_read}
 use Rattle.byte_unit_base.proofs.unit.Unit.parse_str.Goals as goal
 
 pub range_from-requires : goal.range_from-requires
@@ -21,7 +21,7 @@ range_from-requires c =
     let stop = c.in-Err.stop in
     let leads = (subst (λ text. IsUnitStop flags text stop.0 stop.1) c.as_bytes.ensures.value c.in-Err.ensures).0 in
     let utf8 = subst IsUtf8 c.as_bytes.ensures.value c.as_bytes.ensures.utf8 in
-    λ _. boundary_at text stop.1 utf8 leads.within (beginning_ascii text stop.1 stop.0 leads.run_is)
+    λ _. boundary_at text stop.1 utf8 leads.within (run_ascii _ start stop.0 leads.run_is)
 
 pub returns-in-Ok : goal.returns-in-Ok
 returns-in-Ok c =
