@@ -78,8 +78,12 @@ module _ (Has : Shape → Type 0) (x : Shape) (xs : List Shape) where
   one_more (inl has) (inl (unit, found, low)) =
       ⊎_elim
       (λ smaller. inl (unit, found, bounds_more (bits unit) (λ h. omega (arith, smaller)) low))
-      (λ larger. inl (x, has, bounds_more (bits x) (λ h. omega arith)
-      (λ other i h. omega (arith, low other i h, larger))))
+      (λ larger. inl (
+        x,
+        has,
+        bounds_more (bits x) (λ h. omega arith)
+            (λ other i h. omega (arith, low other i h, larger)),
+      ))
       (cases_lt (bits x) (bits unit))
 
 -- one of the units that have the property is the largest, or none has it

@@ -68,7 +68,9 @@ fn rest_of_message(expected: &[char], also_expect_no_character: bool) -> Option<
     } else if expected == ['B', 'b'].as_slice() {
         Some(b"' is incorrect ('B' or 'b' or no character is expected)")
     } else if expected == ['B', 'K', 'M', 'G', 'T', 'P', 'E', 'Z', 'Y', 'R'].as_slice() {
-        Some(b"' is incorrect ('B', 'K', 'M', 'G', 'T', 'P', 'E', 'Z', 'Y' or 'R' or no character is expected)")
+        Some(
+            b"' is incorrect ('B', 'K', 'M', 'G', 'T', 'P', 'E', 'Z', 'Y' or 'R' or no character is expected)",
+        )
     } else {
         None
     }

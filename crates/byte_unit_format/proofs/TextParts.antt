@@ -152,4 +152,5 @@ name_put (a ∷ b ∷ c ∷ d ∷ more) out start some few within = absurd (omeg
 
 -- what the calls that write the digits after a point use: the first digits of an expansion, and the last of a number
 pub ruleset first_digits_put = (fraction_length, glyphs_within, common_steps)
+
 pub ruleset last_digits_put = (piece_ascii, length_of_fraction_text, length_last_digits)

@@ -297,5 +297,7 @@ module _ (k n : ℕ) (few : k ≤ 128) (wide : 10 ≤ n) (small : n < 2 ^ k) whe
 
 -- what the calls that write a number use of its length: in groups of 16 and of 18 digits, and by its binary digits
 pub ruleset lengths_by_16 = (few_30, few_16, more_16)
+
 pub ruleset lengths_by_18 = (eighteen_more, decimal_length_positive, length_of_one_and_18_digits)
+
 pub ruleset lengths_by_bits = (decimal_length_one, few_digits, more_digits)

@@ -29,11 +29,17 @@ pub fn read_number(bytes: &[u8]) -> Result<(usize, Decimal), Stop>
 {
     let (end, value) = read_digits(bytes, 0, 0);
     if end == 0 {
-        return Err(Stop { place: 0, reason: Reason::NoDigit });
+        return Err(Stop {
+            place: 0,
+            reason: Reason::NoDigit,
+        });
     }
     let whole = whole_part(&bytes[..end], value);
     if whole >= WHOLE_LIMIT {
-        return Err(Stop { place: 0, reason: Reason::TooLong });
+        return Err(Stop {
+            place: 0,
+            reason: Reason::TooLong,
+        });
     }
     if end == bytes.len() || bytes[end] != b'.' {
         return Ok((end, Decimal::from_digits(whole, 0, 0)));
@@ -43,10 +49,16 @@ pub fn read_number(bytes: &[u8]) -> Result<(usize, Decimal), Stop>
     let (stop, value) = read_digits(bytes, start, 0);
     let places = stop - start;
     if places == 0 {
-        return Err(Stop { place: start, reason: Reason::NoDigit });
+        return Err(Stop {
+            place: start,
+            reason: Reason::NoDigit,
+        });
     }
     if places > DECIMAL_PLACES as usize {
-        return Err(Stop { place: 0, reason: Reason::TooLong });
+        return Err(Stop {
+            place: 0,
+            reason: Reason::TooLong,
+        });
     }
     let digits = value_of(&bytes[start..stop], value);
     let number = Decimal::from_digits(whole, digits, places as u32);

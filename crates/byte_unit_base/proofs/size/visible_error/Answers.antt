@@ -24,7 +24,7 @@ returns-then-is_ascii c =
     let ends = c.has_visible_ends.ensures c.if-has_visible_ends.true in
     let next_is = c.first_ascii.ensures ∙ ap (λ rest. next_char (chars rest)) (take_rest bytes place) in
     let error_is = (rw c.flags_for-flags.ensures at c.error_at.ensures)
-        ∙ ap (stop_fault flags (nat_eq place 0) reason) next_is in
+    ∙ ap (stop_fault flags (nat_eq place 0) reason) next_is in
     let reading = stop_reading flags bytes bytes place reason c.error_at.result (sym (trim_visible bytes utf8 ends)) utf8
     c.requires error_is in
     (utf8, reading_of_fault c.args.kind c.args.ignore_case bytes c.error_at.result reading)
