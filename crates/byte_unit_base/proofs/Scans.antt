@@ -45,7 +45,8 @@ module _ {S : Type 0} (step : S → ℕ → Option S) (Holds : S → List ℕ �
       let k : s ≡ t = cc in subst (λ u. Holds u (front ++ [])) k (subst (Holds s) (sym (append-nil front)) p)
   run_keeps (c ∷ xs) front s t e p =
       let u = some_passed (λ v. run step v xs) t (step s c) e in
-      subst (Holds t) (append_assoc front (c ∷ []) xs) (run_keeps xs (front ++ c ∷ []) u.0 t u.2 (keeps s u.0 c front u.1 p))
+      subst (Holds t) (append_assoc front (c ∷ []) xs)
+      (run_keeps xs (front ++ c ∷ []) u.0 t u.2 (keeps s u.0 c front u.1 p))
 
 module _ {S Meaning : Type 0} (scan : Scan S Meaning) where
   -- if the next character has a step, the result is that of the rest from the next state
