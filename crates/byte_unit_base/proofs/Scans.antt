@@ -194,9 +194,8 @@ module _ {S Meaning : Type 0} {scan : Scan S Meaning} {Reached : S → List ℕ 
       → read scan scan.start text ≡ Err fault
   reads_fault text fault h =
       let r = is.front_read h.place h.front h.longest.is_front in
-      let IsFaultIn : ParserState → Type 0 = λ place. IsFaultAfter current scan.flags place h.rest fault in
       let rest = fault_of_rest r.state h.front h.rest fault (reached h.front r.state r.run_is) h.longest.longest
-      (subst IsFaultIn (sym r.place_is) h.fault_is) in
+      (rw (← r.place_is) at h.fault_is) in
       ap (read scan scan.start) h.longest.text_is
       ∙ (read_through scan scan.start r.state h.front h.rest r.run_is ∙ rest)
 
