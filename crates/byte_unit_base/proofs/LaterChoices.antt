@@ -5,15 +5,14 @@ use Rattle.byte_unit_base.specs.Shape.{Shape, bits}
 use Rattle.byte_unit_base.specs.Version.{Version}
 use Rattle.byte_unit_base.specs.Family.{InFamily}
 use Rattle.byte_unit_base.specs.Choice.{IsLargest, IsExactUnitIn, places_within}
-use Rattle.byte_unit_base.specs.ChoiceLaws.{Divides, ChoicesAtNoPlacesAreWhole, MorePlacesGiveNoSmallerUnit}
-use Rattle.byte_unit_base.specs.ChoiceLaws.{NumberTimesUnitIsSize}
+use Rattle.byte_unit_base.specs.ChoiceLaws.{Divides, MorePlacesGiveNoSmallerUnit, NumberTimesUnitIsSize}
 use Rattle.byte_unit_base.specs.declared.unit.family.Family.{Family}
 use Rattle.byte_unit_base.proofs.Quotients.{exact_more, number_times_unit}
 use Rattle.byte_unit_base.proofs.Choosing.{some_bits}
 use Rattle.byte_unit_base.proofs.SomeChoice.{choice_or_none}
 
 -- a unit of the set that is larger than the one chosen at a precision of 0 does not divide the size
-no_larger_divides : (version : Version) (family : Family) (in_bits : ℕ) (unit : Shape)
+pub no_larger_divides : (version : Version) (family : Family) (in_bits : ℕ) (unit : Shape)
     → IsLargest (IsExactUnitIn version family in_bits 0) unit
     → (other : Shape) → InFamily version family other → bits unit < bits other → ¬ (Divides other in_bits)
 no_larger_divides version family in_bits unit h other member larger = λ d.
@@ -26,14 +25,6 @@ no_larger_divides version family in_bits unit h other member larger = λ d.
       exact = (d.0, omega (arith, d.1));
     }) in
     omega (arith, larger, k)
-
--- at a precision of 0 the chosen number is whole, and no larger unit divides the size
-pub whole_choices : ChoicesAtNoPlacesAreWhole
-whole_choices version family in_bits number unit h =
-    record {
-      whole = (h.number_is.count, h.number_is.number);
-      no_larger = no_larger_divides version family in_bits unit h.unit_is;
-    }
 
 -- a higher precision does not choose a smaller unit, and it chooses one if the lower does
 pub no_smaller : MorePlacesGiveNoSmallerUnit

@@ -83,36 +83,34 @@ with_prefix s h = let some : nat_lt 0 s.power ≡ true = grind (arith, nat_tests
 without_prefix : (s : Shape) → s.power ≤ 0 → unit_name_in current s ≡ count_of s.bit
 without_prefix s h = let none : nat_lt 0 s.power ≡ false = grind (arith, nat_tests) in rw none refl
 
-spells_multiple : (flags : Flags) (s : Shape) → IsKnown s → SaysKind flags s.bit → 0 < s.power
-    → Spells current flags (unit_name_in current s) s
-spells_multiple flags s h says some = inr record {
-  prefix_part = letter_at s.power ∷ infix_of s.binary;
-  count_part = count_of s.bit;
-  text_is = with_prefix s some;
-  prefix_is = record {
-    letter = letter_at s.power;
-    infix_part = infix_of s.binary;
-    text_is = refl;
-    letter_is = (some, h.known, (letter_found s.power h.known).0);
-    infix_is = infix_spells s.binary;
-  };
-  count_is = count_spells flags s.bit says;
-}
+module _ (flags : Flags) (s : Shape) (h : IsKnown s) (says : SaysKind flags s.bit) where
+  spells_multiple : 0 < s.power → Spells current flags (unit_name_in current s) s
+  spells_multiple some = inr record {
+    prefix_part = letter_at s.power ∷ infix_of s.binary;
+    count_part = count_of s.bit;
+    text_is = with_prefix s some;
+    prefix_is = record {
+      letter = letter_at s.power;
+      infix_part = infix_of s.binary;
+      text_is = refl;
+      letter_is = (some, h.known, (letter_found s.power h.known).0);
+      infix_is = infix_spells s.binary;
+    };
+    count_is = count_spells flags s.bit says;
+  }
 
-spells_plain : (flags : Flags) (s : Shape) → IsKnown s → SaysKind flags s.bit → s.power ≤ 0
-    → Spells current flags (unit_name_in current s) s
-spells_plain flags s h says none =
-    let zero : s.power ≡ 0 = omega (arith, none) in
-    inl record {
-      count_is = rw (without_prefix s none) (count_spells flags s.bit says);
-      power_is = zero;
-      binary_is = h.alone zero;
-    }
+  spells_plain : s.power ≤ 0 → Spells current flags (unit_name_in current s) s
+  spells_plain none =
+      let zero : s.power ≡ 0 = omega (arith, none) in
+      inl record {
+        count_is = rw (without_prefix s none) (count_spells flags s.bit says);
+        power_is = zero;
+        binary_is = h.alone zero;
+      }
 
--- the name of a unit spells it, if its last letter tells the kind
-pub name_spells : (flags : Flags) (s : Shape) → IsKnown s → SaysKind flags s.bit
-    → Spells current flags (unit_name_in current s) s
-name_spells flags s h says = ⊎_elim (spells_multiple flags s h says) (spells_plain flags s h says) (cases_lt 0 s.power)
+  -- the name of a unit spells it, if its last letter tells the kind
+  pub name_spells : Spells current flags (unit_name_in current s) s
+  name_spells = ⊎_elim spells_multiple spells_plain (cases_lt 0 s.power)
 
 -- the name of a unit is ASCII
 pub name_ascii : (s : Shape) → s.power ≤ length current.letters → IsAscii (unit_name_in current s)

@@ -262,7 +262,8 @@ stops_in_unit flags bytes rest n end spaces place scan number rest_is within gap
           ∙ (ap (read (size_scan flags) number.state) text
           ∙ (read_after_number flags n spaces number.state (chars unit) (number.at_end flags)
           (subst (IsFirst (EndsNumber number.state n)) text (number.next utf8))
-          (first_char IsNoSpace (λ c wide. λ e. omega (arith, wide, e)) unit utf8_unit (subst (IsFirst IsNoSpace) at_unit other))
+          (first_char IsNoSpace (λ c wide. λ e. omega (arith, wide, e)) unit utf8_unit
+          (subst (IsFirst IsNoSpace) at_unit other))
           ∙ (ap (with_number n) (stop_read flags unit place scan stop utf8_unit)
           ∙ ap (λ r. Err (unit_stop_fault flags scan (next_char (chars r)))) (drop-drop place (end + spaces) bytes)))));
     }

@@ -1,4 +1,5 @@
--- Which of its two forms an option has, and what an option was before a function was applied to its value, if the result is known.
+-- Which of its two forms an option has, and what it was before a function was applied to its value, if the result is
+-- known.
 use Rattle.std.proofs.Common.{◌≡◌, Option, Some, None, option_and_then, refl, ◌⊎◌, inl, inr}
 use Rattle.std.specs.Option.{option_map}
 

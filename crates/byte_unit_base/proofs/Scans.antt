@@ -45,7 +45,8 @@ module _ {S : Type 0} (step : S → ℕ → Option S) (Holds : S → List ℕ �
       let k : s ≡ t = cc in subst (λ u. Holds u (front ++ [])) k (subst (Holds s) (sym (append-nil front)) p)
   run_keeps (c ∷ xs) front s t e p =
       let u = some_passed (λ v. run step v xs) t (step s c) e in
-      subst (Holds t) (append_assoc front (c ∷ []) xs) (run_keeps xs (front ++ c ∷ []) u.0 t u.2 (keeps s u.0 c front u.1 p))
+      subst (Holds t) (append_assoc front (c ∷ []) xs)
+      (run_keeps xs (front ++ c ∷ []) u.0 t u.2 (keeps s u.0 c front u.1 p))
 
 module _ {S Meaning : Type 0} (scan : Scan S Meaning) where
   -- if the next character has a step, the result is that of the rest from the next state
@@ -193,9 +194,8 @@ module _ {S Meaning : Type 0} {scan : Scan S Meaning} {Reached : S → List ℕ 
       → read scan scan.start text ≡ Err fault
   reads_fault text fault h =
       let r = is.front_read h.place h.front h.longest.is_front in
-      let IsFaultIn : ParserState → Type 0 = λ place. IsFaultAfter current scan.flags place h.rest fault in
       let rest = fault_of_rest r.state h.front h.rest fault (reached h.front r.state r.run_is) h.longest.longest
-      (subst IsFaultIn (sym r.place_is) h.fault_is) in
+      (rw (← r.place_is) at h.fault_is) in
       ap (read scan scan.start) h.longest.text_is
       ∙ (read_through scan scan.start r.state h.front h.rest r.run_is ∙ rest)
 

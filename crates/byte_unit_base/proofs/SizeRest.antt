@@ -191,7 +191,8 @@ read_in_unit flags n u (c ∷ cs) =
     first_of_unit flags n c (UnitAt n u) u cs refl refl (λ t. read_in_unit flags n t cs) (unit_step u c) refl
 
 read_first_of_unit : (flags : Flags) (n : ℕ) (s : SizeScan) (unit : List ℕ)
-    → size_at_end flags s ≡ size_or_fault n (unit_of flags start) → IsFirst (EndsNumber s n) unit → IsFirst IsNoSpace unit
+    → size_at_end flags s ≡ size_or_fault n (unit_of flags start)
+    → IsFirst (EndsNumber s n) unit → IsFirst IsNoSpace unit
     → read (size_scan flags) s unit ≡ with_number n (read (unit_scan flags) start unit)
 read_first_of_unit flags n s [] at_end next other = at_end ∙ end_with_number n (unit_of flags start)
 read_first_of_unit flags n s (c ∷ cs) at_end next other =

@@ -162,15 +162,12 @@ pub number_end : (flags : Flags) (n : ℕ) (s : SizeScan) → AtNumber n s
 number_end flags n (Whole w) h = grind (arith, h)
 number_end flags n _ h = grind (arith, h)
 
-run_gap : (n k : ℕ) → run size_step (Gap n) (replicate k space) ≡ Some (Gap n)
-run_gap n zero = refl
-run_gap n (suc k) =
-    run_step size_step (Gap n) (Gap n) space (replicate k space) (step_space n (Gap n) refl) ∙ run_gap n k
-
 run_some_spaces : (n k : ℕ) (s : SizeScan) → 0 < k → AtNumber n s → run size_step s (replicate k space) ≡ Some (Gap n)
 run_some_spaces n zero s some h = absurd (omega (arith, some))
-run_some_spaces n (suc k) s some h =
-    run_step size_step s (Gap n) space (replicate k space) (step_space n s h) ∙ run_gap n k
+run_some_spaces n (suc zero) s some h = run_step size_step s (Gap n) space [] (step_space n s h)
+run_some_spaces n (suc (suc k)) s some h =
+    run_step size_step s (Gap n) space (replicate (suc k) space) (step_space n s h)
+    ∙ run_some_spaces n (suc k) (Gap n) (omega arith) refl
 
 run_spaces : (n k : ℕ) (s : SizeScan) → AtNumber n s → RunsTo (AtNumber n) s (replicate k space)
 run_spaces n zero s h = record { state = s; run = refl; holds = h }

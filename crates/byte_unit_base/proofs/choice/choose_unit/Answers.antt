@@ -1,15 +1,14 @@
 -- The first row that passes the test is the largest unit in which the size is exact; the number times the unit is the
 -- size; if no row passes, no unit of the set is such. The steps are those of `factors_of` and one for each place.
-use Rattle.std.proofs.Common.{◌≡◌, ◌*◌, ◌^◌, ℕ, get_or, min, arith, refl, ap, subst, sym, ◌∙◌}
+use Rattle.std.proofs.Common.{◌≡◌, ◌*◌, ◌^◌, ℕ, arith, refl, ap, subst, sym, ◌∙◌}
 use Rattle.std.proofs.lemmas.Bool.{both_ways, some_since}
-use Rattle.byte_unit_math.specs.Bounds.{scale, places_of_decimal, whole_limit}
+use Rattle.byte_unit_math.specs.Bounds.{scale, whole_limit}
 use Rattle.byte_unit_math.specs.Exact.{IsLeastPlaces}
 use Rattle.byte_unit_math.specs.Steps.{saturating_add}
-use Rattle.byte_unit_base.specs.Choice.{IsChosen}
 use Rattle.byte_unit_base.proofs.Choosing.{some_bits}
 use Rattle.byte_unit_base.proofs.FewSteps.{few_of_choice, few_of_none}
 use Rattle.byte_unit_base.proofs.Quotients.{places_of_quotient, quotient_of_product, whole_takes_none}
-use Rattle.byte_unit_base.proofs.Rows.{HasPowers, no_row, unit_in, search_start, power_of_powers, row_multiple}
+use Rattle.byte_unit_base.proofs.Rows.{HasPowers, no_row, search_start, power_of_powers, row_multiple}
 use Rattle.byte_unit_base.proofs.Rows.{row_at_is_row, row_powers, powers_in_row, unit_found, unit_passed, none_found}
 use Rattle.byte_unit_base.proofs.SizePowers.{in_bits_powers, in_bits_product, chosen_by_powers, none_by_powers}
 use Rattle.byte_unit_base.proofs.SizePowers.{exact_by_row, counted_choice, count_fits}
@@ -104,10 +103,7 @@ returns-then-row-in_bits-clause-chosen c =
 
 pub returns-then-row-in_bits-clause-steps : goal.returns-then-row-in_bits-clause-steps
 returns-then-row-in_bits-clause-steps c =
-    let in_bits = c.args.size * c.args.divisor in
-    let row = get_or c.multiples_within-row-items.result.now c.loop-row.row-index no_row in
     let multiple = row_multiple (row_at_is_row no_row c.multiples_within-row-items.ensures c.loop-row-test.true) in
-    let most = min c.min-most.result places_of_decimal in
     let mid = c.factors_of-left.new.steps in
     let trials = c.factors_of-left.ensures in
     let unmoved = c.loop-row.invariant.steps in
@@ -118,8 +114,7 @@ returns-then-row-in_bits-clause-steps c =
       | then-places-gt-FEW_PLACES w ↦
           let digits = w.exact_quotient.ensures.steps in
           let quotient = rw w.unwrap-number.ensures at w.exact_quotient.ensures.quotient in
-          let least = places_of_quotient in_bits row.bits most digits.0 w.unwrap-number.result
-          (omega (arith, multiple.large)) (omega arith) quotient digits.1 in
+          let least = places_of_quotient _ _ _ digits.0 _ (omega (arith, multiple.large)) (omega arith) quotient digits.1 in
           let same = subst (λ n. IsLeastPlaces n scale digits.0) (sym w.number-is) least in
           (digits.0, same, omega (arith, w.steps-is, digits.2, unmoved))
       | else-places-gt-FEW_PLACES w ↦
@@ -132,12 +127,8 @@ returns-then-row-in_bits-clause-steps c =
 
 pub returns-then-row-in_bits-clause-few_steps : goal.returns-then-row-in_bits-clause-few_steps
 returns-then-row-in_bits-clause-few_steps c = λ kind same.
-    let unit = unit_in (get_or c.multiples_within-row-items.result.now c.loop-row.row-index no_row) in
-    let number = c.if-places-gt-FEW_PLACES.number in
-    let IsChosenIn : ℕ → Type 0 = λ n. IsChosen c.args.family (c.args.size * n) c.args.places unit number in
-    let chosen = subst IsChosenIn same (returns-then-row-in_bits-clause-chosen c) in
-    let counted = returns-then-row-in_bits-clause-steps c in
-    few_of_choice kind c.args.family c.args.size c.args.places number _ _ unit c.requires.small chosen counted
+    few_of_choice kind c.args.family c.args.size c.args.places _ _ _ _ c.requires.small
+    (rw same at (returns-then-row-in_bits-clause-chosen c)) (returns-then-row-in_bits-clause-steps c)
 
 pub returns-clause-none : goal.returns-clause-none
 returns-clause-none c =
@@ -148,10 +139,9 @@ returns-clause-none c =
 
 pub returns-clause-steps_of_none : goal.returns-clause-steps_of_none
 returns-clause-steps_of_none c =
-    let mid = c.factors_of-left.new.steps in
-    let trials = c.factors_of-left.ensures in
-    let still : c.loop-row.steps ≡ saturating_add mid 0 = omega (arith, c.loop-row.invariant.steps) in
-    counted_choice c.args.steps.now mid c.loop-row.steps trials.powers (whole_takes_none 0) trials.steps still
+    let trials = c.factors_of-left in
+    let still : c.loop-row.steps ≡ saturating_add trials.new.steps 0 = omega (arith, c.loop-row.invariant.steps) in
+    counted_choice _ _ _ trials.ensures.powers (whole_takes_none 0) trials.ensures.steps still
 
 pub returns-clause-few_steps : goal.returns-clause-few_steps
 returns-clause-few_steps c =

@@ -1,6 +1,5 @@
 -- Each digit makes the value that of one digit more; if that reaches the limit, so do all digits.
-use Rattle.std.proofs.Common.{◌≤◌, ◌+◌, ◌*◌, take, get_or, refl, arith}
-use Rattle.std.specs.Str.Parse.{digits_value}
+use Rattle.std.proofs.Common.{◌+◌, ◌*◌, get_or, refl, arith}
 use Rattle.std.proofs.lemmas.Str.Parse.{digit_at, digits_value-take-le}
 use Rattle.byte_unit_base.proofs.NumberBytes.{one_digit_more}
 use Rattle.byte_unit_base.proofs.read.number.long_whole.Goals as goal
@@ -15,7 +14,7 @@ returns-then-whole-ge-WHOLE_LIMIT-clause-large c =
     let i = c.loop-digit.digit-index in
     let more = one_digit_more ds i c.loop-digit.whole (get_or ds i 0) (c.loop-digit.whole * 10 + c.from.result) c.requires
     c.loop-digit-test.true c.loop-digit.invariant.1 refl (omega (arith, c.from.ensures)) in
-    let rises : digits_value 10 (take (i + 1) ds) ≤ digits_value 10 ds = digits_value-take-le 10 ds (i + 1) (omega arith) in
+    let rises = digits_value-take-le 10 ds (i + 1) (omega arith) in
     λ above. omega (arith, more, rises, above)
 
 pub loop-digit-preserved : goal.loop-digit-preserved

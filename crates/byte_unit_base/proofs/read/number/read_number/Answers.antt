@@ -32,34 +32,25 @@ returns-then-end-bytes c =
 
 pub returns-then-places-eq0 : goal.returns-then-places-eq0
 returns-then-places-eq0 c =
-    let run = c.read_digits-end in
-    stops_after_point c.args.bytes.now run.result.0 c.whole_part-whole.result run.ensures.end run.ensures.within
-    c.if-end-eq0.false c.if-whole-ge-WHOLE_LIMIT.false c.whole_part-whole.ensures.exact c.if-end-bytes.false
-    c.if-bytes-end-ne46.false (omega (arith, c.if-places-eq0.true, c.read_digits-stop.ensures.end))
+    stops_after_point _ _ _ c.read_digits-end.ensures.end c.read_digits-end.ensures.within c.if-end-eq0.false
+    c.if-whole-ge-WHOLE_LIMIT.false c.whole_part-whole.ensures.exact c.if-end-bytes.false c.if-bytes-end-ne46.false
+    (omega (arith, c.if-places-eq0.true, c.read_digits-stop.ensures.end))
 
 pub returns-then-places : goal.returns-then-places
 returns-then-places c =
-    let run = c.read_digits-end in
-    let stop = c.read_digits-stop in
-    stops_in_fraction c.args.bytes.now run.result.0 c.whole_part-whole.result run.ensures.end run.ensures.within
-    c.if-end-eq0.false c.if-whole-ge-WHOLE_LIMIT.false c.whole_part-whole.ensures.exact c.if-end-bytes.false
-    c.if-bytes-end-ne46.false stop.result.0 stop.ensures.end stop.ensures.within (omega (arith, c.if-places.true))
+    stops_in_fraction _ _ _ c.read_digits-end.ensures.end c.read_digits-end.ensures.within c.if-end-eq0.false
+    c.if-whole-ge-WHOLE_LIMIT.false c.whole_part-whole.ensures.exact c.if-end-bytes.false c.if-bytes-end-ne46.false
+    _ c.read_digits-stop.ensures.end c.read_digits-stop.ensures.within (omega (arith, c.if-places.true))
 
 pub from_digits-number-requires-clause-digits : goal.from_digits-number-requires-clause-digits
 from_digits-number-requires-clause-digits c =
-    let run = c.read_digits-end in
-    let stop = c.read_digits-stop in
-    fraction_below c.args.bytes.now run.result.0 c.whole_part-whole.result run.ensures.end run.ensures.within
-    c.if-end-eq0.false c.if-whole-ge-WHOLE_LIMIT.false c.whole_part-whole.ensures.exact c.if-end-bytes.false
-    c.if-bytes-end-ne46.false stop.result.0 stop.ensures.end stop.ensures.within
-    c.value_of-digits.result c.value_of-digits.ensures
+    fraction_below _ _ _ c.read_digits-end.ensures.end c.read_digits-end.ensures.within c.if-end-eq0.false
+    c.if-whole-ge-WHOLE_LIMIT.false c.whole_part-whole.ensures.exact c.if-end-bytes.false c.if-bytes-end-ne46.false
+    _ c.read_digits-stop.ensures.end c.read_digits-stop.ensures.within _ c.value_of-digits.ensures
 
 pub returns : goal.returns
 returns c =
-    let run = c.read_digits-end in
-    let stop = c.read_digits-stop in
-    leading_precise c.args.bytes.now run.result.0 c.whole_part-whole.result run.ensures.end run.ensures.within
-    c.if-end-eq0.false c.if-whole-ge-WHOLE_LIMIT.false c.whole_part-whole.ensures.exact c.if-end-bytes.false
-    c.if-bytes-end-ne46.false stop.result.0 stop.ensures.end stop.ensures.within c.value_of-digits.result
-    c.from_digits-number.result c.if-places-eq0.false (omega (arith, c.if-places.false)) c.value_of-digits.ensures
-    c.from_digits-number.ensures
+    leading_precise _ _ _ c.read_digits-end.ensures.end c.read_digits-end.ensures.within c.if-end-eq0.false
+    c.if-whole-ge-WHOLE_LIMIT.false c.whole_part-whole.ensures.exact c.if-end-bytes.false c.if-bytes-end-ne46.false
+    _ c.read_digits-stop.ensures.end c.read_digits-stop.ensures.within _ _ c.if-places-eq0.false
+    (omega (arith, c.if-places.false)) c.value_of-digits.ensures c.from_digits-number.ensures
