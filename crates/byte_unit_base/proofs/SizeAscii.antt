@@ -129,36 +129,36 @@ gap_kept (suc spaces) unit_part h =
 
 -- the bytes are a number and a unit
 module _ (flags : Flags) (bytes : List ℕ) (number : ℕ) (unit : Shape) (h : IsSizeText current flags bytes number unit)
-    where
-  -- they are ASCII
-  pub size_ascii : IsAscii bytes
-  size_ascii =
-      let gap = IsAscii-from_all (replicate h.spaces space) (All-replicate (λ c. c < 128) h.spaces space (omega arith)) in
-      let spelling = visible_ascii h.unit_part (spelling_visible flags h.unit_part unit h.unit_is) in
-      subst IsAscii (sym h.text_is)
-      (IsAscii-append h.number_part (replicate h.spaces space ++ h.unit_part)
-      (number_ascii h.number_part number h.number_is)
-      (IsAscii-append (replicate h.spaces space) h.unit_part gap spelling))
+  where
+    -- they are ASCII
+    pub size_ascii : IsAscii bytes
+    size_ascii =
+        let gap = IsAscii-from_all (replicate h.spaces space) (All-replicate (λ c. c < 128) h.spaces space (omega arith)) in
+        let spelling = visible_ascii h.unit_part (spelling_visible flags h.unit_part unit h.unit_is) in
+        subst IsAscii (sym h.text_is)
+        (IsAscii-append h.number_part (replicate h.spaces space ++ h.unit_part)
+        (number_ascii h.number_part number h.number_is)
+        (IsAscii-append (replicate h.spaces space) h.unit_part gap spelling))
 
-  -- they are their characters
-  pub size_of_chars : IsSizeText current flags (chars bytes) number unit
-  size_of_chars = subst (λ text. IsSizeText current flags text number unit) (sym (chars-IsAscii bytes size_ascii)) h
+    -- they are their characters
+    pub size_of_chars : IsSizeText current flags (chars bytes) number unit
+    size_of_chars = subst (λ text. IsSizeText current flags text number unit) (sym (chars-IsAscii bytes size_ascii)) h
 
-  -- they are these when trimmed
-  pub trimmed_size : IsSizeText current flags (trim_of bytes) number unit
-  trimmed_size =
-      let digits = number_visible h.number_part number h.number_is in
-      let some = number_some h.number_part number h.number_is in
-      let gap = replicate h.spaces space ++ h.unit_part in
-      let kept = gap_kept h.spaces h.unit_part (spelling_visible flags h.unit_part unit h.unit_is) in
-      record {
-        number_part = h.number_part;
-        spaces = kept.0;
-        unit_part = h.unit_part;
-        text_is = ap (λ text. drop_trailing_whitespace (skip_leading_whitespace text))
-            (chars-IsAscii bytes size_ascii ∙ h.text_is)
-            ∙ (ap drop_trailing_whitespace (skip_kept h.number_part gap digits some)
-            ∙ (drop_after h.number_part gap digits ∙ ap (λ rest. h.number_part ++ rest) kept.1));
-        number_is = h.number_is;
-        unit_is = h.unit_is;
-      }
+    -- they are these when trimmed
+    pub trimmed_size : IsSizeText current flags (trim_of bytes) number unit
+    trimmed_size =
+        let digits = number_visible h.number_part number h.number_is in
+        let some = number_some h.number_part number h.number_is in
+        let gap = replicate h.spaces space ++ h.unit_part in
+        let kept = gap_kept h.spaces h.unit_part (spelling_visible flags h.unit_part unit h.unit_is) in
+        record {
+          number_part = h.number_part;
+          spaces = kept.0;
+          unit_part = h.unit_part;
+          text_is = ap (λ text. drop_trailing_whitespace (skip_leading_whitespace text))
+              (chars-IsAscii bytes size_ascii ∙ h.text_is)
+              ∙ (ap drop_trailing_whitespace (skip_kept h.number_part gap digits some)
+              ∙ (drop_after h.number_part gap digits ∙ ap (λ rest. h.number_part ++ rest) kept.1));
+          number_is = h.number_is;
+          unit_is = h.unit_is;
+        }
