@@ -77,18 +77,18 @@ fn rest_of_message(expected: &[char], also_expect_no_character: bool) -> Option<
 }
 
 /// The beginning of a message that names a character.
-const FRONT: &[u8] = b"the character '";
+const BEGINNING: &[u8] = b"the character '";
 
-/// Writes `FRONT`, a character of ASCII and the rest of a message to the start of `out` if they fit, and returns their
+/// Writes `BEGINNING`, a character of ASCII and the rest of a message to the start of `out` if they fit, and returns their
 /// length.
 fn write_quoted(character: u8, rest: &[u8], out: &mut [u8]) -> usize
     ensures { WritesForm (λ form. form ≡ codes "the character '" ++ character ∷ rest.now) out.old out.new result }
 {
-    let len = FRONT.len() + 1 + rest.len();
+    let len = BEGINNING.len() + 1 + rest.len();
     if len <= out.len() {
-        put(FRONT, out, 0);
-        put(&[character], out, FRONT.len());
-        put(rest, out, FRONT.len() + 1);
+        put(BEGINNING, out, 0);
+        put(&[character], out, BEGINNING.len());
+        put(rest, out, BEGINNING.len() + 1);
     }
     len
 }

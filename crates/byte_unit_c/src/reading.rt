@@ -61,10 +61,10 @@ fn parse_as(
         × IsReturned answer result size.old size.new errors.old errors.new }
 {
     match size::read_bytes(text, ignore_case, kind) {
-        Ok(found) => write_answer(Some(size::size_of((found.1, found.0), kind)), size, errors),
+        Ok(found) => write_result(Some(size::size_of((found.1, found.0), kind)), size, errors),
         Err(stop) => {
             match size::visible_error(text, stop.place, stop.reason, ignore_case, kind) {
-                Some(error) => write_answer(Some(Err(error)), size, errors),
+                Some(error) => write_result(Some(Err(error)), size, errors),
                 None => parse_text_as(text, kind, ignore_case, size, errors),
             }
         }
@@ -85,14 +85,14 @@ fn parse_text_as(
         × IsBytesReading kind ignore_case text.now answer
         × IsReturned answer result size.old size.new errors.old errors.new }
 {
-    write_answer(size::parse_text(text, ignore_case, kind), size, errors)
+    write_result(size::parse_text(text, ignore_case, kind), size, errors)
 }
 
-/// Writes the answer of a parser, and returns its code.
+/// Writes the result of a parser, and returns its code.
 ///
-/// `#[inline(always)]`: each caller knows which answer it has, which is then never in memory.
+/// `#[inline(always)]`: each caller knows which result it has, which is then never in memory.
 #[inline(always)]
-fn write_answer(
+fn write_result(
     answer: Option<Result<u128, ParseError>>,
     size: &mut Number,
     errors: &mut [Error],
@@ -223,18 +223,18 @@ fn explain_as(text: &[u8], kind: Kind, ignore_case: bool, out: &mut [u8]) -> usi
     ensures bound { result ≤ 256 }
 {
     match size::read_bytes(text, ignore_case, kind) {
-        Ok(found) => explain_answer(&Some(size::size_of((found.1, found.0), kind)), out),
+        Ok(found) => explain_result(&Some(size::size_of((found.1, found.0), kind)), out),
         Err(stop) => {
             match size::visible_error(text, stop.place, stop.reason, ignore_case, kind) {
                 Some(error) => write_message(&error, out),
-                None => explain_answer(&size::parse_text(text, ignore_case, kind), out),
+                None => explain_result(&size::parse_text(text, ignore_case, kind), out),
             }
         }
     }
 }
 
-/// Writes the message of the answer of a parser, if it is an error, and returns its length.
-fn explain_answer(answer: &Option<Result<u128, ParseError>>, out: &mut [u8]) -> usize
+/// Writes the message of the result of a parser, if it is an error, and returns its length.
+fn explain_result(answer: &Option<Result<u128, ParseError>>, out: &mut [u8]) -> usize
     ensures text { IsExplanation answer.now out.old out.new result }
     ensures bound { result ≤ 256 }
 {

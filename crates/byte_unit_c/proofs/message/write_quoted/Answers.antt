@@ -3,15 +3,15 @@ use Rattle.std.proofs.Common.{◌≡◌, ◌+◌, ℕ, List, [], ◌∷◌, ◌+
 use Rattle.std.specs.Prelude.{codes}
 use Rattle.byte_unit_c.proofs.message.write_quoted.Goals as goal
 
--- the front, the character and the rest, each put after the one before
+-- the beginning, the character and the rest, each put after the one before
 put_after : (old n1 n2 n3 rest form : List ℕ) (c : ℕ) → form ≡ codes "the character '" ++ c ∷ rest
     → n1 ≡ codes "the character '" ++ drop 15 old
     → n2 ≡ take 15 n1 ++ (c ∷ []) ++ drop 16 n1 → n3 ≡ take 16 n2 ++ rest ++ drop (16 + length rest) n2
     → n3 ≡ form ++ drop (length form) old
 put_after old n1 n2 n3 rest form c is one two three =
-    let after_front : drop 16 n1 ≡ drop 16 old = ap (drop 16) one ∙ drop-drop 1 15 old in
+    let after_beginning : drop 16 n1 ≡ drop 16 old = ap (drop 16) one ∙ drop-drop 1 15 old in
     let second : n2 ≡ codes "the character '" ++ c ∷ drop 16 old =
-    two ∙ (ap (λ l. take 15 l ++ (c ∷ []) ++ drop 16 n1) one ∙ ap (λ l. codes "the character '" ++ c ∷ l) after_front) in
+    two ∙ (ap (λ l. take 15 l ++ (c ∷ []) ++ drop 16 n1) one ∙ ap (λ l. codes "the character '" ++ c ∷ l) after_beginning) in
     let after_all : drop (16 + length rest) n2 ≡ drop (16 + length rest) old =
     sym (drop-drop (length rest) 16 n2)
     ∙ (ap (λ l. drop (length rest) (drop 16 l)) second ∙ drop-drop (length rest) 16 old) in

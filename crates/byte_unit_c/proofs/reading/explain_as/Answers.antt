@@ -5,7 +5,7 @@ use Rattle.byte_unit_c.proofs.reading.explain_as.Goals as goal
 pub returns-in-Ok-clause-reading : goal.returns-in-Ok-clause-reading
 returns-in-Ok-clause-reading c =
     let reading = c.size_of.ensures.reading c.args.ignore_case c.args.text.now c.in-Ok.ensures.1 in
-    (Some c.size_of.result, (c.in-Ok.ensures.0, reading), c.explain_answer.ensures.text)
+    (Some c.size_of.result, (c.in-Ok.ensures.0, reading), c.explain_result.ensures.text)
 
 pub returns-in-Some-clause-reading : goal.returns-in-Some-clause-reading
 returns-in-Some-clause-reading c =

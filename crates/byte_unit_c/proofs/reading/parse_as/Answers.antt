@@ -1,12 +1,12 @@
--- The answer is that of the number and the unit, or the error where the parser stops.
+-- The result is that of the number and the unit, or the error where the parser stops.
 use Rattle.std.specs.Prelude.{Err, Some}
 use Rattle.byte_unit_c.proofs.reading.parse_as.Goals as goal
 
 pub returns-in-Ok : goal.returns-in-Ok
 returns-in-Ok c =
     let reading = c.size_of.ensures.reading c.args.ignore_case c.args.text.now c.in-Ok.ensures.1 in
-    (Some c.size_of.result, (c.in-Ok.ensures.0, reading), c.write_answer.ensures)
+    (Some c.size_of.result, (c.in-Ok.ensures.0, reading), c.write_result.ensures)
 
 pub returns-in-Some : goal.returns-in-Some
 returns-in-Some c =
-    (Some (Err c.in-Some.error), c.in-Some.ensures, c.write_answer-in-Some.ensures)
+    (Some (Err c.in-Some.error), c.in-Some.ensures, c.write_result-in-Some.ensures)
