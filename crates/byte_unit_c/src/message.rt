@@ -79,8 +79,8 @@ fn rest_of_message(expected: &[char], also_expect_no_character: bool) -> Option<
 /// The beginning of a message that names a character.
 const BEGINNING: &[u8] = b"the character '";
 
-/// Writes `BEGINNING`, a character of ASCII and the rest of a message to the start of `out` if they fit, and returns their
-/// length.
+/// Writes `BEGINNING`, a character of ASCII and the rest of a message to the start of `out` if they fit, and returns
+/// their length.
 fn write_quoted(character: u8, rest: &[u8], out: &mut [u8]) -> usize
     ensures { WritesForm (λ form. form ≡ codes "the character '" ++ character ∷ rest.now) out.old out.new result }
 {
