@@ -1,9 +1,8 @@
 //! Where the parser of a number and a unit stops, and the error there.
 
 ghost use Rattle.std.specs.Prelude.{◌≡◌};
-ghost use Rattle.std.specs.Str.{chars};
+ghost use Rattle.std.specs.Str.{chars, IsAscii};
 ghost use Rattle.byte_unit_base.specs.Errors.{size_fault, value_fault};
-ghost use Rattle.std.specs.Str.{IsAscii};
 ghost use Rattle.byte_unit_base.specs.PartsReading.{missing_digit, next_char, stop_fault};
 
 use crate::unit::scan::{Flags, UnitScan};

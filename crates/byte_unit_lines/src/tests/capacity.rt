@@ -45,7 +45,7 @@ fn expect(
     assert_is(rt, heap.asked(), START, "allocations");
 }
 
-/// The answers to the first seven lines of the input.
+/// The output for the first seven lines of the input.
 const SEVEN: &[u8] =
     b"1536 = 1.5 KiB\n1000 = 1 KB\nno value\nbad unit\nnot a number\nnot text\nout of range\n";
 

@@ -23,7 +23,7 @@ const OPEN: (Pace, Pace) = (AT_ONCE, AT_ONCE);
 /// One read of the whole input, one of its end, and then reads that fail.
 const READS: Pace = Pace(5, 2, Then::Fail);
 
-/// One write of the whole answer, and then writes that fail.
+/// One write of the whole output, and then writes that fail.
 const WRITES: Pace = Pace(20, 1, Then::Fail);
 
 /// A call: its arguments and the kind that they ask for, the paces of its streams, its ending, the output, and what is
@@ -64,7 +64,7 @@ const CALLS: &[Call] = &[
     ),
     (&["bits"], None, OPEN, Ending::Usage, b"", INPUT),
     (&["bit", "bit"], None, OPEN, Ending::Usage, b"", INPUT),
-    // No call of a stream is made after these; then a read fails after the input, and the write of the answer fails.
+    // No call of a stream is made after these; then a read fails after the input, and the write of the output fails.
     (
         &["bit"],
         Some(Kind::Bit),

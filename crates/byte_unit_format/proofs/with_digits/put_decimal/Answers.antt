@@ -1,4 +1,4 @@
--- The digits are copied, the point and the fraction are put over those after the whole part, and the unit behind.
+-- The digits are copied, the point and the fraction are put over those after the whole part, and the unit after them.
 use Rattle.std.proofs.Common.{◌≡◌, ◌+◌, ◌-◌, ◌<◌, ◌≤◌, ◌∷◌, [], ◌++◌, List, ℕ, false, refl, ap, sym, subst, arith, ◌∙◌}
 use Rattle.std.proofs.Common.{take, drop, length, length-append}
 use Rattle.std.proofs.lemmas.List.{length-take, length-drop}
