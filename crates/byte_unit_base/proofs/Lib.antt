@@ -1,5 +1,6 @@
 -- The lemmas that the proofs of this crate rest on, from the lists of characters up to the parsers and the choice.
 pub mod Lists
+pub mod Lines
 pub mod Options
 pub mod Trim
 pub mod Scans
@@ -34,4 +35,5 @@ pub mod SizeAscii
 pub mod NumberBytes
 pub mod SizeRest
 pub mod UnitStops
+pub mod UnitLetters
 pub mod NumberEnds

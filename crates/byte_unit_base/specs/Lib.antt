@@ -15,8 +15,10 @@ pub mod UnitLists
 pub mod LeastOfKind
 pub mod SizeOrNone
 pub mod Accepted
+pub mod Line
 pub mod Scan
 pub mod UnitScan
+pub mod UnitWord
 pub mod SizeScan
 pub mod Parsed
 pub mod Readings

@@ -1,5 +1,6 @@
 -- What the parts of the parser of a number and a unit return. Contracts of this crate alone cite this file.
-use Rattle.std.specs.Prelude.{◌≡◌, ◌≢◌, ⊤, ℕ, ◌-◌, ◌<◌, ◌≤◌, nat_eq, Bool, true, false, List, [], ◌∷◌, length, take}
+use Rattle.std.specs.Prelude.{◌≡◌, ◌≢◌, ⊤, ℕ, ◌-◌, ◌<◌, ◌≤◌, nat_eq, Bool, true, false, List, [], ◌∷◌, ◌++◌, length}
+use Rattle.std.specs.Prelude.{take, replicate}
 use Rattle.std.specs.Prelude.{drop, slice_index, Option, Some, None, Result, Ok, Err}
 use Rattle.std.specs.Char.{is_ascii_graphic}
 use Rattle.std.specs.Str.{IsUtf8, IsAscii, chars}
@@ -25,6 +26,21 @@ pub record HasVisibleEnds (bytes : List ℕ) : Type 0 where
   pub some : 0 < length bytes
   pub start : is_ascii_graphic (slice_index bytes 0) ≡ true
   pub end : is_ascii_graphic (slice_index bytes (length bytes - 1)) ≡ true
+
+-- what follows a line: a line feed, or nothing
+abbrev pub IsAfterLine : List ℕ → Type 0
+IsAfterLine [] = ⊤
+IsAfterLine (byte ∷ rest) = byte ≡ 10
+
+-- the bytes begin with the line
+pub record IsLineOf (line bytes : List ℕ) : Type 0 where
+  pub after : List ℕ
+  pub parts_are : bytes ≡ line ++ after
+  pub ends : IsAfterLine after
+
+-- the first eight bytes, and 0 in place of those after the end
+abbrev pub first_eight : List ℕ → List ℕ
+first_eight bytes = take 8 (bytes ++ replicate 8 0)
 
 -- the first character, if there is one, has the property
 abbrev pub IsFirst : (ℕ → Type 0) → List ℕ → Type 0

@@ -12,9 +12,11 @@ use crate::unit::scan::Flags;
 use crate::{ParseError, Unit};
 use byte_unit_math::Decimal;
 
+mod digits;
 mod number;
 pub(crate) mod parts;
 pub(crate) mod stop;
+pub(crate) mod word;
 
 /// Parses a number and a unit from a string. White space at its ends is ignored.
 ///
@@ -52,7 +54,8 @@ pub fn read_size(
         prefer_byte,
     };
     let text = trimmed(s);
-    match read_parts(text.as_bytes(), flags) {
+    let bytes = text.as_bytes();
+    match read_parts(bytes, bytes, flags) {
         Ok(found) => Ok((found.1, found.0)),
         Err(stop) => {
             let next = first_char(&text[stop.place..]);

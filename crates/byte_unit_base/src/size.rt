@@ -1,6 +1,6 @@
 //! Sizes of either kind, as numbers below the limit: what the size types have in common.
 
-ghost use Rattle.std.specs.Prelude.{◌≡◌, ℕ, Bool, List, ◌+◌, ◌*◌, ◌<◌, ◌≤◌, SomeIff, IfSome, IfOk};
+ghost use Rattle.std.specs.Prelude.{◌≡◌, ℕ, Bool, List, ◌+◌, ◌*◌, ◌<◌, ◌≤◌, SomeIff, IfSome, IfOk, take};
 ghost use Rattle.std.specs.Prelude.{Ok, Err};
 ghost use Rattle.std.specs.Str.{IsUtf8};
 ghost use Rattle.byte_unit_math.specs.Bounds.{size_limit};
@@ -11,7 +11,8 @@ ghost use Rattle.byte_unit_base.specs.Kinds.{bits_in, flags_for};
 ghost use Rattle.byte_unit_base.specs.Readings.{IsNumberReading};
 ghost use Rattle.byte_unit_base.specs.SizeReading.{IsSizeReading, IsBytesReading};
 ghost use Rattle.byte_unit_base.specs.SizeOrNone.{IsSizeOfUnit, IsSizeOfDecimal};
-ghost use Rattle.byte_unit_base.specs.PartsReading.{IsStopAt, IsBytesNumber};
+ghost use Rattle.byte_unit_base.specs.Line.{IsLine};
+ghost use Rattle.byte_unit_base.specs.PartsReading.{IsLineOf, IsStopAt, IsBytesNumber};
 
 use crate::read::parts::{has_visible_ends, read_parts};
 use crate::read::stop::{Reason, Stop, error_at, first_ascii};
@@ -131,9 +132,39 @@ pub fn parse_bytes(bytes: &[u8], ignore_case: bool, kind: Kind) -> Option<Result
     ensures reading { IsBytesReading kind ignore_case bytes.now result }
     ensures small { IfSome result (λ answer. IfOk answer (λ n. n < size_limit)) }
 {
-    match read_bytes(bytes, ignore_case, kind) {
+    parse_line(bytes, bytes.len(), ignore_case, kind)
+}
+
+/// Parses a size from the line at the beginning of bytes, its first `len` bytes, as [`parse_bytes`] does from these.
+///
+/// Eight bytes at a time are loaded, past the end of the line too.
+///
+/// Precondition (proved at every call): `len <= bytes.len()`, and the line ends there: the next byte is a line feed, or
+/// there is none.
+///
+/// # Errors
+/// As `parse_bytes`.
+///
+/// # Examples
+/// ```rust
+/// assert!(rt; matches!(size::parse_line(b"1.5 KiB\n12\n", 7, false, Kind::Byte), Some(Ok(1536))));
+/// assert!(rt; matches!(size::parse_line(b"12", 2, false, Kind::Byte), Some(Ok(12))));
+/// ```
+#[inline(always)]
+pub fn parse_line(
+    bytes: &[u8],
+    len: usize,
+    ignore_case: bool,
+    kind: Kind,
+) -> Option<Result<u128, ParseError>>
+    requires { IsLine bytes.now len }
+    ensures reading { IsBytesReading kind ignore_case (take len bytes.now) result }
+    ensures small { IfSome result (λ answer. IfOk answer (λ n. n < size_limit)) }
+{
+    let line = &bytes[..len];
+    match read_line(line, bytes, ignore_case, kind) {
         Ok(found) => Some(size_of((found.1, found.0), kind)),
-        Err(stop) => parse_stopped(bytes, stop.place, stop.reason, ignore_case, kind),
+        Err(stop) => parse_stopped(line, stop.place, stop.reason, ignore_case, kind),
     }
 }
 
@@ -154,7 +185,21 @@ pub fn parse_bytes(bytes: &[u8], ignore_case: bool, kind: Kind) -> Option<Result
 pub fn read_bytes(bytes: &[u8], ignore_case: bool, kind: Kind) -> Result<(Unit, Decimal), Stop>
     ensures { IsBytesNumber (flags_for kind ignore_case) bytes.now result }
 {
-    read_parts(bytes, flags_for(kind, ignore_case))
+    read_line(bytes, bytes, ignore_case, kind)
+}
+
+/// Parses as `read_bytes` does, from a line, which is at the beginning of `bytes`.
+#[inline(always)]
+fn read_line(
+    line: &[u8],
+    bytes: &[u8],
+    ignore_case: bool,
+    kind: Kind,
+) -> Result<(Unit, Decimal), Stop>
+    requires { IsLineOf line.now bytes.now }
+    ensures { IsBytesNumber (flags_for kind ignore_case) line.now result }
+{
+    read_parts(line, bytes, flags_for(kind, ignore_case))
 }
 
 /// Returns the error of bytes in which `read_bytes` stops at this place and for this reason. Returns `None` if there may

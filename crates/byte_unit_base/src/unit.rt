@@ -8,7 +8,7 @@ ghost use Rattle.byte_unit_base.specs.Units.{shape_of};
 ghost use Rattle.byte_unit_base.specs.Version.{unit_name};
 
 use crate::Kind;
-use crate::unit::scan::Prefix;
+use crate::unit::scan::unit_of;
 use std::fmt;
 
 pub(crate) mod family;
@@ -299,10 +299,11 @@ impl fmt::Display for Unit {
 /// assert_eq!(rt; unit_with_prefix(1, true, Kind::Byte), Unit::KiB);
 /// assert_eq!(rt; unit_with_prefix(9, false, Kind::Bit), Unit::Rbit);
 /// ```
+#[tactic(auto, using(crate::proofs::UnitLetters::shape_of_power))]
 pub fn unit_with_prefix(power: u32, binary: bool, kind: Kind) -> Unit
     requires some { 1 ≤ power }
     requires known { power ≤ 9 }
     ensures { shape_of result ≡ shape power binary (counts_bits kind) }
 {
-    Prefix::from_power(power).unit(binary, matches!(kind, Kind::Bit))
+    unit_of(power as usize, binary, matches!(kind, Kind::Bit))
 }

@@ -1,10 +1,11 @@
-//! Parses a number, many digits at a time.
+//! Parses a number at the beginning of a line.
 
 ghost use Rattle.std.specs.Prelude.{◌≡◌, ◌<◌, ◌≤◌, ◌%◌, ◌^◌, length};
 ghost use Rattle.std.specs.Str.Parse.{AllDigits, digits_value};
 ghost use Rattle.byte_unit_math.specs.Bounds.{whole_limit};
-ghost use Rattle.byte_unit_base.specs.PartsReading.{IsNumberEnd};
+ghost use Rattle.byte_unit_base.specs.PartsReading.{IsLineOf, IsNumberEnd};
 
+use crate::read::digits::leading_digits;
 use crate::read::stop::{Reason, Stop};
 use byte_unit_math::{DECIMAL_PLACES, Decimal, WHOLE_LIMIT};
 use core::dec2flt::read_digits;
@@ -18,35 +19,36 @@ const LONG_DIGITS: usize = 38;
 /// 10^19.
 const NINETEEN_DIGITS: u128 = 10_000_000_000_000_000_000;
 
-/// Parses a leading number: digits, and optionally a point and digits. Returns its length in bytes, and it.
+/// Parses a number at the beginning of a line: digits, and optionally a point and digits. Returns its length in bytes,
+/// and it. The line is at the beginning of `bytes`.
 ///
 /// # Errors
 /// Returns where the parser stops: `NoDigit` or `TooLong`.
 #[tactic(auto, using(crate::proofs::NumberBytes::digits_of_run))]
 #[inline(always)]
-pub fn read_number(bytes: &[u8]) -> Result<(usize, Decimal), Stop>
-    ensures { IsNumberEnd bytes.now result }
+pub fn read_number(line: &[u8], bytes: &[u8]) -> Result<(usize, Decimal), Stop>
+    requires { IsLineOf line.now bytes.now }
+    ensures { IsNumberEnd line.now result }
 {
-    let (end, value) = read_digits(bytes, 0, 0);
+    let (end, value) = leading_digits(line, bytes, 0);
     if end == 0 {
         return Err(Stop {
             place: 0,
             reason: Reason::NoDigit,
         });
     }
-    let whole = whole_part(&bytes[..end], value);
+    let whole = whole_part(&line[..end], value);
     if whole >= WHOLE_LIMIT {
         return Err(Stop {
             place: 0,
             reason: Reason::TooLong,
         });
     }
-    if end == bytes.len() || bytes[end] != b'.' {
+    if end == line.len() || line[end] != b'.' {
         return Ok((end, Decimal::from_digits(whole, 0, 0)));
     }
     let start = end + 1;
-    // From its index in all bytes, not from a slice: fewer bytes than twelve are read one by one.
-    let (stop, value) = read_digits(bytes, start, 0);
+    let (stop, value) = leading_digits(line, bytes, start);
     let places = stop - start;
     if places == 0 {
         return Err(Stop {
@@ -60,7 +62,7 @@ pub fn read_number(bytes: &[u8]) -> Result<(usize, Decimal), Stop>
             reason: Reason::TooLong,
         });
     }
-    let digits = value_of(&bytes[start..stop], value);
+    let digits = value_of(&line[start..stop], value);
     let number = Decimal::from_digits(whole, digits, places as u32);
     Ok((stop, number))
 }

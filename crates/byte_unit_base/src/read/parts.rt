@@ -2,7 +2,7 @@
 
 ghost use Rattle.std.specs.Prelude.{◌≡◌, ◌≤◌, IsTrue, length, take, drop, replicate};
 ghost use Rattle.byte_unit_base.specs.SizeText.{space};
-ghost use Rattle.byte_unit_base.specs.PartsReading.{HasVisibleEnds, IsFirst, IsNoSpace, IsPartsReading};
+ghost use Rattle.byte_unit_base.specs.PartsReading.{HasVisibleEnds, IsFirst, IsLineOf, IsNoSpace, IsPartsReading};
 
 use crate::read::number::read_number;
 use crate::read::stop::{Reason, Stop};
@@ -19,19 +19,21 @@ pub fn has_visible_ends(bytes: &[u8]) -> bool
     !bytes.is_empty() && bytes[0].is_ascii_graphic() && bytes[bytes.len() - 1].is_ascii_graphic()
 }
 
-/// Parses a number and a unit from bytes, none of which is trimmed. Returns the unit and the number.
+/// Parses a number and a unit from a line, which is not trimmed. Returns the unit and the number. The line is at the
+/// beginning of `bytes`: eight of them are loaded at once, past the end of the line too.
 ///
 /// # Errors
 /// Returns where it stops.
 #[inline(always)]
-pub fn read_parts(bytes: &[u8], flags: Flags) -> Result<(Unit, Decimal), Stop>
-    ensures { IsPartsReading flags bytes.now result }
+pub fn read_parts(line: &[u8], bytes: &[u8], flags: Flags) -> Result<(Unit, Decimal), Stop>
+    requires { IsLineOf line.now bytes.now }
+    ensures { IsPartsReading flags line.now result }
 {
-    match read_number(bytes) {
+    match read_number(line, bytes) {
         Ok(found) => {
             let (end, number) = found;
-            let start = end + leading_spaces(&bytes[end..]);
-            match read_unit(&bytes[start..], flags) {
+            let start = end + leading_spaces(&line[end..]);
+            match read_unit(line, bytes, start, flags) {
                 Ok(unit) => Ok((unit, number)),
                 Err(stop) => Err(Stop {
                     place: start + stop.1,

@@ -1,15 +1,17 @@
 //! The parser of a unit.
 
+ghost use Rattle.std.specs.Prelude.{◌≡◌, ◌≢◌, ◌≤◌, length, drop, Some};
+ghost use lib.Lanes.{digits_l};
 ghost use Rattle.byte_unit_base.specs.Spelling.{flags_of};
-ghost use Rattle.std.specs.Prelude.{◌≡◌, ◌≤◌, length, take, drop, Some, None};
-ghost use Rattle.byte_unit_base.specs.Scan.{run};
-ghost use Rattle.byte_unit_base.specs.UnitScan.{IsWordText, unit_step, multiple_step, word_step, scan_of, start};
-ghost use Rattle.byte_unit_base.specs.declared.unit.scan.Word.TheVariants.{Empty};
-ghost use Rattle.byte_unit_base.specs.PartsReading.{IsUnitEnd, IsLeadingUnit, IsFirst};
+ghost use Rattle.byte_unit_base.specs.UnitScan.{count_of, scan_of};
+ghost use Rattle.byte_unit_base.specs.UnitWord.{letter_power, multiple_of, word_of, bits_len};
+ghost use Rattle.byte_unit_base.specs.PartsReading.{IsLineOf, IsUnitEnd};
 
 use crate::read::stop::first_char;
-use crate::unit::scan::{Flags, Multiple, Prefix, UnitScan, Word};
+use crate::read::word::eight_at;
+use crate::unit::scan::{Flags, Multiple, Prefix, UnitScan, Word, unit_of};
 use crate::{Unit, UnitParseError};
+use std::simd::prelude::*;
 use std::str::FromStr;
 
 impl Unit {
@@ -41,7 +43,8 @@ impl Unit {
             prefer_byte,
         };
         let text = s.trim();
-        match read_unit(text.as_bytes(), flags) {
+        let bytes = text.as_bytes();
+        match read_unit(bytes, bytes, 0, flags) {
             Ok(unit) => Ok(unit),
             Err(stop) => Err(stop.0.error_before(first_char(&text[stop.1..]), flags)),
         }
@@ -62,68 +65,107 @@ impl FromStr for Unit {
     }
 }
 
-/// Parses a unit from bytes, none of which is trimmed.
+/// Parses a unit from a line, from an index on to its end. Nothing is trimmed. The line is at the beginning of `bytes`.
+///
+/// Every unit takes the same instructions: a branch on the unit could not be predicted if the units are random.
 ///
 /// # Errors
-/// Returns the parser state and the index where it stops: at a character that cannot continue the unit, or at the end
-/// if the suffix is incomplete.
+/// Returns the parser state and the index, counted from `from`, where it stops: at a character that cannot continue the
+/// unit, or at the end if the suffix is incomplete.
 #[inline(always)]
-pub(crate) fn read_unit(bytes: &[u8], flags: Flags) -> Result<Unit, (UnitScan, usize)>
-    ensures { IsUnitEnd flags bytes.now result }
+pub(crate) fn read_unit(
+    line: &[u8],
+    bytes: &[u8],
+    from: usize,
+    flags: Flags,
+) -> Result<Unit, (UnitScan, usize)>
+    requires line { IsLineOf line.now bytes.now }
+    requires from { from ≤ length line.now }
+    ensures { IsUnitEnd flags (drop from line.now) result }
 {
-    let (scan, end) = leading_unit(bytes);
-    match scan.unit(flags) {
-        Some(unit) if end == bytes.len() => Ok(unit),
-        _ => Err((scan, end)),
+    if from == line.len() {
+        return Ok(unit_of(0, false, !flags.prefer_byte));
     }
+    let text = eight_at(bytes, from);
+    let power = letter_power((text % 256) as u8);
+    let second = (text / 256 % 256) as u8;
+    let binary = (power != 0) & ((second == b'i') | (second == b'I'));
+    let start = usize::from(power != 0) + usize::from(binary);
+    let suffix = text >> (8 * start);
+    let length = suffix_len(suffix);
+    let upper = (suffix % 256) as u8 == b'B';
+    let end = start + length;
+    if end == line.len() - from && length != 2 {
+        return Ok(unit_of(power, binary, counts_bits(length, upper, flags)));
+    }
+    Err((scan_of(power, binary, length, upper), end))
 }
 
-/// Parses the longest beginning of a unit. Returns the parser state after it and its length in bytes.
+/// Returns the position of the prefix of a letter in either case, from 1 for K to 9 for R. Returns 0 if the byte is no
+/// prefix letter.
 #[inline(always)]
-fn leading_unit(bytes: &[u8]) -> (UnitScan, usize)
-    ensures { IsLeadingUnit bytes.now result.0 result.1 }
+fn letter_power(letter: u8) -> usize
+    ensures { result ≡ letter_power letter }
 {
-    let (multiple, start) = leading_multiple(bytes);
-    let (word, length) = leading_word(&bytes[start..]);
-    (UnitScan { multiple, word }, start + length)
+    usize::from(LETTER_POWERS[usize::from(letter)])
 }
 
-/// Parses a leading prefix. Returns it and its length in bytes.
+/// Returns how many of eight bytes are the letters of `bits` in either case, from the first on.
 #[inline(always)]
-#[tactic(auto, unfolding(crate::specs::UnitScan::unit_step))]
-fn leading_multiple(bytes: &[u8]) -> (Multiple, usize)
-    ensures within { result.1 ≤ length bytes.now }
-    ensures read { run unit_step start (take result.1 bytes.now) ≡ Some (scan_of result.0 Empty) }
-    ensures all { IsFirst (λ c. multiple_step result.0 c ≡ None) (drop result.1 bytes.now) }
+fn suffix_len(word: u64) -> usize
+    ensures few { result ≤ 4 }
+    ensures letters { result ≡ bits_len (digits_l 256 8 word) }
 {
-    if bytes.is_empty() {
-        return (Multiple::One, 0);
-    }
-    match Prefix::from_char(char::from(bytes[0])) {
-        None => (Multiple::One, 0),
-        Some(prefix) => {
-            if bytes.len() > 1 && matches!(bytes[1], b'i' | b'I') {
-                (Multiple::Binary(prefix), 2)
-            } else {
-                (Multiple::Decimal(prefix), 1)
-            }
-        }
-    }
+    // A letter with this bit is in lower case, and no byte with it is 0.
+    let bytes = u64x1::splat(word).to_le_bytes() | u8x8::splat(0x20);
+    let others = bytes.simd_ne(u8x8::from_array(*b"bits\0\0\0\0"));
+    others.to_bitmask().trailing_zeros() as usize
 }
 
-/// Parses the longest beginning of a suffix. Returns it and its length in bytes.
+/// Returns whether a unit with this suffix, the first `length` letters of `bits`, is of bits. The suffix `b` is of
+/// bytes as `B` (`upper`), and with `ignore_case` in lower case too.
 #[inline(always)]
-fn leading_word(bytes: &[u8]) -> (Word, usize)
-    ensures within { result.1 ≤ length bytes.now }
-    ensures read { IsWordText result.0 (take result.1 bytes.now) }
-    ensures all { IsFirst (λ c. word_step result.0 c ≡ None) (drop result.1 bytes.now) }
+fn counts_bits(length: usize, upper: bool, flags: Flags) -> bool
+    requires few { length ≤ 4 }
+    requires whole { length ≢ 2 }
+    ensures { count_of flags (word_of length upper) ≡ Some result }
 {
-    match bytes {
-        [b'B' | b'b', b'i' | b'I', b't' | b'T', b's' | b'S', ..] => (Word::Bits, 4),
-        [b'B' | b'b', b'i' | b'I', b't' | b'T', ..] => (Word::Bit, 3),
-        [b'B' | b'b', b'i' | b'I', ..] => (Word::Bi, 2),
-        [b'B', ..] => (Word::UpperB, 1),
-        [b'b', ..] => (Word::LowerB, 1),
-        _ => (Word::Empty, 0),
-    }
+    (length > 2)
+        | ((length == 1) & !upper & !flags.ignore_case)
+        | ((length == 0) & !flags.prefer_byte)
 }
+
+/// Returns the parser state after the prefix of this position and the first `length` letters of `bits`.
+#[inline(always)]
+fn scan_of(power: usize, binary: bool, length: usize, upper: bool) -> UnitScan
+    requires known { power ≤ 9 }
+    requires few { length ≤ 4 }
+    ensures { result ≡ scan_of (multiple_of power binary) (word_of length upper) }
+{
+    let multiple = match (power, binary) {
+        (0, _) => Multiple::One,
+        (_, true) => Multiple::Binary(Prefix::from_power(power as u32)),
+        (_, false) => Multiple::Decimal(Prefix::from_power(power as u32)),
+    };
+    let word = match length {
+        0 => Word::Empty,
+        1 if upper => Word::UpperB,
+        1 => Word::LowerB,
+        2 => Word::Bi,
+        3 => Word::Bit,
+        _ => Word::Bits,
+    };
+    UnitScan { multiple, word }
+}
+
+/// The position of the prefix of each letter, by its byte.
+static LETTER_POWERS: [u8; 256] = [
+    0, 0, 0, 0, 0, 0, 0, 0, 0, 0, 0, 0, 0, 0, 0, 0, 0, 0, 0, 0, 0, 0, 0, 0, 0, 0, 0, 0, 0, 0, 0, 0,
+    0, 0, 0, 0, 0, 0, 0, 0, 0, 0, 0, 0, 0, 0, 0, 0, 0, 0, 0, 0, 0, 0, 0, 0, 0, 0, 0, 0, 0, 0, 0, 0,
+    0, 0, 0, 0, 0, 6, 0, 3, 0, 0, 0, 1, 0, 2, 0, 0, 5, 0, 9, 0, 4, 0, 0, 0, 0, 8, 7, 0, 0, 0, 0, 0,
+    0, 0, 0, 0, 0, 6, 0, 3, 0, 0, 0, 1, 0, 2, 0, 0, 5, 0, 9, 0, 4, 0, 0, 0, 0, 8, 7, 0, 0, 0, 0, 0,
+    0, 0, 0, 0, 0, 0, 0, 0, 0, 0, 0, 0, 0, 0, 0, 0, 0, 0, 0, 0, 0, 0, 0, 0, 0, 0, 0, 0, 0, 0, 0, 0,
+    0, 0, 0, 0, 0, 0, 0, 0, 0, 0, 0, 0, 0, 0, 0, 0, 0, 0, 0, 0, 0, 0, 0, 0, 0, 0, 0, 0, 0, 0, 0, 0,
+    0, 0, 0, 0, 0, 0, 0, 0, 0, 0, 0, 0, 0, 0, 0, 0, 0, 0, 0, 0, 0, 0, 0, 0, 0, 0, 0, 0, 0, 0, 0, 0,
+    0, 0, 0, 0, 0, 0, 0, 0, 0, 0, 0, 0, 0, 0, 0, 0, 0, 0, 0, 0, 0, 0, 0, 0, 0, 0, 0, 0, 0, 0, 0, 0,
+];

@@ -1,7 +1,9 @@
 //! The states of the parser of a unit, and the unit or the error of each.
 
 ghost use Rattle.std.specs.Prelude.{◌≡◌, ◌≤◌};
-ghost use Rattle.std.specs.Option.{option_map};
+ghost use Rattle.byte_unit_base.specs.UnitScan.{multiple_shape};
+ghost use Rattle.byte_unit_base.specs.UnitWord.{multiple_of};
+ghost use Rattle.byte_unit_base.specs.Units.{shape_of};
 
 use crate::{Unit, UnitParseError};
 
@@ -55,27 +57,7 @@ pub struct Flags {
 }
 
 impl Prefix {
-    ghost use Rattle.byte_unit_base.specs.UnitScan.{prefix_at, power_of};
-    ghost use Rattle.byte_unit_base.specs.Shape.{shape};
-    ghost use Rattle.byte_unit_base.specs.Units.{shape_of};
-
-    /// Returns the prefix of a letter in either case. Returns `None` if the character is no prefix letter.
-    pub fn from_char(c: char) -> Option<Prefix>
-        ensures { result ≡ prefix_at c }
-    {
-        match c.to_ascii_uppercase() {
-            'K' => Some(Prefix::Kilo),
-            'M' => Some(Prefix::Mega),
-            'G' => Some(Prefix::Giga),
-            'T' => Some(Prefix::Tera),
-            'P' => Some(Prefix::Peta),
-            'E' => Some(Prefix::Exa),
-            'Z' => Some(Prefix::Zetta),
-            'Y' => Some(Prefix::Yotta),
-            'R' => Some(Prefix::Ronna),
-            _ => None,
-        }
-    }
+    ghost use Rattle.byte_unit_base.specs.UnitScan.{power_of};
 
     /// Returns the prefix of a position, from 1 for K to 9 for R.
     pub fn from_power(power: u32) -> Prefix
@@ -95,58 +77,14 @@ impl Prefix {
             _ => Prefix::Ronna,
         }
     }
-
-    /// Returns the unit with this prefix.
-    pub fn unit(self, binary: bool, bit: bool) -> Unit
-        ensures { shape_of result ≡ shape (power_of self) binary bit }
-    {
-        let [decimal_bit, binary_bit, decimal_byte, binary_byte] = match self {
-            Prefix::Kilo => [Unit::Kbit, Unit::Kibit, Unit::KB, Unit::KiB],
-            Prefix::Mega => [Unit::Mbit, Unit::Mibit, Unit::MB, Unit::MiB],
-            Prefix::Giga => [Unit::Gbit, Unit::Gibit, Unit::GB, Unit::GiB],
-            Prefix::Tera => [Unit::Tbit, Unit::Tibit, Unit::TB, Unit::TiB],
-            Prefix::Peta => [Unit::Pbit, Unit::Pibit, Unit::PB, Unit::PiB],
-            Prefix::Exa => [Unit::Ebit, Unit::Eibit, Unit::EB, Unit::EiB],
-            Prefix::Zetta => [Unit::Zbit, Unit::Zibit, Unit::ZB, Unit::ZiB],
-            Prefix::Yotta => [Unit::Ybit, Unit::Yibit, Unit::YB, Unit::YiB],
-            Prefix::Ronna => [Unit::Rbit, Unit::Ribit, Unit::RB, Unit::RiB],
-        };
-        match (binary, bit) {
-            (false, true) => decimal_bit,
-            (true, true) => binary_bit,
-            (false, false) => decimal_byte,
-            (true, false) => binary_byte,
-        }
-    }
 }
 
 impl UnitScan {
-    ghost use Rattle.byte_unit_base.specs.UnitScan.{unit_of, unit_parser_state};
+    ghost use Rattle.byte_unit_base.specs.UnitScan.{unit_parser_state};
     ghost use Rattle.byte_unit_base.specs.PartsReading.{unit_stop_fault};
-    ghost use Rattle.byte_unit_base.specs.Units.{shape_of};
     ghost use Rattle.byte_unit_base.specs.Version.{current};
     ghost use Rattle.byte_unit_base.specs.Fault.{fault_at};
     ghost use Rattle.byte_unit_base.specs.Errors.{unit_fault};
-
-    /// Returns the unit of a string that ends here. Returns `None` if the suffix is incomplete: `bi`.
-    #[inline(always)]
-    pub fn unit(self, flags: Flags) -> Option<Unit>
-        ensures { option_map shape_of result ≡ unit_of flags self }
-    {
-        let bit = match self.word {
-            Word::Empty => !flags.prefer_byte,
-            Word::UpperB => false,
-            Word::LowerB => !flags.ignore_case,
-            Word::Bi => return None,
-            Word::Bit | Word::Bits => true,
-        };
-        Some(match self.multiple {
-            Multiple::One if bit => Unit::Bit,
-            Multiple::One => Unit::B,
-            Multiple::Decimal(prefix) => prefix.unit(false, bit),
-            Multiple::Binary(prefix) => prefix.unit(true, bit),
-        })
-    }
 
     /// Returns the error of a string in which the parser of a unit stops in this state, by the character there.
     #[inline(always)]
@@ -188,3 +126,26 @@ impl UnitScan {
 
 /// The capital letters with which a unit can begin.
 static BEGINNINGS: [char; 10] = ['B', 'K', 'M', 'G', 'T', 'P', 'E', 'Z', 'Y', 'R'];
+
+/// Returns the unit with the prefix of this position, or without a prefix if it is 0.
+#[inline(always)]
+pub fn unit_of(power: usize, binary: bool, bit: bool) -> Unit
+    requires few { power ≤ 9 }
+    ensures { shape_of result ≡ multiple_shape (multiple_of power binary) bit }
+{
+    BY_POWER[power][2 * usize::from(binary) + usize::from(bit)]
+}
+
+/// The units by the position of the prefix: of bytes and of bits, with the decimal prefix and with the binary one.
+static BY_POWER: [[Unit; 4]; 10] = [
+    [Unit::B, Unit::Bit, Unit::B, Unit::Bit],
+    [Unit::KB, Unit::Kbit, Unit::KiB, Unit::Kibit],
+    [Unit::MB, Unit::Mbit, Unit::MiB, Unit::Mibit],
+    [Unit::GB, Unit::Gbit, Unit::GiB, Unit::Gibit],
+    [Unit::TB, Unit::Tbit, Unit::TiB, Unit::Tibit],
+    [Unit::PB, Unit::Pbit, Unit::PiB, Unit::Pibit],
+    [Unit::EB, Unit::Ebit, Unit::EiB, Unit::Eibit],
+    [Unit::ZB, Unit::Zbit, Unit::ZiB, Unit::Zibit],
+    [Unit::YB, Unit::Ybit, Unit::YiB, Unit::Yibit],
+    [Unit::RB, Unit::Rbit, Unit::RiB, Unit::Ribit],
+];

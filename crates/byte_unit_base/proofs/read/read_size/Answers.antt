@@ -12,15 +12,15 @@ use Rattle.byte_unit_base.proofs.read.read_size.Goals as goal
 pub range_from-requires : goal.range_from-requires
 range_from-requires c =
     let flags = flags_of c.args.ignore_case c.args.prefer_byte in
-    let stop = subst (λ text. IsStop flags text c.in-Err.stop) c.as_bytes.ensures.value c.in-Err.ensures in
-    let utf8 = subst IsUtf8 c.as_bytes.ensures.value c.as_bytes.ensures.utf8 in
+    let stop = subst (λ text. IsStop flags text c.in-Err.stop) c.as_bytes-bytes.ensures.value c.in-Err.ensures in
+    let utf8 = subst IsUtf8 c.as_bytes-bytes.ensures.value c.as_bytes-bytes.ensures.utf8 in
     λ _. boundary_at c.trimmed-text.result.now c.in-Err.stop.place utf8 stop.within stop.ascii
 
 pub returns-in-Ok : goal.returns-in-Ok
 returns-in-Ok c =
     let flags = flags_of c.args.ignore_case c.args.prefer_byte in
     let found = c.in-Ok.found in
-    let text = rw c.as_bytes.ensures.value at c.in-Ok.ensures in
+    let text = rw c.as_bytes-bytes.ensures.value at c.in-Ok.ensures in
     stated_reading flags c.args.s.now (found.1, found.0)
     (rw c.trimmed-text.ensures at (size_of_chars flags c.trimmed-text.result.now found.1 (shape_of found.0) text))
 
@@ -29,8 +29,8 @@ returns-in-Err c =
     let flags = flags_of c.args.ignore_case c.args.prefer_byte in
     let stop = c.in-Err.stop in
     let text = c.trimmed-text.result.now in
-    let stops = subst (λ text. IsStop flags text stop) c.as_bytes.ensures.value c.in-Err.ensures in
-    let utf8 = subst IsUtf8 c.as_bytes.ensures.value c.as_bytes.ensures.utf8 in
+    let stops = subst (λ text. IsStop flags text stop) c.as_bytes-bytes.ensures.value c.in-Err.ensures in
+    let utf8 = subst IsUtf8 c.as_bytes-bytes.ensures.value c.as_bytes-bytes.ensures.utf8 in
     stop_reading flags c.args.s.now text stop.place stop.reason c.error_at.result c.trimmed-text.ensures utf8 stops
     (c.error_at.ensures ∙ ap (stop_fault flags (nat_eq stop.place 0) stop.reason)
     (c.first_char-next.ensures ∙ ap (λ rest. next_char (chars rest)) c.range_from.ensures.value))

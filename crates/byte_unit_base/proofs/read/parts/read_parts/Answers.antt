@@ -1,17 +1,14 @@
--- The bytes are a number, spaces and a unit, one after the other, or stop at one of these.
-use Rattle.std.proofs.Common.{◌+◌, sym, subst}
+-- The line is a number, spaces and a unit, one after the other, or stops at one of these.
+use Rattle.std.proofs.Common.{sym}
 use Rattle.std.proofs.lemmas.List.{take_rest}
-use Rattle.byte_unit_base.specs.PartsReading.{IsUnitStop}
 use Rattle.byte_unit_base.proofs.NumberEnds.{stops_in_unit}
 use Rattle.byte_unit_base.proofs.read.parts.read_parts.Goals as goal
 
 pub returns-in-Err-read_unit : goal.returns-in-Err-read_unit
 returns-in-Err-read_unit c =
-    let bytes = c.args.bytes.now in
+    let line = c.args.line.now in
     let end = c.in-Ok.found.0 in
     let spaces = c.leading_spaces in
     let stop = c.in-Err-read_unit.stop in
-    stops_in_unit c.args.flags bytes _ c.in-Ok.found.1 end spaces.result stop.1 stop.0 c.in-Ok.ensures
-    (sym (take_rest bytes end)) spaces.ensures.within spaces.ensures.spaces spaces.ensures.all
-    (subst (λ unit. IsUnitStop c.args.flags unit stop.0 stop.1) (take_rest bytes (end + spaces.result))
-    c.in-Err-read_unit.ensures)
+    stops_in_unit c.args.flags line _ c.in-Ok.found.1 end spaces.result stop.1 stop.0 c.in-Ok.ensures
+    (sym (take_rest line end)) spaces.ensures.within spaces.ensures.spaces spaces.ensures.all c.in-Err-read_unit.ensures

@@ -19,8 +19,8 @@ range_from-requires c =
     let flags = flags_of c.args.ignore_case c.args.prefer_byte in
     let text = c.trim-text.result.now in
     let stop = c.in-Err.stop in
-    let leads = (subst (λ text. IsUnitStop flags text stop.0 stop.1) c.as_bytes.ensures.value c.in-Err.ensures).0 in
-    let utf8 = subst IsUtf8 c.as_bytes.ensures.value c.as_bytes.ensures.utf8 in
+    let leads = (subst (λ text. IsUnitStop flags text stop.0 stop.1) c.as_bytes-bytes.ensures.value c.in-Err.ensures).0 in
+    let utf8 = subst IsUtf8 c.as_bytes-bytes.ensures.value c.as_bytes-bytes.ensures.utf8 in
     λ _. boundary_at text stop.1 utf8 leads.within (run_ascii _ start stop.0 leads.run_is)
 
 pub returns-in-Ok : goal.returns-in-Ok
@@ -28,7 +28,7 @@ returns-in-Ok c =
     let flags = flags_of c.args.ignore_case c.args.prefer_byte in
     let text = c.trim-text.result.now in
     let unit = shape_of c.in-Ok.unit in
-    let spells = subst (λ text. Spells current flags text unit) c.as_bytes.ensures.value c.in-Ok.ensures in
+    let spells = subst (λ text. Spells current flags text unit) c.as_bytes-bytes.ensures.value c.in-Ok.ensures in
     let trimmed = sym (spelled_chars flags text unit spells) ∙ (ap chars c.trim-text.ensures.trim ∙ chars-trim c.args.s.now c.utf8.s) in
     unit_reading flags c.args.s.now (Ok c.in-Ok.unit)
     (sym (reads_meaning (unit_scan_is flags) text unit spells) ∙ ap (read (unit_scan flags) start) trimmed)
@@ -38,8 +38,8 @@ returns-in-Err c =
     let flags = flags_of c.args.ignore_case c.args.prefer_byte in
     let text = c.trim-text.result.now in
     let stop = c.in-Err.stop in
-    let stops = subst (λ text. IsUnitStop flags text stop.0 stop.1) c.as_bytes.ensures.value c.in-Err.ensures in
-    let utf8 = subst IsUtf8 c.as_bytes.ensures.value c.as_bytes.ensures.utf8 in
+    let stops = subst (λ text. IsUnitStop flags text stop.0 stop.1) c.as_bytes-bytes.ensures.value c.in-Err.ensures in
+    let utf8 = subst IsUtf8 c.as_bytes-bytes.ensures.value c.as_bytes-bytes.ensures.utf8 in
     let error_is = c.error_before.ensures
     ∙ ap (unit_stop_fault flags stop.0) (c.first_char.ensures ∙ ap (λ rest. next_char (chars rest)) c.range_from.ensures.value) in
     let trimmed = ap chars c.trim-text.ensures.trim ∙ chars-trim c.args.s.now c.utf8.s in

@@ -1,8 +1,21 @@
--- A beginning of a unit that is all of the bytes spells the unit of its state.
-use Rattle.std.proofs.Common.{sym}
+-- A beginning of a unit that is all of the line spells the unit of its state, unless its suffix is `bi`.
+use Rattle.std.proofs.Common.{◌≡◌, ◌+◌, sym, ◌∙◌, refl, arith, length, drop, length-drop}
+use Rattle.byte_unit_base.proofs.UnitLetters.{letters_in_line}
 use Rattle.byte_unit_base.proofs.UnitStops.{spelled}
 use Rattle.byte_unit_base.proofs.unit.parse.read_unit.Goals as goal
 
-pub returns-in-Some : goal.returns-in-Some
-returns-in-Some c =
-    spelled c.args.flags c.args.bytes.now _ _ _ c.leading_unit-end.ensures c.if-end-bytes.true (sym c.in-Some.ensures)
+pub returns-then-length-ne2 : goal.returns-then-length-ne2
+returns-then-length-ne2 c =
+    let leads = letters_in_line c.type_inv.bytes c.requires.line c.requires.from c.eight_at-text.ensures
+    c.letter_power-power.ensures c.from.ensures c.from-2.ensures c.suffix_len-length.ensures.letters in
+    spelled c.args.flags _ _ _ _ leads (c.if-end-line.true ∙ sym (length-drop c.args.from c.args.line.now))
+    (rw (c.counts_bits.ensures, c.unit_of-then-length-ne2.ensures) refl)
+
+pub returns : goal.returns
+returns c =
+    let leads = letters_in_line c.type_inv.bytes c.requires.line c.requires.from c.eight_at-text.ensures
+    c.letter_power-power.ensures c.from.ensures c.from-2.ensures c.suffix_len-length.ensures.letters in
+    let end = c.from.result + c.from-2.result + c.suffix_len-length.result in
+    let at_bi : end ≡ length (drop c.args.from c.args.line.now) → c.suffix_len-length.result ≡ 2 =
+    grind (arith, c.else-end-line.branch, length-drop c.args.from c.args.line.now) in
+    rw c.scan_of.ensures (leads, λ all. rw (at_bi all) refl)

@@ -9,7 +9,7 @@ use Rattle.byte_unit_base.specs.declared.read.stop.Stop.{Stop}
 use Rattle.byte_unit_base.specs.declared.unit.Unit.{Unit as UnitName}
 use Rattle.byte_unit_base.proofs.SizeAscii.{trimmed_size, size_ascii}
 use Rattle.byte_unit_base.proofs.SizeReads.{stated_reading}
-use Rattle.byte_unit_base.proofs.size.read_bytes.Goals as goal
+use Rattle.byte_unit_base.proofs.size.read_line.Goals as goal
 
 bytes_number : (flags : Flags) (bytes : List ℕ) (result : Result (UnitName × ℕ) Stop) → IsPartsReading flags bytes result
     → IsBytesNumber flags bytes result
@@ -21,5 +21,5 @@ bytes_number flags bytes (Err stop) is = is
 
 pub returns : goal.returns
 returns c =
-    bytes_number (flags_for c.args.kind c.args.ignore_case) c.args.bytes.now c.read_parts.result
+    bytes_number (flags_for c.args.kind c.args.ignore_case) c.args.line.now c.read_parts.result
     (rw c.flags_for.ensures at c.read_parts.ensures)

@@ -1,0 +1,173 @@
+-- A line at the beginning of bytes: what follows it, eight of its bytes as a number, and its digits.
+use Rattle.std.proofs.Common.{◌≡◌, ℕ, suc, zero, ◌<◌, ◌≤◌, List, [], ◌∷◌, ◌++◌, length, take, drop, sym, ap, ◌∙◌, arith}
+use Rattle.std.proofs.Common.{◌+◌, ◌-◌, ◌*◌, ◌^◌, ◌%◌, replicate, get_or, length-drop, Fits, w8, cond, refl}
+use Rattle.std.proofs.Common.{◌/◌, slice_range}
+use Rattle.std.proofs.lemmas.List.{take-append-drop, drop-append-le, take_all, take-replicate}
+use Rattle.std.proofs.lemmas.List.{take-append-le, drop_more, drop-drop, take-take}
+use Rattle.std.specs.Prelude.{slice_index}
+use Rattle.std.proofs.Math.Nat.{pow-suc, mod-eq_of_lt}
+use Rattle.std.proofs.Math.Seq.{take-append-add}
+use Rattle.std.proofs.lemmas.List.Sums.{prefix_len-le-length}
+use Rattle.std.specs.Char.{is_ascii_digit}
+use Rattle.std.specs.Float.Numeral.{digits_len}
+use Rattle.std.specs.Str.Parse.{digits_value}
+use Rattle.core.specs.Int.Digits.{AllBelowBase}
+use Rattle.core.proofs.dec2flt.Eight.{bytes_of, bytes_down, zeros_after, bytes-drop, eight_at}
+use Rattle.core.proofs.dec2flt.DigitsLemmas.{digits_len_short, digits_len-take}
+use Rattle.core.proofs.dec2flt.Rows.{many_more}
+use Rattle.core.specs.Dec2flt.Digits.{IsEightBytes}
+use lib.Lanes.{number_l}
+use Rattle.byte_unit_base.specs.Line.{IsLine}
+use Rattle.byte_unit_base.specs.PartsReading.{IsAfterLine, IsLineOf, first_eight}
+
+after_line : (bytes : List ℕ) (len : ℕ) → (len < length bytes → slice_index bytes len ≡ 10)
+    → IsAfterLine (drop len bytes)
+after_line [] zero after = tt
+after_line [] (suc n) after = tt
+after_line (byte ∷ bytes) zero after = after (omega arith)
+after_line (byte ∷ bytes) (suc n) after = after_line bytes n (λ inside. after (omega (arith, inside)))
+
+-- the first bytes, up to a line feed or the end, are a line
+pub first_line : (bytes : List ℕ) (len : ℕ) → IsLine bytes len → IsLineOf (take len bytes) bytes
+first_line bytes len line = record {
+  after = drop len bytes;
+  parts_are = sym (take-append-drop len bytes);
+  ends = after_line bytes len line.after;
+}
+
+-- the rest of the bytes is the rest of the line, and what follows it
+pub rest_of_line : (line bytes : List ℕ) (from : ℕ) (is : IsLineOf line bytes) → from ≤ length line
+    → drop from bytes ≡ drop from line ++ is.after
+rest_of_line line bytes from is within = ap (drop from) is.parts_are ∙ drop-append-le from line is.after within
+
+-- `n` bytes are a number below 256^n
+pub word_below : (n : ℕ) (bytes : List ℕ) → AllBelowBase 256 bytes → number_l 256 (take n bytes) < 256 ^ n
+word_below zero bytes small = omega arith
+word_below (suc n) [] small = omega (arith, word_below n [] small, pow-suc 256 n)
+word_below (suc n) (b ∷ bs) small = omega (arith, small.0, word_below n bs small.1, pow-suc 256 n)
+
+-- eight bytes have no zeros after them
+whole_word : (bytes : List ℕ) → 8 ≤ length bytes → first_eight bytes ≡ take 8 bytes
+whole_word bytes many = take-append-le 8 bytes (replicate 8 0) many
+
+-- eight bytes in a slice fit 64 bits
+pub loaded_eight : (from : ℕ) (bytes : List ℕ) → ((k : ℕ) → Fits w8 (get_or bytes k 0)) → from + 8 ≤ length bytes
+    → number_l 256 (take 8 (drop from bytes)) % 2 ^ 64 ≡ number_l 256 (first_eight (drop from bytes))
+loaded_eight from bytes fits inside =
+    let rest = drop from bytes in
+    let small = bytes-drop from bytes (bytes_of bytes (λ k. (fits k).fits)) in
+    mod-eq_of_lt (omega (arith, word_below 8 rest small))
+    ∙ ap (number_l 256) (sym (whole_word rest (omega (arith, inside, length-drop from bytes))))
+
+-- a byte before fewer than seven others, which are a number of 56 bits
+pub byte_before : (start : ℕ) (bytes : List ℕ) → ((k : ℕ) → Fits w8 (get_or bytes k 0)) → length bytes < 8
+    → start ≤ length bytes → 0 < start
+    → (number_l 256 (drop start bytes) * 256 + get_or bytes (start - 1) 0 ≡ number_l 256 (drop (start - 1) bytes))
+    × (number_l 256 (drop start bytes) < 2 ^ 56) × (get_or bytes (start - 1) 0 < 256)
+byte_before start bytes fits few inside some =
+    let rest = drop start bytes in
+    let next : start - 1 + 1 ≡ start = omega (arith, some) in
+    let more = drop_more bytes (start - 1) 0 (omega (arith, inside, some)) in
+    let all = take_all 7 rest (omega (arith, few, length-drop start bytes)) in
+    let small = bytes-drop start bytes (bytes_of bytes (λ k. (fits k).fits)) in (
+      omega (arith, ap (number_l 256) more, ap (λ n. number_l 256 (drop n bytes)) next),
+      omega (arith, word_below 7 rest small, ap (number_l 256) all),
+      (fits (start - 1)).fits,
+    )
+
+-- zeros after at most eight bytes leave their number as it is
+pub padded_word : (bytes : List ℕ) → length bytes ≤ 8 → AllBelowBase 256 bytes
+    → number_l 256 (first_eight bytes) ≡ number_l 256 bytes
+padded_word bytes few small =
+    let count = 8 - length bytes in
+    let all : 8 ≡ length bytes + count = omega (arith, few) in
+    ap (λ n. number_l 256 (take n (bytes ++ replicate 8 0))) all
+    ∙ (ap (number_l 256) (take-append-add bytes (replicate 8 0) count
+    ∙ ap (λ zeros. bytes ++ zeros) (take-replicate count 8 0 (omega arith)))
+    ∙ sym ((zeros_after bytes count small).1))
+
+-- the bytes from an index on are the last eight, shifted to the right
+pub last_bytes : (from : ℕ) (bytes : List ℕ) → ((k : ℕ) → Fits w8 (get_or bytes k 0)) → 8 ≤ length bytes
+    → length bytes - from < 8 → from < length bytes
+    → number_l 256 (first_eight (drop (length bytes - 8) bytes)) / 2 ^ (8 * (from - (length bytes - 8)))
+    ≡ number_l 256 (first_eight (drop from bytes))
+last_bytes from bytes fits many few inside =
+    let start = length bytes - 8 in
+    let over = from - start in
+    let last = drop start bytes in
+    let small = bytes_of bytes (λ k. (fits k).fits) in
+    let back : start + over ≡ from = omega (arith, many, few, inside) in
+    let rest : drop over last ≡ drop from bytes = drop-drop over start bytes ∙ ap (λ n. drop n bytes) back in
+    ap (λ n. n / 2 ^ (8 * over)) (padded_word last (omega (arith, length-drop start bytes)) (bytes-drop start bytes small))
+    ∙ (bytes_down last over (bytes-drop start bytes small) (omega (arith, inside, many))
+    ∙ (ap (number_l 256) rest ∙ sym (padded_word (drop from bytes)
+    (omega (arith, few, length-drop from bytes)) (bytes-drop from bytes small))))
+
+-- a line feed is no digit
+line_digits : (ds after : List ℕ) → IsAfterLine after → digits_len (ds ++ after) ≡ digits_len ds
+line_digits [] [] ends = refl
+line_digits [] (b ∷ bs) ends = ap (λ c. digits_len (c ∷ bs)) ends
+line_digits (d ∷ ds) after ends = ap (λ n. cond (is_ascii_digit d) (1 + n) 0) (line_digits ds after ends)
+
+-- from an index on there are digits in the line, up to another one at least, and this is their value
+pub record HasDigits (line : List ℕ) (from end value : ℕ) : Type 0 where
+  pub after : from ≤ end
+  pub within : end ≤ length line
+  pub more : digits_len (drop from line) ≡ end - from + digits_len (drop end line)
+  pub value_is : value ≡ digits_value 10 (slice_range line from end)
+
+pub no_digits : (line : List ℕ) (from : ℕ) → from ≤ length line → HasDigits line from from 0
+no_digits line from within =
+    let none : from - from ≡ 0 = omega arith in
+    record { after = omega arith; within = within; more = omega (arith, none); value_is = rw none refl }
+
+-- the digits with which the eight bytes from an index on begin are digits of the line, and if there are fewer than
+-- eight, no more follow
+pub digits_of_word : (line bytes : List ℕ) (from word count value : ℕ)
+    → IsLineOf line bytes → from ≤ length line → 8 ≤ length bytes - from → ((k : ℕ) → get_or bytes k 0 < 256)
+    → word ≡ number_l 256 (first_eight (drop from bytes)) → count ≤ 8
+    → ((xs : List ℕ) → IsEightBytes xs → word ≡ number_l 256 xs
+    → (count ≡ digits_len xs) × (value ≡ digits_value 10 (take count xs)))
+    → HasDigits line from (from + count) value × (count < 8 → digits_len (drop from line) ≡ count)
+digits_of_word line bytes from word count value is within many small word_is few read =
+    let all = drop from bytes in
+    let rest = drop from line in
+    let later = drop (from + count) line in
+    let whole = whole_word all (omega (arith, many, length-drop from bytes)) in
+    let eight = eight_at bytes from small (omega (arith, many)) in
+    let found = read (take 8 all) eight (word_is ∙ ap (number_l 256) whole) in
+    let parts = rest_of_line line bytes from is within in
+    let same : digits_len all ≡ digits_len rest = ap digits_len parts ∙ line_digits rest is.after is.ends in
+    let more : digits_len all ≡ count + digits_len (drop count all) =
+    omega (arith, digits_len-take all 8, found.0, ap (λ n. digits_len (drop n all)) found.0) in
+    let inside : count ≤ length rest = omega (arith, more, same, prefix_len-le-length is_ascii_digit rest) in
+    let later_is : drop count all ≡ later ++ is.after =
+    ap (drop count) parts ∙ (drop-append-le count rest is.after inside
+    ∙ ap (λ ds. ds ++ is.after) (drop-drop count from line)) in
+    let span : count ≡ from + count - from = omega arith in (
+      record {
+        after = omega arith;
+        within = omega (arith, inside, length-drop from line, within);
+        more = omega (arith, same, more, ap digits_len later_is, line_digits later is.after is.ends);
+        value_is = found.1 ∙ ap (digits_value 10) (take-take count 8 all few
+            ∙ (ap (take count) parts ∙ (take-append-le count rest is.after inside ∙ ap (λ n. take n rest) span)));
+      },
+      λ less. omega (arith, same, found.0, digits_len_short all 8 (omega (arith, less, found.0))),
+    )
+
+-- the value of these digits and that of those after them make the value of all
+pub value_of_more : (line : List ℕ) (from start value end : ℕ) → HasDigits line from start value
+    → start ≤ end → end ≤ length line
+    → value * 10 ^ (end - start) + digits_value 10 (slice_range line start end)
+    ≡ digits_value 10 (slice_range line from end)
+value_of_more line from start value end digits after within =
+    let count = start - from in
+    let k = end - start in
+    let rest = drop from line in
+    let at_start : from + count ≡ start = omega (arith, digits.after) in
+    let all : count + k ≡ end - from = omega (arith, after, digits.after) in
+    ap (λ v. v * 10 ^ k + digits_value 10 (slice_range line start end)) digits.value_is
+    ∙ (ap (λ ds. digits_value 10 (take count rest) * 10 ^ k + digits_value 10 (take k ds))
+    (sym (drop-drop count from line ∙ ap (λ n. drop n line) at_start))
+    ∙ (sym (many_more rest count k (omega (arith, after, digits.after, within, length-drop from line)))
+    ∙ ap (λ n. digits_value 10 (take n rest)) all))

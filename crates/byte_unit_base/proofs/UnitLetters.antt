@@ -1,0 +1,111 @@
+-- The letters of a unit, as the first bytes of a number, are those that the state machine reads.
+use Rattle.std.proofs.Common.{◌≡◌, ℕ, zero, suc, ◌+◌, ◌*◌, ◌/◌, ◌%◌, ◌^◌, ◌≤◌, List, [], ◌∷◌, ◌++◌, Bool, true, false}
+use Rattle.std.proofs.Common.{not, eqb, ◌&&◌, ◌||◌, length, take, drop, Option, Some, None, zero-add, refl, sym, ap}
+use Rattle.std.proofs.Common.{◌∙◌, arith, get_or, replicate, append_assoc, length-append, Fits, w8}
+use Rattle.std.specs.Char.{to_ascii_lowercase}
+use Rattle.std.proofs.lemmas.Bool.Decides.{nat_tests}
+use Rattle.core.specs.Int.Digits.{AllBelowBase}
+use Rattle.core.proofs.dec2flt.Eight.{bytes_of, bytes-drop, zeros_after}
+use lib.Lanes.{digits_l, number_l}
+use mir.Val.{bool_byte}
+use Rattle.byte_unit_base.specs.Shape.{shape}
+use Rattle.byte_unit_base.specs.PartsReading.{first_eight, IsLineOf, IsLeadingUnit}
+use Rattle.byte_unit_base.specs.UnitScan.{unit_step, multiple_step, multiple_shape, prefix_at, power_of, is_i, scan_of}
+use Rattle.byte_unit_base.specs.UnitScan.{start}
+use Rattle.byte_unit_base.specs.UnitWord.{letter_power, multiple_of, word_of, bits_len}
+use Rattle.byte_unit_base.specs.declared.unit.scan.Prefix.{Prefix}
+use Rattle.byte_unit_base.specs.declared.unit.scan.Prefix.TheVariants.{Kilo}
+use Rattle.byte_unit_base.specs.declared.unit.scan.Multiple.{Multiple}
+use Rattle.byte_unit_base.specs.declared.unit.scan.Multiple.TheVariants.{One, Decimal, Binary}
+use Rattle.byte_unit_base.specs.declared.unit.scan.Word.TheVariants.{Empty}
+use Rattle.byte_unit_base.proofs.Lines.{rest_of_line}
+use Rattle.byte_unit_base.proofs.UnitStops.{walk, walk_line, walk_leads}
+
+-- the unit of the prefix at a position has this position
+pub shape_of_power : (n : ℕ) → 1 ≤ n → n ≤ 9 → (binary bit : Bool)
+    → multiple_shape (multiple_of n binary) bit ≡ shape n binary bit
+shape_of_power zero some _ _ _ = absurd (omega (arith, some))
+shape_of_power (suc (suc (suc (suc (suc (suc (suc (suc (suc (suc n)))))))))) _ few _ _ = absurd (omega (arith, few))
+shape_of_power _ some few true bit = refl
+shape_of_power _ some few _ bit = refl
+
+-- the prefix at a position is that of the letter which has it
+prefix_is : (p : Prefix) → (multiple_of (power_of p) true ≡ Binary p) × (multiple_of (power_of p) false ≡ Decimal p)
+    × (eqb (power_of p) 0 ≡ false)
+prefix_is Kilo = (refl, refl, refl)
+prefix_is _ = (refl, refl, refl)
+
+-- two letters in either case
+i_is : (c : ℕ) → (eqb c 105 || eqb c 73) ≡ is_i c
+i_is c = grind (arith, nat_tests)
+
+b_is : (c : ℕ) → eqb (to_ascii_lowercase c) 98 ≡ (eqb c 66 || eqb c 98)
+b_is c = grind (arith, nat_tests)
+
+-- after a prefix the letters of `bits` are read, as many as there are
+suffix_walk : (m : Multiple) (j w : ℕ) (rest : List ℕ) → multiple_step m (w % 256) ≡ None
+    → (u : Bool) → eqb (w % 256) 66 ≡ u → (l : Bool) → eqb (w % 256) 98 ≡ l → (i : Bool) → is_i (w / 256 % 256) ≡ i
+    → (t : Bool) → eqb (to_ascii_lowercase (w / 256 / 256 % 256)) 116 ≡ t
+    → (s : Bool) → eqb (to_ascii_lowercase (w / 256 / 256 / 256 % 256)) 115 ≡ s → let n = bits_len (digits_l 256 8 w) in
+    walk (scan_of m Empty) (digits_l 256 (suc (suc (suc (suc (suc j))))) w ++ rest)
+    ≡ (scan_of m (word_of n (eqb (w % 256) 66)), n)
+unfolding unit_step
+suffix_walk m j w rest none false u false l _ i _ t _ s = rw (none, b_is (w % 256), l, u, walk) refl
+suffix_walk m j w rest none _ u _ l false i _ t _ s = rw (none, b_is (w % 256), l, u, i, walk) refl
+suffix_walk m j w rest none _ u _ l true i false t _ s = rw (none, b_is (w % 256), l, u, i, t, walk) refl
+suffix_walk m j w rest none _ u _ l true i true t false s = rw (none, b_is (w % 256), l, u, i, t, s, walk) refl
+suffix_walk m j w rest none _ u _ l true i true t true s = rw (none, b_is (w % 256), l, u, i, t, s, walk) refl
+
+-- the letters that a number begins with, by their lengths, are what the state machine reads of them
+unit_walk : (text n : ℕ) (rest : List ℕ) (o : Option Prefix) → prefix_at (text % 256) ≡ o
+    → (i : Bool) → is_i (text / 256 % 256) ≡ i
+    → let power : ℕ = elim o [ Some p ↦ power_of p | None ↦ 0 ] in let binary = not (eqb power 0) && i in
+    let k = bool_byte (not (eqb power 0)) + bool_byte binary in let word = text / 2 ^ (8 * k) in
+    n ≡ bits_len (digits_l 256 8 word) → walk start (digits_l 256 8 text ++ rest)
+    ≡ (scan_of (multiple_of power binary) (word_of n (eqb (word % 256) 66)), k + n)
+unfolding unit_step
+unit_walk text n rest None e i f n_is =
+    let w : text / 2 ^ (8 * 0) ≡ text = omega arith in
+    rw (n_is, w, zero-add (bits_len (digits_l 256 8 text)))
+    (suffix_walk One 3 text rest (rw (e, prefix_at) refl) _ refl _ refl _ refl _ refl _ refl)
+unit_walk text n rest (Some p) e true f n_is =
+    let w : text / 2 ^ (8 * 2) ≡ text / 256 / 256 = omega arith in
+    let two : (n : ℕ) → 2 + n ≡ 1 + (1 + n) = λ n. omega arith in
+    rw (n_is, (prefix_is p).2, (prefix_is p).0, w, two, e, prefix_at, f, walk)
+    (ap (λ w. (w.0, 1 + (1 + w.1)))
+    (suffix_walk (Binary p) 1 (text / 256 / 256) rest refl _ refl _ refl _ refl _ refl _ refl))
+unit_walk text n rest (Some p) e false f n_is =
+    let w : text / 2 ^ (8 * 1) ≡ text / 256 = omega arith in
+    rw (n_is, (prefix_is p).2, (prefix_is p).1, w, e, prefix_at, walk)
+    (ap (λ w. (w.0, 1 + w.1))
+    (suffix_walk (Decimal p) 2 (text / 256) rest (rw f refl) _ refl _ refl _ refl _ refl _ refl))
+
+-- the first bytes are the digits of their number in base 256
+first_digits : (n : ℕ) (bytes : List ℕ) → n ≤ length bytes → AllBelowBase 256 bytes
+    → digits_l 256 n (number_l 256 (take n bytes)) ++ drop n bytes ≡ bytes
+first_digits zero bytes long small = refl
+first_digits (suc n) [] long small = absurd (omega (arith, long))
+first_digits (suc n) (byte ∷ bytes) long small =
+    let word = number_l 256 (take n bytes) in
+    let first : (byte + 256 * word) % 256 ≡ byte = omega (arith, small.0) in
+    let rest : (byte + 256 * word) / 256 ≡ word = omega (arith, small.0) in
+    let later = first_digits n bytes (omega (arith, long)) small.1 in
+    λ i. first i ∷ (ap (λ r. digits_l 256 n r ++ drop n bytes) rest ∙ later) i
+
+-- the letters that follow in a line are the beginning of a unit, the longest one
+pub letters_in_line : {line bytes : List ℕ} {from text power a b n : ℕ} → ((i : ℕ) → Fits w8 (get_or bytes i 0))
+    → IsLineOf line bytes → from ≤ length line → text ≡ number_l 256 (first_eight (drop from bytes))
+    → power ≡ letter_power (text % 256) → let next = text / 256 % 256 in
+    let binary = not (eqb power 0) && (eqb next 105 || eqb next 73) in
+    a ≡ bool_byte (not (eqb power 0)) → b ≡ bool_byte binary → let word = text / 2 ^ (8 * (a + b)) in
+    n ≡ bits_len (digits_l 256 8 word)
+    → IsLeadingUnit (drop from line) (scan_of (multiple_of power binary) (word_of n (eqb (word % 256) 66))) (a + b + n)
+letters_in_line {line} {bytes} {from} {text} fits is inside text_is letter a_is b_is n_is =
+    let eight = drop from bytes ++ replicate 8 0 in
+    let small = (zeros_after (drop from bytes) 8 (bytes-drop from bytes (bytes_of bytes (λ i. (fits i).fits)))).0 in
+    let parts : digits_l 256 8 text ++ drop 8 eight ≡ drop from line ++ (is.after ++ replicate 8 0) =
+    rw text_is (first_digits 8 eight (omega (arith, length-append (drop from bytes) (replicate 8 0))) small)
+    ∙ (ap (λ rest. rest ++ replicate 8 0) (rest_of_line line bytes from is inside)
+    ∙ append_assoc (drop from line) is.after (replicate 8 0)) in
+    walk_leads (drop from line) _ _ (sym (ap (walk start) parts ∙ walk_line (drop from line) is.after start is.ends)
+    ∙ rw (n_is, a_is, b_is, letter) (unit_walk text _ (drop 8 eight) _ refl _ (sym (i_is (text / 256 % 256))) refl))

@@ -1,0 +1,50 @@
+//! Eight bytes at a time, as a number of 64 bits: the first byte is the lowest.
+
+ghost use Rattle.std.specs.Prelude.{◌≡◌, ◌+◌, ◌<◌, ◌≤◌, length, take, drop};
+ghost use lib.Lanes.{number_l};
+ghost use Rattle.byte_unit_base.specs.PartsReading.{first_eight};
+
+use std::simd::prelude::*;
+
+/// Returns the first eight bytes from an index on. After the end of the bytes they are 0.
+#[inline(always)]
+#[tactic(auto, using(crate::proofs::Lines::last_bytes))]
+pub fn eight_at(bytes: &[u8], from: usize) -> u64
+    requires { from ≤ length bytes.now }
+    ensures { result ≡ number_l 256 (first_eight (drop from bytes.now)) }
+{
+    if bytes.len() - from >= 8 {
+        return load_eight(bytes, from);
+    }
+    if bytes.len() < 8 || from == bytes.len() {
+        return few_bytes(&bytes[from..]);
+    }
+    let start = bytes.len() - 8;
+    load_eight(bytes, start) >> (8 * (from - start))
+}
+
+/// Returns the eight bytes at an index.
+#[inline(always)]
+#[tactic(auto, using(crate::proofs::Lines::loaded_eight))]
+pub fn load_eight(bytes: &[u8], from: usize) -> u64
+    requires { from + 8 ≤ length bytes.now }
+    ensures { result ≡ number_l 256 (first_eight (drop from bytes.now)) }
+{
+    u64x1::from_le_bytes(u8x8::from_slice(&bytes[from..])).to_array()[0]
+}
+
+/// Returns fewer than eight bytes, one after the other.
+#[inline(always)]
+#[tactic(auto, using(crate::proofs::Lines::byte_before))]
+fn few_bytes(bytes: &[u8]) -> u64
+    requires { length bytes.now < 8 }
+    ensures { result ≡ number_l 256 (first_eight bytes.now) }
+{
+    let mut word = 0;
+    let mut start = bytes.len();
+    while start > 0 {
+        start -= 1;
+        word = word * 256 + u64::from(bytes[start]);
+    }
+    word
+}
