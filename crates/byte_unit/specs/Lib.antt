@@ -32,6 +32,7 @@ pub use Rattle.byte_unit_base.specs.LeastOfKind
 pub use Rattle.byte_unit_base.specs.SizeOrNone
 pub use Rattle.byte_unit_base.specs.Accepted
 pub use Rattle.byte_unit_base.specs.SizeReading
+pub use Rattle.byte_unit_base.specs.Line
 pub use Rattle.byte_unit_base.specs.JsonReading
 pub use Rattle.byte_unit_base.specs.Family
 pub use Rattle.byte_unit_base.specs.Choice

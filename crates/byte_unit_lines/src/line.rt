@@ -1,7 +1,8 @@
 //! The answer to one line.
 
-ghost use Rattle.std.specs.Prelude.{◌≡◌, ◌+◌, ◌≤◌, ◌∷◌, [], ◌++◌, OnOk, OnErr, IsOk, vec_len, vec_capacity};
+ghost use Rattle.std.specs.Prelude.{◌≡◌, ◌+◌, ◌≤◌, ◌∷◌, [], ◌++◌, OnOk, OnErr, IsOk, take, vec_len, vec_capacity};
 ghost use Rattle.byte_unit.specs.Errors.{size_fault};
+ghost use Rattle.byte_unit.specs.Line.{IsLine};
 ghost use Rattle.byte_unit.specs.declared.Kind.TheVariants.{Byte as InBytes, Bit as InBits};
 ghost use Rattle.byte_unit_lines.specs.Answer.{words_of};
 ghost use Rattle.byte_unit_lines.specs.Capacity.{answer_max};
@@ -15,37 +16,47 @@ use std::alloc::{AllocError, Allocator};
 /// The maximum length in bytes of an answer: two strings of at most 37 bytes, ` = ` between them, and the line end.
 pub(crate) const ANSWER_MAX: usize = 78;
 
-/// Appends the answer to a line, with its line end.
+/// Appends the answer to the line at the beginning of bytes, its first `len` bytes, with its line end.
+///
+/// Precondition (proved at every call): `len <= bytes.len()`, and the line ends there: the next byte is a line end, or
+/// there is none.
 ///
 /// # Errors
 /// Returns `AllocError`, and appends nothing, if allocation fails. It never does if `out` has capacity for
 /// [`ANSWER_MAX`] bytes more.
 pub(crate) fn add_answer<A: Allocator>(
-    line: &[u8],
+    bytes: &[u8],
+    len: usize,
     kind: Kind,
     out: &mut Vec<u8, A>,
 ) -> Result<(), AllocError>
-    ensures ok { OnOk result (AddsAnswer kind line.now out.old.items out.new.items) }
+    requires { IsLine bytes.now len }
+    ensures ok { OnOk result (AddsAnswer kind (take len bytes.now) out.old.items out.new.items) }
     ensures err { OnErr result (out.new.items ≡ out.old.items) }
     ensures succeeds { vec_len out.old + answer_max ≤ vec_capacity out.old → IsOk result }
     ensures len { vec_len out.new ≤ vec_len out.old + answer_max }
     ensures capacity { vec_capacity out.old ≤ vec_capacity out.new }
 {
     match kind {
-        Kind::Byte => answer_bytes(line, out),
-        Kind::Bit => answer_bits(line, out),
+        Kind::Byte => answer_bytes(bytes, len, out),
+        Kind::Bit => answer_bits(bytes, len, out),
     }
 }
 
 /// Appends the answer to a line, parsed as a size in bytes. The errors are those of [`add_answer`].
-fn answer_bytes<A: Allocator>(line: &[u8], out: &mut Vec<u8, A>) -> Result<(), AllocError>
-    ensures ok { OnOk result (AddsAnswer InBytes line.now out.old.items out.new.items) }
+fn answer_bytes<A: Allocator>(
+    bytes: &[u8],
+    len: usize,
+    out: &mut Vec<u8, A>,
+) -> Result<(), AllocError>
+    requires { IsLine bytes.now len }
+    ensures ok { OnOk result (AddsAnswer InBytes (take len bytes.now) out.old.items out.new.items) }
     ensures err { OnErr result (out.new.items ≡ out.old.items) }
     ensures succeeds { vec_len out.old + answer_max ≤ vec_capacity out.old → IsOk result }
     ensures len { vec_len out.new ≤ vec_len out.old + answer_max }
     ensures capacity { vec_capacity out.old ≤ vec_capacity out.new }
 {
-    match Byte::parse_bytes(line, false) {
+    match Byte::parse_line(bytes, len, false) {
         Some(Ok(size)) => {
             let mut answer = [0; ANSWER_MAX];
             let end = size.write_with_digits(*b" = ", &mut answer);
@@ -58,14 +69,19 @@ fn answer_bytes<A: Allocator>(line: &[u8], out: &mut Vec<u8, A>) -> Result<(), A
 }
 
 /// Appends the answer to a line, parsed as a size in bits. The errors are those of [`add_answer`].
-fn answer_bits<A: Allocator>(line: &[u8], out: &mut Vec<u8, A>) -> Result<(), AllocError>
-    ensures ok { OnOk result (AddsAnswer InBits line.now out.old.items out.new.items) }
+fn answer_bits<A: Allocator>(
+    bytes: &[u8],
+    len: usize,
+    out: &mut Vec<u8, A>,
+) -> Result<(), AllocError>
+    requires { IsLine bytes.now len }
+    ensures ok { OnOk result (AddsAnswer InBits (take len bytes.now) out.old.items out.new.items) }
     ensures err { OnErr result (out.new.items ≡ out.old.items) }
     ensures succeeds { vec_len out.old + answer_max ≤ vec_capacity out.old → IsOk result }
     ensures len { vec_len out.new ≤ vec_len out.old + answer_max }
     ensures capacity { vec_capacity out.old ≤ vec_capacity out.new }
 {
-    match Bit::parse_bytes(line) {
+    match Bit::parse_line(bytes, len) {
         Some(Ok(size)) => {
             let mut answer = [0; ANSWER_MAX];
             let end = size.write_with_digits(*b" = ", &mut answer);

@@ -219,7 +219,7 @@ pub fn run_with_buffers<A: Allocator, R: Read, W: Write>(
     if line.is_empty() {
         Ok(())
     } else {
-        add_answer(line, kind, waiting)?;
+        add_answer(line, line.len(), kind, waiting)?;
         write_whole(writer, waiting)
     }
 }
@@ -283,10 +283,10 @@ fn feed<A: Allocator>(
     let mut rest = bytes;
     while let Some(n) = end_of(rest) {
         if line.is_empty() {
-            add_answer(&rest[..n], kind, waiting)?;
+            add_answer(rest, n, kind, waiting)?;
         } else {
             line.extend_from_slice(&rest[..n])?;
-            add_answer(line, kind, waiting)?;
+            add_answer(line, line.len(), kind, waiting)?;
             line.clear();
         }
         rest = &rest[n + 1..];

@@ -1,5 +1,7 @@
 //! Parsing of sizes in bytes.
 
+ghost use Rattle.std.specs.Prelude.{take};
+ghost use Rattle.byte_unit_base.specs.Line.{IsLine};
 ghost use Rattle.byte_unit_base.specs.SizeReading.{IsSizeReading, IsBytesReading};
 ghost use Rattle.byte_unit_base.specs.declared.kind.Kind.TheVariants.{Byte as InBytes};
 
@@ -59,7 +61,30 @@ impl Byte {
     pub fn parse_bytes(bytes: &[u8], ignore_case: bool) -> Option<Result<Byte, ParseError>>
         ensures { IsBytesReading InBytes ignore_case bytes.now result }
     {
-        match size::parse_bytes(bytes, ignore_case, Kind::Byte)? {
+        Byte::parse_line(bytes, bytes.len(), ignore_case)
+    }
+
+    /// Parses a size from the line at the beginning of bytes, its first `len` bytes, as [`Byte::parse_bytes`] does
+    /// from these. In a buffer of many lines this is faster.
+    ///
+    /// Precondition (proved at every call): `len <= bytes.len()`, and the line ends there: the next byte is a line
+    /// feed, or there is none.
+    ///
+    /// # Examples
+    /// ```rust
+    /// let size = Byte::parse_line(b"1.5 KiB\n12\n", 7, false);
+    /// assert!(rt; matches!(size, Some(Ok(size)) if size == Byte::from_u64(1536)));
+    /// ```
+    #[inline(always)]
+    pub fn parse_line(
+        bytes: &[u8],
+        len: usize,
+        ignore_case: bool,
+    ) -> Option<Result<Byte, ParseError>>
+        requires { IsLine bytes.now len }
+        ensures { IsBytesReading InBytes ignore_case (take len bytes.now) result }
+    {
+        match size::parse_line(bytes, len, ignore_case, Kind::Byte)? {
             Ok(size) => Some(Ok(Byte { size })),
             Err(error) => Some(Err(error)),
         }

@@ -2,7 +2,7 @@
 -- The capacity that is left covers the lines that are left.
 use Rattle.std.proofs.Common.{◌+◌, ◌-◌, ◌++◌, ◌≡◌, length, take, drop, sym, ap, ◌∙◌, arith, length-drop, vec_len}
 use Rattle.std.specs.Prelude.{vec_capacity}
-use Rattle.std.proofs.lemmas.List.{take_rest}
+use Rattle.std.proofs.lemmas.List.{take_all, take_rest}
 use Rattle.byte_unit_lines.proofs.Feeding.{Feed, IsAnsweredTo, AddsAnswer-same, IsFed-step, IsFedWithin}
 use Rattle.byte_unit_lines.proofs.Runs.{empty_from_length}
 use Rattle.byte_unit_lines.proofs.run.feed.Goals.{then-is_empty+in_ok-add_answer}
@@ -36,7 +36,9 @@ loop-n-preserved g c =
             rest_is = rest_is;
           }
       | else-is_empty+in_ok-extend_from_slice+in_ok-add_answer-2 w ↦
-          let joined : w.deref.result.now ≡ front ++ back = w.deref.ensures.value ∙ w.in_ok-extend_from_slice.ensures.items in
+          let line = w.deref.result.now in
+          let joined : take w.len.result line ≡ front ++ back =
+          take_all w.len.result line (omega arith) ∙ (w.deref.ensures.value ∙ w.in_ok-extend_from_slice.ensures.items) in
           record {
             ends = ends;
             answer = AddsAnswer-same c.args.kind (front ++ back) now.answers w.in_ok-add_answer-2.ensures.ok joined

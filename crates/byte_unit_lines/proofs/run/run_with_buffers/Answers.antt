@@ -1,7 +1,7 @@
 -- Each read is served: the answers to the lines that end in it are written, and the line that it has begun waits.
 -- Memory is not the answer while the lines are no longer than the limit.
 use Rattle.std.proofs.Common.{◌≡◌, ◌≢◌, ◌+◌, ◌≤◌, [], ◌++◌, refl, sym, ap, subst, ◌∙◌, take, length, vec_len, arith, rules}
-use Rattle.std.proofs.lemmas.List.{length-take}
+use Rattle.std.proofs.lemmas.List.{length-take, take_all}
 use Rattle.std.proofs.lemmas.Result.{on_ok_weaker}
 use Rattle.std.proofs.KnownBytes.{Consumes-kept}
 use Rattle.byte_unit_lines.specs.Answer.{IsAnswer}
@@ -199,7 +199,8 @@ returns-in_ok-add_answer-clause-run g c =
     let bytes = c.deref-else-is_empty.result.now in
     let same : added.0 ≡ bytes =
     sym (c.deref-else-is_empty.ensures.value ∙ added.2 ∙ ap (λ before. before ++ added.0) so_far.none_wait) in
-    let is_answer = subst (IsAnswer c.args.kind line) same added.1 in
+    let whole = take_all c.len-else-is_empty.result line (omega arith) in
+    let is_answer = subst (IsAnswer c.args.kind line) same (subst (λ text. IsAnswer c.args.kind text added.0) whole added.1) in
     let write = c.write_whole.ensures in
     let by : IsWrittenBy held holds bytes c.write_whole.result =
     record { whole = write.ok; part = write.err; error = write.write } in
