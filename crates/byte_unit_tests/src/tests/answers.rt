@@ -1,4 +1,7 @@
 //! Expected results of parsing, with the fields of each error.
+
+ghost use Rattle.std.specs.Prelude.{◌≡◌, ◌<◌, length, slice_index};
+
 use byte_unit::{Bit, Byte, ParseError, UnitParseError, ValueParseError};
 use std::process::Abort;
 
@@ -69,19 +72,47 @@ fn assert_result(rt: &impl Abort, text: &str, read: Result<u128, ParseError>, wa
     assert!(rt; is_wanted, "{text} is {read:?}");
 }
 
-/// Asserts the result of parsing a string as bytes, by `parse_str` and from its UTF-8 bytes.
+/// The length of a buffer, more than that of most strings here.
+const BUFFER: usize = 96;
+
+/// Returns a buffer that begins with a line, after which there are digits.
+fn buffer_with(line: &[u8]) -> [u8; BUFFER]
+    requires { length line.now < BUFFER }
+    ensures { slice_index result (length line.now) ≡ 10 }
+{
+    let mut buffer = [b'7'; BUFFER];
+    let (front, rest) = buffer.split_at_mut(line.len());
+    front.copy_from_slice(line);
+    rest[0] = b'\n';
+    buffer
+}
+
+/// Asserts the result of parsing a string as bytes, by `parse_str`, from its UTF-8 bytes, and as the line at the
+/// beginning of a buffer.
 pub fn assert_bytes(rt: &impl Abort, text: &str, ignore_case: bool, wanted: Expected) {
     let read = Byte::parse_str(text, ignore_case).map(Byte::as_u128);
     assert_result(rt, text, read, wanted);
     let read = Byte::parse_bytes(text.as_bytes(), ignore_case).expect(rt, "a text");
     assert_result(rt, text, read.map(Byte::as_u128), wanted);
+    let len = text.len();
+    if len < BUFFER {
+        let buffer = buffer_with(text.as_bytes());
+        let read = Byte::parse_line(&buffer, len, ignore_case).expect(rt, "a text");
+        assert_result(rt, text, read.map(Byte::as_u128), wanted);
+    }
 }
 
-/// Asserts the result of parsing a string as bits, by `parse_str` and from its UTF-8 bytes.
+/// Asserts the result of parsing a string as bits, as `assert_bytes` does.
 pub fn assert_bits(rt: &impl Abort, text: &str, wanted: Expected) {
     assert_result(rt, text, Bit::parse_str(text).map(Bit::as_u128), wanted);
     let read = Bit::parse_bytes(text.as_bytes()).expect(rt, "a text");
     assert_result(rt, text, read.map(Bit::as_u128), wanted);
+    let len = text.len();
+    if len < BUFFER {
+        let buffer = buffer_with(text.as_bytes());
+        let read = Bit::parse_line(&buffer, len).expect(rt, "a text");
+        assert_result(rt, text, read.map(Bit::as_u128), wanted);
+    }
 }
 
 /// Asserts the result of parsing each string as bytes.
