@@ -67,7 +67,7 @@ impl FromStr for Unit {
 
 /// Parses a unit from a line, from an index on to its end. Nothing is trimmed. The line is at the beginning of `bytes`.
 ///
-/// Every unit takes the same instructions: a branch on the unit could not be predicted if the units are random.
+/// There is no branch on the letters where eight bytes can be loaded: it could not be predicted on random units.
 ///
 /// # Errors
 /// Returns the parser state and the index, counted from `from`, where it stops: at a character that cannot continue the
