@@ -59,21 +59,11 @@ loaded_eight from bytes fits inside =
     mod-eq_of_lt (omega (arith, word_below 8 rest small))
     ∙ ap (number_l 256) (sym (whole_word rest (omega (arith, inside, length-drop from bytes))))
 
--- a byte before fewer than seven others, which are a number of 56 bits
-pub byte_before : (start : ℕ) (bytes : List ℕ) → ((k : ℕ) → Fits w8 (get_or bytes k 0)) → length bytes < 8
-    → start ≤ length bytes → 0 < start
-    → (number_l 256 (drop start bytes) * 256 + get_or bytes (start - 1) 0 ≡ number_l 256 (drop (start - 1) bytes))
-    × (number_l 256 (drop start bytes) < 2 ^ 56) × (get_or bytes (start - 1) 0 < 256)
-byte_before start bytes fits few inside some =
-    let rest = drop start bytes in
-    let next : start - 1 + 1 ≡ start = omega (arith, some) in
-    let more = drop_more bytes (start - 1) 0 (omega (arith, inside, some)) in
-    let all = take_all 7 rest (omega (arith, few, length-drop start bytes)) in
-    let small = bytes-drop start bytes (bytes_of bytes (λ k. (fits k).fits)) in (
-      omega (arith, ap (number_l 256) more, ap (λ n. number_l 256 (drop n bytes)) next),
-      omega (arith, word_below 7 rest small, ap (number_l 256) all),
-      (fits (start - 1)).fits,
-    )
+-- four bytes in a slice fit 32 bits
+pub loaded_four : (from : ℕ) (bytes : List ℕ) → ((k : ℕ) → Fits w8 (get_or bytes k 0)) → from + 4 ≤ length bytes
+    → number_l 256 (take 4 (drop from bytes)) % 2 ^ 32 ≡ number_l 256 (take 4 (drop from bytes))
+loaded_four from bytes fits inside =
+    mod-eq_of_lt (word_below 4 (drop from bytes) (bytes-drop from bytes (bytes_of bytes (λ k. (fits k).fits))))
 
 -- zeros after at most eight bytes leave their number as it is
 pub padded_word : (bytes : List ℕ) → length bytes ≤ 8 → AllBelowBase 256 bytes
@@ -85,6 +75,33 @@ padded_word bytes few small =
     ∙ (ap (number_l 256) (take-append-add bytes (replicate 8 0) count
     ∙ ap (λ zeros. bytes ++ zeros) (take-replicate count 8 0 (omega arith)))
     ∙ sym ((zeros_after bytes count small).1))
+
+-- four bytes and those after them are a number
+four_and_rest : (bytes : List ℕ) → 4 ≤ length bytes
+    → number_l 256 (take 4 bytes) + number_l 256 (drop 4 bytes) * 2 ^ 32 ≡ number_l 256 bytes
+four_and_rest (a ∷ b ∷ c ∷ d ∷ rest) many = omega arith
+four_and_rest _ many = absurd (omega (arith, many))
+
+-- the last four of fewer than eight bytes, shifted to the right, are those after the first four
+pub after_four : (bytes : List ℕ) → ((k : ℕ) → Fits w8 (get_or bytes k 0)) → 4 ≤ length bytes → length bytes < 8
+    → let last = number_l 256 (take 4 (drop (length bytes - 4) bytes)) / 2 ^ (8 * (8 - length bytes)) in
+    (last < 2 ^ 32) × (number_l 256 (take 4 bytes) < 2 ^ 32)
+    × (number_l 256 (take 4 bytes) + last * 2 ^ 32 ≡ number_l 256 (first_eight bytes))
+after_four bytes fits many few =
+    let start = length bytes - 4 in
+    let over = 8 - length bytes in
+    let small = bytes_of bytes (λ k. (fits k).fits) in
+    let at_four : start + over ≡ 4 = omega (arith, many, few) in
+    let last : number_l 256 (take 4 (drop start bytes)) / 2 ^ (8 * over) ≡ number_l 256 (drop 4 bytes) =
+    ap (λ ds. number_l 256 ds / 2 ^ (8 * over)) (take_all 4 (drop start bytes) (omega (arith, length-drop start bytes)))
+    ∙ (bytes_down (drop start bytes) over (bytes-drop start bytes small) (omega (arith, many))
+    ∙ ap (number_l 256) (drop-drop over start bytes ∙ ap (λ n. drop n bytes) at_four)) in
+    let rest = ap (number_l 256) (take_all 4 (drop 4 bytes) (omega (arith, few, length-drop 4 bytes))) in (
+      omega (arith, last, rest, word_below 4 (drop 4 bytes) (bytes-drop 4 bytes small)),
+      word_below 4 bytes small,
+      ap (λ n. number_l 256 (take 4 bytes) + n * 2 ^ 32) last
+      ∙ (four_and_rest bytes many ∙ sym (padded_word bytes (omega (arith, few)) small)),
+    )
 
 -- the bytes from an index on are the last eight, shifted to the right
 pub last_bytes : (from : ℕ) (bytes : List ℕ) → ((k : ℕ) → Fits w8 (get_or bytes k 0)) → 8 ≤ length bytes

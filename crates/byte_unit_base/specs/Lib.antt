@@ -35,4 +35,6 @@ pub mod ParsedLaws
 pub mod Versions
 -- private: no public contract cites these
 pub mod PartsReading
+pub mod Expected
+pub mod StopReading
 pub mod Multiples

@@ -9,8 +9,10 @@ pub use crate::errors::{
 };
 pub use crate::kind::Kind;
 pub use crate::read::read_size;
+pub use crate::read::stop::{Reason, error_at};
 pub use crate::recover::{appropriate_unit, exact_unit, recoverable_unit};
 pub use crate::unit::family::Family;
+pub use crate::unit::scan::{Expected, Flags};
 pub use crate::unit::unit_type::UnitType;
 pub use crate::unit::{Unit, unit_with_prefix};
 

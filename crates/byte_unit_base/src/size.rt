@@ -1,6 +1,6 @@
 //! Sizes of either kind, as numbers below the limit: what the size types have in common.
 
-ghost use Rattle.std.specs.Prelude.{◌≡◌, ℕ, Bool, List, ◌+◌, ◌*◌, ◌<◌, ◌≤◌, SomeIff, IfSome, IfOk, take};
+ghost use Rattle.std.specs.Prelude.{◌≡◌, ℕ, Bool, List, ◌+◌, ◌*◌, ◌<◌, ◌≤◌, SomeIff, IfSome, IfOk, length, take};
 ghost use Rattle.std.specs.Prelude.{Ok, Err};
 ghost use Rattle.std.specs.Str.{IsUtf8};
 ghost use Rattle.byte_unit_math.specs.Bounds.{size_limit};
@@ -13,6 +13,7 @@ ghost use Rattle.byte_unit_base.specs.SizeReading.{IsSizeReading, IsBytesReading
 ghost use Rattle.byte_unit_base.specs.SizeOrNone.{IsSizeOfUnit, IsSizeOfDecimal};
 ghost use Rattle.byte_unit_base.specs.Line.{IsLine};
 ghost use Rattle.byte_unit_base.specs.PartsReading.{IsLineOf, IsStopAt, IsBytesNumber};
+ghost use Rattle.byte_unit_base.specs.StopReading.{IsCharOfStops};
 
 use crate::read::parts::{has_visible_ends, read_parts};
 use crate::read::stop::{Reason, Stop, error_at, first_ascii};
@@ -202,31 +203,27 @@ fn read_line(
     read_parts(line, bytes, flags_for(kind, ignore_case))
 }
 
-/// Returns the error of bytes in which `read_bytes` stops at this place and for this reason. Returns `None` if there may
-/// be white space to trim, or characters past ASCII.
+/// Returns the character of bytes at a place, or `Some(None)` at their end. Returns `None` if there may be white space to
+/// trim, or characters past ASCII.
+///
+/// If `read_bytes` stops at the place, [`error_at`](crate::error_at) makes the error of its reason and this character.
+///
+/// Precondition (proved at every call): `place <= bytes.len()`.
 ///
 /// # Examples
 /// ```rust
-/// if let Err(stop) = size::read_bytes(b"1 byte", false, Kind::Byte) {
-///     let error = size::visible_error(b"1 byte", stop.place, stop.reason, false, Kind::Byte);
-///     assert!(rt; matches!(error, Some(ParseError::Unit(_))));
-/// }
+/// assert_eq!(rt; size::visible_next(b"1 byte", 3), Some(Some('y')));
+/// assert_eq!(rt; size::visible_next(b"1 bi", 4), Some(None));
+/// assert_eq!(rt; size::visible_next(b"1 byte ", 3), None);
 /// ```
 #[inline(always)]
-pub fn visible_error(
-    bytes: &[u8],
-    place: usize,
-    reason: Reason,
-    ignore_case: bool,
-    kind: Kind,
-) -> Option<ParseError>
-    requires { IsStopAt (flags_for kind ignore_case) bytes.now place reason }
-    ensures { IfSome result (λ error. IsUtf8 bytes.now × IsSizeReading kind ignore_case bytes.now (Err error)) }
+pub fn visible_next(bytes: &[u8], place: usize) -> Option<Option<char>>
+    requires { place ≤ length bytes.now }
+    ensures { IfSome result (IsCharOfStops bytes.now place) }
 {
     let rest = &bytes[place..];
     if has_visible_ends(bytes) && rest.is_ascii() {
-        let flags = flags_for(kind, ignore_case);
-        Some(error_at(first_ascii(rest), place == 0, reason, flags))
+        Some(first_ascii(rest))
     } else {
         None
     }
@@ -256,7 +253,8 @@ fn parse_stopped(
     }
 }
 
-/// Returns what `visible_error` does, by a call.
+/// Returns the error of bytes in which `read_bytes` stops at this place and for this reason. Returns `None` if there may
+/// be white space to trim, or characters past ASCII.
 #[inline(never)]
 fn stopped_error(
     bytes: &[u8],
@@ -268,7 +266,9 @@ fn stopped_error(
     requires { IsStopAt (flags_for kind ignore_case) bytes.now place reason }
     ensures { IfSome result (λ error. IsUtf8 bytes.now × IsSizeReading kind ignore_case bytes.now (Err error)) }
 {
-    visible_error(bytes, place, reason, ignore_case, kind)
+    let next = visible_next(bytes, place)?;
+    let flags = flags_for(kind, ignore_case);
+    Some(error_at(next, place == 0, reason, flags))
 }
 
 /// Parses as `parse_bytes` does, from the string that the bytes are, trimmed.
@@ -315,8 +315,14 @@ pub fn size_of(found: (Decimal, Unit), kind: Kind) -> Result<u128, ParseError>
 }
 
 /// Returns the flags for parsing a size of the kind. For bits `ignore_case` has no effect.
+///
+/// # Examples
+/// ```rust
+/// assert!(rt; size::flags_for(Kind::Byte, true).ignore_case);
+/// assert!(rt; !size::flags_for(Kind::Bit, true).ignore_case);
+/// ```
 #[inline]
-fn flags_for(kind: Kind, ignore_case: bool) -> Flags
+pub fn flags_for(kind: Kind, ignore_case: bool) -> Flags
     ensures { result ≡ flags_for kind ignore_case }
 {
     let prefer_byte = matches!(kind, Kind::Byte);

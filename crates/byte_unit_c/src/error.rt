@@ -1,11 +1,14 @@
 //! The errors of parsing in the C API: a code, and a struct of details.
 
-ghost use Rattle.std.specs.Prelude.{◌≡◌, slice_set};
+ghost use Rattle.std.specs.Prelude.{◌≡◌, ◌<◌, ℕ, List, [], slice_index_or, slice_set};
 ghost use Rattle.byte_unit_base.specs.Errors.{value_fault, unit_fault};
+ghost use Rattle.byte_unit_base.specs.Expected.{expected_codes};
+ghost use Rattle.byte_unit_base.specs.Fault.{bad_unit};
+ghost use Rattle.byte_unit_c.specs.declared.error.TheConstants.{EXPECTED_BYTES};
 ghost use Rattle.byte_unit_c.specs.Error.{code_of, expected_bytes, as_byte, IsErrorOf};
 
 use crate::values::Parts;
-use byte_unit_base::{UnitParseError, ValueParseError};
+use byte_unit_base::{Expected, UnitParseError, ValueParseError};
 
 /// The details of a parse error. A field that the error's code does not use is zero.
 #[repr(C)]
@@ -83,10 +86,20 @@ impl Error {
     pub fn of_unit(error: UnitParseError) -> Error
         ensures { IsErrorOf (unit_fault error) result }
     {
+        let expected = expected_bytes(error.expected_characters);
+        Error::of_unit_parts(error.character, expected, error.also_expect_no_character)
+    }
+
+    /// Returns the details of an error in the unit, from its character, the bytes of the expected characters, and
+    /// whether the string could end there.
+    pub fn of_unit_parts(character: char, expected: [u8; 16], may_end: bool) -> Error
+        ensures { (characters : List ℕ) → expected ≡ expected_bytes characters
+            → IsErrorOf (bad_unit character characters may_end) result }
+    {
         Error {
-            character: error.character as u32,
-            also_expect_no_character: error.also_expect_no_character as u8,
-            expected: expected_bytes(error.expected_characters),
+            character: character as u32,
+            also_expect_no_character: may_end as u8,
+            expected,
             ..Error::NONE
         }
     }
@@ -112,6 +125,42 @@ pub fn expected_bytes(characters: &[char]) -> [u8; 16]
     }
     bytes
 }
+
+/// Returns the characters that an error names as expected, as `expected_bytes` returns them.
+pub fn bytes_of(expected: Expected) -> [u8; 16]
+    ensures { result ≡ expected_bytes (expected_codes expected) }
+{
+    EXPECTED_BYTES[index_of(expected)]
+}
+
+/// Returns the index of these characters in `EXPECTED_BYTES`.
+fn index_of(expected: Expected) -> usize
+    ensures within { result < 8 }
+    ensures bytes { slice_index_or EXPECTED_BYTES result [] ≡ expected_bytes (expected_codes expected) }
+{
+    match expected {
+        Expected::Beginning => 0,
+        Expected::EitherB => 1,
+        Expected::UpperB => 2,
+        Expected::LowerB => 3,
+        Expected::I => 4,
+        Expected::T => 5,
+        Expected::S => 6,
+        Expected::Nothing => 7,
+    }
+}
+
+/// The bytes of each `Expected`.
+static EXPECTED_BYTES: [[u8; 16]; 8] = [
+    *b"BKMGTPEZYR\0\0\0\0\0\0",
+    *b"Bb\0\0\0\0\0\0\0\0\0\0\0\0\0\0",
+    *b"B\0\0\0\0\0\0\0\0\0\0\0\0\0\0\0",
+    *b"b\0\0\0\0\0\0\0\0\0\0\0\0\0\0\0",
+    *b"i\0\0\0\0\0\0\0\0\0\0\0\0\0\0\0",
+    *b"t\0\0\0\0\0\0\0\0\0\0\0\0\0\0\0",
+    *b"s\0\0\0\0\0\0\0\0\0\0\0\0\0\0\0",
+    [0; 16],
+];
 
 /// Returns an ASCII character as its byte, and `?` for any other character.
 fn as_byte(c: char) -> u8

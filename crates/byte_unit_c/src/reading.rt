@@ -1,6 +1,8 @@
 //! Parsing of sizes and of units, and messages for strings that are rejected.
 
-ghost use Rattle.std.specs.Prelude.{◌≡◌, ℕ, ◌<◌, ◌≤◌, length, Option, Result, IfSome, IfNone, codes};
+ghost use Rattle.std.specs.Prelude.{◌≡◌, ℕ, ◌<◌, ◌≤◌, length, Option, Some, Result, Err, IfSome, IfNone, codes};
+ghost use Rattle.byte_unit_base.specs.Errors.{size_fault};
+ghost use Rattle.byte_unit_base.specs.PartsReading.{stop_fault};
 ghost use Rattle.byte_unit_base.specs.SizeReading.{IsBytesReading};
 ghost use Rattle.byte_unit_base.specs.declared.errors.ParseError.{ParseError};
 ghost use Rattle.byte_unit_base.specs.declared.errors.UnitParseError.{UnitParseError};
@@ -11,12 +13,12 @@ ghost use Rattle.byte_unit_c.specs.Error.{invalid_argument};
 ghost use Rattle.byte_unit_c.specs.Reading.{IsReturned, IsUnitBytesReading, IsUnitReturned, IsExplanation};
 
 use crate::codes::code_of;
-use crate::error::{Error, INVALID_ARGUMENT, NOT_UTF8, OK, UNIT};
+use crate::error::{Error, INVALID_ARGUMENT, NOT_UTF8, OK, UNIT, bytes_of};
 use crate::flags::reading_at;
 use crate::message::write_message;
 use crate::texts::write;
 use crate::values::Number;
-use byte_unit_base::{Kind, ParseError, Unit, UnitParseError, size};
+use byte_unit_base::{Flags, Kind, ParseError, Reason, Unit, UnitParseError, error_at, size};
 use std::str;
 
 /// Parses a size, rounded up to the next whole byte, or to the next whole bit with the flag `BITS` (1). Sizes are below
@@ -63,11 +65,44 @@ fn parse_as(
     match size::read_bytes(text, ignore_case, kind) {
         Ok(found) => write_result(Some(size::size_of((found.1, found.0), kind)), size, errors),
         Err(stop) => {
-            match size::visible_error(text, stop.place, stop.reason, ignore_case, kind) {
-                Some(error) => write_result(Some(Err(error)), size, errors),
+            let flags = size::flags_for(kind, ignore_case);
+            match size::visible_next(text, stop.place) {
+                Some(next) => write_stop(next, stop.place == 0, stop.reason, flags, size, errors),
                 None => parse_text_as(text, kind, ignore_case, size, errors),
             }
         }
+    }
+}
+
+/// Writes the error of a parser that stops for this reason, by the character there, and returns its code.
+///
+/// `#[inline(always)]`: the error of a unit, whose parts are written, is then never in memory.
+#[inline(always)]
+fn write_stop(
+    next: Option<char>,
+    at_start: bool,
+    reason: Reason,
+    flags: Flags,
+    size: &mut Number,
+    errors: &mut [Error],
+) -> u32
+    ensures { (error : ParseError) × (size_fault error ≡ stop_fault flags at_start reason next)
+        × IsReturned (Some (Err error)) result size.old size.new errors.old errors.new }
+{
+    match reason {
+        Reason::InUnit(scan) => {
+            let expected = bytes_of(scan.expected_before(next, flags));
+            let error = scan.error_before(next, flags);
+            Error::of_unit_parts(error.character, expected, error.also_expect_no_character).write(
+                errors,
+            );
+            UNIT
+        }
+        _ => write_result(
+            Some(Err(error_at(next, at_start, reason, flags))),
+            size,
+            errors,
+        ),
     }
 }
 
@@ -225,8 +260,12 @@ fn explain_as(text: &[u8], kind: Kind, ignore_case: bool, out: &mut [u8]) -> usi
     match size::read_bytes(text, ignore_case, kind) {
         Ok(found) => explain_result(&Some(size::size_of((found.1, found.0), kind)), out),
         Err(stop) => {
-            match size::visible_error(text, stop.place, stop.reason, ignore_case, kind) {
-                Some(error) => write_message(&error, out),
+            let flags = size::flags_for(kind, ignore_case);
+            match size::visible_next(text, stop.place) {
+                Some(next) => {
+                    let error = error_at(next, stop.place == 0, stop.reason, flags);
+                    write_message(&error, out)
+                }
                 None => explain_result(&size::parse_text(text, ignore_case, kind), out),
             }
         }

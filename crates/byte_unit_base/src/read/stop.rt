@@ -31,6 +31,13 @@ pub struct Stop {
 }
 
 /// Returns the error of a string in which the parser stops for this reason, by the character there.
+///
+/// # Examples
+/// ```rust
+/// let flags = size::flags_for(Kind::Byte, false);
+/// let error = error_at(Some('x'), true, Reason::NoDigit, flags);
+/// assert!(rt; matches!(error, ParseError::Value(ValueParseError::NotNumber('x'))));
+/// ```
 #[inline(always)]
 pub fn error_at(next: Option<char>, at_start: bool, reason: Reason, flags: Flags) -> ParseError
     ensures { size_fault result ≡ stop_fault flags at_start reason next }

@@ -33,18 +33,31 @@ pub fn load_eight(bytes: &[u8], from: usize) -> u64
     u64x1::from_le_bytes(u8x8::from_slice(&bytes[from..])).to_array()[0]
 }
 
-/// Returns fewer than eight bytes, one after the other.
+/// Returns the four bytes at an index.
 #[inline(always)]
-#[tactic(auto, using(crate::proofs::Lines::byte_before))]
+#[tactic(auto, using(crate::proofs::Lines::loaded_four))]
+fn load_four(bytes: &[u8], from: usize) -> u64
+    requires { from + 4 ≤ length bytes.now }
+    ensures { result ≡ number_l 256 (take 4 (drop from bytes.now)) }
+{
+    u64::from(u32x1::from_le_bytes(u8x4::from_slice(&bytes[from..])).to_array()[0])
+}
+
+/// Returns fewer than eight bytes. If there are four or more, the first four and the last four are loaded.
+#[inline(always)]
 fn few_bytes(bytes: &[u8]) -> u64
     requires { length bytes.now < 8 }
     ensures { result ≡ number_l 256 (first_eight bytes.now) }
 {
-    let mut word = 0;
-    let mut start = bytes.len();
-    while start > 0 {
-        start -= 1;
-        word = word * 256 + u64::from(bytes[start]);
+    match bytes {
+        [] => 0,
+        [a] => u64::from(*a),
+        [a, b] => u64::from(*a) + u64::from(*b) * 256,
+        [a, b, c] => u64::from(*a) + u64::from(*b) * 256 + u64::from(*c) * 65536,
+        _ => {
+            let len = bytes.len();
+            let after_four = load_four(bytes, len - 4) >> (8 * (8 - len));
+            load_four(bytes, 0) + (after_four << 32)
+        }
     }
-    word
 }

@@ -1,6 +1,6 @@
 //! The states of the parser of a unit, and the unit or the error of each.
 
-ghost use Rattle.std.specs.Prelude.{◌≡◌, ◌≤◌};
+ghost use Rattle.std.specs.Prelude.{◌≡◌, ◌≤◌, ℕ};
 ghost use Rattle.byte_unit_base.specs.UnitScan.{multiple_shape};
 ghost use Rattle.byte_unit_base.specs.UnitWord.{multiple_of};
 ghost use Rattle.byte_unit_base.specs.Units.{shape_of};
@@ -47,6 +47,22 @@ pub struct UnitScan {
     pub word: Word,
 }
 
+/// The characters that the error of a unit names as expected.
+#[derive(Clone, Copy)]
+pub enum Expected {
+    /// `B` and the capital letters of the prefixes.
+    Beginning,
+    /// `B` and `b`.
+    EitherB,
+    UpperB,
+    LowerB,
+    I,
+    T,
+    S,
+    /// No character.
+    Nothing,
+}
+
 /// The options of the parsers.
 #[derive(Clone, Copy)]
 pub struct Flags {
@@ -82,6 +98,7 @@ impl Prefix {
 impl UnitScan {
     ghost use Rattle.byte_unit_base.specs.UnitScan.{unit_parser_state};
     ghost use Rattle.byte_unit_base.specs.PartsReading.{unit_stop_fault};
+    ghost use Rattle.byte_unit_base.specs.Expected.{expected_codes, named_in};
     ghost use Rattle.byte_unit_base.specs.Version.{current};
     ghost use Rattle.byte_unit_base.specs.Fault.{fault_at};
     ghost use Rattle.byte_unit_base.specs.Errors.{unit_fault};
@@ -97,35 +114,70 @@ impl UnitScan {
         }
     }
 
+    /// Returns what the error of `error_before` names as expected.
+    #[inline(always)]
+    pub fn expected_before(self, next: Option<char>, flags: Flags) -> Expected
+        ensures { expected_codes result ≡ named_in (unit_stop_fault flags self next) }
+    {
+        match next {
+            Some(_) => self.expected(flags),
+            None => Expected::Nothing,
+        }
+    }
+
     /// Returns the error of a character that cannot continue a unit.
     #[inline(always)]
     fn error_at(self, flags: Flags, character: char) -> UnitParseError
         ensures { unit_fault result ≡ fault_at current flags (unit_parser_state self) character }
     {
-        let expected_characters: &'static [char] = match self.word {
-            Word::Empty => match self.multiple {
-                Multiple::One => &BEGINNINGS,
-                // After a prefix both letters if case counts, and else the letter of the preferred kind.
-                _ if !flags.ignore_case => &['B', 'b'],
-                _ if flags.prefer_byte => &['B'],
-                _ => &['b'],
-            },
-            Word::UpperB | Word::LowerB => &['i'],
-            Word::Bi => &['t'],
-            Word::Bit => &['s'],
-            Word::Bits => &[],
-        };
-        let also_expect_no_character = !matches!(self.word, Word::Bi);
         UnitParseError {
             character,
-            expected_characters,
-            also_expect_no_character,
+            expected_characters: self.expected(flags).characters(),
+            also_expect_no_character: !matches!(self.word, Word::Bi),
+        }
+    }
+
+    /// Returns what is expected in place of a character that cannot continue a unit. After a prefix it is both letters
+    /// if case counts, and else the letter of the preferred kind.
+    #[inline(always)]
+    fn expected(self, flags: Flags) -> Expected
+        ensures { (c : ℕ) → expected_codes result ≡ named_in (fault_at current flags (unit_parser_state self) c) }
+    {
+        match self.word {
+            Word::Empty => match self.multiple {
+                Multiple::One => Expected::Beginning,
+                _ if !flags.ignore_case => Expected::EitherB,
+                _ if flags.prefer_byte => Expected::UpperB,
+                _ => Expected::LowerB,
+            },
+            Word::UpperB | Word::LowerB => Expected::I,
+            Word::Bi => Expected::T,
+            Word::Bit => Expected::S,
+            Word::Bits => Expected::Nothing,
         }
     }
 }
 
-/// The capital letters with which a unit can begin.
-static BEGINNINGS: [char; 10] = ['B', 'K', 'M', 'G', 'T', 'P', 'E', 'Z', 'Y', 'R'];
+impl Expected {
+    ghost use Rattle.byte_unit_base.specs.Expected.{expected_codes};
+
+    /// Returns the characters.
+    #[inline(always)]
+    fn characters(self) -> &'static [char]
+        ensures { result.now ≡ expected_codes self }
+    {
+        match self {
+            Expected::Beginning => &['B', 'K', 'M', 'G', 'T', 'P', 'E', 'Z', 'Y', 'R'],
+            Expected::EitherB => &['B', 'b'],
+            Expected::UpperB => &['B'],
+            Expected::LowerB => &['b'],
+            Expected::I => &['i'],
+            Expected::T => &['t'],
+            Expected::S => &['s'],
+            Expected::Nothing => &[],
+        }
+    }
+}
 
 /// Returns the unit with the prefix of this position, or without a prefix if it is 0.
 #[inline(always)]

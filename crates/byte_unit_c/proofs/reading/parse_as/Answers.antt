@@ -9,4 +9,8 @@ returns-in-Ok c =
 
 pub returns-in-Some : goal.returns-in-Some
 returns-in-Some c =
-    (Some (Err c.in-Some.error), c.in-Some.ensures, c.write_result-in-Some.ensures)
+    let stop = c.in-Err.stop in
+    let written = c.write_stop.ensures in
+    let error_is = rw c.flags_for-flags.ensures at written.1 in
+    let reading = c.in-Some.ensures c.args.kind c.args.ignore_case stop.reason written.0 c.in-Err.ensures error_is in
+    (Some (Err written.0), reading, written.2)
