@@ -3,7 +3,7 @@ use Rattle.std.proofs.Common.{◌≡◌, ℕ, suc, zero, ◌<◌, ◌≤◌, Lis
 use Rattle.std.proofs.Common.{◌+◌, ◌-◌, ◌*◌, ◌^◌, ◌%◌, replicate, get_or, length-drop, Fits, w8, cond, refl}
 use Rattle.std.proofs.Common.{◌/◌, slice_range}
 use Rattle.std.proofs.lemmas.List.{take-append-drop, drop-append-le, take_all, take-replicate}
-use Rattle.std.proofs.lemmas.List.{take-append-le, drop_more, drop-drop, take-take}
+use Rattle.std.proofs.lemmas.List.{take-append-le, drop-drop, take-take}
 use Rattle.std.specs.Prelude.{slice_index}
 use Rattle.std.proofs.Math.Nat.{pow-suc, mod-eq_of_lt}
 use Rattle.std.proofs.Math.Seq.{take-append-add}
@@ -100,7 +100,7 @@ after_four bytes fits many few =
       omega (arith, last, rest, word_below 4 (drop 4 bytes) (bytes-drop 4 bytes small)),
       word_below 4 bytes small,
       ap (λ n. number_l 256 (take 4 bytes) + n * 2 ^ 32) last
-      ∙ (four_and_rest bytes many ∙ sym (padded_word bytes (omega (arith, few)) small)),
+          ∙ (four_and_rest bytes many ∙ sym (padded_word bytes (omega (arith, few)) small)),
     )
 
 -- the bytes from an index on are the last eight, shifted to the right

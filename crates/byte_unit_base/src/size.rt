@@ -1,8 +1,8 @@
 //! Sizes of either kind, as numbers below the limit: what the size types have in common.
 
-ghost use Rattle.std.specs.Prelude.{◌≡◌, ℕ, Bool, List, ◌+◌, ◌*◌, ◌<◌, ◌≤◌, SomeIff, IfSome, IfOk, length, take};
+ghost use Rattle.std.specs.Prelude.{◌≡◌, ℕ, Bool, List, ◌+◌, ◌*◌, ◌<◌, ◌≤◌, SomeIff, IfSome, IfOk, length, take, drop, IsTrue};
 ghost use Rattle.std.specs.Prelude.{Ok, Err};
-ghost use Rattle.std.specs.Str.{IsUtf8};
+ghost use Rattle.std.specs.Str.{IsUtf8, IsAscii};
 ghost use Rattle.byte_unit_math.specs.Bounds.{size_limit};
 ghost use Rattle.byte_unit_base.specs.Shape.{bits};
 ghost use Rattle.byte_unit_base.specs.Version.{current};
@@ -221,11 +221,25 @@ pub fn visible_next(bytes: &[u8], place: usize) -> Option<Option<char>>
     requires { place ≤ length bytes.now }
     ensures { IfSome result (IsCharOfStops bytes.now place) }
 {
-    let rest = &bytes[place..];
-    if has_visible_ends(bytes) && rest.is_ascii() {
-        Some(first_ascii(rest))
+    if has_visible_ends(bytes) && is_ascii_from(bytes, place) {
+        Some(first_ascii(&bytes[place..]))
     } else {
         None
+    }
+}
+
+/// Returns whether bytes are ASCII from an index on, or `false` if one before it is not. The last four are tested at
+/// once.
+#[inline(always)]
+fn is_ascii_from(bytes: &[u8], from: usize) -> bool
+    requires { from ≤ length bytes.now }
+    ensures { IsTrue result → IsAscii (drop from bytes.now) }
+{
+    let len = bytes.len();
+    if len >= 4 && len - from <= 4 {
+        bytes[len - 4..].is_ascii()
+    } else {
+        bytes[from..].is_ascii()
     }
 }
 

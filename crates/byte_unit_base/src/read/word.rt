@@ -49,15 +49,15 @@ fn few_bytes(bytes: &[u8]) -> u64
     requires { length bytes.now < 8 }
     ensures { result ≡ number_l 256 (first_eight bytes.now) }
 {
+    let len = bytes.len();
+    if len >= 4 {
+        let after_four = load_four(bytes, len - 4) >> (8 * (8 - len));
+        return load_four(bytes, 0) + (after_four << 32);
+    }
     match bytes {
         [] => 0,
         [a] => u64::from(*a),
         [a, b] => u64::from(*a) + u64::from(*b) * 256,
-        [a, b, c] => u64::from(*a) + u64::from(*b) * 256 + u64::from(*c) * 65536,
-        _ => {
-            let len = bytes.len();
-            let after_four = load_four(bytes, len - 4) >> (8 * (8 - len));
-            load_four(bytes, 0) + (after_four << 32)
-        }
+        [a, b, c, ..] => u64::from(*a) + u64::from(*b) * 256 + u64::from(*c) * 65536,
     }
 }

@@ -1,5 +1,5 @@
 -- ASCII with visible ends is trimmed, so the error where the parser stops is that of the string.
-use Rattle.std.proofs.Common.{length, take, drop, nat_eq, slice_range, ap, sym, subst, ◌∙◌, take-append-drop}
+use Rattle.std.proofs.Common.{take, drop, nat_eq, ap, sym, subst, ◌∙◌, take-append-drop}
 use Rattle.std.specs.Str.{chars, IsAscii}
 use Rattle.std.proofs.lemmas.List.{take_rest}
 use Rattle.std.proofs.lemmas.Str.{IsAscii-append, IsUtf8-from_ascii}
@@ -10,15 +10,14 @@ use Rattle.byte_unit_base.proofs.SizeReads.{stop_reading}
 use Rattle.byte_unit_base.proofs.SizeOfText.{reading_of_fault}
 use Rattle.byte_unit_base.proofs.size.visible_next.Goals as goal
 
-pub returns-then-is_ascii : goal.returns-then-is_ascii
-returns-then-is_ascii c kind ignore_case reason error stop error_is =
+pub returns-then-is_ascii_from : goal.returns-then-is_ascii_from
+returns-then-is_ascii_from c kind ignore_case reason error stop error_is =
     let bytes = c.args.bytes.now in
     let flags = flags_for kind ignore_case in
     let place = c.args.place in
-    let rest_ascii : IsAscii (slice_range bytes place (length bytes)) = c.if-is_ascii.ensures.cases in
+    let rest_ascii = c.is_ascii_from.ensures c.if-is_ascii_from.true in
     let ascii : IsAscii bytes =
-    subst IsAscii (take-append-drop place bytes)
-    (IsAscii-append (take place bytes) (drop place bytes) stop.ascii (subst IsAscii (take_rest bytes place) rest_ascii)) in
+    subst IsAscii (take-append-drop place bytes) (IsAscii-append (take place bytes) (drop place bytes) stop.ascii rest_ascii) in
     let utf8 = IsUtf8-from_ascii bytes ascii in
     let ends = c.has_visible_ends.ensures c.if-has_visible_ends.true in
     let next_is = c.first_ascii.ensures ∙ ap (λ rest. next_char (chars rest)) (take_rest bytes place) in

@@ -3,15 +3,15 @@ use Rattle.std.proofs.Common.{◌-◌, ◌*◌, ◌/◌, ◌^◌, length, ap, ar
 use Rattle.byte_unit_base.proofs.Lines.{after_four}
 use Rattle.byte_unit_base.proofs.read.word.few_bytes.Goals as goal
 
-pub overflow_add-result-in_default : goal.overflow_add-result-in_default
-overflow_add-result-in_default c =
+pub overflow_add-result : goal.overflow_add-result
+overflow_add-result c =
     let bytes = c.args.bytes.now in
-    let parts = after_four bytes c.type_inv.bytes c.in_default.len_at_least c.requires in
-    record { fits = omega (arith, parts.1, c.load_four-in_default.ensures) }
+    let parts = after_four bytes c.type_inv.bytes c.if-len-ge4.true c.requires in
+    record { fits = omega (arith, parts.1, c.load_four-then-len-ge4.ensures) }
 
-pub returns-in_default : goal.returns-in_default
-returns-in_default c =
+pub returns-then-len-ge4 : goal.returns-then-len-ge4
+returns-then-len-ge4 c =
     let bytes = c.args.bytes.now in
-    let parts = after_four bytes c.type_inv.bytes c.in_default.len_at_least c.requires in
+    let parts = after_four bytes c.type_inv.bytes c.if-len-ge4.true c.requires in
     let shifted = ap (λ n. n / 2 ^ (8 * (8 - length bytes))) c.load_four.ensures in
-    omega (arith, parts.0, parts.2, shifted, c.load_four-in_default.ensures)
+    omega (arith, parts.0, parts.2, shifted, c.load_four-then-len-ge4.ensures)
