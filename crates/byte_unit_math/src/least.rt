@@ -57,7 +57,7 @@ pub fn least_size(d: Decimal, unit_size: u128, limit: u128) -> Option<u128>
         carry_of_group(high / GROUP, unit_size, part)
     };
     // A number of more than 128 bits exceeds each limit.
-    let size = checked_mul(d.whole(), unit_size)?.checked_add(part)?;
+    let size = checked_mul_add(d.whole(), unit_size, part)?;
     (size < limit).then_some(size)
 }
 
@@ -88,15 +88,17 @@ pub fn least_size_counted(
     least_size(d, unit_size, limit)
 }
 
-/// Returns the product, or `None` if it needs more than 128 bits. Numbers of 64 bits take one multiplication.
+/// Returns `number * unit_size + part`, or `None` if it needs more than 128 bits. Numbers of 64 bits take one
+/// multiplication, and their sum no test.
 #[inline(always)]
-fn checked_mul(number: u128, unit_size: u128) -> Option<u128>
-    ensures { SomeIff result (number * unit_size < 2 ^ 128) (number * unit_size) }
+fn checked_mul_add(number: u128, unit_size: u128, part: u128) -> Option<u128>
+    requires { part ≤ unit_size }
+    ensures { SomeIff result (number * unit_size + part < 2 ^ 128) (number * unit_size + part) }
 {
     if number < 1 << 64 && unit_size < 1 << 64 {
-        return Some(u128::from(number as u64) * u128::from(unit_size as u64));
+        return Some(u128::from(number as u64) * u128::from(unit_size as u64) + part);
     }
-    number.checked_mul(unit_size)
+    number.checked_mul(unit_size)?.checked_add(part)
 }
 
 /// Splits the fraction `digits / 10^places`, as 28 digits, into its first and its last 14.
@@ -126,7 +128,7 @@ fn carry_of_group(digits: u64, unit_size: u128, carry: u128) -> u128
         // A zero group without a carry needs no division.
         0
     } else if unit_size < 1 << 40 {
-        u128::from((digits * unit_size as u64 + carry as u64).div_ceil(GROUP))
+        u128::from((digits * unit_size as u64 + carry as u64 + (GROUP - 1)) / GROUP)
     } else {
         let product = u128::from(digits) * unit_size + carry;
         div_rem_u24(product + u128::from(GROUP - 1), GROUP).0

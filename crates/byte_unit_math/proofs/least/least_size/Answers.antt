@@ -49,15 +49,10 @@ not_below : (c : After-whole) → c.args.limit ≤ c.whole.result * c.args.unit_
     → (n : ℕ) → IsLeastSize c.args.d c.args.unit_size n → c.args.limit ≤ n
 not_below c reached n h = omega (arith, reached, (size_least c).least n h.has)
 
-pub returns-in_err-checked_mul-clause-none : goal.returns-in_err-checked_mul-clause-none
-returns-in_err-checked_mul-clause-none c = IfNone-always _ _
-    (not_below (goal.at.returns-in_err-checked_mul-clause-none c).After-whole
-    (omega (arith, c.in_err-checked_mul.ensures)))
-
 pub returns-in_err-size-clause-none : goal.returns-in_err-size-clause-none
 returns-in_err-size-clause-none c = IfNone-always _ _
     (not_below (goal.at.returns-in_err-size-clause-none c).After-whole
-    (omega (arith, c.in_err-size.ensures, c.in_ok-checked_mul.ensures)))
+    (omega (arith, c.in_err-size.ensures)))
 
 pub returns-clause-least : goal.returns-clause-least
 returns-clause-least c =
@@ -65,5 +60,4 @@ returns-clause-least c =
 
 pub returns-clause-none : goal.returns-clause-none
 returns-clause-none c = rw c.then_some.ensures (IfNone-below c.in_ok-size.size c.args.limit _ (λ reached.
-    not_below (goal.at.returns-clause-none c).After-whole
-    (omega (arith, reached, c.in_ok-size.ensures, c.in_ok-checked_mul.ensures))))
+    not_below (goal.at.returns-clause-none c).After-whole (omega (arith, reached, c.in_ok-size.ensures))))
