@@ -1,12 +1,9 @@
 //! Sizes of either kind, as numbers below the limit: what the size types have in common.
 
-ghost use Rattle.std.specs.Prelude.{◌≡◌, ℕ, Bool, List, ◌+◌, ◌*◌, ◌<◌, ◌≤◌, SomeIff, IfSome, IfOk, length, take, drop, IsTrue};
-ghost use Rattle.std.specs.Prelude.{Ok, Err};
+ghost use Rattle.std.specs.Prelude.{◌≡◌, ℕ, Bool, List, ◌+◌, ◌*◌, ◌<◌, ◌≤◌, SomeIff, IfSome, IfOk, IsTrue, Ok, Err};
+ghost use Rattle.std.specs.Prelude.{length, take, drop};
 ghost use Rattle.std.specs.Str.{IsUtf8, IsAscii};
 ghost use Rattle.byte_unit_math.specs.Bounds.{size_limit};
-ghost use Rattle.byte_unit_base.specs.Shape.{bits};
-ghost use Rattle.byte_unit_base.specs.Version.{current};
-ghost use Rattle.byte_unit_base.specs.Units.{shape_of};
 ghost use Rattle.byte_unit_base.specs.Kinds.{bits_in, flags_for};
 ghost use Rattle.byte_unit_base.specs.Readings.{IsNumberReading};
 ghost use Rattle.byte_unit_base.specs.SizeReading.{IsSizeReading, IsBytesReading};
@@ -228,8 +225,8 @@ pub fn visible_next(bytes: &[u8], place: usize) -> Option<Option<char>>
     }
 }
 
-/// Returns whether bytes are ASCII from an index on, or `false` if one before it is not. The last four are tested at
-/// once.
+/// Returns whether bytes are ASCII from an index on, or `false` if one before it is not. The last four bytes are tested
+/// at once.
 #[inline(always)]
 fn is_ascii_from(bytes: &[u8], from: usize) -> bool
     requires { from ≤ length bytes.now }
