@@ -93,16 +93,14 @@ fn write_stop(
         Reason::InUnit(scan) => {
             let expected = bytes_of(scan.expected_before(next, flags));
             let error = scan.error_before(next, flags);
-            Error::of_unit_parts(error.character, expected, error.also_expect_no_character).write(
-                errors,
-            );
+            let may_end = error.also_expect_no_character;
+            Error::of_unit_parts(error.character, expected, may_end).write(errors);
             UNIT
         }
-        _ => write_result(
-            Some(Err(error_at(next, at_start, reason, flags))),
-            size,
-            errors,
-        ),
+        _ => {
+            let error = error_at(next, at_start, reason, flags);
+            write_result(Some(Err(error)), size, errors)
+        }
     }
 }
 

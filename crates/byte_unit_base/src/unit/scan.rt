@@ -54,10 +54,15 @@ pub enum Expected {
     Beginning,
     /// `B` and `b`.
     EitherB,
+    /// `B`.
     UpperB,
+    /// `b`.
     LowerB,
+    /// `i`.
     I,
+    /// `t`.
     T,
+    /// `s`.
     S,
     /// No character.
     Nothing,
