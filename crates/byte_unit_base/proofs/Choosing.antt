@@ -32,8 +32,7 @@ own_bits Bit = refl
 
 -- a size is a whole number of the unit that is its exact unit at a precision of 0
 pub exact_where_recovered : (kind : Kind) (both : Bool) (size : ℕ) (unit : Shape)
-    → IsRecoveredIn current kind both size 0 unit
-    → IsExactAt (size * bits_in kind) (bits unit) 0
+    → IsRecoveredIn current kind both size 0 unit → IsExactAt (size * bits_in kind) (bits unit) 0
 exact_where_recovered kind both size unit (inl h) = h.has.exact
 exact_where_recovered kind both size unit (inr h) = rw (h.1, own_bits kind) (size, omega arith)
 

@@ -41,8 +41,7 @@ pub number_computed : (flags : Flags) (bytes : List ℕ) (r : Result (ℕ × Uni
     → size_result r ≡ read (size_scan flags) Beginning (trim_of bytes)
     → result_map_both (λ r. r) size_fault r ≡ result_map_both parts_of_crate (λ fault. fault) (parsed_number flags bytes)
 unfolding parsed_number
-number_computed flags bytes (Ok found) e =
-    ap (λ unit. Ok (found.0, unit)) (sym (unit_of_its_shape found.1))
+number_computed flags bytes (Ok found) e = ap (λ unit. Ok (found.0, unit)) (sym (unit_of_its_shape found.1))
     ∙ ap (result_map_both parts_of_crate (λ fault. fault)) e
 number_computed flags bytes (Err error) e = ap (result_map_both parts_of_crate (λ fault. fault)) e
 

@@ -96,8 +96,7 @@ no_multiple n a b h many above = λ below.
 -- a size in bits has fewer than 91 twos if RB is chosen
 few_twos_in_RB : (family : Family) (in_bits precision a b : ℕ) → IsTwoFive in_bits a b → in_bits < 2 ^ 103
     → IsLargest (IsExactUnit family in_bits precision) (shape 9 false false) → a ≤ 90
-few_twos_in_RB family in_bits precision a b powers small chosen =
-    ⊎_elim
+few_twos_in_RB family in_bits precision a b powers small chosen = ⊎_elim
     (λ many.
     let test = (exact_by_powers in_bits 30 27 a b (places_within precision) powers).0 chosen.has.exact in
     let few = few_powers in_bits a b powers small in

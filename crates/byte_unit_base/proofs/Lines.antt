@@ -174,8 +174,7 @@ digits_of_word line bytes from word count value is within many small word_is few
 
 -- the value of these digits and that of those after them make the value of all
 pub value_of_more : (line : List ℕ) (from start value end : ℕ) → HasDigits line from start value
-    → start ≤ end → end ≤ length line
-    → value * 10 ^ (end - start) + digits_value 10 (slice_range line start end)
+    → start ≤ end → end ≤ length line → value * 10 ^ (end - start) + digits_value 10 (slice_range line start end)
     ≡ digits_value 10 (slice_range line from end)
 value_of_more line from start value end digits after within =
     let count = start - from in

@@ -114,8 +114,7 @@ module _ (flags : Flags) (s : Shape) (h : IsKnown s) (says : SaysKind flags s.bi
 
 -- the name of a unit is ASCII
 pub name_ascii : (s : Shape) → s.power ≤ length current.letters → IsAscii (unit_name_in current s)
-name_ascii s known =
-    ⊎_elim
+name_ascii s known = ⊎_elim
     (λ some. rw (with_prefix s some) (IsAscii-cons (letter_at s.power) (infix_of s.binary ++ count_of s.bit)
     (letter_found s.power known).1 (rest_ascii s.binary s.bit)))
     (λ none. rw (without_prefix s none) (rest_ascii false s.bit))

@@ -55,8 +55,7 @@ fixed_point_of whole digits = whole * scale + value_of_digits digits * 10 ^ (pla
 -- the text of a whole part and at most 28 digits after the point is a number of the grammar, with their value
 pub number_text :
     (whole : ℕ) (digits : List ℕ) → All (λ digit. digit < 10) digits → length digits ≤ places_of_decimal
-    → whole < whole_limit
-    → IsNumberText current (decimal whole ++ fraction_text digits) (fixed_point_of whole digits)
+    → whole < whole_limit → IsNumberText current (decimal whole ++ fraction_text digits) (fixed_point_of whole digits)
 number_text whole [] small few bound =
     inl (whole, rw (append-nil (decimal whole)) (whole_text whole bound), omega arith)
 number_text whole (digit ∷ digits) small few bound =
@@ -105,8 +104,7 @@ number_start whole rest bound =
 
 fraction_ascii : (digits : List ℕ) → All (λ digit. digit < 10) digits → IsAscii (fraction_text digits)
 fraction_ascii [] small = IsAscii-nil
-fraction_ascii (digit ∷ digits) small =
-    IsAscii-cons 46 (glyphs (digit ∷ digits)) (omega arith)
+fraction_ascii (digit ∷ digits) small = IsAscii-cons 46 (glyphs (digit ∷ digits)) (omega arith)
     (IsAscii-from_digits (glyphs (digit ∷ digits)) (glyph_digits (digit ∷ digits) small))
 
 -- the digits of a whole part are ASCII

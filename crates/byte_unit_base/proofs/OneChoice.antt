@@ -53,8 +53,7 @@ one_largest version family in_bits precision unit other largest other_largest =
 
 -- an exact quotient has only one value
 same_number : (size places unit number other : ℕ) → 1 ≤ unit → IsQuotient size unit places number
-    → IsQuotient size unit places other
-    → number ≡ other
+    → IsQuotient size unit places other → number ≡ other
 same_number size places unit number other some quotient other_quotient =
     let same = sym quotient.exact ∙ other_quotient.exact in
     let count = eq_of_mul-eq-mul_right unit (omega (arith, some)) quotient.count other_quotient.count same in

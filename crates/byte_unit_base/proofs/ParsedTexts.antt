@@ -37,14 +37,12 @@ gives_answer Meaning Means Fails (Err fault) one h = record {
 
 pub parsed_units_are_spelled : ParsedUnitsAreSpelled
 unfolding parsed_unit
-parsed_units_are_spelled flags bytes =
-    gives_answer _ _ _ _ (one_answer (unit_scan_is flags) (trim_of bytes))
+parsed_units_are_spelled flags bytes = gives_answer _ _ _ _ (one_answer (unit_scan_is flags) (trim_of bytes))
     (reads_meaning_or_fault (unit_scan_is flags) (trim_of bytes))
 
 pub parsed_numbers_are_represented : ParsedNumbersAreRepresented
 unfolding parsed_number
-parsed_numbers_are_represented flags bytes =
-    gives_answer _ _ _ _ (one_answer (size_scan_is flags) (trim_of bytes))
+parsed_numbers_are_represented flags bytes = gives_answer _ _ _ _ (one_answer (size_scan_is flags) (trim_of bytes))
     (reads_meaning_or_fault (size_scan_is flags) (trim_of bytes))
 
 -- the size, by the number and the unit

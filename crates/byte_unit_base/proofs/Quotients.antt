@@ -23,8 +23,7 @@ number_times_unit size unit places number room h =
 
 -- if a number times the unit is the size, it is the exact quotient at each number of places at which the size is exact
 pub quotient_of_product : (size unit places number : ℕ) → 1 ≤ unit → places ≤ places_of_decimal
-    → number * unit ≡ size * scale
-    → IsExactAt size unit places → IsQuotient size unit places number
+    → number * unit ≡ size * scale → IsExactAt size unit places → IsQuotient size unit places number
 quotient_of_product size unit places number some room product exact =
     let behind = 10 ^ (places_of_decimal - places) in
     let e = ap (λ x. x * behind) exact.1 in
@@ -38,8 +37,7 @@ quotient_of_product size unit places number some room product exact =
 
 -- an exact quotient needs no more digits after the point than those at which the size is exact
 pub stated_where_exact : (size unit number digits : ℕ) → 1 ≤ unit → number * unit ≡ size * scale
-    → IsExactAt size unit digits
-    → IsExactAt number scale digits
+    → IsExactAt size unit digits → IsExactAt number scale digits
 stated_where_exact size unit number digits some product e =
     let p = ap (λ x. x * 10 ^ digits) product in
     let q = ap (λ x. x * scale) e.1 in
@@ -58,8 +56,7 @@ pub places_of_quotient : (size unit places digits number : ℕ) → 1 ≤ unit �
     → IsQuotient size unit places number → IsFirstExact size unit places digits → IsLeastPlaces number scale digits
 places_of_quotient size unit places digits number some room quotient first =
     let product = number_times_unit size unit places number room quotient in
-    let exact : IsExactAt size unit digits =
-    ⊎_elim (λ e. e) (λ e. rw e (quotient.count, quotient.exact)) first.ends in
+    let exact : IsExactAt size unit digits = ⊎_elim (λ e. e) (λ e. rw e (quotient.count, quotient.exact)) first.ends in
     record {
       has = stated_where_exact size unit number digits some product exact;
       least = λ fewer e. first.first fewer (exact_where_stated size unit number fewer product e);

@@ -39,8 +39,7 @@ least_above kind N unit limit n some none h =
 
 -- if the least bits are below the limit in bits, the least number of bytes or bits that holds them is below the limit
 pub least_below : (kind : Kind) (limit b n : ℕ) → b < (limit - 1) * bits_in kind + 1
-    → n * bits_in kind < b + bits_in kind → 1 ≤ limit
-    → n < limit
+    → n * bits_in kind < b + bits_in kind → 1 ≤ limit → n < limit
 least_below Byte limit b n small low some = omega (arith, small, low, some)
 least_below Bit limit b n small low some = omega (arith, small, low, some)
 

@@ -119,8 +119,7 @@ pub record IsRow (family : Family) (row : ShapeRow) : Type 0 where
 
 -- the row at an index of the listed rows is the row of a unit of the set
 pub row_at_is_row : {family : Family} {in_bits first i : ℕ} {rows : List UnitRow} (d : UnitRow)
-    → ListsUnits family in_bits first rows
-    → i < length rows → IsRow family (row_shape (get_or rows i d))
+    → ListsUnits family in_bits first rows → i < length rows → IsRow family (row_shape (get_or rows i d))
 row_at_is_row {family} {in_bits} {first} {i} {rows} d h within =
     let units = units_of_prefixes family h.prefixes in
     let members = All-from_recursion (InFamily current family) units (all_in_family family h.prefixes h.few) in
@@ -157,8 +156,7 @@ units_from rows i d within =
 -- the unit of the first row that has the property is the largest unit that has it
 pub unit_found : {family : Family} {in_bits first : ℕ} {rows : List UnitRow} (Has : Shape → Type 0) (i : ℕ) (d : UnitRow)
     → ListsUnits family in_bits first rows → Remain Has (drop i (map unit_in rows)) → i < length rows
-    → Has (unit_in (get_or rows i d))
-    → IsLargest Has (unit_in (get_or rows i d))
+    → Has (unit_in (get_or rows i d)) → IsLargest Has (unit_in (get_or rows i d))
 unit_found {family} {in_bits} {first} {rows} Has i d h remain within has =
     let unit = unit_in (get_or rows i d) in
     let units = map unit_in rows in
@@ -181,8 +179,7 @@ unit_passed Has rows i d remain within without = λ unit h.
 
 -- if no row is left, no unit has the property
 pub none_found : (Has : Shape → Type 0) (rows : List UnitRow) (i : ℕ) → length rows ≤ i
-    → Remain Has (drop i (map unit_in rows))
-    → NoneHas Has
+    → Remain Has (drop i (map unit_in rows)) → NoneHas Has
 none_found Has rows i done remain unit h =
     subst (IsIn unit) (drop_all i (map unit_in rows) (omega (arith, length-map rows unit_in, done))) (remain unit h)
 

@@ -72,8 +72,7 @@ prefix_visible text power binary h =
 
 spelling_visible : (flags : Flags) (text : List ℕ) (unit : Shape) → Spells current flags text unit → IsVisible text
 spelling_visible flags text unit (inl h) = count_visible flags text unit.bit h.count_is
-spelling_visible flags text unit (inr h) =
-    ap (list_all is_ascii_graphic) h.text_is
+spelling_visible flags text unit (inr h) = ap (list_all is_ascii_graphic) h.text_is
     ∙ visible_append h.prefix_part h.count_part (prefix_visible h.prefix_part unit.power unit.binary h.prefix_is)
     (count_visible flags h.count_part unit.bit h.count_is)
 
@@ -81,8 +80,7 @@ spelling_visible flags text unit (inr h) =
 
 number_visible : (text : List ℕ) (number : ℕ) → IsNumberText current text number → IsVisible text
 number_visible text number (inl h) = digits_visible text h.1.0.1
-number_visible text number (inr h) =
-    ap (list_all is_ascii_graphic) h.text_is
+number_visible text number (inr h) = ap (list_all is_ascii_graphic) h.text_is
     ∙ visible_append h.whole (46 ∷ h.fraction) (digits_visible h.whole h.whole_is.0.1)
     (digits_visible h.fraction h.fraction_is.0.1)
 

@@ -111,8 +111,7 @@ exact_by_row {family} {in_bits} {most} {a} {b} {B} unit room same powers h =
 
 -- with at most five digits after the point, a size divided by a unit stays below the limit of a whole part
 pub count_fits : {row : ShapeRow} (size divisor places : ℕ) → IsMultiple row → (divisor ≡ 8) ⊎ (divisor ≡ 1)
-    → size < current.size_limit
-    → places ≤ 5 → size * divisor * 10 ^ places < whole_limit * row.bits
+    → size < current.size_limit → places ≤ 5 → size * divisor * 10 ^ places < whole_limit * row.bits
 count_fits {row} size divisor places multiple kind small few =
     let tens = pow-le-pow_right {n = 10} (omega arith) {i = places} {j = 5} few in
     let scaled = mul-le-mul_left {m = 10 ^ places} {n = 10 ^ 5} (size * divisor) tens in

@@ -43,28 +43,26 @@ SizeReached Beginning text = text ≡ []
 SizeReached (Whole w) text = IsWholePart current text w
 SizeReached (Point w) text = IsPointed current text w
 SizeReached (Fraction w f j) text = FractionReached w f j text
-SizeReached (Gap n) text =
-    (r : IsNumberAndUnitPrefix current before_unit text) × (r.number ≡ n) × (0 < r.spaces)
+SizeReached (Gap n) text = (r : IsNumberAndUnitPrefix current before_unit text) × (r.number ≡ n) × (0 < r.spaces)
 SizeReached (UnitAt n s) text = (r : UnitReached n s text) × (0 < length r.unit_part)
 
 -- the text of a whole part, a point and a fraction is their number
 pub fraction_number : (w f j : ℕ) (text : List ℕ) → FractionReached w f j text → IsPrecise current text (fixed_point w f j)
-fraction_number w f j text r =
-    record {
-      whole = r.whole;
-      fraction = r.fraction;
-      value = w;
-      part = f * 10 ^ (places_of_decimal - j);
-      text_is = r.text_is;
-      whole_is = r.whole_is;
-      fraction_is = (
-        r.numeral,
-        omega (arith, r.length_is, r.few),
-        ap (λ x. x * 10 ^ (places_of_decimal - j)) r.value_is
-            ∙ ap (λ k. digits_value 10 r.fraction * 10 ^ (places_of_decimal - k)) (sym r.length_is),
-      );
-      number_is = refl;
-    }
+fraction_number w f j text r = record {
+  whole = r.whole;
+  fraction = r.fraction;
+  value = w;
+  part = f * 10 ^ (places_of_decimal - j);
+  text_is = r.text_is;
+  whole_is = r.whole_is;
+  fraction_is = (
+    r.numeral,
+    omega (arith, r.length_is, r.few),
+    ap (λ x. x * 10 ^ (places_of_decimal - j)) r.value_is
+        ∙ ap (λ k. digits_value 10 r.fraction * 10 ^ (places_of_decimal - k)) (sym r.length_is),
+  );
+  number_is = refl;
+}
 
 unit_grows : (n c : ℕ) (s : UnitScan) (t : SizeScan) (text : List ℕ) → UnitReached n s text → UnitStep n s c t
     → SizeReached t (text ++ c ∷ [])
@@ -99,15 +97,14 @@ number_grows n spaces c t text number e h (inl k) =
       refl,
       omega arith,
     )
-number_grows n spaces c t text number e h (inr k) =
-    unit_grows n c unit_start t text (record {
-      number_part = number;
-      spaces = spaces;
-      unit_part = [];
-      text_is = e;
-      number_is = h;
-      reached = Reached-start;
-    }) k
+number_grows n spaces c t text number e h (inr k) = unit_grows n c unit_start t text (record {
+  number_part = number;
+  spaces = spaces;
+  unit_part = [];
+  text_is = e;
+  number_is = h;
+  reached = Reached-start;
+}) k
 
 digits_push_is : (text : List ℕ) (c : ℕ) → IsNumeral 10 text → digit_value c < 10 → IsNumeral 10 (text ++ c ∷ [])
 digits_push_is text c h k = (omega (arith, length-append text (c ∷ [])), digits_push 10 text c h.1 k)
@@ -115,43 +112,38 @@ digits_push_is text c h k = (omega (arith, length-append text (c ∷ [])), digit
 -- if a step leads from a state to the next, what is known of the text holds with its character added
 pub SizeReached-step : (s t : SizeScan) (c : ℕ) (text : List ℕ) → StepOf s c t → SizeReached s text
     → SizeReached t (text ++ c ∷ [])
-SizeReached-step Beginning t c text k r =
-    subst (λ x. SizeReached x (text ++ c ∷ [])) k.1
+SizeReached-step Beginning t c text k r = subst (λ x. SizeReached x (text ++ c ∷ [])) k.1
     (subst (λ x. IsWholePart current (x ++ c ∷ []) (digit_value c)) (sym r)
     ((omega arith, (k.0, tt)), omega arith, omega (arith, k.0)))
-SizeReached-step (Whole w) t c text (inl k) r =
-    subst (λ x. SizeReached x (text ++ c ∷ [])) k.2
+SizeReached-step (Whole w) t c text (inl k) r = subst (λ x. SizeReached x (text ++ c ∷ [])) k.2
     (digits_push_is text c r.0 k.0, ap (λ x. x * 10 + digit_value c) r.1 ∙ sym (digits_value_push 10 text c), k.1)
-SizeReached-step (Whole w) t c text (inr (inl k)) r =
-    subst (λ x. SizeReached x (text ++ c ∷ [])) k.1 (record {
-      whole = text;
-      text_is = ap (λ x. text ++ x ∷ []) k.0;
-      whole_is = r;
-    })
+SizeReached-step (Whole w) t c text (inr (inl k)) r = subst (λ x. SizeReached x (text ++ c ∷ [])) k.1 (record {
+  whole = text;
+  text_is = ap (λ x. text ++ x ∷ []) k.0;
+  whole_is = r;
+})
 SizeReached-step (Whole w) t c text (inr (inr k)) r =
     number_grows (w * scale) 0 c t text text (sym (append-nil text)) (inl (w, r, refl)) k
-SizeReached-step (Point w) t c text k r =
-    subst (λ x. SizeReached x (text ++ c ∷ [])) k.1 (record {
-      whole = r.whole;
-      fraction = c ∷ [];
-      text_is = push_last text r.whole (46 ∷ []) c r.text_is;
-      whole_is = r.whole_is;
-      numeral = (omega arith, (k.0, tt));
-      value_is = omega arith;
-      length_is = refl;
-      few = omega arith;
-    })
-SizeReached-step (Fraction w f j) t c text (inl k) r =
-    subst (λ x. SizeReached x (text ++ c ∷ [])) k.2 (record {
-      whole = r.whole;
-      fraction = r.fraction ++ c ∷ [];
-      text_is = push_last text r.whole (46 ∷ r.fraction) c r.text_is;
-      whole_is = r.whole_is;
-      numeral = digits_push_is r.fraction c r.numeral k.0;
-      value_is = ap (λ x. x * 10 + digit_value c) r.value_is ∙ sym (digits_value_push 10 r.fraction c);
-      length_is = omega (arith, length-append r.fraction (c ∷ []), r.length_is);
-      few = omega (arith, k.1);
-    })
+SizeReached-step (Point w) t c text k r = subst (λ x. SizeReached x (text ++ c ∷ [])) k.1 (record {
+  whole = r.whole;
+  fraction = c ∷ [];
+  text_is = push_last text r.whole (46 ∷ []) c r.text_is;
+  whole_is = r.whole_is;
+  numeral = (omega arith, (k.0, tt));
+  value_is = omega arith;
+  length_is = refl;
+  few = omega arith;
+})
+SizeReached-step (Fraction w f j) t c text (inl k) r = subst (λ x. SizeReached x (text ++ c ∷ [])) k.2 (record {
+  whole = r.whole;
+  fraction = r.fraction ++ c ∷ [];
+  text_is = push_last text r.whole (46 ∷ r.fraction) c r.text_is;
+  whole_is = r.whole_is;
+  numeral = digits_push_is r.fraction c r.numeral k.0;
+  value_is = ap (λ x. x * 10 + digit_value c) r.value_is ∙ sym (digits_value_push 10 r.fraction c);
+  length_is = omega (arith, length-append r.fraction (c ∷ []), r.length_is);
+  few = omega (arith, k.1);
+})
 SizeReached-step (Fraction w f j) t c text (inr k) r =
     number_grows (fixed_point w f j) 0 c t text text (sym (append-nil text)) (inr (fraction_number w f j text r)) k
 SizeReached-step (Gap n) t c text k r =

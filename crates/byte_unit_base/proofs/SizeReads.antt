@@ -42,22 +42,19 @@ use Rattle.byte_unit_base.proofs.SizeRuns.{size_text_runs, size_front_runs}
 -- the text that led to a state is a viable prefix
 
 front_in_unit : (n : ℕ) (s : UnitScan) (place : ParserState) (text : List ℕ) (r : UnitReached n s text)
-    → IsViableUnitPrefix current place r.unit_part
-    → IsNumberAndUnitPrefix current place text
-front_in_unit n s place text r h =
-    record {
-      number_part = r.number_part;
-      number = n;
-      spaces = r.spaces;
-      unit_part = r.unit_part;
-      text_is = r.text_is;
-      number_is = r.number_is;
-      unit_is = h;
-    }
+    → IsViableUnitPrefix current place r.unit_part → IsNumberAndUnitPrefix current place text
+front_in_unit n s place text r h = record {
+  number_part = r.number_part;
+  number = n;
+  spaces = r.spaces;
+  unit_part = r.unit_part;
+  text_is = r.text_is;
+  number_is = r.number_is;
+  unit_is = h;
+}
 
 size_front_in_unit : (n : ℕ) (m : Multiple) (w : Word) (text : List ℕ) (r : UnitReached n (scan_of m w) text)
-    → 0 < length r.unit_part
-    → IsViableSizePrefix current (word_parser_state m w) text
+    → 0 < length r.unit_part → IsViableSizePrefix current (word_parser_state m w) text
 size_front_in_unit n m Bi text r some = front_in_unit n _ after_bi text r (unit_front m Bi r.unit_part r.reached)
 size_front_in_unit n One Empty text r some =
     let none : r.unit_part ≡ [] = r.reached.text_is
@@ -76,8 +73,7 @@ size_front (UnitAt n s) text r = size_front_in_unit n s.multiple s.word text r.0
 -- the result for an input that ends in a state
 
 number_at_end : (flags : Flags) (n : ℕ) (text number : List ℕ) (k : ℕ) → text ≡ number ++ (replicate k 32 ++ [])
-    → IsNumberText current number n
-    → EndsIn (Represents flags text) None (size_or_fault n (unit_of flags unit_start))
+    → IsNumberText current number n → EndsIn (Represents flags text) None (size_or_fault n (unit_of flags unit_start))
 number_at_end flags n text number k e h = (
   (n, _),
   record {
@@ -170,8 +166,7 @@ no_bounds_after flags (c ∷ cs) in_whole fault n h = λ e. grind (arith, h, e)
 no_bounds_after flags _ _ fault n h = λ e. grind (arith, h, e)
 
 read_no_bounds : (flags : Flags) (text : List ℕ) (r : Result (ℕ × UnitName) ParseError)
-    → size_result r ≡ read (size_scan flags) Beginning text
-    → IfErr r (λ error. (n : ℕ) → size_fault error ≢ exceeded n)
+    → size_result r ≡ read (size_scan flags) Beginning text → IfErr r (λ error. (n : ℕ) → size_fault error ≢ exceeded n)
 read_no_bounds flags text (Ok x) e = tt
 read_no_bounds flags text (Err x) e = λ n.
     let f = read_refused (size_scan_is flags) with_shape size_fault text (Err x) e in
@@ -180,15 +175,13 @@ read_no_bounds flags text (Err x) e = λ n.
 -- what the contracts of the parsers say, and the laws
 
 parts_meant : (r : Result (ℕ × UnitName) ParseError) (n : ℕ) (unit : Shape)
-    → IsOkAnd r (λ found. with_shape found ≡ (n, unit))
-    → IsOkAnd r (λ found. (found.0 ≡ n) × (shape_of found.1 ≡ unit))
+    → IsOkAnd r (λ found. with_shape found ≡ (n, unit)) → IsOkAnd r (λ found. (found.0 ≡ n) × (shape_of found.1 ≡ unit))
 parts_meant (Ok found) n unit e = (ap (λ x. x.0) e, ap (λ x. x.1) e)
 parts_meant (Err error) n unit e = absurd e
 
 -- a parser that returns the result of the state machine returns the number and unit of the input, or its error
 pub number_reading : (flags : Flags) (bytes : List ℕ) (r : Result (ℕ × UnitName) ParseError)
-    → size_result r ≡ read (size_scan flags) Beginning (trim_of bytes)
-    → IsNumberReading flags bytes r
+    → size_result r ≡ read (size_scan flags) Beginning (trim_of bytes) → IsNumberReading flags bytes r
 number_reading flags bytes r e = record {
   found = read_found (size_scan_is flags) with_shape size_fault (trim_of bytes) r e;
   reads = λ n unit h. parts_meant r n unit
@@ -203,13 +196,11 @@ pub stop_reading : (flags : Flags) (bytes text : List ℕ) (place : ℕ) (reason
     → chars text ≡ trim_of bytes → IsUtf8 text → IsStopAt flags text place reason
     → size_fault error ≡ stop_fault flags (nat_eq place 0) reason (next_char (chars (drop place text)))
     → IsNumberReading flags bytes (Err error)
-stop_reading flags bytes text place reason error trimmed utf8 stop error_is =
-    number_reading flags bytes (Err error)
+stop_reading flags bytes text place reason error trimmed utf8 stop error_is = number_reading flags bytes (Err error)
     (ap Err error_is ∙ (sym (stop.result_is utf8) ∙ ap (read (size_scan flags) Beginning) trimmed))
 
 -- a parser that returns the number and unit of the input is right, however it found them
 pub stated_reading : (flags : Flags) (bytes : List ℕ) (found : ℕ × UnitName)
-    → IsSizeText current flags (trim_of bytes) found.0 (shape_of found.1)
-    → IsNumberReading flags bytes (Ok found)
+    → IsSizeText current flags (trim_of bytes) found.0 (shape_of found.1) → IsNumberReading flags bytes (Ok found)
 stated_reading flags bytes found h =
     number_reading flags bytes (Ok found) (sym (reads_meaning (size_scan_is flags) (trim_of bytes) (with_shape found) h))

@@ -34,8 +34,7 @@ use Rattle.byte_unit_base.proofs.SizeRuns.{step_point, step_whole, step_pointed,
 first_of : (Has : ℕ → Type 0) → ((c : ℕ) → 128 ≤ c → Has c) → (bytes text : List ℕ) → bytes ≡ encode_utf8_all text
     → IsFirst Has bytes → IsFirst Has text
 first_of Has wide bytes [] e first = tt
-first_of Has wide [] (c ∷ cs) e first =
-    absurd (omega (arith, ap length e, length-le-encodes (c ∷ cs)))
+first_of Has wide [] (c ∷ cs) e first = absurd (omega (arith, ap length e, length-le-encodes (c ∷ cs)))
 first_of Has wide (b ∷ bs) (c ∷ cs) e first =
     ⊎_elim (λ small. subst Has (byte_from_char (b ∷ bs) (encode_utf8_all cs) c e small) first) (λ large. wide c large)
     (cases_lt c 128)
@@ -48,8 +47,7 @@ first_char Has wide bytes utf8 first = first_of Has wide bytes (chars bytes) (sy
 -- the first bytes of a text, and the rest of it
 
 pub text_from : (bytes : List ℕ) (end : ℕ) → IsAscii (take end bytes) → chars bytes ≡ take end bytes ++ chars (drop end bytes)
-text_from bytes end ascii =
-    ap chars (sym (take-append-drop end bytes))
+text_from bytes end ascii = ap chars (sym (take-append-drop end bytes))
     ∙ (chars-append (take end bytes) (drop end bytes) (IsUtf8-from_ascii (take end bytes) ascii)
     ∙ ap (λ front. front ++ chars (drop end bytes)) (chars-IsAscii (take end bytes) ascii))
 
@@ -100,8 +98,7 @@ digit_is c small = grind (arith, nat_tests)
 
 -- the error of a whole part that reaches the limit
 pub too_large : (flags : Flags) (ds rest : List ℕ) (w : ℕ) → AllDigits 10 ds → w < whole_limit
-    → whole_limit ≤ digits_value_after 10 w ds
-    → read (size_scan flags) (Whole w) (ds ++ rest) ≡ Err too_long
+    → whole_limit ≤ digits_value_after 10 w ds → read (size_scan flags) (Whole w) (ds ++ rest) ≡ Err too_long
 unfolding size_step
 too_large flags [] rest w digits below above = absurd (omega (arith, below, above))
 too_large flags (c ∷ cs) rest w digits below above =
@@ -114,12 +111,10 @@ too_large flags (c ∷ cs) rest w digits below above =
     (cases_lt next whole_limit)
 
 too_many_more : (flags : Flags) (ds rest : List ℕ) (w f j : ℕ) → AllDigits 10 ds → j ≤ places_of_decimal
-    → places_of_decimal < j + length ds
-    → read (size_scan flags) (Fraction w f j) (ds ++ rest) ≡ Err too_long
+    → places_of_decimal < j + length ds → read (size_scan flags) (Fraction w f j) (ds ++ rest) ≡ Err too_long
 unfolding size_step
 too_many_more flags [] rest w f j digits few many = absurd (omega (arith, few, many))
-too_many_more flags (c ∷ cs) rest w f j digits few many =
-    ⊎_elim
+too_many_more flags (c ∷ cs) rest w f j digits few many = ⊎_elim
     (λ more. read_some (size_scan flags) (Fraction w f j) (Fraction w (f * 10 + digit_value c) (j + 1)) c (cs ++ rest)
     (step_fraction w f j c digits.0 more)
     ∙ too_many_more flags cs rest w (f * 10 + digit_value c) (j + 1) digits.1 (omega arith) (omega arith))

@@ -85,8 +85,7 @@ run_more_places (c ∷ cs) w f j h k =
     ∙ ap (λ n. Some (Fraction w (digits_value_after 10 value cs) n)) count)
 
 run_pointed : (text : List ℕ) (w : ℕ) → IsPointed current text w → run size_step Beginning text ≡ Some (Point w)
-run_pointed text w h =
-    ap (run size_step Beginning) h.text_is
+run_pointed text w h = ap (run size_step Beginning) h.text_is
     ∙ (run_through size_step Beginning (Whole w) h.whole (46 ∷ []) (run_whole h.whole w h.whole_is)
     ∙ run_step size_step (Whole w) (Point w) 46 [] (step_point w))
 

@@ -34,8 +34,7 @@ chars-trim_start bs u =
 -- the characters of a string that std trims are the characters without the white space at both ends
 pub chars-trim : (bs : List ℕ) → IsUtf8 bs → chars (trim bs) ≡ trim_of bs
 unfolding trim_end
-chars-trim bs u =
-    rw (chars-trim_start bs u) (chars-encodes _ (scalars_drop (skip_leading_whitespace (chars bs))
+chars-trim bs u = rw (chars-trim_start bs u) (chars-encodes _ (scalars_drop (skip_leading_whitespace (chars bs))
     (scalars_skip (chars bs) (scalars-chars bs u))))
 
 -- the text is not empty, and its first character is not white space
@@ -110,5 +109,4 @@ visible_end bytes utf8 ends =
 
 -- a string with visible characters of ASCII at both ends has nothing to trim
 pub trim_visible : (bytes : List ℕ) → IsUtf8 bytes → HasVisibleEnds bytes → trim_of bytes ≡ chars bytes
-trim_visible bytes utf8 ends =
-    nothing_to_drop (chars bytes) (visible_start bytes ends) (visible_end bytes utf8 ends)
+trim_visible bytes utf8 ends = nothing_to_drop (chars bytes) (visible_start bytes ends) (visible_end bytes utf8 ends)

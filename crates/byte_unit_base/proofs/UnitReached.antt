@@ -93,8 +93,7 @@ word_grows _ _ c text e h = grind (arith, nat_tests, e)
 
 -- one character more of the prefix or of the suffix
 reached_by_word : (m : Multiple) (w : Word) (t : UnitScan) (c : ℕ) (text : List ℕ)
-    → option_map (scan_of m) (word_step w c) ≡ Some t
-    → Reached (scan_of m w) text → Reached t (text ++ c ∷ [])
+    → option_map (scan_of m) (word_step w c) ≡ Some t → Reached (scan_of m w) text → Reached t (text ++ c ∷ [])
 reached_by_word m w t c text h r =
     let v = some_mapped (scan_of m) t (word_step w c) h in
     subst (λ u. Reached u (text ++ c ∷ [])) v.2 (record {
@@ -133,8 +132,7 @@ Reached-start = record { front = []; word = []; text_is = refl; front_is = refl;
 -- the unit at the end of an input
 
 count_spelled : (flags : Flags) (w : Word) (text : List ℕ) (bit : Bool) → count_of flags w ≡ Some bit
-    → IsWordText w text
-    → SpellsCount flags text bit
+    → IsWordText w text → SpellsCount flags text bit
 count_spelled flags Empty text bit e h = inl (h, cc)
 count_spelled flags UpperB text bit e h = inr (inl (h, cc))
 count_spelled flags LowerB text bit e h = inr (inr (inl (h, cc)))
@@ -143,8 +141,7 @@ count_spelled flags Bit text bit e h = inr (inr (inr (inl (h, cc))))
 count_spelled flags Bits text bit e h = inr (inr (inr (inr (h, cc))))
 
 parts_spell_unit : (flags : Flags) (m : Multiple) (front word : List ℕ) (bit : Bool) → IsMultipleText m front
-    → SpellsCount flags word bit
-    → Spells current flags (front ++ word) (multiple_shape m bit)
+    → SpellsCount flags word bit → Spells current flags (front ++ word) (multiple_shape m bit)
 parts_spell_unit flags One front word bit h k = rw h (inl (record { count_is = k; power_is = refl; binary_is = refl }))
 parts_spell_unit flags m front word bit h k =
     inr (record { prefix_part = front; count_part = word; text_is = refl; prefix_is = h; count_is = k })

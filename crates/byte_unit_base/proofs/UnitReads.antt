@@ -38,16 +38,14 @@ some_prefix (Decimal p) text h = inr (power_of p, false, h)
 some_prefix (Binary p) text h = inr (power_of p, true, h)
 
 word_front : (place : ParserState) (m : Multiple) (w : Word) (text : List ℕ) (r : Reached (scan_of m w) text)
-    → IsWord place r.word
-    → IsViableWordPrefix current place text
-word_front place m w text r h =
-    record {
-      prefix_part = r.front;
-      word_part = r.word;
-      text_is = r.text_is;
-      prefix_is = some_prefix m r.front r.front_is;
-      word_is = h;
-    }
+    → IsWord place r.word → IsViableWordPrefix current place text
+word_front place m w text r h = record {
+  prefix_part = r.front;
+  word_part = r.word;
+  text_is = r.text_is;
+  prefix_is = some_prefix m r.front r.front_is;
+  word_is = h;
+}
 
 -- the text that led to a state is a viable prefix of a unit, with the parser state of the state
 pub unit_front : (m : Multiple) (w : Word) (text : List ℕ) → Reached (scan_of m w) text
@@ -92,8 +90,7 @@ unit_scan_is flags = record {
 
 -- a parser that returns the result of the state machine returns the unit that the input spells, or its error
 pub unit_reading : (flags : Flags) (bytes : List ℕ) (r : Result UnitName UnitParseError)
-    → unit_result r ≡ read (unit_scan flags) start (trim_of bytes)
-    → IsUnitReading flags bytes r
+    → unit_result r ≡ read (unit_scan flags) start (trim_of bytes) → IsUnitReading flags bytes r
 unit_reading flags bytes r e = record {
   found = read_found (unit_scan_is flags) shape_of unit_fault (trim_of bytes) r e;
   reads = λ unit h. read_meant (unit_scan_is flags) shape_of unit_fault (trim_of bytes) r unit e h;

@@ -32,8 +32,7 @@ step_letter_b _ = (refl, refl)
 after_bi_text : (m : Multiple) (b i : ℕ) (rest : List ℕ) → to_ascii_lowercase b ≡ 98 → to_ascii_lowercase i ≡ 105
     → run unit_step (scan_of m Empty) (b ∷ i ∷ rest) ≡ run unit_step (scan_of m Bi) rest
 unfolding unit_step
-after_bi_text m b i rest e k =
-    ⊎_elim
+after_bi_text m b i rest e k = ⊎_elim
     (λ small. run_step unit_step (scan_of m Empty) (scan_of m LowerB) b (i ∷ rest) (rw small (step_letter_b m).1)
     ∙ rw k refl)
     (λ capital. let same : b ≡ 66 = omega arith in
@@ -45,11 +44,9 @@ pub run_suffix : (m : Multiple) (w : Word) (text : List ℕ) → IsWordText w te
     → run unit_step (scan_of m Empty) text ≡ Some (scan_of m w)
 unfolding unit_step
 run_suffix m Empty text h = ap (run unit_step (scan_of m Empty)) h
-run_suffix m UpperB text h =
-    ap (run unit_step (scan_of m Empty)) h
+run_suffix m UpperB text h = ap (run unit_step (scan_of m Empty)) h
     ∙ run_step unit_step (scan_of m Empty) (scan_of m UpperB) 66 [] (step_letter_b m).0
-run_suffix m LowerB text h =
-    ap (run unit_step (scan_of m Empty)) h
+run_suffix m LowerB text h = ap (run unit_step (scan_of m Empty)) h
     ∙ run_step unit_step (scan_of m Empty) (scan_of m LowerB) 98 [] (step_letter_b m).1
 run_suffix m Bi (b ∷ i ∷ []) h = after_bi_text m b i [] (cc) (cc)
 run_suffix m Bit (b ∷ i ∷ t ∷ []) h =
@@ -159,8 +156,7 @@ spelling_runs flags text s (inr h) =
 -- each beginning of `bits` is that of a state, which has its parser state
 word_of : (place : ParserState) (m : Multiple) (text : List ℕ) → IsWord place text
     → (w : Word) × (run unit_step (scan_of m Empty) text ≡ Some (scan_of m w)) × (word_parser_state m w ≡ place)
-word_of after_b m (b ∷ []) h =
-    ⊎_elim (λ small. (LowerB, run_suffix m LowerB (b ∷ []) (ap (λ x. x ∷ []) small), refl))
+word_of after_b m (b ∷ []) h = ⊎_elim (λ small. (LowerB, run_suffix m LowerB (b ∷ []) (ap (λ x. x ∷ []) small), refl))
     (λ capital. let same : b ≡ 66 = omega arith in (UpperB, run_suffix m UpperB (b ∷ []) (ap (λ x. x ∷ []) same), refl))
     (from_lowercase b 98 (omega arith) (omega arith) (cc))
 word_of after_b m _ h = absurd (let k : ⊥ = cc in k)

@@ -41,8 +41,7 @@ pub run_ascii : (text : List ℕ) (s t : UnitScan) → run unit_step s text ≡ 
 run_ascii [] s t e = IsAscii-nil
 run_ascii (c ∷ cs) s t e =
     let u = some_passed (λ v. run unit_step v cs) t (unit_step s c) e in
-    let small : c < 128 =
-    ⊎_elim (λ small. small)
+    let small : c < 128 = ⊎_elim (λ small. small)
     (λ wide. let no : ⊥ = cc (u.1, no_other_step s.multiple s.word c (inr wide)) in absurd no) (cases_lt c 128) in
     IsAscii-cons c cs small (run_ascii cs u.0 t u.2)
 

@@ -28,8 +28,7 @@ use Rattle.byte_unit_format.specs.Adjusted.{Rule, full, round_to, short_to, IsNu
 use Rattle.byte_unit_format.specs.FormLaws.{SizeHasOneAdjustedForm}
 
 numeral_unique : (rule : Rule) (num den : ℕ) (text other : List ℕ) → 0 < den → IsNumeralBy rule num den text
-    → IsNumeralBy rule num den other
-    → text ≡ other
+    → IsNumeralBy rule num den other → text ≡ other
 numeral_unique full num den text other some of_text of_other =
     of_text.2 ∙ (ap text_of (expansion_unique num den of_text.0 of_other.0 some of_text.1 of_other.1) ∙ sym of_other.2)
 numeral_unique (round_to places) num den text other some of_text of_other =

@@ -29,15 +29,13 @@ exponent_below base low high size some at_most above = grind (arith, pow-le-pow_
 -- If a power divides a multiple of a power, and the factor leaves a rest at the next step, its exponent is no larger.
 pub power_divides : (base step left count low high : ℕ) → 1 ≤ base → left % base ^ step ≢ 0
     → left * base ^ (step * low) ≡ count * base ^ (step * high) → high ≤ low
-power_divides base step left count low high some odd same =
-    ⊎_elim
+power_divides base step left count low high some odd same = ⊎_elim
     (λ more.
     let gap = high - low - 1 in
     let next = base ^ step in
     let rest = base ^ (step * gap) in
     let high_is : high ≡ gap + 1 + low = omega (arith, more) in
-    let split : base ^ (step * high) ≡ rest * next * base ^ (step * low) =
-    ap (λ n. base ^ (step * n)) high_is ∙ grind (
+    let split : base ^ (step * high) ≡ rest * next * base ^ (step * low) = ap (λ n. base ^ (step * n)) high_is ∙ grind (
       arith,
       pow-add base (step * gap) step,
       pow-add base (step * gap + step) (step * low),

@@ -64,8 +64,7 @@ member_is_old : (kind : Kind) (size : ℕ) (unit : Shape) → size < first_versi
     → InFamily current (own_family kind) unit
     → bits unit ≤ size * bits_in kind → InFamily first_version (own_family kind) unit
 member_is_old kind size unit small h not_above =
-    let fits : prefix_of unit.power unit.binary ≤ size =
-    le_of_mul-le-mul_right {k = bits_in kind}
+    let fits : prefix_of unit.power unit.binary ≤ size = le_of_mul-le-mul_right {k = bits_in kind}
     (omega (arith, unit_bits kind unit.power unit.binary unit.bit h.kind, not_above)) (bits_in_positive kind) in
     let least = prefix_at_least unit.power unit.binary in
     let few = exponent_below 10 (3 * unit.power) 27 size (omega arith) (omega (arith, least, fits)) small in

@@ -104,8 +104,7 @@ size_lt_next kind size precision unit largest few places =
     let rest = 10 ^ (places_within precision - 3 * next) in
     ⊎_elim (λ less. less)
     (λ above.
-    let fits : FitsPrefix (places_within precision) size (10 ^ (3 * next)) =
-    record {
+    let fits : FitsPrefix (places_within precision) size (10 ^ (3 * next)) = record {
       exact = (size * rest, rw (pow10_split (3 * next) (places_within precision) places) (omega arith));
       not_above = above;
     } in

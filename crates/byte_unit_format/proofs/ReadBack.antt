@@ -129,8 +129,7 @@ trimmed_layout spec e unit bounded known =
     (IsAscii-append (spaces between) name (spaces_ascii between) (name_ascii unit known)) in
     let starts : StartsWithoutSpace (number ++ behind) =
     rw (append_assoc (decimal e.whole) fraction behind) (number_start e.whole (fraction ++ behind) bounded.bound) in
-    let ends : EndsWithoutSpace (number ++ behind) =
-    record {
+    let ends : EndsWithoutSpace (number ++ behind) = record {
       front = number ++ (spaces between ++ end.front);
       last = end.last;
       text_is = ap (λ name. number ++ (spaces between ++ name)) end.text_is ∙ simp (append_assoc {A = ℕ});
@@ -168,19 +167,17 @@ recovered_name kind ignore_case size precision unit (inl largest) =
       record { known = member.prefix.known; alone = λ none. absurd (omega (arith, none, member.prefix.some)) },
       own_says kind ignore_case unit.bit member.kind,
     )
-recovered_name kind ignore_case size precision unit (inr own) =
-    rw own.1 (
-      record { known = omega arith; alone = λ none. refl },
-      own_says kind ignore_case (counts_bits kind) (own_kind kind),
-    )
+recovered_name kind ignore_case size precision unit (inr own) = rw own.1 (
+  record { known = omega arith; alone = λ none. refl },
+  own_says kind ignore_case (counts_bits kind) (own_kind kind),
+)
 
 -- A size formatted with a unit is read as the size.
 pub size_form_reads_back : SizeFormReadsBack
 size_form_reads_back kind size spec ignore_case text below form =
     let e = trim_expansion (at_places places_of_decimal form.number) in
     let short = ShortOf-shortened form.number places_of_decimal in
-    let bound : e.whole < whole_limit =
-    omega (
+    let bound : e.whole < whole_limit = omega (
       arith,
       bits_of_size_bound kind size below,
       mul-le form.number 1 form.number (bits form.unit) (omega arith) (some_bits form.unit),
@@ -197,8 +194,7 @@ no_plus : (sign : Sign) → sign ≢ Plus → plus_of sign ≡ []
 no_plus sign other = grind arith
 
 decimal_end : (whole : ℕ) → whole < whole_limit → EndsWithoutSpace (decimal whole)
-decimal_end whole bound =
-    ⊎_elim
+decimal_end whole bound = ⊎_elim
     (λ one. record {
       front = [];
       last = 48 + whole;
@@ -247,8 +243,7 @@ plain_form_reads_back kind size spec ignore_case below sign =
     }
 
 whole_not_above : (num den : ℕ) (e : Finite) → 1 ≤ den → IsExpansion num den e → e.whole ≤ num
-whole_not_above num den e some expansion =
-    le_of_mul-le-mul_right {k = 10 ^ length e.digits}
+whole_not_above num den e some expansion = le_of_mul-le-mul_right {k = 10 ^ length e.digits}
     (omega (arith, expansion.exact, mul-le-mul_left (ulps_of e) some)) (one_le_pow10 (length e.digits))
 
 -- The digits of the expansion of a size are below ten, and its whole part is within the bound of the grammar.
@@ -290,8 +285,7 @@ form_rejected kind size unit text below form long =
     let shape = shape_of unit in
     let e = form.number_is.0 in
     let expansion = form.number_is.1 in
-    let many : places_of_decimal < length e.digits =
-    ⊎_elim (λ many. many)
+    let many : places_of_decimal < length e.digits = ⊎_elim (λ many. many)
     (λ few.
     absurd (long (exact_more (size * bits_in kind) (bits shape) _ places_of_decimal few (ulps_of e, expansion.exact))))
     (cases_lt places_of_decimal (length e.digits)) in
@@ -322,8 +316,7 @@ string_rejected kind size unit text below (inr other) long =
 -- The string of an adjusted size is read as the size if it has at most 28 digits after the point, and is else rejected
 -- as too long.
 pub adjusted_string_reads_back : AdjustedStringReadsBack
-adjusted_string_reads_back kind size unit text below string =
-    record {
-      accepted = string_accepted kind size unit text below string;
-      refused = string_rejected kind size unit text below string;
-    }
+adjusted_string_reads_back kind size unit text below string = record {
+  accepted = string_accepted kind size unit text below string;
+  refused = string_rejected kind size unit text below string;
+}

@@ -52,8 +52,7 @@ appends_same {old} {new} {result} {text} {form} same this =
 pub run_more : (byte count left next : ℕ) (old : List ℕ) → left ≤ count → next ≡ min left 64
     → (old ++ replicate (count - left) byte) ++ take next (replicate 64 byte)
     ≡ old ++ replicate (count - (left - next)) byte
-run_more byte count left next old few next_is =
-    rw (take-replicate next 64 byte (omega (arith, next_is)))
+run_more byte count left next old few next_is = rw (take-replicate next 64 byte (omega (arith, next_is)))
     (grind (
       arith,
       append_assoc old (replicate (count - left) byte) (replicate next byte),
@@ -63,19 +62,17 @@ run_more byte count left next old few next_is =
 -- A point, the digits that are written, and zeros are the text of the padded fraction.
 pub fraction_text_of_shown :
     (places shown : ℕ) (digits characters : List ℕ) → 0 < places → shown ≡ min places (length digits)
-    → take (length digits) characters ≡ glyphs digits
-    → 46 ∷ (take shown characters ++ replicate (places - shown) 48)
+    → take (length digits) characters ≡ glyphs digits → 46 ∷ (take shown characters ++ replicate (places - shown) 48)
     ≡ fraction_text (take places digits ++ replicate (places - length digits) 0)
-fraction_text_of_shown places shown digits characters some shown_is characters_are =
-    grind (
-      arith,
-      common_steps,
-      fraction_some places digits some,
-      take-map (λ digit. 48 + digit) shown digits,
-      take-take shown (length digits) characters,
-      take_all shown digits,
-      take_all places digits,
-    )
+fraction_text_of_shown places shown digits characters some shown_is characters_are = grind (
+  arith,
+  common_steps,
+  fraction_some places digits some,
+  take-map (λ digit. 48 + digit) shown digits,
+  take-take shown (length digits) characters,
+  take_all shown digits,
+  take_all places digits,
+)
 
 -- Characters that begin with the text of digits are at least as many as these.
 pub glyphs_within : (digits characters : List ℕ) → take (length digits) characters ≡ glyphs digits

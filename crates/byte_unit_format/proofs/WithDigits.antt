@@ -46,8 +46,7 @@ digit_of_decimal k n wide small =
     )
 
 -- A number of a number of digits is at least the power of ten with one digit more than zeros, and below the next one.
-pub between_powers : (n : ℕ) → 1 ≤ n → n < 2 ^ 128
-    → (10 ^ (length (decimal n) - 1) ≤ n) × (n < 10 ^ length (decimal n))
+pub between_powers : (n : ℕ) → 1 ≤ n → n < 2 ^ 128 → (10 ^ (length (decimal n) - 1) ≤ n) × (n < 10 ^ length (decimal n))
 between_powers n some small =
     let len = length (decimal n) in
     let one = pow-le-pow_right {n = 10} (omega arith) {i = len - 1} {j = 0} in (
@@ -102,8 +101,7 @@ cut_none cut used digits few = grind (arith, nat_tests)
 -- The first of three elements from an index on are the first from there on.
 pub three_elements : (list : List ℕ) (at : ℕ) → at + 3 ≤ length list
     → drop at list ≡ get_or list at 0 ∷ get_or list (at + 1) 0 ∷ get_or list (at + 2) 0 ∷ drop (at + 3) list
-three_elements list at within =
-    grind (arith, drop_more list at 0, drop_more list (at + 1) 0, drop_more list (at + 2) 0)
+three_elements list at within = grind (arith, drop_more list at 0, drop_more list (at + 1) 0, drop_more list (at + 2) 0)
 
 pub three_of : (list : List ℕ) (at count : ℕ) → count ≤ 3 → at + 3 ≤ length list
     → take (count + 1) (46 ∷ get_or list at 0 ∷ get_or list (at + 1) 0 ∷ get_or list (at + 2) 0 ∷ [])
@@ -166,19 +164,18 @@ used_within size used some small is_used within =
 shown_digits : (digits : List ℕ) (cut used a b c : ℕ) → IsUsed digits used → used ≤ cut + 3 → cut + 3 ≤ 32
     → length digits ≡ 32 → get_or digits cut 0 ≡ 48 + a → get_or digits (cut + 1) 0 ≡ 48 + b
     → get_or digits (cut + 2) 0 ≡ 48 + c → cut_digits cut used digits ≡ fraction_text (trim_zeros (a ∷ b ∷ c ∷ []))
-shown_digits digits cut used a b c is_used few room long first second third =
-    grind (
-      arith,
-      cut_some cut used digits,
-      cut_none cut used digits,
-      three_elements digits cut,
-      is_used.zeros (cut + 2),
-      is_used.last (cut + 2),
-      is_used.zeros (cut + 1),
-      is_used.last (cut + 1),
-      is_used.zeros cut,
-      is_used.last cut,
-    )
+shown_digits digits cut used a b c is_used few room long first second third = grind (
+  arith,
+  cut_some cut used digits,
+  cut_none cut used digits,
+  three_elements digits cut,
+  is_used.zeros (cut + 2),
+  is_used.last (cut + 2),
+  is_used.zeros (cut + 1),
+  is_used.last (cut + 1),
+  is_used.zeros cut,
+  is_used.last cut,
+)
 
 -- The array of the digits has 32 bytes, of which the first are the digits.
 pub padded_length : (size : ℕ) → length (decimal size) ≤ 32 → length (padded_digits size) ≡ 32

@@ -46,8 +46,7 @@ recovered_unit_unique version kind size precision unit other (inr own) (inr othe
 
 -- A size has at most one text with a unit by a spec.
 pub size_form_unique : (version : Version) (kind : Kind) (size : ℕ) (spec : FormatSpec) (text other : List ℕ)
-    → IsSizeFormIn version kind size spec text
-    → IsSizeFormIn version kind size spec other → text ≡ other
+    → IsSizeFormIn version kind size spec text → IsSizeFormIn version kind size spec other → text ≡ other
 size_form_unique version kind size spec text other form other_form =
     let unit =
     recovered_unit_unique version kind size (places_of spec.precision) form.unit other_form.unit form.is_recovered
@@ -72,8 +71,7 @@ form_exists version kind size spec =
     (λ none.
     let product = own_number kind size (size * scale) (own_unit kind) refl refl in
     let recovered : IsRecoveredIn version kind false size precision (own_unit kind) = inr (none, refl) in
-    let form : IsSizeFormIn version kind size spec (of (own_unit kind) (size * scale)) =
-    record {
+    let form : IsSizeFormIn version kind size spec (of (own_unit kind) (size * scale)) = record {
       unit = own_unit kind;
       number = size * scale;
       is_recovered = recovered;
@@ -152,12 +150,9 @@ parts_expansion {number} {whole} {digits} {places} parts =
 
 -- If the number is the size in its exact unit, these parts, formatted with the unit, are the text of the size.
 pub size_form_of_parts : (kind : Kind) (size : ℕ) (spec : FormatSpec) {unit : Shape}
-    {number places whole digits count : ℕ}
-    → places ≡ places_of spec.precision
-    → IsRecoveredIn current kind false size places unit
-    → number * bits unit ≡ size * bits_in kind * scale
-    → AreParts number whole digits count
-    → IsSizeForm kind size spec
+    {number places whole digits count : ℕ} → places ≡ places_of spec.precision
+    → IsRecoveredIn current kind false size places unit → number * bits unit ≡ size * bits_in kind * scale
+    → AreParts number whole digits count → IsSizeForm kind size spec
     (layout (decimal whole ++ fraction_text (last_digits count digits)) (unit_name_in current unit) spec)
 size_form_of_parts kind size spec {unit} {number} {places} {whole} {digits} {count} places_are recovered product parts =
     let e : Finite = record { whole = whole; digits = last_digits count digits } in
@@ -169,8 +164,7 @@ size_form_of_parts kind size spec {unit} {number} {places} {whole} {digits} {cou
 -- If the alternate form is set, the size formatted with a unit is its text.
 pub size_form_is_text :
     (kind : Kind) (size : ℕ) (spec : FormatSpec) {text : List ℕ} → spec.alternate ≡ true
-    → IsSizeForm kind size spec text
-    → IsText kind size spec text
+    → IsSizeForm kind size spec text → IsText kind size spec text
 size_form_is_text kind size spec {text} alternate form =
     let Text : Bool → Type 0 =
     λ alternate. MatchBool alternate (IsSizeForm kind size spec text) (text ≡ plain size spec) in

@@ -290,13 +290,12 @@ pub record IsCopied (ds es : List ℕ) (i : ℕ) : Type 0 where
 
 -- An array of zeros has no digit of another copied.
 pub no_digits_copied : (es : List ℕ) → IsCopied (replicate expansion_places 0) es 0
-no_digits_copied es =
-    record {
-      size = length-replicate {A = ℕ} expansion_places 0;
-      front = refl;
-      rest = refl;
-      small = All-replicate (λ d. d < 10) expansion_places 0 (omega arith);
-    }
+no_digits_copied es = record {
+  size = length-replicate {A = ℕ} expansion_places 0;
+  front = refl;
+  rest = refl;
+  small = All-replicate (λ d. d < 10) expansion_places 0 (omega arith);
+}
 
 -- After the digit at index i is copied, i + 1 digits are.
 pub one_more_digit_copied :

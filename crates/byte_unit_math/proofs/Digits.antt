@@ -47,8 +47,7 @@ same_digits (d ∷ ds) (x ∷ es) h k len e =
     let hs = All-tail (λ d. d < 10) d ds h in
     let ks = All-tail (λ d. d < 10) x es k in
     let product = ap (λ n. x * 10 ^ n) l in
-    let parts =
-    same_from_place d (value_of_digits ds) x (value_of_digits es) (10 ^ length ds) (value_below_power ds hs)
+    let parts = same_from_place d (value_of_digits ds) x (value_of_digits es) (10 ^ length ds) (value_below_power ds hs)
     (rw l (value_below_power es ks)) (omega (arith, product, value_cons d ds, value_cons x es, e)) in
     let rest = same_digits ds es hs ks l parts.1 in
     λ i. parts.0 i ∷ rest i
@@ -94,8 +93,7 @@ mod_next_power q power one = mod-mul q (omega arith) one
 -- The last p digits of q represent the remainder of q by 10^p.
 pub value_of_last_digits : (p q : ℕ) → value_of_digits (last_digits p q) ≡ q % 10 ^ p
 value_of_last_digits zero q = omega arith
-value_of_last_digits (suc p) q =
-    value_cons (q / 10 ^ p % 10) (last_digits p q)
+value_of_last_digits (suc p) q = value_cons (q / 10 ^ p % 10) (last_digits p q)
     ∙ rw (length_last_digits p q, value_of_last_digits p q, pow-succ' 10 p)
     (sym (mod_next_power q (10 ^ p) (one_le_pow10 p)))
 
@@ -125,8 +123,7 @@ small_before_digit d (e ∷ es) h k = All-cons (λ d. d < 10) d (e ∷ es) h k
 
 pub small_without_zeros : (ds : List ℕ) → All (λ d. d < 10) ds → All (λ d. d < 10) (trim_zeros ds)
 small_without_zeros [] h = h
-small_without_zeros (d ∷ ds) h =
-    small_before_digit d (trim_zeros ds) (All-head (λ d. d < 10) d ds h)
+small_without_zeros (d ∷ ds) h = small_before_digit d (trim_zeros ds) (All-head (λ d. d < 10) d ds h)
     (small_without_zeros ds (All-tail (λ d. d < 10) d ds h))
 
 -- q / 10^p is the decimal `e`, which has at most p digits after the point.

@@ -80,8 +80,7 @@ quotient_from_bounds n divisor quotient enough close =
 pub rest_from_bounds :
     (n divisor quotient : ℕ) → quotient * divisor ≤ n → n - quotient * divisor < divisor
     → n - quotient * divisor ≡ n % divisor
-rest_from_bounds n divisor quotient enough close =
-    (division_is n divisor quotient _ (omega (arith, enough)) close).1
+rest_from_bounds n divisor quotient enough close = (division_is n divisor quotient _ (omega (arith, enough)) close).1
 
 -- The same where the estimate is one less.
 pub quotient_after : (n divisor estimate : ℕ) → estimate * divisor + divisor ≤ n → n < estimate * divisor + 2 * divisor

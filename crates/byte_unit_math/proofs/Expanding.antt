@@ -19,8 +19,7 @@ use Rattle.std.proofs.lemmas.Grind.{common_steps}
 -- If the quotient is exact with this many digits after the point, the division leaves no remainder there.
 pub rest_is_zero :
     (size unit places count rest : ℕ) → size * 10 ^ places ≡ count * unit + rest → rest < unit
-    → IsExactAt size unit places
-    → rest ≡ 0
+    → IsExactAt size unit places → rest ≡ 0
 rest_is_zero size unit places count rest product small exact =
     (same_from_place count rest exact.0 0 unit small (omega (arith, small)) (omega (arith, product, exact.1))).1
 
@@ -28,20 +27,18 @@ rest_is_zero size unit places count rest product small exact =
 pub IsLeastPlaces-last_digit :
     (size unit count places : ℕ) → 0 < unit → size * 10 ^ places ≡ count * unit → (0 < places → 0 < count % 10)
     → IsLeastPlaces size unit places
-IsLeastPlaces-last_digit size unit count places positive product last =
-    record {
-      has = (count, product);
-      least = λ fewer exact.
-          ⊎_elim (λ below.
-          let behind = 10 ^ (places - fewer) in
-          let power = ap (λ n. size * n) (pow10_split fewer places (omega (arith, below))) in
-          let tens : count ≡ exact.0 * behind =
-          eq_of_mul-eq-mul_right unit positive count (exact.0 * behind)
-          (omega (arith, product, power, ap (λ n. n * behind) exact.1)) in
-          let ten = ap (λ n. exact.0 * n) (pow10_split 1 (places - fewer) (omega (arith, below))) in
-          absurd (omega (arith, tens, ten, last (omega (arith, below)))))
-          (λ enough. enough) (cases_lt fewer places);
-    }
+IsLeastPlaces-last_digit size unit count places positive product last = record {
+  has = (count, product);
+  least = λ fewer exact.
+      ⊎_elim (λ below.
+      let behind = 10 ^ (places - fewer) in
+      let power = ap (λ n. size * n) (pow10_split fewer places (omega (arith, below))) in
+      let tens : count ≡ exact.0 * behind = eq_of_mul-eq-mul_right unit positive count (exact.0 * behind)
+      (omega (arith, product, power, ap (λ n. n * behind) exact.1)) in
+      let ten = ap (λ n. exact.0 * n) (pow10_split 1 (places - fewer) (omega (arith, below))) in
+      absurd (omega (arith, tens, ten, last (omega (arith, below)))))
+      (λ enough. enough) (cases_lt fewer places);
+}
 
 -- The quotient has `digits` digits after the point so far and leaves `rest`; it is exact with no fewer digits.
 pub record Dividing (size unit rest fraction digits : ℕ) : Type 0 where
@@ -90,8 +87,7 @@ IsQuotient-digits size unit fraction digits places few room product =
     let power = ap (λ n. size * n) (pow10_split digits places few) in
     let raised = ap (λ n. n * 10 ^ (places - digits)) product in
     let parts = ap (λ n. size / unit * n) (pow10_times_rest digits (omega (arith, few))) in
-    let split =
-    ap (λ n. count * n)
+    let split = ap (λ n. count * n)
     (power_of_sum 10 (places_of_decimal - digits) (places - digits) (places_of_decimal - places) (omega arith)) in
     record {
       count = count * 10 ^ (places - digits);
@@ -208,8 +204,7 @@ pub expansion_of_digits :
     → IsExpansion num den (record { whole = whole; digits = digits })
 expansion_of_digits num den whole digits positive h =
     let places = length digits in
-    let least =
-    IsLeastPlaces-last_digit num den (whole * 10 ^ places + value_of_digits digits) places positive h.exact
+    let least = IsLeastPlaces-last_digit num den (whole * 10 ^ places + value_of_digits digits) places positive h.exact
     (λ some.
     let power = ap (λ n. whole * n) (pow10_split 1 places some) in
     let small = All-get_or (λ d. d < 10) digits (places - 1) 0 (omega (arith, some)) h.small in

@@ -2,11 +2,6 @@
 use Rattle.std.proofs.Common.{◌≡◌, ℕ, ◌<◌, List, [], ◌∷◌, length, arith, refl}
 use Rattle.byte_unit_math.specs.Numeral.{fraction_text, glyphs}
 
--- Without digits the text is empty.
-pub fraction_text_none : (ds : List ℕ) → length ds ≡ 0 → fraction_text ds ≡ []
-fraction_text_none [] h = refl
-fraction_text_none (d ∷ ds) h = absurd (omega (arith, h))
-
 -- With digits the text is a point and the digits.
 pub fraction_text_some : (ds : List ℕ) → 0 < length ds → fraction_text ds ≡ 46 ∷ glyphs ds
 fraction_text_some [] h = absurd (omega (arith, h))

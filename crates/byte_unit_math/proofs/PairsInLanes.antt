@@ -25,8 +25,7 @@ twice [] = 0
 twice (p ∷ ps) = suc (suc (twice ps))
 
 pair_in_lane :
-    (p rest : ℕ) → p < 100
-    → (((p / 10 + p % 10 * 256 % 65536) % 65536 + 65536 * rest) % 256 ≡ p / 10)
+    (p rest : ℕ) → p < 100 → (((p / 10 + p % 10 * 256 % 65536) % 65536 + 65536 * rest) % 256 ≡ p / 10)
     × ((((p / 10 + p % 10 * 256 % 65536) % 65536 + 65536 * rest) / 256 % 256 ≡ p % 10)
     × (((p / 10 + p % 10 * 256 % 65536) % 65536 + 65536 * rest) / 256 / 256 ≡ rest))
 pair_in_lane p rest few = (omega (arith, few), (omega (arith, few), omega (arith, few)))
@@ -45,8 +44,7 @@ digits_of_lanes (p ∷ ps) few =
 
 -- The pairs of digits of a number of 16 digits.
 abbrev pub pairs_of : ℕ → List ℕ
-pairs_of n =
-    (n / 100000000 / 10000 / 100) ∷ (n / 100000000 / 10000 % 100) ∷ (n / 100000000 % 10000 / 100)
+pairs_of n = (n / 100000000 / 10000 / 100) ∷ (n / 100000000 / 10000 % 100) ∷ (n / 100000000 % 10000 / 100)
     ∷ (n / 100000000 % 10000 % 100) ∷ (n % 100000000 / 10000 / 100) ∷ (n % 100000000 / 10000 % 100)
     ∷ (n % 100000000 % 10000 / 100) ∷ (n % 100000000 % 10000 % 100) ∷ []
 

@@ -11,14 +11,12 @@ use Rattle.byte_unit_math.specs.NumberLaws.{ExactByPowers, NumbersHaveTwosAndFiv
 
 odd_times_fives : (left n : ℕ) → left % 2 ≢ 0 → (left * 5 ^ n) % 2 ≢ 0
 odd_times_fives left zero h = λ k. h (omega (arith, k))
-odd_times_fives left (suc n) h =
-    λ k. odd_times_fives left n h
+odd_times_fives left (suc n) h = λ k. odd_times_fives left n h
     (let e : left * 5 ^ suc n ≡ 5 * (left * 5 ^ n) = rw (pow-succ' 5 n) (omega arith) in omega (arith, k, e))
 
 no_five_times_twos : (left n : ℕ) → left % 5 ≢ 0 → (left * 2 ^ n) % 5 ≢ 0
 no_five_times_twos left zero h = λ k. h (omega (arith, k))
-no_five_times_twos left (suc n) h =
-    λ k. no_five_times_twos left n h
+no_five_times_twos left (suc n) h = λ k. no_five_times_twos left n h
     (let e : left * 2 ^ suc n ≡ 2 * (left * 2 ^ n) = rw (pow-succ' 2 n) (omega arith) in omega (arith, k, e))
 
 -- A number times 10^p has p more factors of 2 and p more of 5.
@@ -53,8 +51,7 @@ exact_with_powers num a b twos fives p h few = (
 enough_factors :
     (base m a left others count rest : ℕ) → 0 < base → (left * others) % base ≢ 0
     → left * (base ^ m * others) ≡ count * (base ^ a * rest) → a ≤ m
-enough_factors base m a left others count rest some none e =
-    ⊎_elim (λ more.
+enough_factors base m a left others count rest some none e = ⊎_elim (λ more.
     let power = power_of_sum base a m (suc (a - m - 1)) (omega (arith, more))
     ∙ ap (λ n. base ^ m * n) (pow-succ' base (a - m - 1)) in
     let multiple = count * (base ^ (a - m - 1) * rest) in
@@ -65,13 +62,11 @@ enough_factors base m a left others count rest some none e =
     (λ few. few) (cases_lt m a)
 
 enough_twos : (num a b twos fives p : ℕ) → IsTwoFive num twos fives → IsExactAt num (2 ^ a * 5 ^ b) p → a ≤ twos + p
-enough_twos num a b twos fives p h e =
-    enough_factors 2 (twos + p) a h.left (5 ^ (fives + p)) e.0 (5 ^ b) (omega arith)
+enough_twos num a b twos fives p h e = enough_factors 2 (twos + p) a h.left (5 ^ (fives + p)) e.0 (5 ^ b) (omega arith)
     (odd_times_fives h.left (fives + p) h.odd) (sym (times_tens num twos fives p h) ∙ e.1)
 
 enough_fives : (num a b twos fives p : ℕ) → IsTwoFive num twos fives → IsExactAt num (2 ^ a * 5 ^ b) p → b ≤ fives + p
-enough_fives num a b twos fives p h e =
-    enough_factors 5 (fives + p) b h.left (2 ^ (twos + p)) e.0 (2 ^ a) (omega arith)
+enough_fives num a b twos fives p h e = enough_factors 5 (fives + p) b h.left (2 ^ (twos + p)) e.0 (2 ^ a) (omega arith)
     (no_five_times_twos h.left (twos + p) h.no_five) (omega (arith, times_tens num twos fives p h, e.1))
 
 -- A fraction num / (2^a * 5^b) is exact with p digits after the point if and only if num * 10^p has at least a factors
@@ -98,8 +93,7 @@ zero_takes_no_places den = record { has = (0, omega arith); least = λ p e. omeg
 exponents_exist : (turns n left twos fives : ℕ) → left ≤ turns → 0 < left → n ≡ left * (2 ^ twos * 5 ^ fives)
     → HasTwoFive n
 exponents_exist zero n left twos fives few some e = absurd (omega (arith, few, some))
-exponents_exist (suc turns) n left twos fives few some e =
-    ⊎_elim (λ odd.
+exponents_exist (suc turns) n left twos fives few some e = ⊎_elim (λ odd.
     ⊎_elim (λ no_five. (
       twos,
       fives,
@@ -118,5 +112,4 @@ exponents_exist (suc turns) n left twos fives few some e =
 
 -- Every number but zero has an exponent of 2 and an exponent of 5.
 pub numbers_have_exponents : NumbersHaveTwosAndFives
-numbers_have_exponents n some =
-    exponents_exist n n n 0 0 (omega arith) (omega (arith, some)) (omega arith)
+numbers_have_exponents n some = exponents_exist n n n 0 0 (omega arith) (omega (arith, some)) (omega arith)

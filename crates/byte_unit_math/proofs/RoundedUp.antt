@@ -32,8 +32,7 @@ pub record InFirstGroup (digits places : ℕ) : Type 0 where
       ≡ digits * 10 ^ (group_places - places) * (group_limit * half_limit)
 
 -- At most seven digits after the point are all in the first group.
-pub in_first_group : (digits places : ℕ) → places ≤ group_places → digits < 10 ^ places
-    → InFirstGroup digits places
+pub in_first_group : (digits places : ℕ) → places ≤ group_places → digits < 10 ^ places → InFirstGroup digits places
 in_first_group digits places few small =
     let some = one_le_pow10 (group_places - places) in
     let below = mul-lt-mul_of_pos_right {k = 10 ^ (group_places - places)} small some in

@@ -77,8 +77,7 @@ zero_dropped places digits none = grind (arith, nat_tests)
 -- Removing the trailing zeros of digits to which zeros were appended gives the digits.
 zeros_dropped :
     (behind all places digits rest : ℕ) → all ≡ behind + places → rest ≡ digits * 10 ^ behind
-    → (0 < places → 0 < digits % 10)
-    → trim_digits all rest ≡ (digits, places)
+    → (0 < places → 0 < digits % 10) → trim_digits all rest ≡ (digits, places)
 zeros_dropped zero all places digits rest count product last = grind (arith, digits_kept)
 zeros_dropped (suc behind) zero places digits rest count product last = absurd (omega (arith, count))
 zeros_dropped (suc behind) (suc all) places digits rest count product last =
@@ -88,21 +87,18 @@ zeros_dropped (suc behind) (suc all) places digits rest count product last =
     ∙ zeros_dropped behind all places digits (rest / 10) (omega (arith, count)) (omega (arith, tens)) last
 
 trimmed : (rest : ℕ) (pair : ℕ × ℕ) → trim_digits places_of_decimal rest ≡ pair → trim_fraction rest ≡ pair
-trimmed zero pair short =
-    sym (zeros_dropped places_of_decimal places_of_decimal 0 0 0 refl (omega arith)
+trimmed zero pair short = sym (zeros_dropped places_of_decimal places_of_decimal 0 0 0 refl (omega arith)
     (λ some. absurd (omega (arith, some)))) ∙ short
 trimmed (suc rest) pair short = short
 
 short_fraction_is : (rest digits places : ℕ) → HasDigits rest digits places → (0 < places → 0 < digits % 10)
     → trim_fraction rest ≡ (digits, places)
-short_fraction_is rest digits places h last =
-    trimmed rest (digits, places)
+short_fraction_is rest digits places h last = trimmed rest (digits, places)
     (zeros_dropped (places_of_decimal - places) places_of_decimal places digits rest (omega (arith, h.few)) (sym h.same)
     last)
 
 -- Such digits after a whole part below 2^112 satisfy the invariant of a `Decimal`.
 pub digits_are_normalized :
     (whole fraction digits places : ℕ) → whole < whole_limit → HasDigits fraction digits places
-    → (0 < places → 0 < digits % 10)
-    → IsNormalized (record { whole = whole; digits = digits; places = places })
+    → (0 < places → 0 < digits % 10) → IsNormalized (record { whole = whole; digits = digits; places = places })
 digits_are_normalized whole fraction digits places bound h last = grind (arith, fraction_below_one, short_fraction_is)

@@ -97,8 +97,7 @@ padded_is_at_places q p e h =
     let count : length f.digits ≡ p =
     omega (arith, length-append e.digits zeros, length-replicate {A = ℕ} (p - len) 0, few) in
     let power = ap (λ n. value_of_digits e.digits * n) (pow10_split len p few) in
-    let same : ulps_of f ≡ q =
-    eq_of_mul-eq-mul_right (10 ^ len) (one_le_pow10 len) (ulps_of f) q
+    let same : ulps_of f ≡ q = eq_of_mul-eq-mul_right (10 ^ len) (one_le_pow10 len) (ulps_of f) q
     (rw (count, value_append_zeros e.digits (p - len)) (omega (arith, h.exact, power))) in
     let small = All-append (λ d. d < 10) e.digits zeros h.small
     (All-replicate (λ d. d < 10) (p - len) 0 (omega arith)) in

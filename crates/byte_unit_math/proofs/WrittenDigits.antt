@@ -72,8 +72,7 @@ decimal_length_split k n wide small =
 
 -- A number has at least one digit.
 pub decimal_length_positive : (n : ℕ) → n < 2 ^ 128 → 1 ≤ length (decimal n)
-decimal_length_positive n small =
-    ⊎_elim (λ one. omega (arith, decimal_length_one n one))
+decimal_length_positive n small = ⊎_elim (λ one. omega (arith, decimal_length_one n one))
     (λ more. omega (arith, decimal_length_split 1 n more small)) (cases_lt n 10)
 
 -- The last k digits without leading zeros are the digits of a number below 10^k. What comes after them stays.
@@ -81,8 +80,7 @@ pub without_leading_zeros : (k n : ℕ) (behind : List ℕ) → n < 10 ^ k → n
     → drop (k - length (decimal n)) (glyphs (last_digits k n) ++ behind) ≡ decimal n ++ behind
 without_leading_zeros zero n behind below small some = absurd (omega (arith, some))
 without_leading_zeros (suc zero) n behind below small some = grind (arith, decimal_one_digit)
-without_leading_zeros (suc (suc k)) n behind below small some =
-    ⊎_elim
+without_leading_zeros (suc (suc k)) n behind below small some = ⊎_elim
     (λ less.
     let few = length-decimal-le_wide (suc k) n (omega arith) less (omega (arith, small)) in
     let zeros : suc (suc k) - length (decimal n) ≡ suc (suc k - length (decimal n)) = omega (arith, few) in
@@ -111,12 +109,11 @@ decimal_of_one_and_digits places digits below few =
 
 -- 10^18 plus digits below it has 19 digits.
 pub length_of_one_and_18_digits : (r : ℕ) → r < 10 ^ 18 → length (decimal (10 ^ 18 + r)) ≡ 19
-length_of_one_and_18_digits r small =
-    omega (
-      arith,
-      decimal_length_split 18 (10 ^ 18 + r) (omega arith) (omega (arith, small)),
-      decimal_length_one ((10 ^ 18 + r) / 10 ^ 18) (omega (arith, small)),
-    )
+length_of_one_and_18_digits r small = omega (
+  arith,
+  decimal_length_split 18 (10 ^ 18 + r) (omega arith) (omega (arith, small)),
+  decimal_length_one ((10 ^ 18 + r) / 10 ^ 18) (omega (arith, small)),
+)
 
 -- A table of the two digits of each of `count` numbers, as characters, beginning at a given number.
 abbrev pairs_from : ℕ → ℕ → List ℕ
@@ -125,8 +122,7 @@ pairs_from (suc count) n = (48 + n / 10) ∷ (48 + n % 10) ∷ pairs_from count 
 
 -- The entries at 2k and 2k + 1 of such a table are the tens and the ones of the k-th number.
 pub pairs_from_at :
-    (count from k : ℕ) → k < count
-    → (get_or (pairs_from count from) (k * 2) 0 ≡ 48 + (from + k) / 10)
+    (count from k : ℕ) → k < count → (get_or (pairs_from count from) (k * 2) 0 ≡ 48 + (from + k) / 10)
     × (get_or (pairs_from count from) (k * 2 + 1) 0 ≡ 48 + (from + k) % 10)
 pairs_from_at zero from k few = absurd (omega (arith, few))
 pairs_from_at (suc count) from zero few = (omega arith, omega arith)
@@ -178,8 +174,7 @@ one_becomes_point places digits point bytes behind fits within h =
 -- The text of a fraction is ASCII.
 pub fraction_ascii :
     (places digits : ℕ) → (0 < places) × (digits < 10 ^ places) × (places ≤ 28)
-    → IsAscii (decimal (10 ^ places + digits))
-    → IsAscii (fraction_text (last_digits places digits))
+    → IsAscii (decimal (10 ^ places + digits)) → IsAscii (fraction_text (last_digits places digits))
 fraction_ascii places digits fits ascii =
     let glyphs_ascii = IsAscii-drop (49 ∷ glyphs (last_digits places digits)) 1
     (subst IsAscii (decimal_of_one_and_digits places digits fits.1 fits.2) ascii) in
@@ -202,8 +197,7 @@ pub ruleset fractions_written = (pow10_bounds, length_of_one_and_digits, one_bec
 pub digits_before :
     (k n : ℕ) (behind : List ℕ) → 10 ^ k ≤ n → n < 2 ^ 128
     → decimal n ++ behind ≡ decimal (n / 10 ^ k) ++ (glyphs (last_digits k (n % 10 ^ k)) ++ behind)
-digits_before k n behind wide small =
-    ap (λ l. l ++ behind) (sym (decimal_cut k n wide small))
+digits_before k n behind wide small = ap (λ l. l ++ behind) (sym (decimal_cut k n wide small))
     ∙ append_assoc (decimal (n / 10 ^ k)) (glyphs (last_digits k (n % 10 ^ k))) behind
 
 -- The same for two and for four digits, and their number.
@@ -245,8 +239,7 @@ digits_estimate binary = binary * 1233 / 4096
 
 abbrev estimate_holds_below : ℕ → Bool
 estimate_holds_below zero = true
-estimate_holds_below (suc j) =
-    leb (10 ^ digits_estimate (suc j)) (10 * 2 ^ j) &&
+estimate_holds_below (suc j) = leb (10 ^ digits_estimate (suc j)) (10 * 2 ^ j) &&
     (leb (2 ^ suc j) (10 ^ suc (digits_estimate (suc j))) && estimate_holds_below j)
 
 IsBetween : ℕ → Type 0

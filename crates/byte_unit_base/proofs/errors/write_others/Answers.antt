@@ -11,8 +11,7 @@ loop-left-preserved g c = λ result done later.
     let left = c.loop-left.left.now in
     let rest = take (length left - 1) (drop 1 left) in
     let chosen : Bool → List ℕ = λ last. if last then codes " or " else codes ", " in
-    let before : c.if-is_empty.before.now ≡ separator rest =
-    elim c.if-is_empty.branch [
+    let before : c.if-is_empty.before.now ≡ separator rest = elim c.if-is_empty.branch [
       | then-is_empty w ↦ ap (λ text. text.now) w.before-is ∙ ap chosen (sym w.if-is_empty.true ∙ c.is_empty.ensures)
       | else-is_empty w ↦ ap (λ text. text.now) w.before-is ∙ ap chosen (sym w.if-is_empty.false ∙ c.is_empty.ensures)
     ] in

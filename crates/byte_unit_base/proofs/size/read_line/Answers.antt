@@ -20,6 +20,5 @@ bytes_number flags bytes (Ok (unit, number)) is = (
 bytes_number flags bytes (Err stop) is = is
 
 pub returns : goal.returns
-returns c =
-    bytes_number (flags_for c.args.kind c.args.ignore_case) c.args.line.now c.read_parts.result
+returns c = bytes_number (flags_for c.args.kind c.args.ignore_case) c.args.line.now c.read_parts.result
     (rw c.flags_for.ensures at c.read_parts.ensures)

@@ -21,7 +21,6 @@ returns-clause-written c =
     }
 
 pub returns-clause-ascii : goal.returns-clause-ascii
-returns-clause-ascii c =
-    rw (front_is _ _ c.put_split.ensures.bytes c.put_split.ensures.ends)
+returns-clause-ascii c = rw (front_is _ _ c.put_split.ensures.bytes c.put_split.ensures.ends)
     (split_ascii c.args.kind c.split-whole.result.0 c.split-whole.result.1 (c.split-whole.ensures.narrow refl)
     c.split-whole.ensures.prefix)

@@ -28,8 +28,7 @@ returns-after-len-gt0-clause-bytes c =
     let text = thousandths_text c.in-Thousandths.thousandths in
     let letters = 32 ∷ c.letter-in-Thousandths.result ∷ c.own_letter-own.result ∷ [] in
     let known = subst HasPrefix c.in-Thousandths.is c.requires.prefix in
-    let put : drop point new ≡ (text ++ letters) ++ drop end old =
-    elim c.if-len-gt0.branch [
+    let put : drop point new ≡ (text ++ letters) ++ drop end old = elim c.if-len-gt0.branch [
       | then-len-gt0 w ↦
           (let digits = w.put-then-len-gt0.ensures in
           let bytes = ap (λ list. drop w.put-then-len-gt0.result list) w.out-is ∙ digits.bytes in

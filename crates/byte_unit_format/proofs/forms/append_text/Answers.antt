@@ -8,8 +8,7 @@ use Rattle.byte_unit_format.proofs.WrittenForms.{text_length_unique}
 use Rattle.byte_unit_format.proofs.forms.append_text.Goals as goal
 
 pub returns-then-eq : goal.returns-then-eq
-returns-then-eq g c =
-    rw (is_alternate c.args.spec (sym c.eq.ensures ∙ c.if-eq.true)) c.append_alternate.ensures
+returns-then-eq g c = rw (is_alternate c.args.spec (sym c.eq.ensures ∙ c.if-eq.true)) c.append_alternate.ensures
 
 pub returns : goal.returns
 returns g c =

@@ -12,6 +12,5 @@ returns-clause-split c = λ kind places recovered. record {
 }
 
 pub returns-clause-whole : goal.returns-clause-whole
-returns-clause-whole c =
-    whole_below c.args.size c.args.power true _ _ c.requires.small c.requires.some
+returns-clause-whole c = whole_below c.args.size c.args.power true _ _ c.requires.small c.requires.some
     (eighths_value c.args.size c.args.power c.requires.some c.requires.eighths)

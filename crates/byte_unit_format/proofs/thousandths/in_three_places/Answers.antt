@@ -4,8 +4,7 @@ use Rattle.byte_unit_format.proofs.FewPlaces.{divided_more, greatest_thousands}
 use Rattle.byte_unit_format.proofs.thousandths.in_three_places.Goals as goal
 
 pub groups-preserved : goal.groups-preserved
-groups-preserved c =
-    divided_more c.requires.small c.groups.invariant c.groups-test.true c.if-whole-ge1000.true
+groups-preserved c = divided_more c.requires.small c.groups.invariant c.groups-test.true c.if-whole-ge1000.true
     c.div_rem_thousand-next.ensures.quotient c.div_rem_thousand-next.ensures.rest
 
 pub returns-else-whole-ge1000-clause-greatest : goal.returns-else-whole-ge1000-clause-greatest

@@ -30,15 +30,14 @@ overflow_sub-len c =
     omega (arith, found.within, c.requires.len)
 
 pub in_eighths-whole-requires-clause-some : goal.in_eighths-whole-requires-clause-some
-in_eighths-whole-requires-clause-some c =
-    elim c.if-binary-most.branch [
-      | then-binary-most+else-binary-power w ↦
-          (let used = w.significant-used.ensures in
-          let found = found_power {power = w.min-power.result} c.requires.digits c.requires.len c.requires.small
-          (omega (arith, c.if-most-eq0.false)) (assumption used) used.within (omega (arith, w.min-power.ensures)) in
-          omega (arith, found.some, w.if-binary-power))
-      | else-binary-most w ↦ omega (arith, c.if-most-eq0.false, w.if-binary-most)
-    ]
+in_eighths-whole-requires-clause-some c = elim c.if-binary-most.branch [
+  | then-binary-most+else-binary-power w ↦
+      (let used = w.significant-used.ensures in
+      let found = found_power {power = w.min-power.result} c.requires.digits c.requires.len c.requires.small
+      (omega (arith, c.if-most-eq0.false)) (assumption used) used.within (omega (arith, w.min-power.ensures)) in
+      omega (arith, found.some, w.if-binary-power))
+  | else-binary-most w ↦ omega (arith, c.if-most-eq0.false, w.if-binary-most)
+]
 
 pub put_decimal-requires-clause-known : goal.put_decimal-requires-clause-known
 put_decimal-requires-clause-known c =

@@ -23,8 +23,7 @@ returns-clause-text c =
     let digits = c.put_padded_digits-len.ensures.digits in
     let long : length array ≡ 32 = rw digits (padded_length size (omega (arith, len_is, few))) in
     let at : c.put-2.result ≡ len = omega (arith, c.put-2.ensures.begins) in
-    let front : take len middle ≡ decimal size =
-    take_kept _ _ (omega (arith, at)) c.put-2.ensures.before
+    let front : take len middle ≡ decimal size = take_kept _ _ (omega (arith, at)) c.put-2.ensures.before
     ∙ (front_at copied array (drop 32 old) len (omega (arith, c.put.ensures.begins, long)) c.put.ensures.bytes
     (omega (arith, long, few)) ∙ rw digits (first_of_padded size len len_is)) in
     let before : take (len + 3) middle ≡ decimal size ++ between =

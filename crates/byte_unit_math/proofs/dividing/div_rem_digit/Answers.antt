@@ -11,8 +11,7 @@ returns c =
     let twos = c.subtract_multiple-twos in
     let ones = c.subtract_multiple-ones in
     let digit = eights.result.0 + fours.result.0 + twos.result.0 + ones.result.0 in
-    let parts =
-    division_is c.args.dividend c.args.divisor digit ones.result.1
+    let parts = division_is c.args.dividend c.args.divisor digit ones.result.1
     (omega (arith, eights.ensures.parts, fours.ensures.parts, twos.ensures.parts, ones.ensures.parts))
     (omega (arith, ones.ensures.below)) in
     record { digit = parts.0; rest = parts.1 }

@@ -15,8 +15,7 @@ loop-rest-smaller c =
     omega (arith, IsDividing-room _ _ _ _ _ _ c.loop-rest.invariant c.requires.ends c.loop-rest-test.true)
 
 pub loop-rest-preserved : goal.loop-rest-preserved
-loop-rest-preserved c =
-    rw (c.div_rem_digit-digit.ensures.digit, c.div_rem_digit-digit.ensures.rest)
+loop-rest-preserved c = rw (c.div_rem_digit-digit.ensures.digit, c.div_rem_digit-digit.ensures.rest)
     (IsDividing-more _ _ _ _ _ _ c.loop-rest.invariant c.requires.ends c.loop-rest-test.true)
 
 pub returns : goal.returns

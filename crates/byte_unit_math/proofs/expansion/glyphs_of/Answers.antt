@@ -5,9 +5,8 @@ use Rattle.std.proofs.lemmas.Str.Ascii.{IsAscii-from_all}
 use Rattle.byte_unit_math.proofs.expansion.glyphs_of.Goals as goal
 
 pub loop-i-init : goal.loop-i-init
-loop-i-init c =
-    record {
-      size = refl;
-      ascii = IsAscii-from_all (replicate 93 48) (All-replicate (λ b. b < 128) 93 48 (omega arith));
-      front = refl;
-    }
+loop-i-init c = record {
+  size = refl;
+  ascii = IsAscii-from_all (replicate 93 48) (All-replicate (λ b. b < 128) 93 48 (omega arith));
+  front = refl;
+}

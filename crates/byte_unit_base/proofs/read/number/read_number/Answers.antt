@@ -13,16 +13,14 @@ returns-then-end-eq0 c =
     stops_at_start c.args.line.now (omega (arith, c.if-end-eq0.true, c.leading_digits-end.ensures.end))
 
 pub returns-then-whole-ge-WHOLE_LIMIT : goal.returns-then-whole-ge-WHOLE_LIMIT
-returns-then-whole-ge-WHOLE_LIMIT c =
-    stops_in_whole c.args.line.now _ c.leading_digits-end.ensures.end
+returns-then-whole-ge-WHOLE_LIMIT c = stops_in_whole c.args.line.now _ c.leading_digits-end.ensures.end
     (c.whole_part-whole.ensures.large (omega (arith, c.if-whole-ge-WHOLE_LIMIT.true)))
 
 pub returns-then-end-line : goal.returns-then-end-line
 returns-then-end-line c =
     let run = c.leading_digits-end in
     let bytes = c.args.line.now in
-    let other : run.result.0 < length bytes → get_or bytes run.result.0 0 ≢ point =
-    elim c.then-end-line.branch [
+    let other : run.result.0 < length bytes → get_or bytes run.result.0 0 ≢ point = elim c.then-end-line.branch [
       | then-end-line-via-then-end-line w ↦ λ inside. absurd (omega (arith, inside, w.if-end-line.true))
       | then-end-line-via-else-end-line+then-line-end-ne46 w ↦ λ inside. w.if-line-end-ne46.true
     ] in

@@ -17,6 +17,5 @@ returns-in-empty c =
     none c.args.bytes.now (omega (arith, c.in-empty.len_below)) ∙ ap next_char (sym (chars-IsAscii c.args.bytes.now c.requires))
 
 pub returns-in-len1-up : goal.returns-in-len1-up
-returns-in-len1-up c =
-    first c.args.bytes.now c.from.result (omega (arith, c.in-len1-up.len_at_least)) c.from.ensures
+returns-in-len1-up c = first c.args.bytes.now c.from.result (omega (arith, c.in-len1-up.len_at_least)) c.from.ensures
     ∙ ap next_char (sym (chars-IsAscii c.args.bytes.now c.requires))

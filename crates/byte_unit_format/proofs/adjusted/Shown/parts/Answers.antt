@@ -7,8 +7,7 @@ pub scaled_parts-requires : goal.scaled_parts-requires
 scaled_parts-requires c = subst FitsShown c.in-Scaled.is c.requires
 
 pub returns-in-Scaled-clause-text : goal.returns-in-Scaled-clause-text
-returns-in-Scaled-clause-text c =
-    rw c.in-Scaled.is c.scaled_parts.ensures.text
+returns-in-Scaled-clause-text c = rw c.in-Scaled.is c.scaled_parts.ensures.text
 
 pub returns-in-Expanded-clause-small : goal.returns-in-Expanded-clause-small
 returns-in-Expanded-clause-small c =
