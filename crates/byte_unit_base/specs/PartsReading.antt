@@ -1,4 +1,4 @@
--- What the parts of the parser of a number and a unit return. Contracts of this crate, and those of private functions of
+-- What the parts of the parser of a number and a unit return. Contracts of this crate, and of private functions of
 -- byte_unit_c, cite this file.
 use Rattle.std.specs.Prelude.{◌≡◌, ◌≢◌, ⊤, ℕ, ◌-◌, ◌<◌, ◌≤◌, nat_eq, Bool, true, false, List, [], ◌∷◌, ◌++◌, length}
 use Rattle.std.specs.Prelude.{take, replicate}

@@ -9,8 +9,8 @@ use Rattle.byte_unit_base.specs.declared.errors.ParseError.{ParseError}
 use Rattle.byte_unit_base.specs.declared.kind.Kind.{Kind}
 use Rattle.byte_unit_base.specs.declared.read.stop.Reason.{Reason}
 
--- whatever the reason for which a parser stops at this place, the error that it has by this character, or by the end, is
--- that of the string
+-- whatever the reason for which a parser stops at this place, the error that it has by this character, or by the end,
+-- is that of the string
 abbrev pub IsCharOfStops : List ℕ → ℕ → Option ℕ → Type 0
 IsCharOfStops bytes place next = (kind : Kind) (ignore_case : Bool) (reason : Reason) (error : ParseError)
     → let flags = flags_for kind ignore_case in

@@ -200,8 +200,8 @@ fn read_line(
     read_parts(line, bytes, flags_for(kind, ignore_case))
 }
 
-/// Returns the character of bytes at a place, or `Some(None)` at their end. Returns `None` if there may be white space to
-/// trim, or characters past ASCII.
+/// Returns the character of bytes at a place, or `Some(None)` at their end. Returns `None` if there may be white space
+/// to trim, or characters past ASCII.
 ///
 /// If `read_bytes` stops at the place, [`error_at`](crate::error_at) makes the error of its reason and this character.
 ///

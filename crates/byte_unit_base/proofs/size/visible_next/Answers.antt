@@ -17,7 +17,8 @@ returns-then-is_ascii_from c kind ignore_case reason error stop error_is =
     let place = c.args.place in
     let rest_ascii = c.is_ascii_from.ensures c.if-is_ascii_from.true in
     let ascii : IsAscii bytes =
-    subst IsAscii (take-append-drop place bytes) (IsAscii-append (take place bytes) (drop place bytes) stop.ascii rest_ascii) in
+    subst IsAscii (take-append-drop place bytes)
+    (IsAscii-append (take place bytes) (drop place bytes) stop.ascii rest_ascii) in
     let utf8 = IsUtf8-from_ascii bytes ascii in
     let ends = c.has_visible_ends.ensures c.if-has_visible_ends.true in
     let next_is = c.first_ascii.ensures ∙ ap (λ rest. next_char (chars rest)) (take_rest bytes place) in
