@@ -203,6 +203,11 @@ static inline uint32_t byte_unit_parse_many_32(const char *data, size_t data_len
  * Flags: BITS, IGNORE_CASE. */
 size_t byte_unit_explain(const char *text, size_t len, uint32_t flags, char *out, size_t out_len);
 
+/* Writes the error message for a string that byte_unit_parse_unit rejects, at most 256 bytes of UTF-8. Returns 0 if and
+ * only if the string is a unit: an unknown flag has a message too.
+ * Flags: BITS, IGNORE_CASE. */
+size_t byte_unit_explain_unit(const char *text, size_t len, uint32_t flags, char *out, size_t out_len);
+
 /* Writes the text of a size: its digits, or in the alternate form the size in the largest unit of its kind, not
  * above it, that represents it exactly within the precision (3 if none is set, 28 at most), or in B or b if there is
  * none. Returns 0 if the size is out of range, the spec is invalid or a flag is unknown.

@@ -98,6 +98,8 @@ static void flags(uint32_t word)
                             && code == (parses ? 0 : 77));
     check("explain", byte_unit_explain("", 0, word, out, sizeof out) == (parses ? 21u : 17u)
                          && memcmp(out, parses ? "no value" : "a flag i", 8) == 0);
+    check("explain_unit", byte_unit_explain_unit("bix", 3, word, out, sizeof out) == (parses ? 48u : 17u)
+                              && memcmp(out, parses ? "the char" : "a flag i", 8) == 0);
     check("text", (byte_unit_text(number(1), word, spec, out, sizeof out) != 0) == formats);
     check("adjusted_text", (byte_unit_adjusted_text(number(1), word, 0, spec, out, sizeof out) != 0) == formats);
     check("appropriate_unit", (byte_unit_appropriate_unit(number(1), word, 0) != BYTE_UNIT_NO_UNIT) == formats);
@@ -129,6 +131,8 @@ static void nulls(void)
               && byte_unit_parse("\xff", 1, 0, &size, NULL) == BYTE_UNIT_NOT_UTF8);
     check("parse_unit", byte_unit_parse_unit(NULL, 0, 0, &unit, NULL) == BYTE_UNIT_OK && unit == BYTE_UNIT_B);
     check("explain", byte_unit_explain(NULL, 0, 0, NULL, 0) == 21 && byte_unit_explain("1", 1, 0, NULL, 0) == 0);
+    check("explain_unit", byte_unit_explain_unit(NULL, 0, 0, NULL, 0) == 0
+                              && byte_unit_explain_unit("bix", 3, 0, NULL, 0) == 48);
     check("text", byte_unit_text(number(1536), 0, spec, NULL, 0) == 4);
     check("adjusted_text", byte_unit_adjusted_text(number(1536), 0, BYTE_UNIT_KIB, spec, NULL, 0) == 7);
     check("unit_name", byte_unit_unit_name(BYTE_UNIT_KIB, NULL, 0) == 3);

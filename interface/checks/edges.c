@@ -10,7 +10,8 @@
 
 enum { PAGE = 4096, PAGES = 32 };
 
-static const char *const texts[] = { "1.5 KiB", "1", "", " ", "9.", "12 Ki", "1 bi", "1000 RB", "\xc3", "\xf0\x9f\x98" };
+static const char *const texts[] = { "1.5 KiB", "1", "", " ", "9.", "12 Ki", "1 bi", "1000 RB", "\xc3", "\xf0\x9f\x98",
+                                     "Ki", "bi", "K\xc3", "Ki\xf0\x9f\x98\x80" };
 enum { TEXTS = sizeof texts / sizeof *texts };
 
 static char *end; /* the end of the memory */
@@ -62,7 +63,11 @@ static void parse(const char *text)
     message = byte_unit_explain(begin, length, BYTE_UNIT_BYTES, out, sizeof out);
     wrong += message > sizeof out;
     wrong += byte_unit_explain(text, length, BYTE_UNIT_BYTES, end - message, message) != message;
-    calls += 4;
+    begin = memcpy(end - length, text, length);
+    message = byte_unit_explain_unit(begin, length, BYTE_UNIT_BYTES, out, sizeof out);
+    wrong += message > sizeof out;
+    wrong += byte_unit_explain_unit(text, length, BYTE_UNIT_BYTES, end - message, message) != message;
+    calls += 6;
 }
 
 /* Parses all strings, and each prefix of their list, in one call, with each array at the end of memory of its own. */

@@ -124,6 +124,44 @@ static void parse_units(void)
                           && unit == BYTE_UNIT_KIB);
 }
 
+/* Explains a string that is not a unit. The message is empty if it is one. */
+static void unit_line(const char *text, size_t length, uint32_t flags, const char *expected)
+{
+    char what[32], out[BYTE_UNIT_BUFFER_SIZE];
+
+    snprintf(what, sizeof what, "the unit %s", text);
+    expect(what, out, byte_unit_explain_unit(text, length, flags, out, sizeof out), expected);
+}
+
+static void explain_units(void)
+{
+    const uint32_t uncased = BYTE_UNIT_IGNORE_CASE;
+
+    unit_line("KiB", 3, 0, "");
+    unit_line(" MBits\t", 7, 0, "");
+    unit_line("", 0, 0, "");
+    unit_line("x", 1, 0,
+              "the character 'x' is incorrect "
+              "('B', 'K', 'M', 'G', 'T', 'P', 'E', 'Z', 'Y' or 'R' or no character is expected)");
+    unit_line("1", 1, 0,
+              "the character '1' is incorrect "
+              "('B', 'K', 'M', 'G', 'T', 'P', 'E', 'Z', 'Y' or 'R' or no character is expected)");
+    unit_line("Kx", 2, 0, "the character 'x' is incorrect ('B' or 'b' or no character is expected)");
+    unit_line("Kix", 3, BYTE_UNIT_BITS, "the character 'x' is incorrect ('B' or 'b' or no character is expected)");
+    unit_line("Kx", 2, uncased, "the character 'x' is incorrect ('B' or no character is expected)");
+    unit_line("Kx", 2, uncased | BYTE_UNIT_BITS, "the character 'x' is incorrect ('b' or no character is expected)");
+    unit_line("bx", 2, 0, "the character 'x' is incorrect ('i' or no character is expected)");
+    unit_line("bix", 3, 0, "the character 'x' is incorrect ('t' is expected)");
+    unit_line("bitx", 4, 0, "the character 'x' is incorrect ('s' or no character is expected)");
+    unit_line("bitsx", 5, 0, "the character 'x' is incorrect (no character is expected)");
+    unit_line("KbI", 3, 0, "the character 'i' is incorrect (no character is expected)");
+    unit_line("K\xc3\xa9", 3, 0, "the character '\xc3\xa9' is incorrect ('B' or 'b' or no character is expected)");
+    unit_line("Yi", 3, 0, "the character '\\0' is incorrect ('B' or 'b' or no character is expected)");
+    unit_line("Yi'", 3, 0, "the character '\\'' is incorrect ('B' or 'b' or no character is expected)");
+    unit_line("\xff", 1, 0, "the text is not UTF-8");
+    unit_line("KiB", 3, BYTE_UNIT_EITHER_KIND, "a flag is unknown");
+}
+
 static void many_texts(void)
 {
     static const char data[] = "1.5 KiB2 xxx\xff 8 b";
@@ -222,6 +260,7 @@ int main(void)
     parse_sizes();
     details_of_errors();
     parse_units();
+    explain_units();
     many_texts();
     format_sizes();
     choose_units();

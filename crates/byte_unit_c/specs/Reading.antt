@@ -7,6 +7,7 @@ use Rattle.byte_unit_base.specs.FaultText.{parse_text}
 use Rattle.byte_unit_base.specs.Readings.{IsUnitReading}
 use Rattle.byte_unit_base.specs.Spelling.{flags_of}
 use Rattle.byte_unit_base.specs.declared.errors.ParseError.{ParseError}
+use Rattle.byte_unit_base.specs.declared.errors.ParseError.TheVariants.{Unit as UnitError}
 use Rattle.byte_unit_base.specs.declared.errors.UnitParseError.{UnitParseError}
 use Rattle.byte_unit_base.specs.declared.unit.Unit.{Unit as UnitName}
 use Rattle.byte_unit_format.specs.Written.{WritesForm}
@@ -50,3 +51,12 @@ IsExplanation None old new needed =
     (0 < needed) × WritesForm (λ words. words ≡ codes "the text is not UTF-8") old new needed
 IsExplanation (Some (Ok n)) old new needed = (needed ≡ 0) × (new ≡ old)
 IsExplanation (Some (Err e)) old new needed = (0 < needed) × WritesForm (IsErrorText e) old new needed
+
+-- the message of the error of a unit, or that the bytes are not UTF-8, of at least one byte; 0, and nothing is written,
+-- if the string spells a unit
+abbrev pub IsUnitExplanation : Option (Result UnitName UnitParseError) → List ℕ → List ℕ → ℕ → Type 0
+IsUnitExplanation None old new needed =
+    (0 < needed) × WritesForm (λ words. words ≡ codes "the text is not UTF-8") old new needed
+IsUnitExplanation (Some (Ok name)) old new needed = (needed ≡ 0) × (new ≡ old)
+IsUnitExplanation (Some (Err e)) old new needed =
+    (0 < needed) × WritesForm (IsErrorText (UnitError e)) old new needed

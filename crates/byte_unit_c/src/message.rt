@@ -35,6 +35,22 @@ pub fn write_message(error: &ParseError, out: &mut [u8]) -> usize
     }
 }
 
+/// Writes `the text is not UTF-8` to the start of `out` if it fits, and returns its length.
+pub fn write_not_utf8(out: &mut [u8]) -> usize
+    ensures text { WritesForm (λ words. words ≡ codes "the text is not UTF-8") out.old out.new result }
+    ensures len { result ≡ 21 }
+{
+    write(b"the text is not UTF-8", out)
+}
+
+/// Writes `a flag is unknown` to the start of `out` if it fits, and returns its length.
+pub fn write_unknown_flag(out: &mut [u8]) -> usize
+    ensures text { WritesForm (λ words. words ≡ codes "a flag is unknown") out.old out.new result }
+    ensures len { result ≡ 17 }
+{
+    write(b"a flag is unknown", out)
+}
+
 /// Returns whether a message has the character between quotes as it is.
 fn is_plain(c: char) -> bool
     ensures { IsTrue result → (c < 128) × (debug_char c ≡ Some (39 ∷ c ∷ 39 ∷ [])) }

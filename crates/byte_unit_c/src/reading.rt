@@ -11,12 +11,12 @@ ghost use Rattle.byte_unit_format.specs.Written.{WritesForm};
 ghost use Rattle.byte_unit_c.specs.Flags.{reading_at, prefers_byte};
 ghost use Rattle.byte_unit_c.specs.Error.{invalid_argument};
 ghost use Rattle.byte_unit_c.specs.Reading.{IsReturned, IsUnitBytesReading, IsUnitReturned, IsExplanation};
+ghost use Rattle.byte_unit_c.specs.Reading.{IsUnitExplanation};
 
 use crate::codes::code_of;
 use crate::error::{Error, INVALID_ARGUMENT, NOT_UTF8, OK, UNIT, bytes_of};
 use crate::flags::reading_at;
-use crate::message::write_message;
-use crate::texts::write;
+use crate::message::{write_message, write_not_utf8, write_unknown_flag};
 use crate::values::Number;
 use byte_unit_base::{Flags, Kind, ParseError, Reason, Unit, UnitParseError, error_at, size};
 use std::str;
@@ -190,7 +190,7 @@ fn parse_unit_as(
         × IsUnitBytesReading ignore_case (prefers_byte kind) text.now answer
         × IsUnitReturned answer result unit.old unit.new errors.old errors.new }
 {
-    match read_unit(text, ignore_case, prefers_byte(kind)) {
+    match read_unit(text, kind, ignore_case) {
         Some(Ok(found)) => {
             *unit = code_of(found);
             OK
@@ -203,16 +203,13 @@ fn parse_unit_as(
     }
 }
 
-/// Parses a unit from bytes, as `Unit::parse_str` does from a string. Returns `None` if the bytes are not UTF-8.
-fn read_unit(
-    bytes: &[u8],
-    ignore_case: bool,
-    prefer_byte: bool,
-) -> Option<Result<Unit, UnitParseError>>
-    ensures { IsUnitBytesReading ignore_case prefer_byte bytes.now result }
+/// Parses a unit from bytes, as `Unit::parse_str` does from a string. A unit with no suffix is of this kind. Returns
+/// `None` if the bytes are not UTF-8.
+fn read_unit(bytes: &[u8], kind: Kind, ignore_case: bool) -> Option<Result<Unit, UnitParseError>>
+    ensures { IsUnitBytesReading ignore_case (prefers_byte kind) bytes.now result }
 {
     match str::from_utf8(bytes) {
-        Ok(text) => Some(Unit::parse_str(text, ignore_case, prefer_byte)),
+        Ok(text) => Some(Unit::parse_str(text, ignore_case, prefers_byte(kind))),
         Err(_) => None,
     }
 }
@@ -244,7 +241,7 @@ pub extern "C" fn byte_unit_explain(text: &[u8], flags: u32, out: &mut [u8]) -> 
 {
     match reading_at(flags) {
         Some(asked) => explain_as(text, asked.kind, asked.ignore_case, out),
-        None => write(b"a flag is unknown", out),
+        None => write_unknown_flag(out),
     }
 }
 
@@ -278,6 +275,41 @@ fn explain_result(answer: &Option<Result<u128, ParseError>>, out: &mut [u8]) -> 
     match answer {
         Some(Ok(_)) => 0,
         Some(Err(error)) => write_message(error, out),
-        None => write(b"the text is not UTF-8", out),
+        None => write_not_utf8(out),
+    }
+}
+
+/// Writes the error message for a string that is not a unit to the start of `out`, and returns its length, at most 256
+/// bytes. Returns the length and writes nothing if `out` is shorter. Returns 0 if and only if the string spells a unit,
+/// and then writes nothing. The flags are those of `byte_unit_parse_unit_to`; for another, the message is
+/// `a flag is unknown`.
+///
+/// For example, `Kx` gives 71, the length of `the character 'x' is incorrect ('B' or 'b' or no character is expected)`.
+#[unsafe(no_mangle)]
+pub extern "C" fn byte_unit_explain_unit(text: &[u8], flags: u32, out: &mut [u8]) -> usize
+    ensures reading { IfSome (reading_at flags) (λ asked. (answer : Option (Result UnitName UnitParseError))
+        × IsUnitBytesReading asked.ignore_case (prefers_byte asked.kind) text.now answer
+        × IsUnitExplanation answer out.old out.new result) }
+    ensures unknown_flag { IfNone (reading_at flags)
+        (WritesForm (λ words. words ≡ codes "a flag is unknown") out.old out.new result) }
+    ensures bound { result ≤ 256 }
+{
+    match reading_at(flags) {
+        Some(asked) => explain_unit_as(text, asked.kind, asked.ignore_case, out),
+        None => write_unknown_flag(out),
+    }
+}
+
+/// Explains as `byte_unit_explain_unit` does, with known flags.
+fn explain_unit_as(text: &[u8], kind: Kind, ignore_case: bool, out: &mut [u8]) -> usize
+    ensures reading { (answer : Option (Result UnitName UnitParseError))
+        × IsUnitBytesReading ignore_case (prefers_byte kind) text.now answer
+        × IsUnitExplanation answer out.old out.new result }
+    ensures bound { result ≤ 256 }
+{
+    match read_unit(text, kind, ignore_case) {
+        Some(Ok(_)) => 0,
+        Some(Err(error)) => write_message(&ParseError::Unit(error), out),
+        None => write_not_utf8(out),
     }
 }

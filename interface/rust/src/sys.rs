@@ -86,6 +86,7 @@ extern "C" {
 extern "C" {
     pub fn byte_unit_version() -> u32;
     pub fn byte_unit_explain(text: *const u8, len: usize, flags: u32, out: *mut u8, out_len: usize) -> usize;
+    pub fn byte_unit_explain_unit(text: *const u8, len: usize, flags: u32, out: *mut u8, out_len: usize) -> usize;
     pub fn byte_unit_unit_name(unit: u32, out: *mut u8, out_len: usize) -> usize;
     pub fn byte_unit_from_unit(count: Number, unit: u32, flags: u32, size: *mut Number) -> bool;
 }

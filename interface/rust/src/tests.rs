@@ -142,3 +142,32 @@ fn compare_messages(text: &str) -> u32 {
     }
     errors
 }
+
+#[test]
+fn messages_of_units() {
+    let units = ["", "K", "Yi", "KB", "Kb", "Kbi", "Kbit", "Kbits", "b", "B", "bi", "bit", "bits", "RiB", "x", "1"];
+    let ends = ["", "?", "i", "I", "x", "é", "\u{1F600}", "'", "\\", "\u{7f}", "\0", "\u{301}", "\u{10ffff}", " x"];
+    let (mut errors, mut calls) = (0, 0);
+    for unit in units {
+        for end in ends {
+            errors += compare_messages_of_units(&format!("{unit}{end}"));
+            calls += 4;
+        }
+    }
+    assert!(calls / 2 < errors && errors < calls);
+}
+
+/// Compares the messages of a unit here with those of the library, and returns the number of errors.
+fn compare_messages_of_units(text: &str) -> u32 {
+    let mut errors = 0;
+    for (kind, prefer_byte) in [(Kind::Byte, true), (Kind::Bit, false)] {
+        for ignore_case in [false, true] {
+            let flags = kind.flag() | if ignore_case { sys::BYTE_UNIT_IGNORE_CASE } else { 0 };
+            let call = |out, len| unsafe { sys::byte_unit_explain_unit(text.as_ptr(), text.len(), flags, out, len) };
+            let here = Unit::parse_str(text, ignore_case, prefer_byte).err().map_or(String::new(), |e| e.to_string());
+            assert_eq!(here, text_of(call), "{text:?}");
+            errors += u32::from(!here.is_empty());
+        }
+    }
+    errors
+}
