@@ -43,6 +43,7 @@ def parsing() -> None:
     look("a lone surrogate", line("\ud800"), "not_utf8: the text is not UTF-8")
     look("explained", byte_unit.explain("1 byte"), "the character 'y' is incorrect ('i' or no character is expected)")
     look("a unit", byte_unit.parse_unit("kibits"), "Kib")
+    look("no unit", byte_unit.explain_unit("kbitx"), "the character 'x' is incorrect ('s' or no character is expected)")
     try:
         byte_unit.parse("1000.5 RB")
     except byte_unit.SizeError as error:

@@ -7,6 +7,7 @@ static PyMethodDef METHODS[] = {
     METHOD(parse),
     METHOD(parse_error),
     METHOD(explain),
+    METHOD(explain_unit),
     METHOD(parse_unit),
     METHOD(parse_many),
     METHOD(parse_buffers),

@@ -51,7 +51,7 @@ PyObject *from_decimal(byte_unit_decimal decimal);
 
 typedef PyObject *function(PyObject *module, PyObject *const *args, Py_ssize_t count);
 
-function parse, parse_error, explain, parse_unit;
+function parse, parse_error, explain, parse_unit, explain_unit;
 function parse_many, parse_buffers;
 function text_of, appropriate_unit, exact_unit, recoverable_unit, from_unit;
 

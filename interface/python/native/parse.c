@@ -76,22 +76,37 @@ PyObject *parse_error(PyObject *module, PyObject *const *args, Py_ssize_t count)
     return from_error(code, &error);
 }
 
-PyObject *explain(PyObject *module, PyObject *const *args, Py_ssize_t count)
+/* A call of the library that writes the message for a text. */
+typedef size_t explainer(const char *text, size_t len, uint32_t flags, char *out, size_t out_len);
+
+/* Returns the message that the call writes, or None if it writes none. */
+static PyObject *message_of(PyObject *const *args, Py_ssize_t count, explainer *write_message)
 {
-    (void)module;
     text text;
     uint32_t flags;
     if (!parse_arguments(args, count, &text, &flags)) {
         return NULL;
     }
     char out[BYTE_UNIT_BUFFER_SIZE];
-    size_t len = byte_unit_explain(text.bytes, (size_t)text.len, flags, out, sizeof out);
+    size_t len = write_message(text.bytes, (size_t)text.len, flags, out, sizeof out);
     release_text(&text);
     if (len > sizeof out) {
         PyErr_SetString(PyExc_SystemError, "a message is longer than BYTE_UNIT_BUFFER_SIZE");
         return NULL;
     }
     return len ? PyUnicode_DecodeUTF8(out, (Py_ssize_t)len, "replace") : Py_NewRef(Py_None);
+}
+
+PyObject *explain(PyObject *module, PyObject *const *args, Py_ssize_t count)
+{
+    (void)module;
+    return message_of(args, count, byte_unit_explain);
+}
+
+PyObject *explain_unit(PyObject *module, PyObject *const *args, Py_ssize_t count)
+{
+    (void)module;
+    return message_of(args, count, byte_unit_explain_unit);
 }
 
 /* Returns the code of the unit, or what `from_error` returns. */

@@ -51,7 +51,7 @@ class Package(unittest.TestCase):
                     if is_option:
                         precision = 3 if (name, argument.name) == ("recoverable_unit", "precision") else None
                         self.assertIs(argument.default, defaults.get(argument.name, precision))
-        for call in (byte_unit.parse, byte_unit.explain, byte_unit.parse_unit):
+        for call in (byte_unit.parse, byte_unit.explain, byte_unit.parse_unit, byte_unit.explain_unit):
             with self.assertRaises(TypeError):
                 call("B", True)
 
@@ -80,8 +80,8 @@ class Native(unittest.TestCase):
     """The extension module alone rejects what the modules above it never pass."""
 
     def test_arguments(self) -> None:
-        for call in ("parse", "parse_error", "explain", "parse_unit", "parse_many", "parse_buffers", "text_of",
-                     "appropriate_unit", "exact_unit", "recoverable_unit", "from_unit"):
+        for call in ("parse", "parse_error", "explain", "parse_unit", "explain_unit", "parse_many", "parse_buffers",
+                     "text_of", "appropriate_unit", "exact_unit", "recoverable_unit", "from_unit"):
             with self.assertRaises(TypeError):
                 getattr(_native, call)()
 

@@ -74,6 +74,38 @@ UNITS = [
     ("\u3000", False, False, "B"),
 ]
 
+# text, flags, the character as it is quoted, what is expected
+UNIT_ERRORS = [
+    ("x", {}, "'x'", TEN),
+    ("1", {}, "'1'", TEN),
+    ("Kx", {}, "'x'", "'B' or 'b' or no character"),
+    ("Kx", {"bits": True}, "'x'", "'B' or 'b' or no character"),
+    ("Kix", {"ignore_case": True}, "'x'", "'B' or no character"),
+    ("Kix", {"ignore_case": True, "bits": True}, "'x'", "'b' or no character"),
+    ("bx", {}, "'x'", "'i' or no character"),
+    ("Kbix", {}, "'x'", "'t'"),
+    ("bitx", {}, "'x'", "'s' or no character"),
+    ("bitsx", {}, "'x'", "no character"),
+    ("bI", {}, "'i'", "no character"),
+    ("Yi\0", {}, "'\\0'", "'B' or 'b' or no character"),
+    ("Yié", {}, "'é'", "'B' or 'b' or no character"),
+    ("Yi😀", {}, "'😀'", "'B' or 'b' or no character"),
+    ("Yi\u200b", {}, "'\\u{200b}'", "'B' or 'b' or no character"),
+    ("Yi\u0301", {}, "'\\u{301}'", "'B' or 'b' or no character"),
+    ("Yi\ue000", {}, "'\\u{e000}'", "'B' or 'b' or no character"),
+    ("Yi\U0010ffff", {}, "'\\u{10ffff}'", "'B' or 'b' or no character"),
+]
+
+# The characters of ASCII that Rust quotes by a letter.
+LETTERS = {"\0": "0", "\t": "t", "\n": "n", "\r": "r", "'": "'", "\\": "\\"}
+
+
+def quoted(character: str) -> str:
+    """Returns a character of ASCII between quotes, as Rust's `{:?}` writes it."""
+    if character in LETTERS:
+        return f"'\\{LETTERS[character]}'"
+    return f"'{character}'" if " " <= character <= "~" else f"'\\u{{{ord(character):x}}}'"
+
 
 class Parse(unittest.TestCase):
     def test_sizes(self) -> None:
@@ -96,7 +128,7 @@ class Parse(unittest.TestCase):
                 self.assertIn(error.name, byte_unit.ERROR_NAMES)
 
     def test_types(self) -> None:
-        for call in (byte_unit.parse, byte_unit.explain, byte_unit.parse_unit):
+        for call in (byte_unit.parse, byte_unit.explain, byte_unit.parse_unit, byte_unit.explain_unit):
             for wrong in (None, 1, 1.5, ["1"], bytearray(b"1"), memoryview(b"1"), object()):
                 with self.subTest(call.__name__, wrong=wrong), self.assertRaises(TypeError):
                     call(wrong)
@@ -118,6 +150,21 @@ class Parse(unittest.TestCase):
                 self.assertEqual(byte_unit.parse_unit(text, bits=bits, ignore_case=ignore_case), unit)
         for unit in byte_unit.UNITS:
             self.assertEqual(byte_unit.parse_unit(unit), unit)
+
+    def test_messages_of_units(self) -> None:
+        rows = UNIT_ERRORS + [
+            (f"Yi{chr(code)}x", {}, quoted(chr(code)), "'B' or 'b' or no character")
+            for code in range(128)
+            if chr(code) not in "Bb"
+        ]
+        for text, flags, character, expected in rows:
+            message = f"the character {character} is incorrect ({expected} is expected)"
+            with self.subTest(text, **flags), self.assertRaises(SizeError) as caught:
+                byte_unit.parse_unit(text, **flags)
+            self.assertEqual(str(caught.exception), message)
+            self.assertEqual(byte_unit.explain_unit(text, **flags), message)
+        for text, bits, ignore_case, _ in UNITS:
+            self.assertIsNone(byte_unit.explain_unit(text, bits=bits, ignore_case=ignore_case))
 
     def test_errors_of_units(self) -> None:
         """The message is that of a size with the unit."""

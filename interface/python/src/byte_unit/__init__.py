@@ -24,7 +24,7 @@ from ._errors import ByteUnitError, SizeError
 from ._native import SIZE_LIMIT as _SIZE_LIMIT
 from ._native import VERSION as _VERSION
 from ._texts import adjusted_text, explain, parse, text
-from ._units import UNITS, appropriate_unit, exact_unit, from_unit, parse_unit, recoverable_unit
+from ._units import UNITS, appropriate_unit, exact_unit, explain_unit, from_unit, parse_unit, recoverable_unit
 
 __all__ = [
     "ERROR_NAMES",
@@ -38,6 +38,7 @@ __all__ = [
     "appropriate_unit",
     "exact_unit",
     "explain",
+    "explain_unit",
     "from_unit",
     "parse",
     "parse_buffers",

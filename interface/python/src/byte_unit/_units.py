@@ -30,19 +30,18 @@ def parse_unit(text: str | bytes, *, bits: bool = False, ignore_case: bool = Fal
     found = _native.parse_unit(text, bits, ignore_case)
     if isinstance(found, int):
         return UNITS[found]
-    _, character, expected, also_expect_no_character, _ = found
-    if character is None:
-        raise error_of(found, "the text is not UTF-8")
-    choices = [repr(choice) for choice in expected] + ["no character"] * also_expect_no_character
-    raise error_of(found, f"the character {character!r} is incorrect ({_either(choices)} is expected)")
+    raise error_of(found, explain_unit(text, bits=bits, ignore_case=ignore_case) or "")
 
 
-def _either(choices: list[str]) -> str:
-    """Returns a list in words, as the library writes it."""
-    *quoted, last = choices
-    if last == "no character" and quoted:
-        return f"{_either(quoted)} or {last}"
-    return f"{', '.join(quoted)} or {last}" if quoted else last
+def explain_unit(text: str | bytes, *, bits: bool = False, ignore_case: bool = False) -> str | None:
+    """Returns the message of the error that `parse_unit` raises, or `None` if the text is a unit.
+
+    >>> explain_unit("Kbitx")
+    "the character 'x' is incorrect ('s' or no character is expected)"
+    >>> explain_unit("Kbits") is None
+    True
+    """
+    return _native.explain_unit(text, bits, ignore_case)
 
 
 def appropriate_unit(size: SupportsIndex, *, bits: bool = False, unit_type: UnitType = "both") -> str:
