@@ -66,9 +66,9 @@ enum {
 };
 
 /* A format spec, with the fields of a format spec of the Rust crate. If every field is zero, it is `{}`: digits
- * only. `{ .alternate = 1 }` is `{:#}`, `{ .alternate = 1, .width = 12 }` is `{:#12}`, and
- * `{ .has_precision = 1, .precision = 2 }` is `{:.2}`. A spec with any other value in a field than those listed is
- * invalid, and is rejected. */
+ * only. `{ .alternate = 1 }` is `{:#}`, `{ .width = 12, .alternate = 1 }` is `{:#12}`, and
+ * `{ .precision = 2, .has_precision = 1 }` is `{:.2}`: C++20 takes these initializers too, which name the fields in
+ * their order. A spec with any other value in a field than those listed is invalid, and is rejected. */
 typedef struct byte_unit_spec {
     uint32_t precision;    /* digits after the decimal point, 0 to 65535, if has_precision is 1; otherwise 0 */
     uint32_t width;        /* minimum width in columns, 1 to 65535; 0: none */

@@ -5,8 +5,10 @@
 
 FOLDER has libbyte_unit.a and byte_unit.h. In a temporary folder, checks that
 
-- interface/examples/example.c and interface/checks/arguments.c compile without a warning as C99 to C23 and, the second,
-  as C++17 by each compiler that is there, and succeed: each compares its results with what is written in it;
+- interface/examples/example.c and interface/checks/arguments.c compile without a warning as C99 to C23, the second also
+  as C++17 and C++20, by each compiler that is there, and succeed: each compares its results with what is written in it;
+- the code in the comments of byte_unit.h, and the initializers in docs/CALLERS.md, compile as C99 to C23 and C++20, and
+  write the texts that they are said to write (tools/callers_lib/comments.py);
 - both succeed on the emulated processors qemu64, kvm64 and core2duo, which have no SSE4 (if qemu-x86_64 is there);
 - strings, buffers and arrays that end at an unmapped page are read and written without an overrun (checks/edges.c);
 - for N generated lines (4,000), as bytes and as bits, checks/lines.c prints what tools/exact_model.py computes, and what
@@ -27,27 +29,35 @@ sys.dont_write_bytecode = True
 HERE = os.path.dirname(os.path.realpath(__file__))
 ROOT = os.path.dirname(os.path.dirname(HERE))
 sys.path[:0] = [HERE, os.path.dirname(HERE)]
+from comments import program_of  # noqa: E402
 from exact_model import answer  # noqa: E402
 from generated_lines import some_line  # noqa: E402
 from report import call, check  # noqa: E402
 
 APT_PACKAGES = ["gcc", "g++", "clang", "qemu-user"]
 INTERFACE = os.path.join(ROOT, "interface")
+PAGE = os.path.join(ROOT, "docs/CALLERS.md")
 PROGRAM = os.path.join(ROOT, "crates/byte_unit_lines/out/byte_unit_lines")
 WARNINGS = ["-Wall", "-Wextra", "-Wpedantic", "-Wconversion", "-Werror"]
 STANDARDS = {
     "gcc": ["c99", "c11", "c17", "c2x"],
     "clang": ["c99", "c11", "c17", "c2x"],
-    "g++": ["c++17"],
-    "clang++": ["c++17"],
+    "g++": ["c++17", "c++20"],
+    "clang++": ["c++17", "c++20"],
 }
 OLD_PROCESSORS = ["qemu64", "kvm64", "core2duo"]
 
 
+def read(path):
+    with open(path, encoding="utf-8") as file:
+        return file.read()
+
+
 def compiled(folder, work, name, compiler, standard):
-    """Compiles a program of interface/ with the archive, and returns its path."""
+    """Compiles a program, whose path is absolute or begins in interface/, with the archive, and returns its path."""
     program = os.path.join(work, os.path.basename(name)[:-2])
-    language = ["-x", "c++"] if standard.startswith("c++") else []
+    # In C++, unlike in C, -Wextra warns of a field that an initializer leaves out.
+    language = ["-x", "c++", "-Wno-missing-field-initializers"] if standard.startswith("c++") else []
     words = [compiler, f"-std={standard}", "-O2", *WARNINGS, "-I", folder, *language, os.path.join(INTERFACE, name)]
     made = call(*words, "-x", "none", os.path.join(folder, "libbyte_unit.a"), "-o", program)
     if made.returncode or made.stdout:
@@ -75,6 +85,23 @@ def examples(folder, work):
                 seen = last_line(f"{name}, by {compiler} as {standard}", program)
                 done.append(f"{compiler} {standard}")
         check(f"{name}: {seen} ({', '.join(done)})", done)
+
+
+def comments(folder, work):
+    """Compiles the code of the comments, by each compiler and in each standard that has designated initializers."""
+    text, pieces = program_of(read(os.path.join(folder, "byte_unit.h")), read(PAGE))
+    check(f"the comments of byte_unit.h have code beside initializers of specs: {pieces} pieces", pieces > 0)
+    program = os.path.join(work, "comments.c")
+    with open(program, "w", encoding="utf-8") as file:
+        file.write(text)
+    done = []
+    for compiler in filter(shutil.which, STANDARDS):
+        for standard in STANDARDS[compiler]:
+            if standard != "c++17":
+                made = compiled(folder, work, program, compiler, standard)
+                seen = last_line(f"code of comments, by {compiler} as {standard}", made)
+                done.append(f"{compiler} {standard}")
+    check(f"code of comments: {seen} ({', '.join(done)})", done)
 
 
 def old_processors(folder, work, cc):
@@ -118,6 +145,7 @@ def run(folder, options):
     rng = random.Random(options.seed)
     with tempfile.TemporaryDirectory() as work:
         examples(folder, work)
+        comments(folder, work)
         old_processors(folder, work, cc)
         edges = compiled(folder, work, "checks/edges.c", cc, "c11")
         check(f"memory that ends at an unmapped page: {last_line('checks/edges.c', edges)}", True)
