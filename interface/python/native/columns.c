@@ -1,6 +1,7 @@
 /* Parsing of many texts. */
 #include "native.h"
 
+#include <stdlib.h>
 #include <string.h>
 
 /* What parsing many texts gives: a bytes object of a byte_unit_number each, and one of a code each. */
@@ -84,31 +85,112 @@ PyObject *parse_many(PyObject *module, PyObject *const *args, Py_ssize_t count)
     return from_column(&column, holds);
 }
 
-/* Whether the buffer is an aligned array of signed integers of 32 or 64 bits. */
+/* Whether the buffer is an array of signed integers of 32 or 64 bits. */
 static bool is_offsets(const Py_buffer *offsets)
 {
     const char *format = offsets->format ? offsets->format : "B";
     format += strspn(format, "@=<") ? 1 : 0; /* native or little-endian, which is the same on x86-64 */
     bool is_signed = format[0] && strchr("bhilqn", format[0]) && !format[1];
-    bool fits = offsets->itemsize == 4 || offsets->itemsize == 8;
-    bool aligned = fits && (offsets->len == 0 || (uintptr_t)offsets->buf % (size_t)offsets->itemsize == 0);
-    return offsets->ndim == 1 && is_signed && aligned;
+    return offsets->ndim == 1 && is_signed && (offsets->itemsize == 4 || offsets->itemsize == 8);
 }
 
-/* Parses the texts between offsets. Returns the library's code. The GIL is released meanwhile. */
+/* Returns a copy of the offsets, in 64 bits, or NULL without memory. They may be at any address: an array that is read
+ * from a file or a message often begins at an odd one. */
+static int64_t *copy_offsets(const Py_buffer *offsets)
+{
+    size_t count = (size_t)offsets->shape[0];
+    int64_t *copy = count > PY_SSIZE_T_MAX / sizeof *copy ? NULL : PyMem_Malloc(count * sizeof *copy);
+    if (copy && offsets->itemsize == sizeof *copy) {
+        memcpy(copy, offsets->buf, count * sizeof *copy);
+        return copy;
+    }
+    for (size_t i = 0; copy && i < count; i++) {
+        int32_t offset;
+        memcpy(&offset, (const char *)offsets->buf + i * sizeof offset, sizeof offset);
+        copy[i] = offset;
+    }
+    return copy;
+}
+
+/* Texts that are parsed while the GIL is released, when another thread may change the bytes of `data`. The library
+ * requires that nobody does (it decodes what it has found to be UTF-8), so it is passed copies: the offsets are this
+ * call's own, and the bytes are copied to `bytes` a piece at a time. What another thread writes in the meantime decides
+ * at most which bytes are copied. */
+typedef struct texts {
+    const Py_buffer *data;
+    int64_t *offsets;
+    size_t count;
+    char *bytes;
+    size_t room; /* the length of `bytes` */
+} texts;
+
+enum { PIECE = 1024 }; /* the number of texts that are copied at a time */
+
+/* Beside the codes of the library: the bytes of a piece cannot be allocated. */
+enum { NO_MEMORY = BYTE_UNIT_INVALID_ARGUMENT + 1 };
+
+/* Copies the bytes of a piece. */
+static bool copy_bytes(texts *texts, size_t begin, size_t len)
+{
+    if (len > texts->room) {
+        free(texts->bytes);
+        texts->bytes = malloc(len);
+        texts->room = texts->bytes ? len : 0;
+    }
+    if (len && texts->bytes) {
+        memcpy(texts->bytes, (const char *)texts->data->buf + begin, len);
+    }
+    return !len || texts->bytes;
+}
+
+/* Parses the texts of a piece. The library checks the offsets inside, which are counted from the first. */
+static uint32_t parse_piece(texts *texts, size_t first, size_t count, uint32_t flags, byte_unit_number *sizes,
+                            uint8_t *codes)
+{
+    int64_t *offsets = texts->offsets + first;
+    int64_t begin = offsets[0], end = offsets[count];
+    if (begin < 0 || end < begin || end > texts->data->len) {
+        return BYTE_UNIT_INVALID_ARGUMENT;
+    }
+    size_t len = (size_t)(end - begin);
+    if (!copy_bytes(texts, (size_t)begin, len)) {
+        return NO_MEMORY;
+    }
+    for (size_t i = 0; i <= count; i++) { /* a difference that wraps is above `len`, too */
+        offsets[i] = (int64_t)((uint64_t)offsets[i] - (uint64_t)begin);
+    }
+    uint32_t code = byte_unit_parse_many(texts->bytes, len, offsets, count, flags, sizes + first, codes + first);
+    offsets[count] = end;
+    return code;
+}
+
+/* Parses all texts, a piece after the other: one piece without a text if there is none, for the check of its offset. */
+static uint32_t parse_pieces(texts *texts, uint32_t flags, byte_unit_number *sizes, uint8_t *codes)
+{
+    size_t first = 0;
+    uint32_t code;
+    do {
+        size_t left = texts->count - first, count = left < PIECE ? left : PIECE;
+        code = parse_piece(texts, first, count, flags, sizes, codes);
+        first += count;
+    } while (code == BYTE_UNIT_OK && first < texts->count);
+    free(texts->bytes);
+    return code;
+}
+
+/* Parses the texts between offsets. Returns the library's code, or NO_MEMORY. The GIL is released meanwhile. */
 static uint32_t parse_between(const Py_buffer *data, const Py_buffer *offsets, uint32_t flags, column *column)
 {
     byte_unit_number *sizes = sizes_of(column);
     uint8_t *codes = codes_of(column);
-    size_t len = (size_t)data->len, count = (size_t)offsets->shape[0] - 1;
-    uint32_t code;
-    Py_BEGIN_ALLOW_THREADS
-    if (offsets->itemsize == 8) {
-        code = byte_unit_parse_many(data->buf, len, offsets->buf, count, flags, sizes, codes);
-    } else {
-        code = byte_unit_parse_many_32(data->buf, len, offsets->buf, count, flags, sizes, codes);
+    texts texts = {.data = data, .offsets = copy_offsets(offsets), .count = (size_t)offsets->shape[0] - 1};
+    uint32_t code = NO_MEMORY;
+    if (texts.offsets) {
+        Py_BEGIN_ALLOW_THREADS
+        code = parse_pieces(&texts, flags, sizes, codes);
+        Py_END_ALLOW_THREADS
     }
-    Py_END_ALLOW_THREADS
+    PyMem_Free(texts.offsets);
     return code;
 }
 
@@ -116,15 +198,16 @@ static uint32_t parse_between(const Py_buffer *data, const Py_buffer *offsets, u
 static PyObject *parse_views(const Py_buffer *data, const Py_buffer *offsets, uint32_t flags)
 {
     if (!is_offsets(offsets)) {
-        PyErr_SetString(PyExc_TypeError, "offsets must be an aligned array of signed integers of 32 or 64 bits");
+        PyErr_SetString(PyExc_TypeError, "offsets must be an array of signed integers of 32 or 64 bits");
         return NULL;
     }
     column column;
     Py_ssize_t entries = offsets->shape[0]; /* Arrow: an empty column may have no offset */
     bool holds = new_column(entries ? entries - 1 : 0, &column);
-    if (holds && entries && parse_between(data, offsets, flags, &column)) {
+    uint32_t code = holds && entries ? parse_between(data, offsets, flags, &column) : BYTE_UNIT_OK;
+    if (code != BYTE_UNIT_OK) {
         from_column(&column, false);
-        return Py_NewRef(Py_None);
+        return code == NO_MEMORY ? PyErr_NoMemory() : Py_NewRef(Py_None);
     }
     return from_column(&column, holds);
 }

@@ -6,9 +6,11 @@ import mmap
 import pickle
 import random
 import tempfile
+import threading
+import time
 import unittest
 from array import array
-from collections.abc import Iterator
+from collections.abc import Callable, Iterator
 from itertools import accumulate
 
 import byte_unit
@@ -75,7 +77,28 @@ class Buffers(unittest.TestCase):
                 for given in (data, bytearray(data), memoryview(data), array("B", data)):
                     self.assertEqual(byte_unit.parse_buffers(given, offsets), byte_unit.parse_many(TEXTS))
 
-    def test_views_without_copying(self) -> None:
+    def test_offsets_at_each_address(self) -> None:
+        for code in "iq":
+            data, offsets = layout(encoded(TEXTS), code)
+            for start in range(9):
+                raw = memoryview(bytes(start) + offsets.tobytes())[start:].cast(code)
+                self.assertEqual(byte_unit.parse_buffers(data, raw).ints(), SIZES)
+
+    def test_many_pieces(self) -> None:
+        """More texts than are copied at a time, and texts that are longer than those before them."""
+        for count in (1023, 1024, 1025, 2048, 5000):
+            texts = [b" " * (i % 1500 * 9 if i % 100 == 0 else 0) + b"%d KB" % i for i in range(count)]
+            for code in "iq":
+                data, offsets = layout(texts, code, 3)
+                self.assertEqual(byte_unit.parse_buffers(data, offsets).ints(), [1000 * i for i in range(count)])
+                for place in {min(place, count) for place in (0, 1, 1022, 1023, 1024, 1025, 2047, 2048, 5000)}:
+                    for wrong in (-1, offsets[place] - 10**5, len(data) + 1, 2**31 - 1, -(2**31)):
+                        changed = offsets[:]
+                        changed[place] = wrong
+                        with self.subTest(count, place=place, wrong=wrong), self.assertRaises(ByteUnitError):
+                            byte_unit.parse_buffers(data, changed)
+
+    def test_views(self) -> None:
         data, offsets = layout(encoded(TEXTS), "q")
         raw = memoryview(offsets.tobytes())
         self.assertEqual(byte_unit.parse_buffers(data, raw.cast("q")), byte_unit.parse_many(TEXTS))
@@ -89,6 +112,14 @@ class Buffers(unittest.TestCase):
             file.flush()
             with mmap.mmap(file.fileno(), 0, access=mmap.ACCESS_READ) as mapped:
                 self.assertEqual(byte_unit.parse_buffers(mapped, offsets).ints(), SIZES)
+
+    def test_data_above_2_gib(self) -> None:
+        """An offset of 32 bits is signed."""
+        start, how = 2**31, {"flags": mmap.MAP_PRIVATE | mmap.MAP_ANONYMOUS, "prot": mmap.PROT_READ}
+        with mmap.mmap(-1, start + 8, **how) as zeros:
+            self.assertEqual(byte_unit.parse_buffers(zeros, array("q", [start, start + 8])).codes, b"\2")
+            with self.assertRaises(ByteUnitError):
+                byte_unit.parse_buffers(zeros, array("i", [-start, -start + 8]))
 
     def test_nothing(self) -> None:
         for code in "iq":
@@ -119,8 +150,6 @@ class Buffers(unittest.TestCase):
                 byte_unit.parse_buffers(b"1", array(code, [0, 1]))
         with self.assertRaises(TypeError):
             byte_unit.parse_buffers(b"1", memoryview(bytes(17))[1:])
-        with self.assertRaises(TypeError):
-            byte_unit.parse_buffers(b"1", memoryview(bytes(17))[1:].cast("q"))
         with self.assertRaises(ByteUnitError):
             byte_unit.parse_buffers(memoryview(b"1234")[::2], good)
         with self.assertRaises(ByteUnitError):
@@ -129,6 +158,67 @@ class Buffers(unittest.TestCase):
         released.release()
         with self.assertRaises(ByteUnitError):
             byte_unit.parse_buffers(released, good)
+
+
+class Changes(unittest.TestCase):
+    """Another thread changes a buffer during the call."""
+
+    def parse_while(self, change: "Callable[[], None]", data: object, offsets: object) -> "list[Column | None]":
+        """Returns what the calls of two seconds return, while another thread changes something. `None` is an error."""
+        results: list[Column | None] = []
+        end = time.monotonic() + 2
+
+        def changes() -> None:
+            while time.monotonic() < end:
+                change()
+
+        worker = threading.Thread(target=changes)
+        worker.start()
+        while time.monotonic() < end:
+            try:
+                results.append(byte_unit.parse_buffers(data, offsets))
+            except ByteUnitError:
+                results.append(None)
+        worker.join(60)
+        return results
+
+    def test_offsets(self) -> None:
+        for code, huge in (("q", 2**63 - 1), ("q", -(2**63)), ("i", 2**31 - 1)):
+            data, offsets = layout([b"1.5 KiB"] * 20_000, code)
+            right, wrong = offsets[:], array(code, [huge]) * len(offsets)
+            wanted = byte_unit.parse_buffers(data, offsets)
+
+            def change() -> None:
+                offsets[:] = wrong
+                offsets[:] = right
+
+            seen = self.parse_while(change, data, offsets)
+            self.assertTrue(all(column in (None, wanted) for column in seen))
+            self.assertIn(wanted, seen)
+
+    def test_offsets_one_at_a_time(self) -> None:
+        data, offsets = layout([b"1.5 KiB"] * 20_000, "q")
+        rng = random.Random(1)
+
+        def change() -> None:
+            place = rng.randrange(len(offsets))
+            before, offsets[place] = offsets[place], rng.choice([-(2**62), 2**62, 10**7])
+            offsets[place] = before
+
+        self.assertTrue(self.parse_while(change, data, offsets))
+
+    def test_data(self) -> None:
+        texts = [b"1.5 KiB", b"1.5\xf0\x9f\x98\x80", b"      \xf0", b"\x80\x80\x80\x80\x80\x80\x80"]
+        data, offsets = layout(texts[:1] * 20_000, "q")
+        changing = bytearray(data)
+        rng = random.Random(1)
+        others = [text * 20_000 for text in texts]
+
+        def change() -> None:
+            changing[:] = rng.choice(others)
+
+        for column in self.parse_while(change, changing, offsets):
+            self.assertTrue(column and set(column.codes) <= {0, 2, 5, 6})
 
 
 class Results(unittest.TestCase):
@@ -196,6 +286,10 @@ class Numpy(unittest.TestCase):
             byte_unit.parse_buffers(raw, numpy.zeros(10, numpy.int64)[::2])
         with self.assertRaises(TypeError):
             byte_unit.parse_buffers(raw, numpy.zeros((2, 2), numpy.int64))
+        for dtype in (numpy.int32, numpy.int64, "<i4", "<i8"):
+            for start in range(9):
+                shifted = numpy.frombuffer(bytes(start) + numpy.array(offsets, dtype).tobytes(), dtype, offset=start)
+                self.assertEqual(byte_unit.parse_buffers(raw, shifted).ints(), SIZES)
         self.assertEqual(byte_unit.parse_many(numpy.array(["1 KB", "2 KB"])).ints(), [1000, 2000])
         self.assertEqual(byte_unit.parse_many(numpy.array([b"1 KB", b"2 KB"])).ints(), [1000, 2000])
         self.assertEqual(byte_unit.text(numpy.int64(1536)), "1.5 KiB")

@@ -102,16 +102,18 @@ def parse_many(texts: Iterable[str | bytes], *, bits: bool = False, ignore_case:
 
 
 def parse_buffers(data: object, offsets: object, *, bits: bool = False, ignore_case: bool = False) -> Column:
-    """Parses texts in Arrow's layout, without copying them: text `i` is `data[offsets[i]:offsets[i + 1]]`.
+    """Parses texts in Arrow's layout: text `i` is `data[offsets[i]:offsets[i + 1]]`. No object is made of a text.
 
     `data` is an object with the buffer protocol (`bytes`, `memoryview`, an array of numpy, a buffer of Arrow),
-    contiguous and in UTF-8. `offsets` is another, of signed integers of 32 or 64 bits, one more than there are texts.
-    If the elements of a buffer are bytes, as those of Arrow are, cast it: `memoryview(buffer).cast("i")`, or `"q"`.
+    contiguous and in UTF-8. `offsets` is another, of signed integers of 32 or 64 bits at any address, one more than
+    there are texts. If the elements of a buffer are bytes, as those of Arrow are, cast it:
+    `memoryview(buffer).cast("i")`, or `"q"`.
 
     Raises `ByteUnitError` if an offset is negative, less than the one before it, or past the end of `data`, or if a
     buffer is not contiguous. Raises `TypeError` if an argument is not a buffer, or `offsets` not of such integers.
 
-    The GIL is released: other threads run meanwhile, and they must not change `data` or `offsets`.
+    The GIL is released, so other threads run meanwhile. The offsets are copied before that, and the texts during it,
+    1,024 at a time. A change of `offsets` meanwhile has no effect; a change of `data` is seen or is not.
 
     >>> from array import array
     >>> parse_buffers(b"1 KB2 KiB", array("q", [0, 4, 9])).ints()
