@@ -106,10 +106,10 @@ def adjusted_text(
 ) -> str:
     """Formats a size in a unit, which is one of `UNITS`.
 
-    Without a precision all digits are shown. With one, and a unit with a prefix, the number is the nearest decimal:
-    with at most `precision` digits after the point, 16 at most and none that are zeros at the end, where ties go up; or
-    with `alternate=False` with exactly `precision` digits, where ties go to the even digit. The other arguments are
-    those of `text`.
+    Without a precision all digits are shown. With one, the number is rounded to at most `precision` digits after the
+    point, 16 at most and none that are zeros at the end, where ties go up. With `alternate=False` it is rounded to
+    exactly `precision` digits, where ties go to the even digit; but in `b` and `B` all digits are shown, with a
+    precision too. The other arguments are those of `text`.
 
     Raises `ByteUnitError` if an argument is out of range.
 
@@ -117,6 +117,8 @@ def adjusted_text(
     ('120.5625 KiB', '120.56 KiB')
     >>> adjusted_text(1536000, "KB", precision=2), adjusted_text(1536000, "KB", precision=2, alternate=False)
     ('1536 KB', '1536.00 KB')
+    >>> adjusted_text(3, "B", bits=True, precision=1), adjusted_text(3, "B", bits=True, precision=1, alternate=False)
+    ('0.4 B', '0.375 B')
     """
     return _text_of(
         size_of(size),
