@@ -225,8 +225,8 @@ pub fn visible_next(bytes: &[u8], place: usize) -> Option<Option<char>>
     }
 }
 
-/// Returns whether bytes are ASCII from an index on, or `false` if one before it is not. The last four bytes are tested
-/// at once.
+/// Returns whether the bytes from an index on are ASCII. If these are at most four, the last four bytes are tested at
+/// once: then it returns `false` also if one of those four is before the index and not ASCII.
 #[inline(always)]
 fn is_ascii_from(bytes: &[u8], from: usize) -> bool
     requires { from ≤ length bytes.now }
