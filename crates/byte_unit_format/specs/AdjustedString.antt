@@ -4,8 +4,8 @@ use Rattle.byte_unit_base.specs.Shape.{Shape}
 use Rattle.byte_unit_base.specs.Version.{Version, current}
 use Rattle.byte_unit_format.specs.Forms.{IsSizeFormIn}
 use Rattle.byte_unit_format.specs.Adjusted.{IsAdjustedFormIn}
+use Rattle.byte_unit_format.specs.NamedSpecs.{alternate_spec}
 use Rattle.byte_unit_base.specs.declared.kind.Kind.{Kind}
-use Rattle.byte_unit_format.specs.declared.spec.TheConstants.FormatSpec.{ALTERNATE}
 use Rattle.byte_unit_base.specs.Units.{shape_of}
 use Rattle.byte_unit_base.specs.declared.unit.Unit.{Unit as UnitName}
 
@@ -18,8 +18,8 @@ IsGreatest version size = size + 1 ≡ version.size_limit
 -- than 28 digits after the point.
 abbrev pub IsAdjustedStringIn : Version → Kind → ℕ → Shape → List ℕ → Type 0
 IsAdjustedStringIn version kind size unit text =
-    IsGreatest version size × IsSizeFormIn version kind size ALTERNATE text
-    ⊎ ¬ (IsGreatest version size) × IsAdjustedFormIn version kind size unit ALTERNATE text
+    IsGreatest version size × IsSizeFormIn version kind size alternate_spec text
+    ⊎ ¬ (IsGreatest version size) × IsAdjustedFormIn version kind size unit alternate_spec text
 
 -- The string that the size in a unit of the crate is stored as.
 abbrev pub IsAdjustedString : Kind → ℕ → UnitName → List ℕ → Type 0

@@ -14,13 +14,13 @@ use Rattle.byte_unit_format.specs.Adjusted.{IsAdjustedFormIn, adjusted_text_in}
 use Rattle.byte_unit_format.specs.AdjustedString.{IsAdjustedString, IsGreatest}
 use Rattle.byte_unit_format.specs.Forms.{IsSizeForm, IsSizeFormIn, IsText, IsTextIn}
 use Rattle.byte_unit_format.specs.Layout.{layout, gap_of}
+use Rattle.byte_unit_format.specs.NamedSpecs.{plain_spec, alternate_spec}
 use Rattle.byte_unit_format.specs.Plain.{plain, signed_digits}
 use Rattle.byte_unit_base.specs.Kinds.{bits_in}
 use Rattle.byte_unit_base.specs.declared.kind.Kind.{Kind}
 use Rattle.byte_unit_base.specs.declared.kind.Kind.TheVariants.{Byte, Bit as OfBits}
 use Rattle.byte_unit_base.specs.declared.unit.Unit.{Unit as UnitName}
 use Rattle.byte_unit_format.specs.declared.spec.FormatSpec.{FormatSpec}
-use Rattle.byte_unit_format.specs.declared.spec.TheConstants.FormatSpec.{PLAIN, ALTERNATE}
 use Rattle.byte_unit_format.specs.declared.spec.Sign.TheVariants.{Plus}
 
 -- A size formatted with a unit, by any spec, is parsed as that size.
@@ -39,7 +39,7 @@ PlainFormReadsBack =
 abbrev pub SizeStringReadsBack : Type 0
 SizeStringReadsBack =
     (kind : Kind) (size : ℕ) (text : List ℕ) → size < current.size_limit
-    → IsText kind size ALTERNATE text → IsAccepted kind false text size
+    → IsText kind size alternate_spec text → IsAccepted kind false text size
 
 -- The size has exactly one text with a unit by this spec.
 pub record HasOneForm (version : Version) (kind : Kind) (size : ℕ) (spec : FormatSpec) : Type 0 where
@@ -67,13 +67,14 @@ SizeHasOneAdjustedForm =
 
 -- What `Display` writes of a size by default, its digits, is its text by the plain spec.
 abbrev pub ShownSizeIsPlainForm : Type 0
-ShownSizeIsPlainForm = (version : Version) (kind : Kind) (size : ℕ) → IsTextIn version kind size PLAIN (decimal size)
+ShownSizeIsPlainForm =
+    (version : Version) (kind : Kind) (size : ℕ) → IsTextIn version kind size plain_spec (decimal size)
 
 -- What `Display` writes of a size in a unit by default is its text in that unit by the plain spec.
 abbrev pub ShownAdjustedSizeIsPlainForm : Type 0
 ShownAdjustedSizeIsPlainForm =
     (version : Version) (kind : Kind) (size : ℕ) (unit : UnitName)
-    → IsAdjustedFormIn version kind size (shape_of unit) PLAIN (adjusted_text_in version kind size (shape_of unit))
+    → IsAdjustedFormIn version kind size (shape_of unit) plain_spec (adjusted_text_in version kind size (shape_of unit))
 
 -- The least number of columns for a width: 0 if no width is set.
 abbrev pub least_columns : Option ℕ → ℕ

@@ -1,11 +1,12 @@
--- The specs that the code names, for the crates above, whose definitions cannot import a constant of this one.
+-- The options of the specs that the code names. By a law they are the constants `FormatSpec::PLAIN` and `ALTERNATE`.
+use Rattle.std.specs.Prelude.{true, false, None}
 use Rattle.byte_unit_format.specs.declared.spec.FormatSpec.{FormatSpec}
-use Rattle.byte_unit_format.specs.declared.spec.TheConstants.FormatSpec.{PLAIN, ALTERNATE}
+use Rattle.byte_unit_format.specs.declared.spec.Sign.TheVariants.{Unset}
 
--- The spec that formats a size as digits.
+-- No option is set: a size is formatted as digits.
 abbrev pub plain_spec : FormatSpec
-plain_spec = PLAIN
+plain_spec = record { alternate = false; sign = Unset; precision = None; width = None; align = None }
 
--- The spec that formats a size with a unit.
+-- The alternate form, with no other option set: a size is formatted with a unit.
 abbrev pub alternate_spec : FormatSpec
-alternate_spec = ALTERNATE
+alternate_spec = record { alternate = true; sign = Unset; precision = None; width = None; align = None }

@@ -3,6 +3,7 @@
 //! In the laws about parsing a formatted size, a size is below 10^30. The others hold for any number as the size,
 //! unless they say otherwise.
 
+ghost use Rattle.std.specs.Prelude.{◌≡◌};
 ghost use Rattle.byte_unit_format.specs.FormLaws.{SizeFormReadsBack, PlainFormReadsBack, SizeStringReadsBack};
 ghost use Rattle.byte_unit_format.specs.FormLaws.{SizeHasOneForm, SizeHasOneAdjustedForm, AdjustedStringReadsBack};
 ghost use Rattle.byte_unit_format.specs.FormLaws.{ShownSizeIsPlainForm, ShownAdjustedSizeIsPlainForm};
@@ -10,6 +11,9 @@ ghost use Rattle.byte_unit_format.specs.FormLaws.{PlainFormFillsWidth, LayoutFil
 ghost use Rattle.byte_unit_format.specs.FormLaws.{PlacesOfSize, ZeroTakesNoPlaces, ExpansionsEnd};
 ghost use Rattle.byte_unit_format.specs.VersionLaws.{AcceptedTextsStay, AdjustedFormsStay, AppropriateUnitsStay};
 ghost use Rattle.byte_unit_format.specs.VersionLaws.{SizeFormsStay};
+ghost use Rattle.byte_unit_format.specs.NamedSpecs.{plain_spec, alternate_spec};
+
+use crate::FormatSpec;
 
 /// States that the form of a size with a unit is parsed as the size that it shows.
 pub fn size_form_reads_back()
@@ -93,4 +97,10 @@ pub fn old_meanings_stay()
     ensures size_forms { SizeFormsStay }
     ensures appropriate_units { AppropriateUnitsStay }
     ensures adjusted_forms { AdjustedFormsStay }
+{}
+
+/// States that `FormatSpec::PLAIN` sets no option, and `FormatSpec::ALTERNATE` none but the alternate form.
+pub fn named_specs_set_no_other_option()
+    ensures plain { FormatSpec.PLAIN ≡ plain_spec }
+    ensures alternate { FormatSpec.ALTERNATE ≡ alternate_spec }
 {}

@@ -1,8 +1,12 @@
 //! Laws of the definitions. Each function does nothing: its contract is the law.
+ghost use Rattle.std.specs.Prelude.{◌≡◌, ◌-◌, ◌^◌, ◌<◌, ◌≤◌};
+ghost use Rattle.byte_unit_math.specs.Bounds.{places_of_decimal, whole_limit, expansion_places};
 ghost use Rattle.byte_unit_math.specs.NumberLaws.{ExactByPowers, NumbersHaveTwosAndFives, PlacesByPowers};
 ghost use Rattle.byte_unit_math.specs.NumberLaws.{ZeroTakesNoPlaces, ExpansionsAreFoundByDivision};
 ghost use Rattle.byte_unit_math.specs.NumberLaws.{NumeralsAreExact, ShortNumeralsAreExpansions};
 ghost use Rattle.byte_unit_math.specs.CountLaws.{GreatestCountStays};
+
+use crate::{DECIMAL_PLACES, EXPANSION_PLACES, NUMBER_DIGITS, WHOLE_LIMIT};
 
 /// States that a nonzero `num / (2^a * 5^b)` is exact within `p` places if and only if neither exponent exceeds `p`
 /// plus the numerator's own exponent.
@@ -33,4 +37,13 @@ pub fn numerals_are_exact()
 /// States that a step count at its maximum stays there, whatever number of steps is added.
 pub fn greatest_count_stays()
     ensures { GreatestCountStays }
+{}
+
+/// States that the constants of the crate are the bounds of the definitions, and that 2^128 - 1 has `NUMBER_DIGITS`
+/// digits.
+pub fn constants_are_bounds()
+    ensures places { DECIMAL_PLACES ≡ places_of_decimal }
+    ensures whole { WHOLE_LIMIT ≡ whole_limit }
+    ensures expansion { EXPANSION_PLACES ≡ expansion_places }
+    ensures digits { (10 ^ (NUMBER_DIGITS - 1) < 2 ^ 128) × (2 ^ 128 ≤ 10 ^ NUMBER_DIGITS) }
 {}
