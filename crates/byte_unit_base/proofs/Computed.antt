@@ -1,5 +1,7 @@
 -- The parsers as functions: what a parser returns is what they give.
-use Rattle.std.proofs.Common.{◌≡◌, ℕ, ◌<◌, ◌≤◌, List, Result, Ok, Err, refl, sym, ap, ◌∙◌, arith}
+use Rattle.std.proofs.Common.{◌≡◌, ℕ, ◌<◌, ◌≤◌, List, Result, Ok, Err, true, false, refl, sym, ap, ◌∙◌, arith}
+use Rattle.std.specs.Str.{IsUtf8, is_utf8}
+use Rattle.std.proofs.lemmas.Str.{IsUtf8-from_is_utf8}
 use Rattle.std.specs.Result.{result_map_both}
 use Rattle.std.proofs.lemmas.Bool.{cond-true, cond-false, lt-ltb, le-ltb}
 use Rattle.byte_unit_math.specs.Bounds.{size_limit}
@@ -21,6 +23,14 @@ use Rattle.byte_unit_base.specs.declared.errors.ParseError.{ParseError}
 use Rattle.byte_unit_base.specs.declared.kind.Kind.{Kind}
 use Rattle.byte_unit_base.specs.declared.kind.Kind.TheVariants.{Byte, Bit}
 use Rattle.byte_unit_base.specs.declared.unit.Unit.TheVariants as UnitNames
+
+-- the test for UTF-8 computes to `false` for bytes that are not UTF-8
+pub test_of_not_utf8 : (bytes : List ℕ) → ¬ IsUtf8 bytes → is_utf8 bytes ≡ false
+test_of_not_utf8 bytes is_not =
+    elim (is_utf8 bytes) as (λ test. is_utf8 bytes ≡ test → test ≡ false) [
+      | true ↦ λ is_so. absurd (is_not (IsUtf8-from_is_utf8 bytes is_so))
+      | false ↦ λ is_so. refl
+    ] refl
 
 -- the unit of the crate that has the shape of a unit is that unit
 pub unit_of_its_shape : (unit : UnitName) → unit_of_shape (shape_of unit) ≡ unit

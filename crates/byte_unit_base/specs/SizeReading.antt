@@ -1,7 +1,7 @@
 -- What the parsers of a size return, for a string and for bytes.
-use Rattle.std.specs.Prelude.{◌≡◌, ℕ, Bool, List, Option, MatchOption, Result, Ok, IfOk, IfErr, IsErrAnd}
+use Rattle.std.specs.Prelude.{◌≡◌, ℕ, Bool, false, List, Option, MatchOption, Result, Ok, IfOk, IfErr, IsErrAnd}
 use Rattle.std.specs.Result.{result_map_both}
-use Rattle.std.specs.Str.{IsUtf8}
+use Rattle.std.specs.Str.{IsUtf8, is_utf8}
 use Rattle.byte_unit_base.specs.Fault.{exceeded}
 use Rattle.byte_unit_base.specs.Errors.{size_fault}
 use Rattle.byte_unit_base.specs.declared.errors.ParseError.{ParseError}
@@ -22,7 +22,11 @@ pub record IsSizeReading
   -- the same as an equation, which a proof can compute for a literal; it follows from the others
   pub computed : result_map_both (λ n. n) size_fault result ≡ parsed_size kind ignore_case bytes
 
+-- the bytes are not UTF-8; the second part says it as an equation, which a proof can compute for a literal
+abbrev pub IsNotUtf8 : List ℕ → Type 0
+IsNotUtf8 bytes = ¬ IsUtf8 bytes × (is_utf8 bytes ≡ false)
+
 -- `None` if the bytes are not UTF-8, and otherwise the result of parsing them as a string
 abbrev pub IsBytesReading : Kind → Bool → List ℕ → Option (Result ℕ ParseError) → Type 0
 IsBytesReading kind ignore_case bytes result =
-    MatchOption result (¬ IsUtf8 bytes) (λ answer. IsUtf8 bytes × IsSizeReading kind ignore_case bytes answer)
+    MatchOption result (IsNotUtf8 bytes) (λ answer. IsUtf8 bytes × IsSizeReading kind ignore_case bytes answer)

@@ -293,6 +293,7 @@ fn stopped_error(
 /// ```
 #[cold]
 #[inline(never)]
+#[tactic(auto, using(crate::proofs::Computed::test_of_not_utf8))]
 pub fn parse_text(bytes: &[u8], ignore_case: bool, kind: Kind) -> Option<Result<u128, ParseError>>
     ensures reading { IsBytesReading kind ignore_case bytes.now result }
     ensures small { IfSome result (λ answer. IfOk answer (λ n. n < size_limit)) }

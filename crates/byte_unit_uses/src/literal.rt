@@ -52,6 +52,20 @@ pub fn rate_from_str() -> Bit
     "1 KiB".parse().unwrap()
 }
 
+/// Returns 1.5 KiB, from bytes. That these are UTF-8 is computed too.
+pub fn from_bytes() -> Byte
+    ensures { result ≡ 1536 }
+{
+    Byte::parse_bytes(b"1.5 KiB", false).unwrap().unwrap()
+}
+
+/// Returns 1 KiB, which is 8,192 bits, from bytes that begin with a no-break space.
+pub fn rate_from_bytes() -> Bit
+    ensures { result ≡ 8192 }
+{
+    Bit::parse_bytes(b"\xC2\xA01 KiB").unwrap().unwrap()
+}
+
 /// Returns the unit of a kibibit.
 pub fn unit() -> Unit
     ensures { result ≡ Unit.Kibit }
@@ -146,4 +160,12 @@ pub fn unknown_suffix() -> Result<Unit, UnitParseError>
     ensures { IsErrAnd result (λ error. unit_fault error ≡ bad_unit 120 (codes "Bb") true) }
 {
     Unit::parse_str("Kx", false, true)
+}
+
+/// Returns the error of an unknown unit, from bytes.
+pub fn unknown_unit_in_bytes() -> Result<Byte, ParseError>
+    ensures { IsErrAnd result (λ error.
+        size_fault error ≡ bad_unit 81 (codes "BKMGTPEZYR") true) }
+{
+    Byte::parse_bytes(b"20 QB", false).unwrap()
 }

@@ -31,4 +31,4 @@ returns-in-None-clause-ok g c =
     let words : List ℕ = codes "not text" ++ 10 ∷ [] in
     let added = c.extend_from_slice-in-None in
     AddsAnswer-if_ok Bit line added.result c.args.out.now.items words added.new.self.items
-    (answer_not_text Bit line words c.in-None.ensures refl) added.ensures.items
+    (answer_not_text Bit line words c.in-None.ensures.0 refl) added.ensures.items
