@@ -82,6 +82,8 @@ pub fn run<R: Read, W: Write>(
 
 /// Does what [`run`] does, with any allocator, and with reads of at most the length of `buffer`.
 ///
+/// It sets no limit on lines: that `Memory` is returned only if an allocation fails is tested, not proved.
+///
 /// Precondition (proved at every call): `buffer` is not empty.
 pub fn run_in<A: Allocator, R: Read, W: Write>(
     alloc: &A,
@@ -120,11 +122,14 @@ pub fn run_in<A: Allocator, R: Read, W: Write>(
 ///
 /// # Errors
 ///
-/// Returns `Err(AllocError)` if an allocation at the start fails; nothing has been read or written then. The inner
-/// result is that of the run, with the errors of [`run`]. There `Memory` means that more than `longest` bytes of a line
-/// have been read without its line end, and so that the line is longer than `longest`. A longer line is answered only
-/// if the read in which it exceeds `longest` returns its line end too, and so never if it has at least as many bytes as
-/// `longest` and the length of `buffer` together.
+/// Returns `Err(AllocError)` if an allocation at the start fails, or its length exceeds `usize::MAX`; nothing has been
+/// read or written then. No contract of std says when an allocation succeeds: that this error is returned for no other
+/// reason is tested, not proved.
+///
+/// The inner result is that of the run, with the errors of [`run`]. There `Memory` means that more than `longest` bytes
+/// of a line have been read without its line end, and so that the line is longer than `longest`. A longer line is
+/// answered only if the read in which it exceeds `longest` returns its line end too, and so never if it has at least as
+/// many bytes as `longest` and the length of `buffer` together.
 pub fn run_with_capacity<A: Allocator, R: Read, W: Write>(
     alloc: &A,
     longest: usize,

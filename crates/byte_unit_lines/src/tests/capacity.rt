@@ -62,6 +62,10 @@ const LIMITS: &[(usize, &[u8], usize, Result<(), RunError>, &[u8])] = &[
     (0, b"1KB\n2KB\n", 4, Ok(()), b"1000 = 1 KB\n2000 = 2 KB\n"),
     (0, b"1KB\n2KB\n", 5, Err(RunError::Memory), b"1000 = 1 KB\n"),
     (0, b"", 1, Ok(()), b""),
+    // Lines of one byte, and a limit of 16 MiB.
+    (1, b"1\n2", 1, Ok(()), b"1 = 1 B\n2 = 2 B\n"),
+    (1, b"1\n10", 1, Err(RunError::Memory), b"1 = 1 B\n"),
+    (1 << 24, INPUT, 4096, Ok(()), REPORT),
 ];
 
 #[test]

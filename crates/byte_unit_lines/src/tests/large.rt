@@ -1,4 +1,4 @@
-//! Long lines, large reports and many reads. Lines of 10 MB and of 1 GB are left to `tools/at-scale`, since `rt try`
+//! Long lines, large reports and many reads. Lines of 17 MB and of 1 GB are left to `tools/at-scale`, since `rt try`
 //! takes a minute for the first.
 use super::ended::{check, ran_in};
 use super::mixed::repeated;
