@@ -1,4 +1,4 @@
-//! Tests of the specs for the format strings of the Rust crate: the table in docs/API.md.
+//! Tests of the specs for the format strings of the Rust crate: the table in docs/GUIDE.md.
 use super::shown::{assert_row, bytes, bytes_in};
 use byte_unit::{Align, FormatSpec, Sign, Unit};
 
