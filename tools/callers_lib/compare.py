@@ -28,13 +28,12 @@ sys.dont_write_bytecode = True
 HERE = os.path.dirname(os.path.realpath(__file__))
 ROOT = os.path.dirname(os.path.dirname(HERE))
 sys.path[:0] = [HERE]
+import needs  # noqa: E402
 import python  # noqa: E402
 import rust  # noqa: E402
 import sqlite  # noqa: E402
 from report import call, check, positive  # noqa: E402
 
-APT_PACKAGES = ["librust-rust-decimal-dev", "librust-utf8-width-dev", *python.APT_PACKAGES, *rust.APT_PACKAGES,
-                *sqlite.APT_PACKAGES]  # fmt: skip
 OTHERS = ["python3-humanfriendly", "python3-humanize", "python3-pandas"]
 NUMBERS = ["12", "1536", "123456789"]
 LINES = 1_000_000
@@ -228,7 +227,7 @@ def with_numfmt():
 
 
 def with_sqlite(folder, work):
-    missing = next(filter(sqlite.is_missing, ["gcc", "sqlite3", "sqlite3ext.h"]), None)
+    missing = needs.missing_of("sqlite").get("sqlite")
     if missing:
         print(f"left out: SQLite: there is no {missing}")
         return {}

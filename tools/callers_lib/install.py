@@ -13,7 +13,8 @@ FOLDER has libbyte_unit.a and byte_unit.h. Checks that
 - an installation that fails, at a file in the way or at a full disk, leaves nothing and says why;
 - DESTDIR, --without-sqlite, a second installation and --uninstall do what they say.
 
-Prints what is skipped if a program is missing. With --speed, also prints the sizes of the files.
+What a missing program leaves out is skipped: tools/callers_lib/needs.py has the list. With --speed, also prints the
+sizes of the files.
 """
 
 import argparse
@@ -27,11 +28,13 @@ sys.dont_write_bytecode = True
 HERE = os.path.dirname(os.path.realpath(__file__))
 ROOT = os.path.dirname(os.path.dirname(HERE))
 sys.path[:0] = [HERE]
+import needs  # noqa: E402
+from needs import is_there  # noqa: E402
 from report import call, check, succeeds  # noqa: E402
 
-APT_PACKAGES = ["binutils", "clang", "g++", "gcc", "libsqlite3-dev", "lld", "mandoc", "musl-tools", "pkg-config", "sqlite3"]
 INSTALL = os.path.join(ROOT, "tools/install")
 PAGE = os.path.join(ROOT, "interface/byte_unit.3")
+COMMAND = os.path.join(ROOT, "crates/byte_unit_cli/out/byte_unit_cli")
 STANDARDS = {
     "gcc": ["c99", "c11", "c17", "c2x"],
     "clang": ["c99", "c11", "c17", "c2x"],
@@ -44,13 +47,6 @@ WARNINGS = ["-Wall", "-Wextra", "-Wpedantic", "-Werror"]
 def read(path):
     with open(path, encoding="utf-8") as file:
         return file.read()
-
-
-def is_there(program):
-    """Tells whether there is a program, and prints what is skipped if not."""
-    if not shutil.which(program):
-        print(f"skipped: there is no {program}")
-    return shutil.which(program) is not None
 
 
 def files_in(folder):
@@ -94,7 +90,7 @@ def compilers(prefix, work):
     program, shared = example(work), flags(prefix, "--cflags", "--libs")
     static = flags(prefix, "--cflags", "--libs", "--static")
     archive = [*flags(prefix, "--cflags"), os.path.join(prefix, "lib/libbyte_unit.a")]
-    for cc in filter(is_there, STANDARDS):
+    for cc in needs.compilers():
         source = [cc, *WARNINGS, program]
         if "++" in cc:
             source = [cc, *WARNINGS, "-Wno-missing-field-initializers", "-x", "c++", program, "-x", "none"]
@@ -169,10 +165,9 @@ def manual(prefix):
 
 
 def extension(prefix):
-    path = os.path.join(prefix, "lib/sqlite3/byte_unit")
-    if not os.path.exists(path + ".so"):
-        print("skipped: the SQLite extension: it is not built")
+    if not is_there("sqlite3ext.h"):
         return
+    path = os.path.join(prefix, "lib/sqlite3/byte_unit")
     exported = call("nm", "-D", "--defined-only", path + ".so").stdout.split()[2::3]
     check("the extension exports its entry point alone", exported == ["sqlite3_byteunit_init"], str(exported))
     if is_there("sqlite3"):
@@ -220,12 +215,13 @@ def outside(work):
 
 
 def full(folder, work):
-    """Installs on a disk that gets full, of 90 KB, in a name space of its own."""
+    """Installs on a disk that gets full, of 90 KB, in a name space of its own; if nothing can be mounted, with a limit of
+    90 KB on each file."""
     prefix, inner = os.path.join(work, "full"), ["unshare", "--mount", "--map-root-user", "sh", "-c"]
     os.makedirs(prefix)
     mount = f"mount -t tmpfs -o size=90k none {prefix}"
     if not shutil.which("unshare") or call(*inner, mount).returncode:
-        print("skipped: a full disk: no file system can be mounted here")
+        fails("a file above the limit", prefix, folder, ": File too large", "sh", "-c", "ulimit -f 180; exec \"$@\"", "")
         return
     got = call(*inner, f"{mount} && {INSTALL} --from {folder} {prefix}; echo $?; find {prefix} -mindepth 1")
     lines = got.stdout.splitlines()
@@ -261,12 +257,10 @@ def staged(folder, work):
     check("the list has each file", sorted(f"usr/{line}" for line in listed if line) == files, f"{listed}\n{files}")
 
 
-def command(folder, work):
-    """Installs the command that the gate has built, if it is there, and runs it."""
-    built, prefix = os.path.join(ROOT, "crates/byte_unit_cli/out/byte_unit_cli"), os.path.join(work, "command")
-    if not os.path.exists(built):
-        print("skipped: bin/byte-unit: crates/byte_unit_cli/out/byte_unit_cli is not built")
-        return
+def command(folder, work, built):
+    """Installs the built command, and runs it."""
+    prefix = os.path.join(work, "command")
+    check(f"{os.path.relpath(built, ROOT)} is built", os.path.exists(built))
     source = shutil.copytree(folder, os.path.join(work, "with-command"))
     shutil.copy(built, os.path.join(source, "byte-unit"))
     succeeds("an installation with the command", INSTALL, "--from", source, prefix)
@@ -289,10 +283,6 @@ def sizes(prefix, work):
 
 
 def run(folder, options):
-    missing = next((program for program in ("gcc", "pkg-config") if not shutil.which(program)), None)
-    if missing:
-        print(f"skipped: tools/install: there is no {missing} (Debian's packages: {' '.join(APT_PACKAGES)})")
-        return
     folder = os.path.abspath(folder)
     with tempfile.TemporaryDirectory() as work:
         prefix = os.path.join(work, "prefix")
@@ -309,7 +299,10 @@ def run(folder, options):
         failures(folder, work)
         removal(folder, work)
         staged(folder, work)
-        command(folder, work)
+        if os.path.exists(COMMAND) or options.after_ci:
+            command(folder, work, COMMAND)
+        else:
+            print(f"not tested: bin/byte-unit: {os.path.relpath(COMMAND, ROOT)} is not built")
 
 
 def main():
@@ -317,7 +310,9 @@ def main():
     options.add_argument("folder", metavar="FOLDER")
     options.add_argument("--speed", action="store_true")
     given = options.parse_args()
-    run(given.folder, given)
+    given.after_ci = False
+    if "install" not in needs.tell_missing("install"):
+        run(given.folder, given)
 
 
 if __name__ == "__main__":

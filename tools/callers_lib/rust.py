@@ -11,8 +11,9 @@ FOLDER has libbyte_unit.a. In a temporary folder, with cargo --offline, by each 
   [patch.crates-io] and print what they should;
 - for N generated lines (4,000), as bytes and as bits, the example lines.rs prints what tools/exact_model.py computes.
 
-By the first of them also that its documentation and its examples pass, that clippy and rustfmt have no finding, that it
-builds without std, and that its build script finds the archive in each way or says in one line that it does not. With
+By the first of them also that its documentation and its examples pass, that it builds without std, and that its build
+script finds the archive in each way or says in one line that it does not; and by the first that has them that clippy
+and rustfmt have no finding. What a missing program leaves out is skipped: tools/callers_lib/needs.py has the list. With
 --speed, also prints the nanoseconds of one call: tools/original/calls.rs, which is written for the original crate.
 """
 
@@ -29,13 +30,13 @@ sys.dont_write_bytecode = True
 HERE = os.path.dirname(os.path.realpath(__file__))
 ROOT = os.path.dirname(os.path.dirname(HERE))
 sys.path[:0] = [HERE, os.path.dirname(HERE)]
+import needs  # noqa: E402
 from exact_model import answer  # noqa: E402
 from generated_lines import some_line  # noqa: E402
 from report import call, check  # noqa: E402
 
-APT_PACKAGES = ["rustc", "cargo", "librust-serde-dev", "librust-serde-json-dev", "pkg-config"]
 PACKAGE = os.path.join(ROOT, "interface/rust")
-REGISTRY = "/usr/share/cargo/registry"
+REGISTRY = needs.DEBIAN_RUST
 AS_WRITTEN, CHANGED = 91, 9
 
 # The crates that Debian installs take the place of the registry.
@@ -98,11 +99,10 @@ def copy_package(work):
     """Copies the package, and returns the copy and the features to test. Without Debian's serde, leaves it out."""
     package = os.path.join(work, "interface/rust")
     shutil.copytree(PACKAGE, package, ignore=shutil.ignore_patterns("target", "Cargo.lock"))
-    if os.path.isdir(REGISTRY) and any(name.startswith("serde_json-") for name in os.listdir(REGISTRY)):
+    if "rust: serde" not in needs.missing_of("rust"):
         os.mkdir(os.path.join(package, ".cargo"))
         write(os.path.join(package, ".cargo/config.toml"), CONFIG)
         return package, ["--features", "serde"]
-    print("skipped: the feature serde: Debian's librust-serde-json-dev is not installed")
     manifest = os.path.join(package, "Cargo.toml")
     text = re.sub(r'^serde = {.*\n|^serde_json.*\n', "", read(manifest), flags=re.M)
     write(manifest, text.replace('serde = ["dep:serde"]', "serde = []"))
@@ -166,17 +166,29 @@ def lines(compiler, package, given):
 
 
 def extras(compiler, package, features):
-    """Checks the documentation, the style and the build without std."""
+    """Checks the documentation and the build without std."""
     print(f"{compiler.passed(package, '--doc')} examples of the package's documentation passed")
     compiler.succeeds("cargo doc has no warning", package, "doc", "--no-deps", *features, RUSTDOCFLAGS="-D warnings")
     compiler.succeeds("it builds without std", package, "build", "--no-default-features", *features)
-    bin_folder = os.path.dirname(compiler.cargo)
-    if os.path.exists(os.path.join(bin_folder, "cargo-clippy")):
-        words = ["clippy", "--all-targets", *features, "--", "-D", "warnings"]
-        got = call(compiler.cargo, words[0], "--offline", "--quiet", *words[1:], cwd=package, env=compiler.env)
+
+
+def beside(found, program):
+    """Returns the first compiler that has the program in its folder."""
+    has = [one for one in found if os.path.exists(os.path.join(os.path.dirname(one.cargo), program))]
+    check(f"{program} is beside one of {', '.join(one.cargo for one in found)}", has)
+    return has[0]
+
+
+def style(found, package, features):
+    """Checks the package by clippy and rustfmt, if they are there."""
+    missing = needs.missing_of("rust")
+    if "rust: clippy" not in missing:
+        one, words = beside(found, "cargo-clippy"), ["--all-targets", *features, "--", "-D", "warnings"]
+        got = call(one.cargo, "clippy", "--offline", "--quiet", *words, cwd=package, env=one.env)
         check("cargo clippy has no warning", got.returncode == 0, got.stdout)
-    if os.path.exists(os.path.join(bin_folder, "cargo-fmt")):
-        got = call(compiler.cargo, "fmt", "--check", cwd=package, env=compiler.env)
+    if "rust: rustfmt" not in missing:
+        one = beside(found, "cargo-fmt")
+        got = call(one.cargo, "fmt", "--check", cwd=package, env=one.env)
         check("cargo fmt changes nothing", got.returncode == 0, got.stdout)
 
 
@@ -193,9 +205,8 @@ def find_archive(compiler, package, work):
     shutil.copy(archive, os.path.join(built, "libbyte_unit_c.a"))
     compiler.succeeds("the archive is found where rt lib puts it", package, *example, **nowhere)
     shutil.rmtree(built)
-    if shutil.which("pkg-config"):
-        write(os.path.join(work, "byte_unit.pc"), PKG_CONFIG.format(folder))
-        compiler.succeeds("the archive is found by pkg-config", package, *example, PKG_CONFIG_PATH=work)
+    write(os.path.join(work, "byte_unit.pc"), PKG_CONFIG.format(folder))
+    compiler.succeeds("the archive is found by pkg-config", package, *example, PKG_CONFIG_PATH=work)
     for variables, error in (
         (nowhere, "libbyte_unit.a is not found: run tools/make-libraries DIR and set BYTE_UNIT_LIBRARY_DIR to DIR, or"),
         ({"BYTE_UNIT_LIBRARY_DIR": work}, f"{work}/libbyte_unit.a is missing, or not of this version: run"),
@@ -212,9 +223,7 @@ def run(folder, options):
     with tempfile.TemporaryDirectory() as work:
         work = os.path.realpath(work)
         found = compilers(folder, work)
-        if not found:
-            print("skipped: Rust: there is no cargo with its rustc")
-            return
+        check("a cargo has its rustc in its folder", found)
         rng = random.Random(options.seed)
         given = [some_line(rng) for _ in range(options.lines)]
         package, features = copy_package(work)
@@ -223,6 +232,7 @@ def run(folder, options):
             moved_programs(compiler, package, work)
             lines(compiler, package, given)
         extras(found[0], package, features)
+        style(found, package, features)
         find_archive(found[0], package, work)
         if options.speed:
             calls = read(os.path.join(ROOT, "tools/original/calls.rs"))
@@ -236,7 +246,8 @@ def main():
     options.add_argument("--seed", type=int, default=1)
     options.add_argument("--speed", action="store_true")
     given = options.parse_args()
-    run(given.folder, given)
+    if "rust" not in needs.tell_missing("rust"):
+        run(given.folder, given)
 
 
 if __name__ == "__main__":

@@ -20,7 +20,6 @@ ROOT = os.path.dirname(os.path.dirname(HERE))
 sys.path[:0] = [HERE]
 from report import call, check  # noqa: E402
 
-APT_PACKAGES = ["gcc"]
 PROGRAMS = ["speed.c", "speed_many.c"]
 
 

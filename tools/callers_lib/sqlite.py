@@ -13,14 +13,13 @@ FOLDER has libbyte_unit.a and byte_unit.h. Checks that
 - the statements in docs/CALLERS.md have the results that stand beside them;
 - a million rows have the sum that they should have, and prints what that takes beside length().
 
-Prints what is skipped if a program or sqlite3ext.h is missing.
+What a missing program or header leaves out is skipped: tools/callers_lib/needs.py has the list.
 """
 
 import argparse
 import os
 import random
 import re
-import shutil
 import sys
 import tempfile
 from fractions import Fraction
@@ -29,11 +28,11 @@ sys.dont_write_bytecode = True
 HERE = os.path.dirname(os.path.realpath(__file__))
 ROOT = os.path.dirname(os.path.dirname(HERE))
 sys.path[:0] = [HERE, os.path.dirname(HERE)]
+import needs  # noqa: E402
 from exact_model import LETTERS, answer, unit_bits  # noqa: E402
 from generated_lines import some_line  # noqa: E402
 from report import call, check, succeeds  # noqa: E402
 
-APT_PACKAGES = ["gcc", "clang", "sqlite3", "libsqlite3-dev", "python3"]
 SOURCE = os.path.join(ROOT, "interface/sqlite/byte_unit_sqlite.c")
 WARNINGS = ["-Wall", "-Wextra", "-Wpedantic", "-Wconversion", "-Wshadow", "-Werror"]
 GREATEST = 2**63 - 1
@@ -56,7 +55,7 @@ def compile_extension(cc, folder, out, *flags):
 def build(folder, work):
     """Builds the extension, and returns its path without `.so`; tests it with sanitizers on the way."""
     path, sanitized = os.path.join(work, "byte_unit.so"), os.path.join(work, "sanitized", "byte_unit.so")
-    for cc in filter(shutil.which, ["clang", "gcc"]):
+    for cc in filter(needs.is_there, ["clang", "gcc"]):
         compile_extension(cc, folder, path, "-O2")
     os.mkdir(os.path.dirname(sanitized))
     flags = ["-g", "-fsanitize=address,undefined", "-fno-sanitize-recover=all"]
@@ -310,12 +309,9 @@ assert [row[0] for row in db.execute("SELECT DISTINCT q FROM t ORDER BY q")] == 
 
 
 def from_python(extension):
-    attempt = 'import sqlite3; sqlite3.connect("").enable_load_extension(True)'
-    for python in (sys.executable, "/usr/bin/python3"):
-        if shutil.which(python) and call(python, "-c", attempt).returncode == 0:
-            succeeds(f"sqlite3 of Python, by {python}", python, "-c", FROM_PYTHON, extension)
-            return
-    print("skipped: sqlite3 of Python: the one at hand loads no extensions")
+    python = needs.python_with_extensions()
+    if python:
+        succeeds(f"sqlite3 of Python, by {python}", python, "-c", FROM_PYTHON, extension)
 
 
 MILLION = {
@@ -353,17 +349,7 @@ def million(extension, speed):
     return seconds
 
 
-def is_missing(program):
-    if program == "sqlite3ext.h":
-        return call("gcc", "-E", "-", input="#include <sqlite3ext.h>\n").returncode != 0
-    return not shutil.which(program)
-
-
 def run(folder, options):
-    missing = next(filter(is_missing, ["gcc", "sqlite3", "sqlite3ext.h"]), None)
-    if missing:
-        print(f"skipped: SQLite: there is no {missing} (Debian's packages: {' '.join(APT_PACKAGES)})")
-        return
     rng = random.Random(options.seed)
     lines = [some_line(rng) for _ in range(options.lines)]
     with tempfile.TemporaryDirectory() as work:
@@ -390,7 +376,8 @@ def main():
     options.add_argument("--seed", type=int, default=1)
     options.add_argument("--speed", action="store_true")
     given = options.parse_args()
-    run(given.folder, given)
+    if "sqlite" not in needs.tell_missing("sqlite"):
+        run(given.folder, given)
 
 
 if __name__ == "__main__":
