@@ -105,8 +105,14 @@ static void with_zero_bytes(sqlite3 *db)
     with_text(db, "SELECT size_parse(?)", "12", 1, "1");
     with_text(db, "SELECT size_parse(?)", "", 0, "'' is not a size: no value can be found");
     with_text(db, "SELECT size_explain(?) IS NULL", "1\0K", 3, "0");
-    with_text(db, "SELECT size_text(1, ?)", "bits\0", 5, "'bits\\x00' has flags other than 'bits'");
-    with_text(db, "SELECT size_in(1, ?)", "KB\0", 3, "'KB\\x00' is not a unit such as 'KiB' or 'MB'");
+    with_text(db, "SELECT size_text(1, ?)", "bits\0", 5, "'bits\\0' has flags other than 'bits'");
+    with_text(db, "SELECT size_in(1, ?)", "KB\0", 3,
+              "'KB\\0' is not a unit: the character '\\0' is incorrect ('i' or no character is expected)");
+    with_text(db, "SELECT size_in(1, ?)", "", 0, "'' is not a unit such as 'KiB' or 'MB'");
+    with_text(db, "SELECT size_in(1, ?)", "\xc2\x85\xe3\x80\x80", 5,
+              "'\\u{85}\xe3\x80\x80' is not a unit such as 'KiB' or 'MB'");
+    with_text(db, "SELECT size_text(1, ?)", "\xc2\x80\xc2\x9f\xc2\xa0", 6,
+              "'\\u{80}\\u{9f}\xc2\xa0' has flags other than 'bits'");
     with_text(db, "SELECT ? = '1' COLLATE SIZE", "1\0", 2, "0");
     with_text(db, "SELECT ? > '2' COLLATE SIZE", "1\0", 2, "1");
     with_text(db, "SELECT ? = '1.0 KB' COLLATE SIZE", "1000", 4, "1");
@@ -130,6 +136,7 @@ static const char *const statements[] = {
     "SELECT length(size_in(1536, 'KiB', 9000))",
     "SELECT size_in(1536, 'MB', 2, 'bits')",
     "SELECT size_in(1536, 'Mx')",
+    "SELECT size_in(1536, ' ')",
     "SELECT group_concat(t) FROM (SELECT column1 AS t FROM (VALUES ('1 KiB'), ('2 x'), ('1000'), ('1 x')) ORDER BY t COLLATE SIZE)",
 };
 

@@ -39,8 +39,26 @@ struct form {
 
 /* ---- Messages: each names the value and the reason. ---- */
 
-/* Appends at most SHOWN bytes of a text between quotes, in whole characters. Control characters, and what is not ASCII if
- * the text is not UTF-8, are written as \x1f. */
+/* Appends a control character as the library's messages have it: \n, or \u{1f}. */
+static void append_control(sqlite3_str *out, unsigned code)
+{
+    static const char names[] = "\0\t\n\r", letters[] = "0tnr";
+    const char *name = memchr(names, (int)code, sizeof names - 1);
+
+    if (name != NULL)
+        sqlite3_str_appendf(out, "\\%c", letters[name - names]);
+    else
+        sqlite3_str_appendf(out, "\\u{%x}", code);
+}
+
+/* Returns whether a control character past ASCII, U+0080 to U+009F, is at this place of UTF-8. */
+static bool is_wide_control(struct text text, size_t at)
+{
+    return text.len - at >= 2 && (unsigned char)text.at[at] == 0xC2 && (unsigned char)text.at[at + 1] < 0xA0;
+}
+
+/* Appends at most SHOWN bytes of a text between quotes, in whole characters. Control characters are escaped, and so
+ * is, as \xff, each byte that is not ASCII if the text is not UTF-8. */
 static void append_quoted(sqlite3_str *out, struct text text, bool is_utf8)
 {
     size_t shown = text.len;
@@ -51,7 +69,11 @@ static void append_quoted(sqlite3_str *out, struct text text, bool is_utf8)
     sqlite3_str_appendchar(out, 1, '\'');
     for (size_t at = 0; at < shown; at++) {
         unsigned char byte = (unsigned char)text.at[at];
-        if (byte < 0x20 || byte == 0x7F || (byte >= 0x80 && !is_utf8))
+        if (byte < 0x20 || byte == 0x7F)
+            append_control(out, byte);
+        else if (is_utf8 && is_wide_control(text, at))
+            append_control(out, (unsigned char)text.at[++at]);
+        else if (byte >= 0x80 && !is_utf8)
             sqlite3_str_appendf(out, "\\x%02x", byte);
         else
             sqlite3_str_appendchar(out, 1, text.at[at]);
@@ -122,6 +144,22 @@ static bool reject(sqlite3_context *context, sqlite3_value *value, const char *r
     return false;
 }
 
+/* byte_unit_explain or byte_unit_explain_unit. */
+typedef size_t explain_call(const char *text, size_t len, uint32_t flags, char *out, size_t out_len);
+
+/* Returns the error of a text that the library rejects with this code: the text, what it is not, and the reason. */
+static void reject_text(sqlite3_context *context, struct text text, uint32_t flags, uint32_t code, const char *what,
+                        explain_call *explain)
+{
+    sqlite3_str *message = sqlite3_str_new(sqlite3_context_db_handle(context));
+    char reason[BYTE_UNIT_BUFFER_SIZE];
+    size_t len = explain(text.at, text.len, flags, reason, sizeof reason);
+
+    append_quoted(message, text, code != BYTE_UNIT_NOT_UTF8);
+    sqlite3_str_appendf(message, " is not %s: %.*s", what, len <= sizeof reason ? (int)len : 0, reason);
+    return_message(context, message, true);
+}
+
 /* ---- Arguments. Each function returns false if the argument is invalid, and then the call has failed. ---- */
 
 static bool get_text(sqlite3_context *context, sqlite3_value *value, struct text *text)
@@ -185,15 +223,21 @@ static bool get_size(sqlite3_context *context, sqlite3_value *value, byte_unit_n
     return true;
 }
 
+/* Gets a unit. A blank text, which byte_unit_parse_unit takes for B, names none. */
 static bool get_unit(sqlite3_context *context, sqlite3_value *value, uint32_t flags, uint32_t *unit)
 {
     struct text name = { "", 0 };
+    byte_unit_number unused;
+    uint32_t code;
 
     if (sqlite3_value_type(value) == SQLITE_TEXT && !get_text(context, value, &name))
         return false;
-    if (name.len > 0 && byte_unit_parse_unit(name.at, name.len, flags, unit, NULL) == BYTE_UNIT_OK)
-        return true;
-    return reject(context, value, " is not a unit such as 'KiB' or 'MB'");
+    if (parse(name, 0, &unused) == BYTE_UNIT_NO_VALUE)
+        return reject(context, value, " is not a unit such as 'KiB' or 'MB'");
+    code = byte_unit_parse_unit(name.at, name.len, flags, unit, NULL);
+    if (code != BYTE_UNIT_OK)
+        reject_text(context, name, flags, code, "a unit", byte_unit_explain_unit);
+    return code == BYTE_UNIT_OK;
 }
 
 static bool get_precision(sqlite3_context *context, sqlite3_value *value, byte_unit_spec *spec)
@@ -221,17 +265,6 @@ static bool get_options(sqlite3_context *context, int count, sqlite3_value **val
 }
 
 /* ---- From texts to sizes. ---- */
-
-static void reject_text(sqlite3_context *context, struct text text, uint32_t flags, uint32_t code)
-{
-    sqlite3_str *message = sqlite3_str_new(sqlite3_context_db_handle(context));
-    char reason[BYTE_UNIT_BUFFER_SIZE];
-    size_t len = byte_unit_explain(text.at, text.len, flags, reason, sizeof reason);
-
-    append_quoted(message, text, code != BYTE_UNIT_NOT_UTF8);
-    sqlite3_str_appendf(message, " is not a size: %.*s", len <= sizeof reason ? (int)len : 0, reason);
-    return_message(context, message, true);
-}
 
 static void reject_above_integers(sqlite3_context *context, struct text text, uint32_t flags, byte_unit_number size)
 {
@@ -271,7 +304,7 @@ static void size_parse(sqlite3_context *context, int argc, sqlite3_value **argv)
         return;
     code = parse(text, flags, &size);
     if (code != BYTE_UNIT_OK)
-        reject_text(context, text, flags, code);
+        reject_text(context, text, flags, code, "a size", byte_unit_explain);
     else if (size.high != 0 || size.low > INT64_MAX)
         reject_above_integers(context, text, flags, size);
     else

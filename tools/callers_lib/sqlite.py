@@ -221,6 +221,7 @@ def tables(extension):
 
 
 X = "the character 'x' is not a number"
+FIRST = "'B', 'K', 'M', 'G', 'T', 'P', 'E', 'Z', 'Y' or 'R' or no character is expected"
 ERRORS = {
     "size_parse(1.5)": "the REAL value 1.5 is not a size: TEXT or an INTEGER is expected",
     "size_parse(x'3132')": "a BLOB of length 2 is not a size: TEXT or an INTEGER is expected",
@@ -241,20 +242,39 @@ ERRORS = {
     "size_text(1, NULL)": "NULL is not a precision: an INTEGER from 0 to 65535 is expected",
     "size_text(1, 'ignore-case')": "'ignore-case' has flags other than 'bits'",
     "size_text(1, 'bits', 2)": "2 is after the flags, where no argument is expected",
-    "size_in(1, 'x')": "'x' is not a unit such as 'KiB' or 'MB'",
+    "size_in(1, 'x')": f"'x' is not a unit: the character 'x' is incorrect ({FIRST})",
+    "size_in(1, 'K\"')": "'K\"' is not a unit: the character '\"' is incorrect "
+    "('B' or 'b' or no character is expected)",
+    "size_in(1, 'KiX', 'ignore-case')": "'KiX' is not a unit: the character 'X' is incorrect "
+    "('B' or no character is expected)",
+    "size_in(1, 'kx', 'bits ignore-case')": "'kx' is not a unit: the character 'x' is incorrect "
+    "('b' or no character is expected)",
+    "size_in(1, 'bix')": "'bix' is not a unit: the character 'x' is incorrect ('t' is expected)",
+    "size_in(1, 'bits.')": "'bits.' is not a unit: the character '.' is incorrect (no character is expected)",
+    "size_in(1, char(27) || 'MB')": rf"'\u{{1b}}MB' is not a unit: the character '\u{{1b}}' is incorrect ({FIRST})",
+    "size_in(1, CAST(x'4bff' AS TEXT))": r"'K\xff' is not a unit: the text is not UTF-8",
     "size_in(1, '')": "'' is not a unit such as 'KiB' or 'MB'",
+    "size_in(1, ' ')": "' ' is not a unit such as 'KiB' or 'MB'",
+    "size_in(1, char(9, 133, 12288), 'bits')": r"'\t\u{85}" "\u3000' is not a unit such as 'KiB' or 'MB'",
     "size_in(1, 5)": "5 is not a unit such as 'KiB' or 'MB'",
     "size_in(1, x'4b')": "a BLOB of length 1 is not a unit such as 'KiB' or 'MB'",
-    "size_parse('1' || char(10) || '2')": r"'1\x0a2' is not a size: the character '\n' is incorrect "
-    "('B', 'K', 'M', 'G', 'T', 'P', 'E', 'Z', 'Y' or 'R' or no character is expected)",
+    "size_parse('1' || char(10) || '2')": rf"'1\n2' is not a size: the character '\n' is incorrect ({FIRST})",
+    "size_parse('1' || char(128, 159))": rf"'1\u{{80}}\u{{9f}}' is not a size: "
+    rf"the character '\u{{80}}' is incorrect ({FIRST})",
+    "size_parse(char(9, 13, 10, 27, 133, 160) || 'x')": rf"'\t\r\n\u{{1b}}\u{{85}}{chr(160)}x' is not a size: "
+    r"the character '\u{1b}' is not a number",
+    "size_parse(replace(hex(zeroblob(62)), '00', 'x') || char(159, 120))":
+    rf"'{'x' * 62}\u{{9f}}'.. is not a size: {X}",
+    "size_parse(replace(hex(zeroblob(63)), '00', 'x') || char(159, 120))": f"'{'x' * 63}'.. is not a size: {X}",
     "size_parse(replace(hex(zeroblob(300)), '00', 'é'))": f"'{'é' * 32}'.. is not a size: "
     "the character 'é' is not a number",
     "size_parse('x' || replace(hex(zeroblob(300)), '00', 'é'))": f"'x{'é' * 31}'.. is not a size: {X}",
     "size_parse('x' || replace(hex(zeroblob(300)), '00', '😀'))": f"'x{'😀' * 15}'.. is not a size: {X}",
     "size_parse(replace(hex(zeroblob(33)), '00', '12'))": f"'{'12' * 32}'.. is not a size: value number is too long",
     "size_parse(replace(hex(zeroblob(32)), '00', '12'))": f"'{'12' * 32}' is not a size: value number is too long",
-    "size_parse(char(127) || char(31))": r"'\x7f\x1f' is not a size: the character '\u{7f}' is not a number",
+    "size_parse(char(127) || char(31))": r"'\u{7f}\u{1f}' is not a size: the character '\u{7f}' is not a number",
     "size_parse(CAST(x'31ff' AS TEXT))": r"'1\xff' is not a size: the text is not UTF-8",
+    "size_parse(CAST(x'31c285ff' AS TEXT))": r"'1\xc2\x85\xff' is not a size: the text is not UTF-8",
 }
 RESULTS = {
     "size_parse(1536)": "1536", "size_parse(' 1.5 KiB ')": "1536", "size_parse('9223372036854775807')": str(GREATEST),
