@@ -14,7 +14,7 @@ FOLDER has libbyte_unit.a and byte_unit.h. In a temporary folder, checks that
 - for N generated lines (4,000), as bytes and as bits, checks/lines.c prints what tools/exact_model.py computes, and what
   the program byte_unit_lines prints if it is built.
 
-Prints a line for each check, and what is skipped if a program is missing.
+Prints a line for each check. What a missing program leaves out is skipped: tools/callers_lib/needs.py has the list.
 """
 
 import argparse
@@ -32,9 +32,9 @@ sys.path[:0] = [HERE, os.path.dirname(HERE)]
 from comments import program_of  # noqa: E402
 from exact_model import answer  # noqa: E402
 from generated_lines import some_line  # noqa: E402
+from needs import tell_missing  # noqa: E402
 from report import call, check  # noqa: E402
 
-APT_PACKAGES = ["gcc", "g++", "clang", "qemu-user"]
 INTERFACE = os.path.join(ROOT, "interface")
 PAGE = os.path.join(ROOT, "docs/CALLERS.md")
 PROGRAM = os.path.join(ROOT, "crates/byte_unit_lines/out/byte_unit_lines")
@@ -107,7 +107,6 @@ def comments(folder, work):
 def old_processors(folder, work, cc):
     emulator = shutil.which("qemu-x86_64")
     if not emulator:
-        print("skipped: processors without SSE4: there is no qemu-x86_64 (Debian: qemu-user)")
         return
     for name in ("examples/example.c", "checks/arguments.c"):
         program = compiled(folder, work, name, cc, "c11")
@@ -133,15 +132,12 @@ def compare_lines(program, lines):
             same = len(got) == len(expected) == len(lines) and not wrong
             check(f"{len(lines)} lines from C as {kind}: the output is that of {name}", same, str(wrong))
     if len(others) == 1:
-        print(f"skipped: {os.path.relpath(PROGRAM, ROOT)} is not built")
+        print(f"not compared: {os.path.relpath(PROGRAM, ROOT)} is not built")
 
 
 def run(folder, options):
     """Makes all checks; `options` has the number of `lines` and the `seed`."""
-    cc = next(filter(shutil.which, [os.environ.get("CC", "cc"), "gcc", "clang"]), None)
-    if not cc:
-        print("skipped: C: there is no C compiler")
-        return
+    cc = next(filter(shutil.which, [os.environ.get("CC", "cc"), "gcc", "clang"]))
     rng = random.Random(options.seed)
     with tempfile.TemporaryDirectory() as work:
         examples(folder, work)
@@ -159,7 +155,8 @@ def main():
     options.add_argument("--lines", type=int, default=4000)
     options.add_argument("--seed", type=int, default=1)
     given = options.parse_args()
-    run(given.folder, given)
+    if "c" not in tell_missing("c"):
+        run(given.folder, given)
 
 
 if __name__ == "__main__":

@@ -3,7 +3,8 @@
 
     tools/callers_lib/python.py FOLDER [--speed]
 
-FOLDER has libbyte_unit.a and byte_unit.h. `tools/callers` calls `run`.
+FOLDER has libbyte_unit.a and byte_unit.h. tools/callers_lib/needs.py lists what it needs; without mypy the types are not
+checked. `tools/callers` calls `run`.
 """
 
 import argparse
@@ -22,21 +23,6 @@ from report import call, check  # noqa: E402
 INTERFACE = os.path.join(ROOT, "interface")
 EXAMPLE = os.path.join(INTERFACE, "examples/example.py")
 COLUMNS = os.path.join(INTERFACE, "examples/columns.py")
-APT_PACKAGES = [
-    "gcc",
-    "pkg-config",
-    "mypy",
-    "python3-dask",
-    "python3-dev",
-    "python3-humanfriendly",
-    "python3-humanize",
-    "python3-numpy",
-    "python3-pandas",
-    "python3-pip",
-    "python3-setuptools",
-    "python3-venv",
-    "python3-wheel",
-]
 NEEDED = "import sys, setuptools, wheel, ensurepip, sysconfig, os; \
 sys.exit(sys.version_info < (3, 11) or not os.path.isfile(sysconfig.get_path('include') + '/Python.h'))"
 PACKAGE_CONFIG = "Name: byte_unit\nDescription: -\nVersion: 0\nincludedir={0}\nlibdir={0}\n"
@@ -116,7 +102,6 @@ def install(python, folder, work):
 def types(package, work):
     """Checks the types of the package and the example."""
     if not shutil.which("mypy"):
-        print("skipped: mypy is not installed")
         return
     here = environment(MYPYPATH=os.path.join(package, "src"))
     for name, words in (("the package", ["-p", "byte_unit"]), ("the example", [EXAMPLE])):
@@ -127,9 +112,6 @@ def types(package, work):
 def run(folder, options):
     """Builds and tests the package with the library in the folder. With `options.speed`, prints times per call."""
     python = interpreter()
-    if not python:
-        print(f"skipped: Python: needs 3.11 or later, with the packages {', '.join(APT_PACKAGES)}")
-        return
     with tempfile.TemporaryDirectory() as work:
         inner = install(python, os.path.abspath(folder), work)
         tests = os.path.join(INTERFACE, "python/tests")
@@ -150,7 +132,10 @@ def main():
     options.add_argument("folder")
     options.add_argument("--speed", action="store_true")
     given = options.parse_args()
-    run(given.folder, given)
+    from needs import tell_missing  # which imports this module
+
+    if "python" not in tell_missing("python"):
+        run(given.folder, given)
 
 
 if __name__ == "__main__":
