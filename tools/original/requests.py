@@ -1,0 +1,105 @@
+"""The requests of tools/compare-original: random texts, units and sizes, many of them near a limit or a rounding."""
+
+import os
+import sys
+
+sys.path[:0] = [os.path.dirname(os.path.dirname(os.path.realpath(__file__)))]
+from exact_model import LETTERS, unit_bits  # noqa: E402
+from generated_lines import some_line  # noqa: E402
+
+# The units by their codes: b and B, and for each letter that of bits and of bytes, decimal and binary.
+UNITS = ["b", "B"] + [letter + form for letter in LETTERS for form in ("b", "ib", "B", "iB")]
+BITS = dict(zip(UNITS, [1, 8] + [unit_bits(power, binary, bit) for power in range(1, len(LETTERS) + 1)
+                                 for bit in (True, False) for binary in (False, True)]))  # fmt: skip
+LIMITS = [2**96, 2**112, 10**27, 10**28, 10**30, 2**64, 8 * 10**27, 2**93]
+PRECISIONS = [0, 1, 2, 3, 3, 3, 4, 6, 9, 12, 15, 16, 20, 25, 26, 27, 28, 29, 300]
+
+
+def text_near_a_limit(rng):
+    """Returns a number whose digits or whose size are near a limit, in some unit."""
+    unit = rng.choice(UNITS)
+    size = rng.choice(LIMITS) + rng.choice([-1, 0, 1, rng.randrange(-10**6, 10**6)])
+    scale = rng.randrange(29)
+    whole, fraction = divmod(size * 10**scale // rng.choice([1, BITS[unit], max(BITS[unit] // 8, 1)]), 10**scale)
+    fraction = max(fraction + rng.choice([-1, 0, 0, 1]), 0)
+    digits = str(fraction).zfill(scale)[:28]
+    zeros = "0" * rng.choice([0, 0, 0, 1, 5])
+    return f"{whole}{'.' + digits if digits else ''}{zeros if digits else ''}{rng.choice(['', ' '])}{unit}"
+
+
+def text_with_long_digits(rng):
+    """Returns a number of up to 58 digits, whose size is often in range."""
+    unit = rng.choice(UNITS)
+    room = max(31 - len(str(BITS[unit])), 1)
+    whole = rng.randrange(10 ** rng.randrange(1, room + 1))
+    places = rng.randrange(1, 29)
+    fraction = rng.choice([rng.randrange(10**places), 10**places - 1, 1, 5 * 10 ** (places - 1)])
+    return f"{whole}.{fraction:0{places}}{unit}"
+
+
+def text_with_odd_character(rng):
+    """Returns a text with a character of any plane."""
+    code = rng.randrange(rng.choice([0x80, 0x800, 0x3000, 0xD800, 0x20000, 0x110000]))
+    while 0xD800 <= code < 0xE000:
+        code = rng.randrange(0x110000)
+    text = rng.choice(["", "1", "1.5", "1 K", "1 Ki", "1KB", "12 bi", "7 bits", "1.", "K"])
+    return text + chr(code) + rng.choice(["", "", "x", "1", " "])
+
+
+def some_text(rng):
+    choice = rng.random()
+    if choice < 0.2:
+        return text_near_a_limit(rng)
+    if choice < 0.4:
+        return text_with_long_digits(rng)
+    if choice < 0.5:
+        return text_with_odd_character(rng)
+    while True:
+        try:
+            return some_line(rng).decode()
+        except UnicodeDecodeError:
+            pass
+
+
+def some_unit_text(rng):
+    """Returns a spelling of a unit, or a text like one."""
+    if rng.random() < 0.1:
+        return text_with_odd_character(rng)
+    text = "".join(rng.choices("KMGTPEZYRkmgtpezyriIbBitsTS xé", k=rng.randrange(6)))
+    if rng.random() < 0.7:
+        text = rng.choice(["", *LETTERS, *LETTERS.lower()]) + rng.choice(["", "i", "I"])
+        text += rng.choice(["", "B", "b", "bit", "bits", "Bits", "BIT", "bi", "bt", "bitsx", "s"])
+    return rng.choice(["", "", "", " ", "\u3000"]) + text + rng.choice(["", "", "", " ", "\t"])
+
+
+def some_size(rng):
+    """Returns a size below 10^30: any, in few digits of a unit, or near one."""
+    choice, unit = rng.random(), rng.choice(list(BITS.values()))
+    if choice < 0.4:
+        size = rng.randrange(10 ** rng.choice([*range(1, 28), *range(1, 28), 30]))
+    elif choice < 0.8:
+        size = rng.randrange(10 ** rng.randrange(1, 12)) * unit // (8 * 10 ** rng.randrange(6))
+    else:
+        size = rng.choice([*LIMITS, unit // 8, unit]) * rng.randrange(1, 20) + rng.randrange(-2, 3)
+    return size % rng.choice([*[10**27] * 9, 10**30])
+
+
+def spec(rng):
+    """Returns a format: alternate, sign, align, width and precision."""
+    width = rng.choice([0, 0, rng.randrange(1, 45)])
+    precision = rng.choice(["-", rng.choice(PRECISIONS)])
+    return f"{rng.randrange(2)} {rng.choice([0, 0, 1, 2])} {rng.randrange(4)} {width} {precision}"
+
+
+def requests(rng, count, units=len(UNITS)):
+    """Yields requests, in the form that compare.rs describes: half of them texts. A unit's code is below `units`."""
+    for _ in range(count):
+        choice = rng.random()
+        if choice < 0.5:
+            yield f"t {some_text(rng).encode().hex()}"
+        elif choice < 0.6:
+            yield f"u {some_unit_text(rng).encode().hex()}"
+        elif choice < 0.9:
+            yield f"n {some_size(rng)} {rng.choice(PRECISIONS)} {rng.randrange(units)} {spec(rng)}"
+        else:
+            yield f"f {some_size(rng) // rng.choice([1, 10**6, 10**12, 10**24])} {rng.randrange(units)}"
