@@ -66,33 +66,33 @@ Aborts-whole options bytes no_delimiter mode chosen none = record {
 -- the text of one record, and its end byte
 module _ (options : Options) (bytes : List ℕ) (old new : State) where
   AddsRecords-one : (own : List ℕ) (found : List Found) → IsRecord options old.header bytes own found → Passes options found
-      → new.header ≡ old.header - 1 → new.out ≡ old.out ++ own ++ options.record_end ∷ [] → new.tally ≡ tally_after options old.tally found
+      → new.header ≡ old.header - 1 → new.out ≡ old.out ++ own ++ options.output_end ∷ [] → new.tally ≡ tally_after options old.tally found
       → AddsRecords options (bytes ∷ []) old new
   AddsRecords-one own found is_record passes header_is out_is tally_is = record {
-    text = own ++ options.record_end ∷ [];
+    text = own ++ options.output_end ∷ [];
     found = found;
-    are_records = (own, [], found, [], is_record, (refl, refl), sym (append-nil (own ++ options.record_end ∷ [])), sym (append-nil found));
+    are_records = (own, [], found, [], is_record, (refl, refl), sym (append-nil (own ++ options.output_end ∷ [])), sym (append-nil found));
     passes = passes;
     header_is = header_is;
-    out_is = out_is ∙ append_assoc old.out own (options.record_end ∷ []);
+    out_is = out_is ∙ append_assoc old.out own (options.output_end ∷ []);
     tally_is = tally_is;
   }
 
   -- a header record is copied
   pub AddsRecords-header : (text : List ℕ) (left : ℕ) → old.header ≡ suc left → new.header ≡ left → text ≡ old.out ++ bytes
-      → new.out ≡ text ++ options.record_end ∷ [] → new.tally ≡ old.tally → AddsRecords options (bytes ∷ []) old new
+      → new.out ≡ text ++ options.output_end ∷ [] → new.tally ≡ old.tally → AddsRecords options (bytes ∷ []) old new
   AddsRecords-header text left some left_is copied out_is tally_is =
       AddsRecords-one bytes [] (subst (λ header. IsRecord options header bytes bytes []) (sym some) (refl, refl)) (λ mode. refl)
-      (omega (arith, some, left_is)) (out_is ∙ ap (λ text. text ++ options.record_end ∷ []) copied) tally_is
+      (omega (arith, some, left_is)) (out_is ∙ ap (λ text. text ++ options.output_end ∷ []) copied) tally_is
 
   -- of any other record the fields are replaced
   pub AddsRecords-fields : (text : List ℕ) → old.header ≡ 0 → new.header ≡ old.header → AddsFields options bytes old.tally old.out new.tally text
-      → new.out ≡ text ++ options.record_end ∷ [] → AddsRecords options (bytes ∷ []) old new
+      → new.out ≡ text ++ options.output_end ∷ [] → AddsRecords options (bytes ∷ []) old new
   AddsRecords-fields text none same adds out_is =
       AddsRecords-one adds.text adds.found
       (subst (λ header. IsRecord options header bytes adds.text adds.found) (sym none) adds.are_fields) adds.passes
       (omega (arith, none, same))
-      (out_is ∙ ap (λ text. text ++ options.record_end ∷ []) adds.text_is)
+      (out_is ∙ ap (λ text. text ++ options.output_end ∷ []) adds.text_is)
       adds.tally_is
 
 -- two lists of records, one after the other
@@ -115,7 +115,7 @@ AreRecords-append options header (bytes ∷ before) records front back front_fou
       rest_found ++ back_found,
       is_record,
       AreRecords-append options (header - 1) before records rest back rest_found back_found are_records at,
-      ap (λ text. text ++ back) front_is ∙ append_assoc (own ++ options.record_end ∷ []) rest back,
+      ap (λ text. text ++ back) front_is ∙ append_assoc (own ++ options.output_end ∷ []) rest back,
       ap (λ found. found ++ back_found) found_is ∙ append_assoc own_found rest_found back_found,
     )
 

@@ -51,7 +51,7 @@ module _ (options : Options) (records : List (List ℕ)) (new : State) (adds : A
   total_line-from_start line at =
       let For : Type 0 = IsTotalFor options new.tally.total line in
       let sum = sum_of adds.found in
-      let Line : Type 0 = (shown : List ℕ) × (sum < size_limit) × IsShown options sum shown × (line ≡ shown ++ options.record_end ∷ []) in
+      let Line : Type 0 = (shown : List ℕ) × (sum < size_limit) × IsShown options sum shown × (line ≡ shown ++ options.output_end ∷ []) in
       elim options.total as (λ asked. MatchBool asked For (line ≡ []) → MatchBool asked Line (line ≡ [])) [
         | true ↦ λ (shown, small, is_shown, is).
             let same = sum-from_start small in

@@ -31,7 +31,7 @@ abbrev pub IsTotalLine : Options → List Found → List ℕ → Type 0
 IsTotalLine options found line =
     MatchBool options.total
     ((shown : List ℕ) × (sum_of found < size_limit) × IsShown options (sum_of found) shown
-    × (line ≡ shown ++ options.record_end ∷ []))
+    × (line ≡ shown ++ options.output_end ∷ []))
     (line ≡ [])
 
 -- the whole output for these records, and what was found in them

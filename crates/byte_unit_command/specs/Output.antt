@@ -21,13 +21,13 @@ IsRecord options zero bytes text found = AreFields options 1 (fields_of options.
 IsRecord options (suc _) bytes text found = (text ≡ bytes) × (found ≡ [])
 
 -- what is written for these records, if the first ones, as many as `header`, are header records: one text for each,
--- with the end byte after it
+-- with the end byte of the output after it
 abbrev pub AreRecords : Options → ℕ → List (List ℕ) → List ℕ → List Found → Type 0
 AreRecords options header [] text found = (text ≡ []) × (found ≡ [])
 AreRecords options header (bytes ∷ others) text found =
     (own rest : List ℕ) × (own_found rest_found : List Found) × IsRecord options header bytes own own_found
     × AreRecords options (header - 1) others rest rest_found
-    × (text ≡ own ++ options.record_end ∷ [] ++ rest) × (found ≡ own_found ++ rest_found)
+    × (text ≡ own ++ options.output_end ∷ [] ++ rest) × (found ≡ own_found ++ rest_found)
 
 -- one of these fields, the first of which has this number, is to be converted and is not a size
 abbrev pub HasRejectedField : Options → ℕ → List (List ℕ) → Type 0

@@ -124,7 +124,7 @@ IsAnswered options records old new (Err stop) written = Stops options records ol
 -- the line of the total, if it is asked for and is a size
 abbrev pub IsTotalFor : Options → ℕ → List ℕ → Type 0
 IsTotalFor options total line =
-    (shown : List ℕ) × (total < size_limit) × IsShown options total shown × (line ≡ shown ++ options.record_end ∷ [])
+    (shown : List ℕ) × (total < size_limit) × IsShown options total shown × (line ≡ shown ++ options.output_end ∷ [])
 
 -- what a call has written that writes these bytes and then the total
 abbrev pub IsTotalWritten : Options → ℕ → List ℕ → Result ⊤ Stop → List ℕ → Type 0

@@ -183,6 +183,7 @@ pub fn options_of<'a, 'b>(
         delimiter: delimiter_of(matches)?,
         fields,
         record_end,
+        output_end: record_end,
         header: matches.get_one::<u64>("header").unwrap_or(0),
         invalid: invalid_of(matches)?,
         total: matches.get_flag("total"),

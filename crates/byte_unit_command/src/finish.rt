@@ -111,7 +111,7 @@ fn write_with_total<A: Allocator, W: Write>(
         return Err(Stop::Total);
     }
     add_size(options, total, digits, waiting)?;
-    waiting.extend_from_slice(&[options.record_end])?;
+    waiting.extend_from_slice(&[options.output_end])?;
     write_whole(writer, waiting)
 }
 

@@ -56,8 +56,10 @@ pub struct Options<'a> {
     pub delimiter: Option<u8>,
     /// The fields that are converted.
     pub fields: &'a [FieldRange],
-    /// The byte that ends a record.
+    /// The byte that ends a record of the input.
     pub record_end: u8,
+    /// The byte that ends a record of the output, and the total.
+    pub output_end: u8,
     /// The number of records at the beginning that are copied.
     pub header: u64,
     /// What happens at a field that is not a size.

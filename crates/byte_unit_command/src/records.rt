@@ -179,6 +179,6 @@ fn append_record<A: Allocator>(
             notices,
         )?;
     }
-    text.extend_from_slice(&[options.record_end])?;
+    text.extend_from_slice(&[options.output_end])?;
     Ok(())
 }

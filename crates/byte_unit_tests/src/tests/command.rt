@@ -26,6 +26,7 @@ pub const PLAIN: Options<'static> = Options {
     delimiter: None,
     fields: FIRST,
     record_end: b'\n',
+    output_end: b'\n',
     header: 0,
     invalid: Invalid::Abort,
     total: false,

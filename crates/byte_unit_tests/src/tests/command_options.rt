@@ -96,11 +96,29 @@ const ROWS: &[Row] = &[
         "zero bytes",
         Options {
             record_end: 0,
+            output_end: 0,
             ..PLAIN
         },
         b"1024\01 KB\n\0",
         sum!(2024),
         b"1 KiB\01 KB\0",
+        b"",
+    ),
+    (
+        "zero bytes between the records of the input, line ends between those of the output",
+        Options {
+            record_end: 0,
+            invalid: Invalid::Ignore,
+            total: true,
+            ..PLAIN
+        },
+        b"1024\01\n2\0",
+        Ok(Tally {
+            total: 1024,
+            beyond: false,
+            rejected: true,
+        }),
+        b"1 KiB\n1\n2\n1 KiB\n",
         b"",
     ),
     (

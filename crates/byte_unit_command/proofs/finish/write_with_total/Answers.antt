@@ -18,7 +18,7 @@ pub returns-clause-written : goal.returns-clause-written
 returns-clause-written g c =
     let options = c.args.options.now in
     let waiting = c.args.waiting.now.items in
-    let mark = options.record_end ∷ [] in
+    let mark = options.output_end ∷ [] in
     let held = g.W.Write.contents (writer_of c.args.writer.now) in
     let holds = g.W.Write.contents (writer_of c.write_whole-2.new.writer) in
     let bytes = c.deref-2.result.now in

@@ -14,7 +14,7 @@ returns-clause-ok g c =
     let text = c.if-progress-gt0.text.items in
     let old : State = state_of c.args.progress.now before in
     let new : State = state_of c.if-progress-gt0.progress c.extend_from_slice-2.new.self.items in
-    let out : new.out ≡ text ++ options.record_end ∷ [] = c.in_ok-extend_from_slice-2.ensures.items in
+    let out : new.out ≡ text ++ options.output_end ∷ [] = c.in_ok-extend_from_slice-2.ensures.items in
     elim c.if-progress-gt0.branch [
       | then-progress-gt0+in_ok-extend_from_slice w ↦
           let header = c.args.progress.now.header in
