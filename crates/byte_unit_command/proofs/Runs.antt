@@ -1,11 +1,12 @@
 -- Lemmas: the loop of a run, read by read.
 use Rattle.std.proofs.Common.{◌≡◌, ℕ, ◌<◌, ◌≤◌, min, List, [], ◌∷◌, ◌++◌, true, false, Option, Result, Ok, Err}
-use Rattle.std.proofs.Common.{refl, sym, ap, subst, ◌∙◌, append_assoc, append-nil, arith, inl, inr, MatchBool}
+use Rattle.std.proofs.Common.{refl, sym, ap, subst, ◌∙◌, append_assoc, append-nil, arith, inl, inr, MatchBool, ◌⊎◌}
 use Rattle.std.specs.Prelude.{IsErrAnd}
 use Rattle.std.specs.Io.KnownBytes.{Appends, Consumes}
 use Rattle.std.proofs.KnownBytes.{Appends-trans, Consumes-trans}
 use Rattle.byte_unit.specs.Bounds.{size_limit}
-use Rattle.byte_unit_command.specs.Outcome.{IsPrefix, AreConverted, IsTotalLine, IsOutput, IsBegun, IsTooLarge, IsWritten}
+use Rattle.byte_unit_command.specs.Outcome.{IsPrefix, AreConverted, IsTotalLine, IsOutput, IsBegun, IsBegunOutput}
+use Rattle.byte_unit_command.specs.Outcome.{IsTooLarge, IsWritten}
 use Rattle.byte_unit_command.specs.Output.{AreRecords}
 use Rattle.byte_unit_command.specs.Progress.{ended_records, begun_record, nonempty_record, AddsRecords, State, IsAnswered}
 use Rattle.byte_unit_command.specs.Progress.{IsFinished, IsTotalFor, start_of, state_of, no_tally}
@@ -118,8 +119,9 @@ module _ (options : Options) (read written part : List ℕ) (progress : Progress
   }
 
   -- between two reads, all finished records are converted
-  pub IsWritten-read : IsWritten options (finished_records options.record_end read) (records_of options.record_end read) (Err Read) written
-  IsWritten-read =
+  pub IsWritten-read : (complete : Type 0)
+      → IsWritten options (finished_records options.record_end read) (records_of options.record_end read) complete (Err Read) written
+  IsWritten-read complete =
       let at = converted-from_start options (ended_records options.record_end [] read) (state_of progress written) served.added in
       (served.added.found, subst (λ records. AreConverted options records written served.added.found) (sym (finished_records-ended_records options.record_end read)) at)
 
@@ -132,57 +134,54 @@ module _ (options : Options) (read written part : List ℕ) (progress : Progress
         subst (λ records. IsPrefix (ended_records options.record_end [] read ++ first) records) (ended-piece piece)
         (IsPrefix-after (ended_records options.record_end [] read) first (ended_records options.record_end part piece) is_prefix)
 
-    pub IsWritten-piece : (error : Stop)
+    finished-piece : ended_records options.record_end [] (read ++ piece) ≡ finished_records options.record_end (read ++ piece)
+    finished-piece = sym (finished_records-ended_records options.record_end (read ++ piece))
+
+    pub IsWritten-piece : (complete : Type 0) (error : Stop)
         → IsAnswered options (ended_records options.record_end part piece) (state_of progress []) next (Err error) more
         → IsWritten options (finished_records options.record_end (read ++ piece)) (records_of options.record_end (read ++ piece))
-        (Err error) (written ++ more)
-    IsWritten-piece Memory (first, new, is_prefix, adds, out_is) =
+        complete (Err error) (written ++ more)
+    IsWritten-piece complete Memory (first, new, is_prefix, adds, out_is) =
         let whole = AddsRecords-then first new adds in
-        let at = converted-from_start options (ended_records options.record_end [] read ++ first) (record new { out = written ++ new.out }) whole in
+        let front = ended_records options.record_end [] read ++ first in
+        let at = converted-from_start options front (record new { out = written ++ new.out }) whole in
         record {
-          first = ended_records options.record_end [] read ++ first;
+          first = front;
           found = whole.found;
-          is_prefix = subst (λ records. IsPrefix (ended_records options.record_end [] read ++ first) records)
-              (sym (finished_records-ended_records options.record_end (read ++ piece))) (prefix-piece first is_prefix);
-          converted = subst (λ out. AreConverted options (ended_records options.record_end [] read ++ first) (written ++ out) whole.found) out_is at;
+          is_prefix = subst (λ records. IsPrefix front records) finished-piece (prefix-piece first is_prefix);
+          converted = subst (λ out. AreConverted options front (written ++ out) whole.found) out_is at;
         }
-    IsWritten-piece Write (first, new, is_prefix, adds, begins) =
+    IsWritten-piece complete Write (first, new, is_prefix, adds, begins) =
         let whole = AddsRecords-then first new adds in
-        let last = nonempty_record (begun_record options.record_end [] (read ++ piece)) in
         let front = ended_records options.record_end [] read ++ first in
         let text = written ++ new.out in
-        let begun = IsPrefix-after written more new.out begins in record {
+        inl (record {
           first = front;
           found = whole.found;
           text = text;
-          line = [];
-          is_prefix = subst (λ records. IsPrefix front records) (sym (records_of-ended_records options.record_end (read ++ piece)))
-              (IsPrefix-longer front (ended_records options.record_end [] (read ++ piece)) last (prefix-piece first is_prefix));
+          is_prefix = subst (λ records. IsPrefix front records) finished-piece (prefix-piece first is_prefix);
           converted = converted-from_start options front (record new { out = text }) whole;
-          total_line = inl refl;
-          begins = subst (λ bytes. IsPrefix (written ++ more) bytes) (sym (append-nil text)) begun;
-        }
-    IsWritten-piece Rejected (before, after, bytes, new, are, adds, out_is, header_is, aborts) =
+          begins = IsPrefix-after written more new.out begins;
+        })
+    IsWritten-piece complete Rejected (before, after, bytes, new, are, adds, out_is, header_is, aborts) =
         let whole = AddsRecords-then before new adds in
-        let last = nonempty_record (begun_record options.record_end [] (read ++ piece)) in
         let front = ended_records options.record_end [] read ++ before in
-        let at = converted-from_start options front (record new { out = written ++ new.out }) whole in record {
+        let at = converted-from_start options front (record new { out = written ++ new.out }) whole in
+        inl (record {
           before = front;
           bytes = bytes;
-          after = after ++ last;
+          after = after;
           found = whole.found;
           mode = aborts.mode;
           records_are =
-              records_of-ended_records options.record_end (read ++ piece)
-              ∙ ap (λ records. records ++ last) (sym (ended-piece piece) ∙ ap (λ records. ended_records options.record_end [] read ++ records) are
-              ∙ sym (append_assoc (ended_records options.record_end [] read) before (bytes ∷ after)))
-              ∙ append_assoc front (bytes ∷ after) last;
+              sym finished-piece ∙ sym (ended-piece piece) ∙ ap (λ records. ended_records options.record_end [] read ++ records) are
+              ∙ sym (append_assoc (ended_records options.record_end [] read) before (bytes ∷ after));
           no_header = sym whole.header_is ∙ header_is;
           has_rejected = aborts.has_rejected;
           converted = subst (λ out. AreConverted options front (written ++ out) whole.found) out_is at;
-        }
-    IsWritten-piece Read at = absurd at
-    IsWritten-piece Total at = absurd at
+        })
+    IsWritten-piece complete Read at = absurd at
+    IsWritten-piece complete Total at = absurd at
 
   -- the end of the input
   module _ (more : List ℕ) where
@@ -191,85 +190,107 @@ module _ (options : Options) (read written part : List ℕ) (progress : Progress
         ap (λ part. ended_records options.record_end [] read ++ nonempty_record part) served.begun
         ∙ sym (records_of-ended_records options.record_end read)
 
-    pub IsWritten-finished : (result : Result Tally Stop) → IsFinished options part (state_of progress []) result more
-        → IsWritten options (finished_records options.record_end read) (records_of options.record_end read) result (written ++ more)
-    IsWritten-finished (Ok tally) (new, line, adds, tally_is, total_line, written_is) =
-        let whole = AddsRecords-then (nonempty_record part) new adds in
-        let records = ended_records options.record_end [] read ++ nonempty_record part in
-        let last = record new { out = written ++ new.out } in
-        let output : IsOutput options records (written ++ more) whole.found = record {
-          text = written ++ new.out;
-          line = line;
-          converted = converted-from_start options records last whole;
-          total_line = total_line-from_start options records last whole line total_line;
-          written_is = ap (λ more. written ++ more) written_is ∙ sym (append_assoc written new.out line);
-        } in (
-          whole.found,
-          subst (λ records. IsOutput options records (written ++ more) whole.found) records-last output,
-          tally_is ∙ tally-from_start options records last whole,
-        )
-    IsWritten-finished (Err Memory) none =
-        let at = IsWritten-read in record {
-          first = finished_records options.record_end read;
-          found = at.0;
-          is_prefix = IsPrefix-self (finished_records options.record_end read);
-          converted = subst (λ out. AreConverted options (finished_records options.record_end read) out at.0)
-              (sym (append-nil written) ∙ ap (λ more. written ++ more) (sym none)) at.1;
-        }
-    IsWritten-finished (Err Rejected) (none, header_is, aborts, last_is) =
-        let front = ended_records options.record_end [] read in
-        let at = converted-from_start options front (state_of progress written) served.added in record {
-          before = front;
-          bytes = part;
-          after = [];
-          found = served.added.found;
-          mode = aborts.mode;
-          records_are = sym records-last ∙ ap (λ last. front ++ last) last_is;
-          no_header = sym served.added.header_is ∙ header_is;
-          has_rejected = aborts.has_rejected;
-          converted = subst (λ out. AreConverted options front out served.added.found)
-              (sym (append-nil written) ∙ ap (λ more. written ++ more) (sym none)) at;
-        }
-    IsWritten-finished (Err Total) (new, adds, asked, large, written_is) =
-        let whole = AddsRecords-then (nonempty_record part) new adds in
-        let records = ended_records options.record_end [] read ++ nonempty_record part in
-        let last = record new { out = written ++ new.out } in
-        let at : IsTooLarge options records (written ++ more) = record {
-          found = whole.found;
-          asked = asked;
-          large = large-from_start options records last whole large;
-          converted = subst (λ out. AreConverted options records (written ++ out) whole.found) (sym written_is)
-              (converted-from_start options records last whole);
-        } in
-        subst (λ records. IsTooLarge options records (written ++ more)) records-last at
-    IsWritten-finished (Err Write) (new, line, adds, total_line, begins) =
-        let whole = AddsRecords-then (nonempty_record part) new adds in
-        let records = ended_records options.record_end [] read ++ nonempty_record part in
-        let last = record new { out = written ++ new.out } in
-        let begun = IsPrefix-after written more (new.out ++ line) begins in
-        let at : IsBegun options records (written ++ more) = record {
-          first = records;
-          found = whole.found;
-          text = written ++ new.out;
-          line = line;
-          is_prefix = IsPrefix-self records;
-          converted = converted-from_start options records last whole;
-          total_line = elim total_line [
-            | inl none ↦ inl none
-            | inr asked ↦ inr (total_line-from_start options records last whole line asked, refl)
-          ];
-          begins = subst (λ bytes. IsPrefix (written ++ more) bytes) (sym (append_assoc written new.out line)) begun;
-        } in
-        subst (λ records. IsBegun options records (written ++ more)) records-last at
-    IsWritten-finished (Err Read) at = absurd at
+    module _ (complete : Type 0) (at_end : complete) where
+      pub IsWritten-finished : (result : Result Tally Stop) → IsFinished options part (state_of progress []) result more
+          → IsWritten options (finished_records options.record_end read) (records_of options.record_end read) complete result
+          (written ++ more)
+      IsWritten-finished (Ok tally) (new, line, adds, tally_is, total_line, written_is) =
+          let whole = AddsRecords-then (nonempty_record part) new adds in
+          let records = ended_records options.record_end [] read ++ nonempty_record part in
+          let last = record new { out = written ++ new.out } in
+          let output : IsOutput options records (written ++ more) whole.found = record {
+            text = written ++ new.out;
+            line = line;
+            converted = converted-from_start options records last whole;
+            total_line = total_line-from_start options records last whole line total_line;
+            written_is = ap (λ more. written ++ more) written_is ∙ sym (append_assoc written new.out line);
+          } in (
+            at_end,
+            whole.found,
+            subst (λ records. IsOutput options records (written ++ more) whole.found) records-last output,
+            tally_is ∙ tally-from_start options records last whole,
+          )
+      IsWritten-finished (Err Memory) none =
+          let at = IsWritten-read complete in record {
+            first = finished_records options.record_end read;
+            found = at.0;
+            is_prefix = IsPrefix-self (finished_records options.record_end read);
+            converted = subst (λ out. AreConverted options (finished_records options.record_end read) out at.0)
+                (sym (append-nil written) ∙ ap (λ more. written ++ more) (sym none)) at.1;
+          }
+      IsWritten-finished (Err Rejected) (none, header_is, aborts, last_is) =
+          let front = ended_records options.record_end [] read in
+          let at = converted-from_start options front (state_of progress written) served.added in
+          inr (
+            at_end,
+            record {
+              before = front;
+              bytes = part;
+              after = [];
+              found = served.added.found;
+              mode = aborts.mode;
+              records_are = sym records-last ∙ ap (λ last. front ++ last) last_is;
+              no_header = sym served.added.header_is ∙ header_is;
+              has_rejected = aborts.has_rejected;
+              converted = subst (λ out. AreConverted options front out served.added.found)
+                  (sym (append-nil written) ∙ ap (λ more. written ++ more) (sym none)) at;
+            },
+          )
+      IsWritten-finished (Err Total) (new, adds, asked, large, written_is) =
+          let whole = AddsRecords-then (nonempty_record part) new adds in
+          let records = ended_records options.record_end [] read ++ nonempty_record part in
+          let last = record new { out = written ++ new.out } in
+          let at : IsTooLarge options records (written ++ more) = record {
+            found = whole.found;
+            asked = asked;
+            large = large-from_start options records last whole large;
+            converted = subst (λ out. AreConverted options records (written ++ out) whole.found) (sym written_is)
+                (converted-from_start options records last whole);
+          } in
+          (at_end, subst (λ records. IsTooLarge options records (written ++ more)) records-last at)
+      IsWritten-finished (Err Write) (new, line, adds, total_line, begins) =
+          let whole = AddsRecords-then (nonempty_record part) new adds in
+          let records = ended_records options.record_end [] read ++ nonempty_record part in
+          let text = written ++ new.out in
+          let last = record new { out = text } in
+          let converted = converted-from_start options records last whole in
+          let begun = IsPrefix-after written more (new.out ++ line) begins in
+          let begins_with : IsPrefix (written ++ more) (text ++ line) =
+          subst (λ bytes. IsPrefix (written ++ more) bytes) (sym (append_assoc written new.out line)) begun in
+          let Begun : Type 0 = IsBegun options records (written ++ more) in
+          let Output : Type 0 = IsBegunOutput options records (written ++ more) in
+          let either : Begun ⊎ Output = elim total_line [
+            | inl none ↦ inl (record {
+              first = records;
+              found = whole.found;
+              text = text;
+              is_prefix = IsPrefix-self records;
+              converted = converted;
+              begins = subst (λ bytes. IsPrefix (written ++ more) bytes) (ap (λ line. text ++ line) none ∙ append-nil text) begins_with;
+            })
+            | inr asked ↦ inr (record {
+              output = text ++ line;
+              found = whole.found;
+              is_output = record {
+                text = text;
+                line = line;
+                converted = converted;
+                total_line = total_line-from_start options records last whole line asked;
+                written_is = refl;
+              };
+              begins = begins_with;
+            })
+          ] in
+          inr (at_end, subst (λ records. IsBegun options records (written ++ more) ⊎ IsBegunOutput options records (written ++ more)) records-last either)
+      IsWritten-finished (Err Read) at = absurd at
 
 -- what is written at an error is written for a result that is this error
-pub IsWritten-error : (options : Options) (finished records : List (List ℕ)) (written : List ℕ) (result : Result Tally Stop) (error : Stop)
-    → IsErrAnd result (λ other. other ≡ error) → IsWritten options finished records (Err error) written
-    → IsWritten options finished records result written
-IsWritten-error options finished records written (Ok _) error is at = absurd is
-IsWritten-error options finished records written (Err _) error is at =
-    subst (λ other. IsWritten options finished records (Err other) written) (sym is) at
+pub IsWritten-error : (options : Options) (finished records : List (List ℕ)) (complete : Type 0) (written : List ℕ)
+    (result : Result Tally Stop) (error : Stop) → IsErrAnd result (λ other. other ≡ error)
+    → IsWritten options finished records complete (Err error) written → IsWritten options finished records complete result written
+IsWritten-error options finished records complete written (Ok _) error is at = absurd is
+IsWritten-error options finished records complete written (Err _) error is at =
+    subst (λ other. IsWritten options finished records complete (Err other) written) (sym is) at
 
 module _ {options : Options} {left between held holds : Option (List ℕ)} {part waiting : List ℕ} {progress : Progress}
     (so_far : HasServed options left between held holds part waiting progress) where

@@ -49,16 +49,21 @@ pub record AreFirst (options : Options) (records : List (List ℕ)) (written : L
   pub is_prefix : IsPrefix first records
   pub converted : AreConverted options first written found
 
--- a prefix of the texts of the first of these records, or of the whole output for them
+-- a prefix of the texts of the first of these records, for some number of them
 pub record IsBegun (options : Options) (records : List (List ℕ)) (written : List ℕ) : Type 0 where
   pub first : List (List ℕ)
   pub found : List Found
   pub text : List ℕ
-  pub line : List ℕ
   pub is_prefix : IsPrefix first records
   pub converted : AreConverted options first text found
-  pub total_line : (line ≡ []) ⊎ IsTotalLine options found line × (first ≡ records)
-  pub begins : IsPrefix written (text ++ line)
+  pub begins : IsPrefix written text
+
+-- a prefix of the whole output for these records
+pub record IsBegunOutput (options : Options) (records : List (List ℕ)) (written : List ℕ) : Type 0 where
+  pub output : List ℕ
+  pub found : List Found
+  pub is_output : IsOutput options records output found
+  pub begins : IsPrefix written output
 
 -- in the mode `abort`, the texts of the records before the first one that has a rejected field
 pub record IsAborted (options : Options) (records : List (List ℕ)) (written : List ℕ) : Type 0 where
@@ -83,13 +88,16 @@ pub record IsTooLarge (options : Options) (records : List (List ℕ)) (written :
 -- all finished records if a read failed; those of some first ones of them if it was out of memory; a prefix of the
 -- output if a write failed; the texts of the records before the first one with a rejected field; or those of all
 -- records, if their total is too large. `finished` are the records that were read with their end bytes, `records` also
--- the last one without
-abbrev pub IsWritten : Options → List (List ℕ) → List (List ℕ) → Result Tally Stop → List ℕ → Type 0
-IsWritten options finished records (Ok tally) written =
-    (found : List Found) × IsOutput options records written found × (tally ≡ tally_of options found)
-IsWritten options finished records (Err Read) written =
+-- the last one without. That one is a record, and there is a total, only if `complete`: the input was read to its end
+abbrev pub IsWritten : Options → List (List ℕ) → List (List ℕ) → Type 0 → Result Tally Stop → List ℕ → Type 0
+IsWritten options finished records complete (Ok tally) written =
+    complete × (found : List Found) × IsOutput options records written found × (tally ≡ tally_of options found)
+IsWritten options finished records complete (Err Read) written =
     (found : List Found) × AreConverted options finished written found
-IsWritten options finished records (Err Memory) written = AreFirst options finished written
-IsWritten options finished records (Err Write) written = IsBegun options records written
-IsWritten options finished records (Err Rejected) written = IsAborted options records written
-IsWritten options finished records (Err Total) written = IsTooLarge options records written
+IsWritten options finished records complete (Err Memory) written = AreFirst options finished written
+IsWritten options finished records complete (Err Write) written =
+    IsBegun options finished written
+    ⊎ complete × (IsBegun options records written ⊎ IsBegunOutput options records written)
+IsWritten options finished records complete (Err Rejected) written =
+    IsAborted options finished written ⊎ complete × IsAborted options records written
+IsWritten options finished records complete (Err Total) written = complete × IsTooLarge options records written

@@ -57,9 +57,7 @@ pub fn run<R: Read, W: Write, E: Write>(
         × HasRead R.remaining reader.old reader.new read
         × HasWritten W.contents writer.old writer.new written
         × IsWritten options.now (finished_records options.now.record_end read)
-        (records_of options.now.record_end read) result written }
-    ensures end { OnOk result (HasReadAll R.remaining reader.new) }
-    ensures total { IsErrOf result Stop.Total → HasReadAll R.remaining reader.new }
+        (records_of options.now.record_end read) (HasReadAll R.remaining reader.new) result written }
     ensures read_failed { IsErrOf result Stop.Read → IsTrue (reading_failed reader.new) }
     ensures write_failed { IsErrOf result Stop.Write → IsTrue (writing_failed writer.new) }
 {
@@ -96,9 +94,7 @@ pub fn run_in<A: Allocator, R: Read, W: Write, E: Write>(
         × HasRead R.remaining reader.old reader.new read
         × HasWritten W.contents writer.old writer.new written
         × IsWritten options.now (finished_records options.now.record_end read)
-        (records_of options.now.record_end read) result written }
-    ensures end { OnOk result (HasReadAll R.remaining reader.new) }
-    ensures total { IsErrOf result Stop.Total → HasReadAll R.remaining reader.new }
+        (records_of options.now.record_end read) (HasReadAll R.remaining reader.new) result written }
     ensures read_failed { IsErrOf result Stop.Read → IsTrue (reading_failed reader.new) }
     ensures write_failed { IsErrOf result Stop.Write → IsTrue (writing_failed writer.new) }
 {

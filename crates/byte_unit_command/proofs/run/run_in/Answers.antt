@@ -1,5 +1,6 @@
 -- Each read is served: the records that end in it are written, and the record that it has begun is kept.
-use Rattle.std.proofs.Common.{[], ◌++◌, sym, ap, subst, ◌∙◌, take, Err, Result}
+use Rattle.std.proofs.Common.{[], ◌++◌, sym, ap, subst, ◌∙◌, take, Err, Result, rules}
+use Rattle.std.specs.Io.KnownBytes.{IsAtEnd}
 use Rattle.std.proofs.KnownBytes.{Consumes-kept, Consumes-nil, Appends-nil}
 use Rattle.byte_unit_command.specs.Progress.{state_of}
 use Rattle.byte_unit_command.specs.Streams.{reader_of, writer_of}
@@ -8,7 +9,7 @@ use Rattle.byte_unit_command.proofs.Runs.{IsServed, IsServed-start, IsServed-pie
 use Rattle.byte_unit_command.proofs.Runs.{IsWritten-error, Consumes-piece, Consumes-at_end, Appends-more}
 use Rattle.byte_unit_command.specs.Progress.{IsFinished}
 use Rattle.byte_unit_command.specs.declared.stop.Stop.{Stop}
-use Rattle.byte_unit_command.specs.declared.stop.Stop.TheVariants.{Read, Total}
+use Rattle.byte_unit_command.specs.declared.stop.Stop.TheVariants.{Read}
 use Rattle.byte_unit_command.specs.declared.tally.Tally.{Tally}
 use Rattle.byte_unit_command.proofs.Results.{error-passed}
 use Rattle.byte_unit_command.proofs.run.run_in.Goals as goal
@@ -35,7 +36,7 @@ returns-in-None-clause-run g c =
       so_far.written,
       Consumes-kept left between rest so_far.read so_far.gave c.in-None.ensures.none,
       so_far.took,
-      IsWritten-read options so_far.read so_far.written c.reads.part.items c.reads.progress so_far.served,
+      IsWritten-read options so_far.read so_far.written c.reads.part.items c.reads.progress so_far.served (IsAtEnd rest),
     )
 
 pub reads-preserved : goal.reads-preserved
@@ -69,12 +70,12 @@ returns-in_err-answer_piece-in-Some-clause-run g c =
     let read = so_far.read ++ piece in
     let written = so_far.written ++ more.0 in
     let at = IsWritten-piece options so_far.read so_far.written c.reads.part.items c.reads.progress so_far.served piece more.0
-    (state_of c.answer_piece.new.progress []) error more.2 in (
+    (state_of c.answer_piece.new.progress []) (IsAtEnd rest) error more.2 in (
       read,
       written,
       Consumes-piece so_far rest piece c.in-Some.ensures.came,
       Appends-more so_far holds more.0 more.1,
-      IsWritten-error options (finished_records options.record_end read) (records_of options.record_end read) written
+      IsWritten-error options (finished_records options.record_end read) (records_of options.record_end read) (IsAtEnd rest) written
           c.from_residual.result error c.from_residual.ensures.1 at,
     )
 
@@ -89,19 +90,15 @@ returns-clause-run g c =
     let part = c.deref.result.now in
     let served : IsServed options so_far.read so_far.written part c.reads.progress =
     record { added = so_far.served.added; begun = c.deref.ensures.value ∙ so_far.served.begun } in
+    let at_end : IsAtEnd rest = end.ensures.end end.field-0-test (search rules) in
     let more = c.finish.ensures.written in (
       so_far.read,
       so_far.written ++ more.0,
       Consumes-at_end so_far rest (take end.field-0 c.read.new.buf) end.ensures.came none,
       Appends-more so_far holds more.0 more.1,
-      IsWritten-finished options so_far.read so_far.written part c.reads.progress served more.0 c.finish.result more.2,
+      IsWritten-finished options so_far.read so_far.written part c.reads.progress served more.0 (IsAtEnd rest) at_end
+          c.finish.result more.2,
     )
-
-pub returns-in_err-answer_piece-in-Some-clause-total : goal.returns-in_err-answer_piece-in-Some-clause-total
-returns-in_err-answer_piece-in-Some-clause-total g c = λ is.
-    let failed = c.in_err-answer_piece-in-Some in
-    let same = error-passed c.from_residual.result failed.field-0.0 Total c.from_residual.ensures.1 is in
-    absurd (failed.ensures.no_total (ap Err same))
 
 pub returns-in_err-answer_piece-in-Some-clause-read_failed : goal.returns-in_err-answer_piece-in-Some-clause-read_failed
 returns-in_err-answer_piece-in-Some-clause-read_failed g c = λ is.
