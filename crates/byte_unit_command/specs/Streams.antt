@@ -1,9 +1,11 @@
 -- What a contract sees of a `Reading` and of a `Writing`. The bytes that a reader has left are `Read::remaining`, those
 -- that a writer holds `Write::contents`. Both are `None` for a stream whose bytes no contract knows, such as standard
 -- input: of such a stream the words below say nothing.
-use Rattle.std.specs.Prelude.{ℕ, ◌-◌, ◌^◌, Bool, Option, List}
+use Rattle.std.specs.Prelude.{ℕ, ◌-◌, ◌^◌, Bool, true, false, Option, Some, None, is_some, List}
 use Rattle.std.specs.Io.KnownBytes.{Appends, Consumes, IsAtEnd, Keeps}
 use Rattle.byte_unit_command.specs.declared.reading.Reading.{Reading}
+use Rattle.byte_unit_command.specs.declared.writing.Failure.{Failure}
+use Rattle.byte_unit_command.specs.declared.writing.Failure.TheVariants.{Closed, Other}
 use Rattle.byte_unit_command.specs.declared.writing.Writing.{Writing}
 
 -- the reader inside a `Reading`
@@ -36,7 +38,17 @@ writer_of writer = writer.inner
 
 -- whether a write has failed
 abbrev pub writing_failed : {W : Type 0} → Writing W → Bool
-writing_failed writer = writer.failed
+writing_failed writer = is_some writer.failure
+
+-- whether this is the failure of a write after the reader of the output has gone
+abbrev pub is_closed : Option Failure → Bool
+is_closed (Some Closed) = true
+is_closed (Some Other) = false
+is_closed None = false
+
+-- whether a write has failed because the reader of the output has gone
+abbrev pub output_closed : {W : Type 0} → Writing W → Bool
+output_closed writer = is_closed writer.failure
 
 -- from the old state to the new one, exactly these bytes were written
 abbrev pub HasWritten : {W : Type 0} → (W → Option (List ℕ)) → Writing W → Writing W → List ℕ → Type 0

@@ -54,7 +54,7 @@ impl<R: Read> Reading<R> {
     /// the end of the input.
     ///
     /// Returns `None` if the reader returns an error of any kind. After that, and after 2^64 - 1 reads, returns `None`
-    /// without calling the reader.
+    /// without calling the reader. Each other call counts as a read, also if it returns `None`.
     pub fn read(&mut self, buf: &mut [u8]) -> Option<usize>
         ensures bound { IfSome result (λ n. n ≤ length buf.new) }
         ensures came { IfSome result (λ n. HasRead R.remaining self.old self.new (take n buf.new)) }
@@ -67,6 +67,8 @@ impl<R: Read> Reading<R> {
         ensures spent { reads_left self.old ≡ 0
             → IsNone result × (reader_of self.new ≡ reader_of self.old) }
         ensures counted { OnSome result (reads_left self.new + 1 ≡ reads_left self.old) }
+        ensures called { reading_failed self.old ≡ false → 0 < reads_left self.old
+            → reads_left self.new + 1 ≡ reads_left self.old }
     {
         if self.failed || self.count == u64::MAX {
             self.failed = true;

@@ -1,7 +1,8 @@
 //! A writer that records a failure.
 
-ghost use Rattle.std.specs.Prelude.{false, ◌≡◌, ◌≤◌, ◌<◌, ◌↔◌, take, length, IsTrue, IsNone, IfNone, IfSome};
+ghost use Rattle.std.specs.Prelude.{false, ◌≡◌, ◌≤◌, ◌<◌, ◌↔◌, take, length, IsTrue, IsNone, IsSome, IfNone, IfSome};
 ghost use Rattle.byte_unit_command.specs.Streams.{HasWritten, HasWrittenNothing, writer_of, writing_failed};
+ghost use Rattle.byte_unit_command.specs.Streams.{output_closed};
 
 use std::io::{ErrorKind, Write};
 
@@ -9,8 +10,16 @@ use std::io::{ErrorKind, Write};
 #[derive(Drop)]
 pub struct Writing<W> {
     inner: W,
-    failed: bool,
-    closed: bool,
+    failure: Option<Failure>,
+}
+
+/// How a write failed.
+#[derive(Debug, Clone, Copy, PartialEq, Eq)]
+enum Failure {
+    /// The reader of the output has gone.
+    Closed,
+    /// In any other way.
+    Other,
 }
 
 impl<W: Write> Writing<W> {
@@ -18,11 +27,11 @@ impl<W: Write> Writing<W> {
     pub fn new(inner: W) -> Writing<W>
         ensures inner { writer_of result ≡ inner }
         ensures failed { writing_failed result ≡ false }
+        ensures closed { output_closed result ≡ false }
     {
         Writing {
             inner,
-            failed: false,
-            closed: false,
+            failure: None,
         }
     }
 
@@ -30,23 +39,26 @@ impl<W: Write> Writing<W> {
     pub fn failed(&self) -> bool
         ensures { result ≡ writing_failed self.now }
     {
-        self.failed
+        self.failure.is_some()
     }
 
-    /// Returns `true` if a write has failed because the reader of the output has gone.
-    pub fn closed(&self) -> bool {
-        self.closed
+    /// Returns `true` if a write has failed because the reader of the output has gone: with an error of the kind
+    /// `BrokenPipe`.
+    pub fn closed(&self) -> bool
+        ensures closed { result ≡ output_closed self.now }
+        ensures failed { IsTrue result → IsTrue (writing_failed self.now) }
+    {
+        match self.failure {
+            Some(Failure::Closed) => true,
+            Some(Failure::Other) | None => false,
+        }
     }
 
     /// Returns the writer inside, with the bytes that it holds.
     pub fn into_inner(self) -> W
         ensures { result ≡ writer_of self }
     {
-        let Writing {
-            inner,
-            failed: _,
-            closed: _,
-        } = self;
+        let Writing { inner, failure: _ } = self;
         inner
     }
 
@@ -64,22 +76,35 @@ impl<W: Write> Writing<W> {
         ensures none { IfNone result (HasWrittenNothing W.contents self.old self.new) }
         ensures failed { IsTrue (writing_failed self.new) ↔ IsNone result }
         ensures stays { IsTrue (writing_failed self.old)
-            → IsNone result × (writer_of self.new ≡ writer_of self.old) }
+            → IsNone result × (self.new ≡ self.old) }
+        ensures closed { IsSome result → output_closed self.new ≡ output_closed self.old }
     {
-        if self.failed {
+        if self.failure.is_some() {
             return None;
         }
         match self.inner.write(bytes) {
             Ok(n) if n > 0 => Some(n),
             Ok(_) => {
-                self.failed = true;
+                self.record_failure(ErrorKind::WriteZero);
                 None
             }
             Err(error) => {
-                self.failed = true;
-                self.closed = error.kind() == ErrorKind::BrokenPipe;
+                self.record_failure(error.kind());
                 None
             }
         }
+    }
+
+    /// Records that a write has failed with an error of this kind.
+    fn record_failure(&mut self, kind: ErrorKind)
+        ensures inner { writer_of self.new ≡ writer_of self.old }
+        ensures failed { IsTrue (writing_failed self.new) }
+        ensures closed { IsTrue (output_closed self.new) ↔ (kind ≡ ErrorKind.BrokenPipe) }
+    {
+        self.failure = Some(if kind == ErrorKind::BrokenPipe {
+            Failure::Closed
+        } else {
+            Failure::Other
+        });
     }
 }
