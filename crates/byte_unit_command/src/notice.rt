@@ -159,7 +159,10 @@ fn add_text<A: Allocator>(
 /// # Errors
 ///
 /// Returns `AllocError` if allocation fails.
-fn add_quoted<A: Allocator>(field: &[u8], message: &mut String<A>) -> Result<(), AllocError> {
+pub(crate) fn add_quoted<A: Allocator>(
+    field: &[u8],
+    message: &mut String<A>,
+) -> Result<(), AllocError> {
     let shown = &field[..quoted_len(field)];
     message.push('\'')?;
     match str::from_utf8(shown) {
@@ -198,7 +201,10 @@ fn is_boundary(byte: u8) -> bool {
 /// # Errors
 ///
 /// Returns `AllocError` if allocation fails.
-fn add_escaped<A: Allocator>(text: &str, message: &mut String<A>) -> Result<(), AllocError> {
+pub(crate) fn add_escaped<A: Allocator>(
+    text: &str,
+    message: &mut String<A>,
+) -> Result<(), AllocError> {
     for c in text.chars() {
         if c.is_control() {
             let code = c as u32;
