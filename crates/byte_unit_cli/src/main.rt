@@ -1,13 +1,18 @@
 //! Converts sizes: the operands, or the lines of standard input, each to the form that the options ask for.
 #![tactic(auto)]
 
-use byte_unit_command::arguments::{Wrong, command, fields_of, options_of};
+use byte_unit_command::arguments::command;
 use byte_unit_command::ending::{message, status};
+use byte_unit_command::field_list::fields_of;
+use byte_unit_command::meaning::options_of;
+use byte_unit_command::operands::joined;
 use byte_unit_command::options::Options;
 use byte_unit_command::reading::Reading;
 use byte_unit_command::run::run;
 use byte_unit_command::stop::Stop;
+use byte_unit_command::values::values_of;
 use byte_unit_command::writing::Writing;
+use byte_unit_command::wrong::{Reason, Wrong, escaped_lines};
 use clap::ArgMatches;
 use clap::error::ErrorKind;
 use std::alloc::AllocError;
@@ -54,20 +59,6 @@ fn convert<R: Read + Drop>(
     status(options.invalid, ended)
 }
 
-/// Returns the operands as an input, each with the byte that ends a record.
-///
-/// # Errors
-///
-/// Returns `AllocError` if allocation fails.
-fn joined(rt: &HostRuntime, operands: &[&str], record_end: u8) -> Result<Vec<u8>, AllocError> {
-    let mut input = Vec::new(rt.alloc());
-    for operand in operands {
-        input.extend_from_slice(operand.as_bytes())?;
-        input.extend_from_slice(&[record_end])?;
-    }
-    Ok(input)
-}
-
 /// Converts the operands, or standard input if there are none, and returns the exit status.
 ///
 /// # Errors
@@ -79,7 +70,7 @@ fn convert_call(
     options: &Options,
 ) -> Result<u8, AllocError> {
     if let Some(operands) = matches.get_strs("SIZE") {
-        let input = joined(rt, operands, options.record_end)?;
+        let input = joined(rt.alloc(), operands)?;
         return Ok(convert(rt, options, "operand", input.as_slice()));
     }
     let input = rt.reader();
@@ -97,34 +88,52 @@ fn convert_call(
 }
 
 /// Writes what is wrong with the call, and returns the exit status.
-fn report(rt: &HostRuntime, wrong: &Wrong) -> u8 {
-    let option = wrong.option;
-    let value = wrong.value;
-    let reason = wrong.reason;
-    let _ = eprintln!(rt; "byte-unit: {option}: '{value}': {reason}");
-    WRONG
+///
+/// # Errors
+///
+/// Returns `AllocError` if allocation fails.
+fn report(rt: &HostRuntime, wrong: &Wrong) -> Result<u8, AllocError> {
+    let message = wrong.message(rt.alloc())?;
+    // Ignored on failure: the exit status reports what is wrong too.
+    let _ = eprintln!(rt; "byte-unit: {message}");
+    Ok(WRONG)
 }
 
-/// Writes the help, the version, or what clap finds wrong with the call, and returns the exit status.
+/// Writes the help or the version, and returns the exit status.
 ///
 /// # Errors
 ///
 /// Returns an error if allocation fails.
 fn print(rt: &HostRuntime, error: &clap::Error) -> io::Result<u8> {
-    if error.kind() == ErrorKind::OutOfMemory {
-        return Err(io::Error::from(AllocError));
-    }
     match error.print(rt) {
-        Ok(()) => Ok(error.exit_code() as u8),
+        Ok(()) => Ok(0),
         Err(failure) if failure.kind() == io::ErrorKind::OutOfMemory => Err(failure),
-        // Ignored: the exit status reports what is wrong too.
-        Err(_) if error.use_stderr() => Ok(WRONG),
         Err(failure) if failure.kind() == io::ErrorKind::BrokenPipe => Ok(CLOSED),
         Err(_) => {
             let _ = eprintln!(rt; "byte-unit: write failed");
             Ok(FAILED)
         }
     }
+}
+
+/// Does what a call without matches asks for: writes the help, the version, or what clap finds wrong with it. Returns
+/// the exit status.
+///
+/// # Errors
+///
+/// Returns an error if allocation fails.
+fn print_or_report(rt: &HostRuntime, error: &clap::Error) -> io::Result<u8> {
+    if error.kind() == ErrorKind::OutOfMemory {
+        return Err(io::Error::from(AllocError));
+    }
+    if !error.use_stderr() {
+        return print(rt, error);
+    }
+    let text = format!(in rt.alloc(); "{error}")?;
+    let text = escaped_lines(rt.alloc(), text.as_str())?;
+    // Ignored on failure: the exit status reports what is wrong too.
+    let _ = eprint!(rt; "{text}");
+    Ok(WRONG)
 }
 
 /// Parses the command line, does what it asks for, and returns the exit status.
@@ -139,7 +148,7 @@ fn answer(rt: &HostRuntime) -> io::Result<u8> {
     }
     let matches = match command(rt.alloc())?.try_get_matches_from(words.as_slice()) {
         Ok(matches) => matches,
-        Err(error) => return print(rt, &error),
+        Err(error) => return print_or_report(rt, &error),
     };
     let list = matches.get_str("field");
     let Some(fields) = fields_of(rt.alloc(), list)? else {
@@ -147,13 +156,13 @@ fn answer(rt: &HostRuntime) -> io::Result<u8> {
         let wrong = Wrong {
             option: "--field",
             value,
-            reason: "not a list of fields",
+            reason: Reason::Fields,
         };
-        return Ok(report(rt, &wrong));
+        return Ok(report(rt, &wrong)?);
     };
-    match options_of(&matches, fields.as_slice()) {
+    match options_of(&values_of(&matches), fields.as_slice()) {
         Ok(options) => Ok(convert_call(rt, &matches, &options)?),
-        Err(wrong) => Ok(report(rt, &wrong)),
+        Err(wrong) => Ok(report(rt, &wrong)?),
     }
 }
 

@@ -12,3 +12,8 @@ pub mod Runs
 pub mod Splitting
 pub mod Tallies
 pub mod Texts
+pub mod Items
+pub mod Joining
+pub mod Paddings
+pub mod Wrongs
+pub mod Rules

@@ -9,3 +9,10 @@ pub mod Records
 pub mod Shown
 pub mod Streams
 pub mod Sums
+pub mod Positive
+pub mod FieldList
+pub mod Values
+pub mod Meaning
+pub mod CallOptions
+pub mod Operands
+pub mod CommandLine

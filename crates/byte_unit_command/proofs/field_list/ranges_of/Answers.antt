@@ -1,0 +1,38 @@
+-- The items of the loop are the parts of the list between its commas.
+use Rattle.std.proofs.Common.{◌≡◌, ℕ, List, ◌++◌, [], ◌∷◌, map, length, sym, subst, lit<, Bor}
+use Rattle.std.proofs.lemmas.List.{map-append}
+use Rattle.std.proofs.lemmas.Iterator.Consumers.{YieldsList-turn, YieldsList-end}
+use Rattle.std.proofs.lemmas.Iterator.Splits.{YieldsList-from_str_split}
+use Rattle.byte_unit_command.specs.FieldList.{IsRange, AreRanges}
+use Rattle.byte_unit_command.specs.declared.options.FieldRange.{FieldRange}
+use Rattle.byte_unit_command.proofs.Items.{AreRanges-append, AreRanges-at}
+use Rattle.byte_unit_command.proofs.field_list.ranges_of.Goals as goal
+
+-- one more item, which is one more range
+with_item : (items : List (Bor (List ℕ))) (item : Bor (List ℕ)) (ranges more : List FieldRange) (range : FieldRange)
+    → AreRanges (map (λ item. item.now) items) ranges → IsRange item.now range → more ≡ ranges ++ range ∷ []
+    → AreRanges (map (λ item. item.now) (items ++ item ∷ [])) more
+with_item items item ranges more range are is more_is =
+    let texts = map-append (λ (item : Bor (List ℕ)). item.now) items (item ∷ []) in
+    subst (λ texts. AreRanges texts more) (sym texts)
+    (subst (AreRanges (map (λ item. item.now) items ++ item.now ∷ [])) (sym more_is)
+    (AreRanges-append (map (λ item. item.now) items) ranges item.now range are is))
+
+pub loop-item-preserved : goal.loop-item-preserved
+loop-item-preserved c =
+    with_item c.loop-item.yielded c.in-Some.item c.loop-item.fields.items _ c.in-Some-range_of.range c.loop-item.invariant
+    c.in-Some-range_of.ensures c.in_ok-push-in-Some-range_of.ensures.items
+
+pub returns-in-None-range_of : goal.returns-in-None-range_of
+returns-in-None-range_of c =
+    let parts = YieldsList-from_str_split 44 c.args.list.now (lit< tt) (cc) (cc) (cc) in
+    let turn = YieldsList-turn parts c.loop-item.yielded _ c.loop-item.yielded_by _ _ c.in-Some.item c.in-Some.is c.next.ensures.steps in
+    λ ranges are.
+    let range = AreRanges-at _ ranges c.in-Some.item.now (length c.loop-item.yielded) are turn.0 turn.1 in
+    c.in-None-range_of.ensures range.0 range.1
+
+pub returns : goal.returns
+returns c =
+    let parts = YieldsList-from_str_split 44 c.args.list.now (lit< tt) (cc) (cc) (cc) in
+    let end = YieldsList-end parts c.loop-item.yielded _ c.loop-item.yielded_by _ _ c.in-None.is c.next.ensures.steps in
+    subst (λ texts. AreRanges texts c.loop-item.fields.items) end.0 c.loop-item.invariant

@@ -1,0 +1,27 @@
+-- A text without a hyphen that is no width is no padding.
+use Rattle.std.proofs.Common.{◌≡◌, ◌≢◌, ℕ, Bool, List, ◌∷◌, Option, None, Some, MatchOption, Bor, sym, subst, lit<}
+use Rattle.std.proofs.lemmas.Str.Pattern.{strip_prefix_char}
+use Rattle.byte_unit_command.specs.Meaning.{IsPadding}
+use Rattle.byte_unit_command.proofs.Paddings.{without_hyphen}
+use Rattle.byte_unit_command.proofs.meaning.signed_width_of.Goals as goal
+
+lacks_hyphen : (text : List ℕ) (r : Option (Bor (List ℕ))) → r ≡ None
+    → MatchOption r ((rest : List ℕ) → text ≢ 45 ∷ rest) (λ rest. text ≡ 45 ∷ rest.now) → (rest : List ℕ) → text ≢ 45 ∷ rest
+lacks_hyphen text r is stripped =
+    subst (λ r. MatchOption r ((rest : List ℕ) → text ≢ 45 ∷ rest) (λ rest. text ≡ 45 ∷ rest.now)) is stripped
+
+no_padding : (text : List ℕ) (found : Option (ℕ × Bool)) → found ≡ None
+    → ((width : ℕ) (align_left : Bool) → ¬ IsPadding (Some text) width align_left)
+    → MatchOption found ((width : ℕ) (align_left : Bool) → ¬ IsPadding (Some text) width align_left)
+    (λ padding. IsPadding (Some text) padding.0 padding.1)
+no_padding text found is none =
+    subst (λ found. MatchOption found ((width : ℕ) (align_left : Bool) → ¬ IsPadding (Some text) width align_left)
+    (λ padding. IsPadding (Some text) padding.0 padding.1)) (sym is) none
+
+pub returns-in_err-width_of-in-None : goal.returns-in_err-width_of-in-None
+returns-in_err-width_of-in-None c =
+    let text = c.args.text.now in
+    no_padding text _ c.from_residual-in_err-width_of-in-None.ensures
+    (without_hyphen text
+    (lacks_hyphen text c.strip_prefix.result c.in-None.is (strip_prefix_char 45 text c.strip_prefix.result c.strip_prefix.ensures.cases (lit< tt)))
+    c.in_err-width_of-in-None.ensures)

@@ -1,0 +1,66 @@
+-- The command line, as clap's parser reads it: the options by name and letter, and what each takes.
+use Rattle.std.specs.Prelude.{◌≡◌, ℕ, true, false, List, [], ◌∷◌, Some, pos, codes}
+use Rattle.clap.specs.Words.{App, Rule, new_app, new_rule, rule_of}
+use Rattle.clap.specs.declared.builder.ArgAction.TheVariants.{SetTrue}
+use Rattle.clap.specs.declared.builder.Arg.{Arg}
+use Rattle.clap.specs.declared.builder.ValueParser.TheVariants.{Signed, Unsigned}
+
+-- clap reads the argument by this rule
+pub record IsArg (rule : Rule) (arg : Arg) : Type 0 where
+  pub rule_is : rule_of arg ≡ rule
+  pub not_global : arg.global ≡ false
+
+-- an option without a value
+abbrev pub flag : List ℕ → Rule
+flag name = record (new_rule name) { long = Some name; action = Some SetTrue }
+
+-- an option with a value, which help calls by one name
+abbrev pub value : List ℕ → Rule
+value name = record (new_rule name) { long = Some name; value_names = 1 }
+
+-- the options with a letter or a rule of their own; `is_free` is false for one that excludes or needs another, and
+-- `is_simple` for one whose value is read in its own way
+abbrev pub ignore_case : Rule
+ignore_case = record (flag (codes "ignore-case")) { short = Some 105; is_free = false }
+
+abbrev pub precision : Rule
+precision = record (value (codes "precision")) { short = Some 112; parser = Some (Signed (pos 0) (pos 65535)) }
+
+abbrev pub delimiter : Rule
+delimiter = record (value (codes "delimiter")) { short = Some 100 }
+
+abbrev pub fields : Rule
+fields = record (value (codes "field")) { is_free = false }
+
+abbrev pub header : Rule
+header = record (value (codes "header")) {
+  range = Some (record { start_inclusive = 0; end_inclusive = 1 });
+  missing = codes "1" ∷ [];
+  parser = Some (Unsigned 0 18446744073709551615);
+  is_simple = false;
+}
+
+abbrev pub padding : Rule
+padding = record (value (codes "padding")) { is_simple = false }
+
+abbrev pub zero_terminated : Rule
+zero_terminated = record (flag (codes "zero-terminated")) { short = Some 122 }
+
+-- the operands: any number of them
+abbrev pub operands : Rule
+operands = record (new_rule (codes "SIZE")) {
+  range = Some (record { start_inclusive = 0; end_inclusive = 18446744073709551615 });
+}
+
+-- all of them, in the order of the help
+abbrev pub rules : List Rule
+rules =
+    flag (codes "bits") ∷ ignore_case ∷ value (codes "to") ∷ precision ∷ delimiter ∷ fields ∷ header ∷ padding
+    ∷ value (codes "invalid") ∷ flag (codes "total") ∷ value (codes "max") ∷ value (codes "min") ∷ zero_terminated
+    ∷ operands ∷ []
+
+-- the command, which has a version
+abbrev pub command_line : App
+command_line =
+    let start = new_app (codes "byte-unit") in
+    record start { top = record start.top { has_version = true; rules = rules } }

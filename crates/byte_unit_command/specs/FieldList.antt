@@ -1,0 +1,38 @@
+-- A list of fields, as `--field` takes it: ranges between commas.
+use Rattle.std.specs.Prelude.{◌≡◌, ℕ, ◌≤◌, ◌⊎◌, ⊤, List, [], ◌∷◌, ◌++◌, ◌==◌, Option, None, Some}
+use Rattle.std.specs.List.{slice_split}
+use Rattle.byte_unit_command.specs.Positive.{IsPositive}
+use Rattle.byte_unit_command.specs.declared.options.FieldRange.{FieldRange}
+
+-- the first field of a range, before its hyphen: 1 if nothing is there
+abbrev pub IsFirst : List ℕ → ℕ → Type 0
+IsFirst [] first = first ≡ 1
+IsFirst (c ∷ cs) first = IsPositive (c ∷ cs) first
+
+-- the last field of a range, after its hyphen: there is none if nothing is there, and it is not before the first
+abbrev pub IsLast : List ℕ → ℕ → Option ℕ → Type 0
+IsLast [] first last = last ≡ None
+IsLast (c ∷ cs) first last = (number : ℕ) × IsPositive (c ∷ cs) number × (first ≤ number) × (last ≡ Some number)
+
+-- the text is this range: `N`, or `N-M`, where either number can be left out
+abbrev pub IsRange : List ℕ → FieldRange → Type 0
+IsRange text range =
+    IsPositive text range.first × (range.last ≡ Some range.first)
+    ⊎ (before after : List ℕ) × (text ≡ before ++ 45 ∷ after) × IsFirst before range.first
+    × IsLast after range.first range.last
+
+-- these texts are these ranges, in their order
+abbrev pub AreRanges : List (List ℕ) → List FieldRange → Type 0
+AreRanges [] [] = ⊤
+AreRanges [] (range ∷ ranges) = ⊥
+AreRanges (text ∷ texts) [] = ⊥
+AreRanges (text ∷ texts) (range ∷ ranges) = IsRange text range × AreRanges texts ranges
+
+-- the text is a list of these ranges: they are between its commas, in their order
+abbrev pub IsFieldList : List ℕ → List FieldRange → Type 0
+IsFieldList text ranges = AreRanges (slice_split (λ c. c == 44) text) ranges
+
+-- the ranges of a list of fields, or `None` if the text is no such list
+abbrev pub IsListReading : List ℕ → Option (List FieldRange) → Type 0
+IsListReading text None = (ranges : List FieldRange) → ¬ IsFieldList text ranges
+IsListReading text (Some ranges) = IsFieldList text ranges

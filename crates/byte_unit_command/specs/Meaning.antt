@@ -1,0 +1,102 @@
+-- What the value of an option means, and which values are wrong. A value is a text, or `None` if the option is not
+-- given.
+use Rattle.std.specs.Prelude.{◌≡◌, ◌≢◌, ℕ, ◌<◌, ◌^◌, ◌⊎◌, Bool, true, false, List, [], ◌∷◌, Option, None, Some, codes}
+use Rattle.std.specs.Str.{trim}
+use Rattle.byte_unit.specs.Accepted.{IsAccepted, IsRejected}
+use Rattle.byte_unit.specs.Errors.{size_fault, unit_fault}
+use Rattle.byte_unit.specs.Fault.{IsUnitFault}
+use Rattle.byte_unit.specs.Kinds.{flags_for}
+use Rattle.byte_unit.specs.SizeText.{trim_of}
+use Rattle.byte_unit.specs.Spelling.{Spells}
+use Rattle.byte_unit.specs.Units.{shape_of}
+use Rattle.byte_unit.specs.Version.{current}
+use Rattle.byte_unit.specs.declared.Kind.{Kind}
+use Rattle.byte_unit.specs.declared.Unit.{Unit as UnitName}
+use Rattle.byte_unit.specs.declared.UnitType.TheVariants.{Decimal, Binary, Both}
+use Rattle.byte_unit_command.specs.Field.{ignores_case}
+use Rattle.byte_unit_command.specs.Positive.{IsPositive}
+use Rattle.byte_unit_command.specs.declared.options.Form.{Form}
+use Rattle.byte_unit_command.specs.declared.options.Form.TheVariants.{Exact, Plain, InUnit, Largest}
+use Rattle.byte_unit_command.specs.declared.options.Invalid.{Invalid}
+use Rattle.byte_unit_command.specs.declared.options.Invalid.TheVariants.{Abort, Fail, Warn, Ignore}
+use Rattle.byte_unit_command.specs.declared.wrong.Reason.{Reason}
+use Rattle.byte_unit_command.specs.declared.wrong.Reason.TheVariants.{Unit as UnitFault, Blank, Delimiter}
+use Rattle.byte_unit_command.specs.declared.wrong.Reason.TheVariants.{Padding, Mode, Size}
+
+-- the text is the word for this form
+abbrev pub IsFormWord : List ℕ → Form → Type 0
+IsFormWord text form =
+    (text ≡ codes "exact") × (form ≡ Exact)
+    ⊎ ((text ≡ codes "plain") × (form ≡ Plain)
+    ⊎ ((text ≡ codes "si") × (form ≡ Largest Decimal)
+    ⊎ ((text ≡ codes "iec") × (form ≡ Largest Binary)
+    ⊎ (text ≡ codes "auto") × (form ≡ Largest Both))))
+
+-- the text spells this unit, as in a size of this kind, and is not white space alone
+pub record IsUnitName (kind : Kind) (ignore_case : Bool) (text : List ℕ) (unit : UnitName) : Type 0 where
+  pub not_blank : trim text ≢ []
+  pub spells : Spells current (flags_for kind ignore_case) (trim_of text) (shape_of unit)
+
+-- `--to`
+abbrev pub IsForm : Kind → Bool → Option (List ℕ) → Form → Type 0
+IsForm kind ignore_case None form = form ≡ Exact
+IsForm kind ignore_case (Some text) form =
+    IsFormWord text form ⊎ (unit : UnitName) × IsUnitName kind ignore_case text unit × (form ≡ InUnit unit)
+
+-- the text spells no unit: it is white space, or has this error
+abbrev pub IsNoUnitName : Kind → Bool → List ℕ → Reason → Type 0
+IsNoUnitName kind ignore_case text Blank = trim text ≡ []
+IsNoUnitName kind ignore_case text (UnitFault error) =
+    (trim text ≢ []) × IsUnitFault current (flags_for kind ignore_case) (trim_of text) (unit_fault error)
+IsNoUnitName kind ignore_case text _ = ⊥
+
+abbrev pub IsNoForm : Kind → Bool → List ℕ → Reason → Type 0
+IsNoForm kind ignore_case text reason =
+    ((form : Form) → ¬ IsFormWord text form) × IsNoUnitName kind ignore_case text reason
+
+-- `--delimiter`: one byte, or `\t` for a tab
+abbrev pub IsDelimiter : Option (List ℕ) → Option ℕ → Type 0
+IsDelimiter None delimiter = delimiter ≡ None
+IsDelimiter (Some text) delimiter =
+    ((byte : ℕ) × (text ≡ byte ∷ []) × (delimiter ≡ Some byte)) ⊎ (text ≡ 92 ∷ 116 ∷ []) × (delimiter ≡ Some 9)
+
+abbrev pub IsNoDelimiter : List ℕ → Reason → Type 0
+IsNoDelimiter text reason = ((delimiter : Option ℕ) → ¬ IsDelimiter (Some text) delimiter) × (reason ≡ Delimiter)
+
+-- the text is a number from 1 to 65535
+abbrev pub IsWidth : List ℕ → ℕ → Type 0
+IsWidth text width = IsPositive text width × (width < 2 ^ 16)
+
+-- `--padding`: a width, and whether sizes are aligned to the left
+abbrev pub IsPadding : Option (List ℕ) → ℕ → Bool → Type 0
+IsPadding None width align_left = (width ≡ 0) × (align_left ≡ false)
+IsPadding (Some text) width align_left =
+    IsWidth text width × (align_left ≡ false)
+    ⊎ (digits : List ℕ) × (text ≡ 45 ∷ digits) × IsWidth digits width × (align_left ≡ true)
+
+abbrev pub IsNoPadding : List ℕ → Reason → Type 0
+IsNoPadding text reason =
+    ((width : ℕ) (align_left : Bool) → ¬ IsPadding (Some text) width align_left) × (reason ≡ Padding)
+
+-- `--invalid`
+abbrev pub IsMode : Option (List ℕ) → Invalid → Type 0
+IsMode None invalid = invalid ≡ Abort
+IsMode (Some text) invalid =
+    (text ≡ codes "abort") × (invalid ≡ Abort)
+    ⊎ ((text ≡ codes "fail") × (invalid ≡ Fail)
+    ⊎ ((text ≡ codes "warn") × (invalid ≡ Warn)
+    ⊎ (text ≡ codes "ignore") × (invalid ≡ Ignore)))
+
+abbrev pub IsNoMode : List ℕ → Reason → Type 0
+IsNoMode text reason = ((invalid : Invalid) → ¬ IsMode (Some text) invalid) × (reason ≡ Mode)
+
+-- `--max` and `--min`: a size, as in an input
+abbrev pub IsLimit : Kind → Bool → Option (List ℕ) → Option ℕ → Type 0
+IsLimit kind ignore_case None limit = limit ≡ None
+IsLimit kind ignore_case (Some text) limit =
+    (size : ℕ) × IsAccepted kind (ignores_case kind ignore_case) text size × (limit ≡ Some size)
+
+abbrev pub IsNoLimit : Kind → Bool → List ℕ → Reason → Type 0
+IsNoLimit kind ignore_case text (Size error) =
+    IsRejected kind (ignores_case kind ignore_case) text (size_fault error)
+IsNoLimit kind ignore_case text _ = ⊥

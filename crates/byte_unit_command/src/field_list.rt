@@ -1,0 +1,92 @@
+//! The list of fields that `--field` names.
+
+ghost use Rattle.std.specs.Prelude.{ℕ, List, Option, MatchOption, IfOk, codes, option_map, unwrap_or};
+ghost use Rattle.byte_unit_command.specs.FieldList.{IsFirst, IsLast, IsRange, IsListReading};
+ghost use Rattle.byte_unit_command.specs.declared.options.FieldRange.{FieldRange};
+
+use crate::options::FieldRange;
+use crate::positive::positive_of;
+use std::alloc::{AllocError, Global};
+
+/// Returns the fields that are converted: those of a list, or the first without one. Returns `None` if the list is
+/// wrong.
+///
+/// A list is ranges between commas: `N`, `N-`, `N-M`, `-M` or `-`, where the numbers are decimal digits, from 1 to
+/// 2^64 - 1, and the first is not above the last. All else is wrong, a number of 2^64 or more too.
+///
+/// # Errors
+///
+/// Returns `AllocError` if allocation fails.
+pub fn fields_of(alloc: Global, list: Option<&str>) -> Result<Option<Vec<FieldRange>>, AllocError>
+    ensures { IfOk result (λ found. IsListReading
+        (unwrap_or (option_map (λ list. list.now) list.entry) (codes "1"))
+        (option_map (λ fields. fields.items) found)) }
+{
+    match list {
+        Some(list) => ranges_of(alloc, list),
+        None => ranges_of(alloc, "1"),
+    }
+}
+
+/// Returns the ranges of a list of fields, or `None` if it is wrong.
+///
+/// # Errors
+///
+/// Returns `AllocError` if allocation fails.
+fn ranges_of(alloc: Global, list: &str) -> Result<Option<Vec<FieldRange>>, AllocError>
+    ensures { IfOk result (λ found. IsListReading list.now (option_map (λ fields. fields.items) found)) }
+{
+    let mut fields = Vec::new(alloc);
+    for item in list.split(',') {
+        match range_of(item) {
+            Some(range) => fields.push(range)?,
+            None => return Ok(None),
+        }
+    }
+    Ok(Some(fields))
+}
+
+/// Returns the range that one item of a list is, or `None` if it is none.
+fn range_of(item: &str) -> Option<FieldRange>
+    ensures { MatchOption result ((range : FieldRange) → ¬ IsRange item.now range) (IsRange item.now) }
+{
+    match item.split_once('-') {
+        Some((before, after)) => {
+            let first = first_of(before)?;
+            let last = last_of(after, first)?;
+            Some(FieldRange { first, last })
+        }
+        None => {
+            let field = positive_of(item)?;
+            Some(FieldRange {
+                first: field,
+                last: Some(field),
+            })
+        }
+    }
+}
+
+/// Returns the first field of a range, from the text before its hyphen.
+fn first_of(before: &str) -> Option<u64>
+    ensures { MatchOption result ((first : ℕ) → ¬ IsFirst before.now first) (IsFirst before.now) }
+{
+    if before.is_empty() {
+        return Some(1);
+    }
+    positive_of(before)
+}
+
+/// Returns the last field of a range that begins at `first`, from the text after its hyphen.
+fn last_of(after: &str, first: u64) -> Option<Option<u64>>
+    ensures { MatchOption result
+        ((last : Option ℕ) → ¬ IsLast after.now first last) (IsLast after.now first) }
+{
+    if after.is_empty() {
+        return Some(None);
+    }
+    let last = positive_of(after)?;
+    if last < first {
+        return None;
+    }
+    Some(Some(last))
+}

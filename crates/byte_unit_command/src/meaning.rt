@@ -1,0 +1,245 @@
+//! What the values of the options of a call mean.
+
+ghost use Rattle.std.specs.Prelude.{◌≡◌, ℕ, Bool, MatchOption, MatchResult, IfOk, IfErr, codes};
+ghost use Rattle.std.specs.Prelude.{unwrap_or, if◌then◌else◌};
+ghost use Rattle.byte_unit.specs.SizeReading.{IsSizeReading};
+ghost use Rattle.byte_unit_command.specs.CallOptions.{AreOptions, IsFirstWrong, IsWrongOf, kind_of};
+ghost use Rattle.byte_unit_command.specs.Field.{ignores_case};
+ghost use Rattle.byte_unit_command.specs.Meaning.{IsForm, IsNoForm, IsUnitName, IsNoUnitName};
+ghost use Rattle.byte_unit_command.specs.Meaning.{IsDelimiter, IsNoDelimiter, IsPadding, IsNoPadding, IsWidth};
+ghost use Rattle.byte_unit_command.specs.Meaning.{IsMode, IsNoMode, IsLimit, IsNoLimit};
+ghost use Rattle.byte_unit_command.specs.Values.{text_of};
+
+use crate::options::{FieldRange, Form, Invalid, Kind, Options, Unit, UnitType};
+use crate::positive::positive_of;
+use crate::values::Values;
+use crate::wrong::{Reason, Wrong};
+use byte_unit::{Bit, Byte, ParseError};
+
+/// Returns the options of a call. `fields` are those that `field_list::fields_of` returned.
+///
+/// # Errors
+///
+/// Returns the first option that is wrong, in the order of `--to`, `--delimiter`, `--padding`, `--invalid`, `--max` and
+/// `--min`.
+pub fn options_of<'a, 'b>(
+    values: &Values<'a>,
+    fields: &'b [FieldRange],
+) -> Result<Options<'b>, Wrong<'a>>
+    ensures ok { IfOk result (AreOptions values.now fields.now) }
+    ensures err { IfErr result (IsFirstWrong values.now) }
+{
+    let kind = kind_of(values.bits);
+    let form = form_of(values.to, kind, values.ignore_case)?;
+    let delimiter = delimiter_of(values.delimiter)?;
+    let (width, align_left) = padding_of(values.padding)?;
+    let invalid = invalid_of(values.invalid)?;
+    let max = limit_of("--max", values.max, kind, values.ignore_case)?;
+    let min = limit_of("--min", values.min, kind, values.ignore_case)?;
+    let output_end = if values.zero_terminated { 0 } else { b'\n' };
+    Ok(Options {
+        kind,
+        ignore_case: values.ignore_case,
+        form,
+        precision: values.precision,
+        width,
+        align_left,
+        delimiter,
+        fields,
+        record_end: if values.has_operands { 0 } else { output_end },
+        output_end,
+        header: header_of(values.header, values.has_operands),
+        invalid,
+        total: values.total,
+        max,
+        min,
+    })
+}
+
+/// Returns the kind of the sizes.
+fn kind_of(bits: bool) -> Kind
+    ensures { result ≡ kind_of bits }
+{
+    if bits { Kind::Bit } else { Kind::Byte }
+}
+
+/// Returns how a size is shown.
+///
+/// # Errors
+///
+/// Returns an error if the value is neither the word for a form nor a unit.
+fn form_of(value: Option<&str>, kind: Kind, ignore_case: bool) -> Result<Form, Wrong<'_>>
+    ensures ok { IfOk result (IsForm kind ignore_case (text_of value.entry)) }
+    ensures err { IfErr result (IsWrongOf (codes "--to") value.entry (IsNoForm kind ignore_case)) }
+{
+    let Some(value) = value else {
+        return Ok(Form::Exact);
+    };
+    match value {
+        "exact" => Ok(Form::Exact),
+        "plain" => Ok(Form::Plain),
+        "si" => Ok(Form::Largest(UnitType::Decimal)),
+        "iec" => Ok(Form::Largest(UnitType::Binary)),
+        "auto" => Ok(Form::Largest(UnitType::Both)),
+        _ => match unit_of(value, kind, ignore_case) {
+            Ok(unit) => Ok(Form::InUnit(unit)),
+            Err(reason) => Err(Wrong {
+                option: "--to",
+                value,
+                reason,
+            }),
+        },
+    }
+}
+
+/// Returns the unit that a value spells. White space alone, which the library parses as the unit without a prefix, is
+/// not a unit here.
+fn unit_of(value: &str, kind: Kind, ignore_case: bool) -> Result<Unit, Reason>
+    ensures { MatchResult result (IsUnitName kind ignore_case value.now) (IsNoUnitName kind ignore_case value.now) }
+{
+    if value.trim().is_empty() {
+        return Err(Reason::Blank);
+    }
+    let unit = match kind {
+        Kind::Byte => Unit::parse_str(value, ignore_case, true),
+        Kind::Bit => Unit::parse_str(value, false, false),
+    };
+    match unit {
+        Ok(unit) => Ok(unit),
+        Err(error) => Err(Reason::Unit(error)),
+    }
+}
+
+/// Returns the delimiter.
+///
+/// # Errors
+///
+/// Returns an error if the value is neither one byte nor `\t`.
+fn delimiter_of(value: Option<&str>) -> Result<Option<u8>, Wrong<'_>>
+    ensures ok { IfOk result (IsDelimiter (text_of value.entry)) }
+    ensures err { IfErr result (IsWrongOf (codes "--delimiter") value.entry IsNoDelimiter) }
+{
+    let Some(value) = value else {
+        return Ok(None);
+    };
+    match value.as_bytes() {
+        [byte] => Ok(Some(*byte)),
+        b"\\t" => Ok(Some(b'\t')),
+        _ => Err(Wrong {
+            option: "--delimiter",
+            value,
+            reason: Reason::Delimiter,
+        }),
+    }
+}
+
+/// Returns the width, and whether sizes are aligned to the left.
+///
+/// # Errors
+///
+/// Returns an error if the value is not a number from 1 to 65535, or its negative.
+fn padding_of(value: Option<&str>) -> Result<(u16, bool), Wrong<'_>>
+    ensures ok { IfOk result (λ padding. IsPadding (text_of value.entry) padding.0 padding.1) }
+    ensures err { IfErr result (IsWrongOf (codes "--padding") value.entry IsNoPadding) }
+{
+    let Some(value) = value else {
+        return Ok((0, false));
+    };
+    match signed_width_of(value) {
+        Some(padding) => Ok(padding),
+        None => Err(Wrong {
+            option: "--padding",
+            value,
+            reason: Reason::Padding,
+        }),
+    }
+}
+
+/// Parses a width, and whether a hyphen before it aligns sizes to the left. Returns `None` if the text is neither.
+fn signed_width_of(text: &str) -> Option<(u16, bool)>
+    ensures { MatchOption result
+        ((width : ℕ) (align_left : Bool) → ¬ IsPadding (Some text.now) width align_left)
+        (λ padding. IsPadding (Some text.now) padding.0 padding.1) }
+{
+    match text.strip_prefix('-') {
+        Some(digits) => Some((width_of(digits)?, true)),
+        None => Some((width_of(text)?, false)),
+    }
+}
+
+/// Parses a width, from 1 to 65535: decimal digits, without a sign. Returns `None` if the text is no such number.
+fn width_of(digits: &str) -> Option<u16>
+    ensures { MatchOption result ((width : ℕ) → ¬ IsWidth digits.now width) (IsWidth digits.now) }
+{
+    let width = positive_of(digits)?;
+    u16::try_from(width).ok()
+}
+
+/// Returns what a rejected field does.
+///
+/// # Errors
+///
+/// Returns an error if the value is not the word for a mode.
+fn invalid_of(value: Option<&str>) -> Result<Invalid, Wrong<'_>>
+    ensures ok { IfOk result (IsMode (text_of value.entry)) }
+    ensures err { IfErr result (IsWrongOf (codes "--invalid") value.entry IsNoMode) }
+{
+    let Some(value) = value else {
+        return Ok(Invalid::Abort);
+    };
+    match value {
+        "abort" => Ok(Invalid::Abort),
+        "fail" => Ok(Invalid::Fail),
+        "warn" => Ok(Invalid::Warn),
+        "ignore" => Ok(Invalid::Ignore),
+        _ => Err(Wrong {
+            option: "--invalid",
+            value,
+            reason: Reason::Mode,
+        }),
+    }
+}
+
+/// Returns a limit of the sizes.
+///
+/// # Errors
+///
+/// Returns an error if the value is not a size.
+fn limit_of<'a>(
+    option: &'static str,
+    value: Option<&'a str>,
+    kind: Kind,
+    ignore_case: bool,
+) -> Result<Option<u128>, Wrong<'a>>
+    ensures ok { IfOk result (IsLimit kind ignore_case (text_of value.entry)) }
+    ensures err { IfErr result (IsWrongOf option.entry.now value.entry (IsNoLimit kind ignore_case)) }
+{
+    let Some(value) = value else {
+        return Ok(None);
+    };
+    match size_of(value, kind, ignore_case) {
+        Ok(size) => Ok(Some(size)),
+        Err(error) => Err(Wrong {
+            option,
+            value,
+            reason: Reason::Size(error),
+        }),
+    }
+}
+
+/// Parses a size of a kind.
+fn size_of(text: &str, kind: Kind, ignore_case: bool) -> Result<u128, ParseError>
+    ensures { IsSizeReading kind (ignores_case kind ignore_case) text.now result }
+{
+    match kind {
+        Kind::Byte => Ok(Byte::parse_str(text, ignore_case)?.as_u128()),
+        Kind::Bit => Ok(Bit::parse_str(text)?.as_u128()),
+    }
+}
+
+/// Returns the number of header records. Operands have none.
+fn header_of(value: Option<u64>, has_operands: bool) -> u64
+    ensures { result ≡ (if has_operands then 0 else unwrap_or value 0) }
+{
+    if has_operands { 0 } else { value.unwrap_or(0) }
+}

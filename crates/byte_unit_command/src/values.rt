@@ -1,0 +1,57 @@
+//! The values of the options of a call.
+
+ghost use Rattle.byte_unit_command.specs.Values.{HasValues};
+
+use clap::ArgMatches;
+
+/// The values of the options of a call.
+#[derive(Debug, Clone, Copy, Drop)]
+pub struct Values<'a> {
+    /// Whether `--bits` is given.
+    pub bits: bool,
+    /// Whether `--ignore-case` is given.
+    pub ignore_case: bool,
+    /// The value of `--to`.
+    pub to: Option<&'a str>,
+    /// The value of `--precision`.
+    pub precision: Option<u16>,
+    /// The value of `--delimiter`.
+    pub delimiter: Option<&'a str>,
+    /// The value of `--header`.
+    pub header: Option<u64>,
+    /// The value of `--padding`.
+    pub padding: Option<&'a str>,
+    /// The value of `--invalid`.
+    pub invalid: Option<&'a str>,
+    /// Whether `--total` is given.
+    pub total: bool,
+    /// The value of `--max`.
+    pub max: Option<&'a str>,
+    /// The value of `--min`.
+    pub min: Option<&'a str>,
+    /// Whether `--zero-terminated` is given.
+    pub zero_terminated: bool,
+    /// Whether there are operands.
+    pub has_operands: bool,
+}
+
+/// Returns the values of the options of a call that clap has parsed.
+pub fn values_of<'a>(matches: &ArgMatches<'a>) -> Values<'a>
+    ensures { HasValues matches.now result }
+{
+    Values {
+        bits: matches.get_flag("bits"),
+        ignore_case: matches.get_flag("ignore-case"),
+        to: matches.get_str("to"),
+        precision: matches.get_one::<u16>("precision"),
+        delimiter: matches.get_str("delimiter"),
+        header: matches.get_one::<u64>("header"),
+        padding: matches.get_str("padding"),
+        invalid: matches.get_str("invalid"),
+        total: matches.get_flag("total"),
+        max: matches.get_str("max"),
+        min: matches.get_str("min"),
+        zero_terminated: matches.get_flag("zero-terminated"),
+        has_operands: matches.contains_id("SIZE"),
+    }
+}
