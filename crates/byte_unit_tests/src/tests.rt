@@ -52,6 +52,7 @@ mod asserting;
 mod bounds;
 mod choices;
 mod command;
+mod command_call;
 mod command_forms;
 mod command_line;
 mod command_options;
