@@ -99,7 +99,7 @@ def some_limit(rng, options):
             unit = rng.choice(["", "b", "B", "bit"])
             text = f"{near(rng, LIMITS, SIZE_LIMIT - 1)}{unit}"
         else:
-            text = f"{rng.choice([1, 1, 1.5, 8, 12, 999, 1000])}{' ' * rng.randrange(2)}{some_unit(rng)}"
+            text = f"{rng.choice([1, 1, 0.125, 0.5, 1.5, 8, 12, 999])}{' ' * rng.randrange(2)}{some_unit(rng)}"
         text = rng.choice(["", "", "", " "]) + text + rng.choice(["", "", "", "\t"])
         if isinstance(size_of(text.encode(), options.bits, options.ignore_case), int):
             return text

@@ -29,12 +29,21 @@ def calls_of_many_reads():
 def calls_of_many_records():
     """Yields calls with messages past record and field 65,536, on records that come in one or many reads."""
     lines = b"1\n" * 65_535 + b"x\n" * 3 + b"1 KB\n" * 4_464 + b"2 x"
-    yield drawn(["--invalid=warn", "--max=999"], lines, invalid="warn", max=999)
+    yield drawn(["--invalid=warn", "--max=999", "--total"], lines, invalid="warn", max=999, total=True)
     yield drawn(["--header=65536"], lines, header=65_536)
     fields = b"1000," * 65_534 + b"x,y,z,1000" + b",w" * 5_000
     yield drawn(["-d,", "--field=65535-65537,70000-", "--invalid=fail"], fields, delimiter=b",",
                 fields=[(65_535, 65_537), (70_000, None)], invalid="fail")
     yield drawn(["--invalid=fail"], b"x\n" * 40_000, invalid="fail")
+    list_of_many = ",".join(map(str, range(2_000, 0, -2)))
+    yield drawn(["-d,", f"--field={list_of_many}"], b"1000," * 2_000 + b"1000", delimiter=b",",
+                fields=[(at, at) for at in range(2, 2_001, 2)])
+
+
+def calls_of_many_operands():
+    """Yields calls on many operands, and on long ones."""
+    for operands in ["1000"] * 5_000 + ["x", "1\n"], ["0" * 100_000 + "1.5 KB", "x" * 100_000, "\n" * 70_000]:
+        yield Drawn(Call(["--invalid=warn", *operands]), answer(Options(invalid="warn"), operands, b""))
 
 
 def calls_of_many_bytes():
@@ -58,4 +67,5 @@ def large_calls():
     yield from calls_of_characters()
     yield from calls_of_many_reads()
     yield from calls_of_many_records()
+    yield from calls_of_many_operands()
     yield from calls_of_many_bytes()

@@ -23,15 +23,21 @@ def escaped(text):
     return "".join(f"\\u{{{ord(c):x}}}" if unicodedata.category(c) == "Cc" else c for c in text)
 
 
+def quoted_length(data):
+    """Returns how many bytes are quoted: all, or at most 80 and at least 77, so that no character is cut."""
+    if len(data) <= QUOTED:
+        return len(data)
+    return next((at for at in range(QUOTED, QUOTED - 4, -1) if data[at] & 0xC0 != 0x80), QUOTED)
+
+
 def quoted(data):
-    """Returns bytes in quotes: all of them, or at most 80, never a part of a character, and two points."""
+    """Returns bytes in quotes, with two points if some are left out; as bytes if those in quotes are not UTF-8."""
+    shown = data[: quoted_length(data)]
     try:
-        data.decode()
-        text = escaped(data[:QUOTED].decode(errors="ignore"))
-        cut = len(data) > QUOTED
+        text = escaped(shown.decode())
     except UnicodeDecodeError:
-        text, cut = escaped_bytes(data[:QUOTED]), len(data) > QUOTED
-    return f"'{text}{'..' if cut else ''}'"
+        text = escaped_bytes(shown)
+    return f"'{text}{'..' if len(shown) < len(data) else ''}'"
 
 
 def debug_char(c):

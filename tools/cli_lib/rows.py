@@ -218,7 +218,9 @@ QUOTED = [
     *(field(("x" * at + c + "yyyy").encode(), "x" * at + c * (at + len(c.encode()) <= 80)
             + "y" * (80 - at - len(c.encode())) + "..", digit("x"))
       for at in range(76, 81) for c in ("\u00e9", "\u20ac", "\U0001f600")),
-    field(b"x" * 79 + b"\xc3\xa9\xff", "x" * 79 + "\\xc3..", "not UTF-8"),
+    field(b"x" * 79 + b"\xc3\xa9\xff", "x" * 79 + "..", "not UTF-8"),
+    field(b"x" * 78 + b"\xff\xff\xff", "x" * 78 + "\\xff\\xff..", "not UTF-8"),
+    field(b"x" * 76 + b"\x80" * 9, "x" * 76 + "\\x80" * 4 + "..", "not UTF-8"),
     field(b"x" * 81 + b"\xff", "x" * 80 + "..", "not UTF-8"),
 ]
 
