@@ -44,6 +44,7 @@ def fed_by_pieces(program, call, written, messages):
     with ours, its:
         child = started(program, call.words, its, written, messages)
         its.close()
+        ours.settimeout(SECONDS)
         try:
             for piece in call.pieces():
                 ours.sendall(piece)

@@ -1,11 +1,16 @@
 """Streams of the program byte-unit that fail, are closed, or are a terminal. Each test yields what was wrong."""
 
+import contextlib
 import fcntl
 import os
 import pty
 import socket
 import subprocess
+import threading
 
+from program import Call, contents, fed_by_pieces
+
+SECONDS = 60
 LINES = b"1.5 KiB\n" * 1_000_000
 READ_FAILED = b"byte-unit: read failed\n"
 WRITE_FAILED = b"byte-unit: write failed\n"
@@ -16,6 +21,18 @@ def ended(program, words, **streams):
     streams.setdefault("stdout", subprocess.PIPE)
     streams.setdefault("stderr", subprocess.PIPE)
     return subprocess.run([program, *words], check=False, timeout=600, **streams)
+
+
+@contextlib.contextmanager
+def started(program, words, **streams):
+    """Starts the program, and ends it if what it should write does not come in time."""
+    child = subprocess.Popen([program, *words], **streams)
+    timer = threading.Timer(SECONDS, child.kill)
+    timer.start()
+    try:
+        yield child
+    finally:
+        timer.cancel()
 
 
 def full_outputs(program):
@@ -75,12 +92,12 @@ def failing_input(program):
     ours, its = socket.socketpair(socket.AF_UNIX, socket.SOCK_SEQPACKET)
     its.send(b"unread")
     ours.send(b"1 KB\nx\n2")
-    words = [program, "--invalid=warn", "--total"]
-    child = subprocess.Popen(words, stdin=its, stdout=subprocess.PIPE, stderr=subprocess.PIPE)
-    its.close()
-    got = child.stdout.read1()
-    ours.close()
-    rest, messages = child.communicate(timeout=600)
+    words = ["--invalid=warn", "--total"]
+    with started(program, words, stdin=its, stdout=subprocess.PIPE, stderr=subprocess.PIPE) as child:
+        its.close()
+        got = child.stdout.read1()
+        ours.close()
+        rest, messages = child.communicate()
     wanted = b"byte-unit: line 2: 'x': the character 'x' is not a number\n" + READ_FAILED
     if (got + rest, messages, child.returncode) != (b"1 KB\nx\n", wanted, 1):
         yield f"failing input: {got + rest}, status {child.returncode}, {messages}"
@@ -92,15 +109,16 @@ def failing_errors(program):
     fcntl.fcntl(writing, fcntl.F_SETPIPE_SZ, 4096)
     os.set_blocking(writing, False)
     os.write(writing, b"." * 4096)
-    child = subprocess.Popen([program, "--invalid=fail"], stdin=subprocess.PIPE, stdout=subprocess.PIPE, stderr=writing)
-    os.close(writing)
-    written = b""
-    for line in b"x\n", b"1 KB\n":
-        child.stdin.write(line)
-        child.stdin.flush()
-        written += child.stdout.readline()
-    os.read(reading, 4096)
-    written += child.communicate(b"y\n", timeout=600)[0]
+    words = ["--invalid=fail"]
+    with started(program, words, stdin=subprocess.PIPE, stdout=subprocess.PIPE, stderr=writing) as child:
+        os.close(writing)
+        written = b""
+        for line in b"x\n", b"1 KB\n":
+            child.stdin.write(line)
+            child.stdin.flush()
+            written += child.stdout.readline()
+        os.read(reading, 4096)
+        written += child.communicate(b"y\n")[0]
     messages = os.read(reading, 4096)
     os.close(reading)
     if (written, messages, child.returncode) != (b"x\n1 KB\ny\n", b"", 2):
@@ -108,7 +126,8 @@ def failing_errors(program):
 
 
 def joined_streams(program):
-    """Standard output and standard error that are one stream: a message follows the lines before it."""
+    """Standard output and standard error that are one stream: a message follows the lines before it, also if they are
+    of an earlier read."""
     field = b"byte-unit: line 2: 'x': the character 'x' is not a number\n"
     total = b"byte-unit: the total is 10^30 or more\n"
     for words, data, wanted in [
@@ -121,15 +140,21 @@ def joined_streams(program):
         got = ended(program, words, input=data, stderr=subprocess.STDOUT)
         if got.stdout != wanted:
             yield f"{words} on {data}, both streams: {got.stdout}"
+    reads = Call(["--invalid=warn"], b"1 KB\nx\n3 KB\nx\n5 KB\n", [7, 14])
+    both = os.memfd_create("both")
+    fed_by_pieces(program, reads, both, both)
+    if contents(both) != b"1 KB\nx\n" + field + b"3 KB\nx\n" + field.replace(b"2", b"4") + b"5 KB\n":
+        yield f"reads with messages, both streams: {contents(both)}"
+    os.close(both)
 
 
 def terminal(program):
     """An input that is a terminal."""
     ours, its = pty.openpty()
-    child = subprocess.Popen([program], stdin=its, stdout=subprocess.PIPE, stderr=subprocess.PIPE)
-    os.close(its)
-    os.write(ours, b"1536\n\x04")
-    written, messages = child.communicate(timeout=600)
+    with started(program, [], stdin=its, stdout=subprocess.PIPE, stderr=subprocess.PIPE) as child:
+        os.close(its)
+        os.write(ours, b"1536\n\x04")
+        written, messages = child.communicate()
     os.close(ours)
     if (written, messages, child.returncode) != (b"1.5 KiB\n", TERMINAL, 0):
         yield f"terminal: {written}, status {child.returncode}, {messages}"
