@@ -1,15 +1,13 @@
 """Draws random calls of the program byte-unit: each option with each other, with values at and beside every limit.
 
-A drawn call is its options as the model takes them, its words in any order and spelling, and its input.
+The options are drawn first; the words of the command line name them, in any order and spelling.
 """
-
-from dataclasses import dataclass
 
 from exact_model import LETTERS, SIZE_LIMIT, WHITE_SPACE
 from generated_lines import some_line
 from messages import option_message, reason, unit_reason
 from model import FORMS, Answer, Options, answer, size_of
-from program import Call
+from program import Call, Case
 
 BITS_16 = (1 << 16) - 1
 BITS_64 = (1 << 64) - 1
@@ -26,14 +24,6 @@ ODD = [*"x/:@[`{'\"\\,-+_%\0\a\b\t\v\f\r\x1b\x1f\x7f\x80\x85\x9b\x9f\xa0\xad\xb5
        *"\U0001d7cf\U0001f600\U000e0001\U000e0100\U0010ffff"]
 CUT = ["a", "\x1b", "\x7f", "\x9b", "\xe9", "\u0301", "\u20ac", "\ufeff", "\U0001f600", "\U0001d7cf"]
 BROKEN = [b"\xff", b"\x80", b"\xc3", b"\xe2\x82", b"\xf0\x9f\x98", b"\xed\xa0\x80", b"\xc0\xaf", b"\xf4\x90\x80\x80"]
-
-
-@dataclass
-class Drawn:
-    """A call, and what it answers."""
-
-    call: Call
-    wanted: Answer
 
 
 def near(rng, values, most, least=0):
@@ -325,7 +315,7 @@ def some_wrong_call(rng):
     groups = [group for group in groups if group[0].split("=")[0] != name] + [words]
     operands = some_operands(rng, options) if rng.random() < 0.3 else []
     words = with_operands(rng, in_some_order(rng, groups, flags), operands)
-    return Drawn(Call(words, b"1 KB\n"), Answer(b"", message, 2, True))
+    return Case(Call(words, b"1 KB\n"), Answer(b"", message, 2, True))
 
 
 def some_call(rng):
@@ -340,4 +330,4 @@ def some_call(rng):
     else:
         operands, data = [], some_input(rng, options)
         cuts = some_cuts(rng, data)
-    return Drawn(Call(with_operands(rng, groups, operands), data, cuts), answer(options, operands, data))
+    return Case(Call(with_operands(rng, groups, operands), data, cuts), answer(options, operands, data))

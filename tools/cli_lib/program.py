@@ -29,6 +29,14 @@ class Call:
                 yield self.data[at : min(end, at + CHUNK)]
 
 
+@dataclass
+class Case:
+    """A call, and what it is to write."""
+
+    call: Call
+    wanted: Answer
+
+
 def started(program, words, stdin, written, messages):
     return subprocess.Popen([program, *(word.encode() for word in words)], stdin=stdin, stdout=written, stderr=messages)
 

@@ -2,9 +2,8 @@
 exit status, and standard error.
 """
 
-from calls import Drawn
 from model import Answer
-from program import Call
+from program import Call, Case
 
 START = "('B', 'K', 'M', 'G', 'T', 'P', 'E', 'Z', 'Y' or 'R' or no character is expected)"
 BLANK = "no value can be found"
@@ -230,4 +229,4 @@ ROWS = [*SIZES, *HEADERS_AND_TOTALS, *LIMITS, *FORMS, *FIELDS, *WRONG_VALUES, *W
 def fixed_calls():
     """Returns each call with its answer."""
     for words, data, written, status, messages in ROWS:
-        yield Drawn(Call(words, data), Answer(written, messages.encode(), status))
+        yield Case(Call(words, data), Answer(written, messages.encode(), status))
