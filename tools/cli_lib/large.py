@@ -42,7 +42,7 @@ def calls_of_many_records():
 def calls_of_many_operands():
     """Yields calls on many operands, and on long ones."""
     for operands in ["1000"] * 5_000 + ["x", "1\n"], ["0" * 100_000 + "1.5 KB", "x" * 100_000, "\n" * 70_000]:
-        yield Case(Call(["--invalid=warn", *operands]), answer(Options(invalid="warn"), operands, b""))
+        yield Case(Call(["--invalid=warn", *operands], b"1 KB\n"), answer(Options(invalid="warn"), operands, b""))
 
 
 def calls_of_many_bytes():
