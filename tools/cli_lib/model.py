@@ -50,7 +50,7 @@ class Answer:
     unread: bool = False
 
 
-@functools.lru_cache(maxsize=1 << 16)
+@functools.lru_cache(maxsize=1 << 10)
 def size_of(data, bits, ignore_case):
     """Returns the size that a field is, or why it is none."""
     try:
@@ -97,7 +97,7 @@ def decimal(numerator, denominator, places):
     return digits[: len(digits) - places] + ("." + digits[len(digits) - places :] if places else "") + "0" * zeros
 
 
-@functools.lru_cache(maxsize=1 << 16)
+@functools.lru_cache(maxsize=1 << 10)
 def shown(size, bits, ignore_case, to, precision):
     """Returns the text of a size."""
     in_bits = size * (1 if bits else 8)
