@@ -62,10 +62,8 @@ def unit_reason(rest, prefixed):
 
     `prefixed` are the characters that are named as expected after a prefix.
     """
-    letter, infix, suffix = re.match(r"([KMGTPEZYR]?)(i?)", rest, re.I | re.A).groups() + ("",)
-    if not letter:
-        infix = ""
-    at = len(letter) + len(infix)
+    letter, infix = re.match(r"([KMGTPEZYR]?)(i?)", rest, re.I | re.A).groups()
+    at = len(letter + infix) if letter else 0
     suffix = next((word for word in ("bits", "bit", "bi", "b") if rest[at : at + len(word)].lower() == word), "")
     after = rest[at + len(suffix) :]
     if not after:
@@ -77,7 +75,7 @@ def unit_reason(rest, prefixed):
 
 
 def number_reason(text):
-    """Returns the message for the number at the beginning of a text, or its length and `None`."""
+    """Returns the length of the number at the beginning of a text, and the message of its error or `None`."""
     digits = re.match(r"[0-9]*", text).group()
     if not digits:
         return 0, f"the character {debug_char(text[0])} is not a number" if text else "no value can be found"
