@@ -38,7 +38,7 @@ fn convert<R: Read + Drop>(
 ) -> u8 {
     let mut reader = Reading::new(input);
     let mut writer = Writing::new(io::writer(rt));
-    let mut errors = rt.stderr();
+    let mut errors = Writing::new(rt.stderr());
     let ended = run(
         rt.alloc(),
         options,

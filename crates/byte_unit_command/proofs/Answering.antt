@@ -1,5 +1,5 @@
 -- Lemmas: a call that converts records, and then writes them.
-use Rattle.std.proofs.Common.{◌≡◌, ◌≢◌, ℕ, List, [], ◌∷◌, Result, Ok, Err, OnOk, IfErr, sym, subst, append-nil}
+use Rattle.std.proofs.Common.{◌≡◌, ◌≢◌, ℕ, List, [], ◌∷◌, Result, Ok, Err, OnOk, IfErr, refl, sym, subst, append-nil}
 use Rattle.std.specs.Prelude.{⊤, IsErrAnd}
 use Rattle.byte_unit_command.specs.Outcome.{IsPrefix}
 use Rattle.byte_unit_command.specs.Progress.{AddsRecords, State, Stops, IsAnswered, state_of}
@@ -15,26 +15,25 @@ pub write_is_not_read : Write ≢ Read
 write_is_not_read same = cc
 
 -- what a call has appended that converts records, from a state with nothing to be written
-pub record HasFed (options : Options) (records : List (List ℕ)) (old : State) (progress : Progress) (out : List ℕ)
+pub record HasFed (options : Options) (records : List (List ℕ)) (old : State) (progress : Progress) (out messages : List ℕ)
     (result : Result ⊤ Stop) : Type 0 where
-  pub ok : OnOk result (AddsRecords options records old (state_of progress out))
-  pub stop : IfErr result (λ stop. Stops options records old stop out)
+  pub ok : OnOk result (AddsRecords options records old (state_of progress out messages))
+  pub stop : IfErr result (λ stop. Stops options records old stop out messages)
 
--- the same, where what was to be written is empty
-pub HasFed-from_empty : (options : Options) (records : List (List ℕ)) (before progress : Progress) (waiting out : List ℕ)
-    (result : Result ⊤ Stop) → waiting ≡ []
-    → OnOk result (AddsRecords options records (state_of before waiting) (state_of progress out))
-    → IfErr result (λ stop. Stops options records (state_of before waiting) stop out)
-    → HasFed options records (state_of before []) progress out result
-HasFed-from_empty options records before progress waiting out result none ok stop = record {
-  ok = subst (λ waiting. OnOk result (AddsRecords options records (state_of before waiting) (state_of progress out))) none ok;
-  stop = subst (λ waiting. IfErr result (λ stop. Stops options records (state_of before waiting) stop out)) none stop;
-}
+-- the same, where what was to be written and told is empty
+pub HasFed-from_empty : (options : Options) (records : List (List ℕ)) (before progress : Progress) (waiting told out messages : List ℕ)
+    (result : Result ⊤ Stop) → waiting ≡ [] → told ≡ []
+    → OnOk result (AddsRecords options records (state_of before waiting told) (state_of progress out messages))
+    → IfErr result (λ stop. Stops options records (state_of before waiting told) stop out messages)
+    → HasFed options records (state_of before [] []) progress out messages result
+HasFed-from_empty options records before progress waiting told out messages result none untold ok stop =
+    let Has : List ℕ → List ℕ → Type 0 = λ waiting told. HasFed options records (state_of before waiting told) progress out messages result in
+    subst (λ waiting. Has waiting []) none (subst (Has waiting) untold (record { ok = ok; stop = stop }))
 
-module _ (options : Options) (records : List (List ℕ)) (old : State) (progress : Progress) (out : List ℕ) where
+module _ (options : Options) (records : List (List ℕ)) (old : State) (progress : Progress) (out messages : List ℕ) where
   -- all of it was written
-  pub IsAnswered-fed : (result : Result ⊤ Stop) → HasFed options records old progress out result
-      → IsAnswered options records old (state_of progress []) result out
+  pub IsAnswered-fed : (result : Result ⊤ Stop) → HasFed options records old progress out messages result
+      → IsAnswered options records old (state_of progress [] []) result out messages
   IsAnswered-fed (Ok _) fed = fed.ok
   IsAnswered-fed (Err Memory) fed = fed.stop
   IsAnswered-fed (Err Rejected) fed = fed.stop
@@ -43,37 +42,40 @@ module _ (options : Options) (records : List (List ℕ)) (old : State) (progress
   IsAnswered-fed (Err Total) fed = absurd fed.stop
 
   -- a prefix of it was written
-  IsAnswered-begun : (written : List ℕ) → IsPrefix written out → (result : Result ⊤ Stop) → HasFed options records old progress out result
-      → IsAnswered options records old (state_of progress []) (Err Write) written
-  IsAnswered-begun written begins (Ok _) fed = (records, state_of progress out, ([], sym (append-nil records)), fed.ok, begins)
+  IsAnswered-begun : (written : List ℕ) → IsPrefix written out → (result : Result ⊤ Stop)
+      → HasFed options records old progress out messages result
+      → IsAnswered options records old (state_of progress [] []) (Err Write) written []
+  IsAnswered-begun written begins (Ok _) fed =
+      ((records, state_of progress out messages, ([], sym (append-nil records)), fed.ok, begins), refl)
   IsAnswered-begun written begins (Err Memory) fed =
       let stop = fed.stop in
-      (stop.0, stop.1, stop.2, stop.3, subst (λ whole. IsPrefix written whole) (sym stop.4) begins)
+      ((stop.0, stop.1, stop.2, stop.3, subst (λ whole. IsPrefix written whole) (sym stop.4) begins), refl)
   IsAnswered-begun written begins (Err Rejected) fed =
       let stop = fed.stop in
-      (stop.0, stop.3, (stop.2 ∷ stop.1, stop.4), stop.5, subst (λ whole. IsPrefix written whole) (sym stop.6) begins)
+      ((stop.0, stop.3, (stop.2 ∷ stop.1, stop.4), stop.5, subst (λ whole. IsPrefix written whole) (sym stop.6) begins), refl)
   IsAnswered-begun written begins (Err Read) fed = absurd fed.stop
   IsAnswered-begun written begins (Err Write) fed = absurd fed.stop
   IsAnswered-begun written begins (Err Total) fed = absurd fed.stop
 
   -- a prefix of it was written, and the result is that a write failed
   pub IsAnswered-failed : (written : List ℕ) → IsPrefix written out → (fed_result : Result ⊤ Stop)
-      → HasFed options records old progress out fed_result → (result : Result ⊤ Stop) (error : Stop)
-      → IsErrAnd result (λ other. other ≡ error) → error ≡ Write → IsAnswered options records old (state_of progress []) result written
+      → HasFed options records old progress out messages fed_result → (result : Result ⊤ Stop) (error : Stop)
+      → IsErrAnd result (λ other. other ≡ error) → error ≡ Write
+      → IsAnswered options records old (state_of progress [] []) result written []
   IsAnswered-failed written begins fed_result fed (Ok _) error passed is_write = absurd passed
   IsAnswered-failed written begins fed_result fed (Err other) error passed is_write =
-      let Answered : Stop → Type 0 = λ stop. IsAnswered options records old (state_of progress []) (Err stop) written in
+      let Answered : Stop → Type 0 = λ stop. IsAnswered options records old (state_of progress [] []) (Err stop) written [] in
       subst Answered (sym passed) (subst Answered (sym is_write) (IsAnswered-begun written begins fed_result fed))
 
   -- such a call never ends for these reasons
-  pub fed-not_total : (result : Result ⊤ Stop) → HasFed options records old progress out result → result ≡ Err Total → ⊥
+  pub fed-not_total : (result : Result ⊤ Stop) → HasFed options records old progress out messages result → result ≡ Err Total → ⊥
   fed-not_total result fed is =
-      let Has : Result ⊤ Stop → Type 0 = λ result. IfErr result (λ stop. Stops options records old stop out) in subst Has is fed.stop
+      let Has : Result ⊤ Stop → Type 0 = λ result. IfErr result (λ stop. Stops options records old stop out messages) in subst Has is fed.stop
 
-  pub fed-not_read : (result : Result ⊤ Stop) → HasFed options records old progress out result → result ≡ Err Read → ⊥
+  pub fed-not_read : (result : Result ⊤ Stop) → HasFed options records old progress out messages result → result ≡ Err Read → ⊥
   fed-not_read result fed is =
-      let Has : Result ⊤ Stop → Type 0 = λ result. IfErr result (λ stop. Stops options records old stop out) in subst Has is fed.stop
+      let Has : Result ⊤ Stop → Type 0 = λ result. IfErr result (λ stop. Stops options records old stop out messages) in subst Has is fed.stop
 
-  pub fed-not_write : (result : Result ⊤ Stop) → HasFed options records old progress out result → result ≡ Err Write → ⊥
+  pub fed-not_write : (result : Result ⊤ Stop) → HasFed options records old progress out messages result → result ≡ Err Write → ⊥
   fed-not_write result fed is =
-      let Has : Result ⊤ Stop → Type 0 = λ result. IfErr result (λ stop. Stops options records old stop out) in subst Has is fed.stop
+      let Has : Result ⊤ Stop → Type 0 = λ result. IfErr result (λ stop. Stops options records old stop out messages) in subst Has is fed.stop

@@ -1,5 +1,6 @@
 -- Lemmas: the loop over the records that end in a chunk.
 use Rattle.std.proofs.Common.{◌≡◌, ℕ, ◌+◌, List, [], ◌∷◌, ◌++◌, take, drop, refl, sym, ap, subst, ◌∙◌, append_assoc, append-nil, ◌⊎◌, inl, inr, ◌==◌, true, length}
+use Rattle.byte_unit_command.specs.Messages.{next_place}
 use Rattle.byte_unit_command.specs.Progress.{ended_records, begun_record, IsUnbroken, AddsRecords, Aborts, State, Stops}
 use Rattle.byte_unit_command.specs.declared.options.Options.{Options}
 use Rattle.std.proofs.lemmas.Bool.{eqb-true}
@@ -76,16 +77,18 @@ pub begun_record-all : (options : Options) (start now : Feed) → IsFed options 
 begun_record-all options start now fed unbroken = sym (unbroken now.part).1 ∙ sym fed.begun
 
 -- out of memory, with nothing more appended
-pub Stops-memory : (options : Options) (start now : Feed) → IsFed options start now → (out : List ℕ) → now.state.out ≡ out
-    → Stops options (ended_records options.record_end start.part start.rest) start.state Memory out
-Stops-memory options start now fed out same =
-    (fed.converted, now.state, (ended_records options.record_end now.part now.rest, fed.ended), fed.added, same)
+pub Stops-memory : (options : Options) (start now : Feed) → IsFed options start now → (out messages : List ℕ) → now.state.out ≡ out
+    → now.state.messages ≡ messages
+    → Stops options (ended_records options.record_end start.part start.rest) start.state Memory out messages
+Stops-memory options start now fed out messages same told =
+    (fed.converted, now.state, (ended_records options.record_end now.part now.rest, fed.ended), fed.added, same, told)
 
 -- a rejected field in the next record
 pub Stops-rejected : (options : Options) (start now : Feed) (place : ℕ) (bytes : List ℕ) → IsFed options start now
-    → IsNext options now place bytes → (out : List ℕ) → now.state.out ≡ out → now.state.header ≡ 0 → Aborts options bytes
-    → Stops options (ended_records options.record_end start.part start.rest) start.state Rejected out
-Stops-rejected options start now place bytes fed next out same header aborts = (
+    → IsNext options now place bytes → (out messages : List ℕ) → now.state.out ≡ out → now.state.header ≡ 0
+    → Aborts options now.state.word (next_place now.state.place) bytes now.state.messages messages
+    → Stops options (ended_records options.record_end start.part start.rest) start.state Rejected out messages
+Stops-rejected options start now place bytes fed next out messages same header aborts = (
   fed.converted,
   ended_records options.record_end [] (drop (place + 1) now.rest),
   bytes,
@@ -99,25 +102,28 @@ Stops-rejected options start now place bytes fed next out same header aborts = (
 
 -- a call that converts the next record stopped
 pub Stops-record : (options : Options) (start now : Feed) (place : ℕ) (bytes : List ℕ) → IsFed options start now
-    → IsNext options now place bytes → (out : List ℕ) → now.state.out ≡ out → (error : Stop)
-    → (error ≡ Memory) ⊎ (error ≡ Rejected) → (error ≡ Rejected → (now.state.header ≡ 0) × Aborts options bytes)
-    → Stops options (ended_records options.record_end start.part start.rest) start.state error out
-Stops-record options start now place bytes fed next out same error (inl memory) aborts =
-    subst (λ error. Stops options (ended_records options.record_end start.part start.rest) start.state error out) (sym memory)
-    (Stops-memory options start now fed out same)
-Stops-record options start now place bytes fed next out same error (inr rejected) aborts =
+    → IsNext options now place bytes → (out messages : List ℕ) → now.state.out ≡ out → (error : Stop)
+    → (error ≡ Memory) ⊎ (error ≡ Rejected) → (error ≡ Memory → messages ≡ now.state.messages)
+    → (error ≡ Rejected → (now.state.header ≡ 0)
+    × Aborts options now.state.word (next_place now.state.place) bytes now.state.messages messages)
+    → Stops options (ended_records options.record_end start.part start.rest) start.state error out messages
+Stops-record options start now place bytes fed next out messages same error (inl memory) kept aborts =
+    subst (λ error. Stops options (ended_records options.record_end start.part start.rest) start.state error out messages) (sym memory)
+    (Stops-memory options start now fed out messages same (sym (kept memory)))
+Stops-record options start now place bytes fed next out messages same error (inr rejected) kept aborts =
     let at = aborts rejected in
-    subst (λ error. Stops options (ended_records options.record_end start.part start.rest) start.state error out) (sym rejected)
-    (Stops-rejected options start now place bytes fed next out same at.0 at.1)
+    subst (λ error. Stops options (ended_records options.record_end start.part start.rest) start.state error out messages) (sym rejected)
+    (Stops-rejected options start now place bytes fed next out messages same at.0 at.1)
 
 -- a part whose length is tested to be 0 is empty
 pub empty_from_length : (part : List ℕ) (count : ℕ) → count ≡ length part → true ≡ (count == 0) → part ≡ []
 empty_from_length part count count_is none = nil_from_length part (sym count_is ∙ eqb-true count 0 (sym none))
 
 -- appended records, with the state replaced by an equal one
-pub AddsRecords-same : (options : Options) (records : List (List ℕ)) (old : State) {progress same : Progress} {out now : List ℕ}
-    → AddsRecords options records old (state_of progress out) → same ≡ progress → now ≡ out
-    → AddsRecords options records old (state_of same now)
-AddsRecords-same options records old {progress} {same} {out} {now} adds progress_is out_is =
-    subst (λ now. AddsRecords options records old (state_of same now)) (sym out_is)
-    (subst (λ progress. AddsRecords options records old (state_of progress out)) (sym progress_is) adds)
+pub AddsRecords-same : (options : Options) (records : List (List ℕ)) (old : State) {progress same : Progress}
+    {out now messages told : List ℕ} → AddsRecords options records old (state_of progress out messages) → same ≡ progress → now ≡ out
+    → told ≡ messages → AddsRecords options records old (state_of same now told)
+AddsRecords-same options records old {progress} {same} {out} {now} {messages} {told} adds progress_is out_is told_is =
+    subst (λ told. AddsRecords options records old (state_of same now told)) (sym told_is)
+    (subst (λ now. AddsRecords options records old (state_of same now messages)) (sym out_is)
+    (subst (λ progress. AddsRecords options records old (state_of progress out messages)) (sym progress_is) adds))

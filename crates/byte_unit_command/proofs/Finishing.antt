@@ -1,10 +1,11 @@
 -- Lemmas: the end of a run.
-use Rattle.std.proofs.Common.{◌≡◌, ◌≢◌, ℕ, List, [], ◌++◌, true, false, Option, Result, Ok, Err, OnOk, OnErr, IfErr}
+use Rattle.std.proofs.Common.{◌≡◌, ◌≢◌, ℕ, List, [], ◌∷◌, ◌++◌, true, false, Option, Result, Ok, Err, OnOk, OnErr, IfErr}
 use Rattle.std.proofs.Common.{refl, sym, subst, append-nil, inl, inr, MatchBool, ◌⊎◌}
 use Rattle.std.specs.Prelude.{⊤, IsErrAnd}
 use Rattle.std.specs.Io.KnownBytes.{Appends}
 use Rattle.byte_unit_command.specs.Outcome.{IsPrefix}
-use Rattle.byte_unit_command.specs.Progress.{AddsRecords, State, IsTotalFor, IsTotalWritten, IsFinished, nonempty_record}
+use Rattle.byte_unit_command.specs.Messages.{next_place}
+use Rattle.byte_unit_command.specs.Progress.{Aborts, AddsRecords, State, IsTotalFor, IsTotalWritten, IsFinished, nonempty_record}
 use Rattle.byte_unit_command.specs.declared.options.Options.{Options}
 use Rattle.byte_unit_command.specs.declared.stop.Stop.{Stop}
 use Rattle.byte_unit_command.specs.declared.stop.Stop.TheVariants.{Memory, Read, Write, Rejected, Total}
@@ -50,43 +51,55 @@ module _ (options : Options) (total : ℕ) (before : List ℕ) where
 module _ (options : Options) (part : List ℕ) (old new : State) (adds : AddsRecords options (nonempty_record part) old new) where
   -- the total is asked for
   pub IsFinished-total_ok : options.total ≡ true → (written : List ℕ) → IsTotalWritten options new.tally.total new.out (Ok tt) written
-      → IsFinished options part old (Ok new.tally) written
+      → IsFinished options part old (Ok new.tally) written new.messages
   IsFinished-total_ok asked written (line, is_for, is) =
       let For : Type 0 = IsTotalFor options new.tally.total line in
-      (new, line, adds, refl, subst (λ total. MatchBool total For (line ≡ [])) (sym asked) is_for, is)
+      (new, line, adds, refl, subst (λ total. MatchBool total For (line ≡ [])) (sym asked) is_for, is, refl)
 
   pub IsFinished-total_error : options.total ≡ true → (error : Stop) (written : List ℕ)
-      → IsTotalWritten options new.tally.total new.out (Err error) written → IsFinished options part old (Err error) written
-  IsFinished-total_error asked Memory written at = at
-  IsFinished-total_error asked Total written at = (new, adds, asked, at.0, at.1)
+      → IsTotalWritten options new.tally.total new.out (Err error) written
+      → IsFinished options part old (Err error) written new.messages
+  IsFinished-total_error asked Memory written at = (at, inr (new, adds, refl))
+  IsFinished-total_error asked Total written at = (new, adds, asked, at.0, at.1, refl)
   IsFinished-total_error asked Write written (line, is_for, begins) =
       let For : Type 0 = IsTotalFor options new.tally.total line in
       let matches : (line ≡ []) ⊎ MatchBool options.total For (line ≡ []) = elim is_for [
         | inl none ↦ inl none
         | inr holds ↦ inr (subst (λ total. MatchBool total For (line ≡ [])) (sym asked) holds)
       ] in
-      (new, line, adds, matches, begins)
+      (new, line, adds, matches, begins, refl)
   IsFinished-total_error asked Read written at = absurd at
   IsFinished-total_error asked Rejected written at = absurd at
 
   -- the total is not asked for
-  pub IsFinished-plain_ok : options.total ≡ false → IsFinished options part old (Ok new.tally) new.out
+  pub IsFinished-plain_ok : options.total ≡ false → IsFinished options part old (Ok new.tally) new.out new.messages
   IsFinished-plain_ok not_asked =
       let For : Type 0 = IsTotalFor options new.tally.total [] in
       let Nothing : Type 0 = ◌≡◌ {A = List ℕ} [] [] in
       let nothing : Nothing = refl in
-      (new, [], adds, refl, subst (λ total. MatchBool total For Nothing) (sym not_asked) nothing, sym (append-nil new.out))
+      (new, [], adds, refl, subst (λ total. MatchBool total For Nothing) (sym not_asked) nothing, sym (append-nil new.out), refl)
 
   pub IsFinished-plain_error : (error : Stop) (written : List ℕ) → error ≡ Write → IsPrefix written new.out
-      → IsFinished options part old (Err error) written
+      → IsFinished options part old (Err error) written new.messages
   IsFinished-plain_error error written is begins =
       let whole : IsPrefix written (new.out ++ []) = subst (IsPrefix written) (sym (append-nil new.out)) begins in
-      subst (λ error. IsFinished options part old (Err error) written) (sym is) (new, [], adds, inl refl, whole)
+      subst (λ error. IsFinished options part old (Err error) written new.messages) (sym is) (new, [], adds, inl refl, whole, refl)
+
+-- the last record was not converted
+pub IsFinished-stopped : (options : Options) (part : List ℕ) (old : State) (messages : List ℕ) (error : Stop)
+    → (error ≡ Memory) ⊎ (error ≡ Rejected) → (error ≡ Memory → messages ≡ [])
+    → (error ≡ Rejected → (old.header ≡ 0) × Aborts options old.word (next_place old.place) part old.messages messages
+    × (nonempty_record part ≡ part ∷ [])) → IsFinished options part old (Err error) [] messages
+IsFinished-stopped options part old messages error (inl memory) kept aborts =
+    subst (λ error. IsFinished options part old (Err error) [] messages) (sym memory) (refl, inl (kept memory))
+IsFinished-stopped options part old messages error (inr rejected) kept aborts =
+    let at = aborts rejected in
+    subst (λ error. IsFinished options part old (Err error) [] messages) (sym rejected) (refl, at.0, at.1, at.2)
 
 -- what is right for an error is right for the result with it
-pub IsFinished-error : (options : Options) (part : List ℕ) (old : State) (written : List ℕ) (result : Result Tally Stop) (error : Stop)
-    → IsErrAnd result (λ other. other ≡ error) → IsFinished options part old (Err error) written
-    → IsFinished options part old result written
-IsFinished-error options part old written (Ok _) error is at = absurd is
-IsFinished-error options part old written (Err _) error is at =
-    subst (λ other. IsFinished options part old (Err other) written) (sym is) at
+pub IsFinished-error : (options : Options) (part : List ℕ) (old : State) (written messages : List ℕ) (result : Result Tally Stop)
+    (error : Stop) → IsErrAnd result (λ other. other ≡ error) → IsFinished options part old (Err error) written messages
+    → IsFinished options part old result written messages
+IsFinished-error options part old written messages (Ok _) error is at = absurd is
+IsFinished-error options part old written messages (Err _) error is at =
+    subst (λ other. IsFinished options part old (Err other) written messages) (sym is) at

@@ -9,8 +9,11 @@ pub mod Parts
 pub mod Prefixes
 pub mod Results
 pub mod Runs
+pub mod Served
 pub mod Splitting
+pub mod Starts
 pub mod Tallies
+pub mod Telling
 pub mod Texts
 pub mod Items
 pub mod Joining

@@ -1,5 +1,5 @@
 -- Lemmas: lists that begin with another list.
-use Rattle.std.proofs.Common.{◌≡◌, List, [], ◌++◌, length, take, sym, ap, ◌∙◌, append_assoc, append-nil}
+use Rattle.std.proofs.Common.{◌≡◌, Bool, true, false, if◌then◌else◌, List, [], ◌++◌, length, take, sym, ap, subst, ◌∙◌, append_assoc, append-nil}
 use Rattle.std.proofs.Math.Seq.{take-append_seam}
 use Rattle.byte_unit_command.specs.Outcome.{IsPrefix}
 
@@ -17,3 +17,18 @@ module _ {X : Type 0} where
   -- if a list begins with `front`, its first elements, as many as `front` has, are `front`
   pub take-IsPrefix : (front whole : List X) → IsPrefix front whole → take (length front) whole ≡ front
   take-IsPrefix front whole (rest, is) = ap (take (length front)) is ∙ take-append_seam front rest
+
+  -- the whole list replaced by an equal one
+  pub IsPrefix-same : (front : List X) {whole same : List X} → same ≡ whole → IsPrefix front whole → IsPrefix front same
+  IsPrefix-same front is prefix = subst (IsPrefix front) (sym is) prefix
+
+  -- a list that a call appends to, or leaves
+  pub IsPrefix-if : (yes : Bool) (front more : List X) {whole : List X} → whole ≡ (if yes then front ++ more else front)
+      → IsPrefix front whole
+  IsPrefix-if true front more is = (more, is)
+  IsPrefix-if false front more is = ([], is ∙ sym (append-nil front))
+
+  -- a prefix of a prefix
+  pub IsPrefix-trans : (front between whole : List X) → IsPrefix front between → IsPrefix between whole → IsPrefix front whole
+  IsPrefix-trans front between whole (rest, is) (more, whole_is) =
+      (rest ++ more, whole_is ∙ ap (λ xs. xs ++ more) is ∙ append_assoc front rest more)

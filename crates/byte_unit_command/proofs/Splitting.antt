@@ -4,12 +4,14 @@ use Rattle.std.proofs.Common.{refl, sym, ap, subst, ◌∙◌, arith, append_ass
 use Rattle.std.proofs.lemmas.Bool.{eqb-true}
 use Rattle.std.proofs.lemmas.List.{length-drop, take_more}
 use Rattle.std.specs.List.{onto_first}
-use Rattle.byte_unit_command.specs.Field.{Found, IsField, IsNoSize, other, size, rejected}
+use Rattle.byte_unit_command.specs.Field.{Found, IsField, other, size, rejected}
 use Rattle.byte_unit_command.specs.Fields.{IsChosen, fields_of, delimiter_bytes}
+use Rattle.byte_unit_command.specs.Messages.{AreFieldMessages, AreMessagesOfFields, AreMessagesToRejected, other as other_told}
 use Rattle.byte_unit_command.specs.Outcome.{Passes}
 use Rattle.byte_unit_command.specs.Output.{AreFields, HasRejectedField}
-use Rattle.byte_unit_command.specs.Progress.{AddsField, AddsFields, Aborts, IsUnbroken, tally_after}
+use Rattle.byte_unit_command.specs.Progress.{AddsField, AddsFields, Aborts, IsRejectedField, IsUnbroken, tally_after}
 use Rattle.byte_unit_command.specs.Records.{parts}
+use Rattle.byte_unit_command.specs.Sums.{has_rejected}
 use Rattle.byte_unit_command.specs.declared.options.Options.{Options}
 use Rattle.byte_unit_command.specs.declared.options.Invalid.TheVariants.{Abort}
 use Rattle.byte_unit_command.specs.declared.tally.Tally.{Tally}
@@ -78,56 +80,88 @@ AreFields-copied options delimiter is_delimiter (byte ∷ bytes) number past =
     (AreFields-copied options delimiter is_delimiter bytes number past) in
     elim (eqb byte delimiter) as Copies [ true ↦ on_end | false ↦ on_other ] refl
 
+-- fields none of which is chosen have no messages
+AreMessagesOfFields-none : (options : Options) (word : List ℕ) (place : ℕ) (fields : List (List ℕ)) (number : ℕ)
+    → ((later : ℕ) → number ≤ later → ¬ IsChosen options.fields.now later) → AreMessagesOfFields options word place number fields []
+AreMessagesOfFields-none options word place [] number past = refl
+AreMessagesOfFields-none options word place (field ∷ fields) number past = (
+  [],
+  [],
+  false,
+  other_told (past number (omega arith)) refl refl,
+  AreMessagesOfFields-none options word place fields (number + 1) (λ later high. past later (omega (arith, high))),
+  refl,
+)
+
 -- between two fields of a record: those before are appended and counted, and the rest gives the others
-pub record IsSplitting (options : Options) (delimiter : ℕ) (bytes : List ℕ) (old : Tally) (old_text : List ℕ)
-    (number : ℕ) (rest : List ℕ) (new : Tally) (new_text : List ℕ) : Type 0 where
+pub record IsSplitting (options : Options) (word : List ℕ) (place delimiter : ℕ) (bytes : List ℕ)
+    (old : Tally) (old_text old_messages : List ℕ) (number : ℕ) (rest : List ℕ) (new : Tally) (new_text new_messages : List ℕ)
+    : Type 0 where
   pub text : List ℕ
+  pub messages : List ℕ
   pub found : List Found
   pub text_is : new_text ≡ old_text ++ text
+  pub messages_are : new_messages ≡ old_messages ++ messages
   pub tally_is : new ≡ tally_after options old found
   pub passes : Passes options found
   pub goes_on : (more : List ℕ) (more_found : List Found) → AreFields options number (parts delimiter rest) more more_found
       → AreFields options 1 (parts delimiter bytes) (text ++ more) (found ++ more_found)
+  pub tells_on : (more : List ℕ) → AreMessagesOfFields options word place number (parts delimiter rest) more
+      → AreMessagesOfFields options word place 1 (parts delimiter bytes) (messages ++ more)
   pub rejects : HasRejectedField options number (parts delimiter rest) → HasRejectedField options 1 (parts delimiter bytes)
+  pub tells_to : options.invalid ≡ Abort → (more : List ℕ)
+      → AreMessagesToRejected options word place number (parts delimiter rest) more
+      → AreMessagesToRejected options word place 1 (parts delimiter bytes) (messages ++ more)
   pub few : number + length rest ≤ 1 + length bytes
 
 -- before the first field
-pub IsSplitting-start : (options : Options) (delimiter : ℕ) (bytes : List ℕ) (old : Tally) (old_text : List ℕ)
-    → IsSplitting options delimiter bytes old old_text 1 bytes old old_text
-IsSplitting-start options delimiter bytes old old_text = record {
+pub IsSplitting-start : (options : Options) (word : List ℕ) (place delimiter : ℕ) (bytes : List ℕ) (old : Tally)
+    (old_text old_messages : List ℕ)
+    → IsSplitting options word place delimiter bytes old old_text old_messages 1 bytes old old_text old_messages
+IsSplitting-start options word place delimiter bytes old old_text old_messages = record {
   text = [];
+  messages = [];
   found = [];
   text_is = sym (append-nil old_text);
+  messages_are = sym (append-nil old_messages);
   tally_is = refl;
   passes = λ mode. refl;
   goes_on = λ more more_found are. are;
+  tells_on = λ more are. are;
   rejects = λ has. has;
+  tells_to = λ mode more are. are;
   few = omega arith;
 }
 
-module _ (options : Options) (delimiter : ℕ) (bytes : List ℕ) (old : Tally) (old_text : List ℕ) (number : ℕ) (rest : List ℕ)
-    (new : Tally) (new_text : List ℕ) (so_far : IsSplitting options delimiter bytes old old_text number rest new new_text) where
+module _ (options : Options) (word : List ℕ) (place delimiter : ℕ) (bytes : List ℕ) (old : Tally) (old_text old_messages : List ℕ)
+    (number : ℕ) (rest : List ℕ) (new : Tally) (new_text new_messages : List ℕ)
+    (so_far : IsSplitting options word place delimiter bytes old old_text old_messages number rest new new_text new_messages) where
   -- one more field and its delimiter
-  pub IsSplitting-step : options.delimiter ≡ Some delimiter → (place : ℕ) → EndsAt delimiter rest place
-      → (next : Tally) (next_text : List ℕ) → AddsField options number (take place rest) new new_text next next_text
+  pub IsSplitting-step : options.delimiter ≡ Some delimiter → (end : ℕ) → EndsAt delimiter rest end
+      → (next : Tally) (next_text next_messages : List ℕ)
+      → AddsField options word place number (take end rest) new new_text new_messages next next_text next_messages
       → (last_text : List ℕ) → last_text ≡ next_text ++ delimiter ∷ []
-      → IsSplitting options delimiter bytes old old_text (number + 1) (drop (place + 1) rest) next last_text
-  IsSplitting-step is_delimiter place ends next next_text adds last_text last_is =
-      let behind = drop (place + 1) rest in
+      → IsSplitting options word place delimiter bytes old old_text old_messages (number + 1) (drop (end + 1) rest) next last_text next_messages
+  IsSplitting-step is_delimiter end ends next next_text next_messages adds last_text last_is =
+      let behind = drop (end + 1) rest in
       let split = parts_IsSplit delimiter behind in
-      let first = parts-EndsAt delimiter rest place ends in
+      let first = parts-EndsAt delimiter rest end ends in
       let between : delimiter_bytes options.delimiter ≡ delimiter ∷ [] = ap delimiter_bytes is_delimiter in record {
         text = so_far.text ++ adds.text ++ delimiter ∷ [];
+        messages = so_far.messages ++ adds.messages;
         found = so_far.found ++ adds.found;
         text_is =
             last_is
             ∙ ap (λ text. text ++ delimiter ∷ []) (adds.text_is ∙ ap (λ text. text ++ adds.text) so_far.text_is)
             ∙ ap (λ text. text ++ delimiter ∷ []) (append_assoc old_text so_far.text adds.text)
             ∙ append_assoc old_text (so_far.text ++ adds.text) (delimiter ∷ []);
+        messages_are =
+            adds.messages_are ∙ ap (λ messages. messages ++ adds.messages) so_far.messages_are
+            ∙ append_assoc old_messages so_far.messages adds.messages;
         tally_is = tally_after-then options old new next so_far.found adds.found so_far.tally_is adds.tally_is;
         passes = Passes-append options so_far.found adds.found so_far.passes adds.passes;
         goes_on = λ more more_found are.
-            let whole = AreFields-cons options number (take place rest) (parts delimiter behind) adds.text more adds.found more_found split adds.is_field are in
+            let whole = AreFields-cons options number (take end rest) (parts delimiter behind) adds.text more adds.found more_found split adds.is_field are in
             let at : AreFields options number (parts delimiter rest) (adds.text ++ delimiter_bytes options.delimiter ++ more) (adds.found ++ more_found) =
             subst (λ fields. AreFields options number fields (adds.text ++ delimiter_bytes options.delimiter ++ more) (adds.found ++ more_found)) (sym first) whole in
             let all = so_far.goes_on (adds.text ++ delimiter_bytes options.delimiter ++ more) (adds.found ++ more_found) at in
@@ -138,57 +172,102 @@ module _ (options : Options) (delimiter : ℕ) (bytes : List ℕ) (old : Tally) 
             let found_same = sym (append_assoc so_far.found adds.found more_found) in
             subst (λ text. AreFields options 1 (parts delimiter bytes) text ((so_far.found ++ adds.found) ++ more_found)) text_same
             (subst (λ found. AreFields options 1 (parts delimiter bytes) (so_far.text ++ (adds.text ++ delimiter_bytes options.delimiter ++ more)) found) found_same all);
+        tells_on = λ more are.
+            let whole : AreMessagesOfFields options word place number (take end rest ∷ parts delimiter behind) (adds.messages ++ more) =
+            (adds.messages, more, has_rejected adds.found, adds.are_messages, are, refl) in
+            let at = subst (λ fields. AreMessagesOfFields options word place number fields (adds.messages ++ more)) (sym first) whole in
+            subst (AreMessagesOfFields options word place 1 (parts delimiter bytes)) (sym (append_assoc so_far.messages adds.messages more))
+            (so_far.tells_on (adds.messages ++ more) at);
         rejects = λ has. so_far.rejects (subst (HasRejectedField options number) (sym first) (inr has));
+        tells_to = λ mode more are.
+            let own = subst (λ is_rejected. AreFieldMessages options word place number (take end rest) is_rejected adds.messages) (adds.passes mode) adds.are_messages in
+            let whole : AreMessagesToRejected options word place number (take end rest ∷ parts delimiter behind) (adds.messages ++ more) =
+            inr (adds.messages, more, own, are, refl) in
+            let at = subst (λ fields. AreMessagesToRejected options word place number fields (adds.messages ++ more)) (sym first) whole in
+            subst (AreMessagesToRejected options word place 1 (parts delimiter bytes)) (sym (append_assoc so_far.messages adds.messages more))
+            (so_far.tells_to mode (adds.messages ++ more) at);
         few =
-            let long : place < length rest = ends.0 in
-            omega (arith, so_far.few, long, length-drop {A = ℕ} (place + 1) rest);
+            let long : end < length rest = ends.0 in
+            omega (arith, so_far.few, long, length-drop {A = ℕ} (end + 1) rest);
+      }
+
+  -- a rejected field, which is the first of the rest
+  Aborts-first : options.delimiter ≡ Some delimiter → (field : List ℕ) (others : List (List ℕ)) → parts delimiter rest ≡ field ∷ others
+      → (next_messages : List ℕ) → IsRejectedField options word place number field new_messages next_messages
+      → Aborts options word place bytes old_messages next_messages
+  Aborts-first is_delimiter field others first next_messages is =
+      let has = so_far.rejects (subst (HasRejectedField options number) (sym first) (inl (is.chosen, is.no_size))) in
+      let whole : AreMessagesToRejected options word place number (field ∷ others) is.messages = inl is.are_messages in
+      let at = subst (λ fields. AreMessagesToRejected options word place number fields is.messages) (sym first) whole in
+      let all = so_far.tells_to is.mode is.messages at in record {
+        mode = is.mode;
+        has_rejected = subst (λ mark. HasRejectedField options 1 (fields_of mark bytes)) (sym is_delimiter) has;
+        messages = so_far.messages ++ is.messages;
+        to_rejected =
+            subst (λ mark. AreMessagesToRejected options word place 1 (fields_of mark bytes) (so_far.messages ++ is.messages)) (sym is_delimiter) all;
+        messages_are =
+            is.messages_are ∙ ap (λ messages. messages ++ is.messages) so_far.messages_are
+            ∙ append_assoc old_messages so_far.messages is.messages;
       }
 
   -- a field that is rejected, and ends at a delimiter
-  pub Aborts-step : options.delimiter ≡ Some delimiter → (place : ℕ) → EndsAt delimiter rest place → options.invalid ≡ Abort
-      → IsChosen options.fields.now number → IsNoSize options (take place rest) → Aborts options bytes
-  Aborts-step is_delimiter place ends mode chosen none =
-      let first = parts-EndsAt delimiter rest place ends in
-      let has = so_far.rejects (subst (HasRejectedField options number) (sym first) (inl (chosen, none))) in record {
-        mode = mode;
-        has_rejected = subst (λ mark. HasRejectedField options 1 (fields_of mark bytes)) (sym is_delimiter) has;
-      }
+  pub Aborts-step : options.delimiter ≡ Some delimiter → (end : ℕ) → EndsAt delimiter rest end
+      → (next_messages : List ℕ) → IsRejectedField options word place number (take end rest) new_messages next_messages
+      → Aborts options word place bytes old_messages next_messages
+  Aborts-step is_delimiter end ends next_messages is =
+      Aborts-first is_delimiter (take end rest) (parts delimiter (drop (end + 1) rest)) (parts-EndsAt delimiter rest end ends) next_messages is
 
   -- the last field
-  pub AddsFields-last : options.delimiter ≡ Some delimiter → IsUnbroken delimiter rest → (next : Tally) (next_text : List ℕ)
-      → AddsField options number rest new new_text next next_text → AddsFields options bytes old old_text next next_text
-  AddsFields-last is_delimiter unbroken next next_text adds =
+  pub AddsFields-last : options.delimiter ≡ Some delimiter → IsUnbroken delimiter rest
+      → (next : Tally) (next_text next_messages : List ℕ)
+      → AddsField options word place number rest new new_text new_messages next next_text next_messages
+      → AddsFields options word place bytes old old_text old_messages next next_text next_messages
+  AddsFields-last is_delimiter unbroken next next_text next_messages adds =
       let last = parts-IsUnbroken delimiter rest unbroken in
       let at : AreFields options number (parts delimiter rest) adds.text adds.found =
       subst (λ fields. AreFields options number fields adds.text adds.found) (sym last) adds.is_field in
-      let all = so_far.goes_on adds.text adds.found at in record {
+      let all = so_far.goes_on adds.text adds.found at in
+      let own : AreMessagesOfFields options word place number (rest ∷ []) adds.messages =
+      (adds.messages, [], has_rejected adds.found, adds.are_messages, refl, sym (append-nil adds.messages)) in
+      let told = so_far.tells_on adds.messages (subst (λ fields. AreMessagesOfFields options word place number fields adds.messages) (sym last) own) in
+      record {
         text = so_far.text ++ adds.text;
+        messages = so_far.messages ++ adds.messages;
         found = so_far.found ++ adds.found;
         are_fields = subst (λ mark. AreFields options 1 (fields_of mark bytes) (so_far.text ++ adds.text) (so_far.found ++ adds.found)) (sym is_delimiter) all;
+        are_messages =
+            subst (λ mark. AreMessagesOfFields options word place 1 (fields_of mark bytes) (so_far.messages ++ adds.messages)) (sym is_delimiter) told;
         passes = Passes-append options so_far.found adds.found so_far.passes adds.passes;
         text_is = adds.text_is ∙ ap (λ text. text ++ adds.text) so_far.text_is ∙ append_assoc old_text so_far.text adds.text;
+        messages_are =
+            adds.messages_are ∙ ap (λ messages. messages ++ adds.messages) so_far.messages_are
+            ∙ append_assoc old_messages so_far.messages adds.messages;
         tally_is = tally_after-then options old new next so_far.found adds.found so_far.tally_is adds.tally_is;
       }
 
   -- the other fields are copied with the delimiters between them
   pub AddsFields-copied : options.delimiter ≡ Some delimiter → ((later : ℕ) → number ≤ later → ¬ IsChosen options.fields.now later)
-      → (next : Tally) → next ≡ new → (next_text : List ℕ) → next_text ≡ new_text ++ rest → AddsFields options bytes old old_text next next_text
-  AddsFields-copied is_delimiter past next next_is next_text text_is =
-      let all = so_far.goes_on rest [] (AreFields-copied options delimiter is_delimiter rest number past) in record {
+      → (next_text : List ℕ) → next_text ≡ new_text ++ rest
+      → AddsFields options word place bytes old old_text old_messages new next_text new_messages
+  AddsFields-copied is_delimiter past next_text text_is =
+      let all = so_far.goes_on rest [] (AreFields-copied options delimiter is_delimiter rest number past) in
+      let told = so_far.tells_on [] (AreMessagesOfFields-none options word place (parts delimiter rest) number past) in
+      let nothing = append-nil so_far.messages in record {
         text = so_far.text ++ rest;
+        messages = so_far.messages ++ [];
         found = so_far.found ++ [];
         are_fields = subst (λ mark. AreFields options 1 (fields_of mark bytes) (so_far.text ++ rest) (so_far.found ++ [])) (sym is_delimiter) all;
+        are_messages =
+            subst (λ mark. AreMessagesOfFields options word place 1 (fields_of mark bytes) (so_far.messages ++ [])) (sym is_delimiter) told;
         passes = subst (Passes options) (sym (append-nil so_far.found)) so_far.passes;
         text_is = text_is ∙ ap (λ text. text ++ rest) so_far.text_is ∙ append_assoc old_text so_far.text rest;
-        tally_is = next_is ∙ so_far.tally_is ∙ ap (tally_after options old) (sym (append-nil so_far.found));
+        messages_are = so_far.messages_are ∙ ap (λ messages. old_messages ++ messages) (sym nothing);
+        tally_is = so_far.tally_is ∙ ap (tally_after options old) (sym (append-nil so_far.found));
       }
 
   -- the last field is rejected
-  pub Aborts-last : options.delimiter ≡ Some delimiter → IsUnbroken delimiter rest → options.invalid ≡ Abort
-      → IsChosen options.fields.now number → IsNoSize options rest → Aborts options bytes
-  Aborts-last is_delimiter unbroken mode chosen none =
-      let last = parts-IsUnbroken delimiter rest unbroken in
-      let has = so_far.rejects (subst (HasRejectedField options number) (sym last) (inl (chosen, none))) in record {
-        mode = mode;
-        has_rejected = subst (λ mark. HasRejectedField options 1 (fields_of mark bytes)) (sym is_delimiter) has;
-      }
+  pub Aborts-last : options.delimiter ≡ Some delimiter → IsUnbroken delimiter rest
+      → (next_messages : List ℕ) → IsRejectedField options word place number rest new_messages next_messages
+      → Aborts options word place bytes old_messages next_messages
+  Aborts-last is_delimiter unbroken next_messages is =
+      Aborts-first is_delimiter rest [] (parts-IsUnbroken delimiter rest unbroken) next_messages is

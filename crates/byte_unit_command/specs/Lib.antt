@@ -2,6 +2,7 @@ pub mod Ending
 pub mod Fields
 pub mod Field
 pub mod Laws
+pub mod Messages
 pub mod Outcome
 pub mod Output
 pub mod Progress
@@ -16,3 +17,4 @@ pub mod Meaning
 pub mod CallOptions
 pub mod Operands
 pub mod CommandLine
+pub mod Told

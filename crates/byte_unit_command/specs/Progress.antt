@@ -1,13 +1,16 @@
 -- Private: how far a run has come, step by step. No public contract cites this file.
 use Rattle.std.specs.Prelude.{◌≡◌, ℕ, ◌+◌, ◌-◌, ◌≤◌, min, true, false, ◌||◌, if◌then◌else◌, ◌==◌, List, [], ◌∷◌, ◌++◌, Some, None}
-use Rattle.std.specs.Prelude.{length, ◌<◌, ◌⊎◌, MatchBool, Result, Ok, Err, ⊤}
+use Rattle.std.specs.Prelude.{length, ◌<◌, ◌⊎◌, Bool, MatchBool, IsTrue, Result, Ok, Err, ⊤}
 use Rattle.byte_unit.specs.Bounds.{size_limit}
-use Rattle.byte_unit_command.specs.Field.{Found, IsField}
-use Rattle.byte_unit_command.specs.Fields.{fields_of}
+use Rattle.byte_unit_command.specs.Field.{Found, IsField, IsNoSize}
+use Rattle.byte_unit_command.specs.Fields.{IsChosen, fields_of}
+use Rattle.byte_unit_command.specs.Messages.{AreFieldMessages, AreMessagesOfFields, AreMessagesToRejected, AreMessages}
+use Rattle.byte_unit_command.specs.Messages.{next_place, last_place}
 use Rattle.byte_unit_command.specs.Outcome.{Passes, IsPrefix}
 use Rattle.byte_unit_command.specs.Output.{AreFields, AreRecords, HasRejectedField}
 use Rattle.byte_unit_command.specs.Shown.{IsShown}
-use Rattle.byte_unit_command.specs.Sums.{is_beyond}
+use Rattle.byte_unit_command.specs.Sums.{is_beyond, has_rejected}
+use Rattle.byte_unit_command.specs.declared.notice.Notices.{Notices}
 use Rattle.byte_unit_command.specs.declared.options.Invalid.TheVariants.{Abort}
 use Rattle.byte_unit_command.specs.declared.options.Options.{Options}
 use Rattle.byte_unit_command.specs.declared.records.Progress.{Progress}
@@ -30,30 +33,55 @@ abbrev pub tally_after : Options → Tally → List Found → Tally
 tally_after options tally [] = tally
 tally_after options tally (one ∷ others) = tally_after options (tally_with options tally one) others
 
--- the text of a field was appended and counted
-pub record AddsField (options : Options) (number : ℕ) (field : List ℕ) (old : Tally) (old_text : List ℕ) (new : Tally)
-    (new_text : List ℕ) : Type 0 where
+-- the messages that are not written yet
+abbrev pub messages_of : {A : Type 0} → Notices A → List ℕ
+messages_of notices = notices.messages.items
+
+-- the text of a field and the messages about it were appended, and the field was counted
+pub record AddsField (options : Options) (word : List ℕ) (place number : ℕ) (field : List ℕ)
+    (old : Tally) (old_text old_messages : List ℕ) (new : Tally) (new_text new_messages : List ℕ) : Type 0 where
   pub text : List ℕ
+  pub messages : List ℕ
   pub found : List Found
   pub is_field : IsField options number field text found
+  pub are_messages : AreFieldMessages options word place number field (has_rejected found) messages
   pub passes : Passes options found
   pub text_is : new_text ≡ old_text ++ text
+  pub messages_are : new_messages ≡ old_messages ++ messages
   pub tally_is : new ≡ tally_after options old found
 
--- the texts of the fields of a record, which is no header record, were appended and counted
-pub record AddsFields (options : Options) (bytes : List ℕ) (old : Tally) (old_text : List ℕ) (new : Tally)
-    (new_text : List ℕ) : Type 0 where
+-- in the mode `abort`, a field is rejected, and the messages about it were appended
+pub record IsRejectedField (options : Options) (word : List ℕ) (place number : ℕ) (field : List ℕ)
+    (old_messages new_messages : List ℕ) : Type 0 where
+  pub mode : options.invalid ≡ Abort
+  pub chosen : IsChosen options.fields.now number
+  pub no_size : IsNoSize options field
+  pub messages : List ℕ
+  pub are_messages : AreFieldMessages options word place number field true messages
+  pub messages_are : new_messages ≡ old_messages ++ messages
+
+-- the texts of the fields of a record, which is no header record, and the messages about them were appended, and they
+-- were counted
+pub record AddsFields (options : Options) (word : List ℕ) (place : ℕ) (bytes : List ℕ)
+    (old : Tally) (old_text old_messages : List ℕ) (new : Tally) (new_text new_messages : List ℕ) : Type 0 where
   pub text : List ℕ
+  pub messages : List ℕ
   pub found : List Found
   pub are_fields : AreFields options 1 (fields_of options.delimiter bytes) text found
+  pub are_messages : AreMessagesOfFields options word place 1 (fields_of options.delimiter bytes) messages
   pub passes : Passes options found
   pub text_is : new_text ≡ old_text ++ text
+  pub messages_are : new_messages ≡ old_messages ++ messages
   pub tally_is : new ≡ tally_after options old found
 
--- in the mode `abort`, a field of this record is rejected
-pub record Aborts (options : Options) (bytes : List ℕ) : Type 0 where
+-- in the mode `abort`, a field of this record is rejected, and the messages up to those about it were appended
+pub record Aborts (options : Options) (word : List ℕ) (place : ℕ) (bytes : List ℕ) (old_messages new_messages : List ℕ)
+    : Type 0 where
   pub mode : options.invalid ≡ Abort
   pub has_rejected : HasRejectedField options 1 (fields_of options.delimiter bytes)
+  pub messages : List ℕ
+  pub to_rejected : AreMessagesToRejected options word place 1 (fields_of options.delimiter bytes) messages
+  pub messages_are : new_messages ≡ old_messages ++ messages
 
 -- the records that end in these bytes, if `part` is the part of the first one that came before them
 abbrev pub ended_records : ℕ → List ℕ → List ℕ → List (List ℕ)
@@ -77,49 +105,76 @@ abbrev pub nonempty_record : List ℕ → List (List ℕ)
 nonempty_record [] = []
 nonempty_record (byte ∷ bytes) = (byte ∷ bytes) ∷ []
 
--- how far a run has come: the number of header records to come, what was counted, and what is to be written
+-- how far a run has come: the number of header records to come, what a record is called and the number of the last
+-- one, what was counted, what is to be written, and the messages to be told
 pub record State : Type 0 where
   pub header : ℕ
+  pub word : List ℕ
+  pub place : ℕ
   pub tally : Tally
   pub out : List ℕ
+  pub messages : List ℕ
 
 -- the state of a run
-abbrev pub state_of : Progress → List ℕ → State
-state_of progress out = record { header = progress.header; tally = progress.tally; out = out }
+abbrev pub state_of : Progress → List ℕ → List ℕ → State
+state_of progress out messages = record {
+  header = progress.header;
+  word = progress.place.word.now;
+  place = progress.place.number;
+  tally = progress.tally;
+  out = out;
+  messages = messages;
+}
 
 -- the state of a run that has not begun
-abbrev pub start_of : Options → State
-start_of options = record { header = options.header; tally = no_tally; out = [] }
+abbrev pub start_of : Options → List ℕ → State
+start_of options word =
+    record { header = options.header; word = word; place = 0; tally = no_tally; out = []; messages = [] }
 
--- the texts of these records were appended and counted
+-- the texts of these records and the messages about them were appended, and they were counted
 pub record AddsRecords (options : Options) (records : List (List ℕ)) (old new : State) : Type 0 where
   pub text : List ℕ
+  pub messages : List ℕ
   pub found : List Found
   pub are_records : AreRecords options old.header records text found
+  pub are_messages : AreMessages options old.word old.place old.header records messages
   pub passes : Passes options found
   pub header_is : new.header ≡ old.header - length records
+  pub word_is : new.word ≡ old.word
+  pub place_is : new.place ≡ last_place old.place records
   pub out_is : new.out ≡ old.out ++ text
+  pub messages_are : new.messages ≡ old.messages ++ messages
   pub tally_is : new.tally ≡ tally_after options old.tally found
 
 -- what a call that converts these records leaves appended if it stops: the texts of some first ones of them if it is
--- out of memory; or those of the records before the one that has a rejected field, in the mode `abort`
-abbrev pub Stops : Options → List (List ℕ) → State → Stop → List ℕ → Type 0
-Stops options records old Memory out =
+-- out of memory; or those of the records before the one that has a rejected field, in the mode `abort`. And so for the
+-- messages, with those up to the rejected field
+abbrev pub Stops : Options → List (List ℕ) → State → Stop → List ℕ → List ℕ → Type 0
+Stops options records old Memory out messages =
     (first : List (List ℕ)) × (new : State) × IsPrefix first records
-    × AddsRecords options first old new × (new.out ≡ out)
-Stops options records old Rejected out =
+    × AddsRecords options first old new × (new.out ≡ out) × (new.messages ≡ messages)
+Stops options records old Rejected out messages =
     (before after : List (List ℕ)) × (bytes : List ℕ) × (new : State) × (records ≡ before ++ bytes ∷ after)
-    × AddsRecords options before old new × (new.out ≡ out) × (new.header ≡ 0) × Aborts options bytes
-Stops options records old _ out = ⊥
+    × AddsRecords options before old new × (new.out ≡ out) × (new.header ≡ 0)
+    × Aborts options new.word (next_place new.place) bytes new.messages messages
+Stops options records old _ out messages = ⊥
 
--- what a call has written that converts these records, reads nothing and returns this result: nothing was to be written
--- before
-abbrev pub IsAnswered : Options → List (List ℕ) → State → State → Result ⊤ Stop → List ℕ → Type 0
-IsAnswered options records old new (Ok _) written = AddsRecords options records old (record new { out = written })
-IsAnswered options records old new (Err Write) written =
-    (first : List (List ℕ)) × (whole : State) × IsPrefix first records × AddsRecords options first old whole
-    × IsPrefix written whole.out
-IsAnswered options records old new (Err stop) written = Stops options records old stop written
+-- what a call has written that converts these records, reads nothing and returns this result, and the messages that it
+-- tells: nothing was to be written or told before
+abbrev pub IsAnswered : Options → List (List ℕ) → State → State → Result ⊤ Stop → List ℕ → List ℕ → Type 0
+IsAnswered options records old new (Ok _) written messages =
+    AddsRecords options records old (record new { out = written; messages = messages })
+IsAnswered options records old new (Err Write) written messages =
+    ((first : List (List ℕ)) × (whole : State) × IsPrefix first records × AddsRecords options first old whole
+    × IsPrefix written whole.out) × (messages ≡ [])
+IsAnswered options records old new (Err stop) written messages = Stops options records old stop written messages
+
+-- from one state of standard error to another one, this was told of these messages: nothing if a write had failed
+-- before; a prefix if a write fails; and else all of them
+pub record Tells (failed_before failed : Bool) (messages told : List ℕ) : Type 0 where
+  pub stays : IsTrue failed_before → (told ≡ []) × IsTrue failed
+  pub begins : IsPrefix told messages
+  pub all : failed ≡ false → told ≡ messages
 
 -- the line of the total, if it is asked for and is a size
 abbrev pub IsTotalFor : Options → ℕ → List ℕ → Type 0
@@ -137,19 +192,24 @@ IsTotalWritten options total before (Err Write) written =
 IsTotalWritten options total before (Err _) written = ⊥
 
 -- what a call has written that converts the last record, if there is one, and then writes the total, if it is asked
--- for. Nothing was to be written before
-abbrev pub IsFinished : Options → List ℕ → State → Result Tally Stop → List ℕ → Type 0
-IsFinished options part old (Ok tally) written =
+-- for, and the messages that it tells. Nothing was to be written or told before
+abbrev pub IsFinished : Options → List ℕ → State → Result Tally Stop → List ℕ → List ℕ → Type 0
+IsFinished options part old (Ok tally) written messages =
     (new : State) × (line : List ℕ) × AddsRecords options (nonempty_record part) old new × (tally ≡ new.tally)
     × MatchBool options.total (IsTotalFor options new.tally.total line) (line ≡ []) × (written ≡ new.out ++ line)
-IsFinished options part old (Err Memory) written = written ≡ []
-IsFinished options part old (Err Rejected) written =
-    (written ≡ []) × (old.header ≡ 0) × Aborts options part × (nonempty_record part ≡ part ∷ [])
-IsFinished options part old (Err Total) written =
+    × (messages ≡ new.messages)
+IsFinished options part old (Err Memory) written messages =
+    (written ≡ [])
+    × ((messages ≡ [])
+    ⊎ ((new : State) × AddsRecords options (nonempty_record part) old new × (messages ≡ new.messages)))
+IsFinished options part old (Err Rejected) written messages =
+    (written ≡ []) × (old.header ≡ 0) × Aborts options old.word (next_place old.place) part old.messages messages
+    × (nonempty_record part ≡ part ∷ [])
+IsFinished options part old (Err Total) written messages =
     (new : State) × AddsRecords options (nonempty_record part) old new × (options.total ≡ true)
-    × (size_limit ≤ new.tally.total) × (written ≡ new.out)
-IsFinished options part old (Err Write) written =
+    × (size_limit ≤ new.tally.total) × (written ≡ new.out) × (messages ≡ new.messages)
+IsFinished options part old (Err Write) written messages =
     (new : State) × (line : List ℕ) × AddsRecords options (nonempty_record part) old new
     × ((line ≡ []) ⊎ MatchBool options.total (IsTotalFor options new.tally.total line) (line ≡ []))
-    × IsPrefix written (new.out ++ line)
-IsFinished options part old (Err Read) written = ⊥
+    × IsPrefix written (new.out ++ line) × (messages ≡ new.messages)
+IsFinished options part old (Err Read) written messages = ⊥

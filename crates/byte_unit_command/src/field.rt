@@ -5,7 +5,7 @@ ghost use Rattle.byte_unit.specs.Forms.{text_limit};
 ghost use Rattle.byte_unit_command.specs.Field.{IsSize, IsNoSize};
 ghost use Rattle.byte_unit_command.specs.Fields.{IsChosen, InRange};
 ghost use Rattle.byte_unit_command.specs.Outcome.{IsPrefix};
-ghost use Rattle.byte_unit_command.specs.Progress.{AddsField, tally_with};
+ghost use Rattle.byte_unit_command.specs.Progress.{AddsField, IsRejectedField, messages_of, tally_with};
 
 use crate::notice::{Notices, add_limit_notice, add_reject_notice};
 use crate::options::{FieldRange, Invalid, Options};
@@ -76,11 +76,14 @@ pub(crate) fn add_field<A: Allocator>(
     notices: &mut Notices<A>,
 ) -> Result<(), Stop>
     requires { text_limit ≤ length digits.old }
-    ensures ok { OnOk result (AddsField options.now number field.now
-        tally.old text.old.items tally.new text.new.items) }
+    ensures ok { OnOk result (AddsField options.now place.now.word.now place.now.number number field.now
+        tally.old text.old.items (messages_of notices.old)
+        tally.new text.new.items (messages_of notices.new)) }
     ensures kept { IsPrefix text.old.items text.new.items }
-    ensures rejected { IsErrOf result Stop.Rejected → (options.now.invalid ≡ Invalid.Abort)
-        × IsChosen options.now.fields.now number × IsNoSize options.now field.now }
+    ensures kept_messages { IsPrefix (messages_of notices.old) (messages_of notices.new) }
+    ensures rejected { IsErrOf result Stop.Rejected
+        → IsRejectedField options.now place.now.word.now place.now.number number field.now
+        (messages_of notices.old) (messages_of notices.new) }
     ensures stop { IfErr result (λ stop. (stop ≡ Stop.Memory) ⊎ (stop ≡ Stop.Rejected)) }
 {
     if !is_chosen(options.fields, number) {
@@ -106,11 +109,14 @@ pub(crate) fn add_chosen<A: Allocator>(
 ) -> Result<(), Stop>
     requires capacity { text_limit ≤ length digits.old }
     requires chosen { IsChosen options.now.fields.now number }
-    ensures ok { OnOk result (AddsField options.now number field.now
-        tally.old text.old.items tally.new text.new.items) }
+    ensures ok { OnOk result (AddsField options.now place.now.word.now place.now.number number field.now
+        tally.old text.old.items (messages_of notices.old)
+        tally.new text.new.items (messages_of notices.new)) }
     ensures kept { IsPrefix text.old.items text.new.items }
+    ensures kept_messages { IsPrefix (messages_of notices.old) (messages_of notices.new) }
     ensures rejected { IsErrOf result Stop.Rejected
-        → (options.now.invalid ≡ Invalid.Abort) × IsNoSize options.now field.now }
+        → IsRejectedField options.now place.now.word.now place.now.number number field.now
+        (messages_of notices.old) (messages_of notices.new) }
     ensures stop { IfErr result (λ stop. (stop ≡ Stop.Memory) ⊎ (stop ≡ Stop.Rejected)) }
 {
     match accepted(options, field) {
@@ -141,9 +147,11 @@ fn add_found<A: Allocator>(
     requires capacity { text_limit ≤ length digits.old }
     requires chosen { IsChosen options.now.fields.now number }
     requires size { IsSize options.now field.now size }
-    ensures ok { OnOk result (AddsField options.now number field.now
-        tally.old text.old.items tally.new text.new.items) }
+    ensures ok { OnOk result (AddsField options.now place.now.word.now place.now.number number field.now
+        tally.old text.old.items (messages_of notices.old)
+        tally.new text.new.items (messages_of notices.new)) }
     ensures kept { IsPrefix text.old.items text.new.items }
+    ensures kept_messages { IsPrefix (messages_of notices.old) (messages_of notices.new) }
     ensures stop { IfErr result (λ stop. stop ≡ Stop.Memory) }
 {
     if tally.add(options, size) {
@@ -169,10 +177,14 @@ fn add_rejected<A: Allocator>(
 ) -> Result<(), Stop>
     requires chosen { IsChosen options.now.fields.now number }
     requires none { IsNoSize options.now field.now }
-    ensures ok { OnOk result (AddsField options.now number field.now
-        tally.old text.old.items tally.new text.new.items) }
+    ensures ok { OnOk result (AddsField options.now place.now.word.now place.now.number number field.now
+        tally.old text.old.items (messages_of notices.old)
+        tally.new text.new.items (messages_of notices.new)) }
     ensures kept { IsPrefix text.old.items text.new.items }
-    ensures rejected { IsErrOf result Stop.Rejected → options.now.invalid ≡ Invalid.Abort }
+    ensures kept_messages { IsPrefix (messages_of notices.old) (messages_of notices.new) }
+    ensures rejected { IsErrOf result Stop.Rejected
+        → IsRejectedField options.now place.now.word.now place.now.number number field.now
+        (messages_of notices.old) (messages_of notices.new) }
     ensures stop { IfErr result (λ stop. (stop ≡ Stop.Memory) ⊎ (stop ≡ Stop.Rejected)) }
 {
     add_reject_notice(options, place, number, field, notices)?;

@@ -2,9 +2,10 @@
 
 ghost use Rattle.std.specs.Prelude.{◌≡◌, ◌≤◌, ◌⊎◌, ◌∷◌, ℕ, List, [], length, true, OnOk, OnErr, IfErr, IsErrOf, IsTrue};
 ghost use Rattle.byte_unit.specs.Forms.{text_limit};
+ghost use Rattle.byte_unit_command.specs.Messages.{next_place};
 ghost use Rattle.byte_unit_command.specs.Outcome.{IsPrefix};
 ghost use Rattle.byte_unit_command.specs.Progress.{IsFinished, IsTotalWritten, AddsRecords, Aborts};
-ghost use Rattle.byte_unit_command.specs.Progress.{nonempty_record, state_of};
+ghost use Rattle.byte_unit_command.specs.Progress.{messages_of, nonempty_record, state_of, Tells};
 ghost use Rattle.byte_unit_command.specs.Streams.{HasWritten, writing_failed};
 
 use crate::notice::Notices;
@@ -19,7 +20,7 @@ use std::io::Write;
 
 /// Converts the last record, if there is one, and writes it and the total.
 ///
-/// Preconditions (proved at every call): `waiting` is empty, and `digits` has capacity for the text of any size.
+/// Preconditions (proved at every call): `waiting` and `notices` are empty, and `digits` has capacity for the text of any size.
 ///
 /// # Errors
 ///
@@ -34,13 +35,16 @@ pub(crate) fn finish<A: Allocator, W: Write, E: Write>(
     waiting: &mut Vec<u8, A>,
     notices: &mut Notices<A>,
     writer: &mut Writing<W>,
-    errors: &mut E,
+    errors: &mut Writing<E>,
 ) -> Result<Tally, Stop>
     requires empty { waiting.old.items ≡ [] }
+    requires untold { messages_of notices.old ≡ [] }
     requires capacity { text_limit ≤ length digits.old }
-    ensures written { (written : List ℕ)
+    ensures written { (written messages told : List ℕ)
         × HasWritten W.contents writer.old writer.new written
-        × IsFinished options.now part.now (state_of progress.old []) result written }
+        × HasWritten E.contents errors.old errors.new told
+        × Tells (writing_failed errors.old) (writing_failed errors.new) messages told
+        × IsFinished options.now part.now (state_of progress.old [] []) result written messages }
     ensures failed { IsErrOf result Stop.Write → IsTrue (writing_failed writer.new) }
 {
     let added = add_last(options, part, digits, progress, waiting, notices);
@@ -73,9 +77,12 @@ fn add_last<A: Allocator>(
 ) -> Result<(), Stop>
     requires { text_limit ≤ length digits.old }
     ensures ok { OnOk result (AddsRecords options.now (nonempty_record part.now)
-        (state_of progress.old waiting.old.items) (state_of progress.new waiting.new.items)) }
+        (state_of progress.old waiting.old.items (messages_of notices.old))
+        (state_of progress.new waiting.new.items (messages_of notices.new))) }
+    ensures memory { IsErrOf result Stop.Memory → messages_of notices.new ≡ messages_of notices.old }
     ensures rejected { IsErrOf result Stop.Rejected → (progress.old.header ≡ 0)
-        × Aborts options.now part.now × (nonempty_record part.now ≡ part.now ∷ []) }
+        × Aborts options.now progress.old.place.word.now (next_place progress.old.place.number) part.now
+        (messages_of notices.old) (messages_of notices.new) × (nonempty_record part.now ≡ part.now ∷ []) }
     ensures stop { IfErr result (λ stop. (stop ≡ Stop.Memory) ⊎ (stop ≡ Stop.Rejected)) }
 {
     match part {

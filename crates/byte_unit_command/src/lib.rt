@@ -13,6 +13,7 @@ pub mod operands;
 pub mod options;
 mod place;
 mod positive;
+mod quote;
 pub mod reading;
 mod records;
 pub mod run;

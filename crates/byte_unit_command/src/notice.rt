@@ -1,43 +1,85 @@
-//! Messages for standard error. Their text is tested, not proved.
+//! Messages about fields, for standard error.
 
-ghost use Rattle.std.specs.Prelude.{◌≤◌, length};
+ghost use Rattle.std.specs.Prelude.{◌≡◌, ◌++◌, [], take, length};
+ghost use Rattle.std.specs.Prelude.{List, ℕ, OnOk, true};
+ghost use Rattle.std.specs.String.{string_bytes};
+ghost use Rattle.byte_unit_command.specs.Field.{IsNoSize};
+ghost use Rattle.byte_unit_command.specs.Fields.{IsChosen};
+ghost use Rattle.byte_unit_command.specs.Messages.{AreFieldMessages, AreLimitMessages, AreWords};
+ghost use Rattle.byte_unit_command.specs.Messages.{IsMessage, IsMessageIf, IsReason};
+ghost use Rattle.byte_unit_command.specs.Messages.{place_text, tells_rejected as has_rejected_told};
+ghost use Rattle.byte_unit_command.specs.Outcome.{IsPrefix};
+ghost use Rattle.byte_unit_command.specs.Progress.{messages_of, Tells};
+ghost use Rattle.byte_unit_command.specs.Streams.{HasWritten, writing_failed};
 
+use crate::finish::write_whole;
 use crate::options::{Invalid, Options};
 use crate::place::Place;
+use crate::quote::add_quoted;
 use crate::size::parse;
+use crate::stop::Stop;
+use crate::tally::{is_above, is_below};
+use crate::writing::Writing;
 use byte_unit::ParseError;
+use byte_unit::laws::texts_are_accepted_or_refused;
 use std::alloc::{AllocError, Allocator};
 use std::fmt::Write as WriteText;
 use std::io::Write;
 
-/// The most bytes of a field that a message quotes.
-const QUOTED: usize = 80;
-
 /// Messages that are not written yet.
 #[derive(Drop)]
 pub(crate) struct Notices<A: Allocator> {
-    text: String<A>,
-    /// The number of bytes of `text` that are whole messages; an allocation failed in the one after them.
-    whole: usize,
+    /// The messages, each whole.
+    messages: Vec<u8, A>,
+    /// A buffer for one message.
+    line: String<A>,
+    /// A buffer for the message of a parse error.
+    words: String<A>,
+}
+
+impl<A: Allocator + Copy> Notices<A> {
+    /// Creates an empty list of messages.
+    pub(crate) fn new(alloc: A) -> Notices<A>
+        ensures { messages_of result ≡ [] }
+    {
+        Notices {
+            messages: Vec::new(alloc),
+            line: String::new(alloc),
+            words: String::new(alloc),
+        }
+    }
 }
 
 impl<A: Allocator> Notices<A> {
-    /// Creates an empty list of messages.
-    pub(crate) fn new(alloc: A) -> Notices<A> {
-        Notices {
-            text: String::new(alloc),
-            whole: 0,
+    /// Returns the number of bytes of the messages.
+    pub(crate) fn len(&self) -> usize
+        ensures { result ≡ length (messages_of self.now) }
+    {
+        self.messages.len()
+    }
+
+    /// Forgets all messages but those in the first `len` bytes, if a call has stopped since it was out of memory.
+    pub(crate) fn undo(&mut self, len: usize, stop: Stop)
+        ensures memory { stop ≡ Stop.Memory → messages_of self.new ≡ take len (messages_of self.old) }
+        ensures other { ¬ (stop ≡ Stop.Memory) → messages_of self.new ≡ messages_of self.old }
+    {
+        match stop {
+            Stop::Memory => self.messages.truncate(len),
+            Stop::Read | Stop::Write | Stop::Rejected | Stop::Total => (),
         }
     }
 
-    /// Writes the messages to `errors`, each whole, and forgets them. A failure to write them is ignored.
-    pub(crate) fn tell<E: Write>(&mut self, errors: &mut E) {
-        if !self.text.is_empty() {
-            let bytes = self.text.as_bytes();
-            let _ = errors.write_all(&bytes[..self.whole.min(bytes.len())]);
-            self.text.clear();
-            self.whole = 0;
+    /// Writes the messages to `errors`, unless a write to it has failed before, and forgets them. `errors` records a
+    /// failure.
+    pub(crate) fn tell<E: Write>(&mut self, errors: &mut Writing<E>)
+        ensures told { (told : List ℕ) × HasWritten E.contents errors.old errors.new told
+            × Tells (writing_failed errors.old) (writing_failed errors.new) (messages_of self.old) told }
+        ensures none { messages_of self.new ≡ [] }
+    {
+        if !errors.failed() {
+            let _ = write_whole(errors, &self.messages);
         }
+        self.messages.clear();
     }
 }
 
@@ -45,7 +87,7 @@ impl<A: Allocator> Notices<A> {
 #[derive(Debug, Drop)]
 enum Reason {
     /// It is not UTF-8.
-    NotText,
+    NotUtf8,
     /// It is rejected by the parser.
     Rejected(ParseError),
     /// Its size is above the maximum.
@@ -56,9 +98,11 @@ enum Reason {
 
 /// Appends a message that a field is not a size, unless rejected fields are ignored. Parses the field for the error.
 ///
+/// Preconditions (proved at every call): the field with this number is chosen, and it is not a size.
+///
 /// # Errors
 ///
-/// Returns `AllocError` if allocation fails.
+/// Returns `AllocError` if allocation fails. Nothing is appended then.
 #[cold]
 #[inline(never)]
 pub(crate) fn add_reject_notice<A: Allocator>(
@@ -67,19 +111,46 @@ pub(crate) fn add_reject_notice<A: Allocator>(
     number: u64,
     field: &[u8],
     notices: &mut Notices<A>,
-) -> Result<(), AllocError> {
-    if options.invalid == Invalid::Ignore {
-        return Ok(());
-    }
-    let reason = match parse(options, field) {
-        Some(Ok(_)) => return Ok(()),
-        Some(Err(error)) => Reason::Rejected(error),
-        None => Reason::NotText,
-    };
-    add_line(options, place, number, field, &reason, notices)
+) -> Result<(), AllocError>
+    requires chosen { IsChosen options.now.fields.now number }
+    requires none { IsNoSize options.now field.now }
+    ensures ok { OnOk result ((text : List ℕ)
+        × AreFieldMessages options.now place.now.word.now place.now.number number field.now true text
+        × (messages_of notices.new ≡ messages_of notices.old ++ text)) }
+    ensures kept { IsPrefix (messages_of notices.old) (messages_of notices.new) }
+{
+    let reason = reason_of(options, field);
+    let told = tells_rejected(options.invalid);
+    add_message_if(told, options, place, number, field, &reason, notices)
 }
 
-/// Appends a message if a size is beyond a limit.
+/// Returns `true` if there are messages about rejected fields.
+fn tells_rejected(invalid: Invalid) -> bool
+    ensures { result ≡ has_rejected_told invalid }
+{
+    match invalid {
+        Invalid::Ignore => false,
+        Invalid::Abort | Invalid::Fail | Invalid::Warn => true,
+    }
+}
+
+/// Returns the reason why a field is not a size.
+///
+/// Precondition (proved at every call): the field is not a size.
+fn reason_of(options: &Options, field: &[u8]) -> Reason
+    requires { IsNoSize options.now field.now }
+    ensures { IsReason options.now field.now result }
+{
+    // For the proof: no text is both accepted and rejected.
+    texts_are_accepted_or_refused();
+    match parse(options, field) {
+        Some(Err(error)) => Reason::Rejected(error),
+        Some(Ok(_)) => Reason::NotUtf8,
+        None => Reason::NotUtf8,
+    }
+}
+
+/// Appends the messages about a size that is beyond a limit.
 ///
 /// # Errors
 ///
@@ -93,145 +164,131 @@ pub(crate) fn add_limit_notice<A: Allocator>(
     field: &[u8],
     size: u128,
     notices: &mut Notices<A>,
-) -> Result<(), AllocError> {
-    if let Some(most) = options.max {
-        if most < size {
-            add_line(options, place, number, field, &Reason::Above, notices)?;
-        }
-    }
-    if let Some(least) = options.min {
-        if size < least {
-            add_line(options, place, number, field, &Reason::Below, notices)?;
-        }
-    }
-    Ok(())
+) -> Result<(), AllocError>
+    ensures ok { OnOk result ((text : List ℕ)
+        × AreLimitMessages options.now place.now.word.now place.now.number number field.now size text
+        × (messages_of notices.new ≡ messages_of notices.old ++ text)) }
+    ensures kept { IsPrefix (messages_of notices.old) (messages_of notices.new) }
+{
+    let (above, below) = (is_above(options, size), is_below(options, size));
+    add_message_if(
+        above,
+        options,
+        place,
+        number,
+        field,
+        &Reason::Above,
+        notices,
+    )?;
+    add_message_if(
+        below,
+        options,
+        place,
+        number,
+        field,
+        &Reason::Below,
+        notices,
+    )
 }
 
-/// Appends a message, if all of it can be appended.
+/// Appends a message if it is to be told.
 ///
 /// # Errors
 ///
-/// Returns `AllocError` if allocation fails. The message is then never written.
-fn add_line<A: Allocator>(
+/// Returns `AllocError` if allocation fails. Nothing is appended then.
+fn add_message_if<A: Allocator>(
+    told: bool,
     options: &Options,
     place: &Place,
     number: u64,
     field: &[u8],
     reason: &Reason,
     notices: &mut Notices<A>,
-) -> Result<(), AllocError> {
-    add_text(options, place, number, field, reason, &mut notices.text)?;
-    notices.whole = notices.text.len();
-    Ok(())
+) -> Result<(), AllocError>
+    ensures ok { OnOk result ((text : List ℕ)
+        × IsMessageIf told options.now place.now.word.now place.now.number number field.now reason.now text
+        × (messages_of notices.new ≡ messages_of notices.old ++ text)) }
+    ensures kept { IsPrefix (messages_of notices.old) (messages_of notices.new) }
+{
+    if told {
+        add_message(options, place, number, field, reason, notices)
+    } else {
+        Ok(())
+    }
 }
 
-/// Appends the text of a message: the place, the field, and the reason.
+/// Appends a message.
 ///
 /// # Errors
 ///
-/// Returns `AllocError` if allocation fails.
-fn add_text<A: Allocator>(
+/// Returns `AllocError` if allocation fails. Nothing is appended then.
+fn add_message<A: Allocator>(
     options: &Options,
     place: &Place,
     number: u64,
     field: &[u8],
     reason: &Reason,
-    text: &mut String<A>,
-) -> Result<(), AllocError> {
-    let word = place.word;
-    let record = place.record;
-    write!(text, "byte-unit: {word} {record}: ")?;
-    if options.delimiter.is_some() {
-        write!(text, "field {number}: ")?;
-    }
-    add_quoted(field, text)?;
-    match reason {
-        Reason::NotText => write!(text, ": not UTF-8\n"),
-        Reason::Rejected(error) => write!(text, ": {error}\n"),
-        Reason::Above => write!(text, ": above the maximum\n"),
-        Reason::Below => write!(text, ": below the minimum\n"),
-    }
-}
-
-/// Appends a field in quotes, with control characters and bytes that are not UTF-8 escaped. Of a long field only the
-/// beginning is quoted, with two points after it.
-///
-/// # Errors
-///
-/// Returns `AllocError` if allocation fails.
-pub(crate) fn add_quoted<A: Allocator>(
-    field: &[u8],
-    message: &mut String<A>,
-) -> Result<(), AllocError> {
-    let shown = &field[..quoted_len(field)];
-    message.push('\'')?;
-    match str::from_utf8(shown) {
-        Ok(text) => add_escaped(text, message)?,
-        Err(_) => add_escaped_bytes(shown, message)?,
-    }
-    if shown.len() < field.len() {
-        message.push_str("..")?;
-    }
-    message.push('\'')
-}
-
-/// Returns the number of bytes of a field that are quoted. A character of a text is not cut.
-fn quoted_len(field: &[u8]) -> usize
-    ensures { result ≤ length field.now }
+    notices: &mut Notices<A>,
+) -> Result<(), AllocError>
+    ensures ok { OnOk result ((text : List ℕ)
+        × IsMessage options.now place.now.word.now place.now.number number field.now reason.now text
+        × (messages_of notices.new ≡ messages_of notices.old ++ text)) }
+    ensures kept { IsPrefix (messages_of notices.old) (messages_of notices.new) }
 {
-    if field.len() <= QUOTED {
-        return field.len();
-    }
-    for back in 0..3 {
-        let len = QUOTED - back;
-        if is_boundary(field[len]) {
-            return len;
-        }
-    }
-    QUOTED
+    notices.line.clear();
+    add_place(options, place, number, &mut notices.line)?;
+    add_quoted(field, &mut notices.line)?;
+    notices.line.push_str(": ")?;
+    add_words(reason, &mut notices.words, &mut notices.line)?;
+    notices.line.push_str("\n")?;
+    notices.messages.extend_from_slice(notices.line.as_bytes())
 }
 
-/// Returns `true` if a character of a text can begin with this byte.
-fn is_boundary(byte: u8) -> bool {
-    byte & 0xC0 != 0x80
-}
-
-/// Appends a text with its control characters escaped.
+/// Appends the place of a field.
 ///
 /// # Errors
 ///
 /// Returns `AllocError` if allocation fails.
-pub(crate) fn add_escaped<A: Allocator>(
-    text: &str,
-    message: &mut String<A>,
-) -> Result<(), AllocError> {
-    for c in text.chars() {
-        if c.is_control() {
-            let code = c as u32;
-            write!(message, "\\u{{{code:x}}}")?;
-        } else {
-            message.push(c)?;
-        }
+fn add_place<A: Allocator>(
+    options: &Options,
+    place: &Place,
+    number: u64,
+    line: &mut String<A>,
+) -> Result<(), AllocError>
+    ensures { OnOk result (string_bytes line.new ≡ string_bytes line.old
+        ++ place_text options.now place.now.word.now place.now.number number) }
+{
+    let word = place.word;
+    let record = place.number;
+    write!(line, "byte-unit: {word} {record}: ")?;
+    match options.delimiter {
+        None => Ok(()),
+        Some(_) => write!(line, "field {number}: "),
     }
-    Ok(())
 }
 
-/// Appends bytes: printable ASCII characters as they are, and any other byte escaped.
+/// Appends the words for a reason. `words` is a buffer for them.
 ///
 /// # Errors
 ///
 /// Returns `AllocError` if allocation fails.
-fn add_escaped_bytes<A: Allocator>(
-    bytes: &[u8],
-    message: &mut String<A>,
-) -> Result<(), AllocError> {
-    for byte in bytes {
-        if byte.is_ascii_graphic() || *byte == b' ' {
-            message.push(*byte as char)?;
-        } else {
-            let code = *byte;
-            write!(message, "\\x{code:02x}")?;
+fn add_words<A: Allocator>(
+    reason: &Reason,
+    words: &mut String<A>,
+    line: &mut String<A>,
+) -> Result<(), AllocError>
+    ensures { OnOk result ((text : List ℕ) × AreWords reason.now text
+        × (string_bytes line.new ≡ string_bytes line.old ++ text)) }
+{
+    match reason {
+        Reason::NotUtf8 => line.push_str("not UTF-8"),
+        Reason::Rejected(error) => {
+            // Not to `line`: of a character that is not ASCII, no contract says how it is quoted.
+            words.clear();
+            write!(words, "{error}")?;
+            line.push_str(words.as_str())
         }
+        Reason::Above => line.push_str("above the maximum"),
+        Reason::Below => line.push_str("below the minimum"),
     }
-    Ok(())
 }

@@ -6,5 +6,5 @@ pub(crate) struct Place {
     /// What a record is called: `line`, `record` or `operand`.
     pub word: &'static str,
     /// The number of the record, counted from 1.
-    pub record: u64,
+    pub number: u64,
 }

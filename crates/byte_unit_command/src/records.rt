@@ -2,8 +2,9 @@
 
 ghost use Rattle.std.specs.Prelude.{◌≡◌, ◌≤◌, ◌-◌, ◌⊎◌, length, OnOk, OnErr, IfErr, IsErrOf, ◌∷◌, [], Some};
 ghost use Rattle.byte_unit.specs.Forms.{text_limit};
+ghost use Rattle.byte_unit_command.specs.Messages.{next_place};
 ghost use Rattle.byte_unit_command.specs.Outcome.{IsPrefix};
-ghost use Rattle.byte_unit_command.specs.Progress.{AddsFields, AddsRecords, Aborts, no_tally, state_of};
+ghost use Rattle.byte_unit_command.specs.Progress.{AddsFields, AddsRecords, Aborts, messages_of, no_tally, state_of};
 
 use crate::field::{add_field, is_past};
 use crate::notice::Notices;
@@ -30,11 +31,13 @@ impl Progress {
     pub(crate) fn new(options: &Options, word: &'static str) -> Progress
         ensures header { result.header ≡ options.now.header }
         ensures tally { result.tally ≡ no_tally }
+        ensures word { result.place.word.now ≡ word.now }
+        ensures number { result.place.number ≡ 0 }
     {
         Progress {
             header: options.header,
             tally: Tally::new(),
-            place: Place { word, record: 0 },
+            place: Place { word, number: 0 },
         }
     }
 }
@@ -57,10 +60,14 @@ fn add_fields<A: Allocator>(
     notices: &mut Notices<A>,
 ) -> Result<(), Stop>
     requires { text_limit ≤ length digits.old }
-    ensures ok { OnOk result (AddsFields options.now bytes.now
-        tally.old text.old.items tally.new text.new.items) }
+    ensures ok { OnOk result (AddsFields options.now place.now.word.now place.now.number bytes.now
+        tally.old text.old.items (messages_of notices.old)
+        tally.new text.new.items (messages_of notices.new)) }
     ensures kept { IsPrefix text.old.items text.new.items }
-    ensures rejected { IsErrOf result Stop.Rejected → Aborts options.now bytes.now }
+    ensures kept_messages { IsPrefix (messages_of notices.old) (messages_of notices.new) }
+    ensures rejected { IsErrOf result Stop.Rejected
+        → Aborts options.now place.now.word.now place.now.number bytes.now
+        (messages_of notices.old) (messages_of notices.new) }
     ensures stop { IfErr result (λ stop. (stop ≡ Stop.Memory) ⊎ (stop ≡ Stop.Rejected)) }
 {
     match options.delimiter {
@@ -86,10 +93,14 @@ fn add_split<A: Allocator>(
 ) -> Result<(), Stop>
     requires delimiter { options.now.delimiter ≡ Some delimiter }
     requires capacity { text_limit ≤ length digits.old }
-    ensures ok { OnOk result (AddsFields options.now bytes.now
-        tally.old text.old.items tally.new text.new.items) }
+    ensures ok { OnOk result (AddsFields options.now place.now.word.now place.now.number bytes.now
+        tally.old text.old.items (messages_of notices.old)
+        tally.new text.new.items (messages_of notices.new)) }
     ensures kept { IsPrefix text.old.items text.new.items }
-    ensures rejected { IsErrOf result Stop.Rejected → Aborts options.now bytes.now }
+    ensures kept_messages { IsPrefix (messages_of notices.old) (messages_of notices.new) }
+    ensures rejected { IsErrOf result Stop.Rejected
+        → Aborts options.now place.now.word.now place.now.number bytes.now
+        (messages_of notices.old) (messages_of notices.new) }
     ensures stop { IfErr result (λ stop. (stop ≡ Stop.Memory) ⊎ (stop ≡ Stop.Rejected)) }
 {
     // For the proof: there are fewer fields than a `u64` counts.
@@ -117,7 +128,7 @@ fn add_split<A: Allocator>(
 /// - `Rejected` if a field is not a size, in the mode `abort`.
 /// - `Memory` if allocation fails.
 ///
-/// Then nothing is appended.
+/// Then nothing is appended, and no message but the ones up to that on the rejected field.
 #[inline(always)]
 pub(crate) fn add_record<A: Allocator>(
     options: &Options,
@@ -129,17 +140,22 @@ pub(crate) fn add_record<A: Allocator>(
 ) -> Result<(), Stop>
     requires { text_limit ≤ length digits.old }
     ensures ok { OnOk result (AddsRecords options.now (bytes.now ∷ [])
-        (state_of progress.old waiting.old.items) (state_of progress.new waiting.new.items)) }
+        (state_of progress.old waiting.old.items (messages_of notices.old))
+        (state_of progress.new waiting.new.items (messages_of notices.new))) }
     ensures err { OnErr result (waiting.new.items ≡ waiting.old.items) }
-    ensures rejected { IsErrOf result Stop.Rejected
-        → (progress.old.header ≡ 0) × Aborts options.now bytes.now }
+    ensures memory { IsErrOf result Stop.Memory → messages_of notices.new ≡ messages_of notices.old }
+    ensures rejected { IsErrOf result Stop.Rejected → (progress.old.header ≡ 0)
+        × Aborts options.now progress.old.place.word.now (next_place progress.old.place.number) bytes.now
+        (messages_of notices.old) (messages_of notices.new) }
     ensures stop { IfErr result (λ stop. (stop ≡ Stop.Memory) ⊎ (stop ≡ Stop.Rejected)) }
 {
     let len = waiting.len();
+    let messages = notices.len();
     match append_record(options, bytes, digits, progress, waiting, notices) {
         Ok(()) => Ok(()),
         Err(stop) => {
             waiting.truncate(len);
+            notices.undo(messages, stop);
             Err(stop)
         }
     }
@@ -157,13 +173,16 @@ fn append_record<A: Allocator>(
 ) -> Result<(), Stop>
     requires { text_limit ≤ length digits.old }
     ensures ok { OnOk result (AddsRecords options.now (bytes.now ∷ [])
-        (state_of progress.old text.old.items) (state_of progress.new text.new.items)) }
+        (state_of progress.old text.old.items (messages_of notices.old))
+        (state_of progress.new text.new.items (messages_of notices.new))) }
     ensures kept { IsPrefix text.old.items text.new.items }
-    ensures rejected { IsErrOf result Stop.Rejected
-        → (progress.old.header ≡ 0) × Aborts options.now bytes.now }
+    ensures kept_messages { IsPrefix (messages_of notices.old) (messages_of notices.new) }
+    ensures rejected { IsErrOf result Stop.Rejected → (progress.old.header ≡ 0)
+        × Aborts options.now progress.old.place.word.now (next_place progress.old.place.number) bytes.now
+        (messages_of notices.old) (messages_of notices.new) }
     ensures stop { IfErr result (λ stop. (stop ≡ Stop.Memory) ⊎ (stop ≡ Stop.Rejected)) }
 {
-    progress.place.record = progress.place.record.saturating_add(1);
+    progress.place.number = progress.place.number.saturating_add(1);
     if progress.header > 0 {
         progress.header -= 1;
         text.extend_from_slice(bytes)?;

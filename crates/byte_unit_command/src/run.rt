@@ -7,11 +7,12 @@ ghost use Rattle.std.specs.Prelude.{◌≡◌, ◌+◌, ◌^◌, ◌<◌, ◌≤
 ghost use Rattle.std.specs.Prelude.{IsTrue, IsErrOf, IfErr, OnOk, OnErr, IfOk, Err};
 ghost use Rattle.byte_unit.specs.Forms.{text_limit};
 ghost use Rattle.byte_unit_command.specs.Outcome.{IsPrefix, IsWritten};
-ghost use Rattle.byte_unit_command.specs.Progress.{AddsRecords, IsAnswered, Stops, state_of};
+ghost use Rattle.byte_unit_command.specs.Progress.{AddsRecords, IsAnswered, Stops, Tells, messages_of, state_of};
 ghost use Rattle.byte_unit_command.specs.Progress.{ended_records, begun_record};
 ghost use Rattle.byte_unit_command.specs.Records.{finished_records, records_of};
 ghost use Rattle.byte_unit_command.specs.Streams.{HasRead, HasReadAll, reading_failed};
 ghost use Rattle.byte_unit_command.specs.Streams.{HasWritten, writing_failed};
+ghost use Rattle.byte_unit_command.specs.Told.{AreRunMessages, IsTold};
 
 use crate::finish::{finish, write_whole};
 use crate::notice::Notices;
@@ -33,8 +34,8 @@ pub(crate) const DIGITS: usize = 65600;
 
 /// Reads the whole input, and writes each record, with the chosen fields replaced.
 ///
-/// Messages about rejected fields are written to `errors`; a failure to write them is ignored. `word` is what a message
-/// calls a record.
+/// Messages about fields are written to `errors`, which records a failure; the run goes on without them then. `word` is
+/// what a message calls a record.
 ///
 /// On `Ok` the whole output has been written. Returns what was counted.
 ///
@@ -51,13 +52,19 @@ pub fn run<R: Read, W: Write, E: Write>(
     word: &'static str,
     reader: &mut Reading<R>,
     writer: &mut Writing<W>,
-    errors: &mut E,
+    errors: &mut Writing<E>,
 ) -> Result<Tally, Stop>
     ensures run { (read written : List ℕ)
         × HasRead R.remaining reader.old reader.new read
         × HasWritten W.contents writer.old writer.new written
         × IsWritten options.now (finished_records options.now.record_end read)
         (records_of options.now.record_end read) (HasReadAll R.remaining reader.new) result written }
+    ensures told { (read messages told : List ℕ)
+        × HasRead R.remaining reader.old reader.new read
+        × HasWritten E.contents errors.old errors.new told
+        × IsTold (writing_failed errors.new) messages told
+        × AreRunMessages options.now word.now (finished_records options.now.record_end read)
+        (records_of options.now.record_end read) (HasReadAll R.remaining reader.new) result messages }
     ensures read_failed { IsErrOf result Stop.Read → IsTrue (reading_failed reader.new) }
     ensures write_failed { IsErrOf result Stop.Write → IsTrue (writing_failed writer.new) }
 {
@@ -86,7 +93,7 @@ pub fn run_in<A: Allocator, R: Read, W: Write, E: Write>(
     digits: &mut [u8],
     reader: &mut Reading<R>,
     writer: &mut Writing<W>,
-    errors: &mut E,
+    errors: &mut Writing<E>,
 ) -> Result<Tally, Stop>
     requires some { 0 < length buffer.old }
     requires capacity { text_limit ≤ length digits.old }
@@ -95,6 +102,12 @@ pub fn run_in<A: Allocator, R: Read, W: Write, E: Write>(
         × HasWritten W.contents writer.old writer.new written
         × IsWritten options.now (finished_records options.now.record_end read)
         (records_of options.now.record_end read) (HasReadAll R.remaining reader.new) result written }
+    ensures told { (read messages told : List ℕ)
+        × HasRead R.remaining reader.old reader.new read
+        × HasWritten E.contents errors.old errors.new told
+        × IsTold (writing_failed errors.new) messages told
+        × AreRunMessages options.now word.now (finished_records options.now.record_end read)
+        (records_of options.now.record_end read) (HasReadAll R.remaining reader.new) result messages }
     ensures read_failed { IsErrOf result Stop.Read → IsTrue (reading_failed reader.new) }
     ensures write_failed { IsErrOf result Stop.Write → IsTrue (writing_failed writer.new) }
 {
@@ -135,7 +148,7 @@ pub fn run_in<A: Allocator, R: Read, W: Write, E: Write>(
 ///
 /// `part` is the part of the first of them that was read before, and then the part of the next one that was read.
 ///
-/// Preconditions (proved at every call): `waiting` is empty, and `digits` has capacity for the text of any size.
+/// Preconditions (proved at every call): `waiting` and `notices` are empty, and `digits` has capacity for the text of any size.
 ///
 /// # Errors
 ///
@@ -151,17 +164,21 @@ fn answer_piece<A: Allocator, W: Write, E: Write>(
     waiting: &mut Vec<u8, A>,
     notices: &mut Notices<A>,
     writer: &mut Writing<W>,
-    errors: &mut E,
+    errors: &mut Writing<E>,
 ) -> Result<(), Stop>
     requires empty { waiting.old.items ≡ [] }
+    requires untold { messages_of notices.old ≡ [] }
     requires capacity { text_limit ≤ length digits.old }
-    ensures written { (written : List ℕ)
+    ensures written { (written messages told : List ℕ)
         × HasWritten W.contents writer.old writer.new written
+        × HasWritten E.contents errors.old errors.new told
+        × Tells (writing_failed errors.old) (writing_failed errors.new) messages told
         × IsAnswered options.now (ended_records options.now.record_end part.old.items bytes.now)
-        (state_of progress.old []) (state_of progress.new []) result written }
+        (state_of progress.old [] []) (state_of progress.new [] []) result written messages }
     ensures part { OnOk result
         (part.new.items ≡ begun_record options.now.record_end part.old.items bytes.now) }
     ensures waiting { OnOk result (waiting.new.items ≡ []) }
+    ensures notices { OnOk result (messages_of notices.new ≡ []) }
     ensures failed { IsErrOf result Stop.Write → IsTrue (writing_failed writer.new) }
     ensures no_total { ¬ (result ≡ Err Stop.Total) }
     ensures no_read { ¬ (result ≡ Err Stop.Read) }
@@ -194,12 +211,14 @@ fn feed<A: Allocator>(
     requires { text_limit ≤ length digits.old }
     ensures ok { OnOk result
         (AddsRecords options.now (ended_records options.now.record_end part.old.items bytes.now)
-        (state_of progress.old waiting.old.items) (state_of progress.new waiting.new.items)) }
+        (state_of progress.old waiting.old.items (messages_of notices.old))
+        (state_of progress.new waiting.new.items (messages_of notices.new))) }
     ensures part { OnOk result
         (part.new.items ≡ begun_record options.now.record_end part.old.items bytes.now) }
     ensures stop { IfErr result (λ stop. Stops options.now
         (ended_records options.now.record_end part.old.items bytes.now)
-        (state_of progress.old waiting.old.items) stop waiting.new.items) }
+        (state_of progress.old waiting.old.items (messages_of notices.old)) stop waiting.new.items
+        (messages_of notices.new)) }
 {
     let mut rest = bytes;
     while let Some(n) = end_of(rest, options.record_end) {

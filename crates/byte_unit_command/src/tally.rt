@@ -2,7 +2,7 @@
 
 ghost use Rattle.std.specs.Prelude.{◌≡◌};
 ghost use Rattle.byte_unit_command.specs.Progress.{tally_with, no_tally};
-ghost use Rattle.byte_unit_command.specs.Sums.{is_beyond as has_beyond};
+ghost use Rattle.byte_unit_command.specs.Sums.{is_beyond as has_beyond, is_above as has_above, is_below as has_below};
 
 use crate::options::Options;
 
@@ -57,13 +57,25 @@ impl Tally {
 pub fn is_beyond(options: &Options, size: u128) -> bool
     ensures { result ≡ has_beyond options.now size }
 {
-    let above = match options.max {
+    is_above(options, size) || is_below(options, size)
+}
+
+/// Returns `true` if the size is above the maximum.
+pub(crate) fn is_above(options: &Options, size: u128) -> bool
+    ensures { result ≡ has_above options.now.max size }
+{
+    match options.max {
         Some(most) => most < size,
         None => false,
-    };
-    let below = match options.min {
+    }
+}
+
+/// Returns `true` if the size is below the minimum.
+pub(crate) fn is_below(options: &Options, size: u128) -> bool
+    ensures { result ≡ has_below options.now.min size }
+{
+    match options.min {
         Some(least) => size < least,
         None => false,
-    };
-    above || below
+    }
 }

@@ -1,6 +1,6 @@
 //! What is wrong with a call.
 
-use crate::notice::{add_escaped, add_quoted};
+use crate::quote::{add_escaped_text, add_quoted};
 use byte_unit::{ParseError, UnitParseError};
 use std::alloc::{AllocError, Global};
 use std::fmt;
@@ -78,10 +78,10 @@ pub fn escaped_lines(alloc: Global, text: &str) -> Result<String, AllocError> {
     for line in text.split_inclusive('\n') {
         match line.strip_suffix('\n') {
             Some(line) => {
-                add_escaped(line, &mut escaped)?;
+                add_escaped_text(line, &mut escaped)?;
                 escaped.push('\n')?;
             }
-            None => add_escaped(line, &mut escaped)?,
+            None => add_escaped_text(line, &mut escaped)?,
         }
     }
     Ok(escaped)

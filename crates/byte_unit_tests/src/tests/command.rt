@@ -59,7 +59,7 @@ pub fn assert_run(
         taken: Vec::with_capacity(alloc, LONGEST).expect(rt, "memory"),
         pace: writes,
     });
-    let mut errors = Vec::with_capacity(alloc, LONGEST).expect(rt, "memory");
+    let mut errors = Writing::new(Vec::with_capacity(alloc, LONGEST).expect(rt, "memory"));
     let result = run(
         alloc,
         options,
@@ -69,8 +69,8 @@ pub fn assert_run(
         &mut errors,
     );
     allocated(result).expect(rt, "memory");
-    let written = writer.into_inner().taken;
-    let found = (result, written.as_slice(), errors.as_slice());
+    let (written, told) = (writer.into_inner().taken, errors.into_inner());
+    let found = (result, written.as_slice(), told.as_slice());
     assert_eq!(rt; found, wanted, "{name} {number}");
 }
 

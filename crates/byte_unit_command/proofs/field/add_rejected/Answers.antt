@@ -1,10 +1,24 @@
--- A field that is not a size adds a copy of itself.
+-- A field that is not a size adds a copy of itself, and a message about it.
+use Rattle.byte_unit_command.specs.Progress.{messages_of}
 use Rattle.byte_unit_command.proofs.Converting.{AddsField-rejected}
 use Rattle.byte_unit_command.proofs.field.add_rejected.Goals as goal
 
 pub returns-clause-ok : goal.returns-clause-ok
 returns-clause-ok g c =
     let copied = c.copy_rejected in
-    AddsField-rejected c.args.options.now c.args.number c.args.field.now c.args.tally.now copied.new.tally
-    c.args.text.now.items copied.new.text.items copied.result c.requires.chosen c.requires.none copied.ensures.mode
-    copied.ensures.text copied.ensures.tally
+    let told = c.in_ok-add_reject_notice.ensures.ok in
+    AddsField-rejected c.args.options.now c.args.place.now.word.now c.args.place.now.number c.args.number c.args.field.now
+    c.args.tally.now copied.new.tally c.args.text.now.items (messages_of c.args.notices.now) copied.new.text.items
+    (messages_of c.add_reject_notice.new.notices) copied.result c.requires.chosen c.requires.none told.0 told.1 told.2
+    copied.ensures.mode copied.ensures.text copied.ensures.tally
+
+pub returns-clause-rejected : goal.returns-clause-rejected
+returns-clause-rejected g c = λ is.
+    let told = c.in_ok-add_reject_notice.ensures.ok in record {
+      mode = c.copy_rejected.ensures.rejected is;
+      chosen = c.requires.chosen;
+      no_size = c.requires.none;
+      messages = told.0;
+      are_messages = told.1;
+      messages_are = told.2;
+    }

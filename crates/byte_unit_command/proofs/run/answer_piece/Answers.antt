@@ -1,13 +1,15 @@
 -- What `feed` appended is written, or a prefix of it if a write fails. No error is that of a read or of the total.
 use Rattle.std.proofs.Common.{sym, subst, ◌∙◌, []}
 use Rattle.std.specs.Io.KnownBytes.{Appends}
+use Rattle.std.proofs.KnownBytes.{Appends-nil}
 use Rattle.byte_unit_command.specs.Outcome.{IsPrefix}
-use Rattle.byte_unit_command.specs.Progress.{ended_records, state_of}
-use Rattle.byte_unit_command.specs.Streams.{writer_of}
+use Rattle.byte_unit_command.specs.Progress.{ended_records, messages_of, state_of}
+use Rattle.byte_unit_command.specs.Streams.{writer_of, writing_failed}
 use Rattle.byte_unit_command.specs.declared.stop.Stop.TheVariants.{Read, Total}
 use Rattle.byte_unit_command.proofs.Answering.{HasFed-from_empty, IsAnswered-fed, IsAnswered-failed, fed-not_total, fed-not_read}
 use Rattle.byte_unit_command.proofs.Answering.{fed-not_write, write_is_not_total, write_is_not_read}
 use Rattle.byte_unit_command.proofs.Results.{error-passed}
+use Rattle.byte_unit_command.proofs.Telling.{Tells-nothing}
 use Rattle.byte_unit_command.proofs.run.answer_piece.Goals as goal
 
 pub returns-in_err-write_whole-clause-written : goal.returns-in_err-write_whole-clause-written
@@ -16,15 +18,20 @@ returns-in_err-write_whole-clause-written g c =
     let records = ended_records options.record_end c.args.part.now.items c.args.bytes.now in
     let call = c.feed-fed in
     let out = call.new.waiting.items in
-    let fed = HasFed-from_empty options records c.args.progress.now call.new.progress c.args.waiting.now.items out call.result
-    c.requires.empty call.ensures.ok call.ensures.stop in
+    let messages = messages_of call.new.notices in
+    let fed = HasFed-from_empty options records c.args.progress.now call.new.progress c.args.waiting.now.items
+    (messages_of c.args.notices.now) out messages call.result c.requires.empty c.requires.untold call.ensures.ok call.ensures.stop in
     let failed = c.in_err-write_whole in
     let written = failed.ensures.err in
     let begins : IsPrefix written.0 out = subst (IsPrefix written.0) c.deref.ensures.value written.2 in (
       written.0,
+      [],
+      [],
       written.1,
-      IsAnswered-failed options records (state_of c.args.progress.now []) call.new.progress out written.0 begins call.result fed
-          c.from_residual.result failed.field-0.0 c.from_residual.ensures.1 failed.ensures.write,
+      Appends-nil (g.E.Write.contents (writer_of c.args.errors.now)),
+      Tells-nothing (writing_failed c.args.errors.now),
+      IsAnswered-failed options records (state_of c.args.progress.now [] []) call.new.progress out messages written.0 begins
+          call.result fed c.from_residual.result failed.field-0.0 c.from_residual.ensures.1 failed.ensures.write,
     )
 
 pub returns-in_err-write_whole-clause-no_total : goal.returns-in_err-write_whole-clause-no_total
@@ -45,12 +52,15 @@ returns-clause-written g c =
     let records = ended_records options.record_end c.args.part.now.items c.args.bytes.now in
     let call = c.feed-fed in
     let out = call.new.waiting.items in
-    let fed = HasFed-from_empty options records c.args.progress.now call.new.progress c.args.waiting.now.items out call.result
-    c.requires.empty call.ensures.ok call.ensures.stop in
+    let messages = messages_of call.new.notices in
+    let fed = HasFed-from_empty options records c.args.progress.now call.new.progress c.args.waiting.now.items
+    (messages_of c.args.notices.now) out messages call.result c.requires.empty c.requires.untold call.ensures.ok call.ensures.stop in
     let held = g.W.Write.contents (writer_of c.args.writer.now) in
     let holds = g.W.Write.contents (writer_of c.write_whole.new.writer) in
     let wrote = subst (Appends held holds) c.deref.ensures.value c.in_ok-write_whole.ensures.ok in
-    (out, wrote, IsAnswered-fed options records (state_of c.args.progress.now []) call.new.progress out call.result fed)
+    let told = c.tell.ensures.told in
+    let answered = IsAnswered-fed options records (state_of c.args.progress.now [] []) call.new.progress out messages call.result fed in
+    (out, messages, told.0, wrote, told.1, told.2, answered)
 
 pub returns-clause-failed : goal.returns-clause-failed
 returns-clause-failed g c = λ is.
@@ -58,9 +68,10 @@ returns-clause-failed g c = λ is.
     let records = ended_records options.record_end c.args.part.now.items c.args.bytes.now in
     let call = c.feed-fed in
     let out = call.new.waiting.items in
-    let fed = HasFed-from_empty options records c.args.progress.now call.new.progress c.args.waiting.now.items out call.result
-    c.requires.empty call.ensures.ok call.ensures.stop in
-    absurd (fed-not_write options records (state_of c.args.progress.now []) call.new.progress out call.result fed is)
+    let messages = messages_of call.new.notices in
+    let fed = HasFed-from_empty options records c.args.progress.now call.new.progress c.args.waiting.now.items
+    (messages_of c.args.notices.now) out messages call.result c.requires.empty c.requires.untold call.ensures.ok call.ensures.stop in
+    absurd (fed-not_write options records (state_of c.args.progress.now [] []) call.new.progress out messages call.result fed is)
 
 pub returns-clause-no_total : goal.returns-clause-no_total
 returns-clause-no_total g c =
@@ -68,9 +79,10 @@ returns-clause-no_total g c =
     let records = ended_records options.record_end c.args.part.now.items c.args.bytes.now in
     let call = c.feed-fed in
     let out = call.new.waiting.items in
-    let fed = HasFed-from_empty options records c.args.progress.now call.new.progress c.args.waiting.now.items out call.result
-    c.requires.empty call.ensures.ok call.ensures.stop in
-    fed-not_total options records (state_of c.args.progress.now []) call.new.progress out call.result fed
+    let messages = messages_of call.new.notices in
+    let fed = HasFed-from_empty options records c.args.progress.now call.new.progress c.args.waiting.now.items
+    (messages_of c.args.notices.now) out messages call.result c.requires.empty c.requires.untold call.ensures.ok call.ensures.stop in
+    fed-not_total options records (state_of c.args.progress.now [] []) call.new.progress out messages call.result fed
 
 pub returns-clause-no_read : goal.returns-clause-no_read
 returns-clause-no_read g c =
@@ -78,6 +90,7 @@ returns-clause-no_read g c =
     let records = ended_records options.record_end c.args.part.now.items c.args.bytes.now in
     let call = c.feed-fed in
     let out = call.new.waiting.items in
-    let fed = HasFed-from_empty options records c.args.progress.now call.new.progress c.args.waiting.now.items out call.result
-    c.requires.empty call.ensures.ok call.ensures.stop in
-    fed-not_read options records (state_of c.args.progress.now []) call.new.progress out call.result fed
+    let messages = messages_of call.new.notices in
+    let fed = HasFed-from_empty options records c.args.progress.now call.new.progress c.args.waiting.now.items
+    (messages_of c.args.notices.now) out messages call.result c.requires.empty c.requires.untold call.ensures.ok call.ensures.stop in
+    fed-not_read options records (state_of c.args.progress.now [] []) call.new.progress out messages call.result fed

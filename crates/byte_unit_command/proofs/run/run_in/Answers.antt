@@ -3,10 +3,13 @@ use Rattle.std.proofs.Common.{[], ◌++◌, sym, ap, subst, ◌∙◌, take, Err
 use Rattle.std.specs.Io.KnownBytes.{IsAtEnd}
 use Rattle.std.proofs.KnownBytes.{Consumes-kept, Consumes-nil, Appends-nil}
 use Rattle.byte_unit_command.specs.Progress.{state_of}
-use Rattle.byte_unit_command.specs.Streams.{reader_of, writer_of}
+use Rattle.byte_unit_command.specs.Streams.{reader_of, writer_of, writing_failed}
 use Rattle.byte_unit_command.specs.Records.{finished_records, records_of}
 use Rattle.byte_unit_command.proofs.Runs.{IsServed, IsServed-start, IsServed-piece, IsWritten-read, IsWritten-piece, IsWritten-finished}
-use Rattle.byte_unit_command.proofs.Runs.{IsWritten-error, Consumes-piece, Consumes-at_end, Appends-more}
+use Rattle.byte_unit_command.proofs.Runs.{IsWritten-error}
+use Rattle.byte_unit_command.proofs.Served.{Consumes-piece, Consumes-at_end, Appends-more, Appends-more_told}
+use Rattle.byte_unit_command.proofs.Runs.{AreRunMessages-read, AreRunMessages-piece, AreRunMessages-finished, AreRunMessages-error}
+use Rattle.byte_unit_command.proofs.Telling.{IsTold-nothing, IsTold-more}
 use Rattle.byte_unit_command.specs.Progress.{IsFinished}
 use Rattle.byte_unit_command.specs.declared.stop.Stop.{Stop}
 use Rattle.byte_unit_command.specs.declared.stop.Stop.TheVariants.{Read}
@@ -18,11 +21,17 @@ pub reads-init : goal.reads-init
 reads-init g c = record {
   read = [];
   written = [];
+  messages = [];
+  told = [];
   gave = Consumes-nil (g.R.Read.remaining (reader_of c.args.reader.now));
   took = Appends-nil (g.W.Write.contents (writer_of c.args.writer.now));
-  served = subst (λ part. IsServed c.args.options.now [] [] part c.new-progress.result) (sym c.new-part.ensures.items)
-      (IsServed-start c.args.options.now c.new-progress.result c.new-progress.ensures.header c.new-progress.ensures.tally);
+  heard = Appends-nil (g.E.Write.contents (writer_of c.args.errors.now));
+  is_told = IsTold-nothing (writing_failed c.args.errors.now);
+  served = subst (λ part. IsServed c.args.options.now c.args.word.now [] [] [] part c.new-progress.result) (sym c.new-part.ensures.items)
+      (IsServed-start c.args.options.now c.args.word.now c.new-progress.result c.new-progress.ensures.header
+      c.new-progress.ensures.word c.new-progress.ensures.number c.new-progress.ensures.tally);
   none_waits = c.new-waiting.ensures.items;
+  none_untold = c.new-notices.ensures;
 }
 
 pub returns-in-None-clause-run : goal.returns-in-None-clause-run
@@ -36,7 +45,8 @@ returns-in-None-clause-run g c =
       so_far.written,
       Consumes-kept left between rest so_far.read so_far.gave c.in-None.ensures.none,
       so_far.took,
-      IsWritten-read options so_far.read so_far.written c.reads.part.items c.reads.progress so_far.served (IsAtEnd rest),
+      IsWritten-read options c.args.word.now so_far.read so_far.written so_far.messages c.reads.part.items c.reads.progress
+          so_far.served (IsAtEnd rest),
     )
 
 pub reads-preserved : goal.reads-preserved
@@ -50,11 +60,17 @@ reads-preserved g c =
     let more = answered.written in record {
       read = so_far.read ++ piece;
       written = so_far.written ++ more.0;
+      messages = so_far.messages ++ more.1;
+      told = so_far.told ++ more.2;
       gave = Consumes-piece so_far rest piece c.in-Some.ensures.came;
-      took = Appends-more so_far holds more.0 more.1;
-      served = IsServed-piece options so_far.read so_far.written c.reads.part.items c.reads.progress so_far.served piece more.0
-          c.answer_piece.new.part.items c.answer_piece.new.progress more.2 answered.part;
+      took = Appends-more so_far holds more.0 more.3;
+      heard = Appends-more_told so_far (g.E.Write.contents (writer_of c.answer_piece.new.errors)) more.2 more.4;
+      is_told = IsTold-more (writing_failed c.reads.errors) (writing_failed c.answer_piece.new.errors) so_far.messages more.1
+          so_far.told more.2 so_far.is_told more.5;
+      served = IsServed-piece options c.args.word.now so_far.read so_far.written so_far.messages c.reads.part.items c.reads.progress
+          so_far.served piece more.0 more.1 c.answer_piece.new.part.items c.answer_piece.new.progress more.6 answered.part;
       none_waits = answered.waiting;
+      none_untold = answered.notices;
     }
 
 pub returns-in_err-answer_piece-in-Some-clause-run : goal.returns-in_err-answer_piece-in-Some-clause-run
@@ -69,12 +85,12 @@ returns-in_err-answer_piece-in-Some-clause-run g c =
     let more = failed.ensures.written in
     let read = so_far.read ++ piece in
     let written = so_far.written ++ more.0 in
-    let at = IsWritten-piece options so_far.read so_far.written c.reads.part.items c.reads.progress so_far.served piece more.0
-    (state_of c.answer_piece.new.progress []) (IsAtEnd rest) error more.2 in (
+    let at = IsWritten-piece options c.args.word.now so_far.read so_far.written so_far.messages c.reads.part.items c.reads.progress
+    so_far.served piece more.0 more.1 (state_of c.answer_piece.new.progress [] []) (IsAtEnd rest) error more.6 in (
       read,
       written,
       Consumes-piece so_far rest piece c.in-Some.ensures.came,
-      Appends-more so_far holds more.0 more.1,
+      Appends-more so_far holds more.0 more.3,
       IsWritten-error options (finished_records options.record_end read) (records_of options.record_end read) (IsAtEnd rest) written
           c.from_residual.result error c.from_residual.ensures.1 at,
     )
@@ -88,16 +104,80 @@ returns-clause-run g c =
     let end = c.in-Some-eq0 in
     let none = ap (λ count. take count c.read.new.buf) end.field-0-test in
     let part = c.deref.result.now in
-    let served : IsServed options so_far.read so_far.written part c.reads.progress =
+    let served : IsServed options c.args.word.now so_far.read so_far.written so_far.messages part c.reads.progress =
     record { added = so_far.served.added; begun = c.deref.ensures.value ∙ so_far.served.begun } in
     let at_end : IsAtEnd rest = end.ensures.end end.field-0-test (search rules) in
     let more = c.finish.ensures.written in (
       so_far.read,
       so_far.written ++ more.0,
       Consumes-at_end so_far rest (take end.field-0 c.read.new.buf) end.ensures.came none,
-      Appends-more so_far holds more.0 more.1,
-      IsWritten-finished options so_far.read so_far.written part c.reads.progress served more.0 (IsAtEnd rest) at_end
-          c.finish.result more.2,
+      Appends-more so_far holds more.0 more.3,
+      IsWritten-finished options c.args.word.now so_far.read so_far.written so_far.messages part c.reads.progress served
+          more.0 more.1 (IsAtEnd rest) at_end c.finish.result more.6,
+    )
+
+pub returns-in-None-clause-told : goal.returns-in-None-clause-told
+returns-in-None-clause-told g c =
+    let options = c.args.options.now in
+    let left = g.R.Read.remaining (reader_of c.args.reader.now) in
+    let between = g.R.Read.remaining (reader_of c.reads.reader) in
+    let rest = g.R.Read.remaining (reader_of c.read.new.self) in
+    let so_far = c.reads.invariant in (
+      so_far.read,
+      so_far.messages,
+      so_far.told,
+      Consumes-kept left between rest so_far.read so_far.gave c.in-None.ensures.none,
+      so_far.heard,
+      so_far.is_told,
+      AreRunMessages-read options c.args.word.now so_far.read so_far.written so_far.messages c.reads.part.items c.reads.progress
+          so_far.served (IsAtEnd rest),
+    )
+
+pub returns-in_err-answer_piece-in-Some-clause-told : goal.returns-in_err-answer_piece-in-Some-clause-told
+returns-in_err-answer_piece-in-Some-clause-told g c =
+    let options = c.args.options.now in
+    let rest = g.R.Read.remaining (reader_of c.read.new.self) in
+    let so_far = c.reads.invariant in
+    let piece = take c.in-Some.n c.read.new.buf in
+    let failed = c.in_err-answer_piece-in-Some in
+    let error = failed.field-0.0 in
+    let more = failed.ensures.written in
+    let read = so_far.read ++ piece in
+    let messages = so_far.messages ++ more.1 in
+    let at = AreRunMessages-piece options c.args.word.now so_far.read so_far.written so_far.messages c.reads.part.items
+    c.reads.progress so_far.served piece more.0 more.1 (state_of c.answer_piece.new.progress [] []) (IsAtEnd rest) error more.6 in (
+      read,
+      messages,
+      so_far.told ++ more.2,
+      Consumes-piece so_far rest piece c.in-Some.ensures.came,
+      Appends-more_told so_far (g.E.Write.contents (writer_of c.answer_piece.new.errors)) more.2 more.4,
+      IsTold-more (writing_failed c.reads.errors) (writing_failed c.answer_piece.new.errors) so_far.messages more.1
+          so_far.told more.2 so_far.is_told more.5,
+      AreRunMessages-error options c.args.word.now (finished_records options.record_end read) (records_of options.record_end read)
+          (IsAtEnd rest) messages c.from_residual.result error c.from_residual.ensures.1 at,
+    )
+
+pub returns-clause-told : goal.returns-clause-told
+returns-clause-told g c =
+    let options = c.args.options.now in
+    let rest = g.R.Read.remaining (reader_of c.read.new.self) in
+    let so_far = c.reads.invariant in
+    let end = c.in-Some-eq0 in
+    let none = ap (λ count. take count c.read.new.buf) end.field-0-test in
+    let part = c.deref.result.now in
+    let served : IsServed options c.args.word.now so_far.read so_far.written so_far.messages part c.reads.progress =
+    record { added = so_far.served.added; begun = c.deref.ensures.value ∙ so_far.served.begun } in
+    let at_end : IsAtEnd rest = end.ensures.end end.field-0-test (search rules) in
+    let more = c.finish.ensures.written in (
+      so_far.read,
+      so_far.messages ++ more.1,
+      so_far.told ++ more.2,
+      Consumes-at_end so_far rest (take end.field-0 c.read.new.buf) end.ensures.came none,
+      Appends-more_told so_far (g.E.Write.contents (writer_of c.finish.new.errors)) more.2 more.4,
+      IsTold-more (writing_failed c.reads.errors) (writing_failed c.finish.new.errors) so_far.messages more.1
+          so_far.told more.2 so_far.is_told more.5,
+      AreRunMessages-finished options c.args.word.now so_far.read so_far.written so_far.messages part c.reads.progress served
+          more.0 more.1 (IsAtEnd rest) at_end c.finish.result more.6,
     )
 
 pub returns-in_err-answer_piece-in-Some-clause-read_failed : goal.returns-in_err-answer_piece-in-Some-clause-read_failed
@@ -110,5 +190,5 @@ pub returns-clause-read_failed : goal.returns-clause-read_failed
 returns-clause-read_failed g c = λ is.
     let more = c.finish.ensures.written in
     let Ends : Result Tally Stop → Type 0 =
-    λ result. IsFinished c.args.options.now c.deref.result.now (state_of c.reads.progress []) result more.0 in
-    absurd (subst Ends is more.2)
+    λ result. IsFinished c.args.options.now c.deref.result.now (state_of c.reads.progress [] []) result more.0 more.1 in
+    absurd (subst Ends is more.6)

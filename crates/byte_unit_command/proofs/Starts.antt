@@ -1,0 +1,54 @@
+-- Lemmas: what was converted, counted and told from the start of a run on.
+use Rattle.std.proofs.Common.{◌≡◌, ℕ, ◌<◌, ◌≤◌, min, List, [], ◌∷◌, ◌++◌, true, false}
+use Rattle.std.proofs.Common.{sym, ap, subst, ◌∙◌, arith, MatchBool}
+use Rattle.byte_unit.specs.Bounds.{size_limit}
+use Rattle.byte_unit_command.specs.Messages.{AreMessages}
+use Rattle.byte_unit_command.specs.Outcome.{AreConverted, IsTotalLine}
+use Rattle.byte_unit_command.specs.Output.{AreRecords}
+use Rattle.byte_unit_command.specs.Progress.{AddsRecords, State, IsTotalFor, start_of}
+use Rattle.byte_unit_command.specs.Shown.{IsShown}
+use Rattle.byte_unit_command.specs.Sums.{sum_of, tally_of}
+use Rattle.byte_unit_command.specs.declared.options.Options.{Options}
+use Rattle.byte_unit_command.proofs.Tallies.{tally_after-tally_of}
+
+-- what was appended from the start on, for some records
+module _ (options : Options) (word : List ℕ) (records : List (List ℕ)) (new : State)
+    (adds : AddsRecords options records (start_of options word) new) where
+  -- they are converted
+  pub converted-from_start : AreConverted options records new.out adds.found
+  converted-from_start = record {
+    are_records = subst (λ text. AreRecords options options.header records text adds.found) (sym adds.out_is) adds.are_records;
+    passes = adds.passes;
+  }
+
+  -- and told
+  pub messages-from_start : AreMessages options word 0 options.header records new.messages
+  messages-from_start = subst (AreMessages options word 0 options.header records) (sym adds.messages_are) adds.are_messages
+
+  -- and counted
+  pub tally-from_start : new.tally ≡ tally_of options adds.found
+  tally-from_start = adds.tally_is ∙ tally_after-tally_of options adds.found
+
+  -- a counted total that is a size is their sum
+  sum-from_start : new.tally.total < size_limit → new.tally.total ≡ sum_of adds.found
+  sum-from_start small =
+      let counted : new.tally.total ≡ min (sum_of adds.found) size_limit = ap (λ tally. tally.total) tally-from_start in
+      omega (arith, small, counted)
+
+  pub large-from_start : size_limit ≤ new.tally.total → size_limit ≤ sum_of adds.found
+  large-from_start large =
+      let counted : new.tally.total ≡ min (sum_of adds.found) size_limit = ap (λ tally. tally.total) tally-from_start in
+      omega (arith, large, counted)
+
+  pub total_line-from_start : (line : List ℕ) → MatchBool options.total (IsTotalFor options new.tally.total line) (line ≡ [])
+      → IsTotalLine options adds.found line
+  total_line-from_start line at =
+      let For : Type 0 = IsTotalFor options new.tally.total line in
+      let sum = sum_of adds.found in
+      let Line : Type 0 = (shown : List ℕ) × (sum < size_limit) × IsShown options sum shown × (line ≡ shown ++ options.output_end ∷ []) in
+      elim options.total as (λ asked. MatchBool asked For (line ≡ []) → MatchBool asked Line (line ≡ [])) [
+        | true ↦ λ (shown, small, is_shown, is).
+            let same = sum-from_start small in
+            (shown, subst (λ total. total < size_limit) same small, subst (λ total. IsShown options total shown) same is_shown, is)
+        | false ↦ λ none. none
+      ] at

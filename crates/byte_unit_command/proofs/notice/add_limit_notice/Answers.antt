@@ -1,0 +1,35 @@
+-- The message about the maximum, and then that about the minimum.
+use Rattle.std.proofs.Common.{◌++◌, refl, ap, subst, ◌∙◌, append_assoc}
+use Rattle.byte_unit_command.specs.Messages.{IsMessageIf}
+use Rattle.byte_unit_command.specs.Progress.{messages_of}
+use Rattle.byte_unit_command.specs.declared.notice.Reason.TheVariants.{Above, Below}
+use Rattle.byte_unit_command.proofs.Prefixes.{IsPrefix-trans}
+use Rattle.byte_unit_command.proofs.Results.{OnOk-map}
+use Rattle.byte_unit_command.proofs.notice.add_limit_notice.Goals as goal
+
+pub returns-clause-ok : goal.returns-clause-ok
+returns-clause-ok g c =
+    let options = c.args.options.now in
+    let word = c.args.place.now.word.now in
+    let place = c.args.place.now.number in
+    let number = c.args.number in
+    let field = c.args.field.now in
+    let before = messages_of c.args.notices.now in
+    let above = c.in_ok-add_message_if.ensures.ok in
+    let is_above = subst (λ told. IsMessageIf told options word place number field Above above.0) c.is_above-above.ensures above.1 in
+    OnOk-map c.add_message_if-2.result (λ below. (
+      above.0 ++ below.0,
+      (
+        above.0,
+        below.0,
+        is_above,
+        subst (λ told. IsMessageIf told options word place number field Below below.0) c.is_below-below.ensures below.1,
+        refl,
+      ),
+      below.2 ∙ ap (λ messages. messages ++ below.0) above.2 ∙ append_assoc before above.0 below.0,
+    )) c.add_message_if-2.ensures.ok
+
+pub returns-clause-kept : goal.returns-clause-kept
+returns-clause-kept g c =
+    IsPrefix-trans (messages_of c.args.notices.now) (messages_of c.add_message_if.new.notices)
+    (messages_of c.add_message_if-2.new.notices) c.in_ok-add_message_if.ensures.kept c.add_message_if-2.ensures.kept

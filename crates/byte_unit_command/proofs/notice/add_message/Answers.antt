@@ -1,0 +1,10 @@
+-- The whole message is appended, or nothing.
+use Rattle.std.proofs.Common.{is_ok}
+use Rattle.byte_unit_command.specs.Progress.{messages_of}
+use Rattle.byte_unit_command.proofs.Prefixes.{IsPrefix-if}
+use Rattle.byte_unit_command.proofs.notice.add_message.Goals as goal
+
+pub returns-clause-kept : goal.returns-clause-kept
+returns-clause-kept g c =
+    IsPrefix-if (is_ok c.extend_from_slice.result) (messages_of c.args.notices.now) c.as_bytes.result.now
+    c.extend_from_slice.ensures.items

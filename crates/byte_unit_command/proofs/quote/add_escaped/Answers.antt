@@ -1,0 +1,33 @@
+-- A text is escaped by its characters, and other bytes one by one.
+use Rattle.std.proofs.Common.{◌≡◌, ℕ, Bool, true, false, List, ◌++◌, if◌then◌else◌, sym, ap, ◌∙◌, subst}
+use Rattle.std.specs.List.{flat_map}
+use Rattle.std.specs.Str.{IsUtf8, is_utf8, chars}
+use Rattle.std.specs.String.{string_bytes}
+use Rattle.std.proofs.lemmas.Bool.{false_from_ne_true}
+use Rattle.std.proofs.lemmas.Str.{is_utf8-from_IsUtf8, IsUtf8-from_is_utf8}
+use Rattle.byte_unit_command.specs.Messages.{escape, escape_byte, escape_char}
+use Rattle.byte_unit_command.proofs.Results.{OnOk-map}
+use Rattle.byte_unit_command.proofs.quote.add_escaped.Goals as goal
+
+escape-text : (bytes : List ℕ) → IsUtf8 bytes → escape bytes ≡ flat_map escape_char (chars bytes)
+escape-text bytes is =
+    ap (λ yes. if yes then flat_map escape_char (chars bytes) else flat_map escape_byte bytes) (is_utf8-from_IsUtf8 bytes is)
+
+escape-bytes : (bytes : List ℕ) → ¬ IsUtf8 bytes → escape bytes ≡ flat_map escape_byte bytes
+escape-bytes bytes is_not =
+    ap (λ yes. if yes then flat_map escape_char (chars bytes) else flat_map escape_byte bytes)
+    (false_from_ne_true (is_utf8 bytes) (λ yes. is_not (IsUtf8-from_is_utf8 bytes yes)))
+
+pub returns-in-Ok : goal.returns-in-Ok
+returns-in-Ok g c =
+    let before = string_bytes c.args.line.now in
+    let cases = c.in-Ok.ensures.cases in
+    OnOk-map c.add_escaped_text.result (λ added. added
+    ∙ ap (λ text. before ++ flat_map escape_char (chars text)) cases.0
+    ∙ ap (λ text. before ++ text) (sym (escape-text c.args.bytes.now cases.1))) c.add_escaped_text.ensures
+
+pub returns-in-Err : goal.returns-in-Err
+returns-in-Err g c =
+    let before = string_bytes c.args.line.now in
+    OnOk-map c.add_escaped_bytes.result (λ added. added
+    ∙ ap (λ text. before ++ text) (sym (escape-bytes c.args.bytes.now c.in-Err.ensures.cases.0))) c.add_escaped_bytes.ensures

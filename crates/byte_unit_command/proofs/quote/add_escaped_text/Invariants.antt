@@ -1,0 +1,9 @@
+-- The characters so far are appended, each as it is shown.
+use Rattle.std.proofs.Common.{◌≡◌, ◌++◌}
+use Rattle.std.specs.List.{flat_map}
+use Rattle.std.specs.String.{string_bytes}
+use Rattle.byte_unit_command.specs.Messages.{escape_char}
+use Rattle.byte_unit_command.proofs.quote.add_escaped_text.Given as goal
+
+abbrev pub invariant-loop-c : goal.invariant-loop-c
+invariant-loop-c g l = string_bytes l.line ≡ string_bytes l.initial.line ++ flat_map escape_char l.yielded

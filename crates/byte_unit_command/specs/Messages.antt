@@ -1,0 +1,160 @@
+-- The messages about fields, for standard error.
+use Rattle.std.specs.Prelude.{◌≡◌, ℕ, zero, suc, ◌+◌, ◌-◌, ◌^◌, ◌/◌, ◌%◌, ◌⊎◌, min, Bool, true, false, ◌&&◌, ◌||◌, nat_lt, nat_le, IfSome}
+use Rattle.std.specs.Prelude.{if◌then◌else◌, MatchBool, List, [], ◌∷◌, ◌++◌, Option, Some, None, length, take, slice_index, codes}
+use Rattle.std.specs.Char.{is_control, encode_utf8}
+use Rattle.std.specs.Fmt.{decimal, digits, digit_glyph}
+use Rattle.std.specs.List.{flat_map}
+use Rattle.std.specs.Str.{IsUtf8, is_utf8, chars}
+use Rattle.byte_unit.specs.Accepted.{IsRejected}
+use Rattle.byte_unit.specs.Errors.{size_fault}
+use Rattle.byte_unit.specs.FaultText.{parse_text}
+use Rattle.byte_unit_command.specs.Field.{IsSize, IsNoSize, ignores_case}
+use Rattle.byte_unit_command.specs.Fields.{IsChosen, fields_of}
+use Rattle.byte_unit_command.specs.Sums.{is_above, is_below}
+use Rattle.byte_unit_command.specs.declared.notice.Reason.{Reason}
+use Rattle.byte_unit_command.specs.declared.notice.Reason.TheVariants.{NotUtf8, Rejected, Above, Below}
+use Rattle.byte_unit_command.specs.declared.options.Invalid.{Invalid}
+use Rattle.byte_unit_command.specs.declared.options.Invalid.TheVariants.{Abort, Fail, Warn, Ignore}
+use Rattle.byte_unit_command.specs.declared.options.Options.{Options}
+
+-- whether a UTF-8 text that is cut before its byte with this index is cut between two characters
+abbrev pub is_boundary : List ℕ → ℕ → Bool
+is_boundary bytes index = nat_lt (slice_index bytes index) 128 || nat_le 192 (slice_index bytes index)
+
+-- the number of bytes of a field that a message quotes: all of at most 80 bytes; of more, the most of the first 80 that
+-- end between two characters of a UTF-8 text, which has such a place in any four bytes; and 80 if there is none
+abbrev pub quoted_len : List ℕ → ℕ
+quoted_len field =
+    if nat_le (length field) 80 then length field
+    else (if is_boundary field 80 then 80
+    else (if is_boundary field 79 then 79
+    else (if is_boundary field 78 then 78
+    else (if is_boundary field 77 then 77 else 80))))
+
+-- a character in a message: a control character as `\u{` with its code in hexadecimal and `}`, any other as it is
+abbrev pub escape_char : ℕ → List ℕ
+escape_char c = if is_control c then codes "\\u{" ++ digits 16 false c ++ codes "}" else encode_utf8 c
+
+-- whether a byte is a printable ASCII character
+abbrev pub is_printable : ℕ → Bool
+is_printable byte = nat_le 32 byte && nat_lt byte 127
+
+-- `\x` and a byte as two hexadecimal digits
+abbrev pub hex_of_byte : ℕ → List ℕ
+hex_of_byte byte = codes "\\x" ++ digit_glyph false (byte / 16) ∷ digit_glyph false (byte % 16) ∷ []
+
+-- a byte of a text that is not UTF-8, in a message: a printable ASCII character as it is, and else as `\x` with its two
+-- hexadecimal digits
+abbrev pub escape_byte : ℕ → List ℕ
+escape_byte byte = if is_printable byte then byte ∷ [] else hex_of_byte byte
+
+-- bytes in a message: a UTF-8 text by its characters, others byte by byte
+abbrev pub escape : List ℕ → List ℕ
+escape bytes = if is_utf8 bytes then flat_map escape_char (chars bytes) else flat_map escape_byte bytes
+
+-- a field in a message: in quotes, and with two points after it if it is cut
+abbrev pub quote : List ℕ → List ℕ
+quote field =
+    let len = quoted_len field in
+    codes "'" ++ escape (take len field) ++ (if nat_lt len (length field) then codes ".." else []) ++ codes "'"
+
+-- the words for a reason. Those for a rejected field are the message of the error that the library has for it; where
+-- the library's contract says nothing of its message, since it quotes a character that is not ASCII, nothing is said
+abbrev pub AreWords : Reason → List ℕ → Type 0
+AreWords NotUtf8 words = words ≡ codes "not UTF-8"
+AreWords (Rejected error) words = IfSome (parse_text error) (λ text. words ≡ text)
+AreWords Above words = words ≡ codes "above the maximum"
+AreWords Below words = words ≡ codes "below the minimum"
+
+-- the beginning of a message: what a record is called, and its number
+abbrev pub record_text : List ℕ → ℕ → List ℕ
+record_text word place = codes "byte-unit: " ++ (word ++ (codes " " ++ (decimal place ++ codes ": ")))
+
+-- the number of the field, if there is a delimiter
+abbrev pub field_text : Option ℕ → ℕ → List ℕ
+field_text None number = []
+field_text (Some delimiter) number = codes "field " ++ decimal number ++ codes ": "
+
+-- the place of a field
+abbrev pub place_text : Options → List ℕ → ℕ → ℕ → List ℕ
+place_text options word place number = record_text word place ++ field_text options.delimiter number
+
+-- a message about the field with this number, in the record at this place, which is called by this word
+abbrev pub IsMessage : Options → List ℕ → ℕ → ℕ → List ℕ → Reason → List ℕ → Type 0
+IsMessage options word place number field reason text =
+    (words : List ℕ) × AreWords reason words
+    × (text ≡ place_text options word place number ++ quote field ++ codes ": " ++ words ++ 10 ∷ [])
+
+-- such a message if it is told, and else nothing
+abbrev pub IsMessageIf : Bool → Options → List ℕ → ℕ → ℕ → List ℕ → Reason → List ℕ → Type 0
+IsMessageIf told options word place number field reason text =
+    MatchBool told (IsMessage options word place number field reason text) (text ≡ [])
+
+-- the messages about a size: that it is above the maximum, and that it is below the minimum
+abbrev pub AreLimitMessages : Options → List ℕ → ℕ → ℕ → List ℕ → ℕ → List ℕ → Type 0
+AreLimitMessages options word place number field size text =
+    (above below : List ℕ) × IsMessageIf (is_above options.max size) options word place number field Above above
+    × IsMessageIf (is_below options.min size) options word place number field Below below × (text ≡ above ++ below)
+
+-- this is the reason why the field is not a size
+abbrev pub IsReason : Options → List ℕ → Reason → Type 0
+IsReason options field NotUtf8 = ¬ IsUtf8 field
+IsReason options field (Rejected error) =
+    IsUtf8 field × IsRejected options.kind (ignores_case options.kind options.ignore_case) field (size_fault error)
+IsReason options field _ = ⊥
+
+-- whether rejected fields are told
+abbrev pub tells_rejected : Invalid → Bool
+tells_rejected Abort = true
+tells_rejected Fail = true
+tells_rejected Warn = true
+tells_rejected Ignore = false
+
+-- the messages about a field, and whether it is to be converted and is not a size
+pub data AreFieldMessages (options : Options) (word : List ℕ) (place number : ℕ) (field : List ℕ) (is_rejected : Bool)
+    (text : List ℕ) : Type 0 where
+  other : ¬ IsChosen options.fields.now number → is_rejected ≡ false → text ≡ []
+      → AreFieldMessages options word place number field is_rejected text
+  size : (n : ℕ) → IsChosen options.fields.now number → IsSize options field n → is_rejected ≡ false
+      → AreLimitMessages options word place number field n text
+      → AreFieldMessages options word place number field is_rejected text
+  rejected : (reason : Reason) → IsChosen options.fields.now number → IsReason options field reason → is_rejected ≡ true
+      → IsMessageIf (tells_rejected options.invalid) options word place number field reason text
+      → AreFieldMessages options word place number field is_rejected text
+
+-- the messages about these fields, the first of which has this number
+abbrev pub AreMessagesOfFields : Options → List ℕ → ℕ → ℕ → List (List ℕ) → List ℕ → Type 0
+AreMessagesOfFields options word place number [] text = text ≡ []
+AreMessagesOfFields options word place number (field ∷ others) text =
+    (own rest : List ℕ) × (is_rejected : Bool) × AreFieldMessages options word place number field is_rejected own
+    × AreMessagesOfFields options word place (number + 1) others rest × (text ≡ own ++ rest)
+
+-- the messages about these fields up to the first one that is rejected, which is one of them
+abbrev pub AreMessagesToRejected : Options → List ℕ → ℕ → ℕ → List (List ℕ) → List ℕ → Type 0
+AreMessagesToRejected options word place number [] text = ⊥
+AreMessagesToRejected options word place number (field ∷ others) text =
+    AreFieldMessages options word place number field true text
+    ⊎ ((own rest : List ℕ) × AreFieldMessages options word place number field false own
+    × AreMessagesToRejected options word place (number + 1) others rest × (text ≡ own ++ rest))
+
+-- the messages about a record, if this number of header records begins with it: none about a header record
+abbrev pub AreRecordMessages : Options → List ℕ → ℕ → ℕ → List ℕ → List ℕ → Type 0
+AreRecordMessages options word place zero bytes text =
+    AreMessagesOfFields options word place 1 (fields_of options.delimiter bytes) text
+AreRecordMessages options word place (suc _) bytes text = text ≡ []
+
+-- the number of the record after the one with this number; a number of 2^64 or more is told as 2^64 - 1
+abbrev pub next_place : ℕ → ℕ
+next_place place = min (place + 1) (2 ^ 64 - 1)
+
+-- the number of the last of these records, if this is the number of the record before them
+abbrev pub last_place : ℕ → List (List ℕ) → ℕ
+last_place place [] = place
+last_place place (bytes ∷ others) = last_place (next_place place) others
+
+-- the messages about these records, if this is the number of the record before them
+abbrev pub AreMessages : Options → List ℕ → ℕ → ℕ → List (List ℕ) → List ℕ → Type 0
+AreMessages options word place header [] text = text ≡ []
+AreMessages options word place header (bytes ∷ others) text =
+    (own rest : List ℕ) × AreRecordMessages options word (next_place place) header bytes own
+    × AreMessages options word (next_place place) (header - 1) others rest × (text ≡ own ++ rest)

@@ -1,0 +1,47 @@
+-- What a run has told on standard error, by the records that it has read and how it ended.
+use Rattle.std.specs.Prelude.{◌≡◌, ◌⊎◌, Bool, false, List, ◌∷◌, ◌++◌, ℕ, Result, Ok, Err}
+use Rattle.byte_unit_command.specs.Fields.{fields_of}
+use Rattle.byte_unit_command.specs.Messages.{AreMessages, AreMessagesToRejected, next_place, last_place}
+use Rattle.byte_unit_command.specs.Outcome.{IsPrefix}
+use Rattle.byte_unit_command.specs.declared.options.Options.{Options}
+use Rattle.byte_unit_command.specs.declared.stop.Stop.{Stop}
+use Rattle.byte_unit_command.specs.declared.stop.Stop.TheVariants.{Memory, Read, Write, Rejected, Total}
+use Rattle.byte_unit_command.specs.declared.tally.Tally.{Tally}
+
+-- the messages about the first of these records, for some number of them
+abbrev pub AreFirstMessages : Options → List ℕ → List (List ℕ) → List ℕ → Type 0
+AreFirstMessages options word records messages =
+    (first : List (List ℕ)) × IsPrefix first records × AreMessages options word 0 options.header first messages
+
+-- the messages about the records before one that has a rejected field, and about its fields up to the first such one
+pub record AreAbortMessages (options : Options) (word : List ℕ) (records : List (List ℕ)) (messages : List ℕ) : Type 0 where
+  pub before : List (List ℕ)
+  pub bytes : List ℕ
+  pub after : List (List ℕ)
+  pub front : List ℕ
+  pub own : List ℕ
+  pub records_are : records ≡ before ++ bytes ∷ after
+  pub are_messages : AreMessages options word 0 options.header before front
+  pub to_rejected : AreMessagesToRejected options word (next_place (last_place 0 before)) 1
+      (fields_of options.delimiter bytes) own
+  pub messages_are : messages ≡ front ++ own
+
+-- the messages of a run that ends with this result: those about all records; about all finished ones if a read failed;
+-- about some first ones if a write failed or it was out of memory; and those up to the first rejected field in the mode
+-- `abort`. `finished`, `records` and `complete` are those of `IsWritten`
+abbrev pub AreRunMessages : Options → List ℕ → List (List ℕ) → List (List ℕ) → Type 0 → Result Tally Stop → List ℕ → Type 0
+AreRunMessages options word finished records complete (Ok _) messages =
+    complete × AreMessages options word 0 options.header records messages
+AreRunMessages options word finished records complete (Err Total) messages =
+    complete × AreMessages options word 0 options.header records messages
+AreRunMessages options word finished records complete (Err Read) messages =
+    AreMessages options word 0 options.header finished messages
+AreRunMessages options word finished records complete (Err Rejected) messages =
+    AreAbortMessages options word finished messages ⊎ complete × AreAbortMessages options word records messages
+AreRunMessages options word finished records complete (Err _) messages =
+    AreFirstMessages options word finished messages ⊎ complete × AreFirstMessages options word records messages
+
+-- of these messages, what was told: all of them, or a prefix if a write to standard error failed
+pub record IsTold (failed : Bool) (messages told : List ℕ) : Type 0 where
+  pub begins : IsPrefix told messages
+  pub all : failed ≡ false → told ≡ messages

@@ -1,0 +1,175 @@
+//! Quotes a field in a message.
+
+ghost use Rattle.std.specs.Prelude.{◌≡◌, ◌++◌, ◌<◌, ◌≤◌, ◌||◌, false, nat_lt, nat_le, length, IsTrue, OnOk};
+ghost use Rattle.std.specs.Fmt.{digit_glyph};
+ghost use Rattle.std.specs.List.{flat_map};
+ghost use Rattle.std.specs.Str.{chars};
+ghost use Rattle.std.specs.String.{string_bytes};
+ghost use Rattle.byte_unit_command.specs.Messages.{escape, escape_byte, escape_char, hex_of_byte, quote};
+ghost use Rattle.byte_unit_command.specs.Messages.{is_printable as is_printable_ascii};
+ghost use Rattle.byte_unit_command.specs.Messages.{quoted_len as len_of_quote};
+
+use std::alloc::{AllocError, Allocator};
+use std::fmt::Write;
+
+/// The most bytes of a field that a message quotes.
+const QUOTED: usize = 80;
+
+/// Appends a field in quotes, with control characters and bytes that are not UTF-8 escaped. Of a long field only the
+/// beginning is quoted, with two points after it.
+///
+/// # Errors
+///
+/// Returns `AllocError` if allocation fails.
+pub(crate) fn add_quoted<A: Allocator>(field: &[u8], line: &mut String<A>) -> Result<(), AllocError>
+    ensures { OnOk result (string_bytes line.new ≡ string_bytes line.old ++ quote field.now) }
+{
+    let len = quoted_len(field);
+    line.push_str("'")?;
+    add_escaped(&field[..len], line)?;
+    if len < field.len() {
+        line.push_str("..")?;
+    }
+    line.push_str("'")
+}
+
+/// Returns the number of bytes of a field that are quoted: at most 80, and of a UTF-8 field as many of these as cut no
+/// character.
+fn quoted_len(field: &[u8]) -> usize
+    ensures len { result ≡ len_of_quote field.now }
+    ensures bound { result ≤ length field.now }
+{
+    if field.len() <= QUOTED {
+        return field.len();
+    }
+    if is_boundary(field[QUOTED]) {
+        QUOTED
+    } else if is_boundary(field[QUOTED - 1]) {
+        QUOTED - 1
+    } else if is_boundary(field[QUOTED - 2]) {
+        QUOTED - 2
+    } else if is_boundary(field[QUOTED - 3]) {
+        QUOTED - 3
+    } else {
+        QUOTED
+    }
+}
+
+/// Returns `true` if a character of a UTF-8 text can begin with this byte.
+fn is_boundary(byte: u8) -> bool
+    ensures { result ≡ (nat_lt byte 128 || nat_le 192 byte) }
+{
+    byte < 0x80 || 0xC0 <= byte
+}
+
+/// Appends bytes: a text with its control characters escaped, and bytes that are not UTF-8 each for itself.
+///
+/// # Errors
+///
+/// Returns `AllocError` if allocation fails.
+fn add_escaped<A: Allocator>(bytes: &[u8], line: &mut String<A>) -> Result<(), AllocError>
+    ensures { OnOk result (string_bytes line.new ≡ string_bytes line.old ++ escape bytes.now) }
+{
+    match str::from_utf8(bytes) {
+        Ok(text) => add_escaped_text(text, line),
+        Err(_) => add_escaped_bytes(bytes, line),
+    }
+}
+
+/// Appends a text with its control characters escaped.
+///
+/// # Errors
+///
+/// Returns `AllocError` if allocation fails.
+pub(crate) fn add_escaped_text<A: Allocator>(
+    text: &str,
+    line: &mut String<A>,
+) -> Result<(), AllocError>
+    ensures { OnOk result
+        (string_bytes line.new ≡ string_bytes line.old ++ flat_map escape_char (chars text.now)) }
+{
+    for c in text.chars() {
+        add_escaped_char(c, line)?;
+    }
+    Ok(())
+}
+
+/// Appends a character, escaped if it is a control character.
+///
+/// # Errors
+///
+/// Returns `AllocError` if allocation fails.
+fn add_escaped_char<A: Allocator>(c: char, line: &mut String<A>) -> Result<(), AllocError>
+    ensures { OnOk result (string_bytes line.new ≡ string_bytes line.old ++ escape_char c) }
+{
+    if c.is_control() {
+        let code = c as u32;
+        write!(line, "\\u{{{code:x}}}")
+    } else {
+        line.push(c)
+    }
+}
+
+/// Appends bytes: printable ASCII characters as they are, and any other byte escaped.
+///
+/// # Errors
+///
+/// Returns `AllocError` if allocation fails.
+fn add_escaped_bytes<A: Allocator>(bytes: &[u8], line: &mut String<A>) -> Result<(), AllocError>
+    ensures { OnOk result
+        (string_bytes line.new ≡ string_bytes line.old ++ flat_map escape_byte bytes.now) }
+{
+    for byte in bytes {
+        add_escaped_byte(*byte, line)?;
+    }
+    Ok(())
+}
+
+/// Appends a byte, escaped if it is not a printable ASCII character.
+///
+/// # Errors
+///
+/// Returns `AllocError` if allocation fails.
+fn add_escaped_byte<A: Allocator>(byte: u8, line: &mut String<A>) -> Result<(), AllocError>
+    ensures { OnOk result (string_bytes line.new ≡ string_bytes line.old ++ escape_byte byte) }
+{
+    if is_printable(byte) {
+        line.push(byte as char)
+    } else {
+        add_hex(byte, line)
+    }
+}
+
+/// Returns `true` if the byte is a printable ASCII character.
+fn is_printable(byte: u8) -> bool
+    ensures value { result ≡ is_printable_ascii byte }
+    ensures ascii { IsTrue result → byte < 128 }
+{
+    0x20 <= byte && byte < 0x7F
+}
+
+/// Appends `\x` and a byte as two hexadecimal digits.
+///
+/// # Errors
+///
+/// Returns `AllocError` if allocation fails.
+fn add_hex<A: Allocator>(byte: u8, line: &mut String<A>) -> Result<(), AllocError>
+    ensures { OnOk result (string_bytes line.new ≡ string_bytes line.old ++ hex_of_byte byte) }
+{
+    line.push_str("\\x")?;
+    line.push(hex_digit(byte / 16))?;
+    line.push(hex_digit(byte % 16))
+}
+
+/// Returns a hexadecimal digit as a character.
+fn hex_digit(digit: u8) -> char
+    requires { digit < 16 }
+    ensures value { result ≡ digit_glyph false digit }
+    ensures ascii { result < 128 }
+{
+    if digit < 10 {
+        (b'0' + digit) as char
+    } else {
+        (b'a' + (digit - 10)) as char
+    }
+}
