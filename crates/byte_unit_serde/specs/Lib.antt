@@ -1,3 +1,4 @@
 pub mod Messages
+pub mod Outcomes
 pub mod Stored
 pub mod TomlErrors

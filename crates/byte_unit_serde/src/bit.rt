@@ -1,14 +1,16 @@
 // Rendered from crates/byte_unit_serde/src/byte.rt by tools/mirror. Do not edit.
 //! A size in bits as a string, for `#[serde(with = "byte_unit_serde::bit")]`.
 
-ghost use Rattle.std.specs.Prelude.{false, IfOk, OnOk};
+ghost use Rattle.std.specs.Prelude.{false, List, ℕ, IfOk, OnOk, IsUtf8};
 ghost use Rattle.byte_unit.specs.Accepted.{IsAccepted};
 ghost use Rattle.byte_unit.specs.declared.Kind.TheVariants.{Bit as InBits};
+ghost use Rattle.byte_unit_serde.specs.Outcomes.{ReadingSize, WritingSize};
 ghost use Rattle.byte_unit_serde.specs.Stored.{ReadsString, WritesSize};
 
 use crate::messages::size_message;
+use crate::{Sink, Source};
 use byte_unit::{Bit, FormatSpec};
-use serde::{Deserializer, Format, Serializer};
+use serde::Deserializer;
 use std::alloc::Global;
 
 /// Writes the string of the size: its text with a unit, by `FormatSpec::ALTERNATE`. Does not allocate.
@@ -16,15 +18,16 @@ use std::alloc::Global;
 /// # Errors
 ///
 /// Returns the format's error if the format cannot write a string.
-pub fn serialize<S: Serializer>(size: &Bit, out: &mut S) -> Result<(), S::Error>
-    ensures { OnOk result
+pub fn serialize<S: Sink>(size: &Bit, out: &mut S) -> Result<(), S::Error>
+    ensures written { OnOk result
         (WritesSize InBits size.now (S.written out.old) (S.written out.new)) }
+    ensures exact { WritingSize InBits S.str_returns size.now out.old result out.new }
 {
     // As long as the longest text without a width.
     let mut bytes = [0; 37];
     let len = size.write_text(FormatSpec::ALTERNATE, &mut bytes);
     match std::str::from_utf8(&bytes[..len]) {
-        Ok(text) => out.str(text),
+        Ok(text) => out.write_str(text),
         Err(_) => Err(out.custom("not UTF-8")),
     }
 }
@@ -34,14 +37,15 @@ pub fn serialize<S: Serializer>(size: &Bit, out: &mut S) -> Result<(), S::Error>
 /// # Errors
 ///
 /// Returns the format's error if the value is not a string, or the string is rejected.
-pub fn deserialize<'de, F: Format>(
+pub fn deserialize<'de, F: Source>(
     alloc: Global,
     from: &mut Deserializer<'de, '_, F>,
 ) -> Result<Bit, F::Error>
-    ensures { IfOk result
+    ensures string { IfOk result
         (ReadsString (IsAccepted InBits false) F.gives from.old from.new) }
+    ensures exact { ReadingSize InBits F.string_returns F.rejects from.old result from.new }
 {
-    let text = from.string(alloc)?;
+    let text = F::read_string(alloc, from)?;
     text.parse::<Bit>()
-        .map_err(|error| from.custom(size_message(&error)))
+        .map_err(|error| F::rejection(from, size_message(&error)))
 }

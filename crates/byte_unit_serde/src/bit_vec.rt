@@ -1,15 +1,16 @@
 // Rendered from crates/byte_unit_serde/src/byte_vec.rt by tools/mirror. Do not edit.
 //! A list of sizes in bits as strings, for `#[serde(with = "byte_unit_serde::bit_vec")]`.
 
-ghost use Rattle.std.specs.Prelude.{false, IfOk, OnOk};
+ghost use Rattle.std.specs.Prelude.{false, IfErr, IfOk, OnOk};
 ghost use Rattle.serde.specs.Event.{WritesSeq};
 ghost use Rattle.byte_unit.specs.Accepted.{IsAccepted};
 ghost use Rattle.byte_unit.specs.declared.Kind.TheVariants.{Bit as InBits};
+ghost use Rattle.byte_unit_serde.specs.Outcomes.{IsListError, ReadingSize, WritingList, WritingSize};
 ghost use Rattle.byte_unit_serde.specs.Stored.{ReadsSeq, WritesSize};
 
-use crate::bit;
+use crate::{Sink, Source, bit};
 use byte_unit::Bit;
-use serde::{Deserializer, Format, Serializer};
+use serde::Deserializer;
 use std::alloc::Global;
 
 /// Writes a sequence of the strings of the sizes, each as [`bit::serialize`] does. Does not allocate.
@@ -17,15 +18,17 @@ use std::alloc::Global;
 /// # Errors
 ///
 /// Returns the format's error if the format cannot write it.
-pub fn serialize<S: Serializer>(sizes: &Vec<Bit>, out: &mut S) -> Result<(), S::Error>
-    ensures { OnOk result
+pub fn serialize<S: Sink>(sizes: &Vec<Bit>, out: &mut S) -> Result<(), S::Error>
+    ensures written { OnOk result
         (WritesSeq (WritesSize InBits) sizes.now.items (S.written out.old) (S.written out.new)) }
+    ensures exact { WritingList S.begin_returns S.end_returns (WritingSize InBits S.str_returns)
+        sizes.now.items out.old result out.new }
 {
-    out.begin_seq(Some(sizes.len()))?;
+    out.begin_list(sizes.len())?;
     for item in sizes {
         bit::serialize(item, out)?;
     }
-    out.end_seq()
+    out.end_list()
 }
 
 /// Reads a sequence of strings, each as [`bit::deserialize`] does.
@@ -33,23 +36,24 @@ pub fn serialize<S: Serializer>(sizes: &Vec<Bit>, out: &mut S) -> Result<(), S::
 /// # Errors
 ///
 /// Returns the format's error if the value is not a sequence of strings, a string is rejected, or an allocation fails.
-pub fn deserialize<'de, F: Format>(
+pub fn deserialize<'de, F: Source>(
     alloc: Global,
     from: &mut Deserializer<'de, '_, F>,
 ) -> Result<Vec<Bit>, F::Error>
-    ensures { IfOk result (λ sizes.
+    ensures list { IfOk result (λ sizes.
         ReadsSeq (IsAccepted InBits false) F.gives F.stays from.old from.new sizes.items) }
+    ensures error { let Reading = ReadingSize InBits F.string_returns F.rejects in IfErr result
+        (IsListError (IsAccepted InBits false) F.gives F.stays F.begin_returns F.next_returns Reading
+        F.refuses from.old from.new) }
 {
-    from.begin_seq()?;
+    F::begin_list(from)?;
     let mut items = Vec::new(alloc);
-    for _ in 0..u64::MAX {
-        if !from.next_item()? {
+    while items.len() < usize::MAX {
+        if !F::next_in_list(from)? {
             return Ok(items);
         }
         let item = bit::deserialize(alloc, from)?;
-        if items.push(item).is_err() {
-            return Err(from.no_memory());
-        }
+        F::append(from, &mut items, item)?;
     }
     Err(from.wrong_len())
 }

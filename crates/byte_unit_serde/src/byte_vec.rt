@@ -1,14 +1,15 @@
 //! A list of sizes in bytes as strings, for `#[serde(with = "byte_unit_serde::byte_vec")]`.
 
-ghost use Rattle.std.specs.Prelude.{false, IfOk, OnOk};
+ghost use Rattle.std.specs.Prelude.{false, IfErr, IfOk, OnOk};
 ghost use Rattle.serde.specs.Event.{WritesSeq};
 ghost use Rattle.byte_unit.specs.Accepted.{IsAccepted};
 ghost use Rattle.byte_unit.specs.declared.Kind.TheVariants.{Byte as InBytes};
+ghost use Rattle.byte_unit_serde.specs.Outcomes.{IsListError, ReadingSize, WritingList, WritingSize};
 ghost use Rattle.byte_unit_serde.specs.Stored.{ReadsSeq, WritesSize};
 
-use crate::byte;
+use crate::{Sink, Source, byte};
 use byte_unit::Byte;
-use serde::{Deserializer, Format, Serializer};
+use serde::Deserializer;
 use std::alloc::Global;
 
 /// Writes a sequence of the strings of the sizes, each as [`byte::serialize`] does. Does not allocate.
@@ -16,15 +17,17 @@ use std::alloc::Global;
 /// # Errors
 ///
 /// Returns the format's error if the format cannot write it.
-pub fn serialize<S: Serializer>(sizes: &Vec<Byte>, out: &mut S) -> Result<(), S::Error>
-    ensures { OnOk result
+pub fn serialize<S: Sink>(sizes: &Vec<Byte>, out: &mut S) -> Result<(), S::Error>
+    ensures written { OnOk result
         (WritesSeq (WritesSize InBytes) sizes.now.items (S.written out.old) (S.written out.new)) }
+    ensures exact { WritingList S.begin_returns S.end_returns (WritingSize InBytes S.str_returns)
+        sizes.now.items out.old result out.new }
 {
-    out.begin_seq(Some(sizes.len()))?;
+    out.begin_list(sizes.len())?;
     for item in sizes {
         byte::serialize(item, out)?;
     }
-    out.end_seq()
+    out.end_list()
 }
 
 /// Reads a sequence of strings, each as [`byte::deserialize`] does.
@@ -32,23 +35,24 @@ pub fn serialize<S: Serializer>(sizes: &Vec<Byte>, out: &mut S) -> Result<(), S:
 /// # Errors
 ///
 /// Returns the format's error if the value is not a sequence of strings, a string is rejected, or an allocation fails.
-pub fn deserialize<'de, F: Format>(
+pub fn deserialize<'de, F: Source>(
     alloc: Global,
     from: &mut Deserializer<'de, '_, F>,
 ) -> Result<Vec<Byte>, F::Error>
-    ensures { IfOk result (λ sizes.
+    ensures list { IfOk result (λ sizes.
         ReadsSeq (IsAccepted InBytes false) F.gives F.stays from.old from.new sizes.items) }
+    ensures error { let Reading = ReadingSize InBytes F.string_returns F.rejects in IfErr result
+        (IsListError (IsAccepted InBytes false) F.gives F.stays F.begin_returns F.next_returns Reading
+        F.refuses from.old from.new) }
 {
-    from.begin_seq()?;
+    F::begin_list(from)?;
     let mut items = Vec::new(alloc);
-    for _ in 0..u64::MAX {
-        if !from.next_item()? {
+    while items.len() < usize::MAX {
+        if !F::next_in_list(from)? {
             return Ok(items);
         }
         let item = byte::deserialize(alloc, from)?;
-        if items.push(item).is_err() {
-            return Err(from.no_memory());
-        }
+        F::append(from, &mut items, item)?;
     }
     Err(from.wrong_len())
 }

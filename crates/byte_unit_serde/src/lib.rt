@@ -9,10 +9,14 @@ mod messages;
 pub mod optional_bit;
 pub mod optional_byte;
 pub mod optional_unit;
+mod sink;
+mod source;
 mod stored;
 mod toml_values;
 pub mod unit;
 
+pub use sink::Sink;
+pub use source::Source;
 pub use stored::Stored;
 pub use toml_values::{
     TomlSizeError, TomlUnitError, bit_from_toml, byte_from_toml, unit_from_toml,

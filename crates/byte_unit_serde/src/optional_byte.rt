@@ -4,11 +4,12 @@ ghost use Rattle.std.specs.Prelude.{false, IfOk, OnOk};
 ghost use Rattle.serde.specs.Event.{WritesOption};
 ghost use Rattle.byte_unit.specs.Accepted.{IsAccepted};
 ghost use Rattle.byte_unit.specs.declared.Kind.TheVariants.{Byte as InBytes};
+ghost use Rattle.byte_unit_serde.specs.Outcomes.{ReadingOption, ReadingSize, WritingOption, WritingSize};
 ghost use Rattle.byte_unit_serde.specs.Stored.{ReadsOption, WritesSize};
 
-use crate::byte;
+use crate::{Sink, Source, byte};
 use byte_unit::Byte;
-use serde::{Deserializer, Format, Serializer};
+use serde::Deserializer;
 use std::alloc::Global;
 
 /// Writes the string of the size, as [`byte::serialize`] does, or nothing. Does not allocate.
@@ -16,13 +17,15 @@ use std::alloc::Global;
 /// # Errors
 ///
 /// Returns the format's error if the format cannot write it.
-pub fn serialize<S: Serializer>(size: &Option<Byte>, out: &mut S) -> Result<(), S::Error>
-    ensures { OnOk result
+pub fn serialize<S: Sink>(size: &Option<Byte>, out: &mut S) -> Result<(), S::Error>
+    ensures written { OnOk result
         (WritesOption (WritesSize InBytes) size.now (S.written out.old) (S.written out.new)) }
+    ensures exact { WritingOption S.none_returns (WritingSize InBytes S.str_returns)
+        size.now out.old result out.new }
 {
     match size {
         Some(size) => byte::serialize(size, out),
-        None => out.unit(),
+        None => out.write_none(),
     }
 }
 
@@ -31,14 +34,16 @@ pub fn serialize<S: Serializer>(size: &Option<Byte>, out: &mut S) -> Result<(), 
 /// # Errors
 ///
 /// Returns the format's error if the value is neither nothing nor a string, or the string is rejected.
-pub fn deserialize<'de, F: Format>(
+pub fn deserialize<'de, F: Source>(
     alloc: Global,
     from: &mut Deserializer<'de, '_, F>,
 ) -> Result<Option<Byte>, F::Error>
-    ensures { IfOk result
+    ensures option { IfOk result
         (ReadsOption (IsAccepted InBytes false) F.gives F.stays from.old from.new) }
+    ensures exact { ReadingOption F.none_returns (ReadingSize InBytes F.string_returns F.rejects)
+        from.old result from.new }
 {
-    if from.take_none()? {
+    if F::read_none(from)? {
         return Ok(None);
     }
     Ok(Some(byte::deserialize(alloc, from)?))

@@ -2,11 +2,13 @@
 
 ghost use Rattle.std.specs.Prelude.{IfOk, OnOk};
 ghost use Rattle.serde.specs.Event.{WritesOption};
+ghost use Rattle.byte_unit.specs.Version.{unit_name};
+ghost use Rattle.byte_unit_serde.specs.Outcomes.{ReadingOption, ReadingUnit, WritingOption};
 ghost use Rattle.byte_unit_serde.specs.Stored.{ReadsOption, SpellsUnit, WritesUnit};
 
-use crate::unit;
+use crate::{Sink, Source, unit};
 use byte_unit::Unit;
-use serde::{Deserializer, Format, Serializer};
+use serde::Deserializer;
 use std::alloc::Global;
 
 /// Writes the string of the unit, as [`unit::serialize`] does, or nothing. Does not allocate.
@@ -14,13 +16,15 @@ use std::alloc::Global;
 /// # Errors
 ///
 /// Returns the format's error if the format cannot write it.
-pub fn serialize<S: Serializer>(value: &Option<Unit>, out: &mut S) -> Result<(), S::Error>
-    ensures { OnOk result
+pub fn serialize<S: Sink>(value: &Option<Unit>, out: &mut S) -> Result<(), S::Error>
+    ensures written { OnOk result
         (WritesOption WritesUnit value.now (S.written out.old) (S.written out.new)) }
+    ensures exact { WritingOption S.none_returns (λ unit. S.str_returns (unit_name unit))
+        value.now out.old result out.new }
 {
     match value {
         Some(value) => unit::serialize(value, out),
-        None => out.unit(),
+        None => out.write_none(),
     }
 }
 
@@ -30,13 +34,15 @@ pub fn serialize<S: Serializer>(value: &Option<Unit>, out: &mut S) -> Result<(),
 ///
 /// Returns the format's error if the value is neither nothing nor a string, or the string is not the spelling of a
 /// unit.
-pub fn deserialize<'de, F: Format>(
+pub fn deserialize<'de, F: Source>(
     alloc: Global,
     from: &mut Deserializer<'de, '_, F>,
 ) -> Result<Option<Unit>, F::Error>
-    ensures { IfOk result (ReadsOption SpellsUnit F.gives F.stays from.old from.new) }
+    ensures option { IfOk result (ReadsOption SpellsUnit F.gives F.stays from.old from.new) }
+    ensures exact { ReadingOption F.none_returns (ReadingUnit F.string_returns F.rejects)
+        from.old result from.new }
 {
-    if from.take_none()? {
+    if F::read_none(from)? {
         return Ok(None);
     }
     Ok(Some(unit::deserialize(alloc, from)?))

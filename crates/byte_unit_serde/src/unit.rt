@@ -1,11 +1,14 @@
 //! A unit as a string, for `#[serde(with = "byte_unit_serde::unit")]`.
 
 ghost use Rattle.std.specs.Prelude.{IfOk, OnOk};
+ghost use Rattle.byte_unit.specs.Version.{unit_name};
+ghost use Rattle.byte_unit_serde.specs.Outcomes.{ReadingUnit};
 ghost use Rattle.byte_unit_serde.specs.Stored.{ReadsString, SpellsUnit, WritesUnit};
 
 use crate::messages::BAD_UNIT;
+use crate::{Sink, Source};
 use byte_unit::Unit;
-use serde::{Deserializer, Format, Serializer};
+use serde::Deserializer;
 use std::alloc::Global;
 
 /// Writes the string of the unit: its name. Does not allocate.
@@ -13,10 +16,11 @@ use std::alloc::Global;
 /// # Errors
 ///
 /// Returns the format's error if the format cannot write a string.
-pub fn serialize<S: Serializer>(unit: &Unit, out: &mut S) -> Result<(), S::Error>
-    ensures { OnOk result (WritesUnit unit.now (S.written out.old) (S.written out.new)) }
+pub fn serialize<S: Sink>(unit: &Unit, out: &mut S) -> Result<(), S::Error>
+    ensures written { OnOk result (WritesUnit unit.now (S.written out.old) (S.written out.new)) }
+    ensures exact { S.str_returns (unit_name unit.now) out.old result out.new }
 {
-    out.str(unit.as_str())
+    out.write_str(unit.as_str())
 }
 
 /// Reads a string as `FromStr` parses it: `b` means bits, `B` bytes, and a prefix alone is a multiple of bytes.
@@ -24,12 +28,14 @@ pub fn serialize<S: Serializer>(unit: &Unit, out: &mut S) -> Result<(), S::Error
 /// # Errors
 ///
 /// Returns the format's error if the value is not a string, or the string is not the spelling of a unit.
-pub fn deserialize<'de, F: Format>(
+pub fn deserialize<'de, F: Source>(
     alloc: Global,
     from: &mut Deserializer<'de, '_, F>,
 ) -> Result<Unit, F::Error>
-    ensures { IfOk result (ReadsString SpellsUnit F.gives from.old from.new) }
+    ensures string { IfOk result (ReadsString SpellsUnit F.gives from.old from.new) }
+    ensures exact { ReadingUnit F.string_returns F.rejects from.old result from.new }
 {
-    let text = from.string(alloc)?;
-    text.parse::<Unit>().map_err(|_| from.custom(BAD_UNIT))
+    let text = F::read_string(alloc, from)?;
+    text.parse::<Unit>()
+        .map_err(|_| F::rejection(from, BAD_UNIT))
 }

@@ -1,22 +1,56 @@
 -- Rendered from crates/byte_unit_serde/proofs/byte_vec/deserialize/Answers.antt by tools/mirror. Do not edit.
--- Each iteration reads one more item as a size; the sequence ends after the last.
-use Rattle.std.proofs.Common.{rules, false, ◌≡◌, [], ◌∷◌, ◌++◌, subst, sym}
+-- Each iteration reads one more item as a size; the sequence ends after the last, or with an error.
+use Rattle.std.proofs.Common.{rules, false, ◌≡◌, [], ◌∷◌, ◌++◌, subst, sym, Err}
 use Rattle.serde.specs.Steps.{Stays}
 use Rattle.byte_unit.specs.Accepted.{IsAccepted}
 use Rattle.byte_unit.specs.declared.Kind.TheVariants.{Bit as InBits}
+use Rattle.byte_unit_serde.specs.Outcomes.{ReadingSize}
 use Rattle.byte_unit_serde.specs.Stored.{ReadsEach}
-use Rattle.byte_unit_serde.proofs.Reading.{reads_each_snoc}
+use Rattle.byte_unit_serde.proofs.Reading.{reads_each_snoc, next_error, item_error, append_error, holds_of_error}
 use Rattle.byte_unit_serde.proofs.bit_vec.deserialize.Goals as goal
 
-pub returns-then-not-branch : goal.returns-then-not-branch
-returns-then-not-branch g c =
-    (c.begin_seq.new.self, c.loop.from, c.in_ok-begin_seq.ensures, c.loop.invariant, search rules)
+pub returns-in_err-next_in_list-clause-error : goal.returns-in_err-next_in_list-clause-error
+returns-in_err-next_in_list-clause-error g c =
+    let returned : g.F.Source.next_returns c.loop-alloc.from (Err c.in_err-next_in_list.field-0.0) c.next_in_list.new.from =
+    search rules in
+    let error = next_error (IsAccepted InBits false) g.F.Format.gives g.F.Format.stays g.F.Source.begin_returns
+    g.F.Source.next_returns (ReadingSize InBits g.F.Source.string_returns g.F.Source.rejects) g.F.Source.refuses
+    c.loop-alloc.items.items c.args.from.now c.begin_list.new.from c.loop-alloc.from c.next_in_list.new.from
+    c.in_err-next_in_list.field-0.0 c.in_ok-begin_list.ensures.given c.loop-alloc.invariant returned in
+    holds_of_error _ c.from_residual-in_err-next_in_list.result c.in_err-next_in_list.field-0.0 (search rules) error
 
-pub loop-preserved : goal.loop-preserved
-loop-preserved g c =
-    let pushed : c.push.new.self.items ≡ c.loop.items.items ++ c.in_ok-item.item ∷ [] = search rules in
-    let looks : Stays g.F.Format.stays c.loop.from c.next_item.new.self = search rules in
-    let more = reads_each_snoc (IsAccepted InBits false) g.F.Format.gives g.F.Format.stays c.loop.items.items c.in_ok-item.item
-    _ c.loop.from c.next_item.new.self c.deserialize.new.from c.loop.invariant looks c.in_ok-item.ensures in
-    subst (λ items. ReadsEach (IsAccepted InBits false) g.F.Format.gives g.F.Format.stays c.begin_seq.new.self
+pub returns-then-not-branch-clause-list : goal.returns-then-not-branch-clause-list
+returns-then-not-branch-clause-list g c =
+    (c.begin_list.new.from, c.loop-alloc.from, c.in_ok-begin_list.ensures.given, c.loop-alloc.invariant, search rules)
+
+pub returns-in_err-item-clause-error : goal.returns-in_err-item-clause-error
+returns-in_err-item-clause-error g c =
+    let looks : Stays g.F.Format.stays c.loop-alloc.from c.next_in_list.new.from = search rules in
+    let failed : ReadingSize InBits g.F.Source.string_returns g.F.Source.rejects c.next_in_list.new.from
+    (Err c.in_err-item.field-0.0) c.deserialize.new.from = search rules in
+    let error = item_error (IsAccepted InBits false) g.F.Format.gives g.F.Format.stays g.F.Source.begin_returns
+    g.F.Source.next_returns (ReadingSize InBits g.F.Source.string_returns g.F.Source.rejects) g.F.Source.refuses
+    c.loop-alloc.items.items c.args.from.now c.begin_list.new.from c.loop-alloc.from c.next_in_list.new.from
+    c.deserialize.new.from c.in_err-item.field-0.0 c.in_ok-begin_list.ensures.given c.loop-alloc.invariant looks failed in
+    holds_of_error _ c.from_residual-in_err-item.result c.in_err-item.field-0.0 (search rules) error
+
+pub loop-alloc-preserved : goal.loop-alloc-preserved
+loop-alloc-preserved g c =
+    let pushed : c.append.new.items.items ≡ c.loop-alloc.items.items ++ c.in_ok-item.item ∷ [] = search rules in
+    let looks : Stays g.F.Format.stays c.loop-alloc.from c.next_in_list.new.from = search rules in
+    let more = reads_each_snoc (IsAccepted InBits false) g.F.Format.gives g.F.Format.stays c.loop-alloc.items.items
+    c.in_ok-item.item _ c.loop-alloc.from c.next_in_list.new.from c.deserialize.new.from c.loop-alloc.invariant looks
+    c.in_ok-item.ensures.string in
+    subst (λ items. ReadsEach (IsAccepted InBits false) g.F.Format.gives g.F.Format.stays c.begin_list.new.from
     c.deserialize.new.from items) (sym pushed) more
+
+pub returns-in_err-append-clause-error : goal.returns-in_err-append-clause-error
+returns-in_err-append-clause-error g c =
+    let looks : Stays g.F.Format.stays c.loop-alloc.from c.next_in_list.new.from = search rules in
+    let failed : g.F.Source.refuses c.deserialize.new.from c.in_err-append.field-0.0 = search rules in
+    let error = append_error (IsAccepted InBits false) g.F.Format.gives g.F.Format.stays g.F.Source.begin_returns
+    g.F.Source.next_returns (ReadingSize InBits g.F.Source.string_returns g.F.Source.rejects) g.F.Source.refuses
+    c.loop-alloc.items.items c.in_ok-item.item c.args.from.now c.begin_list.new.from c.loop-alloc.from
+    c.next_in_list.new.from c.deserialize.new.from c.in_err-append.field-0.0 c.in_ok-begin_list.ensures.given
+    c.loop-alloc.invariant looks c.in_ok-item.ensures.string failed in
+    holds_of_error _ c.from_residual-in_err-append.result c.in_err-append.field-0.0 (search rules) error

@@ -1,12 +1,16 @@
 -- Rendered from crates/byte_unit_serde/proofs/byte_vec/serialize/Invariants.antt by tools/mirror. Do not edit.
--- The sizes before the index were written.
-use Rattle.std.proofs.Common.{take}
+-- The sizes before the index were written, and the others are left.
+use Rattle.std.proofs.Common.{take, drop}
 use Rattle.serde.specs.Event.{WritesEach}
 use Rattle.byte_unit.specs.declared.Kind.TheVariants.{Bit as InBits}
+use Rattle.byte_unit_serde.specs.Outcomes.{WritingSize}
 use Rattle.byte_unit_serde.specs.Stored.{WritesSize}
+use Rattle.byte_unit_serde.proofs.Writing.{Continues}
 use Rattle.byte_unit_serde.proofs.bit_vec.serialize.Given as goal
 
 abbrev pub invariant-loop-item : goal.invariant-loop-item
 invariant-loop-item g l =
     WritesEach (WritesSize InBits) (take l.item-index l.item-items) (g.S.Serializer.written l.initial.out)
     (g.S.Serializer.written l.out)
+    × Continues (WritingSize InBits g.S.Sink.str_returns) g.S.Sink.end_returns l.item-items
+    (drop l.item-index l.item-items) l.initial.out l.out
