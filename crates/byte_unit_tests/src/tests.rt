@@ -84,6 +84,7 @@ mod serde_strings;
 mod shown;
 mod spellings;
 mod stored_faults;
+mod stored_limits;
 mod texts;
 mod tour;
 mod traits;

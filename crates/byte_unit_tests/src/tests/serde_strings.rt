@@ -18,7 +18,7 @@ const REJECTED: &[(&str, &str)] = &[
 ];
 
 /// Reads the value of `limit` from a TOML document.
-fn toml_limit<T: DeserializeOwned>(
+pub fn toml_limit<T: DeserializeOwned>(
     alloc: Global,
     value: &str,
 ) -> Result<BTreeMap<String, T>, toml::de::Error> {
@@ -29,7 +29,12 @@ fn toml_limit<T: DeserializeOwned>(
 }
 
 /// Asserts the reason of an error in each format. JSON adds the place of the value, TOML its key.
-fn assert_reason<T: DeserializeOwned>(rt: &impl Abort, alloc: Global, text: &str, reason: &str) {
+pub fn assert_reason<T: DeserializeOwned>(
+    rt: &impl Abort,
+    alloc: Global,
+    text: &str,
+    reason: &str,
+) {
     let value = serde_json::Value::from_str(alloc, text).expect(rt, "a value");
     assert_error(rt, alloc, serde_json::from_value::<T>(alloc, value), reason);
     let wanted = format!(in alloc; "{reason}\nin `limit`\n").expect(rt, "memory");
@@ -83,7 +88,7 @@ fn lists_round_trip(rt: HostRuntime) {
 }
 
 /// Asserts that a JSON text and a TOML document are written as they were read, and returns what was read from each.
-fn read_and_write<'a, T: Serialize + Deserialize<'a> + DeserializeOwned + Drop>(
+pub fn read_and_write<'a, T: Serialize + Deserialize<'a> + DeserializeOwned + Drop>(
     rt: &impl Abort,
     alloc: Global,
     json: &'a str,
@@ -100,13 +105,13 @@ fn read_and_write<'a, T: Serialize + Deserialize<'a> + DeserializeOwned + Drop>(
 
 /// A struct with a value of each type.
 #[derive(Drop, Serialize, Deserialize)]
-struct Values {
+pub struct Values {
     #[serde(with = "byte_unit_serde::byte")]
-    size: Byte,
+    pub size: Byte,
     #[serde(with = "byte_unit_serde::bit")]
-    rate: Bit,
+    pub rate: Bit,
     #[serde(with = "byte_unit_serde::unit")]
-    unit: Unit,
+    pub unit: Unit,
 }
 
 #[test]
@@ -124,13 +129,13 @@ fn fields_with_a_value(rt: HostRuntime) {
 
 /// A struct with an optional value of each type.
 #[derive(Drop, Serialize, Deserialize)]
-struct Options {
+pub struct Options {
     #[serde(with = "byte_unit_serde::optional_byte", default)]
-    limit: Option<Byte>,
+    pub limit: Option<Byte>,
     #[serde(with = "byte_unit_serde::optional_bit", default)]
-    most: Option<Bit>,
+    pub most: Option<Bit>,
     #[serde(with = "byte_unit_serde::optional_unit", default)]
-    other: Option<Unit>,
+    pub other: Option<Unit>,
 }
 
 #[test]
@@ -148,11 +153,11 @@ fn fields_with_an_optional_value(rt: HostRuntime) {
 
 /// A struct with a list of each type of size.
 #[derive(Drop, Serialize, Deserialize)]
-struct Lists {
+pub struct Lists {
     #[serde(with = "byte_unit_serde::byte_vec")]
-    parts: Vec<Byte>,
+    pub parts: Vec<Byte>,
     #[serde(with = "byte_unit_serde::bit_vec")]
-    rates: Vec<Bit>,
+    pub rates: Vec<Bit>,
 }
 
 #[test]
