@@ -1,5 +1,5 @@
-//! Reads the limits of a service from TOML into a struct, and prints them and the rules that they break. Takes the
-//! default limits if the input is empty or only white space.
+//! Reads the limits of a service from TOML into a struct, and prints them and the rules that they break, with status 1 if
+//! there are any. Takes the default limits if the input is empty or only white space.
 #![tactic(auto)]
 
 ghost use Rattle.std.specs.Prelude.{◌↔◌, IsTrue};
@@ -84,43 +84,69 @@ fn in_one_line(alloc: Global, error: &toml::de::Error) -> Result<String, AllocEr
     Ok(line)
 }
 
-fn main(rt: HostRuntime) -> Result<()> {
-    let alloc = rt.alloc();
-    let text = io::read_to_string(alloc, rt.reader())?;
+/// Reads the limits of a TOML text, or returns the default limits if it is empty or only white space.
+fn limits_of(alloc: Global, text: &str) -> Result<Limits> {
     let read = if text.trim().is_empty() {
         defaults::default_limits(alloc)
     } else {
-        toml::from_str(alloc, text.as_str())
+        toml::from_str(alloc, text)
     };
-    let limits: Limits = match read {
-        Ok(limits) => limits,
+    match read {
+        Ok(limits) => Ok(limits),
         Err(error) => {
             let reason = in_one_line(alloc, &error)?;
-            return Err(anyhow!("the limits are rejected: {reason}"));
-        }
-    };
-    let sizes = [
-        ("file", Some(limits.file)),
-        ("total", Some(limits.total)),
-        ("cache", limits.cache),
-        ("disk", Some(limits.disk)),
-    ];
-    for (name, size) in sizes {
-        match size {
-            Some(size) => {
-                let text = size.to_text(alloc, FormatSpec::ALTERNATE)?;
-                println!(rt; "{name}: {text}")?;
-            }
-            None => println!(rt; "{name}: none")?,
+            Err(anyhow!("the limits are rejected: {reason}"))
         }
     }
+}
+
+/// Appends a line with a limit, or `none`.
+fn show(alloc: Global, name: &str, limit: Option<Byte>, report: &mut String) -> Result<()> {
+    let line = match limit {
+        Some(limit) => {
+            let text = limit.to_text(alloc, FormatSpec::ALTERNATE)?;
+            format!(in alloc; "{name}: {text}\n")?
+        }
+        None => format!(in alloc; "{name}: none\n")?,
+    };
+    report.push_str(line.as_str())?;
+    Ok(())
+}
+
+/// Appends a line for each limit of a TOML text, and for each rule that the limits break.
+///
+/// # Errors
+///
+/// Returns an error with the reason if the text is rejected, and one if the limits break a rule.
+fn check(alloc: Global, text: &str, report: &mut String) -> Result<()> {
+    let limits = limits_of(alloc, text)?;
+    show(alloc, "file", Some(limits.file), report)?;
+    show(alloc, "total", Some(limits.total), report)?;
+    show(alloc, "cache", limits.cache, report)?;
+    show(alloc, "disk", Some(limits.disk), report)?;
     let rate = limits.rate.to_text(alloc, FormatSpec::ALTERNATE)?;
-    println!(rt; "rate: {rate} a second")?;
+    let line = format!(in alloc; "rate: {rate} a second\n")?;
+    report.push_str(line.as_str())?;
+    let mut broken = false;
     for rule in Rule::ALL {
         if limits.breaks(rule) {
             let message = rule.message();
-            println!(rt; "rejected: {message}")?;
+            let line = format!(in alloc; "rejected: {message}\n")?;
+            report.push_str(line.as_str())?;
+            broken = true;
         }
     }
+    if broken {
+        return Err(anyhow!("the limits are rejected: they break a rule"));
+    }
     Ok(())
+}
+
+fn main(rt: HostRuntime) -> Result<()> {
+    let alloc = rt.alloc();
+    let text = io::read_to_string(alloc, rt.reader())?;
+    let mut report = String::new(alloc);
+    let checked = check(alloc, text.as_str(), &mut report);
+    print!(rt; "{report}")?;
+    checked
 }

@@ -1,5 +1,5 @@
 //! Tests of the limits that are read, and of the reasons for which documents and limits are rejected.
-use crate::{Limits, Rule, in_one_line};
+use crate::{Limits, Rule, check, in_one_line};
 use anyhow::Result;
 use byte_unit::{Bit, Byte};
 use std::alloc::{AllocError, Global};
@@ -40,6 +40,61 @@ const REASONS: &[(&str, &str)] = &[
     ("file = \"20 XB\"\n", "bad unit in `file`"),
     ("file = \"B\"\n", "not a number in `file`"),
 ];
+
+/// Texts, and what is printed for each, with the error if the limits are rejected.
+const REPORTS: &[(&str, &str, Option<&str>)] = &[
+    ("", DEFAULT_REPORT, None),
+    (" \n\t\n", DEFAULT_REPORT, None),
+    (
+        "file = \"0 B\"\ntotal = \"2 GiB\"\ndisk = \"2 GiB\"\nrate = \"1 Gbit\"\n",
+        "file: 0 B\ntotal: 2 GiB\ncache: none\ndisk: 2 GiB\nrate: 1 Gb a second\n",
+        None,
+    ),
+    (
+        "file = \"0 B\"\ntotal = \"2 GiB\"\ncache = \"0\"\ndisk = \"2 GiB\"\nrate = \"1 Gbit\"\n",
+        "file: 0 B\ntotal: 2 GiB\ncache: 0 B\ndisk: 2 GiB\nrate: 1 Gb a second\n",
+        None,
+    ),
+    (
+        "file = \"3 GiB\"\ntotal = \"2 GiB\"\ndisk = \"1 GiB\"\nrate = \"1 Gbit\"\n",
+        "file: 3 GiB\ntotal: 2 GiB\ncache: none\ndisk: 1 GiB\nrate: 1 Gb a second\n\
+         rejected: `file` exceeds `total`\nrejected: `total` and `cache` exceed `disk`\n",
+        Some("the limits are rejected: they break a rule"),
+    ),
+    (
+        "file = \"20 XB\"\n",
+        "",
+        Some("the limits are rejected: bad unit in `file`"),
+    ),
+    (
+        "file = \"1 KB\"\nfiles = \"1 KB\"\ntotal = \"2 GiB\"\ndisk = \"2 GiB\"\nrate = \"1 Gbit\"\n",
+        "",
+        Some("the limits are rejected: unknown field `files`"),
+    ),
+];
+
+/// What is printed for the default limits.
+const DEFAULT_REPORT: &str =
+    "file: 20 MB\ntotal: 1.5 GiB\ncache: 256 MiB\ndisk: 2 GiB\nrate: 1 Mb a second\n";
+
+#[test]
+fn limits_are_reported(rt: HostRuntime) -> Result<()> {
+    let alloc = rt.alloc();
+    for (text, wanted, reason) in REPORTS {
+        let mut report = String::new(alloc);
+        let found = match check(alloc, text, &mut report) {
+            Ok(()) => None,
+            Err(error) => Some(format!(in alloc; "{error}")?),
+        };
+        assert_eq!(rt; report.as_str(), *wanted, "{text}");
+        assert_eq!(rt;
+            found.as_ref().map(|error| error.as_str()),
+            *reason,
+            "{text}"
+        );
+    }
+    Ok(())
+}
 
 /// Returns the messages of the rules that limits break, each in a line.
 fn messages(alloc: Global, limits: &Limits) -> Result<String, AllocError> {
