@@ -47,6 +47,7 @@ PARTS = {
         "rust: serde": {
             f"{DEBIAN_RUST}/serde_json-*": "librust-serde-json-dev",
             f"{DEBIAN_RUST}/serde-*": "librust-serde-dev",
+            f"{DEBIAN_RUST}/toml-*": "librust-toml-dev",
         },
         "rust: Debian's compiler": {"/usr/bin/cargo": "cargo", "/usr/bin/rustc": "rustc"},
         "rust: clippy": {"cargo-clippy": "rust-clippy"},

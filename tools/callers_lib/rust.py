@@ -104,7 +104,7 @@ def copy_package(work):
         write(os.path.join(package, ".cargo/config.toml"), CONFIG)
         return package, ["--features", "serde"]
     manifest = os.path.join(package, "Cargo.toml")
-    text = re.sub(r'^serde = {.*\n|^serde_json.*\n', "", read(manifest), flags=re.M)
+    text = re.sub(r'^serde = {.*\n|^(serde_json|toml) = .*\n', "", read(manifest), flags=re.M)
     write(manifest, text.replace('serde = ["dep:serde"]', "serde = []"))
     return package, []
 

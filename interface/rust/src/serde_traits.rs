@@ -1,7 +1,7 @@
-//! The traits of serde: a size is a string with its unit, or in a binary format a number; an adjusted size and a unit
-//! are strings.
+//! The traits of serde: a size is written as a string with its unit, or in a binary format as a number, and read from a
+//! string or an integer; an adjusted size and a unit are strings.
 
-use core::fmt::{self, Formatter};
+use core::fmt::{self, Display, Formatter};
 use core::marker::PhantomData;
 use core::str::FromStr;
 
@@ -10,23 +10,47 @@ use serde::{Deserialize, Deserializer, Serialize, Serializer};
 
 use crate::{AdjustedBit, AdjustedByte, Bit, Byte, Unit};
 
-/// Parses a string, or converts a number.
-struct Parser<T>(PhantomData<T>);
-
-/// What a [`Parser`] makes.
+/// What is parsed from a string.
 trait Parsed: FromStr {
     /// What is expected, for errors.
     const EXPECTED: &'static str;
-
-    /// Converts a number.
-    fn from_number(_: u128) -> Option<Self> {
-        None
-    }
 }
+
+/// Parses a string.
+struct Parser<T>(PhantomData<T>);
 
 impl<'de, T: Parsed> Visitor<'de> for Parser<T>
 where
-    T::Err: fmt::Display,
+    T::Err: Display,
+{
+    type Value = T;
+
+    fn expecting(&self, f: &mut Formatter<'_>) -> fmt::Result {
+        f.write_str(T::EXPECTED)
+    }
+
+    fn visit_str<E: Error>(self, text: &str) -> Result<T, E> {
+        text.parse().map_err(E::custom)
+    }
+}
+
+/// What is also converted from a number.
+trait Converted: Parsed {
+    /// Converts a number, or returns `None` if it is too large.
+    fn from_number(number: u128) -> Option<Self>;
+}
+
+/// Parses a string, or converts an integer. A number with a point or an exponent is an error.
+struct Converter<T>(PhantomData<T>);
+
+/// Returns the error for an integer that is negative or too large.
+fn out_of_range<T: Parsed, E: Error, N: Display>(number: N) -> E {
+    E::custom(format_args!("invalid value: integer `{number}`, expected {}", T::EXPECTED))
+}
+
+impl<'de, T: Converted> Visitor<'de> for Converter<T>
+where
+    T::Err: Display,
 {
     type Value = T;
 
@@ -38,9 +62,23 @@ where
         text.parse().map_err(E::custom)
     }
 
+    fn visit_u64<E: Error>(self, number: u64) -> Result<T, E> {
+        self.visit_u128(number.into())
+    }
+
     fn visit_u128<E: Error>(self, number: u128) -> Result<T, E> {
-        T::from_number(number)
-            .ok_or_else(|| E::custom(format_args!("invalid value: `{number}`, expected {}", T::EXPECTED)))
+        T::from_number(number).ok_or_else(|| out_of_range::<T, E, _>(number))
+    }
+
+    fn visit_i64<E: Error>(self, number: i64) -> Result<T, E> {
+        self.visit_i128(number.into())
+    }
+
+    fn visit_i128<E: Error>(self, number: i128) -> Result<T, E> {
+        match u128::try_from(number) {
+            Ok(number) => self.visit_u128(number),
+            Err(_) => Err(out_of_range::<T, E, _>(number)),
+        }
     }
 }
 
@@ -49,7 +87,9 @@ macro_rules! serde_of_size {
         impl Parsed for $Size {
             const EXPECTED: &'static str =
                 concat!("a string such as ", $expected, ", or a non-negative integer smaller than 10^30");
+        }
 
+        impl Converted for $Size {
             fn from_number(number: u128) -> Option<Self> {
                 Self::from_u128(number)
             }
@@ -66,11 +106,13 @@ macro_rules! serde_of_size {
         }
 
         impl<'de> Deserialize<'de> for $Size {
+            /// Reads a string, or an integer, as the number of bytes or bits. In a human-readable format it is the input
+            /// that says which of them comes.
             fn deserialize<D: Deserializer<'de>>(deserializer: D) -> Result<Self, D::Error> {
                 if deserializer.is_human_readable() {
-                    deserializer.deserialize_str(Parser(PhantomData))
+                    deserializer.deserialize_any(Converter(PhantomData))
                 } else {
-                    deserializer.deserialize_u128(Parser(PhantomData))
+                    deserializer.deserialize_u128(Converter(PhantomData))
                 }
             }
         }

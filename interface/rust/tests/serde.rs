@@ -1,10 +1,12 @@
 //! The traits of serde, by JSON strings and by a format that is not human-readable.
 
+use std::collections::HashMap;
+
 use byte_unit::{AdjustedBit, AdjustedByte, Bit, Byte, Unit};
 use serde::de::value::Error;
-use serde::de::{Deserialize, Deserializer, Error as _, Visitor};
+use serde::de::{Deserialize, Deserializer, Error as _, IntoDeserializer, Visitor};
 use serde::ser::{Impossible, Serialize, Serializer};
-use serde_json::{from_str, to_string};
+use serde_json::{from_str, from_value, to_string};
 
 #[test]
 fn sizes_are_strings() {
@@ -23,9 +25,109 @@ fn sizes_are_strings() {
 fn errors_name_the_reason() {
     let error = from_str::<Byte>("\"1 byte\"").unwrap_err().to_string();
     assert!(error.contains("the character 'y' is incorrect ('i' or no character is expected)"), "{error}");
-    let error = from_str::<Byte>("12").unwrap_err().to_string();
+    let error = from_str::<Byte>("true").unwrap_err().to_string();
     assert!(error.contains("expected a string such as \"123\", \"123KiB\", \"50.84 MB\""), "{error}");
     assert!(from_str::<Unit>("\"KX\"").is_err() && from_str::<AdjustedByte>("null").is_err());
+}
+
+/// What is expected of a size in bytes, in errors.
+const EXPECTED: &str =
+    "expected a string such as \"123\", \"123KiB\", \"50.84 MB\", or a non-negative integer smaller than 10^30";
+
+#[test]
+fn integers_are_numbers_of_bytes_or_bits() {
+    for number in [0, 123456, i64::MAX as u64, u64::MAX] {
+        assert_eq!(from_str::<Byte>(&number.to_string()).unwrap(), Byte::from_u64(number));
+        assert_eq!(from_str::<Bit>(&number.to_string()).unwrap(), Bit::from_u64(number));
+        let value = from_str::<serde_json::Value>(&number.to_string()).unwrap();
+        assert_eq!(from_value::<Byte>(value.clone()).unwrap(), Byte::from_u64(number));
+        assert_eq!(from_value::<Bit>(value).unwrap(), Bit::from_u64(number));
+    }
+    let sizes = [Byte::from_u64(1), Byte::KILOBYTE, Byte::MIN];
+    assert_eq!(from_str::<Vec<Byte>>("[1, \"1 KB\", 0]").unwrap(), sizes);
+    assert_eq!(from_str::<Option<Byte>>("7").unwrap(), Some(Byte::from_u64(7)));
+    assert_eq!(from_str::<Option<Byte>>("null").unwrap(), None);
+    let settings = from_str::<HashMap<String, Byte>>("{\"cache\": 123456}").unwrap();
+    assert_eq!(settings["cache"], Byte::from_u64(123456));
+    let limits = from_str::<HashMap<Byte, u8>>("{\"1 KB\": 1, \"12\": 2}").unwrap();
+    assert_eq!((limits[&Byte::KILOBYTE], limits[&Byte::from_u64(12)]), (1, 2));
+}
+
+#[test]
+fn other_numbers_are_rejected() {
+    for (text, reason) in [
+        ("-1", "invalid value: integer `-1`"),
+        ("-9223372036854775808", "invalid value: integer `-9223372036854775808`"),
+        ("1.5", "invalid type: floating point `1.5`"),
+        ("1.0", "invalid type: floating point `1"),
+        ("1e3", "invalid type: floating point `1000"),
+        ("18446744073709551616", "invalid type: floating point `18446744073709552000"),
+        ("null", "invalid type: null"),
+        ("true", "invalid type: boolean `true`"),
+        ("[1]", "invalid type: sequence"),
+        ("{}", "invalid type: map"),
+    ] {
+        let error = from_str::<Byte>(text).unwrap_err().to_string();
+        assert!(error.starts_with(reason) && error.contains(EXPECTED), "{text}: {error}");
+        assert!(from_str::<Bit>(text).is_err(), "{text}");
+    }
+    for text in ["7", "-1", "1.5"] {
+        assert!(from_str::<AdjustedByte>(text).is_err() && from_str::<AdjustedBit>(text).is_err(), "{text}");
+        let error = from_str::<Unit>(text).unwrap_err().to_string();
+        assert!(error.starts_with("invalid type: ") && error.contains("a string such as \"B\""), "{error}");
+    }
+}
+
+#[test]
+fn sizes_in_toml() {
+    let most = i64::MAX as u64;
+    let document = format!("no = 0\ncache = 123456\nmost = {most}\ntext = \"1.5 KiB\"\ndigits = \"12\"\n");
+    let bytes = toml::from_str::<HashMap<String, Byte>>(&document).unwrap();
+    let bits = toml::from_str::<HashMap<String, Bit>>(&document).unwrap();
+    for (key, number) in [("no", 0), ("cache", 123456), ("most", most), ("text", 1536), ("digits", 12)] {
+        assert_eq!(bytes[key].as_u64(), number, "{key}");
+        assert_eq!(bits[key].as_u64(), if key == "text" { 8 * number } else { number }, "{key}");
+    }
+    for (value, reason) in [
+        ("-1", "invalid value: integer `-1`"),
+        ("1.5", "invalid type: floating point `1.5`"),
+        ("1e3", "invalid type: floating point `1000"),
+        ("true", "invalid type: boolean `true`"),
+    ] {
+        let error = toml::from_str::<HashMap<String, Byte>>(&format!("cache = {value}")).unwrap_err().to_string();
+        assert!(error.starts_with(reason) && error.contains(EXPECTED), "{value}: {error}");
+    }
+    assert!(toml::from_str::<HashMap<String, Byte>>("cache = 18446744073709551615").is_err());
+    assert_eq!(toml::to_string(&HashMap::from([("cache", Byte::KILOBYTE)])).unwrap(), "cache = \"1 KB\"\n");
+}
+
+/// Reads a value from a format that calls the visitor with a number of the type `N`.
+fn from_number<'de, T: Deserialize<'de>, N: IntoDeserializer<'de, Error>>(number: N) -> Result<T, Error> {
+    T::deserialize(number.into_deserializer())
+}
+
+#[test]
+fn each_type_of_integer_is_read() {
+    assert_eq!(from_number(123u8), Ok(Byte::from_u64(123)));
+    assert_eq!(from_number(123i16), Ok(Byte::from_u64(123)));
+    assert_eq!(from_number(i64::MAX), Ok(Bit::from_u64(i64::MAX as u64)));
+    assert_eq!(from_number(u64::MAX), Ok(Bit::from_u64(u64::MAX)));
+    let most = 10u128.pow(30) - 1;
+    assert_eq!((from_number(most), from_number(most)), (Ok(Byte::MAX), Ok(Bit::MAX)));
+    assert_eq!((from_number(most as i128), from_number(0i128)), (Ok(Byte::MAX), Ok(Bit::MIN)));
+    let wrong: [(Result<Byte, Error>, &str); 5] = [
+        (from_number(10u128.pow(30)), "1000000000000000000000000000000"),
+        (from_number(10i128.pow(30)), "1000000000000000000000000000000"),
+        (from_number(-1i8), "-1"),
+        (from_number(-1i128), "-1"),
+        (from_number(i128::MIN), "-170141183460469231731687303715884105728"),
+    ];
+    for (result, number) in wrong {
+        assert_eq!(result.unwrap_err().to_string(), format!("invalid value: integer `{number}`, {EXPECTED}"));
+    }
+    let error = from_number::<Byte, _>(1.5f64).unwrap_err().to_string();
+    assert_eq!(error, format!("invalid type: floating point `1.5`, {EXPECTED}"));
+    assert!(from_number::<Bit, _>(2.0f32).is_err());
 }
 
 #[test]
@@ -156,6 +258,6 @@ fn in_a_binary_format_sizes_are_numbers() {
     assert_eq!(Byte::deserialize(Number(7)).unwrap().as_u64(), 7);
     assert_eq!(Bit::deserialize(Number(10u128.pow(30) - 1)).unwrap(), Bit::MAX);
     let error = Byte::deserialize(Number(10u128.pow(30))).unwrap_err().to_string();
-    assert!(error.starts_with("invalid value: `1000000000000000000000000000000`, expected"), "{error}");
+    assert!(error.starts_with("invalid value: integer `1000000000000000000000000000000`, expected"), "{error}");
     assert!(AdjustedByte::deserialize(Number(7)).is_err() && Unit::deserialize(Number(1)).is_err());
 }
