@@ -29,8 +29,8 @@ pub next_error :
     (values : List A) (old first last new : Deserializer F E M) (error : E) → Gives gives old (seq_begins None) first
     → ReadsEach Means gives stays first last values → next_returns last (Err error) new
     → IsListError Means gives stays begin_returns next_returns Reading refuses old new error
-next_error Means gives stays begin_returns next_returns Reading refuses values old first last new error begins each failed =
-    inr (first, last, values, begins, each, inl failed)
+next_error Means gives stays begin_returns next_returns Reading refuses values old first last new error begins each
+    failed = inr (first, last, values, begins, each, inl failed)
 
 -- The error of reading an item, after the values that were read.
 pub item_error :
@@ -41,8 +41,8 @@ pub item_error :
     → Gives gives old (seq_begins None) first → ReadsEach Means gives stays first last values → Stays stays last looked
     → Reading looked (Err error) new
     → IsListError Means gives stays begin_returns next_returns Reading refuses old new error
-item_error Means gives stays begin_returns next_returns Reading refuses values old first last looked new error begins each
-    looks failed = inr (first, last, values, begins, each, inr (inl (looked, looks, failed)))
+item_error Means gives stays begin_returns next_returns Reading refuses values old first last looked new error begins
+    each looks failed = inr (first, last, values, begins, each, inr (inl (looked, looks, failed)))
 
 -- The error of an item that cannot be stored, after the values that were read.
 pub append_error :
@@ -53,8 +53,9 @@ pub append_error :
     → Gives gives old (seq_begins None) first → ReadsEach Means gives stays first last values → Stays stays last looked
     → ReadsString Means gives looked new value → refuses new error
     → IsListError Means gives stays begin_returns next_returns Reading refuses old new error
-append_error Means gives stays begin_returns next_returns Reading refuses values value old first last looked new error begins
-    each looks reads failed = inr (first, last, values, begins, each, inr (inr (inl (looked, value, looks, reads, failed))))
+append_error Means gives stays begin_returns next_returns Reading refuses values value old first last looked new error
+    begins each looks reads failed =
+    inr (first, last, values, begins, each, inr (inr (inl (looked, value, looks, reads, failed))))
 
 -- What holds of an error holds of the error of a result that is this error.
 pub holds_of_error : {A E : Type 0} (Holds : E → Type 0) (result : Result A E) (error : E) → result ≡ Err error

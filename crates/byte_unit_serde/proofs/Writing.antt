@@ -13,16 +13,16 @@ Continues {S} {E} Writing end_returns values rest first last =
 
 -- One more value is written after the others.
 pub continues_more :
-    {S E A : Type 0} (Writing : A → Returns S Unit E) (end_returns : Returns S Unit E) (values rest : List A) (value : A)
-    (first last next : S) → Continues Writing end_returns values (value ∷ rest) first last
+    {S E A : Type 0} (Writing : A → Returns S Unit E) (end_returns : Returns S Unit E) (values rest : List A)
+    (value : A) (first last next : S) → Continues Writing end_returns values (value ∷ rest) first last
     → Writing value last (Ok tt) next → Continues Writing end_returns values rest first next
 continues_more Writing end_returns values rest value first last next before writes result new ends =
     before result new (Ok tt, next, writes, ends)
 
 -- The error of one more value is returned.
 pub continues_error :
-    {S E A : Type 0} (Writing : A → Returns S Unit E) (end_returns : Returns S Unit E) (values rest : List A) (value : A)
-    (first last next : S) (error : E) → Continues Writing end_returns values (value ∷ rest) first last
+    {S E A : Type 0} (Writing : A → Returns S Unit E) (end_returns : Returns S Unit E) (values rest : List A)
+    (value : A) (first last next : S) (error : E) → Continues Writing end_returns values (value ∷ rest) first last
     → Writing value last (Err error) next → WritingEach Writing end_returns values first (Err error) next
 continues_error Writing end_returns values rest value first last next error before writes =
     before (Err error) next (Err error, next, writes, (refl, refl))

@@ -15,7 +15,8 @@ use Rattle.byte_unit.specs.declared.Unit.{Unit as UnitName}
 use Rattle.byte_unit_serde.specs.Messages.{message_of}
 use Rattle.byte_unit_serde.specs.Stored.{ReadsString, ReadsEach}
 
--- A relation of what is read or written before a call, of what the call returns, and of what is read or written after it.
+-- A relation of what is read or written before a call, of what the call returns, and of what is read or written after
+-- it.
 abbrev pub Returns : Type 0 → Type 0 → Type 0 → Type 1
 Returns D A E = D → Result A E → D → Type 0
 
@@ -56,7 +57,8 @@ ReadingSize kind string_returns rejects =
 abbrev pub ReadingUnit :
     {D E : Type 0} → Returns D (List ℕ) E → (D → List ℕ → E → Type 0) → Returns D UnitName E
 ReadingUnit string_returns rejects =
-    Converting string_returns (Parsing (IsUnitReading (flags_of false true)) (λ error. message_of (unit_fault error)) rejects)
+    Converting string_returns
+        (Parsing (IsUnitReading (flags_of false true)) (λ error. message_of (unit_fault error)) rejects)
 
 -- `None` is returned if the format gives nothing, and else what is read.
 abbrev pub ReadingOption :

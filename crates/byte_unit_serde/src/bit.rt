@@ -1,7 +1,7 @@
 // Rendered from crates/byte_unit_serde/src/byte.rt by tools/mirror. Do not edit.
 //! A size in bits as a string, for `#[serde(with = "byte_unit_serde::bit")]`.
 
-ghost use Rattle.std.specs.Prelude.{false, List, ℕ, IfOk, OnOk, IsUtf8};
+ghost use Rattle.std.specs.Prelude.{false, IfOk, OnOk};
 ghost use Rattle.byte_unit.specs.Accepted.{IsAccepted};
 ghost use Rattle.byte_unit.specs.declared.Kind.TheVariants.{Bit as InBits};
 ghost use Rattle.byte_unit_serde.specs.Outcomes.{ReadingSize, WritingSize};

@@ -1,6 +1,6 @@
 //! A size in bytes as a string, for `#[serde(with = "byte_unit_serde::byte")]`.
 
-ghost use Rattle.std.specs.Prelude.{false, List, ℕ, IfOk, OnOk, IsUtf8};
+ghost use Rattle.std.specs.Prelude.{false, IfOk, OnOk};
 ghost use Rattle.byte_unit.specs.Accepted.{IsAccepted};
 ghost use Rattle.byte_unit.specs.declared.Kind.TheVariants.{Byte as InBytes};
 ghost use Rattle.byte_unit_serde.specs.Outcomes.{ReadingSize, WritingSize};

@@ -1,6 +1,6 @@
 //! The calls by which sizes and units are written to a format.
 
-ghost use Rattle.std.specs.Prelude.{ℕ, List, Result, Some, OnOk};
+ghost use Rattle.std.specs.Prelude.{ℕ, List, Some, OnOk};
 ghost use Rattle.serde.specs.Event.{Logs, text, nothing, seq_begins, seq_ends};
 ghost use Rattle.byte_unit_serde.specs.Outcomes.{Returns};
 

@@ -1,6 +1,6 @@
 //! The calls by which sizes and units are read from a format.
 
-ghost use Rattle.std.specs.Prelude.{◌≡◌, true, false, ℕ, Bool, List, ◌∷◌, [], ◌++◌, None, Result, string_bytes, IfOk, OnOk, IfErr, MatchBool, is_ok, if◌then◌else◌};
+ghost use Rattle.std.specs.Prelude.{◌≡◌, ℕ, Bool, List, ◌∷◌, [], ◌++◌, None, string_bytes, IfOk, OnOk, IfErr, MatchBool};
 ghost use Rattle.std.specs.Result.{result_map_both};
 ghost use Rattle.serde.specs.Event.{text, nothing, seq_begins, seq_ends};
 ghost use Rattle.serde.specs.Steps.{Gives, Stays};

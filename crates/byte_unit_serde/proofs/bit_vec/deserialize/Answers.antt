@@ -11,8 +11,8 @@ use Rattle.byte_unit_serde.proofs.bit_vec.deserialize.Goals as goal
 
 pub returns-in_err-next_in_list-clause-error : goal.returns-in_err-next_in_list-clause-error
 returns-in_err-next_in_list-clause-error g c =
-    let returned : g.F.Source.next_returns c.loop-alloc.from (Err c.in_err-next_in_list.field-0.0) c.next_in_list.new.from =
-    search rules in
+    let returned : g.F.Source.next_returns c.loop-alloc.from (Err c.in_err-next_in_list.field-0.0)
+    c.next_in_list.new.from = search rules in
     let error = next_error (IsAccepted InBits false) g.F.Format.gives g.F.Format.stays g.F.Source.begin_returns
     g.F.Source.next_returns (ReadingSize InBits g.F.Source.string_returns g.F.Source.rejects) g.F.Source.refuses
     c.loop-alloc.items.items c.args.from.now c.begin_list.new.from c.loop-alloc.from c.next_in_list.new.from
@@ -31,7 +31,8 @@ returns-in_err-item-clause-error g c =
     let error = item_error (IsAccepted InBits false) g.F.Format.gives g.F.Format.stays g.F.Source.begin_returns
     g.F.Source.next_returns (ReadingSize InBits g.F.Source.string_returns g.F.Source.rejects) g.F.Source.refuses
     c.loop-alloc.items.items c.args.from.now c.begin_list.new.from c.loop-alloc.from c.next_in_list.new.from
-    c.deserialize.new.from c.in_err-item.field-0.0 c.in_ok-begin_list.ensures.given c.loop-alloc.invariant looks failed in
+    c.deserialize.new.from c.in_err-item.field-0.0 c.in_ok-begin_list.ensures.given c.loop-alloc.invariant looks
+    failed in
     holds_of_error _ c.from_residual-in_err-item.result c.in_err-item.field-0.0 (search rules) error
 
 pub loop-alloc-preserved : goal.loop-alloc-preserved
