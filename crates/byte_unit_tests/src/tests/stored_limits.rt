@@ -89,18 +89,20 @@ const PREFIXES: &[(&str, [Unit; 4])] = &[
     ("R", [Unit::RB, Unit::RiB, Unit::Rbit, Unit::Ribit]),
 ];
 
-/// Asserts that a unit is read from its name, and written as its name, and that one of it is a size in bytes and in bits.
+/// Asserts that a unit is read from its name, and written as its name, and that eight of it
+/// have as many bytes as one of it has bits.
 fn assert_unit(rt: &impl Abort, alloc: Global, name: &str, unit: Unit) {
     assert_read(rt, alloc, name, &Stored(unit));
     let written = serde_json::to_string(alloc, &Stored(unit)).expect(rt, "JSON");
     let wanted = format!(in alloc; "\"{name}\"").expect(rt, "memory");
     assert_is(rt, written.as_str(), wanted.as_str());
+    let number = unit.as_bits_u128();
+    let bytes = Byte::from_u128(number).expect(rt, name);
     let eight = format!(in alloc; "8 {name}").expect(rt, "memory");
-    let bits = unit.as_bits_u128();
-    let bytes = Byte::from_u128(bits).expect(rt, name);
     assert_read(rt, alloc, eight.as_str(), &Stored(bytes));
-    let bits = Bit::from_u128(8 * bits).expect(rt, name);
-    assert_read(rt, alloc, eight.as_str(), &Stored(bits));
+    let bits = Bit::from_u128(number).expect(rt, name);
+    let one = format!(in alloc; "1 {name}").expect(rt, "memory");
+    assert_read(rt, alloc, one.as_str(), &Stored(bits));
 }
 
 #[test]
@@ -146,7 +148,7 @@ fn lists_of_a_thousand_and_one(rt: HostRuntime) {
         json.as_str(),
         document.as_str(),
     );
-    for lists in [first, second] {
+    for lists in [&first, &second] {
         assert_is(&rt, (lists.parts.len(), lists.rates.len()), (1001, 1001));
         for (number, (part, rate)) in (0..1001u64).zip(lists.parts.iter().zip(lists.rates.iter())) {
             let wanted = (Byte::from_u64(number), Bit::from_u64(number));
