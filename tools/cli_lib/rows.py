@@ -184,6 +184,7 @@ WRONG_WORDS = [
     (["-p", "-1"], b"", b"", 2, unknown("-1")),
     (["--bits", "-i"], b"", b"", 2, misused("the argument '--bits' cannot be used with '--ignore-case'")),
     (["--nothing"], b"", b"", 2, unknown("--nothing")),
+    (["--x\nbyte-unit: y"], b"", b"", 2, unknown("--x\\u{a}byte-unit: y")),
     (["--header=18446744073709551616"], b"", b"", 2,
      wrong("invalid value '18446744073709551616' for '--header[=<N>]': number too large to fit in target type")),
     (["--header="], b"", b"", 2,

@@ -12,7 +12,7 @@ use byte_unit_command::run::run;
 use byte_unit_command::stop::Stop;
 use byte_unit_command::values::values_of;
 use byte_unit_command::writing::Writing;
-use byte_unit_command::wrong::{Reason, Wrong, escaped_lines};
+use byte_unit_command::wrong::{Reason, Wrong, escaped_lines, with_marks};
 use clap::ArgMatches;
 use clap::error::ErrorKind;
 use std::alloc::AllocError;
@@ -122,18 +122,36 @@ fn print(rt: &HostRuntime, error: &clap::Error) -> io::Result<u8> {
 /// # Errors
 ///
 /// Returns an error if allocation fails.
-fn print_or_report(rt: &HostRuntime, error: &clap::Error) -> io::Result<u8> {
+fn print_or_report(rt: &HostRuntime, words: &[String], error: &clap::Error) -> io::Result<u8> {
     if error.kind() == ErrorKind::OutOfMemory {
         return Err(io::Error::from(AllocError));
     }
     if !error.use_stderr() {
         return print(rt, error);
     }
-    let text = format!(in rt.alloc(); "{error}")?;
+    let text = error_text(rt, words, error)?;
     let text = escaped_lines(rt.alloc(), text.as_str())?;
     // Ignored on failure: the exit status reports what is wrong too.
     let _ = eprint!(rt; "{text}");
     Ok(WRONG)
+}
+
+/// Returns what clap finds wrong with the words of a call, with a zero byte for each line feed of a word: clap's text
+/// does not tell these from its own.
+///
+/// # Errors
+///
+/// Returns `AllocError` if allocation fails.
+fn error_text(
+    rt: &HostRuntime,
+    words: &[String],
+    error: &clap::Error,
+) -> Result<String, AllocError> {
+    let marked = with_marks(rt.alloc(), words)?;
+    match command(rt.alloc())?.try_get_matches_from(marked.as_slice()) {
+        Ok(_) => format!(in rt.alloc(); "{error}"),
+        Err(error) => format!(in rt.alloc(); "{error}"),
+    }
 }
 
 /// Parses the command line, does what it asks for, and returns the exit status.
@@ -148,7 +166,7 @@ fn answer(rt: &HostRuntime) -> io::Result<u8> {
     }
     let matches = match command(rt.alloc())?.try_get_matches_from(words.as_slice()) {
         Ok(matches) => matches,
-        Err(error) => return print_or_report(rt, &error),
+        Err(error) => return print_or_report(rt, words.as_slice(), &error),
     };
     let list = matches.get_str("field");
     let Some(fields) = fields_of(rt.alloc(), list)? else {

@@ -81,10 +81,7 @@ fn add_escaped<A: Allocator>(bytes: &[u8], line: &mut String<A>) -> Result<(), A
 /// # Errors
 ///
 /// Returns `AllocError` if allocation fails.
-pub(crate) fn add_escaped_text<A: Allocator>(
-    text: &str,
-    line: &mut String<A>,
-) -> Result<(), AllocError>
+fn add_escaped_text<A: Allocator>(text: &str, line: &mut String<A>) -> Result<(), AllocError>
     ensures { OnOk result
         (string_bytes line.new ≡ string_bytes line.old ++ flat_map escape_char (chars text.now)) }
 {
@@ -99,7 +96,10 @@ pub(crate) fn add_escaped_text<A: Allocator>(
 /// # Errors
 ///
 /// Returns `AllocError` if allocation fails.
-fn add_escaped_char<A: Allocator>(c: char, line: &mut String<A>) -> Result<(), AllocError>
+pub(crate) fn add_escaped_char<A: Allocator>(
+    c: char,
+    line: &mut String<A>,
+) -> Result<(), AllocError>
     ensures { OnOk result (string_bytes line.new ≡ string_bytes line.old ++ escape_char c) }
 {
     if c.is_control() {

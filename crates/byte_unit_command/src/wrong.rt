@@ -1,6 +1,6 @@
 //! What is wrong with a call.
 
-use crate::quote::{add_escaped_text, add_quoted};
+use crate::quote::{add_escaped_char, add_quoted};
 use byte_unit::{ParseError, UnitParseError};
 use std::alloc::{AllocError, Global};
 use std::fmt;
@@ -68,20 +68,41 @@ impl<'a> Wrong<'a> {
     }
 }
 
-/// Returns a text of several lines with its control characters escaped, but for the line feeds that end its lines.
+/// Returns the words of a call with a zero byte, which no word has, in place of each line feed.
+///
+/// # Errors
+///
+/// Returns `AllocError` if allocation fails.
+pub fn with_marks(alloc: Global, words: &[String]) -> Result<Vec<String>, AllocError> {
+    let mut marked = Vec::new(alloc);
+    for word in words {
+        marked.push(with_mark(alloc, word.as_str())?)?;
+    }
+    Ok(marked)
+}
+
+/// Returns a word with a zero byte in place of each line feed.
+fn with_mark(alloc: Global, word: &str) -> Result<String, AllocError> {
+    let mut marked = String::new(alloc);
+    for c in word.chars() {
+        marked.push(if c == '\n' { '\0' } else { c })?;
+    }
+    Ok(marked)
+}
+
+/// Returns a text with its control characters escaped, but for the line feeds that end its lines. A zero byte is escaped
+/// as the line feed in whose place it is.
 ///
 /// # Errors
 ///
 /// Returns `AllocError` if allocation fails.
 pub fn escaped_lines(alloc: Global, text: &str) -> Result<String, AllocError> {
     let mut escaped = String::new(alloc);
-    for line in text.split_inclusive('\n') {
-        match line.strip_suffix('\n') {
-            Some(line) => {
-                add_escaped_text(line, &mut escaped)?;
-                escaped.push('\n')?;
-            }
-            None => add_escaped_text(line, &mut escaped)?,
+    for c in text.chars() {
+        match c {
+            '\n' => escaped.push(c)?,
+            '\0' => escaped.push_str("\\u{a}")?,
+            _ => add_escaped_char(c, &mut escaped)?,
         }
     }
     Ok(escaped)
