@@ -1,0 +1,306 @@
+"""Reads the sources of the crates: items and contracts of `.rt` files, definitions of `.antt` files.
+
+`Source` is a file of Rattle: its items with their comments, signatures and clauses. `Spec` is a file of definitions:
+its head comment, its imports, and its definitions, each with its comment and the words that it uses.
+"""
+
+import functools
+import os
+import re
+
+ROOT = os.path.dirname(os.path.dirname(os.path.dirname(os.path.realpath(__file__))))
+STRING = r'"(?:\\.|[^"\\])*"|\'(?:\\.[^\']*|[^\'\\])\''
+QUOTED = re.compile(rf"//[^\n]*|{STRING}", re.S)
+WORD = re.compile(r"[^\W\d][\w\-]*")
+# The first line of a definition, with its name. Its kind, such as `abbrev` or `record`, is before or after `pub`.
+DEFINITION = re.compile(r"^(?:[a-z]+ )?pub (?!mod |use )(?:[a-z]+ )?([^\s:(){}]+)", re.M)
+COMMENT = r"(?:^--(?: .*)?\n)*"
+
+
+class SourceError(Exception):
+    """What is wrong with a source, in one line."""
+
+
+def read(name):
+    try:
+        with open(os.path.join(ROOT, name), encoding="utf-8") as file:
+            return file.read()
+    except OSError as error:
+        raise SourceError(f"{name}: {error.strerror}") from None
+
+
+def line_of(text):
+    return " ".join(text.split())
+
+
+def sentence_of(text):
+    """Returns the first sentence of a comment."""
+    return re.split(r"(?<=\.)\s+(?=[A-Z`0-9])", text.strip())[0]
+
+
+def files(folder, ending):
+    """Returns the names of the files with this ending below a folder, in order."""
+    names = []
+    for place, _, found in os.walk(os.path.join(ROOT, folder)):
+        names += [os.path.relpath(os.path.join(place, name), ROOT) for name in found if name.endswith(ending)]
+    return sorted(names)
+
+
+class Source:
+    """A file of Rattle. `plain` is its text with spaces for comments; `code` has them for strings, too, so that each
+    bracket in it is one of the code."""
+
+    def __init__(self, name):
+        def blank(found):
+            return re.sub(r"[^\n]", " ", found[0])
+
+        self.name, self.text = name, read(name)
+        self.plain = QUOTED.sub(lambda found: blank(found) if found[0][0] == "/" else found[0], self.text)
+        self.code = QUOTED.sub(blank, self.text)
+
+    def closing(self, start):
+        """Returns the place after the bracket that closes the one at `start`."""
+        depth = 0
+        for found in re.compile(r"[(\[{]|[)\]}]").finditer(self.code, start):
+            depth += 1 if found[0] in "([{" else -1
+            if depth == 0:
+                return found.end()
+        raise SourceError(f"{self.name}: a bracket is not closed: {line_of(self.text[start:start + 80])}")
+
+    def above(self, start, mark):
+        """Returns the place of the first of the lines before `start` that all begin with `mark`."""
+        lines = self.text[:start].splitlines(keepends=True)
+        while lines and lines[-1].lstrip().startswith(mark):
+            start -= len(lines.pop())
+        return start
+
+    def blocks(self, pattern, start=0, end=None):
+        """Yields each match of the pattern outside the braces between the two places."""
+        end = len(self.code) if end is None else end
+        finder = re.compile(pattern, re.M)
+        while start < end:
+            brace = self.code.find("{", start, end)
+            found = finder.search(self.code, start, end)
+            if found and (brace < 0 or found.start() < brace):
+                yield found
+                start = found.end()
+            elif brace < 0:
+                return
+            else:
+                start = self.closing(brace)
+
+    def impls(self):
+        """Yields the header of each `impl`, and where its body starts and ends."""
+        for found in self.blocks(r"^impl\b[^{;]*(?=\{)"):
+            yield line_of(self.plain[found.start():found.end()]), found.end() + 1, self.closing(found.end()) - 1
+
+    def function(self, start):
+        """Returns the signature of the function at this place, and its clauses."""
+        head = re.compile(r"\b(?:requires|ensures)\b|\{").search(self.code, start)
+        signature = line_of(self.plain[start:head.start()]).removeprefix("pub ").replace("( ", "(").replace(", )", ")")
+        clauses, place = [], head.start()
+        while self.code[place] != "{":
+            end = self.closing(self.code.index("{", place))
+            clauses.append(line_of(self.plain[place:end]))
+            place = end + re.match(r"\s*", self.code[end:]).end()
+        return signature, clauses
+
+    def ghosts(self, start, end):
+        """Returns the ghost members between two places, by name, and the clauses of methods there."""
+        members = {}
+        for found in self.blocks(r"\bghost (\w+)(?= = \{)|\bfn (\w+)", start, end):
+            if found[2]:
+                clauses = self.function(found.start())[1]
+                members.update({f"{found[2]}.{number}": clause for number, clause in enumerate(clauses)})
+            else:
+                stop = self.closing(self.code.index("{", found.end()))
+                members[found[1]] = line_of(self.plain[found.start():stop])
+        return members
+
+    def end_of(self, start):
+        """Returns the place after the item that starts here: its `;`, or the brace after which no clause follows."""
+        while found := re.compile(r"[(\[{;]").search(self.code, start):
+            start = found.end() if found[0] == ";" else self.closing(found.start())
+            goes_on = re.compile(r"\s*(?:[{;]|ensures\b|requires\b)").match(self.code, start)
+            if found[0] == ";" or found[0] == "{" and not goes_on:
+                return start
+        raise SourceError(f"{self.name}: an item does not end")
+
+    def item(self, words):
+        """Returns where the doc comment of an item starts, where its attributes start, and where it ends.
+
+        An item is named by its kind and name, as `fn cell`, or `fn Log::write` in an `impl` of a type."""
+        kind, _, name = words.partition(" ")
+        owner, _, name = name.rpartition("::")
+        heads = re.finditer(rf"^impl\b[^{{;]*\b{owner}\b[^{{;]*(?={{)", self.code, re.M)
+        within = [(head.start(), self.closing(head.end())) for head in heads] if owner else [(0, len(self.code))]
+        pattern = re.compile(rf"^ *(?:pub(?:\(\w+\))? )?{kind} {name}\b", re.M)
+        places = [found.start() for start, end in within for found in pattern.finditer(self.code, start, end)]
+        if len(places) != 1:
+            raise SourceError(f"{self.name}: {len(places)} items are `{words}`, not one")
+        start = self.above(places[0], "#[")
+        return self.above(start, "///"), start, self.end_of(places[0])
+
+    def comment(self, words):
+        """Returns the doc comment of an item, named as for `item`, as one line."""
+        doc, start, _ = self.item(words)
+        return line_of(re.sub(r"^ */// ?", "", self.text[doc:start], flags=re.M))
+
+    def imports(self):
+        """Returns the words of definitions that the file imports: each with its crate, module and name."""
+        return imports_of(self.text)
+
+
+def imports_of(text):
+    """Returns the words that a file imports from definitions, by their name in the file."""
+    words = {}
+    for crate, module, names in re.findall(r"\buse Rattle\.(\w+)\.specs\.([\w.]+)\.\{([^}]*)\}", text):
+        for name in re.split(r",\s*", line_of(names)):
+            name, _, alias = name.partition(" as ")
+            words[alias or name] = crate, module, name
+    return words
+
+
+class Definition:
+    """A definition: its name, comment and text, the words that it uses, and what it makes (its constructors)."""
+
+    def __init__(self, name, comment, text):
+        self.name, self.comment, self.text = name, comment, text
+        self.makes = set()
+        if re.match(r"(?:pub )?data\b", text):
+            self.makes = set(WORD.findall(" ".join(re.findall(r"^  ((?!--)[^:\n]*):", text, re.M)))) - {"pub"}
+
+    def words(self, without=()):
+        """Returns the words that it uses, but for those of the fields in `without`."""
+        text = re.sub(r"^ *--.*$", "", self.text, flags=re.M)
+        for field in without:
+            text = re.sub(rf"^  pub {field} :.*\n(?:    .*\n)*", "", text, flags=re.M)
+        return set(WORD.findall(re.sub(STRING, " ", text)))
+
+
+class Spec:
+    """A file of definitions. `head` is the comment that it begins with."""
+
+    def __init__(self, name):
+        self.name, self.text = name, read(name)
+        self.crate = name.split("/")[1]
+        self.module = name.split("/specs/")[1].removesuffix(".antt").replace("/", ".")
+        head = re.match(COMMENT, self.text, re.M)[0]
+        self.head = " ".join(line.removeprefix("--").strip() for line in head.splitlines())
+        self.imports = imports_of(self.text)
+        self.definitions = self.find(len(head))
+
+    def find(self, after_head):
+        """Returns the definitions in their order. One that opens the file has the head as its comment."""
+        found = [(match, re.search(rf"{COMMENT}\Z", self.text[:match.start()], re.M)) for match in
+                 DEFINITION.finditer(self.text)]
+        ends = [comment.start() for _, comment in found[1:]] + [len(self.text)]
+        made = {}
+        for (match, comment), end in zip(found, ends):
+            lines = comment[0] if comment.start() >= after_head else self.text[:after_head]
+            said = " ".join(line.removeprefix("--").strip() for line in lines.splitlines())
+            made[match[1]] = Definition(match[1], said, self.text[match.start():end])
+        return made
+
+    def maker(self, word):
+        """Returns the name of the definition that is or makes the word, or None."""
+        if word in self.definitions:
+            return word
+        return next((name for name, found in self.definitions.items() if word in found.makes), None)
+
+
+@functools.lru_cache(maxsize=None)
+def source(name):
+    return Source(name)
+
+
+@functools.lru_cache(maxsize=None)
+def sources(crate):
+    """Returns the files of a crate but its tests."""
+    return [source(name) for name in files(f"crates/{crate}/src", ".rt") if "/tests" not in name]
+
+
+@functools.lru_cache(maxsize=None)
+def specs(crate):
+    """Returns the files of definitions of a crate, by module, in the order of its `Lib`, and then those not there."""
+    found = {spec.module: spec for spec in map(Spec, files(f"crates/{crate}/specs", ".antt"))}
+    library = found.pop("Lib", None)
+    order = re.findall(r"^pub mod (\w+)", library.text, re.M) if library else []
+    return {module: found[module] for module in sorted(found, key=lambda name: (
+        order.index(name) if name in order else len(order), name))}
+
+
+def home_of_spec(crate, module):
+    """Returns the crate and module that a path of imports leads to, through the `Lib` of a crate that exports it."""
+    if module in specs(crate):
+        return crate, module
+    library = f"crates/{crate}/specs/Lib.antt"
+    if os.path.isfile(os.path.join(ROOT, library)):
+        for target, name in re.findall(r"^pub use Rattle\.(\w+)\.specs\.(\w+)$", read(library), re.M):
+            if name == module:
+                return home_of_spec(target, name)
+    return None
+
+
+def resolved(words, imports, own=None):
+    """Yields the definitions that words mean, as crate, module and name. `own` is the file in which they are used."""
+    for word in words:
+        if own and own.maker(word):
+            yield own.crate, own.module, own.maker(word)
+        elif word in imports:
+            crate, module, name = imports[word]
+            home = home_of_spec(crate, module) if os.path.isdir(os.path.join(ROOT, "crates", crate)) else None
+            if home:
+                maker = specs(home[0])[home[1]].maker(name)
+                if maker:
+                    yield *home, maker
+
+
+def closure(found, without=()):
+    """Returns the definitions that these lead to, but through the fields named in `without`."""
+    reached, waiting = set(), list(found)
+    while waiting:
+        place = waiting.pop()
+        if place not in reached:
+            reached.add(place)
+            own = specs(place[0])[place[1]]
+            waiting += resolved(own.definitions[place[2]].words(without), own.imports, own)
+    return reached
+
+
+def exported_uses(text):
+    """Yields each name that a file exports from elsewhere, with the path that it comes from."""
+    for found in re.finditer(r"pub use ((?:\w+::)+)(?:\{([^}]*)\}|(\w+));", text):
+        for name in re.split(r"[,\s]+", found[2] or found[3]):
+            if name:
+                yield name, found[1].rstrip(":").split("::")
+
+
+def is_crate(name):
+    return os.path.isdir(os.path.join(ROOT, "crates", name))
+
+
+def home(path, name, depth=0):
+    """Returns the file in which an exported item is defined, or None for an item of std."""
+    folder = f"crates/{path[0]}/src"
+    if not is_crate(path[0]):
+        return None
+    file = source(("/".join([folder, *path[1:]]) if path[1:] else f"{folder}/lib") + ".rt")
+    if re.search(rf"^pub (?:struct|enum|trait|fn) {name}\b", file.code, re.M):
+        return file
+    for exported, target in exported_uses(file.plain):
+        if exported == name and depth < 9:
+            full = [path[0], *target[1:]] if target[0] == "crate" else [path[0], *path[1:], *target]
+            return home(target if is_crate(target[0]) else full, name, depth + 1)
+    raise SourceError(f"{file.name}: neither defines nor exports {name}")
+
+
+def exports(crate, module="lib"):
+    """Returns the files of what a module exports from elsewhere, by name, in its order."""
+    found = {}
+    path = [crate] if module == "lib" else [crate, module]
+    for name, target in exported_uses(source(f"crates/{crate}/src/{module}.rt").plain):
+        file = home(target if is_crate(target[0]) or target[0] == "std" else [crate, *target], name)
+        if file:
+            found[name] = file
+    return found
