@@ -18,3 +18,4 @@ pub mod CallOptions
 pub mod Operands
 pub mod CommandLine
 pub mod Told
+pub mod WrongText

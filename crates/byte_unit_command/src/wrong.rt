@@ -1,9 +1,13 @@
 //! What is wrong with a call.
 
+ghost use Rattle.std.specs.Prelude.{◌≡◌, ◌++◌, List, ℕ, OnOk, IfOk};
+ghost use Rattle.std.specs.String.{string_bytes};
+ghost use Rattle.byte_unit_command.specs.WrongText.{AreReasonWords, IsWrongMessage};
+
 use crate::quote::{add_escaped_char, add_quoted};
 use byte_unit::{ParseError, UnitParseError};
 use std::alloc::{AllocError, Global};
-use std::fmt;
+use std::fmt::Write;
 
 /// What is wrong with a call: an option, its value, and the reason.
 #[derive(Debug, Drop)]
@@ -35,20 +39,6 @@ pub enum Reason {
     Size(ParseError),
 }
 
-impl fmt::Display for Reason {
-    fn fmt<W: fmt::Write>(&self, f: &mut fmt::Formatter<W>) -> fmt::Result {
-        match self {
-            Reason::Unit(error) => write!(f, "not a form or a unit: {error}"),
-            Reason::Blank => f.write_str("not a form or a unit"),
-            Reason::Delimiter => f.write_str("not one character of one byte"),
-            Reason::Fields => f.write_str("not a list of fields"),
-            Reason::Padding => f.write_str("not a number from 1 to 65535, or its negative"),
-            Reason::Mode => f.write_str("not abort, fail, warn or ignore"),
-            Reason::Size(error) => fmt::Display::fmt(error, f),
-        }
-    }
-}
-
 impl<'a> Wrong<'a> {
     /// Returns the message, without its line end: the option, its value in quotes, and the reason.
     ///
@@ -58,14 +48,43 @@ impl<'a> Wrong<'a> {
     /// # Errors
     ///
     /// Returns `AllocError` if allocation fails.
-    pub fn message(&self, alloc: Global) -> Result<String, AllocError> {
-        let mut message = String::from_str(alloc, self.option)?;
+    pub fn message(&self, alloc: Global) -> Result<String, AllocError>
+        ensures { IfOk result (λ message. IsWrongMessage self.now (string_bytes message)) }
+    {
+        let mut message = String::new(alloc);
+        message.push_str(self.option)?;
         message.push_str(": ")?;
         add_quoted(self.value.as_bytes(), &mut message)?;
-        let reason = &self.reason;
-        write!(message, ": {reason}")?;
+        message.push_str(": ")?;
+        add_reason(alloc, &self.reason, &mut message)?;
         Ok(message)
     }
+}
+
+/// Appends the words for a reason.
+///
+/// # Errors
+///
+/// Returns `AllocError` if allocation fails.
+fn add_reason(alloc: Global, reason: &Reason, message: &mut String) -> Result<(), AllocError>
+    ensures { OnOk result ((words : List ℕ) × AreReasonWords reason.now words
+        × (string_bytes message.new ≡ string_bytes message.old ++ words)) }
+{
+    // Not to `message`: of a character that is not ASCII, no contract says how it is quoted.
+    let mut words = String::new(alloc);
+    match reason {
+        Reason::Unit(error) => {
+            message.push_str("not a form or a unit: ")?;
+            write!(words, "{error}")?;
+        }
+        Reason::Blank => words.push_str("not a form or a unit")?,
+        Reason::Delimiter => words.push_str("not one character of one byte")?,
+        Reason::Fields => words.push_str("not a list of fields")?,
+        Reason::Padding => words.push_str("not a number from 1 to 65535, or its negative")?,
+        Reason::Mode => words.push_str("not abort, fail, warn or ignore")?,
+        Reason::Size(error) => write!(words, "{error}")?,
+    }
+    message.push_str(words.as_str())
 }
 
 /// Returns the words of a call with a zero byte, which no word has, in place of each line feed.

@@ -24,6 +24,12 @@ const SIZES: &[(u128, &str, &str)] = &[
     ),
 ];
 
+/// Asserts that the sizes are this number of bytes, and of bits.
+fn assert_sizes(rt: &impl Abort, values: &Values, number: u128) {
+    assert_for(rt, values.size.as_u128() == number, "bytes");
+    assert_for(rt, values.rate.as_u128() == number, "bits");
+}
+
 #[test]
 fn sizes_at_their_limits(rt: HostRuntime) {
     let alloc = rt.alloc();
@@ -38,9 +44,8 @@ fn sizes_at_their_limits(rt: HostRuntime) {
             json.as_str(),
             document.as_str(),
         );
-        let wanted = (Byte::from_u128(*number), Bit::from_u128(*number));
-        assert_is(&rt, (Some(first.size), Some(first.rate)), wanted);
-        assert_is(&rt, (Some(second.size), Some(second.rate)), wanted);
+        assert_sizes(&rt, &first, *number);
+        assert_sizes(&rt, &second, *number);
     }
     let most = "\"1000000000000000000000000000000\"";
     assert_reason::<Stored<Byte>>(&rt, alloc, most, "out of range");
