@@ -1,5 +1,5 @@
--- The characters that an error of a unit names as expected. Contracts of private functions, here and in byte_unit_c,
--- cite this file.
+-- The characters that an error of a unit names as expected. Contracts of private functions cite this file, and those of
+-- the C API through its `Error`.
 use Rattle.std.specs.Prelude.{ℕ, List, [], ◌++◌, codes}
 use Rattle.byte_unit_base.specs.Version.{current}
 use Rattle.byte_unit_base.specs.Fault.{Fault, bad_unit}

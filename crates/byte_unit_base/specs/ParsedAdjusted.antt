@@ -1,4 +1,4 @@
--- What the parser of an adjusted size returns for an input, as a function that a proof can compute for a literal.
+-- Private: what the parser of an adjusted size returns, as a function that a proof can compute for a literal.
 use Rattle.std.specs.Prelude.{ℕ, ◌*◌, false, List, [], ◌∷◌, Result, if◌then◌else◌, nat_le}
 use Rattle.std.specs.Result.{result_map_both}
 use Rattle.byte_unit_base.specs.Shape.{Shape, bits}

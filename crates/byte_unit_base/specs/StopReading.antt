@@ -1,4 +1,4 @@
--- What a parser that stops in bytes says of the string that they are. One contract of this crate cites this file.
+-- Private: what a parser that stops in bytes says of the string that they are. One contract of this crate cites this file.
 use Rattle.std.specs.Prelude.{◌≡◌, ℕ, Bool, nat_eq, List, Option, Err}
 use Rattle.std.specs.Str.{IsUtf8}
 use Rattle.byte_unit_base.specs.Errors.{size_fault}

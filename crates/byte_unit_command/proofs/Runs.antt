@@ -1,6 +1,6 @@
 -- Lemmas: the loop of a run, read by read.
 use Rattle.std.proofs.Common.{◌≡◌, ℕ, List, [], ◌∷◌, ◌++◌, Result, Ok, Err}
-use Rattle.std.proofs.Common.{refl, sym, ap, subst, ◌∙◌, append_assoc, append-nil, arith, inl, inr, MatchBool, ◌⊎◌}
+use Rattle.std.proofs.Common.{refl, sym, ap, subst, ◌∙◌, append_assoc, append-nil, arith, inl, inr, ◌⊎◌}
 use Rattle.std.specs.Prelude.{IsErrAnd}
 use Rattle.byte_unit_command.specs.Fields.{fields_of}
 use Rattle.byte_unit_command.specs.Messages.{AreMessages, AreMessagesToRejected, next_place}
@@ -17,7 +17,7 @@ use Rattle.byte_unit_command.specs.declared.stop.Stop.TheVariants.{Memory, Read,
 use Rattle.byte_unit_command.specs.declared.tally.Tally.{Tally}
 use Rattle.byte_unit_command.proofs.Converting.{AddsRecords-append, AddsRecords-after, AddsRecords-none}
 use Rattle.byte_unit_command.proofs.Parts.{ended_records-append, begun_record-append, finished_records-ended_records, records_of-ended_records}
-use Rattle.byte_unit_command.proofs.Prefixes.{IsPrefix-longer, IsPrefix-after, IsPrefix-self}
+use Rattle.byte_unit_command.proofs.Prefixes.{IsPrefix-after, IsPrefix-self}
 use Rattle.byte_unit_command.proofs.Starts.{converted-from_start, messages-from_start, tally-from_start, large-from_start}
 use Rattle.byte_unit_command.proofs.Starts.{total_line-from_start}
 

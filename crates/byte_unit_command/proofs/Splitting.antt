@@ -2,7 +2,7 @@
 use Rattle.std.proofs.Common.{◌≡◌, ◌≤◌, ◌<◌, ℕ, ◌+◌, List, [], ◌∷◌, ◌++◌, take, drop, length, Some, Bool}
 use Rattle.std.proofs.Common.{refl, sym, ap, subst, ◌∙◌, arith, append_assoc, append-nil, inl, inr, true, false, cond, eqb}
 use Rattle.std.proofs.lemmas.Bool.{eqb-true}
-use Rattle.std.proofs.lemmas.List.{length-drop, take_more}
+use Rattle.std.proofs.lemmas.List.{length-drop}
 use Rattle.std.specs.List.{onto_first}
 use Rattle.byte_unit_command.specs.Field.{Found, IsField, other, size, rejected}
 use Rattle.byte_unit_command.specs.Fields.{IsChosen, fields_of, delimiter_bytes}

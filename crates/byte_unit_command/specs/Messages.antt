@@ -119,7 +119,10 @@ pub data AreFieldMessages (options : Options) (word : List ℕ) (place number : 
       → AreLimitMessages options word place number field n text
       → AreFieldMessages options word place number field is_rejected text
   rejected : (reason : Reason) → IsChosen options.fields.now number → IsReason options field reason → is_rejected ≡ true
-      → IsMessageIf (tells_rejected options.invalid) options word place number field reason text
+      → tells_rejected options.invalid ≡ true → IsMessage options word place number field reason text
+      → AreFieldMessages options word place number field is_rejected text
+  ignored : IsChosen options.fields.now number → IsNoSize options field → is_rejected ≡ true
+      → tells_rejected options.invalid ≡ false → text ≡ []
       → AreFieldMessages options word place number field is_rejected text
 
 -- the messages about these fields, the first of which has this number

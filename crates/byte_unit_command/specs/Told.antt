@@ -5,7 +5,7 @@ use Rattle.byte_unit_command.specs.Messages.{AreMessages, AreMessagesToRejected,
 use Rattle.byte_unit_command.specs.Outcome.{IsPrefix}
 use Rattle.byte_unit_command.specs.declared.options.Options.{Options}
 use Rattle.byte_unit_command.specs.declared.stop.Stop.{Stop}
-use Rattle.byte_unit_command.specs.declared.stop.Stop.TheVariants.{Memory, Read, Write, Rejected, Total}
+use Rattle.byte_unit_command.specs.declared.stop.Stop.TheVariants.{Read, Rejected, Total}
 use Rattle.byte_unit_command.specs.declared.tally.Tally.{Tally}
 
 -- the messages about the first of these records, for some number of them
@@ -14,7 +14,8 @@ AreFirstMessages options word records messages =
     (first : List (List ℕ)) × IsPrefix first records × AreMessages options word 0 options.header first messages
 
 -- the messages about the records before one that has a rejected field, and about its fields up to the first such one
-pub record AreAbortMessages (options : Options) (word : List ℕ) (records : List (List ℕ)) (messages : List ℕ) : Type 0 where
+pub record AreAbortMessages (options : Options) (word : List ℕ) (records : List (List ℕ)) (messages : List ℕ)
+    : Type 0 where
   pub before : List (List ℕ)
   pub bytes : List ℕ
   pub after : List (List ℕ)
@@ -29,7 +30,8 @@ pub record AreAbortMessages (options : Options) (word : List ℕ) (records : Lis
 -- the messages of a run that ends with this result: those about all records; about all finished ones if a read failed;
 -- about some first ones if a write failed or it was out of memory; and those up to the first rejected field in the mode
 -- `abort`. `finished`, `records` and `complete` are those of `IsWritten`
-abbrev pub AreRunMessages : Options → List ℕ → List (List ℕ) → List (List ℕ) → Type 0 → Result Tally Stop → List ℕ → Type 0
+abbrev pub AreRunMessages :
+    Options → List ℕ → List (List ℕ) → List (List ℕ) → Type 0 → Result Tally Stop → List ℕ → Type 0
 AreRunMessages options word finished records complete (Ok _) messages =
     complete × AreMessages options word 0 options.header records messages
 AreRunMessages options word finished records complete (Err Total) messages =

@@ -20,7 +20,8 @@ use std::io::Write;
 
 /// Converts the last record, if there is one, and writes it and the total.
 ///
-/// Preconditions (proved at every call): `waiting` and `notices` are empty, and `digits` has capacity for the text of any size.
+/// Preconditions (proved at every call): `waiting` and `notices` are empty, and `digits` has capacity for the text of
+/// any size.
 ///
 /// # Errors
 ///

@@ -119,9 +119,12 @@ pub(crate) fn add_reject_notice<A: Allocator>(
         × (messages_of notices.new ≡ messages_of notices.old ++ text)) }
     ensures kept { IsPrefix (messages_of notices.old) (messages_of notices.new) }
 {
-    let reason = reason_of(options, field);
     let told = tells_rejected(options.invalid);
-    add_message_if(told, options, place, number, field, &reason, notices)
+    if !told {
+        return Ok(());
+    }
+    let reason = reason_of(options, field);
+    add_message(options, place, number, field, &reason, notices)
 }
 
 /// Returns `true` if there are messages about rejected fields.

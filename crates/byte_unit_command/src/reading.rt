@@ -55,6 +55,9 @@ impl<R: Read> Reading<R> {
     ///
     /// Returns `None` if the reader returns an error of any kind. After that, and after 2^64 - 1 reads, returns `None`
     /// without calling the reader. Each other call counts as a read, also if it returns `None`.
+    ///
+    /// No contract of std says when a reader returns an error: that `None` is returned for no other reason is tested,
+    /// not proved.
     pub fn read(&mut self, buf: &mut [u8]) -> Option<usize>
         ensures bound { IfSome result (λ n. n ≤ length buf.new) }
         ensures came { IfSome result (λ n. HasRead R.remaining self.old self.new (take n buf.new)) }

@@ -148,7 +148,8 @@ pub fn run_in<A: Allocator, R: Read, W: Write, E: Write>(
 ///
 /// `part` is the part of the first of them that was read before, and then the part of the next one that was read.
 ///
-/// Preconditions (proved at every call): `waiting` and `notices` are empty, and `digits` has capacity for the text of any size.
+/// Preconditions (proved at every call): `waiting` and `notices` are empty, and `digits` has capacity for the text of
+/// any size.
 ///
 /// # Errors
 ///

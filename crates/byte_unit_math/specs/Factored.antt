@@ -1,4 +1,4 @@
--- Numbers that are given by their factors.
+-- Private: numbers that are given by their factors.
 use Rattle.std.specs.Prelude.{ℕ, ◌*◌, ◌^◌}
 use Rattle.byte_unit_math.specs.declared.factors.Factors.{Factors}
 

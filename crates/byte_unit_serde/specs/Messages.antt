@@ -1,4 +1,4 @@
--- The messages of errors, short enough for each format: `serde_json` cuts a message after 32 bytes.
+-- Private: the messages of errors, short enough for each format: `serde_json` cuts a message after 32 bytes.
 use Rattle.std.specs.Prelude.{ℕ, List, codes}
 use Rattle.byte_unit.specs.Fault.{Fault, exceeded, not_number, no_value, too_long, bad_unit}
 

@@ -58,7 +58,7 @@ abbrev pub ReadingUnit :
     {D E : Type 0} → Returns D (List ℕ) E → (D → List ℕ → E → Type 0) → Returns D UnitName E
 ReadingUnit string_returns rejects =
     Converting string_returns
-        (Parsing (IsUnitReading (flags_of false true)) (λ error. message_of (unit_fault error)) rejects)
+    (Parsing (IsUnitReading (flags_of false true)) (λ error. message_of (unit_fault error)) rejects)
 
 -- `None` is returned if the format gives nothing, and else what is read.
 abbrev pub ReadingOption :

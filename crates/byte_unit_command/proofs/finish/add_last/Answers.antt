@@ -1,5 +1,5 @@
 -- Without a last record, nothing is appended.
-use Rattle.std.proofs.Common.{[], List, ℕ, subst, sym, arith}
+use Rattle.std.proofs.Common.{List, ℕ, subst, sym, arith}
 use Rattle.std.proofs.lemmas.List.{nil_from_length}
 use Rattle.byte_unit_command.specs.Progress.{AddsRecords, State, messages_of, nonempty_record, state_of}
 use Rattle.byte_unit_command.proofs.Converting.{AddsRecords-none}

@@ -1,12 +1,10 @@
 -- A field that the parser accepts is a size.
-use Rattle.std.proofs.Common.{◌≡◌, ℕ, Bool, List, Option, Some, Result, Ok, Err, inl, inr, subst}
-use Rattle.std.specs.Prelude.{◌⊎◌}
+use Rattle.std.proofs.Common.{◌≡◌, ℕ, List, Option, Some, Result, Ok, Err, inl, inr, subst}
 use Rattle.std.specs.Str.{IsUtf8}
-use Rattle.byte_unit.specs.Accepted.{IsAccepted, IsRejected}
+use Rattle.byte_unit.specs.Accepted.{IsRejected}
 use Rattle.byte_unit.specs.Errors.{size_fault}
 use Rattle.byte_unit.specs.SizeLaws.{TextsAreAcceptedOrRejected}
 use Rattle.byte_unit.specs.SizeReading.{IsBytesReading}
-use Rattle.byte_unit.specs.declared.Kind.{Kind}
 use Rattle.byte_unit.specs.declared.ParseError.{ParseError}
 use Rattle.byte_unit_command.specs.Field.{IsNoSize, ignores_case}
 use Rattle.byte_unit_command.specs.declared.options.Options.{Options}

@@ -1,6 +1,5 @@
 -- A header record is copied, and the fields of any other are added; the end byte follows.
 use Rattle.std.proofs.Common.{◌≡◌, ◌-◌, ◌++◌, ◌∷◌, [], ℕ, suc, ap, subst, ◌∙◌, arith}
-use Rattle.byte_unit_command.specs.Messages.{next_place}
 use Rattle.byte_unit_command.specs.Progress.{AddsFields, State, messages_of, state_of}
 use Rattle.byte_unit_command.proofs.Converting.{AddsRecords-header, AddsRecords-fields, AddsFields-same}
 use Rattle.byte_unit_command.proofs.Prefixes.{IsPrefix-self, IsPrefix-same}
