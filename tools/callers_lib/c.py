@@ -7,8 +7,8 @@ FOLDER has libbyte_unit.a and byte_unit.h. In a temporary folder, checks that
 
 - interface/examples/example.c and interface/checks/arguments.c compile without a warning as C99 to C23, the second also
   as C++17 and C++20, by each compiler that is there, and succeed: each compares its results with what is written in it;
-- the code in the comments of byte_unit.h, and the initializers in docs/CALLERS.md, compile as C99 to C23 and C++20, and
-  write the texts that they are said to write (tools/callers_lib/comments.py);
+- the code in the comments of byte_unit.h, and the initializers in interface/README.md, compile as C99 to C23 and C++20,
+  and write the texts that they are said to write (tools/callers_lib/comments.py);
 - both succeed on the emulated processors qemu64, kvm64 and core2duo, which have no SSE4 (if qemu-x86_64 is there);
 - strings, buffers and arrays that end at an unmapped page are read and written without an overrun (checks/edges.c);
 - for N generated lines (4,000), as bytes and as bits, checks/lines.c prints what tools/exact_model.py computes, and what
@@ -36,7 +36,7 @@ from needs import tell_missing  # noqa: E402
 from report import call, check  # noqa: E402
 
 INTERFACE = os.path.join(ROOT, "interface")
-PAGE = os.path.join(ROOT, "docs/CALLERS.md")
+PAGE = os.path.join(INTERFACE, "README.md")
 PROGRAM = os.path.join(ROOT, "crates/byte_unit_lines/out/byte_unit_lines")
 WARNINGS = ["-Wall", "-Wextra", "-Wpedantic", "-Wconversion", "-Werror"]
 STANDARDS = {

@@ -7,7 +7,7 @@ FOLDER has libbyte_unit.a and byte_unit.h. Checks that
 
 - the program in the manual page compiles with the words of pkg-config alone, from another folder, by gcc and clang as C99 to
   C23 and as C++17, and links and runs in each way that these compilers have: shared, static, as PIE and not, with LTO, and
-  with musl;
+  with musl; interface/README.md has the same program;
 - the shared library has its soname and exports the calls of the header, and no more;
 - the manual page has no finding of `mandoc -T lint`, and its declarations are those of the header;
 - an installation that fails, at a file in the way or at a full disk, leaves nothing and says why;
@@ -58,9 +58,11 @@ def files_in(folder):
 def example(work):
     """Writes the program of the manual page to a file."""
     program = os.path.join(work, "program.c")
-    text = re.search(r"^\.Bd -literal\n(#include.*?)^\.Ed$", read(PAGE), re.M | re.S).group(1)
+    text = re.search(r"^\.Bd -literal\n(#include.*?)^\.Ed$", read(PAGE), re.M | re.S).group(1).replace("\\e", "\\")
+    readme = read(os.path.join(os.path.dirname(PAGE), "README.md"))
+    check("README.md has the program of the manual page", f"```c\n{text}```\n" in readme)
     with open(program, "w", encoding="utf-8") as file:
-        file.write(text.replace("\\e", "\\"))
+        file.write(text)
     return program
 
 
