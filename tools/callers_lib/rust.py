@@ -7,7 +7,7 @@ FOLDER has libbyte_unit.a. In a temporary folder, with cargo --offline, by each 
 /usr/bin/cargo, checks that
 
 - the package's tests pass, among them the examples of the original crate's documentation;
-- its example succeeds, and programs for the original crate, among them that of docs/CALLERS.md, build by
+- its example succeeds, and programs for the original crate, among them that of its README.md, build by
   [patch.crates-io] and print what they should;
 - for N generated lines (4,000), as bytes and as bits, the example lines.rs prints what tools/exact_model.py computes.
 
@@ -131,12 +131,11 @@ def tests(compiler, package, features):
 
 def moved_programs(compiler, package, work):
     """Builds programs that name the package in [patch] alone, without a registry, and compares what they print."""
-    page = read(os.path.join(ROOT, "docs/CALLERS.md"))
-    section = page[page.index("\n## Rust\n") :]
-    source, printed = re.search(r"```rust\n(.*?)```\n\n```text\n(.*?)```", section, re.S).groups()
-    check("docs/CALLERS.md says how many examples pass", f" {AS_WRITTEN} run here as they are written" in section)
+    page = read(os.path.join(PACKAGE, "README.md"))
+    source, printed = re.search(r"```rust\n(.*?)```\n\n```text\n(.*?)```", page, re.S).groups()
+    check("README.md says how many examples pass", f" {AS_WRITTEN} run here as they are written" in page)
     moved = read(os.path.join(PACKAGE, "checks/moved.rs"))
-    programs = [("checks/moved.rs", moved, "0 wrong\n"), ("the program of docs/CALLERS.md", source, printed)]
+    programs = [("checks/moved.rs", moved, "0 wrong\n"), ("the program of README.md", source, printed)]
     for name, text, expected in programs:
         got = run_program(compiler, package, work, name, text)
         check(f"it prints {expected.strip()}", got == expected, got)
