@@ -7,7 +7,7 @@
  *     COLLATE SIZE                                orders texts by the sizes that they represent
  *
  * Flags are words in a text, separated by spaces: 'bits' for bits in place of bytes, 'ignore-case' for `b` as bytes.
- * docs/CALLERS.md says more. To build it by hand, in a folder that tools/make-libraries has filled as DIR:
+ * README.md says more. To build it by hand, in a folder that tools/make-libraries has filled as DIR:
  *     cc -shared -fPIC -O2 -I DIR byte_unit_sqlite.c DIR/libbyte_unit.a -Wl,--exclude-libs,ALL -o byte_unit.so
  */
 #include <sqlite3ext.h>

@@ -10,7 +10,7 @@ FOLDER has libbyte_unit.a and byte_unit.h. Checks that
 - for N generated lines (4,000), as bytes and as bits, the functions return what tools/exact_model.py computes, and the
   collation SIZE orders them as the model does;
 - CHECK, generated columns, indexes by the collation and by an expression work, and integrity_check finds nothing;
-- the statements in docs/CALLERS.md have the results that stand beside them;
+- the statements in interface/sqlite/README.md have the results that stand beside them;
 - a million rows have the sum that they should have, and prints what that takes beside length().
 
 What a missing program or header leaves out is skipped: tools/callers_lib/needs.py has the list.
@@ -301,13 +301,13 @@ def values(extension):
 
 def page(extension):
     """Runs the statements of the page; a comment at the end of a line is what the statement prints."""
-    with open(os.path.join(ROOT, "docs/CALLERS.md"), encoding="utf-8") as file:
+    with open(os.path.join(os.path.dirname(SOURCE), "README.md"), encoding="utf-8") as file:
         blocks = re.findall(r"^```sql\n(.*?)^```$", file.read(), re.M | re.S)
     lines = [line for block in blocks for line in block.splitlines() if not line.startswith(".load")]
     wanted = [line.split(" -- ")[1] for line in lines if " -- " in line]
     got, errors = sql(extension, lines)
     got += errors.values()
-    check(f"the {len(wanted)} results in docs/CALLERS.md", got == wanted, f"{got}\n{wanted}")
+    check(f"the {len(wanted)} results in interface/sqlite/README.md", got == wanted, f"{got}\n{wanted}")
 
 
 FROM_PYTHON = """import sqlite3, sys
