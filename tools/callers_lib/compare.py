@@ -1,6 +1,6 @@
 #!/usr/bin/env python3
 """Prints what calls take from each language, beside the original crate, humanfriendly, humanize and numfmt: the tables of
-docs/CALLERS.md, in Markdown.
+docs/SPEED.md, in Markdown.
 
     tools/callers_lib/compare.py FOLDER [--rounds N] [--original DIR]
 

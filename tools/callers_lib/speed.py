@@ -1,6 +1,6 @@
 #!/usr/bin/env python3
 """Prints what the calls of the C library take, in nanoseconds, the size of the archive, and what tools/callers has taken:
-figures of docs/CALLERS.md.
+figures of docs/SPEED.md.
 
     tools/callers_lib/speed.py FOLDER
 
