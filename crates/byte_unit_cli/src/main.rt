@@ -149,9 +149,21 @@ fn error_text(
 ) -> Result<String, AllocError> {
     let marked = with_marks(rt.alloc(), words)?;
     match command(rt.alloc())?.try_get_matches_from(marked.as_slice()) {
-        Ok(_) => format!(in rt.alloc(); "{error}"),
-        Err(error) => format!(in rt.alloc(); "{error}"),
+        Ok(_) => text_of(rt, error),
+        Err(error) => text_of(rt, &error),
     }
+}
+
+/// Returns what clap says of an error.
+///
+/// # Errors
+///
+/// Returns `AllocError` if allocation fails, or that is the error.
+fn text_of(rt: &HostRuntime, error: &clap::Error) -> Result<String, AllocError> {
+    if error.kind() == ErrorKind::OutOfMemory {
+        return Err(AllocError);
+    }
+    format!(in rt.alloc(); "{error}")
 }
 
 /// Parses the command line, does what it asks for, and returns the exit status.
