@@ -5,9 +5,9 @@
 
 FOLDER has libbyte_unit.a and byte_unit.h. In a temporary folder, checks that
 
-- interface/examples/example.c and interface/checks/arguments.c compile without a warning as C99 to C23, the second also
+- bindings/c/examples/example.c and bindings/c/checks/arguments.c compile without a warning as C99 to C23, the second also
   as C++17 and C++20, by each compiler that is there, and succeed: each compares its results with what is written in it;
-- the code in the comments of byte_unit.h, and the initializers in interface/README.md, compile as C99 to C23 and C++20,
+- the code in the comments of byte_unit.h, and the initializers in bindings/c/README.md, compile as C99 to C23 and C++20,
   and write the texts that they are said to write (tools/callers_lib/comments.py);
 - both succeed on the emulated processors qemu64, kvm64 and core2duo, which have no SSE4 (if qemu-x86_64 is there);
 - strings, buffers and arrays that end at an unmapped page are read and written without an overrun (checks/edges.c);
@@ -35,8 +35,8 @@ from generated_lines import some_line  # noqa: E402
 from needs import tell_missing  # noqa: E402
 from report import call, check  # noqa: E402
 
-INTERFACE = os.path.join(ROOT, "interface")
-PAGE = os.path.join(INTERFACE, "README.md")
+BINDING = os.path.join(ROOT, "bindings/c")
+PAGE = os.path.join(BINDING, "README.md")
 PROGRAM = os.path.join(ROOT, "crates/byte_unit_lines/out/byte_unit_lines")
 WARNINGS = ["-Wall", "-Wextra", "-Wpedantic", "-Wconversion", "-Werror"]
 STANDARDS = {
@@ -54,11 +54,11 @@ def read(path):
 
 
 def compiled(folder, work, name, compiler, standard):
-    """Compiles a program, whose path is absolute or begins in interface/, with the archive, and returns its path."""
+    """Compiles a program, whose path is absolute or begins in bindings/c/, with the archive, and returns its path."""
     program = os.path.join(work, os.path.basename(name)[:-2])
     # In C++, unlike in C, -Wextra warns of a field that an initializer leaves out.
     language = ["-x", "c++", "-Wno-missing-field-initializers"] if standard.startswith("c++") else []
-    words = [compiler, f"-std={standard}", "-O2", *WARNINGS, "-I", folder, *language, os.path.join(INTERFACE, name)]
+    words = [compiler, f"-std={standard}", "-O2", *WARNINGS, "-I", folder, *language, os.path.join(BINDING, name)]
     made = call(*words, "-x", "none", os.path.join(folder, "libbyte_unit.a"), "-o", program)
     if made.returncode or made.stdout:
         check(f"{name} compiles by {compiler} as {standard}", False, made.stdout)

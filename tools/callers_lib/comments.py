@@ -1,4 +1,4 @@
-"""The code in the comments of byte_unit.h, and the initializers in interface/README.md, as a program for C and C++.
+"""The code in the comments of byte_unit.h, and the initializers in bindings/c/README.md, as a program for C and C++.
 
 The program compiles only if each piece is valid code, and exits with the number of specs that do not write the texts of
 the format that they are said to be. tools/callers_lib/c.py compiles and runs it.

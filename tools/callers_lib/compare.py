@@ -79,7 +79,7 @@ BESIDE = [
     ("`text` of 1536 with a unit (`numfmt --to=iec`)", "text of 1536, with its unit"),
     ("`adjusted_text` of 1536 in `KB`", "text of 1536 in KB"),
 ]
-# What interface/checks/speed.py prints, by the column and the row of the table above.
+# What bindings/python/checks/speed.py prints, by the column and the row of the table above.
 FROM_PYTHON = {
     "byte_unit.parse('1.5 KiB')": ("Python", "parse 1.5 KiB"),
     "byte_unit.parse('1.5 XB'), an error": ("Python", "parse 1.5 XB"),
@@ -136,8 +136,8 @@ def program(*words, **more):
 
 
 def from_c(folder, work, name):
-    """Compiles a program of interface/checks."""
-    source, made = os.path.join(ROOT, "interface/checks", name), os.path.join(work, name[:-2])
+    """Compiles a program of bindings/c/checks."""
+    source, made = os.path.join(ROOT, "bindings/c/checks", name), os.path.join(work, name[:-2])
     words = ["-std=c11", "-O2", "-I", folder, source, os.path.join(folder, "libbyte_unit.a"), "-o", made]
     got = call(os.environ.get("CC", "cc"), *words)
     check(f"checks/{name} compiles", got.returncode == 0, got.stdout)
@@ -200,7 +200,7 @@ def from_python(folder, work):
         print("left out: Python: needs 3.11 or later, with the packages that tools/callers --install --compare installs")
         return {}, []
     inner = python.install(interpreter, folder, work)
-    words = [inner, os.path.join(ROOT, "interface/checks/speed.py")]
+    words = [inner, os.path.join(ROOT, "bindings/python/checks/speed.py")]
     first = call(*words, "1000", cwd=work, env=python.environment())
     print("".join(line + "\n" for line in first.stdout.splitlines() if line.startswith("left out")), end="")
     versions = [call(inner, "--version").stdout.strip()]

@@ -7,7 +7,7 @@ FOLDER has libbyte_unit.a and byte_unit.h. Checks that
 
 - the program in the manual page compiles with the words of pkg-config alone, from another folder, by gcc and clang as C99 to
   C23 and as C++17, and links and runs in each way that these compilers have: shared, static, as PIE and not, with LTO, and
-  with musl; interface/README.md has the same program;
+  with musl; bindings/c/README.md has the same program;
 - the shared library has its soname and exports the calls of the header, and no more;
 - the manual page has no finding of `mandoc -T lint`, and its declarations are those of the header;
 - an installation that fails, at a file in the way or at a full disk, leaves nothing and says why;
@@ -33,7 +33,7 @@ from needs import is_there  # noqa: E402
 from report import call, check, succeeds  # noqa: E402
 
 INSTALL = os.path.join(ROOT, "tools/install")
-PAGE = os.path.join(ROOT, "interface/byte_unit.3")
+PAGE = os.path.join(ROOT, "bindings/c/byte_unit.3")
 COMMAND = os.path.join(ROOT, "crates/byte_unit_cli/out/byte_unit_cli")
 STANDARDS = {
     "gcc": ["c99", "c11", "c17", "c2x"],

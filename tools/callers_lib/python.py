@@ -20,9 +20,9 @@ ROOT = os.path.dirname(os.path.dirname(HERE))
 sys.path[:0] = [HERE]
 from report import call, check  # noqa: E402
 
-INTERFACE = os.path.join(ROOT, "interface")
-EXAMPLE = os.path.join(INTERFACE, "examples/example.py")
-COLUMNS = os.path.join(INTERFACE, "examples/columns.py")
+BINDING = os.path.join(ROOT, "bindings/python")
+EXAMPLE = os.path.join(BINDING, "examples/example.py")
+COLUMNS = os.path.join(BINDING, "examples/columns.py")
 NEEDED = "import sys, setuptools, wheel, ensurepip, sysconfig, os; \
 sys.exit(sys.version_info < (3, 11) or not os.path.isfile(sysconfig.get_path('include') + '/Python.h'))"
 PACKAGE_CONFIG = "Name: byte_unit\nDescription: -\nVersion: 0\nincludedir={0}\nlibdir={0}\n"
@@ -84,7 +84,7 @@ def reports_missing_library(python, package, work):
 
 def install(python, folder, work):
     """Builds the package offline in a copy of its folder, and returns the Python of an environment that has it."""
-    package = shutil.copytree(os.path.join(INTERFACE, "python"), os.path.join(work, "package"),
+    package = shutil.copytree(BINDING, os.path.join(work, "package"),
                               ignore=shutil.ignore_patterns("build", "*.egg-info", "__pycache__"))
     finds_library(python, package, folder, work)
     reports_missing_library(python, package, work)
@@ -114,7 +114,7 @@ def run(folder, options):
     python = interpreter()
     with tempfile.TemporaryDirectory() as work:
         inner = install(python, os.path.abspath(folder), work)
-        tests = os.path.join(INTERFACE, "python/tests")
+        tests = os.path.join(BINDING, "tests")
         got = call(inner, "-m", "unittest", "discover", "-s", tests, cwd=work, env=environment())
         lines = got.stdout.rstrip().split("\n")
         check(f"tests in Python: {': '.join(lines[-3::2])}", got.returncode == 0, got.stdout)
@@ -124,7 +124,7 @@ def run(folder, options):
         got = call(inner, COLUMNS, cwd=work, env=environment())
         check(f"columns: {', '.join(got.stdout.splitlines())}", got.returncode == 0, got.stdout)
         if getattr(options, "speed", False):
-            print(call(inner, os.path.join(INTERFACE, "checks/speed.py"), cwd=work, env=environment()).stdout, end="")
+            print(call(inner, os.path.join(BINDING, "checks/speed.py"), cwd=work, env=environment()).stdout, end="")
 
 
 def main():

@@ -1,5 +1,5 @@
 #!/usr/bin/env python3
-"""The Rust package of tools/callers: builds and tests interface/rust with the compilers that are there.
+"""The Rust package of tools/callers: builds and tests bindings/rust with the compilers that are there.
 
     tools/callers_lib/rust.py FOLDER [--lines N] [--seed S] [--speed]
 
@@ -35,7 +35,7 @@ from exact_model import answer  # noqa: E402
 from generated_lines import some_line  # noqa: E402
 from report import call, check  # noqa: E402
 
-PACKAGE = os.path.join(ROOT, "interface/rust")
+PACKAGE = os.path.join(ROOT, "bindings/rust")
 REGISTRY = needs.DEBIAN_RUST
 AS_WRITTEN, CHANGED = 91, 9
 
@@ -97,7 +97,7 @@ def compilers(folder, work):
 
 def copy_package(work):
     """Copies the package, and returns the copy and the features to test. Without Debian's serde, leaves it out."""
-    package = os.path.join(work, "interface/rust")
+    package = os.path.join(work, "bindings/rust")
     shutil.copytree(PACKAGE, package, ignore=shutil.ignore_patterns("target", "Cargo.lock"))
     if "rust: serde" not in needs.missing_of("rust"):
         os.mkdir(os.path.join(package, ".cargo"))

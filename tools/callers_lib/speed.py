@@ -4,7 +4,7 @@ figures of docs/SPEED.md.
 
     tools/callers_lib/speed.py FOLDER
 
-FOLDER has libbyte_unit.a and byte_unit.h. Compiles interface/checks/speed.c (the minimum of 200 runs of 1,000 calls each)
+FOLDER has libbyte_unit.a and byte_unit.h. Compiles bindings/c/checks/speed.c (the minimum of 200 runs of 1,000 calls each)
 and speed_many.c (the minimum of 20 runs over a million texts). The sizes of the other files are printed by install.py, and
 what SQLite takes by sqlite.py, each with --speed.
 """
@@ -28,7 +28,7 @@ def run(folder, options):
     cc = os.environ.get("CC", "cc")
     with tempfile.TemporaryDirectory() as work:
         for name in PROGRAMS:
-            source, program = os.path.join(ROOT, "interface/checks", name), os.path.join(work, name[:-2])
+            source, program = os.path.join(ROOT, "bindings/c/checks", name), os.path.join(work, name[:-2])
             made = call(cc, "-std=c11", "-O2", "-Wall", "-Wextra", "-I", folder, source, archive, "-o", program)
             check(f"checks/{name} compiles", made.returncode == 0 and not made.stdout, made.stdout)
             got = call(program)

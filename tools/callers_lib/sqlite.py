@@ -5,12 +5,12 @@
 
 FOLDER has libbyte_unit.a and byte_unit.h. Checks that
 
-- interface/sqlite/byte_unit_sqlite.c has no warning in C99 by gcc and clang, and no run of interface/checks/sqlite.c, in
+- bindings/sqlite/byte_unit_sqlite.c has no warning in C99 by gcc and clang, and no run of bindings/sqlite/checks.c, in
   which one allocation of SQLite after another fails, has a finding of ASan or UBSan;
 - for N generated lines (4,000), as bytes and as bits, the functions return what tools/exact_model.py computes, and the
   collation SIZE orders them as the model does;
 - CHECK, generated columns, indexes by the collation and by an expression work, and integrity_check finds nothing;
-- the statements in interface/sqlite/README.md have the results that stand beside them;
+- the statements in bindings/sqlite/README.md have the results that stand beside them;
 - a million rows have the sum that they should have, and prints what that takes beside length().
 
 What a missing program or header leaves out is skipped: tools/callers_lib/needs.py has the list.
@@ -33,7 +33,7 @@ from exact_model import LETTERS, answer, unit_bits  # noqa: E402
 from generated_lines import some_line  # noqa: E402
 from report import call, check, succeeds  # noqa: E402
 
-SOURCE = os.path.join(ROOT, "interface/sqlite/byte_unit_sqlite.c")
+SOURCE = os.path.join(ROOT, "bindings/sqlite/byte_unit_sqlite.c")
 WARNINGS = ["-Wall", "-Wextra", "-Wpedantic", "-Wconversion", "-Wshadow", "-Werror"]
 GREATEST = 2**63 - 1
 REASONS = {
@@ -60,7 +60,7 @@ def build(folder, work):
     os.mkdir(os.path.dirname(sanitized))
     flags = ["-g", "-fsanitize=address,undefined", "-fno-sanitize-recover=all"]
     compile_extension("gcc", folder, sanitized, *flags)
-    program, source = os.path.join(work, "sqlite_checks"), os.path.join(ROOT, "interface/checks/sqlite.c")
+    program, source = os.path.join(work, "sqlite_checks"), os.path.join(ROOT, "bindings/sqlite/checks.c")
     succeeds("checks/sqlite.c compiles", "gcc", "-std=c99", *WARNINGS, *flags, source, "-lsqlite3", "-o", program)
     got = succeeds("allocations that fail, and zero bytes, under ASan and UBSan", program, sanitized)
     print(f"    {got}", end="")
@@ -307,7 +307,7 @@ def page(extension):
     wanted = [line.split(" -- ")[1] for line in lines if " -- " in line]
     got, errors = sql(extension, lines)
     got += errors.values()
-    check(f"the {len(wanted)} results in interface/sqlite/README.md", got == wanted, f"{got}\n{wanted}")
+    check(f"the {len(wanted)} results in bindings/sqlite/README.md", got == wanted, f"{got}\n{wanted}")
 
 
 FROM_PYTHON = """import sqlite3, sys

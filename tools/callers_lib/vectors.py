@@ -39,7 +39,7 @@ def compare(name, rows, answers):
 
 def from_c(folder, work, rows):
     program = os.path.join(work, "vectors")
-    words = ["-std=gnu11", "-O2", "-Wall", "-Wextra", "-I", folder, os.path.join(ROOT, "interface/checks/vectors.c")]
+    words = ["-std=gnu11", "-O2", "-Wall", "-Wextra", "-I", folder, os.path.join(ROOT, "bindings/c/checks/vectors.c")]
     made = call(os.environ.get("CC", "cc"), *words, os.path.join(folder, "libbyte_unit.a"), "-o", program)
     check("checks/vectors.c compiles", made.returncode == 0 and not made.stdout, made.stdout)
     compare("C", rows, answers_of_program([program], rows))

@@ -1,6 +1,6 @@
 """The messages of the program byte-unit, as they are documented: how a text is quoted, and why it is not a size.
 
-Follows docs/DEFINITIONS.md ("Which error") and interface/cli/byte-unit.1, and shares no code with the crates.
+Follows docs/DEFINITIONS.md ("Which error") and command/byte-unit.1, and shares no code with the crates.
 """
 
 import re

@@ -1,7 +1,7 @@
 """A reference model of the program byte-unit: all that a call writes, on standard output and on standard error, and its
 exit status, computed with integers of any length.
 
-Follows interface/cli/byte-unit.1 and docs/DEFINITIONS.md and shares no code with the crates. `tools/check-cli` compares
+Follows command/byte-unit.1 and docs/DEFINITIONS.md and shares no code with the crates. `tools/check-cli` compares
 the built program with it.
 """
 

@@ -1,5 +1,5 @@
 //! Nanoseconds of one call of the Rust crate, the minimum of 200 runs of 1,000 calls each: the calls that
-//! `interface/checks/speed.c` measures of the C library, with a reused buffer.
+//! `bindings/c/checks/speed.c` measures of the C library, with a reused buffer.
 
 use std::fmt::Write;
 use std::hint::black_box;

@@ -32,7 +32,7 @@ def compared(rows, answers):
 
 
 def answers_of_program(command, rows):
-    """Returns the answers of a program that reads records and writes lines (see interface/checks/vectors.c)."""
+    """Returns the answers of a program that reads records and writes lines (see bindings/c/checks/vectors.c)."""
     records = [" ".join(row.words) + (f' "{row.text}' if row.text is not None else "") for row in rows]
     given = "".join(record + "\0" for record in records).encode()
     ran = subprocess.run(command, input=given, stdout=subprocess.PIPE, check=True)

@@ -1,4 +1,4 @@
-"""The extension module, in interface/python/native."""
+"""The extension module, in bindings/python/native."""
 
 from typing import TypeAlias
 

@@ -54,7 +54,7 @@ def from_pkg_config():
 
 def from_repository():
     root = os.path.dirname(os.path.dirname(HERE))
-    return pair(os.path.join(root, "interface", HEADER), os.path.join(root, "crates/byte_unit_c/out/libbyte_unit_c.a"))
+    return pair(os.path.join(root, "bindings/c", HEADER), os.path.join(root, "crates/byte_unit_c/out/libbyte_unit_c.a"))
 
 
 def version_of(header):
