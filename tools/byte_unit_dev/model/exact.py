@@ -1,7 +1,6 @@
 """A reference model of the program: the output for a line, computed with integers of any length.
 
-Follows docs/DEFINITIONS.md and shares no code with the crates. `tools/at-scale` and `tools/callers` compare the built code
-with it.
+Follows docs/DEFINITIONS.md and shares no code with the crates. The tests compare the built code with it.
 """
 
 import re

@@ -1,6 +1,6 @@
 """Generates random lines: short and long numbers, valid and invalid units, white space, and bytes that are not UTF-8."""
 
-from exact_model import LETTERS
+from .exact import LETTERS
 
 WORDS = ["", "B", "b", "bit", "bits", "BIT", "bItS", "bi", "bitx", "byte"]
 ODD = ["", " ", "\t", "x", "-1", "+1", ".5", "1.", "1 .5", "1,000", "1_000", "1e3", "é", "1é", "1 Ké", "1😀", "\ufeff1"]

@@ -1,0 +1,60 @@
+"""What the tests of bindings, command and tools share: options, the built library, and the way to report."""
+
+import os
+import random
+import sys
+
+import pytest
+
+ROOT = os.path.dirname(os.path.realpath(__file__))
+sys.dont_write_bytecode = True
+sys.path.insert(0, os.path.join(ROOT, "tools"))
+
+from byte_unit_dev.common import call  # noqa: E402
+from byte_unit_dev.model.lines import some_line  # noqa: E402
+
+
+def pytest_addoption(parser):
+    parser.addoption("--after-ci", action="store_true", help="use the libraries and programs that rt ci has built")
+    parser.addoption("--lines", type=int, default=4000, help="the number of generated lines")
+    parser.addoption("--seed", type=int, default=1, help="chooses what is generated")
+
+
+@pytest.fixture(scope="session")
+def library(request, tmp_path_factory):
+    """A folder with libbyte_unit.a, byte_unit.h and what else `tools/make-libraries` makes."""
+    folder = str(tmp_path_factory.mktemp("library"))
+    words = ["--after-ci"] * request.config.getoption("after_ci")
+    made = call(os.path.join(ROOT, "tools/make-libraries"), *words, folder)
+    assert made.returncode == 0, made.stdout
+    return folder
+
+
+@pytest.fixture(scope="session")
+def rng(request):
+    return random.Random(request.config.getoption("seed"))
+
+
+@pytest.fixture(scope="session")
+def lines(request, rng):
+    """Generated lines, without their ends."""
+    return [some_line(rng) for _ in range(request.config.getoption("lines"))]
+
+
+def pytest_terminal_summary(terminalreporter):
+    """Prints a line for each reason of a skip, with the first test of it."""
+    reasons = {}
+    for report in terminalreporter.stats.get("skipped", []):
+        reasons.setdefault(report.longrepr[2].removeprefix("Skipped: "), []).append(report.nodeid.rpartition("/")[2])
+    for reason, names in reasons.items():
+        more = f" and {len(names) - 1} more" if len(names) > 1 else ""
+        terminalreporter.write_line(f"skipped: {names[0]}{more}: {reason}")
+
+
+def pytest_unconfigure(config):
+    """Prints the last line, in the form that the gate counts."""
+    reporter = config.pluginmanager.get_plugin("terminalreporter")
+    if reporter and reporter.stats:
+        passed, skipped = (len(reporter.stats.get(name, [])) for name in ("passed", "skipped"))
+        failed = len(reporter.stats.get("failed", [])) + len(reporter.stats.get("error", []))
+        print(f"{passed} passed, {failed} failed" + f", {skipped} skipped" * (skipped > 0))

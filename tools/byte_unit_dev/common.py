@@ -1,0 +1,69 @@
+"""What all commands share: the repository's files, calls of other programs, and the way to report."""
+
+import os
+import shutil
+import subprocess
+import sys
+
+ROOT = os.path.dirname(os.path.dirname(os.path.dirname(os.path.realpath(__file__))))
+
+
+class Failure(Exception):
+    """What stops a command, in one line, which `tools/dev` prints before it exits with status 1."""
+
+
+def path(*parts):
+    """Returns the absolute path of a file of the repository."""
+    return os.path.join(ROOT, *parts)
+
+
+def read(name):
+    """Returns the text of a file, named from the top of the repository or by its absolute path."""
+    try:
+        with open(path(name), encoding="utf-8") as file:
+            return file.read()
+    except OSError as error:
+        raise Failure(f"{name}: {error.strerror}") from None
+
+
+def write(name, text):
+    """Writes a file, named in the same way, and makes its folder if need be."""
+    os.makedirs(os.path.dirname(path(name)), exist_ok=True)
+    with open(path(name), "w", encoding="utf-8") as file:
+        file.write(text)
+
+
+def call(*words, **more):
+    """Runs a program. Returns its status and its output, as text, with its errors in it unless `more` says otherwise."""
+    how = {"stdout": subprocess.PIPE, "stderr": subprocess.STDOUT, "encoding": "utf-8", "errors": "replace"}
+    return subprocess.run([str(word) for word in words], check=False, **{**how, **more})
+
+
+def output(*words, **more):
+    """Runs a program that has to succeed, and returns its output."""
+    got = call(*words, **more)
+    if got.returncode:
+        raise Failure(f"status {got.returncode} of {' '.join(map(str, words))}\n{got.stdout}{got.stderr or ''}")
+    return got.stdout
+
+
+def files():
+    """Returns the names of the files that git has or does not ignore, in order, without those that are deleted."""
+    listed = output("git", "ls-files", "--cached", "--others", "--exclude-standard", cwd=ROOT).splitlines()
+    return sorted(name for name in set(listed) if os.path.isfile(path(name)))
+
+
+def has_program(name):
+    return shutil.which(name) is not None
+
+
+def report(findings, fine):
+    """Prints each finding, or what is fine if there is none. Returns the exit status."""
+    print("\n".join(findings) if findings else fine, flush=True)
+    return 1 if findings else 0
+
+
+def fail(message):
+    """Prints a message to standard error, and returns the exit status 1."""
+    print(message, file=sys.stderr, flush=True)
+    return 1

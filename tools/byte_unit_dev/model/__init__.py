@@ -1,0 +1,1 @@
+"""Exact models of the programs, and generated inputs for them."""

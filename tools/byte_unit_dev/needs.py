@@ -1,0 +1,86 @@
+"""Installs the Debian packages that the tests need, as root, and prints which could not be installed.
+
+The exit status is 0 all the same: a test whose program or file is still missing then is skipped, and says so.
+"""
+
+import functools
+import glob
+import os
+import shutil
+import sys
+
+from .common import call
+
+DEBIAN_RUST = "/usr/share/cargo/registry"
+DEBIAN_PYTHON = "/usr/bin/python3"
+# What tests need, and the package that has it. A need is a program; a file, if it begins with a slash; a C header; or a
+# module of Debian's Python.
+PACKAGES = {
+    "cc": "gcc", "gcc": "gcc", "g++": "g++", "clang": "clang", "clang++": "clang", "ld.lld": "lld",
+    "musl-gcc": "musl-tools", "nm": "binutils", "readelf": "binutils", "pkg-config": "pkg-config", "mandoc": "mandoc",
+    "qemu-x86_64": "qemu-user", "sqlite3": "sqlite3", "sqlite3ext.h": "libsqlite3-dev", "mypy": "mypy",
+    "Python.h": "python3-dev", "import setuptools": "python3-setuptools", "import wheel": "python3-wheel",
+    "import ensurepip": "python3-venv", "import pip": "python3-pip", "import pytest": "python3-pytest",
+    "import hypothesis": "python3-hypothesis", "import numpy": "python3-numpy", "import pandas": "python3-pandas",
+    "import dask.dataframe": "python3-dask", "cargo": "cargo", "rustc": "rustc", "/usr/bin/cargo": "cargo",
+    "/usr/bin/rustc": "rustc", "cargo-clippy": "rust-clippy", "cargo-fmt": "rustfmt",
+    f"{DEBIAN_RUST}/serde_json-*": "librust-serde-json-dev", f"{DEBIAN_RUST}/serde-*": "librust-serde-dev",
+    f"{DEBIAN_RUST}/toml-*": "librust-toml-dev",
+}
+# What only measurements need.
+COMPARED = {
+    f"{DEBIAN_RUST}/rust_decimal-*": "librust-rust-decimal-dev", f"{DEBIAN_RUST}/utf8-width-*": "librust-utf8-width-dev",
+    "import humanfriendly": "python3-humanfriendly", "import humanize": "python3-humanize", "valgrind": "valgrind",
+}
+PYTHON_PACKAGE = ["Python.h", "import setuptools", "import wheel", "import ensurepip", "import pip", "gcc", "pkg-config"]
+
+
+@functools.lru_cache(maxsize=None)
+def is_there(need):
+    """Tells whether what is needed is there."""
+    if need.startswith("/"):
+        return bool(glob.glob(need))
+    if need.startswith("import "):
+        return os.path.exists(DEBIAN_PYTHON) and call(DEBIAN_PYTHON, "-c", need).returncode == 0
+    if need == "Python.h":
+        return bool(glob.glob("/usr/include/python3.*/Python.h"))
+    if need.endswith(".h"):
+        compilers = filter(shutil.which, ("gcc", "clang"))
+        return any(call(cc, "-E", "-", input=f"#include <{need}>\n").returncode == 0 for cc in compilers)
+    return shutil.which(need) is not None
+
+
+def need(*needs):
+    """Skips the test that calls this if something that it needs is missing."""
+    import pytest
+
+    for name in needs:
+        if not is_there(name):
+            tried = "BYTE_UNIT_SETUP" in os.environ
+            why = "could not be installed" if tried else f"is missing (Debian: {({**PACKAGES, **COMPARED})[name]})"
+            pytest.skip(f"{name.removeprefix('import ')} {why}")
+
+
+def installed(packages):
+    """Installs packages, if need be with new lists of packages, then one by one. Returns those that fail."""
+    if not shutil.which("apt-get"):
+        return packages
+    words = ["apt-get", "install", "--yes", "--quiet", "--no-install-recommends"]
+
+    def fails(*names):
+        return call(*words, *names, stdin=-3).returncode != 0
+
+    if not fails(*packages) or call("apt-get", "update", "--quiet").returncode == 0 and not fails(*packages):
+        return []
+    return [package for package in packages if fails(package)]
+
+
+def arguments(parser):
+    parser.add_argument("--compared", action="store_true", help="also what only measurements need")
+
+
+def run(given):
+    wanted = {**PACKAGES, **(COMPARED if given.compared else {})}
+    left = installed(sorted({package for need, package in wanted.items() if not is_there(need)}))
+    if left:
+        print(f"these packages could not be installed: {' '.join(left)}", file=sys.stderr)

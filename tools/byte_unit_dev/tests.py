@@ -1,0 +1,54 @@
+"""Runs the tests of what is not proved, by pytest: bindings, command, program, tools.
+
+    tools/dev test [--after-ci] [--lines N] [--seed S] [PART..] [-- PYTEST'S ARGUMENTS]
+
+Without a part, runs all. A test is skipped only if a program or file that it needs is missing; a line that begins with
+`skipped: ` names it. The last line is `N passed, N failed`, with `, N skipped` after it if some were.
+"""
+
+import os
+import sys
+
+from .common import Failure, ROOT, call, has_program, path
+
+PARTS = {
+    "header": "bindings/c/test_header.py",
+    "c": "bindings/c/test_c.py",
+    "install": "bindings/c/test_install.py",
+    "python": "bindings/python/test_python.py",
+    "rust": "bindings/rust/test_rust.py",
+    "sqlite": "bindings/sqlite/test_sqlite.py",
+    "vectors": "vectors/test_vectors.py",
+    "command": "command/tests",
+    "scale": "tools/tests/test_scale.py",
+    "memory": "tools/tests/test_memory.py",
+    "take": "tools/tests/test_take.py",
+}
+
+
+def arguments(parser):
+    parser.usage = "tools/dev test [--after-ci] [--lines N] [--seed S] [PART..] [-- PYTEST'S ARGUMENTS]"
+    parser.add_argument("--after-ci", action="store_true", help="use the libraries and programs that rt ci has built")
+    parser.add_argument("--lines", type=int, default=4000, help="the number of generated lines")
+    parser.add_argument("--seed", type=int, default=1, help="chooses what is generated")
+    parser.add_argument("parts", nargs="*", metavar="PART", help=" ".join(PARTS))
+
+
+def interpreter():
+    """Returns a Python that has pytest and hypothesis: Debian's packages are for Debian's Python."""
+    for name in (sys.executable, "/usr/bin/python3"):
+        if has_program(name) and call(name, "-c", "import pytest, hypothesis").returncode == 0:
+            return name
+    raise Failure("no Python has pytest and hypothesis (Debian: python3-pytest, python3-hypothesis)")
+
+
+def run(given):
+    parts = [word for word in given.parts if not word.startswith("-")]
+    wrong = [part for part in parts if part not in PARTS]
+    if wrong:
+        raise Failure(f"'{wrong[0]}' is no part; these are: {' '.join(PARTS)}")
+    words = [f"--lines={given.lines}", f"--seed={given.seed}", *["--after-ci"] * given.after_ci]
+    words += [word for word in given.parts if word.startswith("-")]
+    chosen = [path(PARTS[part]) for part in parts or PARTS]
+    os.chdir(ROOT)
+    return call(interpreter(), "-B", "-m", "pytest", *words, *chosen, stdout=None, stderr=None).returncode
