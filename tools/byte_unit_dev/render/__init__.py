@@ -31,7 +31,7 @@ def arguments(parser):
 
 def difference(name, text):
     """Returns the line number of the first difference of a file from its text, and the two lines; or None."""
-    found = read(name) if os.path.exists(path(name)) else ""
+    found = read(name) if os.path.exists(path(name)) else "no such file" * bool(text)
     lines = enumerate(zip_longest(text.split("\n"), found.split("\n"), fillvalue="the end"), 1)
     return next(((number, *pair) for number, pair in lines if pair[0] != pair[1]), None)
 
@@ -51,8 +51,8 @@ def wrong(part, check):
             differs = difference(name, text)
             if differs and check:
                 number, want, find = differs
-                yield (f"{name}:{number}: differs from what is rendered; run tools/dev render {part}\n"
-                       f"  rendered: {want}\n  found:    {find}")
+                why = "differs from what is rendered" if text else "is rendered from no file"
+                yield f"{name}:{number}: {why}; run tools/dev render {part}\n  rendered: {want}\n  found:    {find}"
             elif differs:
                 yield put(name, text)
     except Failure as failure:

@@ -61,7 +61,7 @@ def evaluated(file, start, end, local):
     def python(token):
         kind, text = token.lastgroup, token[token.lastgroup or 0]
         if kind == "other":
-            raise file.wrong(start, f"no literal: {text}")
+            raise file.wrong(start + token.start(), f"no literal: {text}")
         if kind in ("text", "character"):
             return repr(re.sub(r"\\u\{(\w+)\}|\\(.)", lambda escape: chr(int(escape[1], 16)) if escape[1] else
                                ESCAPES.get(escape[2], escape[2]), text, flags=re.S))
