@@ -106,7 +106,7 @@ def in_rattle():
     for file in sources("byte_unit_c"):
         for found in file.blocks(r"\bpub extern +fn\b"):
             signature, clauses = file.function(found.start())
-            assert not [clause for clause in clauses if clause.startswith("requires")], f"{file.name}: {signature}"
+            assert not [one for one in clauses if one.startswith("requires")], f"{file.name}: precondition: {signature}"
             rust.add(in_rust(signature))
             header.update(calls_in_c(in_rust(signature)))
         for name, fields in structs(file.plain):
