@@ -141,7 +141,7 @@ class Source:
         return "".join(re.findall(r"^ */// ?(.*\n)" if words else r"^//! ?(.*\n)", self.text[doc:start], re.M))
 
     def part(self, words):
-        """Returns a part of the file: an item, or what `docs/GUIDE.md` names, as `render.guide` lists it."""
+        """Returns a part of the file, in the words that `guide` of render/pages.py lists."""
         kind, _, rest = words.partition(" ")
         if kind in LINES:
             text = "\n".join(re.findall(LINES[kind], self.text, re.M))

@@ -148,11 +148,15 @@ def crate(name):
     return texts, {**mutants, **more}
 
 
-def mutant_in_bits(title, text):
-    edited = re.match(r"file: (\S+)\n", text)
-    if not edited:
-        raise Failure(f"{SOURCE}: the first line of the mutant {title} names no file")
-    return f"file: {named(edited[1])}\n{in_bits(edited[1], text[edited.end():], is_whole=False)}"
+def mutants_in_bits(mutants):
+    """Returns the rendered mutants by their titles."""
+    found = {}
+    for title, text in mutants.items():
+        edited = re.match(r"file: (\S+)\n", text)
+        if not edited:
+            raise Failure(f"{SOURCE}: the first line of the mutant {title} names no file")
+        found[named(title)] = f"file: {named(edited[1])}\n" + in_bits(edited[1], text[edited.end():], is_whole=False)
+    return found
 
 
 def misfits(name, texts, mutants):
@@ -176,12 +180,12 @@ def made():
     byte_unit_byte alone; modules of byte_unit_serde and their proofs. A mutant of either crate that cannot be applied,
     because its old text is not in its file exactly once, is a failure."""
     texts, mutants = crate(SOURCE)
-    unknown = [name for name in [*DIFFERENCES, *WITHOUT] if name not in {**texts, **mutants}]
-    mutants_left = {title: text for title, text in mutants.items() if title not in WITHOUT}
     made_texts = {named(name): head("//", f"{SOURCE}/{name}") + in_bits(
         name, constants(text) if name == CONSTANTS else text) for name, text in texts.items()}
-    made_mutants = {named(title): mutant_in_bits(title, text) for title, text in mutants_left.items()}
-    if unknown or (len(made_texts), len(made_mutants)) != (len(texts), len(mutants_left)):
+    left = {title: text for title, text in mutants.items() if title not in WITHOUT}
+    made_mutants = mutants_in_bits(left)
+    unknown = [name for name in [*DIFFERENCES, *WITHOUT] if name not in {**texts, **mutants}]
+    if unknown or (len(made_texts), len(made_mutants)) != (len(texts), len(left)):
         raise Failure(f"{SOURCE}: two are rendered by one name, or bits.py has rows for what is not there: {unknown}")
     catalogue = joined(head("#", f"the mutants of {SOURCE}"), made_mutants)
     there = [name.removeprefix(f"{TARGET}/") for name in files() if name.startswith(f"{TARGET}/")]

@@ -118,7 +118,7 @@ def others():
 
 
 def made():
-    """The files that the contracts of what `byte_unit` exports lead to, with the first sentence of each, and comments of
+    """The files that the contracts of what `byte_unit` exports lead to, with the first sentence of each and comments of
     its properties (their names begin with a capital) that contracts of SAID cite; those that only laws lead to, and
     fields that follow from others (FOLLOWS); those, and definitions in files to read, that no public contract leads to;
     those of other crates but EXAMPLES. A definition leads to those that it uses. A file of the library that says it is

@@ -1,10 +1,8 @@
 """Renders parts of pages: what follows the first paragraph of a section, and blocks of code."""
 
-import ast
-import os
 import re
 
-from .. import verbs
+from .. import tests, verbs
 from ..common import Failure, files, read
 from ..source import line_of, source
 
@@ -83,14 +81,10 @@ def guide(page="docs/GUIDE.md"):
 
 
 def tools(page="CONTRIBUTING.md"):
-    """The commands, with the first sentence of each, and the parts that it lists in its docstring or in PARTS."""
+    """The commands, with the first sentence of each, and the parts that its docstring lists, or PARTS of the tests."""
     rows = ["Command | What it does", "---|---"]
     for verb in verbs.VERBS:
         module = verbs.module_of(verb)
-        parts = ", ".join(f"`{part}`" for part in getattr(module, "PARTS", PART.findall(module.__doc__)))
-        rows.append(f"`tools/dev {verb}` | {verbs.sentence_of(module.__doc__)}" + f": {parts}" * bool(parts))
-    for name in files():
-        if os.path.dirname(name) == "tools" and name != "tools/dev" and read(name).startswith("#!"):
-            said = ast.get_docstring(ast.parse(read(name))) or f"{name}: no docstring"
-            rows.append(f"`{name}` | {verbs.sentence_of(said)}")
+        parts = ", ".join(f"`{part}`" for part in (tests.PARTS if module is tests else PART.findall(module.__doc__)))
+        rows.append(f"`tools/dev {verb}` | {verbs.sentence_of(module.__doc__)}" + f" ({parts})" * bool(parts))
     yield page, with_parts(page, section("Tools", "\n".join(["<!-- tools: rendered -->", "", *rows])))
