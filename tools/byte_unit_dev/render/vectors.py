@@ -40,9 +40,9 @@ def shown(value):
     if isinstance(value, Name):
         makers = {"Unit": lambda c, expected, or_end: f"Unit {quoted(c)} [{''.join(expected)}]" + " end" * or_end,
                   "Exceeded": lambda *number: f"ExceededBounds {decimal(*number)}",
-                  "NotNumber": lambda c: f"NotNumber {quoted(c)}"}
+                  "NotNumber": lambda c: f"NotNumber {quoted(c)}", "Some": shown, "Size": shown}
         if value.arguments:
-            return makers.get(value.last, shown)(*value.arguments)
+            return makers[value.last](*value.arguments)
         return UNITS.get(value, "none" if value == "None" else value.last)
     if isinstance(value, tuple):
         return decimal(*value) if isinstance(value[1], int) else " ".join(map(shown, value))
