@@ -1,32 +1,25 @@
-"""Reads the sources of the crates: items and contracts of `.rt` files, definitions of `.antt` files.
+"""Reads the sources of the crates.
 
-`Source` is a file of Rattle: its items with their comments, signatures and clauses. `Spec` is a file of definitions:
-its head comment, its imports, and its definitions, each with its comment and the words that it uses.
+`Source` is a file of Rattle: its items with their comments, signatures and clauses. `Spec` is a file of definitions
+(`.antt`): its head comment, its imports, and its definitions, each with its comment and the words that it uses.
 """
 
 import functools
+import glob
 import os
 import re
+import textwrap
 
-ROOT = os.path.dirname(os.path.dirname(os.path.dirname(os.path.realpath(__file__))))
+from .common import Failure, path, read
+
 STRING = r'"(?:\\.|[^"\\])*"|\'(?:\\.[^\']*|[^\'\\])\''
 QUOTED = re.compile(rf"//[^\n]*|{STRING}", re.S)
 WORD = re.compile(r"[^\W\d][\w\-]*")
 # The first line of a definition, with its name. Its kind, such as `abbrev` or `record`, is before or after `pub`.
 DEFINITION = re.compile(r"^(?:[a-z]+ )?pub (?!mod |use )(?:[a-z]+ )?([^\s:(){}]+)", re.M)
 COMMENT = r"(?:^--(?: .*)?\n)*"
-
-
-class SourceError(Exception):
-    """What is wrong with a source, in one line."""
-
-
-def read(name):
-    try:
-        with open(os.path.join(ROOT, name), encoding="utf-8") as file:
-            return file.read()
-    except OSError as error:
-        raise SourceError(f"{name}: {error.strerror}") from None
+# Parts of a file that are all its lines of a form.
+LINES = {"imports": r"^(?:ghost |pub )?use\b[^;]*;$", "attributes": r"^#!\[.*\]$"}
 
 
 def line_of(text):
@@ -40,15 +33,16 @@ def sentence_of(text):
 
 def files(folder, ending):
     """Returns the names of the files with this ending below a folder, in order."""
-    names = []
-    for place, _, found in os.walk(os.path.join(ROOT, folder)):
-        names += [os.path.relpath(os.path.join(place, name), ROOT) for name in found if name.endswith(ending)]
-    return sorted(names)
+    return sorted(f"{folder}/{name}" for name in glob.glob(f"**/*{ending}", root_dir=path(folder), recursive=True))
+
+
+def is_crate(name):
+    return os.path.isdir(path("crates", name))
 
 
 class Source:
-    """A file of Rattle. `plain` is its text with spaces for comments; `code` has them for strings, too, so that each
-    bracket in it is one of the code."""
+    """A file of Rattle, or of Rust. `plain` is its text with spaces for comments; `code` has them for strings, too, so
+    that each bracket in it is one of the code."""
 
     def __init__(self, name):
         def blank(found):
@@ -57,6 +51,11 @@ class Source:
         self.name, self.text = name, read(name)
         self.plain = QUOTED.sub(lambda found: blank(found) if found[0][0] == "/" else found[0], self.text)
         self.code = QUOTED.sub(blank, self.text)
+        self.imports = imports_of(self.text)
+
+    def wrong(self, start, why):
+        """Returns the failure at this place."""
+        return Failure(f"{self.name}:{1 + self.text.count(chr(10), 0, start)}: {why}")
 
     def closing(self, start):
         """Returns the place after the bracket that closes the one at `start`."""
@@ -65,29 +64,24 @@ class Source:
             depth += 1 if found[0] in "([{" else -1
             if depth == 0:
                 return found.end()
-        raise SourceError(f"{self.name}: a bracket is not closed: {line_of(self.text[start:start + 80])}")
+        raise self.wrong(start, "a bracket is not closed")
 
     def above(self, start, mark):
-        """Returns the place of the first of the lines before `start` that all begin with `mark`."""
-        lines = self.text[:start].splitlines(keepends=True)
-        while lines and lines[-1].lstrip().startswith(mark):
-            start -= len(lines.pop())
+        """Returns the place of the first of the lines before `start` that all begin with `mark`, or one of several."""
+        for line in reversed(self.text[:start].splitlines(keepends=True)):
+            if not line.lstrip().startswith(mark):
+                break
+            start -= len(line)
         return start
 
     def blocks(self, pattern, start=0, end=None):
         """Yields each match of the pattern outside the braces between the two places."""
         end = len(self.code) if end is None else end
-        finder = re.compile(pattern, re.M)
-        while start < end:
-            brace = self.code.find("{", start, end)
-            found = finder.search(self.code, start, end)
-            if found and (brace < 0 or found.start() < brace):
+        finder = re.compile(rf"{pattern}|(?P<brace>\{{)", re.M)
+        while found := finder.search(self.code, start, end):
+            start = self.closing(found.start()) if found["brace"] else found.end()
+            if not found["brace"]:
                 yield found
-                start = found.end()
-            elif brace < 0:
-                return
-            else:
-                start = self.closing(brace)
 
     def impls(self):
         """Yields the header of each `impl`, and where its body starts and ends."""
@@ -124,7 +118,7 @@ class Source:
             goes_on = re.compile(r"\s*(?:[{;]|ensures\b|requires\b)").match(self.code, start)
             if found[0] == ";" or found[0] == "{" and not goes_on:
                 return start
-        raise SourceError(f"{self.name}: an item does not end")
+        raise self.wrong(start, "an item does not end")
 
     def item(self, words):
         """Returns where the doc comment of an item starts, where its attributes start, and where it ends.
@@ -137,22 +131,34 @@ class Source:
         pattern = re.compile(rf"^ *(?:pub(?:\(\w+\))? )?{kind} {name}\b", re.M)
         places = [found.start() for start, end in within for found in pattern.finditer(self.code, start, end)]
         if len(places) != 1:
-            raise SourceError(f"{self.name}: {len(places)} items are `{words}`, not one")
+            raise Failure(f"{self.name}: {len(places)} items are `{words}`, not one")
         start = self.above(places[0], "#[")
         return self.above(start, "///"), start, self.end_of(places[0])
 
-    def comment(self, words):
-        """Returns the doc comment of an item, named as for `item`, as one line."""
-        doc, start, _ = self.item(words)
-        return line_of(re.sub(r"^ */// ?", "", self.text[doc:start], flags=re.M))
+    def comment(self, words=""):
+        """Returns the doc comment of an item, named as for `item`, or else of the module, without its marks."""
+        doc, start, _ = self.item(words) if words else (0, len(self.text), 0)
+        return "".join(re.findall(r"^ */// ?(.*\n)" if words else r"^//! ?(.*\n)", self.text[doc:start], re.M))
 
-    def imports(self):
-        """Returns the words of definitions that the file imports: each with its crate, module and name."""
-        return imports_of(self.text)
+    def part(self, words):
+        """Returns a part of the file, in the words that `guide` of render/pages.py lists."""
+        kind, _, rest = words.partition(" ")
+        if kind in LINES:
+            text = "\n".join(re.findall(LINES[kind], self.text, re.M))
+        elif kind == "example":
+            text = "\n".join(re.findall(r"^```rust\n(.*?)^```", self.comment(rest), re.M | re.S))
+        else:
+            _, start, end = self.item(rest if kind == "body" else words)
+            text = textwrap.dedent(self.text[start:end])
+        if kind == "body":
+            text = "".join(re.findall(r"^(?:\S.* )?\{\n(.*)^\}", text, re.M | re.S))
+        if not text:
+            raise Failure(f"{self.name}: nothing is in `{words}`")
+        return textwrap.dedent(text).rstrip() + "\n"
 
 
 def imports_of(text):
-    """Returns the words that a file imports from definitions, by their name in the file."""
+    """Returns the words of definitions that a file imports: by its name for each the crate, module and name."""
     words = {}
     for crate, module, names in re.findall(r"\buse Rattle\.(\w+)\.specs\.([\w.]+)\.\{([^}]*)\}", text):
         for name in re.split(r",\s*", line_of(names)):
@@ -192,8 +198,8 @@ class Spec:
 
     def find(self, after_head):
         """Returns the definitions in their order. One that opens the file has the head as its comment."""
-        found = [(match, re.search(rf"{COMMENT}\Z", self.text[:match.start()], re.M)) for match in
-                 DEFINITION.finditer(self.text)]
+        found = [(match, re.search(rf"{COMMENT}\Z", self.text[:match.start()], re.M))
+                 for match in DEFINITION.finditer(self.text)]
         ends = [comment.start() for _, comment in found[1:]] + [len(self.text)]
         made = {}
         for (match, comment), end in zip(found, ends):
@@ -226,20 +232,18 @@ def specs(crate):
     found = {spec.module: spec for spec in map(Spec, files(f"crates/{crate}/specs", ".antt"))}
     library = found.pop("Lib", None)
     order = re.findall(r"^pub mod (\w+)", library.text, re.M) if library else []
-    return {module: found[module] for module in sorted(found, key=lambda name: (
-        order.index(name) if name in order else len(order), name))}
+    places = {name: place for place, name in enumerate(order)}
+    return dict(sorted(found.items(), key=lambda item: (places.get(item[0], len(order)), item[0])))
 
 
 def home_of_spec(crate, module):
     """Returns the crate and module that a path of imports leads to, through the `Lib` of a crate that exports it."""
     if module in specs(crate):
         return crate, module
-    library = f"crates/{crate}/specs/Lib.antt"
-    if os.path.isfile(os.path.join(ROOT, library)):
-        for target, name in re.findall(r"^pub use Rattle\.(\w+)\.specs\.(\w+)$", read(library), re.M):
-            if name == module:
-                return home_of_spec(target, name)
-    return None
+    library = path("crates", crate, "specs/Lib.antt")
+    pattern = rf"^pub use Rattle\.(\w+)\.specs\.{re.escape(module)}$"
+    found = re.search(pattern, read(library), re.M) if os.path.isfile(library) else None
+    return found and home_of_spec(found[1], module)
 
 
 def resolved(words, imports, own=None):
@@ -249,11 +253,10 @@ def resolved(words, imports, own=None):
             yield own.crate, own.module, own.maker(word)
         elif word in imports:
             crate, module, name = imports[word]
-            home = home_of_spec(crate, module) if os.path.isdir(os.path.join(ROOT, "crates", crate)) else None
-            if home:
-                maker = specs(home[0])[home[1]].maker(name)
-                if maker:
-                    yield *home, maker
+            home = home_of_spec(crate, module) if is_crate(crate) else None
+            maker = home and specs(home[0])[home[1]].maker(name)
+            if maker:
+                yield *home, maker
 
 
 def closure(found, without=()):
@@ -268,39 +271,14 @@ def closure(found, without=()):
     return reached
 
 
-def exported_uses(text):
-    """Yields each name that a file exports from elsewhere, with the path that it comes from."""
-    for found in re.finditer(r"pub use ((?:\w+::)+)(?:\{([^}]*)\}|(\w+));", text):
-        for name in re.split(r"[,\s]+", found[2] or found[3]):
-            if name:
-                yield name, found[1].rstrip(":").split("::")
-
-
-def is_crate(name):
-    return os.path.isdir(os.path.join(ROOT, "crates", name))
-
-
-def home(path, name, depth=0):
-    """Returns the file in which an exported item is defined, or None for an item of std."""
-    folder = f"crates/{path[0]}/src"
-    if not is_crate(path[0]):
-        return None
-    file = source(("/".join([folder, *path[1:]]) if path[1:] else f"{folder}/lib") + ".rt")
-    if re.search(rf"^pub (?:struct|enum|trait|fn) {name}\b", file.code, re.M):
-        return file
-    for exported, target in exported_uses(file.plain):
-        if exported == name and depth < 9:
-            full = [path[0], *target[1:]] if target[0] == "crate" else [path[0], *path[1:], *target]
-            return home(target if is_crate(target[0]) else full, name, depth + 1)
-    raise SourceError(f"{file.name}: neither defines nor exports {name}")
-
-
 def exports(crate, module="lib"):
-    """Returns the files of what a module exports from elsewhere, by name, in its order."""
-    found = {}
-    path = [crate] if module == "lib" else [crate, module]
-    for name, target in exported_uses(source(f"crates/{crate}/src/{module}.rt").plain):
-        file = home(target if is_crate(target[0]) or target[0] == "std" else [crate, *target], name)
-        if file:
-            found[name] = file
+    """Returns the files that define what a module exports from elsewhere but std, by name, in its order."""
+    file, found = source(f"crates/{crate}/src/{module}.rt"), {}
+    for use in re.finditer(r"pub use (\w+)::(?:\w+::)*(?:\{([^}]*)\}|(\w+));", file.plain):
+        for name in re.findall(r"\w+", use[2] or use[3]) if use[1] != "std" else []:
+            homes = [home for home in sources(use[1] if is_crate(use[1]) else crate)
+                     if re.search(rf"^pub (?:struct|enum|trait|fn) {name}\b", home.code, re.M)]
+            if len(homes) != 1:
+                raise file.wrong(use.start(), f"{len(homes)} files define {name}, not one")
+            found[name] = homes[0]
     return found

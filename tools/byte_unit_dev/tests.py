@@ -39,7 +39,15 @@ def interpreter():
     for name in (sys.executable, "/usr/bin/python3"):
         if has_program(name) and call(name, "-c", "import pytest, hypothesis").returncode == 0:
             return name
-    raise Failure("no Python has pytest and hypothesis (Debian: python3-pytest, python3-hypothesis)")
+    return None
+
+
+def without_pytest(parts):
+    """Skips the parts, if `tools/dev setup` could not install what is missing."""
+    missing = "no Python has pytest and hypothesis (Debian: python3-pytest, python3-hypothesis)"
+    if "BYTE_UNIT_SETUP" not in os.environ:
+        raise Failure(missing)
+    print(*(f"skipped: {part}: {missing}" for part in parts), f"0 passed, 0 failed, {len(parts)} skipped", sep="\n")
 
 
 def run(given):
@@ -51,4 +59,7 @@ def run(given):
     words += [word for word in given.parts if word.startswith("-")]
     chosen = [path(PARTS[part]) for part in parts or PARTS]
     os.chdir(ROOT)
-    return call(interpreter(), "-B", "-m", "pytest", *words, *chosen, stdout=None, stderr=None).returncode
+    python = interpreter()
+    if not python:
+        return without_pytest(parts or PARTS)
+    return call(python, "-B", "-m", "pytest", *words, *chosen, stdout=None, stderr=None).returncode

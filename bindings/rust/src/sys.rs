@@ -1,5 +1,5 @@
-//! The declarations of `byte_unit.h` that this package calls, written by hand. `tools/check-header` compares them with
-//! the header.
+//! The declarations of `byte_unit.h` that this package calls, written by hand. `tools/dev test header` compares them
+//! with the Rattle code.
 
 /// `byte_unit_number`: `high * 2^64 + low`.
 #[repr(C)]

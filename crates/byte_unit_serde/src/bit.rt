@@ -1,4 +1,4 @@
-// Rendered from crates/byte_unit_serde/src/byte.rt by tools/mirror. Do not edit.
+// Rendered from crates/byte_unit_serde/src/byte.rt. Do not edit.
 //! A size in bits as a string, for `#[serde(with = "byte_unit_serde::bit")]`.
 
 ghost use Rattle.std.specs.Prelude.{false, IfOk, OnOk};

@@ -1,4 +1,4 @@
-// Rendered from crates/byte_unit_serde/src/byte_vec.rt by tools/mirror. Do not edit.
+// Rendered from crates/byte_unit_serde/src/byte_vec.rt. Do not edit.
 //! A list of sizes in bits as strings, for `#[serde(with = "byte_unit_serde::bit_vec")]`.
 
 ghost use Rattle.std.specs.Prelude.{false, IfErr, IfOk, OnOk};

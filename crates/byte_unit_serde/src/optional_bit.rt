@@ -1,4 +1,4 @@
-// Rendered from crates/byte_unit_serde/src/optional_byte.rt by tools/mirror. Do not edit.
+// Rendered from crates/byte_unit_serde/src/optional_byte.rt. Do not edit.
 //! A size in bits as a string, or nothing, for `#[serde(with = "byte_unit_serde::optional_bit", default)]`.
 
 ghost use Rattle.std.specs.Prelude.{false, IfOk, OnOk};

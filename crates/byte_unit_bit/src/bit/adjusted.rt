@@ -1,4 +1,4 @@
-// Rendered from crates/byte_unit_byte/src/byte/adjusted.rt by tools/mirror. Do not edit.
+// Rendered from crates/byte_unit_byte/src/byte/adjusted.rt. Do not edit.
 //! `AdjustedBit`, a size in bits with a unit for its text.
 
 ghost use Rattle.std.specs.Prelude.{◌≡◌, ◌*◌, ◌<◌, ℕ, List, length, IfOk};

@@ -1,4 +1,4 @@
-// Rendered from crates/byte_unit_byte/src/byte/parse.rt by tools/mirror. Do not edit.
+// Rendered from crates/byte_unit_byte/src/byte/parse.rt. Do not edit.
 //! Parsing of sizes in bits.
 
 ghost use Rattle.std.specs.Prelude.{false, take};

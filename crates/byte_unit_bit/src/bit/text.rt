@@ -1,4 +1,4 @@
-// Rendered from crates/byte_unit_byte/src/byte/text.rt by tools/mirror. Do not edit.
+// Rendered from crates/byte_unit_byte/src/byte/text.rt. Do not edit.
 //! Formatting of sizes in bits.
 
 ghost use Rattle.std.specs.Prelude.{◌≡◌, ◌<◌, ◌≤◌, ℕ, List, length, take, IfOk};

@@ -1,4 +1,4 @@
--- Rendered from crates/byte_unit_serde/proofs/byte/serialize/Answers.antt by tools/mirror. Do not edit.
+-- Rendered from crates/byte_unit_serde/proofs/byte/serialize/Answers.antt. Do not edit.
 -- A text that is UTF-8 is not rejected as bytes that are not.
 use Rattle.std.proofs.Common.{IsUtf8, arith, take, take_at, drop, length, ◌≡◌, ◌++◌, subst, sym, refl}
 use Rattle.byte_unit_serde.proofs.bit.serialize.Goals as goal

@@ -1,4 +1,4 @@
--- Rendered from crates/byte_unit_serde/proofs/byte_vec/deserialize/Answers.antt by tools/mirror. Do not edit.
+-- Rendered from crates/byte_unit_serde/proofs/byte_vec/deserialize/Answers.antt. Do not edit.
 -- Each iteration reads one more item as a size; the sequence ends after the last, or with an error.
 use Rattle.std.proofs.Common.{rules, false, ◌≡◌, [], ◌∷◌, ◌++◌, subst, sym, Err}
 use Rattle.serde.specs.Steps.{Stays}

@@ -1,4 +1,4 @@
--- Rendered from crates/byte_unit_serde/proofs/byte_vec/deserialize/Invariants.antt by tools/mirror. Do not edit.
+-- Rendered from crates/byte_unit_serde/proofs/byte_vec/deserialize/Invariants.antt. Do not edit.
 -- The items so far are the sizes that were read since the sequence began.
 use Rattle.std.proofs.Common.{false, ◌-◌, ◌^◌, length}
 use Rattle.byte_unit.specs.Accepted.{IsAccepted}

@@ -1,4 +1,4 @@
--- Rendered from crates/byte_unit_serde/proofs/byte_vec/serialize/Answers.antt by tools/mirror. Do not edit.
+-- Rendered from crates/byte_unit_serde/proofs/byte_vec/serialize/Answers.antt. Do not edit.
 -- Each iteration writes one more size; then the sequence is ended. The first error is returned.
 use Rattle.std.proofs.Common.{rules, ◌≡◌, length, subst, Ok, Err}
 use Rattle.std.proofs.lemmas.Result.{on_ok_weaker}

@@ -1,4 +1,4 @@
--- Rendered from crates/byte_unit_serde/proofs/byte_vec/serialize/Invariants.antt by tools/mirror. Do not edit.
+-- Rendered from crates/byte_unit_serde/proofs/byte_vec/serialize/Invariants.antt. Do not edit.
 -- The sizes before the index were written, and the others are left.
 use Rattle.std.proofs.Common.{take, drop}
 use Rattle.serde.specs.Event.{WritesEach}

@@ -1,4 +1,4 @@
--- Rendered from crates/byte_unit_serde/proofs/optional_byte/deserialize/Answers.antt by tools/mirror. Do not edit.
+-- Rendered from crates/byte_unit_serde/proofs/optional_byte/deserialize/Answers.antt. Do not edit.
 -- What is returned follows from whether the format gave nothing, and else from what was read.
 use Rattle.std.proofs.Common.{rules, true, false, Ok, Err, refl}
 use Rattle.byte_unit_serde.proofs.optional_bit.deserialize.Goals as goal

@@ -1,0 +1,65 @@
+"""Renders files, and parts of files, from the sources that own what they say.
+
+    bits         byte_unit_bit from byte_unit_byte, mutants included, and modules of byte_unit_serde
+    calling      the contracts in CALLING.md, from what `byte_unit` exports
+    definitions  the lists of docs/DEFINITIONS.md, from the definitions that contracts lead to
+    laws         the table of laws in docs/PROVED.md, from their comments
+    guide        the blocks of code in docs/GUIDE.md, from the sources that comments name
+    tools        the table of commands in CONTRIBUTING.md, from their docstrings
+    vectors      the rows of vectors/byte-unit.txt, from the tables of byte_unit_tests
+
+Without WHAT, renders all, in this order. In a page, what is rendered follows the first paragraph of a section. With
+--check writes nothing, and prints the first difference of each file; the exit status is then 1.
+"""
+
+import os
+from itertools import zip_longest
+
+from ..common import Failure, one_of, path, read, report, write
+from . import bits, calling, definitions, pages, vectors
+
+# Each yields the name and the text of each file that it renders, or no text for one that has to go, and may end by a
+# failure for what else is wrong.
+PARTS = {"bits": bits.made, "calling": calling.made, "definitions": definitions.made, "laws": pages.laws,
+         "guide": pages.guide, "tools": pages.tools, "vectors": vectors.made}
+
+
+def arguments(parser):
+    parser.add_argument("--check", action="store_true", help="write nothing, and fail if a file differs")
+    parser.add_argument("what", nargs="*", type=one_of(PARTS), metavar="WHAT")
+
+
+def difference(name, text):
+    """Returns the line number of the first difference of a file from its text, and the two lines; or None."""
+    found = read(name) if os.path.exists(path(name)) else "no such file" * bool(text)
+    lines = enumerate(zip_longest(text.split("\n"), found.split("\n"), fillvalue="the end"), 1)
+    return next(((number, *pair) for number, pair in lines if pair[0] != pair[1]), None)
+
+
+def put(name, text):
+    """Writes a file, or removes one that was rendered. Returns what is wrong then."""
+    if not text and "Rendered from" not in read(name).partition("\n")[0]:
+        return f"{name}:1: nothing renders this file, and its first line does not say that it is rendered"
+    print(f"{'rendered' if text else 'removed'} {name}")
+    return write(name, text) if text else os.remove(path(name))
+
+
+def wrong(part, check):
+    """Renders a part, and yields what is wrong."""
+    try:
+        for name, text in PARTS[part]():
+            differs = difference(name, text)
+            if differs and check:
+                number, want, find = differs
+                why = "differs from what is rendered" if text else "is rendered from no file"
+                yield f"{name}:{number}: {why}; run tools/dev render {part}\n  rendered: {want}\n  found:    {find}"
+            elif differs:
+                yield put(name, text)
+    except Failure as failure:
+        yield str(failure)
+
+
+def run(given):
+    parts = [part for part in PARTS if part in given.what or not given.what]
+    return report([line for part in parts for line in wrong(part, given.check) if line],
+                  f"as rendered: {', '.join(parts)}")

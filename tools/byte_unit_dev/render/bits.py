@@ -1,0 +1,202 @@
+"""The words and rows by which byte_unit_bit is rendered from byte_unit_byte, and modules of byte_unit_serde."""
+
+import os
+import re
+
+from ..catalogue import joined, split
+from ..common import Failure, files, read
+
+SOURCE, TARGET, CATALOGUE, MOST_COLUMNS = "crates/byte_unit_byte", "crates/byte_unit_bit", "mutants.edits", 120
+SERDE = re.compile(r"crates/byte_unit_serde/(?:src|proofs)/(byte|optional_byte|byte_vec)[/.].*")
+# The longest `field: value` that `rt fmt` leaves on one line with its struct.
+MOST_FIELD_COLUMNS = 18
+# The prefixes of units, with the beginnings of the constants' names.
+PREFIXES = {
+    "K": "KILO", "M": "MEGA", "G": "GIGA", "T": "TERA", "P": "PETA", "E": "EXA", "Z": "ZETTA", "Y": "YOTTA",
+    "R": "RONNA", "Ki": "KIBI", "Mi": "MEBI", "Gi": "GIBI", "Ti": "TEBI", "Pi": "PEBI", "Ei": "EXBI", "Zi": "ZEBI",
+    "Yi": "YOBI", "Ri": "ROBI",
+}
+
+
+def both_ways(pairs):
+    return {**pairs, **{bits: byte for byte, bits in pairs.items()}}
+
+
+# Words of code: names of the two crates, and symbols of units in texts.
+WORDS = {
+    "Byte": "Bit", "AdjustedByte": "AdjustedBit", "InBytes": "InBits", "byte": "bit", "get_byte": "get_bit",
+    "byte_constant": "bit_constant", "byte_bounds": "bit_bounds", "optional_byte": "optional_bit",
+    "byte_vec": "bit_vec", "B": "b", **{f"{prefix}B": f"{prefix}b" for prefix in PREFIXES},
+    **both_ways({
+        "Kind::Byte": "Kind::Bit", "allow_in_bits": "allow_in_bytes", "Unit::B": "Unit::Bit", "Unit.B": "Unit.Bit",
+        **{f"Unit::{prefix}B": f"Unit::{prefix}bit" for prefix in PREFIXES},
+        "BYTE": "BIT", **{f"{name}BYTE": f"{name}BIT" for name in PREFIXES.values()},
+    }),
+}
+# Words of comments. In code `bits` is a function, and `bytes` a parameter.
+WORDS_OF_COMMENTS = {**WORDS, **both_ways({"bytes": "bits", "byte": "bit"})}
+# Words of the comments of constants, which name units as `Unit` does.
+CONSTANTS = "src/byte/constants.rt"
+WORDS_OF_CONSTANTS = {**WORDS_OF_COMMENTS, **both_ways({f"{prefix}B": f"{prefix}bit" for prefix in PREFIXES})}
+# Words of the names of files and of mutants.
+WORDS_OF_NAMES = {**WORDS, **both_ways({f"{name}byte".lower(): f"{name}bit".lower() for name in PREFIXES.values()})}
+# Texts that both have.
+IN_BOTH = {"under the spec, in bytes: below": "under the spec, in bytes: below"}
+# What differs beside words, by file of byte_unit_byte: each text is in it exactly once, and the file of byte_unit_bit
+# has the text after the colon there, to the letter. The rows of a file hold for its mutants too.
+DIFFERENCES = {
+    # Examples whose numbers differ.
+    "src/byte.rt": {"(17, Unit::Bit), Some(Byte::from_u64(3))": "(17, Unit::B), Some(Bit::from_u64(136))"},
+    "src/byte/units.rt": {
+        "at most 116 steps;": "at most 119 steps;",
+        "from_u128_unsafe(7 << 87)": "from_u128_unsafe(7 << 90)",
+        "steps.count(), 116)": "steps.count(), 119)",
+    },
+    # Here the bytes are those of a text.
+    "src/byte/text.rt": IN_BOTH,
+    "src/byte/adjusted.rt": {**IN_BOTH, "its bits over the bits of the unit": "its bits over the bits of the unit"},
+    # `Bit` has no `ignore_case`: it always distinguishes `b` from `B`.
+    "src/byte/built_in_traits.rt": {"Byte::parse_str(s, false)": "Bit::parse_str(s)"},
+    "src/byte/parse.rt": {
+        "ghost use Rattle.std.specs.Prelude.{take};": "ghost use Rattle.std.specs.Prelude.{false, take};",
+        "With `ignore_case` a `b` that does not begin `bit` or `bits` means bytes, otherwise bits.":
+            "The suffix `b` means bits and `B` bytes; the case of all other letters is ignored.",
+        '("50.84 MB", false)': '("50.84 Mb")',
+        '("9 b", true)?, Byte::from_u64(9)': '("9 b")?, Bit::from_u64(9)',
+        '("9 b", false)?, Byte::from_u64(2)': '("9 B")?, Bit::from_u64(72)',
+        '("1.", false)': '("1.")',
+        '("1000 RB", false)': '("1000 Rb")',
+        "(s: &str, ignore_case: bool)": "(s: &str)",
+        "InBytes ignore_case s.now": "InBits false s.now",
+        "parse(s, ignore_case,": "parse(s, false,",
+        '(b"1.5 KiB", false)': '(b"1.5 Kib")',
+        '(b"1.", false)': '(b"1.")',
+        '(b"1 KiB\\xFF", false)': '(b"1 Kib\\xFF")',
+        "(bytes: &[u8], ignore_case: bool)": "(bytes: &[u8])",
+        "InBytes ignore_case bytes.now": "InBits false bytes.now",
+        "parse_line(bytes, bytes.len(), ignore_case)": "parse_line(bytes, bytes.len())",
+        'parse_line(b"1.5 KiB\\n12\\n", 7, false)': 'parse_line(b"1.5 Kib\\n12\\n", 7)',
+        **{text: text for text in ["line at the beginning of bytes, its first `len` bytes", "`len <= bytes.len()`",
+                                   "the next byte is a line"]},
+        "pub fn parse_line(\n        bytes: &[u8],\n        len: usize,\n        ignore_case: bool,\n    ) -> Option":
+            "pub fn parse_line(bytes: &[u8], len: usize) -> Option",
+        "InBytes ignore_case (take": "InBits false (take",
+        "parse_line(bytes, len, ignore_case,": "parse_line(bytes, len, false,",
+    },
+}
+# Mutants that turn `ignore_case`, and are not rendered.
+WITHOUT = ["built_in_traits.from_str.ignores_case", "parse.parse_str.flag_is_ignored"]
+
+
+def head(mark, source):
+    return f"{mark} Rendered from {source}. Do not edit.\n"
+
+
+def named(name):
+    """Returns the name of the file or mutant that is rendered from this one."""
+    return "".join(WORDS_OF_NAMES.get(part, part) for part in re.split(r"([/.])", name))
+
+
+def in_bits(name, text, is_whole=True):
+    """Replaces what DIFFERENCES has for a file, and the words in all that is left, in one pass."""
+    comments, rows, seen = WORDS_OF_CONSTANTS if name == CONSTANTS else WORDS_OF_COMMENTS, DIFFERENCES.get(name, {}), []
+    words = "|".join(map(re.escape, sorted(comments, key=len, reverse=True)))
+
+    def replaced(found):
+        seen.append(found[0])
+        is_comment = "//" in text[text.rfind("\n", 0, found.start()) + 1:found.start()]
+        return {**(comments if is_comment else WORDS), **rows}.get(found[0], found[0])
+
+    made_text = re.sub("|".join([*map(re.escape, rows), rf"(?<![A-Za-z_])(?:{words})(?!\w)"]), replaced, text)
+    for old in rows if is_whole else []:
+        if text.count(old) != 1 or old not in seen:
+            raise Failure(f"{SOURCE}/{name}: not once, or not apart from other rows of bits.py: {old!r}")
+    return made_text
+
+
+def constants(text):
+    """Replaces the numbers of the constants that are named after units of bits, by those of units of bytes.
+
+    In bytes 1 Kbit is 1000 / 8, and in bits 1 KB is 1000 * 8, so the number is 64 times as large. The constants that
+    are named after units of bytes have the numbers of those that are named after units of bits in the other crate.
+    """
+    def row(found):
+        value = found[3]
+        number = 64 * int(re.search(r"\d[\d_]*", value)[0])
+        power = f"8 * 10^{len(str(number)) - 1}" if number & (number - 1) else f"2^{number.bit_length() - 1}"
+        field = f"size: {number:_}"
+        if "{" in value:
+            value = f"Byte {{ {field} }}" if len(field) <= MOST_FIELD_COLUMNS else f"Byte {{\n        {field},\n    }}"
+        return found[1] + power + found[2] + re.sub(r"\d[\d_]*", f"{number:_}", value)
+
+    rows = r"(/// 1 \w+bit \S+ )[\d^* ]+( bytes\.\n +pub const \w+BIT: Byte = )([^;]*)(?=;)"
+    changed, count = re.subn(rows, row, text)
+    if count != len(PREFIXES):
+        raise Failure(f"{SOURCE}/{CONSTANTS}: {count} constants of multiples of bits, not {len(PREFIXES)}")
+    return changed
+
+
+def crate(name):
+    """Returns the sources of a crate by their names, and its mutants by their titles, those of must-fail/ first."""
+    texts = {found.removeprefix(f"{name}/"): read(found) for found in files() if found.startswith(f"{name}/")}
+    mutants = {os.path.basename(found)[:-len(".edit")]: texts.pop(found) for found in [*texts]
+               if re.fullmatch(r"must-fail/[^/]*\.edit", found)}
+    more = split(f"{name}/{CATALOGUE}", texts.pop(CATALOGUE, ""))
+    wrong = [found for found in texts if not found.endswith(".rt")] + [title for title in mutants if title in more]
+    if wrong:
+        raise Failure(f"{name}: neither a source file nor a mutant, or a second mutant of this title: {wrong[0]}")
+    return texts, {**mutants, **more}
+
+
+def mutants_in_bits(mutants):
+    """Returns the rendered mutants by their titles."""
+    found = {}
+    for title, text in mutants.items():
+        edited = re.match(r"file: (\S+)\n", text)
+        if not edited:
+            raise Failure(f"{SOURCE}: the first line of the mutant {title} names no file")
+        found[named(title)] = f"file: {named(edited[1])}\n" + in_bits(edited[1], text[edited.end():], is_whole=False)
+    return found
+
+
+def misfits(name, texts, mutants):
+    """Yields a line for each mutant of a crate that cannot be applied. Reads it as `rt must-fail` does."""
+    for title, text in mutants.items():
+        edited = old = None
+        for key, value in re.findall(r"^(file|old|new): ?(.*)$", text, re.M):
+            if key == "file":
+                edited = texts.get(value.strip())
+            elif key == "old":
+                old = value
+            elif edited is None or not old or edited.count(old) != 1:
+                yield f"{name}: the mutant {title} cannot be applied, for this is not in its file exactly once: {old}"
+                break
+            else:
+                edited, old = edited.replace(old, value), None
+
+
+def made():
+    """Each file of src/; each mutant of must-fail/ and mutants.edits, into mutants.edits, for the gate tries those of
+    byte_unit_byte alone; modules of byte_unit_serde and their proofs. A mutant of either crate that cannot be applied,
+    because its old text is not in its file exactly once, is a failure."""
+    texts, mutants = crate(SOURCE)
+    made_texts = {named(name): head("//", f"{SOURCE}/{name}") + in_bits(
+        name, constants(text) if name == CONSTANTS else text) for name, text in texts.items()}
+    left = {title: text for title, text in mutants.items() if title not in WITHOUT}
+    made_mutants = mutants_in_bits(left)
+    unknown = [name for name in [*DIFFERENCES, *WITHOUT] if name not in {**texts, **mutants}]
+    if unknown or (len(made_texts), len(made_mutants)) != (len(texts), len(left)):
+        raise Failure(f"{SOURCE}: two are rendered by one name, or bits.py has rows for what is not there: {unknown}")
+    catalogue = joined(head("#", f"the mutants of {SOURCE}"), made_mutants)
+    there = [name.removeprefix(f"{TARGET}/") for name in files() if name.startswith(f"{TARGET}/")]
+    for name in sorted({*made_texts, CATALOGUE, *there}):
+        yield f"{TARGET}/{name}", {**made_texts, CATALOGUE: catalogue}.get(name, "")
+    for found in filter(None, map(SERDE.fullmatch, files())):
+        name, mark = found[0], "//" if found[0].endswith(".rt") else "--"
+        target = name[:found.start(1)] + WORDS[found[1]] + name[found.end(1):]
+        yield target, head(mark, name) + in_bits(name, read(name))
+    wrong = [f"{TARGET}/{name}:{number}: more than {MOST_COLUMNS} columns: {line}" for name, text in made_texts.items()
+             for number, line in enumerate(text.splitlines(), 1) if len(line) > MOST_COLUMNS]
+    wrong += [*misfits(SOURCE, texts, mutants), *misfits(TARGET, made_texts, made_mutants)]
+    if wrong:
+        raise Failure("\n".join(wrong))

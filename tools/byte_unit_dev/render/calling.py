@@ -1,0 +1,203 @@
+"""The contracts of what `byte_unit` exports, and the parts of CALLING.md that show them."""
+
+import functools
+import re
+
+from ..common import Failure, read
+from ..source import WORD, exports, line_of, resolved, sources, specs
+from .pages import section, with_parts
+
+PAGE, FACADE = "CALLING.md", "byte_unit"
+PROOF = "crates/byte_unit_uses/proofs/message/parse_argument/Answers.antt"
+# The order of the types; what is not here comes after them, in the order in which the crate exports it.
+FIRST = ["Byte", "AdjustedByte", "Bit", "AdjustedBit", "Unit", "UnitType", "FormatSpec", "Align", "Sign"]
+SMALL, BELOW = FIRST[5:], ["Kind", "Family", "Decimal", "Expansion", "Steps", "Ties"]
+MIRRORED = {"Byte": "Bit", "AdjustedByte": "AdjustedBit"}
+# The words of bits, beside the names that each crate gives the two kinds in its contracts.
+IN_BITS = {**MIRRORED, "get_byte": "get_bit", "allow_in_bits": "allow_in_bytes", "byte_constant": "bit_constant",
+           "byte_bounds": "bit_bounds"}
+# Members of a trait that prove its rules and say nothing of a result.
+PROOFS = {"laws", "total", "matches_partial_cmp", "matches_eq", "coded", "inverse", "inverse_ok"}
+
+
+class Entry:
+    """What a page says of an item: its first line, its clauses, and the file that it is from.
+
+    `hidden` are clauses of a type's private fields, which no caller sees."""
+
+    def __init__(self, line, clauses, file, hidden=()):
+        self.line, self.clauses, self.file, self.hidden = line, list(clauses), file, list(hidden)
+        self.lines = (line, *("  " + clause for clause in self.clauses))
+
+    def definitions(self):
+        """Returns the definitions that the clauses cite, as crate, module and name."""
+        clauses = [clause for clause in self.clauses if clause not in self.hidden]
+        return set(resolved(WORD.findall(" ".join(clauses)), self.file.imports))
+
+
+def declaration(file, name):
+    """Returns the line that declares a type, its public fields or its cases; and whether some of it is public."""
+    found = re.search(rf"^pub (struct|enum) {name}\b", file.code, re.M)
+    line, stop, shown = f"{found[1]} {name}", re.compile(r"[;{]").search(file.code, found.end()).start(), True
+    if file.code[stop] == "{":
+        inner = line_of(file.plain[stop + 1:file.closing(stop) - 1]).rstrip(",")
+        if found[1] == "struct":
+            inner = ", ".join(re.findall(r"(?:^|, )pub ([^,]*)", inner))
+            shown = bool(inner)
+        line += f" {{ {inner or '..'} }}"
+    derives = re.findall(r"#\[derive\(([^)]*)\)\]\s*\Z", file.code[:found.start()])
+    return line, [f"derives {line_of(text)}" for text in derives], shown
+
+
+def type_entries(name, file):
+    """Returns the entries of a type: its declaration, its public functions, and its implementations of traits."""
+    line, derives, shown = declaration(file, name)
+    first, calls, traits = Entry(line, derives, file), [], []
+    for part in sources(file.name.split("/")[1]):
+        for header, start, end in part.impls():
+            if header == f"impl {name}":
+                for method in part.blocks(r"\bpub fn \w+", start, end):
+                    signature, clauses = part.function(method.start())
+                    calls.append(Entry(signature.replace("fn ", f"fn {name}::", 1), clauses, part))
+            elif re.search(rf"for {name}\Z|<{name}> for ", header):
+                members = {key: text for key, text in part.ghosts(start, end).items() if key not in PROOFS}
+                if header == f"impl Model for {name}":
+                    hidden = [] if shown else [members[key] for key in ("view", "invariant") if key in members]
+                    first = Entry(line, [*derives, *members.values()], part, hidden)
+                elif members:
+                    traits.append(Entry(header, with_styled(members).values(), part))
+    return [first, *calls, *traits]
+
+
+def with_styled(members):
+    """Returns the members with one `output, styled_output` if the second is the first under every spec."""
+    output, styled = (members.get(key, "").partition(" = ")[2] for key in ("output", "styled_output"))
+    parts = re.fullmatch(r"\{ λ (\w+) \w+\. (.*) \}", styled)
+    if not parts or output not in (f"{{ λ {parts[1]}. {parts[2]} }}", f"{{ {parts[2].removesuffix(' ' + parts[1])} }}"):
+        return members
+    others = {key: text for key, text in members.items() if key not in ("output", "styled_output")}
+    return {"output": f"ghost output, styled_output = {output}", **others}
+
+
+@functools.lru_cache(maxsize=None)
+def items():
+    """Returns the entries of each type that the crate exports, those of its functions, and those of its laws."""
+    def functions(found):
+        starts = [(name, file, re.search(rf"^pub fn {name}\b", file.code, re.M)) for name, file in found.items()]
+        return {name: Entry(*file.function(start.start()), file) for name, file, start in starts if start}
+
+    found, types, seen = exports(FACADE), {}, set()
+    for name in [name for name in FIRST if name in found] + [name for name in found if name not in FIRST]:
+        if name[0].isupper():
+            types[name] = [entry for entry in type_entries(name, found[name]) if entry.lines not in seen]
+            seen.update(entry.lines for entry in types[name])
+    return types, functions(found), functions(exports(FACADE, "laws"))
+
+
+def mirrored(types):
+    """Returns for each type of bits the entries that its type of bytes has not, and the comment that says so."""
+    texts = ("".join(file.plain for file in sources(f"byte_unit_{kind}")) for kind in ("byte", "bit"))
+    of_bytes, of_bits = (re.search(r"\b(?:Byte|Bit) as (\w+)", text)[1] for text in texts)
+    words, found = {**IN_BITS, of_bytes: of_bits}, {}
+    for name, bit in MIRRORED.items():
+        same = [tuple(re.sub(r"\w+", lambda word: words.get(word[0], word[0]), line) for line in entry.lines)
+                for entry in types[name]]
+        there = [entry.lines for entry in types[bit]]
+        other = [entry for entry in types[bit] if entry.lines not in same]
+        missing = [lines[0] for lines in same if lines not in there]
+        if len(missing) != len(other):
+            raise Failure(f"{types[bit][0].file.name}: {bit} lacks calls of {name}, or has more: {'; '.join(missing)}")
+        said = f"{len(there) - len(other)} of {len(there)} entries are those of `{name}`, with `{of_bits}`, `Bit`, "
+        said += f"`get_bit`, `allow_in_bytes` for `{of_bytes}`, `Byte`, `get_byte`, `allow_in_bits`"
+        found[bit] = said + ("; these differ:" if other else "."), other
+    return found
+
+
+def joined(entries):
+    """Returns the lines of entries, in which those with the same clauses have them once, after their first lines."""
+    groups = {}
+    for entry in entries:
+        groups.setdefault((re.match(r"\w+", entry.line)[0], *entry.lines[1:]), []).append(entry.line)
+    lines = []
+    for (_, *clauses), heads in groups.items():
+        parts = [re.fullmatch(r"impl (\S+) for (\w+)", head) for head in heads]
+        if len(heads) > 1 and all(parts):
+            traits, types = (list(dict.fromkeys(part[number] for part in parts)) for number in (1, 2))
+            if 1 in (len(traits), len(types)):
+                heads = [f"impl {', '.join(traits)} for {', '.join(types)}"]
+        lines += [*heads, *clauses]
+    return "```text\n" + "\n".join(lines) + "\n```"
+
+
+def shown_types():
+    """Returns the entries that the page has, by heading: the small types, and the errors, are one heading each."""
+    types, functions, _ = items()
+    headings = {f"`{name}`": types[name] for name in types if name in FIRST and name not in SMALL}
+    headings["Specs and types of units"] = [entry for name in SMALL for entry in types[name]]
+    headings["Errors"] = [entry for name in types if name not in FIRST + BELOW for entry in types[name]]
+    headings["`Unit`"] = headings["`Unit`"] + [functions["unit_to_json"], functions["unit_from_json"]]
+    return headings
+
+
+def contracts():
+    bits, parts = mirrored(items()[0]), []
+    for heading, entries in shown_types().items():
+        said, other = bits.get(heading.strip("`"), ("", entries))
+        parts += filter(None, [f"### {heading}", said, other and joined(other)])
+    return "\n\n".join(parts)
+
+
+def cited_by(entries):
+    return set().union(*(entry.definitions() for entry in entries))
+
+
+def words():
+    """Returns a link to each file of definitions that the page's contracts cite, with the words that they use."""
+    cited, found = cited_by(entry for entries in shown_types().values() for entry in entries), []
+    for module, spec in ((module, spec) for crate in layers() for module, spec in specs(crate).items()):
+        names = [f"`{name}`" for name in spec.definitions if (spec.crate, module, name) in cited]
+        found += [f"[{module}](docs/DEFINITIONS.md#{module.lower()}): {', '.join(names)}"] * bool(names)
+    return "; ".join(found) + "."
+
+
+def layers():
+    """Returns the crates in the order of crates.txt."""
+    return re.findall(r"^(\w+)", read("crates.txt"), re.M)
+
+
+def listed(names):
+    quoted = [f"`{name}`" for name in names]
+    return " and ".join([", ".join(quoted[:-1]), quoted[-1]] if len(quoted) > 1 else quoted)
+
+
+def preconditions():
+    """Returns a list of the calls with a `requires`: those of `Byte`, which `Bit` has too, and the others."""
+    types, functions, laws = items()
+    shared, others = {}, {}
+    for entry in [*(entry for found in types.values() for entry in found), *functions.values(), *laws.values()]:
+        found = re.match(r"fn ((?:(\w+)::)?(\w+))", entry.line)
+        if found and any(clause.startswith("requires") for clause in entry.clauses):
+            is_shared = found[2] in ("Byte", "Bit")
+            (shared if is_shared else others)[found[3] if is_shared else found[1]] = entry
+    return (f"{listed(shared)} of `Byte` and `Bit`, and {listed(others)}, have a `requires`, proved at each call. "
+            "No other call has one")
+
+
+def below():
+    """Returns a list of the items that the page leaves out, by file."""
+    _, functions, laws = items()
+    shown = {entry.line for entries in shown_types().values() for entry in entries}
+    homes, rows = {**exports(FACADE), **exports(FACADE, "laws")}, {}
+    for name in [*BELOW, *(name for name, entry in functions.items() if entry.line not in shown), *laws]:
+        rows.setdefault(homes[name].name, []).append(f"`{name}`")
+    return "\n".join(f"- [{path.removeprefix('crates/')}]({path}): {', '.join(names)}" for path, names in rows.items())
+
+
+def made():
+    """The row of calls that have a `requires`; the proof PROOF; the definitions that contracts on the page use; the
+    contracts of the types but BELOW, to the letter but for line breaks, of traits what implementations say, calls of a
+    type with the same clauses once, those of bits that are those of bytes counted; the names of what is left out."""
+    yield PAGE, with_parts(
+        PAGE, (r"^\| preconditions \| ", r" \|$", preconditions()), (r"^```antt\n", r"^```$", read(PROOF)),
+        section("Words of the contracts", words()), section("Contracts", contracts()),
+        section("Laws, and calls below the types", below()))

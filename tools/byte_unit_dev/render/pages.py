@@ -1,0 +1,90 @@
+"""Renders parts of pages: what follows the first paragraph of a section, and blocks of code."""
+
+import re
+
+from .. import tests, verbs
+from ..common import Failure, files, read
+from ..source import line_of, source
+
+LAWS, BITS = re.compile(r"crates/(\w+)/src/laws(?:/\w+)?\.rt"), "byte_unit_bit"
+BLOCK = re.compile(r"(?ms)^(?P<head>(?:<!-- from (?P<file>[^\s:]+)(?:: (?P<parts>[^\n]+))? -->\n)?"
+                   r"```(?P<language>\w+)\n)(?P<code>.*?)^```$")
+PART = re.compile(r"^ +([a-z-]+) {2,}\S", re.M)
+
+
+def with_parts(name, *parts):
+    """Returns a file in which each part is between the one match of a pattern and the next match of another."""
+    made = read(name)
+    for start, end, part in parts:
+        found = re.split(f"(?ms)({start}).*?(?={end})", made)
+        if len(found) != 3:
+            raise Failure(f"{name}: {len(found) // 2} places, not one, for what is rendered after {start!r}")
+        made = found[0] + found[1] + part + found[2]
+    return made
+
+
+def section(title, text):
+    """Returns the part of a page that follows the first paragraph of a section."""
+    return rf"^## {title}\n\n[^\n]+\n\n", r"\n+^## |\n\Z", text
+
+
+def statement(comment):
+    """Returns what a law states, as the first sentence of its comment says it."""
+    words = line_of(comment).removeprefix("States that ").replace(", and that ", ", and ")
+    words = re.split(r"(?<=\.)\s", words)[0]
+    return (words if words[1].isdigit() else words[0].upper() + words[1:]).replace("|", "\\|")
+
+
+def laws(page="docs/PROVED.md"):
+    """The public functions in `laws` of each crate but that of bits, with the first sentence of each comment.
+
+    The first law of a file has the file in its row. What a file says after its first paragraph is below the table."""
+    rows, notes = ["Law | Statement | File, also of the rows below", "---|---|---"], []
+    for found in filter(None, map(LAWS.fullmatch, files())):
+        file, link = source(found[0]), f"[{found[0].removeprefix('crates/')}](../{found[0]})"
+        names = [law[1] for law in file.blocks(r"^pub fn (\w+)")] if found[1] != BITS else []
+        stated = [f"`{law}` | {statement(file.comment(f'fn {law}'))}" for law in names]
+        rows += [f"{stated[0]} | {link}", *stated[1:]] if stated else []
+        notes += [f"- {link}: {line_of(note)}" for note in file.comment().split("\n\n")[1:] if stated]
+    yield page, with_parts(page, section("Laws", "\n".join(["<!-- laws: rendered -->", "", *rows, "", *notes])))
+
+
+def code_of(block):
+    """Returns what a block has to be, by its comment."""
+    if not block["file"] and block["language"] == "rust":
+        raise Failure("no comment names the source of this block")
+    if block["parts"]:
+        return "\n".join(source(block["file"]).part(words.strip()) for words in block["parts"].split(","))
+    return read(block["file"]) if block["file"] else block["code"]
+
+
+def guide(page="docs/GUIDE.md"):
+    """A comment in the line before a block, `<!-- from crates/NAME/src/FILE.rt: PART, PART -->`, names its source.
+
+    Each block of Rust has to have one. A file alone is the whole file. A part is one of
+
+        fn cell, struct Log     an item by its kind and name, with its attributes and without its doc comment
+        fn Log::write           an item of an `impl` of the type `Log`
+        body fn left            what is between the braces of a function
+        example fn Byte::add    the examples in the doc comment of an item; `example` alone: in that of the module
+        imports, attributes     the `use` and `ghost use` lines of the file; its lines `#![..]`
+    """
+    text = read(page)
+
+    def with_code(block):
+        try:
+            return f"{block['head']}{code_of(block)}```"
+        except Failure as failure:
+            raise Failure(f"{page}:{1 + text.count(chr(10), 0, block.start())}: {failure}") from None
+
+    yield page, BLOCK.sub(with_code, text)
+
+
+def tools(page="CONTRIBUTING.md"):
+    """The commands, with the first sentence of each, and the parts that its docstring lists, or PARTS of the tests."""
+    rows = ["Command | What it does", "---|---"]
+    for verb in verbs.VERBS:
+        module = verbs.module_of(verb)
+        parts = ", ".join(f"`{part}`" for part in (tests.PARTS if module is tests else PART.findall(module.__doc__)))
+        rows.append(f"`tools/dev {verb}` | {verbs.sentence_of(module.__doc__)}" + f" ({parts})" * bool(parts))
+    yield page, with_parts(page, section("Tools", "\n".join(["<!-- tools: rendered -->", "", *rows])))
