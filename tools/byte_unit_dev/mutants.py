@@ -123,18 +123,19 @@ def part(text):
     return int(found[1]), int(found[2])
 
 
-def with_catalogues():
-    return sorted(name.split("/")[0] for name in glob.glob("*/mutants.edits", root_dir=path("crates")))
+def crates_with(*forms):
+    """Returns the crates with a file of one of these forms."""
+    return sorted({name.split("/")[0] for form in forms for name in glob.glob(f"*/{form}", root_dir=path("crates"))})
 
 
 def arguments(parser):
     actions = parser.add_subparsers(dest="action", metavar="ACTION", prog=parser.prog)
-    shown = sorted(name for name in os.listdir(path("crates")) if not EXAMPLES.match(name) and titles_of(name))
+    shown = [name for name in crates_with("mutants.edits", "must-fail/*.edit") if not EXAMPLES.match(name)]
     parser.set_defaults(action="list", crates=[], shown=shown)
     actions.add_parser("list").add_argument("crates", nargs="*", type=one_of(shown), metavar="CRATE")
     trying = actions.add_parser("try")
     trying.add_argument("--part", type=part, default=(1, 1), metavar="K/N")
-    trying.add_argument("crates", nargs="*", type=one_of(with_catalogues()), metavar="CRATE")
+    trying.add_argument("crates", nargs="*", type=one_of(crates_with("mutants.edits")), metavar="CRATE")
     actions.add_parser("put").add_argument("part", type=part, metavar="K/N")
     actions.add_parser("remove")
 
@@ -144,7 +145,7 @@ def run(given):
         return remove()
     if given.action == "list":
         return listed(given.crates or given.shown)
-    crates = with_catalogues()
+    crates = crates_with("mutants.edits")
     if given.action == "try":
         return tried(sorted(set(given.crates or crates)), given.part)
     count = sum(len(put(crate, given.part, path("crates", crate, "must-fail"), "by-turn.")) for crate in crates)
