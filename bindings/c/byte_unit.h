@@ -32,11 +32,11 @@ extern "C" {
 #endif
 
 /* The version of this header: major * 1000000 + minor * 1000 + patch. */
-#define BYTE_UNIT_VERSION_MAJOR 5
-#define BYTE_UNIT_VERSION_MINOR 2
-#define BYTE_UNIT_VERSION_PATCH 6
-#define BYTE_UNIT_VERSION 5002006
-#define BYTE_UNIT_VERSION_STRING "5.2.6"
+#define BYTE_UNIT_VERSION_MAJOR 3
+#define BYTE_UNIT_VERSION_MINOR 0
+#define BYTE_UNIT_VERSION_PATCH 0
+#define BYTE_UNIT_VERSION 3000000
+#define BYTE_UNIT_VERSION_STRING "3.0.0"
 
 /* An unsigned integer of 128 bits: high * 2^64 + low. On a little-endian machine, as x86-64 is, an array of these is
  * laid out as Arrow's Decimal128 of scale 0. */

@@ -20,8 +20,9 @@ fn text_of(call: impl Fn(*mut u8, usize) -> usize) -> String {
 #[test]
 fn version_of_the_library() {
     let version = unsafe { sys::byte_unit_version() };
-    let text = format!("{}.{}.{}", version / 1_000_000, version / 1000 % 1000, version % 1000);
-    assert_eq!(text, env!("CARGO_PKG_VERSION"));
+    let (major, minor, patch) = (version / 1_000_000, version / 1000 % 1000, version % 1000);
+    let line = format!("\nlibrary-version = \"{major}.{minor}.{patch}\"\n");
+    assert!(include_str!("../Cargo.toml").contains(&line), "{line}");
 }
 
 #[test]

@@ -1,6 +1,6 @@
 -- The version in the C API.
 use Rattle.std.specs.Prelude.{ℕ}
 
--- the version 5.2.6: a million times its first number, a thousand times its second, and its third
+-- the version 3.0.0: a million times its first number, a thousand times its second, and its third
 abbrev pub version : ℕ
-version = 5002006
+version = 3000000

@@ -1,0 +1,152 @@
+"""Lists, tries and places mutants: wrong edits of functions, which the prover has to reject.
+
+    tools/dev mutants [list [CRATE..]]              the public functions that no mutant names
+    tools/dev mutants try [--part K/N] [CRATE..]    tries the catalogues' mutants on a copy of the crates
+    tools/dev mutants put K/N                       copies a part of them to must-fail/, where `rt ci` tries them
+    tools/dev mutants remove                        deletes these copies, which git ignores
+
+A mutant is a file crates/CRATE/must-fail/TITLE.edit or a title of crates/CRATE/mutants.edits. Its title is
+`module.function.what`: the function whose contract rejects it, and what it does wrong. `module` is the file of the
+function or a folder that this file is in; of several such functions the one whose file has the shortest path is meant.
+A function is public if it has `pub` and a contract and the crate exports it: it is `extern "C"`, or in a `pub mod`, or
+it or the type of its `impl` is in a `pub use`; in a program each one with `pub` is. Laws, rendered files and crates of
+examples and tests are left out.
+
+The part of a mutant, from 1/N to N/N, depends on its crate and title alone. `try` reuses what `rt check` has proved.
+The exit status is 0 if nothing is found and each mutant is rejected, 1 if not, and 2 for wrong arguments.
+"""
+
+import argparse
+import glob
+import os
+import re
+import shutil
+import subprocess
+import tempfile
+
+from .catalogue import part_of, split
+from .common import one_of, path, read, report, write
+
+EXAMPLES = re.compile(r"example_|byte_unit_(uses|tests)$")
+# A signature up to the line that begins its body.
+FUNCTION = re.compile(r'^ *pub (extern "C" )?fn (\w+)(.*?)(?:^ *\{\}?| \{)$', re.M | re.S)
+IMPL = re.compile(r"^impl(?:<[^>]*>)? (\w+)", re.M)
+
+
+def catalogue_of(crate):
+    name = f"crates/{crate}/mutants.edits"
+    return split(name, read(name)) if os.path.exists(path(name)) else {}
+
+
+def titles_of(crate):
+    edits = glob.glob("*.edit", root_dir=path("crates", crate, "must-fail"))
+    return sorted([*(name.removesuffix(".edit") for name in edits), *catalogue_of(crate)])
+
+
+def public_functions(crate):
+    """Returns the modules of the file and the name of each public function with a contract."""
+    found, source = [], path("crates", crate, "src")
+    root = read(f"{source}/lib.rt") if os.path.exists(f"{source}/lib.rt") else None
+    modules = set(re.findall(r"^pub mod (\w+);", root or "", re.M))
+    names = set(re.findall(r"\w+", " ".join(re.findall(r"^pub use (.*?);", root or "", re.M | re.S))))
+    for file in sorted(glob.glob("**/*.rt", root_dir=source, recursive=True)):
+        modules_of_file, text = file.removesuffix(".rt").split("/"), read(f"{source}/{file}")
+        if {"tests", "laws"} & set(modules_of_file) or text.startswith("// Rendered from "):
+            continue
+        for match in FUNCTION.finditer(text):
+            impls = IMPL.findall(text[:match.start()]) if match[0].startswith("    ") else []
+            exported = root is None or match[1] or modules_of_file[0] in modules or {match[2], *impls[-1:]} & names
+            if exported and re.search(r"^ *ensures", match[3], re.M):
+                found.append((modules_of_file, match[2]))
+    return found
+
+
+def named_by(title, functions):
+    """Returns the public function that a title names, or `None`."""
+    module, function = title.split(".")[:2]
+    same = [entry for entry in functions if entry[1] == function and module in entry[0]]
+    return min(same, key=lambda entry: (entry[0][-1] != module, len(entry[0])), default=None)
+
+
+def listed(crates):
+    wrong, total = [], 0
+    for crate in crates:
+        titles, functions = titles_of(crate), public_functions(crate)
+        wrong += [f"{crate}: {title}: not module.function.what" for title in titles if title.count(".") != 2]
+        named = [named_by(title, functions) for title in titles if title.count(".") == 2]
+        wrong += [f"{crate}: {'.'.join(entry[0])}: {entry[1]}: no mutant" for entry in functions if entry not in named]
+        total += len(functions)
+    return report(wrong, f"mutants: {total} public functions, each with a mutant")
+
+
+def put(crate, part, folder, prefix=""):
+    """Writes the mutants of a part of a crate's catalogue to a folder, and returns the names of their files."""
+    chosen = {f"{prefix}{title}.edit": text for title, text in catalogue_of(crate).items()
+              if part_of(crate, title, part[1]) == part[0]}
+    for name, text in chosen.items():
+        write(os.path.join(folder, name), text)
+    return list(chosen)
+
+
+def tried(crates, part):
+    with tempfile.TemporaryDirectory() as copy:
+        shutil.copytree(path("crates"), f"{copy}/crates", symlinks=True, ignore=shutil.ignore_patterns("must-fail"))
+        for name in ("HANDLES", "crates.txt"):
+            shutil.copy(path(name), copy)
+        names = [f"{crate}/{name}" for crate in crates for name in put(crate, part, f"{copy}/crates/{crate}/must-fail")]
+        said, more = "", {"stdout": subprocess.PIPE, "stderr": subprocess.STDOUT, "errors": "replace"}
+        with subprocess.Popen(["rt", "must-fail", *crates], cwd=copy, encoding="utf-8", **more) as process:
+            for line in process.stdout:
+                print(line, end="", flush=True)
+                said += line
+    survived = [name for name in names if f"must-fail {name}: NOT REFUSED" in said]
+    rejected = [name for name in names if f"must-fail {name}: refused, as it must be" in said]
+    untried = sorted({*names} - {*survived, *rejected})
+    print(f"mutants: {len(names) - len(untried)} tried, {len(survived)} survived", *survived)
+    if untried:
+        print(f"mutants: {len(untried)} could not be tried:", *untried)
+    return 1 if survived or untried or process.returncode else 0
+
+
+def remove():
+    for name in glob.glob(path("crates/*/must-fail/by-turn.*")):
+        os.remove(name)
+    for folder in glob.glob(path("crates/*/must-fail")):
+        if not os.listdir(folder):
+            os.rmdir(folder)
+
+
+def part(text):
+    found = re.fullmatch(r"([1-9][0-9]{0,3})/([1-9][0-9]{0,3})", text)
+    if not found or int(found[1]) > int(found[2]):
+        raise argparse.ArgumentTypeError(f"'{text}' is not a part, such as 1/8 to 8/8")
+    return int(found[1]), int(found[2])
+
+
+def crates_with(*forms):
+    """Returns the crates with a file of one of these forms."""
+    return sorted({name.split("/")[0] for form in forms for name in glob.glob(f"*/{form}", root_dir=path("crates"))})
+
+
+def arguments(parser):
+    actions = parser.add_subparsers(dest="action", metavar="ACTION", prog=parser.prog)
+    shown = [name for name in crates_with("mutants.edits", "must-fail/*.edit") if not EXAMPLES.match(name)]
+    parser.set_defaults(action="list", crates=[], shown=shown)
+    actions.add_parser("list").add_argument("crates", nargs="*", type=one_of(shown), metavar="CRATE")
+    trying = actions.add_parser("try")
+    trying.add_argument("--part", type=part, default=(1, 1), metavar="K/N")
+    trying.add_argument("crates", nargs="*", type=one_of(crates_with("mutants.edits")), metavar="CRATE")
+    actions.add_parser("put").add_argument("part", type=part, metavar="K/N")
+    actions.add_parser("remove")
+
+
+def run(given):
+    if given.action == "remove":
+        return remove()
+    if given.action == "list":
+        return listed(given.crates or given.shown)
+    crates = crates_with("mutants.edits")
+    if given.action == "try":
+        return tried(sorted(set(given.crates or crates)), given.part)
+    count = sum(len(put(crate, given.part, path("crates", crate, "must-fail"), "by-turn.")) for crate in crates)
+    print(f"{count} mutants of the catalogues for rt ci")

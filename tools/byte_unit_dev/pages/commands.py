@@ -1,0 +1,135 @@
+"""The commands in the pages: runs them, and compares what they print with the page."""
+
+import os
+import re
+import shutil
+import subprocess
+import tempfile
+
+from ..common import ROOT, call, output, path, read
+from .text import blocks, line_at
+
+README, GUIDE, COMMAND = "README.md", "docs/GUIDE.md", "command/README.md"
+KINDS = ["sh", "text", "sh", "sh", "rust", "sh", "text", "rust", "sh", "text"]
+LINES_PROGRAM = "crates/byte_unit_lines/out/byte_unit_lines"
+COMMAND_PROGRAM = "crates/byte_unit_cli/out/byte_unit_cli"
+EXAMPLE, LITERAL = "crates/example_first", "crates/byte_unit_uses/src/literal.rt"
+FORMATS = "crates/byte_unit_tests/src/tests/format_strings.rt"
+
+
+def shell(command, folder, words=("bash", "-euo", "pipefail", "-c"), env=None):
+    return call(*words, command, cwd=folder, env=env, stdin=subprocess.DEVNULL, stderr=subprocess.PIPE)
+
+
+def differs(page, command, wanted, folder, **more):
+    """Returns, in a list, how a block of commands fails or prints something else, but for the lines of `rt try`."""
+    got = shell(command.text, folder, **more)
+    printed = re.sub(r"^(?:checked:|run=).*\n", "", got.stdout, flags=re.M)
+    if wanted.language == "text" and got.returncode == 0 and printed == wanted.text:
+        return []
+    return [f"{page}:{command.line}: status {got.returncode}, and it prints\n{got.stdout}{got.stderr}"]
+
+
+def is_built(program, page):
+    if not os.path.exists(path(program)):
+        print(f"skipped: commands of {page}: {program} is not built", flush=True)
+    return os.path.exists(path(program))
+
+
+def promise(page):
+    """Returns the words of the quoted lines from the first mention of the promise to the next heading."""
+    text = read(page)
+    section = text[text.lower().find("promise"):].split("\n#")[0]
+    return " ".join(line[2:] for line in section.splitlines() if line.startswith("> ")).split()
+
+
+def kit(page):
+    """Compares the toolchain's logic with that on the page: the letter of the kit may be another elsewhere."""
+    named = re.search(r"`rt version` prints `\S+ logic (\w+)`", page)
+    if named and f" logic {named[1]}\n" in output("rt", "version"):
+        return []
+    return [f"{README}:{line_at(page, named.start() if named else 0)}: rt version prints {output('rt', 'version')}"]
+
+
+def copy_of_crates(folder):
+    """Copies the crates and what the command that takes them reads, so that this repository is not changed."""
+    for name in ["crates", "tools"]:
+        shutil.copytree(path(name), os.path.join(folder, name), ignore=shutil.ignore_patterns("out", "__pycache__"))
+    for name in ["crates.txt", "LICENSE", "HANDLES", "CHANGELOG.md", "VERSION"]:
+        shutil.copy(path(name), folder)
+
+
+def snapshot(folder):
+    return {os.path.join(at, name): os.stat(os.path.join(at, name)).st_mtime_ns
+            for at, _, names in os.walk(folder) for name in names}
+
+
+def first_program(take, program, start, printed, folder):
+    """Takes the library as the page says, twice, and runs the first program. Returns what is wrong."""
+    here, there, where = os.path.join(folder, "here"), os.path.join(folder, "sizes"), f"{README}:{take.line}"
+    made = shell(take.text, here)
+    if made.returncode:
+        return [f"{where}: status {made.returncode}\n{made.stdout}{made.stderr}"]
+    before, wrong, taken = snapshot(there), [], re.search(r"^tools/.*\btake .*$", take.text, re.M)
+    if not taken or shell(taken[0], here).returncode != 1 or snapshot(there) != before:
+        wrong.append(f"{where}: the library is taken twice, or the second time changes something")
+    with open(os.path.join(there, "crates/quota/src/main.rt"), "w", encoding="utf-8") as file:
+        file.write(program.text)
+    wrong += differs(README, start, printed, there)
+    given = shell(start.text[start.text.index("printf"):start.text.index("|")], there).stdout
+    for name, text in {"src/main.rt": program.text, "stdin": given, "stdout": printed.text}.items():
+        if read(f"{EXAMPLE}/{name}") != text:
+            wrong.append(f"{README}:{program.line}: the first program differs from {EXAMPLE}/{name}")
+    uses = re.search(r"'quota(: [^']*)'", take.text)
+    if not uses or f"example_first{uses[1]}\n" not in read("crates.txt"):
+        wrong.append(f"{where}: example_first uses other crates")
+    return wrong
+
+
+def readme():
+    page = read(README)
+    found = blocks(page)
+    kinds = [block.language for block in found]
+    if kinds != KINDS:
+        return [f"{README}: its blocks are {' '.join(kinds)}, not {' '.join(KINDS)}"], ""
+    program, printed, gate, take, first, start, first_printed, literal, built, built_printed = found
+    wrong = kit(page)
+    if not promise(README) or promise(README) != promise("docs/PROVED.md"):
+        wrong.append(f"{README}: the promise is not that of docs/PROVED.md")
+    wrong += [f"{README}:{literal.line}: {LITERAL} has not\n{part}" for part in literal.text.split("\n\n")
+              if part.strip() not in read(LITERAL)]
+    if gate.text != "rt ci\n":  # the gate runs it; all other commands are run here
+        wrong.append(f"{README}:{gate.line}: a command that is not run here")
+    with tempfile.TemporaryDirectory() as folder:
+        copy_of_crates(os.path.join(folder, "here"))
+        wrong += differs(README, program, printed, os.path.join(folder, "here"))
+        wrong += first_program(take, first, start, first_printed, folder)
+    if is_built(LINES_PROGRAM, README):
+        wrong += differs(README, built, built_printed, ROOT)
+    return wrong, "the commands print what is below them, but for rt ci, which is not run"
+
+
+def guide():
+    page, wrong = read(GUIDE), []
+    programs = {name for name in os.listdir(path("crates")) if name.startswith("example_")} - {"example_first"}
+    listed = re.findall(r"^\| `(example_\w+)` \|", page, re.M)
+    if sorted(listed) != sorted(programs):
+        wrong.append(f"{GUIDE}: the table of programs lists {listed}, the crates are {sorted(programs)}")
+    rows = re.findall(r"^`(\{\S*\})` \| .* \| `([^`]+)` \| `([^`]+)`$", page, re.M)
+    tested = re.findall(r'\(\s*"(\{[^"]*\})",[^"]+,\s*"([^"]+)",\s*"([^"]+)",?\s*\)', read(FORMATS))
+    if not rows or rows != tested:
+        wrong.append(f"{GUIDE}: the format strings are\n{rows}\nbut those of {FORMATS}\n{tested}")
+    return wrong, f"{len(listed)} programs are the examples, {len(rows)} format strings those of the test"
+
+
+def command():
+    found, wrong = blocks(read(COMMAND)), []
+    if not is_built(COMMAND_PROGRAM, COMMAND):
+        return [], "nothing was run"
+    with tempfile.TemporaryDirectory() as folder:
+        os.symlink(path(COMMAND_PROGRAM), os.path.join(folder, "byte-unit"))
+        env = {**os.environ, "PATH": folder + os.pathsep + os.environ["PATH"], "LC_ALL": "C"}
+        calls = [pair for pair in zip(found, [*found[1:], found[-1]]) if pair[0].language == "sh"]
+        for called, wanted in calls:
+            wrong += differs(COMMAND, called, wanted, folder, words=["sh", "-c"], env=env)
+    return wrong, f"{len(calls)} commands print what is below them"

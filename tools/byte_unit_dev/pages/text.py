@@ -1,0 +1,137 @@
+"""The pages as texts: their blocks, their words and links, and the names in them."""
+
+import fnmatch
+import functools
+import os
+import re
+from collections import namedtuple
+
+from ..common import files, path, read
+
+PAGE = re.compile(r"(docs/.*|(.*/)?README|[^/]*)\.md")
+TOTAL = 28_000
+WORDS = {
+    "README.md": 800, "CALLING.md": 2800, "CONTRIBUTING.md": 900, "CHANGELOG.md": 900, "docs/GUIDE.md": 3600,
+    "docs/PROVED.md": 3000, "docs/DEFINITIONS.md": 2800, "docs/ARCHITECTURE.md": 2000, "docs/DECISIONS.md": 2000,
+    "docs/DIFFERENCES.md": 2400, "docs/SPEED.md": 1000, "docs/LINES.md": 900, "vectors/README.md": 300,
+    **{f"{name}/README.md": 700 for name in "command bindings/c bindings/python bindings/rust bindings/sqlite".split()},
+}
+# Names of std, the kit, the original crate and other programs, and what programs make.
+OTHERS = set("""
+axioms Env CowStr rattle_alloc rattle_realloc rattle_dealloc rattle_arg rattle_errno rattle_set_errno rattle_env
+rattle_env_at lseek getcwd chdir isatty SHORTER_PROOFS.md mul_8 div_8 rocket schemars ctypes _cffi_backend REINDEX
+d61ab51 _in Ko crates/quota/src/main.rt crates/byte_unit_cli/out/byte_unit_cli /usr/local/lib DIR/byte-unit
+crates/byte_unit_lines/out/byte_unit_lines include/byte_unit.h lib/libbyte_unit.a lib/libbyte_unit.so
+lib/pkgconfig/byte_unit.pc lib/sqlite3/byte_unit.so share/man/man3/byte_unit.3 bin/byte-unit share/byte_unit/
+share/man/man1/byte-unit.1 share/bash-completion/completions/byte-unit
+""".split())
+NAME = re.compile(r"[A-Za-z_]\w*(?:(?:::|\.)\w+)*(?:\(.*\))?!?")
+PATH = re.compile(r"\.{0,2}/?[\w.*\-]+(?:/[\w.*\-]+)+/?")
+LINK = re.compile(r"\]\(([^()\s]*)[^()]*\)|^\[[^\]]+\]: *(\S+)", re.M)
+# A block up to the line that closes it. One that is not closed ends at a line that begins with `\0`, or with the text.
+FENCE = re.compile(r"^ *```(\S*)[^\n]*\n(.*?)(^ *```$|^\0|\Z)", re.M | re.S)
+Block = namedtuple("Block", "line language text is_closed")
+
+
+def line_at(text, place):
+    return 1 + text.count("\n", 0, place)
+
+
+def blocks(text):
+    """Returns the fenced blocks of a text, each with the number of its first line."""
+    return [Block(line_at(text, found.start()), found[1], found[2], found[3] not in ("", "\0"))
+            for found in FENCE.finditer(text)]
+
+
+def without_blocks(text):
+    return FENCE.sub(lambda found: "\n" * found[0].count("\n"), text)
+
+
+@functools.lru_cache(maxsize=None)
+def pages():
+    return {name: read(name) for name in files() if PAGE.fullmatch(name)}
+
+
+@functools.lru_cache(maxsize=None)
+def places():
+    """Returns the names of all files and folders."""
+    return {".", *files(), *(name[: cut.start()] for name in files() for cut in re.finditer("/", name))}
+
+
+@functools.lru_cache(maxsize=None)
+def anchors(page):
+    """Returns the anchors of the headings, as GitHub makes them; that of a heading seen before has a number."""
+    made = set()
+    for title in re.findall(r"^#+ +(.*?) *#*$", without_blocks(pages().get(page, "")), re.M):
+        shown = re.sub(r"\[([^\]]*)\]\([^)]*\)", r"\1", title).lower()
+        plain = re.sub(r"[^\w\- ]", "", shown).replace(" ", "-")
+        made.add(next(name for name in [plain, *(f"{plain}-{n}" for n in range(1, 100))] if name not in made))
+    return made
+
+
+def wrong_links(page):
+    text = re.sub(r"`[^`\n]*`", "``", without_blocks(pages()[page]))
+    for found in LINK.finditer(text):
+        link, line = found[1] or found[2] or "", line_at(text, found.start())
+        name, _, anchor = link.partition("#")
+        target = os.path.normpath(os.path.join(os.path.dirname(page), name)) if name else page
+        if re.match(r"[a-z]+:", link):
+            continue
+        if target not in places():
+            yield f"{page}:{line}: the link {link} leads to no file"
+        elif anchor and anchor not in anchors(target):
+            yield f"{page}:{line}: the link {link} leads to no heading"
+
+
+def words():
+    wrong, total = [], len(" ".join(pages().values()).split())
+    for page, text in pages().items():
+        count, dates = len(text.split()), sorted(set(re.findall(r"\b\d{4}-\d\d-\d\d\b", text)))
+        if page not in WORDS:
+            wrong.append(f"{page}: a page without a limit of words in tools/byte_unit_dev/pages/text.py")
+        elif count > WORDS[page]:
+            wrong.append(f"{page}: {count} words, at most {WORDS[page]}")
+        if len(dates) > 1 and page != "CHANGELOG.md":
+            wrong.append(f"{page}: {len(dates)} dates, at most one: {', '.join(dates)}")
+        wrong += wrong_links(page)
+    if total > TOTAL:
+        wrong.append(f"all pages: {total} words, at most {TOTAL}")
+    return wrong, f"{len(pages())} pages keep their limits; each link leads somewhere"
+
+
+def known_words():
+    """Returns the words of all files but pages and this one, and the parts of their paths."""
+    known = set(OTHERS)
+    for name in files():
+        known.update(re.findall(r"\w+", name))
+        if not name.endswith((".md", "byte_unit_dev/pages/text.py")):
+            with open(path(name), encoding="utf-8", errors="replace") as file:
+                known.update(re.findall(r"\w+", file.read()))
+    return known
+
+
+def leads_somewhere(name, page, ends):
+    """Tells whether a path, in which NAME and * stand for anything, is that of a file or folder, or the end of it."""
+    wanted = re.sub(r"\b[A-Z]{2,}\b", "*", os.path.normpath(name.removeprefix("/")))
+    beside = os.path.normpath(os.path.join(os.path.dirname(page), name))
+    return beside in ends or any(fnmatch.fnmatch(f"/{place}", f"*/{wanted}") for place in ends)
+
+
+def missing(page, known, ends):
+    """Yields each name in backticks, outside blocks of code, that is not found, with its line."""
+    text = without_blocks(pages()[page])
+    for found in re.finditer(r"`([^`\n]+)`", text):
+        name, line = found[1].split(" ")[0], line_at(text, found.start())
+        if PATH.fullmatch(name):
+            if name not in OTHERS and not leads_somewhere(name, page, ends):
+                yield f"{page}:{line}: {name}"
+        elif NAME.fullmatch(found[1]) and not set(re.findall(r"\w+", found[1].split("(")[0])) <= known:
+            if found[1] not in OTHERS:
+                yield f"{page}:{line}: {found[1]}"
+
+
+def names():
+    known, ends = known_words(), places() | {os.path.splitext(name)[0] for name in files()}
+    read_here = [page for page in pages() if page != "CHANGELOG.md"]
+    found = [line for page in read_here for line in missing(page, known, ends)]
+    return found, f"each name in {len(read_here)} pages is in the tree"
