@@ -27,8 +27,7 @@ def arguments(parser):
 
 
 def run(given):
-    checks = {**CHECKS, "examples": lambda: examples.examples(given.crate)}
-    status = 0
+    checks, status = {**CHECKS, "examples": lambda: examples.examples(given.crate)}, 0
     for what in checks if "all" in given.what else given.what or QUICK:
         try:
             findings, fine = checks[what]()
