@@ -2,6 +2,7 @@
 
 import os
 import shutil
+import signal
 import subprocess
 import sys
 
@@ -51,6 +52,20 @@ def files():
     """Returns the names of the files that git has or does not ignore, in order, without those that are deleted."""
     listed = output("git", "ls-files", "--cached", "--others", "--exclude-standard", cwd=ROOT).splitlines()
     return sorted(name for name in set(listed) if os.path.isfile(path(name)))
+
+
+def on_signals(handler):
+    """Sets what happens at a signal that stops a command, unless it was started to ignore the signal."""
+    for number in (signal.SIGINT, signal.SIGTERM, signal.SIGHUP):
+        if signal.getsignal(number) != signal.SIG_IGN:
+            signal.signal(number, handler)
+
+
+def reason(error):
+    """Returns what an error says; a signal says that it interrupted."""
+    if isinstance(error, OSError) and error.filename:
+        return f"{error.filename}: {error.strerror}"
+    return str(error) or "interrupted"
 
 
 def has_program(name):
