@@ -3,7 +3,7 @@
 The header byte_unit.h and the archive libbyte_unit.a are those of the first of these that is there:
 
 1. the folder BYTE_UNIT_LIBRARY_DIR, which `tools/make-libraries DIR` filled, or a prefix with `include` and `lib`;
-2. what `pkg-config byte_unit` names, after `tools/install PREFIX`;
+2. what `pkg-config byte_unit` names, after `tools/dev install PREFIX`;
 3. the repository around this folder, if `tools/make-libraries` was run in it.
 """
 
@@ -19,7 +19,7 @@ HERE = os.path.dirname(os.path.abspath(__file__))
 HEADER, ARCHIVE = "byte_unit.h", "libbyte_unit.a"
 NOT_FOUND = (
     f"byte_unit: {HEADER} and {ARCHIVE} are not found. Build them by `tools/make-libraries DIR` in the repository, and "
-    "set BYTE_UNIT_LIBRARY_DIR=DIR; or by `tools/install PREFIX`, so that `pkg-config byte_unit` finds them."
+    "set BYTE_UNIT_LIBRARY_DIR=DIR; or by `tools/dev install PREFIX`, so that `pkg-config byte_unit` finds them."
 )
 
 

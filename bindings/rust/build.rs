@@ -6,7 +6,7 @@ use std::process::{exit, Command};
 
 /// How to get the archive, for errors.
 const ADVICE: &str = "run tools/make-libraries DIR and set BYTE_UNIT_LIBRARY_DIR to DIR, \
-    or run tools/install PREFIX and set PKG_CONFIG_PATH to PREFIX/lib/pkgconfig";
+    or run tools/dev install PREFIX and set PKG_CONFIG_PATH to PREFIX/lib/pkgconfig";
 
 fn main() {
     println!("cargo:rerun-if-changed=build.rs");

@@ -3,6 +3,7 @@
 import argparse
 import os
 import shutil
+import signal
 import subprocess
 import sys
 
@@ -61,6 +62,20 @@ def one_of(names):
             raise argparse.ArgumentTypeError(f"'{word}' is none of: {' '.join(names)}")
         return word
     return checked
+
+
+def on_signals(handler):
+    """Sets what happens at a signal that stops a command, unless it was started to ignore the signal."""
+    for number in (signal.SIGINT, signal.SIGTERM, signal.SIGHUP):
+        if signal.getsignal(number) != signal.SIG_IGN:
+            signal.signal(number, handler)
+
+
+def reason(error):
+    """Returns what an error says; a signal says that it interrupted."""
+    if isinstance(error, OSError) and error.filename:
+        return f"{error.filename}: {error.strerror}"
+    return str(error) or "interrupted"
 
 
 def has_program(name):

@@ -25,7 +25,7 @@ PACKAGES = {
     "import dask.dataframe": "python3-dask", "cargo": "cargo", "rustc": "rustc", "/usr/bin/cargo": "cargo",
     "/usr/bin/rustc": "rustc", "cargo-clippy": "rust-clippy", "cargo-fmt": "rustfmt",
     f"{DEBIAN_RUST}/serde_json-*": "librust-serde-json-dev", f"{DEBIAN_RUST}/serde-*": "librust-serde-dev",
-    f"{DEBIAN_RUST}/toml-*": "librust-toml-dev",
+    f"{DEBIAN_RUST}/toml-*": "librust-toml-dev", "git": "git",
 }
 # What only measurements need.
 COMPARED = {

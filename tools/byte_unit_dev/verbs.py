@@ -2,9 +2,10 @@
 
 import argparse
 import importlib
+import signal
 import sys
 
-from .common import Failure, fail
+from .common import Failure, fail, on_signals, reason
 
 # Each command, and its module in this package. The first sentence of the module's docstring is what it does.
 VERBS = {
@@ -16,6 +17,7 @@ VERBS = {
     "compare-original": "original",
     "measure": "measure",
     "install": "install",
+    "make-libraries": "libraries",
     "take": "take",
 }
 
@@ -49,7 +51,9 @@ def main(words=None):
     parser = argparse.ArgumentParser(prog=f"tools/dev {verb}", description=module.__doc__,
                                      formatter_class=argparse.RawDescriptionHelpFormatter)
     module.arguments(parser)
+    given = parser.parse_args(rest)
+    on_signals(signal.default_int_handler)
     try:
-        return module.run(parser.parse_args(rest)) or 0
-    except Failure as failure:
-        return fail(f"tools/dev {verb}: {failure}")
+        return module.run(given) or 0
+    except (Failure, OSError, KeyboardInterrupt) as error:
+        return fail(f"{parser.prog}: {reason(error)}")

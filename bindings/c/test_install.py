@@ -1,0 +1,216 @@
+"""Tests `tools/dev install`: installs the C library into temporary folders, and uses it from there."""
+
+import os
+import re
+import shutil
+
+import pytest
+from byte_unit_dev.common import call, output, path, read
+from byte_unit_dev.needs import is_there, need
+
+INSTALL = [path("tools/dev"), "install"]
+PAGE = "share/man/man3/byte_unit.3"
+WARNINGS = ["-Wall", "-Wextra", "-Wpedantic", "-Werror"]
+C = ["c99", "c11", "c17", "c2x"]
+STANDARDS = {"gcc": C, "clang": C, "g++": ["c++17"], "clang++": ["c++17"]}
+LINKS = {"shared": ["-pie", "-no-pie", "-O2 -flto"], "archive": ["-pie", "-no-pie", "-O2 -flto"],
+         "static": ["-static", "-static-pie", "-static -O2 -flto"]}
+WAYS = [(cc, "shared", f"-std={standard}") for cc, standards in STANDARDS.items() for standard in standards]
+WAYS += [(cc, form, how) for cc in STANDARDS for form, hows in LINKS.items() for how in hows]
+WAYS += [("musl-gcc", "archive", "-static"), ("gcc", "archive", "-Os -s -Wl,--gc-sections")]
+
+
+def files_in(folder):
+    return sorted(str(found.relative_to(folder)) for found in folder.rglob("*"))
+
+
+def flags(prefix, *words):
+    env = {**os.environ, "PKG_CONFIG_PATH": f"{prefix}/lib/pkgconfig"}
+    return output("pkg-config", *words, "byte_unit", env=env).split()
+
+
+def example():
+    """Returns the program of the manual page, which is in README.md too."""
+    page = read("bindings/c/byte_unit.3")
+    text = re.search(r"^\.Bd -literal\n(#include.*?)^\.Ed$", page, re.M | re.S)[1].replace("\\e", "\\")
+    assert f"```c\n{text}```\n" in read("bindings/c/README.md")
+    return text
+
+
+@pytest.fixture(scope="module")
+def prefix(library, tmp_path_factory):
+    """A new folder in which the library is installed."""
+    need("gcc", "nm", "readelf", "pkg-config")
+    made = tmp_path_factory.mktemp("installed") / "prefix"
+    output(*INSTALL, "--from", library, made)
+    return made
+
+
+@pytest.mark.parametrize("cc, form, how", WAYS)
+def test_program(prefix, tmp_path, cc, form, how):
+    """The program compiles without a warning with the words of pkg-config alone, links, and runs in another folder."""
+    by_lld = ["-fuse-ld=lld"] * ("clang" in cc and "-flto" in how)
+    need(cc, *["g++"] * (cc == "clang++"), *["ld.lld"] * len(by_lld))
+    (tmp_path / "program.c").write_text(example())
+    links = {"shared": flags(prefix, "--libs"), "static": flags(prefix, "--libs", "--static"),
+             "archive": [prefix / "lib/libbyte_unit.a"]}
+    as_cpp = ["-Wno-missing-field-initializers", "-x", "c++"] * ("++" in cc)
+    words = [cc, *WARNINGS, *how.split(), *by_lld, *flags(prefix, "--cflags"), *as_cpp, "program.c", "-x", "none"]
+    assert output(*words, *links[form], "-o", "program", cwd=tmp_path) == ""
+    here = {"env": {**os.environ, "LD_LIBRARY_PATH": str(prefix / "lib")}, "cwd": "/"}
+    good, bad = call(tmp_path / "program", **here), call(tmp_path / "program", "1 x", **here)
+    assert (good.stdout, good.returncode, bad.returncode) == ("1.5 KiB\n", 0, 1)
+    assert bad.stdout.startswith("1 x: the character 'x' is incorrect (")
+
+
+def declarations(prefix, end):
+    """Returns the functions of the header, each with its result and parameters: those that it declares if `end` is a
+    semicolon, and its inline functions if it is a brace."""
+    text = re.sub(r"/\*.*?\*/", "", read(prefix / "include/byte_unit.h"), flags=re.S)
+    found = re.findall(rf"^(?:\w+ )*?(\w+) (byte_unit_\w+)\(([^()]*)\)\s*{end}", text, re.M)
+    return {name: (result, " ".join(parameters.split())) for result, name, parameters in found}
+
+
+def test_shared_library(prefix):
+    """It exports the functions that the header declares and no other, and needs libc alone."""
+    library, version = prefix / "lib/libbyte_unit.so", flags(prefix, "--modversion")[0]
+    assert sorted(output("nm", "-D", "--defined-only", library).split()[2::3]) == sorted(declarations(prefix, ";"))
+    dynamic, soname = output("readelf", "-d", library), f"libbyte_unit.so.{version.split('.')[0]}"
+    assert re.findall(r"soname: \[(.*)\]", dynamic) == [soname]
+    assert re.findall(r"NEEDED.*\[(.*)\]", dynamic) == ["libc.so.6"]
+    assert [os.readlink(library), os.readlink(prefix / "lib" / soname)] == [soname, f"libbyte_unit.so.{version}"]
+
+
+def test_version(prefix, tmp_path):
+    """The version is one in the library, the header and byte_unit.pc."""
+    wrong = "byte_unit_version() != BYTE_UNIT_VERSION || strcmp(BYTE_UNIT_VERSION_STRING, argv[1])"
+    head = "#include <byte_unit.h>\n#include <string.h>\nint main(int argc, char **argv)"
+    (tmp_path / "version.c").write_text(f"{head} {{ return argc != 2 || {wrong}; }}\n")
+    output("gcc", "version.c", "-static", *flags(prefix, "--cflags", "--libs", "--static"), cwd=tmp_path)
+    output(tmp_path / "a.out", *flags(prefix, "--modversion"))
+
+
+def test_manual_page(prefix):
+    """It declares the calls of the header, each has its name and a page, and `mandoc -T lint` finds nothing."""
+    text, synopsis = read(prefix / PAGE), {}
+    for result, name, parameters in re.findall(r'^\.Ft (\w+)\n\.Fo (\w+)\n((?:\.Fa ".*"\n)+)\.Fc$', text, re.M):
+        synopsis[name] = (result, ", ".join(re.findall(r'"(.*)"', parameters)))
+    for result, name, parameter in re.findall(r'^\.Ft (\w+)\n\.Fn (\w+) "?(\w+)"?$', text, re.M):
+        synopsis[name] = (result, parameter)
+    inline = declarations(prefix, "{")
+    # A function named `.._to` is one that only an inline function calls.
+    called = {name: row for name, row in declarations(prefix, ";").items() if name.removesuffix("_to") not in inline}
+    assert synopsis == {**called, **inline}
+    assert sorted(re.findall(r"^\.Nm (\w+)", text, re.M)) == sorted(synopsis)
+    assert {page.stem for page in (prefix / PAGE).parent.iterdir()} == {*synopsis, "byte_unit"}
+    need("mandoc")
+    assert output("mandoc", "-T", "lint", prefix / PAGE) == ""
+
+
+def test_extension(prefix):
+    """The extension exports its entry point alone, and loads from there."""
+    need("sqlite3", "sqlite3ext.h")
+    file = prefix / "lib/sqlite3/byte_unit"
+    assert output("nm", "-D", "--defined-only", f"{file}.so").split()[2::3] == ["sqlite3_byteunit_init"]
+    assert output("sqlite3", "-cmd", f".load {file}", ":memory:", "SELECT size_parse('1.5 KiB');") == "1536\n"
+
+
+def fails(folder, reason, *words, **more):
+    """The installation fails with the reason in one line, and leaves the files as they were."""
+    kept = files_in(folder)
+    got = call(*words, stderr=-1, **more)
+    assert got.returncode == 1 and re.fullmatch(f"tools/dev install: .*{reason}.*\n", got.stderr)
+    assert files_in(folder) == kept
+
+
+@pytest.mark.parametrize("there, words, reason", [
+    (f"prefix/{PAGE}/in", "--from LIBRARY prefix", "nothing is installed: .*byte_unit.3 is a folder"),
+    ("prefix/lib", "--from LIBRARY prefix", "nothing is installed: .*prefix/lib: "),
+    ("prefix", "--from LIBRARY prefix/in", "nothing is installed: .*prefix"),
+    ("other", "--from . prefix", "nothing is installed: .*libbyte_unit.a: No such file or directory"),
+    ("other", "--from LIBRARY a$b", "cannot be written in byte_unit.pc"),
+    ("other", "--uninstall prefix", "is missing: nothing was installed"),
+    ("prefix/share/byte_unit/installed", "--uninstall prefix", "'../other' is not a path below the prefix"),
+])
+def test_failure(library, tmp_path, there, words, reason):
+    (tmp_path / there).parent.mkdir(parents=True, exist_ok=True)
+    (tmp_path / there).write_text("../other\n")
+    fails(tmp_path, reason, *INSTALL, *words.replace("LIBRARY", library).split(), cwd=tmp_path)
+
+
+def test_full_disk(library, tmp_path):
+    """On a disk of 90 KB in a name space of its own; if nothing can be mounted, with a limit of 90 KB on each file."""
+    mount, inner = f"mount -t tmpfs -o size=90k none {tmp_path}", ["unshare", "--mount", "--map-root-user", "sh", "-c"]
+    words = [*INSTALL, "--from", library, tmp_path / "full"]
+    if not shutil.which("unshare") or call(*inner, mount).returncode:
+        fails(tmp_path, ": File too large", "sh", "-c", 'ulimit -f 180; exec "$@"', "", *words)
+    else:
+        got = call(*inner, f"{mount}; \"$@\"; echo $?; find {tmp_path} -mindepth 1", "", *words)
+        assert re.search(r"\ntools/dev install: nothing is installed: .*: No space left on device\n1\n\Z", got.stdout)
+
+
+def test_signal(library, tmp_path):
+    (tmp_path / "cc").write_text("#!/bin/sh\nkill -TERM $PPID\nexec sleep 9 > /dev/null 2>&1\n")
+    (tmp_path / "cc").chmod(0o755)
+    env = {**os.environ, "CC": str(tmp_path / "cc")}
+    fails(tmp_path, "nothing is installed: interrupted", *INSTALL, "--from", library, tmp_path / "new/prefix", env=env)
+
+
+def test_uninstall(library, tmp_path):
+    """It removes the files and the folders of the installation, those of an earlier one too, and no others."""
+    prefix, other = tmp_path / "prefix", tmp_path / "prefix/lib/other.so"
+    output(*INSTALL, "--from", library, prefix)
+    assert (prefix / "lib/sqlite3/byte_unit.so").exists() == is_there("sqlite3ext.h")
+    output(*INSTALL, "--from", library, "--without-sqlite", prefix)
+    assert not (prefix / "lib/sqlite3/byte_unit.so").exists()
+    other.write_text("")
+    output(*INSTALL, "--uninstall", prefix)
+    assert files_in(tmp_path) == ["prefix", "prefix/lib", "prefix/lib/other.so"]
+    other.unlink()
+    output(*INSTALL, "--from", library, prefix)
+    output(*INSTALL, "--uninstall", prefix)
+    assert files_in(tmp_path) == ["prefix", "prefix/lib"]
+    output(*INSTALL, "--from", library, tmp_path / "new")
+    output(*INSTALL, "--uninstall", tmp_path / "new")
+    assert files_in(tmp_path) == ["prefix", "prefix/lib"]
+
+
+def test_destdir(library, tmp_path):
+    """byte_unit.pc names the prefix alone, and the list has each file."""
+    output(*INSTALL, "--from", library, "/usr", env={**os.environ, "DESTDIR": str(tmp_path)})
+    config = read(tmp_path / "usr/lib/pkgconfig/byte_unit.pc")
+    assert config.startswith("prefix=/usr\n") and str(tmp_path) not in config
+    lines = read(tmp_path / "usr/share/byte_unit/installed").splitlines()
+    found = {name for name in files_in(tmp_path) if not (tmp_path / name).is_dir()}
+    assert {f"usr/{line}" for line in lines if not line.endswith("/")} == found
+
+
+def test_make_libraries(library, tmp_path):
+    """It links what is there, and rejects a wrong call, and a folder without an archive."""
+    make = path("tools/make-libraries")
+    assert [call(make, *words, cwd=tmp_path).returncode for words in (["--link", "."], [], ["none"])] == [1, 2, 2]
+    for name in ("libbyte_unit.a", "byte_unit.h"):
+        shutil.copy(f"{library}/{name}", tmp_path)
+    output(make, "--link", tmp_path)
+    assert sorted(os.listdir(tmp_path)) == sorted(os.listdir(library))
+
+
+def test_without_compiler(library, tmp_path):
+    said = output(*INSTALL, "--from", library, tmp_path, env={**os.environ, "CC": "none"})
+    assert "skipped: libbyte_unit.so and sqlite3/byte_unit.so: there is no C compiler none\n" in said
+    assert not [name for name in files_in(tmp_path) if ".so" in name]
+
+
+def test_command(library, tmp_path, request):
+    """The command is installed with its manual page and its completions."""
+    built = path("crates/byte_unit_cli/out/byte_unit_cli")
+    if not os.path.exists(built) and not request.config.getoption("after_ci"):
+        pytest.skip("crates/byte_unit_cli/out/byte_unit_cli is not built")
+    source, prefix = shutil.copytree(library, tmp_path / "with-command"), tmp_path / "prefix"
+    shutil.copy(built, source / "byte-unit")
+    output(*INSTALL, "--from", source, prefix)
+    assert output(prefix / "bin/byte-unit", "--to=plain", "1.5KiB") == "1536\n"
+    files = {"bin/byte-unit", "share/man/man1/byte-unit.1", "share/bash-completion/completions/byte-unit"}
+    assert files < set(files_in(prefix))
+    output(*INSTALL, "--from", source, "--without-command", prefix)
+    assert not files & set(files_in(prefix))

@@ -1,0 +1,156 @@
+"""Installs the C library where compilers, pkg-config, man and SQLite look for it, and the command byte-unit.
+
+Proves and builds the library by `tools/make-libraries`, and the command by `rt run` in crates/byte_unit_cli; both print
+their progress. What `rt check`, `rt lib` or `rt run` has proved is not proved again; what `rt ci` alone has proved is.
+Then puts into the folder PREFIX, such as /usr/local:
+
+    bin/byte-unit                   the command, with share/man/man1/byte-unit.1 and its completions for bash in
+                                    share/bash-completion/completions
+    include/byte_unit.h             the header
+    lib/libbyte_unit.a, .so         the library; the .so leads to that of the soname, and this to that of the version
+    lib/pkgconfig/byte_unit.pc      for cc $(pkg-config --cflags --libs byte_unit)
+    lib/sqlite3/byte_unit.so        the extension for SQLite, if sqlite3ext.h is installed
+    share/man/man3/byte_unit.3      the manual page, also by the name of each call
+    share/byte_unit/LICENSE, installed    the license, and the list of these files, which --uninstall reads
+
+With the variable DESTDIR the files go to $DESTDIR/PREFIX, and name PREFIX: for packages.
+
+All files are written beside their places first, and then renamed. If this fails, or a signal comes before the end,
+nothing is installed; one line says so and why, and the status is 1. --uninstall removes the files of the list, and the
+folders that the installation made if they are empty. Without a C compiler ($CC, or cc) the shared library and the
+extension are left out, and a line says so.
+"""
+
+import os
+import re
+import shlex
+import shutil
+import tempfile
+import time
+from pathlib import Path
+
+from . import libraries
+from .common import Failure, has_program, path, read, reason
+from .libraries import ARCHIVE, EXTENSION, HEADER
+from .replace import missing_folders, remove, remove_folders, replace
+
+LIB = "lib"
+LIST = "share/byte_unit/installed"
+COMMAND = "byte-unit"
+
+
+def arguments(parser):
+    parser.add_argument("--from", dest="source", metavar="DIR",
+                        help="prove nothing; take libbyte_unit.a, byte_unit.h and, if it is there, byte-unit from DIR")
+    parser.add_argument("--without-sqlite", action="store_true", help="leave the extension for SQLite out")
+    parser.add_argument("--without-command", action="store_true", help="leave the command out")
+    parser.add_argument("--uninstall", action="store_true", help="remove what was installed in PREFIX")
+    parser.add_argument("prefix", metavar="PREFIX")
+
+
+def run(given):
+    prefix = os.path.abspath(given.prefix)
+    if re.search(r'[\x00-\x1f"\\$#]', prefix):
+        why = 'a prefix with a control character or one of " \\ $ # cannot be written in byte_unit.pc'
+        raise Failure(f"{prefix!r}: {why}")
+    root = Path(os.path.normpath(os.environ.get("DESTDIR", "") + prefix))
+    if given.uninstall:
+        uninstall(root)
+    elif given.source or has_program("rt"):
+        install(given, prefix, root)
+    else:
+        raise Failure("needs the Rattle toolchain (rt): see README.md")
+
+
+def install(given, prefix, root):
+    began = time.monotonic()
+    with tempfile.TemporaryDirectory() as folder:
+        try:
+            build(Path(folder), given)
+            print(f"installing in {root}", flush=True)
+            files, lines = files_of(Path(folder), prefix, given), listed(root)
+            made = [folder for folder in missing_folders([root / name for name in [*files, LIST]])
+                    if folder.is_relative_to(root)]
+            folders = {line for line in lines if line.endswith("/")} | {f"{at.relative_to(root)}/" for at in made}
+            text = "".join(f"{line}\n" for line in [*sorted(files), LIST, *sorted(folders)])
+            files = {LIST: text.encode(), **files}
+            modes = {root / name: 0o755 for name in files if ".so" in name or name.startswith("bin/")}
+            gone = [line for line in lines if line not in {*files, *folders} and os.path.lexists(root / line)]
+            replace({root / name: content for name, content in {**files, **dict.fromkeys(gone)}.items()}, modes)
+        except (Failure, OSError, KeyboardInterrupt) as error:
+            raise Failure(f"nothing is installed: {reason(error)}") from error
+    print(f"installed {len(files)} files in {libraries.duration(began)}")
+    print_hints(prefix, files)
+
+
+def print_hints(prefix, files):
+    folder = shlex.quote(os.path.join(prefix, LIB))
+    print(f"to compile: cc program.c $(PKG_CONFIG_PATH={folder}/pkgconfig pkg-config --cflags --libs byte_unit)")
+    if f"{LIB}/libbyte_unit.so" in files:
+        print(f"to run: `ldconfig` as root if the loader reads {folder}, else LD_LIBRARY_PATH={folder}")
+    if f"{LIB}/{EXTENSION}" in files:
+        print(f"in sqlite3: .load {folder}/sqlite3/byte_unit")
+
+
+def build(folder, given):
+    """Makes the libraries and the command in the folder."""
+    crate = path("crates/byte_unit_cli")
+    if given.source:
+        has_command = os.path.exists(os.path.join(given.source, COMMAND))
+        for name in (ARCHIVE, HEADER, *[COMMAND] * has_command):
+            shutil.copy(os.path.join(given.source, name), folder)
+        if not has_command and not given.without_command:
+            print(f"skipped: bin/{COMMAND}: {given.source} has no {COMMAND}")
+    else:
+        libraries.build(folder)
+    libraries.link(folder)
+    if not given.source and not given.without_command:
+        print("proving byte_unit_cli, which takes minutes if it is not proved yet", flush=True)
+        libraries.watched("rt", "run", "--", "--version", cwd=crate)
+        shutil.copy(f"{crate}/out/byte_unit_cli", folder / COMMAND)
+
+
+def calls_of(header):
+    """Returns the names of the header's functions, but for those, named `.._to`, that only inline functions call."""
+    names = set(re.findall(r"^\w[\w ]* (byte_unit_\w+)\(", header, re.M))
+    return sorted(name for name in names if name.removesuffix("_to") not in names - {name})
+
+
+def files_of(folder, prefix, given):
+    """Returns what to install: paths below PREFIX, each with its contents as bytes, or the path that it links to."""
+    shared, soname, short = libraries.shared_names(folder)
+    built = {f"include/{HEADER}": HEADER, **{f"{LIB}/{name}": name for name in (ARCHIVE, shared)}}
+    built.update({} if given.without_sqlite else {f"{LIB}/{EXTENSION}": EXTENSION})
+    built.update({} if given.without_command else {f"bin/{COMMAND}": COMMAND})
+    files = {place: (folder / name).read_bytes() for place, name in built.items() if (folder / name).exists()}
+    others = {"share/byte_unit/LICENSE": "LICENSE", "share/man/man3/byte_unit.3": "bindings/c/byte_unit.3"}
+    if f"bin/{COMMAND}" in files:
+        others["share/man/man1/byte-unit.1"] = "command/byte-unit.1"
+        others["share/bash-completion/completions/byte-unit"] = "command/byte-unit.bash"
+    files.update({place: Path(path(name)).read_bytes() for place, name in others.items()})
+    config = read("bindings/c/byte_unit.pc.in").replace("@PREFIX@", prefix)
+    files[f"{LIB}/pkgconfig/byte_unit.pc"] = config.replace("@VERSION@", shared.partition(".so.")[2]).encode()
+    files.update({f"share/man/man3/{call}.3": "byte_unit.3" for call in calls_of(read(folder / HEADER))})
+    if f"{LIB}/{shared}" in files:
+        files.update({f"{LIB}/{soname}": shared, f"{LIB}/{short}": soname})
+    return files
+
+
+def listed(root):
+    """Returns the paths in the list of an earlier installation; those of folders end in a slash."""
+    lines = read(root / LIST).splitlines() if (root / LIST).exists() else []
+    for line in lines:
+        if not line or line.startswith("/") or ".." in line.split("/"):
+            raise Failure(f"{root / LIST}: {line!r} is not a path below the prefix")
+    return lines
+
+
+def uninstall(root):
+    lines = listed(root)
+    if not lines:
+        raise Failure(f"{root / LIST} is missing: nothing was installed there by tools/dev install")
+    files = [line for line in lines if not line.endswith("/")]
+    missing = sum(not os.path.lexists(root / line) for line in files)
+    remove(root / line for line in sorted(files, key=lambda line: line == LIST))
+    remove_folders(root / line for line in lines if line.endswith("/"))
+    print(f"removed {len(files) - missing} files from {root}" + f"; {missing} were missing" * (missing > 0))

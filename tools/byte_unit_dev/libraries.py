@@ -1,0 +1,133 @@
+"""Builds the C library in an existing folder.
+
+DIR then has libbyte_unit.a and byte_unit.h. If there is a C compiler ($CC, or cc) it also has libbyte_unit.so, a link
+to libbyte_unit.so.VERSION, and sqlite3/byte_unit.so, the extension for SQLite, if sqlite3ext.h is installed. First
+`rt lib` proves the crate byte_unit_c; meanwhile this prints a line every 20 seconds. What `rt check`, `rt lib`, `rt
+run` or `rt all check` has proved is not proved again, unless it has changed since. What `rt ci` has proved is: it
+leaves nothing that other commands of `rt` read. So the first call after it takes minutes, and the second seconds.
+"""
+
+import os
+import re
+import shutil
+import signal
+import subprocess
+import time
+from pathlib import Path
+
+from .common import Failure, call, has_program, output, path, read
+
+ARCHIVE, HEADER, EXTENSION = "libbyte_unit.a", "byte_unit.h", "sqlite3/byte_unit.so"
+# Every x86-64 processor. The default of rt, x86-64-v2, ends a program on the processors qemu64 and kvm64 by SIGILL.
+CPU = "x86-64"
+
+
+def arguments(parser):
+    parser.prog, mode = "tools/make-libraries", parser.add_mutually_exclusive_group()
+    mode.add_argument("--after-ci", action="store_true", help="use the libraries that `rt ci` has built, as the gate"
+                      " does; this does not detect sources that have changed since")
+    mode.add_argument("--link", action="store_true", help="prove nothing, and link what is in DIR already:"
+                      f" {ARCHIVE}, with {HEADER} beside it")
+    parser.add_argument("folder", metavar="DIR")
+    parser.set_defaults(reject=parser.error)
+
+
+def run(given):
+    if not os.path.isdir(given.folder):
+        given.reject(f"{given.folder!r} is no folder")
+    folder = Path(given.folder).resolve()
+    if not given.link:
+        build(folder, given.after_ci)
+    link(folder)
+
+
+def build(folder, after_ci=False):
+    """Proves byte_unit_c and what it needs, and builds the archive."""
+    if not has_program("rt"):
+        raise Failure("needs the Rattle toolchain (rt): see README.md")
+    began, crate = time.monotonic(), path("crates/byte_unit_c")
+    if after_ci:
+        said = watched(*words_after_ci(folder / ARCHIVE), cwd=crate)
+    else:
+        what = "byte_unit_c and the crates that it needs, which takes minutes if only rt ci has proved them"
+        print(f"proving {what}", flush=True)
+        said = watched("rt", "lib", f"--cpu={CPU}", cwd=crate)
+        shutil.copy(f"{crate}/out/libbyte_unit_c.a", folder / ARCHIVE)
+    proved = re.findall(r"^logic=proved .*$", said, re.M)
+    if not proved:
+        raise Failure("no line of rt begins with logic=proved")
+    print(*proved, f"built {ARCHIVE} in {duration(began)}", sep="\n", flush=True)
+    shutil.copy(path("bindings/c", HEADER), folder)
+
+
+def words_after_ci(archive):
+    """Returns the call that `rt lib` makes, with the libraries that `rt ci` built of its dependencies."""
+    kit = os.path.dirname(output("rt", "doc").strip())
+    words = [f"{kit}/bin/rattle", "build", "src/lib.rt", "--crate-name", "byte_unit_c", "--crate-type", "staticlib",
+             "--links", "byte_unit_c=", "--jobs", "2", "--cpu", CPU, "--toolchain", f"{kit}/toolchain", "-o", archive,
+             "--antt-project", f"{kit}/rattle/logic/antt-project.json", "--logic-built", f"{kit}/logic_built"]
+    needed = re.search(r"^byte_unit_c staticlib:(.*)", read("crates.txt"), re.M)[1].split()
+    for name, at in [("std", f"{kit}/rlibs"), *((name, path("crates", name, "out/rlib")) for name in needed)]:
+        words += ["--extern", f"{name}={at}/{name}.rlib", "-L", f"dependency={at}"]
+    return words
+
+
+def watched(*words, cwd):
+    """Runs a program, which ends with this one, and returns what it prints. Says every 20 seconds how far it is."""
+    began, said = time.monotonic(), None
+    how = {"stdin": subprocess.DEVNULL, "stdout": subprocess.PIPE, "stderr": subprocess.STDOUT}
+    with subprocess.Popen(words, cwd=cwd, start_new_session=True, **how) as process:
+        try:
+            while said is None:
+                try:
+                    said = process.communicate(timeout=20)[0].decode(errors="replace")
+                except subprocess.TimeoutExpired as waited:
+                    last = (waited.output or b"").decode(errors="replace").rstrip().rpartition("\n")[2]
+                    print(f"{duration(began)} so far; rt prints: {last}", flush=True)
+        finally:
+            if process.poll() is None:
+                os.killpg(process.pid, signal.SIGTERM)
+    if process.returncode:
+        print(said, end="", flush=True)
+        raise Failure(f"{words[0]} {words[1]} in {cwd} failed: see above")
+    return said
+
+
+def duration(began):
+    minutes, seconds = divmod(round(time.monotonic() - began), 60)
+    return f"{minutes} min {seconds} s"
+
+
+def shared_names(folder):
+    """Returns the name of the shared library, by the version in the header, its soname, and its name for linkers."""
+    found = re.search(r'^#define BYTE_UNIT_VERSION_STRING "((\d+)[0-9.]*)"', read(folder / HEADER), re.M)
+    if not found:
+        raise Failure(f"{folder / HEADER}: no line defines BYTE_UNIT_VERSION_STRING")
+    return f"libbyte_unit.so.{found[1]}", f"libbyte_unit.so.{found[2]}", "libbyte_unit.so"
+
+
+def link(folder):
+    """Links the shared library, and the extension for SQLite with the archive inside, if there is a C compiler."""
+    archive, cc = folder / ARCHIVE, os.environ.get("CC") or "cc"
+    if not archive.is_file() or not (folder / HEADER).is_file():
+        raise Failure(f"{folder}: there is no {ARCHIVE} or no {HEADER} to link")
+    if not has_program(cc):
+        print(f"skipped: libbyte_unit.so and {EXTENSION}: there is no C compiler {cc}")
+        return
+    shared, soname, short = shared_names(folder)
+    linked(cc, folder / shared, f"-Wl,-soname,{soname}", f"-Wl,--version-script={path('bindings/c/byte_unit.map')}",
+           "-Wl,--whole-archive", archive, "-Wl,--no-whole-archive")
+    for name, target in ((soname, shared), (short, soname)):
+        (folder / name).unlink(missing_ok=True)
+        (folder / name).symlink_to(target)
+    if call(cc, "-E", "-", input="#include <sqlite3ext.h>\n").returncode:
+        print(f"skipped: {EXTENSION}: there is no sqlite3ext.h (Debian: libsqlite3-dev)")
+        return
+    (folder / EXTENSION).parent.mkdir(exist_ok=True)
+    linked(cc, folder / EXTENSION, "-std=c99", "-fPIC", "-O2", "-fvisibility=hidden", "-Wall", "-Wextra", "-I", folder,
+           path("bindings/sqlite/byte_unit_sqlite.c"), archive, "-Wl,--exclude-libs,ALL")
+
+
+def linked(cc, place, *words):
+    if call(cc, "-shared", "-o", place, "-Wl,-z,defs,-z,relro,-z,now", *words, stdout=None, stderr=None).returncode:
+        raise Failure(f"{cc} failed: see above")

@@ -1,0 +1,180 @@
+"""Copies the library's six crates into another repository of Rattle, or updates the copy there.
+
+DIR is the top of the other repository. Copies the crates into DIR/crates, adds their lines to DIR/crates.txt and the
+line `out/` to DIR/.gitignore, and records in crates/byte_unit/VERSION what was copied: version, commit, toolchain, and
+the checksum of each file, as `sha256sum` writes it. Fails if one of the crates is already there, as a folder or as a
+line.
+
+With --update, replaces that copy by the current one. Fails, and names the files, if any was edited, added or removed.
+Each crate's out/ stays, and so does every other file of DIR.
+
+Either form changes everything or nothing. The library's tests and mutants are not copied.
+"""
+
+import hashlib
+import os
+import re
+import subprocess
+from pathlib import Path
+
+from .common import ROOT, Failure, call, has_program, reason
+from .replace import remove_folders, replace
+
+HERE = Path(ROOT)
+CRATES = ["byte_unit_math", "byte_unit_base", "byte_unit_format", "byte_unit_byte", "byte_unit_bit", "byte_unit"]
+PARTS = ["src", "specs", "proofs"]
+RECORD = "crates/byte_unit/VERSION"
+
+
+def arguments(parser):
+    parser.add_argument("--update", action="store_true", help="replace the copy in DIR by the current one")
+    parser.add_argument("folder", metavar="DIR", help="the top of the other repository")
+
+
+def run(given):
+    try:
+        lines = take(given.folder, given.update, CRATES)
+    except (Failure, OSError, KeyboardInterrupt) as error:
+        raise Failure(f"{given.folder}: {reason(error)}; nothing was changed") from error
+    print("\n".join(f"take: {given.folder}{line}" for line in lines))
+
+
+def take(shown, is_update, crates):
+    """Takes the crates into the folder that the user names, or updates them there. Returns what to print."""
+    there = Path(shown).resolve()
+    if not shown or not there.is_dir():
+        raise Failure("there is no such folder")
+    if there.is_relative_to(HERE):
+        raise Failure("it is this repository, or in it")
+    before = unchanged_record(there, crates) if is_update else check_free(there, crates)
+    files, old = taken(crates), recorded(before)[1] if is_update else {}
+    now = recorded(files[RECORD].decode())[0]
+    rows, changes = with_rows(bytes_of(there / "crates.txt"), crates)
+    ignored = bytes_of(there / ".gitignore")
+    if b"out/" not in map(bytes.rstrip, ignored.splitlines()):
+        changes.append(".gitignore: added `out/`")
+        ignored = ended(ignored) + b"out/\n"
+    files.update({"crates.txt": rows, ".gitignore": ignored})
+    places = {(there / name).resolve(): content for name, content in files.items()}
+    written = {place: content for place, content in places.items()
+               if not place.is_file() or place.read_bytes() != content}
+    if not written:
+        return [f" is up to date: {now}"]
+    gone = dict.fromkeys(there / name for name in old if name not in files)
+    modes = {place: place.stat().st_mode & 0o777 for place in written if place.exists()}
+    replace({**written, **gone}, modes)
+    remove_folders({folder for file in gone for folder in file.parents})
+    how = f"updated from {recorded(before)[0]} to" if is_update else f"copied {', '.join(crates)}:"
+    return [f": {how} {now}", *(f": {it}" for it in changes if is_update or not it.startswith("crates.txt"))]
+
+
+def check_free(there, crates):
+    """Fails if one of the crates is there already, or the other repository keeps its crates elsewhere."""
+    if os.path.lexists(there / "crates.txt") and not (there / "crates").is_dir():
+        raise Failure("its crates are not in a folder crates/")
+    for crate in crates:
+        if os.path.lexists(there / "crates" / crate):
+            raise Failure(f"crates/{crate} is there already; --update replaces an unchanged copy")
+        if row_of(crate).search(bytes_of(there / "crates.txt")):
+            raise Failure(f"crates.txt has a line of {crate} already")
+
+
+def unchanged_record(there, crates):
+    """Returns the record of the copy. Fails, and names the files, unless its files are those of the record."""
+    if not (there / RECORD).is_file():
+        raise Failure(f"there is no {RECORD}, which says what was taken")
+    text = bytes_of(there / RECORD).decode(errors="replace")
+    kept, found = recorded(text)[1], sums(contents_of(there, crates))
+    del found[RECORD]
+    differ = [f"{name} was {'removed' if name not in found else 'edited' if name in kept else 'added'}"
+              for name in sorted({**kept, **found}) if kept.get(name) != found.get(name, "")]
+    if differ:
+        raise Failure("the copy is not as it was taken: " + "; ".join(differ))
+    return text
+
+
+def contents_of(top, crates):
+    """Returns the bytes of each file of the crates below `top`, but for out/, by its path. Those of a link are None."""
+    parts = [part for crate in crates for part in (top / "crates" / crate).glob("*") if part.name != "out"]
+    found = [file for part in parts for file in (part, *part.rglob("*")) if file.is_symlink() or not file.is_dir()]
+    return {file.relative_to(top).as_posix(): file.read_bytes() if file.is_file() and not file.is_symlink() else None
+            for file in found}
+
+
+def sums(contents):
+    return {name: content is not None and hashlib.sha256(content).hexdigest() for name, content in contents.items()}
+
+
+def recorded(text):
+    """Returns the version and the commit of a record, and its checksums."""
+    words = dict(re.findall(r"^(version|commit): (.+)$", text, re.M))
+    kept = {name: value for value, name in re.findall(r"^([0-9a-f]{64})  (.+)$", text, re.M)}
+    if len(words) != 2 or not kept:
+        raise Failure(f"{RECORD} there is no record of tools/dev take")
+    return f"{words['version']}, commit {words['commit']}", kept
+
+
+def taken(crates):
+    """Returns the bytes of each file that is to be in the other repository, with the record of them."""
+    files = {name: text for name, text in contents_of(HERE, crates).items() if name.split("/")[2] in PARTS}
+    files["crates/byte_unit/LICENSE"] = bytes_of(HERE / "LICENSE")
+    toolchain = first_line("rt", "version") or "unknown"
+    lines = [f"version: {version()}", f"commit: {commit(crates)}", f"toolchain: {toolchain}"]
+    lines += [f"{value}  {name}" for name, value in sorted(sums(files).items())]
+    files[RECORD] = "".join(f"{line}\n" for line in lines).encode()
+    return files
+
+
+def bytes_of(file):
+    """Returns the bytes of a file, and no bytes if there is no such file."""
+    return file.read_bytes() if os.path.lexists(file) else b""
+
+
+def first_line(*words):
+    """Returns the first line that a command prints, or None if it is not there or fails."""
+    own = {name: value for name, value in os.environ.items() if not name.startswith("GIT_")}
+    how = {"cwd": HERE, "env": own, "stdin": subprocess.DEVNULL, "stderr": subprocess.DEVNULL}
+    ran = call(*words, **how) if has_program(words[0]) else None
+    return ran.stdout.partition("\n")[0] if ran and ran.returncode == 0 else None
+
+
+def version():
+    """Returns the newest version of CHANGELOG.md, with `+unreleased` if changes that are not released come first."""
+    heads = re.findall(r"^## \[([^\]\n]+)\](.*)", bytes_of(HERE / "CHANGELOG.md").decode(), re.M)
+    named = [name for name, _ in heads if name != "Unreleased"] or ["unknown"]
+    return named[0] + "+unreleased" * ("unreleased" in "".join(heads[0] if heads else ()).lower())
+
+
+def commit(crates):
+    """Returns the commit of this repository, and whether what is taken differs from it."""
+    top, name = first_line("git", "rev-parse", "--show-toplevel"), first_line("git", "rev-parse", "--short=12", "HEAD")
+    if not top or not name or Path(top).resolve() != HERE:
+        return "unknown"
+    ours = [f"crates/{crate}" for crate in crates] + ["crates.txt", "LICENSE"]
+    return name + " (modified)" * bool(first_line("git", "status", "--porcelain", "--", *ours))
+
+
+def ended(text):
+    """Returns the text, with a newline at its end unless it is empty."""
+    return text if text.endswith(b"\n") else text and text + b"\n"
+
+
+def row_of(crate):
+    """Returns the pattern of the line of a crate in crates.txt, with the spaces around it."""
+    return re.compile(rb"^([ \t]*)(%b(?![^\s:])[^\r\n]*?)([ \t\r]*)$" % crate.encode(), re.M)
+
+
+def with_rows(text, crates):
+    """Returns the text of crates.txt in which each of our lines takes the place of that of its crate, or is added. Also
+    returns a sentence for each change."""
+    changes = []
+    for crate in crates:
+        ours = row_of(crate).search(bytes_of(HERE / "crates.txt"))[2]
+        theirs = row_of(crate).search(text)
+        if not theirs:
+            text = ended(text) + ours + b"\n"
+            changes.append(f"crates.txt: added `{ours.decode()}`")
+        elif theirs[2] != ours:
+            text = text[:theirs.start(2)] + ours + text[theirs.end(2):]
+            changes.append(f"crates.txt: `{theirs[2].decode(errors='replace')}` is now `{ours.decode()}`")
+    return text, changes

@@ -1,0 +1,184 @@
+"""Tests `tools/dev take` on a small model of this repository, without git, and on another one with files of its own."""
+
+import os
+import shutil
+from functools import partial
+from hashlib import sha256
+
+import pytest
+from byte_unit_dev import replace, take
+from byte_unit_dev.common import ROOT, call, output
+from byte_unit_dev.needs import need
+
+CRATES = ["byte_unit_math", "byte_unit_base", "byte_unit_format", "byte_unit_byte", "byte_unit_bit", "byte_unit"]
+RECORD = "crates/byte_unit/VERSION"
+MATH = "crates/byte_unit_math"
+
+
+def write(top, files):
+    for name, text in files.items():
+        (top / name).parent.mkdir(parents=True, exist_ok=True)
+        (top / name).write_text(text)
+
+
+def contents(top, times=False):
+    """Returns the checksum of each file, and None of each empty folder, by its path; with `times`, also the time."""
+    found = [path for path in top.rglob("*") if not path.is_dir() or not os.listdir(path)]
+    sums = {path: None if path.is_dir() else sha256(path.read_bytes()).hexdigest() for path in found}
+    return {str(path.relative_to(top)): (sums[path], times and path.stat().st_mtime_ns) for path in found}
+
+
+@pytest.fixture
+def here(tmp_path):
+    """A model of this repository, with a few files in each crate."""
+    here = tmp_path / "here"
+    shutil.copytree(f"{ROOT}/tools/byte_unit_dev", here / "tools/byte_unit_dev")
+    shutil.copy(f"{ROOT}/tools/dev", here / "tools")
+    shutil.copy(f"{ROOT}/crates.txt", here)
+    for crate in [*CRATES, "byte_unit_lines"]:
+        names = ["src/lib.rt", "specs/in/Lib.antt", "proofs/Lib.antt", "must-fail/a.edit", "out/rlib/a"]
+        write(here / "crates" / crate, {name: f"{name} of {crate}\n" for name in names})
+    write(here, {"LICENSE": "MIT\n", "CHANGELOG.md": "## [1.0.0] - 2000-01-01\n", f"{MATH}/src/empty.rt": ""})
+    shutil.rmtree(here / "crates/byte_unit/proofs")
+    return here
+
+
+@pytest.fixture
+def there(tmp_path):
+    """The other repository, before the first take."""
+    there = tmp_path / "another one"
+    write(there, {"crates.txt": "quota: byte_unit", ".gitignore": "*.log", "crates/quota/a": "Its own."})
+    return there
+
+
+@pytest.fixture
+def copied(here, there):
+    """The other repository after the first take, with built files."""
+    run(here, there)
+    write(there, {f"crates/{crate}/out/rlib/kept": crate for crate in CRATES})
+    return there
+
+
+def run(here, *words, status=0):
+    """Calls `tools/dev take`, and returns what it prints. If it fails, that is one line, and nothing changes."""
+    before = contents(here.parent, times=True)
+    ran = call(here / "tools/dev", "take", *words, stderr=-1, cwd=here)
+    assert ran.returncode == status and bool(ran.stderr) == bool(status) != bool(ran.stdout)
+    if status:
+        assert contents(here.parent, times=True) == before and (status == 2 or ran.stderr.count("\n") == 1)
+    return ran.stdout + ran.stderr
+
+
+def change(here):
+    """Makes the next version: edits files, adds one, removes all of a folder, and changes the line of a crate."""
+    lines = (here / "crates.txt").read_text().replace("byte_unit_math:\n", "byte_unit_math: core\n", 1)
+    changelog = "## [Unreleased]\n\n## [2.0.0] - 2000-01-02\n"
+    write(here, {"crates.txt": lines, "CHANGELOG.md": changelog, f"{MATH}/specs/New.antt": "-- New.\n"})
+    write(here, {f"crates/{crate}/src/lib.rt": "// The next version.\n" for crate in CRATES})
+    shutil.rmtree(here / "crates/byte_unit/specs")
+
+
+def test_first_take(here, there):
+    own, ours = contents(there), contents(here)
+    said = run(here, there)
+    assert ".gitignore: added `out/`\n" in said and ": 1.0.0, commit unknown\n" in said
+    lines = [line for line in (here / "crates.txt").read_text().splitlines() if line.split(":")[0] in CRATES]
+    assert (there / "crates.txt").read_text() == "\n".join(["quota: byte_unit", *lines]) + "\n"
+    assert (there / ".gitignore").read_text() == "*.log\nout/\n"
+    now = contents(there)
+    copies = {path: row for path, row in now.items() if path not in own and path != RECORD}
+    parts = tuple(f"crates/{crate}/{part}/" for crate in CRATES for part in ["src", "specs", "proofs"])
+    wanted = {path: row for path, row in ours.items() if path.startswith(parts)}
+    assert copies == {**wanted, "crates/byte_unit/LICENSE": ours["LICENSE"]}
+    assert now["crates/quota/a"] == own["crates/quota/a"]
+    record = (there / RECORD).read_text().splitlines()
+    assert record[:2] == ["version: 1.0.0", "commit: unknown"] and record[2].startswith("toolchain: ")
+    assert record[3:] == [f"{row[0]}  {path}" for path, row in sorted(copies.items())]
+
+
+def test_wrong_calls(here, copied):
+    said = run(here, copied, status=1)
+    assert said.startswith("tools/dev take: ") and "is there already" in said and "; nothing was changed" in said
+    for missing in (f"{copied}/x", "", f"{copied}/crates.txt"):
+        assert f"{missing}: there is no such folder" in run(here, missing, status=1)
+    here.with_name("link").symlink_to(here)
+    assert "this repository" in run(here, here.with_name("link"), status=1)
+    assert "this repository" in run(here, "--update", here, status=1)
+    for words in ([], [copied, here], ["--force", copied]):
+        assert "usage:" in run(here, *words, status=2)
+    assert run(here, "--help").startswith("usage:")
+
+
+def test_not_free(here, there):
+    write(there, {"crates.txt": "quota: byte_unit\nbyte_unit : quota\n"})
+    assert "crates.txt has a line of byte_unit already" in run(here, there, status=1)
+    (there / "crates").rename(there / "others")
+    assert "its crates are not in a folder crates/" in run(here, there, status=1)
+    assert f"there is no {RECORD}" in run(here, "--update", there, status=1)
+
+
+def test_changes_there(here, copied):
+    before = contents(copied, times=True)
+    assert "up to date: 1.0.0" in run(here, "--update", copied)
+    assert contents(copied, times=True) == before
+    write(copied / MATH, {"src/lib.rt": "// Edited.\n", "must-fail/own.edit": ""})
+    (copied / "crates/byte_unit/LICENSE").unlink()
+    found = f"crates/byte_unit/LICENSE was removed; {MATH}/must-fail/own.edit was added; {MATH}/src/lib.rt was edited"
+    assert f": {found}; nothing was changed\n" in run(here, "--update", copied, status=1)
+
+
+def test_update(here, copied):
+    lines, kept = (copied / "crates.txt").read_text(), contents(copied, times=True)
+    change(here)
+    said = run(here, "--update", copied)
+    assert "updated from 1.0.0, commit unknown to 2.0.0+unreleased, commit unknown" in said
+    assert "crates.txt: `byte_unit_math:` is now `byte_unit_math: core`" in said
+    assert (copied / "crates.txt").read_text() == lines.replace("byte_unit_math:\n", "byte_unit_math: core\n", 1)
+    now, anew = contents(copied, times=True), here.with_name("anew")
+    stay = [path for path in kept if "/out/" in path or path.startswith("crates/quota") or path == ".gitignore"]
+    assert len(stay) == 8 and all(now[path] == kept[path] for path in stay)
+    anew.mkdir()
+    run(here, anew)
+    now = {path: row for path, row in contents(copied).items() if path.startswith("crates/") and path not in stay}
+    assert now == {path: row for path, row in contents(anew).items() if path.startswith("crates/")}
+
+
+@pytest.mark.parametrize("error", [OSError(28, "No space left on device"), KeyboardInterrupt()])
+def test_each_failure(here, copied, monkeypatch, error):
+    """If one of the moves of an update fails, or a signal comes there, nothing changes."""
+    change(here)
+    before, left = contents(copied), []
+    monkeypatch.setattr(take, "HERE", here)
+    monkeypatch.setattr(take, "first_line", lambda *words: None)
+    monkeypatch.setattr(replace, "on_signals", lambda handler: None)
+
+    def counted(move, *words):
+        left[0] -= 1
+        if left[0] == -1:
+            raise error
+        move(*words)
+
+    for name in ("replace", "remove"):
+        monkeypatch.setattr(os, name, partial(counted, getattr(os, name)))
+    for tried in range(10):
+        left[:] = [tried]
+        with pytest.raises(type(error)):
+            take.take(str(copied), True, CRATES)
+        assert contents(copied) == before
+    left[:] = [10]
+    take.take(str(copied), True, CRATES)
+    assert left == [0] and contents(copied) != before
+
+
+def test_commit(here, copied):
+    """The record has the commit, and tells whether the working tree differs from it."""
+    need("git")
+    write(here, {".gitignore": "out/\n"})
+    for words in (["init", "-q"], ["add", "-A"], ["commit", "-qm", "All", "--no-gpg-sign"]):
+        output("git", "-c", "user.name=a", "-c", "user.email=a@example", *words, cwd=here)
+    head = output("git", "rev-parse", "--short=12", "HEAD", cwd=here).strip()
+    run(here, "--update", copied)
+    assert f"commit: {head}\n" in (copied / RECORD).read_text()
+    write(here, {f"{MATH}/src/new.rt": ""})
+    run(here, "--update", copied)
+    assert f"commit: {head} (modified)\n" in (copied / RECORD).read_text()
