@@ -13,6 +13,8 @@ sys.path.insert(0, os.path.join(ROOT, "tools"))
 from byte_unit_dev.common import call  # noqa: E402
 from byte_unit_dev.model.lines import some_line  # noqa: E402
 
+pytest_plugins = ["byte_unit_dev.fixtures"]
+
 
 def pytest_addoption(parser):
     parser.addoption("--after-ci", action="store_true", help="use the libraries and programs that rt ci has built")

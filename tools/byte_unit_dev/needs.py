@@ -19,7 +19,8 @@ PACKAGES = {
     "cc": "gcc", "gcc": "gcc", "g++": "g++", "clang": "clang", "clang++": "clang", "ld.lld": "lld",
     "musl-gcc": "musl-tools", "nm": "binutils", "readelf": "binutils", "pkg-config": "pkg-config", "mandoc": "mandoc",
     "qemu-x86_64": "qemu-user", "sqlite3": "sqlite3", "sqlite3ext.h": "libsqlite3-dev", "mypy": "mypy",
-    "Python.h": "python3-dev", "import setuptools": "python3-setuptools", "import wheel": "python3-wheel",
+    "Python.h": "python3-dev", "import tomllib": "python3",
+    "import setuptools": "python3-setuptools", "import wheel": "python3-wheel",
     "import ensurepip": "python3-venv", "import pip": "python3-pip", "import pytest": "python3-pytest",
     "import hypothesis": "python3-hypothesis", "import numpy": "python3-numpy", "import pandas": "python3-pandas",
     "import dask.dataframe": "python3-dask", "cargo": "cargo", "rustc": "rustc", "/usr/bin/cargo": "cargo",
@@ -32,7 +33,9 @@ COMPARED = {
     f"{DEBIAN_RUST}/rust_decimal-*": "librust-rust-decimal-dev", f"{DEBIAN_RUST}/utf8-width-*": "librust-utf8-width-dev",
     "import humanfriendly": "python3-humanfriendly", "import humanize": "python3-humanize", "valgrind": "valgrind",
 }
-PYTHON_PACKAGE = ["Python.h", "import setuptools", "import wheel", "import ensurepip", "import pip", "gcc", "pkg-config"]
+# The Python package needs CPython 3.11 or later, which has tomllib.
+PYTHON_PACKAGE = ["Python.h", "import tomllib", "import setuptools", "import wheel", "import ensurepip", "import pip",
+                  "gcc", "pkg-config"]  # fmt: skip
 
 
 @functools.lru_cache(maxsize=None)

@@ -1,4 +1,4 @@
-//! A program as it is written for the original crate, which `tools/callers` builds against this package by `[patch]`.
+//! A program as it is written for the original crate, which `tools/dev test rust` builds against this package by `[patch]`.
 //! It uses names and signatures of the original alone.
 
 use std::collections::BTreeMap;

@@ -1,33 +1,14 @@
-"""Random lines against tools/exact_model.py, and random sizes against fractions."""
+"""Random sizes against fractions."""
 
 import os
 import random
-import sys
 import unittest
 from fractions import Fraction
 
 import byte_unit
 
-TOOLS = os.path.join(os.path.dirname(os.path.abspath(__file__)), "../../../tools")
 LINES = int(os.environ.get("BYTE_UNIT_TEST_LINES", "4000"))
-WORDS = {
-    "no_value": "no value",
-    "not_number": "not a number",
-    "number_too_long": "number too long",
-    "exceeded_bounds": "out of range",
-    "unit": "bad unit",
-    "not_utf8": "not text",
-}
 PREFIXES = "KMGTPEZYR"
-
-
-def line_of(text: str | bytes, bits: bool) -> str:
-    """Returns the line that the model gives for a text."""
-    try:
-        size = byte_unit.parse(text, bits=bits)
-    except byte_unit.SizeError as error:
-        return WORDS[error.name]
-    return f"{byte_unit.text(size, bits=bits, alternate=False)} = {byte_unit.text(size, bits=bits)}"
 
 
 def unit_in_bits(unit: str) -> int:
@@ -40,28 +21,6 @@ def unit_in_bits(unit: str) -> int:
 def some_size(rng: random.Random) -> int:
     size = rng.randrange(10 ** rng.randrange(1, 31))
     return (size >> rng.randrange(99) << rng.randrange(9)) % 10**30
-
-
-@unittest.skipUnless(os.path.isdir(TOOLS), "the repository is not there")
-class Model(unittest.TestCase):
-    def test_lines(self) -> None:
-        sys.path.insert(0, TOOLS)
-        self.addCleanup(sys.path.remove, TOOLS)
-        from exact_model import answer
-        from generated_lines import some_line
-
-        rng = random.Random(2)
-        lines = [some_line(rng) for _ in range(LINES)]
-        for kind in ("byte", "bit"):
-            bits = kind == "bit"
-            column = byte_unit.parse_many(lines, bits=bits)
-            for line, code, size in zip(lines, column.codes, column.ints(), strict=True):
-                wanted = answer(line, kind)
-                self.assertEqual(line_of(line, bits), wanted, line)
-                self.assertEqual(line_of(line.decode("utf-8", "surrogateescape"), bits), wanted, line)
-                name = byte_unit.ERROR_NAMES[code]
-                seen = WORDS[name] if size is None else f"{size} = {byte_unit.text(size, bits=bits)}"
-                self.assertEqual(seen, wanted, line)
 
 
 class Fractions(unittest.TestCase):

@@ -1,0 +1,30 @@
+"""Reads lines, and prints for each the size and its text with a unit, or the error, as byte_unit_lines does.
+
+The argument is `byte` or `bit`. Parses the lines as bytes, as strings and as a column, and prints each result once.
+"""
+
+import sys
+
+import byte_unit
+
+WORDS = {"no_value": "no value", "not_number": "not a number", "number_too_long": "number too long",
+         "exceeded_bounds": "out of range", "unit": "bad unit", "not_utf8": "not text"}  # fmt: skip
+BITS = sys.argv[1] == "bit"
+
+
+def shown(size: int) -> str:
+    return f"{byte_unit.text(size, bits=BITS, alternate=False)} = {byte_unit.text(size, bits=BITS)}"
+
+
+def parsed(text: str | bytes) -> str:
+    try:
+        return shown(byte_unit.parse(text, bits=BITS))
+    except byte_unit.SizeError as error:
+        return WORDS[error.name]
+
+
+lines = sys.stdin.buffer.read().split(b"\n")[:-1]
+column = byte_unit.parse_many(lines, bits=BITS)
+for line, code, size in zip(lines, column.codes, column.ints(), strict=True):
+    of_column = WORDS[byte_unit.ERROR_NAMES[code]] if size is None else shown(size)
+    print(" or ".join(sorted({parsed(line), parsed(line.decode("utf-8", "surrogateescape")), of_column})))

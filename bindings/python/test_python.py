@@ -1,0 +1,79 @@
+"""Tests the Python package: builds it offline, and runs its tests, its examples and mypy."""
+
+import os
+import re
+import shutil
+
+import pytest
+from byte_unit_dev.common import call, output, path, write
+from byte_unit_dev.fixtures import environment
+from byte_unit_dev.needs import DEBIAN_PYTHON, is_there, need
+
+PACKAGE_CONFIG = "Name: byte_unit\nDescription: -\nVersion: 0\nincludedir={0}\nlibdir={0}\n"
+EXAMPLE = path("bindings/python/examples/example.py")
+
+
+def version(package, **variables):
+    """Calls setup.py, which finds the library before it prints the package's version."""
+    return call(DEBIAN_PYTHON, "setup.py", "--version", cwd=package, env=environment(**variables))
+
+
+@pytest.mark.parametrize("way", ["a folder", "a prefix", "pkg-config"])
+def test_library_is_found(library, python_package, tmp_path, way):
+    write(f"{tmp_path}/byte_unit.pc", PACKAGE_CONFIG.format(library))
+    for folder, name in (("include", "byte_unit.h"), ("lib", "libbyte_unit.a")):
+        (tmp_path / folder).mkdir()
+        shutil.copy(f"{library}/{name}", tmp_path / folder)
+    variables = {"a folder": {"BYTE_UNIT_LIBRARY_DIR": library}, "a prefix": {"BYTE_UNIT_LIBRARY_DIR": str(tmp_path)},
+                 "pkg-config": {"PKG_CONFIG_PATH": str(tmp_path)}}[way]  # fmt: skip
+    got = version(python_package, **variables)
+    assert got.returncode == 0, got.stdout
+
+
+@pytest.mark.parametrize("variable, value, words", [
+    ("BYTE_UNIT_LIBRARY_DIR", "/", "has no byte_unit.h and libbyte_unit.a"),
+    ("BYTE_UNIT_LIBRARY_DIR", "sizes", "is not an absolute path"),
+    ("BYTE_UNIT_LIBRARY_DIR", "OLD", "has no version"),
+    ("PKG_CONFIG_LIBDIR", "/nowhere", "tools/make-libraries DIR"),
+])  # fmt: skip
+def test_one_line_says_what_is_missing(python_package, tmp_path, variable, value, words):
+    for name in ("byte_unit.h", "libbyte_unit.a"):
+        write(f"{tmp_path}/{name}", "")
+    got = version(python_package, **{variable: value.replace("OLD", str(tmp_path))})
+    assert (got.returncode, got.stdout[:11], got.stdout.count("\n")) == (1, "byte_unit: ", 1) and words in got.stdout
+
+
+def test_its_c_has_no_warning(python):
+    assert not re.search(r"\.[ch]:\d+.*warning: ", python.said), python.said
+
+
+def test_its_own_tests(python, tmp_path):
+    tests = path("bindings/python/tests")
+    said = output(python.program, "-m", "unittest", "discover", "-s", tests, cwd=tmp_path, env=environment())
+    modules = is_there("import numpy") and is_there("import pandas")
+    assert re.search(r"\nOK\n$" if modules else r"\nOK( \(skipped=\d+\))?\n$", said), said
+
+
+@pytest.mark.parametrize("kind", ["byte", "bit"])
+def test_lines(python, check_lines, kind):
+    check_lines([python.program, "-B", path("bindings/python/checks/lines.py")], kind)
+
+
+@pytest.mark.parametrize("words", [["-p", "byte_unit"], [EXAMPLE]], ids=["package", "example"])
+def test_types(python_package, tmp_path, words):
+    need("mypy")
+    here = environment(MYPYPATH=os.path.join(python_package, "src"))
+    output("mypy", "--strict", "--cache-dir", tmp_path, *words, cwd=tmp_path, env=here)
+
+
+def test_example(python, tmp_path):
+    output(python.program, EXAMPLE, cwd=tmp_path, env=environment())
+
+
+@pytest.mark.parametrize("part, needs", [
+    ("the_standard_library", []), ("numpy", ["import numpy"]), ("pandas", ["import pandas"]),
+    ("dask", ["import dask.dataframe"])], ids=["no module", "numpy", "pandas", "dask"])  # fmt: skip
+def test_columns(python, tmp_path, part, needs):
+    need(*needs)
+    said = output(python.program, path("bindings/python/examples/columns.py"), cwd=tmp_path, env=environment())
+    assert f"with_{part}: as expected" in said.splitlines()
