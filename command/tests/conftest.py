@@ -11,13 +11,3 @@ sys.path.insert(0, os.path.dirname(os.path.realpath(__file__)))
 @pytest.fixture(scope="session")
 def program(program_of):
     return program_of("byte_unit_cli")
-
-
-@pytest.fixture(scope="session")
-def number(request):
-    return request.config.getoption("calls")
-
-
-@pytest.fixture(scope="session")
-def seed(request):
-    return request.config.getoption("seed")

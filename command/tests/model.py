@@ -1,5 +1,6 @@
-"""A reference model of byte-unit: all that a call writes, on both streams, and its exit status, computed with integers of
-any length. An option is a row of OPTIONS.
+"""A reference model of byte-unit: all that a call writes, and its exit status, computed with integers of any length.
+
+An option is a row of OPTIONS.
 
 Follows command/byte-unit.1 and docs/DEFINITIONS.md, and shares no code with the crates.
 """
@@ -16,7 +17,7 @@ from program import Answer
 FORM_PLACES = 3
 # No quotient of a size and a unit has more digits after the point.
 EXPANSION_PLACES = 93
-MOST_FIELDS = (1 << 64) - 1
+BITS_64 = (1 << 64) - 1
 # From the largest.
 PREFIXES = [letter + infix for letter in reversed(LETTERS) for infix in ("i", "")]
 FORMS = ("exact", "plain", "si", "iec", "auto")
@@ -88,25 +89,21 @@ def text_of(size, bits, ignore_case, to, precision):
 # Options.
 
 
-def unit_in(text, options):
+def checked(value, holds, why):
+    if not holds:
+        raise Wrong(why)
+    return value
+
+
+def unit_of(text, options):
     unit = text.strip(WHITE_SPACE)
-    why = unit_reason(unit, options.ignore_case) if text not in FORMS else None
-    if why or not unit:
-        raise Wrong("not a form or a unit" + (f": {why}" if unit else ""))
-    return text
+    why = None if text in FORMS else unit_reason(unit, options.ignore_case)
+    return checked(text, unit and not why, "not a form or a unit" + (f": {why}" if unit else ""))
 
 
 def limit(text, options):
     size = size_of(text.encode(), options.bits, options.ignore_case)
-    if isinstance(size, str):
-        raise Wrong(size)
-    return size
-
-
-def separator(text, options):
-    if text != "\\t" and len(text.encode()) != 1:
-        raise Wrong("not one character of one byte")
-    return b"\t" if text == "\\t" else text.encode()
+    return checked(size, isinstance(size, int), size)
 
 
 def ranges(text, options):
@@ -114,30 +111,16 @@ def ranges(text, options):
     pairs = []
     for part in text.split(","):
         first, dash, last = part.partition("-")
-        last = (last or MOST_FIELDS) if dash else first
-        if not re.fullmatch("[0-9]+|[0-9]*-[0-9]*", part) or not 1 <= int(first or 1) <= int(last) <= MOST_FIELDS:
-            raise Wrong("not a list of fields")
-        pairs.append((int(first or 1), int(last)))
-    return pairs
-
-
-def width(text, options):
-    if not re.fullmatch("-?[0-9]+", text) or not 1 <= abs(int(text)) < 1 << 16:
-        raise Wrong("not a number from 1 to 65535, or its negative")
-    return int(text)
-
-
-def mode(text, options):
-    if text not in ("abort", "fail", "warn", "ignore"):
-        raise Wrong("not abort, fail, warn or ignore")
-    return text
+        last = (last or BITS_64) if dash else first
+        holds = re.fullmatch("[0-9]+|[0-9]*-[0-9]*", part) and 1 <= int(first or 1) <= int(last) <= BITS_64
+        pairs.append(checked((first, last), holds, "not a list of fields"))
+    return [(int(first or 1), int(last)) for first, last in pairs]
 
 
 @dataclass
 class Option:
-    """An option: its letter; its value if the call has none; what returns the value that a text is, of the text and the
-    options in the rows before; and the text of the value if the option has none, but for `None` the next word has it.
-    """
+    """An option: its letter; its value in a call without it; what returns its value, of its text and the options in the
+    rows before; and its text if it has none, but for `None` the next word is its text."""
 
     letter: str = ""
     default: object = False
@@ -148,13 +131,17 @@ class Option:
 OPTIONS = {
     "bits": Option(),
     "ignore-case": Option("i"),
-    "to": Option("", "exact", unit_in, None),
+    "to": Option("", "exact", unit_of, None),
     "precision": Option("p", None, lambda text, options: int(text), None),
-    "delimiter": Option("d", None, separator, None),
+    "delimiter": Option("d", None, lambda text, options: checked(
+        text.replace("\\t", "\t").encode(), text == "\\t" or len(text.encode()) == 1, "not one character of one byte"), None),
     "field": Option("", [(1, 1)], ranges, None),
     "header": Option("", 0, lambda text, options: int(text), "1"),
-    "padding": Option("", 0, width, None),
-    "invalid": Option("", "abort", mode, None),
+    "padding": Option("", 0, lambda text, options: checked(
+        text, re.fullmatch("-?[0-9]+", text) and 1 <= abs(int(text)) < 1 << 16,
+        "not a number from 1 to 65535, or its negative") and int(text), None),
+    "invalid": Option("", "abort", lambda text, options: checked(
+        text, text in ("abort", "fail", "warn", "ignore"), "not abort, fail, warn or ignore"), None),
     "total": Option(),
     "max": Option("", None, limit, None),
     "min": Option("", None, limit, None),
@@ -204,14 +191,14 @@ class Rejected(Exception):
 
 
 class Run:
-    """A run: the messages so far, the sum of the sizes, and the exit statuses that apply."""
+    """A run: its messages, the sum of the sizes, and the exit statuses that apply."""
 
     def __init__(self, options, word):
-        self.options, self.word = options, word
-        self.messages, self.written, self.total, self.statuses = [], [], 0, {0}
+        self.options, self.word, self.messages, self.total, self.statuses = options, word, [], 0, {0}
 
-    def write(self, text):
-        self.written.append(text + self.options.end)
+    def tell(self, message, status):
+        self.messages.append(f"byte-unit: {message}\n".encode())
+        self.statuses.add(status)
 
     def shown(self, size):
         """Returns what is written for a size."""
@@ -219,55 +206,46 @@ class Run:
         text = text_of(size, options.bits, options.ignore_case, options.to, options.precision)
         return (text.ljust(-options.padding) if options.padding < 0 else text.rjust(options.padding)).encode()
 
-    def convert(self, record, number, data):
+    def convert(self, place, data):
         """Returns what is written for a field that is to be converted."""
-        options = self.options
-        place = f"{self.word} {record}" + ("" if options.delimiter is None else f": field {number}")
-
-        def tell(why):
-            self.messages.append(f"byte-unit: {place}: {quoted(data)}: {why}\n".encode())
-
+        options, named = self.options, f"{place}: {quoted(data)}"
         size = size_of(data, options.bits, options.ignore_case)
         if isinstance(size, str):
             if options.invalid != "ignore":
-                tell(size)
-            if options.invalid in ("abort", "fail"):
-                self.statuses.add(2)
+                self.tell(f"{named}: {size}", 0 if options.invalid == "warn" else 2)
             if options.invalid == "abort":
                 raise Rejected
             return data
-        for beyond, why in ((options.max, "above the maximum"), (options.min, "below the minimum")):
-            if beyond is not None and (size > beyond if "above" in why else size < beyond):
-                self.statuses.add(3)
-                tell(why)
+        if options.max is not None and size > options.max:
+            self.tell(f"{named}: above the maximum", 3)
+        if options.min is not None and size < options.min:
+            self.tell(f"{named}: below the minimum", 3)
         self.total += size
         return self.shown(size)
 
     def record(self, record, data):
         """Returns what is written for a record, without its end byte."""
-        mark, chosen = self.options.delimiter, self.options.field
-        fields = enumerate([data] if mark is None else data.split(mark), 1)
-        return (mark or b"").join(
-            self.convert(record, number, part)
-            if any(first <= number <= last for first, last in chosen) else part
-            for number, part in fields)
-
-    def convert_all(self, records, header):
-        for at, data in enumerate(records, 1):
-            self.write(data if at <= header else self.record(at, data))
-        if self.options.total and self.total >= SIZE_LIMIT:
-            self.messages.append(b"byte-unit: the total is 10^30 or more\n")
-            self.statuses.add(2)
-        elif self.options.total:
-            self.write(self.shown(self.total))
+        mark, place = self.options.delimiter, f"{self.word} {record}"
+        if mark is None:
+            return self.convert(place, data)
+        return mark.join(
+            self.convert(f"{place}: field {number}", part)
+            if any(first <= number <= last for first, last in self.options.field) else part
+            for number, part in enumerate(data.split(mark), 1))
 
     def answer(self, records, header, unread):
+        written = []
         try:
-            self.convert_all(records, header)
+            for at, data in enumerate(records, 1):
+                written.append(data if at <= header else self.record(at, data))
+            if self.options.total and self.total >= SIZE_LIMIT:
+                self.tell("the total is 10^30 or more", 2)
+            elif self.options.total:
+                written.append(self.shown(self.total))
         except Rejected:
             pass
-        status = 2 if 2 in self.statuses else max(self.statuses)
-        return Answer(b"".join(self.written), b"".join(self.messages), status, unread)
+        status = next(status for status in (2, 3, 0) if status in self.statuses)
+        return Answer(b"".join(text + self.options.end for text in written), b"".join(self.messages), status, unread)
 
 
 def converted(options, operands, data):

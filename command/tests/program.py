@@ -3,6 +3,7 @@
 import os
 import socket
 import subprocess
+from contextlib import suppress
 from dataclasses import dataclass, fields
 
 # The program asks for this number of bytes in each read; of a longer packet the rest would be lost.
@@ -13,9 +14,8 @@ SHOWN = 300
 
 def shown(value):
     """Returns the text of a value, without the rest of a long one."""
-    if not isinstance(value, (bytes, str, list)) or len(value) <= SHOWN:
-        return repr(value)
-    return f"{value[:SHOWN]!r}.. ({len(value)})"
+    is_long = isinstance(value, (bytes, list)) and len(value) > SHOWN
+    return f"{value[:SHOWN]!r}.. ({len(value)})" if is_long else repr(value)
 
 
 @dataclass(repr=False)
@@ -32,9 +32,9 @@ class Call:
     def pieces(self):
         """Returns the parts of the input that the reads take."""
         size = len(self.data)
-        places = sorted({size, *range(0, size, CHUNK)} if self.cuts is None else {0, size, *self.cuts})
+        places = sorted({0, size, *(at for at in self.cuts or [] if at < size)})
         return [self.data[at : min(end, at + CHUNK)] for start, end in zip(places, places[1:])
-                for at in range(start, min(end, size), CHUNK)]
+                for at in range(start, end, CHUNK)]
 
 
 @dataclass
@@ -47,15 +47,14 @@ class Answer:
     unread: bool = False
 
     def differences(self, wanted):
-        """Yields each part that differs, from a little before the first byte that does."""
-        for part in fields(self):
-            got, right = getattr(self, part.name), getattr(wanted, part.name)
-            at = len(os.path.commonprefix([got, right])) if isinstance(got, bytes) and got != right else 0
-            start = max(0, at - 60)
-            if isinstance(got, bytes) and got != right:
-                yield f"{part.name} at byte {at}: {shown(got[start:])}, not {shown(right[start:])}"
-            elif got != right:
-                yield f"{part.name}: {got}, not {right}"
+        """Yields each part that differs, texts from a little before the first byte that does."""
+        for name in (field.name for field in fields(self)):
+            got, right = getattr(self, name), getattr(wanted, name)
+            if got != right and isinstance(got, bytes):
+                at = len(os.path.commonprefix([got, right]))
+                name, got, right = f"{name} at byte {at}", got[max(0, at - 60) :], right[max(0, at - 60) :]
+            if got != right:
+                yield f"{name}: {shown(got)}, not {shown(right)}"
 
 
 def memory(data=b""):
@@ -71,16 +70,6 @@ def contents(file):
     return file.read()
 
 
-def feed(socket_end, pieces):
-    socket_end.settimeout(SECONDS)
-    try:
-        for piece in pieces:
-            socket_end.sendall(piece)
-    except (BrokenPipeError, ConnectionResetError):
-        pass  # The program has ended before its input.
-    socket_end.close()
-
-
 def run(program, call, joined=False):
     """Returns what the program does in a call; with `joined`, its messages are in its standard output."""
     with memory(call.data) as file, memory() as written, memory() as messages:
@@ -90,9 +79,11 @@ def run(program, call, joined=False):
         try:
             if ours:
                 its.close()
-                feed(ours, call.pieces())
+                ours.settimeout(SECONDS)
+                with ours, suppress(BrokenPipeError, ConnectionResetError):  # The program may end before its input.
+                    for piece in call.pieces():
+                        ours.sendall(piece)
             status = child.wait(SECONDS)
         finally:
             child.kill()
-        unread = not ours and call.data != b"" and file.tell() == 0
-        return Answer(contents(written), contents(messages), status, unread)
+        return Answer(contents(written), contents(messages), status, not ours and call.data != b"" and file.tell() == 0)

@@ -106,6 +106,8 @@ LIMITS = [
     ("--bits --max=1KB --to=plain", b"8000\n8001\n", b"8000\n8001\n", 3, told("line 2: '8001'", "above the maximum")),
     ("-i --max=8kb --to=plain", b"8000\n8001\n", b"8000\n8001\n", 3, told("line 2: '8001'", "above the maximum")),
     ("--max=8kb --to=plain", b"1000\n1001\n", b"1000\n1001\n", 3, told("line 2: '1001'", "above the maximum")),
+    (["--max=" + GREATEST.decode()], b"1\n", b"1 B\n"),
+    ("--max=0", b"1\n", b"1 B\n", 3, told("line 1: '1'", "above the maximum")),
     (["--min=" + GREATEST.decode()], b"1\n", b"1 B\n", 3, told("line 1: '1'", "below the minimum")),
 ]
 

@@ -5,6 +5,7 @@ import os
 import pty
 import socket
 import subprocess
+from contextlib import ExitStack
 
 import pytest
 
@@ -17,29 +18,25 @@ WRITE_FAILED = b"byte-unit: write failed\n"
 TERMINAL = b"byte-unit: reading sizes from the terminal, one a line; end with Ctrl-D\n"
 NO_NUMBER = b"byte-unit: line 2: 'x': the character 'x' is not a number\n"
 TOO_LARGE = b"byte-unit: the total is 10^30 or more\n"
+PIPES = {"stdout": subprocess.PIPE, "stderr": subprocess.PIPE}
 
 
 def ended(*words, **streams):
     """Returns the exit status, standard output and standard error of a program."""
-    streams = {"stdout": subprocess.PIPE, "stderr": subprocess.PIPE, **streams}
-    got = subprocess.run(words, check=False, timeout=SECONDS, **streams)
+    got = subprocess.run(words, check=False, timeout=SECONDS, **{**PIPES, **streams})
     return got.returncode, got.stdout, got.stderr
 
 
 @pytest.fixture
 def start(program):
-    """Starts the program with these words and streams, and ends it after the test."""
-    started = []
+    """Returns what starts the program with words and streams; it is ended after the test."""
+    with ExitStack() as stack:
+        def start_program(*words, **streams):
+            child = subprocess.Popen([program, *words], **{**PIPES, **streams})
+            stack.callback(child.kill)
+            return child
 
-    def start_program(*words, **streams):
-        streams = {"stdout": subprocess.PIPE, "stderr": subprocess.PIPE, **streams}
-        started.append(subprocess.Popen([program, *words], **streams))
-        return started[-1]
-
-    yield start_program
-    for child in started:
-        child.kill()
-        child.wait()
+        yield start_program
 
 
 @pytest.fixture
@@ -48,11 +45,11 @@ def full():
         yield file
 
 
-@pytest.mark.parametrize("words, data", [
-    (["--help"], b""), (["--version"], b""), ([], b"1 KB\n"), (["--total"], b""), (["1 KB"], b""), (["--header"], b"x\n"),
-    ([], LINES)], ids=["help", "version", "line", "total", "operand", "header", "lines"])
-def test_full_disk(program, full, words, data):
-    assert ended(program, *words, input=data, stdout=full) == (1, None, WRITE_FAILED)
+@pytest.mark.parametrize("word, data", [
+    ("--help", b""), ("--version", b""), ("--to=exact", b"1 KB\n"), ("--total", b""), ("1 KB", b""), ("--header", b"x\n"),
+    ("--bits", LINES)], ids=["help", "version", "line", "total", "operand", "header", "lines"])
+def test_full_disk(program, full, word, data):
+    assert ended(program, word, input=data, stdout=full) == (1, None, WRITE_FAILED)
 
 
 @pytest.mark.parametrize("words, written", [(["--invalid=fail", "x"], b"x\n"), (["--nothing"], b"")])
@@ -64,8 +61,8 @@ def test_standard_error_on_full_disk(program, full, words, written):
 def test_closed_output(program, word):
     closed_end, open_end = os.pipe()
     os.close(closed_end)
-    assert ended(program, word, stdout=open_end) == (141, None, b"")
-    os.close(open_end)
+    with open(open_end, "wb") as file:
+        assert ended(program, word, stdout=file) == (141, None, b"")
 
 
 def test_output_closed_after_first_line(start):
@@ -78,15 +75,10 @@ def test_output_closed_after_first_line(start):
     assert (head.communicate()[0], reader.stderr.read(), reader.wait()) == (b"1.5 KiB\n", b"", 141)
 
 
-@pytest.mark.parametrize("closed, message", [("0<&-", READ_FAILED), ("1>&-", WRITE_FAILED)])
-def test_closed_descriptor(program, closed, message):
-    assert ended("sh", "-c", f'echo 1 KB | "$0" {closed}', program) == (1, b"", message)
-
-
-def test_unreadable_input(program):
-    folder = os.open("/", os.O_RDONLY)
-    assert ended(program, stdin=folder) == (1, b"", READ_FAILED)
-    os.close(folder)
+@pytest.mark.parametrize("stream, message", [
+    ("0<&-", READ_FAILED), ("0< /", READ_FAILED), ("1>&-", WRITE_FAILED)], ids=["input", "folder", "output"])
+def test_closed_descriptor_or_unreadable_input(program, stream, message):
+    assert ended("sh", "-c", f'echo 1 KB | "$0" {stream}', program) == (1, b"", message)
 
 
 def test_input_that_fails_after_records(start):
