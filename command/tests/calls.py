@@ -18,7 +18,7 @@ COUNTS = [0, 1, 1, 2, 3, 5, 19, 20, 255, 256, BITS_16, BITS_16 + 1, 1 << 32, BIT
 LIMITS = [0, 1, 8, 999, 1000, 1001, 1024, 1500, 8000, 10**6, 10**9, 2**64, 10**20, SIZE_LIMIT // 8, SIZE_LIMIT - 1]
 ENDS = [31, 255, 256, BITS_16, BITS_16 + 1, 1 << 32, 1 << 63, BITS_64]
 SUFFIXES = ["", "B", "b", "bit", "bits", "BIT", "bItS"]
-DELIMITERS = ",;:\t .Bb1|-=\\'\x01\x1b\x7f"
+DELIMITERS = [*",;:\t .Bb1|-=\\'\x01\x1b\x7f", "\\t"]
 # Of one to four bytes, with those that messages escape, or that print with no width or from the right.
 ODD = [*"x/:@[`{'\"\\,-+_%\0\a\b\t\v\f\r\x1b\x1f\x7f\x80\x85\x9b\x9f\xa0\xad\xb5\xe9\u0131\u0301\u0308",
        *"\u05d0\u0661\u1680\u17b5",
@@ -58,20 +58,6 @@ def some_number(rng, number):
     return rng.choice(["", "", "", "", "+", "0", "00"]) + str(number)
 
 
-def some_precision(rng, texts):
-    return some_number(rng, near(rng, PRECISIONS, BITS_16) if happens(rng, 50) else rng.randrange(5))
-
-
-def some_header(rng, texts):
-    count = near(rng, COUNTS, BITS_64)
-    return "1" if count == 1 else some_number(rng, count)
-
-
-def some_delimiter(rng, texts):
-    delimiter = chr(rng.randrange(1, 128)) if happens(rng, 20) else rng.choice(DELIMITERS)
-    return "\\t" if delimiter == "\t" and happens(rng, 50) else delimiter
-
-
 def some_range(rng, first, last):
     first, last = sorted([first, last])
     zero = rng.choice(["", "", "", "0", "000"])
@@ -107,8 +93,8 @@ def some_limit(rng, texts):
 
 @dataclass
 class Drawn:
-    """How often an option is in a call, what draws its value, how its wrong values begin, the first of which is one, and
-    the option that it needs or that it cannot be with."""
+    """How often an option is drawn, what draws its value, how its wrong values begin (the first is wrong alone), and the
+    option that it needs or that it cannot be with."""
 
     percent: int
     text: object = lambda rng, texts: ""
@@ -121,10 +107,12 @@ DRAWN = {
     "bits": Drawn(30),
     "ignore-case": Drawn(43, without="bits"),
     "to": Drawn(70, some_to, ("", " ", "K", "mi", "kb", "bi", "BIT", "bits")),
-    "precision": Drawn(50, some_precision),
-    "delimiter": Drawn(50, some_delimiter, (",,", "", "\\n")),
+    "precision": Drawn(50, lambda rng, texts: some_number(
+        rng, near(rng, PRECISIONS, BITS_16) if happens(rng, 50) else rng.randrange(5))),
+    "delimiter": Drawn(50, lambda rng, texts: rng.choice([*DELIMITERS * 4, *map(chr, range(1, 128))]),
+                       (",,", "", "\\n")),
     "field": Drawn(85, some_fields, ("0", "", "3-2", "1,,2", "-0", "1-", "18446744073709551616"), needs="delimiter"),
-    "header": Drawn(25, some_header),
+    "header": Drawn(25, lambda rng, texts: some_number(rng, near(rng, COUNTS, BITS_64))),
     "padding": Drawn(30, lambda rng, texts: str(near(rng, WIDTHS, BITS_16, 1) * rng.choice([1, -1])),
                      ("0", "-0", "-", "65536", "-65536", "+6", "-+6", "--6", "6", "")),
     "invalid": Drawn(80, lambda rng, texts: rng.choice(["abort", "fail", "fail", "warn", "warn", "ignore"]),
@@ -202,8 +190,9 @@ def with_operands(rng, groups, operands):
 
 def long_field(rng):
     """Returns a field around 80 bytes and past them, with a character of one to four bytes at each place of the cut."""
-    head = (rng.choice(CUT) * 40).encode()[: rng.randrange(70, 84)].decode(errors="ignore").ljust(rng.randrange(74, 82), "a")
-    text = (head + "".join(rng.choice(CUT) for _ in range(rng.randrange(12)))).encode()
+    head = (rng.choice(CUT) * 40).encode()[: rng.randrange(70, 84)].decode(errors="ignore")
+    tail = "".join(rng.choice(CUT) for _ in range(rng.randrange(12)))
+    text = (head.ljust(rng.randrange(74, 82), "a") + tail).encode()
     at = rng.choice([rng.randrange(len(text)), *range(76, 82)]) if happens(rng, 20) else len(text)
     return text[:at] + (rng.choice(BROKEN) if at < len(text) else b"") + text[at:]
 
@@ -266,8 +255,8 @@ def some_cuts(rng, data):
         return None
     if len(data) < 3_000 and happens(rng, 30):
         return list(range(len(data)))
-    edges = [65_535, 65_536, 65_537, 131_072]
-    return sorted(rng.choice(edges) if happens(rng, 20) else rng.randrange(len(data)) for _ in range(rng.choice([1, 2, 5, 20])))
+    places = [rng.randrange(len(data)) for _ in range(rng.choice([1, 2, 5, 20]))]
+    return sorted(rng.choice([65_535, 65_536, 65_537, 131_072]) if happens(rng, 20) else place for place in places)
 
 
 def some_operands(rng, options):

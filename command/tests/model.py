@@ -134,7 +134,8 @@ OPTIONS = {
     "to": Option("", "exact", unit_of, None),
     "precision": Option("p", None, lambda text, options: int(text), None),
     "delimiter": Option("d", None, lambda text, options: checked(
-        text.replace("\\t", "\t").encode(), text == "\\t" or len(text.encode()) == 1, "not one character of one byte"), None),
+        text.replace("\\t", "\t").encode(), text == "\\t" or len(text.encode()) == 1,
+        "not one character of one byte"), None),
     "field": Option("", [(1, 1)], ranges, None),
     "header": Option("", 0, lambda text, options: int(text), "1"),
     "padding": Option("", 0, lambda text, options: checked(

@@ -20,7 +20,7 @@ def shown(value):
 
 @dataclass(repr=False)
 class Call:
-    """Words and standard input. With `cuts`, places in the input, each piece between them comes by a read of its own."""
+    """Words and standard input. With `cuts`, places in the input, each piece between them is one read."""
 
     words: list
     data: bytes = b""

@@ -1,5 +1,6 @@
-"""Calls of byte-unit with their answers, written by hand: the words, standard input, standard output, the exit status if
-it is not 0, and standard error.
+"""Calls of byte-unit with their answers, written by hand.
+
+Each row has the words, standard input, standard output, the exit status if it is not 0, and standard error.
 """
 
 from program import Answer, Call

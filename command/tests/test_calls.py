@@ -29,8 +29,9 @@ def check(got, call, wanted):
 @pytest.mark.parametrize("source, percent", [(SHRINKING, 10), (SEEDED, 90)], ids=["shrinking", "seeded"])
 def test_random_calls(program, pytestconfig, source, percent):
     @hypothesis.seed(pytestconfig.getoption("seed"))
-    @settings(max_examples=pytestconfig.getoption("calls") * percent // 100, database=None, deadline=None, report_multiple_bugs=False,
-              suppress_health_check=list(HealthCheck), phases=(Phase.generate, Phase.shrink))
+    @settings(max_examples=pytestconfig.getoption("calls") * percent // 100, database=None, deadline=None,
+              suppress_health_check=list(HealthCheck), phases=(Phase.generate, Phase.shrink),
+              report_multiple_bugs=False)
     @given(source)
     def compare(call):
         check(run(program, call), call, answer(call))

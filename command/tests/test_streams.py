@@ -46,8 +46,8 @@ def full():
 
 
 @pytest.mark.parametrize("word, data", [
-    ("--help", b""), ("--version", b""), ("--to=exact", b"1 KB\n"), ("--total", b""), ("1 KB", b""), ("--header", b"x\n"),
-    ("--bits", LINES)], ids=["help", "version", "line", "total", "operand", "header", "lines"])
+    ("--help", b""), ("--version", b""), ("--to=exact", b"1 KB\n"), ("--total", b""), ("1 KB", b""),
+    ("--header", b"x\n"), ("--bits", LINES)], ids=["help", "version", "line", "total", "operand", "header", "lines"])
 def test_full_disk(program, full, word, data):
     assert ended(program, word, input=data, stdout=full) == (1, None, WRITE_FAILED)
 

@@ -1,4 +1,4 @@
-"""Wrong programs, which the calls have to tell from the right one: each does what byte-unit does, but for one behaviour."""
+"""Wrong programs, which the calls have to tell from byte-unit: each does the same but for one behaviour."""
 
 import re
 from dataclasses import replace
@@ -57,7 +57,8 @@ def copied_header(text, case):
 
 def is_cut_twice(case):
     """Whether a record comes in more than two reads."""
-    return case.options and not case.operands and any(case.options.end not in piece for piece in case.call.pieces()[1:-1])
+    inner = case.call.pieces()[1:-1] if case.options and not case.operands else []
+    return any(case.options.end not in piece for piece in inner)
 
 
 def rejected_part(got, case):
@@ -93,8 +94,8 @@ WRONG = {
     "all but the first message lost": ("messages", chosen(lambda lines, case: lines[:1])),
     "message of the last record lost": ("messages", chosen(
         lambda lines, case: lines if case.call.data[-1:] in b"\n\0" else lines[:-1])),
-    "messages lost in a run that is aborted": ("messages", lambda text, case: FIELD.sub(b"", text)
-                                               if case.wanted.status == 2 and case.value("invalid", "") != "fail" else text),
+    "messages lost in a run that is aborted": ("messages", lambda text, case: text if case.wanted.status != 2
+                                               or case.value("invalid", "") == "fail" else FIELD.sub(b"", text)),
     "ESC reaches the terminal": ("messages", replaced(rb"\\u\{1b\}", b"\x1b")),
     "DEL reaches the terminal": ("messages", replaced(rb"\\u\{7f\}", b"\x7f")),
     "U+009B reaches the terminal": ("messages", replaced(rb"\\u\{9b\}", "\u009b".encode())),
@@ -109,8 +110,9 @@ WRONG = {
     "--min told as --max": ("messages", replaced(b"byte-unit: --min:", b"byte-unit: --max:")),
     "what a unit may continue with, in another order": ("messages", replaced(b"'B' or 'b'", b"'b' or 'B'")),
     "what -i expects": ("messages", replaced(rb"\('B' or no character", b"('B' or 'b' or no character")),
-    "status 3 before 2": ("status", lambda status, case: 3 if b"the m" in case.wanted.messages and status == 2 else status),
-    "status 0 for a total too large": ("status", lambda status, case: 0 if b"the total" in case.wanted.messages else status),
+    "status 3 before 2": ("status", lambda status, case: 3 if b"the m" in case.wanted.messages and status else status),
+    "status 0 for a total too large": (
+        "status", lambda status, case: 0 if b"the total" in case.wanted.messages else status),
     "out of memory for 1 MB of text": ("all", lambda got, case: NO_MEMORY if len(got.written) > 1_000_000 else got),
     "out of memory for more than two reads": ("all", lambda got, case: NO_MEMORY if is_cut_twice(case) else got),
     "out of memory for 16 MB": ("all", lambda got, case: NO_MEMORY if len(case.call.data) > 1 << 24 else got),
@@ -150,7 +152,7 @@ WRONG = {
 
 
 def wrong_answer(name, case):
-    """Returns the answer of a wrong program. If it takes an option or operands for others, it is the model with those."""
+    """Returns the answer of a wrong program: the right one, changed, or the model's to other options or operands."""
     part, change = WRONG[name]
     if part == "all":
         return change(case.wanted, case)

@@ -1,4 +1,4 @@
-// A library before libc, in which the call FAIL_AT of an allocating function fails, and with FAIL_ON also those after it.
+// A library before libc in which the call FAIL_AT of an allocating function fails, and with FAIL_ON those after it too.
 // Counts the calls from `main` on, and writes a byte to the descriptor FAIL_TOLD for each call that fails.
 #include <errno.h>
 #include <stddef.h>

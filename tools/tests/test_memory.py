@@ -1,4 +1,4 @@
-"""Each allocation fails in turn: in a program, in the tests of calls that take no allocator, and in the built byte-unit.
+"""Each allocation fails in turn: in a program, in tests of calls that take no allocator, and in the built byte-unit.
 
 `rt try --fail-alloc N` makes the Nth allocation fail, in a program or in each test separately.
 """
@@ -64,7 +64,8 @@ def copy_with_tests_of(module, root):
     kept, found = set(), {module}
     while found:
         kept |= found
-        found = {name for each in found for name in re.findall(r"^use super::(\w+)", read(f"{TESTS}/{each}.rt"), re.M)} - kept
+        texts = "".join(read(f"{TESTS}/{name}.rt") for name in found)
+        found = set(re.findall(r"^use super::(\w+)", texts, re.M)) - kept
     for name in os.listdir(f"{root}/{TESTS}"):
         if name.removesuffix(".rt") not in kept:
             os.remove(f"{root}/{TESTS}/{name}")

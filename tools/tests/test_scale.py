@@ -36,7 +36,7 @@ def pool(request):
 
 
 def ended(*words, memory=None, **streams):
-    """Returns the exit status, standard output and standard error of a program; `memory` is the most that it may take."""
+    """Returns the exit status, standard output and standard error of a program, with at most this memory."""
     limit = (lambda: resource.setrlimit(resource.RLIMIT_DATA, (memory, memory))) if memory else None
     streams = {"stdout": subprocess.PIPE, "stderr": subprocess.PIPE, **streams}
     got = subprocess.run(words, check=False, preexec_fn=limit, **streams)
@@ -140,7 +140,7 @@ def feed(program, chunks, target):
 
 @pytest.mark.parametrize("lines", [1_000_000, pytest.param(10_000_000, marks=pytest.mark.whole)])
 def test_many_lines(program, pool, lines, tmp_path):
-    """Each gives a line of output, with no more memory than for a hundredth, and the same one however a pipe cuts them."""
+    """Each gives a line of output, in no more memory than a hundredth takes, and the same however a pipe cuts them."""
     rng, source, target, held, digests = random.Random(lines), tmp_path / "in", tmp_path / "out", [], set()
     for count, size in ((lines // 100, lambda: 1 << 16), (lines, lambda: 1 << 16), (lines, lambda: 4095),
                         (lines, lambda: 65537), (lines, lambda: rng.randrange(1, 10_000))):
@@ -164,5 +164,6 @@ def test_many_lines(program, pool, lines, tmp_path):
 def test_long_line(program, length, fill, end, wanted, tmp_path):
     """One line of output, whether it is a size or not, with memory linear in its length."""
     blocks, rest = divmod(length - 1, 1 << 20)
-    status, memory = feed(program, chain(repeat(fill * (1 << 20), blocks), [fill * rest, end]), tmp_path / "out")
+    chunks = chain(repeat(fill * (1 << 20), blocks), [fill * rest, end])
+    status, memory = feed(program, chunks, tmp_path / "out")
     assert (status, (tmp_path / "out").read_bytes()) == (0, wanted) and memory < 3 * length // 1024 + 8192
