@@ -10,7 +10,7 @@ ROOT = os.path.dirname(os.path.realpath(__file__))
 sys.dont_write_bytecode = True
 sys.path.insert(0, os.path.join(ROOT, "tools"))
 
-from byte_unit_dev.common import call  # noqa: E402
+from byte_unit_dev.common import call, path  # noqa: E402
 from byte_unit_dev.model.lines import some_line  # noqa: E402
 
 pytest_plugins = ["byte_unit_dev.fixtures"]
@@ -20,6 +20,27 @@ def pytest_addoption(parser):
     parser.addoption("--after-ci", action="store_true", help="use the libraries and programs that rt ci has built")
     parser.addoption("--lines", type=int, default=4000, help="the number of generated lines")
     parser.addoption("--seed", type=int, default=1, help="chooses what is generated")
+    parser.addoption("--calls", type=int, default=20_000, help="the number of random calls of byte-unit")
+    parser.addoption("--program", metavar="FILE", help="the program under test, in place of the one that is built here")
+    parser.addoption("--whole", action="store_true", help="also tests of long runs and of inputs of 1 GB")
+
+
+def pytest_collection_modifyitems(config, items):
+    """Leaves out the tests that are marked `whole`, unless they are asked for."""
+    if not config.getoption("whole"):
+        items[:] = [item for item in items if not item.get_closest_marker("whole")]
+
+
+@pytest.fixture(scope="session")
+def program_of(request):
+    """Returns the program of a crate, which `rt run` or `rt ci` builds; without it the test is skipped."""
+    def found(crate):
+        name = os.path.abspath(request.config.getoption("program") or path("crates", crate, "out", crate))
+        if not os.access(name, os.X_OK):
+            missing = f"{name} is missing (`rt run` in crates/{crate} builds it)"
+            (pytest.fail if request.config.getoption("after_ci") else pytest.skip)(missing)
+        return name
+    return found
 
 
 @pytest.fixture(scope="session")

@@ -1,0 +1,227 @@
+"""Calls of byte-unit with their answers, written by hand.
+
+Each row has the words, standard input, standard output, the exit status if it is not 0, and standard error.
+"""
+
+from program import Answer, Call
+
+START = "('B', 'K', 'M', 'G', 'T', 'P', 'E', 'Z', 'Y' or 'R' or no character is expected)"
+BLANK = "no value can be found"
+WIDTH = "not a number from 1 to 65535, or its negative"
+TOTAL = "byte-unit: the total is 10^30 or more\n"
+GREATEST = b"999999999999999999999999999999"
+
+
+def told(place, why):
+    return f"byte-unit: {place}: {why}\n"
+
+
+def unit(c, expected=START):
+    return f"the character '{c}' is incorrect {expected}"
+
+
+def digit(c):
+    return f"the character '{c}' is not a number"
+
+
+def wrong(*texts):
+    """Returns a message about the words of a call."""
+    return "error: " + "\n\n".join([*texts, "For more information, try '--help'."]) + "\n"
+
+
+def misused(*texts):
+    """Returns a message about the words of a call, with a line on how it is called."""
+    return wrong(*texts, "Usage: byte-unit [OPTION].. [SIZE]..")
+
+
+def unknown(word):
+    return misused(f"unexpected argument '{word}' found", f"  tip: to pass '{word}' as a value, use '-- {word}'")
+
+
+def twice(option):
+    return misused(f"the argument '{option}' cannot be used multiple times")
+
+
+def field(text, quoted, why):
+    """Returns a call on a field that is not a size, with the text that its message quotes."""
+    return "--invalid=warn", text + b"\n", text + b"\n", 0, told(f"line 1: '{quoted}'", why)
+
+
+SIZES = [
+    (["1.5 KiB", "100MB", "1536"], b"", b"1.5 KiB\n100 MB\n1.5 KiB\n"),
+    (["1 x"], b"", b"", 2, told("operand 1: '1 x'", unit("x"))),
+    ("", b"1 KB\n2 KB\n1 x\n3 KB\n", b"1 KB\n2 KB\n", 2, told("line 3: '1 x'", unit("x"))),
+    ("--invalid=fail", b"1 KB\n1 x\n3 KB\n", b"1 KB\n1 x\n3 KB\n", 2, told("line 2: '1 x'", unit("x"))),
+    ("--invalid=warn", b"1 x\n", b"1 x\n", 0, told("line 1: '1 x'", unit("x"))),
+    ("--invalid=ignore", b"1 x\n", b"1 x\n"),
+    ("-d, --field=2 --invalid=fail", b"a,\xff,c\n", b"a,\xff,c\n", 2, told("line 1: field 2: '\\xff'", "not UTF-8")),
+    ("-z", b"1 KB\x00100 MB\x00", b"1 KB\x00100 MB\x00"),
+    ("-z", b"1 KB\x002 x", b"1 KB\0", 2, told("record 2: '2 x'", unit("x"))),
+    ("-- 1KB", b"", b"1 KB\n"),
+    ("-- -1KB", b"", b"", 2, told("operand 1: '-1KB'", digit("-"))),
+    ([""], b"", b"", 2, told("operand 1: ''", BLANK)),
+    (["1KB", "1KB\n2KB", "x"], b"", b"1 KB\n", 2,
+     told("operand 2: '1KB\\u{a}2KB'", unit("\\n", "('i' or no character is expected)"))),
+    (["--invalid=warn", "1\n2", "x"], b"", b"1\n2\nx\n", 0,
+     told("operand 1: '1\\u{a}2'", unit("\\n")) + told("operand 2: 'x'", digit("x"))),
+    (["-z", "1KB\n", "2KB"], b"", b"1 KB\x002 KB\0"),
+    (["-d", "\n", "--field=-", "1000\n1024"], b"", b"1 KB\n1 KiB\n"),
+    ("--header 4096K", b"", b"4.096 MB\n"),
+    ("--header=2 1KB x", b"", b"1 KB\n", 2, told("operand 2: 'x'", digit("x"))),
+    ("", b"", b""),
+    ("", b"1 KB", b"1 KB\n"),
+    ("", b"\n", b"", 2, told("line 1: ''", BLANK)),
+    ("--invalid=ignore", b"\n\n", b"\n\n"),
+    ("-z", b"1 KB", b"1 KB\0"),
+    ("", b"1 KB\r\n2 KB\r\n", b"1 KB\n2 KB\n"),
+]
+
+HEADERS_AND_TOTALS = [
+    ("--total", b"", b"0 B\n"),
+    ("--total --bits", b"", b"0 b\n"),
+    ("--total", b"900 RB\n100 RB\n", b"900 RB\n100 RB\n", 2, TOTAL),
+    ("--header", b"", b""),
+    ("--header", b"name", b"name\n"),
+    ("--header", b"name\nx\n", b"name\n", 2, told("line 2: 'x'", digit("x"))),
+    ("--header=0", b"1 KB\n", b"1 KB\n"),
+    ("--header=5 --total", b"x\ny\n", b"x\ny\n0 B\n"),
+    ("--header=18446744073709551615", b"x\n", b"x\n"),
+    ("--total --to=plain", GREATEST + b"B\n", (GREATEST + b"\n") * 2),
+    ("--total --to=plain", GREATEST + b"B\n1B\n", GREATEST + b"\n1\n", 2, TOTAL),
+    ("--total --to=plain", (GREATEST + b"B\n") * 400, (GREATEST + b"\n") * 400, 2, TOTAL),
+    ("--total --invalid=fail", b"1 KB\nx\n2 KB\n", b"1 KB\nx\n2 KB\n3 KB\n", 2, told("line 2: 'x'", digit("x"))),
+    ("--total --max=1KB", b"1 KB\n2 KB\n", b"1 KB\n2 KB\n3 KB\n", 3, told("line 2: '2 KB'", "above the maximum")),
+    ("--padding=6 --total", b"1 KB\n", b"  1 KB\n  1 KB\n"),
+    ("--to=GB -p 0 --total 400MB 400MB", b"", b"0 GB\n0 GB\n1 GB\n"),
+]
+
+LIMITS = [
+    ("--max=1000", b"1000\n", b"1 KB\n"),
+    ("--max=999", b"1000\n", b"1 KB\n", 3, told("line 1: '1000'", "above the maximum")),
+    ("--min=1000", b"999\n", b"999 B\n", 3, told("line 1: '999'", "below the minimum")),
+    ("--min=1000", b"1000\n", b"1 KB\n"),
+    ("--max=1KB --invalid=fail", b"2 KB\nx\n", b"2 KB\nx\n", 2,
+     told("line 1: '2 KB'", "above the maximum") + told("line 2: 'x'", digit("x"))),
+    ("--max=1KB --min=2KB", b"1500\n", b"1.5 KB\n", 3,
+     told("line 1: '1500'", "above the maximum") + told("line 1: '1500'", "below the minimum")),
+    ("--bits --max=1KB --to=plain", b"8000\n8001\n", b"8000\n8001\n", 3, told("line 2: '8001'", "above the maximum")),
+    ("-i --max=8kb --to=plain", b"8000\n8001\n", b"8000\n8001\n", 3, told("line 2: '8001'", "above the maximum")),
+    ("--max=8kb --to=plain", b"1000\n1001\n", b"1000\n1001\n", 3, told("line 2: '1001'", "above the maximum")),
+    (["--max=" + GREATEST.decode()], b"1\n", b"1 B\n"),
+    ("--max=0", b"1\n", b"1 B\n", 3, told("line 1: '1'", "above the maximum")),
+    (["--min=" + GREATEST.decode()], b"1\n", b"1 B\n", 3, told("line 1: '1'", "below the minimum")),
+]
+
+FORMS = [
+    ("--bits --to=plain", b"1 B\n", b"8\n"),
+    ("-i --to=plain", b"8 b\n", b"8\n"),
+    ("--to=plain", b"8 b\n", b"1\n"),
+    (["-i", "--to=kb", "8 kb"], b"", b"8 KB\n"),
+    (["--to=kb", "8 kb"], b"", b"8 Kb\n"),
+    (["-i", "--to=kbit", "8 kb"], b"", b"64 Kb\n"),
+    (["-i", "--to=b", "8 kb"], b"", b"8000 B\n"),
+    (["--bits", "--to=K", "1 KB"], b"", b"8 Kb\n"),
+    ("-p 0 --to=KB", b"1500\n2500\n2501\n", b"2 KB\n2 KB\n3 KB\n"),
+    ("-p 30 1073741825", b"", b"1.073741825 GB\n"),
+    ("-p 1001 --to=KB 1", b"", b"0.001" + b"0" * 998 + b" KB\n"),
+    ("--to=Ki", b"1024\n", b"1 KiB\n"),
+    (["--to= GiB "], b"1024\n", b"0.00000095367431640625 GiB\n"),
+    ("-zip2 --to=kb 1234567", b"", b"1234.57 KB\0"),
+    ("--padding=1", b"1 KB\n", b"1 KB\n"),
+    ("--padding=6", b"1 KB\n", b"  1 KB\n"),
+    ("--padding=-6", b"1 KB\n", b"1 KB  \n"),
+    ("--padding -6", b"1 KB\n", b"1 KB  \n"),
+    ("--padding=65535", b"1 KB\n", b" " * 65531 + b"1 KB\n"),
+    ("--padding=-65535", b"1 KB\n", b"1 KB" + b" " * 65531 + b"\n"),
+    ("--padding=6 --invalid=ignore", b"x\n", b"x\n"),
+]
+
+FIELDS = [
+    ("-d , --field=3", b"x,y\n1,2\n", b"x,y\n1,2\n"),
+    ("-d , --field=18446744073709551615", b"x,y\n", b"x,y\n"),
+    ("-d , --field=1-1", b"1024,1024\n", b"1 KiB,1024\n"),
+    ("-d , --field=-", b"1024,1024\n", b"1 KiB,1 KiB\n"),
+    ("-d , --field=3,1,1-2", b"1024,1024,1024,1024\n", b"1 KiB,1 KiB,1 KiB,1024\n"),
+    ("-d , --field=1,2,3,4,5,6,7,8,9", b"1K," * 10 + b"1K\n", b"1 KB," * 9 + b"1K,1K\n"),
+    ("-d ,", b",1024\n", b"", 2, told("line 1: field 1: ''", BLANK)),
+    ("-d , --field=2 --invalid=warn", b"1024,\n", b"1024,\n", 0, told("line 1: field 2: ''", BLANK)),
+    (["-d", "\n"], b"1024\n", b"1 KiB\n"),
+    (["-d", "\\t", "--field=2"], b"a\t1024\n", b"a\t1 KiB\n"),
+    ("-d , --field=2", b"\xc3\xa9,1024,\xff\n", b"\xc3\xa9,1 KiB,\xff\n"),
+]
+
+QUOTED = [
+    field(b"x\x1b[31m\x7f", "x\\u{1b}[31m\\u{7f}", digit("x")),
+    field("\u0080\u009f\ufeff'\\".encode(), "\\u{80}\\u{9f}\ufeff'\\", digit("\\u{80}")),
+    field("1\u0301".encode(), "1\u0301", unit("\\u{301}")),
+    field(b"1\t\x00", "1\\u{9}\\u{0}", unit("\\t")),
+    field(b"x\xff\x1b ~", "x\\xff\\x1b ~", "not UTF-8"),
+    field(b"x" * 80, "x" * 80, digit("x")),
+    field(b"x" * 81, "x" * 80 + "..", digit("x")),
+    field("\u00e9".encode() * 38 + "x\U0001f600yyy".encode(), "\u00e9" * 38 + "x..", digit("\u00e9")),
+    *(field(("x" * at + c + "yyyy").encode(), "x" * at + c * (at + len(c.encode()) <= 80)
+            + "y" * (80 - at - len(c.encode())) + "..", digit("x"))
+      for at in range(76, 81) for c in ("\u00e9", "\u20ac", "\U0001f600")),
+    field(b"x" * 79 + b"\xc3\xa9\xff", "x" * 79 + "..", "not UTF-8"),
+    field(b"x" * 78 + b"\xff\xff\xff", "x" * 78 + "\\xff\\xff..", "not UTF-8"),
+    field(b"x" * 76 + b"\x80" * 9, "x" * 76 + "\\x80" * 4 + "..", "not UTF-8"),
+    field(b"x" * 81 + b"\xff", "x" * 80 + "..", "not UTF-8"),
+]
+
+WRONG_VALUES = [
+    *((["-d", ",", f"--field={text}"], told(f"--field: '{text}'", "not a list of fields"))
+      for text in ("0", "3-2", "18446744073709551616", "1,,2", "", "+1", "1-+2", " 1", "1--2", "1,", ",1", "1-2-3", "x",
+                   "0-1")),
+    *((["-d", text], told(f"--delimiter: '{text}'", "not one character of one byte"))
+      for text in (",,", "\u00e9", "\u20ac", "ab", "\\n", "")),
+    *(([f"--padding={text}"], told(f"--padding: '{text}'", WIDTH))
+      for text in ("0", "65536", "-65536", "-0", "-", "+6", "-+6", "--6", "6x", "")),
+    ("--invalid=x", told("--invalid: 'x'", "not abort, fail, warn or ignore")),
+    (["--invalid=\x1b"], told("--invalid: '\\u{1b}'", "not abort, fail, warn or ignore")),
+    ("--to=", told("--to: ''", "not a form or a unit")),
+    (["--to= "], told("--to: ' '", "not a form or a unit")),
+    ("--to=GiBB", told("--to: 'GiBB'", "not a form or a unit: " + unit("B", "('i' or no character is expected)"))),
+    ("--to=EXACT",
+     told("--to: 'EXACT'", "not a form or a unit: " + unit("X", "('B' or 'b' or no character is expected)"))),
+    (["--to=\x1b[31mKB", "1"], told("--to: '\\u{1b}[31mKB'", "not a form or a unit: " + unit("\\u{1b}"))),
+    ("--max=x", told("--max: 'x'", digit("x"))),
+    ("--max=", told("--max: ''", BLANK)),
+    (["--max=1,5 GB"], told("--max: '1,5 GB'", unit(","))),
+    (["--min=1\x9b"], told("--min: '1\\u{9b}'", unit("\\u{9b}"))),
+    ("--max=1000000000000RB", told("--max: '1000000000000RB'", "the value 1000000000000 exceeds the valid range")),
+]
+
+WRONG_WORDS = [
+    ("--field=2", misused("the following required arguments were not provided:\n  --delimiter <C>")),
+    ("-p 65536", wrong("invalid value '65536' for '--precision <N>': 65536 is not in 0..=65535")),
+    ("-p x", wrong("invalid value 'x' for '--precision <N>': invalid digit found in string")),
+    (["-p", "\x1b"], wrong("invalid value '\\u{1b}' for '--precision <N>': invalid digit found in string")),
+    ("-p -1", unknown("-1")),
+    ("--bits -i", misused("the argument '--bits' cannot be used with '--ignore-case'")),
+    ("--nothing", unknown("--nothing")),
+    (["--x\nbyte-unit: y"], unknown("--x\\u{a}byte-unit: y")),
+    ("--header=18446744073709551616",
+     wrong("invalid value '18446744073709551616' for '--header[=<N>]': number too large to fit in target type")),
+    ("--header=", wrong("invalid value '' for '--header[=<N>]': cannot parse integer from empty string")),
+    ("--header=-1", wrong("invalid value '-1' for '--header[=<N>]': invalid digit found in string")),
+    ("-d", wrong("a value is required for '--delimiter <C>' but none was supplied")),
+    ("--to=si --to=iec", twice("--to <UNIT>")),
+    ("-d, -d,", twice("--delimiter <C>")),
+    ("-ii", twice("--ignore-case")),
+    ("-p1 --precision=2", twice("--precision <N>")),
+    ("--total=1", misused("unexpected value '1' for '--total' found; no more were expected")),
+]
+
+
+PRINTED = [("--version", b"", b"byte-unit 3.0.0\n"), ("-V", b"", b"byte-unit 3.0.0\n")]
+
+
+def row(words, data=b"", written=b"", status=0, messages=""):
+    words = words.split() if isinstance(words, str) else words
+    return Call(words, data), Answer(written, messages.encode(), status)
+
+
+# Each call with its answer: those that the model answers too, and the others.
+MODELLED = [row(*each) for each in [*SIZES, *HEADERS_AND_TOTALS, *LIMITS, *FORMS, *FIELDS, *QUOTED]]
+MODELLED += [row(words, b"", b"", 2, message) for words, message in WRONG_VALUES]
+OTHERS = [row(words, b"", b"", 2, message) for words, message in WRONG_WORDS] + [row(*each) for each in PRINTED]

@@ -1,0 +1,146 @@
+"""Streams of byte-unit that fail, are closed, or are a terminal."""
+
+import fcntl
+import os
+import pty
+import socket
+import subprocess
+from contextlib import ExitStack
+
+import pytest
+
+from program import Call, run
+
+SECONDS = 60
+LINES = b"1.5 KiB\n" * 1_000_000
+READ_FAILED = b"byte-unit: read failed\n"
+WRITE_FAILED = b"byte-unit: write failed\n"
+TERMINAL = b"byte-unit: reading sizes from the terminal, one a line; end with Ctrl-D\n"
+NO_NUMBER = b"byte-unit: line 2: 'x': the character 'x' is not a number\n"
+TOO_LARGE = b"byte-unit: the total is 10^30 or more\n"
+PIPES = {"stdout": subprocess.PIPE, "stderr": subprocess.PIPE}
+
+
+def ended(*words, **streams):
+    """Returns the exit status, standard output and standard error of a program."""
+    got = subprocess.run(words, check=False, timeout=SECONDS, **{**PIPES, **streams})
+    return got.returncode, got.stdout, got.stderr
+
+
+@pytest.fixture
+def start(program):
+    """Returns what starts the program with words and streams; it is ended after the test."""
+    with ExitStack() as stack:
+        def start_program(*words, **streams):
+            child = subprocess.Popen([program, *words], **{**PIPES, **streams})
+            stack.callback(child.kill)
+            return child
+
+        yield start_program
+
+
+@pytest.fixture
+def full():
+    with open("/dev/full", "wb") as file:
+        yield file
+
+
+@pytest.mark.parametrize("word, data", [
+    ("--help", b""), ("--version", b""), ("--to=exact", b"1 KB\n"), ("--total", b""), ("1 KB", b""),
+    ("--header", b"x\n"), ("--bits", LINES)], ids=["help", "version", "line", "total", "operand", "header", "lines"])
+def test_full_disk(program, full, word, data):
+    assert ended(program, word, input=data, stdout=full) == (1, None, WRITE_FAILED)
+
+
+@pytest.mark.parametrize("words, written", [(["--invalid=fail", "x"], b"x\n"), (["--nothing"], b"")])
+def test_standard_error_on_full_disk(program, full, words, written):
+    assert ended(program, *words, stderr=full) == (2, written, None)
+
+
+@pytest.mark.parametrize("word", ["--help", "--version", "1 KB"])
+def test_closed_output(program, word):
+    closed_end, open_end = os.pipe()
+    os.close(closed_end)
+    with open(open_end, "wb") as file:
+        assert ended(program, word, stdout=file) == (141, None, b"")
+
+
+def test_output_closed_after_first_line(start):
+    reader = start(stdin=subprocess.PIPE)
+    head = subprocess.Popen(["head", "-1"], stdin=reader.stdout, stdout=subprocess.PIPE)
+    reader.stdout.close()
+    with pytest.raises(BrokenPipeError):
+        reader.stdin.write(LINES)
+        reader.stdin.close()
+    assert (head.communicate()[0], reader.stderr.read(), reader.wait()) == (b"1.5 KiB\n", b"", 141)
+
+
+@pytest.mark.parametrize("stream, message", [
+    ("0<&-", READ_FAILED), ("0< /", READ_FAILED), ("1>&-", WRITE_FAILED)], ids=["input", "folder", "output"])
+def test_closed_descriptor_or_unreadable_input(program, stream, message):
+    assert ended("sh", "-c", f'echo 1 KB | "$0" {stream}', program) == (1, b"", message)
+
+
+def test_input_that_fails_after_records(start):
+    """By a peer that ends its connection with data unread."""
+    ours, its = socket.socketpair(socket.AF_UNIX, socket.SOCK_SEQPACKET)
+    its.send(b"unread")
+    ours.send(b"1 KB\nx\n2")
+    child = start("--invalid=warn", "--total", stdin=its)
+    its.close()
+    got = child.stdout.read1()
+    ours.close()
+    rest, messages = child.communicate(timeout=SECONDS)
+    assert (child.returncode, got + rest, messages) == (1, b"1 KB\nx\n", NO_NUMBER + READ_FAILED)
+
+
+def test_standard_error_that_fails_once(start):
+    """Nothing more is written to it, and the status stays."""
+    reading, writing = os.pipe()
+    fcntl.fcntl(writing, fcntl.F_SETPIPE_SZ, 4096)
+    os.set_blocking(writing, False)
+    os.write(writing, b"." * 4096)
+    child = start("--invalid=fail", stdin=subprocess.PIPE, stderr=writing)
+    os.close(writing)
+    written = b""
+    for line in b"x\n", b"1 KB\n":
+        child.stdin.write(line)
+        child.stdin.flush()
+        written += child.stdout.readline()
+    os.read(reading, 4096)
+    written += child.communicate(b"y\n", timeout=SECONDS)[0]
+    assert (child.returncode, written, os.read(reading, 4096)) == (2, b"x\n1 KB\ny\n", b"")
+    os.close(reading)
+
+
+@pytest.mark.parametrize("words, data, cuts, wanted", [
+    ([], b"1 KB\nx\n2 KB\n", None, b"1 KB\n" + NO_NUMBER),
+    ([], b"1 KB\nx", None, b"1 KB\n" + NO_NUMBER),
+    (["--invalid=warn"], b"1 KB\nx\n2 KB\n", None, b"1 KB\nx\n2 KB\n" + NO_NUMBER),
+    (["--total"], b"900RB\n100RB\n", None, b"900 RB\n100 RB\n" + TOO_LARGE),
+    (["--total"], b"900RB\n100RB", None, b"900 RB\n100 RB\n" + TOO_LARGE),
+    (["--invalid=warn"], b"1 KB\nx\n3 KB\nx\n5 KB\n", [7, 14],
+     b"1 KB\nx\n" + NO_NUMBER + b"3 KB\nx\n" + NO_NUMBER.replace(b"2", b"4") + b"5 KB\n")])
+def test_message_follows_the_lines_before_it(program, words, data, cuts, wanted):
+    """Standard output and standard error are one stream; the lines may be of an earlier read."""
+    assert run(program, Call(words, data, cuts), joined=True).written == wanted
+
+
+def test_terminal(start):
+    ours, its = pty.openpty()
+    child = start(stdin=its)
+    os.close(its)
+    os.write(ours, b"1536\n\x04")
+    written, messages = child.communicate(timeout=SECONDS)
+    os.close(ours)
+    assert (child.returncode, written, messages) == (0, b"1.5 KiB\n", TERMINAL)
+
+
+def test_word_that_is_not_text(program):
+    assert ended(program, b"\xff") == (2, b"", b"byte-unit: an argument is not UTF-8\n")
+
+
+@pytest.mark.parametrize("word", ["--help", "-h"])
+def test_help(program, word):
+    status, written, messages = ended(program, word)
+    assert (status, b"Exit status:" in written, messages) == (0, True, b"")

@@ -1,0 +1,40 @@
+// A library before libc in which the call FAIL_AT of an allocating function fails, and with FAIL_ON those after it too.
+// Counts the calls from `main` on, and writes a byte to the descriptor FAIL_TOLD for each call that fails.
+#include <errno.h>
+#include <stddef.h>
+#include <stdlib.h>
+#include <unistd.h>
+
+void *__libc_malloc(size_t);
+void *__libc_calloc(size_t, size_t);
+void *__libc_realloc(void *, size_t);
+void *__libc_memalign(size_t, size_t);
+
+static long at, calls;
+static int on, told;
+
+__attribute__((constructor)) static void start(void) {
+    at = atol(getenv("FAIL_AT"));
+    on = atoi(getenv("FAIL_ON"));
+    told = atoi(getenv("FAIL_TOLD"));
+    calls = 0;
+}
+
+static int fails(void) {
+    calls++;
+    if (at == 0 || calls < at || (calls > at && !on))
+        return 0;
+    if (write(told, "x", 1) != 1)
+        _exit(99);
+    errno = ENOMEM;
+    return 1;
+}
+
+void *malloc(size_t size) { return fails() ? NULL : __libc_malloc(size); }
+void *calloc(size_t count, size_t size) { return fails() ? NULL : __libc_calloc(count, size); }
+void *realloc(void *block, size_t size) { return fails() ? NULL : __libc_realloc(block, size); }
+void *aligned_alloc(size_t align, size_t size) { return fails() ? NULL : __libc_memalign(align, size); }
+int posix_memalign(void **block, size_t align, size_t size) {
+    *block = fails() ? NULL : __libc_memalign(align, size);
+    return *block ? 0 : ENOMEM;
+}
