@@ -1,5 +1,5 @@
-//! Long lines, large reports and many reads. Lines of 17 MB and of 1 GB are left to `tools/at-scale`, since `rt try`
-//! takes a minute for the first.
+//! Long lines, large reports and many reads. Lines of 17 MB and of 1 GB are left to `tools/dev test scale`, since
+//! `rt try` takes a minute for the first.
 use super::ended::{check, ran_in};
 use super::mixed::repeated;
 use super::streams::{AT_ONCE, Pace, Then};

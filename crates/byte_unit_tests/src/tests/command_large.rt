@@ -1,5 +1,5 @@
 //! Tests of the command `byte-unit` with many reads, long records, and long texts of the records of one read. A record
-//! of 17 MB is left to `tools/at-scale`.
+//! of 17 MB is left to `tools/dev test command`.
 use super::command::{PLAIN, assert_run};
 use super::command_streams::{AT_ONCE, Pace, Then};
 use byte_unit_command::options::Options;
