@@ -90,9 +90,9 @@ fn write_stop(
         × IsReturned (Some (Err error)) result size.old size.new errors.old errors.new }
 {
     match reason {
-        Reason::InUnit(scan) => {
-            let expected = bytes_of(scan.expected_before(next, flags));
-            let error = scan.error_before(next, flags);
+        Reason::InUnit(stop) => {
+            let expected = bytes_of(stop.expected_before(next, flags));
+            let error = stop.error_before(next, flags);
             let may_end = error.also_expect_no_character;
             Error::of_unit_parts(error.character, expected, may_end).write(errors);
             UNIT

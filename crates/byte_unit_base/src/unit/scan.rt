@@ -1,4 +1,4 @@
-//! The states of the parser of a unit, and the unit or the error of each.
+//! The unit of a prefix and a suffix, and the error of a unit in which the parser stops.
 
 ghost use Rattle.std.specs.Prelude.{◌≡◌, ◌≤◌, ℕ};
 ghost use Rattle.byte_unit_base.specs.UnitScan.{multiple_shape};
@@ -7,43 +7,22 @@ ghost use Rattle.byte_unit_base.specs.Units.{shape_of};
 
 use crate::{Unit, UnitParseError};
 
-/// A prefix letter, of a decimal or a binary prefix.
-#[derive(Clone, Copy)]
-pub enum Prefix {
-    Kilo,
-    Mega,
-    Giga,
-    Tera,
-    Peta,
-    Exa,
-    Zetta,
-    Yotta,
-    Ronna,
-}
-
-/// The prefix read so far, and whether an `i` came after it.
-#[derive(Clone, Copy)]
-pub enum Multiple {
-    One,
-    Decimal(Prefix),
-    Binary(Prefix),
-}
-
-/// The part of a suffix (`B`, `b`, `bit`, `bits`) read so far.
+/// The letters of a suffix (`B`, `b`, `bit`, `bits`) read so far, in either case.
 #[derive(Clone, Copy)]
 pub enum Word {
     Empty,
-    UpperB,
-    LowerB,
+    B,
     Bi,
     Bit,
     Bits,
 }
 
-/// The state of the parser of a unit.
+/// What is kept of a unit in which the parser stops: enough for its error.
 #[derive(Clone, Copy)]
-pub struct UnitScan {
-    pub multiple: Multiple,
+pub struct UnitStop {
+    /// Whether a prefix has been read.
+    pub has_prefix: bool,
+    /// What has been read of the suffix.
     pub word: Word,
 }
 
@@ -77,38 +56,15 @@ pub struct Flags {
     pub prefer_byte: bool,
 }
 
-impl Prefix {
-    ghost use Rattle.byte_unit_base.specs.UnitScan.{power_of};
-
-    /// Returns the prefix of a position, from 1 for K to 9 for R.
-    pub fn from_power(power: u32) -> Prefix
-        requires some { 1 ≤ power }
-        requires known { power ≤ 9 }
-        ensures { power_of result ≡ power }
-    {
-        match power {
-            1 => Prefix::Kilo,
-            2 => Prefix::Mega,
-            3 => Prefix::Giga,
-            4 => Prefix::Tera,
-            5 => Prefix::Peta,
-            6 => Prefix::Exa,
-            7 => Prefix::Zetta,
-            8 => Prefix::Yotta,
-            _ => Prefix::Ronna,
-        }
-    }
-}
-
-impl UnitScan {
-    ghost use Rattle.byte_unit_base.specs.UnitScan.{unit_parser_state};
+impl UnitStop {
+    ghost use Rattle.byte_unit_base.specs.UnitWord.{stop_parser_state};
     ghost use Rattle.byte_unit_base.specs.PartsReading.{unit_stop_fault};
     ghost use Rattle.byte_unit_base.specs.Expected.{expected_codes, named_in};
     ghost use Rattle.byte_unit_base.specs.Version.{current};
     ghost use Rattle.byte_unit_base.specs.Fault.{fault_at};
     ghost use Rattle.byte_unit_base.specs.Errors.{unit_fault};
 
-    /// Returns the error of a string in which the parser of a unit stops in this state, by the character there.
+    /// Returns the error of a string in which the parser of a unit stops here, by the character there.
     #[inline(always)]
     pub fn error_before(self, next: Option<char>, flags: Flags) -> UnitParseError
         ensures { unit_fault result ≡ unit_stop_fault flags self next }
@@ -133,7 +89,7 @@ impl UnitScan {
     /// Returns the error of a character that cannot continue a unit.
     #[inline(always)]
     fn error_at(self, flags: Flags, character: char) -> UnitParseError
-        ensures { unit_fault result ≡ fault_at current flags (unit_parser_state self) character }
+        ensures { unit_fault result ≡ fault_at current flags (stop_parser_state self) character }
     {
         UnitParseError {
             character,
@@ -146,16 +102,14 @@ impl UnitScan {
     /// if case counts, and else the letter of the preferred kind.
     #[inline(always)]
     fn expected(self, flags: Flags) -> Expected
-        ensures { (c : ℕ) → expected_codes result ≡ named_in (fault_at current flags (unit_parser_state self) c) }
+        ensures { (c : ℕ) → expected_codes result ≡ named_in (fault_at current flags (stop_parser_state self) c) }
     {
         match self.word {
-            Word::Empty => match self.multiple {
-                Multiple::One => Expected::Beginning,
-                _ if !flags.ignore_case => Expected::EitherB,
-                _ if flags.prefer_byte => Expected::UpperB,
-                _ => Expected::LowerB,
-            },
-            Word::UpperB | Word::LowerB => Expected::I,
+            Word::Empty if !self.has_prefix => Expected::Beginning,
+            Word::Empty if !flags.ignore_case => Expected::EitherB,
+            Word::Empty if flags.prefer_byte => Expected::UpperB,
+            Word::Empty => Expected::LowerB,
+            Word::B => Expected::I,
             Word::Bi => Expected::T,
             Word::Bit => Expected::S,
             Word::Bits => Expected::Nothing,
