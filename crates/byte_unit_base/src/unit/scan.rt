@@ -118,7 +118,51 @@ impl UnitStop {
 }
 
 impl Expected {
-    ghost use Rattle.byte_unit_base.specs.Expected.{expected_codes};
+    ghost use Rattle.byte_unit_base.specs.Expected.{expected_codes, expects_end};
+    ghost use Rattle.std.specs.Prelude.{IfSome};
+
+    /// Each of the lists.
+    const ALL: [Expected; 8] = [
+        Expected::Beginning,
+        Expected::EitherB,
+        Expected::UpperB,
+        Expected::LowerB,
+        Expected::I,
+        Expected::T,
+        Expected::S,
+        Expected::Nothing,
+    ];
+
+    /// Returns which of the lists these characters are, or `None` if no parser expects them.
+    ///
+    /// # Examples
+    /// ```rust
+    /// assert!(rt; matches!(Expected::of(&['B', 'b']), Some(Expected::EitherB)));
+    /// assert!(rt; Expected::of(&['x']).is_none());
+    /// ```
+    pub fn of(characters: &[char]) -> Option<Expected>
+        ensures { IfSome result (λ expected. expected_codes expected ≡ characters.now) }
+    {
+        for expected in Expected::ALL {
+            if expected.characters() == characters {
+                return Some(expected);
+            }
+        }
+        None
+    }
+
+    /// Returns whether the string could end in place of the characters.
+    ///
+    /// # Examples
+    /// ```rust
+    /// assert!(rt; Expected::S.or_end() && !Expected::T.or_end()); // `bit` is a suffix, and `bi` is not.
+    /// ```
+    #[inline(always)]
+    pub fn or_end(self) -> bool
+        ensures { result ≡ expects_end self }
+    {
+        !matches!(self, Expected::T)
+    }
 
     /// Returns the characters.
     #[inline(always)]
