@@ -5,6 +5,7 @@ ghost use Rattle.byte_unit_base.specs.UnitScan.{multiple_shape};
 ghost use Rattle.byte_unit_base.specs.UnitWord.{multiple_of};
 ghost use Rattle.byte_unit_base.specs.Units.{shape_of};
 
+use crate::unit::tables::{BEGINNING, BY_POWER};
 use crate::{Unit, UnitParseError};
 
 /// The letters of a suffix (`B`, `b`, `bit`, `bits`) read so far, in either case.
@@ -170,7 +171,7 @@ impl Expected {
         ensures { result.now ≡ expected_codes self }
     {
         match self {
-            Expected::Beginning => &['B', 'K', 'M', 'G', 'T', 'P', 'E', 'Z', 'Y', 'R'],
+            Expected::Beginning => &BEGINNING,
             Expected::EitherB => &['B', 'b'],
             Expected::UpperB => &['B'],
             Expected::LowerB => &['b'],
@@ -190,17 +191,3 @@ pub fn unit_of(power: usize, binary: bool, bit: bool) -> Unit
 {
     BY_POWER[power][2 * usize::from(binary) + usize::from(bit)]
 }
-
-/// The units by the position of the prefix: of bytes and of bits, with the decimal prefix and with the binary one.
-static BY_POWER: [[Unit; 4]; 10] = [
-    [Unit::B, Unit::Bit, Unit::B, Unit::Bit],
-    [Unit::KB, Unit::Kbit, Unit::KiB, Unit::Kibit],
-    [Unit::MB, Unit::Mbit, Unit::MiB, Unit::Mibit],
-    [Unit::GB, Unit::Gbit, Unit::GiB, Unit::Gibit],
-    [Unit::TB, Unit::Tbit, Unit::TiB, Unit::Tibit],
-    [Unit::PB, Unit::Pbit, Unit::PiB, Unit::Pibit],
-    [Unit::EB, Unit::Ebit, Unit::EiB, Unit::Eibit],
-    [Unit::ZB, Unit::Zbit, Unit::ZiB, Unit::Zibit],
-    [Unit::YB, Unit::Ybit, Unit::YiB, Unit::Yibit],
-    [Unit::RB, Unit::Rbit, Unit::RiB, Unit::Ribit],
-];
