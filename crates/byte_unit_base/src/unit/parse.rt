@@ -7,8 +7,8 @@ ghost use Rattle.byte_unit_base.specs.UnitScan.{count_of};
 ghost use Rattle.byte_unit_base.specs.UnitWord.{letter_power, letters_of, word_of, bits_len};
 ghost use Rattle.byte_unit_base.specs.PartsReading.{IsLineOf, IsUnitEnd};
 
+use crate::read::number::eight_at;
 use crate::read::stop::first_char;
-use crate::read::word::eight_at;
 use crate::unit::scan::{Flags, UnitStop, Word, unit_of};
 use crate::{Unit, UnitParseError};
 use std::simd::prelude::*;
