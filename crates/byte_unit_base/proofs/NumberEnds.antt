@@ -27,7 +27,7 @@ use Rattle.byte_unit_base.specs.SizeScan.{Beginning, Whole, Point, size_scan, fi
 use Rattle.byte_unit_base.specs.PartsReading.{IsFirst, IsNoSpace, IsStopAt, EndsNumber, IsLeadingNumber, IsUnitStop}
 use Rattle.byte_unit_base.specs.PartsReading.{missing_digit, next_char, unit_stop_fault}
 use Rattle.byte_unit_base.specs.declared.read.stop.Reason.TheVariants.{NoDigit, TooLong, InUnit}
-use Rattle.byte_unit_base.specs.declared.unit.scan.UnitScan.{UnitScan}
+use Rattle.byte_unit_base.specs.declared.unit.scan.UnitStop.{UnitStop}
 use Rattle.byte_unit_base.proofs.Scans.{read_through, read_some}
 use Rattle.byte_unit_base.proofs.SizeRuns.{step_first, run_whole, run_precise, number_end}
 use Rattle.byte_unit_base.proofs.SizeAscii.{number_ascii}
@@ -232,11 +232,11 @@ stops_in_whole bytes end run_is above flags =
     }
 
 -- the number is read, and the parser of the unit stops after it
-pub stops_in_unit : (flags : Flags) (bytes rest : List ℕ) (n end spaces place : ℕ) (scan : UnitScan)
+pub stops_in_unit : (flags : Flags) (bytes rest : List ℕ) (n end spaces place : ℕ) (kept : UnitStop)
     → IsLeadingNumber bytes n end → drop end bytes ≡ rest → spaces ≤ length rest → take spaces rest ≡ replicate spaces space
-    → IsFirst IsNoSpace (drop spaces rest) → IsUnitStop flags (drop (end + spaces) bytes) scan place
-    → IsStopAt flags bytes (end + spaces + place) (InUnit scan)
-stops_in_unit flags bytes rest n end spaces place scan number rest_is within gap other stop =
+    → IsFirst IsNoSpace (drop spaces rest) → IsUnitStop flags (drop (end + spaces) bytes) kept place
+    → IsStopAt flags bytes (end + spaces + place) (InUnit kept)
+stops_in_unit flags bytes rest n end spaces place kept number rest_is within gap other stop =
     let number_small = number_ascii (take end bytes) n number.number_is in
     let gap_small = All-replicate (λ c. c < 128) spaces space (omega arith) in
     let gap_ascii : IsAscii (take spaces rest) = subst IsAscii (sym gap) (IsAscii-from_all (replicate spaces space) gap_small) in
@@ -251,10 +251,10 @@ stops_in_unit flags bytes rest n end spaces place scan number rest_is within gap
     ap chars rest_is ∙ (text_from rest spaces gap_ascii
     ∙ (ap (λ g. g ++ chars (drop spaces rest)) gap ∙ ap (λ u. replicate spaces space ++ chars u) at_unit)) in
     record {
-      within = omega (arith, inside, stop.0.within, length-drop (end + spaces) bytes);
+      within = omega (arith, inside, stop.1.0.within, length-drop (end + spaces) bytes);
       ascii = subst IsAscii (sym (take-add (end + spaces) place bytes))
           (IsAscii-append (take (end + spaces) bytes) (take place unit) ascii
-          (run_ascii (take place unit) start scan stop.0.run_is));
+          (run_ascii (take place unit) start stop.0 stop.1.0.run_is));
       result_is = λ utf8.
           let utf8_unit = utf8_from bytes (end + spaces) utf8 inside ascii in
           ap (read (size_scan flags) Beginning) (text_from bytes end number_small)
@@ -264,6 +264,6 @@ stops_in_unit flags bytes rest n end spaces place scan number rest_is within gap
           (subst (IsFirst (EndsNumber number.state n)) text (number.next utf8))
           (first_char IsNoSpace (λ c wide. λ e. omega (arith, wide, e)) unit utf8_unit
           (subst (IsFirst IsNoSpace) at_unit other))
-          ∙ (ap (with_number n) (stop_read flags unit place scan stop utf8_unit)
-          ∙ ap (λ r. Err (unit_stop_fault flags scan (next_char (chars r)))) (drop-drop place (end + spaces) bytes)))));
+          ∙ (ap (with_number n) (stop_read flags unit place kept stop utf8_unit)
+          ∙ ap (λ r. Err (unit_stop_fault flags kept (next_char (chars r)))) (drop-drop place (end + spaces) bytes)))));
     }

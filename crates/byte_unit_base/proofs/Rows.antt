@@ -18,7 +18,7 @@ use Rattle.byte_unit_base.specs.Choice.{IsLargest, NoneHas}
 use Rattle.byte_unit_base.specs.Multiples.{ListsUnits, ShapeRow, row_of, row_shape}
 use Rattle.byte_unit_base.specs.UnitLists.{units_of_prefixes, prefix_count}
 use Rattle.byte_unit_base.specs.declared.unit.Unit.TheVariants.{Bit}
-use Rattle.byte_unit_base.specs.declared.unit.family.UnitRow.{UnitRow}
+use Rattle.byte_unit_base.specs.declared.unit.tables.UnitRow.{UnitRow}
 use Rattle.byte_unit_base.specs.declared.unit.family.Family.{Family}
 use Rattle.byte_unit_base.proofs.Falling.{IsIn, Remain, falls, in_falling, all_in_family, current_falls, falls_after}
 use Rattle.byte_unit_base.proofs.Falling.{le_of_falls, units_per_prefix, drop_prefixes}

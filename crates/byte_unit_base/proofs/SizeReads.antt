@@ -26,11 +26,11 @@ use Rattle.byte_unit_base.specs.PartsReading.{IsStopAt, next_char, stop_fault}
 use Rattle.byte_unit_base.specs.declared.read.stop.Reason.{Reason}
 use Rattle.byte_unit_base.specs.declared.unit.Unit.{Unit as UnitName}
 use Rattle.byte_unit_base.specs.declared.errors.ParseError.{ParseError}
-use Rattle.byte_unit_base.specs.declared.unit.scan.UnitScan.{UnitScan}
-use Rattle.byte_unit_base.specs.declared.unit.scan.Multiple.{Multiple}
-use Rattle.byte_unit_base.specs.declared.unit.scan.Multiple.TheVariants.{One}
-use Rattle.byte_unit_base.specs.declared.unit.scan.Word.{Word}
-use Rattle.byte_unit_base.specs.declared.unit.scan.Word.TheVariants.{Empty, Bi}
+use Rattle.byte_unit_base.specs.UnitScan.{UnitScan}
+use Rattle.byte_unit_base.specs.UnitScan.{Multiple}
+use Rattle.byte_unit_base.specs.UnitScan.{One}
+use Rattle.byte_unit_base.specs.UnitScan.{Word}
+use Rattle.byte_unit_base.specs.UnitScan.{Empty, Bi}
 use Rattle.byte_unit_base.proofs.Computed.{number_computed}
 use Rattle.byte_unit_base.proofs.Scans.{EndsIn, IsScanOf, read_found, read_meant, read_refused, reads_meaning}
 use Rattle.byte_unit_base.proofs.UnitReached.{Reached-start, Spells-reached}

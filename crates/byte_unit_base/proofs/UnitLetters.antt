@@ -10,30 +10,38 @@ use lib.Lanes.{digits_l, number_l}
 use mir.Val.{bool_byte}
 use Rattle.byte_unit_base.specs.Shape.{shape}
 use Rattle.byte_unit_base.specs.PartsReading.{first_eight, IsLineOf, IsLeadingUnit}
-use Rattle.byte_unit_base.specs.UnitScan.{unit_step, multiple_step, multiple_shape, prefix_at, power_of, is_i, scan_of}
+use Rattle.byte_unit_base.specs.UnitScan.{unit_step, multiple_step, multiple_shape, prefix_at, is_i, scan_of}
 use Rattle.byte_unit_base.specs.UnitScan.{start}
-use Rattle.byte_unit_base.specs.UnitWord.{letter_power, multiple_of, word_of, bits_len}
-use Rattle.byte_unit_base.specs.declared.unit.scan.Prefix.{Prefix}
-use Rattle.byte_unit_base.specs.declared.unit.scan.Prefix.TheVariants.{Kilo}
-use Rattle.byte_unit_base.specs.declared.unit.scan.Multiple.{Multiple}
-use Rattle.byte_unit_base.specs.declared.unit.scan.Multiple.TheVariants.{One, Decimal, Binary}
-use Rattle.byte_unit_base.specs.declared.unit.scan.Word.TheVariants.{Empty}
+use Rattle.byte_unit_base.specs.UnitWord.{letter_power, multiple_of, word_of, bits_len, has_prefix}
+use Rattle.byte_unit_base.specs.UnitScan.{Multiple}
+use Rattle.byte_unit_base.specs.UnitScan.{One, Decimal, Binary}
+use Rattle.byte_unit_base.specs.UnitScan.{Empty}
 use Rattle.byte_unit_base.proofs.Lines.{rest_of_line}
+use Rattle.byte_unit_base.proofs.UnitReached.{prefix_found}
 use Rattle.byte_unit_base.proofs.UnitStops.{walk, walk_line, walk_leads}
 
 -- the unit of the prefix at a position has this position
 pub shape_of_power : (n : ℕ) → 1 ≤ n → n ≤ 9 → (binary bit : Bool)
     → multiple_shape (multiple_of n binary) bit ≡ shape n binary bit
-shape_of_power zero some _ _ _ = absurd (omega (arith, some))
-shape_of_power (suc (suc (suc (suc (suc (suc (suc (suc (suc (suc n)))))))))) _ few _ _ = absurd (omega (arith, few))
-shape_of_power _ some few true bit = refl
-shape_of_power _ some few _ bit = refl
+shape_of_power zero some few _ _ = absurd (omega (arith, some))
+shape_of_power (suc n) some few true bit = refl
+shape_of_power (suc n) some few false bit = refl
+
+-- a position is not 0
+not_zero : (n : ℕ) → eqb (suc n) 0 ≡ false
+not_zero n = grind (arith, nat_tests)
 
 -- the prefix at a position is that of the letter which has it
-prefix_is : (p : Prefix) → (multiple_of (power_of p) true ≡ Binary p) × (multiple_of (power_of p) false ≡ Decimal p)
-    × (eqb (power_of p) 0 ≡ false)
-prefix_is Kilo = (refl, refl, refl)
-prefix_is _ = (refl, refl, refl)
+prefix_is : (c p : ℕ) → prefix_at c ≡ Some p
+    → (multiple_of p true ≡ Binary p) × (multiple_of p false ≡ Decimal p) × (eqb p 0 ≡ false)
+prefix_is c zero e = absurd (omega (arith, (prefix_found c zero e).0))
+prefix_is c (suc p) e = (refl, refl, not_zero p)
+
+-- there is a prefix if its position is not 0
+pub prefix_kept : (n : ℕ) (binary : Bool) → has_prefix (multiple_of n binary) ≡ not (eqb n 0)
+prefix_kept zero binary = refl
+prefix_kept (suc n) true = rw (not_zero n) refl
+prefix_kept (suc n) false = rw (not_zero n) refl
 
 -- two letters in either case
 i_is : (c : ℕ) → (eqb c 105 || eqb c 73) ≡ is_i c
@@ -57,9 +65,9 @@ suffix_walk m j w rest none _ u _ l true i true t false s = rw (none, b_is (w % 
 suffix_walk m j w rest none _ u _ l true i true t true s = rw (none, b_is (w % 256), l, u, i, t, s, walk) refl
 
 -- the letters that a number begins with, by their lengths, are what the state machine reads of them
-unit_walk : (text n : ℕ) (rest : List ℕ) (o : Option Prefix) → prefix_at (text % 256) ≡ o
+unit_walk : (text n : ℕ) (rest : List ℕ) (o : Option ℕ) → prefix_at (text % 256) ≡ o
     → (i : Bool) → is_i (text / 256 % 256) ≡ i
-    → let power : ℕ = elim o [ Some p ↦ power_of p | None ↦ 0 ] in let binary = not (eqb power 0) && i in
+    → let power : ℕ = elim o [ Some p ↦ p | None ↦ 0 ] in let binary = not (eqb power 0) && i in
     let k = bool_byte (not (eqb power 0)) + bool_byte binary in let word = text / 2 ^ (8 * k) in
     n ≡ bits_len (digits_l 256 8 word) → walk start (digits_l 256 8 text ++ rest)
     ≡ (scan_of (multiple_of power binary) (word_of n (eqb (word % 256) 66)), k + n)
@@ -71,12 +79,12 @@ unit_walk text n rest None e i f n_is =
 unit_walk text n rest (Some p) e true f n_is =
     let w : text / 2 ^ (8 * 2) ≡ text / 256 / 256 = omega arith in
     let two : (n : ℕ) → 2 + n ≡ 1 + (1 + n) = λ n. omega arith in
-    rw (n_is, (prefix_is p).2, (prefix_is p).0, w, two, e, prefix_at, f, walk)
+    rw (n_is, (prefix_is (text % 256) p e).2, (prefix_is (text % 256) p e).0, w, two, e, prefix_at, f, walk)
     (ap (λ w. (w.0, 1 + (1 + w.1)))
     (suffix_walk (Binary p) 1 (text / 256 / 256) rest refl _ refl _ refl _ refl _ refl _ refl))
 unit_walk text n rest (Some p) e false f n_is =
     let w : text / 2 ^ (8 * 1) ≡ text / 256 = omega arith in
-    rw (n_is, (prefix_is p).2, (prefix_is p).1, w, e, prefix_at, walk)
+    rw (n_is, (prefix_is (text % 256) p e).2, (prefix_is (text % 256) p e).1, w, e, prefix_at, walk)
     (ap (λ w. (w.0, 1 + w.1))
     (suffix_walk (Decimal p) 2 (text / 256) rest (rw f refl) _ refl _ refl _ refl _ refl _ refl))
 

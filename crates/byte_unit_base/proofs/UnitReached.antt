@@ -1,7 +1,7 @@
 -- What is known of the text that led to a state of the state machine of units, and that the unit of a state is spelled
 -- by it.
-use Rattle.std.proofs.Common.{◌≡◌, ℕ, ◌-◌, inl, inr, List, [], ◌∷◌, ◌++◌, Option, Some, None, sym, refl, ap, subst, ◌∙◌}
-use Rattle.std.proofs.Common.{arith, Bool, false, cond, eqb, append-nil}
+use Rattle.std.proofs.Common.{◌≡◌, ℕ, suc, ◌+◌, ◌-◌, ◌<◌, ◌≤◌, inl, inr, List, [], ◌∷◌, ◌++◌, length, Option, Some, None, sym}
+use Rattle.std.proofs.Common.{refl, ap, subst, ◌∙◌, arith, Bool, true, false, cond, eqb, eqb→eq, T, append-nil}
 use Rattle.std.specs.Prelude.{slice_index}
 use Rattle.std.specs.Option.{option_map}
 use Rattle.std.specs.Char.{to_ascii_lowercase, to_ascii_uppercase}
@@ -10,16 +10,13 @@ use Rattle.std.proofs.lemmas.Bool.Decides.{nat_tests}
 use Rattle.byte_unit_base.specs.Shape.{Shape}
 use Rattle.byte_unit_base.specs.Version.{current}
 use Rattle.byte_unit_base.specs.Spelling.{Flags, IsPrefixLetter, SpellsBinary, SpellsCount, Spells}
-use Rattle.byte_unit_base.specs.UnitScan.{unit_step, unit_of, start, scan_of, power_of, prefix_at, multiple_step}
+use Rattle.byte_unit_base.specs.UnitScan.{unit_step, unit_of, start, scan_of, position_in, prefix_at, multiple_step}
 use Rattle.byte_unit_base.specs.UnitScan.{word_step, or_word, count_of, multiple_shape, IsMultipleText, IsWordText}
-use Rattle.byte_unit_base.specs.declared.unit.scan.Prefix.{Prefix}
-use Rattle.byte_unit_base.specs.declared.unit.scan.Prefix.TheVariants.{Kilo, Mega, Giga, Tera, Peta, Exa, Zetta, Yotta}
-use Rattle.byte_unit_base.specs.declared.unit.scan.Prefix.TheVariants.{Ronna}
-use Rattle.byte_unit_base.specs.declared.unit.scan.Word.{Word}
-use Rattle.byte_unit_base.specs.declared.unit.scan.Word.TheVariants.{Empty, UpperB, LowerB, Bi, Bit, Bits}
-use Rattle.byte_unit_base.specs.declared.unit.scan.Multiple.{Multiple}
-use Rattle.byte_unit_base.specs.declared.unit.scan.Multiple.TheVariants.{One, Decimal, Binary}
-use Rattle.byte_unit_base.specs.declared.unit.scan.UnitScan.{UnitScan}
+use Rattle.byte_unit_base.specs.UnitScan.{Word}
+use Rattle.byte_unit_base.specs.UnitScan.{Empty, UpperB, LowerB, Bi, Bit, Bits}
+use Rattle.byte_unit_base.specs.UnitScan.{Multiple}
+use Rattle.byte_unit_base.specs.UnitScan.{One, Decimal, Binary}
+use Rattle.byte_unit_base.specs.UnitScan.{UnitScan}
 use Rattle.byte_unit_base.proofs.Lists.{push_last}
 use Rattle.byte_unit_base.proofs.Options.{some_mapped}
 
@@ -31,19 +28,33 @@ pub record Reached (s : UnitScan) (text : List ℕ) : Type 0 where
   pub front_is : IsMultipleText s.multiple front
   pub word_is : IsWordText s.word word
 
--- a test of one letter after another
-letter_found : (u : ℕ) (p : Prefix)
-    → cond (eqb u 75) (Some Kilo) (cond (eqb u 77) (Some Mega)
-    (cond (eqb u 71) (Some Giga) (cond (eqb u 84) (Some Tera)
-    (cond (eqb u 80) (Some Peta) (cond (eqb u 69) (Some Exa) (cond (eqb u 90) (Some Zetta) (cond (eqb u 89) (Some Yotta)
-    (cond (eqb u 82) (Some Ronna) None)))))))) ≡ Some p → u ≡ slice_index current.letters (power_of p - 1)
-letter_found u Kilo e = grind (arith, nat_tests)
-letter_found u _ e = grind (arith, nat_tests)
+-- a letter that is found at a position is there
+abbrev IsPositionIn : List ℕ → ℕ → ℕ → ℕ → Type 0
+IsPositionIn letters first u p = (first ≤ p) × (p < first + length letters) × (u ≡ slice_index letters (p - first))
+
+position_here : (letter : ℕ) (letters : List ℕ) (first u p : ℕ) (is : Bool) → eqb u letter ≡ is
+    → (position_in letters (suc first) u ≡ Some p → IsPositionIn letters (suc first) u p)
+    → cond is (Some first) (position_in letters (suc first) u) ≡ Some p → IsPositionIn (letter ∷ letters) first u p
+position_here letter letters first u p true same later e =
+    let here : first ≡ p = cc in
+    let none : p - first ≡ 0 = omega (arith, here) in
+    (omega (arith, here), omega (arith, here), rw none (eqb→eq u letter (subst T (sym same) tt)))
+position_here letter letters first u p false same later e =
+    let h = later e in
+    let next : p - first ≡ suc (p - suc first) = omega (arith, h.0) in
+    (omega (arith, h.0), omega (arith, h.1), rw next h.2)
+
+position_found : (letters : List ℕ) (first u p : ℕ) → position_in letters first u ≡ Some p
+    → IsPositionIn letters first u p
+position_found [] first u p e = absurd (let k : ⊥ = cc in k)
+position_found (letter ∷ letters) first u p e =
+    position_here letter letters first u p (eqb u letter) refl (position_found letters (suc first) u p) e
 
 -- a character for which a prefix is found is its letter, in either case
-pub prefix_found : (c : ℕ) (p : Prefix) → prefix_at c ≡ Some p → IsPrefixLetter current (power_of p) c
-prefix_found c Kilo e = (omega arith, omega arith, letter_found (to_ascii_uppercase c) Kilo e)
-prefix_found c p e = (omega arith, omega arith, letter_found (to_ascii_uppercase c) p e)
+pub prefix_found : (c p : ℕ) → prefix_at c ≡ Some p → IsPrefixLetter current p c
+prefix_found c p e =
+    let found = position_found current.letters 1 (to_ascii_uppercase c) p e in
+    (omega (arith, found.0), omega (arith, found.1), found.2)
 
 -- one character more of the prefix
 no_infix : (text : List ℕ) → SpellsBinary text false → text ≡ []
@@ -70,7 +81,7 @@ multiple_grows (Decimal p) (Binary q) c text e h =
       letter = h.letter;
       infix_part = c ∷ [];
       text_is = ap (λ x. x ++ c ∷ []) whole;
-      letter_is = subst (λ p. IsPrefixLetter current (power_of p) h.letter) same h.letter_is;
+      letter_is = subst (λ p. IsPrefixLetter current p h.letter) same h.letter_is;
       infix_is = inr (ap (λ x. x ∷ []) is, refl);
     }
 multiple_grows _ _ c text e h = grind (arith, nat_tests)

@@ -15,13 +15,13 @@ use Rattle.byte_unit_base.specs.Fault.{fault_at_end}
 use Rattle.byte_unit_base.specs.Readings.{IsUnitReading}
 use Rattle.byte_unit_base.specs.Scan.{read}
 use Rattle.byte_unit_base.specs.UnitScan.{unit_step, unit_scan, unit_of, unit_at_end, unit_result, start, scan_of}
-use Rattle.byte_unit_base.specs.UnitScan.{power_of, word_parser_state, multiple_parser_state, IsMultipleText}
+use Rattle.byte_unit_base.specs.UnitScan.{word_parser_state, multiple_parser_state, IsMultipleText}
 use Rattle.byte_unit_base.specs.declared.unit.Unit.{Unit as UnitName}
 use Rattle.byte_unit_base.specs.declared.errors.UnitParseError.{UnitParseError}
-use Rattle.byte_unit_base.specs.declared.unit.scan.Word.{Word}
-use Rattle.byte_unit_base.specs.declared.unit.scan.Word.TheVariants.{Empty, UpperB, LowerB, Bi, Bit, Bits}
-use Rattle.byte_unit_base.specs.declared.unit.scan.Multiple.{Multiple}
-use Rattle.byte_unit_base.specs.declared.unit.scan.Multiple.TheVariants.{One, Decimal, Binary}
+use Rattle.byte_unit_base.specs.UnitScan.{Word}
+use Rattle.byte_unit_base.specs.UnitScan.{Empty, UpperB, LowerB, Bi, Bit, Bits}
+use Rattle.byte_unit_base.specs.UnitScan.{Multiple}
+use Rattle.byte_unit_base.specs.UnitScan.{One, Decimal, Binary}
 use Rattle.byte_unit_base.proofs.Scans.{EndsIn, IsScanOf, read_found, read_meant, read_refused}
 use Rattle.byte_unit_base.proofs.Computed.{unit_computed}
 use Rattle.byte_unit_base.proofs.UnitReached.{Reached, Reached-step, Reached-start, Spells-reached}
@@ -29,13 +29,13 @@ use Rattle.byte_unit_base.proofs.UnitRuns.{spelling_runs, unit_front_runs}
 
 empty_front : (m : Multiple) (text : List ℕ) → IsMultipleText m text → IsViableUnitPrefix current (multiple_parser_state m) text
 empty_front One text h = h
-empty_front (Decimal p) text h = (power_of p, false, h)
-empty_front (Binary p) text h = (power_of p, true, h)
+empty_front (Decimal p) text h = (p, false, h)
+empty_front (Binary p) text h = (p, true, h)
 
 some_prefix : (m : Multiple) (text : List ℕ) → IsMultipleText m text → (text ≡ []) ⊎ IsPrefix current text
 some_prefix One text h = inl h
-some_prefix (Decimal p) text h = inr (power_of p, false, h)
-some_prefix (Binary p) text h = inr (power_of p, true, h)
+some_prefix (Decimal p) text h = inr (p, false, h)
+some_prefix (Binary p) text h = inr (p, true, h)
 
 word_front : (place : ParserState) (m : Multiple) (w : Word) (text : List ℕ) (r : Reached (scan_of m w) text)
     → IsWord place r.word → IsViableWordPrefix current place text

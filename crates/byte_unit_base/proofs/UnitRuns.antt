@@ -9,15 +9,12 @@ use Rattle.byte_unit_base.specs.Spelling.{Flags, IsPrefixLetter, SpellsCount, Sp
 use Rattle.byte_unit_base.specs.ViablePrefix.{ParserState, before_unit, after_prefix, after_b, after_bi, after_bit}
 use Rattle.byte_unit_base.specs.ViablePrefix.{after_bits, IsWord, IsViableWordPrefix, IsViableUnitPrefix}
 use Rattle.byte_unit_base.specs.Scan.{run}
-use Rattle.byte_unit_base.specs.UnitScan.{unit_step, unit_of, unit_scan, start, scan_of, power_of, prefix_at, count_of}
+use Rattle.byte_unit_base.specs.UnitScan.{unit_step, unit_of, unit_scan, start, scan_of, prefix_at, count_of}
 use Rattle.byte_unit_base.specs.UnitScan.{multiple_shape, IsWordText, word_parser_state, multiple_parser_state}
-use Rattle.byte_unit_base.specs.declared.unit.scan.Prefix.{Prefix}
-use Rattle.byte_unit_base.specs.declared.unit.scan.Prefix.TheVariants.{Kilo, Mega, Giga, Tera, Peta, Exa, Zetta, Yotta}
-use Rattle.byte_unit_base.specs.declared.unit.scan.Prefix.TheVariants.{Ronna}
-use Rattle.byte_unit_base.specs.declared.unit.scan.Word.{Word}
-use Rattle.byte_unit_base.specs.declared.unit.scan.Word.TheVariants.{Empty, UpperB, LowerB, Bi, Bit, Bits}
-use Rattle.byte_unit_base.specs.declared.unit.scan.Multiple.{Multiple}
-use Rattle.byte_unit_base.specs.declared.unit.scan.Multiple.TheVariants.{One, Decimal, Binary}
+use Rattle.byte_unit_base.specs.UnitScan.{Word}
+use Rattle.byte_unit_base.specs.UnitScan.{Empty, UpperB, LowerB, Bi, Bit, Bits}
+use Rattle.byte_unit_base.specs.UnitScan.{Multiple}
+use Rattle.byte_unit_base.specs.UnitScan.{One, Decimal, Binary}
 use Rattle.byte_unit_base.proofs.Lists.{from_lowercase}
 use Rattle.byte_unit_base.proofs.Scans.{run_through, run_step, IsScanned}
 
@@ -67,24 +64,15 @@ count_word flags text bit (inr (inr (inr (inl h)))) = (Bit, h.0, ap Some (sym h.
 count_word flags text bit (inr (inr (inr (inr h)))) = (Bits, h.0, ap Some (sym h.1))
 
 -- a prefix letter is read at the beginning
-step_prefix : (c : ℕ) (p : Prefix) → prefix_at c ≡ Some p → unit_step start c ≡ Some (scan_of (Decimal p) Empty)
+step_prefix : (c : ℕ) (p : ℕ) → prefix_at c ≡ Some p → unit_step start c ≡ Some (scan_of (Decimal p) Empty)
 unfolding unit_step
 step_prefix c p e = rw (e, prefix_at) refl
 
--- each prefix letter of the version is that of a prefix of the code, with the same index
-letter_prefix : (c power : ℕ) → IsPrefixLetter current power c
-    → (p : Prefix) × (prefix_at c ≡ Some p) × (power_of p ≡ power)
+-- each prefix letter is found at its position
+letter_prefix : (c power : ℕ) → IsPrefixLetter current power c → prefix_at c ≡ Some power
 letter_prefix c zero h = absurd (omega (arith, h.0))
-letter_prefix c (suc zero) h = (Kilo, rw h.2 refl, refl)
-letter_prefix c (suc (suc zero)) h = (Mega, rw h.2 refl, refl)
-letter_prefix c (suc (suc (suc zero))) h = (Giga, rw h.2 refl, refl)
-letter_prefix c (suc (suc (suc (suc zero)))) h = (Tera, rw h.2 refl, refl)
-letter_prefix c (suc (suc (suc (suc (suc zero))))) h = (Peta, rw h.2 refl, refl)
-letter_prefix c (suc (suc (suc (suc (suc (suc zero)))))) h = (Exa, rw h.2 refl, refl)
-letter_prefix c (suc (suc (suc (suc (suc (suc (suc zero))))))) h = (Zetta, rw h.2 refl, refl)
-letter_prefix c (suc (suc (suc (suc (suc (suc (suc (suc zero)))))))) h = (Yotta, rw h.2 refl, refl)
-letter_prefix c (suc (suc (suc (suc (suc (suc (suc (suc (suc zero))))))))) h = (Ronna, rw h.2 refl, refl)
 letter_prefix c (suc (suc (suc (suc (suc (suc (suc (suc (suc (suc n)))))))))) h = absurd (omega (arith, h.1))
+letter_prefix c _ h = rw h.2 refl
 
 -- the state after the text is that of this prefix, before a suffix
 record RunsToPrefix (text : List ℕ) (power : ℕ) (binary : Bool) : Type 0 where
@@ -94,21 +82,21 @@ record RunsToPrefix (text : List ℕ) (power : ℕ) (binary : Bool) : Type 0 whe
   place_is : multiple_parser_state multiple ≡ after_prefix
 
 -- the letter of a prefix is followed by an `i` or by nothing
-run_letter : (p : Prefix) (c : ℕ) (rest : List ℕ) (binary : Bool) → prefix_at c ≡ Some p → SpellsBinary rest binary
-    → RunsToPrefix (c ∷ rest) (power_of p) binary
+run_letter : (p : ℕ) (c : ℕ) (rest : List ℕ) (binary : Bool) → prefix_at c ≡ Some p → SpellsBinary rest binary
+    → RunsToPrefix (c ∷ rest) p binary
 unfolding unit_step
 run_letter p c rest binary e (inl h) = record {
   multiple = Decimal p;
   run = run_step unit_step start (scan_of (Decimal p) Empty) c rest (step_prefix c p e)
       ∙ ap (run unit_step (scan_of (Decimal p) Empty)) h.0;
-  shape_is = λ bit. ap (λ x. shape (power_of p) x bit) (sym h.1);
+  shape_is = λ bit. ap (λ x. shape p x bit) (sym h.1);
   place_is = refl;
 }
 run_letter p c (i ∷ []) binary e (inr h) = record {
   multiple = Binary p;
   run = run_step unit_step start (scan_of (Decimal p) Empty) c (i ∷ []) (step_prefix c p e)
       ∙ (let is : to_ascii_lowercase i ≡ 105 = cc (h.0) in rw is refl);
-  shape_is = λ bit. ap (λ x. shape (power_of p) x bit) (sym h.1);
+  shape_is = λ bit. ap (λ x. shape p x bit) (sym h.1);
   place_is = refl;
 }
 run_letter p c _ binary e (inr h) = absurd (let k : ⊥ = cc (h.0) in k)
@@ -117,10 +105,8 @@ run_letter p c _ binary e (inr h) = absurd (let k : ⊥ = cc (h.0) in k)
 run_prefix : (text : List ℕ) (power : ℕ) (binary : Bool) → SpellsPrefix current text power binary
     → RunsToPrefix text power binary
 run_prefix text power binary h =
-    let p = letter_prefix h.letter power h.letter_is in
     subst (λ x. RunsToPrefix x power binary) (sym h.text_is)
-    (subst (λ k. RunsToPrefix (h.letter ∷ h.infix_part) k binary) p.2
-    (run_letter p.0 h.letter h.infix_part binary p.1 h.infix_is))
+    (run_letter power h.letter h.infix_part binary (letter_prefix h.letter power h.letter_is) h.infix_is)
 
 -- the state after the text is that of this unit
 pub record RunsToUnit (flags : Flags) (text : List ℕ) (s : Shape) : Type 0 where

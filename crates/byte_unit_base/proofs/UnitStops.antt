@@ -11,14 +11,18 @@ use Rattle.byte_unit_base.specs.Shape.{Shape}
 use Rattle.byte_unit_base.specs.Version.{current}
 use Rattle.byte_unit_base.specs.Spelling.{Flags, Spells}
 use Rattle.byte_unit_base.specs.Scan.{run, read}
-use Rattle.byte_unit_base.specs.UnitScan.{unit_step, prefix_at, unit_of, unit_at_end, unit_scan, scan_of, start}
+use Rattle.byte_unit_base.specs.UnitScan.{unit_step, prefix_at, unit_of, unit_at_end, unit_scan, unit_parser_state, scan_of}
+use Rattle.byte_unit_base.specs.UnitScan.{start}
+use Rattle.byte_unit_base.specs.UnitWord.{unit_stop, stop_parser_state}
+use Rattle.byte_unit_base.specs.Fault.{fault_at}
+use Rattle.byte_unit_base.specs.declared.unit.scan.UnitStop.{UnitStop}
 use Rattle.byte_unit_base.specs.PartsReading.{IsAfterLine, IsFirst, IsLeadingUnit, IsUnitStop, next_char}
 use Rattle.byte_unit_base.specs.PartsReading.{unit_stop_fault}
-use Rattle.byte_unit_base.specs.declared.unit.scan.UnitScan.{UnitScan}
-use Rattle.byte_unit_base.specs.declared.unit.scan.Multiple.{Multiple}
-use Rattle.byte_unit_base.specs.declared.unit.scan.Multiple.TheVariants.{One}
-use Rattle.byte_unit_base.specs.declared.unit.scan.Word.{Word}
-use Rattle.byte_unit_base.specs.declared.unit.scan.Word.TheVariants.{Empty, Bits}
+use Rattle.byte_unit_base.specs.UnitScan.{UnitScan}
+use Rattle.byte_unit_base.specs.UnitScan.{Multiple}
+use Rattle.byte_unit_base.specs.UnitScan.{One}
+use Rattle.byte_unit_base.specs.UnitScan.{Word}
+use Rattle.byte_unit_base.specs.UnitScan.{Empty, Bits}
 use Rattle.byte_unit_base.proofs.Options.{none_or_some, some_passed}
 use Rattle.byte_unit_base.proofs.Scans.{read_none, read_through, reached}
 use Rattle.byte_unit_base.proofs.UnitReached.{Spells-reached}
@@ -61,18 +65,26 @@ spelled flags bytes scan unit place leads all e =
 
 -- where the parser stops
 
+-- what the code keeps of a state has its parser state
+kept_state : (m : Multiple) (w : Word) → unit_parser_state (scan_of m w) ≡ stop_parser_state (unit_stop (scan_of m w))
+kept_state One Empty = refl
+kept_state m Empty = refl
+kept_state m _ = refl
+
 stopped : (flags : Flags) (scan : UnitScan) (rest : List ℕ) → (rest ≡ [] → unit_of flags scan ≡ None)
     → IsFirst (λ c. unit_step scan c ≡ None) rest
-    → read (unit_scan flags) scan rest ≡ Err (unit_stop_fault flags scan (next_char rest))
+    → read (unit_scan flags) scan rest ≡ Err (unit_stop_fault flags (unit_stop scan) (next_char rest))
 stopped flags scan [] ends next = ap unit_at_end (ends refl)
 stopped flags scan (c ∷ cs) ends next = read_none (unit_scan flags) scan c cs next
+    ∙ ap (λ state. Err (fault_at current flags state c)) (kept_state scan.multiple scan.word)
 
 -- the error where the parser of a unit stops is that of the input
-pub stop_read : (flags : Flags) (bytes : List ℕ) (place : ℕ) (scan : UnitScan) → IsUnitStop flags bytes scan place
+pub stop_read : (flags : Flags) (bytes : List ℕ) (place : ℕ) (kept : UnitStop) → IsUnitStop flags bytes kept place
     → IsUtf8 bytes → read (unit_scan flags) start (chars bytes)
-    ≡ Err (unit_stop_fault flags scan (next_char (chars (drop place bytes))))
-stop_read flags bytes place scan stop utf8 =
-    let leads = stop.0 in
+    ≡ Err (unit_stop_fault flags kept (next_char (chars (drop place bytes))))
+stop_read flags bytes place kept stop utf8 =
+    let scan = stop.0 in
+    let leads = stop.1.0 in
     let ascii = run_ascii (take place bytes) start scan leads.run_is in
     let rest = drop place bytes in
     let utf8_rest = utf8_from bytes place utf8 leads.within ascii in
@@ -81,9 +93,10 @@ stop_read flags bytes place scan stop utf8 =
     omega (arith, leads.within, length-drop place bytes, ap length empty) in
     ap (read (unit_scan flags) start) (text_from bytes place ascii)
     ∙ (read_through (unit_scan flags) start scan (take place bytes) (chars rest) leads.run_is
-    ∙ stopped flags scan (chars rest) (λ none. stop.1 (at_end none))
+    ∙ (stopped flags scan (chars rest) (λ none. stop.1.1 (at_end none))
     (first_char (λ c. unit_step scan c ≡ None) (λ c wide. no_other_step scan.multiple scan.word c (inr wide)) rest
-    utf8_rest leads.next))
+    utf8_rest leads.next)
+    ∙ ap (λ kept. Err (unit_stop_fault flags kept (next_char (chars rest)))) stop.2))
 
 -- the longest beginning of a unit
 

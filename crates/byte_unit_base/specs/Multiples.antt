@@ -5,7 +5,7 @@ use Rattle.byte_unit_base.specs.Units.{shape_of}
 use Rattle.byte_unit_base.specs.Version.{current}
 use Rattle.byte_unit_base.specs.Family.{HasPrefix}
 use Rattle.byte_unit_base.specs.UnitLists.{prefix_count, units_of_prefixes}
-use Rattle.byte_unit_base.specs.declared.unit.family.UnitRow.{UnitRow}
+use Rattle.byte_unit_base.specs.declared.unit.tables.UnitRow.{UnitRow}
 use Rattle.byte_unit_base.specs.declared.unit.family.Family.{Family}
 
 -- a row of the table of units: a unit, its number of bits, and the exponents of 2 and 5 in it

@@ -12,7 +12,8 @@ use Rattle.byte_unit_base.specs.Number.{point, IsNumberText}
 use Rattle.byte_unit_base.specs.SizeText.{space, IsSizeText}
 use Rattle.byte_unit_base.specs.Fault.{Fault, fault_at, no_unit, not_number, no_value, too_long, stops_at_bi}
 use Rattle.byte_unit_base.specs.Scan.{run, read}
-use Rattle.byte_unit_base.specs.UnitScan.{unit_of, unit_step, unit_parser_state, start}
+use Rattle.byte_unit_base.specs.UnitScan.{UnitScan, unit_of, unit_step, start}
+use Rattle.byte_unit_base.specs.UnitWord.{unit_stop, stop_parser_state}
 use Rattle.byte_unit_base.specs.SizeScan.{SizeScan, Beginning, size_step, size_scan, size_at_end, size_or_fault}
 use Rattle.byte_unit_base.specs.SizeScan.{size_parser_state, after_number}
 use Rattle.byte_unit_base.specs.Readings.{IsNumberReading}
@@ -20,7 +21,7 @@ use Rattle.byte_unit_base.specs.declared.unit.Unit.{Unit as UnitName}
 use Rattle.byte_unit_base.specs.declared.read.stop.Stop.{Stop}
 use Rattle.byte_unit_base.specs.declared.read.stop.Reason.{Reason}
 use Rattle.byte_unit_base.specs.declared.read.stop.Reason.TheVariants.{NoDigit, TooLong, InUnit}
-use Rattle.byte_unit_base.specs.declared.unit.scan.UnitScan.{UnitScan}
+use Rattle.byte_unit_base.specs.declared.unit.scan.UnitStop.{UnitStop}
 
 -- the first and the last byte are visible characters of ASCII
 pub record HasVisibleEnds (bytes : List ℕ) : Type 0 where
@@ -71,24 +72,28 @@ pub record IsLeadingUnit (bytes : List ℕ) (scan : UnitScan) (end : ℕ) : Type
   pub next : IsFirst (λ c. unit_step scan c ≡ None) (drop end bytes)
 
 -- the parser of a unit stops in these bytes in this state and at this place, where no unit ends
-abbrev pub IsUnitStop : Flags → List ℕ → UnitScan → ℕ → Type 0
-IsUnitStop flags bytes scan place = IsLeadingUnit bytes scan place × (place ≡ length bytes → unit_of flags scan ≡ None)
+abbrev pub IsScanStop : Flags → List ℕ → UnitScan → ℕ → Type 0
+IsScanStop flags bytes scan place = IsLeadingUnit bytes scan place × (place ≡ length bytes → unit_of flags scan ≡ None)
+
+-- the same, of what the code keeps of the state
+abbrev pub IsUnitStop : Flags → List ℕ → UnitStop → ℕ → Type 0
+IsUnitStop flags bytes stop place = (scan : UnitScan) × IsScanStop flags bytes scan place × (unit_stop scan ≡ stop)
 
 -- the unit that the bytes spell, or where the parser of a unit stops in them
-abbrev pub IsUnitEnd : Flags → List ℕ → Result UnitName (UnitScan × ℕ) → Type 0
+abbrev pub IsUnitEnd : Flags → List ℕ → Result UnitName (UnitStop × ℕ) → Type 0
 IsUnitEnd flags bytes (Ok unit) = Spells current flags bytes (shape_of unit)
 IsUnitEnd flags bytes (Err stop) = IsUnitStop flags bytes stop.0 stop.1
 
--- the error of an input in which the parser of a unit stops in this state, by the character there
-abbrev pub unit_stop_fault : Flags → UnitScan → Option ℕ → Fault
-unit_stop_fault flags scan (Some c) = fault_at current flags (unit_parser_state scan) c
-unit_stop_fault flags scan None = stops_at_bi
+-- the error of an input in which the parser of a unit stops here, by the character there
+abbrev pub unit_stop_fault : Flags → UnitStop → Option ℕ → Fault
+unit_stop_fault flags stop (Some c) = fault_at current flags (stop_parser_state stop) c
+unit_stop_fault flags stop None = stops_at_bi
 
 -- the error of an input in which the parser stops for this reason, by the character there
 abbrev pub stop_fault : Flags → Bool → Reason → Option ℕ → Fault
 stop_fault flags at_start NoDigit next = missing_digit at_start next
 stop_fault flags at_start TooLong next = too_long
-stop_fault flags at_start (InUnit scan) next = unit_stop_fault flags scan next
+stop_fault flags at_start (InUnit stop) next = unit_stop_fault flags stop next
 
 -- the parser stops in this input at this place and for this reason
 pub record IsStopAt (flags : Flags) (bytes : List ℕ) (place : ℕ) (reason : Reason) : Type 0 where

@@ -16,8 +16,7 @@ use Rattle.byte_unit_base.specs.Spelling.{Flags}
 use Rattle.byte_unit_base.specs.ViablePrefix.{ParserState, beginning, in_whole, after_point, in_fraction, before_unit}
 use Rattle.byte_unit_base.specs.Fault.{Fault, not_number, no_value, stops_at_bi}
 use Rattle.byte_unit_base.specs.Scan.{Scan, map_result}
-use Rattle.byte_unit_base.specs.UnitScan.{unit_step, unit_of, unit_parser_state, start as unit_start}
-use Rattle.byte_unit_base.specs.declared.unit.scan.UnitScan.{UnitScan}
+use Rattle.byte_unit_base.specs.UnitScan.{UnitScan, unit_step, unit_of, unit_parser_state, start as unit_start}
 
 -- a state of the machine
 pub data SizeScan : Type 0 where

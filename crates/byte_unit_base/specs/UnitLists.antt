@@ -11,6 +11,15 @@ use Rattle.byte_unit_base.specs.declared.unit.Unit.TheVariants.{Pbit, Pibit, PB,
 use Rattle.byte_unit_base.specs.declared.unit.Unit.TheVariants.{Zbit, Zibit, ZB, ZiB, Ybit, Yibit, YB, YiB}
 use Rattle.byte_unit_base.specs.declared.unit.Unit.TheVariants.{Rbit, Ribit, RB, RiB}
 
+-- the units, in the order of the variants, which is that of their codes in the C API
+abbrev pub units : List UnitName
+units =
+    Bit ∷ B ∷ Kbit ∷ Kibit ∷ KB ∷ KiB ∷ Mbit ∷ Mibit ∷ MB ∷ MiB
+    ∷ Gbit ∷ Gibit ∷ GB ∷ GiB ∷ Tbit ∷ Tibit ∷ TB ∷ TiB
+    ∷ Pbit ∷ Pibit ∷ PB ∷ PiB ∷ Ebit ∷ Eibit ∷ EB ∷ EiB
+    ∷ Zbit ∷ Zibit ∷ ZB ∷ ZiB ∷ Ybit ∷ Yibit ∷ YB ∷ YiB
+    ∷ Rbit ∷ Ribit ∷ RB ∷ RiB ∷ []
+
 -- the units of the crate with a binary or a decimal prefix that count bits, or bytes if `bit` is false, by the index of
 -- their prefix; at index 0 is the unit without a prefix
 abbrev pub units_with : Bool → Bool → List UnitName

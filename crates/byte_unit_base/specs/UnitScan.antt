@@ -1,7 +1,7 @@
 -- The state machine that reads a unit, character by character. It is proved that it accepts the inputs, and gives the
 -- errors, of the other files (`ParsedLaws`).
-use Rattle.std.specs.Prelude.{◌≡◌, ℕ, Bool, true, false, not, if◌then◌else◌, ◌==◌, List, [], Option, Some, None, Result}
-use Rattle.std.specs.Prelude.{Ok, Err, codes}
+use Rattle.std.specs.Prelude.{◌≡◌, ℕ, suc, Bool, true, false, not, if◌then◌else◌, ◌==◌, List, [], ◌∷◌, Option, Some, None}
+use Rattle.std.specs.Prelude.{Result, Ok, Err, codes}
 use Rattle.std.specs.Str.{str_to_ascii_lowercase}
 use Rattle.byte_unit_base.specs.Fault.{Fault, stops_at_bi}
 use Rattle.std.specs.Option.{option_map}
@@ -15,34 +15,35 @@ use Rattle.byte_unit_base.specs.Scan.{Scan, map_result}
 use Rattle.byte_unit_base.specs.declared.unit.Unit.{Unit as UnitName}
 use Rattle.byte_unit_base.specs.declared.errors.UnitParseError.{UnitParseError}
 use Rattle.byte_unit_base.specs.ViablePrefix.{ParserState, before_unit, after_prefix, after_b, after_bi, after_bit, after_bits}
-use Rattle.byte_unit_base.specs.declared.unit.scan.Prefix.{Prefix}
-use Rattle.byte_unit_base.specs.declared.unit.scan.Prefix.TheVariants.{Kilo, Mega, Giga, Tera, Peta, Exa}
-use Rattle.byte_unit_base.specs.declared.unit.scan.Prefix.TheVariants.{Zetta, Yotta, Ronna}
-use Rattle.byte_unit_base.specs.declared.unit.scan.Word.{Word}
-use Rattle.byte_unit_base.specs.declared.unit.scan.Word.TheVariants.{Empty, UpperB, LowerB, Bi, Bit, Bits}
-use Rattle.byte_unit_base.specs.declared.unit.scan.Multiple.{Multiple}
-use Rattle.byte_unit_base.specs.declared.unit.scan.Multiple.TheVariants.{One, Decimal, Binary}
-use Rattle.byte_unit_base.specs.declared.unit.scan.UnitScan.{UnitScan}
 
--- the index of a prefix among the prefix letters, from 1
-abbrev pub power_of : Prefix → ℕ
-power_of Kilo = 1
-power_of Mega = 2
-power_of Giga = 3
-power_of Tera = 4
-power_of Peta = 5
-power_of Exa = 6
-power_of Zetta = 7
-power_of Yotta = 8
-power_of Ronna = 9
+-- the prefix read so far: none, or that of a position, from 1 for K, as a decimal or, with its `i`, as a binary prefix
+pub data Multiple : Type 0 where
+  One : Multiple
+  Decimal : ℕ → Multiple
+  Binary : ℕ → Multiple
 
--- the prefix that has this letter, in either case
-abbrev pub prefix_at : ℕ → Option Prefix
-prefix_at c =
-    let u = to_ascii_uppercase c in
-    if u == 75 then Some Kilo else (if u == 77 then Some Mega else (if u == 71 then Some Giga
-    else (if u == 84 then Some Tera else (if u == 80 then Some Peta else (if u == 69 then Some Exa
-    else (if u == 90 then Some Zetta else (if u == 89 then Some Yotta else (if u == 82 then Some Ronna else None))))))))
+-- the part of a suffix (`B`, `b`, `bit`, `bits`) read so far
+pub data Word : Type 0 where
+  Empty : Word
+  UpperB : Word
+  LowerB : Word
+  Bi : Word
+  Bit : Word
+  Bits : Word
+
+-- a state of the machine
+pub record UnitScan : Type 0 where
+  pub multiple : Multiple
+  pub word : Word
+
+-- the position of a capital letter among the letters, the first of which has the position `first`
+abbrev pub position_in : List ℕ → ℕ → ℕ → Option ℕ
+position_in [] first u = None
+position_in (letter ∷ letters) first u = if u == letter then Some first else position_in letters (suc first) u
+
+-- the position of the prefix that has this letter, in either case
+abbrev pub prefix_at : ℕ → Option ℕ
+prefix_at c = position_in current.letters 1 (to_ascii_uppercase c)
 
 -- whether the character is `i` or `I`
 abbrev pub is_i : ℕ → Bool
@@ -88,8 +89,8 @@ start = scan_of One Empty
 -- the texts after which the state has this prefix
 abbrev pub IsMultipleText : Multiple → List ℕ → Type 0
 IsMultipleText One text = text ≡ []
-IsMultipleText (Decimal p) text = SpellsPrefix current text (power_of p) false
-IsMultipleText (Binary p) text = SpellsPrefix current text (power_of p) true
+IsMultipleText (Decimal p) text = SpellsPrefix current text p false
+IsMultipleText (Binary p) text = SpellsPrefix current text p true
 
 -- the texts after which the state has this suffix
 abbrev pub IsWordText : Word → List ℕ → Type 0
@@ -112,8 +113,8 @@ count_of flags Bits = Some true
 -- the unit with this prefix that counts bits, or bytes if `bit` is false
 abbrev pub multiple_shape : Multiple → Bool → Shape
 multiple_shape One bit = shape 0 (not bit) bit
-multiple_shape (Decimal p) bit = shape (power_of p) false bit
-multiple_shape (Binary p) bit = shape (power_of p) true bit
+multiple_shape (Decimal p) bit = shape p false bit
+multiple_shape (Binary p) bit = shape p true bit
 
 -- the unit of an input that ends in this state, or `None` if it cannot end there
 abbrev pub unit_of : Flags → UnitScan → Option Shape

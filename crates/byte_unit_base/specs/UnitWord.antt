@@ -1,31 +1,24 @@
--- Private: the prefix and the suffix of a unit as numbers: the position of the prefix, and how many letters of `bits`
--- there are. Contracts of this crate alone cite this file.
-use Rattle.std.specs.Prelude.{ℕ, zero, suc, Bool, if◌then◌else◌, ◌==◌, List, Some, None, codes}
+-- Private: the prefix and the suffix of a unit as numbers, the position of the prefix and how many letters of `bits` there
+-- are; and what the code keeps of a state of the state machine. Contracts of this crate alone cite this file.
+use Rattle.std.specs.Prelude.{ℕ, zero, suc, Bool, true, false, if◌then◌else◌, ◌==◌, List, Some, None, codes}
 use Rattle.std.specs.List.{common_prefix_len}
 use Rattle.std.specs.Char.{to_ascii_lowercase}
-use Rattle.byte_unit_base.specs.UnitScan.{power_of, prefix_at}
-use Rattle.byte_unit_base.specs.declared.unit.scan.Prefix.{Prefix}
-use Rattle.byte_unit_base.specs.declared.unit.scan.Prefix.TheVariants.{Kilo, Mega, Giga, Tera, Peta, Exa, Zetta, Yotta}
-use Rattle.byte_unit_base.specs.declared.unit.scan.Prefix.TheVariants.{Ronna}
-use Rattle.byte_unit_base.specs.declared.unit.scan.Word.{Word}
-use Rattle.byte_unit_base.specs.declared.unit.scan.Word.TheVariants.{Empty, UpperB, LowerB, Bi, Bit, Bits}
-use Rattle.byte_unit_base.specs.declared.unit.scan.Multiple.{Multiple}
-use Rattle.byte_unit_base.specs.declared.unit.scan.Multiple.TheVariants.{One, Decimal, Binary}
+use Rattle.byte_unit_base.specs.UnitScan.{prefix_at, Multiple, One, Decimal, Binary, UnitScan}
+use Rattle.byte_unit_base.specs.UnitScan.{Word, Empty, UpperB, LowerB, Bi, Bit, Bits}
+use Rattle.byte_unit_base.specs.ViablePrefix.{ParserState, before_unit, after_prefix, after_b, after_bi, after_bit, after_bits}
+use Rattle.byte_unit_base.specs.declared.unit.scan.Word.{Word as Letters}
+use Rattle.byte_unit_base.specs.declared.unit.scan.Word.TheVariants.{Empty as NoLetter, B as LetterB, Bi as LettersBi}
+use Rattle.byte_unit_base.specs.declared.unit.scan.Word.TheVariants.{Bit as LettersBit, Bits as LettersBits}
+use Rattle.byte_unit_base.specs.declared.unit.scan.UnitStop.{UnitStop}
 
 -- the position of the prefix of a letter, or 0 if it is no prefix letter
 abbrev pub letter_power : ℕ → ℕ
-letter_power c = elim (prefix_at c) [ Some p ↦ power_of p | None ↦ 0 ]
-
--- the prefix of a position
-abbrev pub prefix_of : ℕ → Prefix
-prefix_of n = if n == 1 then Kilo else (if n == 2 then Mega else (if n == 3 then Giga else (if n == 4 then Tera
-    else (if n == 5 then Peta else (if n == 6 then Exa else (if n == 7 then Zetta else (if n == 8 then Yotta
-    else Ronna)))))))
+letter_power c = elim (prefix_at c) [ Some p ↦ p | None ↦ 0 ]
 
 -- the prefix of a position, binary or decimal, or none if it is 0
 abbrev pub multiple_of : ℕ → Bool → Multiple
 multiple_of zero binary = One
-multiple_of (suc n) binary = if binary then Binary (prefix_of (suc n)) else Decimal (prefix_of (suc n))
+multiple_of (suc n) binary = if binary then Binary (suc n) else Decimal (suc n)
 
 -- the suffix of the first `n` letters of `bits`, the first of which is a `B` or a `b`
 abbrev pub word_of : ℕ → Bool → Word
@@ -35,3 +28,33 @@ word_of n upper = if n == 0 then Empty else (if n == 1 then (if upper then Upper
 -- how many of the bytes, from the first on, are the letters of `bits` in either case
 abbrev pub bits_len : List ℕ → ℕ
 bits_len bytes = common_prefix_len (λ letter byte. to_ascii_lowercase byte == letter) (codes "bits") bytes
+
+-- whether there is a prefix
+abbrev pub has_prefix : Multiple → Bool
+has_prefix One = false
+has_prefix _ = true
+
+-- the letters of a suffix, in either case
+abbrev pub letters_of : Word → Letters
+letters_of Empty = NoLetter
+letters_of UpperB = LetterB
+letters_of LowerB = LetterB
+letters_of Bi = LettersBi
+letters_of Bit = LettersBit
+letters_of Bits = LettersBits
+
+-- what the code keeps of a state
+abbrev pub unit_stop : UnitScan → UnitStop
+unit_stop s = record { has_prefix = has_prefix s.multiple; word = letters_of s.word }
+
+-- the parser state after these letters
+abbrev pub letters_parser_state : Bool → Letters → ParserState
+letters_parser_state prefix NoLetter = if prefix then after_prefix else before_unit
+letters_parser_state prefix LetterB = after_b
+letters_parser_state prefix LettersBi = after_bi
+letters_parser_state prefix LettersBit = after_bit
+letters_parser_state prefix LettersBits = after_bits
+
+-- the parser state of what the code keeps
+abbrev pub stop_parser_state : UnitStop → ParserState
+stop_parser_state stop = letters_parser_state stop.has_prefix stop.word

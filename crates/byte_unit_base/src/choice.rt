@@ -11,7 +11,8 @@ ghost use Rattle.byte_unit_base.specs.Units.{shape_of};
 ghost use Rattle.byte_unit_base.specs.Choice.{IsLargest, NoneHas, IsExactUnit, IsChosen, IsEligibleUnit, CountsChoice, most_steps};
 ghost use Rattle.byte_unit_base.specs.declared.kind.Kind.{Kind};
 
-use crate::unit::family::{Family, PREFIXES};
+use crate::unit::family::Family;
+use crate::unit::tables::PREFIXES;
 use crate::{Unit, UnitType};
 use byte_unit_math::{
     DECIMAL_PLACES, Decimal, Factors, Steps, exact_quotient, factored_quotient, factors_of,

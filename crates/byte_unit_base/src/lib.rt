@@ -13,6 +13,7 @@ pub use crate::read::stop::{Reason, error_at};
 pub use crate::recover::{appropriate_unit, exact_unit, recoverable_unit};
 pub use crate::unit::family::Family;
 pub use crate::unit::scan::{Expected, Flags};
+pub use crate::unit::tables::{prefix_letter, unit_at};
 pub use crate::unit::unit_type::UnitType;
 pub use crate::unit::{Unit, unit_with_prefix};
 

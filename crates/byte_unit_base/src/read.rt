@@ -12,11 +12,9 @@ use crate::unit::scan::Flags;
 use crate::{ParseError, Unit};
 use byte_unit_math::Decimal;
 
-mod digits;
-mod number;
+pub(crate) mod number;
 pub(crate) mod parts;
 pub(crate) mod stop;
-pub(crate) mod word;
 
 /// Parses a number and a unit from a string. White space at its ends is ignored.
 ///

@@ -1,4 +1,4 @@
-//! The units of bits and bytes, and their tables.
+//! The units of bits and bytes.
 
 ghost use Rattle.std.specs.Prelude.{◌≡◌, ◌≤◌};
 ghost use Rattle.byte_unit_math.specs.Bounds.{unit_limit};
@@ -9,11 +9,13 @@ ghost use Rattle.byte_unit_base.specs.Version.{unit_name};
 
 use crate::Kind;
 use crate::unit::scan::unit_of;
+use crate::unit::tables::{UNIT_BITS, UNITS};
 use std::fmt;
 
 pub(crate) mod family;
 pub(crate) mod parse;
 pub(crate) mod scan;
+pub(crate) mod tables;
 pub(crate) mod unit_type;
 
 /// A unit of bits or bytes, with a decimal (SI) prefix, with a binary (IEC) prefix, or without one.
@@ -102,82 +104,21 @@ pub enum Unit {
 
 /// The prefix and the base unit of a unit.
 #[derive(Clone, Copy)]
-struct Shape {
+pub(crate) struct Shape {
     /// The position of the prefix letter, from 1 for K, or 0 if there is no prefix.
-    power: u32,
+    pub(crate) power: u32,
     /// Whether the prefix is binary (IEC).
-    binary: bool,
+    pub(crate) binary: bool,
     /// Whether the unit counts bits, and not bytes.
-    bit: bool,
+    pub(crate) bit: bool,
 }
 
 /// The name and the shape of a unit.
 #[derive(Clone, Copy)]
-struct UnitData {
-    name: &'static str,
-    shape: Shape,
+pub(crate) struct UnitData {
+    pub(crate) name: &'static str,
+    pub(crate) shape: Shape,
 }
-
-/// Calls a macro with each prefix: its letter, its position, and its value as a decimal and as a binary prefix.
-macro_rules! with_prefixes {
-    ($table:ident) => {
-        $table![
-            "K" 1 1_000 1_024,
-            "M" 2 1_000_000 1_048_576,
-            "G" 3 1_000_000_000 1_073_741_824,
-            "T" 4 1_000_000_000_000 1_099_511_627_776,
-            "P" 5 1_000_000_000_000_000 1_125_899_906_842_624,
-            "E" 6 1_000_000_000_000_000_000 1_152_921_504_606_846_976,
-            "Z" 7 1_000_000_000_000_000_000_000 1_180_591_620_717_411_303_424,
-            "Y" 8 1_000_000_000_000_000_000_000_000 1_208_925_819_614_629_174_706_176,
-            "R" 9 1_000_000_000_000_000_000_000_000_000 1_237_940_039_285_380_274_899_124_224
-        ]
-    };
-}
-
-/// Writes the data of one unit.
-macro_rules! unit {
-    ($name:expr, $power:literal, $binary:literal, $bit:literal) => {
-        UnitData {
-            name: $name,
-            shape: Shape {
-                power: $power,
-                binary: $binary,
-                bit: $bit,
-            },
-        }
-    };
-}
-
-/// Writes the data of the units, in the order of the variants.
-macro_rules! units {
-    ($($letter:literal $power:literal $decimal:literal $binary:literal),*) => {
-        [
-            unit!("b", 0, false, true),
-            unit!("B", 0, true, false),
-            $(
-                unit!(concat!($letter, "b"), $power, false, true),
-                unit!(concat!($letter, "ib"), $power, true, true),
-                unit!(concat!($letter, "B"), $power, false, false),
-                unit!(concat!($letter, "iB"), $power, true, false),
-            )*
-        ]
-    };
-}
-
-/// Writes the bits of the units, in the order of the variants.
-macro_rules! unit_bits {
-    ($($letter:literal $power:literal $decimal:literal $binary:literal),*) => {
-        [1, 8, $($decimal, $binary, $decimal * 8, $binary * 8),*]
-    };
-}
-
-// Lookups in tables are loads. LLVM makes a jump table of a `match` over the units, which is slower if the units change
-// from one string to the next.
-
-static UNITS: [UnitData; 38] = with_prefixes!(units);
-
-static UNIT_BITS: [u128; 38] = with_prefixes!(unit_bits);
 
 impl Unit {
     ghost use Rattle.byte_unit_base.specs.Units.{shape_of};

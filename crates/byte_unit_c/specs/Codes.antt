@@ -2,25 +2,12 @@
 use Rattle.std.specs.Prelude.{◌≡◌, ℕ, List, [], ◌∷◌, Option, Some, slice_get}
 use Rattle.byte_unit_base.specs.Shape.{Shape}
 use Rattle.byte_unit_base.specs.Units.{shape_of}
+use Rattle.byte_unit_base.specs.UnitLists.{units}
 use Rattle.byte_unit_base.specs.declared.unit.unit_type.UnitType.{UnitType}
 use Rattle.byte_unit_base.specs.declared.unit.unit_type.UnitType.TheVariants.{Binary, Decimal, Both}
 use Rattle.byte_unit_base.specs.declared.unit.Unit.{Unit as UnitName}
-use Rattle.byte_unit_base.specs.declared.unit.Unit.TheVariants.{Bit, B, Kbit, Kibit, KB, KiB, Mbit, Mibit, MB, MiB}
-use Rattle.byte_unit_base.specs.declared.unit.Unit.TheVariants.{Gbit, Gibit, GB, GiB, Tbit, Tibit, TB, TiB}
-use Rattle.byte_unit_base.specs.declared.unit.Unit.TheVariants.{Pbit, Pibit, PB, PiB, Ebit, Eibit, EB, EiB}
-use Rattle.byte_unit_base.specs.declared.unit.Unit.TheVariants.{Zbit, Zibit, ZB, ZiB, Ybit, Yibit, YB, YiB}
-use Rattle.byte_unit_base.specs.declared.unit.Unit.TheVariants.{Rbit, Ribit, RB, RiB}
 
--- the units, in the order of their codes
-abbrev pub units : List UnitName
-units =
-    Bit ∷ B ∷ Kbit ∷ Kibit ∷ KB ∷ KiB ∷ Mbit ∷ Mibit ∷ MB ∷ MiB
-    ∷ Gbit ∷ Gibit ∷ GB ∷ GiB ∷ Tbit ∷ Tibit ∷ TB ∷ TiB
-    ∷ Pbit ∷ Pibit ∷ PB ∷ PiB ∷ Ebit ∷ Eibit ∷ EB ∷ EiB
-    ∷ Zbit ∷ Zibit ∷ ZB ∷ ZiB ∷ Ybit ∷ Yibit ∷ YB ∷ YiB
-    ∷ Rbit ∷ Ribit ∷ RB ∷ RiB ∷ []
-
--- the unit with a code; none if the code is 38 or more
+-- the unit with a code, which is its index among the units; none if the code is 38 or more
 abbrev pub unit_at : ℕ → Option UnitName
 unit_at code = slice_get units code
 

@@ -5,57 +5,11 @@ ghost use Rattle.byte_unit_c.specs.Codes.{types, unit_at};
 
 use byte_unit_base::{Unit, UnitType};
 
-/// The units, each at the index that is its code.
-static UNITS: [Unit; 38] = [
-    Unit::Bit,
-    Unit::B,
-    Unit::Kbit,
-    Unit::Kibit,
-    Unit::KB,
-    Unit::KiB,
-    Unit::Mbit,
-    Unit::Mibit,
-    Unit::MB,
-    Unit::MiB,
-    Unit::Gbit,
-    Unit::Gibit,
-    Unit::GB,
-    Unit::GiB,
-    Unit::Tbit,
-    Unit::Tibit,
-    Unit::TB,
-    Unit::TiB,
-    Unit::Pbit,
-    Unit::Pibit,
-    Unit::PB,
-    Unit::PiB,
-    Unit::Ebit,
-    Unit::Eibit,
-    Unit::EB,
-    Unit::EiB,
-    Unit::Zbit,
-    Unit::Zibit,
-    Unit::ZB,
-    Unit::ZiB,
-    Unit::Ybit,
-    Unit::Yibit,
-    Unit::YB,
-    Unit::YiB,
-    Unit::Rbit,
-    Unit::Ribit,
-    Unit::RB,
-    Unit::RiB,
-];
-
-/// Returns the unit with a code, which is its index in `UNITS`. Returns `None` if the code is 38 or more.
+/// Returns the unit with a code, which is its index among the variants. Returns `None` if the code is 38 or more.
 pub fn unit_at(code: u32) -> Option<Unit>
     ensures { result ≡ unit_at code }
 {
-    if code < 38 {
-        Some(UNITS[code as usize])
-    } else {
-        None
-    }
+    byte_unit_base::unit_at(code as usize)
 }
 
 /// Returns the code of a unit.

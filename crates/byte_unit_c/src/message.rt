@@ -4,12 +4,14 @@ ghost use Rattle.std.specs.Prelude.{◌≡◌, ◌+◌, ◌<◌, ◌≤◌, ◌�
 ghost use Rattle.std.specs.Fmt.{debug_char, ◌++?◌};
 ghost use Rattle.std.specs.Fmt.Cut.{IsTextOrCut};
 ghost use Rattle.std.specs.Fmt.InlineText.{inline_text};
+ghost use Rattle.byte_unit_base.specs.Expected.{expected_codes, expects_end};
 ghost use Rattle.byte_unit_base.specs.FaultText.{parse_text, expected_text};
+ghost use Rattle.byte_unit_base.specs.declared.errors.ParseError.TheVariants.{Unit as UnitError};
 ghost use Rattle.byte_unit_format.specs.Written.{WritesForm};
 ghost use Rattle.byte_unit_c.specs.Reading.{IsErrorText};
 
 use crate::texts::write;
-use byte_unit_base::{ParseError, ValueParseError};
+use byte_unit_base::{Expected, ParseError, UnitParseError, ValueParseError};
 use std::fmt::InlineText;
 
 /// Writes the message of an error to the start of `out` if it fits, and returns its length, at most 256 bytes.
@@ -25,14 +27,42 @@ pub fn write_message(error: &ParseError, out: &mut [u8]) -> usize
         ParseError::Value(ValueParseError::NotNumber(c)) if is_plain(*c) => {
             write_quoted(*c as u8, b"' is not a number", out)
         }
-        ParseError::Unit(unit) if is_plain(unit.character) => {
-            match rest_of_message(unit.expected_characters, unit.also_expect_no_character) {
-                Some(rest) => write_quoted(unit.character as u8, rest, out),
-                None => write_formatted(error, out),
-            }
+        ParseError::Unit(unit) => {
+            write_unit_message(unit, Expected::of(unit.expected_characters), out)
         }
         _ => write_formatted(error, out),
     }
+}
+
+/// Writes the message of an error in the unit, as `write_message` does.
+///
+/// Precondition (proved at every call): `expected` is what the error names as expected, if it is given.
+#[inline(always)]
+pub fn write_unit_message(
+    unit: &UnitParseError,
+    expected: Option<Expected>,
+    out: &mut [u8],
+) -> usize
+    requires { IfSome expected (λ expected. expected_codes expected ≡ unit.now.expected_characters.now) }
+    ensures some { 0 < result }
+    ensures text { WritesForm (IsErrorText (UnitError unit.now)) out.old out.new result }
+    ensures bound { result ≤ 256 }
+{
+    match expected {
+        Some(expected) if is_known(unit, expected) => {
+            write_quoted(unit.character as u8, rest_of_message(expected), out)
+        }
+        _ => write_formatted(&ParseError::Unit(*unit), out),
+    }
+}
+
+/// Returns whether the message of the error is that of these characters, with its character as it is.
+fn is_known(unit: &UnitParseError, expected: Expected) -> bool
+    ensures { IsTrue result → (unit.now.character < 128)
+        × (debug_char unit.now.character ≡ Some (39 ∷ unit.now.character ∷ 39 ∷ []))
+        × (unit.now.also_expect_no_character ≡ expects_end expected) }
+{
+    is_plain(unit.character) & (unit.also_expect_no_character == expected.or_end())
 }
 
 /// Writes `the text is not UTF-8` to the start of `out` if it fits, and returns its length.
@@ -58,37 +88,23 @@ fn is_plain(c: char) -> bool
     (' ' <= c) & (c <= '~') & (c != '\'') & (c != '\\')
 }
 
-/// Returns the rest of the message of an error in the unit, after its character. Returns `None` for a list of
-/// characters that no parser expects.
-fn rest_of_message(expected: &[char], also_expect_no_character: bool) -> Option<&'static [u8]>
-    ensures text { IfSome result (λ rest.
-        Some rest.now ≡ Some (codes "' is incorrect") ++? expected_text expected.now also_expect_no_character) }
-    ensures bound { IfSome result (λ rest. length rest.now ≤ 200) }
+/// Returns the rest of the message of an error in the unit, after its character.
+fn rest_of_message(expected: Expected) -> &'static [u8]
+    ensures text { Some result.now
+        ≡ Some (codes "' is incorrect") ++? expected_text (expected_codes expected) (expects_end expected) }
+    ensures bound { length result.now ≤ 200 }
 {
-    if expected.is_empty() {
-        Some(b"' is incorrect (no character is expected)")
-    } else if !also_expect_no_character {
-        if expected == ['t'].as_slice() {
-            Some(b"' is incorrect ('t' is expected)")
-        } else {
-            None
+    match expected {
+        Expected::Beginning => {
+            b"' is incorrect ('B', 'K', 'M', 'G', 'T', 'P', 'E', 'Z', 'Y' or 'R' or no character is expected)"
         }
-    } else if expected == ['i'].as_slice() {
-        Some(b"' is incorrect ('i' or no character is expected)")
-    } else if expected == ['s'].as_slice() {
-        Some(b"' is incorrect ('s' or no character is expected)")
-    } else if expected == ['B'].as_slice() {
-        Some(b"' is incorrect ('B' or no character is expected)")
-    } else if expected == ['b'].as_slice() {
-        Some(b"' is incorrect ('b' or no character is expected)")
-    } else if expected == ['B', 'b'].as_slice() {
-        Some(b"' is incorrect ('B' or 'b' or no character is expected)")
-    } else if expected == ['B', 'K', 'M', 'G', 'T', 'P', 'E', 'Z', 'Y', 'R'].as_slice() {
-        Some(
-            b"' is incorrect ('B', 'K', 'M', 'G', 'T', 'P', 'E', 'Z', 'Y' or 'R' or no character is expected)",
-        )
-    } else {
-        None
+        Expected::EitherB => b"' is incorrect ('B' or 'b' or no character is expected)",
+        Expected::UpperB => b"' is incorrect ('B' or no character is expected)",
+        Expected::LowerB => b"' is incorrect ('b' or no character is expected)",
+        Expected::I => b"' is incorrect ('i' or no character is expected)",
+        Expected::T => b"' is incorrect ('t' is expected)",
+        Expected::S => b"' is incorrect ('s' or no character is expected)",
+        Expected::Nothing => b"' is incorrect (no character is expected)",
     }
 }
 

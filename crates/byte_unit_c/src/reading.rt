@@ -16,7 +16,7 @@ ghost use Rattle.byte_unit_c.specs.Reading.{IsUnitExplanation};
 use crate::codes::code_of;
 use crate::error::{Error, INVALID_ARGUMENT, NOT_UTF8, OK, UNIT, bytes_of};
 use crate::flags::reading_at;
-use crate::message::{write_message, write_not_utf8, write_unknown_flag};
+use crate::message::{write_message, write_not_utf8, write_unit_message, write_unknown_flag};
 use crate::values::Number;
 use byte_unit_base::{Flags, Kind, ParseError, Reason, Unit, UnitParseError, error_at, size};
 use std::str;
@@ -90,9 +90,9 @@ fn write_stop(
         × IsReturned (Some (Err error)) result size.old size.new errors.old errors.new }
 {
     match reason {
-        Reason::InUnit(scan) => {
-            let expected = bytes_of(scan.expected_before(next, flags));
-            let error = scan.error_before(next, flags);
+        Reason::InUnit(stop) => {
+            let expected = bytes_of(stop.expected_before(next, flags));
+            let error = stop.error_before(next, flags);
             let may_end = error.also_expect_no_character;
             Error::of_unit_parts(error.character, expected, may_end).write(errors);
             UNIT
@@ -257,13 +257,31 @@ fn explain_as(text: &[u8], kind: Kind, ignore_case: bool, out: &mut [u8]) -> usi
         Err(stop) => {
             let flags = size::flags_for(kind, ignore_case);
             match size::visible_next(text, stop.place) {
-                Some(next) => {
-                    let error = error_at(next, stop.place == 0, stop.reason, flags);
-                    write_message(&error, out)
-                }
+                Some(next) => write_stop_message(next, stop.place == 0, stop.reason, flags, out),
                 None => explain_result(&size::parse_text(text, ignore_case, kind), out),
             }
         }
+    }
+}
+
+/// Writes the message of the error of a parser that stops for this reason, by the character there.
+fn write_stop_message(
+    next: Option<char>,
+    at_start: bool,
+    reason: Reason,
+    flags: Flags,
+    out: &mut [u8],
+) -> usize
+    ensures text { (error : ParseError) × (size_fault error ≡ stop_fault flags at_start reason next)
+        × IsExplanation (Some (Err error)) out.old out.new result }
+    ensures bound { result ≤ 256 }
+{
+    match reason {
+        Reason::InUnit(stop) => {
+            let error = stop.error_before(next, flags);
+            write_unit_message(&error, Some(stop.expected_before(next, flags)), out)
+        }
+        _ => write_message(&error_at(next, at_start, reason, flags), out),
     }
 }
 

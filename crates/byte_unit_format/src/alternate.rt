@@ -1,6 +1,6 @@
 //! The alternate form with no other option set, written from the beginning to the end.
 
-ghost use Rattle.std.specs.Prelude.{◌≡◌, ◌+◌, ◌-◌, ◌*◌, ◌<◌, ◌≤◌, [], ◌∷◌, ◌++◌, length, take, drop, slice_index};
+ghost use Rattle.std.specs.Prelude.{◌≡◌, ◌+◌, ◌-◌, ◌*◌, ◌<◌, ◌≤◌, [], ◌∷◌, ◌++◌, length, take, drop};
 ghost use Rattle.std.specs.Prelude.{◌^◌, IsAscii};
 ghost use Rattle.std.specs.Fmt.{decimal};
 ghost use Rattle.byte_unit_math.specs.Bounds.{size_limit};
@@ -15,15 +15,12 @@ ghost use Rattle.byte_unit_format.specs.Written.{WritesForm};
 use crate::capacity::append_ascii;
 use crate::put::put;
 use crate::thousandths::{Suffix, split};
-use byte_unit_base::Kind;
+use byte_unit_base::{Kind, prefix_letter};
 use byte_unit_math::{decimal_len, put_u128};
 use std::alloc::{AllocError, Allocator};
 
 /// The most bytes of a text without a width.
 const NARROW_TEXT: usize = 37;
-
-/// The letters of the SI prefixes, from kilo on.
-const LETTERS: [u8; 9] = *b"KMGTPEZYR";
 
 /// Appends the size in its unit. Allocates at most once, before it writes.
 pub(crate) fn append_alternate<A: Allocator>(
@@ -133,7 +130,7 @@ fn put_suffix(suffix: Suffix, kind: Kind, out: &mut [u8], point: usize) -> usize
             let (digits, len) = digits_of_eighths(eighths);
             put(&digits, out, point + 4);
             let end = point + len + 4;
-            put(&[b' ', letter(power), b'i', own], out, end);
+            put(&[b' ', prefix_letter(power), b'i', own], out, end);
             end
         }
         Suffix::Thousandths(thousandths, power) => {
@@ -142,7 +139,7 @@ fn put_suffix(suffix: Suffix, kind: Kind, out: &mut [u8], point: usize) -> usize
                 put(&digits, out, point + 4);
             }
             let end = point + len + 3;
-            put(&[b' ', letter(power), own], out, end);
+            put(&[b' ', prefix_letter(power), own], out, end);
             end
         }
     }
@@ -157,16 +154,6 @@ pub(crate) fn own_letter(kind: Kind) -> u8
         Kind::Byte => b'B',
         Kind::Bit => b'b',
     }
-}
-
-/// Returns the letter of a prefix.
-#[inline(always)]
-pub(crate) fn letter(power: u32) -> u8
-    requires some { 1 ≤ power }
-    requires known { power ≤ 9 }
-    ensures { result ≡ slice_index current.letters (power - 1) }
-{
-    LETTERS[power as usize - 1]
 }
 
 /// Returns a point and the digits of eighths, with spaces for trailing zeros, and the length without these.

@@ -11,10 +11,10 @@ ghost use Rattle.byte_unit_format.specs.Forms.{IsSizeForm, narrow_text};
 ghost use Rattle.byte_unit_format.specs.NamedSpecs.{alternate_spec};
 ghost use Rattle.byte_unit_format.specs.WithDigits.{IsTextWithDigits, cut_digits, with_digits_text};
 
-use crate::alternate::{letter, own_letter, put_split};
+use crate::alternate::{own_letter, put_split};
 use crate::put::put;
 use crate::thousandths::{Suffix, binary_power, in_eighths};
-use byte_unit_base::Kind;
+use byte_unit_base::{Kind, prefix_letter};
 use byte_unit_math::{PADDED_DIGITS, put_padded_digits};
 use std::simd::prelude::*;
 
@@ -148,6 +148,6 @@ fn put_decimal(
     } else {
         cut + 3
     };
-    put(&[b' ', letter(power), own_letter(kind)], out, end);
+    put(&[b' ', prefix_letter(power), own_letter(kind)], out, end);
     end
 }

@@ -1,14 +1,19 @@
-//! Parses a number at the beginning of a line.
+//! Parses a number at the beginning of a line. Its digits are loaded eight bytes at a time, as a number of 64 bits whose
+//! lowest byte is the first.
 
-ghost use Rattle.std.specs.Prelude.{◌≡◌, ◌<◌, ◌≤◌, ◌%◌, ◌^◌, length};
+ghost use Rattle.std.specs.Prelude.{◌≡◌, ℕ, List, ◌+◌, ◌%◌, ◌^◌, ◌<◌, ◌≤◌, length, take, drop, slice_range};
+ghost use lib.Lanes.{number_l};
+ghost use Rattle.core.specs.Dec2flt.Digits.{IsEightBytes, IsEightDigits};
+ghost use Rattle.core.specs.Float.Numeral.{digits_len};
+ghost use Rattle.core.specs.Int.Digits.{number_from_digits};
 ghost use Rattle.std.specs.Str.Parse.{AllDigits, digits_value};
 ghost use Rattle.byte_unit_math.specs.Bounds.{whole_limit};
-ghost use Rattle.byte_unit_base.specs.PartsReading.{IsLineOf, IsNumberEnd};
+ghost use Rattle.byte_unit_base.specs.PartsReading.{IsLineOf, IsNumberEnd, first_eight};
 
-use crate::read::digits::leading_digits;
 use crate::read::stop::{Reason, Stop};
 use byte_unit_math::{DECIMAL_PLACES, Decimal, WHOLE_LIMIT};
 use core::dec2flt::read_digits;
+use std::simd::prelude::*;
 
 /// The number of digits of which a `u64` holds any: 19.
 const SHORT_DIGITS: usize = 19;
@@ -18,6 +23,9 @@ const LONG_DIGITS: usize = 38;
 
 /// 10^19.
 const NINETEEN_DIGITS: u128 = 10_000_000_000_000_000_000;
+
+/// The byte of one pair of digits in every four bytes.
+const PAIR_OF_FOUR_BYTES: u64 = 0x0000_00ff_0000_00ff;
 
 /// Parses a number at the beginning of a line: digits, and optionally a point and digits. Returns its length in bytes,
 /// and it. The line is at the beginning of `bytes`.
@@ -133,4 +141,121 @@ fn long_value(digits: &[u8], last_bits: u64) -> u128
     let product = u128::from(high) * NINETEEN_DIGITS;
     // The value of the last 19 digits fits 64 bits, so it follows from these bits.
     product + u128::from(last_bits.wrapping_sub((product % (1 << 64)) as u64))
+}
+
+/// Parses the digits of a line from an index on. Returns where they end, and the last 64 bits of their value.
+///
+/// The line is at the beginning of `bytes`.
+#[inline(always)]
+fn leading_digits(line: &[u8], bytes: &[u8], from: usize) -> (usize, u64)
+    requires line { IsLineOf line.now bytes.now }
+    requires from { from ≤ length line.now }
+    ensures end { result.0 ≡ from + digits_len (drop from line.now) }
+    ensures within { result.0 ≤ length line.now }
+    ensures value { result.1 ≡ digits_value 10 (slice_range line.now from result.0) % 2 ^ 64 }
+{
+    let mut start = from;
+    let mut value = 0;
+    if bytes.len() - from >= 8 {
+        let (count, first) = up_to_eight(load_eight(bytes, from));
+        if count < 8 {
+            // What follows the line is no digit.
+            return (from + count, first);
+        }
+        start += 8;
+        value = first;
+    }
+    read_digits(line, start, value)
+}
+
+/// Returns how many of eight bytes are digits, from the first on, and the number that they write.
+#[inline(always)]
+fn up_to_eight(word: u64) -> (usize, u64)
+    ensures few { result.0 ≤ 8 }
+    ensures read { (bytes : List ℕ) → IsEightBytes bytes → word ≡ number_l 256 bytes
+        → (result.0 ≡ digits_len bytes) × (result.1 ≡ digits_value 10 (take result.0 bytes)) }
+{
+    // A digit is below ten then, and every other byte is not.
+    let digits = word ^ 0x3030_3030_3030_3030;
+    // The high bit of each byte that is ten or more. No sum carries into the next byte.
+    let sums = (digits & 0x7f7f_7f7f_7f7f_7f7f) + 0x7676_7676_7676_7676;
+    let others = (sums | digits) & 0x8080_8080_8080_8080;
+    if others == 0 {
+        return (8, value_of_eight(digits));
+    }
+    let count = others.trailing_zeros() / 8;
+    // The digits are moved to the end, with zeros before them. Two shifts, since a shift by 64 is not defined.
+    (
+        count as usize,
+        value_of_eight(digits << (56 - 8 * count) << 8),
+    )
+}
+
+/// Returns the number that eight digits write, from their values. Two products add four pairs by their places: the first
+/// and the third pair, and the second and the fourth (D. Lemire, "Number parsing at a gigabyte per second").
+#[inline(always)]
+#[tactic(auto, using(core::proofs::dec2flt::Eight::eight_is))]
+fn value_of_eight(digits: u64) -> u64
+    ensures { (ds : List ℕ) → IsEightDigits ds → digits ≡ number_l 256 ds → result ≡ number_from_digits 10 ds }
+{
+    let pairs = digits.wrapping_mul(10).wrapping_add(digits >> 8);
+    let odd = (pairs & PAIR_OF_FOUR_BYTES).wrapping_mul(100 + (1_000_000 << 32));
+    let even = ((pairs >> 16) & PAIR_OF_FOUR_BYTES).wrapping_mul(1 + (10_000 << 32));
+    odd.wrapping_add(even) >> 32
+}
+
+/// Returns the first eight bytes from an index on. After the end of the bytes they are 0.
+#[inline(always)]
+#[tactic(auto, using(crate::proofs::Lines::last_bytes))]
+pub fn eight_at(bytes: &[u8], from: usize) -> u64
+    requires { from ≤ length bytes.now }
+    ensures { result ≡ number_l 256 (first_eight (drop from bytes.now)) }
+{
+    if bytes.len() - from >= 8 {
+        return load_eight(bytes, from);
+    }
+    if bytes.len() < 8 || from == bytes.len() {
+        return few_bytes(&bytes[from..]);
+    }
+    let start = bytes.len() - 8;
+    load_eight(bytes, start) >> (8 * (from - start))
+}
+
+/// Returns the eight bytes at an index.
+#[inline(always)]
+#[tactic(auto, using(crate::proofs::Lines::loaded_eight))]
+fn load_eight(bytes: &[u8], from: usize) -> u64
+    requires { from + 8 ≤ length bytes.now }
+    ensures { result ≡ number_l 256 (first_eight (drop from bytes.now)) }
+{
+    u64x1::from_le_bytes(u8x8::from_slice(&bytes[from..])).to_array()[0]
+}
+
+/// Returns the four bytes at an index.
+#[inline(always)]
+#[tactic(auto, using(crate::proofs::Lines::loaded_four))]
+fn load_four(bytes: &[u8], from: usize) -> u64
+    requires { from + 4 ≤ length bytes.now }
+    ensures { result ≡ number_l 256 (take 4 (drop from bytes.now)) }
+{
+    u64::from(u32x1::from_le_bytes(u8x4::from_slice(&bytes[from..])).to_array()[0])
+}
+
+/// Returns fewer than eight bytes. If there are four or more, the first four and the last four are loaded.
+#[inline(always)]
+fn few_bytes(bytes: &[u8]) -> u64
+    requires { length bytes.now < 8 }
+    ensures { result ≡ number_l 256 (first_eight bytes.now) }
+{
+    let len = bytes.len();
+    if len >= 4 {
+        let after_four = load_four(bytes, len - 4) >> (8 * (8 - len));
+        return load_four(bytes, 0) + (after_four << 32);
+    }
+    match bytes {
+        [] => 0,
+        [a] => u64::from(*a),
+        [a, b] => u64::from(*a) + u64::from(*b) * 256,
+        [a, b, c, ..] => u64::from(*a) + u64::from(*b) * 256 + u64::from(*c) * 65536,
+    }
 }

@@ -5,7 +5,7 @@ ghost use Rattle.std.specs.Str.{chars, IsAscii};
 ghost use Rattle.byte_unit_base.specs.Errors.{size_fault, value_fault};
 ghost use Rattle.byte_unit_base.specs.PartsReading.{missing_digit, next_char, stop_fault};
 
-use crate::unit::scan::{Flags, UnitScan};
+use crate::unit::scan::{Flags, UnitStop};
 use crate::{ParseError, ValueParseError};
 
 /// Why the parser of a number and a unit stops.
@@ -15,8 +15,8 @@ pub enum Reason {
     NoDigit,
     /// The whole part reaches its limit, or the fraction has more than 28 digits.
     TooLong,
-    /// A character cannot continue the unit, or the unit is incomplete. Holds the parser state before that character.
-    InUnit(UnitScan),
+    /// A character cannot continue the unit, or the unit is incomplete. Holds what was read before that character.
+    InUnit(UnitStop),
 }
 
 /// Where the parser of a number and a unit stops in a string, and why.
@@ -45,7 +45,7 @@ pub fn error_at(next: Option<char>, at_start: bool, reason: Reason, flags: Flags
     match reason {
         Reason::NoDigit => ParseError::Value(no_digit(next, at_start)),
         Reason::TooLong => ParseError::Value(ValueParseError::NumberTooLong),
-        Reason::InUnit(scan) => ParseError::Unit(scan.error_before(next, flags)),
+        Reason::InUnit(stop) => ParseError::Unit(stop.error_before(next, flags)),
     }
 }
 

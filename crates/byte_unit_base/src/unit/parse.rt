@@ -1,15 +1,15 @@
 //! The parser of a unit.
 
-ghost use Rattle.std.specs.Prelude.{◌≡◌, ◌≢◌, ◌≤◌, length, drop, Some};
+ghost use Rattle.std.specs.Prelude.{◌≡◌, ◌≢◌, ◌≤◌, Bool, length, drop, Some};
 ghost use lib.Lanes.{digits_l};
 ghost use Rattle.byte_unit_base.specs.Spelling.{flags_of};
-ghost use Rattle.byte_unit_base.specs.UnitScan.{count_of, scan_of};
-ghost use Rattle.byte_unit_base.specs.UnitWord.{letter_power, multiple_of, word_of, bits_len};
+ghost use Rattle.byte_unit_base.specs.UnitScan.{count_of};
+ghost use Rattle.byte_unit_base.specs.UnitWord.{letter_power, letters_of, word_of, bits_len};
 ghost use Rattle.byte_unit_base.specs.PartsReading.{IsLineOf, IsUnitEnd};
 
+use crate::read::number::eight_at;
 use crate::read::stop::first_char;
-use crate::read::word::eight_at;
-use crate::unit::scan::{Flags, Multiple, Prefix, UnitScan, Word, unit_of};
+use crate::unit::scan::{Flags, UnitStop, Word, unit_of};
 use crate::{Unit, UnitParseError};
 use std::simd::prelude::*;
 use std::str::FromStr;
@@ -70,7 +70,7 @@ impl FromStr for Unit {
 /// There is no branch on the letters where eight bytes can be loaded: it could not be predicted on random units.
 ///
 /// # Errors
-/// Returns the parser state and the index, counted from `from`, where it stops: at a character that cannot continue the
+/// Returns what was read and the index, counted from `from`, where it stops: at a character that cannot continue the
 /// unit, or at the end if the suffix is incomplete.
 #[inline(always)]
 pub(crate) fn read_unit(
@@ -78,7 +78,7 @@ pub(crate) fn read_unit(
     bytes: &[u8],
     from: usize,
     flags: Flags,
-) -> Result<Unit, (UnitScan, usize)>
+) -> Result<Unit, (UnitStop, usize)>
     requires line { IsLineOf line.now bytes.now }
     requires from { from ≤ length line.now }
     ensures { IsUnitEnd flags (drop from line.now) result }
@@ -98,7 +98,11 @@ pub(crate) fn read_unit(
     if end == line.len() - from && length != 2 {
         return Ok(unit_of(power, binary, counts_bits(length, upper, flags)));
     }
-    Err((scan_of(power, binary, length, upper), end))
+    let stop = UnitStop {
+        has_prefix: power != 0,
+        word: letters(length),
+    };
+    Err((stop, end))
 }
 
 /// Returns the position of the prefix of a letter in either case, from 1 for K to 9 for R. Returns 0 if the byte is no
@@ -135,27 +139,19 @@ fn counts_bits(length: usize, upper: bool, flags: Flags) -> bool
         | ((length == 0) & !flags.prefer_byte)
 }
 
-/// Returns the parser state after the prefix of this position and the first `length` letters of `bits`.
+/// Returns the first `length` letters of `bits`.
 #[inline(always)]
-fn scan_of(power: usize, binary: bool, length: usize, upper: bool) -> UnitScan
-    requires known { power ≤ 9 }
+fn letters(length: usize) -> Word
     requires few { length ≤ 4 }
-    ensures { result ≡ scan_of (multiple_of power binary) (word_of length upper) }
+    ensures { (upper : Bool) → letters_of (word_of length upper) ≡ result }
 {
-    let multiple = match (power, binary) {
-        (0, _) => Multiple::One,
-        (_, true) => Multiple::Binary(Prefix::from_power(power as u32)),
-        (_, false) => Multiple::Decimal(Prefix::from_power(power as u32)),
-    };
-    let word = match length {
+    match length {
         0 => Word::Empty,
-        1 if upper => Word::UpperB,
-        1 => Word::LowerB,
+        1 => Word::B,
         2 => Word::Bi,
         3 => Word::Bit,
         _ => Word::Bits,
-    };
-    UnitScan { multiple, word }
+    }
 }
 
 /// The position of the prefix of each letter, by its byte.

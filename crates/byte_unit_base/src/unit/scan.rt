@@ -1,49 +1,29 @@
-//! The states of the parser of a unit, and the unit or the error of each.
+//! The unit of a prefix and a suffix, and the error of a unit in which the parser stops.
 
 ghost use Rattle.std.specs.Prelude.{◌≡◌, ◌≤◌, ℕ};
 ghost use Rattle.byte_unit_base.specs.UnitScan.{multiple_shape};
 ghost use Rattle.byte_unit_base.specs.UnitWord.{multiple_of};
 ghost use Rattle.byte_unit_base.specs.Units.{shape_of};
 
+use crate::unit::tables::{BEGINNING, BY_POWER};
 use crate::{Unit, UnitParseError};
 
-/// A prefix letter, of a decimal or a binary prefix.
-#[derive(Clone, Copy)]
-pub enum Prefix {
-    Kilo,
-    Mega,
-    Giga,
-    Tera,
-    Peta,
-    Exa,
-    Zetta,
-    Yotta,
-    Ronna,
-}
-
-/// The prefix read so far, and whether an `i` came after it.
-#[derive(Clone, Copy)]
-pub enum Multiple {
-    One,
-    Decimal(Prefix),
-    Binary(Prefix),
-}
-
-/// The part of a suffix (`B`, `b`, `bit`, `bits`) read so far.
+/// The letters of a suffix (`B`, `b`, `bit`, `bits`) read so far, in either case.
 #[derive(Clone, Copy)]
 pub enum Word {
     Empty,
-    UpperB,
-    LowerB,
+    B,
     Bi,
     Bit,
     Bits,
 }
 
-/// The state of the parser of a unit.
+/// What is kept of a unit in which the parser stops: enough for its error.
 #[derive(Clone, Copy)]
-pub struct UnitScan {
-    pub multiple: Multiple,
+pub struct UnitStop {
+    /// Whether a prefix has been read.
+    pub has_prefix: bool,
+    /// What has been read of the suffix.
     pub word: Word,
 }
 
@@ -77,38 +57,15 @@ pub struct Flags {
     pub prefer_byte: bool,
 }
 
-impl Prefix {
-    ghost use Rattle.byte_unit_base.specs.UnitScan.{power_of};
-
-    /// Returns the prefix of a position, from 1 for K to 9 for R.
-    pub fn from_power(power: u32) -> Prefix
-        requires some { 1 ≤ power }
-        requires known { power ≤ 9 }
-        ensures { power_of result ≡ power }
-    {
-        match power {
-            1 => Prefix::Kilo,
-            2 => Prefix::Mega,
-            3 => Prefix::Giga,
-            4 => Prefix::Tera,
-            5 => Prefix::Peta,
-            6 => Prefix::Exa,
-            7 => Prefix::Zetta,
-            8 => Prefix::Yotta,
-            _ => Prefix::Ronna,
-        }
-    }
-}
-
-impl UnitScan {
-    ghost use Rattle.byte_unit_base.specs.UnitScan.{unit_parser_state};
+impl UnitStop {
+    ghost use Rattle.byte_unit_base.specs.UnitWord.{stop_parser_state};
     ghost use Rattle.byte_unit_base.specs.PartsReading.{unit_stop_fault};
     ghost use Rattle.byte_unit_base.specs.Expected.{expected_codes, named_in};
     ghost use Rattle.byte_unit_base.specs.Version.{current};
     ghost use Rattle.byte_unit_base.specs.Fault.{fault_at};
     ghost use Rattle.byte_unit_base.specs.Errors.{unit_fault};
 
-    /// Returns the error of a string in which the parser of a unit stops in this state, by the character there.
+    /// Returns the error of a string in which the parser of a unit stops here, by the character there.
     #[inline(always)]
     pub fn error_before(self, next: Option<char>, flags: Flags) -> UnitParseError
         ensures { unit_fault result ≡ unit_stop_fault flags self next }
@@ -133,7 +90,7 @@ impl UnitScan {
     /// Returns the error of a character that cannot continue a unit.
     #[inline(always)]
     fn error_at(self, flags: Flags, character: char) -> UnitParseError
-        ensures { unit_fault result ≡ fault_at current flags (unit_parser_state self) character }
+        ensures { unit_fault result ≡ fault_at current flags (stop_parser_state self) character }
     {
         UnitParseError {
             character,
@@ -146,16 +103,14 @@ impl UnitScan {
     /// if case counts, and else the letter of the preferred kind.
     #[inline(always)]
     fn expected(self, flags: Flags) -> Expected
-        ensures { (c : ℕ) → expected_codes result ≡ named_in (fault_at current flags (unit_parser_state self) c) }
+        ensures { (c : ℕ) → expected_codes result ≡ named_in (fault_at current flags (stop_parser_state self) c) }
     {
         match self.word {
-            Word::Empty => match self.multiple {
-                Multiple::One => Expected::Beginning,
-                _ if !flags.ignore_case => Expected::EitherB,
-                _ if flags.prefer_byte => Expected::UpperB,
-                _ => Expected::LowerB,
-            },
-            Word::UpperB | Word::LowerB => Expected::I,
+            Word::Empty if !self.has_prefix => Expected::Beginning,
+            Word::Empty if !flags.ignore_case => Expected::EitherB,
+            Word::Empty if flags.prefer_byte => Expected::UpperB,
+            Word::Empty => Expected::LowerB,
+            Word::B => Expected::I,
             Word::Bi => Expected::T,
             Word::Bit => Expected::S,
             Word::Bits => Expected::Nothing,
@@ -164,7 +119,51 @@ impl UnitScan {
 }
 
 impl Expected {
-    ghost use Rattle.byte_unit_base.specs.Expected.{expected_codes};
+    ghost use Rattle.byte_unit_base.specs.Expected.{expected_codes, expects_end};
+    ghost use Rattle.std.specs.Prelude.{IfSome};
+
+    /// Each of the lists.
+    const ALL: [Expected; 8] = [
+        Expected::Beginning,
+        Expected::EitherB,
+        Expected::UpperB,
+        Expected::LowerB,
+        Expected::I,
+        Expected::T,
+        Expected::S,
+        Expected::Nothing,
+    ];
+
+    /// Returns which of the lists these characters are, or `None` if no parser expects them.
+    ///
+    /// # Examples
+    /// ```rust
+    /// assert!(rt; matches!(Expected::of(&['B', 'b']), Some(Expected::EitherB)));
+    /// assert!(rt; Expected::of(&['x']).is_none());
+    /// ```
+    pub fn of(characters: &[char]) -> Option<Expected>
+        ensures { IfSome result (λ expected. expected_codes expected ≡ characters.now) }
+    {
+        for expected in Expected::ALL {
+            if expected.characters() == characters {
+                return Some(expected);
+            }
+        }
+        None
+    }
+
+    /// Returns whether the string could end in place of the characters.
+    ///
+    /// # Examples
+    /// ```rust
+    /// assert!(rt; Expected::S.or_end() && !Expected::T.or_end()); // `bit` is a suffix, and `bi` is not.
+    /// ```
+    #[inline(always)]
+    pub fn or_end(self) -> bool
+        ensures { result ≡ expects_end self }
+    {
+        !matches!(self, Expected::T)
+    }
 
     /// Returns the characters.
     #[inline(always)]
@@ -172,7 +171,7 @@ impl Expected {
         ensures { result.now ≡ expected_codes self }
     {
         match self {
-            Expected::Beginning => &['B', 'K', 'M', 'G', 'T', 'P', 'E', 'Z', 'Y', 'R'],
+            Expected::Beginning => &BEGINNING,
             Expected::EitherB => &['B', 'b'],
             Expected::UpperB => &['B'],
             Expected::LowerB => &['b'],
@@ -192,17 +191,3 @@ pub fn unit_of(power: usize, binary: bool, bit: bool) -> Unit
 {
     BY_POWER[power][2 * usize::from(binary) + usize::from(bit)]
 }
-
-/// The units by the position of the prefix: of bytes and of bits, with the decimal prefix and with the binary one.
-static BY_POWER: [[Unit; 4]; 10] = [
-    [Unit::B, Unit::Bit, Unit::B, Unit::Bit],
-    [Unit::KB, Unit::Kbit, Unit::KiB, Unit::Kibit],
-    [Unit::MB, Unit::Mbit, Unit::MiB, Unit::Mibit],
-    [Unit::GB, Unit::Gbit, Unit::GiB, Unit::Gibit],
-    [Unit::TB, Unit::Tbit, Unit::TiB, Unit::Tibit],
-    [Unit::PB, Unit::Pbit, Unit::PiB, Unit::Pibit],
-    [Unit::EB, Unit::Ebit, Unit::EiB, Unit::Eibit],
-    [Unit::ZB, Unit::Zbit, Unit::ZiB, Unit::Zibit],
-    [Unit::YB, Unit::Ybit, Unit::YiB, Unit::Yibit],
-    [Unit::RB, Unit::Rbit, Unit::RiB, Unit::Ribit],
-];

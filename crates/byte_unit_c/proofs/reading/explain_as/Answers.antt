@@ -10,7 +10,7 @@ returns-in-Ok-clause-reading c =
 pub returns-in-Some-clause-reading : goal.returns-in-Some-clause-reading
 returns-in-Some-clause-reading c =
     let stop = c.in-Err.stop in
-    let error = c.error_at-error.result in
-    let error_is = rw c.flags_for-flags.ensures at c.error_at-error.ensures in
+    let error = c.write_stop_message.ensures.text.0 in
+    let error_is = rw c.flags_for-flags.ensures at c.write_stop_message.ensures.text.1 in
     let reading = c.in-Some.ensures c.args.kind c.args.ignore_case stop.reason error c.in-Err.ensures error_is in
-    (Some (Err error), reading, (c.write_message.ensures.some, c.write_message.ensures.text))
+    (Some (Err error), reading, c.write_stop_message.ensures.text.2)

@@ -10,7 +10,7 @@ returns-in-Eighths-clause-bytes c =
     let written = c.digits_of_eighths-len in
     let name = c.put-in-Eighths.ensures in
     let known = subst HasPrefix c.in-Eighths.is c.requires.prefix in
-    rw (c.in-Eighths.is, ← named c.args.kind c.in-Eighths.power true known.1 c.letter.ensures c.own_letter-own.ensures)
+    rw (c.in-Eighths.is, ← named c.args.kind c.in-Eighths.power true known.1 c.prefix_letter.ensures c.own_letter-own.ensures)
     (written_over c.args.out.now c.put-end.new.out c.put-in-Eighths.new.out written.result.0 _ c.args.point
     written.result.1 _ written.ensures.four written.ensures.few (omega arith) written.ensures.text
     (omega (arith, c.put-end.ensures.begins, written.ensures.four)) c.put-end.ensures.bytes (omega (arith, name.begins))
@@ -26,7 +26,7 @@ returns-after-len-gt0-clause-bytes c =
     let end = point + written.result.1 + 3 in
     let name = c.put-in-Thousandths.ensures in
     let text = thousandths_text c.in-Thousandths.thousandths in
-    let letters = 32 ∷ c.letter-in-Thousandths.result ∷ c.own_letter-own.result ∷ [] in
+    let letters = 32 ∷ c.prefix_letter-in-Thousandths.result ∷ c.own_letter-own.result ∷ [] in
     let known = subst HasPrefix c.in-Thousandths.is c.requires.prefix in
     let put : drop point new ≡ (text ++ letters) ++ drop end old = elim c.if-len-gt0.branch [
       | then-len-gt0 w ↦
@@ -42,5 +42,5 @@ returns-after-len-gt0-clause-bytes c =
     ] in
     rw (
       c.in-Thousandths.is,
-      ← named c.args.kind c.in-Thousandths.power false known.1 c.letter-in-Thousandths.ensures c.own_letter-own.ensures,
+      ← named c.args.kind c.in-Thousandths.power false known.1 c.prefix_letter-in-Thousandths.ensures c.own_letter-own.ensures,
     ) put

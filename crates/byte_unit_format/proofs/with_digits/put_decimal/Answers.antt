@@ -19,11 +19,11 @@ returns-clause-text c =
     let end = c.if-used-cut.end in
     let long = c.told-digits in
     let name = c.put-2.ensures in
-    let letters = 32 ∷ c.letter.result ∷ c.own_letter.result ∷ [] in
+    let letters = 32 ∷ c.prefix_letter.result ∷ c.own_letter.result ∷ [] in
     let front : take cut copied ≡ take cut digits =
     front_at copied digits (drop 32 old) cut (omega (arith, c.put.ensures.begins, long)) c.put.ensures.bytes
     (omega (arith, long, c.requires.cut)) in
-    let named_is = named c.args.kind c.args.power false c.requires.some c.letter.ensures c.own_letter.ensures in
+    let named_is = named c.args.kind c.args.power false c.requires.some c.prefix_letter.ensures c.own_letter.ensures in
     let take_len : length (take cut digits) ≡ cut =
     omega (arith, length-take {A = ℕ} cut digits, long, c.requires.cut) in
     let Of : List ℕ → Type 0 = λ unit. take end new ≡ take cut digits ++ (cut_digits cut used digits ++ unit) in

@@ -4,7 +4,7 @@ use denote.Enum.Declared.{tag_of}
 use Rattle.byte_unit_base.specs.Shape.{bits}
 use Rattle.byte_unit_base.specs.Units.{shape_of}
 use Rattle.byte_unit_base.specs.contracts.unit.Unit.{the_type}
-use Rattle.byte_unit_base.specs.declared.unit.TheConstants.{UNIT_BITS}
+use Rattle.byte_unit_base.specs.declared.unit.tables.TheConstants.{UNIT_BITS}
 use Rattle.byte_unit_base.specs.declared.unit.Unit.{Unit as UnitName}
 use Rattle.byte_unit_base.specs.declared.unit.Unit.TheVariants.{Bit}
 use Rattle.byte_unit_base.proofs.unit.Unit.as_bits_u128.Goals as goal

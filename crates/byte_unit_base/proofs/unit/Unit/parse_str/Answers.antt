@@ -19,9 +19,10 @@ range_from-requires c =
     let flags = flags_of c.args.ignore_case c.args.prefer_byte in
     let text = c.trim-text.result.now in
     let stop = c.in-Err.stop in
-    let leads = (subst (λ text. IsUnitStop flags text stop.0 stop.1) c.as_bytes-bytes.ensures.value c.in-Err.ensures).0 in
+    let stops = (subst (λ text. IsUnitStop flags text stop.0 stop.1) c.as_bytes-bytes.ensures.value c.in-Err.ensures) in
+    let leads = stops.1.0 in
     let utf8 = subst IsUtf8 c.as_bytes-bytes.ensures.value c.as_bytes-bytes.ensures.utf8 in
-    λ _. boundary_at text stop.1 utf8 leads.within (run_ascii _ start stop.0 leads.run_is)
+    λ _. boundary_at text stop.1 utf8 leads.within (run_ascii _ start stops.0 leads.run_is)
 
 pub returns-in-Ok : goal.returns-in-Ok
 returns-in-Ok c =

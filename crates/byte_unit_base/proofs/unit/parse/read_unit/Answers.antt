@@ -1,6 +1,7 @@
 -- A beginning of a unit that is all of the line spells the unit of its state, unless its suffix is `bi`.
-use Rattle.std.proofs.Common.{◌≡◌, ◌+◌, sym, ◌∙◌, refl, arith, length, drop, length-drop}
-use Rattle.byte_unit_base.proofs.UnitLetters.{letters_in_line}
+use Rattle.std.proofs.Common.{◌≡◌, ◌+◌, ◌*◌, ◌/◌, ◌%◌, ◌^◌, not, eqb, ◌&&◌, ◌||◌, sym, ◌∙◌, refl, arith, length, drop}
+use Rattle.std.proofs.Common.{length-drop}
+use Rattle.byte_unit_base.proofs.UnitLetters.{letters_in_line, prefix_kept}
 use Rattle.byte_unit_base.proofs.UnitStops.{spelled}
 use Rattle.byte_unit_base.proofs.unit.parse.read_unit.Goals as goal
 
@@ -18,4 +19,12 @@ returns c =
     let end = c.from.result + c.from-2.result + c.suffix_len-length.result in
     let at_bi : end ≡ length (drop c.args.from c.args.line.now) → c.suffix_len-length.result ≡ 2 =
     grind (arith, c.else-end-line.branch, length-drop c.args.from c.args.line.now) in
-    rw c.scan_of.ensures (leads, λ all. rw (at_bi all) refl)
+    let power = c.letter_power-power.result in
+    let text = c.eight_at-text.result in
+    let next = text / 256 % 256 in
+    let binary = not (eqb power 0) && (eqb next 105 || eqb next 73) in
+    let upper = eqb (text / 2 ^ (8 * (c.from.result + c.from-2.result)) % 256) 66 in (
+      _,
+      (leads, λ all. rw (at_bi all) refl),
+      λ i. record { has_prefix = prefix_kept power binary i; word = c.letters.ensures upper i },
+    )

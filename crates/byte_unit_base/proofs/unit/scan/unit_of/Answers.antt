@@ -4,7 +4,7 @@ use mir.Val.{bool_byte}
 use Rattle.byte_unit_base.specs.Units.{shape_of}
 use Rattle.byte_unit_base.specs.UnitScan.{multiple_shape}
 use Rattle.byte_unit_base.specs.UnitWord.{multiple_of}
-use Rattle.byte_unit_base.specs.declared.unit.scan.TheConstants.{BY_POWER}
+use Rattle.byte_unit_base.specs.declared.unit.tables.TheConstants.{BY_POWER}
 use Rattle.byte_unit_base.specs.declared.unit.Unit.TheVariants.{Bit as UnitBit}
 use Rattle.byte_unit_base.proofs.unit.scan.unit_of.Goals as goal
 

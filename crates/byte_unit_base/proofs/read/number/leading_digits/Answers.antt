@@ -1,10 +1,10 @@
 -- The digits among the first eight bytes, and, if all of these are digits or there are fewer bytes, those after them.
 use Rattle.std.proofs.Common.{◌≡◌, ◌<◌, ◌≤◌, ◌+◌, ◌-◌, ◌%◌, ◌^◌, length, ap, subst, sym, ◌∙◌, arith}
 use Rattle.byte_unit_base.proofs.Lines.{HasDigits, digits_of_word, no_digits, value_of_more}
-use Rattle.byte_unit_base.proofs.read.digits.leading_digits.Goals.{Joined-bytes-from-ge8, After-up_to_eight-count}
-use Rattle.byte_unit_base.proofs.read.digits.leading_digits.Goals.{then-bytes-from-ge8+else-count-lt8}
-use Rattle.byte_unit_base.proofs.read.digits.leading_digits.Goals.{else-bytes-from-ge8}
-use Rattle.byte_unit_base.proofs.read.digits.leading_digits.Goals as goal
+use Rattle.byte_unit_base.proofs.read.number.leading_digits.Goals.{Joined-bytes-from-ge8, After-up_to_eight-count}
+use Rattle.byte_unit_base.proofs.read.number.leading_digits.Goals.{then-bytes-from-ge8+else-count-lt8}
+use Rattle.byte_unit_base.proofs.read.number.leading_digits.Goals.{else-bytes-from-ge8}
+use Rattle.byte_unit_base.proofs.read.number.leading_digits.Goals as goal
 
 -- before the digits that are left
 so_far : (c : Joined-bytes-from-ge8)

@@ -3,7 +3,7 @@ use Rattle.std.proofs.Common.{◌≡◌, ℕ, ◌-◌, ◌*◌, ◌%◌, ◌^◌
 use Rattle.core.proofs.dec2flt.Eight.{lanes_are, all_digits, first_other, shifted_is, bytes_up}
 use Rattle.core.proofs.slice.Flagged.{flags_from_ten}
 use lib.Bits.{xor_lt}
-use Rattle.byte_unit_base.proofs.read.digits.up_to_eight.Goals as goal
+use Rattle.byte_unit_base.proofs.read.number.up_to_eight.Goals as goal
 
 -- the two shifts move the first `count` bytes to the end
 moved_up : (digits lanes count : ℕ) → count < 8 → digits ≡ lanes

@@ -1,0 +1,11 @@
+-- Reading the table at an index below its length is the unit with that index.
+use Rattle.std.proofs.Common.{arith, sym}
+use Rattle.std.proofs.lemmas.Option.{slice_get-get_or, slice_get_past}
+use Rattle.byte_unit_base.specs.UnitLists.{units}
+use Rattle.byte_unit_base.proofs.unit.tables.unit_at.Goals as goal
+
+pub returns-then-index-lt38 : goal.returns-then-index-lt38
+returns-then-index-lt38 c = sym (slice_get-get_or units c.args.index _ (omega arith))
+
+pub returns-else-index-lt38 : goal.returns-else-index-lt38
+returns-else-index-lt38 c = sym (slice_get_past units c.args.index (omega arith))

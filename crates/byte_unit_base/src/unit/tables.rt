@@ -1,0 +1,218 @@
+//! The table of prefixes, and the tables of units that are made from it.
+//!
+//! A lookup in a table is a load. LLVM makes a jump table of a `match` over the units, which is slower if the units change
+//! from one string to the next.
+
+ghost use Rattle.std.specs.Prelude.{◌≡◌, ◌≤◌, ◌-◌, slice_index, slice_get};
+ghost use Rattle.byte_unit_base.specs.UnitLists.{units};
+ghost use Rattle.byte_unit_base.specs.Version.{current};
+
+use crate::unit::{Shape, Unit, UnitData};
+
+/// A row of a table: a unit, its number of bits, and the exponents of 2 and of 5 in that number.
+#[derive(Clone, Copy)]
+pub(crate) struct UnitRow {
+    pub(crate) unit: Unit,
+    pub(crate) bits: u128,
+    pub(crate) twos: u32,
+    pub(crate) fives: u32,
+}
+
+/// The number of prefixes.
+pub(crate) const PREFIXES: usize = 9;
+
+/// Calls a macro with each prefix: its letter, its units, its position, and its value as a decimal and as a binary
+/// prefix.
+macro_rules! with_prefixes {
+    ($table:ident $kind:ident) => {
+        $table![$kind
+            'K' Kbit Kibit KB KiB 1 1_000 1_024,
+            'M' Mbit Mibit MB MiB 2 1_000_000 1_048_576,
+            'G' Gbit Gibit GB GiB 3 1_000_000_000 1_073_741_824,
+            'T' Tbit Tibit TB TiB 4 1_000_000_000_000 1_099_511_627_776,
+            'P' Pbit Pibit PB PiB 5 1_000_000_000_000_000 1_125_899_906_842_624,
+            'E' Ebit Eibit EB EiB 6 1_000_000_000_000_000_000 1_152_921_504_606_846_976,
+            'Z' Zbit Zibit ZB ZiB 7 1_000_000_000_000_000_000_000 1_180_591_620_717_411_303_424,
+            'Y' Ybit Yibit YB YiB 8 1_000_000_000_000_000_000_000_000 1_208_925_819_614_629_174_706_176,
+            'R' Rbit Ribit RB RiB 9 1_000_000_000_000_000_000_000_000_000 1_237_940_039_285_380_274_899_124_224
+        ]
+    };
+}
+
+/// Writes the data of one unit.
+macro_rules! unit {
+    ($name:expr, $power:literal, $binary:literal, $bit:literal) => {
+        UnitData {
+            name: $name,
+            shape: Shape {
+                power: $power,
+                binary: $binary,
+                bit: $bit,
+            },
+        }
+    };
+}
+
+/// Writes a table in the order of the prefixes, or of the variants of `Unit`.
+macro_rules! table {
+    (data
+        $($letter:literal $bit:ident $ibit:ident $b:ident $ib:ident $n:literal $decimal:literal $binary:literal),*
+    ) => {
+        [
+            unit!("b", 0, false, true),
+            unit!("B", 0, true, false),
+            $(
+                unit!(concat!($letter, "b"), $n, false, true),
+                unit!(concat!($letter, "ib"), $n, true, true),
+                unit!(concat!($letter, "B"), $n, false, false),
+                unit!(concat!($letter, "iB"), $n, true, false),
+            )*
+        ]
+    };
+    (bits
+        $($letter:literal $bit:ident $ibit:ident $b:ident $ib:ident $n:literal $decimal:literal $binary:literal),*
+    ) => {
+        [1, 8, $($decimal, $binary, $decimal * 8, $binary * 8),*]
+    };
+    (units
+        $($letter:literal $bit:ident $ibit:ident $b:ident $ib:ident $n:literal $decimal:literal $binary:literal),*
+    ) => {
+        [
+            [Unit::B, Unit::Bit, Unit::B, Unit::Bit],
+            $([Unit::$b, Unit::$bit, Unit::$ib, Unit::$ibit],)*
+        ]
+    };
+    (variants
+        $($letter:literal $bit:ident $ibit:ident $b:ident $ib:ident $n:literal $decimal:literal $binary:literal),*
+    ) => {
+        [Unit::Bit, Unit::B, $(Unit::$bit, Unit::$ibit, Unit::$b, Unit::$ib),*]
+    };
+    (letters
+        $($letter:literal $bit:ident $ibit:ident $b:ident $ib:ident $n:literal $decimal:literal $binary:literal),*
+    ) => {
+        [$($letter as u8),*]
+    };
+    (expected
+        $($letter:literal $bit:ident $ibit:ident $b:ident $ib:ident $n:literal $decimal:literal $binary:literal),*
+    ) => {
+        ['B', $($letter),*]
+    };
+}
+
+/// Writes the row of one unit.
+macro_rules! row {
+    ($unit:ident, $bits:expr, $twos:expr, $fives:expr) => {
+        UnitRow {
+            unit: Unit::$unit,
+            bits: $bits,
+            twos: $twos,
+            fives: $fives,
+        }
+    };
+}
+
+/// Writes the rows of a unit set, the largest first: each prefix puts its own before those that are made.
+macro_rules! rows {
+    ($set:ident $letter:literal $bit:ident $ibit:ident $b:ident $ib:ident $($rest:tt)*) => {
+        rows_before![$set [] $letter $bit $ibit $b $ib $($rest)*]
+    };
+}
+
+/// Puts the rows of the first prefix before those that are made, and goes on with the other prefixes.
+macro_rules! rows_before {
+    (all [$($made:tt)*]
+        $letter:literal $bit:ident $ibit:ident $b:ident $ib:ident $n:literal $decimal:literal $binary:literal
+        $(, $($rest:tt)*)?
+    ) => {
+        rows_before![all [
+            row!($ib, $binary * 8, 10 * $n + 3, 0),
+            row!($b, $decimal * 8, 3 * $n + 3, 3 * $n),
+            row!($ibit, $binary, 10 * $n, 0),
+            row!($bit, $decimal, 3 * $n, 3 * $n),
+            $($made)*
+        ] $($($rest)*)?]
+    };
+    (bytes [$($made:tt)*]
+        $letter:literal $bit:ident $ibit:ident $b:ident $ib:ident $n:literal $decimal:literal $binary:literal
+        $(, $($rest:tt)*)?
+    ) => {
+        rows_before![bytes [
+            row!($ib, $binary * 8, 10 * $n + 3, 0),
+            row!($b, $decimal * 8, 3 * $n + 3, 3 * $n),
+            $($made)*
+        ] $($($rest)*)?]
+    };
+    (bits [$($made:tt)*]
+        $letter:literal $bit:ident $ibit:ident $b:ident $ib:ident $n:literal $decimal:literal $binary:literal
+        $(, $($rest:tt)*)?
+    ) => {
+        rows_before![bits [
+            row!($ibit, $binary, 10 * $n, 0),
+            row!($bit, $decimal, 3 * $n, 3 * $n),
+            $($made)*
+        ] $($($rest)*)?]
+    };
+    ($set:ident [$($made:tt)*]) => {
+        [$($made)*]
+    };
+}
+
+/// The name and the shape of each unit, in the order of the variants.
+pub(crate) static UNITS: [UnitData; 38] = with_prefixes!(table data);
+
+/// The bits of each unit, in the order of the variants.
+pub(crate) static UNIT_BITS: [u128; 38] = with_prefixes!(table bits);
+
+/// The units by the position of the prefix: of bytes and of bits, with the decimal prefix and with the binary one.
+pub(crate) static BY_POWER: [[Unit; 4]; 10] = with_prefixes!(table units);
+
+/// The units, in the order of the variants.
+static VARIANTS: [Unit; 38] = with_prefixes!(table variants);
+
+/// The letters of the prefixes.
+static LETTERS: [u8; PREFIXES] = with_prefixes!(table letters);
+
+/// What is expected at the beginning of a unit: `B` and the letters of the prefixes.
+pub(crate) static BEGINNING: [char; PREFIXES + 1] = with_prefixes!(table expected);
+
+/// The units of bytes and of bits with a prefix, the largest first.
+pub(crate) static ALL: [UnitRow; 36] = with_prefixes!(rows all);
+
+/// The units of bytes with a prefix, the largest first.
+pub(crate) static BYTES: [UnitRow; 18] = with_prefixes!(rows bytes);
+
+/// The units of bits with a prefix, the largest first.
+pub(crate) static BITS: [UnitRow; 18] = with_prefixes!(rows bits);
+
+/// Returns the letter of the prefix of a position, from 1 for K to 9 for R.
+///
+/// Precondition (proved at every call): `1 <= power` and `power <= 9`.
+///
+/// # Examples
+/// ```rust
+/// assert_eq!(rt; (prefix_letter(1), prefix_letter(9)), (b'K', b'R'));
+/// ```
+#[inline(always)]
+pub fn prefix_letter(power: u32) -> u8
+    requires some { 1 ≤ power }
+    requires known { power ≤ 9 }
+    ensures { result ≡ slice_index current.letters (power - 1) }
+{
+    LETTERS[power as usize - 1]
+}
+
+/// Returns the unit at an index, from 0 to 37, in the order of the variants, or `None` if the index is greater.
+///
+/// # Examples
+/// ```rust
+/// assert_eq!(rt; (unit_at(0), unit_at(37), unit_at(38)), (Some(Unit::Bit), Some(Unit::RiB), None));
+/// ```
+pub fn unit_at(index: usize) -> Option<Unit>
+    ensures { result ≡ slice_get units index }
+{
+    if index < 38 {
+        Some(VARIANTS[index])
+    } else {
+        None
+    }
+}
