@@ -80,7 +80,7 @@ def constants():
         file = source(f"crates/byte_unit_c/src/{name}.rt")
         for found in re.finditer(form, file.part(function) if function else file.plain, re.M):
             values[prefix + found["name"].replace("None", "Unset").upper()] = int(found["code"])
-    units = re.findall(r"Unit::(\w+),", only(r"static UNITS: .*?= \[(.*?)\];", "codes"))
+    units = re.findall(r"(\w+),", only(r"^pub enum Unit \{(.*?)^\}", "unit", "byte_unit_base"))
     return {**values, **{unit.upper(): code for code, unit in enumerate(units)}}
 
 
