@@ -1,4 +1,4 @@
-"""Compares byte-unit with `numfmt` of GNU coreutils, by each option that both have, on input for which both are exact."""
+"""Compares byte-unit with `numfmt` of GNU coreutils, by options that both have, on input for which both are exact."""
 
 import random
 import re

@@ -1,9 +1,9 @@
 """Compares the library with the Rust crate byte-unit 5.2.6, and explains differences by rules of docs/DIFFERENCES.md.
 
-DIR has the sources of the crate: `src/lib.rs` and so on, or files whose names have `--` in place of `/` and end in `.txt`,
-as `src--lib.rs.txt`. They are built offline, over crates that `tools/dev setup --compared` installs. The crate, the C
-library (called by the Python package's C) or the Rust package, and an exact model answer N random requests: texts and
-spellings of units to parse, sizes to format, numbers of units. Prints how many answers each rule explains.
+DIR has the sources of the crate: `src/lib.rs` and so on, or files whose names have `--` in place of `/` and end in
+`.txt`, as `src--lib.rs.txt`. They are built offline, over crates that `tools/dev setup --compared` installs. The crate,
+the C library (called by the Python package's C) or the Rust package, and an exact model answer N random requests: texts
+and spellings of units to parse, sizes to format, numbers of units. Prints how many answers each rule explains.
 
 The status is 1 if an answer of the library is not that of the model, if no rule explains a difference, if one of 20,000
 answers of the library with another digit is not found to be wrong, or if docs/DIFFERENCES.md lacks the words of a rule.
@@ -92,13 +92,15 @@ def run(given):
             ours = by_program(build.built(PROGRAM, build.package(work), library), lines)
         else:
             calls = Library(library, work)
-            ours = [[getattr(calls, call.__name__)(*words) for _, call, words in calls_of(line.split())] for line in lines]
+            ours = [[getattr(calls, call.__name__)(*given) for _, call, given in calls_of(line.split())]
+                    for line in lines]
     found, findings = compared(lines, theirs, ours, given.seed)
-    print("What was compared | What differs | Answers | The shortest: the call, the crate; this library\n---|---|---|---")
+    print("What was compared | What differs | Answers | An example: the call, the crate; the library\n---|---|---|---")
     for (what, rule), (count, example) in sorted(found.items(), key=str):
-        print(f"{what} | {rules.RULES[rule][0] if rule else 'nothing'} | {count:,} | {ascii(example)[1:-1] if rule else ''}")
+        shown = f"{rules.RULES[rule][0]} | {count:,} | {ascii(example)[1:-1]}" if rule else f"nothing | {count:,}"
+        print(f"{what} | {shown}")
     total, different = (sum(count for (_, rule), (count, _) in found.items() if rule or both) for both in (True, False))
     print(f"\n{total:,} answers of seed {given.seed}, of which {different:,} differ")
     page = read("docs/DIFFERENCES.md")
     findings += [f"docs/DIFFERENCES.md does not say: {words}" for _, words in rules.RULES.values() if words not in page]
-    return report(findings[:40], "Each answer of the library is that of the model, and a rule explains each difference.")
+    return report(findings[:40], "each answer of the library is that of the model, and a rule explains each other")

@@ -1,4 +1,4 @@
-"""Builds programs over the Rust crate byte-unit 5.2.6, or over the Rust package in its place, and the Python package."""
+"""Builds programs over the Rust crate byte-unit 5.2.6, or the Rust package in its place, and the Python package."""
 
 import glob
 import os
@@ -8,7 +8,8 @@ import shutil
 from ..common import Failure, output, path, write
 from ..needs import DEBIAN_PYTHON, DEBIAN_RUST, is_there
 
-NEEDS = ["cargo", *(f"{DEBIAN_RUST}/{name}-*" for name in ("rust_decimal", "utf8-width", "serde", "serde_json", "toml"))]
+CRATES = ("rust_decimal", "utf8-width", "serde", "serde_json", "toml")
+NEEDS = ["cargo", *(f"{DEBIAN_RUST}/{name}-*" for name in CRATES)]
 # The manifest of the crate, without the features that nothing here calls.
 CRATE = """package = { name = "byte-unit", version = "5.2.6", edition = "2021" }
 features = { std = ["rust_decimal/std"], byte = ["rust_decimal"], bit = ["rust_decimal"], u128 = [] }
@@ -33,9 +34,9 @@ def library_of(given, work):
 
 def python(library, work):
     """Builds the Python package over the C library. Returns the environment in which Python finds it."""
-    env = {**os.environ, "BYTE_UNIT_LIBRARY_DIR": library, "PYTHONPATH": f"{work}/python", "PYTHONDONTWRITEBYTECODE": "1"}
+    env = {**os.environ, "BYTE_UNIT_LIBRARY_DIR": library, "PYTHONPATH": f"{work}/python"}
     words = ["setup.py", "-q", "build", "--build-base", f"{work}/build", "--build-lib", f"{work}/python"]
-    output(DEBIAN_PYTHON, *words, cwd=path("bindings/python"), env=env)
+    output(DEBIAN_PYTHON, "-B", *words, cwd=path("bindings/python"), env=env)
     return env
 
 
@@ -55,7 +56,8 @@ def original(given, work):
 
 def package(work):
     """Copies the Rust package, and returns the copy."""
-    return shutil.copytree(path("bindings/rust"), os.path.join(work, "package"), ignore=shutil.ignore_patterns("target"))
+    left_out = shutil.ignore_patterns("target")
+    return shutil.copytree(path("bindings/rust"), os.path.join(work, "package"), ignore=left_out)
 
 
 def built(source, crate, library=""):

@@ -1,7 +1,7 @@
 //! Answers requests by the crate `byte-unit`: the original, or the Rust package in its place.
 //!
-//! Reads a request in each line, and writes a line with its answers, separated by tabs; `-` is none. TEXT is in hexadecimal
-//! digits, and SPEC is `:FLAGS width precision`, where a width of 0 and a precision of `-` are none:
+//! Reads a request in each line, and writes a line with its answers, separated by tabs; `-` is none. TEXT is in
+//! hexadecimal digits, and SPEC is `:FLAGS width precision`, where a width of 0 and a precision of `-` are none:
 //!
 //!     t TEXT                          parse as bytes, as bytes with `b` ignored, as bits
 //!     u TEXT                          parse a unit in each of four ways
@@ -14,12 +14,12 @@ use std::io::{self, BufRead, BufWriter, Write};
 use byte_unit::{Bit, Byte, Unit, UnitType};
 
 macro_rules! formatted {
-    ($value:expr, $flags:expr, $width:expr, $precision:expr, $($literal:literal)*) => {
+    ($value:expr, $flags:expr, $width:expr, $precision:expr, $($given:literal)*) => {
         match ($flags, $width, $precision) {
-            $(($literal, 0, None) => format!(concat!("{:", $literal, "}"), $value),
-            ($literal, width, None) => format!(concat!("{:", $literal, "1$}"), $value, width),
-            ($literal, 0, Some(precision)) => format!(concat!("{:", $literal, ".1$}"), $value, precision),
-            ($literal, width, Some(precision)) => format!(concat!("{:", $literal, "1$.2$}"), $value, width, precision),)*
+            $(($given, 0, None) => format!(concat!("{:", $given, "}"), $value),
+            ($given, width, None) => format!(concat!("{:", $given, "1$}"), $value, width),
+            ($given, 0, Some(precision)) => format!(concat!("{:", $given, ".1$}"), $value, precision),
+            ($given, width, Some(precision)) => format!(concat!("{:", $given, "1$.2$}"), $value, width, precision),)*
             _ => unreachable!(),
         }
     };
@@ -29,7 +29,8 @@ fn text(value: impl Display, spec: &[&str]) -> String {
     let (width, precision): (usize, Option<usize>) = (spec[1].parse().unwrap(), spec[2].parse().ok());
     formatted!(
         value, &spec[0][1..], width, precision,
-        "" "<" "^" ">" "#" "<#" "^#" ">#" "+" "<+" "^+" ">+" "+#" "<+#" "^+#" ">+#" "-" "<-" "^-" ">-" "-#" "<-#" "^-#" ">-#"
+        "" "<" "^" ">" "#" "<#" "^#" ">#" "+" "<+" "^+" ">+" "+#" "<+#" "^+#" ">+#" "-" "<-" "^-" ">-"
+        "-#" "<-#" "^-#" ">-#"
     )
 }
 

@@ -1,8 +1,8 @@
 """An exact model of the calls, and the rules of docs/DIFFERENCES.md that explain where the original's answers differ.
 
-A call is a generator of the original's answer, ours and the arguments. It yields the exact answer, which ours has to be,
-and then each rule that could explain the original's answer, and whether it does. An answer `-` of the original is none,
-since the size or the unit is beyond its limits.
+A call is a generator of the original's answer, ours and the arguments. It yields the exact answer, which ours has to
+be, and then each rule that could explain the original's answer, and whether it does. An answer `-` is none: the size or
+the unit is beyond the limits of the original.
 """
 
 import math
