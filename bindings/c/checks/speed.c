@@ -1,4 +1,5 @@
-/* Nanoseconds of one call from C: the minimum of 200 runs of 1,000 calls each. */
+/* Nanoseconds of one call from C: the minimum of 200 runs of 1,000 calls each. `tools/dev measure calls` makes a row of
+ * a table of what is before ` of `. */
 #define _GNU_SOURCE
 #include "byte_unit.h"
 
@@ -43,29 +44,29 @@ int main(void)
     for (size_t at = 0; at < sizeof texts / sizeof *texts; at++) {
         const char *text = texts[at];
         size_t length = strlen(text);
-        snprintf(what, sizeof what, "parse %s", text);
+        snprintf(what, sizeof what, at < 5 ? "`parse` of %s" : "`parse`, an error, of %s", text);
         TIMED(what, byte_unit_parse(text, length, 0, &size, &error));
     }
-    TIMED("explain 1 byte", byte_unit_explain("1 byte", 6, 0, out, sizeof out));
+    TIMED("`explain` of 1 byte", byte_unit_explain("1 byte", 6, 0, out, sizeof out));
     for (size_t at = 0; at < sizeof sizes / sizeof *sizes; at++) {
         byte_unit_number n = { sizes[at], 0 };
-        snprintf(what, sizeof what, "text of %llu, its digits", (unsigned long long)n.low);
+        snprintf(what, sizeof what, "`text`, digits, of %llu", (unsigned long long)n.low);
         TIMED(what, byte_unit_text(n, 0, plain, out, sizeof out));
-        snprintf(what, sizeof what, "text of %llu, with its unit", (unsigned long long)n.low);
+        snprintf(what, sizeof what, "`text` with a unit of %llu", (unsigned long long)n.low);
         TIMED(what, byte_unit_text(n, 0, alternate, out, sizeof out));
-        snprintf(what, sizeof what, "text of %llu in KiB, all digits", (unsigned long long)n.low);
+        snprintf(what, sizeof what, "`adjusted_text` in KiB of %llu", (unsigned long long)n.low);
         TIMED(what, byte_unit_adjusted_text(n, 0, BYTE_UNIT_KIB, plain, out, sizeof out));
-        snprintf(what, sizeof what, "text of %llu in KiB, two places", (unsigned long long)n.low);
+        snprintf(what, sizeof what, "`adjusted_text`, two places, of %llu", (unsigned long long)n.low);
         TIMED(what, byte_unit_adjusted_text(n, 0, BYTE_UNIT_KIB, two, out, sizeof out));
-        snprintf(what, sizeof what, "appropriate unit of %llu", (unsigned long long)n.low);
+        snprintf(what, sizeof what, "`appropriate_unit` of %llu", (unsigned long long)n.low);
         TIMED(what, byte_unit_appropriate_unit(n, 0, BYTE_UNIT_BOTH));
-        snprintf(what, sizeof what, "size of %llu KiB", (unsigned long long)n.low);
+        snprintf(what, sizeof what, "`from_unit` in KiB of %llu", (unsigned long long)n.low);
         TIMED(what, byte_unit_from_unit(n, BYTE_UNIT_KIB, 0, &size));
     }
     {
         uint32_t unit;
-        TIMED("unit of KiB", byte_unit_parse_unit("KiB", 3, 0, &unit, &error));
+        TIMED("`parse_unit` of KiB", byte_unit_parse_unit("KiB", 3, 0, &unit, &error));
     }
-    TIMED("name of a unit", byte_unit_unit_name(BYTE_UNIT_KIB, out, sizeof out));
+    TIMED("`unit_name` of KiB", byte_unit_unit_name(BYTE_UNIT_KIB, out, sizeof out));
     return 0;
 }

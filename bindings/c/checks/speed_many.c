@@ -75,7 +75,7 @@ static int measured(const char *what, uint32_t (*parse)(void))
 int main(void)
 {
     fill();
-    return measured("parse, a call for each of a million texts", one_by_one)
-           | measured("parse_many, a million texts", many)
-           | measured("parse_many_32, a million texts", many_32);
+    return measured("A text: C, `parse` for each", one_by_one)
+           | measured("A text: C, `parse_many`", many)
+           | measured("A text: C, `parse_many_32`", many_32);
 }

@@ -1,7 +1,7 @@
 """Prints nanoseconds per call from Python, beside humanfriendly, humanize and a split, a float and a dictionary.
 
 The minimum of some runs, in processor time, in one process. The columns have 200,000 texts, or as many as the
-argument says.
+argument says. `tools/dev measure calls` makes tables of the lines, with a column of what is before a colon.
 """
 
 import importlib
@@ -59,25 +59,32 @@ def nanoseconds(function: Callable[..., object], *arguments: object, number: int
     return min(times) / number * 1e9
 
 
+def line(name: str, figure: float) -> None:
+    print(f"{name:64} {figure:8.0f}")
+
+
 def one(name: str, function: Callable[..., object], *arguments: object) -> None:
-    print(f"{name:64} {nanoseconds(function, *arguments, number=10_000, repeat=20):8.0f}")
+    line(name, nanoseconds(function, *arguments, number=10_000, repeat=20))
 
 
 def single() -> None:
     print("nanoseconds per call")
     text = "1.5 KiB"
-    one("byte_unit.parse('1.5 KiB')", byte_unit.parse, text)
-    one("split, float and dictionary", naive, text)
-    one("byte_unit.parse('1.5 XB'), an error", rejected, byte_unit.parse, byte_unit.SizeError, "1.5 XB")
-    one("byte_unit.text(1536)", byte_unit.text, 1536)
-    one("byte_unit.adjusted_text(1536, 'KB')", byte_unit.adjusted_text, 1536, "KB")
+    one("Python: `parse` of 1.5 KiB", byte_unit.parse, text)
+    one("split, `float`: `parse` of 1.5 KiB", naive, text)
+    one("Python: `parse`, an error, of 1.5 XB", rejected, byte_unit.parse, byte_unit.SizeError, "1.5 XB")
+    one("Python: `text` with a unit of 1536", byte_unit.text, 1536)
+    one("Python: `adjusted_text` in KB of 1536", byte_unit.adjusted_text, 1536, "KB")
     if humanfriendly:
         parse_size, invalid = humanfriendly.parse_size, humanfriendly.InvalidSize
-        one("humanfriendly.parse_size", parse_size, text)
-        one("humanfriendly.parse_size('1.5 XB'), an error", rejected, parse_size, invalid, "1.5 XB")
-        one("humanfriendly.format_size(1536)", humanfriendly.format_size, 1536)
+        one("humanfriendly: `parse` of 1.5 KiB", parse_size, text)
+        one("humanfriendly: `parse`, an error, of 1.5 XB", rejected, parse_size, invalid, "1.5 XB")
+        one("humanfriendly: `text` with a unit of 1536", humanfriendly.format_size, 1536)
     if humanize:
-        one("humanize.naturalsize(1536)", humanize.naturalsize, 1536)
+        one("humanize: `text` with a unit of 1536", humanize.naturalsize, 1536)
+    if shutil.which("numfmt"):
+        line("`numfmt`: `parse` of 1.5 KiB", with_numfmt("--from=iec", ["1.5K"] * 200_000))
+        line("`numfmt`: `text` with a unit of 1536", with_numfmt("--to=iec", ["1536"] * 200_000))
 
 
 def some_text(rng: random.Random) -> str:
@@ -86,13 +93,13 @@ def some_text(rng: random.Random) -> str:
     return f"{whole}{fraction} {rng.choice(NAMES)}"
 
 
-def with_numfmt(texts: list[str]) -> float:
-    """Returns the processor time of the program numfmt, per text, with the texts in its own spelling: `1.5Ki`."""
-    lines = "".join(text.replace(" ", "").removesuffix("B") + "\n" for text in texts).encode()
+def with_numfmt(option: str, texts: list[str]) -> float:
+    """Returns the processor time of the program numfmt, per text."""
+    lines = "".join(text + "\n" for text in texts).encode()
     times = []
     for _ in range(5):
         before = resource.getrusage(resource.RUSAGE_CHILDREN)
-        subprocess.run(["numfmt", "--from=auto"], input=lines, stdout=subprocess.DEVNULL, check=True)
+        subprocess.run(["numfmt", option], input=lines, stdout=subprocess.DEVNULL, check=True)
         after = resource.getrusage(resource.RUSAGE_CHILDREN)
         times.append(after.ru_utime + after.ru_stime - before.ru_utime - before.ru_stime)
     return min(times) / len(texts) * 1e9
@@ -105,27 +112,28 @@ def columns(count: int) -> None:
     narrow = array("i", offsets)
     column = byte_unit.parse_many(texts)
     ways: list[tuple[str, Callable[[], object]]] = [
-        ("byte_unit.parse_buffers, 64-bit offsets", lambda: byte_unit.parse_buffers(data, offsets)),
-        ("byte_unit.parse_buffers, 32-bit offsets", lambda: byte_unit.parse_buffers(data, narrow)),
-        ("byte_unit.parse_many, of a list", lambda: byte_unit.parse_many(texts)),
-        ("its ints()", column.ints),
-        ("its int64()", column.int64),
-        ("[byte_unit.parse(text) for text in texts]", lambda: [byte_unit.parse(text) for text in texts]),
-        ("the same with a split, a float and a dictionary", lambda: [naive(text) for text in texts]),
+        ("`parse_buffers`, 64-bit offsets", lambda: byte_unit.parse_buffers(data, offsets)),
+        ("`parse_buffers`, 32-bit offsets", lambda: byte_unit.parse_buffers(data, narrow)),
+        ("`parse_many` of a list", lambda: byte_unit.parse_many(texts)),
+        ("its `ints()`", column.ints),
+        ("its `int64()`", column.int64),
+        ("`parse` for each", lambda: [byte_unit.parse(text) for text in texts]),
+        ("split, `float`, dictionary", lambda: [naive(text) for text in texts]),
     ]
     if pandas:
         series = pandas.Series(texts)
-        ways += [("pandas: series.map(byte_unit.parse)", lambda: series.map(byte_unit.parse)),
-                 ("pandas: byte_unit.parse_many(series)", lambda: byte_unit.parse_many(series))]
-    print(f"nanoseconds per text of {count}")
+        ways += [("`series.map(parse)` of pandas", lambda: series.map(byte_unit.parse)),
+                 ("`parse_many(series)`", lambda: byte_unit.parse_many(series))]
+    print(f"nanoseconds per text ({count} texts)")
     for name, call in ways:
-        print(f"{name:64} {nanoseconds(call) / count:8.0f}")
+        line(f"A text: Python, {name}", nanoseconds(call) / count)
     if shutil.which("numfmt"):
-        print(f"{'numfmt --from=auto, as a program':64} {with_numfmt(texts):8.0f}")
+        spelled = [text.replace(" ", "").removesuffix("B") for text in texts]
+        line("A text: `numfmt --from=auto`", with_numfmt("--from=auto", spelled))
     if humanfriendly:
         few, parse_size = texts[: count // 10], humanfriendly.parse_size
         time = nanoseconds(lambda: [parse_size(text) for text in few]) / len(few)
-        print(f"{'[humanfriendly.parse_size(text) for text in texts], of a tenth':64} {time:8.0f}")
+        line("A text: Python, humanfriendly", time)
 
 
 single()

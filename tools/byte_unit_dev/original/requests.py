@@ -1,28 +1,21 @@
-"""The requests of tools/compare-original: random texts, units and sizes, many of them near a limit or a rounding."""
+"""Random requests, in the form that compare.rs describes, many of them near a limit or a rounding."""
 
-import os
-import sys
-
-sys.path[:0] = [os.path.dirname(os.path.dirname(os.path.realpath(__file__)))]
-from exact_model import LETTERS, unit_bits  # noqa: E402
-from generated_lines import some_line  # noqa: E402
+from ..model.exact import LETTERS, unit_bits
+from ..model.lines import some_line
 
 # The units by their codes: b and B, and for each letter that of bits and of bytes, decimal and binary.
 UNITS = ["b", "B"] + [letter + form for letter in LETTERS for form in ("b", "ib", "B", "iB")]
-BITS = dict(zip(UNITS, [1, 8] + [unit_bits(power, binary, bit) for power in range(1, len(LETTERS) + 1)
-                                 for bit in (True, False) for binary in (False, True)]))  # fmt: skip
+BITS = {unit: unit_bits((LETTERS.find(unit[0]) + 1) if unit[1:] else 0, "i" in unit, unit[-1] == "b") for unit in UNITS}
 LIMITS = [2**96, 2**112, 10**27, 10**28, 10**30, 2**64, 8 * 10**27, 2**93]
 PRECISIONS = [0, 1, 2, 3, 3, 3, 4, 6, 9, 12, 15, 16, 20, 25, 26, 27, 28, 29, 300]
 
 
 def text_near_a_limit(rng):
-    """Returns a number whose digits or whose size are near a limit, in some unit."""
     unit = rng.choice(UNITS)
     size = rng.choice(LIMITS) + rng.choice([-1, 0, 1, rng.randrange(-10**6, 10**6)])
     scale = rng.randrange(29)
     whole, fraction = divmod(size * 10**scale // rng.choice([1, BITS[unit], max(BITS[unit] // 8, 1)]), 10**scale)
-    fraction = max(fraction + rng.choice([-1, 0, 0, 1]), 0)
-    digits = str(fraction).zfill(scale)[:28]
+    digits = str(max(fraction + rng.choice([-1, 0, 0, 1]), 0)).zfill(scale)[:28]
     zeros = "0" * rng.choice([0, 0, 0, 1, 5])
     return f"{whole}{'.' + digits if digits else ''}{zeros if digits else ''}{rng.choice(['', ' '])}{unit}"
 
@@ -30,8 +23,7 @@ def text_near_a_limit(rng):
 def text_with_long_digits(rng):
     """Returns a number of up to 58 digits, whose size is often in range."""
     unit = rng.choice(UNITS)
-    room = max(31 - len(str(BITS[unit])), 1)
-    whole = rng.randrange(10 ** rng.randrange(1, room + 1))
+    whole = rng.randrange(10 ** rng.randrange(1, max(31 - len(str(BITS[unit])), 1) + 1))
     places = rng.randrange(1, 29)
     fraction = rng.choice([rng.randrange(10**places), 10**places - 1, 1, 5 * 10 ** (places - 1)])
     return f"{whole}.{fraction:0{places}}{unit}"
@@ -48,12 +40,9 @@ def text_with_odd_character(rng):
 
 def some_text(rng):
     choice = rng.random()
-    if choice < 0.2:
-        return text_near_a_limit(rng)
-    if choice < 0.4:
-        return text_with_long_digits(rng)
-    if choice < 0.5:
-        return text_with_odd_character(rng)
+    for limit, make in ((0.2, text_near_a_limit), (0.4, text_with_long_digits), (0.5, text_with_odd_character)):
+        if choice < limit:
+            return make(rng)
     while True:
         try:
             return some_line(rng).decode()
@@ -84,15 +73,14 @@ def some_size(rng):
     return size % rng.choice([*[10**27] * 9, 10**30])
 
 
-def spec(rng):
-    """Returns a format: alternate, sign, align, width and precision."""
-    width = rng.choice([0, 0, rng.randrange(1, 45)])
-    precision = rng.choice(["-", rng.choice(PRECISIONS)])
-    return f"{rng.randrange(2)} {rng.choice([0, 0, 1, 2])} {rng.randrange(4)} {width} {precision}"
+def some_spec(rng):
+    width, precision = rng.choice([0, 0, rng.randrange(1, 45)]), rng.choice(["-", rng.choice(PRECISIONS)])
+    alternate, sign, align = rng.choice(["", "#"]), rng.choice(["", "", "+", "-"]), rng.choice(["", "<", "^", ">"])
+    return f":{align}{sign}{alternate} {width} {precision}"
 
 
-def requests(rng, count, units=len(UNITS)):
-    """Yields requests, in the form that compare.rs describes: half of them texts. A unit's code is below `units`."""
+def requests(rng, count):
+    """Yields requests, half of them texts."""
     for _ in range(count):
         choice = rng.random()
         if choice < 0.5:
@@ -100,6 +88,6 @@ def requests(rng, count, units=len(UNITS)):
         elif choice < 0.6:
             yield f"u {some_unit_text(rng).encode().hex()}"
         elif choice < 0.9:
-            yield f"n {some_size(rng)} {rng.choice(PRECISIONS)} {rng.randrange(units)} {spec(rng)}"
+            yield f"n {some_size(rng)} {rng.choice(PRECISIONS)} {rng.choice(UNITS)} {some_spec(rng)}"
         else:
-            yield f"f {some_size(rng) // rng.choice([1, 10**6, 10**12, 10**24])} {rng.randrange(units)}"
+            yield f"f {some_size(rng) // rng.choice([1, 10**6, 10**12, 10**24])} {rng.choice(UNITS)}"

@@ -22,22 +22,26 @@ fn timed(what: &str, mut call: impl FnMut()) {
     println!("{what:<50} {least:7.1}");
 }
 
+/// Measures how a format writes a value.
+macro_rules! written {
+    ($what:expr, $out:ident, $format:literal, $value:expr) => {
+        timed(&$what, || {
+            $out.clear();
+            write!($out, $format, black_box($value)).unwrap();
+        })
+    };
+}
+
 fn main() {
     let mut out = String::with_capacity(256);
-    for text in [
-        "12",
-        "1.5 KiB",
-        "100 MB",
-        "1.123456789012 KiB",
-        "1.1234567890123456789012345678 KiB",
-        "1 byte",
-        "1.5 XB",
-    ] {
-        timed(&format!("parse {text}"), || {
+    let long = "1.1234567890123456789012345678 KiB";
+    for text in ["12", "1.5 KiB", "100 MB", "1.123456789012 KiB", long, "1 byte", "1.5 XB"] {
+        let error = if Byte::parse_str(text, false).is_err() { ", an error," } else { "" };
+        timed(&format!("`parse`{error} of {text}"), || {
             let _ = black_box(Byte::parse_str(black_box(text), false));
         });
     }
-    timed("explain 1 byte", || {
+    timed("`explain` of 1 byte", || {
         out.clear();
         if let Err(error) = Byte::parse_str(black_box("1 byte"), false) {
             write!(out, "{error}").unwrap();
@@ -46,26 +50,14 @@ fn main() {
     for n in [12, 1536, 123_456_789] {
         let size = Byte::from_u64(n);
         let in_kib = size.get_adjusted_unit(Unit::KiB);
-        timed(&format!("text of {n}, its digits"), || {
-            out.clear();
-            write!(out, "{}", black_box(size)).unwrap();
-        });
-        timed(&format!("text of {n}, with its unit"), || {
-            out.clear();
-            write!(out, "{:#}", black_box(size)).unwrap();
-        });
-        timed(&format!("text of {n} in KiB, all digits"), || {
-            out.clear();
-            write!(out, "{}", black_box(in_kib)).unwrap();
-        });
-        timed(&format!("text of {n} in KiB, two places"), || {
-            out.clear();
-            write!(out, "{:.2}", black_box(in_kib)).unwrap();
-        });
-        timed(&format!("appropriate unit of {n}"), || {
+        written!(format!("`text`, digits, of {n}"), out, "{}", size);
+        written!(format!("`text` with a unit of {n}"), out, "{:#}", size);
+        written!(format!("`adjusted_text` in KiB of {n}"), out, "{}", in_kib);
+        written!(format!("`adjusted_text`, two places, of {n}"), out, "{:.2}", in_kib);
+        timed(&format!("`appropriate_unit` of {n}"), || {
             black_box(black_box(size).get_appropriate_unit(UnitType::Both));
         });
-        timed(&format!("size of {n} KiB"), || {
+        timed(&format!("`from_unit` in KiB of {n}"), || {
             black_box(Byte::from_u64_with_unit(black_box(n), Unit::KiB));
         });
     }

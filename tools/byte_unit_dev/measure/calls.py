@@ -1,0 +1,105 @@
+"""Calls from C, Rust, Python and SQLite, beside other libraries.
+
+Each program prints a line for each figure: its column and a colon, if that is not the program's, and its row. Rows that
+differ in what is after the last ` of ` are one, with a figure for each.
+"""
+
+import os
+import re
+import tempfile
+
+from ..common import output, path
+from ..needs import DEBIAN_PYTHON, PYTHON_PACKAGE, is_there
+from ..original import build
+from .speed import one_processor
+
+# The tables: the title of the first column, the other columns, and the form of a figure.
+TABLES = {
+    "calls": ("Nanoseconds of a call", ["C", "Rust", "Original"], ",.0f"),
+    "python": ("Nanoseconds of a call", ["Python", "humanfriendly", "humanize", "`numfmt`", "split, `float`"], ",.0f"),
+    "column": ("Nanoseconds of a text in a column", ["A text"], ",.0f"),
+    "sqlite": ("SQLite, a million rows", ["Seconds"], ".2f"),
+}
+FIGURE = re.compile(r"^(?:(.*?): )?(.+?)(?: of (?!.* of )(.+?))? +([0-9]+(?:\.[0-9]+)?)$", re.M)
+MILLION = ("CREATE TABLE big AS WITH RECURSIVE i(k) AS (SELECT 0 UNION ALL SELECT k + 1 FROM i WHERE k < 999999) "
+           "SELECT printf('%d.%03d MB', k * 7919 % 1000000 / 1000, k * 7919 % 1000) AS t, k AS n FROM i;")
+STATEMENTS = {
+    "`sum(length(t))`, to compare": "SELECT sum(length(t)) FROM big;",
+    "`sum(size_parse(t))`": "SELECT sum(size_parse(t)) FROM big;",
+    "`size_explain(t) IS NULL`": "SELECT count(*) FROM big WHERE size_explain(t) IS NULL;",
+    "`count(size_text(n))`": "SELECT count(size_text(n)) FROM big;",
+    "`CREATE INDEX`": "CREATE INDEX by_text ON big(t);",
+    "`CREATE INDEX`, `COLLATE SIZE`": "CREATE INDEX by_size ON big(t COLLATE SIZE);",
+    "`ORDER BY`": "CREATE TABLE by_t AS SELECT n FROM big ORDER BY +t;",
+    "`ORDER BY`, `COLLATE SIZE`": "CREATE TABLE by_s AS SELECT n FROM big ORDER BY +t COLLATE SIZE;",
+}
+
+
+def by_c(name, library, work):
+    made, archive = os.path.join(work, name), os.path.join(library, "libbyte_unit.a")
+    output("cc", "-std=c11", "-O2", "-I", library, path("bindings/c/checks", f"{name}.c"), archive, "-o", made)
+    return lambda: output(made)
+
+
+def by_rust(crate, library):
+    made = build.built("bindings/rust/checks/speed.rs", crate, library)
+    return lambda: output(made)
+
+
+def by_python(library, work):
+    env = build.python(library, work)
+    return lambda: output(DEBIAN_PYTHON, "-B", path("bindings/python/checks/speed.py"), env=env)
+
+
+def by_sqlite(library):
+    words = ["sqlite3", "-batch", "-cmd", f'.load "{library}/sqlite3/byte_unit"', ":memory:"]
+    script = "\n".join([MILLION, ".timer on", *STATEMENTS.values(), ""])
+
+    def figures():
+        times = re.findall(r"Run Time: real \S+ user (\S+) sys (\S+)", output(*words, input=script))
+        return "".join(f"{name} {float(user) + float(system)}\n" for name, (user, system) in zip(STATEMENTS, times))
+
+    return figures
+
+
+def programs(given, library, work):
+    """Builds the programs. Yields each as a function that returns what it prints, with the column of its figures."""
+    ways = [("C", ["cc"], by_c, ("speed", library, work)), ("A text", ["cc"], by_c, ("speed_many", library, work)),
+            ("Rust", build.NEEDS, by_rust, (build.package(work), library)),
+            ("Python", PYTHON_PACKAGE, by_python, (library, work)),
+            ("Seconds", ["sqlite3", "sqlite3ext.h"], by_sqlite, (library,))]
+    if given.original:
+        ways.append(("Original", build.NEEDS, by_rust, (build.original(given.original, work), "")))
+    for column, needs, make, words in ways:
+        missing = [need for need in needs if not is_there(need)]
+        if missing:
+            print(f"left out: {column}: {missing[0]} is missing: `tools/dev setup --compared` installs it")
+        else:
+            yield column, make(*words)
+
+
+def rows(title, columns, form, least):
+    """Returns a table of the columns that have figures."""
+    columns, items = [column for column in columns if column in least], {}
+    for row, item in dict.fromkeys(place for column in columns for place in least[column]):
+        items.setdefault(row, []).append(item)
+    made = [[title, *columns]]
+    for row, of in items.items():
+        cells = ["; ".join(format(least[column][row, item], form) for item in of if (row, item) in least[column])
+                 for column in columns]
+        made.append([row + (" of " + "; ".join(of)) * bool(of[0]), *cells])
+    return made
+
+
+def calls(given):
+    least = {}
+    with tempfile.TemporaryDirectory() as work:
+        library = build.library_of(given.library, work)
+        print(f"libbyte_unit.a has {os.path.getsize(os.path.join(library, 'libbyte_unit.a')):,} bytes")
+        made = list(programs(given, library, work))
+        with one_processor():
+            for name, run in made * given.rounds:
+                for column, row, item, figure in FIGURE.findall(run()):
+                    of = least.setdefault(column or name, {})
+                    of[row, item] = min(float(figure), of.get((row, item), float("inf")))
+    return {name: rows(*parts, least) for name, parts in TABLES.items()}

@@ -1,0 +1,223 @@
+"""An exact model of the calls, and the rules of docs/DIFFERENCES.md that explain where the original's answers differ.
+
+A call is a generator of the original's answer, ours and the arguments. It yields the exact answer, which ours has to
+be, and then each rule that could explain the original's answer, and whether it does. An answer `-` is none: the size or
+the unit is beyond the limits of the original.
+"""
+
+import math
+import re
+from decimal import Decimal, getcontext
+
+from ..model.exact import FRACTION_PLACES, LETTERS, SIZE_LIMIT, SPELLING, WHITE_SPACE, read
+from .requests import BITS, UNITS
+
+# What is different, and words of the row of docs/DIFFERENCES.md that says so.
+RULES = {
+    "digits": ("a size off by one, from digits beyond 96 bits", "so a size can be off by one byte in either direction"),
+    "whole": ("a number of more than 96 bits, rejected by the crate", "a number of at most 96 bits"),
+    "limit": ("a size of 10^27 or more", "sizes below 10^27"),
+    "letter": ("the letter `R`, and its units", "34 units, up to `YiB`"),
+    "message": ("the number in the message of `ExceededBounds`", "the message of `ExceededBounds` shows the number"),
+    "quoted": ("how a message quotes a character", "a message quotes a character by the tables of Unicode of"),
+    "quotient": ("the unit or its number, from the rounded quotient", "tests on a rounded quotient whether a unit"),
+    "zeros": ("trailing zeros of a decimal alone", "keeps trailing zeros"),
+    "float": ("an adjusted text: the shortest digits of the float", "has the shortest digits of the float"),
+    "rounded": ("an adjusted text: a rounded float", "adjusted texts are rounded as floats"),
+}
+OF_DECIMAL, OF_SIZES = 2**96, 10**27
+SCALE, BASE = {"byte": 8, "bit": 1}, {"byte": "B", "bit": "b"}
+LAST_LETTERS = ("'Z' or 'Y' or no character", "'Z', 'Y' or 'R' or no character")
+ESCAPES = {r"\t": "\t", r"\n": "\n", r"\r": "\r", r"\0": "\0", r"\'": "'", r"\\": "\\"}
+getcontext().prec = 500  # each quotient below is exact
+
+
+def verdict(call, given, theirs, ours):
+    """Returns the rule by which two answers differ, or None if they do not, and what is wrong, or None."""
+    rules = call(theirs, ours, *given)
+    exact = next(rules)
+    if unescaped(ours) != exact:
+        return None, f"the exact answer is {exact}"
+    rule = None if theirs == ours else next((rule for rule, holds in rules if holds), "")
+    return rule, "no rule explains the difference" if rule == "" else None
+
+
+def unescaped(answer):
+    """Returns an answer with the character that a message quotes as it is."""
+
+    def character(found):
+        code = re.fullmatch(r"\\u\{(0|[1-9a-f][0-9a-f]{0,4}|10[0-9a-f]{4})\}", found[1])
+        return f"! the character '{chr(int(code[1], 16)) if code else ESCAPES.get(found[1], found[1])}' is "
+
+    return re.sub(r"\A! the character '(.+?)' is ", character, answer, flags=re.S)
+
+
+def unit_message(text, ignore_case, prefers_bytes):
+    """Returns the message about the first character that cannot continue a unit."""
+    letter, rest = re.match(f"([{LETTERS}{LETTERS.lower()}][Ii]?)?(.*)", text, re.S).groups()
+    expected, or_none = "B" + LETTERS, True
+    if letter:
+        expected = ("B" if prefers_bytes else "b") if ignore_case else "Bb"
+    if rest[0] in "Bb":
+        word = re.match("b(i(ts?)?)?", rest, re.I)[0].lower()
+        # A string that ends after `bi` is rejected at the `i`.
+        expected = {"b": "i", "bi": "t" * (len(rest) > 2), "bit": "s", "bits": ""}[word]
+        or_none, rest = word != "bi" or len(rest) == 2, rest[len(word) :] or "i"
+    *most, last = [f"'{one}'" for one in expected] or ["no character"]
+    words = ", ".join(most) + " or " * bool(most) + last + " or no character" * bool(expected and or_none)
+    return f"! the character '{rest[0]}' is incorrect ({words} is expected)"
+
+
+def message(text, kind, ignore_case, error):
+    if error == "bad unit":
+        unit = re.match(r"[0-9]*(?:\.[0-9]+)? *(.*)", text, re.S)[1]
+        return unit_message(unit, ignore_case, kind == "byte")
+    wrong = re.sub(r"\A[0-9]+\.", "", text)[:1] or "."
+    shown = re.sub(r"\A(?=\.|\Z)", "0", trimmed(re.match(r"0*([0-9]*(?:\.[0-9]+)?)", text)[1]))
+    return {"not a number": f"! the character '{wrong}' is not a number", "no value": "! no value can be found",
+            "number too long": "! value number is too long",
+            "out of range": f"! the value {shown} exceeds the valid range"}[error]
+
+
+def of_messages(theirs, ours, first):
+    """Yields the rules of two messages about a unit, whose first character is given."""
+    of_letter = first and first in "Rr" and theirs.startswith(f"! the character '{first}' is incorrect ('B', 'K', ")
+    yield "letter", of_letter or theirs.replace(*LAST_LETTERS) == ours
+    yield "quoted", unescaped(theirs).replace(*LAST_LETTERS) == unescaped(ours)
+
+
+def parsed(theirs, ours, text, kind, ignore_case):
+    text = text.strip(WHITE_SPACE)
+    found = read(text[:-1] + "B" if ignore_case and text.endswith("b") else text, kind)
+    error, size, bits = (found, 0, 0) if isinstance(found, str) else (None, *found)
+    size = -(-size * bits // (10**FRACTION_PLACES * SCALE[kind]))
+    error = error or ("out of range" if size >= SIZE_LIMIT else None)
+    yield message(text, kind, ignore_case, error) if error else str(size)
+    whole, fraction = re.match(r"([0-9]*)(?:\.([0-9]+))?", text).groups(default="")
+    coefficient = int(whole + fraction or "0")
+    yield "whole", theirs == "! value number is too long" and int(whole or "0") + 1 >= OF_DECIMAL
+    yield from of_messages(theirs, ours, re.match(r"[0-9.]* *(.?)", text, re.S)[1])
+    shown = re.fullmatch(r"! the value ([0-9]+(?:\.([0-9]*))?) exceeds the valid range", theirs)
+    if shown and error == "out of range":
+        off = abs(Decimal(shown[1]) - Decimal(coefficient).scaleb(-len(fraction))) * 10 ** len(shown[2] or "")
+        yield "message", off <= (coefficient >= OF_DECIMAL)
+    elif not error:
+        yield "limit", shown and size >= OF_SIZES
+        off = OF_SIZES - size if shown else abs(int(theirs) - size) if theirs.isdecimal() else 2
+        yield "digits", off == 1 and coefficient * bits >= OF_DECIMAL
+
+
+def parsed_unit(theirs, ours, text, ignore_case, prefers_bytes):
+    text = text.strip(WHITE_SPACE)
+    spelling = SPELLING.fullmatch(text)
+    if spelling:
+        letter, infix, word = spelling.groups(default="")
+        is_byte = word == "B" or (word == "b" and ignore_case) if word else prefers_bytes
+        yield letter.upper() + infix.lower() + ("B" if is_byte else "b")
+    else:
+        yield unit_message(text, ignore_case, prefers_bytes)
+    yield from of_messages(theirs, ours, text[:1])
+
+
+def value_of(size, kind, unit):
+    return Decimal(size * SCALE[kind]) / BITS[unit]
+
+
+def largest(units, size, kind):
+    """Returns the largest of these units that is not above the size, or `B` or `b`."""
+    return max((unit for unit in units if BITS[unit] <= size * SCALE[kind]), key=BITS.get, default=BASE[kind])
+
+
+def best_unit(size, kind, either, precision):
+    """Returns the largest unit, not above the size, that represents it exactly in so many places, and the number."""
+    scaled = size * SCALE[kind] * 10 ** min(precision or 0, FRACTION_PLACES)
+    units = [unit for unit in UNITS[2:] if (either or unit[-1] == BASE[kind]) and scaled % BITS[unit] == 0]
+    unit = largest(units, size, kind)
+    return value_of(size, kind, unit), unit
+
+
+def of_best_unit(size, kind, number, their_unit, value, unit):
+    """Yields the rules of two units that differ, or their numbers."""
+    is_exact = Decimal(number) == value_of(size, kind, their_unit)
+    yield "letter", is_exact and unit[0] == "R"
+    yield "quotient", not is_exact or int(f"{value:f}".replace(".", "")) >= OF_DECIMAL
+
+
+def in_unit(theirs, ours, size, kind, either, precision):
+    value, unit = best_unit(size, kind, either, precision)
+    yield f"{value:f} {unit}"
+    yield "limit", theirs == "-" and size >= OF_SIZES
+    if theirs != "-":
+        number, their_unit = theirs.split()
+        yield "zeros", (Decimal(number), their_unit) == (value, unit)
+        yield from of_best_unit(size, kind, number, their_unit, value, unit)
+
+
+def trimmed(text):
+    return text.rstrip("0").rstrip(".") if "." in text else text
+
+
+class Spec:
+    """A format: flags as Rust writes them, after a colon, then a width and a precision."""
+
+    def __init__(self, words):
+        self.words, (flags, width, precision) = words, words
+        self.alternate, self.sign = "#" in flags, ("+" in flags) + 2 * ("-" in flags)
+        self.align, self.width = max(":<^>".find(flags[1:2] or ":"), 0), int(width)
+        self.precision = None if precision == "-" else int(precision)
+
+    def __str__(self):
+        return "in the format " + " ".join(self.words)
+
+    def digits(self, number):
+        """Returns a number without a unit, with the sign and the spaces of the format."""
+        return f"{'+' * (self.sign == 1) + number:{'><^>'[self.align]}{max(self.width, 1)}}"
+
+    def layout(self, number, unit):
+        """Returns a number and its unit, with the spaces of the format."""
+        gap = (1, 4 - len(unit), 0)[self.sign]
+        return f"{number:{'<<<>'[self.align]}{max(self.width - len(unit) - gap, 1)}}" + " " * gap + unit
+
+    def number_in(self, unit, value):
+        """Returns the number of an adjusted text, from the exact value or the float that the original has."""
+        if self.precision is not None and (self.alternate or unit not in BASE.values()):
+            if not self.alternate:
+                return f"{value:.{self.precision}f}"
+            scale = type(value)(10) ** min(self.precision, 16)
+            whole = math.floor(value * scale)
+            value = type(value)(whole + (value * scale - whole >= 0.5)) / scale
+        return trimmed(f"{Decimal(str(value)):f}")
+
+
+def formatted(theirs, ours, size, kind, spec):
+    value, unit = best_unit(size, kind, False, 3 if spec.precision is None else spec.precision)
+    yield spec.layout(f"{value:f}", unit) if spec.alternate else spec.digits(str(size))
+    yield "limit", theirs == "-" and size >= OF_SIZES
+    shown = re.fullmatch(r" *([0-9.]+) *(\S+)", theirs)
+    if spec.alternate and shown and theirs == spec.layout(*shown.groups()):
+        yield from of_best_unit(size, kind, *shown.groups(), value, unit)
+
+
+def adjusted(theirs, ours, size, kind, unit, spec):
+    yield spec.layout(spec.number_in(unit, value_of(size, kind, unit)), unit)
+    yield "letter", theirs == "-" and unit[0] == "R"
+    yield "limit", theirs == "-" and size >= OF_SIZES
+    if theirs != "-" and unit[0] != "R":
+        scaled, divisor = (size * 8, 1) if (kind, unit) == ("byte", "b") else (size, BITS[unit] // SCALE[kind])
+        number, shown = spec.number_in(unit, float(scaled) / float(divisor)), re.match(r" *([0-9.]+)", theirs)[1]
+        # Of two numbers of as many digits, both read as the float and as near, Python and Rust may take another.
+        is_same = shown == number or (len(shown) == len(number) and float(shown) == float(number))
+        yield "float" if spec.precision is None else "rounded", is_same and theirs == spec.layout(shown, unit)
+
+
+def appropriate(theirs, ours, size, kind, unit_type):
+    is_binary = [(True,), (False,), (True, False)][unit_type]
+    yield largest([unit for unit in UNITS[2:] if unit[-1] == BASE[kind] and ("i" in unit) in is_binary], size, kind)
+    yield "limit", size >= OF_SIZES
+
+
+def of_unit(theirs, ours, count, unit, kind):
+    size = -(-count * BITS[unit] // SCALE[kind])
+    yield str(size) if size < SIZE_LIMIT else "-"
+    yield "letter", theirs == "-" and unit[0] == "R"
+    yield "limit", theirs == "-" and size >= OF_SIZES
