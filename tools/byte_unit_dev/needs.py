@@ -24,7 +24,7 @@ PACKAGES = {
     "import ensurepip": "python3-venv", "import pip": "python3-pip", "import pytest": "python3-pytest",
     "import hypothesis": "python3-hypothesis", "import numpy": "python3-numpy", "import pandas": "python3-pandas",
     "import dask.dataframe": "python3-dask", "cargo": "cargo", "rustc": "rustc", "/usr/bin/cargo": "cargo",
-    "/usr/bin/rustc": "rustc", "cargo-clippy": "rust-clippy", "cargo-fmt": "rustfmt",
+    "/usr/bin/rustc": "rustc", "/usr/bin/time": "time", "cargo-clippy": "rust-clippy", "cargo-fmt": "rustfmt",
     f"{DEBIAN_RUST}/serde_json-*": "librust-serde-json-dev", f"{DEBIAN_RUST}/serde-*": "librust-serde-dev",
     f"{DEBIAN_RUST}/toml-*": "librust-toml-dev", "git": "git",
 }
