@@ -8,7 +8,6 @@ pub mod Output
 pub mod Progress
 pub mod Records
 pub mod Shown
-pub mod Streams
 pub mod Sums
 pub mod Positive
 pub mod FieldList

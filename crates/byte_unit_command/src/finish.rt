@@ -6,7 +6,7 @@ ghost use Rattle.byte_unit_command.specs.Messages.{next_place};
 ghost use Rattle.byte_unit_command.specs.Outcome.{IsPrefix};
 ghost use Rattle.byte_unit_command.specs.Progress.{IsFinished, IsTotalWritten, AddsRecords, Aborts};
 ghost use Rattle.byte_unit_command.specs.Progress.{messages_of, nonempty_record, state_of, Tells};
-ghost use Rattle.byte_unit_command.specs.Streams.{HasWritten, writing_failed};
+ghost use Rattle.byte_unit_stream.specs.Streams.{HasWritten, writing_failed};
 
 use crate::notice::Notices;
 use crate::options::Options;
@@ -14,7 +14,7 @@ use crate::records::{Progress, add_record};
 use crate::stop::Stop;
 use crate::tally::{TOTAL_LIMIT, Tally};
 use crate::text::add_size;
-use crate::writing::Writing;
+use byte_unit_stream::Writing;
 use std::alloc::Allocator;
 use std::io::Write;
 

@@ -10,7 +10,7 @@ ghost use Rattle.byte_unit_command.specs.Messages.{IsMessage, IsMessageIf, IsRea
 ghost use Rattle.byte_unit_command.specs.Messages.{place_text, tells_rejected as has_rejected_told};
 ghost use Rattle.byte_unit_command.specs.Outcome.{IsPrefix};
 ghost use Rattle.byte_unit_command.specs.Progress.{messages_of, Tells};
-ghost use Rattle.byte_unit_command.specs.Streams.{HasWritten, writing_failed};
+ghost use Rattle.byte_unit_stream.specs.Streams.{HasWritten, writing_failed};
 
 use crate::finish::write_whole;
 use crate::options::{Invalid, Options};
@@ -19,9 +19,9 @@ use crate::quote::add_quoted;
 use crate::size::parse;
 use crate::stop::Stop;
 use crate::tally::{is_above, is_below};
-use crate::writing::Writing;
 use byte_unit::ParseError;
 use byte_unit::laws::texts_are_accepted_or_refused;
+use byte_unit_stream::Writing;
 use std::alloc::{AllocError, Allocator};
 use std::fmt::Write as WriteText;
 use std::io::Write;

@@ -10,19 +10,18 @@ ghost use Rattle.byte_unit_command.specs.Outcome.{IsPrefix, IsWritten};
 ghost use Rattle.byte_unit_command.specs.Progress.{AddsRecords, IsAnswered, Stops, Tells, messages_of, state_of};
 ghost use Rattle.byte_unit_command.specs.Progress.{ended_records, begun_record};
 ghost use Rattle.byte_unit_command.specs.Records.{finished_records, records_of};
-ghost use Rattle.byte_unit_command.specs.Streams.{HasRead, HasReadAll, reading_failed};
-ghost use Rattle.byte_unit_command.specs.Streams.{HasWritten, writing_failed};
 ghost use Rattle.byte_unit_command.specs.Told.{AreRunMessages, IsTold};
+ghost use Rattle.byte_unit_stream.specs.Streams.{HasRead, HasReadAll, reading_failed};
+ghost use Rattle.byte_unit_stream.specs.Streams.{HasWritten, writing_failed};
 
 use crate::finish::{finish, write_whole};
 use crate::notice::Notices;
 use crate::options::Options;
-use crate::reading::Reading;
 use crate::records::{Progress, add_record};
 use crate::search::end_of;
 use crate::stop::Stop;
 use crate::tally::Tally;
-use crate::writing::Writing;
+use byte_unit_stream::{Reading, Writing};
 use std::alloc::{Allocator, Global};
 use std::io::{Read, Write};
 

@@ -11,14 +11,13 @@ ghost use Rattle.byte_unit_lines.specs.Lines.{line_end, longest_line};
 ghost use Rattle.byte_unit_lines.specs.Outcome.{IsPrefix, IsWritten};
 ghost use Rattle.byte_unit_lines.specs.Progress.{ended_lines, begun_line, IsUnbroken};
 ghost use Rattle.byte_unit_lines.specs.Progress.{AddsAnswers, AddsFirst, IsAnswered};
-ghost use Rattle.byte_unit_lines.specs.Streams.{HasRead, HasReadAll, reading_failed};
-ghost use Rattle.byte_unit_lines.specs.Streams.{HasWritten, writing_failed};
+ghost use Rattle.byte_unit_stream.specs.Streams.{HasRead, HasReadAll, reading_failed};
+ghost use Rattle.byte_unit_stream.specs.Streams.{HasWritten, writing_failed};
 
 use crate::arguments::Kind;
 use crate::laws::each_line_has_an_answer;
 use crate::line::{ANSWER_MAX, add_answer};
-use crate::reading::Reading;
-use crate::writing::Writing;
+use byte_unit_stream::{Reading, Writing};
 use std::alloc::{AllocError, Allocator, Global};
 use std::io::{Read, Write};
 use std::simd::prelude::*;

@@ -4,9 +4,8 @@ ghost use Rattle.std.specs.Prelude.{IfOk};
 ghost use Rattle.byte_unit_lines.specs.Report.{IsReport};
 
 use crate::arguments::{Kind, kind_of};
-use crate::reading::Reading;
 use crate::run::{RunError, run};
-use crate::writing::Writing;
+use byte_unit_stream::{Reading, Writing};
 use std::alloc::Global;
 use std::fmt::Debug;
 use std::process::Abort;

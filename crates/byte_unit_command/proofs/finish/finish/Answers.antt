@@ -5,7 +5,7 @@ use Rattle.byte_unit_command.specs.Messages.{next_place}
 use Rattle.byte_unit_command.proofs.Finishing.{IsFinished-total_ok, IsFinished-total_error, IsFinished-plain_ok}
 use Rattle.byte_unit_command.proofs.Finishing.{IsFinished-plain_error, IsFinished-stopped, IsFinished-error}
 use Rattle.byte_unit_command.specs.Outcome.{IsPrefix}
-use Rattle.byte_unit_command.specs.Streams.{writer_of}
+use Rattle.byte_unit_stream.specs.Streams.{writer_of}
 use Rattle.std.specs.Io.KnownBytes.{Appends}
 use Rattle.std.proofs.KnownBytes.{Appends-nil}
 use Rattle.byte_unit_command.proofs.finish.finish.Goals as goal

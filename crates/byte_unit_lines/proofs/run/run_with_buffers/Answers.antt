@@ -5,7 +5,7 @@ use Rattle.std.proofs.lemmas.List.{length-take, take_all}
 use Rattle.std.proofs.lemmas.Result.{on_ok_weaker}
 use Rattle.std.proofs.KnownBytes.{Consumes-kept}
 use Rattle.byte_unit_lines.specs.Answer.{IsAnswer}
-use Rattle.byte_unit_lines.specs.Streams.{reader_of, writer_of}
+use Rattle.byte_unit_stream.specs.Streams.{reader_of, writer_of}
 use Rattle.byte_unit_lines.specs.declared.run.RunError.TheVariants.{Memory}
 use Rattle.byte_unit_lines.specs.Progress.{begun_line}
 use Rattle.byte_unit_lines.proofs.Lines.{begun_line-append}

@@ -1,5 +1,5 @@
 -- Each write takes a prefix of what is left.
-use Rattle.byte_unit_lines.specs.Streams.{writer_of}
+use Rattle.byte_unit_stream.specs.Streams.{writer_of}
 use Rattle.byte_unit_lines.proofs.Bytes.{IsWrittenTo-step}
 use Rattle.byte_unit_lines.proofs.run.write_whole.Goals as goal
 

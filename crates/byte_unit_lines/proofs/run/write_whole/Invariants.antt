@@ -1,6 +1,6 @@
 -- What was written so far and the rest are the bytes.
 use Rattle.std.proofs.Common.{length}
-use Rattle.byte_unit_lines.specs.Streams.{writer_of}
+use Rattle.byte_unit_stream.specs.Streams.{writer_of}
 use Rattle.byte_unit_lines.proofs.Bytes.{IsWrittenTo}
 use Rattle.byte_unit_lines.proofs.run.write_whole.Given as goal
 

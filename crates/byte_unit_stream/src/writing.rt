@@ -1,8 +1,8 @@
 //! A writer that records a failure.
 
 ghost use Rattle.std.specs.Prelude.{false, ◌≡◌, ◌≤◌, ◌<◌, ◌↔◌, take, length, IsTrue, IsNone, IsSome, IfNone, IfSome};
-ghost use Rattle.byte_unit_command.specs.Streams.{HasWritten, HasWrittenNothing, writer_of, writing_failed};
-ghost use Rattle.byte_unit_command.specs.Streams.{output_closed};
+ghost use Rattle.byte_unit_stream.specs.Streams.{HasWritten, HasWrittenNothing, writer_of, writing_failed};
+ghost use Rattle.byte_unit_stream.specs.Streams.{output_closed};
 
 use std::io::{ErrorKind, Write};
 
