@@ -6,7 +6,6 @@ pub mod Messages
 pub mod Outcome
 pub mod Output
 pub mod Progress
-pub mod Records
 pub mod Shown
 pub mod Sums
 pub mod Positive

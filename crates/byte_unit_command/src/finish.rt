@@ -3,9 +3,10 @@
 ghost use Rattle.std.specs.Prelude.{◌≡◌, ◌≤◌, ◌⊎◌, ◌∷◌, ℕ, List, [], length, true, OnOk, OnErr, IfErr, IsErrOf, IsTrue};
 ghost use Rattle.byte_unit.specs.Forms.{text_limit};
 ghost use Rattle.byte_unit_command.specs.Messages.{next_place};
-ghost use Rattle.byte_unit_command.specs.Outcome.{IsPrefix};
 ghost use Rattle.byte_unit_command.specs.Progress.{IsFinished, IsTotalWritten, AddsRecords, Aborts};
-ghost use Rattle.byte_unit_command.specs.Progress.{messages_of, nonempty_record, state_of, Tells};
+ghost use Rattle.byte_unit_command.specs.Progress.{messages_of, state_of, Tells};
+ghost use Rattle.byte_unit_stream.specs.Chunks.{nonempty_record};
+ghost use Rattle.byte_unit_stream.specs.Prefix.{IsPrefix};
 ghost use Rattle.byte_unit_stream.specs.Streams.{HasWritten, writing_failed};
 
 use crate::notice::Notices;

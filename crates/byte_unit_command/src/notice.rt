@@ -8,8 +8,8 @@ ghost use Rattle.byte_unit_command.specs.Fields.{IsChosen};
 ghost use Rattle.byte_unit_command.specs.Messages.{AreFieldMessages, AreLimitMessages, AreWords};
 ghost use Rattle.byte_unit_command.specs.Messages.{IsMessage, IsMessageIf, IsReason};
 ghost use Rattle.byte_unit_command.specs.Messages.{place_text, tells_rejected as has_rejected_told};
-ghost use Rattle.byte_unit_command.specs.Outcome.{IsPrefix};
 ghost use Rattle.byte_unit_command.specs.Progress.{messages_of, Tells};
+ghost use Rattle.byte_unit_stream.specs.Prefix.{IsPrefix};
 ghost use Rattle.byte_unit_stream.specs.Streams.{HasWritten, writing_failed};
 
 use crate::finish::write_whole;

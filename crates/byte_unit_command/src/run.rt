@@ -6,11 +6,12 @@
 ghost use Rattle.std.specs.Prelude.{◌≡◌, ◌+◌, ◌^◌, ◌<◌, ◌≤◌, ℕ, List, [], length};
 ghost use Rattle.std.specs.Prelude.{IsTrue, IsErrOf, IfErr, OnOk, OnErr, IfOk, Err};
 ghost use Rattle.byte_unit.specs.Forms.{text_limit};
-ghost use Rattle.byte_unit_command.specs.Outcome.{IsPrefix, IsWritten};
+ghost use Rattle.byte_unit_command.specs.Outcome.{IsWritten};
 ghost use Rattle.byte_unit_command.specs.Progress.{AddsRecords, IsAnswered, Stops, Tells, messages_of, state_of};
-ghost use Rattle.byte_unit_command.specs.Progress.{ended_records, begun_record};
-ghost use Rattle.byte_unit_command.specs.Records.{finished_records, records_of};
 ghost use Rattle.byte_unit_command.specs.Told.{AreRunMessages, IsTold};
+ghost use Rattle.byte_unit_stream.specs.Chunks.{ended_records, begun_record};
+ghost use Rattle.byte_unit_stream.specs.Prefix.{IsPrefix};
+ghost use Rattle.byte_unit_stream.specs.Records.{finished_records, records_of};
 ghost use Rattle.byte_unit_stream.specs.Streams.{HasRead, HasReadAll, reading_failed};
 ghost use Rattle.byte_unit_stream.specs.Streams.{HasWritten, writing_failed};
 

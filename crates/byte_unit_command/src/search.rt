@@ -1,7 +1,7 @@
 //! Finds where a record or a field ends.
 
 ghost use Rattle.std.specs.Prelude.{◌≡◌, ◌+◌, ◌^◌, ◌<◌, slice_index, take, length, IfSome, IfNone};
-ghost use Rattle.byte_unit_command.specs.Progress.{IsUnbroken};
+ghost use Rattle.byte_unit_stream.specs.Chunks.{IsUnbroken};
 
 use std::simd::prelude::*;
 

@@ -8,9 +8,10 @@ ghost use Rattle.std.specs.Prelude.{IsTrue, IsOk, IsErrOf, IfOk, IfErr, OnOk, On
 ghost use Rattle.std.specs.Prelude.{vec_len, vec_capacity};
 ghost use Rattle.byte_unit_lines.specs.Capacity.{HaveCapacity};
 ghost use Rattle.byte_unit_lines.specs.Lines.{line_end, longest_line};
-ghost use Rattle.byte_unit_lines.specs.Outcome.{IsPrefix, IsWritten};
-ghost use Rattle.byte_unit_lines.specs.Progress.{ended_lines, begun_line, IsUnbroken};
+ghost use Rattle.byte_unit_lines.specs.Outcome.{IsWritten};
 ghost use Rattle.byte_unit_lines.specs.Progress.{AddsAnswers, AddsFirst, IsAnswered};
+ghost use Rattle.byte_unit_stream.specs.Chunks.{ended_records, begun_record, IsUnbroken};
+ghost use Rattle.byte_unit_stream.specs.Prefix.{IsPrefix};
 ghost use Rattle.byte_unit_stream.specs.Streams.{HasRead, HasReadAll, reading_failed};
 ghost use Rattle.byte_unit_stream.specs.Streams.{HasWritten, writing_failed};
 
@@ -247,8 +248,8 @@ fn answer_piece<A: Allocator, W: Write>(
     requires { waiting.old.items ≡ [] }
     ensures written { (written : List ℕ)
         × HasWritten W.contents writer.old writer.new written
-        × IsAnswered kind (ended_lines line.old.items bytes.now) result written }
-    ensures line { OnOk result (line.new.items ≡ begun_line line.old.items bytes.now) }
+        × IsAnswered kind (ended_records line_end line.old.items bytes.now) result written }
+    ensures line { OnOk result (line.new.items ≡ begun_record line_end line.old.items bytes.now) }
     ensures waiting { OnOk result (waiting.new.items ≡ []) }
     ensures failed { IsErrOf result RunError.Write → IsTrue (writing_failed writer.new) }
     ensures memory { HaveCapacity (vec_len line.old) (length bytes.now) line.old waiting.old
@@ -275,11 +276,11 @@ fn feed<A: Allocator>(
     kind: Kind,
     waiting: &mut Vec<u8, A>,
 ) -> Result<(), AllocError>
-    ensures added { AddsFirst kind (ended_lines line.old.items bytes.now)
+    ensures added { AddsFirst kind (ended_records line_end line.old.items bytes.now)
         waiting.old.items waiting.new.items }
-    ensures ok { OnOk result (AddsAnswers kind (ended_lines line.old.items bytes.now)
+    ensures ok { OnOk result (AddsAnswers kind (ended_records line_end line.old.items bytes.now)
         waiting.old.items waiting.new.items) }
-    ensures line { OnOk result (line.new.items ≡ begun_line line.old.items bytes.now) }
+    ensures line { OnOk result (line.new.items ≡ begun_record line_end line.old.items bytes.now) }
     ensures succeeds { HaveCapacity (vec_len line.old) (length bytes.now) line.old waiting.old → IsOk result }
     ensures line_capacity { vec_capacity line.old ≤ vec_capacity line.new }
     ensures waiting_capacity { vec_capacity waiting.old ≤ vec_capacity waiting.new }
@@ -301,8 +302,8 @@ fn feed<A: Allocator>(
 /// Returns the index of the first line end, or `None` if there is none.
 fn end_of(bytes: &[u8]) -> Option<usize>
     ensures some { IfSome result (λ n. (n < length bytes.now)
-        × (slice_index bytes.now n ≡ line_end) × IsUnbroken (take n bytes.now)) }
-    ensures none { IfNone result (IsUnbroken bytes.now) }
+        × (slice_index bytes.now n ≡ line_end) × IsUnbroken line_end (take n bytes.now)) }
+    ensures none { IfNone result (IsUnbroken line_end bytes.now) }
     ensures small { IfSome result (λ n. n + 1 < 2 ^ 64) }
 {
     let mut i = 0;

@@ -9,7 +9,8 @@ use Rattle.std.proofs.lemmas.Simd.{run_in_chunk_fails, run_in_chunk_stops}
 use Rattle.std.specs.List.{prefix_len}
 use lib.Count.{count_trailing_zeros}
 use lib.Lanes.{chunk, mask_l}
-use Rattle.byte_unit_lines.proofs.Feeding.{IsUnbroken-other_byte, IsUnbroken-other_bytes, EndsAt}
+use Rattle.byte_unit_lines.specs.Lines.{line_end}
+use Rattle.byte_unit_stream.proofs.Ends.{EndsAt, IsUnbroken-other_byte, IsUnbroken-other_bytes}
 use Rattle.byte_unit_lines.proofs.run.end_of.Goals as goal
 
 abbrev is_end : ℕ → Bool
@@ -22,7 +23,7 @@ loop-i-preserved c =
     let vector = chunk start 16 bytes in
     let mask = bitmask_splat w8 eqb vector 16 10 (length-chunk start 16 bytes (omega arith)) (omega arith) in
     let none = none_from_empty_mask is_end bytes start 16 0 (omega arith) (sym mask ∙ c.if-ends-ne0.false) in
-    (IsUnbroken-other_bytes bytes start 16 (omega arith) c.loop-i.invariant.0 none, omega arith)
+    (IsUnbroken-other_bytes line_end bytes start 16 (omega arith) c.loop-i.invariant.0 none, omega arith)
 
 pub returns-then-ends-ne0-clause-some : goal.returns-then-ends-ne0-clause-some
 returns-then-ends-ne0-clause-some c =
@@ -40,10 +41,10 @@ returns-then-ends-ne0-clause-some c =
     let within : count < 16 = omega (arith, lowest, trailing_mask_l is_end 16 vector (omega (arith, long)) some) in
     let hit = run_in_chunk_stops is_end bytes start 16 count 0 room refl within in
     let none = run_in_chunk_fails is_end bytes start 16 count 0 room refl in
-    subst (EndsAt bytes) (ap (λ n. start + n) (sym counted)) (
+    subst (EndsAt line_end bytes) (ap (λ n. start + n) (sym counted)) (
       omega (arith, within, room),
       eqb-true (get_or bytes (start + count) 0) 10 hit,
-      IsUnbroken-other_bytes bytes start count (omega (arith, within, room)) c.loop-i.invariant.0 none,
+      IsUnbroken-other_bytes line_end bytes start count (omega (arith, within, room)) c.loop-i.invariant.0 none,
     )
 
 pub loop-i-2-preserved : goal.loop-i-2-preserved
@@ -51,4 +52,4 @@ loop-i-2-preserved c =
     let so_far = c.loop-i-2.invariant in
     let place = c.loop-i-2.i in
     let fits : place < length c.args.bytes.now = omega arith in
-    (IsUnbroken-other_byte c.args.bytes.now place fits so_far.0 c.if-bytes-i-eq-LINE_END.false, omega (arith, fits))
+    (IsUnbroken-other_byte line_end c.args.bytes.now place fits so_far.0 c.if-bytes-i-eq-LINE_END.false, omega (arith, fits))

@@ -1,17 +1,18 @@
 -- No line ends before the index, in the steps of 16 bytes and then of one.
 use Rattle.std.proofs.Common.{length, take, ◌-◌, ◌≤◌}
-use Rattle.byte_unit_lines.specs.Progress.{IsUnbroken}
+use Rattle.byte_unit_lines.specs.Lines.{line_end}
+use Rattle.byte_unit_stream.specs.Chunks.{IsUnbroken}
 use Rattle.byte_unit_lines.proofs.run.end_of.Given as goal
 
 -- no line ends before the index
 abbrev pub invariant-loop-i : goal.invariant-loop-i
-invariant-loop-i l = IsUnbroken (take l.i l.bytes) × (l.i ≤ length l.bytes)
+invariant-loop-i l = IsUnbroken line_end (take l.i l.bytes) × (l.i ≤ length l.bytes)
 
 abbrev pub decreases-loop-i : goal.decreases-loop-i
 decreases-loop-i l = length l.bytes - l.i
 
 abbrev pub invariant-loop-i-2 : goal.invariant-loop-i-2
-invariant-loop-i-2 l = IsUnbroken (take l.i l.bytes) × (l.i ≤ length l.bytes)
+invariant-loop-i-2 l = IsUnbroken line_end (take l.i l.bytes) × (l.i ≤ length l.bytes)
 
 abbrev pub decreases-loop-i-2 : goal.decreases-loop-i-2
 decreases-loop-i-2 l = length l.bytes - l.i
