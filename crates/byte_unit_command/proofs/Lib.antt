@@ -1,6 +1,5 @@
 pub mod Answering
 pub mod Again
-pub mod Bytes
 pub mod Converting
 pub mod Feeding
 pub mod Finishing

@@ -16,7 +16,6 @@ mod positive;
 mod quote;
 mod records;
 pub mod run;
-mod search;
 mod size;
 pub mod stop;
 pub mod tally;

@@ -10,9 +10,9 @@ use crate::field::{add_field, is_past};
 use crate::notice::Notices;
 use crate::options::Options;
 use crate::place::Place;
-use crate::search::end_of;
 use crate::stop::Stop;
 use crate::tally::Tally;
+use byte_unit_stream::end_of;
 use std::alloc::Allocator;
 
 /// What a run keeps from one record to the next.

@@ -1,5 +1,4 @@
 pub mod Answering
-pub mod Bytes
 pub mod Feeding
 pub mod Longest
 pub mod OneAnswer

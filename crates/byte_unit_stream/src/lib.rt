@@ -1,8 +1,10 @@
-//! A reader and a writer that record a failure.
+//! A reader and a writer that record a failure, the search for the end of a record, and writing all of a buffer.
 #![tactic(auto)]
 
 mod reading;
+mod search;
 mod writing;
 
 pub use reading::Reading;
-pub use writing::Writing;
+pub use search::end_of;
+pub use writing::{Writing, write_whole};
