@@ -22,7 +22,6 @@ mod order;
 mod refusals;
 mod refusing;
 mod rows;
-mod streams;
 
 /// Asserts that what was found is what is wanted. A name tells which of a test's rows it was.
 fn assert_is<S: PartialEq + Debug + Drop>(rt: &impl Abort, found: S, wanted: S, name: &str) {

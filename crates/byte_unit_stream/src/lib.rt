@@ -1,8 +1,11 @@
 //! A reader and a writer that record a failure, the search for the end of a record, and writing all of a buffer.
 #![tactic(auto)]
 
+pub mod paced;
 mod reading;
 mod search;
+#[cfg(test)]
+mod tests;
 mod writing;
 
 pub use reading::Reading;
