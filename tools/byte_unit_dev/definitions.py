@@ -139,10 +139,11 @@ def public_of(crate):
 def others():
     _, reached, added = groups()
     parts = []
-    for crate in other_crates():
-        public = public_of(crate)
+    by_crate = {crate: public_of(crate) for crate in other_crates()}
+    public = set().union(*by_crate.values())
+    for crate, own in by_crate.items():
         shown = [spec for spec in specs(crate).values() if has(spec, public) and not spec.head.startswith("Private:")]
-        below = files_of(library(), public - reached - added)
+        below = files_of(library(), own - reached - added)
         hidden = []
         for spec in specs(crate).values():
             if spec not in shown:

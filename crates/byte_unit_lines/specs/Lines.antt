@@ -1,4 +1,4 @@
--- The lines of an input, which is a list of bytes: the records that end at the byte 0A.
+-- The lines of an input, which is a list of bytes. They are the records that end at the byte 0A.
 use Rattle.std.specs.Prelude.{ℕ, List, [], ◌∷◌, length, max}
 use Rattle.byte_unit_stream.specs.Records.{records_of, finished_records}
 

@@ -1,4 +1,4 @@
--- The records of bytes that come in chunks: those that end in a chunk, and the part of the next one.
+-- Records that come in chunks. A chunk has the ends of some, and the beginning of the next one.
 use Rattle.std.specs.Prelude.{◌≡◌, ℕ, List, [], ◌∷◌, ◌++◌, ◌==◌, if◌then◌else◌}
 
 -- the records that end in these bytes, if `part` is the part of the first one that came before them
