@@ -1,7 +1,7 @@
 -- Lemmas: a call that converts records, and then writes them.
 use Rattle.std.proofs.Common.{◌≡◌, ◌≢◌, ℕ, List, [], ◌∷◌, Result, Ok, Err, OnOk, IfErr, refl, sym, subst, append-nil}
 use Rattle.std.specs.Prelude.{⊤, IsErrAnd}
-use Rattle.byte_unit_command.specs.Outcome.{IsPrefix}
+use Rattle.byte_unit_stream.specs.Prefix.{IsPrefix}
 use Rattle.byte_unit_command.specs.Progress.{AddsRecords, State, Stops, IsAnswered, state_of}
 use Rattle.byte_unit_command.specs.declared.options.Options.{Options}
 use Rattle.byte_unit_command.specs.declared.records.Progress.{Progress}

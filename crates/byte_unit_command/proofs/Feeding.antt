@@ -1,7 +1,8 @@
 -- Lemmas: the loop over the records that end in a chunk.
 use Rattle.std.proofs.Common.{◌≡◌, ℕ, ◌+◌, List, [], ◌∷◌, ◌++◌, take, drop, refl, sym, ap, subst, ◌∙◌, append_assoc, append-nil, ◌⊎◌, inl, inr, ◌==◌, true, length}
 use Rattle.byte_unit_command.specs.Messages.{next_place}
-use Rattle.byte_unit_command.specs.Progress.{ended_records, begun_record, IsUnbroken, AddsRecords, Aborts, State, Stops}
+use Rattle.byte_unit_command.specs.Progress.{AddsRecords, Aborts, State, Stops}
+use Rattle.byte_unit_stream.specs.Chunks.{ended_records, begun_record, IsUnbroken}
 use Rattle.byte_unit_command.specs.declared.options.Options.{Options}
 use Rattle.std.proofs.lemmas.Bool.{eqb-true}
 use Rattle.std.proofs.lemmas.List.{nil_from_length}
@@ -9,7 +10,7 @@ use Rattle.byte_unit_command.specs.Progress.{state_of}
 use Rattle.byte_unit_command.specs.declared.stop.Stop.{Stop}
 use Rattle.byte_unit_command.specs.declared.records.Progress.{Progress}
 use Rattle.byte_unit_command.specs.declared.stop.Stop.TheVariants.{Memory, Rejected}
-use Rattle.byte_unit_command.proofs.Ends.{EndsAt, ended_records-EndsAt, begun_record-EndsAt}
+use Rattle.byte_unit_stream.proofs.Ends.{EndsAt, ended_records-EndsAt, begun_record-EndsAt}
 use Rattle.byte_unit_command.proofs.Converting.{AddsRecords-append, AddsRecords-none}
 
 -- the state between two records of a chunk: the part of a record so far, the bytes that are left, and what was appended

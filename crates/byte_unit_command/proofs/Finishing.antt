@@ -3,9 +3,10 @@ use Rattle.std.proofs.Common.{◌≡◌, ◌≢◌, ℕ, List, [], ◌∷◌, �
 use Rattle.std.proofs.Common.{refl, sym, subst, append-nil, inl, inr, MatchBool, ◌⊎◌}
 use Rattle.std.specs.Prelude.{⊤, IsErrAnd}
 use Rattle.std.specs.Io.KnownBytes.{Appends}
-use Rattle.byte_unit_command.specs.Outcome.{IsPrefix}
+use Rattle.byte_unit_stream.specs.Prefix.{IsPrefix}
 use Rattle.byte_unit_command.specs.Messages.{next_place}
-use Rattle.byte_unit_command.specs.Progress.{Aborts, AddsRecords, State, IsTotalFor, IsTotalWritten, IsFinished, nonempty_record}
+use Rattle.byte_unit_command.specs.Progress.{Aborts, AddsRecords, State, IsTotalFor, IsTotalWritten, IsFinished}
+use Rattle.byte_unit_stream.specs.Chunks.{nonempty_record}
 use Rattle.byte_unit_command.specs.declared.options.Options.{Options}
 use Rattle.byte_unit_command.specs.declared.stop.Stop.{Stop}
 use Rattle.byte_unit_command.specs.declared.stop.Stop.TheVariants.{Memory, Read, Write, Rejected, Total}

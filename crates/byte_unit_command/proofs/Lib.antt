@@ -1,12 +1,8 @@
 pub mod Answering
 pub mod Again
-pub mod Bytes
 pub mod Converting
-pub mod Ends
 pub mod Feeding
 pub mod Finishing
-pub mod Parts
-pub mod Prefixes
 pub mod Results
 pub mod Runs
 pub mod Served

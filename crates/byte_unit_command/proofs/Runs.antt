@@ -4,11 +4,13 @@ use Rattle.std.proofs.Common.{refl, sym, ap, subst, ◌∙◌, append_assoc, app
 use Rattle.std.specs.Prelude.{IsErrAnd}
 use Rattle.byte_unit_command.specs.Fields.{fields_of}
 use Rattle.byte_unit_command.specs.Messages.{AreMessages, AreMessagesToRejected, next_place}
-use Rattle.byte_unit_command.specs.Outcome.{IsPrefix, AreConverted, IsOutput, IsBegun, IsBegunOutput}
+use Rattle.byte_unit_command.specs.Outcome.{AreConverted, IsOutput, IsBegun, IsBegunOutput}
+use Rattle.byte_unit_stream.specs.Prefix.{IsPrefix}
 use Rattle.byte_unit_command.specs.Outcome.{IsTooLarge, IsWritten}
-use Rattle.byte_unit_command.specs.Progress.{ended_records, begun_record, nonempty_record, AddsRecords, State, IsAnswered}
+use Rattle.byte_unit_command.specs.Progress.{AddsRecords, State, IsAnswered}
+use Rattle.byte_unit_stream.specs.Chunks.{ended_records, begun_record, nonempty_record}
 use Rattle.byte_unit_command.specs.Progress.{IsFinished, start_of, state_of, no_tally}
-use Rattle.byte_unit_command.specs.Records.{finished_records, records_of}
+use Rattle.byte_unit_stream.specs.Records.{finished_records, records_of}
 use Rattle.byte_unit_command.specs.Told.{AreFirstMessages, AreRunMessages}
 use Rattle.byte_unit_command.specs.declared.options.Options.{Options}
 use Rattle.byte_unit_command.specs.declared.records.Progress.{Progress}
@@ -16,8 +18,8 @@ use Rattle.byte_unit_command.specs.declared.stop.Stop.{Stop}
 use Rattle.byte_unit_command.specs.declared.stop.Stop.TheVariants.{Memory, Read, Write, Rejected, Total}
 use Rattle.byte_unit_command.specs.declared.tally.Tally.{Tally}
 use Rattle.byte_unit_command.proofs.Converting.{AddsRecords-append, AddsRecords-after, AddsRecords-none}
-use Rattle.byte_unit_command.proofs.Parts.{ended_records-append, begun_record-append, finished_records-ended_records, records_of-ended_records}
-use Rattle.byte_unit_command.proofs.Prefixes.{IsPrefix-after, IsPrefix-self}
+use Rattle.byte_unit_stream.proofs.Parts.{ended_records-append, begun_record-append, finished_records-ended_records, records_of-ended_records}
+use Rattle.byte_unit_stream.proofs.Prefixes.{IsPrefix-after, IsPrefix-self}
 use Rattle.byte_unit_command.proofs.Starts.{converted-from_start, messages-from_start, tally-from_start, large-from_start}
 use Rattle.byte_unit_command.proofs.Starts.{total_line-from_start}
 

@@ -9,14 +9,15 @@ use Rattle.byte_unit_command.specs.Fields.{IsChosen, fields_of, delimiter_bytes}
 use Rattle.byte_unit_command.specs.Messages.{AreFieldMessages, AreMessagesOfFields, AreMessagesToRejected, other as other_told}
 use Rattle.byte_unit_command.specs.Outcome.{Passes}
 use Rattle.byte_unit_command.specs.Output.{AreFields, HasRejectedField}
-use Rattle.byte_unit_command.specs.Progress.{AddsField, AddsFields, Aborts, IsRejectedField, IsUnbroken, tally_after}
-use Rattle.byte_unit_command.specs.Records.{parts}
+use Rattle.byte_unit_command.specs.Progress.{AddsField, AddsFields, Aborts, IsRejectedField, tally_after}
+use Rattle.byte_unit_stream.specs.Chunks.{IsUnbroken}
+use Rattle.byte_unit_stream.specs.Records.{parts}
 use Rattle.byte_unit_command.specs.Sums.{has_rejected}
 use Rattle.byte_unit_command.specs.declared.options.Options.{Options}
 use Rattle.byte_unit_command.specs.declared.options.Invalid.TheVariants.{Abort}
 use Rattle.byte_unit_command.specs.declared.tally.Tally.{Tally}
-use Rattle.byte_unit_command.proofs.Parts.{parts_IsSplit, IsSplit}
-use Rattle.byte_unit_command.proofs.Ends.{EndsAt, parts-IsUnbroken, parts-EndsAt}
+use Rattle.byte_unit_stream.proofs.Parts.{parts_IsSplit, IsSplit}
+use Rattle.byte_unit_stream.proofs.Ends.{EndsAt, parts-IsUnbroken, parts-EndsAt}
 use Rattle.byte_unit_command.proofs.Tallies.{tally_after-then, Passes-append}
 
 -- a field before other fields, with a delimiter between it and them

@@ -6,9 +6,7 @@ pub mod Messages
 pub mod Outcome
 pub mod Output
 pub mod Progress
-pub mod Records
 pub mod Shown
-pub mod Streams
 pub mod Sums
 pub mod Positive
 pub mod FieldList

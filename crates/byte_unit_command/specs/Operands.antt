@@ -1,7 +1,7 @@
 -- The operands as an input.
 use Rattle.std.specs.Prelude.{◌≡◌, ◌≢◌, ℕ, List}
 use Rattle.std.specs.List.{All}
-use Rattle.byte_unit_command.specs.Records.{records_of}
+use Rattle.byte_unit_stream.specs.Records.{records_of}
 
 -- the input has each operand as a record that ends with a zero byte, if no operand contains one; in the arguments of a
 -- process none does

@@ -11,10 +11,7 @@ use Rattle.byte_unit_command.specs.declared.options.Invalid.TheVariants.{Abort}
 use Rattle.byte_unit_command.specs.declared.stop.Stop.{Stop}
 use Rattle.byte_unit_command.specs.declared.stop.Stop.TheVariants.{Memory, Read, Write, Rejected, Total}
 use Rattle.byte_unit_command.specs.declared.tally.Tally.{Tally}
-
--- the second list begins with the first
-abbrev pub IsPrefix : {X : Type 0} → List X → List X → Type 0
-IsPrefix {X} prefix whole = (rest : List X) × (whole ≡ prefix ++ rest)
+use Rattle.byte_unit_stream.specs.Prefix.{IsPrefix}
 
 -- in the mode `abort`, nothing that was found is rejected
 abbrev pub Passes : Options → List Found → Type 0

@@ -6,7 +6,8 @@ use Rattle.byte_unit_command.specs.Field.{Found, IsField, IsNoSize}
 use Rattle.byte_unit_command.specs.Fields.{IsChosen, fields_of}
 use Rattle.byte_unit_command.specs.Messages.{AreFieldMessages, AreMessagesOfFields, AreMessagesToRejected, AreMessages}
 use Rattle.byte_unit_command.specs.Messages.{next_place, last_place}
-use Rattle.byte_unit_command.specs.Outcome.{Passes, IsPrefix}
+use Rattle.byte_unit_command.specs.Outcome.{Passes}
+use Rattle.byte_unit_stream.specs.Prefix.{IsPrefix}
 use Rattle.byte_unit_command.specs.Output.{AreFields, AreRecords, HasRejectedField}
 use Rattle.byte_unit_command.specs.Shown.{IsShown}
 use Rattle.byte_unit_command.specs.Sums.{is_beyond, has_rejected}
@@ -17,6 +18,7 @@ use Rattle.byte_unit_command.specs.declared.records.Progress.{Progress}
 use Rattle.byte_unit_command.specs.declared.stop.Stop.{Stop}
 use Rattle.byte_unit_command.specs.declared.stop.Stop.TheVariants.{Memory, Read, Write, Rejected, Total}
 use Rattle.byte_unit_command.specs.declared.tally.Tally.{Tally}
+use Rattle.byte_unit_stream.specs.Chunks.{nonempty_record}
 
 -- the tally of no field
 abbrev pub no_tally : Tally
@@ -82,28 +84,6 @@ pub record Aborts (options : Options) (word : List ℕ) (place : ℕ) (bytes : L
   pub messages : List ℕ
   pub to_rejected : AreMessagesToRejected options word place 1 (fields_of options.delimiter bytes) messages
   pub messages_are : new_messages ≡ old_messages ++ messages
-
--- the records that end in these bytes, if `part` is the part of the first one that came before them
-abbrev pub ended_records : ℕ → List ℕ → List ℕ → List (List ℕ)
-ended_records end part [] = []
-ended_records end part (byte ∷ bytes) =
-    if byte == end then part ∷ ended_records end [] bytes else ended_records end (part ++ byte ∷ []) bytes
-
--- the part of an unfinished record that there is after these bytes, if `part` is the part before them
-abbrev pub begun_record : ℕ → List ℕ → List ℕ → List ℕ
-begun_record end part [] = part
-begun_record end part (byte ∷ bytes) =
-    if byte == end then begun_record end [] bytes else begun_record end (part ++ byte ∷ []) bytes
-
--- no record ends in these bytes
-abbrev pub IsUnbroken : ℕ → List ℕ → Type 0
-IsUnbroken end bytes = (part : List ℕ)
-    → (ended_records end part bytes ≡ []) × (begun_record end part bytes ≡ part ++ bytes)
-
--- the list of this record, or no record if it is empty
-abbrev pub nonempty_record : List ℕ → List (List ℕ)
-nonempty_record [] = []
-nonempty_record (byte ∷ bytes) = (byte ∷ bytes) ∷ []
 
 -- how far a run has come: the number of header records to come, what a record is called and the number of the last
 -- one, what was counted, what is to be written, and the messages to be told

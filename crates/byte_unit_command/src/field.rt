@@ -4,8 +4,8 @@ ghost use Rattle.std.specs.Prelude.{◌≡◌, ◌≤◌, ◌++◌, ◌⊎◌, l
 ghost use Rattle.byte_unit.specs.Forms.{text_limit};
 ghost use Rattle.byte_unit_command.specs.Field.{IsSize, IsNoSize};
 ghost use Rattle.byte_unit_command.specs.Fields.{IsChosen, InRange};
-ghost use Rattle.byte_unit_command.specs.Outcome.{IsPrefix};
 ghost use Rattle.byte_unit_command.specs.Progress.{AddsField, IsRejectedField, messages_of, tally_with};
+ghost use Rattle.byte_unit_stream.specs.Prefix.{IsPrefix};
 
 use crate::notice::{Notices, add_limit_notice, add_reject_notice};
 use crate::options::{FieldRange, Invalid, Options};

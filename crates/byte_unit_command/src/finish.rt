@@ -3,10 +3,10 @@
 ghost use Rattle.std.specs.Prelude.{◌≡◌, ◌≤◌, ◌⊎◌, ◌∷◌, ℕ, List, [], length, true, OnOk, OnErr, IfErr, IsErrOf, IsTrue};
 ghost use Rattle.byte_unit.specs.Forms.{text_limit};
 ghost use Rattle.byte_unit_command.specs.Messages.{next_place};
-ghost use Rattle.byte_unit_command.specs.Outcome.{IsPrefix};
 ghost use Rattle.byte_unit_command.specs.Progress.{IsFinished, IsTotalWritten, AddsRecords, Aborts};
-ghost use Rattle.byte_unit_command.specs.Progress.{messages_of, nonempty_record, state_of, Tells};
-ghost use Rattle.byte_unit_command.specs.Streams.{HasWritten, writing_failed};
+ghost use Rattle.byte_unit_command.specs.Progress.{messages_of, state_of, Tells};
+ghost use Rattle.byte_unit_stream.specs.Chunks.{nonempty_record};
+ghost use Rattle.byte_unit_stream.specs.Streams.{HasWritten, writing_failed};
 
 use crate::notice::Notices;
 use crate::options::Options;
@@ -14,7 +14,7 @@ use crate::records::{Progress, add_record};
 use crate::stop::Stop;
 use crate::tally::{TOTAL_LIMIT, Tally};
 use crate::text::add_size;
-use crate::writing::Writing;
+use byte_unit_stream::{Writing, write_whole};
 use std::alloc::Allocator;
 use std::io::Write;
 
@@ -55,7 +55,7 @@ pub(crate) fn finish<A: Allocator, W: Write, E: Write>(
     if options.total {
         write_with_total(options, tally.total, digits, waiting, writer)?;
     } else {
-        write_whole(writer, waiting)?;
+        write_whole(writer, waiting, Stop::Write)?;
     }
     Ok(tally)
 }
@@ -115,32 +115,10 @@ fn write_with_total<A: Allocator, W: Write>(
     ensures failed { IsErrOf result Stop.Write → IsTrue (writing_failed writer.new) }
 {
     if total >= TOTAL_LIMIT {
-        write_whole(writer, waiting)?;
+        write_whole(writer, waiting, Stop::Write)?;
         return Err(Stop::Total);
     }
     add_size(options, total, digits, waiting)?;
     waiting.extend_from_slice(&[options.output_end])?;
-    write_whole(writer, waiting)
-}
-
-/// Writes all of `bytes`, in as many calls of the writer as it takes.
-///
-/// # Errors
-///
-/// Returns `Write` if a write fails. A prefix of `bytes` has been written.
-pub(crate) fn write_whole<W: Write>(writer: &mut Writing<W>, bytes: &[u8]) -> Result<(), Stop>
-    ensures ok { OnOk result (HasWritten W.contents writer.old writer.new bytes.now) }
-    ensures err { OnErr result ((written : List ℕ)
-        × HasWritten W.contents writer.old writer.new written × IsPrefix written bytes.now) }
-    ensures write { IfErr result (λ e. e ≡ Stop.Write) }
-    ensures failed { OnErr result (IsTrue (writing_failed writer.new)) }
-{
-    let mut rest = bytes;
-    while !rest.is_empty() {
-        match writer.write(rest) {
-            None => return Err(Stop::Write),
-            Some(n) => rest = &rest[n..],
-        }
-    }
-    Ok(())
+    write_whole(writer, waiting, Stop::Write)
 }

@@ -8,20 +8,19 @@ ghost use Rattle.byte_unit_command.specs.Fields.{IsChosen};
 ghost use Rattle.byte_unit_command.specs.Messages.{AreFieldMessages, AreLimitMessages, AreWords};
 ghost use Rattle.byte_unit_command.specs.Messages.{IsMessage, IsMessageIf, IsReason};
 ghost use Rattle.byte_unit_command.specs.Messages.{place_text, tells_rejected as has_rejected_told};
-ghost use Rattle.byte_unit_command.specs.Outcome.{IsPrefix};
 ghost use Rattle.byte_unit_command.specs.Progress.{messages_of, Tells};
-ghost use Rattle.byte_unit_command.specs.Streams.{HasWritten, writing_failed};
+ghost use Rattle.byte_unit_stream.specs.Prefix.{IsPrefix};
+ghost use Rattle.byte_unit_stream.specs.Streams.{HasWritten, writing_failed};
 
-use crate::finish::write_whole;
 use crate::options::{Invalid, Options};
 use crate::place::Place;
 use crate::quote::add_quoted;
 use crate::size::parse;
 use crate::stop::Stop;
 use crate::tally::{is_above, is_below};
-use crate::writing::Writing;
 use byte_unit::ParseError;
 use byte_unit::laws::texts_are_accepted_or_refused;
+use byte_unit_stream::{Writing, write_whole};
 use std::alloc::{AllocError, Allocator};
 use std::fmt::Write as WriteText;
 use std::io::Write;
@@ -77,7 +76,7 @@ impl<A: Allocator> Notices<A> {
         ensures none { messages_of self.new ≡ [] }
     {
         if !errors.failed() {
-            let _ = write_whole(errors, &self.messages);
+            let _ = write_whole(errors, &self.messages, Stop::Write);
         }
         self.messages.clear();
     }

@@ -3,16 +3,16 @@
 ghost use Rattle.std.specs.Prelude.{◌≡◌, ◌≤◌, ◌-◌, ◌⊎◌, length, OnOk, OnErr, IfErr, IsErrOf, ◌∷◌, [], Some};
 ghost use Rattle.byte_unit.specs.Forms.{text_limit};
 ghost use Rattle.byte_unit_command.specs.Messages.{next_place};
-ghost use Rattle.byte_unit_command.specs.Outcome.{IsPrefix};
 ghost use Rattle.byte_unit_command.specs.Progress.{AddsFields, AddsRecords, Aborts, messages_of, no_tally, state_of};
+ghost use Rattle.byte_unit_stream.specs.Prefix.{IsPrefix};
 
 use crate::field::{add_field, is_past};
 use crate::notice::Notices;
 use crate::options::Options;
 use crate::place::Place;
-use crate::search::end_of;
 use crate::stop::Stop;
 use crate::tally::Tally;
+use byte_unit_stream::end_of;
 use std::alloc::Allocator;
 
 /// What a run keeps from one record to the next.

@@ -6,23 +6,21 @@
 ghost use Rattle.std.specs.Prelude.{◌≡◌, ◌+◌, ◌^◌, ◌<◌, ◌≤◌, ℕ, List, [], length};
 ghost use Rattle.std.specs.Prelude.{IsTrue, IsErrOf, IfErr, OnOk, OnErr, IfOk, Err};
 ghost use Rattle.byte_unit.specs.Forms.{text_limit};
-ghost use Rattle.byte_unit_command.specs.Outcome.{IsPrefix, IsWritten};
+ghost use Rattle.byte_unit_command.specs.Outcome.{IsWritten};
 ghost use Rattle.byte_unit_command.specs.Progress.{AddsRecords, IsAnswered, Stops, Tells, messages_of, state_of};
-ghost use Rattle.byte_unit_command.specs.Progress.{ended_records, begun_record};
-ghost use Rattle.byte_unit_command.specs.Records.{finished_records, records_of};
-ghost use Rattle.byte_unit_command.specs.Streams.{HasRead, HasReadAll, reading_failed};
-ghost use Rattle.byte_unit_command.specs.Streams.{HasWritten, writing_failed};
 ghost use Rattle.byte_unit_command.specs.Told.{AreRunMessages, IsTold};
+ghost use Rattle.byte_unit_stream.specs.Chunks.{ended_records, begun_record};
+ghost use Rattle.byte_unit_stream.specs.Records.{finished_records, records_of};
+ghost use Rattle.byte_unit_stream.specs.Streams.{HasRead, HasReadAll, reading_failed};
+ghost use Rattle.byte_unit_stream.specs.Streams.{HasWritten, writing_failed};
 
-use crate::finish::{finish, write_whole};
+use crate::finish::finish;
 use crate::notice::Notices;
 use crate::options::Options;
-use crate::reading::Reading;
 use crate::records::{Progress, add_record};
-use crate::search::end_of;
 use crate::stop::Stop;
 use crate::tally::Tally;
-use crate::writing::Writing;
+use byte_unit_stream::{Reading, Writing, end_of, write_whole};
 use std::alloc::{Allocator, Global};
 use std::io::{Read, Write};
 
@@ -186,7 +184,7 @@ fn answer_piece<A: Allocator, W: Write, E: Write>(
 {
     let fed = feed(options, part, bytes, digits, progress, waiting, notices);
     // Even if the call stopped, the records before are written.
-    write_whole(writer, waiting)?;
+    write_whole(writer, waiting, Stop::Write)?;
     waiting.clear();
     notices.tell(errors);
     fed

@@ -3,8 +3,8 @@
 ghost use Rattle.std.specs.Prelude.{◌≡◌, ◌<◌, ◌≤◌, ◌++◌, ℕ, List, length, take, replicate, OnOk};
 ghost use Rattle.byte_unit.specs.Bounds.{size_limit};
 ghost use Rattle.byte_unit.specs.Forms.{text_limit};
-ghost use Rattle.byte_unit_command.specs.Outcome.{IsPrefix};
 ghost use Rattle.byte_unit_command.specs.Shown.{IsShown, padded};
+ghost use Rattle.byte_unit_stream.specs.Prefix.{IsPrefix};
 
 use crate::options::Options;
 use crate::size::write_size;

@@ -2,10 +2,11 @@
 use Rattle.std.proofs.Common.{ℕ, Err, List, [], ◌∷◌, ◌++◌, refl, sym, ap, subst, ◌∙◌, append_assoc, append-nil}
 use Rattle.byte_unit_lines.specs.Answer.{Kind, IsAnswer}
 use Rattle.byte_unit_lines.specs.Report.{AreAnswers}
-use Rattle.byte_unit_lines.specs.Outcome.{IsPrefix, AnswerFirst}
+use Rattle.byte_unit_lines.specs.Outcome.{AnswerFirst}
 use Rattle.byte_unit_lines.specs.Progress.{IsAnswered}
 use Rattle.byte_unit_lines.specs.declared.run.RunError.{RunError}
 use Rattle.byte_unit_lines.specs.declared.run.RunError.TheVariants.{Memory, Read, Write}
+use Rattle.byte_unit_stream.proofs.Prefixes.{IsPrefix-after}
 
 -- the answers to two lists of lines, one after the other, are the answers to the concatenated list
 pub AreAnswers-append : (kind : Kind) (before lines : List (List ℕ)) (front back : List ℕ)
@@ -33,20 +34,12 @@ lines_have_answers kind each (line ∷ lines) =
     let others = lines_have_answers kind each lines in
     (answer.0 ++ others.0, (answer.0, others.0, answer.1, others.1, refl))
 
--- the same list before a prefix and before its whole leaves it a prefix
-pub IsPrefix-append : {X : Type 0} (before front whole : List X) → IsPrefix front whole → IsPrefix (before ++ front) (before ++ whole)
-IsPrefix-append before front whole (rest, whole_is) = (rest, ap (λ xs. before ++ xs) whole_is ∙ sym (append_assoc before front rest))
-
--- a prefix stays one if the whole is extended
-pub IsPrefix-longer : {X : Type 0} (front whole end : List X) → IsPrefix front whole → IsPrefix front (whole ++ end)
-IsPrefix-longer front whole end (rest, whole_is) = (rest ++ end, ap (λ xs. xs ++ end) whole_is ∙ append_assoc front rest end)
-
 -- all answers to `before`, then the answers to the first of `lines`, are the answers to the first of them together
 pub AnswerFirst-append : (kind : Kind) (before lines : List (List ℕ)) (front written : List ℕ)
     → AreAnswers kind before front → AnswerFirst kind lines written → AnswerFirst kind (before ++ lines) (front ++ written)
 AnswerFirst-append kind before lines front written answers (answered, is_prefix, are_answers) = (
   before ++ answered,
-  IsPrefix-append before answered lines is_prefix,
+  IsPrefix-after before answered lines is_prefix,
   AreAnswers-append kind before answered front written answers are_answers,
 )
 
@@ -59,5 +52,5 @@ IsAnswered-append kind before lines front answers Read written at = at
 IsAnswered-append kind before lines front answers Write written (whole, answer_first, is_prefix) = (
   front ++ whole,
   AnswerFirst-append kind before lines front whole answers answer_first,
-  IsPrefix-append front written whole is_prefix,
+  IsPrefix-after front written whole is_prefix,
 )

@@ -1,7 +1,5 @@
 pub mod Answering
-pub mod Bytes
 pub mod Feeding
-pub mod Lines
 pub mod Longest
 pub mod OneAnswer
 pub mod Runs

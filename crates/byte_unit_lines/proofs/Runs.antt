@@ -10,15 +10,17 @@ use Rattle.byte_unit_lines.specs.Answer.{Kind, IsAnswer}
 use Rattle.byte_unit_lines.specs.Laws.{EachLineHasAnAnswer}
 use Rattle.byte_unit_lines.specs.Lines.{finished_lines, lines_of}
 use Rattle.byte_unit_lines.specs.Report.{AreAnswers, IsReport}
-use Rattle.byte_unit_lines.specs.Outcome.{IsPrefix, AnswerFirst, IsWritten}
-use Rattle.byte_unit_lines.specs.Progress.{ended_lines, begun_line, BeginFirst, IsAnswered}
+use Rattle.byte_unit_lines.specs.Outcome.{AnswerFirst, IsWritten}
+use Rattle.byte_unit_lines.specs.Progress.{BeginFirst, IsAnswered}
 use Rattle.byte_unit_lines.specs.declared.run.RunError.{RunError}
 use Rattle.byte_unit_lines.specs.declared.run.RunError.TheVariants.{Memory, Read, Write}
 use Rattle.byte_unit_lines.proofs.Answering.{AreAnswers-append, AreAnswers-single, lines_have_answers}
 use Rattle.byte_unit_lines.proofs.Answering.{IsAnswered-append}
-use Rattle.byte_unit_lines.proofs.Answering.{IsPrefix-append, IsPrefix-longer}
-use Rattle.byte_unit_lines.proofs.Lines.{ended_lines-append, begun_line-append, finished_lines-ended_lines}
-use Rattle.byte_unit_lines.proofs.Lines.{lines_of-ended_lines, nonempty_line}
+use Rattle.byte_unit_lines.specs.Lines.{line_end}
+use Rattle.byte_unit_stream.specs.Chunks.{ended_records, begun_record, nonempty_record}
+use Rattle.byte_unit_stream.specs.Prefix.{IsPrefix}
+use Rattle.byte_unit_stream.proofs.Parts.{ended_records-append, begun_record-append, finished_records-ended_records, records_of-ended_records}
+use Rattle.byte_unit_stream.proofs.Prefixes.{IsPrefix-after, IsPrefix-longer}
 
 -- the bytes that were read and written so far, and the unfinished line
 pub record Course : Type 0 where
@@ -28,8 +30,8 @@ pub record Course : Type 0 where
 
 -- between two reads: the lines that end in what was read are answered, and the rest is the unfinished line
 pub record IsServed (kind : Kind) (course : Course) : Type 0 where
-  pub answered : AreAnswers kind (ended_lines [] course.read) course.written
-  pub begun : course.line ≡ begun_line [] course.read
+  pub answered : AreAnswers kind (ended_records line_end [] course.read) course.written
+  pub begun : course.line ≡ begun_record line_end [] course.read
 
 -- the invariant of the loop: the same for what was consumed from a reader and appended to a writer; no answer is
 -- pending
@@ -71,7 +73,7 @@ empty_from_length line count count_is none = nil_from_length line (sym count_is 
 pub nonempty_from_length : (line : List ℕ) (count : ℕ) → count ≡ length line → false ≡ (count == 0) → line ≢ []
 nonempty_from_length line count count_is some none = eqb-false count 0 (sym some) (count_is ∙ ap length none)
 
-nonempty_line-nonempty : (line : List ℕ) → line ≢ [] → nonempty_line line ≡ line ∷ []
+nonempty_line-nonempty : (line : List ℕ) → line ≢ [] → nonempty_record line ≡ line ∷ []
 nonempty_line-nonempty [] some = absurd (some refl)
 nonempty_line-nonempty (_ ∷ _) some = refl
 
@@ -96,22 +98,22 @@ pub record IsWrittenBy (held holds : Option (List ℕ)) (bytes : List ℕ) (resu
 
 module _ (kind : Kind) (course : Course) (served : IsServed kind course) where
   -- the lines that end in what was read, then those that end in the next piece, are those of both
-  ended_lines-piece : (piece : List ℕ) → ended_lines [] course.read ++ ended_lines course.line piece ≡ ended_lines [] (course.read ++ piece)
+  ended_lines-piece : (piece : List ℕ) → ended_records line_end [] course.read ++ ended_records line_end course.line piece ≡ ended_records line_end [] (course.read ++ piece)
   ended_lines-piece piece =
-      ap (λ line. ended_lines [] course.read ++ ended_lines line piece) served.begun ∙ sym (ended_lines-append [] course.read piece)
+      ap (λ line. ended_records line_end [] course.read ++ ended_records line_end line piece) served.begun ∙ sym (ended_records-append line_end [] course.read piece)
 
   -- answering the lines that end in the next piece keeps the invariant
-  pub IsServed-piece : (piece answers line : List ℕ) → AreAnswers kind (ended_lines course.line piece) answers → line ≡ begun_line course.line piece
+  pub IsServed-piece : (piece answers line : List ℕ) → AreAnswers kind (ended_records line_end course.line piece) answers → line ≡ begun_record line_end course.line piece
       → IsServed kind (record { read = course.read ++ piece; written = course.written ++ answers; line = line })
   IsServed-piece piece answers line are_answers line_is = record {
     answered = subst (λ lines. AreAnswers kind lines (course.written ++ answers)) (ended_lines-piece piece)
-        (AreAnswers-append kind (ended_lines [] course.read) (ended_lines course.line piece) course.written answers served.answered are_answers);
-    begun = line_is ∙ ap (λ begun. begun_line begun piece) served.begun ∙ sym (begun_line-append [] course.read piece);
+        (AreAnswers-append kind (ended_records line_end [] course.read) (ended_records line_end course.line piece) course.written answers served.answered are_answers);
+    begun = line_is ∙ ap (λ begun. begun_record line_end begun piece) served.begun ∙ sym (begun_record-append line_end [] course.read piece);
   }
 
   -- between two reads, the answers to all finished lines are written
   pub finished_lines_answered : AreAnswers kind (finished_lines course.read) course.written
-  finished_lines_answered = subst (λ lines. AreAnswers kind lines course.written) (sym (finished_lines-ended_lines course.read)) served.answered
+  finished_lines_answered = subst (λ lines. AreAnswers kind lines course.written) (sym (finished_records-ended_records line_end course.read)) served.answered
 
   -- so what is written is right for a run that is out of memory then
   pub first_lines_answered : IsWritten kind course.read (Err Memory) course.written
@@ -120,19 +122,19 @@ module _ (kind : Kind) (course : Course) (served : IsServed kind course) where
   -- at the end of the input, what is written is the report if there is no unfinished line
   pub report_without_last_line : course.line ≡ [] → IsReport kind course.read course.written
   report_without_last_line none =
-      let ended = ended_lines [] course.read in
+      let ended = ended_records line_end [] course.read in
       let lines : lines_of course.read ≡ ended =
-      lines_of-ended_lines course.read ∙ ap (λ line. ended ++ nonempty_line line) (sym served.begun ∙ none) ∙ append-nil ended in
+      records_of-ended_records line_end course.read ∙ ap (λ line. ended ++ nonempty_record line) (sym served.begun ∙ none) ∙ append-nil ended in
       subst (λ lines. AreAnswers kind lines course.written) (sym lines) served.answered
 
   -- with the answer to the unfinished line it is the report, if there is one
   report_with_last_line : course.line ≢ [] → (answer : List ℕ) → IsAnswer kind course.line answer
       → IsReport kind course.read (course.written ++ answer)
   report_with_last_line some answer is_answer =
-      let ended = ended_lines [] course.read in
+      let ended = ended_records line_end [] course.read in
       let lines : lines_of course.read ≡ ended ++ course.line ∷ [] =
-      lines_of-ended_lines course.read
-      ∙ ap (λ line. ended ++ nonempty_line line) (sym served.begun)
+      records_of-ended_records line_end course.read
+      ∙ ap (λ line. ended ++ nonempty_record line) (sym served.begun)
       ∙ ap (λ last. ended ++ last) (nonempty_line-nonempty course.line some) in
       subst (λ lines. AreAnswers kind lines (course.written ++ answer)) (sym lines)
       (AreAnswers-append kind ended (course.line ∷ []) course.written answer served.answered (AreAnswers-single kind course.line answer is_answer))
@@ -145,18 +147,18 @@ module _ (kind : Kind) (course : Course) (served : IsServed kind course) where
   IsWritten-last_line some answer is_answer (Err Memory) by = absurd (memory_is_not_write by.error)
   IsWritten-last_line some answer is_answer (Err Read) by = absurd (read_is_not_write by.error)
   IsWritten-last_line some answer is_answer (Err Write) by =
-      let begins = IsPrefix-append course.written by.part.0 answer by.part.2 in
+      let begins = IsPrefix-after course.written by.part.0 answer by.part.2 in
       (by.part.0, by.part.1, (course.written ++ answer, report_with_last_line some answer is_answer, begins))
 
 -- a prefix of the answers to first lines is a prefix of a report, since each of the other lines has an answer too
-prefix_of_report : EachLineHasAnAnswer → (kind : Kind) (read written : List ℕ) → BeginFirst kind (ended_lines [] read) written
+prefix_of_report : EachLineHasAnAnswer → (kind : Kind) (read written : List ℕ) → BeginFirst kind (ended_records line_end [] read) written
     → IsWritten kind read (Err Write) written
 prefix_of_report each kind read written (whole, (answered, (unanswered, ended_is), are_answers), is_prefix) =
-    let last = nonempty_line (begun_line [] read) in
+    let last = nonempty_record (begun_record line_end [] read) in
     let others = unanswered ++ last in
     let rest = lines_have_answers kind (each kind) others in
     let lines : answered ++ others ≡ lines_of read =
-    sym (append_assoc answered unanswered last) ∙ ap (λ ended. ended ++ last) (sym ended_is) ∙ sym (lines_of-ended_lines read) in (
+    sym (append_assoc answered unanswered last) ∙ ap (λ ended. ended ++ last) (sym ended_is) ∙ sym (records_of-ended_records line_end read) in (
       whole ++ rest.0,
       subst (λ lines. AreAnswers kind lines (whole ++ rest.0)) lines (AreAnswers-append kind answered others whole rest.0 are_answers rest.1),
       IsPrefix-longer written whole rest.0 is_prefix,
@@ -164,27 +166,27 @@ prefix_of_report each kind read written (whole, (answered, (unanswered, ended_is
 
 -- what an error leaves written for the lines that ended is right for a run that fails with this error
 IsWritten-ended_lines : EachLineHasAnAnswer → (kind : Kind) (read : List ℕ) (error : RunError) (written : List ℕ)
-    → IsAnswered kind (ended_lines [] read) (Err error) written → IsWritten kind read (Err error) written
-IsWritten-ended_lines each kind read Memory written at = subst (λ lines. AnswerFirst kind lines written) (sym (finished_lines-ended_lines read)) at
+    → IsAnswered kind (ended_records line_end [] read) (Err error) written → IsWritten kind read (Err error) written
+IsWritten-ended_lines each kind read Memory written at = subst (λ lines. AnswerFirst kind lines written) (sym (finished_records-ended_records line_end read)) at
 IsWritten-ended_lines each kind read Read written at = absurd at
 IsWritten-ended_lines each kind read Write written at = prefix_of_report each kind read written at
 
 -- the same for an error in the lines of the next piece
 pub IsWritten-piece : EachLineHasAnAnswer → (kind : Kind) (course : Course) → IsServed kind course → (piece : List ℕ) (error : RunError)
-    (written : List ℕ) → IsAnswered kind (ended_lines course.line piece) (Err error) written
+    (written : List ℕ) → IsAnswered kind (ended_records line_end course.line piece) (Err error) written
     → IsWritten kind (course.read ++ piece) (Err error) (course.written ++ written)
 IsWritten-piece each kind course served piece error written at =
-    let ended = ended_lines [] course.read in
+    let ended = ended_records line_end [] course.read in
     IsWritten-ended_lines each kind (course.read ++ piece) error (course.written ++ written)
     (subst (λ lines. IsAnswered kind lines (Err error) (course.written ++ written)) (ended_lines-piece kind course served piece)
-    (IsAnswered-append kind ended (ended_lines course.line piece) course.written served.answered error written at))
+    (IsAnswered-append kind ended (ended_records line_end course.line piece) course.written served.answered error written at))
 
 -- reading a piece and answering the lines that end in it keeps the invariant
 abbrev pub HasServed-piece : {kind : Kind} {left between held holds : Option (List ℕ)} {line answers : List ℕ}
     → (so_far : HasServed kind left between held holds line answers)
     → (rest now_holds : Option (List ℕ)) (piece written next_line next_answers : List ℕ)
-    → Consumes between rest piece → Appends holds now_holds written → AreAnswers kind (ended_lines line piece) written
-    → next_line ≡ begun_line line piece → next_answers ≡ [] → HasServed kind left rest held now_holds next_line next_answers
+    → Consumes between rest piece → Appends holds now_holds written → AreAnswers kind (ended_records line_end line piece) written
+    → next_line ≡ begun_record line_end line piece → next_answers ≡ [] → HasServed kind left rest held now_holds next_line next_answers
 HasServed-piece {kind = kind} so_far rest now_holds piece written next_line next_answers came took are_answers line_is none_wait = record {
   read = so_far.read ++ piece;
   written = so_far.written ++ written;

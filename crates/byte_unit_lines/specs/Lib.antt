@@ -8,4 +8,3 @@ pub mod Lines
 pub mod Outcome
 pub mod Progress
 pub mod Report
-pub mod Streams

@@ -5,10 +5,7 @@ use Rattle.byte_unit_lines.specs.Lines.{finished_lines}
 use Rattle.byte_unit_lines.specs.Report.{AreAnswers, IsReport}
 use Rattle.byte_unit_lines.specs.declared.run.RunError.{RunError}
 use Rattle.byte_unit_lines.specs.declared.run.RunError.TheVariants.{Memory, Read, Write}
-
--- the second list begins with the first
-abbrev pub IsPrefix : {X : Type 0} → List X → List X → Type 0
-IsPrefix {X} prefix whole = (rest : List X) × (whole ≡ prefix ++ rest)
+use Rattle.byte_unit_stream.specs.Prefix.{IsPrefix}
 
 -- the answers to the first of these lines, for some number of them, each answer whole
 abbrev pub AnswerFirst : Kind → List (List ℕ) → List ℕ → Type 0

@@ -1,27 +1,11 @@
 -- Private: how far a run has come, step by step. No public contract cites this file.
-use Rattle.std.specs.Prelude.{◌≡◌, ℕ, List, [], ◌∷◌, ◌++◌, ◌==◌, if◌then◌else◌, Result, Ok, Err, ⊤}
+use Rattle.std.specs.Prelude.{◌≡◌, ℕ, List, ◌++◌, Result, Ok, Err, ⊤}
 use Rattle.byte_unit_lines.specs.Answer.{Kind, IsAnswer}
-use Rattle.byte_unit_lines.specs.Lines.{line_end}
 use Rattle.byte_unit_lines.specs.Report.{AreAnswers}
-use Rattle.byte_unit_lines.specs.Outcome.{IsPrefix, AnswerFirst}
+use Rattle.byte_unit_lines.specs.Outcome.{AnswerFirst}
 use Rattle.byte_unit_lines.specs.declared.run.RunError.{RunError}
 use Rattle.byte_unit_lines.specs.declared.run.RunError.TheVariants.{Memory, Read, Write}
-
--- the lines that end in these bytes, if `line` is the part of the first one that came before them
-abbrev pub ended_lines : List ℕ → List ℕ → List (List ℕ)
-ended_lines line [] = []
-ended_lines line (byte ∷ bytes) =
-    if byte == line_end then line ∷ ended_lines [] bytes else ended_lines (line ++ byte ∷ []) bytes
-
--- the part of an unfinished line that there is after these bytes, if `line` is the part before them
-abbrev pub begun_line : List ℕ → List ℕ → List ℕ
-begun_line line [] = line
-begun_line line (byte ∷ bytes) =
-    if byte == line_end then begun_line [] bytes else begun_line (line ++ byte ∷ []) bytes
-
--- no line ends in these bytes
-abbrev pub IsUnbroken : List ℕ → Type 0
-IsUnbroken bytes = (line : List ℕ) → (ended_lines line bytes ≡ []) × (begun_line line bytes ≡ line ++ bytes)
+use Rattle.byte_unit_stream.specs.Prefix.{IsPrefix}
 
 -- the answer to the line was appended
 abbrev pub AddsAnswer : Kind → List ℕ → List ℕ → List ℕ → Type 0

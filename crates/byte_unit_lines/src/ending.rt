@@ -4,14 +4,13 @@ ghost use Rattle.std.specs.Prelude.{◌≡◌, ℕ, List, map, option_map, IsTru
 ghost use Rattle.std.specs.String.{string_bytes};
 ghost use Rattle.byte_unit_lines.specs.Arguments.{AskFor};
 ghost use Rattle.byte_unit_lines.specs.Ending.{IsWrittenAtEnding, status_of, line_of};
-ghost use Rattle.byte_unit_lines.specs.Streams.{HasRead, HasReadAll, reading_failed};
-ghost use Rattle.byte_unit_lines.specs.Streams.{HasWritten, writing_failed};
+ghost use Rattle.byte_unit_stream.specs.Streams.{HasRead, HasReadAll, reading_failed};
+ghost use Rattle.byte_unit_stream.specs.Streams.{HasWritten, writing_failed};
 
 use crate::arguments::{Kind, kind_of};
-use crate::reading::Reading;
 use crate::run::{RunError, run};
 use crate::words::fault_words;
-use crate::writing::Writing;
+use byte_unit_stream::{Reading, Writing};
 use std::alloc::Global;
 use std::io::{Read, Write};
 

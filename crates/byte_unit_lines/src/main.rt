@@ -5,19 +5,16 @@ mod arguments;
 mod ending;
 mod laws;
 mod line;
-mod reading;
 mod run;
 #[cfg(test)]
 mod tests;
 mod words;
-mod writing;
 
+use byte_unit_stream::{Reading, Writing};
 use ending::{Ending, serve};
-use reading::Reading;
 use run::RunError;
 use std::process::ExitCode;
 use std::{env, io};
-use writing::Writing;
 
 /// Returns the program's arguments, without its name.
 ///

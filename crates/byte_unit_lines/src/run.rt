@@ -3,31 +3,26 @@
 //! Two buffers keep their memory from one read to the next: `waiting` has whole answers that are not written yet, and
 //! `line` has the part that was read of a line without a line end so far.
 
-ghost use Rattle.std.specs.Prelude.{◌≡◌, ◌+◌, ◌^◌, ◌<◌, ◌≤◌, ℕ, List, [], slice_index, take, length};
-ghost use Rattle.std.specs.Prelude.{IsTrue, IsOk, IsErrOf, IfOk, IfErr, OnOk, OnErr, IfSome, IfNone};
+ghost use Rattle.std.specs.Prelude.{◌≡◌, ◌+◌, ◌<◌, ◌≤◌, ℕ, List, [], length};
+ghost use Rattle.std.specs.Prelude.{IsTrue, IsOk, IsErrOf, IfOk, OnOk, OnErr};
 ghost use Rattle.std.specs.Prelude.{vec_len, vec_capacity};
 ghost use Rattle.byte_unit_lines.specs.Capacity.{HaveCapacity};
 ghost use Rattle.byte_unit_lines.specs.Lines.{line_end, longest_line};
-ghost use Rattle.byte_unit_lines.specs.Outcome.{IsPrefix, IsWritten};
-ghost use Rattle.byte_unit_lines.specs.Progress.{ended_lines, begun_line, IsUnbroken};
+ghost use Rattle.byte_unit_lines.specs.Outcome.{IsWritten};
 ghost use Rattle.byte_unit_lines.specs.Progress.{AddsAnswers, AddsFirst, IsAnswered};
-ghost use Rattle.byte_unit_lines.specs.Streams.{HasRead, HasReadAll, reading_failed};
-ghost use Rattle.byte_unit_lines.specs.Streams.{HasWritten, writing_failed};
+ghost use Rattle.byte_unit_stream.specs.Chunks.{ended_records, begun_record};
+ghost use Rattle.byte_unit_stream.specs.Streams.{HasRead, HasReadAll, reading_failed};
+ghost use Rattle.byte_unit_stream.specs.Streams.{HasWritten, writing_failed};
 
 use crate::arguments::Kind;
 use crate::laws::each_line_has_an_answer;
 use crate::line::{ANSWER_MAX, add_answer};
-use crate::reading::Reading;
-use crate::writing::Writing;
+use byte_unit_stream::{Reading, Writing, end_of, write_whole};
 use std::alloc::{AllocError, Allocator, Global};
 use std::io::{Read, Write};
-use std::simd::prelude::*;
 
 /// The byte that ends a line.
 const LINE_END: u8 = b'\n';
-
-/// The number of bytes that are compared at once.
-const LANES: usize = 16;
 
 /// The number of bytes that [`run`] asks for in each read.
 const CHUNK: usize = 65536;
@@ -225,7 +220,7 @@ pub fn run_with_buffers<A: Allocator, R: Read, W: Write>(
         Ok(())
     } else {
         add_answer(line, line.len(), kind, waiting)?;
-        write_whole(writer, waiting)
+        write_whole(writer, waiting, RunError::Write)
     }
 }
 
@@ -248,8 +243,8 @@ fn answer_piece<A: Allocator, W: Write>(
     requires { waiting.old.items ≡ [] }
     ensures written { (written : List ℕ)
         × HasWritten W.contents writer.old writer.new written
-        × IsAnswered kind (ended_lines line.old.items bytes.now) result written }
-    ensures line { OnOk result (line.new.items ≡ begun_line line.old.items bytes.now) }
+        × IsAnswered kind (ended_records line_end line.old.items bytes.now) result written }
+    ensures line { OnOk result (line.new.items ≡ begun_record line_end line.old.items bytes.now) }
     ensures waiting { OnOk result (waiting.new.items ≡ []) }
     ensures failed { IsErrOf result RunError.Write → IsTrue (writing_failed writer.new) }
     ensures memory { HaveCapacity (vec_len line.old) (length bytes.now) line.old waiting.old
@@ -259,7 +254,7 @@ fn answer_piece<A: Allocator, W: Write>(
 {
     let fed = feed(line, bytes, kind, waiting);
     // If allocation failed, the answers to the lines before are written all the same.
-    write_whole(writer, waiting)?;
+    write_whole(writer, waiting, RunError::Write)?;
     waiting.clear();
     Ok(fed?)
 }
@@ -276,17 +271,17 @@ fn feed<A: Allocator>(
     kind: Kind,
     waiting: &mut Vec<u8, A>,
 ) -> Result<(), AllocError>
-    ensures added { AddsFirst kind (ended_lines line.old.items bytes.now)
+    ensures added { AddsFirst kind (ended_records line_end line.old.items bytes.now)
         waiting.old.items waiting.new.items }
-    ensures ok { OnOk result (AddsAnswers kind (ended_lines line.old.items bytes.now)
+    ensures ok { OnOk result (AddsAnswers kind (ended_records line_end line.old.items bytes.now)
         waiting.old.items waiting.new.items) }
-    ensures line { OnOk result (line.new.items ≡ begun_line line.old.items bytes.now) }
+    ensures line { OnOk result (line.new.items ≡ begun_record line_end line.old.items bytes.now) }
     ensures succeeds { HaveCapacity (vec_len line.old) (length bytes.now) line.old waiting.old → IsOk result }
     ensures line_capacity { vec_capacity line.old ≤ vec_capacity line.new }
     ensures waiting_capacity { vec_capacity waiting.old ≤ vec_capacity waiting.new }
 {
     let mut rest = bytes;
-    while let Some(n) = end_of(rest) {
+    while let Some(n) = end_of(rest, LINE_END) {
         if line.is_empty() {
             add_answer(rest, n, kind, waiting)?;
         } else {
@@ -297,52 +292,4 @@ fn feed<A: Allocator>(
         rest = &rest[n + 1..];
     }
     line.extend_from_slice(rest)
-}
-
-/// Returns the index of the first line end, or `None` if there is none.
-fn end_of(bytes: &[u8]) -> Option<usize>
-    ensures some { IfSome result (λ n. (n < length bytes.now)
-        × (slice_index bytes.now n ≡ line_end) × IsUnbroken (take n bytes.now)) }
-    ensures none { IfNone result (IsUnbroken bytes.now) }
-    ensures small { IfSome result (λ n. n + 1 < 2 ^ 64) }
-{
-    let mut i = 0;
-    // Where a line ends cannot be predicted: a mask finds it with one branch per 16 bytes, not one per byte.
-    while bytes.len() - i >= LANES {
-        let ends = u8x16::from_slice(&bytes[i..])
-            .simd_eq(u8x16::splat(LINE_END))
-            .to_bitmask();
-        if ends != 0 {
-            return Some(i + ends.trailing_zeros() as usize);
-        }
-        i += LANES;
-    }
-    while i < bytes.len() {
-        if bytes[i] == LINE_END {
-            return Some(i);
-        }
-        i += 1;
-    }
-    None
-}
-
-/// Writes all of `bytes`, in as many calls of the writer as it takes.
-///
-/// # Errors
-/// Returns `Write` if a write fails. A prefix of `bytes` has been written.
-fn write_whole<W: Write>(writer: &mut Writing<W>, bytes: &[u8]) -> Result<(), RunError>
-    ensures ok { OnOk result (HasWritten W.contents writer.old writer.new bytes.now) }
-    ensures err { OnErr result ((written : List ℕ)
-        × HasWritten W.contents writer.old writer.new written × IsPrefix written bytes.now) }
-    ensures write { IfErr result (λ e. e ≡ RunError.Write) }
-    ensures failed { OnErr result (IsTrue (writing_failed writer.new)) }
-{
-    let mut rest = bytes;
-    while !rest.is_empty() {
-        match writer.write(rest) {
-            None => return Err(RunError::Write),
-            Some(n) => rest = &rest[n..],
-        }
-    }
-    Ok(())
 }

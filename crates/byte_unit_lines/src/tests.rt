@@ -4,9 +4,8 @@ ghost use Rattle.std.specs.Prelude.{IfOk};
 ghost use Rattle.byte_unit_lines.specs.Report.{IsReport};
 
 use crate::arguments::{Kind, kind_of};
-use crate::reading::Reading;
 use crate::run::{RunError, run};
-use crate::writing::Writing;
+use byte_unit_stream::{Reading, Writing};
 use std::alloc::Global;
 use std::fmt::Debug;
 use std::process::Abort;
@@ -23,7 +22,6 @@ mod order;
 mod refusals;
 mod refusing;
 mod rows;
-mod streams;
 
 /// Asserts that what was found is what is wanted. A name tells which of a test's rows it was.
 fn assert_is<S: PartialEq + Debug + Drop>(rt: &impl Abort, found: S, wanted: S, name: &str) {

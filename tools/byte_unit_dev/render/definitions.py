@@ -106,10 +106,11 @@ def public_of(crate):
 def others():
     _, reached, added = groups()
     parts = []
-    for crate in other_crates():
-        public = public_of(crate)
+    by_crate = {crate: public_of(crate) for crate in other_crates()}
+    public = set().union(*by_crate.values())
+    for crate, own in by_crate.items():
         shown = [spec for spec in files_of([crate], public) if not spec.head.startswith("Private:")]
-        below = ", ".join(map(link, files_of(library(), public - reached - added)))
+        below = ", ".join(map(link, files_of(library(), own - reached - added)))
         hidden = ", ".join(link(spec) + f" (but for {listed(names)})" * bool(names) for spec in specs(crate).values()
                            if spec not in shown for names in [names_in(spec, public)])
         lines = [bullets(shown), below and f"- Also of the library: {below}", hidden and f"- Private: {hidden}"]

@@ -1,8 +1,8 @@
 //! Inputs and outputs of several chunks.
 use super::ended::{check, ran};
 use super::mixed::{INPUT, REPORT, finished, first_lines, repeated};
-use super::streams::{ALL_BUT_ONE, AT_ONCE, BYTE_BY_BYTE, Pace, Then};
 use super::*;
+use byte_unit_stream::paced::{ALL_BUT_ONE, AT_ONCE, BYTE_BY_BYTE, Pace, Then};
 
 /// The number of bytes that a run asks for in each read.
 const CHUNK: usize = 65_536;

@@ -2,9 +2,9 @@
 ghost use Rattle.std.specs.Prelude.{◌<◌, length};
 
 use super::refusing::Refusing;
-use super::streams::{AT_ONCE, MemoryReader, MemoryWriter, Pace};
 use super::*;
 use crate::run::run_in;
+use byte_unit_stream::paced::{AT_ONCE, MemoryReader, MemoryWriter, Pace};
 use std::alloc::Allocator;
 
 /// The result of a run, the bytes that it has written, and what is left of its input.

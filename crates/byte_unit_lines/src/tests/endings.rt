@@ -1,8 +1,8 @@
 //! The endings of calls of the program.
 use super::ended::{Ended, streams};
-use super::streams::{AT_ONCE, Pace, Then};
 use super::*;
 use crate::ending::{Ending, serve};
+use byte_unit_stream::paced::{AT_ONCE, Pace, Then};
 use std::alloc::AllocError;
 
 /// An input of one line.

@@ -2,9 +2,8 @@
 use super::ended::{check, expect_failed_allocation, ran_in};
 use super::mixed::{self, finished, first_lines, repeated};
 use super::refusing::Refusing;
-use super::streams::{ALL_BUT_ONE, AT_ONCE, BYTE_BY_BYTE, MemoryReader, MemoryWriter, Pace, Then};
 use super::*;
-use std::io::{Read, Write};
+use byte_unit_stream::paced::{ALL_BUT_ONE, AT_ONCE, BYTE_BY_BYTE, Pace, Then};
 
 const INPUT: &[u8] = b"1.5 KiB\n\n1Kbi\nx\n1YB";
 
@@ -183,33 +182,4 @@ fn each_size_of_buffer_and_failed_allocation(rt: HostRuntime) {
     let heap = Refusing::new(rt.alloc(), 5, u64::MAX);
     let ended = ran_in(rt.alloc(), &heap, &mut buffer, INPUT, AT_ONCE, AT_ONCE);
     ended.expect(&rt, Ok(()), OUTPUT, "no failed allocation", &[]);
-}
-
-#[test]
-fn a_failure_is_remembered(rt: HostRuntime) {
-    let mut buffer = [0u8; 8];
-    let mut reader = Reading::new(MemoryReader {
-        rest: b"1KB",
-        pace: Pace(1, 1, Then::Fail),
-    });
-    let first = (reader.read(&mut buffer), reader.failed());
-    let second = (reader.read(&mut buffer), reader.failed());
-    let found = [first, second];
-    assert_is(&rt, found, [(Some(1), false), (None, true)], "reads");
-    let mut inner = reader.into_inner();
-    inner.pace = Pace(0, 0, Then::ByteByByte);
-    assert_is(&rt, inner.read(&mut buffer).ok(), Some(1), "inner");
-
-    let mut writer = Writing::new(MemoryWriter {
-        taken: Vec::new(rt.alloc()),
-        pace: Pace(usize::MAX, 1, Then::Fail),
-    });
-    let first = (writer.write(b"12"), writer.failed());
-    let second = (writer.write(b"34"), writer.failed());
-    let found = [first, second];
-    assert_is(&rt, found, [(Some(2), false), (None, true)], "writes");
-    let mut inner = writer.into_inner();
-    inner.pace = Pace(0, 0, Then::ByteByByte);
-    let third = (inner.write(b"56").ok(), inner.taken.as_slice());
-    assert_is(&rt, third, (Some(1), b"125".as_slice()), "inner");
 }

@@ -2,8 +2,8 @@
 //! `rt try` takes a minute for the first.
 use super::ended::{check, ran_in};
 use super::mixed::repeated;
-use super::streams::{AT_ONCE, Pace, Then};
 use super::*;
+use byte_unit_stream::paced::{AT_ONCE, Pace, Then};
 
 /// Asserts the report on some bytes, repeated, and then the bytes that follow them.
 fn expect(rt: &(impl Abort + AllocGlobal), bytes: &str, count: usize, end: &[u8], report: &[u8]) {

@@ -1,16 +1,49 @@
 //! The order of reads and writes.
 use super::ended::{ran, ran_in};
 use super::refusing::Refusing;
-use super::streams::{
-    AT_ONCE, CountingWriter, MemoryReader, MemoryWriter, NotingReader, Pace, Then,
-};
 use super::*;
+use byte_unit_stream::paced::{AT_ONCE, MemoryReader, MemoryWriter, Pace, Then};
 use std::cell::Cell;
+use std::io::{self, Read, Write};
 
 const INPUT: &[u8] = b"1KB\n2KB\n3KB\n";
 
 /// Reads that give one line each.
 const BY_LINE: Pace = Pace(4, usize::MAX, Then::Fail);
+
+/// A reader that records at each call how many bytes a writer has accepted so far.
+#[derive(Drop)]
+pub struct NotingReader<'a> {
+    pub inner: MemoryReader<'a>,
+    pub taken: &'a Cell<usize>,
+    pub notes: Vec<usize>,
+}
+
+impl<'a> Read for NotingReader<'a> {
+    fn read(&mut self, buf: &mut [u8]) -> io::Result<usize> {
+        self.notes.push(self.taken.get())?;
+        self.inner.read(buf)
+    }
+}
+
+/// A writer that counts the bytes that it accepts.
+#[derive(Drop)]
+pub struct CountingWriter<'a> {
+    pub inner: MemoryWriter,
+    pub taken: &'a Cell<usize>,
+}
+
+impl<'a> Write for CountingWriter<'a> {
+    fn write(&mut self, bytes: &[u8]) -> io::Result<usize> {
+        let n = self.inner.write(bytes)?;
+        self.taken.set(self.taken.get().saturating_add(n));
+        Ok(n)
+    }
+
+    fn flush(&mut self) -> io::Result<()> {
+        self.inner.flush()
+    }
+}
 
 #[test]
 fn answers_are_written_before_the_next_read(rt: HostRuntime) {

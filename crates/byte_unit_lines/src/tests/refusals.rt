@@ -2,8 +2,8 @@
 use super::ended::{expect_failed_allocation, ran_in};
 use super::mixed::{INPUT, LINES, REPORT, first_lines};
 use super::refusing::Refusing;
-use super::streams::{AT_ONCE, Pace, Then};
 use super::*;
+use byte_unit_stream::paced::{AT_ONCE, Pace, Then};
 
 /// Returns the number of allocations of a run over this input, or 0 if the run fails.
 fn allocations(alloc: Global, input: &[u8], reads: Pace) -> u64 {

@@ -1,11 +1,10 @@
 //! Runs of the command `byte-unit` with input and output in memory.
-use super::command_streams::{MemoryReader, MemoryWriter, Pace};
 use byte_unit_command::options::{FieldRange, Form, Invalid, Kind, Options};
-use byte_unit_command::reading::Reading;
 use byte_unit_command::run::run;
 use byte_unit_command::stop::Stop;
 use byte_unit_command::tally::Tally;
-use byte_unit_command::writing::Writing;
+use byte_unit_stream::paced::{MemoryReader, MemoryWriter, Pace};
+use byte_unit_stream::{Reading, Writing};
 use std::alloc::AllocError;
 use std::process::Abort;
 

@@ -1,6 +1,5 @@
 //! Tests of calls of the command `byte-unit`: what the words of a command line ask for, and what is wrong with them.
 use super::command::assert_run;
-use super::command_streams::AT_ONCE;
 use byte_unit_command::arguments::command;
 use byte_unit_command::field_list::fields_of;
 use byte_unit_command::meaning::options_of;
@@ -10,6 +9,7 @@ use byte_unit_command::stop::Stop;
 use byte_unit_command::tally::Tally;
 use byte_unit_command::values::values_of;
 use byte_unit_command::wrong::{Reason, Wrong};
+use byte_unit_stream::paced::AT_ONCE;
 use clap::ArgMatches;
 use std::process::Abort;
 

@@ -1,8 +1,8 @@
 //! Tests of the command `byte-unit`: the text of a size in each form.
 use super::command::{PLAIN, assert_run};
-use super::command_streams::AT_ONCE;
 use byte_unit_command::options::{Form, Options, Unit, UnitType};
 use byte_unit_command::tally::Tally;
+use byte_unit_stream::paced::AT_ONCE;
 
 /// Test vectors: a form, a precision, a size, its number of bytes, and its text.
 const ROWS: &[(Form, Option<u16>, &str, u128, &str)] = &[

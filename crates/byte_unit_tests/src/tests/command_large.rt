@@ -1,10 +1,10 @@
 //! Tests of the command `byte-unit` with many reads, long records, and long texts of the records of one read. A record
 //! of 17 MB is left to `tools/dev test command`.
 use super::command::{PLAIN, assert_run};
-use super::command_streams::{AT_ONCE, Pace, Then};
 use byte_unit_command::options::Options;
 use byte_unit_command::stop::Stop;
 use byte_unit_command::tally::Tally;
+use byte_unit_stream::paced::{AT_ONCE, Pace, Then};
 use std::process::Abort;
 
 /// Returns some bytes, repeated, and then the bytes that follow them.

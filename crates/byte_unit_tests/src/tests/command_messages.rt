@@ -1,9 +1,9 @@
 //! Tests of the messages of the command `byte-unit`: what is quoted of a field, and the number of its record.
 use super::command::{PLAIN, assert_run};
 use super::command_large::repeated;
-use super::command_streams::AT_ONCE;
 use byte_unit_command::options::{Invalid, Options};
 use byte_unit_command::tally::Tally;
+use byte_unit_stream::paced::AT_ONCE;
 
 /// The options of a call that goes on at a rejected field.
 const WARN: Options<'static> = Options {

@@ -1,10 +1,10 @@
 //! Tests of the command `byte-unit`: what each option does to the lines that are written, the total and the messages,
 //! and why a run ends early.
 use super::command::{PLAIN, assert_run};
-use super::command_streams::AT_ONCE;
 use byte_unit_command::options::{FieldRange, Form, Invalid, Kind, Options};
 use byte_unit_command::stop::Stop;
 use byte_unit_command::tally::Tally;
+use byte_unit_stream::paced::AT_ONCE;
 
 /// Fields 1 and 3, and all from 5 on.
 const SOME: &[FieldRange] = &[

@@ -3,7 +3,7 @@ use Rattle.std.proofs.Common.{◌≡◌, ℕ, Bool, false, List, [], ◌++◌, s
 use Rattle.byte_unit_command.specs.Messages.{AreLimitMessages}
 use Rattle.byte_unit_command.specs.Progress.{messages_of}
 use Rattle.byte_unit_command.proofs.Converting.{AddsField-size, AreLimitMessages-none}
-use Rattle.byte_unit_command.proofs.Prefixes.{IsPrefix-self, IsPrefix-same}
+use Rattle.byte_unit_stream.proofs.Prefixes.{IsPrefix-self, IsPrefix-same}
 use Rattle.byte_unit_command.proofs.field.add_found.Goals.{then-add+in_ok-add_limit_notice, else-add}
 use Rattle.byte_unit_command.proofs.field.add_found.Goals as goal
 

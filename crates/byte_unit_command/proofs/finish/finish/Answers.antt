@@ -1,11 +1,12 @@
 -- What is written and told at the end is right for each result: with and without a total, and if a write fails.
 use Rattle.std.proofs.Common.{◌≡◌, true, false, rules, subst, ap, ◌∙◌, ◌∷◌, Err, []}
-use Rattle.byte_unit_command.specs.Progress.{Aborts, AddsRecords, State, messages_of, state_of, nonempty_record}
+use Rattle.byte_unit_command.specs.Progress.{Aborts, AddsRecords, State, messages_of, state_of}
+use Rattle.byte_unit_stream.specs.Chunks.{nonempty_record}
 use Rattle.byte_unit_command.specs.Messages.{next_place}
 use Rattle.byte_unit_command.proofs.Finishing.{IsFinished-total_ok, IsFinished-total_error, IsFinished-plain_ok}
 use Rattle.byte_unit_command.proofs.Finishing.{IsFinished-plain_error, IsFinished-stopped, IsFinished-error}
-use Rattle.byte_unit_command.specs.Outcome.{IsPrefix}
-use Rattle.byte_unit_command.specs.Streams.{writer_of}
+use Rattle.byte_unit_stream.specs.Prefix.{IsPrefix}
+use Rattle.byte_unit_stream.specs.Streams.{writer_of}
 use Rattle.std.specs.Io.KnownBytes.{Appends}
 use Rattle.std.proofs.KnownBytes.{Appends-nil}
 use Rattle.byte_unit_command.proofs.finish.finish.Goals as goal

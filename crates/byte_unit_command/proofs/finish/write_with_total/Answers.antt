@@ -2,7 +2,7 @@
 use Rattle.std.proofs.Common.{◌≡◌, ◌++◌, ◌∷◌, [], ◌<◌, ap, ◌∙◌, append_assoc, arith, refl}
 use Rattle.std.proofs.KnownBytes.{Appends-nil}
 use Rattle.byte_unit.specs.Bounds.{size_limit}
-use Rattle.byte_unit_command.specs.Streams.{writer_of}
+use Rattle.byte_unit_stream.specs.Streams.{writer_of}
 use Rattle.byte_unit_command.proofs.Finishing.{IsWrittenBy, IsTotalWritten-memory, IsTotalWritten-line}
 use Rattle.byte_unit_command.proofs.finish.write_with_total.Goals as goal
 

@@ -4,7 +4,7 @@ use Rattle.std.proofs.Common.{◌≢◌, List, ℕ, Err, take, refl, sym, ap, su
 use Rattle.byte_unit_command.specs.Messages.{next_place}
 use Rattle.byte_unit_command.specs.Progress.{Aborts, messages_of}
 use Rattle.byte_unit_command.specs.declared.stop.Stop.TheVariants.{Memory, Rejected}
-use Rattle.byte_unit_command.proofs.Prefixes.{take-IsPrefix}
+use Rattle.byte_unit_stream.proofs.Prefixes.{take-IsPrefix}
 use Rattle.byte_unit_command.proofs.Results.{error-passed}
 use Rattle.byte_unit_command.proofs.records.add_record.Goals as goal
 

@@ -2,7 +2,7 @@
 use Rattle.std.proofs.Common.{◌≡◌, ◌-◌, ◌++◌, ◌∷◌, [], ℕ, suc, ap, subst, ◌∙◌, arith}
 use Rattle.byte_unit_command.specs.Progress.{AddsFields, State, messages_of, state_of}
 use Rattle.byte_unit_command.proofs.Converting.{AddsRecords-header, AddsRecords-fields, AddsFields-same}
-use Rattle.byte_unit_command.proofs.Prefixes.{IsPrefix-self, IsPrefix-same}
+use Rattle.byte_unit_stream.proofs.Prefixes.{IsPrefix-self, IsPrefix-same}
 use Rattle.byte_unit_command.proofs.records.append_record.Goals.{then-progress-gt0+in_ok-extend_from_slice}
 use Rattle.byte_unit_command.proofs.records.append_record.Goals.{else-progress-gt0+in_ok-add_fields}
 use Rattle.byte_unit_command.proofs.records.append_record.Goals as goal

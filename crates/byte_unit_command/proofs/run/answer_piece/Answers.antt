@@ -2,9 +2,10 @@
 use Rattle.std.proofs.Common.{sym, subst, ◌∙◌, []}
 use Rattle.std.specs.Io.KnownBytes.{Appends}
 use Rattle.std.proofs.KnownBytes.{Appends-nil}
-use Rattle.byte_unit_command.specs.Outcome.{IsPrefix}
-use Rattle.byte_unit_command.specs.Progress.{ended_records, messages_of, state_of}
-use Rattle.byte_unit_command.specs.Streams.{writer_of, writing_failed}
+use Rattle.byte_unit_stream.specs.Prefix.{IsPrefix}
+use Rattle.byte_unit_command.specs.Progress.{messages_of, state_of}
+use Rattle.byte_unit_stream.specs.Chunks.{ended_records}
+use Rattle.byte_unit_stream.specs.Streams.{writer_of, writing_failed}
 use Rattle.byte_unit_command.specs.declared.stop.Stop.TheVariants.{Read, Total}
 use Rattle.byte_unit_command.proofs.Answering.{HasFed-from_empty, IsAnswered-fed, IsAnswered-failed, fed-not_total, fed-not_read}
 use Rattle.byte_unit_command.proofs.Answering.{fed-not_write, write_is_not_total, write_is_not_read}

@@ -3,8 +3,8 @@ use Rattle.std.proofs.Common.{[], ◌++◌, sym, ap, subst, ◌∙◌, take, Err
 use Rattle.std.specs.Io.KnownBytes.{IsAtEnd}
 use Rattle.std.proofs.KnownBytes.{Consumes-kept, Consumes-nil, Appends-nil}
 use Rattle.byte_unit_command.specs.Progress.{state_of}
-use Rattle.byte_unit_command.specs.Streams.{reader_of, writer_of, writing_failed}
-use Rattle.byte_unit_command.specs.Records.{finished_records, records_of}
+use Rattle.byte_unit_stream.specs.Streams.{reader_of, writer_of, writing_failed}
+use Rattle.byte_unit_stream.specs.Records.{finished_records, records_of}
 use Rattle.byte_unit_command.proofs.Runs.{IsServed, IsServed-start, IsServed-piece, IsWritten-read, IsWritten-piece, IsWritten-finished}
 use Rattle.byte_unit_command.proofs.Runs.{IsWritten-error}
 use Rattle.byte_unit_command.proofs.Served.{Consumes-piece, Consumes-at_end, Appends-more, Appends-more_told}

@@ -1,6 +1,6 @@
 -- What was read so far is served, and nothing waits; each read leaves fewer reads.
 use Rattle.byte_unit_command.specs.Progress.{messages_of}
-use Rattle.byte_unit_command.specs.Streams.{reader_of, writer_of, reads_left, writing_failed}
+use Rattle.byte_unit_stream.specs.Streams.{reader_of, writer_of, reads_left, writing_failed}
 use Rattle.byte_unit_command.proofs.Served.{HasServed}
 use Rattle.byte_unit_command.proofs.run.run_in.Given as goal
 

@@ -5,16 +5,17 @@ use Rattle.std.proofs.lemmas.List.{length-take, take_all}
 use Rattle.std.proofs.lemmas.Result.{on_ok_weaker}
 use Rattle.std.proofs.KnownBytes.{Consumes-kept}
 use Rattle.byte_unit_lines.specs.Answer.{IsAnswer}
-use Rattle.byte_unit_lines.specs.Streams.{reader_of, writer_of}
+use Rattle.byte_unit_stream.specs.Streams.{reader_of, writer_of}
 use Rattle.byte_unit_lines.specs.declared.run.RunError.TheVariants.{Memory}
-use Rattle.byte_unit_lines.specs.Progress.{begun_line}
-use Rattle.byte_unit_lines.proofs.Lines.{begun_line-append}
 use Rattle.byte_unit_lines.proofs.Longest.{longest_of-ended_lines-append, longest_line-unfinished, longest_line-below}
 use Rattle.byte_unit_lines.proofs.Runs.{Course, IsServed, course_of, Consumes-piece, Consumes-at_end, Appends-more}
 use Rattle.byte_unit_lines.proofs.Runs.{HasServed-piece, finished_lines_answered}
 use Rattle.byte_unit_lines.proofs.Runs.{empty_from_length, nonempty_from_length, IsWritten-piece, IsWritten-error}
 use Rattle.byte_unit_lines.proofs.Runs.{report_without_last_line, first_lines_answered, IsWrittenBy}
 use Rattle.byte_unit_lines.proofs.Runs.{IsWritten-last_line}
+use Rattle.byte_unit_lines.specs.Lines.{line_end}
+use Rattle.byte_unit_stream.specs.Chunks.{begun_record}
+use Rattle.byte_unit_stream.proofs.Parts.{begun_record-append}
 use Rattle.byte_unit_lines.proofs.run.run_with_buffers.Goals as goal
 
 pub returns-in-None-clause-run : goal.returns-in-None-clause-run
@@ -58,7 +59,7 @@ reads-preserved g c =
     let fed = c.in_ok-answer_piece-in-Some.ensures in
     let answers = fed.written in
     let line = c.answer_piece.new.line in
-    let begun : length (begun_line [] so_far.read) ≤ c.args.longest =
+    let begun : length (begun_record line_end [] so_far.read) ≤ c.args.longest =
     omega (arith, ap length so_far.served.begun, c.reads.line.ok.0, within.unfinished) in
     let short : length piece ≤ length c.args.buffer.now =
     omega (arith, length-take c.in-Some.n c.read.new.buf, c.read.auto.buf, c.reads.auto.buffer) in (
@@ -93,8 +94,8 @@ returns-then-len-longest-clause-memory g c = λ _ _.
     let read = so_far.read ++ piece in
     let line = c.answer_piece.new.line in
     let fed = c.in_ok-answer_piece-in-Some.ensures in
-    let begun : line.items ≡ begun_line [] read =
-    fed.line ∙ ap (λ begun. begun_line begun piece) so_far.served.begun ∙ sym (begun_line-append [] so_far.read piece) in
+    let begun : line.items ≡ begun_record line_end [] read =
+    fed.line ∙ ap (λ begun. begun_record line_end begun piece) so_far.served.begun ∙ sym (begun_record-append line_end [] so_far.read piece) in
     let long = longest_line-unfinished read line.items begun in (
       read,
       Consumes-piece so_far rest piece c.in-Some.ensures.came,

@@ -1,5 +1,5 @@
-//! A reader and a writer in memory, which go in steps and change their behavior after some calls.
-use std::cell::Cell;
+//! A reader and a writer in memory that go in steps and change their behavior after some calls, for tests.
+
 use std::io::{self, Error, ErrorKind, Read, Write};
 
 /// Each call transfers all bytes.
@@ -82,39 +82,5 @@ impl Write for MemoryWriter {
 
     fn flush(&mut self) -> io::Result<()> {
         Ok(())
-    }
-}
-
-/// A reader that records at each call how many bytes a writer has accepted so far.
-#[derive(Drop)]
-pub struct NotingReader<'a> {
-    pub inner: MemoryReader<'a>,
-    pub taken: &'a Cell<usize>,
-    pub notes: Vec<usize>,
-}
-
-impl<'a> Read for NotingReader<'a> {
-    fn read(&mut self, buf: &mut [u8]) -> io::Result<usize> {
-        self.notes.push(self.taken.get())?;
-        self.inner.read(buf)
-    }
-}
-
-/// A writer that counts the bytes that it accepts.
-#[derive(Drop)]
-pub struct CountingWriter<'a> {
-    pub inner: MemoryWriter,
-    pub taken: &'a Cell<usize>,
-}
-
-impl<'a> Write for CountingWriter<'a> {
-    fn write(&mut self, bytes: &[u8]) -> io::Result<usize> {
-        let n = self.inner.write(bytes)?;
-        self.taken.set(self.taken.get().saturating_add(n));
-        Ok(n)
-    }
-
-    fn flush(&mut self) -> io::Result<()> {
-        self.inner.flush()
     }
 }

@@ -9,8 +9,8 @@ use Rattle.std.proofs.lemmas.Simd.{run_in_chunk_fails, run_in_chunk_stops}
 use Rattle.std.specs.List.{prefix_len}
 use lib.Count.{count_trailing_zeros}
 use lib.Lanes.{chunk, mask_l}
-use Rattle.byte_unit_command.proofs.Ends.{IsUnbroken-other_byte, IsUnbroken-other_bytes, EndsAt}
-use Rattle.byte_unit_command.proofs.search.end_of.Goals as goal
+use Rattle.byte_unit_stream.proofs.Ends.{IsUnbroken-other_byte, IsUnbroken-other_bytes, EndsAt}
+use Rattle.byte_unit_stream.proofs.search.end_of.Goals as goal
 
 abbrev is_end_byte : ℕ → ℕ → Bool
 is_end_byte end byte = eqb byte end

@@ -1,7 +1,7 @@
-//! Finds where a record or a field ends.
+//! Finds where a record ends.
 
 ghost use Rattle.std.specs.Prelude.{◌≡◌, ◌+◌, ◌^◌, ◌<◌, slice_index, take, length, IfSome, IfNone};
-ghost use Rattle.byte_unit_command.specs.Progress.{IsUnbroken};
+ghost use Rattle.byte_unit_stream.specs.Chunks.{IsUnbroken};
 
 use std::simd::prelude::*;
 
@@ -9,7 +9,7 @@ use std::simd::prelude::*;
 const LANES: usize = 16;
 
 /// Returns the index of the first end byte, or `None` if there is none.
-pub(crate) fn end_of(bytes: &[u8], end: u8) -> Option<usize>
+pub fn end_of(bytes: &[u8], end: u8) -> Option<usize>
     ensures some { IfSome result (λ n. (n < length bytes.now)
         × (slice_index bytes.now n ≡ end) × IsUnbroken end (take n bytes.now)) }
     ensures none { IfNone result (IsUnbroken end bytes.now) }

@@ -1,8 +1,10 @@
-//! A writer that records a failure.
+//! A writer that records a failure, and writing all of a buffer.
 
-ghost use Rattle.std.specs.Prelude.{false, ◌≡◌, ◌≤◌, ◌<◌, ◌↔◌, take, length, IsTrue, IsNone, IsSome, IfNone, IfSome};
-ghost use Rattle.byte_unit_command.specs.Streams.{HasWritten, HasWrittenNothing, writer_of, writing_failed};
-ghost use Rattle.byte_unit_command.specs.Streams.{output_closed};
+ghost use Rattle.std.specs.Prelude.{ℕ, List, false, ◌≡◌, ◌≤◌, ◌<◌, ◌↔◌, take, length};
+ghost use Rattle.std.specs.Prelude.{IsTrue, IsNone, IsSome, IfNone, IfSome, IfErr, OnOk, OnErr};
+ghost use Rattle.byte_unit_stream.specs.Prefix.{IsPrefix};
+ghost use Rattle.byte_unit_stream.specs.Streams.{HasWritten, HasWrittenNothing, writer_of, writing_failed};
+ghost use Rattle.byte_unit_stream.specs.Streams.{output_closed};
 
 use std::io::{ErrorKind, Write};
 
@@ -107,4 +109,30 @@ impl<W: Write> Writing<W> {
             Failure::Other
         });
     }
+}
+
+/// Writes all of `bytes`, in as many calls of the writer as it takes.
+///
+/// # Errors
+///
+/// Returns `error` if a write fails. A prefix of `bytes` has been written.
+pub fn write_whole<W: Write, E: Copy>(
+    writer: &mut Writing<W>,
+    bytes: &[u8],
+    error: E,
+) -> Result<(), E>
+    ensures ok { OnOk result (HasWritten W.contents writer.old writer.new bytes.now) }
+    ensures err { OnErr result ((written : List ℕ)
+        × HasWritten W.contents writer.old writer.new written × IsPrefix written bytes.now) }
+    ensures write { IfErr result (λ e. e ≡ error) }
+    ensures failed { OnErr result (IsTrue (writing_failed writer.new)) }
+{
+    let mut rest = bytes;
+    while !rest.is_empty() {
+        match writer.write(rest) {
+            None => return Err(error),
+            Some(n) => rest = &rest[n..],
+        }
+    }
+    Ok(())
 }

@@ -1,7 +1,7 @@
 -- The two loops: over chunks of 16 bytes, and over the bytes after them.
 use Rattle.std.proofs.Common.{length, take, ◌-◌, ◌≤◌}
-use Rattle.byte_unit_command.specs.Progress.{IsUnbroken}
-use Rattle.byte_unit_command.proofs.search.end_of.Given as goal
+use Rattle.byte_unit_stream.specs.Chunks.{IsUnbroken}
+use Rattle.byte_unit_stream.proofs.search.end_of.Given as goal
 
 -- no record ends before the index
 abbrev pub invariant-loop-i : goal.invariant-loop-i

@@ -1,7 +1,7 @@
 -- Lemmas: lists that begin with another list.
 use Rattle.std.proofs.Common.{◌≡◌, Bool, true, false, if◌then◌else◌, List, [], ◌++◌, length, take, sym, ap, subst, ◌∙◌, append_assoc, append-nil}
 use Rattle.std.proofs.Math.Seq.{take-append_seam}
-use Rattle.byte_unit_command.specs.Outcome.{IsPrefix}
+use Rattle.byte_unit_stream.specs.Prefix.{IsPrefix}
 
 module _ {X : Type 0} where
   -- a prefix of a list is a prefix of any list that continues it

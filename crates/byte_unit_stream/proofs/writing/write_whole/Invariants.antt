@@ -1,8 +1,8 @@
 -- What was written so far and the rest are all bytes; the rest gets shorter.
 use Rattle.std.proofs.Common.{length}
-use Rattle.byte_unit_command.specs.Streams.{writer_of}
-use Rattle.byte_unit_command.proofs.Bytes.{IsWrittenTo}
-use Rattle.byte_unit_command.proofs.finish.write_whole.Given as goal
+use Rattle.byte_unit_stream.specs.Streams.{writer_of}
+use Rattle.byte_unit_stream.proofs.Bytes.{IsWrittenTo}
+use Rattle.byte_unit_stream.proofs.writing.write_whole.Given as goal
 
 abbrev pub invariant-loop-rest : goal.invariant-loop-rest
 invariant-loop-rest g l =

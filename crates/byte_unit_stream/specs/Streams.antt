@@ -3,10 +3,10 @@
 -- input: of such a stream the words below say nothing.
 use Rattle.std.specs.Prelude.{ℕ, ◌-◌, ◌^◌, Bool, true, false, Option, Some, None, is_some, List}
 use Rattle.std.specs.Io.KnownBytes.{Appends, Consumes, IsAtEnd, Keeps}
-use Rattle.byte_unit_command.specs.declared.reading.Reading.{Reading}
-use Rattle.byte_unit_command.specs.declared.writing.Failure.{Failure}
-use Rattle.byte_unit_command.specs.declared.writing.Failure.TheVariants.{Closed, Other}
-use Rattle.byte_unit_command.specs.declared.writing.Writing.{Writing}
+use Rattle.byte_unit_stream.specs.declared.reading.Reading.{Reading}
+use Rattle.byte_unit_stream.specs.declared.writing.Failure.{Failure}
+use Rattle.byte_unit_stream.specs.declared.writing.Failure.TheVariants.{Closed, Other}
+use Rattle.byte_unit_stream.specs.declared.writing.Writing.{Writing}
 
 -- the reader inside a `Reading`
 abbrev pub reader_of : {R : Type 0} → Reading R → R

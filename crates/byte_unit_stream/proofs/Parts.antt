@@ -5,8 +5,8 @@ use Rattle.std.proofs.Common.{refl, sym, ap, subst, ◌∙◌, append_assoc, app
 use Rattle.std.proofs.lemmas.List.{take_more}
 use Rattle.std.proofs.lemmas.Bool.{eq-eqb, ne_eqb}
 use Rattle.std.specs.List.{onto_first}
-use Rattle.byte_unit_command.specs.Records.{parts, but_last, but_empty_last, records_of, finished_records}
-use Rattle.byte_unit_command.specs.Progress.{ended_records, begun_record, nonempty_record}
+use Rattle.byte_unit_stream.specs.Records.{parts, but_last, but_empty_last, records_of, finished_records}
+use Rattle.byte_unit_stream.specs.Chunks.{ended_records, begun_record, nonempty_record}
 
 -- the last part, or the empty list if there is none
 abbrev pub last_of : List (List ℕ) → List ℕ

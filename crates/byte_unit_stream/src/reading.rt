@@ -2,8 +2,8 @@
 
 ghost use Rattle.std.specs.Prelude.{◌≡◌, ◌+◌, ◌-◌, ◌^◌, ◌≤◌, ◌<◌, ◌↔◌, false, take, length};
 ghost use Rattle.std.specs.Prelude.{IsTrue, IsNone, IfNone, IfSome, OnSome};
-ghost use Rattle.byte_unit_lines.specs.Streams.{HasRead, HasReadAll, HasReadNothing};
-ghost use Rattle.byte_unit_lines.specs.Streams.{reader_of, reading_failed, reads_left};
+ghost use Rattle.byte_unit_stream.specs.Streams.{HasRead, HasReadAll, HasReadNothing};
+ghost use Rattle.byte_unit_stream.specs.Streams.{reader_of, reading_failed, reads_left};
 
 use std::io::Read;
 
