@@ -1,4 +1,4 @@
--- Capacity that suffices for the buffers of a run.
+-- Capacity that suffices for a run's buffers.
 use Rattle.std.specs.Prelude.{◌≡◌, ℕ, ◌+◌, ◌*◌, ◌≤◌, max, [], vec_len, vec_capacity, Option, None, Some}
 use Rattle.std.specs.declared.vec.Vec.{Vec}
 use Rattle.byte_unit.specs.Bounds.{expansion_places}

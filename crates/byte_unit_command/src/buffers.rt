@@ -92,9 +92,7 @@ fn form_max(form: Form, precision: Option<u16>) -> usize
 {
     match form {
         Form::Exact | Form::Plain => NARROW_TEXT,
-        Form::InUnit(_) | Form::Largest(_) => {
-            NARROW_TEXT + unit_places(precision)
-        }
+        Form::InUnit(_) | Form::Largest(_) => { NARROW_TEXT + unit_places(precision) }
     }
 }
 

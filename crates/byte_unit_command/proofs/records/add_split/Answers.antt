@@ -49,8 +49,7 @@ loop-n-preserved g c =
     let within = c.loop-n.invariant.1 in
     let taken : length (take place rest) ≡ place = length-take-le place rest (omega (arith, ends.0)) in
     let left : length (take (length rest - (place + 1)) (drop (place + 1) rest)) ≡ length rest - (place + 1) =
-    ap length rest_is ∙ length-drop (place + 1) rest in
-    (
+    ap length rest_is ∙ length-drop (place + 1) rest in (
       subst (λ rest. IsSplitting c.args.options.now c.args.place.now.word.now c.args.place.now.number c.args.delimiter c.args.bytes.now c.args.tally.now
           c.args.text.now.items (messages_of c.args.notices.now)
           (c.loop-n.number + 1) rest c.add_field.new.tally c.extend_from_slice.new.self.items (messages_of c.add_field.new.notices)) (sym rest_is) stepped,

@@ -244,8 +244,7 @@ returns-then-len-longest-clause-told g c =
     let more = answered.written in
     let read = so_far.read ++ piece in
     let served = IsServed-piece options c.args.word.now so_far.read so_far.written so_far.messages c.reads.buffers.part.items c.reads.progress
-    so_far.served piece more.0 more.1 c.answer_piece.new.part.items c.answer_piece.new.progress more.6 answered.part in
-    (
+    so_far.served piece more.0 more.1 c.answer_piece.new.part.items c.answer_piece.new.progress more.6 answered.part in (
       read,
       so_far.messages ++ more.1,
       so_far.told ++ more.2,
