@@ -1,8 +1,8 @@
 -- Lemmas: the loop over the records that end in a chunk.
 use Rattle.std.proofs.Common.{◌≡◌, ℕ, ◌+◌, List, [], ◌∷◌, ◌++◌, take, drop, refl, sym, ap, subst, ◌∙◌, append_assoc, append-nil, ◌⊎◌, inl, inr, ◌==◌, true, length}
-use Rattle.byte_unit_command.specs.Messages.{next_place}
-use Rattle.byte_unit_command.specs.Progress.{AddsRecords, Aborts, State, Stops}
+use Rattle.byte_unit_command.specs.Messages.{AreMessages, AreRecordMessages, last_place, next_place}
 use Rattle.byte_unit_stream.specs.Chunks.{ended_records, begun_record, IsUnbroken}
+use Rattle.byte_unit_command.specs.Progress.{AddsRecords, Aborts, State, Stops}
 use Rattle.byte_unit_command.specs.declared.options.Options.{Options}
 use Rattle.std.proofs.lemmas.Bool.{eqb-true}
 use Rattle.std.proofs.lemmas.List.{nil_from_length}
@@ -12,6 +12,7 @@ use Rattle.byte_unit_command.specs.declared.records.Progress.{Progress}
 use Rattle.byte_unit_command.specs.declared.stop.Stop.TheVariants.{Memory, Rejected}
 use Rattle.byte_unit_stream.proofs.Ends.{EndsAt, ended_records-EndsAt, begun_record-EndsAt}
 use Rattle.byte_unit_command.proofs.Converting.{AddsRecords-append, AddsRecords-none}
+use Rattle.byte_unit_command.proofs.Untold.{record-untold, records-untold}
 
 -- the state between two records of a chunk: the part of a record so far, the bytes that are left, and what was appended
 pub record Feed : Type 0 where
@@ -128,3 +129,19 @@ AddsRecords-same options records old {progress} {same} {out} {now} {messages} {t
     subst (λ told. AddsRecords options records old (state_of same now told)) (sym told_is)
     (subst (λ now. AddsRecords options records old (state_of same now messages)) (sym out_is)
     (subst (λ progress. AddsRecords options records old (state_of progress out messages)) (sym progress_is) adds))
+
+-- if there is no message about the records of the chunk, there is none about the next one
+pub IsNext-untold : (options : Options) (start now : Feed) (place : ℕ) (bytes : List ℕ) → IsFed options start now
+    → IsNext options now place bytes
+    → AreMessages options start.state.word start.state.place start.state.header (ended_records options.record_end start.part start.rest) []
+    → AreRecordMessages options now.state.word (next_place now.state.place) now.state.header bytes []
+IsNext-untold options start now place bytes fed next untold =
+    let others = ended_records options.record_end [] (drop (place + 1) now.rest) in
+    let added = fed.added in
+    let all = fed.ended ∙ ap (λ records. fed.converted ++ records) (ended_records-next options now place bytes next) in
+    let later = records-untold options start.state.word start.state.place start.state.header fed.converted (bytes ∷ others)
+    (subst (λ records. AreMessages options start.state.word start.state.place start.state.header records []) all untold) in
+    record-untold options now.state.word now.state.place now.state.header bytes others
+    (subst (λ word. AreMessages options word now.state.place now.state.header (bytes ∷ others) []) (sym added.word_is)
+    (subst (λ place. AreMessages options start.state.word place now.state.header (bytes ∷ others) []) (sym added.place_is)
+    (subst (λ header. AreMessages options start.state.word (last_place start.state.place fed.converted) header (bytes ∷ others) []) (sym added.header_is) later)))

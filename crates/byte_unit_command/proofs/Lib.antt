@@ -16,3 +16,8 @@ pub mod Joining
 pub mod Paddings
 pub mod Wrongs
 pub mod Rules
+pub mod Untold
+pub mod Rooms
+pub mod Longest
+pub mod Lengths
+pub mod Dues

@@ -17,3 +17,4 @@ pub mod Operands
 pub mod CommandLine
 pub mod Told
 pub mod WrongText
+pub mod Capacity

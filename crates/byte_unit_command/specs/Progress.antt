@@ -1,4 +1,4 @@
--- Private but for `no_tally`: how far a run has come, step by step.
+-- Private but for `no_tally`, `messages_of`: how far a run has come, step by step.
 use Rattle.std.specs.Prelude.{◌≡◌, ℕ, ◌+◌, ◌-◌, ◌≤◌, min, true, false, ◌||◌, if◌then◌else◌, ◌==◌, List, [], ◌∷◌, ◌++◌, Some, None}
 use Rattle.std.specs.Prelude.{length, ◌<◌, ◌⊎◌, Bool, MatchBool, IsTrue, Result, Ok, Err, ⊤}
 use Rattle.byte_unit.specs.Bounds.{size_limit}

@@ -1,11 +1,14 @@
 //! Converts one field.
 
-ghost use Rattle.std.specs.Prelude.{◌≡◌, ◌≤◌, ◌++◌, ◌⊎◌, length, OnOk, IfErr, IsErrOf, IsTrue, IsFalse, List, ℕ};
+ghost use Rattle.std.specs.Prelude.{◌≡◌, ◌+◌, ◌≤◌, ◌++◌, ◌⊎◌, length, OnOk, IsOk, IfErr, IsErrOf, IsTrue, IsFalse, Bool, List, [], ℕ};
+ghost use Rattle.std.specs.Prelude.{vec_len, vec_capacity};
 ghost use Rattle.byte_unit.specs.Forms.{text_limit};
+ghost use Rattle.byte_unit_command.specs.Capacity.{field_room};
 ghost use Rattle.byte_unit_command.specs.Field.{IsSize, IsNoSize};
 ghost use Rattle.byte_unit_command.specs.Fields.{IsChosen, InRange};
-ghost use Rattle.byte_unit_command.specs.Progress.{AddsField, IsRejectedField, messages_of, tally_with};
+ghost use Rattle.byte_unit_command.specs.Messages.{AreFieldMessages};
 ghost use Rattle.byte_unit_stream.specs.Prefix.{IsPrefix};
+ghost use Rattle.byte_unit_command.specs.Progress.{AddsField, IsRejectedField, messages_of, tally_with};
 
 use crate::notice::{Notices, add_limit_notice, add_reject_notice};
 use crate::options::{FieldRange, Invalid, Options};
@@ -14,6 +17,7 @@ use crate::size::accepted;
 use crate::stop::Stop;
 use crate::tally::Tally;
 use crate::text::add_size;
+use byte_unit::laws::texts_are_accepted_or_refused;
 use std::alloc::Allocator;
 
 /// Returns `true` if the field with this number is in one of the ranges.
@@ -85,6 +89,11 @@ pub(crate) fn add_field<A: Allocator>(
         → IsRejectedField options.now place.now.word.now place.now.number number field.now
         (messages_of notices.old) (messages_of notices.new) }
     ensures stop { IfErr result (λ stop. (stop ≡ Stop.Memory) ⊎ (stop ≡ Stop.Rejected)) }
+    ensures succeeds { vec_len text.old + field_room options.now (length field.now) ≤ vec_capacity text.old
+        → (is_rejected : Bool) → AreFieldMessages options.now place.now.word.now place.now.number number field.now
+        is_rejected [] → IsOk result }
+    ensures len { vec_len text.new ≤ vec_len text.old + field_room options.now (length field.now) }
+    ensures capacity { vec_capacity text.old ≤ vec_capacity text.new }
 {
     if !is_chosen(options.fields, number) {
         text.extend_from_slice(field)?;
@@ -118,6 +127,11 @@ pub(crate) fn add_chosen<A: Allocator>(
         → IsRejectedField options.now place.now.word.now place.now.number number field.now
         (messages_of notices.old) (messages_of notices.new) }
     ensures stop { IfErr result (λ stop. (stop ≡ Stop.Memory) ⊎ (stop ≡ Stop.Rejected)) }
+    ensures succeeds { vec_len text.old + field_room options.now (length field.now) ≤ vec_capacity text.old
+        → (is_rejected : Bool) → AreFieldMessages options.now place.now.word.now place.now.number number field.now
+        is_rejected [] → IsOk result }
+    ensures len { vec_len text.new ≤ vec_len text.old + field_room options.now (length field.now) }
+    ensures capacity { vec_capacity text.old ≤ vec_capacity text.new }
 {
     match accepted(options, field) {
         Some(size) => add_found(
@@ -153,7 +167,14 @@ fn add_found<A: Allocator>(
     ensures kept { IsPrefix text.old.items text.new.items }
     ensures kept_messages { IsPrefix (messages_of notices.old) (messages_of notices.new) }
     ensures stop { IfErr result (λ stop. stop ≡ Stop.Memory) }
+    ensures succeeds { vec_len text.old + field_room options.now (length field.now) ≤ vec_capacity text.old
+        → (is_rejected : Bool) → AreFieldMessages options.now place.now.word.now place.now.number number field.now
+        is_rejected [] → IsOk result }
+    ensures len { vec_len text.new ≤ vec_len text.old + field_room options.now (length field.now) }
+    ensures capacity { vec_capacity text.old ≤ vec_capacity text.new }
 {
+    // For the proof: no text has two sizes, or is both a size and rejected.
+    texts_are_accepted_or_refused();
     if tally.add(options, size) {
         add_limit_notice(options, place, number, field, size, notices)?;
     }
@@ -186,7 +207,14 @@ fn add_rejected<A: Allocator>(
         → IsRejectedField options.now place.now.word.now place.now.number number field.now
         (messages_of notices.old) (messages_of notices.new) }
     ensures stop { IfErr result (λ stop. (stop ≡ Stop.Memory) ⊎ (stop ≡ Stop.Rejected)) }
+    ensures succeeds { vec_len text.old + field_room options.now (length field.now) ≤ vec_capacity text.old
+        → (is_rejected : Bool) → AreFieldMessages options.now place.now.word.now place.now.number number field.now
+        is_rejected [] → IsOk result }
+    ensures len { vec_len text.new ≤ vec_len text.old + field_room options.now (length field.now) }
+    ensures capacity { vec_capacity text.old ≤ vec_capacity text.new }
 {
+    // For the proof: no text is both a size and rejected.
+    texts_are_accepted_or_refused();
     add_reject_notice(options, place, number, field, notices)?;
     copy_rejected(options, field, tally, text)
 }
@@ -209,6 +237,10 @@ fn copy_rejected<A: Allocator>(
     ensures tally { OnOk result (tally.new ≡ tally_with options.now tally.old None) }
     ensures rejected { IsErrOf result Stop.Rejected → options.now.invalid ≡ Invalid.Abort }
     ensures stop { IfErr result (λ stop. (stop ≡ Stop.Memory) ⊎ (stop ≡ Stop.Rejected)) }
+    ensures succeeds { vec_len text.old + length field.now ≤ vec_capacity text.old
+        → ¬ (options.now.invalid ≡ Invalid.Abort) → IsOk result }
+    ensures len { vec_len text.new ≤ vec_len text.old + length field.now }
+    ensures capacity { vec_capacity text.old ≤ vec_capacity text.new }
 {
     if options.invalid == Invalid::Abort {
         return Err(Stop::Rejected);

@@ -1,8 +1,11 @@
 //! The end of a run: the last record, and the total.
 
-ghost use Rattle.std.specs.Prelude.{◌≡◌, ◌≤◌, ◌⊎◌, ◌∷◌, ℕ, List, [], length, true, OnOk, OnErr, IfErr, IsErrOf, IsTrue};
+ghost use Rattle.std.specs.Prelude.{◌≡◌, ◌+◌, ◌≤◌, ◌⊎◌, ◌∷◌, ℕ, List, [], length, vec_len, vec_capacity, true};
+ghost use Rattle.std.specs.Prelude.{OnOk, OnErr, IfErr, IsOk, IsErrOf, IsTrue};
 ghost use Rattle.byte_unit.specs.Forms.{text_limit};
-ghost use Rattle.byte_unit_command.specs.Messages.{next_place};
+ghost use Rattle.byte_unit_command.specs.Capacity.{end_room, record_room, text_room};
+ghost use Rattle.byte_unit_command.specs.Messages.{AreMessages, next_place};
+ghost use Rattle.byte_unit_stream.specs.Prefix.{IsPrefix};
 ghost use Rattle.byte_unit_command.specs.Progress.{IsFinished, IsTotalWritten, AddsRecords, Aborts};
 ghost use Rattle.byte_unit_command.specs.Progress.{messages_of, state_of, Tells};
 ghost use Rattle.byte_unit_stream.specs.Chunks.{nonempty_record};
@@ -47,6 +50,9 @@ pub(crate) fn finish<A: Allocator, W: Write, E: Write>(
         × Tells (writing_failed errors.old) (writing_failed errors.new) messages told
         × IsFinished options.now part.now (state_of progress.old [] []) result written messages }
     ensures failed { IsErrOf result Stop.Write → IsTrue (writing_failed writer.new) }
+    ensures memory { vec_len waiting.old + end_room options.now (length part.now) ≤ vec_capacity waiting.old
+        → AreMessages options.now progress.old.place.word.now progress.old.place.number progress.old.header
+        (nonempty_record part.now) [] → ¬ IsErrOf result Stop.Memory }
 {
     let added = add_last(options, part, digits, progress, waiting, notices);
     notices.tell(errors);
@@ -85,6 +91,11 @@ fn add_last<A: Allocator>(
         × Aborts options.now progress.old.place.word.now (next_place progress.old.place.number) part.now
         (messages_of notices.old) (messages_of notices.new) × (nonempty_record part.now ≡ part.now ∷ []) }
     ensures stop { IfErr result (λ stop. (stop ≡ Stop.Memory) ⊎ (stop ≡ Stop.Rejected)) }
+    ensures succeeds { vec_len waiting.old + record_room options.now (length part.now) ≤ vec_capacity waiting.old
+        → AreMessages options.now progress.old.place.word.now progress.old.place.number progress.old.header
+        (nonempty_record part.now) [] → IsOk result }
+    ensures len { vec_len waiting.new ≤ vec_len waiting.old + record_room options.now (length part.now) }
+    ensures capacity { vec_capacity waiting.old ≤ vec_capacity waiting.new }
 {
     match part {
         [] => Ok(()),
@@ -113,6 +124,8 @@ fn write_with_total<A: Allocator, W: Write>(
         × HasWritten W.contents writer.old writer.new written
         × IsTotalWritten options.now total waiting.old.items result written }
     ensures failed { IsErrOf result Stop.Write → IsTrue (writing_failed writer.new) }
+    ensures memory { vec_len waiting.old + text_room options.now + 1 ≤ vec_capacity waiting.old
+        → ¬ IsErrOf result Stop.Memory }
 {
     if total >= TOTAL_LIMIT {
         write_whole(writer, waiting, Stop::Write)?;

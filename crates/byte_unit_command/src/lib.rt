@@ -2,6 +2,7 @@
 #![tactic(auto)]
 
 pub mod arguments;
+pub mod buffers;
 pub mod ending;
 mod field;
 pub mod field_list;

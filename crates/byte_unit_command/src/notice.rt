@@ -1,7 +1,7 @@
 //! Messages about fields, for standard error.
 
 ghost use Rattle.std.specs.Prelude.{◌≡◌, ◌++◌, [], take, length};
-ghost use Rattle.std.specs.Prelude.{List, ℕ, OnOk, true};
+ghost use Rattle.std.specs.Prelude.{List, ℕ, OnOk, IsOk, true, false};
 ghost use Rattle.std.specs.String.{string_bytes};
 ghost use Rattle.byte_unit_command.specs.Field.{IsNoSize};
 ghost use Rattle.byte_unit_command.specs.Fields.{IsChosen};
@@ -117,6 +117,7 @@ pub(crate) fn add_reject_notice<A: Allocator>(
         × AreFieldMessages options.now place.now.word.now place.now.number number field.now true text
         × (messages_of notices.new ≡ messages_of notices.old ++ text)) }
     ensures kept { IsPrefix (messages_of notices.old) (messages_of notices.new) }
+    ensures untold { has_rejected_told options.now.invalid ≡ false → IsOk result }
 {
     let told = tells_rejected(options.invalid);
     if !told {

@@ -1,10 +1,13 @@
 //! Converts one record.
 
-ghost use Rattle.std.specs.Prelude.{◌≡◌, ◌≤◌, ◌-◌, ◌⊎◌, length, OnOk, OnErr, IfErr, IsErrOf, ◌∷◌, [], Some};
+ghost use Rattle.std.specs.Prelude.{◌≡◌, ◌+◌, ◌≤◌, ◌-◌, ◌⊎◌, length, OnOk, OnErr, IsOk, IfErr, IsErrOf, ◌∷◌, [], Some};
+ghost use Rattle.std.specs.Prelude.{vec_len, vec_capacity};
 ghost use Rattle.byte_unit.specs.Forms.{text_limit};
-ghost use Rattle.byte_unit_command.specs.Messages.{next_place};
-ghost use Rattle.byte_unit_command.specs.Progress.{AddsFields, AddsRecords, Aborts, messages_of, no_tally, state_of};
+ghost use Rattle.byte_unit_command.specs.Capacity.{fields_room, record_room};
+ghost use Rattle.byte_unit_command.specs.Fields.{fields_of};
+ghost use Rattle.byte_unit_command.specs.Messages.{AreMessagesOfFields, AreRecordMessages, next_place};
 ghost use Rattle.byte_unit_stream.specs.Prefix.{IsPrefix};
+ghost use Rattle.byte_unit_command.specs.Progress.{AddsFields, AddsRecords, Aborts, messages_of, no_tally, state_of};
 
 use crate::field::{add_field, is_past};
 use crate::notice::Notices;
@@ -69,6 +72,11 @@ fn add_fields<A: Allocator>(
         → Aborts options.now place.now.word.now place.now.number bytes.now
         (messages_of notices.old) (messages_of notices.new) }
     ensures stop { IfErr result (λ stop. (stop ≡ Stop.Memory) ⊎ (stop ≡ Stop.Rejected)) }
+    ensures succeeds { vec_len text.old + fields_room options.now (length bytes.now) ≤ vec_capacity text.old
+        → AreMessagesOfFields options.now place.now.word.now place.now.number 1
+        (fields_of options.now.delimiter bytes.now) [] → IsOk result }
+    ensures len { vec_len text.new ≤ vec_len text.old + fields_room options.now (length bytes.now) }
+    ensures capacity { vec_capacity text.old ≤ vec_capacity text.new }
 {
     match options.delimiter {
         None => { add_field(options, place, 1, bytes, digits, tally, text, notices) }
@@ -102,6 +110,11 @@ fn add_split<A: Allocator>(
         → Aborts options.now place.now.word.now place.now.number bytes.now
         (messages_of notices.old) (messages_of notices.new) }
     ensures stop { IfErr result (λ stop. (stop ≡ Stop.Memory) ⊎ (stop ≡ Stop.Rejected)) }
+    ensures succeeds { vec_len text.old + fields_room options.now (length bytes.now) ≤ vec_capacity text.old
+        → AreMessagesOfFields options.now place.now.word.now place.now.number 1
+        (fields_of options.now.delimiter bytes.now) [] → IsOk result }
+    ensures len { vec_len text.new ≤ vec_len text.old + fields_room options.now (length bytes.now) }
+    ensures capacity { vec_capacity text.old ≤ vec_capacity text.new }
 {
     // For the proof: there are fewer fields than a `u64` counts.
     let _len = bytes.len();
@@ -148,6 +161,11 @@ pub(crate) fn add_record<A: Allocator>(
         × Aborts options.now progress.old.place.word.now (next_place progress.old.place.number) bytes.now
         (messages_of notices.old) (messages_of notices.new) }
     ensures stop { IfErr result (λ stop. (stop ≡ Stop.Memory) ⊎ (stop ≡ Stop.Rejected)) }
+    ensures succeeds { vec_len waiting.old + record_room options.now (length bytes.now) ≤ vec_capacity waiting.old
+        → AreRecordMessages options.now progress.old.place.word.now (next_place progress.old.place.number)
+        progress.old.header bytes.now [] → IsOk result }
+    ensures len { vec_len waiting.new ≤ vec_len waiting.old + record_room options.now (length bytes.now) }
+    ensures capacity { vec_capacity waiting.old ≤ vec_capacity waiting.new }
 {
     let len = waiting.len();
     let messages = notices.len();
@@ -181,6 +199,11 @@ fn append_record<A: Allocator>(
         × Aborts options.now progress.old.place.word.now (next_place progress.old.place.number) bytes.now
         (messages_of notices.old) (messages_of notices.new) }
     ensures stop { IfErr result (λ stop. (stop ≡ Stop.Memory) ⊎ (stop ≡ Stop.Rejected)) }
+    ensures succeeds { vec_len text.old + record_room options.now (length bytes.now) ≤ vec_capacity text.old
+        → AreRecordMessages options.now progress.old.place.word.now (next_place progress.old.place.number)
+        progress.old.header bytes.now [] → IsOk result }
+    ensures len { vec_len text.new ≤ vec_len text.old + record_room options.now (length bytes.now) }
+    ensures capacity { vec_capacity text.old ≤ vec_capacity text.new }
 {
     progress.place.number = progress.place.number.saturating_add(1);
     if progress.header > 0 {

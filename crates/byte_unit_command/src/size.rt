@@ -6,6 +6,7 @@ ghost use Rattle.byte_unit.specs.Forms.{text_limit};
 ghost use Rattle.byte_unit.specs.SizeReading.{IsBytesReading};
 ghost use Rattle.byte_unit.specs.Written.{WritesForm};
 ghost use Rattle.byte_unit.specs.declared.Kind.TheVariants.{Byte as InBytes, Bit as InBits};
+ghost use Rattle.byte_unit_command.specs.Capacity.{form_max};
 ghost use Rattle.byte_unit_command.specs.Field.{IsSize, IsNoSize, ignores_case};
 ghost use Rattle.byte_unit_command.specs.Shown.{IsFormText};
 
@@ -61,6 +62,7 @@ pub(crate) fn write_size(options: &Options, size: u128, out: &mut [u8]) -> usize
         (IsFormText options.now.kind options.now.form options.now.precision size)
         out.old out.new result }
     ensures small { result < text_limit }
+    ensures narrow { result ≤ form_max options.now.form options.now.precision }
 {
     match options.kind {
         Kind::Byte => write_byte(options, Byte::from_u128_unsafe(size), out),
@@ -73,6 +75,7 @@ fn write_byte(options: &Options, size: Byte, out: &mut [u8]) -> usize
     ensures written { WritesForm (IsFormText InBytes options.now.form options.now.precision size)
         out.old out.new result }
     ensures small { result < text_limit }
+    ensures narrow { result ≤ form_max options.now.form options.now.precision }
 {
     let precision = options.precision;
     let rounded = FormatSpec {
@@ -100,6 +103,7 @@ fn write_bit(options: &Options, size: Bit, out: &mut [u8]) -> usize
     ensures written { WritesForm (IsFormText InBits options.now.form options.now.precision size)
         out.old out.new result }
     ensures small { result < text_limit }
+    ensures narrow { result ≤ form_max options.now.form options.now.precision }
 {
     let precision = options.precision;
     let rounded = FormatSpec {

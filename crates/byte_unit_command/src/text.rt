@@ -1,17 +1,19 @@
 //! Appends the text of a size.
 
-ghost use Rattle.std.specs.Prelude.{◌≡◌, ◌<◌, ◌≤◌, ◌++◌, ℕ, List, length, take, replicate, OnOk};
+ghost use Rattle.std.specs.Prelude.{◌≡◌, ◌+◌, ◌<◌, ◌≤◌, ◌++◌, ℕ, List, length, max, take, replicate, OnOk, IsOk};
+ghost use Rattle.std.specs.Prelude.{vec_len, vec_capacity};
 ghost use Rattle.byte_unit.specs.Bounds.{size_limit};
 ghost use Rattle.byte_unit.specs.Forms.{text_limit};
-ghost use Rattle.byte_unit_command.specs.Shown.{IsShown, padded};
+ghost use Rattle.byte_unit_command.specs.Capacity.{short_room, text_room};
 ghost use Rattle.byte_unit_stream.specs.Prefix.{IsPrefix};
+ghost use Rattle.byte_unit_command.specs.Shown.{IsShown, padded};
 
 use crate::options::Options;
 use crate::size::write_size;
 use std::alloc::{AllocError, Allocator};
 
 /// The most bytes of a text that are copied in one piece of a constant length.
-const AT_ONCE: usize = 64;
+pub(crate) const AT_ONCE: usize = 64;
 
 /// Appends the text of a size to `text`. `digits` is a buffer for it.
 ///
@@ -31,6 +33,9 @@ pub(crate) fn add_size<A: Allocator>(
     ensures ok { OnOk result ((shown : List ℕ) × IsShown options.now size shown
         × (text.new.items ≡ text.old.items ++ shown)) }
     ensures kept { IsPrefix text.old.items text.new.items }
+    ensures succeeds { vec_len text.old + text_room options.now ≤ vec_capacity text.old → IsOk result }
+    ensures len { vec_len text.new ≤ vec_len text.old + text_room options.now }
+    ensures capacity { vec_capacity text.old ≤ vec_capacity text.new }
 {
     let len = write_size(options, size, digits);
     if options.width == 0 {
@@ -55,6 +60,9 @@ fn add_first<A: Allocator>(
     requires at_once { 64 ≤ length bytes.now }
     ensures ok { OnOk result (text.new.items ≡ text.old.items ++ take len bytes.now) }
     ensures kept { IsPrefix text.old.items text.new.items }
+    ensures succeeds { vec_len text.old + max short_room len ≤ vec_capacity text.old → IsOk result }
+    ensures len { vec_len text.new ≤ vec_len text.old + len }
+    ensures capacity { vec_capacity text.old ≤ vec_capacity text.new }
 {
     if len > AT_ONCE {
         return text.extend_from_slice(&bytes[..len]);
@@ -79,6 +87,9 @@ fn add_short<A: Allocator>(
     requires long { 64 ≤ length bytes.now }
     ensures ok { OnOk result (text.new.items ≡ text.old.items ++ take len bytes.now) }
     ensures kept { IsPrefix text.old.items text.new.items }
+    ensures succeeds { vec_len text.old + short_room ≤ vec_capacity text.old → IsOk result }
+    ensures len { vec_len text.new ≤ vec_len text.old + len }
+    ensures capacity { vec_capacity text.old ≤ vec_capacity text.new }
 {
     text.extend_from_slice(&bytes[..AT_ONCE])?;
     text.truncate(text.len() - (AT_ONCE - len));
@@ -99,6 +110,9 @@ fn add_padded<A: Allocator>(
     ensures ok { OnOk result
         (text.new.items ≡ text.old.items ++ padded width align_left bytes.now) }
     ensures kept { IsPrefix text.old.items text.new.items }
+    ensures succeeds { vec_len text.old + max width (length bytes.now) ≤ vec_capacity text.old → IsOk result }
+    ensures len { vec_len text.new ≤ vec_len text.old + max width (length bytes.now) }
+    ensures capacity { vec_capacity text.old ≤ vec_capacity text.new }
 {
     let missing = (width as usize).saturating_sub(bytes.len());
     if align_left {
@@ -118,6 +132,9 @@ fn add_padded<A: Allocator>(
 fn add_spaces<A: Allocator>(count: usize, text: &mut Vec<u8, A>) -> Result<(), AllocError>
     ensures ok { OnOk result (text.new.items ≡ text.old.items ++ replicate count 32) }
     ensures kept { IsPrefix text.old.items text.new.items }
+    ensures succeeds { vec_len text.old + count ≤ vec_capacity text.old → IsOk result }
+    ensures len { vec_len text.new ≤ vec_len text.old + count }
+    ensures capacity { vec_capacity text.old ≤ vec_capacity text.new }
 {
     for _i in 0..count {
         text.push(b' ')?;

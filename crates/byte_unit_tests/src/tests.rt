@@ -53,6 +53,7 @@ mod bounds;
 mod choices;
 mod command;
 mod command_call;
+mod command_capacity;
 mod command_forms;
 mod command_large;
 mod command_line;

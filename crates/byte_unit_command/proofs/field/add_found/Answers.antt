@@ -1,9 +1,10 @@
 -- A size adds its text, and the messages about it if it is beyond a limit.
-use Rattle.std.proofs.Common.{◌≡◌, ℕ, Bool, false, List, [], ◌++◌, sym, ap, subst, ◌∙◌, append-nil}
+use Rattle.std.proofs.Common.{◌≡◌, ℕ, Bool, false, true≢false, List, [], ◌++◌, sym, ap, subst, ◌∙◌, append-nil}
 use Rattle.byte_unit_command.specs.Messages.{AreLimitMessages}
 use Rattle.byte_unit_command.specs.Progress.{messages_of}
 use Rattle.byte_unit_command.proofs.Converting.{AddsField-size, AreLimitMessages-none}
 use Rattle.byte_unit_stream.proofs.Prefixes.{IsPrefix-self, IsPrefix-same}
+use Rattle.byte_unit_command.proofs.Untold.{within-untold}
 use Rattle.byte_unit_command.proofs.field.add_found.Goals.{then-add+in_ok-add_limit_notice, else-add}
 use Rattle.byte_unit_command.proofs.field.add_found.Goals as goal
 
@@ -39,3 +40,10 @@ returns-clause-kept_messages g c =
           IsPrefix-same before (ap messages_of w.notices-is) w.in_ok-add_limit_notice.ensures.kept
       | else-add w ↦ IsPrefix-same before (ap messages_of w.notices-is) (IsPrefix-self before)
     ]
+
+-- a size about which there is no message is beyond no limit
+pub returns-in_err-add_limit_notice-clause-succeeds : goal.returns-in_err-add_limit_notice-clause-succeeds
+returns-in_err-add_limit_notice-clause-succeeds g c = λ _ is_rejected untold.
+    let within = within-untold c.args.options.now c.args.place.now.word.now c.args.place.now.number c.args.number c.args.field.now
+    c.texts_are_accepted_or_refused.ensures c.args.size is_rejected c.requires.chosen c.requires.size untold in
+    absurd (true≢false (sym c.if-add.true ∙ c.add.ensures.beyond ∙ within))

@@ -1,6 +1,9 @@
 -- A field that is not a size adds a copy of itself, and a message about it.
+use Rattle.std.proofs.Common.{true≢false, ap, sym, ◌∙◌, arith}
+use Rattle.byte_unit_command.specs.Messages.{tells_rejected}
 use Rattle.byte_unit_command.specs.Progress.{messages_of}
 use Rattle.byte_unit_command.proofs.Converting.{AddsField-rejected}
+use Rattle.byte_unit_command.proofs.Untold.{ignored-untold}
 use Rattle.byte_unit_command.proofs.field.add_rejected.Goals as goal
 
 pub returns-clause-ok : goal.returns-clause-ok
@@ -22,3 +25,16 @@ returns-clause-rejected g c = λ is.
       are_messages = told.1;
       messages_are = told.2;
     }
+
+-- a rejected field about which there is no message is ignored
+pub returns-in_err-add_reject_notice-clause-succeeds : goal.returns-in_err-add_reject_notice-clause-succeeds
+returns-in_err-add_reject_notice-clause-succeeds g c = λ _ is_rejected untold.
+    let ignored = ignored-untold c.args.options.now c.args.place.now.word.now c.args.place.now.number c.args.number c.args.field.now
+    c.texts_are_accepted_or_refused.ensures is_rejected c.requires.chosen c.requires.none untold in
+    absurd (true≢false (sym (c.in_err-add_reject_notice.ensures.untold ignored)))
+
+pub returns-clause-succeeds : goal.returns-clause-succeeds
+returns-clause-succeeds g c = λ room is_rejected untold.
+    let ignored = ignored-untold c.args.options.now c.args.place.now.word.now c.args.place.now.number c.args.number c.args.field.now
+    c.texts_are_accepted_or_refused.ensures is_rejected c.requires.chosen c.requires.none untold in
+    c.copy_rejected.ensures.succeeds (omega (arith, room)) (λ abort. true≢false (sym (ap tells_rejected abort) ∙ ignored))

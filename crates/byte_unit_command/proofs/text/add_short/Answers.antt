@@ -1,5 +1,5 @@
 -- Of the bytes that are appended, truncating leaves the first `len`.
-use Rattle.std.proofs.Common.{take, ap, ◌∙◌, arith}
+use Rattle.std.proofs.Common.{true≢false, sym, take, ap, ◌∙◌, arith}
 use Rattle.std.proofs.lemmas.List.{length-take-le}
 use Rattle.byte_unit_command.proofs.Texts.{first_bytes}
 use Rattle.byte_unit_command.proofs.text.add_short.Goals as goal
@@ -19,3 +19,13 @@ returns-clause-ok g c =
 
 pub returns-clause-kept : goal.returns-clause-kept
 returns-clause-kept g c = (take c.args.len c.args.bytes.now, returns-clause-ok g c)
+
+pub returns-in_err-extend_from_slice-clause-succeeds : goal.returns-in_err-extend_from_slice-clause-succeeds
+returns-in_err-extend_from_slice-clause-succeeds g c = λ room.
+    let copied = length-take-le 64 c.args.bytes.now c.requires.long in
+    absurd (true≢false (sym (c.in_err-extend_from_slice.ensures.succeeds (omega (arith, room, copied)))))
+
+pub returns-clause-len : goal.returns-clause-len
+returns-clause-len g c =
+    let copied = length-take-le 64 c.args.bytes.now c.requires.long in
+    omega (arith, c.truncate.ensures.len, c.len.ensures, c.in_ok-extend_from_slice.ensures.len, copied)

@@ -1,0 +1,167 @@
+-- Lemmas: the bytes that texts take while they are appended.
+use Rattle.std.proofs.Common.{◌≡◌, ℕ, ◌+◌, ◌-◌, ◌*◌, ◌<◌, ◌≤◌, Option, None, Some, arith, List, [], length, vec_len, ap, sym, subst, ◌∙◌}
+use Rattle.std.proofs.Math.Nat.{mul-add, mul-le-mul_left, mul-one}
+use Rattle.std.specs.Prelude.{vec_capacity}
+use Rattle.std.specs.declared.vec.Vec.{Vec}
+use Rattle.byte_unit_command.specs.Capacity.{text_room, fields_max, fields_room, record_room, end_room, read_fields_max, read_room, SufficeFor}
+use Rattle.byte_unit_command.specs.Fields.{fields_of}
+use Rattle.byte_unit_command.specs.Messages.{AreMessagesOfFields}
+use Rattle.byte_unit_stream.specs.Records.{parts}
+use Rattle.byte_unit_command.specs.declared.options.Options.{Options}
+
+-- the texts of some fields and of others are those of both
+times-le : (room some others all : ℕ) → some + others ≤ all → room * some + room * others ≤ room * all
+times-le room some others all few =
+    let both : room * (some + others) ≡ room * some + room * others = mul-add room some others in
+    let most : room * (some + others) ≤ room * all = mul-le-mul_left room few in
+    subst (λ bytes. bytes ≤ room * all) both most
+
+-- the room of one field, without a delimiter
+pub fields_room-whole : (options : Options) (bytes : ℕ) → options.delimiter ≡ None → fields_room options bytes ≡ text_room options + bytes
+fields_room-whole options bytes none =
+    let room = text_room options in
+    ap (λ mark. room * fields_max mark bytes + bytes) none ∙ ap (λ texts. texts + bytes) (mul-one room)
+
+-- the room of fields between delimiters
+abbrev pub split_room : ℕ → ℕ → ℕ
+split_room room bytes = room * (bytes + 1) + bytes
+
+pub fields_room-split : (options : Options) (bytes delimiter : ℕ) → options.delimiter ≡ Some delimiter
+    → fields_room options bytes ≡ split_room (text_room options) bytes
+fields_room-split options bytes delimiter is =
+    let room = text_room options in ap (λ mark. room * fields_max mark bytes + bytes) is
+
+-- a field with its delimiter takes no more of it than the bytes after them leave
+pub split_room-step : (room rest place : ℕ) → place < rest
+    → room + place + 1 + split_room room (rest - (place + 1)) ≤ split_room room rest
+split_room-step room rest place fits =
+    let left = rest - (place + 1) in
+    let one : room * 1 ≡ room = mul-one room in
+    let texts : room * 1 + room * (left + 1) ≤ room * (rest + 1) = times-le room 1 (left + 1) (rest + 1) (omega (arith, fits)) in
+    omega (arith, one, texts, fits)
+
+-- one field more fits
+pub split_room-last : (room rest : ℕ) → room + rest ≤ split_room room rest
+split_room-last room rest =
+    let one : room * 1 ≡ room = mul-one room in
+    let texts : room * 1 + room * rest ≤ room * (rest + 1) = times-le room 1 rest (rest + 1) (omega arith) in
+    omega (arith, one, texts)
+
+-- the room of the records that end in a read, but for the end of the input
+abbrev pub feed_room : Options → ℕ → ℕ → ℕ
+feed_room options part rest = text_room options * read_fields_max options.delimiter part rest + part + rest
+
+module _ (options : Options) where
+  fields-step : (mark : Option ℕ) (part rest place : ℕ) → place < rest
+      → fields_max mark (part + place) + read_fields_max mark 0 (rest - (place + 1)) ≤ read_fields_max mark part rest
+  fields-step None part rest place fits = omega (arith, fits)
+  fields-step (Some delimiter) part rest place fits = omega (arith, fits)
+
+  -- a record with its end byte takes no more of it than the bytes after it leave
+  pub feed_room-step : (part rest place : ℕ) → place < rest
+      → record_room options (part + place) + feed_room options 0 (rest - (place + 1)) ≤ feed_room options part rest
+  feed_room-step part rest place fits =
+      let mark = options.delimiter in
+      let texts = times-le (text_room options) (fields_max mark (part + place)) (read_fields_max mark 0 (rest - (place + 1)))
+      (read_fields_max mark part rest) (fields-step mark part rest place fits) in
+      omega (arith, texts, fits)
+
+  fields-more : (mark : Option ℕ) (part rest longest chunk : ℕ) → part ≤ longest → rest ≤ chunk
+      → read_fields_max mark part rest ≤ read_fields_max mark longest chunk
+  fields-more None part rest longest chunk short few = few
+  fields-more (Some delimiter) part rest longest chunk short few = omega (arith, short, few)
+
+  -- a shorter record and a shorter read take no more
+  pub feed_room-read : (part rest : ℕ) → feed_room options part rest ≤ read_room options part rest
+  feed_room-read part rest =
+      let fields = read_fields_max options.delimiter part rest in
+      let texts : text_room options * fields ≤ text_room options * (fields + 1) = mul-le-mul_left (text_room options) (omega arith) in
+      omega (arith, texts)
+
+  pub read_room-more : (part rest longest chunk : ℕ) → part ≤ longest → rest ≤ chunk → read_room options part rest ≤ read_room options longest chunk
+  read_room-more part rest longest chunk short few =
+      let mark = options.delimiter in
+      let fields = fields-more mark part rest longest chunk short few in
+      let texts : text_room options * (read_fields_max mark part rest + 1) ≤ text_room options * (read_fields_max mark longest chunk + 1) =
+      mul-le-mul_left (text_room options) (omega (arith, fields)) in
+      omega (arith, texts, short, few)
+
+  fields-end : (mark : Option ℕ) (part longest chunk : ℕ) → part ≤ longest → 0 < chunk
+      → fields_max mark part ≤ read_fields_max mark longest chunk
+  fields-end None part longest chunk short some = some
+  fields-end (Some delimiter) part longest chunk short some = omega (arith, short, some)
+
+  -- nor does the end of the input
+  pub end_room-read : (part longest chunk : ℕ) → part ≤ longest → 0 < chunk → end_room options part ≤ read_room options longest chunk
+  end_room-read part longest chunk short some =
+      let mark = options.delimiter in
+      let room = text_room options in
+      let one : room * 1 ≡ room = mul-one room in
+      let fields = fields-end mark part longest chunk short some in
+      let texts : room * fields_max mark part + room * 1 ≤ room * (read_fields_max mark longest chunk + 1) =
+      times-le room (fields_max mark part) 1 (read_fields_max mark longest chunk + 1) (omega (arith, fields)) in
+      omega (arith, one, texts, short, some)
+
+  -- buffers that suffice for a longer record and a longer read suffice
+  pub SufficeFor-less : {Z : Type 0} (part rest longest chunk : ℕ) (parts_now waiting : Vec ℕ Z) → part ≤ longest → rest ≤ chunk
+      → SufficeFor options longest chunk parts_now waiting → SufficeFor options part rest parts_now waiting
+  SufficeFor-less part rest longest chunk parts_now waiting short few (part_fits, waiting_fits) =
+      (omega (arith, part_fits, short, few), omega (arith, waiting_fits, read_room-more part rest longest chunk short few))
+
+-- between two fields of a record: the text has grown by no more than the bytes that are no longer left account for, no
+-- capacity has fallen, and if there is no message about the record, there is none about the fields that are left
+pub record IsSplitWithin {Z : Type 0} (options : Options) (word : List ℕ) (place delimiter : ℕ) (bytes : List ℕ) (text : Vec ℕ Z)
+    (number : ℕ) (rest : List ℕ) (text_now : Vec ℕ Z) : Type 0 where
+  pub len : vec_len text_now + split_room (text_room options) (length rest) ≤ vec_len text + split_room (text_room options) (length bytes)
+  pub capacity : vec_capacity text ≤ vec_capacity text_now
+  pub untold : AreMessagesOfFields options word place 1 (parts delimiter bytes) []
+      → AreMessagesOfFields options word place number (parts delimiter rest) []
+
+-- in a text with capacity for the record, there is room for the fields that are left
+pub IsSplitWithin-fits : {Z : Type 0} {options : Options} {word : List ℕ} {place delimiter : ℕ} {bytes : List ℕ} {text : Vec ℕ Z}
+    {number : ℕ} {rest : List ℕ} {text_now : Vec ℕ Z} → IsSplitWithin options word place delimiter bytes text number rest text_now
+    → options.delimiter ≡ Some delimiter → vec_len text + fields_room options (length bytes) ≤ vec_capacity text
+    → vec_len text_now + split_room (text_room options) (length rest) ≤ vec_capacity text_now
+IsSplitWithin-fits {options = options} {delimiter = delimiter} {bytes = bytes} within is room =
+    omega (arith, within.len, within.capacity, room, fields_room-split options (length bytes) delimiter is)
+
+-- one more field and its delimiter keep this
+pub split_len-step : (room old all text rest place added ended left : ℕ) → place < rest
+    → text + split_room room rest ≤ old + split_room room all → added ≤ text + (room + place) → ended ≡ added + 1
+    → left ≡ rest - (place + 1) → ended + split_room room left ≤ old + split_room room all
+split_len-step room old all text rest place added ended left fits so_far more ended_is left_is =
+    subst (λ left. ended + split_room room left ≤ old + split_room room all) (sym left_is)
+    (omega (arith, split_room-step room rest place fits, so_far, more, ended_is))
+
+-- from the start to now, the buffers have grown by no more than the bytes that are no longer left account for, and no
+-- capacity has fallen
+pub record IsFedWithin {Z : Type 0} (options : Options) (part waiting : Vec ℕ Z) (bytes : List ℕ) (part_now waiting_now : Vec ℕ Z)
+    (rest : List ℕ) : Type 0 where
+  pub part_len : vec_len part_now + length rest ≤ vec_len part + length bytes
+  pub waiting_len : vec_len waiting_now + feed_room options (vec_len part_now) (length rest)
+      ≤ vec_len waiting + feed_room options (vec_len part) (length bytes)
+  pub part_capacity : vec_capacity part ≤ vec_capacity part_now
+  pub waiting_capacity : vec_capacity waiting ≤ vec_capacity waiting_now
+
+-- one more record keeps the room of the others
+pub feed_len-step : (options : Options) (most waiting part rest place added bytes next left : ℕ) → place < rest
+    → waiting + feed_room options part rest ≤ most → bytes ≡ part + place → added ≤ waiting + record_room options bytes
+    → next ≡ 0 → left ≡ rest - (place + 1) → added + feed_room options next left ≤ most
+feed_len-step options most waiting part rest place added bytes next left fits so_far bytes_are more none left_is =
+    let taken : added ≤ waiting + record_room options (part + place) =
+    subst (λ bytes. added ≤ waiting + record_room options bytes) bytes_are more in
+    subst (λ next. added + feed_room options next left ≤ most) (sym none)
+    (subst (λ left. added + feed_room options 0 left ≤ most) (sym left_is)
+    (omega (arith, feed_room-step options part rest place fits, so_far, taken)))
+
+-- in buffers that suffice, there is room for the next record
+pub IsFedWithin-fits : {Z : Type 0} {options : Options} {part waiting : Vec ℕ Z} {bytes : List ℕ} {part_now waiting_now : Vec ℕ Z}
+    {rest : List ℕ} → IsFedWithin options part waiting bytes part_now waiting_now rest
+    → SufficeFor options (vec_len part) (length bytes) part waiting → (place count : ℕ) → place < length rest
+    → count ≡ vec_len part_now + place → vec_len waiting_now + record_room options count ≤ vec_capacity waiting_now
+IsFedWithin-fits {options = options} {part = part} {bytes = bytes} {part_now = part_now} {waiting_now = waiting_now} {rest = rest} within
+    suffice place count ends count_is =
+    let read = feed_room-read options (vec_len part) (length bytes) in
+    let step = feed_room-step options (vec_len part_now) (length rest) place ends in
+    subst (λ count. vec_len waiting_now + record_room options count ≤ vec_capacity waiting_now) (sym count_is)
+    (omega (arith, within.waiting_len, within.waiting_capacity, suffice.1, read, step))

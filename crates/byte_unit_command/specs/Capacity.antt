@@ -1,0 +1,80 @@
+-- Capacity that suffices for a run's buffers.
+use Rattle.std.specs.Prelude.{◌≡◌, ℕ, ◌+◌, ◌*◌, ◌≤◌, max, [], vec_len, vec_capacity, Option, None, Some}
+use Rattle.std.specs.declared.vec.Vec.{Vec}
+use Rattle.byte_unit.specs.Bounds.{expansion_places}
+use Rattle.byte_unit.specs.Forms.{narrow_text}
+use Rattle.byte_unit_command.specs.Progress.{messages_of}
+use Rattle.byte_unit_command.specs.declared.buffers.Buffers.{Buffers}
+use Rattle.byte_unit_command.specs.declared.options.Form.{Form}
+use Rattle.byte_unit_command.specs.declared.options.Form.TheVariants.{Exact, Plain, InUnit, Largest}
+use Rattle.byte_unit_command.specs.declared.options.Options.{Options}
+
+-- the most digits after the point of a size in a given unit: no size has more than 93, unless the precision is greater
+abbrev pub unit_places : Option ℕ → ℕ
+unit_places None = expansion_places
+unit_places (Some precision) = max expansion_places precision
+
+-- the most bytes of such a text, without padding: 32 digits, the point, the digits after it, a space and three letters
+abbrev pub unit_text_max : Option ℕ → ℕ
+unit_text_max precision = 37 + unit_places precision
+
+-- the most bytes of the text of a size in a form, without padding
+abbrev pub form_max : Form → Option ℕ → ℕ
+form_max Exact precision = narrow_text
+form_max Plain precision = narrow_text
+form_max (InUnit unit) precision = unit_text_max precision
+form_max (Largest unit_type) precision = unit_text_max precision
+
+-- the bytes that a short text takes while it is appended
+abbrev pub short_room : ℕ
+short_room = 64
+
+-- the most bytes that the text of a size takes while it is appended
+abbrev pub text_room : Options → ℕ
+text_room options = max short_room (max options.width (form_max options.form options.precision))
+
+-- the most bytes that what is written for a field of this many bytes takes while it is appended: the text of a size, or
+-- the field itself
+abbrev pub field_room : Options → ℕ → ℕ
+field_room options bytes = text_room options + bytes
+
+-- the most fields of a record of this many bytes: one if there is no delimiter, and else one more than its bytes
+abbrev pub fields_max : Option ℕ → ℕ → ℕ
+fields_max None bytes = 1
+fields_max (Some delimiter) bytes = bytes + 1
+
+-- the most bytes that what is written for a record of this many bytes takes, without its end byte and with it
+abbrev pub fields_room : Options → ℕ → ℕ
+fields_room options bytes = text_room options * fields_max options.delimiter bytes + bytes
+
+abbrev pub record_room : Options → ℕ → ℕ
+record_room options bytes = fields_room options bytes + 1
+
+-- the most bytes that what is written at the end of the input takes, if the last record has this many bytes: that record
+-- and the line of the total
+abbrev pub end_room : Options → ℕ → ℕ
+end_room options bytes = record_room options bytes + text_room options + 1
+
+-- the most fields of the records that end in a read of at most `chunk` bytes, if at most `longest` bytes of the first of
+-- them were read before
+abbrev pub read_fields_max : Option ℕ → ℕ → ℕ → ℕ
+read_fields_max None longest chunk = chunk
+read_fields_max (Some delimiter) longest chunk = longest + chunk
+
+-- the most bytes that what is written after a read takes, or at the end of the input, with the line of the total
+abbrev pub read_room : Options → ℕ → ℕ → ℕ
+read_room options longest chunk =
+    text_room options * (read_fields_max options.delimiter longest chunk + 1) + longest + chunk + 1
+
+-- the buffers suffice for a next read of at most `chunk` bytes, if at most `longest` bytes of a record were read before
+abbrev pub SufficeFor : {Z : Type 0} → Options → ℕ → ℕ → Vec ℕ Z → Vec ℕ Z → Type 0
+SufficeFor options longest chunk part waiting =
+    (longest + chunk ≤ vec_capacity part) × (vec_len waiting + read_room options longest chunk ≤ vec_capacity waiting)
+
+-- the buffers of a run are empty
+abbrev pub AreEmpty : {A : Type 0} → Buffers A → Type 0
+AreEmpty buffers = (buffers.part.items ≡ []) × (buffers.waiting.items ≡ []) × (messages_of buffers.notices ≡ [])
+
+-- the buffers of a run suffice for records of at most `longest` bytes and reads of at most `chunk` bytes
+abbrev pub HaveCapacity : {A : Type 0} → Options → ℕ → ℕ → Buffers A → Type 0
+HaveCapacity options longest chunk buffers = SufficeFor options longest chunk buffers.part buffers.waiting

@@ -1,0 +1,240 @@
+//! Runs of the command `byte-unit` in buffers with capacity, in an arena where each allocation after the start fails.
+use super::asserting::assert_is;
+use super::command::PLAIN;
+use super::command_large::repeated;
+use super::command_streams::{AT_ONCE, MemoryReader, MemoryWriter};
+use bumpalo::Bump;
+use byte_unit::Unit;
+use byte_unit_command::buffers::Buffers;
+use byte_unit_command::options::{FieldRange, Form, Invalid, Options};
+use byte_unit_command::reading::Reading;
+use byte_unit_command::run::{run_with_buffers, run_with_capacity};
+use byte_unit_command::stop::Stop;
+use byte_unit_command::tally::Tally;
+use byte_unit_command::writing::Writing;
+use std::process::Abort;
+
+/// The length of a buffer that has capacity for the text of any size.
+const DIGITS: usize = 65_600;
+
+/// The capacity of the arena.
+const ARENA: usize = 1 << 26;
+
+/// The options of a call that copies rejected fields without a message.
+const IGNORE: Options<'static> = Options {
+    invalid: Invalid::Ignore,
+    ..PLAIN
+};
+
+/// The options of a call that goes on at a rejected field, with a message.
+const WARN: Options<'static> = Options {
+    invalid: Invalid::Warn,
+    ..PLAIN
+};
+
+/// The options of a call that converts each field of a line, and writes the total.
+const COLUMNS: Options<'static> = Options {
+    delimiter: Some(b','),
+    fields: &[FieldRange {
+        first: 1,
+        last: None,
+    }],
+    total: true,
+    ..IGNORE
+};
+
+/// The options of a call with all digits of a size in a unit.
+const IN_UNIT: Options<'static> = Options {
+    form: Form::InUnit(Unit::YiB),
+    ..COLUMNS
+};
+
+/// Returns a buffer that leaves this number of bytes of the arena.
+fn filled<'a>(rt: &impl Abort, arena: &'a Bump, left: usize) -> Vec<u8, &'a Bump> {
+    let rest = arena.chunk_capacity().saturating_sub(left);
+    let buffer = Vec::with_capacity(arena, rest).expect(rt, "memory");
+    assert_is(rt, arena.chunk_capacity(), left);
+    buffer
+}
+
+/// Asserts the result and the output of a run over `input` in reads of at most `step` bytes, with buffers for records
+/// of at most `longest` bytes. Each allocation of the run fails.
+fn expect(
+    rt: &(impl Abort + AllocGlobal),
+    options: &Options,
+    (longest, step): (usize, usize),
+    input: &[u8],
+    wanted: Result<Tally, Stop>,
+    output: &[u8],
+) {
+    let alloc = rt.alloc();
+    let arena = Bump::try_with_capacity(alloc, ARENA).expect(rt, "memory");
+    arena.set_allocation_limit(Some(0));
+    let mut buffers = Buffers::with_capacity(&arena, options, longest, step).expect(rt, "memory");
+    let _rest = filled(rt, &arena, 0);
+    let mut buffer = b" ".repeat(alloc, step.max(1)).expect(rt, "memory");
+    let mut reader = Reading::new(MemoryReader {
+        rest: input,
+        pace: AT_ONCE,
+    });
+    let mut writer = Writing::new(MemoryWriter {
+        taken: Vec::new(alloc),
+        pace: AT_ONCE,
+    });
+    let mut errors = Writing::new(Vec::new(alloc));
+    let result = run_with_buffers(
+        &mut buffers,
+        options,
+        "line",
+        longest,
+        &mut buffer,
+        &mut [0u8; DIGITS],
+        &mut reader,
+        &mut writer,
+        &mut errors,
+    );
+    let written = writer.into_inner().taken;
+    let found = (result, written.as_slice());
+    assert_eq!(rt;
+        found,
+        (wanted, output),
+        "limit and bytes a read: {longest} {step}"
+    );
+}
+
+/// The options, the limit and the bytes a read, the input, the result, and the output.
+type Row = (
+    Options<'static>,
+    (usize, usize),
+    &'static [u8],
+    Result<Tally, Stop>,
+    &'static [u8],
+);
+
+/// Records of at most 12 bytes, their output, and what is counted of them.
+const MIXED: &[u8] = b"1000,x,2KB,,\n1KiB\nabc,5\n0,1B,y,\xff,";
+
+const CONVERTED: &[u8] = b"1 KB,x,2 KB,,\n1 KiB\nabc,5 B\n0 B,1 B,y,\xff,\n4.03 KB\n";
+
+const COUNTED: Result<Tally, Stop> = Ok(Tally {
+    total: 4030,
+    beyond: false,
+    rejected: true,
+});
+
+/// What is counted of 1 KB and a rejected field.
+const ONE_REJECTED: Result<Tally, Stop> = Ok(Tally {
+    total: 1000,
+    beyond: false,
+    rejected: true,
+});
+
+/// Runs with a limit of 0, of 1 and of a few bytes, and with a large one.
+const LIMITS: &[Row] = &[
+    (PLAIN, (0, 1), b"", sum!(0), b""),
+    // With no capacity for a record, each must end in the read that it begins in.
+    (PLAIN, (0, 4), b"1KB\n2KB\n", sum!(3000), b"1 KB\n2 KB\n"),
+    (PLAIN, (0, 5), b"1KB\n2KB\n", Err(Stop::Memory), b"1 KB\n"),
+    (PLAIN, (1, 1), b"1\n2", sum!(3), b"1 B\n2 B\n"),
+    (PLAIN, (1, 1), b"1\n10", Err(Stop::Memory), b"1 B\n"),
+    (PLAIN, (4, 1), b"1000\n2KB", sum!(3000), b"1 KB\n2 KB\n"),
+    (PLAIN, (3, 1), b"1000\n", Err(Stop::Memory), b""),
+    // A longer record is converted if one read gives all of it.
+    (PLAIN, (3, 5), b"1000\n", sum!(1000), b"1 KB\n"),
+    (COLUMNS, (1 << 19, 4096), MIXED, COUNTED, CONVERTED),
+    // Messages are allocated. Without one, a rejected field ends the run as it does with memory.
+    (WARN, (4, 8), b"1KB\nx\n", Err(Stop::Memory), b"1 KB\n"),
+    (IGNORE, (4, 8), b"1KB\nx\n", ONE_REJECTED, b"1 KB\nx\n"),
+];
+
+#[test]
+fn records_and_the_limit(rt: HostRuntime) {
+    for (options, limits, input, wanted, output) in LIMITS {
+        expect(&rt, options, *limits, input, *wanted, output);
+    }
+    for step in 1..=MIXED.len() {
+        expect(&rt, &COLUMNS, (12, step), MIXED, COUNTED, CONVERTED);
+    }
+}
+
+/// A byte in YiB.
+const BYTE_IN_YIB: &[u8] =
+    b"0.00000000000000000000000082718061255302767487140869206996285356581211090087890625 YiB";
+
+#[test]
+fn many_long_texts(rt: HostRuntime) {
+    let input = repeated(&rt, b"1,", 999, b"1\n");
+    let wide = Options {
+        width: 200,
+        ..COLUMNS
+    };
+    let column = repeated(&rt, b" ", 197, b"1 B");
+    let rows = [(wide, column.as_slice()), (IN_UNIT, BYTE_IN_YIB)];
+    for (options, text) in &rows {
+        let options = Options {
+            total: false,
+            ..*options
+        };
+        let front = repeated(&rt, text, 1, b",");
+        let last = repeated(&rt, text, 1, b"\n");
+        let output = repeated(&rt, &front, 999, &last);
+        for step in [1, 7, 4096] {
+            expect(
+                &rt,
+                &options,
+                (input.len(), step),
+                &input,
+                sum!(1000),
+                &output,
+            );
+        }
+    }
+}
+
+/// The capacity of buffers for records of at most 4 bytes and reads of at most 8: for a record and a read; and for 9
+/// texts, a record and a read with a byte after them.
+const START: usize = (4 + 8) + (64 * 9 + 4 + 8 + 1);
+
+/// The limit on records, the bytes that can be allocated, and whether the run starts.
+const STARTS: &[(usize, usize, bool)] = &[
+    (4, START, true),
+    (4, START - 1, false),
+    (4, 12, false),
+    (4, 0, false),
+    (usize::MAX, START, false),
+    (usize::MAX - 8, START, false),
+];
+
+#[test]
+fn the_start(rt: HostRuntime) {
+    let alloc = rt.alloc();
+    for (longest, bytes, starts) in STARTS {
+        let arena = Bump::try_with_capacity(alloc, ARENA).expect(&rt, "memory");
+        arena.set_allocation_limit(Some(0));
+        let _rest = filled(&rt, &arena, *bytes);
+        let mut reader = Reading::new(MemoryReader {
+            rest: b"1000\n2KB",
+            pace: AT_ONCE,
+        });
+        let mut writer = Writing::new(Vec::new(alloc));
+        let started = run_with_capacity(
+            &arena,
+            &PLAIN,
+            "line",
+            *longest,
+            &mut [0u8; 8],
+            &mut [0u8; DIGITS],
+            &mut reader,
+            &mut writer,
+            &mut Writing::new(Vec::new(alloc)),
+        );
+        let left = reader.into_inner().rest.len();
+        let found = (started.ok(), left, writer.into_inner().len());
+        let wanted = if *starts {
+            (Some(sum!(3000)), 0, 10)
+        } else {
+            (None, 8, 0)
+        };
+        assert_is(&rt, found, wanted);
+    }
+}
