@@ -2,16 +2,15 @@
 use super::asserting::assert_is;
 use super::command::PLAIN;
 use super::command_large::repeated;
-use super::command_streams::{AT_ONCE, MemoryReader, MemoryWriter};
 use bumpalo::Bump;
 use byte_unit::Unit;
 use byte_unit_command::buffers::Buffers;
 use byte_unit_command::options::{FieldRange, Form, Invalid, Options};
-use byte_unit_command::reading::Reading;
 use byte_unit_command::run::{run_with_buffers, run_with_capacity};
 use byte_unit_command::stop::Stop;
 use byte_unit_command::tally::Tally;
-use byte_unit_command::writing::Writing;
+use byte_unit_stream::paced::{AT_ONCE, MemoryReader, MemoryWriter};
+use byte_unit_stream::{Reading, Writing};
 use std::process::Abort;
 
 /// The length of a buffer that has capacity for the text of any size.
