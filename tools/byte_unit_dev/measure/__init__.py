@@ -44,7 +44,7 @@ def head_of(given):
     commit = output("git", "log", "-1", "--format=%h", "--", "crates", "bindings", cwd=path()).strip()
     found = re.search(r"^model name\s*: (.*)$", read("/proc/cpuinfo"), re.M)
     return (f"Measured on {datetime.date.today()} on {os.cpu_count()} processors ({found[1] if found else 'unknown'}), "
-            f"of commit {commit}; minimum of {given.rounds} rounds.")
+            f"of commit {commit}; minimum of {given.rounds} round{'s' * (given.rounds > 1)}.")
 
 
 def with_part(page, name, text):
