@@ -1,7 +1,6 @@
 """What the tests of bindings, command and tools share: options, the built library, and the way to report."""
 
 import os
-import random
 import sys
 
 import pytest
@@ -11,7 +10,6 @@ sys.dont_write_bytecode = True
 sys.path.insert(0, os.path.join(ROOT, "tools"))
 
 from byte_unit_dev.common import call, path  # noqa: E402
-from byte_unit_dev.model.lines import some_line  # noqa: E402
 
 pytest_plugins = ["byte_unit_dev.fixtures"]
 
@@ -33,7 +31,8 @@ def pytest_collection_modifyitems(config, items):
 
 @pytest.fixture(scope="session")
 def program_of(request):
-    """Returns the program of a crate, which `rt run` or `rt ci` builds; without it the test is skipped."""
+    """Returns the program of a crate, which `rt run` or `rt ci` builds; without it the test is skipped, or fails after
+    `rt ci`."""
     def found(crate):
         name = os.path.abspath(request.config.getoption("program") or path("crates", crate, "out", crate))
         if not os.access(name, os.X_OK):
@@ -54,14 +53,8 @@ def library(request, tmp_path_factory):
 
 
 @pytest.fixture(scope="session")
-def rng(request):
-    return random.Random(request.config.getoption("seed"))
-
-
-@pytest.fixture(scope="session")
-def lines(request, rng):
-    """Generated lines, without their ends."""
-    return [some_line(rng) for _ in range(request.config.getoption("lines"))]
+def seed(request):
+    return request.config.getoption("seed")
 
 
 def pytest_terminal_summary(terminalreporter):

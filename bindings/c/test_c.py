@@ -52,11 +52,9 @@ def test_memory_that_ends_at_an_unmapped_page(compiled):
 
 
 @pytest.mark.parametrize("kind", ["byte", "bit"])
-@pytest.mark.parametrize("other", [None, "crates/byte_unit_lines/out/byte_unit_lines"], ids=["model", "program"])
-def test_lines(compiled, check_lines, kind, other):
-    if other and not os.path.exists(path(other)):
-        pytest.skip(f"{other} is not built")
-    check_lines([compiled("checks/lines.c")], kind, other and path(other))
+@pytest.mark.parametrize("other", [None, "byte_unit_lines"], ids=["model", "program"])
+def test_lines(compiled, check_lines, program_of, kind, other):
+    check_lines([compiled("checks/lines.c")], kind, other and program_of(other))
 
 
 # Each format of Rust that the comments of the header name: its text of 1536 bytes, and of 1537 bytes in KiB.

@@ -201,13 +201,10 @@ def test_without_compiler(library, tmp_path):
     assert not [name for name in files_in(tmp_path) if ".so" in name]
 
 
-def test_command(library, tmp_path, request):
+def test_command(library, tmp_path, program_of):
     """The command is installed with its manual page and its completions."""
-    built = path("crates/byte_unit_cli/out/byte_unit_cli")
-    if not os.path.exists(built) and not request.config.getoption("after_ci"):
-        pytest.skip("crates/byte_unit_cli/out/byte_unit_cli is not built")
     source, prefix = shutil.copytree(library, tmp_path / "with-command"), tmp_path / "prefix"
-    shutil.copy(built, source / "byte-unit")
+    shutil.copy(program_of("byte_unit_cli"), source / "byte-unit")
     output(*INSTALL, "--from", source, prefix)
     assert output(prefix / "bin/byte-unit", "--to=plain", "1.5KiB") == "1536\n"
     files = {"bin/byte-unit", "share/man/man1/byte-unit.1", "share/bash-completion/completions/byte-unit"}

@@ -93,8 +93,8 @@ def some_limit(rng, texts):
 
 @dataclass
 class Drawn:
-    """How often an option is drawn, what draws its value, how its wrong values begin (the first is wrong alone), and the
-    option that it needs or that it cannot be with."""
+    """How often an option is drawn, what draws its value, how its wrong values begin (the first is wrong alone), and
+    the option that it needs or that it cannot be with."""
 
     percent: int
     text: object = lambda rng, texts: ""

@@ -36,7 +36,7 @@ def write(name, text):
 
 
 def call(*words, **more):
-    """Runs a program. Returns its status and its output, as text, with its errors in it unless `more` says otherwise."""
+    """Runs a program. Returns its status and its output as text, with its errors unless `more` says otherwise."""
     how = {"stdout": subprocess.PIPE, "stderr": subprocess.STDOUT, "encoding": "utf-8", "errors": "replace"}
     return subprocess.run([str(word) for word in words], check=False, **{**how, **more})
 

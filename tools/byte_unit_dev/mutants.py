@@ -21,6 +21,7 @@ import glob
 import os
 import re
 import shutil
+import signal
 import subprocess
 import tempfile
 
@@ -28,6 +29,8 @@ from .catalogue import part_of, split
 from .common import one_of, path, read, report, write
 
 EXAMPLES = re.compile(r"example_|byte_unit_(uses|tests)$")
+# What the names of the mutants begin with that `put` copies.
+BY_TURN = "by-turn."
 # A signature up to the line that begins its body.
 FUNCTION = re.compile(r'^ *pub (extern "C" )?fn (\w+)(.*?)(?:^ *\{\}?| \{)$', re.M | re.S)
 IMPL = re.compile(r"^impl(?:<[^>]*>)? (\w+)", re.M)
@@ -40,7 +43,8 @@ def catalogue_of(crate):
 
 def titles_of(crate):
     edits = glob.glob("*.edit", root_dir=path("crates", crate, "must-fail"))
-    return sorted([*(name.removesuffix(".edit") for name in edits), *catalogue_of(crate)])
+    own = [name.removesuffix(".edit") for name in edits if not name.startswith(BY_TURN)]
+    return sorted([*own, *catalogue_of(crate)])
 
 
 def public_functions(crate):
@@ -95,10 +99,15 @@ def tried(crates, part):
             shutil.copy(path(name), copy)
         names = [f"{crate}/{name}" for crate in crates for name in put(crate, part, f"{copy}/crates/{crate}/must-fail")]
         said, more = "", {"stdout": subprocess.PIPE, "stderr": subprocess.STDOUT, "errors": "replace"}
-        with subprocess.Popen(["rt", "must-fail", *crates], cwd=copy, encoding="utf-8", **more) as process:
-            for line in process.stdout:
-                print(line, end="", flush=True)
-                said += line
+        words = ["rt", "must-fail", *crates]
+        with subprocess.Popen(words, cwd=copy, encoding="utf-8", start_new_session=True, **more) as process:
+            try:
+                for line in process.stdout:
+                    print(line, end="", flush=True)
+                    said += line
+            except BaseException:
+                os.killpg(process.pid, signal.SIGTERM)
+                raise
     survived = [name for name in names if f"must-fail {name}: NOT REFUSED" in said]
     rejected = [name for name in names if f"must-fail {name}: refused, as it must be" in said]
     untried = sorted({*names} - {*survived, *rejected})
@@ -109,7 +118,7 @@ def tried(crates, part):
 
 
 def remove():
-    for name in glob.glob(path("crates/*/must-fail/by-turn.*")):
+    for name in glob.glob(path(f"crates/*/must-fail/{BY_TURN}*")):
         os.remove(name)
     for folder in glob.glob(path("crates/*/must-fail")):
         if not os.listdir(folder):
@@ -148,5 +157,6 @@ def run(given):
     crates = crates_with("mutants.edits")
     if given.action == "try":
         return tried(sorted(set(given.crates or crates)), given.part)
-    count = sum(len(put(crate, given.part, path("crates", crate, "must-fail"), "by-turn.")) for crate in crates)
+    remove()
+    count = sum(len(put(crate, given.part, path("crates", crate, "must-fail"), BY_TURN)) for crate in crates)
     print(f"{count} mutants of the catalogues for rt ci")

@@ -7,6 +7,7 @@ import functools
 import glob
 import os
 import shutil
+import subprocess
 import sys
 
 from .common import call
@@ -30,7 +31,8 @@ PACKAGES = {
 }
 # What only measurements need.
 COMPARED = {
-    f"{DEBIAN_RUST}/rust_decimal-*": "librust-rust-decimal-dev", f"{DEBIAN_RUST}/utf8-width-*": "librust-utf8-width-dev",
+    f"{DEBIAN_RUST}/rust_decimal-*": "librust-rust-decimal-dev",
+    f"{DEBIAN_RUST}/utf8-width-*": "librust-utf8-width-dev",
     "import humanfriendly": "python3-humanfriendly", "import humanize": "python3-humanize", "valgrind": "valgrind",
 }
 # The Python package needs CPython 3.11 or later, which has tomllib.
@@ -71,7 +73,7 @@ def installed(packages):
     words = ["apt-get", "install", "--yes", "--quiet", "--no-install-recommends"]
 
     def fails(*names):
-        return call(*words, *names, stdin=-3).returncode != 0
+        return call(*words, *names, stdin=subprocess.DEVNULL).returncode != 0
 
     if not fails(*packages) or call("apt-get", "update", "--quiet").returncode == 0 and not fails(*packages):
         return []

@@ -4,6 +4,9 @@
 
 Without a part, runs all. A test is skipped only if a program or file that it needs is missing; a line that begins with
 `skipped: ` names it. The last line is `N passed, N failed`, with `, N skipped` after it if some were.
+
+Of pytest's arguments, `-k WORD` chooses tests, `--whole` also runs long tests and inputs of 1 GB; `--calls=N` and
+`--program=FILE` are for `command`.
 """
 
 import os
@@ -32,6 +35,7 @@ def arguments(parser):
     parser.add_argument("--lines", type=int, default=4000, help="the number of generated lines")
     parser.add_argument("--seed", type=int, default=1, help="chooses what is generated")
     parser.add_argument("parts", nargs="*", metavar="PART", help=" ".join(PARTS))
+    parser.set_defaults(reject=parser.error)
 
 
 def interpreter():
@@ -51,12 +55,12 @@ def without_pytest(parts):
 
 
 def run(given):
-    parts = [word for word in given.parts if not word.startswith("-")]
+    end = next((at for at, word in enumerate(given.parts) if word.startswith("-")), len(given.parts))
+    parts, more = given.parts[:end], given.parts[end:]
     wrong = [part for part in parts if part not in PARTS]
     if wrong:
-        raise Failure(f"'{wrong[0]}' is no part; these are: {' '.join(PARTS)}")
-    words = [f"--lines={given.lines}", f"--seed={given.seed}", *["--after-ci"] * given.after_ci]
-    words += [word for word in given.parts if word.startswith("-")]
+        given.reject(f"'{wrong[0]}' is no part; these are: {' '.join(PARTS)}")
+    words = [f"--lines={given.lines}", f"--seed={given.seed}", *["--after-ci"] * given.after_ci, *more]
     chosen = [path(PARTS[part]) for part in parts or PARTS]
     os.chdir(ROOT)
     python = interpreter()

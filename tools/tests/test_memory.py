@@ -80,9 +80,11 @@ def wrong_endings(root, last):
     Those in refused.rt use the global allocator, and have to pass. Others may end with the error itself.
     """
     with ThreadPoolExecutor(LANES) as pool:
-        runs = pool.map(lambda number: tried("byte_unit_tests", number, "--test", root=root), range(1, last + 1))
+        runs = list(pool.map(lambda number: tried("byte_unit_tests", number, "--test", root=root), range(1, last + 1)))
+    names = [sorted(re.findall(r"^test (\S+) \.\.\. ", run.stdout, re.M)) for run in runs]
     for number, run in enumerate(runs, 1):
         assert "test tests::refused::" in run.stdout, run.stderr
+        assert names[number - 1] == names[-1], f"allocation {number} fails: not all tests end\n{run.stderr}"
         for name, end, error in re.findall(r"^test (\S+) \.\.\. (\w+)\n(?:    (.*)\n)?", run.stdout, re.M):
             if end != "ok" and ("::refused::" in name or not FAILURE.fullmatch(error)):
                 yield f"allocation {number} fails: {name} ends with {error}"
@@ -134,6 +136,7 @@ def test_command(program_of, shim, words, data, on):
     with ThreadPoolExecutor(LANES) as pool:
         for start in count(1, 32):
             runs = list(pool.map(lambda at: failing_call(program, shim, words, data, at, on), range(start, start + 32)))
+            assert start > 1 or data is not MANY or runs[0][1], "no allocation failed"
             for number, (got, failed) in enumerate(runs, start):
                 assert got == wanted or failed and is_out_of_memory(got, wanted, end), number
             if not all(failed for _, failed in runs):

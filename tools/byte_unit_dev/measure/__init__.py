@@ -1,4 +1,4 @@
-"""Measures speed, beside other programs, and the processor time of proofs, and writes the tables of docs/SPEED.md.
+"""Measures speed, beside other programs, and the processor time of proofs; with --write in the tables of docs/SPEED.md.
 
   program   user seconds of byte_unit_lines, beside an earlier build (--before), the Rust crate (--original) and numfmt;
             by valgrind, instructions and branch mispredictions per line

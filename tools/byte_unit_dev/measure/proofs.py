@@ -114,6 +114,8 @@ def tests(given):
 def gate(given):
     if given.log:
         found = re.findall(r"^(?:real|user|sys)\s+(\d+)m([\d.]+)s$", read(os.path.abspath(given.log)), re.M)
+        if len(found) < 3:
+            raise Failure(f"{given.log} has no output of `time`")
         elapsed, *used = [int(minutes) + float(seconds) / 60 for minutes, seconds in found[-3:]]
     else:
         begin = time.monotonic()

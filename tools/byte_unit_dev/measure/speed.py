@@ -37,8 +37,10 @@ COMMAND = [
 def one_processor():
     before = os.sched_getaffinity(0)
     os.sched_setaffinity(0, {max(before)})
-    yield
-    os.sched_setaffinity(0, before)
+    try:
+        yield
+    finally:
+        os.sched_setaffinity(0, before)
 
 
 def user_time(command, file):

@@ -51,7 +51,7 @@ def read(text, kind):
 
 
 def form(size, kind):
-    """Returns the size in the largest unit of its kind, not above it, that represents it exactly with at most three decimals."""
+    """Returns the size in the largest unit of its kind, not above it, in which three decimals represent it exactly."""
     bit = kind == "bit"
     in_bits = size * (1 if bit else 8)
     end = "b" if bit else "B"

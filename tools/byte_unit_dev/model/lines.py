@@ -1,4 +1,4 @@
-"""Generates random lines: short and long numbers, valid and invalid units, white space, and bytes that are not UTF-8."""
+"""Generates random lines: short and long numbers, valid and invalid units, white space, bytes that are not UTF-8."""
 
 from .exact import LETTERS
 

@@ -10,10 +10,9 @@ answers of the library with another digit is not found to be wrong, or if docs/D
 """
 
 import random
-import subprocess
 import tempfile
 
-from ..common import read, report
+from ..common import output, read, report
 from . import build, rules
 from .library import Library
 from .requests import requests
@@ -56,8 +55,7 @@ def calls_of(words):
 
 def by_program(program, lines):
     """Returns the answers of a program to each request."""
-    said = subprocess.run([program], input="\n".join([*lines, ""]).encode(), stdout=subprocess.PIPE, check=True).stdout
-    return [line.split("\t") for line in said.decode().split("\n")[:-1]]
+    return [line.split("\t") for line in output(program, input="\n".join([*lines, ""]), stderr=None).split("\n")[:-1]]
 
 
 def changed(answer, rng):
@@ -85,9 +83,10 @@ def compared(lines, original, ours, seed):
 
 def run(given):
     with tempfile.TemporaryDirectory() as work:
+        original = build.original(given.original, work)
         library = build.library_of(given.library, work)
         lines = list(requests(random.Random(given.seed), given.count))
-        theirs = by_program(build.built(PROGRAM, build.original(given.original, work)), lines)
+        theirs = by_program(build.built(PROGRAM, original), lines)
         if given.package:
             ours = by_program(build.built(PROGRAM, build.package(work), library), lines)
         else:

@@ -8,7 +8,7 @@
     command   the commands of command/README.md print what is below them
     examples  the examples of the doc comments hold, and each public function of the library has a doc comment
 
-Prints each finding, with its file and line; the exit status is then 1. All but readme, command and examples take
+Prints each finding; the exit status is then 1. All but readme, command and examples take
 seconds. A check begins with a line `skipped: ` for each program that it runs and that is not built.
 """
 
@@ -28,7 +28,7 @@ def arguments(parser):
 
 def run(given):
     checks, status = {**CHECKS, "examples": lambda: examples.examples(given.crate)}, 0
-    for what in checks if "all" in given.what else given.what or QUICK:
+    for what in checks if "all" in given.what else given.what or ([*QUICK] if not given.crate else ["examples"]):
         try:
             findings, fine = checks[what]()
         except Failure as failure:

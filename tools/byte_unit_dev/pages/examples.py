@@ -138,7 +138,7 @@ def failures(examples, uses):
         if ends.get(example.test) != "ok":
             why = re.search(rf"^test {EXAMPLES}::{example.test} \.\.\. \w+\n((?:    .*\n)*)", told, re.M)
             wrong.append(f"{example.file}:{example.line}: the example fails\n{why[1] if why else ''}".rstrip())
-    return wrong
+    return wrong or [told.strip()] * (got.returncode != 0)
 
 
 def examples(chosen):

@@ -19,11 +19,9 @@ WORDS = {
 # Names of std, the kit, the original crate and other programs, and what programs make.
 OTHERS = set("""
 axioms Env CowStr rattle_alloc rattle_realloc rattle_dealloc rattle_arg rattle_errno rattle_set_errno rattle_env
-rattle_env_at lseek getcwd chdir isatty SHORTER_PROOFS.md mul_8 div_8 rocket schemars ctypes _cffi_backend REINDEX
-d61ab51 _in Ko crates/quota/src/main.rt crates/byte_unit_cli/out/byte_unit_cli /usr/local/lib DIR/byte-unit
-crates/byte_unit_lines/out/byte_unit_lines include/byte_unit.h lib/libbyte_unit.a lib/libbyte_unit.so
-lib/pkgconfig/byte_unit.pc lib/sqlite3/byte_unit.so share/man/man3/byte_unit.3 bin/byte-unit share/byte_unit/
-share/man/man1/byte-unit.1 share/bash-completion/completions/byte-unit
+rattle_env_at lseek getcwd isatty SHORTER_PROOFS.md mul_8 div_8 rocket schemars ctypes REINDEX _in Ko
+crates/quota/src/main.rt crates/byte_unit_cli/out/byte_unit_cli /usr/local/lib
+crates/byte_unit_lines/out/byte_unit_lines lib/sqlite3/byte_unit.so
 """.split())
 NAME = re.compile(r"[A-Za-z_]\w*(?:(?:::|\.)\w+)*(?:\(.*\))?!?")
 PATH = re.compile(r"\.{0,2}/?[\w.*\-]+(?:/[\w.*\-]+)+/?")
