@@ -1,5 +1,6 @@
 -- The lemmas that the proofs of this crate rest on, from the lists of characters up to the parsers and the choice.
 pub mod Lists
+pub mod ExpectedLists
 pub mod Lines
 pub mod Options
 pub mod Trim

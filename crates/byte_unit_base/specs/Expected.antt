@@ -1,5 +1,5 @@
--- The characters that an error of a unit names as expected. Contracts of private functions cite this file, and those of
--- the C API through its `Error`.
+-- The characters that an error of a unit names as expected. Contracts of `Expected` cite this file, those of private
+-- functions, and those of the C API through its `Error`.
 use Rattle.std.specs.Prelude.{ℕ, Bool, true, false, List, [], ◌++◌, codes}
 use Rattle.byte_unit_base.specs.Version.{current}
 use Rattle.byte_unit_base.specs.Fault.{Fault, bad_unit}
@@ -18,7 +18,7 @@ expected_codes T = codes "t"
 expected_codes S = codes "s"
 expected_codes Nothing = []
 
--- whether the text could end in place of them: not within `bi`
+-- whether the text could end in place of them: not after `bi`, which only `bit` continues
 abbrev pub expects_end : Expected → Bool
 expects_end T = false
 expects_end _ = true

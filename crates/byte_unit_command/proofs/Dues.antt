@@ -11,7 +11,7 @@ use Rattle.byte_unit_command.specs.Told.{AreRunMessages}
 use Rattle.byte_unit_command.specs.declared.options.Options.{Options}
 use Rattle.byte_unit_command.specs.declared.records.Progress.{Progress}
 use Rattle.byte_unit_command.specs.declared.stop.Stop.TheVariants.{Memory}
-use Rattle.byte_unit_command.proofs.Longest.{IsWithin}
+use Rattle.byte_unit_stream.proofs.Longest.{IsWithin}
 use Rattle.byte_unit_stream.proofs.Parts.{ended_records-append, finished_records-ended_records, records_of-ended_records}
 use Rattle.byte_unit_stream.proofs.Prefixes.{IsPrefix-self}
 use Rattle.byte_unit_command.proofs.Rooms.{read_room-more, end_room-read}
@@ -67,8 +67,8 @@ module _ (options : Options) (word read written messages part : List ℕ) (progr
       next-untold (nonempty_record part) (subst (λ records. AreMessages options word 0 options.header records []) all none)
 
 -- buffers that had capacity at the start have it between two reads
-module _ {Z : Type 0} (options : Options) (longest chunk : ℕ) (part waiting part_now waiting_now : Vec ℕ Z)
-    (within : IsWithin longest part waiting part_now waiting_now) (empty : vec_len waiting_now ≡ 0)
+module _ {Z : Type 0} (options : Options) (longest chunk : ℕ) (part waiting part_now waiting_now : Vec ℕ Z) (read : List ℕ)
+    (within : IsWithin options.record_end longest chunk part waiting read part_now waiting_now) (empty : vec_len waiting_now ≡ 0)
     (suffice : SufficeFor options longest chunk part waiting) where
   -- for the next piece
   pub SufficeFor-piece : (count : ℕ) → count ≤ chunk → SufficeFor options (vec_len part_now) count part_now waiting_now

@@ -18,6 +18,5 @@ pub mod Wrongs
 pub mod Rules
 pub mod Untold
 pub mod Rooms
-pub mod Longest
 pub mod Lengths
 pub mod Dues

@@ -2,6 +2,11 @@
 use Rattle.std.proofs.Common.{◌≡◌, Result, Ok, Err, OnOk, IfErr, sym, subst}
 use Rattle.std.specs.Prelude.{IsErrAnd}
 
+-- a fact that holds in any case holds at `Ok`
+pub OnOk-always : {T E : Type 0} {P : Type 0} (result : Result T E) → P → OnOk result P
+OnOk-always (Ok _) holds = holds
+OnOk-always (Err _) holds = tt
+
 -- a fact at `Ok` that follows from another one
 pub OnOk-map : {T E : Type 0} {P Q : Type 0} (result : Result T E) → (P → Q) → OnOk result P → OnOk result Q
 OnOk-map (Ok _) gives holds = gives holds

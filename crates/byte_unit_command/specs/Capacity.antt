@@ -43,10 +43,11 @@ abbrev pub fields_max : Option ℕ → ℕ → ℕ
 fields_max None bytes = 1
 fields_max (Some delimiter) bytes = bytes + 1
 
--- the most bytes that what is written for a record of this many bytes takes, without its end byte and with it
+-- the most bytes that what is written for a record of this many bytes takes, without its end byte
 abbrev pub fields_room : Options → ℕ → ℕ
 fields_room options bytes = text_room options * fields_max options.delimiter bytes + bytes
 
+-- the same with its end byte
 abbrev pub record_room : Options → ℕ → ℕ
 record_room options bytes = fields_room options bytes + 1
 

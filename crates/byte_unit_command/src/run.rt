@@ -1,9 +1,8 @@
 //! The run: reads a chunk, converts the records that end in it, and writes them.
 //!
-//! Two buffers keep their memory from one read to the next: `part` has the beginning of a record whose end was not read
-//! yet, and `waiting` whole texts that are not written yet.
+//! What a run keeps from one read to the next is in [`Buffers`].
 
-ghost use Rattle.std.specs.Prelude.{◌≡◌, ◌<◌, ◌≤◌, ◌⊎◌, ℕ, List, [], length, vec_len, vec_capacity};
+ghost use Rattle.std.specs.Prelude.{◌≡◌, ◌+◌, ◌<◌, ◌≤◌, ◌⊎◌, ℕ, List, [], length, vec_len, vec_capacity};
 ghost use Rattle.std.specs.Prelude.{IsTrue, IsOk, IsErrOf, IfErr, OnOk, OnErr, IfOk, Err};
 ghost use Rattle.byte_unit.specs.Forms.{text_limit};
 ghost use Rattle.byte_unit_command.specs.Capacity.{AreEmpty, HaveCapacity, SufficeFor};
@@ -172,6 +171,9 @@ pub fn run_with_capacity<A: Allocator, R: Read, W: Write, E: Write>(
         × ((longest < longest_record options.now.record_end read)
         ⊎ IsMessageDue options.now word.now (finished_records options.now.record_end read)
         (records_of options.now.record_end read) (HasReadAll R.remaining reader.new))) }
+    ensures bound { IfOk result (λ ended. OnOk ended ((read : List ℕ)
+        × HasRead R.remaining reader.old reader.new read
+        × (longest_record options.now.record_end read < longest + length buffer.old))) }
     ensures read_failed { IfOk result
         (λ ended. IsErrOf ended Stop.Read → IsTrue (reading_failed reader.new)) }
     ensures write_failed { IfOk result
@@ -234,6 +236,9 @@ pub fn run_with_buffers<A: Allocator, R: Read, W: Write, E: Write>(
         × ((longest < longest_record options.now.record_end read)
         ⊎ IsMessageDue options.now word.now (finished_records options.now.record_end read)
         (records_of options.now.record_end read) (HasReadAll R.remaining reader.new)) }
+    ensures bound { OnOk result ((read : List ℕ)
+        × HasRead R.remaining reader.old reader.new read
+        × (longest_record options.now.record_end read < longest + length buffer.old)) }
     ensures read_failed { IsErrOf result Stop.Read → IsTrue (reading_failed reader.new) }
     ensures write_failed { IsErrOf result Stop.Write → IsTrue (writing_failed writer.new) }
 {

@@ -23,6 +23,7 @@ onto part (own ∷ others) = (part ++ own) ∷ others
 abbrev pub IsSplit : List (List ℕ) → Type 0
 IsSplit split = (own : List ℕ) × (others : List (List ℕ)) × (split ≡ own ∷ others)
 
+-- parts are all but the last, and the last one
 nonempty-last : (part : List ℕ) (others : List (List ℕ)) → part ∷ others ≡ but_last (part ∷ others) ++ last_of (part ∷ others) ∷ []
 nonempty-last part [] = refl
 nonempty-last part (next ∷ others) = ap (λ records. part ∷ records) (nonempty-last next others)

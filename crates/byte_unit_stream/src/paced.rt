@@ -51,7 +51,9 @@ impl Pace {
 /// A reader that gives the bytes that are left at a pace.
 #[derive(Drop)]
 pub struct MemoryReader<'a> {
+    /// The bytes that are left.
     pub rest: &'a [u8],
+    /// The pace.
     pub pace: Pace,
 }
 
@@ -69,7 +71,9 @@ impl<'a> Read for MemoryReader<'a> {
 /// A writer that accepts bytes at a pace.
 #[derive(Drop)]
 pub struct MemoryWriter {
+    /// The bytes that were accepted.
     pub taken: Vec<u8>,
+    /// The pace.
     pub pace: Pace,
 }
 

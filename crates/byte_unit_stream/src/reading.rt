@@ -10,6 +10,18 @@ use std::io::Read;
 /// A reader that records whether a read has failed. After a failure it does not call the reader again.
 ///
 /// It also counts its reads. The bound of 2^64 - 1 on that count is what proves that a loop of reads ends.
+///
+/// # Examples
+/// ```rust
+/// use byte_unit_stream::Reading;
+/// use byte_unit_stream::paced::{MemoryReader, Pace, Then};
+/// let inner = MemoryReader { rest: b"1 KiB\n", pace: Pace(4, 1, Then::Fail) };
+/// let mut reader = Reading::new(inner);
+/// let mut buffer = [0; 16];
+/// assert_eq!(rt; reader.read(&mut buffer), Some(4));
+/// assert_eq!(rt; (reader.read(&mut buffer), reader.failed()), (None, true));
+/// assert_eq!(rt; reader.into_inner().rest, b"B\n".as_slice());
+/// ```
 #[derive(Drop)]
 pub struct Reading<R> {
     inner: R,

@@ -9,6 +9,13 @@ use std::simd::prelude::*;
 const LANES: usize = 16;
 
 /// Returns the index of the first end byte, or `None` if there is none.
+///
+/// # Examples
+/// ```rust
+/// use byte_unit_stream::end_of;
+/// assert_eq!(rt; end_of(b"1 KiB\n2 MiB\n", b'\n'), Some(5));
+/// assert_eq!(rt; end_of(b"1 KiB", b'\n'), None);
+/// ```
 pub fn end_of(bytes: &[u8], end: u8) -> Option<usize>
     ensures some { IfSome result (λ n. (n < length bytes.now)
         × (slice_index bytes.now n ≡ end) × IsUnbroken end (take n bytes.now)) }

@@ -9,6 +9,17 @@ ghost use Rattle.byte_unit_stream.specs.Streams.{output_closed};
 use std::io::{ErrorKind, Write};
 
 /// A writer that records whether a write has failed. After a failure it does not call the writer again.
+///
+/// # Examples
+/// ```rust
+/// use byte_unit_stream::Writing;
+/// use byte_unit_stream::paced::{MemoryWriter, Pace, Then};
+/// let inner = MemoryWriter { taken: Vec::new(alloc), pace: Pace(4, 1, Then::Fail) };
+/// let mut writer = Writing::new(inner);
+/// assert_eq!(rt; writer.write(b"1 KiB\n"), Some(4));
+/// assert_eq!(rt; (writer.write(b"B\n"), writer.failed(), writer.closed()), (None, true, false));
+/// assert_eq!(rt; writer.into_inner().taken.as_slice(), b"1 Ki".as_slice());
+/// ```
 #[derive(Drop)]
 pub struct Writing<W> {
     inner: W,
@@ -116,6 +127,15 @@ impl<W: Write> Writing<W> {
 /// # Errors
 ///
 /// Returns `error` if a write fails. A prefix of `bytes` has been written.
+///
+/// # Examples
+/// ```rust
+/// use byte_unit_stream::{Writing, write_whole};
+/// use byte_unit_stream::paced::{BYTE_BY_BYTE, MemoryWriter};
+/// let mut writer = Writing::new(MemoryWriter { taken: Vec::new(alloc), pace: BYTE_BY_BYTE });
+/// assert!(rt; write_whole(&mut writer, b"1 KiB\n", "no output").is_ok());
+/// assert_eq!(rt; writer.into_inner().taken.as_slice(), b"1 KiB\n".as_slice());
+/// ```
 pub fn write_whole<W: Write, E: Copy>(
     writer: &mut Writing<W>,
     bytes: &[u8],

@@ -11,10 +11,15 @@ use crate::{Unit, UnitParseError};
 /// The letters of a suffix (`B`, `b`, `bit`, `bits`) read so far, in either case.
 #[derive(Clone, Copy)]
 pub enum Word {
+    /// Nothing.
     Empty,
+    /// `B` or `b`.
     B,
+    /// `bi`.
     Bi,
+    /// `bit`.
     Bit,
+    /// `bits`.
     Bits,
 }
 
@@ -120,7 +125,7 @@ impl UnitStop {
 
 impl Expected {
     ghost use Rattle.byte_unit_base.specs.Expected.{expected_codes, expects_end};
-    ghost use Rattle.std.specs.Prelude.{IfSome};
+    ghost use Rattle.std.specs.Prelude.{IfNone, IfSome};
 
     /// Each of the lists.
     const ALL: [Expected; 8] = [
@@ -142,7 +147,8 @@ impl Expected {
     /// assert!(rt; Expected::of(&['x']).is_none());
     /// ```
     pub fn of(characters: &[char]) -> Option<Expected>
-        ensures { IfSome result (λ expected. expected_codes expected ≡ characters.now) }
+        ensures some { IfSome result (λ expected. expected_codes expected ≡ characters.now) }
+        ensures none { IfNone result ((expected : Expected) → ¬ (expected_codes expected ≡ characters.now)) }
     {
         for expected in Expected::ALL {
             if expected.characters() == characters {

@@ -8,6 +8,7 @@ use Rattle.std.specs.Io.KnownBytes.{IsAtEnd}
 use Rattle.std.proofs.KnownBytes.{Consumes-kept, Consumes-nil, Appends-nil}
 use Rattle.byte_unit_command.specs.Progress.{state_of}
 use Rattle.byte_unit_stream.specs.Streams.{reader_of, writer_of, writing_failed}
+use Rattle.byte_unit_stream.specs.Chunks.{begun_record}
 use Rattle.byte_unit_stream.specs.Records.{finished_records, records_of}
 use Rattle.byte_unit_command.proofs.Runs.{IsServed, IsServed-start, IsServed-piece, IsWritten-read, IsWritten-piece, IsWritten-finished}
 use Rattle.byte_unit_command.proofs.Runs.{IsWritten-error}
@@ -19,8 +20,8 @@ use Rattle.byte_unit_command.specs.declared.stop.Stop.{Stop}
 use Rattle.byte_unit_command.specs.declared.stop.Stop.TheVariants.{Memory, Read}
 use Rattle.byte_unit_command.specs.declared.tally.Tally.{Tally}
 use Rattle.byte_unit_command.proofs.Dues.{IsWritten-memory, AreRunMessages-memory, piece-untold, last-untold, SufficeFor-piece, end-fits}
-use Rattle.byte_unit_command.proofs.Longest.{longest_record-unfinished}
-use Rattle.byte_unit_command.proofs.Results.{error-passed}
+use Rattle.byte_unit_stream.proofs.Longest.{longest_of-ended_records-append, longest_record-unfinished, longest_record-below}
+use Rattle.byte_unit_command.proofs.Results.{OnOk-always, error-passed}
 use Rattle.byte_unit_command.proofs.run.run_with_buffers.Goals as goal
 
 pub reads-init : goal.reads-init
@@ -41,6 +42,7 @@ reads-init g c = (
     none_untold = c.requires.empty.2;
   },
   record {
+    finished = omega (arith, c.requires.some);
     unfinished = omega (arith, c.args.buffers.now.part.ok.0, ap length c.requires.empty.0);
     part_capacity = omega arith;
     waiting_capacity = omega arith;
@@ -71,6 +73,10 @@ reads-preserved g c =
     let piece = take c.in-Some.n c.read.new.buf in
     let answered = c.in_ok-answer_piece-in-Some.ensures in
     let within = c.reads.invariant.1 in
+    let begun : length (begun_record options.record_end [] so_far.read) ≤ c.args.longest =
+    omega (arith, ap length so_far.served.begun, c.reads.buffers.part.ok.0, within.unfinished) in
+    let short : length piece ≤ length c.args.buffer.now =
+    omega (arith, length-take c.in-Some.n c.read.new.buf, c.read.auto.buf, c.reads.auto.buffer) in
     let more = answered.written in (
       record {
         read = so_far.read ++ piece;
@@ -88,6 +94,8 @@ reads-preserved g c =
         none_untold = answered.notices;
       },
       record {
+        finished = longest_of-ended_records-append options.record_end so_far.read piece (c.args.longest + length c.args.buffer.now)
+            within.finished (omega (arith, begun, short));
         unfinished = omega (arith, c.if-len-longest.false, c.len.ensures);
         part_capacity = omega (arith, within.part_capacity, answered.part_capacity);
         waiting_capacity = omega (arith, within.waiting_capacity, answered.waiting_capacity);
@@ -290,7 +298,7 @@ returns-in_err-answer_piece-in-Some-clause-memory g c = λ capacity is.
     omega (arith, length-take c.in-Some.n c.read.new.buf, c.read.auto.buf, c.reads.auto.buffer) in
     let empty : vec_len buffers.waiting ≡ 0 = buffers.waiting.ok.0 ∙ ap length so_far.none_waits in
     let suffice = SufficeFor-piece options c.args.longest (length c.args.buffer.now) c.args.buffers.now.part c.args.buffers.now.waiting
-    buffers.part buffers.waiting within empty capacity (length piece) few in (
+    buffers.part buffers.waiting so_far.read within empty capacity (length piece) few in (
       so_far.read ++ piece,
       Consumes-piece so_far rest piece c.in-Some.ensures.came,
       inr (inl (λ none. failed.ensures.memory suffice (piece-untold options c.args.word.now so_far.read so_far.written so_far.messages
@@ -313,7 +321,7 @@ returns-clause-memory g c = λ capacity is.
     let at_end : IsAtEnd rest = end.ensures.end end.field-0-test (search rules) in
     let empty : vec_len buffers.waiting ≡ 0 = buffers.waiting.ok.0 ∙ ap length so_far.none_waits in
     let fits = end-fits options c.args.longest (length c.args.buffer.now) c.args.buffers.now.part c.args.buffers.now.waiting
-    buffers.part buffers.waiting within empty capacity c.requires.some in
+    buffers.part buffers.waiting so_far.read within empty capacity c.requires.some in
     let len : vec_len buffers.part ≡ length part = buffers.part.ok.0 ∙ ap length (sym c.deref.ensures.value) in
     let room = subst (λ len. vec_len buffers.waiting + end_room options len ≤ vec_capacity buffers.waiting) len fits in (
       so_far.read,
@@ -323,4 +331,22 @@ returns-clause-memory g c = λ capacity is.
         λ untold. c.finish.ensures.memory room (last-untold options c.args.word.now so_far.read so_far.written so_far.messages part
             c.reads.progress served untold) is,
       )),
+    )
+
+-- each record is shorter than the limit and a read together
+pub returns-clause-bound : goal.returns-clause-bound
+returns-clause-bound g c =
+    let options = c.args.options.now in
+    let rest = g.R.Read.remaining (reader_of c.read.new.self) in
+    let so_far = c.reads.invariant.0 in
+    let within = c.reads.invariant.1 in
+    let end = c.in-Some-eq0 in
+    let none = ap (λ count. take count c.read.new.buf) end.field-0-test in
+    let part = c.reads.buffers.part in
+    let bound = c.args.longest + length c.args.buffer.now in
+    OnOk-always c.finish.result (
+      so_far.read,
+      Consumes-at_end so_far rest (take end.field-0 c.read.new.buf) end.ensures.came none,
+      longest_record-below options.record_end so_far.read part.items bound so_far.served.begun within.finished
+          (omega (arith, within.unfinished, part.ok.0, c.requires.some)),
     )

@@ -2,7 +2,8 @@
 -- fewer reads.
 use Rattle.byte_unit_command.specs.Progress.{messages_of}
 use Rattle.byte_unit_stream.specs.Streams.{reader_of, writer_of, reads_left, writing_failed}
-use Rattle.byte_unit_command.proofs.Longest.{IsWithin}
+use Rattle.byte_unit_stream.proofs.Longest.{IsWithin}
+use Rattle.std.specs.Prelude.{length}
 use Rattle.byte_unit_command.proofs.Served.{HasServed}
 use Rattle.byte_unit_command.proofs.run.run_with_buffers.Given as goal
 
@@ -15,7 +16,8 @@ invariant-reads g l =
     (contents (writer_of l.initial.writer)) (contents (writer_of l.writer)) (tells (writer_of l.initial.errors))
     (tells (writer_of l.errors)) (writing_failed l.errors) l.buffers.part.items l.buffers.waiting.items
     (messages_of l.buffers.notices) l.progress)
-    × IsWithin l.longest l.initial.buffers.part l.initial.buffers.waiting l.buffers.part l.buffers.waiting
+    × IsWithin l.options.record_end l.longest (length l.initial.buffer) l.initial.buffers.part l.initial.buffers.waiting so_far.read
+    l.buffers.part l.buffers.waiting
 
 abbrev pub decreases-reads : goal.decreases-reads
 decreases-reads g l = reads_left l.reader
