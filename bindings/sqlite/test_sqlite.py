@@ -3,26 +3,16 @@
 import re
 import sqlite3
 import sys
-from decimal import Decimal, localcontext
-from fractions import Fraction
 
 import pytest
 from byte_unit_dev.common import call, output, path, read
-from byte_unit_dev.model.exact import LETTERS, answer, unit_bits
+from byte_unit_dev.model.exact import UNITS, Rejected, form, size_of, value_of
 from byte_unit_dev.model.lines import some_line
 from byte_unit_dev.needs import need
 
 WARNINGS = ["-Wall", "-Wextra", "-Wpedantic", "-Wconversion", "-Wshadow", "-Werror"]
 SANITIZED = ["-g", "-fsanitize=address,undefined", "-fno-sanitize-recover=all"]
 GREATEST = 2**63 - 1
-REASONS = {
-    "no value": r"no value can be found",
-    "not a number": r"the character '.*' is not a number",
-    "number too long": r"value number is too long",
-    "out of range": r"the value [0-9.]+ exceeds the valid range",
-    "bad unit": r"the character '.*' is incorrect \(.* expected\)",
-    "not text": r"the text is not UTF-8",
-}
 
 
 def compiled(compiler, library, out, *flags):
@@ -69,12 +59,6 @@ def quoted(line):
         return f"CAST(x'{line.hex()}' AS TEXT)"
 
 
-def model(line):
-    """Returns the size of a line in bytes, or the name of its error."""
-    found = answer(line, "byte").split(" = ")
-    return int(found[0]) if len(found) == 2 else found[0]
-
-
 def wrong_of(sql, rows):
     """Returns which statements do not have a line, or `error: ` and an error, of the pattern beside them."""
     got, errors = sql([statement for statement, _ in rows])
@@ -88,11 +72,12 @@ def test_lines(sql, check_drawn, kind, flags):
     """Compares size_parse, size_text and size_explain with the exact model."""
 
     def row(line):
-        size, _, text = answer(line, kind).partition(" = ")
-        shown = re.escape(f"{size}|{text}|1")
-        if not text:
-            shown = rf"error: '.*'(\.\.)? is not a size: {REASONS[size]}"
-        elif int(size) > GREATEST:
+        size = size_of(line, kind)
+        if isinstance(size, Rejected):
+            shown = rf"error: '.*'(\.\.)? is not a size: {re.escape(size.message)}"
+        elif size <= GREATEST:
+            shown = re.escape(f"{size}|{form(size, kind)}|1")
+        else:
             shown = rf"error: '.*'(\.\.)? is {size} {kind}s, above the greatest INTEGER, {GREATEST}"
         return (f"SELECT size_parse(t{flags}), size_text(size_parse(t{flags}){flags}), size_explain(t{flags}) IS NULL"
                 f" FROM (SELECT {quoted(line)} AS t);"), shown  # fmt: skip
@@ -101,35 +86,25 @@ def test_lines(sql, check_drawn, kind, flags):
 
 
 def test_explanations(sql, check_drawn):
-    """Sees that size_explain is NULL for sizes, and else the message of the model's error."""
+    """Sees that size_explain is NULL for sizes, and else the model's message."""
 
     def row(line):
-        return f"SELECT size_explain({quoted(line)});", REASONS.get(model(line), "")
+        return f"SELECT size_explain({quoted(line)});", re.escape(getattr(size_of(line, "byte"), "message", ""))
 
     check_drawn(some_line, lambda lines: wrong_of(sql, [row(line) for line in lines]))
 
 
-def decimal(value, precision):
-    """Returns a fraction in decimal digits: all of them, or rounded to a number of places, ties to even."""
-    with localcontext() as context:
-        context.prec = 300
-        quotient = Decimal(value.numerator) / value.denominator
-        return f"{quotient:f}" if precision is None else f"{quotient:.{precision}f}"
-
-
 def some_conversion(rng):
     """Returns a statement that converts a random size to a unit, and what it prints."""
-    bits = rng.random() < 0.3
-    power, binary, bit = rng.randrange(1, len(LETTERS) + 1), rng.random() < 0.5, rng.random() < 0.3
-    name = LETTERS[power - 1] + "i" * binary + "bB"[not bit]
-    size, precision = rng.randrange(10 ** rng.randrange(1, 19)), rng.choice([None, 0, 1, 2, 3, 9, 30])
-    value = Fraction(size * (1 if bits else 8), unit_bits(power, binary, bit))
-    options = ("" if precision is None else f", {precision}") + (", 'bits'" if bits else "")
-    return f"SELECT size_in({size}, '{name}'{options});", re.escape(f"{decimal(value, precision)} {name}")
+    kind, unit = rng.choice(["byte", "byte", "bit"]), rng.choice(UNITS[2:])
+    size, precision = rng.randrange(10 ** rng.randrange(1, 19)), rng.choice(["", *".0 .1 .2 .3 .9 .30".split()])
+    options = precision.replace(".", ", ") + ", 'bits'" * (kind == "bit")
+    shown = f"{value_of(size, kind, unit):{precision}f} {unit}"
+    return f"SELECT size_in({size}, '{unit}'{options});", re.escape(shown)
 
 
 def test_sizes_in_units(sql, check_drawn):
-    """Compares size_in with fractions."""
+    """Compares size_in with the exact model."""
     check_drawn(some_conversion, lambda rows: wrong_of(sql, rows))
 
 
@@ -141,8 +116,9 @@ def test_order(sql, check_drawn, encoding):
     odd = "DELETE FROM lines WHERE id % 3 = 1; UPDATE lines SET t = t || ' ' WHERE id % 3 = 2;"
 
     def wrong(lines):
-        found = [(line, model(line)) for line in lines if encoding == "UTF-8" or model(line) != "not text"]
-        keys = [(1, 0, line) if isinstance(size, str) else (0, size, b"") for line, size in found]
+        found = [(line, size_of(line, "byte")) for line in lines]
+        found = [row for row in found if encoding == "UTF-8" or getattr(row[1], "name", "") != "not text"]
+        keys = [(1, 0, line) if isinstance(size, Rejected) else (0, size, b"") for line, size in found]
         make = [f"PRAGMA encoding = '{encoding}';", "CREATE TABLE lines(id INTEGER PRIMARY KEY, t TEXT);", "BEGIN;"]
         make += [f"INSERT INTO lines(t) VALUES ({quoted(line)});" for line, _ in found] + ["COMMIT;"]
         got, errors = sql([*make, order, index, order, odd, "PRAGMA integrity_check;"])

@@ -1,9 +1,9 @@
-"""Calls of byte-unit with their answers, written by hand.
+"""Calls of byte-unit with their results, written by hand.
 
 Each row has the words, standard input, standard output, the exit status if it is not 0, and standard error.
 """
 
-from program import Answer, Call
+from program import Call, Result
 
 START = "('B', 'K', 'M', 'G', 'T', 'P', 'E', 'Z', 'Y' or 'R' or no character is expected)"
 BLANK = "no value can be found"
@@ -218,10 +218,10 @@ PRINTED = [("--version", b"", b"byte-unit 3.0.0\n"), ("-V", b"", b"byte-unit 3.0
 
 def row(words, data=b"", written=b"", status=0, messages=""):
     words = words.split() if isinstance(words, str) else words
-    return Call(words, data), Answer(written, messages.encode(), status)
+    return Call(words, data), Result(written, messages.encode(), status)
 
 
-# Each call with its answer: those that the model answers too, and the others.
+# Each call with its result: those that the model has too, and the others.
 MODELLED = [row(*each) for each in [*SIZES, *HEADERS_AND_TOTALS, *LIMITS, *FORMS, *FIELDS, *QUOTED]]
 MODELLED += [row(words, b"", b"", 2, message) for words, message in WRONG_VALUES]
 OTHERS = [row(words, b"", b"", 2, message) for words, message in WRONG_WORDS] + [row(*each) for each in PRINTED]

@@ -9,6 +9,7 @@ from contextlib import ExitStack
 
 import pytest
 
+from byte_unit_dev.fixtures import ended
 from program import Call, run
 
 SECONDS = 60
@@ -19,12 +20,6 @@ TERMINAL = b"byte-unit: reading sizes from the terminal, one a line; end with Ct
 NO_NUMBER = b"byte-unit: line 2: 'x': the character 'x' is not a number\n"
 TOO_LARGE = b"byte-unit: the total is 10^30 or more\n"
 PIPES = {"stdout": subprocess.PIPE, "stderr": subprocess.PIPE}
-
-
-def ended(*words, **streams):
-    """Returns the exit status, standard output and standard error of a program."""
-    got = subprocess.run(words, check=False, timeout=SECONDS, **{**PIPES, **streams})
-    return got.returncode, got.stdout, got.stderr
 
 
 @pytest.fixture

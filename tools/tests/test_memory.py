@@ -13,6 +13,7 @@ from itertools import count
 import pytest
 
 from byte_unit_dev.common import ROOT, call, output, path, read, write
+from byte_unit_dev.fixtures import ended
 from byte_unit_dev.needs import need
 
 LANES = int(os.environ.get("RT_JOBS") or min(4, os.cpu_count()))
@@ -113,11 +114,10 @@ def failing_call(program, shim, words, data, number, on):
     """Returns how a call ends as an allocation fails, and whether one failed."""
     told, told_end = os.pipe()
     given = {"LD_PRELOAD": shim, "FAIL_AT": str(number), "FAIL_ON": str(int(on)), "FAIL_TOLD": str(told_end)}
-    got = subprocess.run([program, *words.split()], input=data, capture_output=True, check=False, timeout=60,
-                         pass_fds=[told_end], env={**os.environ, **given})
+    got = ended(program, *words.split(), input=data, timeout=60, pass_fds=[told_end], env={**os.environ, **given})
     os.close(told_end)
     with open(told, "rb") as file:
-        return (got.returncode, got.stdout, got.stderr), file.read(1) != b""
+        return got, file.read(1) != b""
 
 
 def is_out_of_memory(got, wanted, end):
@@ -129,9 +129,9 @@ def is_out_of_memory(got, wanted, end):
 
 @pytest.mark.parametrize("on", [False, True], ids=["alone", "and those after it"])
 @pytest.mark.parametrize("words, data", CALLS, ids=[words for words, _ in CALLS])
-def test_command(program_of, shim, words, data, on):
+def test_command(program, shim, words, data, on):
     """All is right, as it is if a smaller allocation is tried and once none fails; or the call is out of memory."""
-    program, end = program_of("byte_unit_cli"), b"\0" if "-z" in words else b"\n"
+    end = b"\0" if "-z" in words else b"\n"
     wanted, _ = failing_call(program, shim, words, data, 0, False)
     with ThreadPoolExecutor(LANES) as pool:
         for start in count(1, 32):

@@ -9,13 +9,16 @@ import resource
 import subprocess
 import termios
 import time
+from functools import partial
 from itertools import chain, repeat
 
 import pytest
 
-from byte_unit_dev.model.exact import answer
+from byte_unit_dev.fixtures import ended
+from byte_unit_dev.model.exact import output_for
 from byte_unit_dev.model.lines import some_line
 
+CRATE = "byte_unit_lines"
 # Lines that differ as bytes and as bits, and two that are not UTF-8.
 INPUT = b"1KiB\n\xff\n1\xff\n9 b\n"
 IN_BYTES = b"1024 = 1 KiB\nnot text\nnot text\n2 = 2 B\n"
@@ -25,22 +28,14 @@ NO_MEMORY = b"out of memory\n"
 
 
 @pytest.fixture(scope="module")
-def program(program_of):
-    return program_of("byte_unit_lines")
-
-
-@pytest.fixture(scope="module")
 def pool(request):
     rng = random.Random(request.config.getoption("seed"))
     return [some_line(rng) for _ in range(20_000)]
 
 
-def ended(*words, memory=None, **streams):
-    """Returns the exit status, standard output and standard error of a program, with at most this memory."""
-    limit = (lambda: resource.setrlimit(resource.RLIMIT_DATA, (memory, memory))) if memory else None
-    streams = {"stdout": subprocess.PIPE, "stderr": subprocess.PIPE, **streams}
-    got = subprocess.run(words, check=False, preexec_fn=limit, **streams)
-    return got.returncode, got.stdout, got.stderr
+def limited(memory):
+    """Returns what limits the memory of a program that is about to start."""
+    return partial(resource.setrlimit, resource.RLIMIT_DATA, (memory, memory))
 
 
 @pytest.mark.parametrize("words, wanted", [([], IN_BYTES), (["byte"], IN_BYTES), (["bit"], IN_BITS)])
@@ -94,7 +89,7 @@ def test_pipe_closed_after_the_first_line(program):
 def test_no_memory_for_the_arguments(program):
     """With less and less memory: the usage while the arguments fit, and then out of memory at least once."""
     words = ["x" * 100_000] * 10
-    endings = [ended(program, *words, memory=limit, stdin=subprocess.DEVNULL)
+    endings = [ended(program, *words, preexec_fn=limited(limit), stdin=subprocess.DEVNULL)
                for limit in range(4 << 20, 128 << 10, -(64 << 10))]
     first = endings.index((1, b"", NO_MEMORY))
     assert set(endings[:first]) == {USAGE}
@@ -102,13 +97,13 @@ def test_no_memory_for_the_arguments(program):
 
 def test_no_memory_for_a_line(program):
     wanted = (1, b"1000 = 1 KB\n2000 = 2 KB\n", NO_MEMORY)
-    assert ended(program, input=b"1 KB\n2 KB\n" + b"1" * (64 << 20), memory=16 << 20) == wanted
+    assert ended(program, input=b"1 KB\n2 KB\n" + b"1" * (64 << 20), preexec_fn=limited(16 << 20)) == wanted
 
 
 @pytest.mark.parametrize("kind", ["byte", "bit"])
 def test_output_is_that_of_the_model(program, pool, kind):
     _, written, _ = ended(program, kind, input=b"\n".join(pool) + b"\n")
-    differing = [each for each in zip(pool, written.decode().split("\n")) if each[1] != answer(each[0], kind)]
+    differing = [each for each in zip(pool, written.decode().split("\n")) if each[1] != output_for(each[0], kind)]
     assert not differing and written.count(b"\n") == len(pool)
 
 

@@ -2,14 +2,15 @@
 
 DIR has the sources of the crate: `src/lib.rs` and so on, or files whose names have `--` in place of `/` and end in
 `.txt`, as `src--lib.rs.txt`. They are built offline, over crates that `tools/dev setup --compared` installs. The crate,
-the C library (called by the Python package's C) or the Rust package, and an exact model answer N random requests: texts
-and spellings of units to parse, sizes to format, numbers of units. Prints how many answers each rule explains.
+the C library (called by the Python package's C) or the Rust package, and an exact model take N random requests: texts
+and spellings of units to parse, sizes to format, numbers of units. Prints how many results each rule explains.
 
-The status is 1 if an answer of the library is not that of the model, if no rule explains a difference, if one of 20,000
-answers of the library with another digit is not found to be wrong, or if docs/DIFFERENCES.md lacks the words of a rule.
+The status is 1 if a result of the library is not that of the model, if no rule explains a difference, if one of 20,000
+results of the library with another digit is not found to be wrong, or if docs/DIFFERENCES.md lacks the words of a rule.
 """
 
 import random
+import re
 import tempfile
 
 from ..common import output, read, report
@@ -23,20 +24,20 @@ PROGRAM, KINDS, CHANGED = "tools/byte_unit_dev/original/compare.rs", ("byte", "b
 def arguments(parser):
     parser.add_argument("--count", type=int, default=300_000, metavar="N")
     parser.add_argument("--seed", type=int, default=1)
-    parser.add_argument("--package", action="store_true", help="the Rust package answers in place of the C library")
+    parser.add_argument("--package", action="store_true", help="take the Rust package in place of the C library")
     parser.add_argument("--library", metavar="LIBRARY", help="a folder that tools/make-libraries has filled")
     parser.add_argument("original", metavar="DIR")
 
 
 def calls_of(words):
-    """Yields what each call of a request is, the call of rules.py, and its arguments, in the order of the answers."""
+    """Yields what each call of a request is, the call of rules.py, and its arguments, in the order of the results."""
     if words[0] in "tu":
         text = bytes.fromhex("".join(words[1:])).decode()
         for kind, ignore_case in (("byte", False), ("byte", True), ("bit", False)) if words[0] == "t" else ():
             yield "texts that are parsed", rules.parsed, (text, kind, ignore_case)
-        for in_bits in (False, True) if words[0] == "u" else ():
-            yield "units that are parsed", rules.parsed_unit, (text, False, not in_bits)
-            yield "units that are parsed", rules.parsed_unit, (text, True, not in_bits)
+        for kind in KINDS if words[0] == "u" else ():
+            yield "units that are parsed", rules.parsed_unit, (text, kind, False)
+            yield "units that are parsed", rules.parsed_unit, (text, kind, True)
         return
     if words[0] == "f":
         for kind in KINDS:
@@ -54,19 +55,18 @@ def calls_of(words):
 
 
 def by_program(program, lines):
-    """Returns the answers of a program to each request."""
+    """Returns the results of a program for each request."""
     return [line.split("\t") for line in output(program, input="\n".join([*lines, ""]), stderr=None).split("\n")[:-1]]
 
 
-def changed(answer, rng):
-    """Returns the answer with another digit, or with one more if it has none."""
-    places = [at for at, char in enumerate(answer) if char in "0123456789"]
-    at = rng.choice(places or [len(answer)])
-    return answer[:at] + str((int(answer[at:][:1] or 0) + rng.randrange(1, 10)) % 10) + answer[at + 1 :]
+def changed(result, rng):
+    """Returns the result with another digit, or with one more if it has none."""
+    at = rng.choice([found.start() for found in re.finditer("[0-9]", result)] or [len(result)])
+    return result[:at] + str((int(result[at:][:1] or 0) + rng.randrange(1, 10)) % 10) + result[at + 1 :]
 
 
 def compared(lines, original, ours, seed):
-    """Returns the number of answers and the shortest example, by what was compared and the rule; and what is wrong."""
+    """Returns the number of results and the shortest example, by what was compared and the rule; and what is wrong."""
     rng, found, findings, number = random.Random(seed), {}, [], 0
     for line, theirs, mine in zip(lines, original, ours, strict=True):
         for (what, call, words), one, other in zip(calls_of(line.split()), theirs, mine, strict=True):
@@ -94,12 +94,12 @@ def run(given):
             ours = [[getattr(calls, call.__name__)(*given) for _, call, given in calls_of(line.split())]
                     for line in lines]
     found, findings = compared(lines, theirs, ours, given.seed)
-    print("What was compared | What differs | Answers | An example: the call, the crate; the library\n---|---|---|---")
+    print("What was compared | What differs | Results | An example: the call, the crate; the library\n---|---|---|---")
     for (what, rule), (count, example) in sorted(found.items(), key=str):
         shown = f"{rules.RULES[rule][0]} | {count:,} | {ascii(example)[1:-1]}" if rule else f"nothing | {count:,}"
         print(f"{what} | {shown}")
     total, different = (sum(count for (_, rule), (count, _) in found.items() if rule or both) for both in (True, False))
-    print(f"\n{total:,} answers of seed {given.seed}, of which {different:,} differ")
+    print(f"\n{total:,} results of seed {given.seed}, of which {different:,} differ")
     page = read("docs/DIFFERENCES.md")
     findings += [f"docs/DIFFERENCES.md does not say: {words}" for _, words in rules.RULES.values() if words not in page]
-    return report(findings[:40], "each answer of the library is that of the model, and a rule explains each other")
+    return report(findings[:40], "each result of the library is that of the model, and a rule explains each other")

@@ -1,4 +1,4 @@
-"""Answers the calls of rules.py by the C library, through the extension module of the Python package, which is C."""
+"""Makes the calls of rules.py by the C library, through the extension module of the Python package, which is C."""
 
 import importlib
 import sys
@@ -8,7 +8,7 @@ from .rules import trimmed
 
 
 class Library:
-    """The functions of the C library, by the names of the calls that they answer."""
+    """The functions of the C library, by the names of these calls."""
 
     def __init__(self, folder, work):
         sys.path.insert(0, build.python(folder, work)["PYTHONPATH"])
@@ -18,8 +18,8 @@ class Library:
         size = self.native.parse(text, kind == "bit", ignore_case)
         return f"! {self.native.explain(text, kind == 'bit', ignore_case)}" if size is None else str(size)
 
-    def parsed_unit(self, text, ignore_case, prefers_bytes):
-        found, wrong = (function(text, not prefers_bytes, ignore_case)
+    def parsed_unit(self, text, kind, ignore_case):
+        found, wrong = (function(text, kind == "bit", ignore_case)
                         for function in (self.native.parse_unit, self.native.explain_unit))
         return f"! {wrong}" if wrong else self.native.UNITS[found]
 

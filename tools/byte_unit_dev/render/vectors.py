@@ -103,7 +103,7 @@ SECTIONS = {
         "readings WHITE_SPACE_AROUND_SIZES_IN_BITS": parsed(BIT), "any_texts EACH_PREFIX_OF_A_STRING": parsed(BYTE),
         "any_texts WHITE_SPACE_AT_THE_ENDS": ["parse byte cased {} = 1000", "parse bit cased {} = 8000"],
         "any_texts LONG_TEXTS": lambda table: rows(
-            [(before + part * 10_000 + after, *answers) for before, part, after, *answers in table],
+            [(before + part * 10_000 + after, *sizes) for before, part, after, *sizes in table],
             "parse byte cased {0} = {1}", "parse bit cased {0} = {2}"),
         "bounds BYTES_AT_THE_LIMIT": parsed(BYTE, IGNORING_CASE),
         "bounds BITS_AT_THE_LIMIT": parsed(BIT), "bounds BYTES_BEYOND_THE_LIMIT_OF_V1": parsed(BYTE),
